@@ -1,0 +1,115 @@
+use Rattle.std.specs.Prelude.{◌≡◌, ◌≢◌, ℕ, ◌+◌, ◌*◌, ◌<◌, ◌≤◌, ℤ, pos, negsuc, ◌+ℤ◌, ◌-ℤ◌, ◌≤ℤ◌, ◌⊎◌, ◌↔◌, List, [], ◌∷◌, length, slice_index_or, sum_by, Contains}
+use Rattle.qc_model.specs.declared.task.Task.{Task}
+use Rattle.qc_model.specs.declared.task.Phase.TheVariants.{DeckOut}
+use Rattle.qc_model.specs.declared.crane.Crane.{Crane}
+use Rattle.qc_model.specs.declared.pair.Pair.{Pair}
+use Rattle.qc_model.specs.Tasks.{task_rank}
+
+-- what is to be planned. A place on the rail is a whole number, since a start bay may lie before the first hatch; counts, gaps and ticks are naturals
+pub record InstanceView : Type 0 where
+  -- the number of crane bays: the mirror turns bay x into bays + 1 - x
+  pub bays : ℕ
+  -- ticks of travel per bay
+  pub travel : ℕ
+  -- how many bays neighbouring cranes are apart at least
+  pub gap : ℕ
+  pub tasks : List Task
+  pub cranes : List Crane
+  -- pairs of which the first task ends before the second starts
+  pub before : List Pair
+  -- pairs that may not run at the same time
+  pub apart : List Pair
+
+-- what stands for a task or a crane past the end of its list; no rule speaks of such a one
+abbrev pub no_task : Task
+no_task = record { hatch = 0; phase = DeckOut; bay = pos 0; ticks = 0 }
+
+abbrev pub no_crane : Crane
+no_crane = record { name = []; ready = 0; bay = pos 0; from = pos 0; to = pos 0 }
+
+abbrev pub task : InstanceView → ℕ → Task
+task inst j = slice_index_or inst.tasks j no_task
+
+abbrev pub bay_of : InstanceView → ℕ → ℤ
+bay_of inst j = (task inst j).bay
+
+abbrev pub ticks_of : InstanceView → ℕ → ℕ
+ticks_of inst j = (task inst j).ticks
+
+abbrev pub crane : InstanceView → ℕ → Crane
+crane inst k = slice_index_or inst.cranes k no_crane
+
+abbrev pub pair_of : ℕ → ℕ → Pair
+pair_of i j = record { first = i; second = j }
+
+-- task i must end before task j starts
+abbrev pub IsBefore : InstanceView → ℕ → ℕ → Type 0
+IsBefore inst i j = Contains inst.before (pair_of i j)
+
+-- tasks i and j may not run at the same time
+abbrev pub IsApart : InstanceView → ℕ → ℕ → Type 0
+IsApart inst i j = Contains inst.apart (pair_of i j)
+
+-- one leads from i to j through these tasks by the pairs of the list
+abbrev pub IsPath : List Pair → ℕ → List ℕ → ℕ → Type 0
+IsPath pairs i [] j = Contains pairs (pair_of i j)
+IsPath pairs i (k ∷ ks) j = Contains pairs (pair_of i k) × IsPath pairs k ks j
+
+-- bay x seen from the other end of the ship
+abbrev pub mirror_bay : InstanceView → ℤ → ℤ
+mirror_bay inst x = pos (inst.bays + 1) -ℤ x
+
+-- low ≤ x ≤ high
+abbrev pub IsFrom : ℤ → ℤ → ℤ → Type 0
+IsFrom low high x = (low ≤ℤ x) × (x ≤ℤ high)
+
+-- the limits of a ship whose hatches stand one crane bay apart
+pub record HasBayLimits (inst : InstanceView) : Type 0 where
+  pub bays : (1 ≤ inst.bays) × (inst.bays ≤ 60)
+  pub travel : (1 ≤ inst.travel) × (inst.travel ≤ 10000)
+  pub gap : (1 ≤ inst.gap) × (inst.gap ≤ 21)
+  pub berths : (k : ℕ) → k < length inst.cranes → IsFrom (negsuc 299) (pos 300) (crane inst k).bay × IsFrom (negsuc 299) (pos 300) (mirror_bay inst (crane inst k).bay)
+
+-- the limits of a ship whose places are given in decimetres
+pub record HasPlaceLimits (inst : InstanceView) : Type 0 where
+  pub bays : (1 ≤ inst.bays) × (inst.bays ≤ 6000)
+  pub travel : (1 ≤ inst.travel) × (inst.travel ≤ 100)
+  pub gap : (1 ≤ inst.gap) × (inst.gap ≤ 2000)
+  pub berths : (k : ℕ) → k < length inst.cranes → IsFrom (negsuc 16999) (pos 17000) (crane inst k).bay × IsFrom (negsuc 16999) (pos 17000) (mirror_bay inst (crane inst k).bay)
+
+-- every task stands at a bay of the ship and takes time, all together not too long; tasks are in order of hatch and phase, each once; tasks of one hatch, and of no two, share a bay
+pub record HasValidTasks (inst : InstanceView) : Type 0 where
+  pub count : length inst.tasks ≤ 240
+  pub bays : (j : ℕ) → j < length inst.tasks → IsFrom (pos 1) (pos inst.bays) (bay_of inst j)
+  pub ticks : (j : ℕ) → j < length inst.tasks → 1 ≤ ticks_of inst j
+  pub work : sum_by (λ t. t.ticks) inst.tasks ≤ 502400000
+  pub sorted : (i j : ℕ) → i < j → j < length inst.tasks → task_rank (task inst i) < task_rank (task inst j)
+  pub hatches : (i j : ℕ) → i < length inst.tasks → j < length inst.tasks → (bay_of inst i ≡ bay_of inst j) ↔ ((task inst i).hatch ≡ (task inst j).hatch)
+
+-- cranes stand along the rail at least the gap apart and have different names; each reaches some bays of the ship
+pub record HasValidCranes (inst : InstanceView) : Type 0 where
+  pub count : (1 ≤ length inst.cranes) × (length inst.cranes ≤ 8)
+  pub ready : (k : ℕ) → k < length inst.cranes → (crane inst k).ready ≤ 1000000
+  pub reach : (k : ℕ) → k < length inst.cranes → (pos 1 ≤ℤ (crane inst k).from) × ((crane inst k).from ≤ℤ (crane inst k).to) × ((crane inst k).to ≤ℤ pos inst.bays)
+  pub names : (v w : ℕ) → v < w → w < length inst.cranes → (crane inst v).name ≢ (crane inst w).name
+  pub order : (k : ℕ) → k + 1 < length inst.cranes → ((crane inst k).bay +ℤ pos inst.gap) ≤ℤ (crane inst (k + 1)).bay
+
+-- the phases of a hatch are before one another, pairs relate tasks of the instance, and no task is before itself by way of others
+pub record HasValidBefore (inst : InstanceView) : Type 0 where
+  pub phases : (i j : ℕ) → i < j → j < length inst.tasks → (task inst i).hatch ≡ (task inst j).hatch → IsBefore inst i j
+  pub range : (i j : ℕ) → IsBefore inst i j → (i < length inst.tasks) × (j < length inst.tasks)
+  pub no_ring : (i : ℕ) (via : List ℕ) → ¬ IsPath inst.before i via i
+
+-- pairs of different hatches, the lower task first, in rising order
+pub record HasValidApart (inst : InstanceView) : Type 0 where
+  pub count : length inst.apart ≤ 1600
+  pub range : (i j : ℕ) → IsApart inst i j → (i < j) × (j < length inst.tasks) × ((task inst i).hatch ≢ (task inst j).hatch)
+  pub sorted : (m n : ℕ) → m < n → n < length inst.apart → (d : Pair) → 240 * (slice_index_or inst.apart m d).first + (slice_index_or inst.apart m d).second < 240 * (slice_index_or inst.apart n d).first + (slice_index_or inst.apart n d).second
+
+-- what every instance keeps
+pub record Valid (inst : InstanceView) : Type 0 where
+  pub limits : ∥ HasBayLimits inst ⊎ HasPlaceLimits inst ∥₁
+  pub tasks : HasValidTasks inst
+  pub cranes : HasValidCranes inst
+  pub before : HasValidBefore inst
+  pub apart : HasValidApart inst

@@ -1,0 +1,43 @@
+-- Schedules in which, after a first repositioning, all cranes move one way, after the method of Bierwirth and Meisel (2009).
+use Rattle.std.specs.Prelude.{◌≡◌, ℕ, ◌+◌, ◌-◌, ◌*◌, ◌<◌, ◌≤◌, ◌<ℤ◌, ◌⊎◌, List, length, map, reverse}
+use Rattle.qc_model.specs.declared.task.Task.{Task}
+use Rattle.qc_model.specs.declared.crane.Crane.{Crane}
+use Rattle.qc_model.specs.declared.schedule.Slot.{Slot}
+use Rattle.qc_model.specs.Bays.{bays_up}
+use Rattle.qc_model.specs.Instance.{InstanceView, bay_of, mirror_bay}
+use Rattle.qc_model.specs.Rules.{crane_of, start_of, end_of, task_distance, Feasible}
+
+-- each crane works its bays upward, and a higher crane is ahead of a lower one wherever the two would come too near
+pub record Upward (inst : InstanceView) (sched : List Slot) : Type 0 where
+  pub one_crane : (i j : ℕ) → i < length inst.tasks → j < length inst.tasks → crane_of sched i ≡ crane_of sched j → bay_of inst i <ℤ bay_of inst j → end_of inst sched i + inst.travel * bays_up (bay_of inst i) (bay_of inst j) ≤ start_of sched j
+  pub two_cranes : (i j : ℕ) → i < length inst.tasks → j < length inst.tasks → crane_of sched i < crane_of sched j → 0 < task_distance inst sched i j → end_of inst sched j + task_distance inst sched i j ≤ start_of sched i
+
+-- the schedule is feasible and upward
+pub record GoesUp (inst : InstanceView) (sched : List Slot) : Type 0 where
+  pub feasible : Feasible inst sched
+  pub upward : Upward inst sched
+
+abbrev pub mirror_task : InstanceView → Task → Task
+mirror_task inst t = record t { bay = mirror_bay inst t.bay }
+
+abbrev pub mirror_crane : InstanceView → Crane → Crane
+mirror_crane inst c = record c { bay = mirror_bay inst c.bay; from = mirror_bay inst c.to; to = mirror_bay inst c.from }
+
+-- the instance seen from the other end: bays and the order of the cranes are turned round, all else stays
+abbrev pub mirror : InstanceView → InstanceView
+mirror inst = record inst { tasks = map (mirror_task inst) inst.tasks; cranes = reverse (map (mirror_crane inst) inst.cranes) }
+
+abbrev pub mirror_slot : InstanceView → Slot → Slot
+mirror_slot inst s = record s { crane = length inst.cranes - 1 - s.crane }
+
+-- the same schedule with the cranes numbered from the other end
+abbrev pub mirror_schedule : InstanceView → List Slot → List Slot
+mirror_schedule inst sched = map (mirror_slot inst) sched
+
+-- the schedule goes downward where its mirror goes upward in the mirrored instance
+abbrev pub GoesDown : InstanceView → List Slot → Type 0
+GoesDown inst sched = GoesUp (mirror inst) (mirror_schedule inst sched)
+
+-- the schedule goes one way, upward or downward
+abbrev pub GoesOneWay : InstanceView → List Slot → Type 0
+GoesOneWay inst sched = GoesUp inst sched ⊎ GoesDown inst sched
