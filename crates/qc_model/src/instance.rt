@@ -1,0 +1,117 @@
+ghost use Rattle.std.specs.Prelude.{◌≡◌, pos, ◌≤ℤ◌, ◌<ℤ◌};
+ghost use Rattle.qc_model.specs.Bays.{at_least_zero};
+ghost use Rattle.qc_model.specs.Instance.{InstanceView, Valid};
+
+use crate::{Crane, Pair, Task};
+use qc_num::{Bay, Tick};
+use std::marker::Model;
+
+/// What is to be planned: the tasks of a ship, the cranes, and the rules between them.
+#[derive(Drop)]
+pub struct Instance {
+    bays: Bay,
+    travel: Tick,
+    gap: Bay,
+    tasks: Vec<Task>,
+    cranes: Vec<Crane>,
+    before: Vec<Pair>,
+    apart: Vec<Pair>,
+}
+
+impl Model for Instance {
+    ghost use Rattle.std.specs.Prelude.{◌≡◌, pos};
+    ghost use Rattle.qc_model.specs.Bays.{at_least_zero};
+    ghost use Rattle.qc_model.specs.Instance.{InstanceView, Valid};
+
+    ghost Value = { InstanceView };
+
+    ghost use Rattle.qc_model.specs.InstanceFields.{view_of, IsKept};
+
+    ghost view = { view_of };
+
+    ghost invariant = { IsKept };
+}
+
+impl Instance {
+    /// An instance of these parts.
+    pub fn of(
+        bays: Bay,
+        travel: Tick,
+        gap: Bay,
+        tasks: Vec<Task>,
+        cranes: Vec<Crane>,
+        before: Vec<Pair>,
+        apart: Vec<Pair>,
+    ) -> Instance
+        requires bays { pos 0 ≤ℤ bays }
+        requires gap { pos 0 ≤ℤ gap }
+        requires valid { Valid (record { bays = at_least_zero bays; travel = travel; gap = at_least_zero gap; tasks = tasks.items; cranes = cranes.items; before = before.items; apart = apart.items }) }
+        ensures { result ≡ record { bays = at_least_zero bays; travel = travel; gap = at_least_zero gap; tasks = tasks.items; cranes = cranes.items; before = before.items; apart = apart.items } }
+    {
+        Instance {
+            bays,
+            travel,
+            gap,
+            tasks,
+            cranes,
+            before,
+            apart,
+        }
+    }
+
+    /// The number of crane bays; with places in decimetres the greatest place.
+    pub fn bays(&self) -> Bay
+        ensures bays { result ≡ pos self.now.bays }
+        ensures valid { Valid self.now }
+    {
+        self.bays
+    }
+
+    /// Ticks of travel per bay.
+    pub fn travel(&self) -> Tick
+        ensures travel { result ≡ self.now.travel }
+        ensures valid { Valid self.now }
+    {
+        self.travel
+    }
+
+    /// How many bays neighbouring cranes are apart at least: the margin and one more.
+    pub fn gap(&self) -> Bay
+        ensures gap { result ≡ pos self.now.gap }
+        ensures valid { Valid self.now }
+    {
+        self.gap
+    }
+
+    /// The tasks in order of hatch and phase.
+    pub fn tasks(&self) -> &[Task]
+        ensures tasks { result.now ≡ self.now.tasks }
+        ensures valid { Valid self.now }
+    {
+        self.tasks.as_slice()
+    }
+
+    /// The cranes along the rail.
+    pub fn cranes(&self) -> &[Crane]
+        ensures cranes { result.now ≡ self.now.cranes }
+        ensures valid { Valid self.now }
+    {
+        self.cranes.as_slice()
+    }
+
+    /// The pairs of which the first task ends before the second starts.
+    pub fn before(&self) -> &[Pair]
+        ensures before { result.now ≡ self.now.before }
+        ensures valid { Valid self.now }
+    {
+        self.before.as_slice()
+    }
+
+    /// The pairs that may not run at the same time.
+    pub fn apart(&self) -> &[Pair]
+        ensures apart { result.now ≡ self.now.apart }
+        ensures valid { Valid self.now }
+    {
+        self.apart.as_slice()
+    }
+}

@@ -1,0 +1,65 @@
+ghost use Rattle.std.specs.Prelude.{◌≡◌, ℕ, List, take, ◌≤◌, IfSome, IsSome, IsTrue, ◌↔◌};
+ghost use Rattle.std.specs.List.{list_all};
+ghost use Rattle.qc_model.specs.Names.{is_name, is_name_byte};
+
+use std::marker::Model;
+
+/// The name of a crane: 1 to 12 ASCII letters, digits, `-` and `_`.
+#[derive(Clone, Debug, Drop)]
+pub struct Name {
+    bytes: [u8; 12],
+    len: usize,
+}
+
+impl Model for Name {
+    ghost use Rattle.std.specs.Prelude.{ℕ, List, take, ◌≤◌, IsTrue};
+    ghost use Rattle.qc_model.specs.Names.{is_name};
+
+    ghost Value = { List ℕ };
+
+    ghost view = { λ n. take n.len n.bytes };
+
+    ghost invariant = { λ n. (n.len ≤ 12) × IsTrue (is_name (take n.len n.bytes)) };
+}
+
+fn is_name_byte(byte: u8) -> bool
+    ensures { result ≡ is_name_byte byte }
+{
+    byte.is_ascii_alphanumeric() || byte == b'-' || byte == b'_'
+}
+
+fn has_name_bytes(bytes: &[u8]) -> bool
+    ensures { result ≡ list_all is_name_byte bytes.now }
+{
+    bytes.iter().all(|b| is_name_byte(*b))
+}
+
+fn is_name(bytes: &[u8]) -> bool
+    ensures { result ≡ is_name bytes.now }
+{
+    1 <= bytes.len() && bytes.len() <= 12 && has_name_bytes(bytes)
+}
+
+impl Name {
+    /// The name with these bytes; `None` exactly where they aren't a name.
+    pub fn of(bytes: &[u8]) -> Option<Name>
+        ensures name { IsSome result ↔ IsTrue (is_name bytes.now) }
+        ensures bytes { IfSome result (λ n. n ≡ bytes.now) }
+    {
+        if !is_name(bytes) {
+            return None;
+        }
+        let len = bytes.len();
+        let mut kept = [0u8; 12];
+        kept[..len].copy_from_slice(bytes);
+        Some(Name { bytes: kept, len })
+    }
+
+    /// The name's bytes.
+    pub fn as_bytes(&self) -> &[u8]
+        ensures bytes { result.now ≡ self.now }
+        ensures name { IsTrue (is_name self.now) }
+    {
+        &self.bytes[..self.len]
+    }
+}

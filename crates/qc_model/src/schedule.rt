@@ -1,0 +1,56 @@
+ghost use Rattle.std.specs.Prelude.{◌≡◌, ◌<◌, length, IfOk, replicate, slice_set};
+ghost use Rattle.qc_model.specs.Rules.{no_slot};
+
+use qc_num::{OutOfMemory, Tick};
+use std::alloc::Global;
+use std::marker::Model;
+
+/// Which crane does a task, and from when on.
+#[derive(Clone, Copy, Debug, PartialEq, Eq)]
+pub struct Slot {
+    /// The crane's number, from 0.
+    pub crane: u16,
+    /// The start in ticks.
+    pub start: Tick,
+}
+
+/// A slot for each task, in the order of the tasks.
+#[derive(Drop)]
+pub struct Schedule {
+    slots: Vec<Slot>,
+}
+
+impl Model for Schedule {
+    ghost use Rattle.std.specs.Prelude.{List};
+    ghost use Rattle.qc_model.specs.declared.schedule.Slot.{Slot};
+
+    ghost Value = { List Slot };
+
+    ghost view = { λ s. s.slots.items };
+}
+
+impl Schedule {
+    /// A schedule of that many tasks, each on crane 0 from tick 0 on.
+    pub fn new(alloc: Global, tasks: u16) -> Result<Schedule, OutOfMemory>
+        ensures { IfOk result (λ s. s ≡ replicate tasks no_slot) }
+    {
+        let slot = Slot { crane: 0, start: 0 };
+        let slots = vec![in alloc; slot; tasks as usize].map_err(OutOfMemory::from)?;
+        Ok(Schedule { slots })
+    }
+
+    /// Gives a task its slot.
+    pub fn set(&mut self, task: u16, slot: Slot)
+        requires { task < length self.old }
+        ensures { self.new ≡ slice_set self.old task slot }
+    {
+        self.slots[task as usize] = slot;
+    }
+
+    /// The slots in task order.
+    pub fn slots(&self) -> &[Slot]
+        ensures { result.now ≡ self.now }
+    {
+        self.slots.as_slice()
+    }
+}

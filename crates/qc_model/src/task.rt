@@ -1,0 +1,93 @@
+ghost use Rattle.std.specs.Prelude.{◌≡◌, ◌<◌, ℕ, List, length, take, ◌≤◌};
+
+use itoa::Buffer;
+use qc_num::{Bay, Tick};
+use std::marker::Model;
+
+/// A phase of the work at one hatch. The phases of a hatch are worked in this order.
+#[derive(Clone, Copy, Debug, PartialEq, Eq)]
+pub enum Phase {
+    /// Discharge on deck, printed `DD`.
+    DeckOut,
+    /// Discharge in the hold, printed `DH`.
+    HoldOut,
+    /// Load in the hold, printed `LH`.
+    HoldIn,
+    /// Load on deck, printed `LD`.
+    DeckIn,
+}
+
+impl Phase {
+    ghost use Rattle.qc_model.specs.Tasks.{phase_text};
+
+    /// How the phase is printed.
+    pub fn text(self) -> &'static [u8; 2]
+        ensures { result.now ≡ phase_text self }
+    {
+        match self {
+            Phase::DeckOut => b"DD",
+            Phase::HoldOut => b"DH",
+            Phase::HoldIn => b"LH",
+            Phase::DeckIn => b"LD",
+        }
+    }
+}
+
+/// All moves of one hatch and one phase, done once and without interruption by one crane.
+#[derive(Clone, Copy, Debug, PartialEq, Eq)]
+pub struct Task {
+    /// The hatch's number in the ship file.
+    pub hatch: u16,
+    pub phase: Phase,
+    /// The crane bay at which the task stands.
+    pub bay: Bay,
+    /// How long it takes, in ticks.
+    pub ticks: Tick,
+}
+
+/// The name of a task, as `2-DD`.
+#[derive(Drop)]
+pub struct TaskText {
+    bytes: [u8; 8],
+    len: usize,
+}
+
+impl Model for TaskText {
+    ghost Value = { List ℕ };
+
+    ghost view = { λ t. take t.len t.bytes };
+
+    ghost invariant = { λ t. t.len ≤ 8 };
+}
+
+impl TaskText {
+    /// The name's bytes.
+    pub fn as_bytes(&self) -> &[u8]
+        ensures { result.now ≡ self.now }
+    {
+        &self.bytes[..self.len]
+    }
+}
+
+impl Task {
+    ghost use Rattle.qc_model.specs.Tasks.{task_text};
+
+    /// The task's name: its hatch, `-` and its phase.
+    pub fn text(&self) -> TaskText
+        ensures { result ≡ task_text self.now }
+    {
+        let mut buffer = Buffer::new();
+        let number = buffer.format(self.hatch).as_bytes();
+        let digits = number.len();
+        let mut bytes = [0u8; 8];
+        bytes[..digits].copy_from_slice(number);
+        bytes[digits] = b'-';
+        let [first, second] = *self.phase.text();
+        bytes[digits + 1] = first;
+        bytes[digits + 2] = second;
+        TaskText {
+            bytes,
+            len: digits + 3,
+        }
+    }
+}
