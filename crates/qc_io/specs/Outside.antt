@@ -30,6 +30,11 @@ IsMissing (Some files) name = get files name ≡ None
 abbrev pub ReadCause : ℕ → ℕ → Option Files → List ℕ → Type 0
 ReadCause before after files name = Rose before after ⊎ IsMissing files name
 
+-- where the files are told, they hold the name with these bytes
+abbrev pub IsFile : Option Files → List ℕ → List ℕ → Type 0
+IsFile None name bytes = Unit {0}
+IsFile (Some files) name bytes = get files name ≡ Some bytes
+
 -- the files with this file held, in place of one of the same name
 abbrev pub with_file : Option Files → List ℕ → List ℕ → Option Files
 with_file None name bytes = None
@@ -50,6 +55,12 @@ pub record GrewByPart (before after : Option (List ℕ)) (piece : List ℕ) : Ty
   pub count : ℕ
   pub short : count < length piece
   pub grew : after ≡ with_piece before (take count piece)
+
+-- what is left after at most so many bytes were taken off the front
+pub record TakesAtMost (most : ℕ) (before after : Option (List ℕ)) : Type 0 where
+  pub taken : List ℕ
+  pub short : length taken ≤ most
+  pub split : before ≡ with_front taken after
 
 -- the bytes of the file being written; none where files are untold or none was created
 abbrev pub written_of : Option Files → Option (List ℕ) → Option (List ℕ)

@@ -2,5 +2,9 @@
 #![tactic(auto)]
 
 mod outside;
+mod reading;
+mod writing;
 
 pub use outside::{Failed, Shelf, Sink};
+pub use reading::{ReadAll, read_all};
+pub use writing::{WriteFault, put_all};
