@@ -1,0 +1,11 @@
+//! The commands of the program.
+#![tactic(auto)]
+
+mod answer;
+mod pieces;
+mod status;
+mod words;
+
+pub use answer::{Answer, Input};
+pub use status::Status;
+pub use words::Request;
