@@ -1,2 +1,3 @@
 pub mod WordLemmas
 pub mod PieceLemmas
+pub mod PlanLines

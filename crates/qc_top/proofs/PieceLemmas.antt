@@ -1,5 +1,6 @@
 -- A text that is written piece by piece.
 use Rattle.std.proofs.Common.{◌≡◌, ℕ, ◌+◌, ◌≤◌, ◌<◌, ◌++◌, List, length, take, Option, None, Some, refl, sym, ap, ◌∙◌, append_assoc, length-append, arith}
+use Rattle.std.specs.Prelude.{Result, Ok, Err, OnOk, OnErr}
 use Rattle.std.proofs.lemmas.List.{take-append-le}
 use Rattle.std.proofs.Math.Seq.{take-append-add}
 use Rattle.qc_io.specs.Outside.{with_piece, GrewByPart}
@@ -26,3 +27,12 @@ cut_in_second before middle after first second had cut = record {
 -- both pieces are there
 pub whole_pair : (before middle after : Option (List ℕ)) (first second : List ℕ) → middle ≡ with_piece before first → after ≡ with_piece middle second → after ≡ with_piece before (first ++ second)
 whole_pair before middle after first second had more = more ∙ ap (λ m. with_piece m second) had ∙ with_piece-append before first second
+
+-- what holds at any result holds at an error, and at success
+pub on_err : {T E P : Type 0} (r : Result T E) → P → OnErr r P
+on_err (Ok x) p = tt
+on_err (Err e) p = p
+
+pub on_ok : {T E P : Type 0} (r : Result T E) → P → OnOk r P
+on_ok (Ok x) p = p
+on_ok (Err e) p = tt

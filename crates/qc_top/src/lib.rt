@@ -3,6 +3,7 @@
 
 mod answer;
 mod pieces;
+mod plan_text;
 mod status;
 mod words;
 
