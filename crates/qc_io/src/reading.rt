@@ -1,4 +1,4 @@
-ghost use Rattle.std.specs.Prelude.{◌≡◌, ◌<◌, ◌≤◌, ◌+◌, ◌⊎◌, true, false, [], length, vec_len, OnOk, IfOk, IfSome};
+ghost use Rattle.std.specs.Prelude.{◌≡◌, ◌<◌, ◌≤◌, ◌+◌, ◌⊎◌, true, false, [], length, vec_len, IsOk, OnOk, IfOk, IfSome};
 ghost use Rattle.qc_io.specs.Outside.{Rose, IsMissing, ReadCause, IsFile, TakesAtMost, file_at, with_front};
 
 use crate::outside::{Failed, Shelf};
@@ -56,6 +56,13 @@ pub fn read_all<S: Shelf>(
     ensures read_fault { result ≡ Err ReadAll.ReadFault → ReadCause (S.read_faults shelf.old) (S.read_faults shelf.new) (S.files shelf.old) name.now }
     ensures missing { IsMissing (S.files shelf.old) name.now → result ≡ Err ReadAll.ReadFault }
     ensures too_large { result ≡ Err ReadAll.TooLarge → IfSome (file_at (S.files shelf.old) name.now) (λ bytes. limit < length bytes) }
+
+    // What the answer is where no call failed. Want of memory is a free answer.
+    ensures larger { IfSome (file_at (S.files shelf.old) name.now) (λ bytes. limit < length bytes
+        → ¬ (Rose (S.read_faults shelf.old) (S.read_faults shelf.new)) → (result ≡ Err ReadAll.TooLarge) ⊎ (result ≡ Err ReadAll.OutOfMemory)) }
+    ensures fitting { IfSome (file_at (S.files shelf.old) name.now) (λ bytes. length bytes ≤ limit
+        → ¬ (Rose (S.read_faults shelf.old) (S.read_faults shelf.new)) → IsOk result ⊎ (result ≡ Err ReadAll.OutOfMemory)) }
+
     ensures taken { S.reading shelf.new ≡ true → TakesAtMost (limit + 1) (file_at (S.files shelf.old) name.now) (S.rest shelf.new) }
     ensures files_stay { S.files shelf.new ≡ S.files shelf.old }
     ensures made_stays { S.made shelf.new ≡ S.made shelf.old }

@@ -3,6 +3,9 @@
 
 mod answer;
 mod pieces;
+mod plain_instance;
+mod plain_ship;
+mod plain_stow;
 mod plan_text;
 mod status;
 mod words;

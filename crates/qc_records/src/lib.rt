@@ -1,0 +1,50 @@
+//! Reading the records of a file of comma-separated values.
+#![tactic(auto)]
+
+ghost use Rattle.std.specs.Prelude.{◌≡◌, IfOk, map, take, true};
+ghost use Rattle.csv.specs.Reading.{error_kind, stops_reader};
+ghost use Rattle.csv.specs.Records.{fields_of};
+ghost use Rattle.qc_records.specs.Records.{records_of};
+
+use csv::{ByteRecord, Error, ErrorKind, ReaderBuilder};
+use qc_num::OutOfMemory;
+use std::alloc::Global;
+
+// A read of bytes in memory, of records that may differ in length, fails only for memory.
+fn stopped(error: Error) -> OutOfMemory
+    requires { stops_reader (error_kind error) ≡ true }
+{
+    match error.into_kind() {
+        ErrorKind::OutOfMemory | ErrorKind::Io(_) => OutOfMemory,
+        _ => unreachable!(),
+    }
+}
+
+/// The first `limit` records of a file, or all of them if it has fewer. Records may differ in
+/// their number of fields. Bytes that are no text are read as they stand.
+pub fn first_records(
+    alloc: Global,
+    text: &[u8],
+    limit: usize,
+) -> Result<Vec<ByteRecord>, OutOfMemory>
+    ensures { IfOk result (λ v. map fields_of v.items ≡ take limit (records_of text.now)) }
+{
+    let reader = ReaderBuilder::new()
+        .has_headers(false)
+        .flexible(true)
+        .from_reader(alloc, text);
+    let mut records = Vec::new(alloc);
+    for record in reader.into_byte_records() {
+        if records.len() == limit {
+            return Ok(records);
+        }
+        let record = match record {
+            Ok(record) => record,
+            Err(error) => return Err(stopped(error)),
+        };
+        if records.push(record).is_err() {
+            return Err(OutOfMemory);
+        }
+    }
+    Ok(records)
+}
