@@ -1,8 +1,9 @@
 -- Pieces put behind bytes and taken off their front, one after another.
 use Rattle.std.proofs.Common.{◌≡◌, ℕ, ◌+◌, ◌≤◌, ◌++◌, List, length, take, drop, Option, None, Some, refl, sym, ap, ◌∙◌, append_assoc, append-nil, length-append, [], arith}
-use Rattle.std.proofs.Math.Seq.{take-add}
+use Rattle.std.proofs.Math.Seq.{take-add, take-append-add}
+use Rattle.std.proofs.lemmas.List.{take-append-le}
 use Rattle.std.specs.Prelude.{IfSome}
-use Rattle.qc_io.specs.Outside.{Files, file_at, IsMissing, IsFile, with_front, with_piece, TakesAtMost}
+use Rattle.qc_io.specs.Outside.{Files, file_at, IsMissing, IsFile, with_front, with_piece, TakesAtMost, GrewByPart}
 
 -- two pieces before the bytes are one
 pub with_front-append : (first second : List ℕ) (rest : Option (List ℕ)) → with_front first (with_front second rest) ≡ with_front (first ++ second) rest
@@ -41,3 +42,25 @@ whole_at_end None name bytes rest held whole ended = tt
 whole_at_end (Some files) name bytes None held whole ended = absurd (held (sym whole))
 whole_at_end (Some files) name bytes (Some left) held whole ended =
     sym whole ∙ ap (λ rest. Some (bytes ++ rest)) ended ∙ ap Some (append-nil bytes)
+
+-- a part of the first piece is a part of both
+pub part_of_first :
+    (before after : Option (List ℕ)) (first second : List ℕ)
+    → GrewByPart before after first → GrewByPart before after (first ++ second)
+part_of_first before after first second part = record {
+  count = part.count;
+  short = omega (arith, length-append first second, part.short);
+  grew = part.grew ∙ ap (with_piece before) (sym (take-append-le part.count first second (omega (arith, part.short))));
+}
+
+-- the whole first piece and a part of the second are a part of both
+pub part_of_second :
+    (before between after : Option (List ℕ)) (first second : List ℕ)
+    → between ≡ with_piece before first → GrewByPart between after second → GrewByPart before after (first ++ second)
+part_of_second before between after first second whole part = record {
+  count = length first + part.count;
+  short = omega (arith, length-append first second, part.short);
+  grew =
+      part.grew ∙ ap (λ w. with_piece w (take part.count second)) whole ∙ with_piece-append before first (take part.count second)
+      ∙ ap (with_piece before) (sym (take-append-add first second part.count));
+}

@@ -1,9 +1,18 @@
-ghost use Rattle.std.specs.Prelude.{◌≡◌, ◌≤◌, ◌<◌, ◌↔◌, ◌⊎◌, ℕ, Bool, true, false, Option, List, [], length, take, is_some, IsErr, OnOk, OnErr, IfOk, IfSome};
-ghost use Rattle.qc_io.specs.Outside.{Files, Rose, IsMissing, ReadCause, file_at, with_file, with_piece, with_front, written_of, beside_of};
+ghost use Rattle.std.specs.Prelude.{◌≡◌, ◌+◌, ◌≤◌, ◌<◌, ◌↔◌, ◌⊎◌, ℕ, Bool, true, false, Option, List, [], length, min, take, is_some, IsErr, OnOk, OnErr, IfOk, IfSome};
+ghost use Rattle.qc_io.specs.Outside.{Files, Rose, most_count, IsMissing, ReadCause, file_at, with_file, with_piece, with_front, written_of, beside_of};
 
 /// A call on the outside failed.
 #[derive(Clone, Copy, Debug, PartialEq, Eq, Hash)]
 pub struct Failed;
+
+/// Counts a fault.
+pub fn fault(count: &mut u64) -> Failed
+    ensures counted { count.new ≡ min (count.old + 1) most_count }
+    ensures never_falls { count.old ≤ count.new }
+{
+    *count = count.saturating_add(1);
+    Failed
+}
 
 /// Takes bytes, one piece after another.
 pub trait Sink {

@@ -4,3 +4,9 @@ pub mod PlanLines
 pub mod TomlValues
 pub mod PlainFacts
 pub mod PlainInstanceLemmas
+pub mod Stored
+pub mod Planned
+pub mod OneCrane
+pub mod OneCraneMirror
+pub mod TwoOrders
+pub mod BestOrder

@@ -1,5 +1,5 @@
 -- The instance of a plain ship is valid.
-use Rattle.std.proofs.Common.{◌≡◌, ℕ, zero, suc, ◌+◌, ◌*◌, ◌≤◌, ◌<◌, ◌++◌, List, [], ◌∷◌, length, refl, sym, ap, ◌∙◌, subst, append_assoc, append-nil, arith, Bool, true, false, inl, inr}
+use Rattle.std.proofs.Common.{◌≡◌, ℕ, zero, suc, ◌+◌, ◌*◌, ◌≤◌, ◌<◌, ◌++◌, List, [], ◌∷◌, length, refl, sym, ap, ◌∙◌, subst, append_assoc, append-nil, arith, Bool, true, false, inl, inr, map, drop, not, ◌&&◌, Option, Some, None}
 use Rattle.std.specs.Prelude.{ℤ, pos, negsuc, ◌+ℤ◌, ◌≤ℤ◌, ◌<ℤ◌, ◌⊎◌, ◌↔◌, ◌≢◌, IsTrue, Contains, slice_index_or, sum_by, if◌then◌else◌, ◌==◌}
 use Rattle.std.proofs.lemmas.Int.{ints}
 use Rattle.std.proofs.lemmas.Bool.Decides.{nat_tests}
@@ -12,7 +12,13 @@ use Rattle.qc_model.specs.declared.crane.Crane.{Crane}
 use Rattle.qc_model.specs.declared.pair.Pair.{Pair}
 use Rattle.qc_model.specs.Tasks.{phase_rank, task_rank}
 use Rattle.qc_model.specs.Instance.{InstanceView, task, bay_of, no_task, Valid, HasBayLimits, HasPlaceLimits, HasValidTasks, HasValidCranes, HasValidBefore, HasValidApart, IsPath, IsFrom, mirror_bay}
+use Rattle.std.specs.List.{All}
+use Rattle.std.proofs.lemmas.List.{length-map}
+use Rattle.std.proofs.lemmas.Bool.{and_parts, leb-true}
+use Rattle.qc_records.specs.Records.{records_of}
 use Rattle.qc_top.specs.PlainHatches.{are_plain_hatches}
+use Rattle.qc_top.specs.PlainStow.{plain_stow, is_plain_list, has_mark, bay_of_row}
+use Rattle.qc_top.specs.Orders.{IsSmall, Reaches}
 use Rattle.qc_top.specs.PlainShip.{ShipData}
 use Rattle.qc_top.specs.PlainInstance.{moves_at, task_at, tasks_from, plain_instance, only_crane}
 
@@ -213,3 +219,47 @@ gap_is (negsuc n) gap e low = absurd (omega (arith, ints, low))
 -- an instance part by part
 pub same_plain : (ship : ShipData) (moves : List ℕ) (bays travel gap : ℕ) (tasks : List Task) (cranes : List Crane) (before apart : List Pair) → bays ≡ length ship.hatches → travel ≡ ship.travel → gap ≡ at_least_zero ship.margin + 1 → tasks ≡ tasks_from ship.deck_move moves 1 ship.hatches → cranes ≡ only_crane ship ∷ [] → before ≡ [] → apart ≡ [] → ◌≡◌ {A = InstanceView} (record { bays = bays; travel = travel; gap = gap; tasks = tasks; cranes = cranes; before = before; apart = apart }) (plain_instance ship moves)
 same_plain ship moves bays travel gap tasks cranes before apart e₁ e₂ e₃ e₄ e₅ e₆ e₇ = cc
+
+few_rows : (hatches : List ℕ) (records : List (List (List ℕ))) → is_plain_list hatches records ≡ true → length (drop 1 records) ≤ 100
+few_rows hatches [] plain = absurd (cc)
+few_rows hatches (header ∷ rows) plain =
+    let shape = (and_parts _ _ plain).0 in
+    let few = (and_parts _ _ (and_parts _ _ (and_parts _ _ shape).0).0).1 in
+    leb-true _ _ few
+
+if_some : {A : Type 0} (b : Bool) (x y : A) → (if b then Some x else None) ≡ Some y → (b ≡ true) × (x ≡ y)
+if_some true x y e = (refl, cc)
+if_some false x y e = absurd (cc)
+
+-- a plain list has at most 100 moves
+pub plain_few : (hatches text moves : List ℕ) → plain_stow hatches text ≡ Some moves → length moves ≤ 100
+plain_few hatches text moves e =
+    let parts = if_some (not (has_mark text) && is_plain_list hatches (records_of text)) (map bay_of_row (drop 1 (records_of text))) moves e in
+    let few = few_rows hatches (records_of text) (and_parts _ _ parts.0).1 in
+    let same : length moves ≡ length (drop 1 (records_of text)) = sym (ap length parts.1) ∙ length-map (drop 1 (records_of text)) bay_of_row in
+    omega (arith, few, same)
+
+in_reach : (bays : ℕ) (crane : Crane) (tasks : List Task) → IsPlainCrane bays crane → AreDeckTasks bays tasks → All (Reaches crane) tasks
+in_reach bays crane _ is none = λ k d h. absurd (omega arith)
+in_reach bays crane _ is (one t t_is) = λ k d. below_one (λ k. Reaches crane (slice_index_or (t ∷ []) k d)) (omega (arith, ints, is.from, t_is.bay), omega (arith, ints, is.to, t_is.bay)) k
+in_reach bays crane _ is (two t u t_is u_is rank hatch bay) =
+    λ k d. below_two (λ k. Reaches crane (slice_index_or (t ∷ u ∷ []) k d))
+      (omega (arith, ints, is.from, t_is.bay), omega (arith, ints, is.to, t_is.bay))
+      (omega (arith, ints, is.from, u_is.bay), omega (arith, ints, is.to, u_is.bay)) k
+
+at_most_two : (bays : ℕ) (tasks : List Task) → AreDeckTasks bays tasks → length tasks ≤ 2
+at_most_two bays _ none = omega arith
+at_most_two bays _ (one t is) = omega arith
+at_most_two bays _ (two t u is is' rank hatch bay) = omega arith
+
+-- a plain instance is small
+pub plain_small : (ship : ShipData) (moves : List ℕ) → IsPlainShip ship → length moves ≤ 100 → IsSmall (plain_instance ship moves)
+plain_small ship moves is few =
+    let are = plain_tasks_are ship.deck_move moves ship.hatches is.hatches is.deck_move few in
+    record {
+      one_crane = refl;
+      few_tasks = at_most_two _ _ are;
+      no_before = refl;
+      no_apart = refl;
+      in_reach = in_reach (length ship.hatches) (only_crane ship) _ (record { ready = refl; berth = is.crane_bay; from = refl; to = refl }) are;
+    }

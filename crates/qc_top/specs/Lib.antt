@@ -5,3 +5,6 @@ pub mod PlainHatches
 pub mod PlainShip
 pub mod PlainStow
 pub mod PlainInstance
+pub mod Due
+pub mod Run
+pub mod Orders

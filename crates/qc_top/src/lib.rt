@@ -2,10 +2,12 @@
 #![tactic(auto)]
 
 mod answer;
+mod orders;
 mod pieces;
 mod plain_instance;
 mod plain_ship;
 mod plain_stow;
+mod plan;
 mod plan_text;
 mod status;
 mod words;

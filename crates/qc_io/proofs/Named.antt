@@ -1,0 +1,160 @@
+-- Files by their names: what a change of the map changes of the files.
+use Rattle.std.proofs.Common.{◌≡◌, ℕ, Bool, true, false, cond, List, [], ◌∷◌, ◌++◌, map, Option, None, Some, Result, Ok, Err, String, Vec, refl, sym, ap, ◌∙◌}
+use Rattle.std.specs.Prelude.{OnOk, OnErr, is_ok}
+use Rattle.std.specs.Option.{option_map}
+use Rattle.std.specs.String.{string_bytes, string_cmp}
+use Rattle.std.specs.Global.{Global}
+use Rattle.std.specs.declared.cmp.Ordering.{Ordering}
+use Rattle.std.specs.declared.cmp.Ordering.TheVariants.{Less, Equal, Greater}
+use Rattle.std.specs.Ordering.{nat_cmp, is_eq, eq_by_cmp}
+use Rattle.std.specs.Cmp.{eq_by_cmp_equiv}
+use Rattle.std.specs.Cmp.Lexicographic.{slice_cmp, nat_list_cmp_total}
+use Rattle.std.specs.Str.{bytes_eq}
+use Rattle.std.specs.Map.{lookup}
+use Rattle.std.specs.BTreeMap.{BTreeMap, UpdatesBy, get_by_text, is_at}
+use Rattle.std.specs.FinMap.{get, insert, remove, find, get-insert, get-remove, get-from_entries, get_tied, same_map, slice_cmp-IsAntisymmetric, nat_cmp-IsAntisymmetric}
+use Rattle.std.proofs.lemmas.Map.Text.{btree_map_updates_text, is_eq-slice_cmp}
+use Rattle.qc_io.specs.Outside.{Files, with_piece, written_of, beside_of}
+use Rattle.qc_io.specs.Memory.{files_of, file_with, grown_at}
+
+-- files that hold the same under each name are the same
+pub same_files : (m n : Files) → ((name : List ℕ) → get m name ≡ get n name) → m ≡ n
+same_files m n same = same_map nat_list_cmp_total (slice_cmp-IsAntisymmetric nat_cmp-IsAntisymmetric) m n same
+
+find_named :
+    (es : List (String Global × Vec ℕ Global)) (q : List ℕ)
+    → find (slice_cmp nat_cmp) q (map (λ (e : String Global × Vec ℕ Global). (string_bytes e.0, e.1.items)) es)
+    ≡ option_map (λ (v : Vec ℕ Global). v.items) (lookup (is_at (λ k. slice_cmp nat_cmp q (string_bytes k))) es)
+find_named [] q = refl
+find_named (e ∷ es) q =
+    elim (is_eq (slice_cmp nat_cmp q (string_bytes e.0))) as (λ b.
+    cond b (Some e.1.items) (find (slice_cmp nat_cmp) q (map (λ (e : String Global × Vec ℕ Global). (string_bytes e.0, e.1.items)) es))
+    ≡ option_map (λ (v : Vec ℕ Global). v.items) (cond b (Some e.1) (lookup (is_at (λ k. slice_cmp nat_cmp q (string_bytes k))) es))) [
+      | true ↦ refl
+      | false ↦ find_named es q
+    ]
+
+-- the files hold under a name what the map holds under it
+pub get-files_of : (m : BTreeMap (String Global) (Vec ℕ Global)) (name : List ℕ) → get (files_of m) name ≡ option_map (λ v. v.items) (get_by_text m name)
+get-files_of m name = get-from_entries nat_list_cmp_total _ name ∙ find_named m.entries name
+
+chosen : {A B : Type 0} (f : A → B) (b : Bool) (x : A) (o : Option A) → option_map f (cond b (Some x) o) ≡ cond b (Some (f x)) (option_map f o)
+chosen f true x o = refl
+chosen f false x o = refl
+
+alike : (a b : List ℕ) → bytes_eq a b ≡ eq_by_cmp (slice_cmp nat_cmp) b a
+alike a b = sym (is_eq-slice_cmp a b) ∙ (eq_by_cmp_equiv nat_list_cmp_total).symm a b
+
+-- a value that is set in the map is a file that is put among the files
+pub files_of-updates :
+    (name : List ℕ) (m n : BTreeMap (String Global) (Vec ℕ Global)) (v : Vec ℕ Global)
+    → UpdatesBy string_cmp (λ k. slice_cmp nat_cmp name (string_bytes k)) m n (Some v)
+    → files_of n ≡ insert (files_of m) name v.items
+files_of-updates name m n v updates =
+    same_files _ _ (λ q.
+    get-files_of n q
+    ∙ ap (option_map (λ w. w.items)) (btree_map_updates_text name m n (Some v) updates q)
+    ∙ chosen (λ w. w.items) (bytes_eq name q) v (get_by_text m q)
+    ∙ ap (λ b. cond b (Some v.items) (option_map (λ w. w.items) (get_by_text m q))) (alike name q)
+    ∙ ap (cond (eq_by_cmp (slice_cmp nat_cmp) q name) (Some v.items)) (sym (get-files_of m q))
+    ∙ sym (get-insert nat_list_cmp_total (files_of m) name v.items q))
+
+test_itself : (name : List ℕ) → eq_by_cmp (slice_cmp nat_cmp) name name ≡ true
+test_itself name = (eq_by_cmp_equiv nat_list_cmp_total).refl name
+
+-- a file that is put is held
+pub get-insert_same : (files : Files) (name bytes : List ℕ) → get (insert files name bytes) name ≡ Some bytes
+get-insert_same files name bytes =
+    get-insert nat_list_cmp_total files name bytes name ∙ ap (λ b. cond b (Some bytes) (get files name)) (test_itself name)
+
+equal_of : (r : Ordering) → is_eq r ≡ true → r ≡ Equal
+equal_of Less e = absurd (cc e)
+equal_of Equal e = refl
+equal_of Greater e = absurd (cc e)
+
+-- a name that ties with another one is held alike
+pub get_same : (files : Files) (q name : List ℕ) → eq_by_cmp (slice_cmp nat_cmp) q name ≡ true → get files q ≡ get files name
+get_same files q name e = sym (get_tied nat_list_cmp_total files q name (equal_of _ e))
+
+-- to put a file that is held already changes nothing
+pub insert_held : (files : Files) (name bytes : List ℕ) → get files name ≡ Some bytes → insert files name bytes ≡ files
+insert_held files name bytes held =
+    same_files _ _ (λ q. get-insert nat_list_cmp_total files name bytes q ∙ by q (eq_by_cmp (slice_cmp nat_cmp) q name) refl)
+  where
+    by : (q : List ℕ) (b : Bool) → eq_by_cmp (slice_cmp nat_cmp) q name ≡ b → cond b (Some bytes) (get files q) ≡ get files q
+    by q true e = sym held ∙ sym (get_same files q name e)
+    by q false e = refl
+
+-- besides the named file, the files stay when it is put
+pub remove-insert : (files : Files) (name bytes : List ℕ) → remove (insert files name bytes) name ≡ remove files name
+remove-insert files name bytes =
+    same_files _ _ (λ q.
+    get-remove nat_list_cmp_total _ name q
+    ∙ ap (cond (eq_by_cmp (slice_cmp nat_cmp) q name) None) (get-insert nat_list_cmp_total files name bytes q)
+    ∙ shadowed (eq_by_cmp (slice_cmp nat_cmp) q name) _ _
+    ∙ sym (get-remove nat_list_cmp_total files name q))
+  where
+    shadowed : (b : Bool) (x y : Option (List ℕ)) → cond b None (cond b x y) ≡ cond b None y
+    shadowed true x y = refl
+    shadowed false x y = refl
+
+-- the named file grew by the piece
+pub get-grown_at : (files : Files) (name piece : List ℕ) → get (grown_at files name piece) name ≡ with_piece (get files name) piece
+get-grown_at files name piece = by (get files name) refl
+  where
+    by : (held : Option (List ℕ)) → get files name ≡ held → get (file_with held piece files name) name ≡ with_piece held piece
+    by None none = none
+    by (Some bytes) some = get-insert_same files name (bytes ++ piece)
+
+-- and no other file changed
+pub remove-grown_at : (files : Files) (name piece : List ℕ) → remove (grown_at files name piece) name ≡ remove files name
+remove-grown_at files name piece = by (get files name)
+  where
+    by : (held : Option (List ℕ)) → remove (file_with held piece files name) name ≡ remove files name
+    by None = refl
+    by (Some bytes) = remove-insert files name (bytes ++ piece)
+
+-- the map's value is the file's bytes
+pub held_named : (m : BTreeMap (String Global) (Vec ℕ Global)) (files : Files) (name : List ℕ) (v : Vec ℕ Global) → files_of m ≡ files → Some v ≡ get_by_text m name → get files name ≡ Some v.items
+held_named m files name v seen held =
+    ap (λ f. get f name) (sym seen) ∙ get-files_of m name ∙ ap (option_map (λ (w : Vec ℕ Global). w.items)) (sym held)
+
+-- a name that the map lacks is no file's
+pub missing_named : (m : BTreeMap (String Global) (Vec ℕ Global)) (files : Files) (name : List ℕ) → files_of m ≡ files → None ≡ get_by_text m name → get files name ≡ None
+missing_named m files name seen missing =
+    ap (λ f. get f name) (sym seen) ∙ get-files_of m name ∙ ap (option_map (λ (w : Vec ℕ Global). w.items)) (sym missing)
+
+-- a value that grew in the map, where memory was had, or stayed
+module _ (m n : BTreeMap (String Global) (Vec ℕ Global)) (name piece : List ℕ) (v w : Vec ℕ Global) (held : Some v ≡ get_by_text m name)
+    (updates : UpdatesBy string_cmp (λ k. slice_cmp nat_cmp name (string_bytes k)) m n (Some w)) where
+  was : get (files_of m) name ≡ Some v.items
+  was = held_named m (files_of m) name v refl held
+
+  pub grown_value : {E : Type 0} (r : Result (Unit {0}) E) → w.items ≡ cond (is_ok r) (v.items ++ piece) v.items → OnOk r (files_of n ≡ grown_at (files_of m) name piece)
+  grown_value (Ok _) grew =
+      files_of-updates name m n w updates
+      ∙ ap (insert (files_of m) name) grew
+      ∙ ap (λ o. file_with o piece (files_of m) name) (sym was)
+  grown_value (Err _) same = tt
+
+  pub same_value : {E : Type 0} (r : Result (Unit {0}) E) → w.items ≡ cond (is_ok r) (v.items ++ piece) v.items → OnErr r (files_of n ≡ files_of m)
+  same_value (Ok _) grew = tt
+  same_value (Err _) same =
+      files_of-updates name m n w updates ∙ ap (insert (files_of m) name) same ∙ insert_held (files_of m) name v.items was
+
+-- a name that isn't held leaves the files
+pub grown_at-missing : (m n : BTreeMap (String Global) (Vec ℕ Global)) (name piece : List ℕ) → None ≡ get_by_text m name → n ≡ m → files_of n ≡ grown_at (files_of m) name piece
+grown_at-missing m n name piece missing same =
+    ap files_of same ∙ ap (λ o. file_with o piece (files_of m) name) (sym (missing_named m (files_of m) name refl missing))
+
+-- what a write to the file that was made does to the bytes so far, and to what is beside them
+module _ (files new : Files) (made : Option (List ℕ)) (name piece : List ℕ) (is : made ≡ Some name) (grew : new ≡ grown_at files name piece) where
+  pub written-grown : written_of (Some new) made ≡ with_piece (written_of (Some files) made) piece
+  written-grown =
+      ap (written_of (Some new)) is ∙ ap (λ f. get f name) grew ∙ get-grown_at files name piece
+      ∙ ap (λ o. with_piece (written_of (Some files) o) piece) (sym is)
+
+  pub beside-grown : beside_of (Some new) made ≡ beside_of (Some files) made
+  beside-grown =
+      ap (beside_of (Some new)) is ∙ ap (λ f. Some (name, remove f name)) grew ∙ ap (λ f. Some (name, f)) (remove-grown_at files name piece)
+      ∙ ap (beside_of (Some files)) (sym is)

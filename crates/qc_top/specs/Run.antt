@@ -1,0 +1,75 @@
+-- What a run does to the shelf, for each answer that it may come to.
+use Rattle.std.specs.Prelude.{◌≡◌, ℕ, ◌≤◌, ◌⊎◌, List, take, Option, Some, Result, Ok, Err, IfSome, IsOk}
+use Rattle.std.specs.FinMap.{insert}
+use Rattle.qc_io.specs.Outside.{Files, Rose, ReadCause}
+use Rattle.qc_model.specs.declared.schedule.Slot.{Slot}
+use Rattle.qc_model.specs.Instance.{InstanceView}
+use Rattle.qc_model.specs.Rules.{ends}
+use Rattle.qc_model.specs.OneWay.{GoesOneWay}
+use Rattle.qc_top.specs.declared.answer.Input.{Input}
+use Rattle.qc_top.specs.declared.answer.Input.TheVariants as input
+use Rattle.qc_top.specs.declared.answer.Answer.{Answer}
+use Rattle.qc_top.specs.declared.answer.Answer.TheVariants as answer
+use Rattle.qc_top.specs.declared.words.Request.{Request}
+use Rattle.qc_top.specs.declared.words.Request.TheVariants as request
+use Rattle.qc_top.specs.declared.status.Status.{Status}
+use Rattle.qc_top.specs.PlanText.{plan_text}
+use Rattle.qc_top.specs.Due.{input_due, plan_due}
+use Rattle.qc_top.specs.Words.{request_of}
+use Rattle.qc_top.specs.Answers.{Reports}
+
+-- what a run sees of the shelf: its files, where they are told, and its two counts of faults
+pub record Stand : Type 0 where
+  pub files : Option Files
+  pub faults : ℕ
+  pub read_faults : ℕ
+
+-- the schedule goes one way, and no schedule that goes one way ends earlier
+pub record IsBest (inst : InstanceView) (sched : List Slot) : Type 0 where
+  pub goes : GoesOneWay inst sched
+  pub least : (other : List Slot) → GoesOneWay inst other → ends inst sched ≤ ends inst other
+
+-- the files are as before, but that the plan file holds the plan of a best schedule, which has this end
+pub record HoldsBest (due : Result InstanceView Answer) (held : Files) (plan : List ℕ) (end : ℕ) (files : Option Files) : Type 0 where
+  pub inst : InstanceView
+  pub sched : List Slot
+  pub planned : due ≡ Ok inst
+  pub best : IsBest inst sched
+  pub ends_then : end ≡ ends inst sched
+  pub file : files ≡ Some (insert held plan (plan_text inst sched))
+
+-- the files are as before, or but for the named file, which holds a front part of the text
+abbrev pub HoldsFront : Files → List ℕ → List ℕ → Option Files → Type 0
+HoldsFront held name text files = (files ≡ Some held) ⊎ ((count : ℕ) × (files ≡ Some (insert held name (take count text))))
+
+-- a plan was due, and at most the front of the plan of a best schedule was written
+pub record IsStopped (due : Result InstanceView Answer) (held : Files) (plan : List ℕ) (files : Option Files) : Type 0 where
+  pub inst : InstanceView
+  pub sched : List Slot
+  pub planned : due ≡ Ok inst
+  pub best : IsBest inst sched
+  pub file : HoldsFront held plan (plan_text inst sched) files
+
+-- why a file that is read was refused
+abbrev pub IsInputRefused : Input → List ℕ → Option Files → ℕ → ℕ → Answer → Type 0
+IsInputRefused file name files before after (answer.ReadFault f) = (f ≡ file) × ReadCause before after files name
+IsInputRefused file name files before after (answer.TooLarge f) = (f ≡ file) × IfSome files (λ held. input_due held file name ≡ Err (answer.TooLarge file))
+IsInputRefused file name files before after answer.OutOfMemory = Unit {0}
+IsInputRefused file name files before after _ = ⊥
+
+-- why a plan was refused, where the files are told: what is due says so, but that a read fault may come before the refusals of its file, and want of memory at any time
+abbrev pub IsRefused : List ℕ → List ℕ → Stand → Stand → Answer → Type 0
+IsRefused ship stow before after (answer.ReadFault input.Ship) = ReadCause before.read_faults after.read_faults before.files ship
+IsRefused ship stow before after (answer.ReadFault input.Stow) =
+    ReadCause before.read_faults after.read_faults before.files stow × IfSome before.files (λ held. IsOk (input_due held input.Ship ship))
+IsRefused ship stow before after (answer.TooLarge file) = IfSome before.files (λ held. plan_due held ship stow ≡ Err (answer.TooLarge file))
+IsRefused ship stow before after answer.Unbuilt = IfSome before.files (λ held. plan_due held ship stow ≡ Err answer.Unbuilt)
+IsRefused ship stow before after answer.OutOfMemory = Unit {0}
+IsRefused ship stow before after _ = ⊥
+
+-- what a plan's answer says of the shelf
+abbrev pub Plans : List ℕ → List ℕ → List ℕ → Stand → Stand → Answer → Type 0
+Plans ship stow plan before after (answer.Optimal end) = IfSome before.files (λ held. HoldsBest (plan_due held ship stow) held plan end after.files)
+Plans ship stow plan before after answer.WriteFault =
+    Rose before.faults after.faults × IfSome before.files (λ held. IsStopped (plan_due held ship stow) held plan after.files)
+Plans ship stow plan before after answer = (after.files ≡ before.files) × IsRefused ship stow before after answer
