@@ -4,6 +4,7 @@ pub mod PlanLines
 pub mod TomlValues
 pub mod PlainFacts
 pub mod PlainInstanceLemmas
+pub mod PlanWords
 pub mod Stored
 pub mod Planned
 pub mod OneCrane

@@ -1,5 +1,5 @@
 -- What a run does to the shelf, for each answer that it may come to.
-use Rattle.std.specs.Prelude.{◌≡◌, ℕ, ◌≤◌, ◌⊎◌, List, take, Option, Some, Result, Ok, Err, IfSome, IsOk}
+use Rattle.std.specs.Prelude.{◌≡◌, ℕ, ◌≤◌, ◌⊎◌, List, [], ◌++◌, slice_index_or, take, Option, Some, Result, Ok, Err, IfSome, IsOk}
 use Rattle.std.specs.FinMap.{insert}
 use Rattle.qc_io.specs.Outside.{Files, Rose, ReadCause}
 use Rattle.qc_model.specs.declared.schedule.Slot.{Slot}
@@ -16,7 +16,7 @@ use Rattle.qc_top.specs.declared.status.Status.{Status}
 use Rattle.qc_top.specs.PlanText.{plan_text}
 use Rattle.qc_top.specs.Due.{input_due, plan_due}
 use Rattle.qc_top.specs.Words.{request_of}
-use Rattle.qc_top.specs.Answers.{Reports}
+use Rattle.qc_top.specs.Answers.{report_text, Reports}
 
 -- what a run sees of the shelf: its files, where they are told, and its two counts of faults
 pub record Stand : Type 0 where
@@ -73,3 +73,28 @@ Plans ship stow plan before after (answer.Optimal end) = IfSome before.files (λ
 Plans ship stow plan before after answer.WriteFault =
     Rose before.faults after.faults × IfSome before.files (λ held. IsStopped (plan_due held ship stow) held plan after.files)
 Plans ship stow plan before after answer = (after.files ≡ before.files) × IsRefused ship stow before after answer
+
+-- a word by its place, from 0
+abbrev pub word : List (List ℕ) → ℕ → List ℕ
+word texts at = slice_index_or texts at []
+
+-- what the words ask for says of the answer and of the shelf, which only a plan may touch
+abbrev pub Serves : Request → List (List ℕ) → Stand → Stand → Answer → Type 0
+Serves request.Plan texts before after a = Plans (word texts 1) (word texts 2) (word texts 3) before after a
+Serves request.Unbuilt texts before after a = (a ≡ answer.Unbuilt) × (after ≡ before)
+Serves request.Usage texts before after a = (a ≡ answer.Usage) × (after ≡ before)
+
+-- a run: it comes to an answer, which the words and the shelf account for, and reports it
+pub record Runs (texts : List (List ℕ)) (before after : Stand) (printed_before printed_after : Option (List ℕ)) (faults_before faults_after : ℕ) (ended : Status) : Type 0 where
+  pub answer : Answer
+  pub serves : Serves (request_of texts) texts before after answer
+  pub reports : Reports answer printed_before printed_after faults_before faults_after ended
+
+-- the plan file holds the plan of a best schedule, its end was printed, and all other files are as they were
+pub record IsPlanned (due : Result InstanceView Answer) (held : Files) (plan : List ℕ) (bytes : List ℕ) (files : Option Files) (printed : Option (List ℕ)) : Type 0 where
+  pub inst : InstanceView
+  pub sched : List Slot
+  pub planned : due ≡ Ok inst
+  pub best : IsBest inst sched
+  pub file : files ≡ Some (insert held plan (plan_text inst sched))
+  pub report : printed ≡ Some (bytes ++ report_text (answer.Optimal (ends inst sched)))

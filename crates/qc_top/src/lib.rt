@@ -9,9 +9,11 @@ mod plain_ship;
 mod plain_stow;
 mod plan;
 mod plan_text;
+mod program;
 mod status;
 mod words;
 
 pub use answer::{Answer, Input};
+pub use program::run;
 pub use status::Status;
 pub use words::Request;

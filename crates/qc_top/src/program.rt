@@ -1,0 +1,53 @@
+//! One run of the program: from words to a status.
+ghost use Rattle.std.specs.Prelude.{◌≡◌, ◌≤◌, length};
+ghost use Rattle.qc_top.specs.Words.{texts, request_of};
+ghost use Rattle.qc_top.specs.Run.{Stand, word, Plans, Serves, Runs};
+
+use crate::answer::{Answer, report};
+use crate::plan::plan;
+use crate::status::Status;
+use crate::words::{Request, request_of};
+use qc_io::{Shelf, Sink};
+use std::alloc::Global;
+
+fn plan_by_words<S: Shelf>(alloc: Global, words: &[String], shelf: &mut S) -> Answer
+    requires { length words.now ≡ 5 }
+    ensures plans { Plans (word (texts words.now) 1) (word (texts words.now) 2) (word (texts words.now) 3) (record { files = S.files shelf.old; faults = S.Sink.faults shelf.old; read_faults = S.read_faults shelf.old }) (record { files = S.files shelf.new; faults = S.Sink.faults shelf.new; read_faults = S.read_faults shelf.new }) result }
+    ensures faults_never_fall { S.Sink.faults shelf.old ≤ S.Sink.faults shelf.new }
+{
+    plan(
+        alloc,
+        words[1].as_str(),
+        words[2].as_str(),
+        words[3].as_str(),
+        shelf,
+    )
+}
+
+fn serve<S: Shelf>(alloc: Global, words: &[String], shelf: &mut S) -> Answer
+    ensures serves { Serves (request_of (texts words.now)) (texts words.now) (record { files = S.files shelf.old; faults = S.Sink.faults shelf.old; read_faults = S.read_faults shelf.old }) (record { files = S.files shelf.new; faults = S.Sink.faults shelf.new; read_faults = S.read_faults shelf.new }) result }
+    ensures faults_never_fall { S.Sink.faults shelf.old ≤ S.Sink.faults shelf.new }
+{
+    match request_of(words) {
+        Request::Plan => plan_by_words(alloc, words, shelf),
+        Request::Unbuilt => Answer::Unbuilt,
+        Request::Usage => Answer::Usage,
+    }
+}
+
+/// Runs the program on the words of a command line, without the program's name, over the files of
+/// the shelf. The report goes to `out`.
+pub fn run<S: Shelf, K: Sink>(
+    alloc: Global,
+    words: &[String],
+    shelf: &mut S,
+    out: &mut K,
+) -> Status
+    ensures runs { Runs (texts words.now) (record { files = S.files shelf.old; faults = S.Sink.faults shelf.old; read_faults = S.read_faults shelf.old }) (record { files = S.files shelf.new; faults = S.Sink.faults shelf.new; read_faults = S.read_faults shelf.new }) (K.Sink.written out.old) (K.Sink.written out.new) (K.Sink.faults out.old) (K.Sink.faults out.new) result }
+    ensures beside_stays { K.Sink.beside out.new ≡ K.Sink.beside out.old }
+    ensures faults_never_fall { S.Sink.faults shelf.old ≤ S.Sink.faults shelf.new }
+    ensures print_faults_never_fall { K.Sink.faults out.old ≤ K.Sink.faults out.new }
+{
+    let answer = serve(alloc, words, shelf);
+    report(answer, out)
+}
