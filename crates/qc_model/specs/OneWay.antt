@@ -34,9 +34,10 @@ mirror_slot inst s = record s { crane = length inst.cranes - 1 - s.crane }
 abbrev pub mirror_schedule : InstanceView → List Slot → List Slot
 mirror_schedule inst sched = map (mirror_slot inst) sched
 
--- the schedule goes downward where its mirror goes upward in the mirrored instance
-abbrev pub GoesDown : InstanceView → List Slot → Type 0
-GoesDown inst sched = GoesUp (mirror inst) (mirror_schedule inst sched)
+-- the schedule uses cranes of the instance, and its mirror goes upward in the mirrored instance
+pub record GoesDown (inst : InstanceView) (sched : List Slot) : Type 0 where
+  pub crane_range : (j : ℕ) → j < length inst.tasks → crane_of sched j < length inst.cranes
+  pub mirrored : GoesUp (mirror inst) (mirror_schedule inst sched)
 
 -- the schedule goes one way, upward or downward
 abbrev pub GoesOneWay : InstanceView → List Slot → Type 0

@@ -10,7 +10,7 @@ use Rattle.qc_model.specs.declared.schedule.Slot.{Slot}
 use Rattle.qc_model.specs.Bays.{bays_up, bays_between}
 use Rattle.qc_model.specs.Instance.{InstanceView, task, crane, bay_of, ticks_of, mirror_bay, no_task, no_crane}
 use Rattle.qc_model.specs.Rules.{crane_of, start_of, end_of, no_slot}
-use Rattle.qc_model.specs.OneWay.{GoesDown, mirror, mirror_task, mirror_crane, mirror_slot, mirror_schedule}
+use Rattle.qc_model.specs.OneWay.{GoesUp, GoesDown, mirror, mirror_task, mirror_crane, mirror_slot, mirror_schedule}
 use Rattle.qc_model.proofs.Bays.{bays}
 use Rattle.qc_top.specs.Orders.{IsSmall, Reaches}
 use Rattle.qc_top.proofs.OneCrane.{HasOwnBays, Climbs-goes, goes_Climbs}
@@ -18,6 +18,7 @@ use Rattle.qc_top.proofs.OneCrane.{HasOwnBays, Climbs-goes, goes_Climbs}
 -- the one crane comes to each task in time and works downward
 pub record Descends (inst : InstanceView) (sched : List Slot) : Type 0 where
   pub slots : length sched ≡ length inst.tasks
+  pub on_first : (j : ℕ) → j < length inst.tasks → crane_of sched j ≡ 0
   pub ready : (j : ℕ) → j < length inst.tasks → (crane inst 0).ready + inst.travel * bays_between (crane inst 0).bay (bay_of inst j) ≤ start_of sched j
   pub descends : (i j : ℕ) → i < length inst.tasks → j < length inst.tasks → bay_of inst j <ℤ bay_of inst i → end_of inst sched i + inst.travel * bays_up (bay_of inst j) (bay_of inst i) ≤ start_of sched j
 
@@ -124,8 +125,8 @@ module _ (inst : InstanceView) (small : IsSmall inst) (own : HasOwnBays inst) (s
   mirrored : (j : ℕ) → j < length inst.tasks → j < length (mirror inst).tasks
   mirrored j h = omega (arith, h, length-tasks-mirror inst)
 
-  pub Descends-goes : Descends inst sched → GoesDown inst sched
-  Descends-goes down =
+  mirror_climbs : Descends inst sched → GoesUp (mirror inst) (mirror_schedule inst sched)
+  mirror_climbs down =
       Climbs-goes (mirror inst) (IsSmall-mirror inst small) (HasOwnBays-mirror inst own) (mirror_schedule inst sched)
       record {
         slots = simp length-map down.slots;
@@ -139,12 +140,19 @@ module _ (inst : InstanceView) (small : IsSmall inst) (own : HasOwnBays inst) (s
             omega (arith, way, end_of-mirror inst sched i down.slots i_in, start_of-mirror inst sched j in_slots, down.descends i j i_in j_in (lower-mirror inst i j i_in j_in lt));
       }
 
+  pub Descends-goes : Descends inst sched → GoesDown inst sched
+  Descends-goes down = record {
+    crane_range = λ j h. omega (arith, down.on_first j h, small.one_crane);
+    mirrored = mirror_climbs down
+  }
+
   pub goes_Descends : GoesDown inst sched → Descends inst sched
   goes_Descends goes =
-      let up = goes_Climbs (mirror inst) (IsSmall-mirror inst small) (HasOwnBays-mirror inst own) (mirror_schedule inst sched) goes in
+      let up = goes_Climbs (mirror inst) (IsSmall-mirror inst small) (HasOwnBays-mirror inst own) (mirror_schedule inst sched) goes.mirrored in
       let slots : length sched ≡ length inst.tasks = sym (length-map sched (mirror_slot inst)) ∙ up.slots ∙ length-tasks-mirror inst in
       record {
         slots = slots;
+        on_first = λ j h. omega (arith, goes.crane_range j h, small.one_crane);
         ready = λ j h. let in_slots : j < length sched = omega arith in omega (arith, head-mirror inst small.one_crane j h, start_of-mirror inst sched j in_slots, up.ready j (mirrored j h));
         descends = λ i j hi hj lt.
             let in_slots : j < length sched = omega arith in

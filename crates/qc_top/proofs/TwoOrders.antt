@@ -139,6 +139,7 @@ module _ (inst : InstanceView) (small : IsSmall inst) (own : HasOwnBays inst) wh
     leads_down : bay_of inst j <ℤ bay_of inst i → GoesDown inst sched
     leads_down lt = Descends-goes inst small own sched record {
       slots = leads.slots;
+      on_first = leads.on_first;
       ready = leads_ready;
       descends =
           let way = ap (λ (n : ℕ). inst.travel * n) (between_down (bay_of inst i) (bay_of inst j) lt) in
