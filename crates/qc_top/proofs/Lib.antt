@@ -5,6 +5,7 @@ pub mod TomlValues
 pub mod PlainFacts
 pub mod PlainInstanceLemmas
 pub mod PlanWords
+pub mod RunLemmas
 pub mod Stored
 pub mod Planned
 pub mod OneCrane

@@ -1,5 +1,5 @@
 -- What a run does to the shelf, for each answer that it may come to.
-use Rattle.std.specs.Prelude.{◌≡◌, ℕ, ◌≤◌, ◌⊎◌, List, [], ◌++◌, slice_index_or, take, Option, Some, Result, Ok, Err, IfSome, IsOk}
+use Rattle.std.specs.Prelude.{◌≡◌, ℕ, ◌≤◌, ◌⊎◌, List, [], ◌++◌, slice_index_or, take, Option, Some, Result, Ok, Err, IfSome, IsSome, IsOk}
 use Rattle.std.specs.FinMap.{insert}
 use Rattle.qc_io.specs.Outside.{Files, Rose, ReadCause}
 use Rattle.qc_model.specs.declared.schedule.Slot.{Slot}
@@ -13,6 +13,7 @@ use Rattle.qc_top.specs.declared.answer.Answer.TheVariants as answer
 use Rattle.qc_top.specs.declared.words.Request.{Request}
 use Rattle.qc_top.specs.declared.words.Request.TheVariants as request
 use Rattle.qc_top.specs.declared.status.Status.{Status}
+use Rattle.qc_top.specs.declared.status.Status.TheVariants as status
 use Rattle.qc_top.specs.PlanText.{plan_text}
 use Rattle.qc_top.specs.Due.{input_due, plan_due}
 use Rattle.qc_top.specs.Words.{request_of}
@@ -98,3 +99,10 @@ pub record IsPlanned (due : Result InstanceView Answer) (held : Files) (plan : L
   pub best : IsBest inst sched
   pub file : files ≡ Some (insert held plan (plan_text inst sched))
   pub report : printed ≡ Some (bytes ++ report_text (answer.Optimal (ends inst sched)))
+
+-- the answer of a plan whose files are in order, where no count of faults rose
+abbrev pub IsComplete : List (List ℕ) → Stand → Stand → ℕ → ℕ → Status → Type 0
+IsComplete texts before after faults_before faults_after ended =
+    request_of texts ≡ request.Plan → IfSome before.files (λ held. IsOk (plan_due held (word texts 1) (word texts 2)))
+    → IsSome before.files → ¬ Rose before.faults after.faults → ¬ Rose before.read_faults after.read_faults → ¬ Rose faults_before faults_after
+    → (ended ≡ status.Optimal) ⊎ (ended ≡ status.OutOfMemory)

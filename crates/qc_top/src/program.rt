@@ -1,7 +1,9 @@
 //! One run of the program: from words to a status.
-ghost use Rattle.std.specs.Prelude.{◌≡◌, ◌≤◌, length};
+ghost use Rattle.std.specs.Prelude.{◌≡◌, ◌≢◌, ◌≤◌, ◌⊎◌, length, IfSome};
+ghost use Rattle.qc_io.specs.Outside.{Rose};
+ghost use Rattle.qc_top.specs.Due.{plan_due};
 ghost use Rattle.qc_top.specs.Words.{texts, request_of};
-ghost use Rattle.qc_top.specs.Run.{Stand, word, Plans, Serves, Runs};
+ghost use Rattle.qc_top.specs.Run.{Stand, word, Plans, Serves, Runs, IsPlanned, IsComplete};
 
 use crate::answer::{Answer, report};
 use crate::plan::plan;
@@ -44,6 +46,15 @@ pub fn run<S: Shelf, K: Sink>(
     out: &mut K,
 ) -> Status
     ensures runs { Runs (texts words.now) (record { files = S.files shelf.old; faults = S.Sink.faults shelf.old; read_faults = S.read_faults shelf.old }) (record { files = S.files shelf.new; faults = S.Sink.faults shelf.new; read_faults = S.read_faults shelf.new }) (K.Sink.written out.old) (K.Sink.written out.new) (K.Sink.faults out.old) (K.Sink.faults out.new) result }
+
+    // What follows from it, said by itself.
+    ensures optimal { result ≡ Status.Optimal → IfSome (S.files shelf.old) (λ held. IfSome (K.Sink.written out.old) (λ bytes. IsPlanned (plan_due held (word (texts words.now) 1) (word (texts words.now) 2)) held (word (texts words.now) 3) bytes (S.files shelf.new) (K.Sink.written out.new))) }
+    ensures files_stay { result ≢ Status.Optimal → result ≢ Status.WriteFault → S.files shelf.new ≡ S.files shelf.old }
+    ensures write_fault { result ≡ Status.WriteFault → Rose (S.Sink.faults shelf.old) (S.Sink.faults shelf.new) ⊎ Rose (K.Sink.faults out.old) (K.Sink.faults out.new) }
+    ensures usage { result ≡ Status.Usage → request_of (texts words.now) ≡ Request.Usage }
+    ensures no_command { request_of (texts words.now) ≡ Request.Usage → (result ≡ Status.Usage) ⊎ (result ≡ Status.WriteFault) × Rose (K.Sink.faults out.old) (K.Sink.faults out.new) }
+    ensures complete { IsComplete (texts words.now) (record { files = S.files shelf.old; faults = S.Sink.faults shelf.old; read_faults = S.read_faults shelf.old }) (record { files = S.files shelf.new; faults = S.Sink.faults shelf.new; read_faults = S.read_faults shelf.new }) (K.Sink.faults out.old) (K.Sink.faults out.new) result }
+
     ensures beside_stays { K.Sink.beside out.new ≡ K.Sink.beside out.old }
     ensures faults_never_fall { S.Sink.faults shelf.old ≤ S.Sink.faults shelf.new }
     ensures print_faults_never_fall { K.Sink.faults out.old ≤ K.Sink.faults out.new }
