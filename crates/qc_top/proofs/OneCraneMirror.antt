@@ -143,7 +143,7 @@ module _ (inst : InstanceView) (small : IsSmall inst) (own : HasOwnBays inst) (s
   pub Descends-goes : Descends inst sched → GoesDown inst sched
   Descends-goes down = record {
     crane_range = λ j h. omega (arith, down.on_first j h, small.one_crane);
-    mirrored = mirror_climbs down
+    mirrored = mirror_climbs down;
   }
 
   pub goes_Descends : GoesDown inst sched → Descends inst sched

@@ -73,6 +73,7 @@ valid_tasks bays travel gap _ crane (one t is) = record {
   where
     inst : InstanceView
     inst = simple_instance bays travel gap (t ∷ []) crane
+
     SameHatch : ℕ → ℕ → Type 0
     SameHatch i j = (bay_of inst i ≡ bay_of inst j) ↔ ((task inst i).hatch ≡ (task inst j).hatch)
 valid_tasks bays travel gap _ crane (two t u is is' rank hatch bay) = record {
@@ -83,13 +84,14 @@ valid_tasks bays travel gap _ crane (two t u is is' rank hatch bay) = record {
   sorted = λ i j h k. below_two (λ j. i < j → task_rank (task inst i) < task_rank (task inst j)) (λ h. absurd (omega arith)) (below_one (λ i. task_rank (task inst i) < task_rank u) rank i) j k h;
   hatches = λ i j h k.
       below_two (λ i. SameHatch i j)
-        (below_two (λ j. SameHatch 0 j) ((λ _. refl), (λ _. refl)) ((λ e. absurd (omega (arith, ints, e, bay))), (λ e. absurd (omega (arith, e, hatch)))) j k)
-        (below_two (λ j. SameHatch 1 j) ((λ e. absurd (omega (arith, ints, e, bay))), (λ e. absurd (omega (arith, e, hatch)))) ((λ _. refl), (λ _. refl)) j k)
-        i h;
+      (below_two (λ j. SameHatch 0 j) ((λ _. refl), (λ _. refl)) ((λ e. absurd (omega (arith, ints, e, bay))), (λ e. absurd (omega (arith, e, hatch)))) j k)
+      (below_two (λ j. SameHatch 1 j) ((λ e. absurd (omega (arith, ints, e, bay))), (λ e. absurd (omega (arith, e, hatch)))) ((λ _. refl), (λ _. refl)) j k)
+      i h;
 }
   where
     inst : InstanceView
     inst = simple_instance bays travel gap (t ∷ u ∷ []) crane
+
     SameHatch : ℕ → ℕ → Type 0
     SameHatch i j = (bay_of inst i ≡ bay_of inst j) ↔ ((task inst i).hatch ≡ (task inst j).hatch)
 
@@ -152,9 +154,10 @@ at_count deck_move n bay hatch in_deck few =
       | true ↦ λ e. none
       | false ↦ λ e.
           let some : 1 ≤ n = grind (arith, nat_tests) in
-          one _ refl refl refl
-            ( omega (arith, mul-le-mul_left n in_deck.0, some)
-            , omega (arith, mul-le-mul_left n in_deck.1, few))
+          one _ refl refl refl (
+            omega (arith, mul-le-mul_left n in_deck.0, some),
+            omega (arith, mul-le-mul_left n in_deck.1, few),
+          )
     ] refl
 
 task_at_is : (deck_move : ℕ) (moves : List ℕ) (bay hatch : ℕ) → (1 ≤ deck_move) × (deck_move ≤ 10000) → length moves ≤ 100 → TaskOf hatch bay (task_at deck_move moves bay hatch)
@@ -174,9 +177,9 @@ two_hatches h k _ _ lt (one t hatch phase bay ticks) none = one t (deck_task 2 h
 two_hatches h k _ _ lt none (one u hatch phase bay ticks) = one u (deck_task 2 k 2 u bay (omega arith, omega arith) ticks)
 two_hatches h k _ _ lt (one t hatch phase bay ticks) (one u hatch' phase' bay' ticks') =
     two t u (deck_task 2 h 1 t bay (omega arith, omega arith) ticks) (deck_task 2 k 2 u bay' (omega arith, omega arith) ticks')
-      (let zero_t : phase_rank t.phase ≡ 0 = ap phase_rank phase in let zero_u : phase_rank u.phase ≡ 0 = ap phase_rank phase' in omega (arith, zero_t, zero_u, hatch, hatch'))
-      (omega (arith, hatch, hatch'))
-      (omega (arith, ints, bay, bay'))
+    (let zero_t : phase_rank t.phase ≡ 0 = ap phase_rank phase in let zero_u : phase_rank u.phase ≡ 0 = ap phase_rank phase' in omega (arith, zero_t, zero_u, hatch, hatch'))
+    (omega (arith, hatch, hatch'))
+    (omega (arith, ints, bay, bay'))
 
 plain_tasks_are : (deck_move : ℕ) (moves hatches : List ℕ) → IsTrue (are_plain_hatches hatches) → (1 ≤ deck_move) × (deck_move ≤ 10000) → length moves ≤ 100 → AreDeckTasks (length hatches) (tasks_from deck_move moves 1 hatches)
 plain_tasks_are deck_move moves [] plain in_deck few = absurd (cc)
@@ -206,10 +209,10 @@ low_margin (negsuc n) is = omega arith
 pub valid_plain : (ship : ShipData) (moves : List ℕ) → IsPlainShip ship → length moves ≤ 100 → Valid (plain_instance ship moves)
 valid_plain ship moves is few =
     valid_simple (length ship.hatches) ship.travel _ _ (only_crane ship)
-      (plain_tasks_are ship.deck_move moves ship.hatches is.hatches is.deck_move few)
-      (record { ready = refl; berth = is.crane_bay; from = refl; to = refl })
-      (plain_count ship.hatches is.hatches) is.travel
-      (omega arith, omega (arith, low_margin ship.margin is.margin))
+    (plain_tasks_are ship.deck_move moves ship.hatches is.hatches is.deck_move few)
+    (record { ready = refl; berth = is.crane_bay; from = refl; to = refl })
+    (plain_count ship.hatches is.hatches) is.travel
+    (omega arith, omega (arith, low_margin ship.margin is.margin))
 
 -- the gap that the code computes
 pub gap_is : (margin gap : ℤ) → gap ≡ margin +ℤ pos 1 → pos 0 ≤ℤ margin → at_least_zero gap ≡ at_least_zero margin + 1
@@ -244,8 +247,8 @@ in_reach bays crane _ is none = λ k d h. absurd (omega arith)
 in_reach bays crane _ is (one t t_is) = λ k d. below_one (λ k. Reaches crane (slice_index_or (t ∷ []) k d)) (omega (arith, ints, is.from, t_is.bay), omega (arith, ints, is.to, t_is.bay)) k
 in_reach bays crane _ is (two t u t_is u_is rank hatch bay) =
     λ k d. below_two (λ k. Reaches crane (slice_index_or (t ∷ u ∷ []) k d))
-      (omega (arith, ints, is.from, t_is.bay), omega (arith, ints, is.to, t_is.bay))
-      (omega (arith, ints, is.from, u_is.bay), omega (arith, ints, is.to, u_is.bay)) k
+    (omega (arith, ints, is.from, t_is.bay), omega (arith, ints, is.to, t_is.bay))
+    (omega (arith, ints, is.from, u_is.bay), omega (arith, ints, is.to, u_is.bay)) k
 
 at_most_two : (bays : ℕ) (tasks : List Task) → AreDeckTasks bays tasks → length tasks ≤ 2
 at_most_two bays _ none = omega arith

@@ -40,7 +40,7 @@ lines_more inst tasks slots before now next i n t s en so_far it is et es wrote 
 pub lines_cut : (inst : InstanceView) (tasks : List Task) (slots : List Slot) (before now next : Option (List ℕ)) (i : ℕ) (t : Task) (s : Slot) → LinesSoFar inst tasks slots before now i → i < length tasks → i < length slots → t ≡ get_or tasks i t → s ≡ get_or slots i s → GrewByPart now next (plan_line inst t s) → GrewByPart before next (plan_lines inst tasks slots)
 lines_cut inst tasks slots before now next i t s so_far it is et es cut =
     rw (so_far.whole, plan_lines-drop inst tasks slots i t s it is et es)
-      (cut_in_second before now next so_far.lines _ so_far.written (cut_in_first now next (plan_line inst t s) _ cut))
+    (cut_in_second before now next so_far.lines _ so_far.written (cut_in_first now next (plan_line inst t s) _ cut))
 
 -- all lines are written
 pub lines_whole : (inst : InstanceView) (tasks : List Task) (slots : List Slot) (before now : Option (List ℕ)) (i : ℕ) → LinesSoFar inst tasks slots before now i → length tasks ≤ i → now ≡ with_piece before (plan_lines inst tasks slots)

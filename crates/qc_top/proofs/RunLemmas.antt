@@ -52,8 +52,8 @@ optimal_run texts before after pb pa fb fa ended run is =
           let found = optimal_answer run.answer (sym whole.status ∙ is) in
           let serves = subst (Serves (request_of texts) texts before after) found.1 run.serves in
           with_report before.files pb pa (λ held. plan_due held (word texts 1) (word texts 2)) (word texts 3) after.files found.0
-            (planned (request_of texts) texts before after found.0 serves)
-            (subst (λ a. pa ≡ with_piece pb (report_text a)) found.1 whole.printed)
+          (planned (request_of texts) texts before after found.0 serves)
+          (subst (λ a. pa ≡ with_piece pb (report_text a)) found.1 whole.printed)
       | inr cut ↦ absurd (cc (cut.status, is))
     ]
 

@@ -11,8 +11,8 @@ use Rattle.qc_top.specs.Run.{HoldsFront}
 insert-insert : (held : Files) (name first second : List ℕ) → insert (insert held name first) name second ≡ insert held name second
 insert-insert held name first second =
     put_beside held (insert (insert held name first) name second) name second
-      (get-insert_same (insert held name first) name second)
-      (remove-insert (insert held name first) name second ∙ remove-insert held name first)
+    (get-insert_same (insert held name first) name second)
+    (remove-insert (insert held name first) name second ∙ remove-insert held name first)
 
 -- the file holds what was written since it was created
 pub stored :

@@ -52,10 +52,32 @@ pub(crate) fn plain_instance(
     requires { length moves.now ≤ 100 }
     ensures { IfOk result (λ inst. inst ≡ plain_instance (ship_data ship) moves.now) }
 {
-    let PlainShip { hatches, margin, travel, deck_move, hold_move: _, crane_name, crane_bay } = ship;
+    let PlainShip {
+        hatches,
+        margin,
+        travel,
+        deck_move,
+        hold_move: _,
+        crane_name,
+        crane_bay,
+    } = ship;
     let tasks = plain_tasks(alloc, hatches.as_slice(), deck_move, moves)?;
     let bays = hatches.len() as Bay;
     let mut cranes = Vec::new(alloc);
-    cranes.push(Crane { name: crane_name, ready: 0, bay: crane_bay, from: 1, to: bays })?;
-    Ok(Instance::of(bays, travel, margin + 1, tasks, cranes, Vec::new(alloc), Vec::new(alloc)))
+    cranes.push(Crane {
+        name: crane_name,
+        ready: 0,
+        bay: crane_bay,
+        from: 1,
+        to: bays,
+    })?;
+    Ok(Instance::of(
+        bays,
+        travel,
+        margin + 1,
+        tasks,
+        cranes,
+        Vec::new(alloc),
+        Vec::new(alloc),
+    ))
 }

@@ -45,11 +45,7 @@ fn read_input<S: Shelf>(
 }
 
 /// The instance of the bytes of a ship file and of a stowage list, where both are plain.
-fn instance_of(
-    alloc: Global,
-    ship: &[u8],
-    stow: &[u8],
-) -> Result<Option<Instance>, OutOfMemory>
+fn instance_of(alloc: Global, ship: &[u8], stow: &[u8]) -> Result<Option<Instance>, OutOfMemory>
     ensures instance { IfOk result (λ found. found ≡ instance_of ship.now stow.now) }
     ensures small { IfOk result (λ found. IfSome found IsSmall) }
 {

@@ -55,7 +55,12 @@ fn put_line<K: Sink>(
 {
     put_pair(sink, task.text().as_bytes(), b",")?;
     let crane = &inst.cranes()[slot.crane as usize];
-    put_slot(sink, crane.name.as_bytes(), slot.start, slot.start + task.ticks)
+    put_slot(
+        sink,
+        crane.name.as_bytes(),
+        slot.start,
+        slot.start + task.ticks,
+    )
 }
 
 fn put_lines<K: Sink>(inst: &Instance, sched: &Schedule, sink: &mut K) -> Result<(), WriteFault>

@@ -39,12 +39,7 @@ fn serve<S: Shelf>(alloc: Global, words: &[String], shelf: &mut S) -> Answer
 
 /// Runs the program on the words of a command line, without the program's name, over the files of
 /// the shelf. The report goes to `out`.
-pub fn run<S: Shelf, K: Sink>(
-    alloc: Global,
-    words: &[String],
-    shelf: &mut S,
-    out: &mut K,
-) -> Status
+pub fn run<S: Shelf, K: Sink>(alloc: Global, words: &[String], shelf: &mut S, out: &mut K) -> Status
     ensures runs { Runs (texts words.now) (record { files = S.files shelf.old; faults = S.Sink.faults shelf.old; read_faults = S.read_faults shelf.old }) (record { files = S.files shelf.new; faults = S.Sink.faults shelf.new; read_faults = S.read_faults shelf.new }) (K.Sink.written out.old) (K.Sink.written out.new) (K.Sink.faults out.old) (K.Sink.faults out.new) result }
 
     // What follows from it, said by itself.

@@ -21,7 +21,7 @@ of-requires-clause-valid c =
     let pushed = rw c.new-cranes.ensures.items at c.in_ok-push.ensures.items in
     let cranes : c.push.new.self.items ≡ only_crane (ship_data ship) ∷ [] = cc (pushed, bays, bay) in
     let same = same_plain (ship_data ship) c.args.moves.now _ ship.travel _ c.in_ok-tasks.tasks.items c.push.new.self.items c.new.result.items c.new-2.result.items
-          (ap at_least_zero bays) refl gap tasks cranes c.new.ensures.items c.new-2.ensures.items in
+    (ap at_least_zero bays) refl gap tasks cranes c.new.ensures.items c.new-2.ensures.items in
     subst Valid (sym same) (valid_plain (ship_data ship) c.args.moves.now is c.requires)
 
 pub returns : goal.returns
@@ -35,4 +35,4 @@ returns c =
     let pushed = rw c.new-cranes.ensures.items at c.in_ok-push.ensures.items in
     let cranes : c.push.new.self.items ≡ only_crane (ship_data ship) ∷ [] = cc (pushed, bays, bay) in
     c.of.ensures ∙ same_plain (ship_data ship) c.args.moves.now _ ship.travel _ c.in_ok-tasks.tasks.items c.push.new.self.items c.new.result.items c.new-2.result.items
-          (ap at_least_zero bays) refl gap tasks cranes c.new.ensures.items c.new-2.ensures.items
+    (ap at_least_zero bays) refl gap tasks cranes c.new.ensures.items c.new-2.ensures.items

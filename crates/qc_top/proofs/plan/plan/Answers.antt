@@ -8,11 +8,12 @@ pub returns-in-Ok-store_plan-clause-plans : goal.returns-in-Ok-store_plan-clause
 returns-in-Ok-store_plan-clause-plans g c =
     let best : IsBest c.in-Ok.inst c.in-Ok-best_order.sched = record { goes = c.in-Ok-best_order.ensures.goes; least = c.in-Ok-best_order.ensures.best } in
     holds_best _ _ c.args.ship.now c.args.stow.now c.args.plan.now c.in-Ok.inst c.in-Ok-best_order.sched c.end_of-end.result c.in-Ok.ensures.planned best c.end_of-end.ensures
-      (rw c.in-Ok.ensures.files_stay at c.in-Ok-store_plan.ensures.ok)
+    (rw c.in-Ok.ensures.files_stay at c.in-Ok-store_plan.ensures.ok)
 
 pub returns-clause-plans : goal.returns-clause-plans
 returns-clause-plans g c =
-    let best : IsBest c.in-Ok.inst c.in-Ok-best_order.sched = record { goes = c.in-Ok-best_order.ensures.goes; least = c.in-Ok-best_order.ensures.best } in
-    ( rw c.in-Ok.ensures.faults_stay at c.in-Err-store_plan.ensures.err_rose
-    , is_stopped _ _ c.args.ship.now c.args.stow.now c.args.plan.now c.in-Ok.inst c.in-Ok-best_order.sched c.in-Ok.ensures.planned best
-        (rw c.in-Ok.ensures.files_stay at c.in-Err-store_plan.ensures.err))
+    let best : IsBest c.in-Ok.inst c.in-Ok-best_order.sched = record { goes = c.in-Ok-best_order.ensures.goes; least = c.in-Ok-best_order.ensures.best } in (
+      rw c.in-Ok.ensures.faults_stay at c.in-Err-store_plan.ensures.err_rose,
+      is_stopped _ _ c.args.ship.now c.args.stow.now c.args.plan.now c.in-Ok.inst c.in-Ok-best_order.sched c.in-Ok.ensures.planned best
+          (rw c.in-Ok.ensures.files_stay at c.in-Err-store_plan.ensures.err),
+    )

@@ -8,10 +8,11 @@ use Rattle.qc_top.proofs.plan_text.put_lines.Goals as goal
 
 pub loop-task-preserved : goal.loop-task-preserved
 loop-task-preserved g c =
-    let turn = zip_turn c.args.inst.now.tasks c.args.sched.now c.loop-task.yielded _ c.loop-task.task-iterator c.next.new.self c.next.result (search rules) (search rules) c.loop-task.yielded_by (c.in-Some.task, c.in-Some.slot) c.in-Some.is c.next.ensures.steps in
-    (lines_more c.args.inst.now c.args.inst.now.tasks c.args.sched.now _ _ _ (length c.loop-task.yielded) _ c.in-Some.task.now c.in-Some.slot.now (length-append c.loop-task.yielded _) c.loop-task.invariant.0 turn.0 turn.1 (turn.2 _) (turn.3 _) c.in_ok-put_line.ensures.ok,
+    let turn = zip_turn c.args.inst.now.tasks c.args.sched.now c.loop-task.yielded _ c.loop-task.task-iterator c.next.new.self c.next.result (search rules) (search rules) c.loop-task.yielded_by (c.in-Some.task, c.in-Some.slot) c.in-Some.is c.next.ensures.steps in (
+      lines_more c.args.inst.now c.args.inst.now.tasks c.args.sched.now _ _ _ (length c.loop-task.yielded) _ c.in-Some.task.now c.in-Some.slot.now (length-append c.loop-task.yielded _) c.loop-task.invariant.0 turn.0 turn.1 (turn.2 _) (turn.3 _) c.in_ok-put_line.ensures.ok,
       cc,
-      omega (arith, c.loop-task.invariant.2))
+      omega (arith, c.loop-task.invariant.2),
+    )
 
 pub returns-in_err-put_line-clause-err : goal.returns-in_err-put_line-clause-err
 returns-in_err-put_line-clause-err g c =

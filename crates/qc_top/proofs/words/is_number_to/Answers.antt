@@ -13,7 +13,7 @@ returns-then-eq c =
 pub returns-else-eq : goal.returns-else-eq
 returns-else-eq c =
     let other : c.args.word.now ≢ decimal c.in-Ok.number =
-          λ same. not_from_Decides _ (bytes_eq-Decides c.format.result.now c.args.word.now) (sym c.eq.ensures ∙ c.if-eq.false) (c.format.ensures.text ∙ sym same) in
+    λ same. not_from_Decides _ (bytes_eq-Decides c.format.result.now c.args.word.now) (sym c.eq.ensures ∙ c.if-eq.false) (c.format.ensures.text ∙ sym same) in
     c.if-eq.false ∙ is_number_to-other c.args.greatest c.in-Ok.number c.args.word.now c.parse.result (omega arith) c.parse.ensures.value.0 c.in-Ok.is other
 
 pub returns-in-Err : goal.returns-in-Err
