@@ -4,4 +4,8 @@ pub mod Tasks
 pub mod Instance
 pub mod Rules
 pub mod OneWay
+pub mod Limits
+pub mod Seen
+pub mod Judge
+pub mod Search
 pub mod InstanceFields

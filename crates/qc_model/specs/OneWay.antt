@@ -7,10 +7,18 @@ use Rattle.qc_model.specs.Bays.{bays_up}
 use Rattle.qc_model.specs.Instance.{InstanceView, bay_of, mirror_bay}
 use Rattle.qc_model.specs.Rules.{crane_of, start_of, end_of, task_distance, Feasible}
 
+-- a crane that has done task i has the time to go up to task j, where j lies higher
+abbrev pub KeepsClimb : InstanceView → List Slot → ℕ → ℕ → Type 0
+KeepsClimb inst sched i j = crane_of sched i ≡ crane_of sched j → bay_of inst i <ℤ bay_of inst j → end_of inst sched i + inst.travel * bays_up (bay_of inst i) (bay_of inst j) ≤ start_of sched j
+
+-- where the cranes of tasks i and j would come too near, the higher crane's task j is first
+abbrev pub KeepsLead : InstanceView → List Slot → ℕ → ℕ → Type 0
+KeepsLead inst sched i j = crane_of sched i < crane_of sched j → 0 < task_distance inst sched i j → end_of inst sched j + task_distance inst sched i j ≤ start_of sched i
+
 -- each crane works its bays upward, and a higher crane is ahead of a lower one wherever the two would come too near
 pub record Upward (inst : InstanceView) (sched : List Slot) : Type 0 where
-  pub one_crane : (i j : ℕ) → i < length inst.tasks → j < length inst.tasks → crane_of sched i ≡ crane_of sched j → bay_of inst i <ℤ bay_of inst j → end_of inst sched i + inst.travel * bays_up (bay_of inst i) (bay_of inst j) ≤ start_of sched j
-  pub two_cranes : (i j : ℕ) → i < length inst.tasks → j < length inst.tasks → crane_of sched i < crane_of sched j → 0 < task_distance inst sched i j → end_of inst sched j + task_distance inst sched i j ≤ start_of sched i
+  pub one_crane : (i j : ℕ) → i < length inst.tasks → j < length inst.tasks → KeepsClimb inst sched i j
+  pub two_cranes : (i j : ℕ) → i < length inst.tasks → j < length inst.tasks → KeepsLead inst sched i j
 
 -- the schedule is feasible and upward
 pub record GoesUp (inst : InstanceView) (sched : List Slot) : Type 0 where

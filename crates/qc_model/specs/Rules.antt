@@ -1,9 +1,9 @@
 -- The rules of a feasible schedule, after Kim and Park (2004); least distances in time after Bierwirth and Meisel (2009), in a form of our own.
-use Rattle.std.specs.Prelude.{◌≡◌, ◌≢◌, ℕ, ◌+◌, ◌-◌, ◌*◌, ◌<◌, ◌≤◌, ℤ, pos, ◌+ℤ◌, ◌≤ℤ◌, ◌⊎◌, Bool, nat_lt, if◌then◌else◌, List, [], ◌∷◌, length, slice_index_or, max}
+use Rattle.std.specs.Prelude.{◌≡◌, ◌≢◌, ℕ, ◌+◌, ◌-◌, ◌*◌, ◌<◌, ◌≤◌, ℤ, pos, ◌+ℤ◌, ◌≤ℤ◌, ◌⊎◌, nat_lt, if◌then◌else◌, List, [], ◌∷◌, length, slice_index_or, max}
 use Rattle.qc_model.specs.declared.task.Task.{Task}
 use Rattle.qc_model.specs.declared.schedule.Slot.{Slot}
 use Rattle.qc_model.specs.Bays.{bays_up, bays_between}
-use Rattle.qc_model.specs.Instance.{InstanceView, task, bay_of, ticks_of, crane, IsBefore, IsApart}
+use Rattle.qc_model.specs.Instance.{InstanceView, bay_of, ticks_of, crane, IsBefore, IsApart}
 
 -- what stands for the slot of a task past the end; no rule speaks of it
 abbrev pub no_slot : Slot

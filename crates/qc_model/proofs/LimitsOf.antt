@@ -1,0 +1,36 @@
+-- Every instance keeps the limits.
+use Rattle.std.proofs.Common.{ℕ, ◌<◌, ◌≤◌, ℤ, pos, negsuc, length, arith, ◌⊎◌, inl, inr}
+use Rattle.std.proofs.lemmas.Int.{ints}
+use mathlib.Core.Logic.{∥∥₁_elim}
+use denote.Struct.Props.{props}
+use Rattle.qc_model.specs.Instance.{InstanceView, Valid, HasBayLimits, HasPlaceLimits, IsFrom, crane, mirror_bay}
+use Rattle.qc_model.specs.Limits.{HasLimits, IsOnRail}
+
+-- the part of the limits that the two kinds of ship give
+record HasSizes (inst : InstanceView) : Type 0 where
+  bays : inst.bays ≤ 6000
+  travel : inst.travel ≤ 10000
+  gap : inst.gap ≤ 2000
+  berths : (k : ℕ) → k < length inst.cranes → IsOnRail (crane inst k).bay × IsOnRail (mirror_bay inst (crane inst k).bay)
+
+wider : (x : ℤ) → IsFrom (negsuc 299) (pos 300) x → IsOnRail x
+wider x h = (omega (arith, ints), omega (arith, ints))
+
+sizes_of : (inst : InstanceView) → HasBayLimits inst ⊎ HasPlaceLimits inst → HasSizes inst
+sizes_of inst (inl h) = record {
+  bays = omega (arith, h.bays.1);
+  travel = h.travel.1;
+  gap = omega (arith, h.gap.1);
+  berths = λ k p. (wider _ (h.berths k p).0, wider _ (h.berths k p).1);
+}
+sizes_of inst (inr h) = record {
+  bays = h.bays.1;
+  travel = omega (arith, h.travel.1);
+  gap = h.gap.1;
+  berths = h.berths;
+}
+
+pub limits_of : (inst : InstanceView) → Valid inst → HasLimits inst
+limits_of inst v =
+    let s = ∥∥₁_elim v.limits (hlevel props) (sizes_of inst) in
+    record { bays = s.bays; travel = s.travel; gap = s.gap; cranes = v.cranes.count.1; berths = s.berths }

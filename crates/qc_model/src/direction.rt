@@ -1,0 +1,8 @@
+/// The way in which all cranes of a schedule move once they have begun to work.
+#[derive(Clone, Copy, Debug, PartialEq, Eq)]
+pub enum Direction {
+    /// With rising bays.
+    Up,
+    /// With falling bays.
+    Down,
+}
