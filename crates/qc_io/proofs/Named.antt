@@ -14,7 +14,7 @@ use Rattle.std.specs.Map.{lookup}
 use Rattle.std.specs.BTreeMap.{BTreeMap, UpdatesBy, get_by_text, is_at}
 use Rattle.std.specs.FinMap.{get, insert, remove, find, get-insert, get-remove, get-from_entries, get_tied, same_map, slice_cmp-IsAntisymmetric, nat_cmp-IsAntisymmetric}
 use Rattle.std.proofs.lemmas.Map.Text.{btree_map_updates_text, is_eq-slice_cmp}
-use Rattle.qc_io.specs.Outside.{Files, with_piece, written_of, beside_of}
+use Rattle.qc_io.specs.Outside.{Files, with_piece}
 use Rattle.qc_io.specs.Memory.{files_of, file_with, grown_at}
 
 -- files that hold the same under each name are the same
@@ -146,15 +146,3 @@ module _ (m n : BTreeMap (String Global) (Vec ℕ Global)) (name piece : List �
 pub grown_at-missing : (m n : BTreeMap (String Global) (Vec ℕ Global)) (name piece : List ℕ) → None ≡ get_by_text m name → n ≡ m → files_of n ≡ grown_at (files_of m) name piece
 grown_at-missing m n name piece missing same =
     ap files_of same ∙ ap (λ o. file_with o piece (files_of m) name) (sym (missing_named m (files_of m) name refl missing))
-
--- what a write to the file that was made does to the bytes so far, and to what is beside them
-module _ (files new : Files) (made : Option (List ℕ)) (name piece : List ℕ) (is : made ≡ Some name) (grew : new ≡ grown_at files name piece) where
-  pub written-grown : written_of (Some new) made ≡ with_piece (written_of (Some files) made) piece
-  written-grown =
-      ap (written_of (Some new)) is ∙ ap (λ f. get f name) grew ∙ get-grown_at files name piece
-      ∙ ap (λ o. with_piece (written_of (Some files) o) piece) (sym is)
-
-  pub beside-grown : beside_of (Some new) made ≡ beside_of (Some files) made
-  beside-grown =
-      ap (beside_of (Some new)) is ∙ ap (λ f. Some (name, remove f name)) grew ∙ ap (λ f. Some (name, f)) (remove-grown_at files name piece)
-      ∙ ap (beside_of (Some files)) (sym is)

@@ -12,9 +12,13 @@ Files = FinMap (slice_cmp nat_cmp) (List ℕ)
 abbrev pub most_count : ℕ
 most_count = 18446744073709551615
 
+-- the count with one more, or the greatest count
+abbrev pub next_count : ℕ → ℕ
+next_count count = min (count + 1) most_count
+
 -- the count is greater than before, or stands at the greatest count
 abbrev pub Rose : ℕ → ℕ → Type 0
-Rose before after = min (before + 1) most_count ≤ after
+Rose before after = next_count before ≤ after
 
 -- the bytes of a held file; none where files are untold or the name isn't held
 abbrev pub file_at : Option Files → List ℕ → Option (List ℕ)
@@ -64,8 +68,9 @@ pub record TakesAtMost (most : ℕ) (before after : Option (List ℕ)) : Type 0 
 
 -- the bytes of the file being written; none where files are untold or none was created
 abbrev pub written_of : Option Files → Option (List ℕ) → Option (List ℕ)
-written_of files None = None
-written_of files (Some name) = file_at files name
+written_of None made = None
+written_of (Some files) None = None
+written_of (Some files) (Some name) = get files name
 
 -- the name of the file being written, and all other files
 abbrev pub beside_of : Option Files → Option (List ℕ) → Option (List ℕ × Files)

@@ -1,7 +1,10 @@
-ghost use Rattle.std.specs.Prelude.{◌≡◌, [], None, Some, OnOk, OnErr, IfOk, option_map};
+ghost use Rattle.std.specs.Prelude.{◌≡◌, ◌≤◌, ◌<◌, ◌↔◌, [], ◌∷◌, ◌++◌, None, Some, true, length, min, take, drop, is_some, unwrap_or, option_map, IsSome, IsErr, OnOk, OnErr, IfOk};
 ghost use Rattle.std.specs.FinMap.{empty, get, insert};
-ghost use Rattle.qc_io.specs.Memory.{files_of, grown_at};
+ghost use Rattle.qc_io.specs.Outside.{ReadCause, next_count};
+ghost use Rattle.qc_io.specs.Calls.{counted, NextFails};
+ghost use Rattle.qc_io.specs.Memory.{files_of, grown_at, files_written};
 
+use crate::calls::Calls;
 use crate::outside::{Failed, Shelf, Sink, fault};
 use crate::rest::Rest;
 use qc_num::OutOfMemory;
@@ -19,10 +22,12 @@ pub struct MemShelf {
     made: Option<String>,
     faults: u64,
     read_faults: u64,
+    calls: Calls,
+    most: usize,
 }
 
 impl Model for MemShelf {
-    ghost use Rattle.std.specs.Prelude.{option_map};
+    ghost use Rattle.std.specs.Prelude.{◌<◌, option_map};
     ghost use Rattle.std.specs.String.{string_bytes};
     ghost use Rattle.qc_io.specs.Memory.{Held, held_code, files_of};
 
@@ -30,13 +35,16 @@ impl Model for MemShelf {
 
     ghost coded = { held_code };
 
-    ghost view = { λ shelf. record { files = files_of shelf.files; rest = shelf.rest; made = option_map string_bytes shelf.made; faults = shelf.faults; read_faults = shelf.read_faults } };
+    ghost view = { λ shelf. record { files = files_of shelf.files; rest = shelf.rest; made = option_map string_bytes shelf.made; faults = shelf.faults; read_faults = shelf.read_faults; calls = shelf.calls; most = shelf.most } };
+
+    ghost invariant = { λ shelf. 0 < shelf.most };
 }
 
 impl MemShelf {
-    /// A shelf that holds nothing and had no faults.
+    /// A shelf that holds nothing and had no faults. No call is set to fail, and each moves as many bytes
+    /// as fit.
     pub fn new(alloc: Global) -> Result<MemShelf, OutOfMemory>
-        ensures { IfOk result (λ shelf. shelf ≡ record { files = empty; rest = None; made = None; faults = 0; read_faults = 0 }) }
+        ensures { IfOk result (λ shelf. shelf ≡ record { files = empty; rest = None; made = None; faults = 0; read_faults = 0; calls = record { count = 0; failing = [] }; most = usize.MAX }) }
     {
         Ok(MemShelf {
             alloc,
@@ -45,6 +53,8 @@ impl MemShelf {
             made: None,
             faults: 0,
             read_faults: 0,
+            calls: Calls::new(alloc),
+            most: usize::MAX,
         })
     }
 
@@ -55,6 +65,24 @@ impl MemShelf {
     {
         hold(self.alloc, &mut self.files, name, bytes)?;
         Ok(())
+    }
+
+    /// Sets a call of `write`, `open`, `read` or `create` to fail, by its number, counted from 1 over all
+    /// four.
+    pub fn fail(&mut self, call: u64) -> Result<(), OutOfMemory>
+        ensures ok { OnOk result (self.new ≡ record self.old { calls = record self.old.calls { failing = self.old.calls.failing ++ call ∷ [] } }) }
+        ensures err { OnErr result (self.new ≡ self.old) }
+    {
+        self.calls.fail(call)?;
+        Ok(())
+    }
+
+    /// From now on each read and each write moves at most so many bytes.
+    pub fn pieces(&mut self, most: usize)
+        requires { 0 < most }
+        ensures { self.new ≡ record self.old { most = most } }
+    {
+        self.most = most;
     }
 
     /// The bytes of a file, and none where the shelf doesn't hold the name.
@@ -75,7 +103,23 @@ impl Sink for MemShelf {
 
     ghost faults = { λ shelf. shelf.faults };
 
-    fn write(&mut self, piece: &[u8]) -> Result<usize, Failed> {
+    /// Takes as much of the piece as `pieces` allows. It fails where the call is set to fail, or for want
+    /// of memory.
+    fn write(&mut self, piece: &[u8]) -> Result<usize, Failed>
+        ensures count { IfOk result (λ count. count ≡ min (length piece.now) self.old.most) }
+        ensures at_least { IfOk result (λ count. 0 < length piece.now → 0 < count) }
+        ensures ok { OnOk result (self.new ≡ record self.old {
+          files = files_written self.old.files self.old.made (take self.old.most piece.now);
+          calls = counted self.old.calls;
+        }) }
+        ensures err { OnErr result (self.new ≡ record self.old { faults = next_count self.old.faults; calls = counted self.old.calls }) }
+        ensures set_to_fail { NextFails self.old.calls → IsErr result }
+        ensures faults_never_fall { self.old.faults ≤ self.new.faults }
+    {
+        if self.calls.next_fails() {
+            return Err(fault(&mut self.faults));
+        }
+        let piece = &piece[..piece.len().min(self.most)];
         let Some(name) = &self.made else {
             return Ok(piece.len());
         };
@@ -105,8 +149,21 @@ impl Shelf for MemShelf {
 
     ghost tells_alike = { λ _ _. refl };
 
-    fn open(&mut self, name: &str) -> Result<(), Failed> {
+    /// It fails where the call is set to fail, where the name isn't held, or for want of memory.
+    fn open(&mut self, name: &str) -> Result<(), Failed>
+        ensures ok { OnOk result (self.new ≡ record self.old { rest = get self.old.files name.now; calls = counted self.old.calls }) }
+        ensures err { OnErr result (self.new ≡ record self.old { rest = None; read_faults = self.new.read_faults; calls = counted self.old.calls }) }
+        ensures missing { get self.old.files name.now ≡ None → IsErr result }
+        ensures set_to_fail { NextFails self.old.calls → IsErr result × (self.new.read_faults ≡ next_count self.old.read_faults) }
+        ensures held { IsSome (get self.old.files name.now) → OnErr result (self.new.read_faults ≡ next_count self.old.read_faults) }
+        ensures not_counted { ¬ NextFails self.old.calls → get self.old.files name.now ≡ None → self.new.read_faults ≡ self.old.read_faults }
+        ensures err_cause { OnErr result (ReadCause self.old.read_faults self.new.read_faults (Some self.old.files) name.now) }
+        ensures read_faults_never_fall { self.old.read_faults ≤ self.new.read_faults }
+    {
         self.rest = None;
+        if self.calls.next_fails() {
+            return Err(fault(&mut self.read_faults));
+        }
         let Some(bytes) = self.files.get(name) else {
             return Err(Failed);
         };
@@ -119,14 +176,38 @@ impl Shelf for MemShelf {
         }
     }
 
-    fn read(&mut self, buf: &mut [u8]) -> Result<usize, Failed> {
+    /// Moves as many bytes as fit and as `pieces` allows. It fails where the call is set to fail.
+    fn read(&mut self, buf: &mut [u8]) -> Result<usize, Failed>
+        requires open { is_some self.old.rest ≡ true }
+        requires room { 0 < length buf.old }
+        ensures count { IfOk result (λ count. count ≡ min (length (unwrap_or self.old.rest [])) (min (length buf.old) self.old.most)) }
+        ensures moved { IfOk result (λ count. take count buf.new ≡ take count (unwrap_or self.old.rest [])) }
+        ensures ok { IfOk result (λ count. self.new ≡ record self.old { rest = Some (drop count (unwrap_or self.old.rest [])); calls = counted self.old.calls }) }
+        ensures ended { IfOk result (λ count. (count ≡ 0) ↔ (unwrap_or self.old.rest [] ≡ [])) }
+        ensures err { OnErr result (self.new ≡ record self.old { read_faults = next_count self.old.read_faults; calls = counted self.old.calls }) }
+        ensures set_to_fail { IsErr result ↔ NextFails self.old.calls }
+        ensures read_faults_never_fall { self.old.read_faults ≤ self.new.read_faults }
+    {
+        if self.calls.next_fails() {
+            return Err(fault(&mut self.read_faults));
+        }
+        let most = buf.len().min(self.most);
         match &mut self.rest {
-            Some(rest) => Ok(rest.take_into(buf)),
+            Some(rest) => Ok(rest.take_into(&mut buf[..most])),
             None => unreachable!(),
         }
     }
 
-    fn create(&mut self, name: &str) -> Result<(), Failed> {
+    /// It fails where the call is set to fail, or for want of memory, and then leaves all files.
+    fn create(&mut self, name: &str) -> Result<(), Failed>
+        ensures ok { OnOk result (self.new ≡ record self.old { files = insert self.old.files name.now []; made = Some name.now; calls = counted self.old.calls }) }
+        ensures err { OnErr result (self.new ≡ record self.old { faults = next_count self.old.faults; calls = counted self.old.calls }) }
+        ensures set_to_fail { NextFails self.old.calls → IsErr result }
+        ensures faults_never_fall { self.old.faults ≤ self.new.faults }
+    {
+        if self.calls.next_fails() {
+            return Err(fault(&mut self.faults));
+        }
         let Ok(made) = String::from_str(self.alloc, name) else {
             return Err(fault(&mut self.faults));
         };

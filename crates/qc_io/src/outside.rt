@@ -1,5 +1,5 @@
-ghost use Rattle.std.specs.Prelude.{◌≡◌, ◌+◌, ◌≤◌, ◌<◌, ◌↔◌, ◌⊎◌, ℕ, Bool, true, false, Option, List, [], length, min, take, is_some, IsErr, OnOk, OnErr, IfOk, IfSome};
-ghost use Rattle.qc_io.specs.Outside.{Files, Rose, most_count, IsMissing, ReadCause, file_at, with_file, with_piece, with_front, written_of, beside_of};
+ghost use Rattle.std.specs.Prelude.{◌≡◌, ◌≤◌, ◌<◌, ◌↔◌, ◌⊎◌, ℕ, Bool, true, false, Option, List, [], length, take, is_some, IsErr, OnOk, OnErr, IfOk, IfSome};
+ghost use Rattle.qc_io.specs.Outside.{Files, Rose, next_count, IsMissing, ReadCause, file_at, with_file, with_piece, with_front, written_of, beside_of};
 
 /// A call on the outside failed.
 #[derive(Clone, Copy, Debug, PartialEq, Eq, Hash)]
@@ -7,7 +7,7 @@ pub struct Failed;
 
 /// Counts a fault.
 pub fn fault(count: &mut u64) -> Failed
-    ensures counted { count.new ≡ min (count.old + 1) most_count }
+    ensures counted { count.new ≡ next_count count.old }
     ensures never_falls { count.old ≤ count.new }
 {
     *count = count.saturating_add(1);

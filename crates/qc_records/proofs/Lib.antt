@@ -1,1 +1,2 @@
 pub mod WholeReads
+pub mod FieldFacts

@@ -4,7 +4,7 @@
 ghost use Rattle.std.specs.Prelude.{◌≡◌, IfOk, map, take, true};
 ghost use Rattle.csv.specs.Reading.{error_kind, stops_reader};
 ghost use Rattle.csv.specs.Records.{fields_of};
-ghost use Rattle.qc_records.specs.Records.{records_of};
+ghost use Rattle.qc_records.specs.Records.{field_of, records_of};
 
 use csv::{ByteRecord, Error, ErrorKind, ReaderBuilder};
 use qc_num::OutOfMemory;
@@ -47,4 +47,14 @@ pub fn first_records(
         }
     }
     Ok(records)
+}
+
+/// The field of a record at a place, empty past the last one.
+pub fn field(fields: &ByteRecord, at: usize) -> &[u8]
+    ensures { result.now ≡ field_of (fields_of fields.now) at }
+{
+    match fields.get(at) {
+        Some(field) => field,
+        None => &[],
+    }
 }

@@ -1,0 +1,132 @@
+ghost use Rattle.std.specs.Prelude.{◌≡◌, ◌≢◌, ◌<◌, ◌%◌, [], ◌∷◌, IfOk};
+
+use crate::digits::{are_digits, number, two_digits};
+use crate::text::CellText;
+
+/// A place on board, by its ISO 9711 numbers.
+///
+/// An odd bay is 20 feet long, and an even one is the 40-foot bay over the odd ones beside it. Row
+/// 00 is on the centre line, odd rows lie to starboard and even ones to port. Every tier is even;
+/// those from 70 on are on deck, and those below in the hold.
+#[derive(Clone, Copy, Debug, PartialEq, Eq, Hash)]
+pub struct Cell {
+    /// 1 to 999, from the bow.
+    pub bay: u16,
+    /// 0 to 99.
+    pub row: u8,
+    /// 2 to 98, even.
+    pub tier: u8,
+}
+
+/// Why a text isn't a cell: the first of these that applies.
+#[derive(Clone, Copy, Debug, PartialEq, Eq)]
+pub enum CellFault {
+    /// It isn't six or seven bytes long.
+    Length,
+    /// A byte isn't a digit.
+    Digit,
+    /// The bay is 0.
+    BayZero,
+    /// The tier is odd.
+    TierOdd,
+    /// The tier is 0.
+    TierZero,
+}
+
+impl Cell {
+    ghost use Rattle.std.specs.Prelude.{Ok};
+    ghost use Rattle.qc_cell.specs.Cells.{IsCell, cell_in, cell_of, cell_text, is_on_deck, overlap, slots};
+
+    /// The cell that six or seven digits write: the last two are the tier, the two before them the
+    /// row, and the first two or three the bay.
+    pub fn read(text: &[u8]) -> Result<Cell, CellFault>
+        ensures cell { result ≡ cell_in text.now }
+        ensures range { IfOk result IsCell }
+    {
+        if text.len() != 6 && text.len() != 7 {
+            return Err(CellFault::Length);
+        }
+        if !are_digits(text) {
+            return Err(CellFault::Digit);
+        }
+        let (bay, place) = text.split_at(text.len() - 4);
+        let (row, tier) = place.split_at(2);
+        Cell::of(number(bay), number(row) as u8, number(tier) as u8)
+    }
+
+    // The cell of these numbers, or the first fault of them.
+    fn of(bay: u16, row: u8, tier: u8) -> Result<Cell, CellFault>
+        requires bay { bay < 1000 }
+        requires row { row < 100 }
+        requires tier { tier < 100 }
+        ensures cell { result ≡ cell_of bay row tier }
+        ensures range { IfOk result IsCell }
+    {
+        if bay == 0 {
+            return Err(CellFault::BayZero);
+        }
+        if tier % 2 != 0 {
+            return Err(CellFault::TierOdd);
+        }
+        if tier == 0 {
+            return Err(CellFault::TierZero);
+        }
+        Ok(Cell { bay, row, tier })
+    }
+
+    /// The cell's text: `BBRRTT` for bays below 100, else `BBBRRTT`.
+    pub fn write(&self) -> CellText
+        requires { IsCell self.now }
+        ensures text { result ≡ cell_text self.now }
+        ensures reads { cell_in result ≡ Ok self.now }
+    {
+        let (row_tens, row_ones) = two_digits(self.row);
+        let (tier_tens, tier_ones) = two_digits(self.tier);
+        let (bay_tens, bay_ones) = two_digits((self.bay % 100) as u8);
+        if self.bay < 100 {
+            let bytes = [
+                bay_tens, bay_ones, row_tens, row_ones, tier_tens, tier_ones, 0,
+            ];
+            CellText { bytes, len: 6 }
+        } else {
+            let hundreds = b'0' + (self.bay / 100) as u8;
+            let bytes = [
+                hundreds, bay_tens, bay_ones, row_tens, row_ones, tier_tens, tier_ones,
+            ];
+            CellText { bytes, len: 7 }
+        }
+    }
+
+    /// Whether the cell is on deck, and not in the hold.
+    pub fn is_deck(&self) -> bool
+        ensures { result ≡ is_on_deck self.now }
+    {
+        self.tier >= 70
+    }
+
+    /// The first and the last 20-foot bay that the cell covers: at an odd bay that bay twice.
+    pub fn slots(&self) -> (u16, u16)
+        ensures even { self.now.bay % 2 ≡ 0 → slots self.now.bay ≡ result.0 ∷ result.1 ∷ [] }
+        ensures odd { self.now.bay % 2 ≢ 0 → (slots self.now.bay ≡ result.0 ∷ []) × (result.1 ≡ result.0) }
+    {
+        if self.bay % 2 == 0 {
+            (self.bay.saturating_sub(1), self.bay + 1)
+        } else {
+            (self.bay, self.bay)
+        }
+    }
+
+    /// Whether both cells have one row and one tier, and a 20-foot bay in common.
+    pub fn overlaps(&self, other: &Cell) -> bool
+        ensures { result ≡ overlap self.now other.now }
+    {
+        let (first, last) = self.slots();
+        let (other_first, other_last) = other.slots();
+        self.row == other.row
+            && self.tier == other.tier
+            && (first == other_first
+                || first == other_last
+                || last == other_first
+                || last == other_last)
+    }
+}

@@ -1,0 +1,157 @@
+-- What cranes that were read are.
+use Rattle.std.proofs.Common.{◌≡◌, ◌≢◌, ℕ, ◌-◌, ◌<◌, ◌≤◌, ℤ, pos, ◌+ℤ◌, ◌≤ℤ◌, Bool, true, false, cond, List, [], length, get_or, Some, Ok, Err, sym, subst, ◌∙◌, inl, inr, arith, slice_index}
+use Rattle.std.specs.Prelude.{All, AllPairs, int_le, bytes_eq}
+use Rattle.std.specs.List.{list_any}
+use Rattle.std.proofs.lemmas.Bool.{cases_lt, false≢true}
+use Rattle.std.proofs.lemmas.Int.{ints}
+use Rattle.std.proofs.lemmas.List.{get_or_default}
+use Rattle.std.proofs.lemmas.List.Elements.{All-push}
+use Rattle.std.proofs.lemmas.List.Folds.{list_any-from_Any}
+use Rattle.std.proofs.lemmas.List.Quantifiers.{all_pairs_push}
+use Rattle.std.proofs.lemmas.Slice.Eq.{bytes_eq-Decides}
+use Rattle.toml.specs.Data.{Data, Members, get_member}
+use Rattle.qc_model.specs.declared.crane.Crane.{Crane}
+use Rattle.qc_ship.specs.declared.fault.Key.{Key}
+use Rattle.qc_ship.specs.declared.fault.Key.TheVariants as key
+use Rattle.qc_ship.specs.declared.fault.ShipKind.TheVariants as kind
+use Rattle.qc_ship.specs.Keys.{key_text, fault}
+use Rattle.qc_ship.specs.Ship.{least_start, greatest_start}
+use Rattle.qc_ship.specs.ShipValues.{Reading, ◌>>=◌, required, integer_in, number_in, number_or, array_in, each, last, next_number}
+use Rattle.qc_ship.specs.ShipFile.{table_in, name_at, bay_at, hatch_place, crane_at, keeps_gap, crane_in, cranes_at}
+use Rattle.qc_ship.proofs.ShipLaws.{bind_ok, same_ok, passed, passed_not, each-keeps, length-each, chain-push, integer_in-bounds, number_in-bounds, array_in-count}
+use Rattle.qc_ship.proofs.HatchLaws.{Places, either_way, test_at_last}
+
+pub number_or-bounds : (default : ℕ) (k : Key) (number low high : ℕ) (ms : Members) (n : ℕ)
+    → number_or default k number low high ms ≡ Ok n → low ≤ default → default ≤ high → (low ≤ n) × (n ≤ high)
+number_or-bounds default k number low high ms n e from to =
+    either_way (λ m. (low ≤ m) × (m ≤ high)) (number_in k number low high) (get_member (key_text k) ms) default n e (from, to) (λ d read. number_in-bounds k number low high d n read)
+
+-- a crane's start bay, ready time and reach, where n is the last place
+abbrev pub IsCraneOf : Bool → ℕ → Crane → Type 0
+IsCraneOf in_decimetres n c =
+    (c.ready ≤ 1000000)
+    × ((least_start in_decimetres ≤ℤ c.bay) × (c.bay ≤ℤ greatest_start in_decimetres))
+    × ((pos 1 ≤ℤ c.from) × (c.from ≤ℤ c.to) × (c.to ≤ℤ pos n))
+
+-- places rise with the hatches
+place_rises : (places : List ℕ) (i j : ℕ) → AllPairs (λ p q. p < q) places → i ≤ j → j < length places → slice_index places i ≤ slice_index places j
+place_rises places i j order from within =
+    elim (cases_lt i j) [
+      | inl under ↦ (let rises = order i j 0 under within in omega (arith, rises))
+      | inr past ↦ (let same : i ≡ j = omega arith in subst (λ (k : ℕ). slice_index places i ≤ slice_index places k) same (omega arith))
+    ]
+
+reach_of : (count : ℕ) (places : List ℕ) (from to : ℕ) → Places count places → 1 ≤ from → from ≤ to → to ≤ count
+    → (pos 1 ≤ℤ hatch_place places from) × (hatch_place places from ≤ℤ hatch_place places to) × (hatch_place places to ≤ℤ pos (slice_index places (length places - 1)))
+reach_of count places from to are low middle high =
+    let total = are.total in
+    let first = (are.range (from - 1) 0 (omega arith)).0 in
+    let rises = place_rises places (from - 1) (to - 1) are.order (omega arith) (omega arith) in
+    let ends = place_rises places (to - 1) (length places - 1) are.order (omega arith) (omega arith) in
+    (omega (arith, ints, first), omega (arith, ints, rises), omega (arith, ints, ends))
+
+-- the checks of a crane's keys after its name, its ready time, its start bay and its first hatch
+abbrev with_to : List ℕ → ℕ → Members → List ℕ → ℕ → ℤ → ℕ → Reading Crane
+with_to places number ms name ready bay from =
+    number_or (length places) key.To number from (length places) ms >>= λ to. Ok (record { name = name; ready = ready; bay = bay; from = hatch_place places from; to = hatch_place places to })
+
+abbrev with_from : List ℕ → ℕ → Members → List ℕ → ℕ → ℤ → Reading Crane
+with_from places number ms name ready bay =
+    number_or 1 key.From number 1 (length places) ms >>= with_to places number ms name ready bay
+
+abbrev with_bay : Bool → List ℕ → ℕ → Members → List ℕ → ℕ → Reading Crane
+with_bay in_decimetres places number ms name ready = bay_at in_decimetres number ms >>= with_from places number ms name ready
+
+abbrev with_ready : Bool → List ℕ → ℕ → Members → List ℕ → Reading Crane
+with_ready in_decimetres places number ms name = number_or 0 key.Ready number 0 1000000 ms >>= with_bay in_decimetres places number ms name
+
+crane_at-tells : (in_decimetres : Bool) (count : ℕ) (places : List ℕ) (number : ℕ) (ms : Members) (c : Crane)
+    → Places count places → 1 ≤ count → crane_at in_decimetres places number ms ≡ Ok c
+    → IsCraneOf in_decimetres (slice_index places (length places - 1)) c
+crane_at-tells in_decimetres count places number ms c are some e =
+    let total = are.total in
+    let (name, named, e1) = bind_ok (name_at number ms) (with_ready in_decimetres places number ms) c e in
+    let (ready, at_ready, e2) = bind_ok (number_or 0 key.Ready number 0 1000000 ms) (with_bay in_decimetres places number ms name) c e1 in
+    let (bay, at_bay, e3) = bind_ok (bay_at in_decimetres number ms) (with_from places number ms name ready) c e2 in
+    let (from, at_from, e4) = bind_ok (number_or 1 key.From number 1 (length places) ms) (with_to places number ms name ready bay) c e3 in
+    let (to, at_to, e5) = bind_ok (number_or (length places) key.To number from (length places) ms)
+    (λ to. Ok (record { name = name; ready = ready; bay = bay; from = hatch_place places from; to = hatch_place places to })) c e4 in
+    let (d, given, read) = bind_ok (required key.Bay number ms) (integer_in key.Bay number (least_start in_decimetres) (greatest_start in_decimetres)) bay at_bay in
+    let readies = number_or-bounds 0 key.Ready number 0 1000000 ms ready at_ready (omega arith) (omega arith) in
+    let starts = integer_in-bounds key.Bay number (least_start in_decimetres) (greatest_start in_decimetres) d bay read in
+    let froms = number_or-bounds 1 key.From number 1 (length places) ms from at_from (omega arith) (omega arith) in
+    let tos = number_or-bounds (length places) key.To number from (length places) ms to at_to froms.1 (omega arith) in
+    let P : Crane → Type 0 = IsCraneOf in_decimetres (slice_index places (length places - 1)) in
+    subst P (same_ok (record { name = name; ready = ready; bay = bay; from = hatch_place places from; to = hatch_place places to }) c e5)
+    (readies.1, starts, reach_of count places from to are froms.0 tos.0 (omega (arith, tos.1, total)))
+
+-- the order of two neighbouring cranes
+order_test : (gap : ℕ) (p c : Crane) → int_le (p.bay +ℤ pos gap) c.bay ≡ true → (p.bay +ℤ pos gap) ≤ℤ c.bay
+order_test gap p c e = grind (arith, ints, e)
+
+-- the checks of a crane after its table, and after its keys
+abbrev apart_enough : ℕ → List Crane → Crane → Reading Crane
+apart_enough gap before c = cond (keeps_gap gap before c.bay) (Ok c) (Err (fault kind.CraneOrder key.Crane (next_number before)))
+
+abbrev among : ℕ → List Crane → Crane → Reading Crane
+among gap before c =
+    cond (list_any (λ earlier. bytes_eq earlier.name c.name) before) (Err (fault kind.NameTwice key.Name (next_number before))) (apart_enough gap before c)
+
+-- no earlier crane has the name
+new_name : (before : List Crane) (c : Crane) → list_any (λ earlier. bytes_eq earlier.name c.name) before ≡ false
+    → (k : ℕ) (d : Crane) → k < length before → (get_or before k d).name ≢ c.name
+new_name before c none k d within = λ same.
+    let there : list_any (λ earlier. bytes_eq earlier.name c.name) before ≡ true =
+    list_any-from_Any (λ earlier. bytes_eq earlier.name c.name) before (k, get_or before k d, within, get_or_default before k (get_or before k d) d within, (bytes_eq-Decides _ _).1 same) in
+    false≢true (sym none ∙ there)
+
+crane_in-tells : (in_decimetres : Bool) (gap count : ℕ) (places : List ℕ) (before : List Crane) (d : Data) (c : Crane)
+    → Places count places → 1 ≤ count → crane_in in_decimetres gap places before d ≡ Ok c
+    → IsCraneOf in_decimetres (slice_index places (length places - 1)) c
+    × ((k : ℕ) (e : Crane) → k < length before → (get_or before k e).name ≢ c.name)
+    × ((p : Crane) → last before ≡ Some p → (p.bay +ℤ pos gap) ≤ℤ c.bay)
+crane_in-tells in_decimetres gap count places before d c are some e =
+    let number = next_number before in
+    let (ms, is_table, e1) = bind_ok (table_in number d) (λ ms. crane_at in_decimetres places number ms >>= among gap before) c e in
+    let (crane, keys, e2) = bind_ok (crane_at in_decimetres places number ms) (among gap before) c e1 in
+    let (fresh, e3) = passed_not (list_any (λ earlier. bytes_eq earlier.name crane.name) before) (apart_enough gap before crane) c (fault kind.NameTwice key.Name number) e2 in
+    let (behind, same) = passed (keeps_gap gap before crane.bay) crane c (fault kind.CraneOrder key.Crane number) e3 in
+    let P : Crane → Type 0 = λ c. IsCraneOf in_decimetres (slice_index places (length places - 1)) c
+    × ((k : ℕ) (e : Crane) → k < length before → (get_or before k e).name ≢ c.name)
+    × ((p : Crane) → last before ≡ Some p → (p.bay +ℤ pos gap) ≤ℤ c.bay) in
+    subst P same (
+      crane_at-tells in_decimetres count places number ms crane are some keys,
+      new_name before crane fresh,
+      λ p here. order_test gap p crane (test_at_last (λ previous. int_le (previous.bay +ℤ pos gap) crane.bay) (last before) p here behind),
+    )
+
+-- the cranes of a file
+pub record Cranes (in_decimetres : Bool) (gap n : ℕ) (cranes : List Crane) : Type 0 where
+  pub count : (1 ≤ length cranes) × (length cranes ≤ 8)
+  pub each_one : All (IsCraneOf in_decimetres n) cranes
+  pub names : AllPairs (λ c d. c.name ≢ d.name) cranes
+  pub order : AllPairs (λ c d. (c.bay +ℤ pos gap) ≤ℤ d.bay) cranes
+
+-- what holds of the cranes so far
+abbrev SoFar : Bool → ℕ → ℕ → List Crane → Type 0
+SoFar in_decimetres gap n cranes =
+    All (IsCraneOf in_decimetres n) cranes × AllPairs (λ c d. c.name ≢ d.name) cranes × AllPairs (λ c d. (c.bay +ℤ pos gap) ≤ℤ d.bay) cranes
+
+pub Cranes-from : (in_decimetres : Bool) (gap count : ℕ) (places : List ℕ) (ms : Members) (cranes : List Crane)
+    → Places count places → 1 ≤ count → cranes_at in_decimetres gap places ms ≡ Ok cranes
+    → Cranes in_decimetres gap (slice_index places (length places - 1)) cranes
+Cranes-from in_decimetres gap count places ms cranes are some e =
+    let n = slice_index places (length places - 1) in
+    let judge = crane_in in_decimetres gap places in
+    let (d, found, more) = bind_ok (required key.Crane 0 ms) (λ d. array_in key.Crane 1 8 d >>= each judge []) cranes e in
+    let (ds, read, judged) = bind_ok (array_in key.Crane 1 8 d) (each judge []) cranes more in
+    let counts = array_in-count key.Crane 1 8 d ds read in
+    let long = length-each judge [] ds cranes judged in
+    let kept : SoFar in_decimetres gap n cranes = each-keeps judge (SoFar in_decimetres gap n) (λ before d c so_far step.
+    let tells = crane_in-tells in_decimetres gap count places before d c are some step in (
+      All-push (IsCraneOf in_decimetres n) before c so_far.0 tells.0,
+      all_pairs_push (λ c d. c.name ≢ d.name) before c so_far.1 tells.1,
+      chain-push (λ c d. (c.bay +ℤ pos gap) ≤ℤ d.bay) (λ x y z left right. omega (arith, ints)) before c so_far.2 tells.2,
+    ))
+    [] ds cranes (λ k d within. absurd (omega arith), λ i j d between within. absurd (omega arith), λ i j d between within. absurd (omega arith)) judged in
+    record { count = (omega (arith, counts.0, long), omega (arith, counts.1, long)); each_one = kept.0; names = kept.1; order = kept.2 }

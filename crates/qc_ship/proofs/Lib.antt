@@ -1,0 +1,5 @@
+pub mod CraneLaws
+pub mod HatchLaws
+pub mod Items
+pub mod ShipLaws
+pub mod TimesLaws

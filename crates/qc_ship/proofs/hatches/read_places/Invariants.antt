@@ -1,0 +1,11 @@
+use Rattle.std.proofs.Common.{◌≡◌, [], map, drop, vec_len}
+use Rattle.toml.specs.View.{view}
+use Rattle.qc_ship.specs.ShipValues.{each}
+use Rattle.qc_ship.specs.ShipFile.{place_in}
+use Rattle.qc_ship.proofs.hatches.read_places.Given as goal
+
+abbrev pub invariant-loop-value : goal.invariant-loop-value
+invariant-loop-value l = record {
+  count : vec_len l.places ≡ l.value-index;
+  rest : each place_in [] (map view l.values) ≡ each place_in l.places.items (map view (drop l.value-index l.values));
+}

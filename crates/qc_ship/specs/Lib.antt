@@ -1,0 +1,5 @@
+pub mod Keys
+pub mod Ship
+pub mod ShipFields
+pub mod ShipFile
+pub mod ShipValues

@@ -1,0 +1,119 @@
+ghost use Rattle.std.specs.Prelude.{◌≡◌};
+ghost use Rattle.qc_ship.specs.declared.fault.ShipError.TheVariants.{Fault, OutOfMemory};
+
+use std::alloc::{AllocError, AllocFailed};
+use thiserror::Error;
+
+/// What is wrong with a key of a ship file.
+#[derive(Clone, Copy, Debug, PartialEq, Eq)]
+pub enum ShipKind {
+    /// The file is no TOML text.
+    NotToml,
+    /// A required key isn't there.
+    Missing,
+    /// The value isn't of the key's type.
+    WrongKind,
+    /// A number, a length or a text isn't one of those that are allowed.
+    Range,
+    /// A hatch or a place isn't behind the one before it.
+    HatchOrder,
+    /// A crane starts too near to the one before it.
+    CraneOrder,
+    /// An earlier crane has the name.
+    NameTwice,
+    /// A pair doesn't name two different hatches of the ship.
+    Apart,
+}
+
+/// The keys of a ship file.
+#[derive(Clone, Copy, Debug, PartialEq, Eq)]
+pub enum Key {
+    /// The file itself.
+    Whole,
+    Hatches,
+    Places,
+    Margin,
+    Clear,
+    Travel,
+    DeckMove,
+    HoldMove,
+    Cover,
+    Restows,
+    Apart,
+    Crane,
+    Name,
+    Ready,
+    Bay,
+    From,
+    To,
+}
+
+impl Key {
+    ghost use Rattle.qc_ship.specs.Keys.{key_text};
+
+    /// The key as the file has it; empty for the file itself.
+    pub fn text(self) -> &'static str
+        ensures { result.now ≡ key_text self }
+    {
+        match self {
+            Key::Whole => "",
+            Key::Hatches => "hatches",
+            Key::Places => "places",
+            Key::Margin => "margin",
+            Key::Clear => "clear",
+            Key::Travel => "travel",
+            Key::DeckMove => "deck_move",
+            Key::HoldMove => "hold_move",
+            Key::Cover => "cover",
+            Key::Restows => "restows",
+            Key::Apart => "apart",
+            Key::Crane => "crane",
+            Key::Name => "name",
+            Key::Ready => "ready",
+            Key::Bay => "bay",
+            Key::From => "from",
+            Key::To => "to",
+        }
+    }
+}
+
+/// The first fault of a ship file. `number` counts the elements of an array from 1; it is 0 for the key itself.
+#[derive(Clone, Copy, Debug, PartialEq, Eq)]
+pub struct ShipFault {
+    pub kind: ShipKind,
+    pub key: Key,
+    pub number: u32,
+}
+
+/// Why no ship was read.
+#[derive(Debug, Drop, Error)]
+pub enum ShipError {
+    #[error("{0:?}")]
+    Fault(ShipFault),
+    #[error("out of memory")]
+    OutOfMemory,
+}
+
+impl From<ShipFault> for ShipError {
+    ghost from_gives = { λ fault error. error ≡ Fault fault };
+
+    fn from(fault: ShipFault) -> ShipError {
+        ShipError::Fault(fault)
+    }
+}
+
+impl From<AllocError> for ShipError {
+    ghost from_gives = { λ _ error. error ≡ OutOfMemory };
+
+    fn from(_refused: AllocError) -> ShipError {
+        ShipError::OutOfMemory
+    }
+}
+
+impl<T: Drop> From<AllocFailed<T>> for ShipError {
+    ghost from_gives = { λ _ error. error ≡ OutOfMemory };
+
+    fn from(_refused: AllocFailed<T>) -> ShipError {
+        ShipError::OutOfMemory
+    }
+}

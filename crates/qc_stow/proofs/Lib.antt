@@ -1,0 +1,2 @@
+pub mod TakenFacts
+pub mod StowFacts

@@ -1,0 +1,109 @@
+-- What is taken, by the rows that took it.
+use Rattle.std.proofs.Common.{◌≡◌, ◌++◌, ◌∷◌, ◌&&◌, ◌||◌, ◌==◌, ℕ, List, [], map, Bool, true, false, refl, ap, ◌∙◌}
+use Rattle.std.proofs.lemmas.Grind.{flat_map-append}
+use Rattle.std.proofs.lemmas.List.{append-nil, map-append}
+use Rattle.std.proofs.lemmas.List.Folds.{list_any-append}
+use Rattle.std.specs.List.{list_any}
+use Rattle.std.specs.Str.{bytes_eq}
+use Rattle.qc_cell.specs.Cells.{overlap, slots}
+use Rattle.qc_cell.specs.declared.cell.Cell.{Cell}
+use Rattle.qc_stow.specs.Moves.{has_id, is_taken, same_move}
+use Rattle.qc_stow.specs.Taken.{has_taken_cell, has_taken_id, has_taken_place, ids_of, places_of, places_taken, same_cell}
+use Rattle.qc_stow.specs.declared.row.Move.{Move}
+use Rattle.qc_stow.specs.declared.row.Row.{Row}
+
+-- a test of some element of a list that another was mapped to
+pub list_any-map : {X Y : Type 0} (test : Y → Bool) (f : X → Y) (xs : List X) → list_any test (map f xs) ≡ list_any (λ x. test (f x)) xs
+list_any-map test f [] = refl
+list_any-map test f (x ∷ xs) = rw (list_any-map test f xs) refl
+
+-- the ids that rows take
+pub id-taken : (rows : List Row) (row : Row) → has_taken_id (ids_of rows) row.kind row.id ≡ has_id rows row
+id-taken rows row = list_any-map (λ taken. same_move row.kind taken.0 && bytes_eq row.id taken.1) (λ (r : Row). (r.kind, r.id)) rows
+
+-- a test that holds of no element, and two tests that agree
+list_any-none : {X : Type 0} (xs : List X) → list_any (λ x. false) xs ≡ false
+list_any-none [] = refl
+list_any-none (x ∷ xs) = list_any-none xs
+
+pub list_any-agree : {X : Type 0} (f g : X → Bool) (xs : List X) → ((x : X) → f x ≡ g x) → list_any f xs ≡ list_any g xs
+list_any-agree f g [] h = refl
+list_any-agree f g (x ∷ xs) h = rw (h x, list_any-agree f g xs h) refl
+
+-- parts of a test that are the same for each element
+inner-step : (b p r t q : Bool) → ((b && ((p && r) && t)) || (b && ((r && t) && q))) ≡ (b && ((r && t) && (p || q)))
+inner-step true true true true q = refl
+inner-step true true true false q = refl
+inner-step true true false t q = refl
+inner-step true false true true q = refl
+inner-step true false true false q = refl
+inner-step true false false t q = refl
+inner-step false p r t q = refl
+
+list_any-inner : {X : Type 0} (f : X → Bool) (b r t : Bool) (xs : List X) → list_any (λ x. b && ((f x && r) && t)) xs ≡ (b && ((r && t) && list_any f xs))
+list_any-inner f true true true [] = refl
+list_any-inner f true true false [] = refl
+list_any-inner f true false t [] = refl
+list_any-inner f false r t [] = refl
+list_any-inner f b r t (x ∷ xs) = rw (list_any-inner f b r t xs) (inner-step b (f x) r t (list_any f xs))
+
+outer-step : (b c p q : Bool) → ((b && (c && p)) || (b && (c && q))) ≡ (b && (c && (p || q)))
+outer-step true true p q = refl
+outer-step true false p q = refl
+outer-step false c p q = refl
+
+list_any-outer : {X : Type 0} (f : X → Bool) (b c : Bool) (xs : List X) → list_any (λ x. b && (c && f x)) xs ≡ (b && (c && list_any f xs))
+list_any-outer f true true [] = refl
+list_any-outer f true false [] = refl
+list_any-outer f false c [] = refl
+list_any-outer f b c (x ∷ xs) = rw (list_any-outer f b c xs) (outer-step b c (f x) (list_any f xs))
+
+-- some element passes one of two tests
+either-step : (a b p q : Bool) → ((a || b) || (p || q)) ≡ ((a || p) || (b || q))
+either-step true b p q = refl
+either-step false true true q = refl
+either-step false true false q = refl
+either-step false false p q = refl
+
+list_any-either : {X : Type 0} (f g : X → Bool) (xs : List X) → list_any (λ x. f x || g x) xs ≡ (list_any f xs || list_any g xs)
+list_any-either f g [] = refl
+list_any-either f g (x ∷ xs) = rw (list_any-either f g xs) (either-step (f x) (g x) (list_any f xs) (list_any g xs))
+
+-- the place of 20 feet of a cell at one of its bays
+abbrev place_at : Cell → ℕ → Cell
+place_at cell bay = record { bay = bay; row = cell.row; tier = cell.tier }
+
+-- a place, and a cell, against the places that one row takes
+place-one : (kind other : Move) (place cell : Cell)
+    → has_taken_place (map (λ p. (other, p)) (places_of cell)) kind place
+    ≡ (same_move kind other && (((place.row == cell.row) && (place.tier == cell.tier)) && list_any (λ bay. place.bay == bay) (slots cell.bay)))
+place-one kind other place cell =
+    list_any-map (λ taken. same_move kind taken.0 && same_cell place taken.1) (λ (p : Cell). (other, p)) (places_of cell)
+    ∙ list_any-map (λ p. same_move kind other && same_cell place p) (place_at cell) (slots cell.bay)
+    ∙ list_any-inner (λ bay. place.bay == bay) (same_move kind other) (place.row == cell.row) (place.tier == cell.tier) (slots cell.bay)
+
+cell-one : (kind other : Move) (a b : Cell) → has_taken_cell (map (λ p. (other, p)) (places_of b)) kind a ≡ (same_move kind other && overlap a b)
+cell-one kind other a b =
+    list_any-map (has_taken_place (map (λ p. (other, p)) (places_of b)) kind) (place_at a) (slots a.bay)
+    ∙ list_any-agree _ (λ bay. same_move kind other && (((a.row == b.row) && (a.tier == b.tier)) && list_any (λ slot. bay == slot) (slots b.bay))) (slots a.bay)
+    (λ bay. place-one kind other (place_at a bay) b)
+    ∙ list_any-outer (λ bay. list_any (λ slot. bay == slot) (slots b.bay)) (same_move kind other) ((a.row == b.row) && (a.tier == b.tier)) (slots a.bay)
+
+-- the places that rows take
+pub cell-taken : (rows : List Row) (row : Row) → has_taken_cell (places_taken rows) row.kind row.cell ≡ is_taken rows row
+cell-taken [] row = list_any-none (places_of row.cell)
+cell-taken (first ∷ rows) row =
+    let here = map (λ (p : Cell). (first.kind, p)) (places_of first.cell) in
+    list_any-agree _ (λ place. has_taken_place here row.kind place || has_taken_place (places_taken rows) row.kind place) (places_of row.cell)
+    (λ place. list_any-append (λ taken. same_move row.kind taken.0 && same_cell place taken.1) here (places_taken rows))
+    ∙ list_any-either (has_taken_place here row.kind) (has_taken_place (places_taken rows) row.kind) (places_of row.cell)
+    ∙ rw (cell-one row.kind first.kind row.cell first.cell, cell-taken rows row) refl
+
+-- one more row takes its id and its places
+pub ids-more : (rows : List Row) (row : Row) → ids_of (rows ++ row ∷ []) ≡ ids_of rows ++ (row.kind, row.id) ∷ []
+ids-more rows row = map-append (λ (r : Row). (r.kind, r.id)) rows (row ∷ [])
+
+pub places-more : (rows : List Row) (row : Row) → places_taken (rows ++ row ∷ []) ≡ places_taken rows ++ map (λ place. (row.kind, place)) (places_of row.cell)
+places-more rows row =
+    flat_map-append (λ (r : Row). map (λ (p : Cell). (r.kind, p)) (places_of r.cell)) rows (row ∷ [])
+    ∙ ap (λ (last : List (Move × Cell)). places_taken rows ++ last) (append-nil (map (λ (p : Cell). (row.kind, p)) (places_of row.cell)))

@@ -1,0 +1,23 @@
+-- The fields of a stowage list.
+use Rattle.std.specs.Prelude.{ℕ, List, length, Bool, not, ◌&&◌, ◌==◌, ◌%◌, nat_le, if◌then◌else◌, codes}
+use Rattle.std.specs.List.{list_all}
+use Rattle.std.specs.Str.{bytes_eq}
+use Rattle.qc_records.specs.Records.{field_of}
+
+-- the four names of the columns
+abbrev pub is_header : List (List ℕ) → Bool
+is_header fields =
+    (length fields == 4) && bytes_eq (field_of fields 0) (codes "id") && bytes_eq (field_of fields 1) (codes "move")
+    && bytes_eq (field_of fields 2) (codes "cell") && bytes_eq (field_of fields 3) (codes "length")
+
+-- a visible character that is no comma and no double quote
+abbrev pub is_id_byte : ℕ → Bool
+is_id_byte b = nat_le 0x21 b && nat_le b 0x7E && not (b == 0x2C) && not (b == 0x22)
+
+-- the id of a container: 1 to 20 such characters
+abbrev pub is_id : List ℕ → Bool
+is_id field = nat_le 1 (length field) && nat_le (length field) 20 && list_all is_id_byte field
+
+-- the length in feet of the containers at a bay
+abbrev pub length_text : ℕ → List ℕ
+length_text bay = if bay % 2 == 0 then codes "40" else codes "20"

@@ -1,0 +1,5 @@
+pub mod Fields
+pub mod Rows
+pub mod Moves
+pub mod Stow
+pub mod Taken

@@ -1,0 +1,64 @@
+ghost use Rattle.std.specs.Prelude.{◌≡◌};
+ghost use Rattle.qc_stow.specs.declared.fault.StowError.TheVariants.{Fault, OutOfMemory};
+
+use qc_cell::CellFault;
+use std::alloc::AllocFailed;
+use thiserror::Error;
+
+/// What is wrong with a record of a stowage list: the first of these that applies.
+#[derive(Clone, Copy, Debug, PartialEq, Eq)]
+pub enum StowKind {
+    /// The first record isn't the header, or there is no record.
+    Header,
+    /// There are more than 50,000 moves; told of the first one too many.
+    TooMany,
+    /// The record hasn't four fields.
+    Fields,
+    /// The id isn't 1 to 20 visible ASCII characters without comma and double quote.
+    Id,
+    /// The move is neither `D` nor `L`.
+    MoveKind,
+    /// The cell can't be read.
+    Cell(CellFault),
+    /// The length isn't 20 at an odd bay or 40 at an even one.
+    LengthMismatch,
+    /// No hatch takes the bay.
+    NoHatch,
+    /// An earlier move of the same kind has the id.
+    IdTwice,
+    /// An earlier move of the same kind has an overlapping cell.
+    CellTaken,
+}
+
+/// The first fault of a stowage list.
+#[derive(Clone, Copy, Debug, PartialEq, Eq)]
+pub struct StowFault {
+    /// The record, from 1: the header is the first.
+    pub number: u32,
+    pub kind: StowKind,
+}
+
+/// Why no stowage list was read.
+#[derive(Debug, Drop, Error)]
+pub enum StowError {
+    #[error("{0:?}")]
+    Fault(StowFault),
+    #[error("out of memory")]
+    OutOfMemory,
+}
+
+impl From<qc_num::OutOfMemory> for StowError {
+    ghost from_gives = { λ _ error. error ≡ OutOfMemory };
+
+    fn from(_refused: qc_num::OutOfMemory) -> StowError {
+        StowError::OutOfMemory
+    }
+}
+
+impl<T: Drop> From<AllocFailed<T>> for StowError {
+    ghost from_gives = { λ _ error. error ≡ OutOfMemory };
+
+    fn from(_refused: AllocFailed<T>) -> StowError {
+        StowError::OutOfMemory
+    }
+}

@@ -1,0 +1,65 @@
+ghost use Rattle.std.specs.Prelude.{◌≡◌, IfSome, IsSome, IsTrue, ◌↔◌};
+ghost use Rattle.std.specs.List.{list_all};
+ghost use Rattle.qc_stow.specs.Fields.{is_id, is_id_byte};
+
+use std::marker::Model;
+
+/// The id of a container: 1 to 20 visible ASCII characters without comma and double quote.
+#[derive(Clone, Debug, Drop)]
+pub struct Id {
+    bytes: [u8; 20],
+    len: usize,
+}
+
+impl Model for Id {
+    ghost use Rattle.std.specs.Prelude.{ℕ, List, take, ◌≤◌, IsTrue};
+    ghost use Rattle.qc_stow.specs.Fields.{is_id};
+
+    ghost Value = { List ℕ };
+
+    ghost view = { λ i. take i.len i.bytes };
+
+    ghost invariant = { λ i. (i.len ≤ 20) × IsTrue (is_id (take i.len i.bytes)) };
+}
+
+fn is_id_byte(b: u8) -> bool
+    ensures { result ≡ is_id_byte b }
+{
+    b >= 0x21 && b <= 0x7E && b != b',' && b != b'"'
+}
+
+fn has_id_bytes(bytes: &[u8]) -> bool
+    ensures { result ≡ list_all is_id_byte bytes.now }
+{
+    bytes.iter().all(|b| is_id_byte(*b))
+}
+
+fn is_id(bytes: &[u8]) -> bool
+    ensures { result ≡ is_id bytes.now }
+{
+    bytes.len() >= 1 && bytes.len() <= 20 && has_id_bytes(bytes)
+}
+
+impl Id {
+    // The id with these bytes; `None` exactly where they aren't an id.
+    pub(crate) fn of(bytes: &[u8]) -> Option<Id>
+        ensures id { IsSome result ↔ IsTrue (is_id bytes.now) }
+        ensures bytes { IfSome result (λ i. i ≡ bytes.now) }
+    {
+        if !is_id(bytes) {
+            return None;
+        }
+        let len = bytes.len();
+        let mut kept = [0u8; 20];
+        kept[..len].copy_from_slice(bytes);
+        Some(Id { bytes: kept, len })
+    }
+
+    /// The id's bytes.
+    pub fn as_bytes(&self) -> &[u8]
+        ensures bytes { result.now ≡ self.now }
+        ensures id { IsTrue (is_id self.now) }
+    {
+        &self.bytes[..self.len]
+    }
+}

@@ -1,0 +1,16 @@
+//! Stowage lists: the moves of containers off and on a ship.
+#![tactic(auto)]
+
+mod fault;
+mod fields;
+mod id;
+mod moves;
+mod reader;
+mod row;
+mod taken;
+
+pub use fault::{StowError, StowFault, StowKind};
+pub use id::Id;
+pub use moves::Moves;
+pub use reader::read_stow;
+pub use row::{Move, Row};

@@ -1,0 +1,120 @@
+// Reading a stowage list.
+
+ghost use Rattle.std.specs.Prelude.{◌≡◌, ◌+◌, ◌≤◌, [], ◌∷◌, ◌++◌, length, map, All, IfOk, IsSome};
+ghost use Rattle.csv.specs.Records.{fields_of};
+ghost use Rattle.qc_ship.specs.Ship.{place_of_bay};
+ghost use Rattle.qc_cell.specs.Cells.{IsCell};
+ghost use Rattle.qc_stow.specs.Stow.{IsReading, moves_in, numbered, row_after, row_on, rows_after};
+ghost use Rattle.qc_stow.specs.Taken.{ids_of, places_taken};
+ghost use Rattle.qc_stow.specs.declared.fault.StowError.TheVariants.{Fault};
+
+use crate::fault::{StowError, StowFault, StowKind};
+use crate::fields::is_header;
+use crate::moves::Moves;
+use crate::row::Row;
+use crate::taken::Taken;
+use csv::ByteRecord;
+use qc_records::{field, first_records};
+use qc_ship::Ship;
+use std::alloc::Global;
+
+const MOST_MOVES: usize = 50_000;
+
+// The header, the most moves, and one record more that tells a longer list.
+const RECORDS: usize = MOST_MOVES + 2;
+
+// The fault of a move, by its place among the moves from 0.
+fn fault(at: usize, kind: StowKind) -> StowError
+    requires { at ≤ 50000 }
+    ensures { result ≡ Fault (record { number = at + 2; kind = kind }) }
+{
+    StowError::Fault(StowFault {
+        number: at as u32 + 2,
+        kind,
+    })
+}
+
+// The row of a record whose bay a hatch of the ship takes.
+fn row_on(fields: &ByteRecord, ship: &Ship) -> Result<Row, StowKind>
+    ensures row { result ≡ row_on ship.now (fields_of fields.now) }
+    ensures cell { IfOk result (λ row. IsCell row.cell) }
+{
+    let row = Row::read(fields)?;
+    if ship.bay_of(row.cell.bay).is_none() {
+        return Err(StowKind::NoHatch);
+    }
+    Ok(row)
+}
+
+// The row of a record after the rows of all records before it, whose ids and places are taken.
+fn next_row<'a>(
+    earlier: &[Row],
+    fields: &'a ByteRecord,
+    ship: &Ship,
+    taken: &mut Taken<'a>,
+) -> Result<Row, StowError>
+    requires few { length earlier.now ≤ 50000 }
+    requires ids { taken.old.ids ≡ ids_of earlier.now }
+    requires places { taken.old.places ≡ places_taken earlier.now }
+    ensures row { IsReading (λ row. row) (numbered (length earlier.now + 2) (row_after ship.now earlier.now (fields_of fields.now))) result }
+    ensures cell { IfOk result (λ row. IsCell row.cell) }
+    ensures ids { IfOk result (λ row. taken.new.ids ≡ ids_of (earlier.now ++ row ∷ [])) }
+    ensures places { IfOk result (λ row. taken.new.places ≡ places_taken (earlier.now ++ row ∷ [])) }
+{
+    let at = earlier.len();
+    if at == MOST_MOVES {
+        return Err(fault(at, StowKind::TooMany));
+    }
+    let row = match row_on(fields, ship) {
+        Ok(row) => row,
+        Err(kind) => return Err(fault(at, kind)),
+    };
+    if !taken.take_id(row.kind, field(fields, 0))? {
+        return Err(fault(at, StowKind::IdTwice));
+    }
+    if !taken.take_cell(row.kind, row.cell)? {
+        return Err(fault(at, StowKind::CellTaken));
+    }
+    Ok(row)
+}
+
+// The rows of the records after the header.
+fn read_rows(alloc: Global, records: &[ByteRecord], ship: &Ship) -> Result<Vec<Row>, StowError>
+    ensures rows { IsReading (λ v. v.items) (rows_after ship.now [] (map fields_of records.now)) result }
+    ensures cells { IfOk result (λ v. All (λ row. IsCell row.cell) v.items) }
+{
+    let mut rows = Vec::new(alloc);
+    let mut taken = Taken::new(alloc);
+    for fields in records {
+        match next_row(rows.as_slice(), fields, ship, &mut taken) {
+            Ok(row) => rows.push(row)?,
+            Err(error) => return Err(error),
+        }
+    }
+    Ok(rows)
+}
+
+/// The moves of a stowage list, or the first fault of its first faulty record. A byte-order mark
+/// at the start is dropped, and fields may be quoted, as `csv` reads them.
+pub fn read_stow(alloc: Global, text: &[u8], ship: &Ship) -> Result<Moves, StowError>
+    ensures moves { IsReading (λ moves. moves) (moves_in ship.now text.now) result }
+    ensures hatches { IfOk result (All (λ row. IsSome (place_of_bay ship.now row.cell.bay))) }
+{
+    let records = first_records(alloc, text, RECORDS)?;
+    let Some((header, records)) = records.as_slice().split_first() else {
+        return Err(no_header());
+    };
+    if !is_header(header) {
+        return Err(no_header());
+    }
+    Ok(Moves::of(read_rows(alloc, records, ship)?))
+}
+
+fn no_header() -> StowError
+    ensures { result ≡ Fault (record { number = 1; kind = StowKind.Header }) }
+{
+    StowError::Fault(StowFault {
+        number: 1,
+        kind: StowKind::Header,
+    })
+}
