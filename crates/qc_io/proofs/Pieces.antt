@@ -2,7 +2,7 @@
 use Rattle.std.proofs.Common.{◌≡◌, ℕ, ◌+◌, ◌≤◌, ◌++◌, List, length, take, drop, Option, None, Some, refl, sym, ap, ◌∙◌, append_assoc, append-nil, length-append, [], arith}
 use Rattle.std.proofs.Math.Seq.{take-add, take-append-add}
 use Rattle.std.proofs.lemmas.List.{take-append-le}
-use Rattle.std.specs.Prelude.{IfSome}
+use Rattle.std.specs.Prelude.{IfSome, Result, Ok, Err, OnErr}
 use Rattle.qc_io.specs.Outside.{Files, file_at, IsMissing, IsFile, with_front, with_piece, TakesAtMost, GrewByPart}
 
 -- two pieces before the bytes are one
@@ -64,3 +64,15 @@ part_of_second before between after first second whole part = record {
       part.grew ∙ ap (λ w. with_piece w (take part.count second)) whole ∙ with_piece-append before first (take part.count second)
       ∙ ap (with_piece before) (sym (take-append-add first second part.count));
 }
+
+-- two pieces written one after the other are both there
+pub whole_pair :
+    (before between after : Option (List ℕ)) (first second : List ℕ)
+    → between ≡ with_piece before first → after ≡ with_piece between second → after ≡ with_piece before (first ++ second)
+whole_pair before between after first second whole more =
+    more ∙ ap (λ w. with_piece w second) whole ∙ with_piece-append before first second
+
+-- what holds at any result holds at an error
+pub on_err : {T E P : Type 0} (r : Result T E) → P → OnErr r P
+on_err (Ok x) p = tt
+on_err (Err e) p = p

@@ -15,7 +15,7 @@ use Rattle.qc_model.specs.Rules.{crane_of, distance, IsClear, KeepsTravel, Keeps
 use Rattle.qc_model.specs.OneWay.{GoesUp, KeepsClimb, KeepsLead, mirror, mirror_slot, mirror_schedule}
 use Rattle.qc_model.specs.declared.rules.Break.{Break}
 use Rattle.qc_model.specs.Seen.{seen, seen_schedule}
-use Rattle.qc_model.specs.Judge.{IsJudgeable, KeepsAll, Goes, IsFirstBreak}
+use Rattle.qc_model.specs.Judge.{IsJudgeable, IsPlace, KeepsAll, Goes, IsFirstBreak}
 use Rattle.qc_model.proofs.SeenLemmas.{seen-task_count, seen-crane_count, seen-crane_of, seen-before, seen-apart}
 
 -- what the rules take for granted of an instance and a schedule
@@ -114,7 +114,10 @@ sound_seen inst sched way v s = record {
 
 pub goes_seen : (inst : InstanceView) (sched : List Slot) (way : Direction) → Valid inst → IsJudgeable inst sched → ((rule : Rule) → KeepsAll (seen inst way) (seen_schedule inst sched way) rule) → Goes inst sched way
 goes_seen inst sched Up v s k = goes_of inst sched (sound_seen inst sched Up v s) k
-goes_seen inst sched Down v s k = record { crane_range = s.crane_range; mirrored = goes_of (mirror inst) (mirror_schedule inst sched) (sound_seen inst sched Down v s) k }
+goes_seen inst sched Down v s k = record {
+  crane_range = s.crane_range;
+  mirrored = goes_of (mirror inst) (mirror_schedule inst sched) (sound_seen inst sched Down v s) k;
+}
 
 pub keeps_seen : (inst : InstanceView) (sched : List Slot) (way : Direction) → Goes inst sched way → (rule : Rule) → KeepsAll (seen inst way) (seen_schedule inst sched way) rule
 keeps_seen inst sched Up g rule = keeps_of inst sched g rule
@@ -123,3 +126,17 @@ keeps_seen inst sched Down g rule = keeps_of (mirror inst) (mirror_schedule inst
 -- a schedule with a first break doesn't go that way
 pub breaks_seen : (inst : InstanceView) (sched : List Slot) (way : Direction) (b : Break) → IsFirstBreak (seen inst way) (seen_schedule inst sched way) b → ¬ Goes inst sched way
 breaks_seen inst sched way b h g = h.place.fault (keeps_seen inst sched way g b.rule b.first b.second h.place.place h.place.range)
+
+place_order : (rule : Rule) (i j : ℕ) → IsPlace rule i j → i ≤ j
+place_order Reach i j h = omega arith
+place_order Ready i j h = omega arith
+place_order Travel i j h = omega arith
+place_order Before i j h = omega arith
+place_order Apart i j h = omega arith
+place_order Margin i j h = omega arith
+place_order Berth i j h = omega arith
+place_order OneWay i j h = omega arith
+
+-- a break names tasks of the instance, the lower first
+pub break_range : (inst : InstanceView) (sched : List Slot) (way : Direction) (b : Break) → IsFirstBreak (seen inst way) (seen_schedule inst sched way) b → (b.first ≤ b.second) × (b.second < length inst.tasks)
+break_range inst sched way b h = (place_order b.rule b.first b.second h.place.place, rw (seen-task_count inst way) at h.place.range)

@@ -33,7 +33,8 @@ pub(crate) fn keeps_reach(inst: &Instance, sched: &Schedule, task: u16) -> bool
 pub(crate) fn keeps_ready(inst: &Instance, sched: &Schedule, way: Direction, task: u16) -> bool
     requires judgeable { IsJudgeable inst.now sched.now }
     requires range { task < length inst.now.tasks }
-    ensures { IsTrue result ↔ KeepsReady (seen inst.now way) (seen_schedule inst.now sched.now way) task }
+    ensures { IsTrue result
+        ↔ KeepsReady (seen inst.now way) (seen_schedule inst.now sched.now way) task }
 {
     let work = work_of(inst, sched, way, task);
     let crane = waiting_of(inst, way, work.crane);
@@ -42,7 +43,8 @@ pub(crate) fn keeps_ready(inst: &Instance, sched: &Schedule, way: Direction, tas
 
 /// The ticks by which the two keep clear of each other.
 fn distance_of(inst: &Instance, one: &Work, other: &Work) -> Tick
-    ensures ticks { result ≡ distance inst.now one.now.crane one.now.bay other.now.crane other.now.bay }
+    ensures ticks { result
+        ≡ distance inst.now one.now.crane one.now.bay other.now.crane other.now.bay }
     ensures bound { result ≤ 600000000 }
 {
     distance(inst, one.crane, one.bay, other.crane, other.bay)
@@ -51,7 +53,8 @@ fn distance_of(inst: &Instance, one: &Work, other: &Work) -> Tick
 /// Whether one of the two ends so many ticks before the other starts.
 fn is_clear(one: &Work, other: &Work, ticks: Tick) -> bool
     requires { ticks ≤ 600000000 }
-    ensures { IsTrue result ↔ ((one.now.end + ticks ≤ other.now.start) ⊎ (other.now.end + ticks ≤ one.now.start)) }
+    ensures { IsTrue result
+        ↔ ((one.now.end + ticks ≤ other.now.start) ⊎ (other.now.end + ticks ≤ one.now.start)) }
 {
     one.end + ticks <= other.start || other.end + ticks <= one.start
 }
@@ -67,7 +70,8 @@ pub(crate) fn keeps_travel(
     requires judgeable { IsJudgeable inst.now sched.now }
     requires first_range { first < length inst.now.tasks }
     requires second_range { second < length inst.now.tasks }
-    ensures { IsTrue result ↔ KeepsTravel (seen inst.now way) (seen_schedule inst.now sched.now way) first second }
+    ensures { IsTrue result
+        ↔ KeepsTravel (seen inst.now way) (seen_schedule inst.now sched.now way) first second }
 {
     let one = work_of(inst, sched, way, first);
     let other = work_of(inst, sched, way, second);
@@ -92,7 +96,8 @@ pub(crate) fn keeps_margin(
     requires judgeable { IsJudgeable inst.now sched.now }
     requires first_range { first < length inst.now.tasks }
     requires second_range { second < length inst.now.tasks }
-    ensures { IsTrue result ↔ KeepsMargin (seen inst.now way) (seen_schedule inst.now sched.now way) first second }
+    ensures { IsTrue result
+        ↔ KeepsMargin (seen inst.now way) (seen_schedule inst.now sched.now way) first second }
 {
     let one = work_of(inst, sched, way, first);
     let other = work_of(inst, sched, way, second);
@@ -111,7 +116,8 @@ fn keeps_clear_of(inst: &Instance, sched: &Schedule, way: Direction, task: u16, 
     requires judgeable { IsJudgeable inst.now sched.now }
     requires range { task < length inst.now.tasks }
     requires crane_range { number < length inst.now.cranes }
-    ensures { IsTrue result ↔ KeepsBerth (seen inst.now way) (seen_schedule inst.now sched.now way) task number }
+    ensures { IsTrue result
+        ↔ KeepsBerth (seen inst.now way) (seen_schedule inst.now sched.now way) task number }
 {
     let work = work_of(inst, sched, way, task);
     if number == work.crane {
@@ -129,7 +135,8 @@ fn keeps_clear_of(inst: &Instance, sched: &Schedule, way: Direction, task: u16, 
 pub(crate) fn keeps_berth(inst: &Instance, sched: &Schedule, way: Direction, task: u16) -> bool
     requires judgeable { IsJudgeable inst.now sched.now }
     requires range { task < length inst.now.tasks }
-    ensures { IsTrue result ↔ Keeps (seen inst.now way) (seen_schedule inst.now sched.now way) Berth task task }
+    ensures { IsTrue result
+        ↔ Keeps (seen inst.now way) (seen_schedule inst.now sched.now way) Berth task task }
 {
     for number in 0..inst.cranes().len() as u16 {
         if !keeps_clear_of(inst, sched, way, task, number) {
@@ -139,12 +146,14 @@ pub(crate) fn keeps_berth(inst: &Instance, sched: &Schedule, way: Direction, tas
     true
 }
 
-/// Whether a crane that has done the first task has the time to go up to the second, where that lies higher.
+/// Whether a crane that has done the first task has the time to go up to the second, where that
+/// lies higher.
 fn keeps_climb(inst: &Instance, sched: &Schedule, way: Direction, first: u16, second: u16) -> bool
     requires judgeable { IsJudgeable inst.now sched.now }
     requires first_range { first < length inst.now.tasks }
     requires second_range { second < length inst.now.tasks }
-    ensures { IsTrue result ↔ KeepsClimb (seen inst.now way) (seen_schedule inst.now sched.now way) first second }
+    ensures { IsTrue result
+        ↔ KeepsClimb (seen inst.now way) (seen_schedule inst.now sched.now way) first second }
 {
     let one = work_of(inst, sched, way, first);
     let other = work_of(inst, sched, way, second);
@@ -154,12 +163,14 @@ fn keeps_climb(inst: &Instance, sched: &Schedule, way: Direction, first: u16, se
     one.end + travel_over(inst, bays_up(one.bay, other.bay)) <= other.start
 }
 
-/// Whether the second task is first where it is that of a higher crane and the two would come too near.
+/// Whether the second task is first where it is that of a higher crane and the two would come too
+/// near.
 fn keeps_lead(inst: &Instance, sched: &Schedule, way: Direction, first: u16, second: u16) -> bool
     requires judgeable { IsJudgeable inst.now sched.now }
     requires first_range { first < length inst.now.tasks }
     requires second_range { second < length inst.now.tasks }
-    ensures { IsTrue result ↔ KeepsLead (seen inst.now way) (seen_schedule inst.now sched.now way) first second }
+    ensures { IsTrue result
+        ↔ KeepsLead (seen inst.now way) (seen_schedule inst.now sched.now way) first second }
 {
     let one = work_of(inst, sched, way, first);
     let other = work_of(inst, sched, way, second);
@@ -184,7 +195,8 @@ pub(crate) fn keeps_one_way(
     requires judgeable { IsJudgeable inst.now sched.now }
     requires first_range { first < length inst.now.tasks }
     requires second_range { second < length inst.now.tasks }
-    ensures { IsTrue result ↔ Keeps (seen inst.now way) (seen_schedule inst.now sched.now way) OneWay first second }
+    ensures { IsTrue result
+        ↔ Keeps (seen inst.now way) (seen_schedule inst.now sched.now way) OneWay first second }
 {
     keeps_climb(inst, sched, way, first, second)
         && keeps_climb(inst, sched, way, second, first)
@@ -221,7 +233,8 @@ pub(crate) fn run_apart(
     requires judgeable { IsJudgeable inst.now sched.now }
     requires first_range { first < length inst.now.tasks }
     requires second_range { second < length inst.now.tasks }
-    ensures { IsTrue result ↔ IsClear (seen inst.now way) (seen_schedule inst.now sched.now way) 0 first second }
+    ensures { IsTrue result
+        ↔ IsClear (seen inst.now way) (seen_schedule inst.now sched.now way) 0 first second }
 {
     let one = work_of(inst, sched, way, first);
     let other = work_of(inst, sched, way, second);

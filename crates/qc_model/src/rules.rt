@@ -1,4 +1,4 @@
-ghost use Rattle.std.specs.Prelude.{◌≡◌, ◌↔◌, length, IfErr, IfOk, IfSome, IsNone, IsOk};
+ghost use Rattle.std.specs.Prelude.{◌≡◌, ◌<◌, ◌≤◌, ◌↔◌, length, IfErr, IfOk, IfSome, IsNone, IsOk};
 ghost use Rattle.qc_model.specs.OneWay.{GoesOneWay};
 ghost use Rattle.qc_model.specs.Seen.{seen, seen_schedule};
 ghost use Rattle.qc_model.specs.Judge.{IsJudgeable, FaultIs, Goes, IsDirection, IsFirstBreak};
@@ -85,6 +85,8 @@ pub fn first_break(inst: &Instance, sched: &Schedule, way: Direction) -> Option<
     ensures goes { IsNone result ↔ Goes inst.now sched.now way }
     ensures first { IfSome result
         (λ b. IsFirstBreak (seen inst.now way) (seen_schedule inst.now sched.now way) b) }
+    ensures range { IfSome result
+        (λ b. (b.first ≤ b.second) × (b.second < length inst.now.tasks)) }
 {
     let tasks = inst.tasks().len() as u16;
     for rule in RULES {
@@ -106,6 +108,8 @@ pub fn direction_of(inst: &Instance, sched: &Schedule) -> Result<Direction, Brea
     ensures one_way { IsOk result ↔ GoesOneWay inst.now sched.now }
     ensures direction { IfOk result (λ way. IsDirection inst.now sched.now way) }
     ensures first { IfErr result (λ b. IsFirstBreak inst.now sched.now b) }
+    ensures range { IfErr result
+        (λ b. (b.first ≤ b.second) × (b.second < length inst.now.tasks)) }
 {
     let Some(broken) = first_break(inst, sched, Direction::Up) else {
         return Ok(Direction::Up);

@@ -71,7 +71,8 @@ pub(crate) fn first_listed<F: Fn(u16, u16) -> bool + Drop>(
     pairs: &[Pair],
     keeps: F,
 ) -> Option<(u16, u16)>
-    requires { (m : ℕ) → m < length pairs.now → F.pre keeps (pair_at pairs.now m).first (pair_at pairs.now m).second }
+    requires { (m : ℕ) → m < length pairs.now
+        → F.pre keeps (pair_at pairs.now m).first (pair_at pairs.now m).second }
     ensures { IsListSearch (length pairs.now) pairs.now (F.post keeps) result }
 {
     let mut held = None;

@@ -38,7 +38,8 @@ pub(crate) fn work_of(inst: &Instance, sched: &Schedule, way: Direction, task: u
     ensures bay { result.bay ≡ bay_of (seen inst.now way) task }
     ensures range { result.crane < length inst.now.cranes }
     ensures start { result.start ≡ start_of (seen_schedule inst.now sched.now way) task }
-    ensures end { result.end ≡ end_of (seen inst.now way) (seen_schedule inst.now sched.now way) task }
+    ensures end { result.end
+        ≡ end_of (seen inst.now way) (seen_schedule inst.now sched.now way) task }
 {
     let found = &inst.tasks()[task as usize];
     let slot = &sched.slots()[task as usize];

@@ -16,7 +16,8 @@ use Rattle.qc_model.specs.Instance.{InstanceView, Valid, IsFrom, HasBayLimits, H
 use Rattle.qc_model.specs.Rules.{crane_of, start_of, end_of, no_slot, ends}
 use Rattle.qc_model.specs.OneWay.{GoesUp, GoesOneWay}
 use Rattle.qc_model.proofs.Bays.{bays}
-use Rattle.qc_top.specs.Orders.{IsSmall, head, order_end, IsBetterFirst, AreBestStarts, HasEarlyStarts}
+use Rattle.qc_top.specs.Orders.{head, order_end, IsBetterFirst, AreBestStarts, HasEarlyStarts}
+use Rattle.qc_top.proofs.SmallLemmas.{IsSmall}
 use Rattle.qc_top.proofs.OneCrane.{HasOwnBays, Climbs-goes, below}
 use Rattle.qc_top.proofs.TwoOrders.{Leads, own_bays, goes_ready, goes_slots, goes_late, up_late, leads_goes, leads_up, leads_ends, end_le_last_end, last_end_le}
 

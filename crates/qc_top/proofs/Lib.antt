@@ -1,13 +1,11 @@
 pub mod WordLemmas
-pub mod PieceLemmas
 pub mod PlanLines
-pub mod TomlValues
-pub mod PlainFacts
-pub mod PlainInstanceLemmas
 pub mod PlanWords
+pub mod DueLemmas
 pub mod RunLemmas
 pub mod Stored
 pub mod Planned
+pub mod SmallLemmas
 pub mod OneCrane
 pub mod OneCraneMirror
 pub mod TwoOrders

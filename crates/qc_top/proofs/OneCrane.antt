@@ -9,7 +9,7 @@ use Rattle.qc_model.specs.Instance.{InstanceView, crane, bay_of, no_task}
 use Rattle.qc_model.specs.Rules.{crane_of, start_of, end_of, KeepsReach, KeepsReady, IsClear}
 use Rattle.qc_model.specs.OneWay.{GoesUp}
 use Rattle.qc_model.proofs.Bays.{bays}
-use Rattle.qc_top.specs.Orders.{IsSmall}
+use Rattle.qc_top.proofs.SmallLemmas.{IsSmall}
 
 -- tasks of two numbers stand at two bays
 abbrev pub HasOwnBays : InstanceView → Type 0

@@ -12,7 +12,7 @@ use Rattle.qc_model.specs.Instance.{InstanceView, task, crane, bay_of, ticks_of,
 use Rattle.qc_model.specs.Rules.{crane_of, start_of, end_of, no_slot}
 use Rattle.qc_model.specs.OneWay.{GoesUp, GoesDown, mirror, mirror_task, mirror_crane, mirror_slot, mirror_schedule}
 use Rattle.qc_model.proofs.Bays.{bays}
-use Rattle.qc_top.specs.Orders.{IsSmall, Reaches}
+use Rattle.qc_top.proofs.SmallLemmas.{IsSmall, Reaches}
 use Rattle.qc_top.proofs.OneCrane.{HasOwnBays, Climbs-goes, goes_Climbs}
 
 -- the one crane comes to each task in time and works downward

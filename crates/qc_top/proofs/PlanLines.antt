@@ -3,12 +3,11 @@ use Rattle.std.proofs.Common.{◌≡◌, ℕ, zero, suc, ◌+◌, ◌≤◌, ◌
 use Rattle.std.proofs.lemmas.List.{drop_all}
 use Rattle.std.proofs.Math.Seq.{drop-cons}
 use Rattle.qc_io.specs.Outside.{with_piece, GrewByPart}
-use Rattle.qc_top.proofs.PieceLemmas.{cut_in_first, cut_in_second, whole_pair}
+use Rattle.qc_io.proofs.Pieces.{part_of_first, part_of_second, whole_pair}
 use Rattle.qc_model.specs.declared.task.Task.{Task}
 use Rattle.qc_model.specs.declared.schedule.Slot.{Slot}
 use Rattle.qc_model.specs.Instance.{InstanceView}
 use Rattle.qc_top.specs.PlanText.{plan_line, plan_lines}
-use Rattle.qc_top.proofs.PieceLemmas.{cut_in_first, cut_in_second, whole_pair}
 
 -- some lines are written, and the tasks from i on are left
 pub record LinesSoFar (inst : InstanceView) (tasks : List Task) (slots : List Slot) (before now : Option (List ℕ)) (i : ℕ) : Type 0 where
@@ -40,7 +39,7 @@ lines_more inst tasks slots before now next i n t s en so_far it is et es wrote 
 pub lines_cut : (inst : InstanceView) (tasks : List Task) (slots : List Slot) (before now next : Option (List ℕ)) (i : ℕ) (t : Task) (s : Slot) → LinesSoFar inst tasks slots before now i → i < length tasks → i < length slots → t ≡ get_or tasks i t → s ≡ get_or slots i s → GrewByPart now next (plan_line inst t s) → GrewByPart before next (plan_lines inst tasks slots)
 lines_cut inst tasks slots before now next i t s so_far it is et es cut =
     rw (so_far.whole, plan_lines-drop inst tasks slots i t s it is et es)
-    (cut_in_second before now next so_far.lines _ so_far.written (cut_in_first now next (plan_line inst t s) _ cut))
+    (part_of_second before now next so_far.lines _ so_far.written (part_of_first now next (plan_line inst t s) _ cut))
 
 -- all lines are written
 pub lines_whole : (inst : InstanceView) (tasks : List Task) (slots : List Slot) (before now : Option (List ℕ)) (i : ℕ) → LinesSoFar inst tasks slots before now i → length tasks ≤ i → now ≡ with_piece before (plan_lines inst tasks slots)

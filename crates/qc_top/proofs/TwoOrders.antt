@@ -9,7 +9,8 @@ use Rattle.qc_model.specs.Instance.{InstanceView, Valid, task, crane, bay_of, no
 use Rattle.qc_model.specs.Rules.{crane_of, start_of, end_of, no_slot, last_end, ends}
 use Rattle.qc_model.specs.OneWay.{GoesUp, GoesDown, GoesOneWay}
 use Rattle.qc_model.proofs.Bays.{bays}
-use Rattle.qc_top.specs.Orders.{IsSmall, head, next_start, order_end}
+use Rattle.qc_top.specs.Orders.{head, next_start, order_end}
+use Rattle.qc_top.proofs.SmallLemmas.{IsSmall}
 use Rattle.qc_top.proofs.OneCrane.{HasOwnBays, Climbs, Climbs-goes, goes_Climbs, between_up, between_down, below, none_in}
 use Rattle.qc_top.proofs.OneCraneMirror.{Descends, Descends-goes, goes_Descends}
 

@@ -1,10 +1,6 @@
 pub mod Words
 pub mod Answers
 pub mod PlanText
-pub mod PlainHatches
-pub mod PlainShip
-pub mod PlainStow
-pub mod PlainInstance
+pub mod Orders
 pub mod Due
 pub mod Run
-pub mod Orders

@@ -1,22 +1,20 @@
-use Rattle.std.specs.Prelude.{◌≡◌, ℕ, ◌+◌, ◌*◌, ◌^◌, ◌<◌, ◌≤◌, ◌≤ℤ◌, ◌⊎◌, List, [], length}
-use Rattle.std.specs.List.{All}
+use Rattle.std.specs.Prelude.{◌≡◌, ℕ, Bool, ◌&&◌, ◌==◌, nat_le, int_le, ◌+◌, ◌*◌, ◌^◌, ◌<◌, ◌≤◌, ◌≤ℤ◌, ◌⊎◌, List, [], length}
+use Rattle.std.specs.List.{All, list_all}
 use Rattle.qc_model.specs.declared.task.Task.{Task}
 use Rattle.qc_model.specs.declared.crane.Crane.{Crane}
 use Rattle.qc_model.specs.declared.schedule.Slot.{Slot}
 use Rattle.qc_model.specs.Bays.{bays_between}
-use Rattle.qc_model.specs.Instance.{InstanceView, crane, IsFrom}
+use Rattle.qc_model.specs.Instance.{InstanceView, crane}
 
 -- the task's bay lies within the reach of the crane
-abbrev pub Reaches : Crane → Task → Type 0
-Reaches c t = IsFrom c.from c.to t.bay
+abbrev pub reaches : Crane → Task → Bool
+reaches c t = int_le c.from t.bay && int_le t.bay c.to
 
 -- one crane that reaches every task, at most two tasks, and no pair of tasks that rules their times
-pub record IsSmall (inst : InstanceView) : Type 0 where
-  pub one_crane : length inst.cranes ≡ 1
-  pub few_tasks : length inst.tasks ≤ 2
-  pub no_before : inst.before ≡ []
-  pub no_apart : inst.apart ≡ []
-  pub in_reach : All (Reaches (crane inst 0)) inst.tasks
+abbrev pub is_small : InstanceView → Bool
+is_small inst =
+    (length inst.cranes == 1) && nat_le (length inst.tasks) 2 && (length inst.before == 0) && (length inst.apart == 0)
+    && list_all (reaches (crane inst 0)) inst.tasks
 
 -- when the crane can be at the task's bay
 abbrev pub head : ℕ → Crane → Task → ℕ

@@ -35,7 +35,7 @@ check_request (s ∷ w ∷ p ∷ t ∷ []) = if is_file_word s && is_file_word w
 check_request _ = request.Usage
 
 abbrev pub tasks_request : List (List ℕ) → Request
-tasks_request (s ∷ w ∷ []) = if is_file_word s && is_file_word w then request.Unbuilt else request.Usage
+tasks_request (s ∷ w ∷ []) = if is_file_word s && is_file_word w then request.Tasks else request.Usage
 tasks_request _ = request.Usage
 
 abbrev pub show_request : List (List ℕ) → Request

@@ -2,15 +2,14 @@
 #![tactic(auto)]
 
 mod answer;
+mod faults;
 mod orders;
-mod pieces;
-mod plain_instance;
-mod plain_ship;
-mod plain_stow;
 mod plan;
 mod plan_text;
 mod program;
+mod reading;
 mod status;
+mod tasks;
 mod words;
 
 pub use answer::{Answer, Input};

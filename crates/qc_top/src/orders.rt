@@ -1,19 +1,19 @@
 //! The two orders in which one crane can work two tasks.
 
-ghost use Rattle.std.specs.Prelude.{◌≡◌, ◌+◌, ◌*◌, ◌^◌, ◌<◌, ◌≤◌, ◌↔◌, IsTrue, IfOk, List, length};
-ghost use Rattle.std.specs.List.{All};
+ghost use Rattle.std.specs.Prelude.{◌≡◌, ◌+◌, ◌*◌, ◌^◌, ◌<◌, ◌≤◌, IsTrue, IfOk, List, length};
+ghost use Rattle.std.specs.List.{All, list_all};
 ghost use Rattle.qc_model.specs.declared.schedule.Slot.{Slot};
 ghost use Rattle.qc_model.specs.Bays.{bays_between};
 ghost use Rattle.qc_model.specs.Rules.{ends};
 ghost use Rattle.qc_model.specs.OneWay.{GoesOneWay, GoesUp};
-ghost use Rattle.qc_top.specs.Orders.{IsSmall, Reaches, head, next_start, order_end, AreBestStarts, HasEarlyStarts};
+ghost use Rattle.qc_top.specs.Orders.{reaches, is_small, head, next_start, order_end, AreBestStarts, HasEarlyStarts};
 
 use qc_model::{Crane, Instance, Schedule, Slot, Task};
 use qc_num::{Bay, OutOfMemory, Tick};
 use std::alloc::Global;
 
 fn reaches_all(crane: &Crane, tasks: &[Task]) -> bool
-    ensures { IsTrue result ↔ All (Reaches crane.now) tasks.now }
+    ensures { result ≡ list_all (reaches crane.now) tasks.now }
 {
     tasks
         .iter()
@@ -22,15 +22,13 @@ fn reaches_all(crane: &Crane, tasks: &[Task]) -> bool
 
 /// Whether one crane that reaches every task does at most two of them, with no pair that rules their times.
 pub fn is_small(inst: &Instance) -> bool
-    ensures { IsTrue result ↔ IsSmall inst.now }
+    ensures { result ≡ is_small inst.now }
 {
-    let [crane] = inst.cranes() else {
-        return false;
-    };
-    inst.tasks().len() <= 2
-        && inst.before().is_empty()
-        && inst.apart().is_empty()
-        && reaches_all(crane, inst.tasks())
+    inst.cranes().len() == 1
+        && inst.tasks().len() <= 2
+        && inst.before().len() == 0
+        && inst.apart().len() == 0
+        && reaches_all(&inst.cranes()[0], inst.tasks())
 }
 
 fn ticks_between(travel: Tick, from: Bay, to: Bay) -> Tick
@@ -82,7 +80,7 @@ fn slot_from(start: Tick) -> Slot
 /// The best one-way schedule of at most two tasks on one crane: of the two orders of work the one that
 /// ends earlier, and the upward one where both end at once. Refused only for want of memory.
 pub fn best_order(alloc: Global, inst: &Instance) -> Result<Schedule, OutOfMemory>
-    requires small { IsSmall inst.now }
+    requires small { IsTrue (is_small inst.now) }
     ensures goes { IfOk result (λ s. GoesOneWay inst.now s) }
     ensures best { IfOk result (λ s. (other : List Slot) → GoesOneWay inst.now other → ends inst.now s ≤ ends inst.now other) }
     ensures upward_if_equal { IfOk result (λ s. (other : List Slot) → GoesUp inst.now other → ends inst.now other ≤ ends inst.now s → GoesUp inst.now s) }

@@ -6,14 +6,13 @@ ghost use Rattle.qc_model.specs.Rules.{crane_of, start_of, end_of};
 ghost use Rattle.qc_model.specs.Tasks.{task_text};
 ghost use Rattle.qc_top.specs.PlanText.{field, plan_line, plan_lines, plan_text};
 
-use crate::pieces::{put_number, put_pair};
-use qc_io::{Sink, WriteFault, put_all};
+use qc_io::{Sink, WriteFault, put_all, put_number, put_pair};
 use qc_model::{Instance, Schedule, Slot, Task};
 use qc_num::Tick;
 
 const HEADER: &[u8] = b"task,crane,start,end\n";
 
-#[tactic(auto, using(crate::proofs::PieceLemmas::cut_in_first, crate::proofs::PieceLemmas::cut_in_second, crate::proofs::PieceLemmas::whole_pair))]
+#[tactic(auto, using(qc_io::proofs::Pieces::part_of_first, qc_io::proofs::Pieces::part_of_second, qc_io::proofs::Pieces::whole_pair))]
 fn put_times<K: Sink>(sink: &mut K, start: Tick, end: Tick) -> Result<(), WriteFault>
     ensures ok { OnOk result (K.written sink.new ≡ with_piece (K.written sink.old) (field (decimal start) ++ (decimal end ++ 10 ∷ []))) }
     ensures err { OnErr result (GrewByPart (K.written sink.old) (K.written sink.new) (field (decimal start) ++ (decimal end ++ 10 ∷ []))) }
@@ -25,7 +24,7 @@ fn put_times<K: Sink>(sink: &mut K, start: Tick, end: Tick) -> Result<(), WriteF
     put_number(sink, b"", end, b"\n")
 }
 
-#[tactic(auto, using(crate::proofs::PieceLemmas::cut_in_first, crate::proofs::PieceLemmas::cut_in_second, crate::proofs::PieceLemmas::whole_pair))]
+#[tactic(auto, using(qc_io::proofs::Pieces::part_of_first, qc_io::proofs::Pieces::part_of_second, qc_io::proofs::Pieces::whole_pair))]
 fn put_slot<K: Sink>(sink: &mut K, name: &[u8], start: Tick, end: Tick) -> Result<(), WriteFault>
     ensures ok { OnOk result (K.written sink.new ≡ with_piece (K.written sink.old) (field name.now ++ (field (decimal start) ++ (decimal end ++ 10 ∷ [])))) }
     ensures err { OnErr result (GrewByPart (K.written sink.old) (K.written sink.new) (field name.now ++ (field (decimal start) ++ (decimal end ++ 10 ∷ [])))) }
@@ -38,7 +37,7 @@ fn put_slot<K: Sink>(sink: &mut K, name: &[u8], start: Tick, end: Tick) -> Resul
 }
 
 /// Writes the line of a task.
-#[tactic(auto, using(crate::proofs::PieceLemmas::cut_in_first, crate::proofs::PieceLemmas::cut_in_second, crate::proofs::PieceLemmas::whole_pair))]
+#[tactic(auto, using(qc_io::proofs::Pieces::part_of_first, qc_io::proofs::Pieces::part_of_second, qc_io::proofs::Pieces::whole_pair))]
 fn put_line<K: Sink>(
     inst: &Instance,
     task: &Task,
@@ -81,7 +80,7 @@ fn put_lines<K: Sink>(inst: &Instance, sched: &Schedule, sink: &mut K) -> Result
 
 /// Writes the plan file of a schedule: the header, and for each task in task order its name, its
 /// crane's name, its start and its end in ticks.
-#[tactic(auto, using(crate::proofs::PieceLemmas::cut_in_first, crate::proofs::PieceLemmas::cut_in_second, crate::proofs::PieceLemmas::whole_pair))]
+#[tactic(auto, using(qc_io::proofs::Pieces::part_of_first, qc_io::proofs::Pieces::part_of_second, qc_io::proofs::Pieces::whole_pair))]
 pub(crate) fn write_plan<K: Sink>(
     inst: &Instance,
     sched: &Schedule,

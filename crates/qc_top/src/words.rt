@@ -9,6 +9,8 @@ use itoa::Buffer;
 pub enum Request {
     /// A plan, with the default number of branchings.
     Plan,
+    /// The tasks.
+    Tasks,
     /// A form of a command that isn't built yet.
     Unbuilt,
     /// Words that are no command.
@@ -89,7 +91,7 @@ fn tasks_request(args: &[String]) -> Request
     match args {
         [s, w] => built_if(
             is_file_word(s.as_str()) && is_file_word(w.as_str()),
-            Request::Unbuilt,
+            Request::Tasks,
         ),
         _ => Request::Usage,
     }

@@ -4,7 +4,7 @@ use Rattle.qc_model.specs.declared.rules.Rule.{Rule}
 use Rattle.qc_model.specs.declared.rules.Rule.TheVariants.{Reach}
 use Rattle.qc_model.specs.Judge.{IsFirstBreak, rule_rank, KeepsAll}
 use Rattle.qc_model.specs.Seen.{seen, seen_schedule}
-use Rattle.qc_model.proofs.GoesLemmas.{goes_seen, breaks_seen}
+use Rattle.qc_model.proofs.GoesLemmas.{goes_seen, breaks_seen, break_range}
 use Rattle.qc_model.proofs.RuleOrder.{in_order, at_rank, rank_at, rank_below}
 use Rattle.qc_model.proofs.rules.first_break.Goals as goal
 
@@ -41,3 +41,6 @@ returns-clause-goes c =
     let a = c.args in
     let k = λ (rule : Rule). let r = rank_below rule in c.loop-rule.invariant rule (omega arith) in
     (λ e. goes_seen a.inst.now a.sched.now a.way c.tasks.ensures.valid c.requires k, λ g. refl)
+
+pub returns-in-Some-clause-range : goal.returns-in-Some-clause-range
+returns-in-Some-clause-range c = break_range c.args.inst.now c.args.sched.now c.args.way _ (first_is c)

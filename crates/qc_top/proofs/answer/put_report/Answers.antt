@@ -23,3 +23,15 @@ returns-in-Unbuilt-clause-ok g c = rw c.in-Unbuilt.is c.put_all-in-Unbuilt.ensur
 
 pub returns-in-Unbuilt-clause-err : goal.returns-in-Unbuilt-clause-err
 returns-in-Unbuilt-clause-err g c = rw c.in-Unbuilt.is c.put_all-in-Unbuilt.ensures.err
+
+pub returns-in-Usage-clause-ok : goal.returns-in-Usage-clause-ok
+returns-in-Usage-clause-ok g c = rw c.in-Usage.is c.put_all.ensures.ok
+
+pub returns-in-Usage-clause-err : goal.returns-in-Usage-clause-err
+returns-in-Usage-clause-err g c = rw c.in-Usage.is c.put_all.ensures.err
+
+pub returns-in-Tasks-clause-ok : goal.returns-in-Tasks-clause-ok
+returns-in-Tasks-clause-ok g c = rw c.in-Tasks.is c.write_tasks.ensures.ok
+
+pub returns-in-Tasks-clause-err : goal.returns-in-Tasks-clause-err
+returns-in-Tasks-clause-err g c = rw c.in-Tasks.is c.write_tasks.ensures.err

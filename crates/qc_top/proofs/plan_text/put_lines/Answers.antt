@@ -2,7 +2,7 @@ use Rattle.std.proofs.Common.{◌≡◌, ◌≤◌, ◌<◌, ◌+◌, ℕ, ◌++
 use Rattle.std.proofs.lemmas.Slice.Zip.{zip_turn, zip_end}
 use Rattle.qc_model.specs.declared.task.Task.{Task}
 use Rattle.qc_model.specs.declared.schedule.Slot.{Slot}
-use Rattle.qc_top.proofs.PieceLemmas.{on_err, on_ok}
+use Rattle.qc_io.proofs.Pieces.{on_err}
 use Rattle.qc_top.proofs.PlanLines.{LinesSoFar, lines_more, lines_cut, lines_whole}
 use Rattle.qc_top.proofs.plan_text.put_lines.Goals as goal
 

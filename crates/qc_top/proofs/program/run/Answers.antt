@@ -1,6 +1,6 @@
 use Rattle.qc_top.specs.Words.{texts}
 use Rattle.qc_top.specs.Run.{Stand, Runs}
-use Rattle.qc_top.proofs.RunLemmas.{optimal_run, run_stays, run_rose, run_usage, run_no_command, run_complete}
+use Rattle.qc_top.proofs.RunLemmas.{optimal_run, run_stays, run_rose, run_usage, run_no_command, run_complete, tasks_run}
 use Rattle.qc_top.proofs.program.run.Goals as goal
 
 pub returns-clause-optimal : goal.returns-clause-optimal
@@ -43,4 +43,11 @@ returns-clause-complete g c =
     let before : Stand = record { files = g.S.Shelf.files c.args.shelf.now; faults = g.S.Sink.faults c.args.shelf.now; read_faults = g.S.Shelf.read_faults c.args.shelf.now } in
     let after : Stand = record { files = g.S.Shelf.files c.serve-answer.new.shelf; faults = g.S.Sink.faults c.serve-answer.new.shelf; read_faults = g.S.Shelf.read_faults c.serve-answer.new.shelf } in
     run_complete (texts c.args.words.now) before after (g.K.Sink.written c.args.out.now) (g.K.Sink.written c.report.new.out) (g.K.Sink.faults c.args.out.now) (g.K.Sink.faults c.report.new.out) c.report.result
+    (record { answer = c.serve-answer.result; serves = c.serve-answer.ensures.serves; reports = c.report.ensures.reports })
+
+pub returns-clause-tasks : goal.returns-clause-tasks
+returns-clause-tasks g c =
+    let before : Stand = record { files = g.S.Shelf.files c.args.shelf.now; faults = g.S.Sink.faults c.args.shelf.now; read_faults = g.S.Shelf.read_faults c.args.shelf.now } in
+    let after : Stand = record { files = g.S.Shelf.files c.serve-answer.new.shelf; faults = g.S.Sink.faults c.serve-answer.new.shelf; read_faults = g.S.Shelf.read_faults c.serve-answer.new.shelf } in
+    tasks_run (texts c.args.words.now) before after (g.K.Sink.written c.args.out.now) (g.K.Sink.written c.report.new.out) (g.K.Sink.faults c.args.out.now) (g.K.Sink.faults c.report.new.out) c.report.result
     (record { answer = c.serve-answer.result; serves = c.serve-answer.ensures.serves; reports = c.report.ensures.reports })

@@ -1,0 +1,7 @@
+pub mod Loops
+pub mod Restows
+pub mod Lists
+pub mod TaskFacts
+pub mod WorkFacts
+pub mod PairFacts
+pub mod ValidInstance

@@ -1,0 +1,47 @@
+use Rattle.std.proofs.Common.{◌≡◌, ◌≤◌, ◌∙◌, List, length, sym, ap, subst, arith, to_z, of_z, w32, pos, ◌+ℤ◌}
+use Rattle.std.proofs.lemmas.Int.{ints}
+use Rattle.qc_model.specs.Bays.{at_least_zero}
+use Rattle.qc_model.specs.Instance.{Valid}
+use Rattle.qc_stow.specs.declared.row.Row.{Row}
+use Rattle.qc_ship.specs.Ship.{greatest_place}
+use Rattle.qc_tasks.specs.InstanceOf.{apart_of, before_of, tasks_of}
+use Rattle.qc_tasks.proofs.TaskFacts.{few_tasks}
+use Rattle.qc_tasks.proofs.ValidInstance.{bays_high, gap_high, same_instance, valid_instance}
+use Rattle.qc_tasks.proofs.instance.tasks_of.Goals as goal
+
+pub before_of-requires : goal.before_of-requires
+before_of-requires c =
+    let tasks : c.in_ok-tasks.tasks.items ≡ tasks_of c.args.ship.now c.rows-rows.result.now = c.in_ok-tasks.ensures in
+    rw (c.as_slice.ensures.value, tasks) (few_tasks c.args.ship.now c.cranes.ensures.ship c.rows-rows.result.now)
+
+pub pairs_apart-requires : goal.pairs_apart-requires
+pairs_apart-requires c =
+    let tasks : c.in_ok-tasks.tasks.items ≡ tasks_of c.args.ship.now c.rows-rows.result.now = c.in_ok-tasks.ensures in
+    rw (c.as_slice-2.ensures.value, tasks) (few_tasks c.args.ship.now c.cranes.ensures.ship c.rows-rows.result.now)
+
+pub of-requires-clause-valid : goal.of-requires-clause-valid
+of-requires-clause-valid c =
+    let ship = c.args.ship.now in
+    let rows = c.args.moves.now in
+    let is = c.bays.ensures.ship in
+    let bays : to_z w32 (of_z w32 c.bays.result) ≡ pos (greatest_place ship) = omega (arith, ints, c.bays.ensures.bays, bays_high ship is) in
+    let gap : to_z w32 (of_z w32 (to_z w32 (of_z w32 c.margin.result) +ℤ pos 1)) ≡ pos ship.gap = omega (arith, ints, c.margin.ensures.margin, gap_high ship is, is.times.gap) in
+    let tasks : c.in_ok-tasks.tasks.items ≡ tasks_of ship rows = c.in_ok-tasks.ensures ∙ ap (tasks_of ship) c.rows-rows.ensures.rows in
+    let cranes : c.in_ok-cranes.cranes.items ≡ ship.cranes = c.in_ok-cranes.ensures ∙ c.cranes.ensures.cranes in
+    let before : c.in_ok-before.before.items ≡ before_of ship.ordered rows c.in_ok-tasks.tasks.items = rw (c.ordered.ensures.ordered, c.rows-rows.ensures.rows, c.as_slice.ensures.value) at c.in_ok-before.ensures in
+    let apart : c.in_ok-apart.apart.items ≡ apart_of ship.apart c.in_ok-tasks.tasks.items = rw (c.apart.ensures.apart, c.as_slice-2.ensures.value) at c.in_ok-apart.ensures in
+    let same = same_instance ship rows _ c.travel.result _ c.in_ok-tasks.tasks.items c.in_ok-cranes.cranes.items c.in_ok-before.before.items c.in_ok-apart.apart.items (ap at_least_zero bays) c.travel.ensures.travel (ap at_least_zero gap) tasks cranes before apart in
+    subst Valid (sym same) (valid_instance ship is rows c.rows-rows.ensures.moves.count)
+
+pub returns : goal.returns
+returns c =
+    let ship = c.args.ship.now in
+    let rows = c.args.moves.now in
+    let is = c.bays.ensures.ship in
+    let bays : to_z w32 (of_z w32 c.bays.result) ≡ pos (greatest_place ship) = omega (arith, ints, c.bays.ensures.bays, bays_high ship is) in
+    let gap : to_z w32 (of_z w32 (to_z w32 (of_z w32 c.margin.result) +ℤ pos 1)) ≡ pos ship.gap = omega (arith, ints, c.margin.ensures.margin, gap_high ship is, is.times.gap) in
+    let tasks : c.in_ok-tasks.tasks.items ≡ tasks_of ship rows = c.in_ok-tasks.ensures ∙ ap (tasks_of ship) c.rows-rows.ensures.rows in
+    let cranes : c.in_ok-cranes.cranes.items ≡ ship.cranes = c.in_ok-cranes.ensures ∙ c.cranes.ensures.cranes in
+    let before : c.in_ok-before.before.items ≡ before_of ship.ordered rows c.in_ok-tasks.tasks.items = rw (c.ordered.ensures.ordered, c.rows-rows.ensures.rows, c.as_slice.ensures.value) at c.in_ok-before.ensures in
+    let apart : c.in_ok-apart.apart.items ≡ apart_of ship.apart c.in_ok-tasks.tasks.items = rw (c.apart.ensures.apart, c.as_slice-2.ensures.value) at c.in_ok-apart.ensures in
+    c.of.ensures ∙ same_instance ship rows _ c.travel.result _ c.in_ok-tasks.tasks.items c.in_ok-cranes.cranes.items c.in_ok-before.before.items c.in_ok-apart.apart.items (ap at_least_zero bays) c.travel.ensures.travel (ap at_least_zero gap) tasks cranes before apart

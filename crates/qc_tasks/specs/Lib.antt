@@ -1,0 +1,3 @@
+pub mod InstanceOf
+pub mod Numbers
+pub mod TasksText
