@@ -25,9 +25,9 @@ pub item_cut :
     → GrewByPart before after (flat_map text items)
 item_cut text items i item before now after lt is whole cut =
     let parts : flat_map text items ≡ flat_map text (take i items) ++ (text item ++ flat_map text (drop (i + 1) items)) =
-        ap (flat_map text) (sym (take-append-drop i items)) ∙ flat_map-append text (take i items) (drop i items)
-        ∙ ap (λ rest. flat_map text (take i items) ++ flat_map text rest) (drop_more items i item lt)
-        ∙ ap (λ x. flat_map text (take i items) ++ (text x ++ flat_map text (drop (i + 1) items))) (sym is)
+    ap (flat_map text) (sym (take-append-drop i items)) ∙ flat_map-append text (take i items) (drop i items)
+    ∙ ap (λ rest. flat_map text (take i items) ++ flat_map text rest) (drop_more items i item lt)
+    ∙ ap (λ x. flat_map text (take i items) ++ (text x ++ flat_map text (drop (i + 1) items))) (sym is)
     in
     subst (GrewByPart before after) (sym parts)
     (part_of_second before now after (flat_map text (take i items)) _ whole (part_of_first now after (text item) _ cut))

@@ -1,7 +1,7 @@
 -- What holds of each element, and of each element and every later one, by recursion on the list.
-use Rattle.std.proofs.Common.{◌≡◌, ◌⊎◌, ℕ, zero, suc, ◌+◌, ◌*◌, ◌<◌, ◌≤◌, ◌++◌, ◌∷◌, [], Bool, true, false, cond, List, length, get_or, map, refl, sym, ap, subst, inl, inr, ◌∙◌, arith, All, AllPairs, Contains, count_by, sum_by}
+use Rattle.std.proofs.Common.{◌≡◌, ◌⊎◌, ℕ, zero, suc, ◌+◌, ◌*◌, ◌<◌, ◌≤◌, ◌++◌, ◌∷◌, [], Bool, true, false, cond, List, map, refl, sym, ap, inl, inr, ◌∙◌, arith, AllPairs, Contains, count_by, sum_by}
 use Rattle.std.specs.List.{filter, flat_map, range_with_len, zip, AllByRecursion as Each}
-use Rattle.std.proofs.lemmas.Bool.{cases_Bool, false≢true}
+use Rattle.std.proofs.lemmas.Bool.{cases_Bool}
 use Rattle.std.proofs.lemmas.List.Elements.{All-from_recursion, recursion_from_All, Contains-append_left, Contains-append_right}
 use Rattle.std.proofs.lemmas.List.Kept.{AllPairs-cons}
 use Rattle.std.proofs.lemmas.List.Sums.{sum_by-cons, sum_by-append}
@@ -59,7 +59,7 @@ each_cross : {X Y : Type 0} (R : Y → Y → Type 0) (f : X → List Y) (zs : Li
 each_cross R f zs [] p = each_from (λ a. Each (R a) []) zs (λ a. tt)
 each_cross R f zs (x ∷ xs) p =
     each_weaker (λ a. Each (R a) (f x) × Each (R a) (flat_map f xs)) (λ a. Each (R a) (f x ++ flat_map f xs)) zs (λ a h. each_append (R a) (f x) (flat_map f xs) h.0 h.1)
-      (each_both (λ a. Each (R a) (f x)) (λ a. Each (R a) (flat_map f xs)) zs p.0 (each_cross R f zs xs p.1))
+    (each_both (λ a. Each (R a) (f x)) (λ a. Each (R a) (flat_map f xs)) zs p.0 (each_cross R f zs xs p.1))
 
 pub pair_flat_map : {X Y : Type 0} (R : Y → Y → Type 0) (f : X → List Y) (xs : List X) → Each (λ x. EachPair R (f x)) xs → EachPair (λ x y. Each (λ a. Each (R a) (f y)) (f x)) xs → EachPair R (flat_map f xs)
 pair_flat_map R f [] p q = tt

@@ -1,5 +1,5 @@
 -- The tasks of restows, found move by move.
-use Rattle.std.proofs.Common.{◌≡◌, ℕ, ◌+◌, ◌<◌, ◌++◌, ◌∷◌, [], ◌&&◌, ◌||◌, Bool, true, false, cond, if◌then◌else◌, List, Bor, length, get_or, take, Option, None, Some, is_some, option_map, option_and_then, refl, sym, ap, subst, inl, inr, ◌∙◌, arith, append-nil}
+use Rattle.std.proofs.Common.{◌≡◌, ℕ, ◌+◌, ◌<◌, ◌++◌, ◌∷◌, [], ◌&&◌, ◌||◌, Bool, true, false, cond, if◌then◌else◌, List, Bor, length, get_or, take, Option, None, Some, is_some, option_map, option_and_then, refl, sym, ap, inl, inr, ◌∙◌, arith, append-nil}
 use Rattle.std.specs.List.{find, filter_map, list_any}
 use Rattle.std.specs.Map.{lookup}
 use Rattle.std.specs.Str.{bytes_eq}
@@ -11,7 +11,7 @@ use Rattle.std.proofs.lemmas.Slice.Eq.{bytes_eq-Decides}
 use Rattle.indexmap.specs.IndexMap.{insert_entry}
 use Rattle.qc_model.specs.declared.task.Task.{Task}
 use Rattle.qc_stow.specs.declared.row.Row.{Row}
-use Rattle.qc_tasks.specs.InstanceOf.{both, discharge_of, discharged_by, is_discharge, is_load, restow_of, same_numbers, task_with}
+use Rattle.qc_tasks.specs.InstanceOf.{both, discharge_of, is_discharge, is_load, restow_of, same_numbers, task_with}
 use Rattle.qc_tasks.specs.Numbers.{flat}
 
 module _ {X : Type 0} (p : X → Bool) where

@@ -1,26 +1,23 @@
 -- The tasks of a ship keep what the tasks of an instance keep.
-use Rattle.std.proofs.Common.{◌≡◌, ◌↔◌, ◌⊎◌, ℕ, zero, suc, ◌+◌, ◌-◌, ◌*◌, ◌%◌, ◌<◌, ◌≤◌, ◌++◌, ◌∷◌, ◌==◌, ◌&&◌, [], Bool, true, false, cond, List, length, get_or, map, min, refl, sym, ap, subst, inl, inr, ◌∙◌, arith, All, AllPairs, count_by, sum_by, pos, ◌≤ℤ◌, ◌<ℤ◌}
+use Rattle.std.proofs.Common.{◌≡◌, ◌⊎◌, ℕ, ◌+◌, ◌*◌, ◌%◌, ◌<◌, ◌≤◌, ◌==◌, true, false, cond, List, length, refl, sym, ap, inl, inr, ◌∙◌, arith, count_by, sum_by, pos, ◌<ℤ◌}
 use Rattle.std.specs.List.{flat_map, zip, AllByRecursion as Each}
-use Rattle.std.specs.Prelude.{slice_index, nat_le, nat_eq}
+use Rattle.std.specs.Prelude.{nat_eq}
 use Rattle.std.proofs.Math.Nat.{mul-le-mul_left}
-use Rattle.std.proofs.lemmas.Bool.{cases_Bool, cases_lt}
+use Rattle.std.proofs.lemmas.Bool.{cases_Bool}
 use Rattle.std.proofs.lemmas.Bool.Decides.{nat_tests}
 use Rattle.std.proofs.lemmas.Int.{ints}
-use Rattle.std.proofs.lemmas.List.{get_or_default}
 use Rattle.std.proofs.lemmas.List.Concat.{length-flat_map}
-use Rattle.std.proofs.lemmas.List.Elements.{All-from_recursion, recursion_from_All}
-use Rattle.std.proofs.lemmas.List.Sums.{sum_by-cons, sum_by-le, count_by-le-length}
+use Rattle.std.proofs.lemmas.List.Elements.{All-from_recursion}
+use Rattle.std.proofs.lemmas.List.Sums.{sum_by-le, count_by-le-length}
 use Rattle.std.proofs.lemmas.Slice.Zip.{length-zip}
 use Rattle.qc_model.specs.declared.task.Phase.{Phase}
 use Rattle.qc_model.specs.declared.task.Phase.TheVariants.{DeckOut, HoldOut, HoldIn, DeckIn}
 use Rattle.qc_model.specs.declared.task.Task.{Task}
 use Rattle.qc_model.specs.Tasks.{phase_rank, task_rank}
-use Rattle.qc_model.specs.Instance.{IsFrom, no_task}
-use Rattle.qc_ship.specs.Ship.{ShipView, IsShip, HasTimes, takes, lowest_bay, highest_bay, greatest_place}
-use Rattle.qc_cell.specs.Cells.{is_on_deck}
+use Rattle.qc_ship.specs.Ship.{ShipView, IsShip, HasTimes, lowest_bay, highest_bay}
 use Rattle.qc_stow.specs.declared.row.Row.{Row}
-use Rattle.qc_tasks.specs.InstanceOf.{is_move_at, moves_at, phase_with, phases, tasks_at, tasks_of, ticks_in}
-use Rattle.qc_tasks.proofs.Lists.{EachPair, each_from, each_weaker, each_flat_map, each_zip, pair_weaker, pair_flat_map, pair_zip, pairs_from_index, sum_by-flat_map, sum_by-each, sum_by-plus, sum_by-same, count_none, count_one, count_four}
+use Rattle.qc_tasks.specs.InstanceOf.{moves_at, phases, tasks_at, tasks_of, ticks_in}
+use Rattle.qc_tasks.proofs.Lists.{EachPair, each_from, each_weaker, each_flat_map, pair_weaker, pair_flat_map, pair_zip, pairs_from_index, sum_by-flat_map, sum_by-each, count_none, count_one, count_four}
 
 -- a hatch with its place lies behind another
 abbrev pub Behind : ℕ × ℕ → ℕ × ℕ → Type 0
@@ -29,7 +26,7 @@ Behind g h = (highest_bay g.0 < lowest_bay h.0) × (g.1 < h.1)
 pub hatches_behind : (ship : ShipView) → IsShip ship → EachPair Behind (zip ship.hatches ship.places)
 hatches_behind ship is =
     pair_zip (λ g h. highest_bay g < lowest_bay h) (λ p q. p < q) ship.hatches ship.places
-      (pairs_from_index (λ g h. highest_bay g < lowest_bay h) ship.hatches is.hatches.order) (pairs_from_index (λ p q. p < q) ship.places is.places.order)
+    (pairs_from_index (λ g h. highest_bay g < lowest_bay h) ship.hatches is.hatches.order) (pairs_from_index (λ p q. p < q) ship.places is.places.order)
 
 bays_around : (h : ℕ) → (lowest_bay h ≤ h) × (h ≤ highest_bay h)
 bays_around h = elim (cases_Bool (nat_eq (h % 2) 0)) [
@@ -95,7 +92,6 @@ phases_rise : EachPair (λ p q. phase_rank p < phase_rank q) phases
 phases_rise = ((omega arith, (omega arith, (omega arith, tt))), ((omega arith, (omega arith, tt)), ((omega arith, tt), (tt, tt))))
 
 module _ (ship : ShipView) (is : IsShip ship) (rows : List Row) where
-
   tasks_at_are : (h : ℕ × ℕ) (phase : Phase) → Each (IsTaskIn h.0 h.1 phase) (tasks_at ship rows h.0 h.1 phase)
   tasks_at_are h phase = elim (cases_Bool (nat_eq (moves_at rows h.0 phase) 0)) [
     | inl none ↦ rw none tt
@@ -123,34 +119,39 @@ module _ (ship : ShipView) (is : IsShip ship) (rows : List Row) where
   pub hatch_are : (h : ℕ × ℕ) → Each (IsTaskAt h) (flat_map (tasks_at ship rows h.0 h.1) phases)
   hatch_are h =
       each_flat_map (IsTaskAt h) (tasks_at ship rows h.0 h.1) phases
-        (each_from (λ p. Each (IsTaskAt h) (tasks_at ship rows h.0 h.1 p)) phases
-          (λ p. each_weaker (IsTaskIn h.0 h.1 p) (IsTaskAt h) (tasks_at ship rows h.0 h.1 p) (λ t it. record { hatch_is = it.hatch_is; bay_is = it.bay_is; ticks = it.ticks }) (tasks_at_are h p)))
+      (each_from (λ p. Each (IsTaskAt h) (tasks_at ship rows h.0 h.1 p)) phases
+      (λ p. each_weaker (IsTaskIn h.0 h.1 p) (IsTaskAt h) (tasks_at ship rows h.0 h.1 p) (λ t it. record { hatch_is = it.hatch_is; bay_is = it.bay_is; ticks = it.ticks }) (tasks_at_are h p)))
 
   hatch_follow : (h : ℕ × ℕ) → EachPair Follows (flat_map (tasks_at ship rows h.0 h.1) phases)
   hatch_follow h =
       pair_flat_map Follows (tasks_at ship rows h.0 h.1) phases (each_from (λ p. EachPair Follows (tasks_at ship rows h.0 h.1 p)) phases (one_follows h))
-        (pair_weaker (λ p q. phase_rank p < phase_rank q) (λ p q. Each (λ t. Each (Follows t) (tasks_at ship rows h.0 h.1 q)) (tasks_at ship rows h.0 h.1 p)) phases
-          (λ p q lt. each_weaker (IsTaskIn h.0 h.1 p) (λ t. Each (Follows t) (tasks_at ship rows h.0 h.1 q)) (tasks_at ship rows h.0 h.1 p)
-            (λ t it. each_weaker (IsTaskIn h.0 h.1 q) (Follows t) (tasks_at ship rows h.0 h.1 q) (λ u iu. follows_phase h.0 h.1 p q t u it iu lt) (tasks_at_are h q)) (tasks_at_are h p))
-          phases_rise)
+      (pair_weaker (λ p q. phase_rank p < phase_rank q) (λ p q. Each (λ t. Each (Follows t) (tasks_at ship rows h.0 h.1 q)) (tasks_at ship rows h.0 h.1 p)) phases
+      (λ p q lt. each_weaker (IsTaskIn h.0 h.1 p) (λ t. Each (Follows t) (tasks_at ship rows h.0 h.1 q)) (tasks_at ship rows h.0 h.1 p)
+      (λ t it. each_weaker (IsTaskIn h.0 h.1 q) (Follows t) (tasks_at ship rows h.0 h.1 q) (λ u iu. follows_phase h.0 h.1 p q t u it iu lt) (tasks_at_are h q)) (tasks_at_are h p))
+      phases_rise)
 
   -- the tasks are in order
   pub all_follow : EachPair Follows (tasks_of ship rows)
   all_follow =
       pair_flat_map Follows (λ h. flat_map (tasks_at ship rows h.0 h.1) phases) (zip ship.hatches ship.places)
-        (each_from (λ h. EachPair Follows (flat_map (tasks_at ship rows h.0 h.1) phases)) (zip ship.hatches ship.places) hatch_follow)
-        (pair_weaker Behind (λ g h. Each (λ t. Each (Follows t) (flat_map (tasks_at ship rows h.0 h.1) phases)) (flat_map (tasks_at ship rows g.0 g.1) phases)) (zip ship.hatches ship.places)
-          (λ g h behind. each_weaker (IsTaskAt g) (λ t. Each (Follows t) (flat_map (tasks_at ship rows h.0 h.1) phases)) (flat_map (tasks_at ship rows g.0 g.1) phases)
-            (λ t it. each_weaker (IsTaskAt h) (Follows t) (flat_map (tasks_at ship rows h.0 h.1) phases) (λ u iu. follows_hatch g h t u behind it iu) (hatch_are h)) (hatch_are g))
-          (hatches_behind ship is))
+      (each_from (λ h. EachPair Follows (flat_map (tasks_at ship rows h.0 h.1) phases)) (zip ship.hatches ship.places) hatch_follow)
+      (pair_weaker Behind (λ g h. Each (λ t. Each (Follows t) (flat_map (tasks_at ship rows h.0 h.1) phases)) (flat_map (tasks_at ship rows g.0 g.1) phases)) (zip ship.hatches ship.places)
+      (λ g h behind. each_weaker (IsTaskAt g) (λ t. Each (Follows t) (flat_map (tasks_at ship rows h.0 h.1) phases)) (flat_map (tasks_at ship rows g.0 g.1) phases)
+      (λ t it. each_weaker (IsTaskAt h) (Follows t) (flat_map (tasks_at ship rows h.0 h.1) phases) (λ u iu. follows_hatch g h t u behind it iu) (hatch_are h)) (hatch_are g))
+      (hatches_behind ship is))
 
   hatch_long : (h : ℕ × ℕ) → length (flat_map (tasks_at ship rows h.0 h.1) phases) ≤ 4
   hatch_long h = omega (arith, length-flat_map (tasks_at ship rows h.0 h.1) phases, sum_by-le (λ p. length (tasks_at ship rows h.0 h.1 p)) 1 phases (All-from_recursion (λ p. length (tasks_at ship rows h.0 h.1 p) ≤ 1) phases (each_from (λ p. length (tasks_at ship rows h.0 h.1 p) ≤ 1) phases (one_long h))))
 
   pub few_tasks : length (tasks_of ship rows) ≤ 240
   few_tasks =
-      omega (arith, is.hatches.count, length-zip ship.hatches ship.places, length-flat_map (λ h. flat_map (tasks_at ship rows h.0 h.1) phases) (zip ship.hatches ship.places),
-        sum_by-le (λ h. length (flat_map (tasks_at ship rows h.0 h.1) phases)) 4 (zip ship.hatches ship.places) (All-from_recursion (λ h. length (flat_map (tasks_at ship rows h.0 h.1) phases) ≤ 4) (zip ship.hatches ship.places) (each_from (λ h. length (flat_map (tasks_at ship rows h.0 h.1) phases) ≤ 4) (zip ship.hatches ship.places) hatch_long)))
+      omega (
+        arith,
+        is.hatches.count,
+        length-zip ship.hatches ship.places,
+        length-flat_map (λ h. flat_map (tasks_at ship rows h.0 h.1) phases) (zip ship.hatches ship.places),
+        sum_by-le (λ h. length (flat_map (tasks_at ship rows h.0 h.1) phases)) 4 (zip ship.hatches ship.places) (All-from_recursion (λ h. length (flat_map (tasks_at ship rows h.0 h.1) phases) ≤ 4) (zip ship.hatches ship.places) (each_from (λ h. length (flat_map (tasks_at ship rows h.0 h.1) phases) ≤ 4) (zip ship.hatches ship.places) hatch_long)),
+      )
 
   -- at most four tasks are of one hatch
   hatch_count : (c : ℕ) (h : ℕ × ℕ) → count_by (λ (t : Task). t.hatch == c) (flat_map (tasks_at ship rows h.0 h.1) phases) ≤ cond (h.0 == c) 4 0
@@ -162,9 +163,13 @@ module _ (ship : ShipView) (is : IsShip ship) (rows : List Row) where
   pub four_tasks : (c : ℕ) → count_by (λ (t : Task). t.hatch == c) (tasks_of ship rows) ≤ 4
   four_tasks c =
       let few = count_one (λ (h : ℕ × ℕ). h.0 == c) (zip ship.hatches ship.places) (pair_weaker Behind (λ g h. (g.0 == c) ≡ true → (h.0 == c) ≡ false) (zip ship.hatches ship.places) (λ g h behind here. other_number g.0 h.0 c (lower_hatch g h behind) here) (hatches_behind ship is)) in
-      omega (arith, few, count_four (λ (h : ℕ × ℕ). h.0 == c) (zip ship.hatches ship.places),
+      omega (
+        arith,
+        few,
+        count_four (λ (h : ℕ × ℕ). h.0 == c) (zip ship.hatches ship.places),
         sum_by-flat_map (λ (t : Task). cond (t.hatch == c) 1 0) (λ h. flat_map (tasks_at ship rows h.0 h.1) phases) (zip ship.hatches ship.places),
-        sum_by-each (λ h. count_by (λ (t : Task). t.hatch == c) (flat_map (tasks_at ship rows h.0 h.1) phases)) (λ h. cond (h.0 == c) 4 0) (zip ship.hatches ship.places) (each_from (λ h. count_by (λ (t : Task). t.hatch == c) (flat_map (tasks_at ship rows h.0 h.1) phases) ≤ cond (h.0 == c) 4 0) (zip ship.hatches ship.places) (hatch_count c)))
+        sum_by-each (λ h. count_by (λ (t : Task). t.hatch == c) (flat_map (tasks_at ship rows h.0 h.1) phases)) (λ h. cond (h.0 == c) 4 0) (zip ship.hatches ship.places) (each_from (λ h. count_by (λ (t : Task). t.hatch == c) (flat_map (tasks_at ship rows h.0 h.1) phases) ≤ cond (h.0 == c) 4 0) (zip ship.hatches ship.places) (hatch_count c)),
+      )
     where
       other_number : (g h c : ℕ) → g < h → (g == c) ≡ true → (h == c) ≡ false
       other_number g h c lt here = grind (arith, nat_tests)

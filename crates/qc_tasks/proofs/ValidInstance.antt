@@ -1,20 +1,19 @@
 -- The instance of a ship and its moves is valid.
-use Rattle.std.proofs.Common.{◌≡◌, ◌≢◌, ◌↔◌, ◌⊎◌, ℕ, zero, suc, ◌+◌, ◌-◌, ◌*◌, ◌<◌, ◌≤◌, ◌++◌, ◌∷◌, ◌==◌, ◌&&◌, ◌||◌, [], Bool, true, false, cond, List, length, get_or, min, max, Option, Some, None, option_and_then, refl, sym, ap, subst, inl, inr, ◌∙◌, arith, All, AllPairs, Contains, sum_by, pos, negsuc, ◌≤ℤ◌, ◌<ℤ◌, ◌+ℤ◌, ◌-ℤ◌}
-use Rattle.std.specs.List.{cons_option, filter_map, find, flat_map, list_any, position, range_with_len, zip, AllByRecursion as Each}
-use Rattle.std.specs.Prelude.{slice_index, nat_lt}
+use Rattle.std.proofs.Common.{◌≡◌, ◌≢◌, ◌↔◌, ◌⊎◌, ℕ, ◌+◌, ◌-◌, ◌<◌, ◌≤◌, ◌∷◌, ◌==◌, ◌&&◌, ◌||◌, [], Bool, true, false, List, length, get_or, min, max, Option, Some, None, option_and_then, refl, sym, ap, inl, inr, ◌∙◌, arith, AllPairs, Contains, pos}
+use Rattle.std.specs.List.{cons_option, filter_map, find, flat_map, list_any, zip, AllByRecursion as Each}
+use Rattle.std.specs.Prelude.{nat_lt}
 use Rattle.std.specs.Str.{bytes_eq}
 use Rattle.std.proofs.lemmas.Bool.{cases_Bool, cases_lt}
-use Rattle.std.proofs.lemmas.Bool.Decides.{nat_tests, Decides-eqb, Decides-ltb}
+use Rattle.std.proofs.lemmas.Bool.Decides.{Decides-eqb, Decides-ltb}
 use Rattle.std.proofs.lemmas.Int.{ints}
 use Rattle.std.proofs.lemmas.List.{get_or_default}
 use Rattle.std.proofs.lemmas.List.Elements.{All-from_recursion, recursion_from_All}
-use Rattle.std.proofs.lemmas.List.FromFn.{length-range_with_len, get_or-range_with_len}
+use Rattle.std.proofs.lemmas.List.FromFn.{get_or-range_with_len}
 use Rattle.std.proofs.lemmas.List.Quantifiers.{position-Some}
-use Rattle.qc_model.specs.declared.task.Phase.{Phase}
 use Rattle.qc_model.specs.declared.task.Task.{Task}
 use Rattle.qc_model.specs.declared.crane.Crane.{Crane}
 use Rattle.qc_model.specs.declared.pair.Pair.{Pair}
-use Rattle.qc_model.specs.Tasks.{phase_rank, task_rank}
+use Rattle.qc_model.specs.Tasks.{phase_rank}
 use Rattle.qc_model.specs.Instance.{InstanceView, HasBayLimits, HasPlaceLimits, HasValidTasks, HasValidCranes, HasValidBefore, HasValidApart, IsFrom, IsPath, Valid, no_crane, no_task, pair_of}
 use Rattle.qc_ship.specs.declared.ship.HatchPair.{HatchPair}
 use Rattle.qc_ship.specs.Ship.{ShipView, IsShip, greatest_place}
@@ -23,7 +22,7 @@ use Rattle.qc_stow.specs.declared.row.Move.{Move}
 use Rattle.qc_stow.specs.declared.row.Move.TheVariants.{Discharge, Load}
 use Rattle.qc_stow.specs.declared.row.Row.{Row}
 use Rattle.qc_tasks.specs.InstanceOf.{apart_of, before_of, both, discharge_of, discharged_by, instance_of, is_apart, is_before, is_discharge, is_earlier_phase, is_load, is_move_of, is_restow, names_both, pairs_with, phase_with, phases, restow_of, restows, same_numbers, task_at, task_with, tasks_at, tasks_of}
-use Rattle.qc_tasks.proofs.Lists.{EachPair, each_from, each_weaker, each_flat_map, each_zip, pairs_by_index}
+use Rattle.qc_tasks.proofs.Lists.{each_from, each_weaker, each_flat_map, each_zip, pairs_by_index}
 use Rattle.qc_tasks.proofs.TaskFacts.{Follows, IsTaskAt, all_follow, few_tasks, four_tasks, hatch_are}
 use Rattle.qc_tasks.proofs.WorkFacts.{all_work}
 use Rattle.qc_tasks.proofs.PairFacts.{few_apart, pairs_have, pairs_pass, pairs_sorted}
@@ -90,7 +89,7 @@ bays_counted : (ship : ShipView) → IsShip ship → ship.in_decimetres ≡ fals
 bays_counted ship is counted =
     let last : length ship.hatches - 1 < length ship.hatches = omega (arith, is.hatches.count) in
     let e : greatest_place ship ≡ 1 + (length ship.hatches - 1) =
-        ap (λ n. get_or ship.places (n - 1) 0) is.places.count ∙ ap (λ (ps : List ℕ). get_or ps (length ship.hatches - 1) 0) (is.places.counted counted) ∙ get_or-range_with_len 1 (length ship.hatches) (length ship.hatches - 1) 0 last in
+    ap (λ n. get_or ship.places (n - 1) 0) is.places.count ∙ ap (λ (ps : List ℕ). get_or ps (length ship.hatches - 1) 0) (is.places.counted counted) ∙ get_or-range_with_len 1 (length ship.hatches) (length ship.hatches - 1) 0 last in
     omega (arith, e, is.hatches.count)
 
 module _ (ship : ShipView) (is : IsShip ship) (rows : List Row) where
@@ -119,17 +118,17 @@ module _ (ship : ShipView) (is : IsShip ship) (rows : List Row) where
   tasks_within : Each (λ (t : Task). IsFrom (pos 1) (pos (greatest_place ship)) t.bay) (tasks_of ship rows)
   tasks_within =
       each_flat_map (λ (t : Task). IsFrom (pos 1) (pos (greatest_place ship)) t.bay) (λ h. flat_map (tasks_at ship rows h.0 h.1) phases) (zip ship.hatches ship.places)
-        (each_weaker (λ (h : ℕ × ℕ). Unit {0} × ((1 ≤ h.1) × (h.1 ≤ greatest_place ship))) (λ h. Each (λ (t : Task). IsFrom (pos 1) (pos (greatest_place ship)) t.bay) (flat_map (tasks_at ship rows h.0 h.1) phases)) (zip ship.hatches ship.places)
-          (λ h within. each_weaker (IsTaskAt h) (λ (t : Task). IsFrom (pos 1) (pos (greatest_place ship)) t.bay) (flat_map (tasks_at ship rows h.0 h.1) phases)
-            (λ t it. (omega (arith, ints, it.bay_is, within.1), omega (arith, ints, it.bay_is, within.1))) (hatch_are ship is rows h))
-          (each_zip (λ _. Unit {0}) (λ p. (1 ≤ p) × (p ≤ greatest_place ship)) ship.hatches ship.places (each_from (λ _. Unit {0}) ship.hatches (λ _. tt))
-            (recursion_from_All (λ p. (1 ≤ p) × (p ≤ greatest_place ship)) ship.places (λ k d lt. ((is.places.range k d lt).0, last_greatest ship is k d lt)))))
+      (each_weaker (λ (h : ℕ × ℕ). Unit {0} × ((1 ≤ h.1) × (h.1 ≤ greatest_place ship))) (λ h. Each (λ (t : Task). IsFrom (pos 1) (pos (greatest_place ship)) t.bay) (flat_map (tasks_at ship rows h.0 h.1) phases)) (zip ship.hatches ship.places)
+      (λ h within. each_weaker (IsTaskAt h) (λ (t : Task). IsFrom (pos 1) (pos (greatest_place ship)) t.bay) (flat_map (tasks_at ship rows h.0 h.1) phases)
+      (λ t it. (omega (arith, ints, it.bay_is, within.1), omega (arith, ints, it.bay_is, within.1))) (hatch_are ship is rows h))
+      (each_zip (λ _. Unit {0}) (λ p. (1 ≤ p) × (p ≤ greatest_place ship)) ship.hatches ship.places (each_from (λ _. Unit {0}) ship.hatches (λ _. tt))
+      (recursion_from_All (λ p. (1 ≤ p) × (p ≤ greatest_place ship)) ship.places (λ k d lt. ((is.places.range k d lt).0, last_greatest ship is k d lt)))))
 
   tasks_last : Each (λ (t : Task). 1 ≤ t.ticks) (tasks_of ship rows)
   tasks_last =
       each_flat_map (λ (t : Task). 1 ≤ t.ticks) (λ h. flat_map (tasks_at ship rows h.0 h.1) phases) (zip ship.hatches ship.places)
-        (each_from (λ h. Each (λ (t : Task). 1 ≤ t.ticks) (flat_map (tasks_at ship rows h.0 h.1) phases)) (zip ship.hatches ship.places)
-          (λ h. each_weaker (IsTaskAt h) (λ (t : Task). 1 ≤ t.ticks) (flat_map (tasks_at ship rows h.0 h.1) phases) (λ t it. it.ticks) (hatch_are ship is rows h)))
+      (each_from (λ h. Each (λ (t : Task). 1 ≤ t.ticks) (flat_map (tasks_at ship rows h.0 h.1) phases)) (zip ship.hatches ship.places)
+      (λ h. each_weaker (IsTaskAt h) (λ (t : Task). 1 ≤ t.ticks) (flat_map (tasks_at ship rows h.0 h.1) phases) (λ t it. it.ticks) (hatch_are ship is rows h)))
 
   follow : AllPairs Follows (tasks_of ship rows)
   follow = pairs_by_index Follows (tasks_of ship rows) (all_follow ship is rows)
@@ -223,7 +222,7 @@ module _ (ship : ShipView) (is : IsShip ship) (rows : List Row) where
   restows_rise : (tasks : List Task) (i j : ℕ) → is_restow tasks rows i j ≡ true → phase_rank (task_at tasks i).phase < phase_rank (task_at tasks j).phase
   restows_rise tasks i j e =
       let found = any_each (λ (q : ℕ × ℕ). phase_rank (task_at tasks q.0).phase < phase_rank (task_at tasks q.1).phase) (same_numbers (i, j)) (restows tasks rows)
-        (each_filter_map (λ (q : ℕ × ℕ). phase_rank (task_at tasks q.0).phase < phase_rank (task_at tasks q.1).phase) (restow_of tasks rows) rows (restow_rises tasks)) e in
+      (each_filter_map (λ (q : ℕ × ℕ). phase_rank (task_at tasks q.0).phase < phase_rank (task_at tasks q.1).phase) (restow_of tasks rows) rows (restow_rises tasks)) e in
       let parts = and_both _ _ found.1.1 in
       let first : i ≡ found.0.0 = (Decides-eqb i found.0.0).0 parts.0 in
       let second : j ≡ found.0.1 = (Decides-eqb j found.0.1).0 parts.1 in
@@ -250,13 +249,14 @@ module _ (ship : ShipView) (is : IsShip ship) (rows : List Row) where
     where
       tasks : List Task
       tasks = tasks_of ship rows
+
       test : ℕ → ℕ → Bool
       test = is_before (λ i j. ship.ordered && is_restow (tasks_of ship rows) rows i j) (tasks_of ship rows)
 
   apart_hatches : (tasks : List Task) (i j : ℕ) → is_apart ship.apart tasks i j ≡ true → (task_at tasks i).hatch < (task_at tasks j).hatch
   apart_hatches tasks i j e =
       let found = any_each (λ (pair : HatchPair). Contains ship.hatches pair.a × Contains ship.hatches pair.b × (pair.a ≢ pair.b)) (names_both (task_at tasks i) (task_at tasks j)) ship.apart
-        (recursion_from_All (λ (pair : HatchPair). Contains ship.hatches pair.a × Contains ship.hatches pair.b × (pair.a ≢ pair.b)) ship.apart is.apart.hatches) e in
+      (recursion_from_All (λ (pair : HatchPair). Contains ship.hatches pair.a × Contains ship.hatches pair.b × (pair.a ≢ pair.b)) ship.apart is.apart.hatches) e in
       let parts = and_both _ _ found.1.1 in
       let differ : found.0.a ≢ found.0.b = found.1.0.2 in
       omega (arith, differ, (Decides-eqb (task_at tasks i).hatch (min found.0.a found.0.b)).0 parts.0, (Decides-eqb (task_at tasks j).hatch (max found.0.a found.0.b)).0 parts.1)

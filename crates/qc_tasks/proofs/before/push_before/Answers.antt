@@ -1,4 +1,4 @@
-use Rattle.std.proofs.Common.{refl, sym, ◌∙◌, ap}
+use Rattle.std.proofs.Common.{refl, sym, ◌∙◌}
 use Rattle.qc_tasks.specs.InstanceOf.{is_before, same_numbers}
 use Rattle.indexmap.specs.IndexSet.{contains}
 use Rattle.qc_tasks.proofs.Loops.{pairs_yes, pairs_no}

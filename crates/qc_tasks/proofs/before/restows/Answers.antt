@@ -1,4 +1,4 @@
-use Rattle.std.proofs.Common.{◌≡◌, ◌∙◌, ◌+◌, ℕ, List, Some, None, refl, sym, ap, take}
+use Rattle.std.proofs.Common.{◌∙◌, ◌+◌, List, refl, sym, ap}
 use Rattle.std.specs.List.{filter_map, list_any}
 use Rattle.std.proofs.lemmas.List.{take_all}
 use Rattle.qc_stow.specs.declared.row.Row.{Row}

@@ -1,8 +1,7 @@
-use Rattle.std.proofs.Common.{◌≡◌, ◌≤◌, ◌∙◌, List, length, sym, ap, subst, arith, to_z, of_z, w32, pos, ◌+ℤ◌}
+use Rattle.std.proofs.Common.{◌≡◌, ◌∙◌, sym, ap, subst, arith, to_z, of_z, w32, pos, ◌+ℤ◌}
 use Rattle.std.proofs.lemmas.Int.{ints}
 use Rattle.qc_model.specs.Bays.{at_least_zero}
 use Rattle.qc_model.specs.Instance.{Valid}
-use Rattle.qc_stow.specs.declared.row.Row.{Row}
 use Rattle.qc_ship.specs.Ship.{greatest_place}
 use Rattle.qc_tasks.specs.InstanceOf.{apart_of, before_of, tasks_of}
 use Rattle.qc_tasks.proofs.TaskFacts.{few_tasks}
