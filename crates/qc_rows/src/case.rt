@@ -1,0 +1,76 @@
+use crate::wanted::Wanted;
+use std::alloc::Global;
+
+/// A file that is on the shelf before the run.
+#[derive(Drop)]
+pub struct Named {
+    pub name: String,
+    pub bytes: Vec<u8>,
+}
+
+/// What a run is given a sink or a shelf for.
+#[derive(Clone, Copy, Debug, PartialEq, Eq)]
+pub enum Store {
+    Shelf,
+    Sink,
+}
+
+/// The call of a store that is to fail, counted from 1.
+#[derive(Clone, Copy, Debug, PartialEq, Eq)]
+pub struct Failure {
+    pub store: Store,
+    pub call: u64,
+}
+
+/// What a run is given.
+#[derive(Drop)]
+pub struct Given {
+    /// The words of the command line, and none where the case doesn't say them yet.
+    pub words: Option<Vec<String>>,
+    pub files: Vec<Named>,
+    pub failures: Vec<Failure>,
+    /// The store whose calls fail one after the other, each in a run of its own.
+    pub sweep: Option<Store>,
+    /// The most bytes that a call of the shelf takes or gives.
+    pub pieces: Option<usize>,
+}
+
+/// What a file must be after a run.
+#[derive(Drop)]
+pub struct WantedFile {
+    pub name: String,
+    pub wanted: Wanted,
+}
+
+/// What must come back from a run.
+#[derive(Drop)]
+pub struct Outcome {
+    pub status: u8,
+    /// The bytes on the sink, and none where the case doesn't say them yet.
+    pub report: Option<Wanted>,
+    pub files: Vec<WantedFile>,
+}
+
+/// What a run is given and what must come back: one of the outcomes. In a sweep the outcomes come in
+/// order, each in one run or more, and the last one in the first run without a failure.
+#[derive(Drop)]
+pub struct Case {
+    pub given: Given,
+    pub outcomes: Vec<Outcome>,
+}
+
+impl Case {
+    /// A case that says nothing yet.
+    pub fn new(alloc: Global) -> Case {
+        Case {
+            given: Given {
+                words: None,
+                files: Vec::new(alloc),
+                failures: Vec::new(alloc),
+                sweep: None,
+                pieces: None,
+            },
+            outcomes: Vec::new(alloc),
+        }
+    }
+}

@@ -1,0 +1,126 @@
+// What came back in place of what, as text.
+
+use crate::case::{Outcome, WantedFile};
+use crate::judge::Ran;
+use crate::wanted::{Wanted, is_met};
+use std::alloc::{AllocError, Global};
+
+// How many bytes are shown at most, and how many stand before the first difference.
+const SHOWN: usize = 120;
+
+const BEFORE: usize = 20;
+
+fn add_byte(alloc: Global, text: &mut String, byte: u8) -> Result<(), AllocError> {
+    match byte {
+        b'\n' => text.push_str("\\n"),
+        b'"' | b'\\' => {
+            text.push('\\')?;
+            text.push(char::from(byte))
+        }
+        32..=126 => text.push(char::from(byte)),
+        _ => text.push_str(format!(in alloc; "\\x{byte:02X}")?.as_str()),
+    }
+}
+
+// Some of the bytes, from a place on, in quotes.
+fn quoted(alloc: Global, bytes: &[u8], from: usize) -> Result<String, AllocError> {
+    let mut text = String::from_str(alloc, "\"")?;
+    for byte in bytes.iter().skip(from).take(SHOWN) {
+        add_byte(alloc, &mut text, *byte)?;
+    }
+    text.push('"')?;
+    let count = bytes.len();
+    if from > 0 || count > SHOWN {
+        text.push_str(format!(in alloc; " from byte {from} of {count}")?.as_str())?;
+    }
+    Ok(text)
+}
+
+// Where to begin to show bytes that are compared: shortly before they differ.
+fn start(wanted: &[u8], got: &[u8]) -> usize {
+    let same = wanted
+        .iter()
+        .zip(got)
+        .take_while(|(wanted, got)| wanted == got)
+        .count();
+    same.saturating_sub(BEFORE)
+}
+
+// What was wanted and what came, `None` standing for no such file.
+fn compared(alloc: Global, wanted: &Wanted, got: Option<&[u8]>) -> Result<String, AllocError> {
+    let got = got.unwrap_or(&[]);
+    match wanted {
+        Wanted::Absent => {
+            let got = quoted(alloc, got, 0)?;
+            format!(in alloc; "{got} in place of no file")
+        }
+        Wanted::Any => format!(in alloc; "no file in place of any"),
+        Wanted::Whole(bytes) => {
+            let from = start(bytes.as_slice(), got);
+            let wanted = quoted(alloc, bytes.as_slice(), from)?;
+            let got = quoted(alloc, got, from)?;
+            format!(in alloc; "{got} in place of {wanted}")
+        }
+        Wanted::Front(bytes) => {
+            let from = start(bytes.as_slice(), got);
+            let wanted = quoted(alloc, bytes.as_slice(), from)?;
+            let got = quoted(alloc, got, from)?;
+            format!(in alloc; "{got} in place of a front of {wanted}")
+        }
+    }
+}
+
+fn add_part(text: &mut String, part: &str) -> Result<(), AllocError> {
+    if !text.is_empty() {
+        text.push_str("; ")?;
+    }
+    text.push_str(part)
+}
+
+fn add_file(
+    alloc: Global,
+    file: &WantedFile,
+    got: Option<&[u8]>,
+    text: &mut String,
+) -> Result<(), AllocError> {
+    let name = file.name.as_str();
+    if got.is_none() {
+        return add_part(text, format!(in alloc; "no file {name}")?.as_str());
+    }
+    let what = compared(alloc, &file.wanted, got)?;
+    add_part(text, format!(in alloc; "file {name} {what}")?.as_str())
+}
+
+fn add_report(
+    alloc: Global,
+    report: &Option<Wanted>,
+    got: &[u8],
+    text: &mut String,
+) -> Result<(), AllocError> {
+    match report {
+        Some(wanted) if !is_met(wanted, Some(got)) => {
+            let what = compared(alloc, wanted, Some(got))?;
+            add_part(text, format!(in alloc; "report {what}")?.as_str())
+        }
+        _ => Ok(()),
+    }
+}
+
+/// All in which the run differs from the outcome.
+pub fn difference(alloc: Global, outcome: &Outcome, ran: &Ran) -> Result<String, AllocError> {
+    let mut text = String::new(alloc);
+    let got = ran.status;
+    let wanted = outcome.status;
+    if got != wanted {
+        let part = format!(in alloc; "status {got} in place of {wanted}")?;
+        add_part(&mut text, part.as_str())?;
+    }
+    add_report(alloc, &outcome.report, ran.sink.bytes(), &mut text)?;
+    for file in &outcome.files {
+        let got = ran.shelf.bytes(file.name.as_str());
+        if !is_met(&file.wanted, got) {
+            add_file(alloc, file, got, &mut text)?;
+        }
+    }
+    Ok(text)
+}

@@ -1,0 +1,303 @@
+// From the blocks of a case file to a case.
+
+use crate::block::{Block, blocks_of};
+use crate::case::{Case, Failure, Given, Named, Outcome, Store, WantedFile};
+use crate::content::number;
+use crate::flaw::{Fault, Flaw};
+use crate::wanted::Wanted;
+use std::alloc::Global;
+
+// The keyword of a heading and what stands behind it.
+fn split_heading(heading: &str) -> (&str, &str) {
+    match heading.split_once(' ') {
+        Some((keyword, value)) => (keyword, value),
+        None => (heading, ""),
+    }
+}
+
+fn words_of(alloc: Global, text: &str) -> Result<Vec<String>, Flaw> {
+    let mut words = Vec::new(alloc);
+    if text.is_empty() {
+        return Ok(words);
+    }
+    for word in text.split(' ') {
+        if word.is_empty() {
+            return Err(Flaw::Value);
+        }
+        words.push(String::from_str(alloc, word)?)?;
+    }
+    Ok(words)
+}
+
+fn add_words(alloc: Global, text: &str, given: &mut Given) -> Result<(), Flaw> {
+    if given.words.is_some() {
+        return Err(Flaw::Twice);
+    }
+    let words = words_of(alloc, text)?;
+    given.words = Some(words);
+    Ok(())
+}
+
+fn add_word(alloc: Global, text: &str, given: &mut Given) -> Result<(), Flaw> {
+    match &mut given.words {
+        Some(words) => {
+            words.push(String::from_str(alloc, text)?)?;
+            Ok(())
+        }
+        None => Err(Flaw::Missing),
+    }
+}
+
+fn add_file(alloc: Global, name: &str, bytes: Vec<u8>, given: &mut Given) -> Result<(), Flaw> {
+    if name.is_empty() {
+        return Err(Flaw::Value);
+    }
+    if given.files.iter().any(|file| file.name.as_str() == name) {
+        return Err(Flaw::Twice);
+    }
+    let name = String::from_str(alloc, name)?;
+    given.files.push(Named { name, bytes })?;
+    Ok(())
+}
+
+fn store_of(text: &str) -> Option<Store> {
+    match text {
+        "shelf" => Some(Store::Shelf),
+        "sink" => Some(Store::Sink),
+        _ => None,
+    }
+}
+
+fn add_sweep(store: Store, given: &mut Given) -> Result<(), Flaw> {
+    if given.sweep.is_some() {
+        return Err(Flaw::Twice);
+    }
+    given.sweep = Some(store);
+    Ok(())
+}
+
+// A call that is to fail: the store, and the call's number or `each`.
+fn add_failure(text: &str, given: &mut Given) -> Result<(), Flaw> {
+    let Some((store, call)) = text.split_once(' ') else {
+        return Err(Flaw::Value);
+    };
+    let Some(store) = store_of(store) else {
+        return Err(Flaw::Value);
+    };
+    if call == "each" {
+        return add_sweep(store, given);
+    }
+    match number(call) {
+        Some(call) if call > 0 => {
+            given.failures.push(Failure { store, call })?;
+            Ok(())
+        }
+        _ => Err(Flaw::Value),
+    }
+}
+
+fn add_pieces(text: &str, given: &mut Given) -> Result<(), Flaw> {
+    if given.pieces.is_some() {
+        return Err(Flaw::Twice);
+    }
+    match number(text) {
+        Some(most) if most > 0 => {
+            given.pieces = Some(most as usize);
+            Ok(())
+        }
+        _ => Err(Flaw::Value),
+    }
+}
+
+fn add_given(
+    alloc: Global,
+    keyword: &str,
+    value: &str,
+    bytes: Vec<u8>,
+    given: &mut Given,
+) -> Result<(), Flaw> {
+    match keyword {
+        "words" => add_words(alloc, value, given),
+        "word" => add_word(alloc, value, given),
+        "file" => add_file(alloc, value, bytes, given),
+        "fail" => add_failure(value, given),
+        "pieces" => add_pieces(value, given),
+        _ => Err(Flaw::Heading),
+    }
+}
+
+fn add_status(alloc: Global, value: &str, outcomes: &mut Vec<Outcome>) -> Result<(), Flaw> {
+    match number(value) {
+        Some(status) if status < 256 => {
+            outcomes.push(Outcome {
+                status: status as u8,
+                report: None,
+                files: Vec::new(alloc),
+            })?;
+            Ok(())
+        }
+        _ => Err(Flaw::Value),
+    }
+}
+
+// What a heading of something wanted says of its bytes.
+fn wanted_of(keyword: &str, bytes: Vec<u8>) -> Option<Wanted> {
+    match keyword {
+        "report" | "left" => Some(Wanted::Whole(bytes)),
+        "report-front" | "left-front" => Some(Wanted::Front(bytes)),
+        "report-any" | "left-any" => Some(Wanted::Any),
+        "absent" => Some(Wanted::Absent),
+        _ => None,
+    }
+}
+
+// Whether the outcome says something of the file.
+fn is_named(files: &[WantedFile], name: &str) -> bool {
+    files.iter().any(|file| file.name.as_str() == name)
+}
+
+fn add_report(value: &str, wanted: Wanted, outcome: &mut Outcome) -> Result<(), Flaw> {
+    if !value.is_empty() {
+        return Err(Flaw::Value);
+    }
+    if outcome.report.is_some() {
+        return Err(Flaw::Twice);
+    }
+    outcome.report = Some(wanted);
+    Ok(())
+}
+
+fn add_left(
+    alloc: Global,
+    name: &str,
+    wanted: Wanted,
+    files: &mut Vec<WantedFile>,
+) -> Result<(), Flaw> {
+    if name.is_empty() {
+        return Err(Flaw::Value);
+    }
+    if is_named(files.as_slice(), name) {
+        return Err(Flaw::Twice);
+    }
+    let name = String::from_str(alloc, name)?;
+    files.push(WantedFile { name, wanted })?;
+    Ok(())
+}
+
+fn add_wanted(
+    alloc: Global,
+    keyword: &str,
+    value: &str,
+    bytes: Vec<u8>,
+    outcomes: &mut Vec<Outcome>,
+) -> Result<(), Flaw> {
+    let Some(wanted) = wanted_of(keyword, bytes) else {
+        return Err(Flaw::Heading);
+    };
+    let Some(outcome) = outcomes.last_mut() else {
+        return Err(Flaw::Early);
+    };
+    if keyword.starts_with("report") {
+        add_report(value, wanted, outcome)
+    } else {
+        add_left(alloc, value, wanted, &mut outcome.files)
+    }
+}
+
+fn takes_content(keyword: &str) -> bool {
+    match keyword {
+        "file" | "report" | "report-front" | "left" | "left-front" => true,
+        _ => false,
+    }
+}
+
+fn is_given(keyword: &str) -> bool {
+    match keyword {
+        "words" | "word" | "file" | "fail" | "pieces" => true,
+        _ => false,
+    }
+}
+
+fn add_block(alloc: Global, block: Block, case: &mut Case) -> Result<(), Flaw> {
+    let Block {
+        line: _,
+        heading,
+        bytes,
+        has_content,
+    } = block;
+    let (keyword, value) = split_heading(heading.as_str());
+    if has_content && !takes_content(keyword) {
+        return Err(Flaw::Content);
+    }
+    if is_given(keyword) {
+        if !case.outcomes.is_empty() {
+            return Err(Flaw::Late);
+        }
+        return add_given(alloc, keyword, value, bytes, &mut case.given);
+    }
+    if keyword == "status" {
+        return add_status(alloc, value, &mut case.outcomes);
+    }
+    add_wanted(alloc, keyword, value, bytes, &mut case.outcomes)
+}
+
+// A file of which the outcome says nothing is as before the run.
+fn add_kept(alloc: Global, given: &[Named], files: &mut Vec<WantedFile>) -> Result<(), Flaw> {
+    for file in given {
+        if !is_named(files.as_slice(), file.name.as_str()) {
+            let bytes = Vec::from_slice(alloc, file.bytes.as_slice())?;
+            add_left(alloc, file.name.as_str(), Wanted::Whole(bytes), files)?;
+        }
+    }
+    Ok(())
+}
+
+// A word that names no file yet names none after the run, where the outcome says nothing of it.
+fn add_absent(alloc: Global, words: &[String], files: &mut Vec<WantedFile>) -> Result<(), Flaw> {
+    for word in words {
+        if !word.is_empty() && !is_named(files.as_slice(), word.as_str()) {
+            add_left(alloc, word.as_str(), Wanted::Absent, files)?;
+        }
+    }
+    Ok(())
+}
+
+fn complete(alloc: Global, given: &Given, outcomes: &mut Vec<Outcome>) -> Result<(), Flaw> {
+    let Some(words) = &given.words else {
+        return Err(Flaw::Missing);
+    };
+    for outcome in outcomes.iter_mut() {
+        if outcome.report.is_none() {
+            return Err(Flaw::Missing);
+        }
+        add_kept(alloc, given.files.as_slice(), &mut outcome.files)?;
+        add_absent(alloc, words.as_slice(), &mut outcome.files)?;
+    }
+    Ok(())
+}
+
+/// The case that a case file tells, or its first flaw.
+pub fn read_case(alloc: Global, text: &str) -> Result<Case, Fault> {
+    let mut case = Case::new(alloc);
+    let mut last = 0;
+    for block in blocks_of(alloc, text)? {
+        last = block.line;
+        if let Err(flaw) = add_block(alloc, block, &mut case) {
+            return Err(Fault { line: last, flaw });
+        }
+    }
+    let Case {
+        given,
+        mut outcomes,
+    } = case;
+    if outcomes.is_empty() {
+        return Err(Fault {
+            line: last,
+            flaw: Flaw::Missing,
+        });
+    }
+    match complete(alloc, &given, &mut outcomes) {
+        Ok(()) => Ok(Case { given, outcomes }),
+        Err(flaw) => Err(Fault { line: last, flaw }),
+    }
+}
