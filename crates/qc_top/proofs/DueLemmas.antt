@@ -1,22 +1,19 @@
 -- What is due, step by step.
-use Rattle.std.proofs.Common.{◌≡◌, ℕ, ◌+◌, ◌≤◌, List, Option, None, Some, Result, Ok, Err, refl, sym, ap, subst, ◌∙◌, inl, inr, arith, min, true, false}
-use Rattle.std.specs.Prelude.{IfSome, IsOk, is_ok, ◌⊎◌}
+use Rattle.std.proofs.Common.{◌≡◌, ℕ, ◌≤◌, List, Option, None, Some, Result, Ok, Err, refl, ap, ◌∙◌, inl, inr, arith, true, false}
+use Rattle.std.specs.Prelude.{IfSome, is_ok}
 use Rattle.qc_io.specs.Outside.{Files, Rose, ReadCause}
 use Rattle.qc_model.specs.Instance.{InstanceView}
 use Rattle.qc_ship.specs.Ship.{ShipView}
-use Rattle.qc_ship.specs.declared.fault.ShipFault.{ShipFault}
 use Rattle.qc_ship.specs.ShipFile.{ship_file}
 use Rattle.qc_stow.specs.declared.row.Row.{Row}
-use Rattle.qc_stow.specs.declared.fault.StowFault.{StowFault}
 use Rattle.qc_stow.specs.Stow.{moves_in}
 use Rattle.qc_tasks.specs.InstanceOf.{instance_of}
-use Rattle.qc_top.specs.declared.answer.Input.{Input}
 use Rattle.qc_top.specs.declared.answer.Input.TheVariants.{Ship, Stow}
 use Rattle.qc_top.specs.declared.answer.Answer.{Answer}
 use Rattle.qc_top.specs.declared.answer.Answer.TheVariants.{Optimal, Tasks, Usage, ReadFault, TooLarge, BadShip, BadStow, WriteFault, OutOfMemory, Unbuilt}
 use Rattle.qc_top.specs.Orders.{is_small}
 use Rattle.qc_top.specs.Due.{◌>>=◌, input_due, or_bad_ship, or_bad_stow, ship_due, stow_due, instance_due, built, plan_due}
-use Rattle.qc_top.specs.Run.{Stand, IsInputRefused, IsShipRefused, IsStowRefused, IsRefused}
+use Rattle.qc_top.specs.Run.{Stand, IsShipRefused, IsStowRefused, IsRefused}
 
 -- a fact of the files in place of another
 pub if_some : {A : Type 0} (o : Option A) (P Q : A → Type 0) → ((x : A) → P x → Q x) → IfSome o P → IfSome o Q
@@ -40,9 +37,9 @@ stow_read files ship name bytes read due e =
 pub instance_read : (files : Option Files) (ship_name stow_name : List ℕ) (ship : ShipView) (rows : List Row) → IfSome files (λ held. ship_due held ship_name ≡ Ok ship) → IfSome files (λ held. stow_due held ship stow_name ≡ Ok rows) → IfSome files (λ held. instance_due held ship_name stow_name ≡ Ok (instance_of ship rows))
 instance_read files ship_name stow_name ship rows due then =
     if_some_two files _ _ _
-      (λ held (d : ship_due held ship_name ≡ Ok ship) (e : stow_due held ship stow_name ≡ Ok rows).
-        ap (λ r. r >>= λ s. stow_due held s stow_name >>= λ ms. Ok (instance_of s ms)) d ∙ ap (λ r. r >>= λ ms. Ok (instance_of ship ms)) e)
-      due then
+    (λ held (d : ship_due held ship_name ≡ Ok ship) (e : stow_due held ship stow_name ≡ Ok rows).
+    ap (λ r. r >>= λ s. stow_due held s stow_name >>= λ ms. Ok (instance_of s ms)) d ∙ ap (λ r. r >>= λ ms. Ok (instance_of ship ms)) e)
+    due then
 
 -- a refusal of the ship file is one of the instance
 ship_refusal : (files : Option Files) (ship_name stow_name : List ℕ) (a : Answer) → IfSome files (λ held. ship_due held ship_name ≡ Err a) → IfSome files (λ held. instance_due held ship_name stow_name ≡ Err a)
@@ -52,9 +49,9 @@ ship_refusal files ship_name stow_name a refused =
 stow_refusal : (files : Option Files) (ship_name stow_name : List ℕ) (ship : ShipView) (a : Answer) → IfSome files (λ held. ship_due held ship_name ≡ Ok ship) → IfSome files (λ held. stow_due held ship stow_name ≡ Err a) → IfSome files (λ held. instance_due held ship_name stow_name ≡ Err a)
 stow_refusal files ship_name stow_name ship a due refused =
     if_some_two files _ _ _
-      (λ held (d : ship_due held ship_name ≡ Ok ship) (e : stow_due held ship stow_name ≡ Err a).
-        ap (λ r. r >>= λ s. stow_due held s stow_name >>= λ ms. Ok (instance_of s ms)) d ∙ ap (λ r. r >>= λ ms. Ok (instance_of ship ms)) e)
-      due refused
+    (λ held (d : ship_due held ship_name ≡ Ok ship) (e : stow_due held ship stow_name ≡ Err a).
+    ap (λ r. r >>= λ s. stow_due held s stow_name >>= λ ms. Ok (instance_of s ms)) d ∙ ap (λ r. r >>= λ ms. Ok (instance_of ship ms)) e)
+    due refused
 
 pub ship_refused : (ship_name stow_name : List ℕ) (before after : Stand) (a : Answer) → IsShipRefused ship_name before.files before.read_faults after.read_faults a → IsRefused (λ held. instance_due held ship_name stow_name) ship_name stow_name before after a
 ship_refused s w before after (Optimal end) h = absurd h

@@ -1,5 +1,5 @@
 -- The lines of a plan file, written one after another.
-use Rattle.std.proofs.Common.{◌≡◌, ℕ, zero, suc, ◌+◌, ◌≤◌, ◌<◌, ◌++◌, List, [], ◌∷◌, length, drop, get_or, Option, refl, sym, ap, ◌∙◌, append_assoc, arith, add-one, append-nil, None, Some, subst}
+use Rattle.std.proofs.Common.{◌≡◌, ℕ, ◌+◌, ◌≤◌, ◌<◌, ◌++◌, List, [], length, drop, get_or, Option, refl, sym, ap, ◌∙◌, append_assoc, add-one, append-nil, None, Some, subst}
 use Rattle.std.proofs.lemmas.List.{drop_all}
 use Rattle.std.proofs.Math.Seq.{drop-cons}
 use Rattle.qc_io.specs.Outside.{with_piece, GrewByPart}

@@ -1,8 +1,8 @@
 -- What follows from a run's account of itself.
-use Rattle.std.proofs.Common.{◌≡◌, ◌≢◌, ℕ, ◌+◌, ◌≤◌, List, Option, None, Some, Result, Ok, Err, refl, sym, ap, ◌∙◌, subst, inl, inr, arith, min}
+use Rattle.std.proofs.Common.{◌≡◌, ◌≢◌, ℕ, List, Option, None, Some, Result, Ok, Err, refl, sym, ap, ◌∙◌, subst, inl, inr}
 use Rattle.std.specs.Prelude.{IfSome, IsSome, is_some, IsOk, is_ok, ◌⊎◌}
 use Rattle.std.specs.FinMap.{get}
-use Rattle.qc_io.specs.Outside.{Files, Rose, IsMissing, ReadCause, with_piece}
+use Rattle.qc_io.specs.Outside.{Files, Rose, ReadCause, with_piece}
 use Rattle.qc_model.specs.Instance.{InstanceView}
 use Rattle.qc_ship.specs.Ship.{ShipView}
 use Rattle.qc_top.specs.declared.answer.Input.{Input}
@@ -13,13 +13,13 @@ use Rattle.qc_top.specs.declared.words.Request.{Request}
 use Rattle.qc_top.specs.declared.words.Request.TheVariants as request
 use Rattle.qc_top.specs.declared.status.Status.{Status}
 use Rattle.qc_top.specs.declared.status.Status.TheVariants as status
-use Rattle.qc_top.specs.Answers.{status_of, report_text, Reports, IsReported, IsCut}
+use Rattle.qc_top.specs.Answers.{status_of, report_text}
 use Rattle.qc_ship.specs.ShipFile.{ship_file}
 use Rattle.qc_stow.specs.Stow.{moves_in}
 use Rattle.qc_tasks.specs.InstanceOf.{instance_of}
 use Rattle.qc_top.specs.Due.{input_due, ship_due, stow_due, instance_due, built, plan_due, within_limit, or_bad_ship, or_bad_stow, ◌>>=◌}
 use Rattle.qc_top.specs.Words.{request_of}
-use Rattle.qc_top.specs.Run.{Stand, IsBest, HoldsBest, IsRefused, Plans, Lists, Serves, Runs, IsPlanned, IsListed, IsComplete, word}
+use Rattle.qc_top.specs.Run.{Stand, HoldsBest, IsRefused, Plans, Lists, Serves, Runs, IsPlanned, IsListed, IsComplete, word}
 
 -- an optimal answer: only a plan gives it
 planned : (req : Request) (texts : List (List ℕ)) (before after : Stand) (end : ℕ) → Serves req texts before after (Optimal end) → Plans (word texts 1) (word texts 2) (word texts 3) before after (Optimal end)
@@ -59,8 +59,8 @@ optimal_run texts before after pb pa fb fa ended run is =
           let found = optimal_answer run.answer (sym whole.status ∙ is) in
           let serves = subst (Serves (request_of texts) texts before after) found.1 run.serves in
           with_report before.files pb pa (λ held. plan_due held (word texts 1) (word texts 2)) (word texts 3) after.files found.0
-            (planned (request_of texts) texts before after found.0 serves)
-            (subst (λ a. pa ≡ with_piece pb (report_text a)) found.1 whole.printed)
+          (planned (request_of texts) texts before after found.0 serves)
+          (subst (λ a. pa ≡ with_piece pb (report_text a)) found.1 whole.printed)
       | inr cut ↦ absurd (cc (cut.status, is))
     ]
 
@@ -95,8 +95,8 @@ tasks_run texts before after pb pa fb fa ended run is =
           let found = tasks_answer run.answer (sym whole.status ∙ is) in
           let serves = subst (Serves (request_of texts) texts before after) found.1 run.serves in
           with_list before.files pb pa (λ held. instance_due held (word texts 1) (word texts 2)) found.0
-            (listed (request_of texts) texts before after found.0 serves)
-            (subst (λ a. pa ≡ with_piece pb (report_text a)) found.1 whole.printed)
+          (listed (request_of texts) texts before after found.0 serves)
+          (subst (λ a. pa ≡ with_piece pb (report_text a)) found.1 whole.printed)
       | inr cut ↦ absurd (cc (cut.status, is))
     ]
 
@@ -287,7 +287,7 @@ complete_at texts held before after pb pa fb fa ended told run = record {
       elim run.reports [
         | inl whole ↦
             elim (plan_comes (word texts 1) (word texts 2) (word texts 3) before after run.answer serves
-                (due_by before.files held (λ h. IsOk (plan_due h (word texts 1) (word texts 2))) told due) (told_by before.files held told) no_write no_read) [
+            (due_by before.files held (λ h. IsOk (plan_due h (word texts 1) (word texts 2))) told due) (told_by before.files held told) no_write no_read) [
               | inl e ↦ inl (whole.status ∙ e)
               | inr e ↦ inr (whole.status ∙ e)
             ]
@@ -298,7 +298,7 @@ complete_at texts held before after pb pa fb fa ended told run = record {
       elim run.reports [
         | inl whole ↦
             elim (list_comes (word texts 1) (word texts 2) before after run.answer serves
-                (due_by before.files held (λ h. IsOk (instance_due h (word texts 1) (word texts 2))) told due) (told_by before.files held told) no_read) [
+            (due_by before.files held (λ h. IsOk (instance_due h (word texts 1) (word texts 2))) told due) (told_by before.files held told) no_read) [
               | inl e ↦ inl (whole.status ∙ e)
               | inr e ↦ inr (whole.status ∙ e)
             ]

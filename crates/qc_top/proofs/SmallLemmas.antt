@@ -1,6 +1,6 @@
 -- What the test of a small instance says.
-use Rattle.std.proofs.Common.{◌≡◌, ℕ, zero, suc, ◌≤◌, ◌<◌, Bool, true, T, subst, sym, List, [], ◌∷◌, length, refl, arith}
-use Rattle.std.specs.Prelude.{ℤ, ◌≤ℤ◌, int_le, slice_index_or}
+use Rattle.std.proofs.Common.{◌≡◌, zero, suc, ◌≤◌, true, T, subst, sym, List, [], ◌∷◌, length, refl, arith}
+use Rattle.std.specs.Prelude.{ℤ, ◌≤ℤ◌, int_le}
 use Rattle.std.specs.List.{All, list_all}
 use Rattle.std.specs.Int.Signed.{le_z_yes}
 use Rattle.std.proofs.lemmas.Bool.{and_parts, eqb-true, leb-true}

@@ -1,7 +1,7 @@
 -- What a shelf holds after a file was created on it and written through it as a sink.
-use Rattle.std.proofs.Common.{◌≡◌, ℕ, List, [], take, Option, None, Some, refl, sym, ap, ◌∙◌, inl, inr}
-use Rattle.std.specs.Prelude.{IfSome, ◌⊎◌}
-use Rattle.std.specs.FinMap.{get, insert, remove}
+use Rattle.std.proofs.Common.{◌≡◌, ℕ, List, [], take, Option, None, Some, ap, ◌∙◌, inr}
+use Rattle.std.specs.Prelude.{IfSome}
+use Rattle.std.specs.FinMap.{insert}
 use Rattle.qc_io.specs.Outside.{Files, with_file, with_piece, GrewByPart, written_of, beside_of}
 use Rattle.qc_io.proofs.Named.{get-insert_same, remove-insert}
 use Rattle.qc_io.proofs.AsSink.{put_beside, grew_by}

@@ -1,5 +1,5 @@
 -- What a run does to the shelf, for each answer that it may come to.
-use Rattle.std.specs.Prelude.{◌≡◌, ℕ, ◌≤◌, ◌⊎◌, List, [], ◌++◌, slice_index_or, take, Option, Some, Result, Ok, Err, IfSome, IsSome, IsOk}
+use Rattle.std.specs.Prelude.{◌≡◌, ℕ, ◌≤◌, ◌⊎◌, List, [], ◌++◌, slice_index_or, take, Option, Some, Result, Ok, Err, IfSome, IsOk}
 use Rattle.std.specs.FinMap.{insert}
 use Rattle.qc_io.specs.Outside.{Files, Rose, ReadCause}
 use Rattle.qc_model.specs.declared.schedule.Slot.{Slot}

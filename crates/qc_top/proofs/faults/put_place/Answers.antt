@@ -7,5 +7,5 @@ use Rattle.qc_top.proofs.faults.put_place.Goals as goal
 pub returns-clause-err : goal.returns-clause-err
 returns-clause-err g c =
     on_err_weaker c.put_key.result
-      (part_of_second _ _ _ (codes " ") (key_text c.args.key ++ (codes " " ++ (decimal c.args.number ++ 10 ∷ []))) c.in_ok-put_all.ensures.ok)
-      c.put_key.ensures.err
+    (part_of_second _ _ _ (codes " ") (key_text c.args.key ++ (codes " " ++ (decimal c.args.number ++ 10 ∷ []))) c.in_ok-put_all.ensures.ok)
+    c.put_key.ensures.err

@@ -11,5 +11,5 @@ returns-in_err-put_all-clause-err g c =
 pub returns-clause-err : goal.returns-clause-err
 returns-clause-err g c =
     on_err_weaker c.put_stow_kind.result
-      (part_of_second _ _ _ (codes "BadStow ") (stow_fault_text c.args.fault) c.in_ok-put_all.ensures.ok)
-      c.put_stow_kind.ensures.err
+    (part_of_second _ _ _ (codes "BadStow ") (stow_fault_text c.args.fault) c.in_ok-put_all.ensures.ok)
+    c.put_stow_kind.ensures.err

@@ -1,9 +1,7 @@
-use Rattle.std.proofs.Common.{◌≡◌, ◌≤◌, ◌<◌, ◌+◌, ℕ, ◌++◌, ◌∷◌, [], length, arith, rules, length-append}
-use Rattle.std.proofs.lemmas.Slice.Zip.{zip_turn, zip_end}
-use Rattle.qc_model.specs.declared.task.Task.{Task}
-use Rattle.qc_model.specs.declared.schedule.Slot.{Slot}
+use Rattle.std.proofs.Common.{length, arith, rules, length-append}
+use Rattle.std.proofs.lemmas.Slice.Zip.{zip_turn}
 use Rattle.qc_io.proofs.Pieces.{on_err}
-use Rattle.qc_top.proofs.PlanLines.{LinesSoFar, lines_more, lines_cut, lines_whole}
+use Rattle.qc_top.proofs.PlanLines.{lines_more, lines_cut}
 use Rattle.qc_top.proofs.plan_text.put_lines.Goals as goal
 
 pub loop-task-preserved : goal.loop-task-preserved

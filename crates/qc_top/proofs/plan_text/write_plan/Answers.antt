@@ -1,4 +1,4 @@
-use Rattle.std.proofs.Common.{◌≡◌, codes}
+use Rattle.std.proofs.Common.{codes}
 use Rattle.std.proofs.lemmas.Result.{on_err_weaker}
 use Rattle.qc_top.specs.PlanText.{plan_lines}
 use Rattle.qc_io.proofs.Pieces.{part_of_first, part_of_second, on_err}

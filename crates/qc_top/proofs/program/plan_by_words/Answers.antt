@@ -1,4 +1,4 @@
-use Rattle.std.proofs.Common.{◌≡◌, arith, ◌∙◌}
+use Rattle.std.proofs.Common.{arith, ◌∙◌}
 use Rattle.qc_top.proofs.PlanWords.{word-texts, plans_same}
 use Rattle.qc_top.proofs.program.plan_by_words.Goals as goal
 

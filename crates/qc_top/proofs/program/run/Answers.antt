@@ -1,5 +1,5 @@
 use Rattle.qc_top.specs.Words.{texts}
-use Rattle.qc_top.specs.Run.{Stand, Runs}
+use Rattle.qc_top.specs.Run.{Stand}
 use Rattle.qc_top.proofs.RunLemmas.{optimal_run, run_stays, run_rose, run_usage, run_no_command, run_complete, tasks_run}
 use Rattle.qc_top.proofs.program.run.Goals as goal
 

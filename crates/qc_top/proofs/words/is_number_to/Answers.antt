@@ -1,5 +1,5 @@
-use Rattle.std.proofs.Common.{arith, sym, ◌∙◌, true, false}
-use Rattle.std.specs.Prelude.{◌≡◌, decimal, ◌≢◌}
+use Rattle.std.proofs.Common.{arith, sym, ◌∙◌}
+use Rattle.std.specs.Prelude.{decimal, ◌≢◌}
 use Rattle.std.proofs.lemmas.Slice.Eq.{bytes_eq-Decides}
 use Rattle.std.proofs.lemmas.Bool.Decides.{not_from_Decides}
 use Rattle.qc_top.proofs.WordLemmas.{is_number_to-decimal, is_number_to-other, is_number_to-refused}
