@@ -1,0 +1,8 @@
+use Rattle.std.proofs.Common.{IsTrue, rules}
+use Rattle.qc_verdicts.proofs.Answered.{answered}
+use Rattle.qc_verdicts.proofs.judge.judge.Goals as goal
+
+pub returns : goal.returns
+returns c =
+    let passed : IsTrue c.is_judgeable.result = search rules in
+    answered c.compare.result c.args.inst.now c.args.row.now.slots.now c.in_ok-schedule.schedule c.tasks.result.now c.direction_of-answer.result c.args.row.now.answer.now (c.is_judgeable.ensures.0 passed) c.in_ok-schedule.ensures c.tasks.ensures.tasks c.direction_of-answer.ensures.direction c.direction_of-answer.ensures.first c.compare.ensures
