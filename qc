@@ -16,7 +16,7 @@ if is_old; then
         echo 'qc: the program must be built, and the command rt of the Rattle toolchain is not on PATH' >&2
         exit 1
     fi
-    echo 'qc: proving and building the program; a first build takes some ten minutes, a later one mostly under two' >&2
+    echo 'qc: proving and building the program; a first build can take half an hour, a later one takes less' >&2
     # Without words the program prints its usage, which shows that it was built and runs.
     case $(cd "$crate" && rt run </dev/null) in
         Usage*) touch "$program" ;;
