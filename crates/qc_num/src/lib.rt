@@ -1,11 +1,17 @@
 //! The numbers and bytes that every other crate shares.
 #![tactic(auto)]
 
+mod bound;
 mod bytes;
 mod memory;
+mod steps;
+mod text;
 
+pub use bound::Bound;
 pub use bytes::Bytes;
 pub use memory::OutOfMemory;
+pub use steps::Steps;
+pub use text::Text;
 
 /// A time or a length of time. The tick is the unit of time.
 pub type Tick = u64;

@@ -1,0 +1,18 @@
+-- Readings: steps of which the first fault counts.
+use Rattle.std.specs.Prelude.{Bool, true, false, Result, Ok, Err, ⊤}
+
+-- a step, and then those that need its value; the first fault counts
+infixl 10 ◌>>=◌
+abbrev pub ◌>>=◌ : {A B E : Type 0} → Result A E → (A → Result B E) → Result B E
+Ok a >>= next = next a
+Err fault >>= next = Err fault
+
+-- a test with the fault where it fails
+abbrev pub require : {E : Type 0} → Bool → E → Result ⊤ E
+require true fault = Ok tt
+require false fault = Err fault
+
+-- the same with another type of fault
+abbrev pub with_fault : {A E F : Type 0} → (E → F) → Result A E → Result A F
+with_fault f (Ok a) = Ok a
+with_fault f (Err fault) = Err (f fault)
