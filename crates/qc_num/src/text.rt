@@ -45,7 +45,8 @@ impl<const N: usize> Text<N> {
     /// Puts a piece behind the text.
     pub fn push(&mut self, piece: &[u8])
         requires { length self.old + length piece.now ≤ N }
-        ensures { self.new ≡ self.old ++ piece.now }
+        ensures text { self.new ≡ self.old ++ piece.now }
+        ensures length { length self.new ≡ length self.old + length piece.now }
     {
         let end = self.len + piece.len();
         let bytes = &mut self.bytes[..];
@@ -55,16 +56,18 @@ impl<const N: usize> Text<N> {
 
     /// Puts a number behind the text, in plain decimal: at most 20 bytes.
     pub fn push_number(&mut self, number: u64)
-        requires { length self.old + length (decimal number) ≤ N }
-        ensures { self.new ≡ self.old ++ decimal number }
+        requires { length self.old + 20 ≤ N }
+        ensures text { self.new ≡ self.old ++ decimal number }
+        ensures length { length self.new ≤ length self.old + 20 }
     {
         self.push(Buffer::new().format(number).as_bytes());
     }
 
     /// Puts a whole number behind the text, with a minus sign where it is below 0: at most 20 bytes.
     pub fn push_signed(&mut self, number: i64)
-        requires { length self.old + length (signed_decimal number) ≤ N }
-        ensures { self.new ≡ self.old ++ signed_decimal number }
+        requires { length self.old + 20 ≤ N }
+        ensures text { self.new ≡ self.old ++ signed_decimal number }
+        ensures length { length self.new ≤ length self.old + 20 }
     {
         self.push(Buffer::new().format(number).as_bytes());
     }
