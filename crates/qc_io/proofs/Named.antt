@@ -14,7 +14,8 @@ use Rattle.std.specs.Map.{lookup}
 use Rattle.std.specs.BTreeMap.{BTreeMap, UpdatesBy, get_by_text, is_at}
 use Rattle.std.specs.FinMap.{get, insert, remove, find, get-insert, get-remove, get-from_entries, get_tied, same_map, slice_cmp-IsAntisymmetric, nat_cmp-IsAntisymmetric}
 use Rattle.std.proofs.lemmas.Map.Text.{btree_map_updates_text, is_eq-slice_cmp}
-use Rattle.qc_io.specs.Outside.{Files, with_piece}
+use Rattle.std.specs.Io.KnownBytes.{append_known}
+use Rattle.qc_io.specs.Outside.{Files}
 use Rattle.qc_io.specs.Memory.{files_of, file_with, grown_at}
 
 -- files that hold the same under each name are the same
@@ -99,10 +100,10 @@ remove-insert files name bytes =
     shadowed false x y = refl
 
 -- the named file grew by the piece
-pub get-grown_at : (files : Files) (name piece : List ℕ) → get (grown_at files name piece) name ≡ with_piece (get files name) piece
+pub get-grown_at : (files : Files) (name piece : List ℕ) → get (grown_at files name piece) name ≡ append_known (get files name) piece
 get-grown_at files name piece = by (get files name) refl
   where
-    by : (held : Option (List ℕ)) → get files name ≡ held → get (file_with held piece files name) name ≡ with_piece held piece
+    by : (held : Option (List ℕ)) → get files name ≡ held → get (file_with held piece files name) name ≡ append_known held piece
     by None none = none
     by (Some bytes) some = get-insert_same files name (bytes ++ piece)
 

@@ -35,7 +35,15 @@ impl Model for MemShelf {
 
     ghost coded = { held_code };
 
-    ghost view = { λ shelf. record { files = files_of shelf.files; rest = shelf.rest; made = option_map string_bytes shelf.made; faults = shelf.faults; read_faults = shelf.read_faults; calls = shelf.calls; most = shelf.most } };
+    ghost view = { λ shelf. record {
+      files = files_of shelf.files;
+      rest = shelf.rest;
+      made = option_map string_bytes shelf.made;
+      faults = shelf.faults;
+      read_faults = shelf.read_faults;
+      calls = shelf.calls;
+      most = shelf.most;
+    } };
 
     ghost invariant = { λ shelf. 0 < shelf.most };
 }
@@ -44,7 +52,15 @@ impl MemShelf {
     /// A shelf that holds nothing and had no faults. No call is set to fail, and each moves as many bytes
     /// as fit.
     pub fn new(alloc: Global) -> Result<MemShelf, OutOfMemory>
-        ensures { IfOk result (λ shelf. shelf ≡ record { files = empty; rest = None; made = None; faults = 0; read_faults = 0; calls = record { count = 0; failing = [] }; most = usize.MAX }) }
+        ensures { IfOk result (λ shelf. shelf ≡ record {
+          files = empty;
+          rest = None;
+          made = None;
+          faults = 0;
+          read_faults = 0;
+          calls = record { count = 0; failing = [] };
+          most = usize.MAX;
+        }) }
     {
         Ok(MemShelf {
             alloc,
@@ -94,17 +110,18 @@ impl MemShelf {
 }
 
 impl Sink for MemShelf {
-    ghost use Rattle.std.specs.Prelude.{Some};
+    ghost use Rattle.std.specs.Prelude.{[], Some, is_some, unwrap_or};
     ghost use Rattle.qc_io.specs.Outside.{written_of, beside_of};
 
     ghost written = { λ shelf. written_of (Some shelf.files) shelf.made };
 
-    ghost beside = { λ shelf. beside_of (Some shelf.files) shelf.made };
+    ghost beside = { λ shelf. beside_of (Some shelf.files) shelf.made (Some (unwrap_or shelf.rest []))
+        (is_some shelf.rest) shelf.read_faults };
 
     ghost faults = { λ shelf. shelf.faults };
 
     /// Takes as much of the piece as `pieces` allows. It fails where the call is set to fail, or for want
-    /// of memory.
+    /// of memory; before the first `create` it takes none.
     fn write(&mut self, piece: &[u8]) -> Result<usize, Failed>
         ensures count { IfOk result (λ count. count ≡ min (length piece.now) self.old.most) }
         ensures at_least { IfOk result (λ count. 0 < length piece.now → 0 < count) }
@@ -112,8 +129,12 @@ impl Sink for MemShelf {
           files = files_written self.old.files self.old.made (take self.old.most piece.now);
           calls = counted self.old.calls;
         }) }
-        ensures err { OnErr result (self.new ≡ record self.old { faults = next_count self.old.faults; calls = counted self.old.calls }) }
+        ensures err { OnErr result (self.new ≡ record self.old {
+          faults = next_count self.old.faults;
+          calls = counted self.old.calls;
+        }) }
         ensures set_to_fail { NextFails self.old.calls → IsErr result }
+        ensures before_create { self.old.made ≡ None → IsErr result → NextFails self.old.calls }
         ensures faults_never_fall { self.old.faults ≤ self.new.faults }
     {
         if self.calls.next_fails() {
@@ -147,17 +168,30 @@ impl Shelf for MemShelf {
 
     ghost beside_is = { λ _. refl };
 
+    ghost rest_told = { λ _. refl };
+
     ghost tells_alike = { λ _ _. refl };
 
     /// It fails where the call is set to fail, where the name isn't held, or for want of memory.
     fn open(&mut self, name: &str) -> Result<(), Failed>
-        ensures ok { OnOk result (self.new ≡ record self.old { rest = get self.old.files name.now; calls = counted self.old.calls }) }
-        ensures err { OnErr result (self.new ≡ record self.old { rest = None; read_faults = self.new.read_faults; calls = counted self.old.calls }) }
+        ensures ok { OnOk result (self.new ≡ record self.old {
+          rest = get self.old.files name.now;
+          calls = counted self.old.calls;
+        }) }
+        ensures err { OnErr result (self.new ≡ record self.old {
+          rest = None;
+          read_faults = self.new.read_faults;
+          calls = counted self.old.calls;
+        }) }
         ensures missing { get self.old.files name.now ≡ None → IsErr result }
-        ensures set_to_fail { NextFails self.old.calls → IsErr result × (self.new.read_faults ≡ next_count self.old.read_faults) }
-        ensures held { IsSome (get self.old.files name.now) → OnErr result (self.new.read_faults ≡ next_count self.old.read_faults) }
-        ensures not_counted { ¬ NextFails self.old.calls → get self.old.files name.now ≡ None → self.new.read_faults ≡ self.old.read_faults }
-        ensures err_cause { OnErr result (ReadCause self.old.read_faults self.new.read_faults (Some self.old.files) name.now) }
+        ensures set_to_fail { NextFails self.old.calls
+            → IsErr result × (self.new.read_faults ≡ next_count self.old.read_faults) }
+        ensures held { IsSome (get self.old.files name.now)
+            → OnErr result (self.new.read_faults ≡ next_count self.old.read_faults) }
+        ensures not_counted { ¬ NextFails self.old.calls → get self.old.files name.now ≡ None
+            → self.new.read_faults ≡ self.old.read_faults }
+        ensures err_cause { OnErr result
+            (ReadCause self.old.read_faults self.new.read_faults (Some self.old.files) name.now) }
         ensures read_faults_never_fall { self.old.read_faults ≤ self.new.read_faults }
     {
         self.rest = None;
@@ -180,11 +214,18 @@ impl Shelf for MemShelf {
     fn read(&mut self, buf: &mut [u8]) -> Result<usize, Failed>
         requires open { is_some self.old.rest ≡ true }
         requires room { 0 < length buf.old }
-        ensures count { IfOk result (λ count. count ≡ min (length (unwrap_or self.old.rest [])) (min (length buf.old) self.old.most)) }
+        ensures count { IfOk result (λ count. count
+            ≡ min (length (unwrap_or self.old.rest [])) (min (length buf.old) self.old.most)) }
         ensures moved { IfOk result (λ count. take count buf.new ≡ take count (unwrap_or self.old.rest [])) }
-        ensures ok { IfOk result (λ count. self.new ≡ record self.old { rest = Some (drop count (unwrap_or self.old.rest [])); calls = counted self.old.calls }) }
+        ensures ok { IfOk result (λ count. self.new ≡ record self.old {
+          rest = Some (drop count (unwrap_or self.old.rest []));
+          calls = counted self.old.calls;
+        }) }
         ensures ended { IfOk result (λ count. (count ≡ 0) ↔ (unwrap_or self.old.rest [] ≡ [])) }
-        ensures err { OnErr result (self.new ≡ record self.old { read_faults = next_count self.old.read_faults; calls = counted self.old.calls }) }
+        ensures err { OnErr result (self.new ≡ record self.old {
+          read_faults = next_count self.old.read_faults;
+          calls = counted self.old.calls;
+        }) }
         ensures set_to_fail { IsErr result ↔ NextFails self.old.calls }
         ensures read_faults_never_fall { self.old.read_faults ≤ self.new.read_faults }
     {
@@ -200,8 +241,15 @@ impl Shelf for MemShelf {
 
     /// It fails where the call is set to fail, or for want of memory, and then leaves all files.
     fn create(&mut self, name: &str) -> Result<(), Failed>
-        ensures ok { OnOk result (self.new ≡ record self.old { files = insert self.old.files name.now []; made = Some name.now; calls = counted self.old.calls }) }
-        ensures err { OnErr result (self.new ≡ record self.old { faults = next_count self.old.faults; calls = counted self.old.calls }) }
+        ensures ok { OnOk result (self.new ≡ record self.old {
+          files = insert self.old.files name.now [];
+          made = Some name.now;
+          calls = counted self.old.calls;
+        }) }
+        ensures err { OnErr result (self.new ≡ record self.old {
+          faults = next_count self.old.faults;
+          calls = counted self.old.calls;
+        }) }
         ensures set_to_fail { NextFails self.old.calls → IsErr result }
         ensures faults_never_fall { self.old.faults ≤ self.new.faults }
     {

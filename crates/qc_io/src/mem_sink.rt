@@ -54,12 +54,12 @@ impl MemSink {
 }
 
 impl Sink for MemSink {
-    ghost use Rattle.std.specs.Prelude.{[], Some};
-    ghost use Rattle.std.specs.FinMap as map;
+    ghost use Rattle.std.specs.Prelude.{Some};
+    ghost use Rattle.qc_io.specs.Outside.{alone};
 
     ghost written = { λ sink. Some sink.bytes };
 
-    ghost beside = { λ _. Some ([], map.empty) };
+    ghost beside = { λ _. alone };
 
     ghost faults = { λ sink. sink.faults };
 

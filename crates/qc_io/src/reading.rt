@@ -1,5 +1,6 @@
 ghost use Rattle.std.specs.Prelude.{◌≡◌, ◌<◌, ◌≤◌, ◌+◌, ◌⊎◌, true, false, [], length, vec_len, IsOk, OnOk, IfOk, IfSome};
-ghost use Rattle.qc_io.specs.Outside.{Rose, IsMissing, ReadCause, IsFile, TakesAtMost, file_at, with_front};
+ghost use Rattle.std.specs.Io.KnownBytes.{prepend_known};
+ghost use Rattle.qc_io.specs.Outside.{Rose, IsMissing, ReadCause, IsFile, TakesAtMost, file_at};
 
 use crate::outside::{Failed, Shelf};
 use qc_num::Bytes;
@@ -53,17 +54,23 @@ pub fn read_all<S: Shelf>(
 ) -> Result<Bytes, ReadAll>
     ensures whole { IfOk result (λ bytes. IsFile (S.files shelf.old) name.now bytes) }
     ensures within { IfOk result (λ bytes. length bytes ≤ limit) }
-    ensures read_fault { result ≡ Err ReadAll.ReadFault → ReadCause (S.read_faults shelf.old) (S.read_faults shelf.new) (S.files shelf.old) name.now }
+    ensures read_fault { result ≡ Err ReadAll.ReadFault
+        → ReadCause (S.read_faults shelf.old) (S.read_faults shelf.new) (S.files shelf.old) name.now }
+    ensures unfailed { ¬ (result ≡ Err ReadAll.ReadFault) → S.read_faults shelf.new ≡ S.read_faults shelf.old }
     ensures missing { IsMissing (S.files shelf.old) name.now → result ≡ Err ReadAll.ReadFault }
-    ensures too_large { result ≡ Err ReadAll.TooLarge → IfSome (file_at (S.files shelf.old) name.now) (λ bytes. limit < length bytes) }
+    ensures too_large { result ≡ Err ReadAll.TooLarge
+        → IfSome (file_at (S.files shelf.old) name.now) (λ bytes. limit < length bytes) }
 
     // What the answer is where no call failed. Want of memory is a free answer.
     ensures larger { IfSome (file_at (S.files shelf.old) name.now) (λ bytes. limit < length bytes
-        → ¬ (Rose (S.read_faults shelf.old) (S.read_faults shelf.new)) → (result ≡ Err ReadAll.TooLarge) ⊎ (result ≡ Err ReadAll.OutOfMemory)) }
+        → ¬ (Rose (S.read_faults shelf.old) (S.read_faults shelf.new))
+        → (result ≡ Err ReadAll.TooLarge) ⊎ (result ≡ Err ReadAll.OutOfMemory)) }
     ensures fitting { IfSome (file_at (S.files shelf.old) name.now) (λ bytes. length bytes ≤ limit
-        → ¬ (Rose (S.read_faults shelf.old) (S.read_faults shelf.new)) → IsOk result ⊎ (result ≡ Err ReadAll.OutOfMemory)) }
+        → ¬ (Rose (S.read_faults shelf.old) (S.read_faults shelf.new))
+        → IsOk result ⊎ (result ≡ Err ReadAll.OutOfMemory)) }
 
-    ensures taken { S.reading shelf.new ≡ true → TakesAtMost (limit + 1) (file_at (S.files shelf.old) name.now) (S.rest shelf.new) }
+    ensures taken { S.reading shelf.new ≡ true
+        → TakesAtMost (limit + 1) (file_at (S.files shelf.old) name.now) (S.rest shelf.new) }
     ensures files_stay { S.files shelf.new ≡ S.files shelf.old }
     ensures made_stays { S.made shelf.new ≡ S.made shelf.old }
     ensures faults_stay { S.Sink.faults shelf.new ≡ S.Sink.faults shelf.old }
@@ -93,13 +100,16 @@ fn read_block<S: Shelf>(
     requires open { S.reading shelf.old ≡ true }
     requires within { vec_len bytes.old ≤ limit }
     requires room { 0 < length block.old }
-    ensures ok { OnOk result (with_front bytes.new.items (S.rest shelf.new) ≡ with_front bytes.old.items (S.rest shelf.old)) }
+    ensures ok { OnOk result (prepend_known bytes.new.items (S.rest shelf.new)
+        ≡ prepend_known bytes.old.items (S.rest shelf.old)) }
     ensures more { IfOk result (λ more. more ≡ true → vec_len bytes.old < vec_len bytes.new) }
     ensures ended { IfOk result (λ more. more ≡ false → IfSome (S.rest shelf.new) (λ rest. rest ≡ [])) }
     ensures still_within { OnOk result (vec_len bytes.new ≤ limit) }
     ensures read_fault { result ≡ Err ReadAll.ReadFault → Rose (S.read_faults shelf.old) (S.read_faults shelf.new) }
-    ensures too_large { result ≡ Err ReadAll.TooLarge → IfSome (with_front bytes.old.items (S.rest shelf.old)) (λ whole. limit < length whole) }
-    ensures taken { TakesAtMost (limit + 1) (with_front bytes.old.items (S.rest shelf.old)) (S.rest shelf.new) }
+    ensures unfailed { ¬ (result ≡ Err ReadAll.ReadFault) → S.read_faults shelf.new ≡ S.read_faults shelf.old }
+    ensures too_large { result ≡ Err ReadAll.TooLarge
+        → IfSome (prepend_known bytes.old.items (S.rest shelf.old)) (λ whole. limit < length whole) }
+    ensures taken { TakesAtMost (limit + 1) (prepend_known bytes.old.items (S.rest shelf.old)) (S.rest shelf.new) }
     ensures reading_stays { S.reading shelf.new ≡ true }
     ensures files_stay { S.files shelf.new ≡ S.files shelf.old }
     ensures made_stays { S.made shelf.new ≡ S.made shelf.old }

@@ -1,5 +1,5 @@
-ghost use Rattle.std.specs.Prelude.{◌≡◌, ◌≤◌, length, IsOk, OnOk, OnErr};
-ghost use Rattle.qc_io.specs.Outside.{Rose, GrewByPart, with_piece};
+ghost use Rattle.std.specs.Prelude.{◌≡◌, length, IsOk};
+ghost use Rattle.qc_io.specs.Writes.{Writes};
 
 use crate::outside::{Failed, Sink};
 
@@ -16,11 +16,7 @@ impl From<Failed> for WriteFault {
 /// Writes the whole piece. An empty piece makes no call. After `WriteFault` a part of the piece was
 /// written, from its front, that isn't the whole piece.
 pub fn put_all<K: Sink>(sink: &mut K, piece: &[u8]) -> Result<(), WriteFault>
-    ensures ok { OnOk result (K.written sink.new ≡ with_piece (K.written sink.old) piece.now) }
-    ensures err { OnErr result (GrewByPart (K.written sink.old) (K.written sink.new) piece.now) }
-    ensures err_rose { OnErr result (Rose (K.faults sink.old) (K.faults sink.new)) }
-    ensures beside_stays { K.beside sink.new ≡ K.beside sink.old }
-    ensures faults_never_fall { K.faults sink.old ≤ K.faults sink.new }
+    ensures writes { Writes K.written K.beside K.faults sink.old sink.new piece.now result }
     ensures empty_ok { length piece.now ≡ 0 → IsOk result }
     ensures empty_stays { length piece.now ≡ 0 → sink.new ≡ sink.old }
 {

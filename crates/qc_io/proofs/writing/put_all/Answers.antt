@@ -1,7 +1,7 @@
 use Rattle.std.proofs.Common.{ℕ, take, drop, ap, ◌∙◌, arith}
 use Rattle.std.proofs.lemmas.List.{length-drop, take_rest}
-use Rattle.qc_io.specs.Outside.{with_piece}
-use Rattle.qc_io.proofs.Pieces.{with_piece-take}
+use Rattle.std.specs.Io.KnownBytes.{append_known}
+use Rattle.qc_io.proofs.Pieces.{append_known-take}
 use Rattle.qc_io.proofs.writing.put_all.Goals as goal
 
 pub loop-done-preserved : goal.loop-done-preserved
@@ -9,10 +9,10 @@ loop-done-preserved g c = record {
   in_range = omega (arith, length-drop {A = ℕ}, c.in_ok-done.ensures.at_most);
   grew =
       c.in_ok-done.ensures.appended
-      ∙ ap (λ left. with_piece (g.K.Sink.written c.loop-done.sink) (take c.in_ok-done.field-0 left)) (take_rest c.args.piece.now c.loop-done.done)
-      ∙ ap (λ bytes. with_piece bytes (take c.in_ok-done.field-0 (drop c.loop-done.done c.args.piece.now))) c.loop-done.invariant.grew
-      ∙ with_piece-take _ c.args.piece.now c.loop-done.done c.in_ok-done.field-0;
+      ∙ ap (λ left. append_known (g.K.Sink.written c.loop-done.sink) (take c.in_ok-done.field-0 left)) (take_rest c.args.piece.now c.loop-done.done)
+      ∙ ap (λ bytes. append_known bytes (take c.in_ok-done.field-0 (drop c.loop-done.done c.args.piece.now))) c.loop-done.invariant.grew
+      ∙ append_known-take _ c.args.piece.now c.loop-done.done c.in_ok-done.field-0;
   beside_stays = c.in_ok-done.ensures.beside_stays ∙ c.loop-done.invariant.beside_stays;
-  never_fall = omega (arith, c.in_ok-done.ensures.faults_never_fall, c.loop-done.invariant.never_fall);
+  unfailed = c.in_ok-done.ensures.ok_faults ∙ c.loop-done.invariant.unfailed;
   empty_stays = λ none. absurd (omega arith);
 }
