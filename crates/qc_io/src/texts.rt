@@ -7,7 +7,7 @@ use itoa::Buffer;
 
 /// Writes the one piece and then the other. After `WriteFault` a part of both together was written,
 /// from their front, that isn't the whole.
-#[tactic(auto, using(crate::proofs::WritesLemmas::writes_then, crate::proofs::WritesLemmas::writes_cut))]
+#[tactic(auto, using(crate::proofs::WritesLemmas::writes_cut))]
 pub fn put_pair<K: Sink>(sink: &mut K, first: &[u8], second: &[u8]) -> Result<(), WriteFault>
     ensures { Writes K.written K.beside K.faults sink.old sink.new (first.now ++ second.now) result }
 {
@@ -17,7 +17,7 @@ pub fn put_pair<K: Sink>(sink: &mut K, first: &[u8], second: &[u8]) -> Result<()
 
 /// Writes a number in plain decimal with a piece before it and one behind it. After `WriteFault` a part
 /// of these was written, from their front, that isn't the whole.
-#[tactic(auto, using(crate::proofs::WritesLemmas::writes_then, crate::proofs::WritesLemmas::writes_cut))]
+#[tactic(auto, using(crate::proofs::WritesLemmas::writes_cut))]
 pub fn put_number<K: Sink>(
     sink: &mut K,
     first: &[u8],
