@@ -1,4 +1,5 @@
-use Rattle.std.specs.Prelude.{◌≡◌, ◌≢◌, ℕ, ◌+◌, ◌*◌, ◌<◌, ◌≤◌, ℤ, pos, negsuc, ◌+ℤ◌, ◌-ℤ◌, ◌≤ℤ◌, ◌⊎◌, ◌↔◌, List, [], ◌∷◌, length, slice_index_or, sum_by, Contains}
+use Rattle.std.specs.Prelude.{◌≡◌, ◌≢◌, ℕ, ◌+◌, ◌<◌, ◌≤◌, ℤ, pos, negsuc, ◌+ℤ◌, ◌-ℤ◌, ◌≤ℤ◌, ◌⊎◌, ◌↔◌, List, [], ◌∷◌, length, slice_index_or, sum_by, AllPairs, Contains}
+use Rattle.qc_model.specs.declared.limits.TheConstants.{MOST_APART, MOST_CRANES, MOST_GAP, MOST_GAP_BY_PLACES, MOST_HATCHES, MOST_PLACE, MOST_READY, MOST_TASKS, MOST_TRAVEL, MOST_TRAVEL_BY_PLACES, MOST_WORK}
 use Rattle.qc_model.specs.declared.task.Task.{Task}
 use Rattle.qc_model.specs.declared.task.Phase.TheVariants.{DeckOut}
 use Rattle.qc_model.specs.declared.crane.Crane.{Crane}
@@ -50,6 +51,10 @@ IsBefore inst i j = Contains inst.before (pair_of i j)
 abbrev pub IsApart : InstanceView → ℕ → ℕ → Type 0
 IsApart inst i j = Contains inst.apart (pair_of i j)
 
+-- the order of pairs: by the first task, then by the second
+abbrev pub IsEarlier : Pair → Pair → Type 0
+IsEarlier p q = (p.first ≤ q.first) × (p.first ≡ q.first → p.second < q.second)
+
 -- one leads from i to j through these tasks by the pairs of the list
 abbrev pub IsPath : List Pair → ℕ → List ℕ → ℕ → Type 0
 IsPath pairs i [] j = Contains pairs (pair_of i j)
@@ -63,48 +68,53 @@ mirror_bay inst x = pos (inst.bays + 1) -ℤ x
 abbrev pub IsFrom : ℤ → ℤ → ℤ → Type 0
 IsFrom low high x = (low ≤ℤ x) × (x ≤ℤ high)
 
+-- a place on the rail at which a crane may stand
+abbrev pub IsOnRail : ℤ → Type 0
+IsOnRail x = IsFrom (negsuc 16999) (pos 17000) x
+
 -- the limits of a ship whose hatches stand one crane bay apart
 pub record HasBayLimits (inst : InstanceView) : Type 0 where
-  pub bays : (1 ≤ inst.bays) × (inst.bays ≤ 60)
-  pub travel : (1 ≤ inst.travel) × (inst.travel ≤ 10000)
-  pub gap : (1 ≤ inst.gap) × (inst.gap ≤ 21)
+  pub bays : (1 ≤ inst.bays) × (inst.bays ≤ MOST_HATCHES)
+  pub travel : (1 ≤ inst.travel) × (inst.travel ≤ MOST_TRAVEL)
+  pub gap : (1 ≤ inst.gap) × (inst.gap ≤ MOST_GAP)
   pub berths : (k : ℕ) → k < length inst.cranes → IsFrom (negsuc 299) (pos 300) (crane inst k).bay × IsFrom (negsuc 299) (pos 300) (mirror_bay inst (crane inst k).bay)
 
 -- the limits of a ship whose places are given in decimetres
 pub record HasPlaceLimits (inst : InstanceView) : Type 0 where
-  pub bays : (1 ≤ inst.bays) × (inst.bays ≤ 6000)
-  pub travel : (1 ≤ inst.travel) × (inst.travel ≤ 100)
-  pub gap : (1 ≤ inst.gap) × (inst.gap ≤ 2000)
-  pub berths : (k : ℕ) → k < length inst.cranes → IsFrom (negsuc 16999) (pos 17000) (crane inst k).bay × IsFrom (negsuc 16999) (pos 17000) (mirror_bay inst (crane inst k).bay)
+  pub bays : (1 ≤ inst.bays) × (inst.bays ≤ MOST_PLACE)
+  pub travel : (1 ≤ inst.travel) × (inst.travel ≤ MOST_TRAVEL_BY_PLACES)
+  pub gap : (1 ≤ inst.gap) × (inst.gap ≤ MOST_GAP_BY_PLACES)
+  pub berths : (k : ℕ) → k < length inst.cranes → IsOnRail (crane inst k).bay × IsOnRail (mirror_bay inst (crane inst k).bay)
 
 -- every task stands at a bay of the ship and takes time, all together not too long; tasks are in order of hatch and phase, each once; tasks of one hatch, and of no two, share a bay
 pub record HasValidTasks (inst : InstanceView) : Type 0 where
-  pub count : length inst.tasks ≤ 240
+  pub count : length inst.tasks ≤ MOST_TASKS
   pub bays : (j : ℕ) → j < length inst.tasks → IsFrom (pos 1) (pos inst.bays) (bay_of inst j)
   pub ticks : (j : ℕ) → j < length inst.tasks → 1 ≤ ticks_of inst j
-  pub work : sum_by (λ t. t.ticks) inst.tasks ≤ 502400000
+  pub work : sum_by (λ t. t.ticks) inst.tasks ≤ MOST_WORK
   pub sorted : (i j : ℕ) → i < j → j < length inst.tasks → task_rank (task inst i) < task_rank (task inst j)
   pub hatches : (i j : ℕ) → i < length inst.tasks → j < length inst.tasks → (bay_of inst i ≡ bay_of inst j) ↔ ((task inst i).hatch ≡ (task inst j).hatch)
 
 -- cranes stand along the rail at least the gap apart and have different names; each reaches some bays of the ship
 pub record HasValidCranes (inst : InstanceView) : Type 0 where
-  pub count : (1 ≤ length inst.cranes) × (length inst.cranes ≤ 8)
-  pub ready : (k : ℕ) → k < length inst.cranes → (crane inst k).ready ≤ 1000000
+  pub count : (1 ≤ length inst.cranes) × (length inst.cranes ≤ MOST_CRANES)
+  pub ready : (k : ℕ) → k < length inst.cranes → (crane inst k).ready ≤ MOST_READY
   pub reach : (k : ℕ) → k < length inst.cranes → (pos 1 ≤ℤ (crane inst k).from) × ((crane inst k).from ≤ℤ (crane inst k).to) × ((crane inst k).to ≤ℤ pos inst.bays)
   pub names : (v w : ℕ) → v < w → w < length inst.cranes → (crane inst v).name ≢ (crane inst w).name
   pub order : (k : ℕ) → k + 1 < length inst.cranes → ((crane inst k).bay +ℤ pos inst.gap) ≤ℤ (crane inst (k + 1)).bay
 
--- the phases of a hatch are before one another, pairs relate tasks of the instance, and no task is before itself by way of others
+-- the phases of a hatch are before one another, pairs in rising order relate tasks of the instance, and no task is before itself by way of others
 pub record HasValidBefore (inst : InstanceView) : Type 0 where
   pub phases : (i j : ℕ) → i < j → j < length inst.tasks → (task inst i).hatch ≡ (task inst j).hatch → IsBefore inst i j
   pub range : (i j : ℕ) → IsBefore inst i j → (i < length inst.tasks) × (j < length inst.tasks)
+  pub sorted : AllPairs IsEarlier inst.before
   pub no_ring : (i : ℕ) (via : List ℕ) → ¬ IsPath inst.before i via i
 
 -- pairs of different hatches, the lower task first, in rising order
 pub record HasValidApart (inst : InstanceView) : Type 0 where
-  pub count : length inst.apart ≤ 1600
+  pub count : length inst.apart ≤ MOST_APART
   pub range : (i j : ℕ) → IsApart inst i j → (i < j) × (j < length inst.tasks) × ((task inst i).hatch ≢ (task inst j).hatch)
-  pub sorted : (m n : ℕ) → m < n → n < length inst.apart → (d : Pair) → 240 * (slice_index_or inst.apart m d).first + (slice_index_or inst.apart m d).second < 240 * (slice_index_or inst.apart n d).first + (slice_index_or inst.apart n d).second
+  pub sorted : AllPairs IsEarlier inst.apart
 
 -- what every instance keeps
 pub record Valid (inst : InstanceView) : Type 0 where

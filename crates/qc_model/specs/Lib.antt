@@ -2,6 +2,7 @@ pub mod Bays
 pub mod Names
 pub mod Tasks
 pub mod Instance
+pub mod Ticks
 pub mod Rules
 pub mod OneWay
 pub mod Limits

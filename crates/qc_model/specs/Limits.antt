@@ -1,14 +1,11 @@
 -- Limits that hold of every instance, whether its hatches stand a crane bay apart or its places are given in decimetres.
-use Rattle.std.specs.Prelude.{ℕ, ◌<◌, ◌≤◌, ℤ, pos, negsuc, length}
-use Rattle.qc_model.specs.Instance.{InstanceView, crane, mirror_bay, IsFrom}
-
--- a place on the rail at which a crane may stand
-abbrev pub IsOnRail : ℤ → Type 0
-IsOnRail x = IsFrom (negsuc 16999) (pos 17000) x
+use Rattle.std.specs.Prelude.{ℕ, ◌<◌, ◌≤◌, length}
+use Rattle.qc_model.specs.declared.limits.TheConstants.{MOST_CRANES, MOST_GAP_BY_PLACES, MOST_PLACE, MOST_TRAVEL}
+use Rattle.qc_model.specs.Instance.{InstanceView, crane, mirror_bay, IsOnRail}
 
 pub record HasLimits (inst : InstanceView) : Type 0 where
-  pub bays : inst.bays ≤ 6000
-  pub travel : inst.travel ≤ 10000
-  pub gap : inst.gap ≤ 2000
-  pub cranes : length inst.cranes ≤ 8
+  pub bays : inst.bays ≤ MOST_PLACE
+  pub travel : inst.travel ≤ MOST_TRAVEL
+  pub gap : inst.gap ≤ MOST_GAP_BY_PLACES
+  pub cranes : length inst.cranes ≤ MOST_CRANES
   pub berths : (k : ℕ) → k < length inst.cranes → IsOnRail (crane inst k).bay × IsOnRail (mirror_bay inst (crane inst k).bay)

@@ -1,19 +1,22 @@
 -- Schedules in which, after a first repositioning, all cranes move one way, after the method of Bierwirth and Meisel (2009).
-use Rattle.std.specs.Prelude.{◌≡◌, ℕ, ◌+◌, ◌-◌, ◌*◌, ◌<◌, ◌≤◌, ◌<ℤ◌, ◌⊎◌, List, length, map, reverse}
+use Rattle.std.specs.Prelude.{◌≡◌, ℕ, ◌+◌, ◌-◌, ◌<◌, ◌≤◌, ◌<ℤ◌, ◌⊎◌, List, length, map, reverse}
 use Rattle.qc_model.specs.declared.task.Task.{Task}
 use Rattle.qc_model.specs.declared.crane.Crane.{Crane}
 use Rattle.qc_model.specs.declared.schedule.Slot.{Slot}
-use Rattle.qc_model.specs.Bays.{bays_up}
 use Rattle.qc_model.specs.Instance.{InstanceView, bay_of, mirror_bay}
-use Rattle.qc_model.specs.Rules.{crane_of, start_of, end_of, task_distance, Feasible}
+use Rattle.qc_model.specs.Rules.{crane_of, start_of, Feasible}
+use Rattle.qc_model.specs.Ticks.{climb, lead, task_distance}
 
 -- a crane that has done task i has the time to go up to task j, where j lies higher
 abbrev pub KeepsClimb : InstanceView → List Slot → ℕ → ℕ → Type 0
-KeepsClimb inst sched i j = crane_of sched i ≡ crane_of sched j → bay_of inst i <ℤ bay_of inst j → end_of inst sched i + inst.travel * bays_up (bay_of inst i) (bay_of inst j) ≤ start_of sched j
+KeepsClimb inst sched i j = crane_of sched i ≡ crane_of sched j → bay_of inst i <ℤ bay_of inst j → start_of sched i + climb inst i j ≤ start_of sched j
 
--- where the cranes of tasks i and j would come too near, the higher crane's task j is first
+-- where the cranes of tasks i and j would come too near, the higher crane's task i is first
 abbrev pub KeepsLead : InstanceView → List Slot → ℕ → ℕ → Type 0
-KeepsLead inst sched i j = crane_of sched i < crane_of sched j → 0 < task_distance inst sched i j → end_of inst sched j + task_distance inst sched i j ≤ start_of sched i
+KeepsLead inst sched i j =
+    let v = crane_of sched i in
+    let w = crane_of sched j in
+    w < v → 0 < task_distance inst i v j w → start_of sched i + lead inst i v j w ≤ start_of sched j
 
 -- each crane works its bays upward, and a higher crane is ahead of a lower one wherever the two would come too near
 pub record Upward (inst : InstanceView) (sched : List Slot) : Type 0 where

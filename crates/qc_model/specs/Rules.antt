@@ -1,9 +1,9 @@
--- The rules of a feasible schedule, after Kim and Park (2004); least distances in time after Bierwirth and Meisel (2009), in a form of our own.
-use Rattle.std.specs.Prelude.{◌≡◌, ◌≢◌, ℕ, ◌+◌, ◌-◌, ◌*◌, ◌<◌, ◌≤◌, ℤ, pos, ◌+ℤ◌, ◌≤ℤ◌, ◌⊎◌, nat_lt, if◌then◌else◌, List, [], ◌∷◌, length, slice_index_or, max}
+-- The rules of a feasible schedule, after Kim and Park (2004).
+use Rattle.std.specs.Prelude.{◌≡◌, ◌≢◌, ℕ, ◌+◌, ◌<◌, ◌≤◌, ◌≤ℤ◌, ◌⊎◌, List, [], ◌∷◌, length, map, max, slice_index_or}
 use Rattle.qc_model.specs.declared.task.Task.{Task}
 use Rattle.qc_model.specs.declared.schedule.Slot.{Slot}
-use Rattle.qc_model.specs.Bays.{bays_up, bays_between}
 use Rattle.qc_model.specs.Instance.{InstanceView, bay_of, ticks_of, crane, IsBefore, IsApart}
+use Rattle.qc_model.specs.Ticks.{arrival, berth_clear, berth_distance, task_distance, travel_between}
 
 -- what stands for the slot of a task past the end; no rule speaks of it
 abbrev pub no_slot : Slot
@@ -18,13 +18,9 @@ start_of sched j = (slice_index_or sched j no_slot).start
 abbrev pub end_of : InstanceView → List Slot → ℕ → ℕ
 end_of inst sched j = start_of sched j + ticks_of inst j
 
--- the ticks by which crane v at bay x and crane w at bay y must keep clear of each other in time: the way that one must make to give way to the other
-abbrev pub distance : InstanceView → ℕ → ℤ → ℕ → ℤ → ℕ
-distance inst v x w y = inst.travel * (if nat_lt v w then bays_up y (x +ℤ pos (inst.gap * (w - v))) else (if nat_lt w v then bays_up x (y +ℤ pos (inst.gap * (v - w))) else 0))
-
 -- the distance of tasks i and j on their cranes
-abbrev pub task_distance : InstanceView → List Slot → ℕ → ℕ → ℕ
-task_distance inst sched i j = distance inst (crane_of sched i) (bay_of inst i) (crane_of sched j) (bay_of inst j)
+abbrev pub slot_distance : InstanceView → List Slot → ℕ → ℕ → ℕ
+slot_distance inst sched i j = task_distance inst i (crane_of sched i) j (crane_of sched j)
 
 -- one of the two tasks ends at least so many ticks before the other starts
 abbrev pub IsClear : InstanceView → List Slot → ℕ → ℕ → ℕ → Type 0
@@ -36,11 +32,11 @@ KeepsReach inst sched j = let c = crane inst (crane_of sched j) in (c.from ≤�
 
 -- Ready: the crane is ready and has come from its start bay
 abbrev pub KeepsReady : InstanceView → List Slot → ℕ → Type 0
-KeepsReady inst sched j = let c = crane inst (crane_of sched j) in c.ready + inst.travel * bays_between c.bay (bay_of inst j) ≤ start_of sched j
+KeepsReady inst sched j = arrival inst (crane_of sched j) (bay_of inst j) ≤ start_of sched j
 
 -- Travel: between two tasks a crane has the time to go from one to the other
 abbrev pub KeepsTravel : InstanceView → List Slot → ℕ → ℕ → Type 0
-KeepsTravel inst sched i j = crane_of sched i ≡ crane_of sched j → IsClear inst sched (inst.travel * bays_between (bay_of inst i) (bay_of inst j)) i j
+KeepsTravel inst sched i j = crane_of sched i ≡ crane_of sched j → IsClear inst sched (travel_between inst (bay_of inst i) (bay_of inst j)) i j
 
 -- Before: a task starts after those before it
 abbrev pub KeepsBefore : InstanceView → List Slot → ℕ → ℕ → Type 0
@@ -52,13 +48,14 @@ KeepsApart inst sched i j = IsApart inst i j → IsClear inst sched 0 i j
 
 -- Margin: tasks of two cranes that would come too near are clear of each other by their distance
 abbrev pub KeepsMargin : InstanceView → List Slot → ℕ → ℕ → Type 0
-KeepsMargin inst sched i j = crane_of sched i ≢ crane_of sched j → 0 < task_distance inst sched i j → IsClear inst sched (task_distance inst sched i j) i j
+KeepsMargin inst sched i j = crane_of sched i ≢ crane_of sched j → 0 < slot_distance inst sched i j → IsClear inst sched (slot_distance inst sched i j) i j
 
 -- Berth: crane v stands at its start bay until it is ready, and then has the time to give way to task j
 abbrev pub KeepsBerth : InstanceView → List Slot → ℕ → ℕ → Type 0
 KeepsBerth inst sched j v =
-    let way = distance inst v (crane inst v).bay (crane_of sched j) (bay_of inst j) in
-    v ≢ crane_of sched j → 0 < way → (crane inst v).ready + way ≤ start_of sched j
+    let w = crane_of sched j in
+    let x = bay_of inst j in
+    v ≢ w → 0 < berth_distance inst v w x → berth_clear inst v w x ≤ start_of sched j
 
 -- every task is done once, by a crane of the instance, and the seven rules hold for all tasks, pairs and cranes
 pub record Feasible (inst : InstanceView) (sched : List Slot) : Type 0 where
@@ -72,12 +69,15 @@ pub record Feasible (inst : InstanceView) (sched : List Slot) : Type 0 where
   pub margin : (i j : ℕ) → i < length inst.tasks → j < length inst.tasks → KeepsMargin inst sched i j
   pub berth : (j v : ℕ) → j < length inst.tasks → v < length inst.cranes → KeepsBerth inst sched j v
 
--- the greatest end of the tasks with these slots, and 0 where there is none
-abbrev pub last_end : List Task → List Slot → ℕ
-last_end [] slots = 0
+-- the greatest end of the tasks with these starts, and 0 where there is none
+abbrev pub last_end : List Task → List ℕ → ℕ
+last_end [] starts = 0
 last_end (t ∷ ts) [] = 0
-last_end (t ∷ ts) (s ∷ ss) = max (s.start + t.ticks) (last_end ts ss)
+last_end (t ∷ ts) (s ∷ ss) = max (s + t.ticks) (last_end ts ss)
+
+abbrev pub starts : List Slot → List ℕ
+starts sched = map (λ slot. slot.start) sched
 
 -- the end of a schedule
 abbrev pub ends : InstanceView → List Slot → ℕ
-ends inst sched = last_end inst.tasks sched
+ends inst sched = last_end inst.tasks (starts sched)

@@ -1,7 +1,7 @@
 ghost use Rattle.std.specs.Prelude.{◌≡◌, ◌*◌, ◌<◌, ◌≤◌, pos, ◌≤ℤ◌};
 ghost use Rattle.qc_model.specs.Bays.{bays_up, bays_between};
-ghost use Rattle.qc_model.specs.Limits.{IsOnRail};
-ghost use Rattle.qc_model.specs.Rules.{distance};
+ghost use Rattle.qc_model.specs.Instance.{IsOnRail};
+ghost use Rattle.qc_model.specs.Ticks.{distance};
 
 use crate::Instance;
 use qc_num::{Bay, Tick};

@@ -8,7 +8,7 @@ use crate::keeps::{
     run_apart,
 };
 use crate::search::{first_listed, first_pair, first_task};
-use crate::{Direction, Instance, Schedule};
+use crate::{Direction, Instance, Pair, Schedule};
 
 /// The first task out of its crane's reach.
 pub(crate) fn reach_fault(
@@ -16,7 +16,7 @@ pub(crate) fn reach_fault(
     sched: &Schedule,
     way: Direction,
     tasks: u16,
-) -> Option<(u16, u16)>
+) -> Option<Pair>
     requires judgeable { IsJudgeable inst.now sched.now }
     requires count { tasks ≡ length inst.now.tasks }
     ensures { FaultIs (seen inst.now way) (seen_schedule inst.now sched.now way) Reach result }
@@ -30,7 +30,7 @@ pub(crate) fn ready_fault(
     sched: &Schedule,
     way: Direction,
     tasks: u16,
-) -> Option<(u16, u16)>
+) -> Option<Pair>
     requires judgeable { IsJudgeable inst.now sched.now }
     requires count { tasks ≡ length inst.now.tasks }
     ensures { FaultIs (seen inst.now way) (seen_schedule inst.now sched.now way) Ready result }
@@ -44,7 +44,7 @@ pub(crate) fn travel_fault(
     sched: &Schedule,
     way: Direction,
     tasks: u16,
-) -> Option<(u16, u16)>
+) -> Option<Pair>
     requires judgeable { IsJudgeable inst.now sched.now }
     requires count { tasks ≡ length inst.now.tasks }
     ensures { FaultIs (seen inst.now way) (seen_schedule inst.now sched.now way) Travel result }
@@ -60,7 +60,7 @@ pub(crate) fn margin_fault(
     sched: &Schedule,
     way: Direction,
     tasks: u16,
-) -> Option<(u16, u16)>
+) -> Option<Pair>
     requires judgeable { IsJudgeable inst.now sched.now }
     requires count { tasks ≡ length inst.now.tasks }
     ensures { FaultIs (seen inst.now way) (seen_schedule inst.now sched.now way) Margin result }
@@ -76,7 +76,7 @@ pub(crate) fn berth_fault(
     sched: &Schedule,
     way: Direction,
     tasks: u16,
-) -> Option<(u16, u16)>
+) -> Option<Pair>
     requires judgeable { IsJudgeable inst.now sched.now }
     requires count { tasks ≡ length inst.now.tasks }
     ensures { FaultIs (seen inst.now way) (seen_schedule inst.now sched.now way) Berth result }
@@ -90,7 +90,7 @@ pub(crate) fn one_way_fault(
     sched: &Schedule,
     way: Direction,
     tasks: u16,
-) -> Option<(u16, u16)>
+) -> Option<Pair>
     requires judgeable { IsJudgeable inst.now sched.now }
     requires count { tasks ≡ length inst.now.tasks }
     ensures { FaultIs (seen inst.now way) (seen_schedule inst.now sched.now way) OneWay result }
@@ -101,7 +101,7 @@ pub(crate) fn one_way_fault(
 }
 
 /// The first two tasks of which one must end before the other starts, and doesn't.
-pub(crate) fn before_fault(inst: &Instance, sched: &Schedule, way: Direction) -> Option<(u16, u16)>
+pub(crate) fn before_fault(inst: &Instance, sched: &Schedule, way: Direction) -> Option<Pair>
     requires { IsJudgeable inst.now sched.now }
     ensures { FaultIs (seen inst.now way) (seen_schedule inst.now sched.now way) Before result }
 {
@@ -111,7 +111,7 @@ pub(crate) fn before_fault(inst: &Instance, sched: &Schedule, way: Direction) ->
 }
 
 /// The first two apart tasks that run at the same time.
-pub(crate) fn apart_fault(inst: &Instance, sched: &Schedule, way: Direction) -> Option<(u16, u16)>
+pub(crate) fn apart_fault(inst: &Instance, sched: &Schedule, way: Direction) -> Option<Pair>
     requires { IsJudgeable inst.now sched.now }
     ensures { FaultIs (seen inst.now way) (seen_schedule inst.now sched.now way) Apart result }
 {

@@ -1,7 +1,8 @@
 ghost use Rattle.std.specs.Prelude.{◌≡◌, ℕ, ◌+◌, ◌<◌, ◌≤◌, ◌⊎◌, ◌↔◌, IsTrue, length};
 ghost use Rattle.qc_model.specs.declared.rules.Rule.TheVariants.{Reach, Berth, OneWay};
 ghost use Rattle.qc_model.specs.Instance.{IsFrom};
-ghost use Rattle.qc_model.specs.Rules.{distance, KeepsReach, KeepsReady, KeepsTravel, KeepsMargin, KeepsBerth, IsClear, end_of, start_of};
+ghost use Rattle.qc_model.specs.Rules.{KeepsReach, KeepsReady, KeepsTravel, KeepsMargin, KeepsBerth, IsClear, end_of, start_of};
+ghost use Rattle.qc_model.specs.Ticks.{distance};
 ghost use Rattle.qc_model.specs.OneWay.{KeepsClimb, KeepsLead};
 ghost use Rattle.qc_model.specs.Seen.{seen, seen_schedule};
 ghost use Rattle.qc_model.specs.Judge.{IsJudgeable, Keeps};

@@ -7,6 +7,7 @@ mod distance;
 mod faults;
 mod instance;
 mod keeps;
+mod limits;
 mod name;
 mod pair;
 mod rules;
@@ -19,6 +20,10 @@ mod work;
 pub use crane::Crane;
 pub use direction::Direction;
 pub use instance::Instance;
+pub use limits::{
+    MOST_APART, MOST_CRANES, MOST_GAP, MOST_GAP_BY_PLACES, MOST_HATCHES, MOST_PLACE, MOST_READY,
+    MOST_START, MOST_TASKS, MOST_TRAVEL, MOST_TRAVEL_BY_PLACES, MOST_WORK,
+};
 pub use name::Name;
 pub use pair::Pair;
 pub use rules::{Break, Rule, direction_of, first_break};

@@ -7,7 +7,7 @@ use crate::faults::{
     apart_fault, before_fault, berth_fault, margin_fault, one_way_fault, reach_fault, ready_fault,
     travel_fault,
 };
-use crate::{Direction, Instance, Schedule};
+use crate::{Direction, Instance, Pair, Schedule};
 
 /// The rules of a schedule, in the order in which they are judged: those of a feasible
 /// schedule after Kim and Park (2004), and that of a one-way schedule after Bierwirth and
@@ -60,7 +60,7 @@ fn first_fault(
     way: Direction,
     tasks: u16,
     rule: Rule,
-) -> Option<(u16, u16)>
+) -> Option<Pair>
     requires judgeable { IsJudgeable inst.now sched.now }
     requires count { tasks ≡ length inst.now.tasks }
     ensures { FaultIs (seen inst.now way) (seen_schedule inst.now sched.now way) rule result }
@@ -90,7 +90,7 @@ pub fn first_break(inst: &Instance, sched: &Schedule, way: Direction) -> Option<
 {
     let tasks = inst.tasks().len() as u16;
     for rule in RULES {
-        if let Some((first, second)) = first_fault(inst, sched, way, tasks, rule) {
+        if let Some(Pair { first, second }) = first_fault(inst, sched, way, tasks, rule) {
             return Some(Break {
                 rule,
                 first,

@@ -1,17 +1,17 @@
 ghost use Rattle.std.specs.Prelude.{◌≡◌, ℕ, ◌⊎◌, ◌↔◌, IsTrue, length, ◌<◌, ◌+◌, true, MatchOption};
-ghost use Rattle.qc_model.specs.Judge.{IsEarlier};
-ghost use Rattle.qc_model.specs.Search.{IsFirstFailing, IsTaskSearch, IsPairSearch, IsListSearch, pair_at};
+ghost use Rattle.qc_model.specs.Instance.{IsEarlier};
+ghost use Rattle.qc_model.specs.Search.{IsFirstFailing, IsTaskSearch, IsPairSearch, IsListSearch, pair_at, rising};
 
 use crate::Pair;
 
 /// The first task at which the test answers no, twice.
-pub(crate) fn first_task<F: Fn(u16) -> bool + Drop>(tasks: u16, keeps: F) -> Option<(u16, u16)>
+pub(crate) fn first_task<F: Fn(u16) -> bool + Drop>(tasks: u16, keeps: F) -> Option<Pair>
     requires { (j : ℕ) → j < tasks → F.pre keeps j }
     ensures { IsTaskSearch tasks (F.post keeps) result }
 {
     for task in 0..tasks {
         if !keeps(task) {
-            return Some((task, task));
+            return Some(Pair { first: task, second: task });
         }
     }
     None
@@ -34,35 +34,44 @@ fn first_partner<F: Fn(u16, u16) -> bool>(first: u16, tasks: u16, keeps: &F) -> 
 }
 
 /// The first two tasks, the lower first, at which the test answers no.
-pub(crate) fn first_pair<F: Fn(u16, u16) -> bool + Drop>(tasks: u16, keeps: F) -> Option<(u16, u16)>
+pub(crate) fn first_pair<F: Fn(u16, u16) -> bool + Drop>(tasks: u16, keeps: F) -> Option<Pair>
     requires { (i j : ℕ) → i < j → j < tasks → F.pre keeps i j }
     ensures { IsPairSearch tasks (F.post keeps) result }
 {
     for first in 0..tasks {
         if let Some(second) = first_partner(first, tasks, &keeps) {
-            return Some((first, second));
+            return Some(Pair { first, second });
         }
     }
     None
 }
 
-/// Whether the place comes before the other: by the first number, and then by the second.
-fn is_earlier(place: (u16, u16), other: (u16, u16)) -> bool
-    ensures { IsTrue result ↔ IsEarlier place.0 place.1 other.0 other.1 }
+/// Whether a pair comes before another: by its first task, then by its second.
+fn is_earlier(pair: Pair, other: Pair) -> bool
+    ensures { IsTrue result ↔ IsEarlier pair other }
 {
-    place.0 < other.0 || (place.0 == other.0 && place.1 < other.1)
+    pair.first < other.first || (pair.first == other.first && pair.second < other.second)
 }
 
-/// The earlier of the place and the one held so far.
-fn earlier(held: Option<(u16, u16)>, place: (u16, u16)) -> (u16, u16)
+/// The earlier of the pair and the one held so far.
+fn earlier(held: Option<Pair>, pair: Pair) -> Pair
     ensures { MatchOption held
-        (result ≡ place)
-        (λ h. ((result ≡ place) × IsEarlier place.0 place.1 h.0 h.1)
-        ⊎ ((result ≡ h) × (¬ IsEarlier place.0 place.1 h.0 h.1))) }
+        (result ≡ pair)
+        (λ h. ((result ≡ pair) × IsEarlier pair h) ⊎ ((result ≡ h) × (¬ IsEarlier pair h))) }
 {
     match held {
-        Some(other) if !is_earlier(place, other) => other,
-        _ => place,
+        Some(other) if !is_earlier(pair, other) => other,
+        _ => pair,
+    }
+}
+
+/// The two tasks of a pair, the lower first.
+fn rising(pair: Pair) -> Pair
+    ensures { result ≡ rising pair }
+{
+    Pair {
+        first: pair.first.min(pair.second),
+        second: pair.first.max(pair.second),
     }
 }
 
@@ -70,7 +79,7 @@ fn earlier(held: Option<(u16, u16)>, place: (u16, u16)) -> (u16, u16)
 pub(crate) fn first_listed<F: Fn(u16, u16) -> bool + Drop>(
     pairs: &[Pair],
     keeps: F,
-) -> Option<(u16, u16)>
+) -> Option<Pair>
     requires { (m : ℕ) → m < length pairs.now
         → F.pre keeps (pair_at pairs.now m).first (pair_at pairs.now m).second }
     ensures { IsListSearch (length pairs.now) pairs.now (F.post keeps) result }
@@ -78,8 +87,7 @@ pub(crate) fn first_listed<F: Fn(u16, u16) -> bool + Drop>(
     let mut held = None;
     for pair in pairs {
         if !keeps(pair.first, pair.second) {
-            let place = (pair.first.min(pair.second), pair.first.max(pair.second));
-            held = Some(earlier(held, place));
+            held = Some(earlier(held, rising(*pair)));
         }
     }
     held

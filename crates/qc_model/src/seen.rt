@@ -1,5 +1,5 @@
 ghost use Rattle.std.specs.Prelude.{◌≡◌, ◌<◌, length, pos};
-ghost use Rattle.qc_model.specs.Limits.{IsOnRail};
+ghost use Rattle.qc_model.specs.Instance.{IsOnRail};
 ghost use Rattle.qc_model.specs.Seen.{seen_bay, seen_crane};
 
 use crate::{Direction, Instance};

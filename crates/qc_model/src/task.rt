@@ -18,7 +18,19 @@ pub enum Phase {
 }
 
 impl Phase {
-    ghost use Rattle.qc_model.specs.Tasks.{phase_text};
+    ghost use Rattle.qc_model.specs.Tasks.{phase_rank, phase_text};
+
+    /// Its place in the order of the work at a hatch, from 0.
+    pub fn rank(self) -> u8
+        ensures { result ≡ phase_rank self }
+    {
+        match self {
+            Phase::DeckOut => 0,
+            Phase::HoldOut => 1,
+            Phase::HoldIn => 2,
+            Phase::DeckIn => 3,
+        }
+    }
 
     /// How the phase is printed.
     pub fn text(self) -> &'static [u8; 2]

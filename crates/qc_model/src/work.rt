@@ -1,6 +1,6 @@
 ghost use Rattle.std.specs.Prelude.{◌≡◌, ◌<◌, ◌≤◌, ◌^◌, length};
 ghost use Rattle.qc_model.specs.Instance.{bay_of, crane};
-ghost use Rattle.qc_model.specs.Limits.{IsOnRail};
+ghost use Rattle.qc_model.specs.Instance.{IsOnRail};
 ghost use Rattle.qc_model.specs.Rules.{crane_of, start_of, end_of};
 ghost use Rattle.qc_model.specs.Seen.{seen, seen_schedule};
 ghost use Rattle.qc_model.specs.Judge.{IsJudgeable};

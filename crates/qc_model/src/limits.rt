@@ -1,0 +1,39 @@
+// The limits of every instance.
+
+use qc_num::Tick;
+
+/// The most tasks.
+pub const MOST_TASKS: u16 = 240;
+
+/// The most cranes.
+pub const MOST_CRANES: u16 = 8;
+
+/// The most crane bays of a ship whose hatches stand one bay apart, and so the most hatches.
+pub const MOST_HATCHES: u16 = 60;
+
+/// The greatest place of a ship whose places are given in decimetres.
+pub const MOST_PLACE: u16 = 6_000;
+
+/// The most ticks of travel per bay.
+pub const MOST_TRAVEL: Tick = 10_000;
+
+/// The most ticks of travel per decimetre.
+pub const MOST_TRAVEL_BY_PLACES: Tick = 100;
+
+/// How many bays neighbouring cranes are apart at most.
+pub const MOST_GAP: u16 = 21;
+
+/// How many decimetres neighbouring cranes are apart at most.
+pub const MOST_GAP_BY_PLACES: u16 = 2_000;
+
+/// The last tick at which a crane may become ready.
+pub const MOST_READY: Tick = 1_000_000;
+
+/// The most ticks of all tasks together.
+pub const MOST_WORK: Tick = 502_400_000;
+
+/// The most pairs of tasks that may not run at the same time.
+pub const MOST_APART: usize = 1_600;
+
+/// The last tick at which a task may start in a schedule that is judged: twelve digits.
+pub const MOST_START: Tick = 999_999_999_999;
