@@ -11,11 +11,12 @@ use Rattle.qc_model.specs.declared.schedule.Slot.{Slot}
 use Rattle.qc_model.specs.Bays.{bays_between}
 use Rattle.qc_model.specs.declared.pair.Pair.{Pair}
 use Rattle.qc_model.specs.Instance.{InstanceView, Valid, bay_of, pair_of, IsBefore, IsApart}
-use Rattle.qc_model.specs.Rules.{crane_of, distance, IsClear, KeepsTravel, KeepsMargin, Feasible}
+use Rattle.qc_model.specs.Rules.{crane_of, IsClear, KeepsTravel, KeepsMargin, Feasible}
+use Rattle.qc_model.specs.Ticks.{distance}
 use Rattle.qc_model.specs.OneWay.{GoesUp, KeepsClimb, KeepsLead, mirror, mirror_slot, mirror_schedule}
 use Rattle.qc_model.specs.declared.rules.Break.{Break}
 use Rattle.qc_model.specs.Seen.{seen, seen_schedule}
-use Rattle.qc_model.specs.Judge.{IsJudgeable, IsPlace, KeepsAll, Goes, IsFirstBreak}
+use Rattle.qc_model.specs.Judge.{IsJudgeable, IsJudgedAt, rule_rank, KeepsAll, Goes, IsFirstBreak}
 use Rattle.qc_model.proofs.SeenLemmas.{seen-task_count, seen-crane_count, seen-crane_of, seen-before, seen-apart}
 
 -- what the rules take for granted of an instance and a schedule
@@ -53,17 +54,17 @@ margin_swapped inst sched i j k differ near =
 by_order : {P : Type 0} (i j : ℕ) → (i ≡ j → P) → (i < j → P) → (j < i → P) → P
 by_order i j same up down = elim (cases_order i j) [ inl e ↦ same e | inr u ↦ elim u [ inl h ↦ up h | inr h ↦ down h ] ]
 
-feasible_of : (inst : InstanceView) (sched : List Slot) → IsSound inst sched → ((rule : Rule) → KeepsAll inst sched rule) → Feasible inst sched
+feasible_of : (inst : InstanceView) (sched : List Slot) → IsSound inst sched → ((rule : Rule) → rule_rank rule < 7 → KeepsAll inst sched rule) → Feasible inst sched
 feasible_of inst sched s k = record {
   all_tasks = s.all_tasks;
   crane_range = s.crane_range;
-  reach = λ j h. k Reach j j refl h;
-  ready = λ j h. k Ready j j refl h;
-  travel = λ i j g h differ. by_order i j (λ e. absurd (differ e)) (λ l. k Travel i j l h) (λ l. travel_swapped inst sched j i (k Travel j i l g));
-  before = λ i j g h b. by_order i j (λ e. absurd (s.before_differ i j b e)) (λ l. (k Before i j l h).0 b) (λ l. (k Before j i l g).1 b);
-  apart = λ i j g h a. (k Apart i j (s.apart_order i j a) h).0 a;
-  margin = λ i j g h. by_order i j (λ e differ. absurd (differ (ap (crane_of sched) e))) (λ l. k Margin i j l h) (λ l. margin_swapped inst sched j i (k Margin j i l g));
-  berth = λ j v h r. k Berth j j refl h v r;
+  reach = λ j h. k Reach (omega arith) j j refl h;
+  ready = λ j h. k Ready (omega arith) j j refl h;
+  travel = λ i j g h differ. by_order i j (λ e. absurd (differ e)) (λ l. k Travel (omega arith) i j l h) (λ l. travel_swapped inst sched j i (k Travel (omega arith) j i l g));
+  before = λ i j g h b. by_order i j (λ e. absurd (s.before_differ i j b e)) (λ l. (k Before (omega arith) i j l h).0 b) (λ l. (k Before (omega arith) j i l g).1 b);
+  apart = λ i j g h a. (k Apart (omega arith) i j (s.apart_order i j a) h).0 a;
+  margin = λ i j g h. by_order i j (λ e differ. absurd (differ (ap (crane_of sched) e))) (λ l. k Margin (omega arith) i j l h) (λ l. margin_swapped inst sched j i (k Margin (omega arith) j i l g));
+  berth = λ j v h r. k Berth (omega arith) j j refl h v r;
 }
 
 climb_itself : (inst : InstanceView) (sched : List Slot) (i j : ℕ) → i ≡ j → KeepsClimb inst sched i j
@@ -74,7 +75,7 @@ lead_itself inst sched i j e lower near = let b = ap (crane_of sched) e in absur
 
 pub goes_of : (inst : InstanceView) (sched : List Slot) → IsSound inst sched → ((rule : Rule) → KeepsAll inst sched rule) → GoesUp inst sched
 goes_of inst sched s k = record {
-  feasible = feasible_of inst sched s k;
+  feasible = feasible_of inst sched s (λ rule _. k rule);
   upward = record {
     one_crane = λ i j g h. by_order i j (climb_itself inst sched i j) (λ l. (k OneWay i j l h).0) (λ l. (k OneWay j i l g).1);
     two_cranes = λ i j g h. by_order i j (lead_itself inst sched i j) (λ l. (k OneWay i j l h).2) (λ l. (k OneWay j i l g).3);
@@ -125,18 +126,24 @@ keeps_seen inst sched Down g rule = keeps_of (mirror inst) (mirror_schedule inst
 
 -- a schedule with a first break doesn't go that way
 pub breaks_seen : (inst : InstanceView) (sched : List Slot) (way : Direction) (b : Break) → IsFirstBreak (seen inst way) (seen_schedule inst sched way) b → ¬ Goes inst sched way
-breaks_seen inst sched way b h g = h.place.fault (keeps_seen inst sched way g b.rule b.first b.second h.place.place h.place.range)
+breaks_seen inst sched way b h g = h.fault.fails (keeps_seen inst sched way g b.rule b.first b.second h.fault.judged h.fault.range)
 
-place_order : (rule : Rule) (i j : ℕ) → IsPlace rule i j → i ≤ j
-place_order Reach i j h = omega arith
-place_order Ready i j h = omega arith
-place_order Travel i j h = omega arith
-place_order Before i j h = omega arith
-place_order Apart i j h = omega arith
-place_order Margin i j h = omega arith
-place_order Berth i j h = omega arith
-place_order OneWay i j h = omega arith
+pub judged_order : (rule : Rule) (i j : ℕ) → IsJudgedAt rule i j → i ≤ j
+judged_order Reach i j h = omega arith
+judged_order Ready i j h = omega arith
+judged_order Travel i j h = omega arith
+judged_order Before i j h = omega arith
+judged_order Apart i j h = omega arith
+judged_order Margin i j h = omega arith
+judged_order Berth i j h = omega arith
+judged_order OneWay i j h = omega arith
 
 -- a break names tasks of the instance, the lower first
 pub break_range : (inst : InstanceView) (sched : List Slot) (way : Direction) (b : Break) → IsFirstBreak (seen inst way) (seen_schedule inst sched way) b → (b.first ≤ b.second) × (b.second < length inst.tasks)
-break_range inst sched way b h = (place_order b.rule b.first b.second h.place.place, rw (seen-task_count inst way) at h.place.range)
+break_range inst sched way b h = (judged_order b.rule b.first b.second h.fault.judged, rw (seen-task_count inst way) at h.fault.range)
+
+-- where OneWay is the first rule to fail, the schedule is feasible
+pub break_feasible : (inst : InstanceView) (sched : List Slot) (way : Direction) → Valid inst → IsJudgeable inst sched → (b : Break) → IsFirstBreak (seen inst way) (seen_schedule inst sched way) b → b.rule ≡ OneWay → Feasible (seen inst way) (seen_schedule inst sched way)
+break_feasible inst sched way v s b h e =
+    let seven : rule_rank b.rule ≡ 7 = ap rule_rank e in
+    feasible_of (seen inst way) (seen_schedule inst sched way) (sound_seen inst sched way v s) (λ rule low. h.rules rule (omega arith))

@@ -1,8 +1,8 @@
 pub mod Bays
-mod LimitsOf
-mod SeenLemmas
-mod OnRail
-mod FaultLemmas
-mod ListedLemmas
-mod GoesLemmas
+pub mod LimitsOf
+pub mod SeenLemmas
+pub mod OnRail
+pub mod GoesLemmas
+pub mod PairOrder
+pub mod InRange
 mod RuleOrder

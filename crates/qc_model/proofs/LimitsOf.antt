@@ -1,16 +1,17 @@
 -- Every instance keeps the limits.
-use Rattle.std.proofs.Common.{ℕ, ◌<◌, ◌≤◌, ℤ, pos, negsuc, length, arith, ◌⊎◌, inl, inr}
+use Rattle.std.proofs.Common.{◌≡◌, ℕ, refl, ◌<◌, ◌≤◌, ℤ, pos, negsuc, length, arith, ◌⊎◌, inl, inr}
 use Rattle.std.proofs.lemmas.Int.{ints}
 use mathlib.Core.Logic.{∥∥₁_elim}
 use denote.Struct.Props.{props}
-use Rattle.qc_model.specs.Instance.{InstanceView, Valid, HasBayLimits, HasPlaceLimits, IsFrom, crane, mirror_bay}
-use Rattle.qc_model.specs.Limits.{HasLimits, IsOnRail}
+use Rattle.qc_model.specs.Bays.{at_least_zero}
+use Rattle.qc_model.specs.Instance.{InstanceView, Valid, HasBayLimits, HasPlaceLimits, IsFrom, IsOnRail, crane, mirror_bay}
+use Rattle.qc_model.specs.Limits.{HasLimits}
 
 -- the part of the limits that the two kinds of ship give
 record HasSizes (inst : InstanceView) : Type 0 where
-  bays : inst.bays ≤ 6000
+  bays : (1 ≤ inst.bays) × (inst.bays ≤ 6000)
   travel : inst.travel ≤ 10000
-  gap : inst.gap ≤ 2000
+  gap : (1 ≤ inst.gap) × (inst.gap ≤ 2000)
   berths : (k : ℕ) → k < length inst.cranes → IsOnRail (crane inst k).bay × IsOnRail (mirror_bay inst (crane inst k).bay)
 
 wider : (x : ℤ) → IsFrom (negsuc 299) (pos 300) x → IsOnRail x
@@ -18,15 +19,15 @@ wider x h = (omega (arith, ints), omega (arith, ints))
 
 sizes_of : (inst : InstanceView) → HasBayLimits inst ⊎ HasPlaceLimits inst → HasSizes inst
 sizes_of inst (inl h) = record {
-  bays = omega (arith, h.bays.1);
+  bays = (h.bays.0, omega (arith, h.bays.1));
   travel = h.travel.1;
-  gap = omega (arith, h.gap.1);
+  gap = (h.gap.0, omega (arith, h.gap.1));
   berths = λ k p. (wider _ (h.berths k p).0, wider _ (h.berths k p).1);
 }
 sizes_of inst (inr h) = record {
-  bays = h.bays.1;
+  bays = h.bays;
   travel = omega (arith, h.travel.1);
-  gap = h.gap.1;
+  gap = h.gap;
   berths = h.berths;
 }
 
@@ -34,3 +35,8 @@ pub limits_of : (inst : InstanceView) → Valid inst → HasLimits inst
 limits_of inst v =
     let s = ∥∥₁_elim v.limits (hlevel props) (sizes_of inst) in
     record { bays = s.bays; travel = s.travel; gap = s.gap; cranes = v.cranes.count.1; berths = s.berths }
+
+-- a whole number that counts as at least 1 is that number
+pub counted : (z : ℤ) → 1 ≤ at_least_zero z → z ≡ pos (at_least_zero z)
+counted (pos n) h = refl
+counted (negsuc n) h = absurd (omega arith)

@@ -6,9 +6,8 @@ use Rattle.qc_model.specs.declared.crane.Crane.{Crane}
 use Rattle.std.proofs.lemmas.List.Sums.{get_or-le-sum_by}
 use Rattle.qc_model.specs.declared.direction.Direction.{Direction}
 use Rattle.qc_model.specs.declared.direction.Direction.TheVariants.{Up, Down}
-use Rattle.qc_model.specs.Instance.{InstanceView, Valid, no_task, no_crane, bay_of, ticks_of, crane}
-use Rattle.qc_model.specs.Limits.{IsOnRail}
-use Rattle.qc_model.specs.Seen.{seen_bay}
+use Rattle.qc_model.specs.Instance.{InstanceView, Valid, no_task, no_crane, IsOnRail, bay_of, ticks_of, crane}
+use Rattle.qc_model.specs.Seen.{seen_bay, seen_crane}
 use Rattle.qc_model.proofs.LimitsOf.{limits_of}
 
 pub task_on_rail : (inst : InstanceView) → Valid inst → (way : Direction) (j : ℕ) → j < length inst.tasks → IsOnRail (seen_bay inst way (bay_of inst j))
@@ -24,6 +23,16 @@ task_on_rail inst v Down j h =
 pub berth_on_rail : (inst : InstanceView) → Valid inst → (way : Direction) (k : ℕ) → k < length inst.cranes → IsOnRail (seen_bay inst way (crane inst k).bay)
 berth_on_rail inst v Up k h = ((limits_of inst v).berths k h).0
 berth_on_rail inst v Down k h = ((limits_of inst v).berths k h).1
+
+pub reach_on_rail : (inst : InstanceView) → Valid inst → (k : ℕ) → k < length inst.cranes → IsOnRail (crane inst k).from × IsOnRail (crane inst k).to
+reach_on_rail inst v k h =
+    let l = limits_of inst v in
+    let r = v.cranes.reach k h in
+    ((omega (arith, ints), omega (arith, ints)), (omega (arith, ints), omega (arith, ints)))
+
+pub seen_on_rail : (inst : InstanceView) → Valid inst → (way : Direction) (k : ℕ) → k < length inst.cranes → IsOnRail (seen_crane inst way (crane inst k)).bay
+seen_on_rail inst v Up k h = berth_on_rail inst v Up k h
+seen_on_rail inst v Down k h = berth_on_rail inst v Down k h
 
 -- a bay as the code reads it
 pub read_bay : (x y : ℤ) → x ≡ y → IsOnRail y → to_z w32 (of_z w32 x) ≡ y

@@ -1,15 +1,15 @@
 -- What is seen of an instance and a schedule, part by part.
-use Rattle.std.proofs.Common.{◌≡◌, ℕ, ◌-◌, ◌<◌, ℤ, ◌≤ℤ◌, ◌↔◌, List, length, get_or, map, refl, ap, sym, ◌∙◌, arith}
-use Rattle.std.proofs.lemmas.Int.{ints}
+use Rattle.std.proofs.Common.{◌≡◌, ℕ, ◌-◌, ◌<◌, ℤ, List, length, get_or, map, refl, ap, ◌∙◌, arith}
 use Rattle.std.proofs.lemmas.List.{get_or-map, get_or-reverse, length-map}
 use Rattle.std.proofs.Math.ListN.{length-reverse}
 use Rattle.qc_model.specs.declared.direction.Direction.{Direction}
 use Rattle.qc_model.specs.declared.direction.Direction.TheVariants.{Up, Down}
 use Rattle.qc_model.specs.declared.schedule.Slot.{Slot}
-use Rattle.qc_model.specs.Instance.{InstanceView, no_task, no_crane, bay_of, ticks_of, crane, mirror_bay}
-use Rattle.qc_model.specs.Rules.{no_slot, crane_of, start_of, distance, task_distance, KeepsReach}
+use Rattle.qc_model.specs.Instance.{InstanceView, no_task, no_crane, bay_of, ticks_of, crane}
+use Rattle.qc_model.specs.Rules.{no_slot, crane_of, start_of}
+use Rattle.qc_model.specs.Ticks.{distance, travel_between}
 use Rattle.qc_model.specs.OneWay.{mirror, mirror_task, mirror_crane, mirror_slot}
-use Rattle.qc_model.specs.Seen.{seen, seen_schedule, seen_bay, seen_crane}
+use Rattle.qc_model.specs.Seen.{seen, seen_schedule, seen_bay, seen_crane, seen_number}
 
 pub seen-travel : (inst : InstanceView) (way : Direction) → (seen inst way).travel ≡ inst.travel
 seen-travel inst Up = refl
@@ -43,7 +43,7 @@ pub seen-ticks_of : (inst : InstanceView) (way : Direction) (j : ℕ) → j < le
 seen-ticks_of inst Up j h = refl
 seen-ticks_of inst Down j h = ap (λ t. t.ticks) (get_or-map (mirror_task inst) inst.tasks j no_task no_task h)
 
-pub seen-crane_of : (inst : InstanceView) (sched : List Slot) (way : Direction) (j : ℕ) → j < length sched → crane_of (seen_schedule inst sched way) j ≡ seen_crane inst way (crane_of sched j)
+pub seen-crane_of : (inst : InstanceView) (sched : List Slot) (way : Direction) (j : ℕ) → j < length sched → crane_of (seen_schedule inst sched way) j ≡ seen_number inst way (crane_of sched j)
 seen-crane_of inst sched Up j h = refl
 seen-crane_of inst sched Down j h = ap (λ s. s.crane) (get_or-map (mirror_slot inst) sched j no_slot no_slot h)
 
@@ -61,49 +61,15 @@ mirror-crane inst k h =
     ∙ ap (λ m. get_or (map (mirror_crane inst) inst.cranes) (m - 1 - k) no_crane) n
     ∙ get_or-map (mirror_crane inst) inst.cranes (length inst.cranes - 1 - k) no_crane no_crane b
 
-pub seen-crane_ready : (inst : InstanceView) (way : Direction) (k : ℕ) → k < length inst.cranes → (crane (seen inst way) k).ready ≡ (crane inst (seen_crane inst way k)).ready
-seen-crane_ready inst Up k h = refl
-seen-crane_ready inst Down k h = ap (λ c. c.ready) (mirror-crane inst k h)
-
-pub seen-crane_bay : (inst : InstanceView) (way : Direction) (k : ℕ) → k < length inst.cranes → (crane (seen inst way) k).bay ≡ seen_bay inst way (crane inst (seen_crane inst way k)).bay
-seen-crane_bay inst Up k h = refl
-seen-crane_bay inst Down k h = ap (λ c. c.bay) (mirror-crane inst k h)
+-- a crane that is seen is one of the instance, as it is seen
+pub seen-crane : (inst : InstanceView) (way : Direction) (k : ℕ) → k < length inst.cranes → crane (seen inst way) k ≡ seen_crane inst way (crane inst (seen_number inst way k))
+seen-crane inst Up k h = refl
+seen-crane inst Down k h = mirror-crane inst k h
 
 pub seen-distance : (inst : InstanceView) (way : Direction) (v : ℕ) (x : ℤ) (w : ℕ) (y : ℤ) → distance (seen inst way) v x w y ≡ distance inst v x w y
 seen-distance inst Up v x w y = refl
 seen-distance inst Down v x w y = refl
 
--- the distance that the code computes is that of the two tasks as they are seen
-pub task_distance_is : (inst : InstanceView) (sched : List Slot) (way : Direction) (i j v w d : ℕ) (x y : ℤ) → d ≡ distance inst v x w y
-    → v ≡ crane_of (seen_schedule inst sched way) i → x ≡ bay_of (seen inst way) i
-    → w ≡ crane_of (seen_schedule inst sched way) j → y ≡ bay_of (seen inst way) j
-    → d ≡ task_distance (seen inst way) (seen_schedule inst sched way) i j
-task_distance_is inst sched way i j v w d x y e p q r s =
-    e ∙ ap (λ k. distance inst k x w y) p
-    ∙ ap (λ z. distance inst (crane_of (seen_schedule inst sched way) i) z w y) q
-    ∙ ap (λ k. distance inst (crane_of (seen_schedule inst sched way) i) (bay_of (seen inst way) i) k y) r
-    ∙ ap (λ z. distance inst (crane_of (seen_schedule inst sched way) i) (bay_of (seen inst way) i) (crane_of (seen_schedule inst sched way) j) z) s
-    ∙ sym (seen-distance inst way (crane_of (seen_schedule inst sched way) i) (bay_of (seen inst way) i) (crane_of (seen_schedule inst sched way) j) (bay_of (seen inst way) j))
-
--- to lie within reach is the same in either direction
-pub seen-reach : (inst : InstanceView) (sched : List Slot) (way : Direction) (j : ℕ) → j < length inst.tasks → length sched ≡ length inst.tasks → crane_of sched j < length inst.cranes
-    → KeepsReach inst sched j ↔ KeepsReach (seen inst way) (seen_schedule inst sched way) j
-seen-reach inst sched Up j h e r = (λ k. k, λ k. k)
-seen-reach inst sched Down j h e r =
-    let n = length inst.cranes in
-    let c = crane_of sched j in
-    let low : n - 1 - c < n = omega arith in
-    let back : n - 1 - (n - 1 - c) ≡ c = omega arith in
-    let g : j < length sched = omega arith in
-    let p = seen-crane_of inst sched Down j g in
-    let q = ap (crane (mirror inst)) p ∙ mirror-crane inst (n - 1 - c) low ∙ ap (λ m. mirror_crane inst (crane inst m)) back in
-    let b = seen-bay_of inst Down j h in
-    let low_is = ap (λ x. x.from) q in
-    let high_is = ap (λ x. x.to) q in
-    (λ k. (rw (low_is, b) (turned inst _ _ k.1), rw (high_is, b) (turned inst _ _ k.0)), λ k. (back_turned inst _ _ (rw (b, high_is) at k.1), back_turned inst _ _ (rw (low_is, b) at k.0)))
-  where
-    turned : (inst : InstanceView) (x y : ℤ) → x ≤ℤ y → mirror_bay inst y ≤ℤ mirror_bay inst x
-    turned inst x y h = omega (arith, ints)
-
-    back_turned : (inst : InstanceView) (x y : ℤ) → mirror_bay inst y ≤ℤ mirror_bay inst x → x ≤ℤ y
-    back_turned inst x y h = omega (arith, ints)
+pub seen-travel_between : (inst : InstanceView) (way : Direction) (x y : ℤ) → travel_between (seen inst way) x y ≡ travel_between inst x y
+seen-travel_between inst Up x y = refl
+seen-travel_between inst Down x y = refl

@@ -8,5 +8,5 @@ pub mod OneWay
 pub mod Limits
 pub mod Seen
 pub mod Judge
-pub mod Search
+pub mod Judged
 pub mod InstanceFields

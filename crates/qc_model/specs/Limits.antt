@@ -4,8 +4,8 @@ use Rattle.qc_model.specs.declared.limits.TheConstants.{MOST_CRANES, MOST_GAP_BY
 use Rattle.qc_model.specs.Instance.{InstanceView, crane, mirror_bay, IsOnRail}
 
 pub record HasLimits (inst : InstanceView) : Type 0 where
-  pub bays : inst.bays ≤ MOST_PLACE
+  pub bays : (1 ≤ inst.bays) × (inst.bays ≤ MOST_PLACE)
   pub travel : inst.travel ≤ MOST_TRAVEL
-  pub gap : inst.gap ≤ MOST_GAP_BY_PLACES
+  pub gap : (1 ≤ inst.gap) × (inst.gap ≤ MOST_GAP_BY_PLACES)
   pub cranes : length inst.cranes ≤ MOST_CRANES
   pub berths : (k : ℕ) → k < length inst.cranes → IsOnRail (crane inst k).bay × IsOnRail (mirror_bay inst (crane inst k).bay)

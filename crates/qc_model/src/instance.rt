@@ -1,6 +1,6 @@
-ghost use Rattle.std.specs.Prelude.{◌≡◌, pos, ◌≤ℤ◌, ◌<ℤ◌};
+ghost use Rattle.std.specs.Prelude.{◌≡◌, ◌↔◌, pos, AllPairs, Contains, IsTrue};
 ghost use Rattle.qc_model.specs.Bays.{at_least_zero};
-ghost use Rattle.qc_model.specs.Instance.{InstanceView, Valid};
+ghost use Rattle.qc_model.specs.Instance.{IsApart, IsBefore, IsEarlier, Valid};
 
 use crate::{Crane, Pair, Task};
 use qc_num::{Bay, Tick};
@@ -19,13 +19,10 @@ pub struct Instance {
 }
 
 impl Model for Instance {
-    ghost use Rattle.std.specs.Prelude.{◌≡◌, pos};
-    ghost use Rattle.qc_model.specs.Bays.{at_least_zero};
-    ghost use Rattle.qc_model.specs.Instance.{InstanceView, Valid};
+    ghost use Rattle.qc_model.specs.Instance.{InstanceView};
+    ghost use Rattle.qc_model.specs.InstanceFields.{view_of, IsKept};
 
     ghost Value = { InstanceView };
-
-    ghost use Rattle.qc_model.specs.InstanceFields.{view_of, IsKept};
 
     ghost view = { view_of };
 
@@ -43,10 +40,24 @@ impl Instance {
         before: Vec<Pair>,
         apart: Vec<Pair>,
     ) -> Instance
-        requires bays { pos 0 ≤ℤ bays }
-        requires gap { pos 0 ≤ℤ gap }
-        requires valid { Valid (record { bays = at_least_zero bays; travel = travel; gap = at_least_zero gap; tasks = tasks.items; cranes = cranes.items; before = before.items; apart = apart.items }) }
-        ensures { result ≡ record { bays = at_least_zero bays; travel = travel; gap = at_least_zero gap; tasks = tasks.items; cranes = cranes.items; before = before.items; apart = apart.items } }
+        requires { Valid (record {
+          bays = at_least_zero bays;
+          travel = travel;
+          gap = at_least_zero gap;
+          tasks = tasks.items;
+          cranes = cranes.items;
+          before = before.items;
+          apart = apart.items;
+        }) }
+        ensures { result ≡ record {
+          bays = at_least_zero bays;
+          travel = travel;
+          gap = at_least_zero gap;
+          tasks = tasks.items;
+          cranes = cranes.items;
+          before = before.items;
+          apart = apart.items;
+        } }
     {
         Instance {
             bays,
@@ -114,4 +125,26 @@ impl Instance {
     {
         self.apart.as_slice()
     }
+
+    /// Whether one task must end before another starts.
+    pub fn is_before(&self, first: u16, second: u16) -> bool
+        ensures { IsTrue result ↔ IsBefore self.now first second }
+    {
+        holds(self.before.as_slice(), Pair { first, second })
+    }
+
+    /// Whether two tasks, the lower first, may not run at the same time.
+    pub fn is_apart(&self, first: u16, second: u16) -> bool
+        ensures { IsTrue result ↔ IsApart self.now first second }
+    {
+        holds(self.apart.as_slice(), Pair { first, second })
+    }
+}
+
+/// Whether a list of pairs in order has a pair.
+fn holds(pairs: &[Pair], pair: Pair) -> bool
+    requires { AllPairs IsEarlier pairs.now }
+    ensures { IsTrue result ↔ Contains pairs.now pair }
+{
+    pairs.binary_search(&pair).is_ok()
 }

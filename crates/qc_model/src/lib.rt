@@ -3,9 +3,8 @@
 
 mod crane;
 mod direction;
-mod distance;
-mod faults;
 mod instance;
+mod judge;
 mod keeps;
 mod limits;
 mod name;
@@ -15,17 +14,19 @@ mod schedule;
 mod search;
 mod seen;
 mod task;
-mod work;
+mod ticks;
 
 pub use crane::Crane;
 pub use direction::Direction;
 pub use instance::Instance;
 pub use limits::{
-    MOST_APART, MOST_CRANES, MOST_GAP, MOST_GAP_BY_PLACES, MOST_HATCHES, MOST_PLACE, MOST_READY,
-    MOST_START, MOST_TASKS, MOST_TRAVEL, MOST_TRAVEL_BY_PLACES, MOST_WORK,
+    MOST_APART, MOST_BAYS, MOST_CRANES, MOST_DISTANCE, MOST_END, MOST_GAP, MOST_GAP_BY_PLACES,
+    MOST_HATCHES, MOST_PLACE, MOST_READY, MOST_START, MOST_TASKS, MOST_TRAVEL,
+    MOST_TRAVEL_BY_PLACES, MOST_WORK,
 };
 pub use name::Name;
 pub use pair::Pair;
-pub use rules::{Break, Rule, direction_of, first_break};
+pub use rules::{Break, Rule, direction_of, first_break, is_judgeable};
 pub use schedule::{Schedule, Slot};
 pub use task::{Phase, Task, TaskText};
+pub use ticks::{bays_between, bays_up, distance, travel_over};

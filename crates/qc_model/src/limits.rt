@@ -37,3 +37,12 @@ pub const MOST_APART: usize = 1_600;
 
 /// The last tick at which a task may start in a schedule that is judged: twelve digits.
 pub const MOST_START: Tick = 999_999_999_999;
+
+/// The last tick at which a task ends in a schedule that is judged.
+pub const MOST_END: Tick = MOST_START + MOST_WORK;
+
+/// The most bays between two places of which the ticks are asked for, gaps included.
+pub const MOST_BAYS: Tick = 60_000;
+
+/// The most ticks by which cranes keep clear of each other, and of travel between two bays.
+pub const MOST_DISTANCE: Tick = MOST_TRAVEL * MOST_BAYS;

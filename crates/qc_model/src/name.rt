@@ -1,25 +1,25 @@
-ghost use Rattle.std.specs.Prelude.{◌≡◌, ℕ, List, take, ◌≤◌, IfSome, IsSome, IsTrue, ◌↔◌};
+ghost use Rattle.std.specs.Prelude.{◌≡◌, ◌↔◌, IfSome, IsSome, IsTrue};
 ghost use Rattle.std.specs.List.{list_all};
 ghost use Rattle.qc_model.specs.Names.{is_name, is_name_byte};
 
+use qc_num::Text;
 use std::marker::Model;
 
 /// The name of a crane: 1 to 12 ASCII letters, digits, `-` and `_`.
 #[derive(Clone, Debug, Drop)]
 pub struct Name {
-    bytes: [u8; 12],
-    len: usize,
+    text: Text<12>,
 }
 
 impl Model for Name {
-    ghost use Rattle.std.specs.Prelude.{ℕ, List, take, ◌≤◌, IsTrue};
+    ghost use Rattle.std.specs.Prelude.{ℕ, List, IsTrue};
     ghost use Rattle.qc_model.specs.Names.{is_name};
 
     ghost Value = { List ℕ };
 
-    ghost view = { λ n. take n.len n.bytes };
+    ghost view = { λ n. n.text };
 
-    ghost invariant = { λ n. (n.len ≤ 12) × IsTrue (is_name (take n.len n.bytes)) };
+    ghost invariant = { λ n. IsTrue (is_name n.text) };
 }
 
 fn is_name_byte(byte: u8) -> bool
@@ -49,10 +49,9 @@ impl Name {
         if !is_name(bytes) {
             return None;
         }
-        let len = bytes.len();
-        let mut kept = [0u8; 12];
-        kept[..len].copy_from_slice(bytes);
-        Some(Name { bytes: kept, len })
+        Some(Name {
+            text: Text::of(bytes),
+        })
     }
 
     /// The name's bytes.
@@ -60,6 +59,6 @@ impl Name {
         ensures bytes { result.now ≡ self.now }
         ensures name { IsTrue (is_name self.now) }
     {
-        &self.bytes[..self.len]
+        self.text.as_bytes()
     }
 }

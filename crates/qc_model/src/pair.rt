@@ -1,5 +1,5 @@
-/// Two tasks by their numbers, from 0.
-#[derive(Clone, Copy, Debug, PartialEq, Eq)]
+/// Two tasks by their numbers, from 0. Pairs are in order of the first task, then of the second.
+#[derive(Clone, Copy, Debug, PartialEq, Eq, PartialOrd, Ord)]
 pub struct Pair {
     pub first: u16,
     pub second: u16,

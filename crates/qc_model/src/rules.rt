@@ -1,13 +1,12 @@
-ghost use Rattle.std.specs.Prelude.{◌≡◌, ◌<◌, ◌≤◌, ◌↔◌, length, IfErr, IfOk, IfSome, IsNone, IsOk};
+ghost use Rattle.std.specs.Prelude.{◌≡◌, ◌<◌, ◌≤◌, ◌↔◌, length, All, IfErr, IfOk, IfSome, IsNone, IsOk, IsTrue};
+ghost use Rattle.qc_model.specs.declared.rules.Rule.TheVariants.{OneWay};
+ghost use Rattle.qc_model.specs.Rules.{Feasible};
 ghost use Rattle.qc_model.specs.OneWay.{GoesOneWay};
 ghost use Rattle.qc_model.specs.Seen.{seen, seen_schedule};
-ghost use Rattle.qc_model.specs.Judge.{IsJudgeable, FaultIs, Goes, IsDirection, IsFirstBreak};
+ghost use Rattle.qc_model.specs.Judge.{IsJudgeable, Goes, IsDirection, IsFirstBreak};
 
-use crate::faults::{
-    apart_fault, before_fault, berth_fault, margin_fault, one_way_fault, reach_fault, ready_fault,
-    travel_fault,
-};
-use crate::{Direction, Instance, Pair, Schedule};
+use crate::judge::Judge;
+use crate::{Direction, Instance, MOST_START, Pair, Schedule, Slot};
 
 /// The rules of a schedule, in the order in which they are judged: those of a feasible
 /// schedule after Kim and Park (2004), and that of a one-way schedule after Bierwirth and
@@ -42,6 +41,26 @@ pub struct Break {
     pub second: u16,
 }
 
+impl Rule {
+    ghost use Rattle.qc_model.specs.Judge.{rule_text};
+
+    /// How the rule is printed.
+    pub fn text(self) -> &'static [u8]
+        ensures { result.now ≡ rule_text self }
+    {
+        match self {
+            Rule::Reach => b"Reach",
+            Rule::Ready => b"Ready",
+            Rule::Travel => b"Travel",
+            Rule::Before => b"Before",
+            Rule::Apart => b"Apart",
+            Rule::Margin => b"Margin",
+            Rule::Berth => b"Berth",
+            Rule::OneWay => b"OneWay",
+        }
+    }
+}
+
 const RULES: [Rule; 8] = [
     Rule::Reach,
     Rule::Ready,
@@ -53,28 +72,20 @@ const RULES: [Rule; 8] = [
     Rule::OneWay,
 ];
 
-/// The first place at which the rule fails.
-fn first_fault(
-    inst: &Instance,
-    sched: &Schedule,
-    way: Direction,
-    tasks: u16,
-    rule: Rule,
-) -> Option<Pair>
-    requires judgeable { IsJudgeable inst.now sched.now }
-    requires count { tasks ≡ length inst.now.tasks }
-    ensures { FaultIs (seen inst.now way) (seen_schedule inst.now sched.now way) rule result }
+fn are_in_range(slots: &[Slot], cranes: usize) -> bool
+    ensures { IsTrue result
+        ↔ All (λ slot. (slot.crane < cranes) × (slot.start ≤ MOST_START)) slots.now }
 {
-    match rule {
-        Rule::Reach => reach_fault(inst, sched, way, tasks),
-        Rule::Ready => ready_fault(inst, sched, way, tasks),
-        Rule::Travel => travel_fault(inst, sched, way, tasks),
-        Rule::Before => before_fault(inst, sched, way),
-        Rule::Apart => apart_fault(inst, sched, way),
-        Rule::Margin => margin_fault(inst, sched, way, tasks),
-        Rule::Berth => berth_fault(inst, sched, way, tasks),
-        Rule::OneWay => one_way_fault(inst, sched, way, tasks),
-    }
+    slots.iter().all(|slot| (slot.crane as usize) < cranes && slot.start <= MOST_START)
+}
+
+/// Whether the schedule can be judged: it has a slot for each task, on a crane of the instance, and
+/// its starts have at most 12 digits.
+pub fn is_judgeable(inst: &Instance, sched: &Schedule) -> bool
+    ensures { IsTrue result ↔ IsJudgeable inst.now sched.now }
+{
+    let slots = sched.slots();
+    slots.len() == inst.tasks().len() && are_in_range(slots, inst.cranes().len())
 }
 
 /// The first rule that the schedule breaks if it is to go this way, and the first task or
@@ -85,12 +96,14 @@ pub fn first_break(inst: &Instance, sched: &Schedule, way: Direction) -> Option<
     ensures goes { IsNone result ↔ Goes inst.now sched.now way }
     ensures first { IfSome result
         (λ b. IsFirstBreak (seen inst.now way) (seen_schedule inst.now sched.now way) b) }
+    ensures feasible { IfSome result (λ b. b.rule ≡ OneWay
+        → Feasible (seen inst.now way) (seen_schedule inst.now sched.now way)) }
     ensures range { IfSome result
         (λ b. (b.first ≤ b.second) × (b.second < length inst.now.tasks)) }
 {
-    let tasks = inst.tasks().len() as u16;
+    let judge = Judge::new(inst, sched, way);
     for rule in RULES {
-        if let Some(Pair { first, second }) = first_fault(inst, sched, way, tasks, rule) {
+        if let Some(Pair { first, second }) = judge.first_fault(rule) {
             return Some(Break {
                 rule,
                 first,

@@ -1,9 +1,9 @@
 ghost use Rattle.std.specs.Prelude.{◌≡◌, ◌<◌, length, pos};
 ghost use Rattle.qc_model.specs.Instance.{IsOnRail};
-ghost use Rattle.qc_model.specs.Seen.{seen_bay, seen_crane};
+ghost use Rattle.qc_model.specs.Seen.{seen_bay, seen_crane, seen_number};
 
-use crate::{Direction, Instance};
-use qc_num::Bay;
+use crate::{Crane, Direction, Instance};
+use qc_num::{Bay, Tick};
 
 /// A place on the rail as it is seen with a direction.
 pub(crate) fn seen_bay(inst: &Instance, way: Direction, bay: Bay) -> Bay
@@ -17,13 +17,45 @@ pub(crate) fn seen_bay(inst: &Instance, way: Direction, bay: Bay) -> Bay
 }
 
 /// The number of a crane as it is seen with a direction, and back again.
-pub(crate) fn seen_crane(inst: &Instance, way: Direction, crane: u16) -> u16
+pub(crate) fn seen_number(inst: &Instance, way: Direction, crane: u16) -> u16
     requires { crane < length inst.now.cranes }
-    ensures number { result ≡ seen_crane inst.now way crane }
+    ensures number { result ≡ seen_number inst.now way crane }
     ensures range { result < length inst.now.cranes }
 {
     match way {
         Direction::Up => crane,
         Direction::Down => (inst.cranes().len() - 1) as u16 - crane,
+    }
+}
+
+/// What the rules ask of a crane: from when on it is ready, where it stands until then, and from
+/// which bay to which it reaches.
+#[derive(Clone, Copy)]
+pub(crate) struct Post {
+    pub(crate) ready: Tick,
+    pub(crate) bay: Bay,
+    pub(crate) from: Bay,
+    pub(crate) to: Bay,
+}
+
+/// A crane as it is seen with a direction.
+pub(crate) fn seen_post(inst: &Instance, way: Direction, crane: &Crane) -> Post
+    requires bay { IsOnRail crane.now.bay }
+    requires from { IsOnRail crane.now.from }
+    requires to { IsOnRail crane.now.to }
+    ensures ready { result.ready ≡ (seen_crane inst.now way crane.now).ready }
+    ensures bay { result.bay ≡ (seen_crane inst.now way crane.now).bay }
+    ensures from { result.from ≡ (seen_crane inst.now way crane.now).from }
+    ensures to { result.to ≡ (seen_crane inst.now way crane.now).to }
+{
+    let (from, to) = match way {
+        Direction::Up => (crane.from, crane.to),
+        Direction::Down => (crane.to, crane.from),
+    };
+    Post {
+        ready: crane.ready,
+        bay: seen_bay(inst, way, crane.bay),
+        from: seen_bay(inst, way, from),
+        to: seen_bay(inst, way, to),
     }
 }

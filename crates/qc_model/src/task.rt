@@ -1,8 +1,7 @@
-ghost use Rattle.std.specs.Prelude.{◌≡◌, ◌<◌, ℕ, List, length, take, ◌≤◌};
+ghost use Rattle.std.specs.Prelude.{◌≡◌};
 
 use itoa::Buffer;
-use qc_num::{Bay, Tick};
-use std::marker::Model;
+use qc_num::{Bay, Text, Tick};
 
 /// A phase of the work at one hatch. The phases of a hatch are worked in this order.
 #[derive(Clone, Copy, Debug, PartialEq, Eq)]
@@ -58,28 +57,7 @@ pub struct Task {
 }
 
 /// The name of a task, as `2-DD`.
-#[derive(Drop)]
-pub struct TaskText {
-    bytes: [u8; 8],
-    len: usize,
-}
-
-impl Model for TaskText {
-    ghost Value = { List ℕ };
-
-    ghost view = { λ t. take t.len t.bytes };
-
-    ghost invariant = { λ t. t.len ≤ 8 };
-}
-
-impl TaskText {
-    /// The name's bytes.
-    pub fn as_bytes(&self) -> &[u8]
-        ensures { result.now ≡ self.now }
-    {
-        &self.bytes[..self.len]
-    }
-}
+pub type TaskText = Text<8>;
 
 impl Task {
     ghost use Rattle.qc_model.specs.Tasks.{task_text};
@@ -88,18 +66,10 @@ impl Task {
     pub fn text(&self) -> TaskText
         ensures { result ≡ task_text self.now }
     {
-        let mut buffer = Buffer::new();
-        let number = buffer.format(self.hatch).as_bytes();
-        let digits = number.len();
-        let mut bytes = [0u8; 8];
-        bytes[..digits].copy_from_slice(number);
-        bytes[digits] = b'-';
-        let [first, second] = *self.phase.text();
-        bytes[digits + 1] = first;
-        bytes[digits + 2] = second;
-        TaskText {
-            bytes,
-            len: digits + 3,
-        }
+        let mut text = Text::new();
+        text.push(Buffer::new().format(self.hatch).as_bytes());
+        text.push(b"-");
+        text.push(self.phase.text());
+        text
     }
 }

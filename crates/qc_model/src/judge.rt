@@ -1,0 +1,153 @@
+ghost use Rattle.std.specs.Prelude.{◌≡◌, ◌≤◌, ◌<◌, ◌↔◌, IsTrue, length, pos, ◌≤ℤ◌};
+ghost use Rattle.qc_model.specs.declared.limits.TheConstants.{MOST_DISTANCE, MOST_END, MOST_READY};
+ghost use Rattle.qc_model.specs.Instance.{bay_of, crane, IsApart, IsBefore, IsOnRail, Valid};
+ghost use Rattle.qc_model.specs.Rules.{crane_of, start_of, end_of};
+ghost use Rattle.qc_model.specs.Ticks.{distance, travel_between};
+
+use crate::seen::{Post, seen_bay, seen_number, seen_post};
+use crate::ticks::{bays_between, distance, travel_over};
+use crate::{Direction, Instance, Schedule};
+use qc_num::{Bay, Tick};
+use std::marker::Model;
+
+/// A task as it is done: by which crane, where and when.
+#[derive(Clone, Copy)]
+pub(crate) struct Work {
+    pub(crate) crane: u16,
+    pub(crate) bay: Bay,
+    pub(crate) start: Tick,
+    pub(crate) end: Tick,
+    ghost on_rail: { IsOnRail bay },
+    ghost bounded: { end ≤ MOST_END },
+}
+
+/// A schedule that is judged with a direction: seen as the instance and the schedule themselves, or
+/// from the other end of the ship. Tasks keep their numbers.
+#[derive(Drop)]
+pub(crate) struct Judge<'a> {
+    inst: &'a Instance,
+    sched: &'a Schedule,
+    way: Direction,
+    tasks: u16,
+}
+
+impl<'a> Model for Judge<'a> {
+    ghost use Rattle.std.specs.Prelude.{◌≡◌, length};
+    ghost use Rattle.qc_model.specs.Judge.{IsJudgeable};
+    ghost use Rattle.qc_model.specs.Judged.{Judged};
+    ghost use Rattle.qc_model.specs.Seen.{seen, seen_schedule};
+
+    ghost Value = { Judged };
+
+    ghost view = { λ j. record {
+      inst = seen j.inst.now j.way;
+      sched = seen_schedule j.inst.now j.sched.now j.way;
+    } };
+
+    ghost invariant = { λ j. (j.tasks ≡ length j.inst.now.tasks)
+        × IsJudgeable j.inst.now j.sched.now };
+}
+
+impl<'a> Judge<'a> {
+    ghost use Rattle.qc_model.specs.Judge.{IsJudgeable};
+    ghost use Rattle.qc_model.specs.Seen.{seen, seen_schedule};
+
+    pub(crate) fn new(inst: &'a Instance, sched: &'a Schedule, way: Direction) -> Judge<'a>
+        requires { IsJudgeable inst.now sched.now }
+        ensures view { result ≡ record {
+          inst = seen inst.now way;
+          sched = seen_schedule inst.now sched.now way;
+        } }
+        ensures valid { Valid inst.now }
+    {
+        Judge {
+            inst,
+            sched,
+            way,
+            tasks: inst.tasks().len() as u16,
+        }
+    }
+
+    /// How many tasks there are.
+    pub(crate) fn tasks(&self) -> u16
+        ensures { result ≡ length self.now.inst.tasks }
+    {
+        self.tasks
+    }
+
+    /// How many cranes there are.
+    pub(crate) fn cranes(&self) -> u16
+        ensures { result ≡ length self.now.inst.cranes }
+    {
+        self.inst.cranes().len() as u16
+    }
+
+    /// How a task is done.
+    pub(crate) fn work(&self, task: u16) -> Work
+        requires { task < length self.now.inst.tasks }
+        ensures crane { result.crane ≡ crane_of self.now.sched task }
+        ensures range { result.crane < length self.now.inst.cranes }
+        ensures bay { result.bay ≡ bay_of self.now.inst task }
+        ensures start { result.start ≡ start_of self.now.sched task }
+        ensures end { result.end ≡ end_of self.now.inst self.now.sched task }
+    {
+        let found = &self.inst.tasks()[task as usize];
+        let slot = &self.sched.slots()[task as usize];
+        Work {
+            crane: seen_number(self.inst, self.way, slot.crane),
+            bay: seen_bay(self.inst, self.way, found.bay),
+            start: slot.start,
+            end: slot.start + found.ticks,
+        }
+    }
+
+    /// A crane by its number.
+    pub(crate) fn post(&self, number: u16) -> Post
+        requires { number < length self.now.inst.cranes }
+        ensures ready { result.ready ≡ (crane self.now.inst number).ready }
+        ensures bay { result.bay ≡ (crane self.now.inst number).bay }
+        ensures from { result.from ≡ (crane self.now.inst number).from }
+        ensures to { result.to ≡ (crane self.now.inst number).to }
+        ensures soon { result.ready ≤ MOST_READY }
+        ensures on_rail { IsOnRail result.bay }
+    {
+        let index = seen_number(self.inst, self.way, number);
+        seen_post(self.inst, self.way, &self.inst.cranes()[index as usize])
+    }
+
+    /// The travel between two bays.
+    pub(crate) fn travel_between(&self, one: Bay, other: Bay) -> Tick
+        requires one { IsOnRail one }
+        requires other { IsOnRail other }
+        ensures ticks { result ≡ travel_between self.now.inst one other }
+        ensures bound { result ≤ MOST_DISTANCE }
+    {
+        travel_over(self.inst, bays_between(one, other))
+    }
+
+    /// The ticks by which crane `v` at bay `x` and crane `w` at bay `y` keep clear of each other.
+    pub(crate) fn distance(&self, v: u16, x: Bay, w: u16, y: Bay) -> Tick
+        requires first_crane { v < length self.now.inst.cranes }
+        requires second_crane { w < length self.now.inst.cranes }
+        requires first_bay { IsOnRail x }
+        requires second_bay { IsOnRail y }
+        ensures ticks { result ≡ distance self.now.inst v x w y }
+        ensures bound { result ≤ MOST_DISTANCE }
+    {
+        distance(self.inst, v, x, w, y)
+    }
+
+    /// Whether one task must end before another starts.
+    pub(crate) fn is_before(&self, first: u16, second: u16) -> bool
+        ensures { IsTrue result ↔ IsBefore self.now.inst first second }
+    {
+        self.inst.is_before(first, second)
+    }
+
+    /// Whether two tasks, of which the first is the lower, may not run at the same time.
+    pub(crate) fn is_apart(&self, first: u16, second: u16) -> bool
+        ensures { IsTrue result ↔ IsApart self.now.inst first second }
+    {
+        self.inst.is_apart(first, second)
+    }
+}
