@@ -8,17 +8,7 @@ use Rattle.qc_model.specs.declared.rules.Break.{Break}
 use Rattle.qc_model.specs.declared.task.Task.{Task}
 use Rattle.qc_model.specs.Tasks.{task_text}
 use Rattle.qc_model.specs.Instance.{no_task}
-
--- a rule's name and a space
-abbrev pub rule_text : Rule → List ℕ
-rule_text Reach = codes "Reach "
-rule_text Ready = codes "Ready "
-rule_text Travel = codes "Travel "
-rule_text Before = codes "Before "
-rule_text Apart = codes "Apart "
-rule_text Margin = codes "Margin "
-rule_text Berth = codes "Berth "
-rule_text OneWay = codes "OneWay "
+use Rattle.qc_model.specs.Judge.{rule_text}
 
 -- the name of the task of this number
 abbrev pub name_at : List Task → ℕ → List ℕ
@@ -28,19 +18,19 @@ name_at tasks j = task_text (slice_index_or tasks j no_task)
 abbrev pub names_at : List Task → ℕ → ℕ → List ℕ
 names_at tasks i j = name_at tasks i ++ (32 ∷ name_at tasks j)
 
--- where a rule is broken: at one task or at two
-abbrev pub place_text : List Task → Rule → ℕ → ℕ → List ℕ
-place_text tasks Reach i j = name_at tasks i
-place_text tasks Ready i j = name_at tasks i
-place_text tasks Travel i j = names_at tasks i j
-place_text tasks Before i j = names_at tasks i j
-place_text tasks Apart i j = names_at tasks i j
-place_text tasks Margin i j = names_at tasks i j
-place_text tasks Berth i j = name_at tasks i
-place_text tasks OneWay i j = names_at tasks i j
+-- the task or the tasks at which a rule is broken
+abbrev pub tasks_text : List Task → Rule → ℕ → ℕ → List ℕ
+tasks_text tasks Reach i j = name_at tasks i
+tasks_text tasks Ready i j = name_at tasks i
+tasks_text tasks Travel i j = names_at tasks i j
+tasks_text tasks Before i j = names_at tasks i j
+tasks_text tasks Apart i j = names_at tasks i j
+tasks_text tasks Margin i j = names_at tasks i j
+tasks_text tasks Berth i j = name_at tasks i
+tasks_text tasks OneWay i j = names_at tasks i j
 
 abbrev pub break_text : List Task → Break → List ℕ
-break_text tasks b = rule_text b.rule ++ place_text tasks b.rule b.first b.second
+break_text tasks b = rule_text b.rule ++ (32 ∷ tasks_text tasks b.rule b.first b.second)
 
 -- a direction, or the rule that is broken and where
 abbrev pub answer_text : List Task → Result Direction Break → List ℕ

@@ -1,26 +1,11 @@
 // The answer of the judge as text.
 
 ghost use Rattle.std.specs.Prelude.{◌≡◌, ◌<◌, ◌++◌, length, IfOk, IfErr, OnOk};
-ghost use Rattle.qc_verdicts.specs.Answer.{answer_text, break_text, name_at, names_at, place_text, rule_text};
+ghost use Rattle.qc_verdicts.specs.Answer.{answer_text, break_text, name_at, names_at, tasks_text};
 
 use qc_model::{Break, Direction, Rule, Task};
 use qc_num::OutOfMemory;
 use std::alloc::Global;
-
-fn rule_text(rule: Rule) -> &'static [u8]
-    ensures { result.now ≡ rule_text rule }
-{
-    match rule {
-        Rule::Reach => b"Reach ",
-        Rule::Ready => b"Ready ",
-        Rule::Travel => b"Travel ",
-        Rule::Before => b"Before ",
-        Rule::Apart => b"Apart ",
-        Rule::Margin => b"Margin ",
-        Rule::Berth => b"Berth ",
-        Rule::OneWay => b"OneWay ",
-    }
-}
 
 fn push_name(tasks: &[Task], number: u16, text: &mut Vec<u8>) -> Result<(), OutOfMemory>
     requires { number < length tasks.now }
@@ -47,10 +32,11 @@ fn push_names(
 }
 
 // The one task or the two tasks at which a rule is broken.
-fn push_place(tasks: &[Task], broken: Break, text: &mut Vec<u8>) -> Result<(), OutOfMemory>
+fn push_tasks(tasks: &[Task], broken: Break, text: &mut Vec<u8>) -> Result<(), OutOfMemory>
     requires first { broken.first < length tasks.now }
     requires second { broken.second < length tasks.now }
-    ensures { OnOk result (text.new.items ≡ text.old.items ++ place_text tasks.now broken.rule broken.first broken.second) }
+    ensures { OnOk result (text.new.items
+        ≡ text.old.items ++ tasks_text tasks.now broken.rule broken.first broken.second) }
 {
     match broken.rule {
         Rule::Reach | Rule::Ready | Rule::Berth => push_name(tasks, broken.first, text),
@@ -65,8 +51,9 @@ fn break_text(alloc: Global, tasks: &[Task], broken: Break) -> Result<Vec<u8>, O
     requires second { broken.second < length tasks.now }
     ensures { IfOk result (λ text. text.items ≡ break_text tasks.now broken) }
 {
-    let mut text = Vec::from_slice(alloc, rule_text(broken.rule))?;
-    push_place(tasks, broken, &mut text)?;
+    let mut text = Vec::from_slice(alloc, broken.rule.text())?;
+    text.push(b' ')?;
+    push_tasks(tasks, broken, &mut text)?;
     Ok(text)
 }
 

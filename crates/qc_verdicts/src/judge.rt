@@ -8,9 +8,9 @@ ghost use Rattle.qc_verdicts.specs.Verdict.{IsHeld};
 
 use crate::answer::answer_text;
 use crate::row::Row;
-use crate::slots::{is_judgeable, schedule_of};
+use crate::slots::schedule_of;
 use crate::verdict::Verdict;
-use qc_model::{Break, Direction, Instance, Task, direction_of};
+use qc_model::{Break, Direction, Instance, MOST_TASKS, Task, direction_of, is_judgeable};
 use qc_num::OutOfMemory;
 use qc_ship::{ShipError, read_ship};
 use qc_stow::{StowError, read_stow};
@@ -53,10 +53,13 @@ fn compare(
 fn judge(alloc: Global, inst: &Instance, row: &Row) -> Result<Verdict, OutOfMemory>
     ensures { IfOk result (λ verdict. IsHeld verdict → IsAnsweredBy inst.now row.now.slots.now row.now.answer.now) }
 {
-    if row.slots.len() > 240 || !is_judgeable(inst, row.slots) {
-        return failed(alloc, "the schedule can't be judged");
+    if row.slots.len() > MOST_TASKS as usize {
+        return failed(alloc, "the schedule has too many tasks");
     }
     let schedule = schedule_of(alloc, row.slots)?;
+    if !is_judgeable(inst, &schedule) {
+        return failed(alloc, "the schedule can't be judged");
+    }
     let answer = direction_of(inst, &schedule);
     compare(alloc, inst.tasks(), answer, row.answer)
 }
