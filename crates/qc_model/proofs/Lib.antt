@@ -2,7 +2,9 @@ pub mod Bays
 pub mod LimitsOf
 pub mod SeenLemmas
 pub mod OnRail
+pub mod MirrorLemmas
 pub mod GoesLemmas
 pub mod PairOrder
 pub mod InRange
 mod RuleOrder
+mod Parts

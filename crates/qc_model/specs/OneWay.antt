@@ -38,8 +38,12 @@ mirror_crane inst c = record c { bay = mirror_bay inst c.bay; from = mirror_bay 
 abbrev pub mirror : InstanceView → InstanceView
 mirror inst = record inst { tasks = map (mirror_task inst) inst.tasks; cranes = reverse (map (mirror_crane inst) inst.cranes) }
 
+-- a slot with its crane numbered from the other end
+abbrev pub flipped : ℕ → Slot → Slot
+flipped cranes s = record s { crane = cranes - 1 - s.crane }
+
 abbrev pub mirror_slot : InstanceView → Slot → Slot
-mirror_slot inst s = record s { crane = length inst.cranes - 1 - s.crane }
+mirror_slot inst s = flipped (length inst.cranes) s
 
 -- the same schedule with the cranes numbered from the other end
 abbrev pub mirror_schedule : InstanceView → List Slot → List Slot

@@ -7,6 +7,7 @@ mod instance;
 mod judge;
 mod keeps;
 mod limits;
+mod mirrors;
 mod name;
 mod pair;
 mod rules;
@@ -24,6 +25,7 @@ pub use limits::{
     MOST_HATCHES, MOST_PLACE, MOST_READY, MOST_START, MOST_TASKS, MOST_TRAVEL,
     MOST_TRAVEL_BY_PLACES, MOST_WORK,
 };
+pub use mirrors::{copy, copy_cranes, mirror};
 pub use name::Name;
 pub use pair::Pair;
 pub use rules::{Break, Rule, direction_of, first_break, is_judgeable};

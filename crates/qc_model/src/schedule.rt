@@ -1,4 +1,5 @@
-ghost use Rattle.std.specs.Prelude.{◌≡◌, ◌<◌, length, IfOk, replicate, slice_set};
+ghost use Rattle.std.specs.Prelude.{◌≡◌, ◌<◌, length, map, All, IfOk, replicate, slice_set};
+ghost use Rattle.qc_model.specs.OneWay.{flipped};
 ghost use Rattle.qc_model.specs.Rules.{no_slot};
 
 use qc_num::{OutOfMemory, Tick};
@@ -45,6 +46,20 @@ impl Schedule {
         ensures { self.new ≡ slice_set self.old task slot }
     {
         self.slots[task as usize] = slot;
+    }
+
+    /// Numbers the cranes from the other end: of so many cranes, crane c becomes `cranes - 1 - c`.
+    pub fn flip(&mut self, cranes: u16)
+        requires { All (λ slot. slot.crane < cranes) self.old }
+        ensures { self.new ≡ map (flipped cranes) self.old }
+    {
+        for task in 0..self.slots.len() {
+            let slot = self.slots[task];
+            self.slots[task] = Slot {
+                crane: cranes - 1 - slot.crane,
+                ..slot
+            };
+        }
     }
 
     /// The slots in task order.
