@@ -1,5 +1,5 @@
 -- A schedule goes upward exactly where each rule holds at each of its places.
-use Rattle.std.proofs.Common.{◌≡◌, ◌≢◌, ℕ, ◌*◌, ◌<◌, ◌≤◌, ℤ, inl, inr, List, [], length, Contains, refl, sym, ap, subst, ◌∙◌, arith}
+use Rattle.std.proofs.Common.{◌≡◌, ◌≢◌, ℕ, ◌*◌, ◌<◌, ◌≤◌, ℤ, inl, inr, List, [], length, refl, sym, ap, subst, ◌∙◌, arith}
 use Rattle.std.proofs.lemmas.Int.{ints}
 use Rattle.std.proofs.lemmas.List.{length-map}
 use Rattle.std.proofs.lemmas.Bool.{cases_order, lt-ltb, le-ltb}
@@ -9,15 +9,15 @@ use Rattle.qc_model.specs.declared.rules.Rule.{Rule}
 use Rattle.qc_model.specs.declared.rules.Rule.TheVariants.{Reach, Ready, Travel, Before, Apart, Margin, Berth, OneWay}
 use Rattle.qc_model.specs.declared.schedule.Slot.{Slot}
 use Rattle.qc_model.specs.Bays.{bays_between}
-use Rattle.qc_model.specs.declared.pair.Pair.{Pair}
-use Rattle.qc_model.specs.Instance.{InstanceView, Valid, bay_of, pair_of, IsBefore, IsApart}
+use Rattle.qc_model.specs.Instance.{InstanceView, Valid, bay_of, IsBefore, IsApart}
 use Rattle.qc_model.specs.Rules.{crane_of, IsClear, KeepsTravel, KeepsMargin, Feasible}
 use Rattle.qc_model.specs.Ticks.{distance}
 use Rattle.qc_model.specs.OneWay.{GoesUp, KeepsClimb, KeepsLead, mirror, mirror_slot, mirror_schedule}
 use Rattle.qc_model.specs.declared.rules.Break.{Break}
 use Rattle.qc_model.specs.Seen.{seen, seen_schedule}
 use Rattle.qc_model.specs.Judge.{IsJudgeable, IsJudgedAt, rule_rank, KeepsAll, Goes, IsFirstBreak}
-use Rattle.qc_model.proofs.SeenLemmas.{seen-task_count, seen-crane_count, seen-crane_of, seen-before, seen-apart}
+use Rattle.qc_model.proofs.SeenLemmas.{seen-task_count, seen-crane_count, seen-crane_of}
+use Rattle.qc_model.proofs.MirrorLemmas.{seen_valid}
 
 -- what the rules take for granted of an instance and a schedule
 pub record IsSound (inst : InstanceView) (sched : List Slot) : Type 0 where
@@ -98,10 +98,13 @@ pub sound_seen : (inst : InstanceView) (sched : List Slot) (way : Direction) →
 sound_seen inst sched way v s = record {
   all_tasks = counted way ∙ s.all_tasks ∙ sym (seen-task_count inst way);
   crane_range = λ j h. in_range way j (rw (seen-task_count inst way) at h);
-  before_differ = λ i j b e. v.before.no_ring i [] (subst (λ (k : ℕ). IsBefore inst i k) (sym e) (subst (λ (ps : List Pair). Contains ps (pair_of i j)) (seen-before inst way) b));
-  apart_order = λ i j a. (v.apart.range i j (subst (λ (ps : List Pair). Contains ps (pair_of i j)) (seen-apart inst way) a)).0;
+  before_differ = λ i j b e. u.before.no_ring i [] (subst (λ (k : ℕ). IsBefore (seen inst way) i k) (sym e) b);
+  apart_order = λ i j a. (u.apart.range i j a).0;
 }
   where
+    u : Valid (seen inst way)
+    u = seen_valid inst v way
+
     counted : (way : Direction) → length (seen_schedule inst sched way) ≡ length sched
     counted Up = refl
     counted Down = length-map sched (mirror_slot inst)

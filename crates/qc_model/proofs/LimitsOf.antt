@@ -1,10 +1,10 @@
 -- Every instance keeps the limits.
-use Rattle.std.proofs.Common.{◌≡◌, ℕ, refl, ◌<◌, ◌≤◌, ℤ, pos, negsuc, length, arith, ◌⊎◌, inl, inr}
+use Rattle.std.proofs.Common.{◌≡◌, refl, ◌≤◌, ℤ, pos, negsuc, arith, ◌⊎◌, inl, inr}
 use Rattle.std.proofs.lemmas.Int.{ints}
 use mathlib.Core.Logic.{∥∥₁_elim}
 use denote.Struct.Props.{props}
 use Rattle.qc_model.specs.Bays.{at_least_zero}
-use Rattle.qc_model.specs.Instance.{InstanceView, Valid, HasBayLimits, HasPlaceLimits, IsFrom, IsOnRail, crane, mirror_bay}
+use Rattle.qc_model.specs.Instance.{InstanceView, Valid, HasBerths, HasBayLimits, HasPlaceLimits, IsFrom, IsOnRail}
 use Rattle.qc_model.specs.Limits.{HasLimits}
 
 -- the part of the limits that the two kinds of ship give
@@ -12,7 +12,7 @@ record HasSizes (inst : InstanceView) : Type 0 where
   bays : (1 ≤ inst.bays) × (inst.bays ≤ 6000)
   travel : inst.travel ≤ 10000
   gap : (1 ≤ inst.gap) × (inst.gap ≤ 2000)
-  berths : (k : ℕ) → k < length inst.cranes → IsOnRail (crane inst k).bay × IsOnRail (mirror_bay inst (crane inst k).bay)
+  berths : HasBerths inst IsOnRail
 
 wider : (x : ℤ) → IsFrom (negsuc 299) (pos 300) x → IsOnRail x
 wider x h = (omega (arith, ints), omega (arith, ints))

@@ -5,11 +5,13 @@ use Rattle.std.proofs.lemmas.Int.{ints}
 use Rattle.std.proofs.lemmas.List.{get_or-map, map_push, reverse-append, reverse-reverse}
 use Rattle.std.proofs.lemmas.List.Sums.{sum_by-cons}
 use Rattle.qc_model.specs.declared.crane.Crane.{Crane}
-use Rattle.qc_model.specs.declared.direction.Direction.TheVariants.{Down}
+use Rattle.qc_model.specs.declared.direction.Direction.{Direction}
+use Rattle.qc_model.specs.declared.direction.Direction.TheVariants.{Up, Down}
 use Rattle.qc_model.specs.declared.limits.TheConstants.{MOST_READY}
 use Rattle.qc_model.specs.declared.task.Task.{Task}
 use Rattle.qc_model.specs.Instance.{InstanceView, HasBayLimits, HasPlaceLimits, HasValidApart, HasValidBefore, HasValidCranes, HasValidTasks, IsFrom, IsOnRail, Valid, crane, mirror_bay, no_task, task}
 use Rattle.qc_model.specs.OneWay.{mirror, mirror_crane, mirror_task}
+use Rattle.qc_model.specs.Seen.{seen}
 use Rattle.qc_model.specs.Tasks.{task_rank}
 use Rattle.qc_model.proofs.SeenLemmas.{seen-bay_of, seen-crane, seen-crane_count, seen-task_count, seen-ticks_of}
 
@@ -149,6 +151,10 @@ mirror_valid inst v = record {
   before = before_turned inst v.before;
   apart = apart_pairs_turned inst v.apart;
 }
+
+pub seen_valid : (inst : InstanceView) → Valid inst → (way : Direction) → Valid (seen inst way)
+seen_valid inst v Up = v
+seen_valid inst v Down = mirror_valid inst v
 
 map_back : {X : Type 0} (f g : X → X) → ((x : X) → g (f x) ≡ x) → (xs : List X) → map g (map f xs) ≡ xs
 map_back f g same [] = refl

@@ -19,14 +19,6 @@ pub seen-gap : (inst : InstanceView) (way : Direction) → (seen inst way).gap �
 seen-gap inst Up = refl
 seen-gap inst Down = refl
 
-pub seen-before : (inst : InstanceView) (way : Direction) → (seen inst way).before ≡ inst.before
-seen-before inst Up = refl
-seen-before inst Down = refl
-
-pub seen-apart : (inst : InstanceView) (way : Direction) → (seen inst way).apart ≡ inst.apart
-seen-apart inst Up = refl
-seen-apart inst Down = refl
-
 pub seen-task_count : (inst : InstanceView) (way : Direction) → length (seen inst way).tasks ≡ length inst.tasks
 seen-task_count inst Up = refl
 seen-task_count inst Down = length-map inst.tasks (mirror_task inst)

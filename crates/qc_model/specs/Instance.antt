@@ -6,7 +6,8 @@ use Rattle.qc_model.specs.declared.crane.Crane.{Crane}
 use Rattle.qc_model.specs.declared.pair.Pair.{Pair}
 use Rattle.qc_model.specs.Tasks.{task_rank}
 
--- what is to be planned. A place on the rail is a whole number, since a start bay may lie before the first hatch; counts, gaps and ticks are naturals
+-- what is to be planned. A place on the rail is a whole number, since a start bay may lie before the
+-- first hatch; counts, gaps and ticks are naturals
 pub record InstanceView : Type 0 where
   -- the number of crane bays: the mirror turns bay x into bays + 1 - x
   pub bays : ℕ
@@ -72,40 +73,55 @@ IsFrom low high x = (low ≤ℤ x) × (x ≤ℤ high)
 abbrev pub IsOnRail : ℤ → Type 0
 IsOnRail x = IsFrom (negsuc 16999) (pos 17000) x
 
+-- each start bay is of this kind, seen from either end
+abbrev pub HasBerths : InstanceView → (ℤ → Type 0) → Type 0
+HasBerths inst P =
+    (k : ℕ) → k < length inst.cranes → P (crane inst k).bay × P (mirror_bay inst (crane inst k).bay)
+
 -- the limits of a ship whose hatches stand one crane bay apart
 pub record HasBayLimits (inst : InstanceView) : Type 0 where
   pub bays : (1 ≤ inst.bays) × (inst.bays ≤ MOST_HATCHES)
   pub travel : (1 ≤ inst.travel) × (inst.travel ≤ MOST_TRAVEL)
   pub gap : (1 ≤ inst.gap) × (inst.gap ≤ MOST_GAP)
-  pub berths : (k : ℕ) → k < length inst.cranes → IsFrom (negsuc 299) (pos 300) (crane inst k).bay × IsFrom (negsuc 299) (pos 300) (mirror_bay inst (crane inst k).bay)
+  pub berths : HasBerths inst (IsFrom (negsuc 299) (pos 300))
 
 -- the limits of a ship whose places are given in decimetres
 pub record HasPlaceLimits (inst : InstanceView) : Type 0 where
   pub bays : (1 ≤ inst.bays) × (inst.bays ≤ MOST_PLACE)
   pub travel : (1 ≤ inst.travel) × (inst.travel ≤ MOST_TRAVEL_BY_PLACES)
   pub gap : (1 ≤ inst.gap) × (inst.gap ≤ MOST_GAP_BY_PLACES)
-  pub berths : (k : ℕ) → k < length inst.cranes → IsOnRail (crane inst k).bay × IsOnRail (mirror_bay inst (crane inst k).bay)
+  pub berths : HasBerths inst IsOnRail
 
--- every task stands at a bay of the ship and takes time, all together not too long; tasks are in order of hatch and phase, each once; tasks of one hatch, and of no two, share a bay
+-- every task stands at a bay of the ship and takes time, all together not too long; tasks are in
+-- order of hatch and phase, each once; tasks of one hatch, and of no two, share a bay
 pub record HasValidTasks (inst : InstanceView) : Type 0 where
   pub count : length inst.tasks ≤ MOST_TASKS
   pub bays : (j : ℕ) → j < length inst.tasks → IsFrom (pos 1) (pos inst.bays) (bay_of inst j)
   pub ticks : (j : ℕ) → j < length inst.tasks → 1 ≤ ticks_of inst j
   pub work : sum_by (λ t. t.ticks) inst.tasks ≤ MOST_WORK
-  pub sorted : (i j : ℕ) → i < j → j < length inst.tasks → task_rank (task inst i) < task_rank (task inst j)
-  pub hatches : (i j : ℕ) → i < length inst.tasks → j < length inst.tasks → (bay_of inst i ≡ bay_of inst j) ↔ ((task inst i).hatch ≡ (task inst j).hatch)
+  pub sorted : (i j : ℕ) → i < j → j < length inst.tasks
+      → task_rank (task inst i) < task_rank (task inst j)
+  pub hatches : (i j : ℕ) → i < length inst.tasks → j < length inst.tasks
+      → (bay_of inst i ≡ bay_of inst j) ↔ ((task inst i).hatch ≡ (task inst j).hatch)
 
--- cranes stand along the rail at least the gap apart and have different names; each reaches some bays of the ship
+-- cranes stand along the rail at least the gap apart and have different names; each reaches some bays
+-- of the ship
 pub record HasValidCranes (inst : InstanceView) : Type 0 where
   pub count : (1 ≤ length inst.cranes) × (length inst.cranes ≤ MOST_CRANES)
   pub ready : (k : ℕ) → k < length inst.cranes → (crane inst k).ready ≤ MOST_READY
-  pub reach : (k : ℕ) → k < length inst.cranes → (pos 1 ≤ℤ (crane inst k).from) × ((crane inst k).from ≤ℤ (crane inst k).to) × ((crane inst k).to ≤ℤ pos inst.bays)
+  pub reach : (k : ℕ) → k < length inst.cranes
+      → (pos 1 ≤ℤ (crane inst k).from)
+      × ((crane inst k).from ≤ℤ (crane inst k).to)
+      × ((crane inst k).to ≤ℤ pos inst.bays)
   pub names : (v w : ℕ) → v < w → w < length inst.cranes → (crane inst v).name ≢ (crane inst w).name
-  pub order : (k : ℕ) → k + 1 < length inst.cranes → ((crane inst k).bay +ℤ pos inst.gap) ≤ℤ (crane inst (k + 1)).bay
+  pub order : (k : ℕ) → k + 1 < length inst.cranes
+      → ((crane inst k).bay +ℤ pos inst.gap) ≤ℤ (crane inst (k + 1)).bay
 
--- the phases of a hatch are before one another, pairs in rising order relate tasks of the instance, and no task is before itself by way of others
+-- the phases of a hatch are before one another, pairs in rising order relate tasks of the instance,
+-- and no task is before itself by way of others
 pub record HasValidBefore (inst : InstanceView) : Type 0 where
-  pub phases : (i j : ℕ) → i < j → j < length inst.tasks → (task inst i).hatch ≡ (task inst j).hatch → IsBefore inst i j
+  pub phases : (i j : ℕ) → i < j → j < length inst.tasks
+      → (task inst i).hatch ≡ (task inst j).hatch → IsBefore inst i j
   pub range : (i j : ℕ) → IsBefore inst i j → (i < length inst.tasks) × (j < length inst.tasks)
   pub sorted : AllPairs IsEarlier inst.before
   pub no_ring : (i : ℕ) (via : List ℕ) → ¬ IsPath inst.before i via i
@@ -113,7 +129,8 @@ pub record HasValidBefore (inst : InstanceView) : Type 0 where
 -- pairs of different hatches, the lower task first, in rising order
 pub record HasValidApart (inst : InstanceView) : Type 0 where
   pub count : length inst.apart ≤ MOST_APART
-  pub range : (i j : ℕ) → IsApart inst i j → (i < j) × (j < length inst.tasks) × ((task inst i).hatch ≢ (task inst j).hatch)
+  pub range : (i j : ℕ) → IsApart inst i j
+      → (i < j) × (j < length inst.tasks) × ((task inst i).hatch ≢ (task inst j).hatch)
   pub sorted : AllPairs IsEarlier inst.apart
 
 -- what every instance keeps

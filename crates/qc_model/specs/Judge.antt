@@ -12,7 +12,8 @@ use Rattle.qc_model.specs.Instance.{InstanceView, pair_of, IsEarlier}
 use Rattle.qc_model.specs.Rules.{crane_of, start_of, KeepsReach, KeepsReady, KeepsTravel, KeepsBefore, KeepsApart, KeepsMargin, KeepsBerth}
 use Rattle.qc_model.specs.OneWay.{GoesUp, GoesDown, KeepsClimb, KeepsLead}
 
--- the schedule can be judged: it has a slot for each task, on a crane of the instance, with a start of at most 12 digits
+-- the schedule can be judged: it has a slot for each task, on a crane of the instance, with a start
+-- of at most 12 digits
 pub record IsJudgeable (inst : InstanceView) (sched : List Slot) : Type 0 where
   pub all_tasks : length sched ≡ length inst.tasks
   pub crane_range : (j : ℕ) → j < length inst.tasks → crane_of sched j < length inst.cranes
@@ -65,22 +66,27 @@ Keeps inst sched Before i j = KeepsBefore inst sched i j × KeepsBefore inst sch
 Keeps inst sched Apart i j = KeepsApart inst sched i j × KeepsApart inst sched j i
 Keeps inst sched Margin i j = KeepsMargin inst sched i j
 Keeps inst sched Berth i j = (v : ℕ) → v < length inst.cranes → KeepsBerth inst sched j v
-Keeps inst sched OneWay i j = KeepsClimb inst sched i j × KeepsClimb inst sched j i × KeepsLead inst sched i j × KeepsLead inst sched j i
+Keeps inst sched OneWay i j =
+    KeepsClimb inst sched i j × KeepsClimb inst sched j i
+    × KeepsLead inst sched i j × KeepsLead inst sched j i
 
 -- the rule holds wherever it is judged
 abbrev pub KeepsAll : InstanceView → List Slot → Rule → Type 0
-KeepsAll inst sched rule = (i j : ℕ) → IsJudgedAt rule i j → j < length inst.tasks → Keeps inst sched rule i j
+KeepsAll inst sched rule =
+    (i j : ℕ) → IsJudgedAt rule i j → j < length inst.tasks → Keeps inst sched rule i j
 
 -- the rule fails at the tasks i, j and at none before them
 pub record IsFirstFault (inst : InstanceView) (sched : List Slot) (rule : Rule) (i j : ℕ) : Type 0 where
   pub judged : IsJudgedAt rule i j
   pub range : j < length inst.tasks
   pub fails : ¬ Keeps inst sched rule i j
-  pub first : (k l : ℕ) → IsJudgedAt rule k l → l < length inst.tasks → IsEarlier (pair_of k l) (pair_of i j) → Keeps inst sched rule k l
+  pub first : (k l : ℕ) → IsJudgedAt rule k l → l < length inst.tasks
+      → IsEarlier (pair_of k l) (pair_of i j) → Keeps inst sched rule k l
 
 -- the first tasks at which the rule fails, where there are any
 abbrev pub FaultIs : InstanceView → List Slot → Rule → Option Pair → Type 0
-FaultIs inst sched rule o = MatchOption o (KeepsAll inst sched rule) (λ p. IsFirstFault inst sched rule p.first p.second)
+FaultIs inst sched rule o =
+    MatchOption o (KeepsAll inst sched rule) (λ p. IsFirstFault inst sched rule p.first p.second)
 
 -- this is the first rule that fails, and the first tasks at which it does
 pub record IsFirstBreak (inst : InstanceView) (sched : List Slot) (b : Break) : Type 0 where

@@ -3,7 +3,9 @@ use Rattle.std.specs.List.{list_all}
 
 -- an ASCII letter, a digit, '-' or '_'
 abbrev pub is_name_byte : ℕ → Bool
-is_name_byte b = nat_le 97 b && nat_le b 122 || nat_le 65 b && nat_le b 90 || nat_le 48 b && nat_le b 57 || b == 45 || b == 95
+is_name_byte b =
+    nat_le 97 b && nat_le b 122 || nat_le 65 b && nat_le b 90 || nat_le 48 b && nat_le b 57
+    || b == 45 || b == 95
 
 -- the name of a crane: 1 to 12 such bytes
 abbrev pub is_name : List ℕ → Bool

@@ -1,4 +1,5 @@
--- Schedules in which, after a first repositioning, all cranes move one way, after the method of Bierwirth and Meisel (2009).
+-- Schedules in which, after a first repositioning, all cranes move one way, after the method of
+-- Bierwirth and Meisel (2009).
 use Rattle.std.specs.Prelude.{◌≡◌, ℕ, ◌+◌, ◌-◌, ◌<◌, ◌≤◌, ◌<ℤ◌, ◌⊎◌, List, length, map, reverse}
 use Rattle.qc_model.specs.declared.task.Task.{Task}
 use Rattle.qc_model.specs.declared.crane.Crane.{Crane}
@@ -9,7 +10,9 @@ use Rattle.qc_model.specs.Ticks.{climb, lead, task_distance}
 
 -- a crane that has done task i has the time to go up to task j, where j lies higher
 abbrev pub KeepsClimb : InstanceView → List Slot → ℕ → ℕ → Type 0
-KeepsClimb inst sched i j = crane_of sched i ≡ crane_of sched j → bay_of inst i <ℤ bay_of inst j → start_of sched i + climb inst i j ≤ start_of sched j
+KeepsClimb inst sched i j =
+    crane_of sched i ≡ crane_of sched j → bay_of inst i <ℤ bay_of inst j
+    → start_of sched i + climb inst i j ≤ start_of sched j
 
 -- where the cranes of tasks i and j would come too near, the higher crane's task i is first
 abbrev pub KeepsLead : InstanceView → List Slot → ℕ → ℕ → Type 0
@@ -18,7 +21,8 @@ KeepsLead inst sched i j =
     let w = crane_of sched j in
     w < v → 0 < task_distance inst i v j w → start_of sched i + lead inst i v j w ≤ start_of sched j
 
--- each crane works its bays upward, and a higher crane is ahead of a lower one wherever the two would come too near
+-- each crane works its bays upward, and a higher crane is ahead of a lower one wherever the two would
+-- come too near
 pub record Upward (inst : InstanceView) (sched : List Slot) : Type 0 where
   pub one_crane : (i j : ℕ) → i < length inst.tasks → j < length inst.tasks → KeepsClimb inst sched i j
   pub two_cranes : (i j : ℕ) → i < length inst.tasks → j < length inst.tasks → KeepsLead inst sched i j
@@ -32,11 +36,16 @@ abbrev pub mirror_task : InstanceView → Task → Task
 mirror_task inst t = record t { bay = mirror_bay inst t.bay }
 
 abbrev pub mirror_crane : InstanceView → Crane → Crane
-mirror_crane inst c = record c { bay = mirror_bay inst c.bay; from = mirror_bay inst c.to; to = mirror_bay inst c.from }
+mirror_crane inst c =
+    record c { bay = mirror_bay inst c.bay; from = mirror_bay inst c.to; to = mirror_bay inst c.from }
 
--- the instance seen from the other end: bays and the order of the cranes are turned round, all else stays
+-- the instance seen from the other end: bays and the order of the cranes are turned round, all else
+-- stays
 abbrev pub mirror : InstanceView → InstanceView
-mirror inst = record inst { tasks = map (mirror_task inst) inst.tasks; cranes = reverse (map (mirror_crane inst) inst.cranes) }
+mirror inst = record inst {
+  tasks = map (mirror_task inst) inst.tasks;
+  cranes = reverse (map (mirror_crane inst) inst.cranes);
+}
 
 -- a slot with its crane numbered from the other end
 abbrev pub flipped : ℕ → Slot → Slot

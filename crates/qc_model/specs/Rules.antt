@@ -24,11 +24,14 @@ slot_distance inst sched i j = task_distance inst i (crane_of sched i) j (crane_
 
 -- one of the two tasks ends at least so many ticks before the other starts
 abbrev pub IsClear : InstanceView → List Slot → ℕ → ℕ → ℕ → Type 0
-IsClear inst sched ticks i j = (end_of inst sched i + ticks ≤ start_of sched j) ⊎ (end_of inst sched j + ticks ≤ start_of sched i)
+IsClear inst sched ticks i j =
+    (end_of inst sched i + ticks ≤ start_of sched j) ⊎ (end_of inst sched j + ticks ≤ start_of sched i)
 
 -- Reach: the task's bay lies within the reach of its crane
 abbrev pub KeepsReach : InstanceView → List Slot → ℕ → Type 0
-KeepsReach inst sched j = let c = crane inst (crane_of sched j) in (c.from ≤ℤ bay_of inst j) × (bay_of inst j ≤ℤ c.to)
+KeepsReach inst sched j =
+    let c = crane inst (crane_of sched j) in
+    (c.from ≤ℤ bay_of inst j) × (bay_of inst j ≤ℤ c.to)
 
 -- Ready: the crane is ready and has come from its start bay
 abbrev pub KeepsReady : InstanceView → List Slot → ℕ → Type 0
@@ -36,7 +39,9 @@ KeepsReady inst sched j = arrival inst (crane_of sched j) (bay_of inst j) ≤ st
 
 -- Travel: between two tasks a crane has the time to go from one to the other
 abbrev pub KeepsTravel : InstanceView → List Slot → ℕ → ℕ → Type 0
-KeepsTravel inst sched i j = crane_of sched i ≡ crane_of sched j → IsClear inst sched (travel_between inst (bay_of inst i) (bay_of inst j)) i j
+KeepsTravel inst sched i j =
+    crane_of sched i ≡ crane_of sched j
+    → IsClear inst sched (travel_between inst (bay_of inst i) (bay_of inst j)) i j
 
 -- Before: a task starts after those before it
 abbrev pub KeepsBefore : InstanceView → List Slot → ℕ → ℕ → Type 0
@@ -48,7 +53,9 @@ KeepsApart inst sched i j = IsApart inst i j → IsClear inst sched 0 i j
 
 -- Margin: tasks of two cranes that would come too near are clear of each other by their distance
 abbrev pub KeepsMargin : InstanceView → List Slot → ℕ → ℕ → Type 0
-KeepsMargin inst sched i j = crane_of sched i ≢ crane_of sched j → 0 < slot_distance inst sched i j → IsClear inst sched (slot_distance inst sched i j) i j
+KeepsMargin inst sched i j =
+    let ticks = slot_distance inst sched i j in
+    crane_of sched i ≢ crane_of sched j → 0 < ticks → IsClear inst sched ticks i j
 
 -- Berth: crane v stands at its start bay until it is ready, and then has the time to give way to task j
 abbrev pub KeepsBerth : InstanceView → List Slot → ℕ → ℕ → Type 0
@@ -57,13 +64,15 @@ KeepsBerth inst sched j v =
     let x = bay_of inst j in
     v ≢ w → 0 < berth_distance inst v w x → berth_clear inst v w x ≤ start_of sched j
 
--- every task is done once, by a crane of the instance, and the seven rules hold for all tasks, pairs and cranes
+-- every task is done once, by a crane of the instance, and the seven rules hold for all tasks, pairs
+-- and cranes
 pub record Feasible (inst : InstanceView) (sched : List Slot) : Type 0 where
   pub all_tasks : length sched ≡ length inst.tasks
   pub crane_range : (j : ℕ) → j < length inst.tasks → crane_of sched j < length inst.cranes
   pub reach : (j : ℕ) → j < length inst.tasks → KeepsReach inst sched j
   pub ready : (j : ℕ) → j < length inst.tasks → KeepsReady inst sched j
-  pub travel : (i j : ℕ) → i < length inst.tasks → j < length inst.tasks → i ≢ j → KeepsTravel inst sched i j
+  pub travel : (i j : ℕ) → i < length inst.tasks → j < length inst.tasks → i ≢ j
+      → KeepsTravel inst sched i j
   pub before : (i j : ℕ) → i < length inst.tasks → j < length inst.tasks → KeepsBefore inst sched i j
   pub apart : (i j : ℕ) → i < length inst.tasks → j < length inst.tasks → KeepsApart inst sched i j
   pub margin : (i j : ℕ) → i < length inst.tasks → j < length inst.tasks → KeepsMargin inst sched i j

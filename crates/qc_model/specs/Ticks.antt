@@ -1,4 +1,5 @@
--- The ticks that rules ask for, of an instance alone: what a schedule keeps, and what holds of a schedule that is still open, cite the same numbers.
+-- The ticks that rules ask for, of an instance alone: what a schedule keeps, and what holds of a
+-- schedule that is still open, cite the same numbers.
 use Rattle.std.specs.Prelude.{ℕ, ◌+◌, ◌-◌, ◌*◌, ℤ, pos, ◌+ℤ◌, nat_lt, if◌then◌else◌}
 use Rattle.qc_model.specs.Bays.{bays_up, bays_between}
 use Rattle.qc_model.specs.Instance.{InstanceView, bay_of, ticks_of, crane}
@@ -11,9 +12,13 @@ travel_between inst x y = inst.travel * bays_between x y
 abbrev pub arrival : InstanceView → ℕ → ℤ → ℕ
 arrival inst k x = (crane inst k).ready + travel_between inst (crane inst k).bay x
 
--- the ticks by which crane v at bay x and crane w at bay y must keep clear of each other in time: the way that one must make to give way to the other (after Bierwirth and Meisel 2009, in a form of our own)
+-- the ticks by which crane v at bay x and crane w at bay y must keep clear of each other in time: the
+-- way that one must make to give way to the other (after Bierwirth and Meisel 2009, in a form of our own)
 abbrev pub distance : InstanceView → ℕ → ℤ → ℕ → ℤ → ℕ
-distance inst v x w y = inst.travel * (if nat_lt v w then bays_up y (x +ℤ pos (inst.gap * (w - v))) else (if nat_lt w v then bays_up x (y +ℤ pos (inst.gap * (v - w))) else 0))
+distance inst v x w y = inst.travel * (
+    if nat_lt v w
+    then bays_up y (x +ℤ pos (inst.gap * (w - v)))
+    else (if nat_lt w v then bays_up x (y +ℤ pos (inst.gap * (v - w))) else 0))
 
 -- the distance of crane v at its start bay from crane w at bay x
 abbrev pub berth_distance : InstanceView → ℕ → ℕ → ℤ → ℕ
