@@ -1,10 +1,11 @@
-ghost use Rattle.std.specs.Prelude.{◌≡◌, IfSome};
+ghost use Rattle.std.specs.Prelude.{◌≡◌, ◌≤◌, ◌<◌, None, Ok, true, length, is_some, option_map, IfOk, IfSome};
 ghost use Rattle.std.specs.String.{string_bytes};
+ghost use Rattle.qc_cli.specs.Once.{Counts, ReadsOnce, WritesOnce};
 
+use crate::once::{read_once, write_once};
+use crate::same::{Identity, is_among};
 use qc_io::{Failed, Shelf, Sink, fault};
-use std::alloc::Global;
-use std::fs;
-use std::io::{Read, Write};
+use std::fs::{self, OpenFile};
 use std::rt::Files;
 
 /// A file that is being written, and its name.
@@ -15,23 +16,26 @@ struct Making<F> {
 }
 
 /// The files of the system as a shelf. It tells no file. Each error is a fault, and so is a write that
-/// takes nothing.
+/// takes nothing. A file that was opened or created isn't created again, under whatever name.
 #[derive(Drop)]
 pub struct FileShelf<'a, R: Files> {
     rt: &'a R,
     reading: Option<R::File>,
     making: Option<Making<R::File>>,
+    /// The files that were opened or created.
+    used: Vec<Identity>,
     faults: u64,
     read_faults: u64,
 }
 
-impl<'a, R: Files> FileShelf<'a, R> {
+impl<'a, R: Files + AllocGlobal> FileShelf<'a, R> {
     /// No file is open, and none was created.
     pub fn new(rt: &'a R) -> Self {
         FileShelf {
             rt,
             reading: None,
             making: None,
+            used: Vec::new(rt.alloc()),
             faults: 0,
             read_faults: 0,
         }
@@ -39,24 +43,32 @@ impl<'a, R: Files> FileShelf<'a, R> {
 }
 
 impl<R: Files> Sink for FileShelf<'_, R> {
-    ghost use Rattle.std.specs.Prelude.{None};
+    ghost use Rattle.std.specs.Prelude.{None, is_some, option_map};
+    ghost use Rattle.std.specs.String.{string_bytes};
+    ghost use Rattle.qc_io.specs.Outside.{beside_of};
 
     ghost written = { λ _. None };
 
-    ghost beside = { λ _. None };
+    ghost beside = { λ shelf. beside_of None (option_map (λ making. string_bytes making.name) shelf.making) None
+        (is_some shelf.reading) shelf.read_faults };
 
     ghost faults = { λ shelf. shelf.faults };
 
-    fn write(&mut self, piece: &[u8]) -> Result<usize, Failed> {
-        if piece.is_empty() {
-            return Ok(0);
-        }
-        let Some(making) = &mut self.making else {
-            return Ok(piece.len());
-        };
-        match making.file.write(piece) {
-            Ok(count) if count > 0 => Ok(count),
-            _ => Err(fault(&mut self.faults)),
+    fn write(&mut self, piece: &[u8]) -> Result<usize, Failed>
+        ensures unmade { self.old.making ≡ None → (result ≡ Ok (length piece.now)) × (self.new.making ≡ None) }
+        ensures writes { IfSome self.old.making (λ before. IfSome self.new.making (λ after.
+            WritesOnce (R.File.contents before.file) (R.File.contents after.file) piece.now result)) }
+        ensures at_least { IfOk result (λ count. 0 < length piece.now → 0 < count) }
+        ensures at_most { IfOk result (λ count. count ≤ length piece.now) }
+        ensures counts { Counts self.old.faults self.new.faults result }
+        ensures made_stays { option_map (λ making. string_bytes making.name) self.new.making
+            ≡ option_map (λ making. string_bytes making.name) self.old.making }
+        ensures reading_stays { is_some self.new.reading ≡ is_some self.old.reading }
+        ensures read_faults_stay { self.new.read_faults ≡ self.old.read_faults }
+    {
+        match &mut self.making {
+            Some(making) => write_once(&mut making.file, &mut self.faults, piece),
+            None => Ok(piece.len()),
         }
     }
 }
@@ -79,31 +91,41 @@ impl<R: Files + AllocGlobal> Shelf for FileShelf<'_, R> {
 
     ghost beside_is = { λ _. refl };
 
+    ghost rest_told = { λ _. refl };
+
     ghost tells_alike = { λ _ _. refl };
 
     fn open(&mut self, name: &str) -> Result<(), Failed> {
         self.reading = None;
-        match fs::open(self.rt, name) {
-            Ok(file) => {
+        match opened(self.rt, name, &mut self.used) {
+            Some(file) => {
                 self.reading = Some(file);
                 Ok(())
             }
-            Err(_) => Err(fault(&mut self.read_faults)),
+            None => Err(fault(&mut self.read_faults)),
         }
     }
 
-    fn read(&mut self, buf: &mut [u8]) -> Result<usize, Failed> {
-        let Some(file) = &mut self.reading else {
-            unreachable!();
-        };
-        match file.read(buf) {
-            Ok(count) => Ok(count),
-            Err(_) => Err(fault(&mut self.read_faults)),
+    fn read(&mut self, buf: &mut [u8]) -> Result<usize, Failed>
+        requires open { is_some self.old.reading ≡ true }
+        requires room { 0 < length buf.old }
+        ensures reads { IfSome self.old.reading (λ before. IfSome self.new.reading (λ after.
+            ReadsOnce (R.File.remaining before) (R.File.remaining after) buf.new result)) }
+        ensures at_most { IfOk result (λ count. count ≤ length buf.new) }
+        ensures counts { Counts self.old.read_faults self.new.read_faults result }
+        ensures made_stays { option_map (λ making. string_bytes making.name) self.new.making
+            ≡ option_map (λ making. string_bytes making.name) self.old.making }
+        ensures reading_stays { is_some self.new.reading ≡ is_some self.old.reading }
+        ensures faults_stay { self.new.faults ≡ self.old.faults }
+    {
+        match &mut self.reading {
+            Some(file) => read_once(file, &mut self.read_faults, buf),
+            None => unreachable!(),
         }
     }
 
     fn create(&mut self, name: &str) -> Result<(), Failed> {
-        match made_by(self.rt, name) {
+        match made_by(self.rt, name, &mut self.used) {
             Some(making) => {
                 self.making = Some(making);
                 Ok(())
@@ -113,12 +135,28 @@ impl<R: Files + AllocGlobal> Shelf for FileShelf<'_, R> {
     }
 }
 
-/// A file of that name with no bytes. None where it can't be made or named.
-fn made_by<R: Files + AllocGlobal>(rt: &R, name: &str) -> Option<Making<R::File>>
+/// The file of that name, which is used from now on. None where it can't be opened.
+fn opened<R: Files>(rt: &R, name: &str, used: &mut Vec<Identity>) -> Option<R::File> {
+    let file = fs::open(rt, name).ok()?;
+    used.push(Identity::of(&file.metadata().ok()?)).ok()?;
+    Some(file)
+}
+
+/// A file of that name with no bytes, which is used from now on. None where it can't be made or named,
+/// or is used already.
+fn made_by<R: Files + AllocGlobal>(
+    rt: &R,
+    name: &str,
+    used: &mut Vec<Identity>,
+) -> Option<Making<R::File>>
     ensures { IfSome result (λ making. string_bytes making.name ≡ name.now) }
 {
+    if is_among(rt, name, used.as_slice()) {
+        return None;
+    }
     let name_kept = String::from_str(rt.alloc(), name).ok()?;
     let file = fs::create(rt, name).ok()?;
+    used.push(Identity::of(&file.metadata().ok()?)).ok()?;
     Some(Making {
         name: name_kept,
         file,

@@ -1,34 +1,36 @@
-use qc_io::{Failed, Sink, fault};
+ghost use Rattle.qc_cli.specs.Once.{Counts, WritesOnce};
 
-/// Standard output as a sink. It tells no bytes. A write that takes nothing is a fault.
+use crate::once::write_once;
+use qc_io::{Failed, Sink};
+use std::io::Write;
+
+/// A writer of the system as a sink. It tells no bytes.
 #[derive(Drop)]
-pub struct Output<'a, P> {
-    to: &'a P,
+pub struct Output<W> {
+    to: W,
     faults: u64,
 }
 
-impl<'a, P: Print> Output<'a, P> {
-    pub fn new(to: &'a P) -> Self {
+impl<W: Write> Output<W> {
+    pub fn new(to: W) -> Self {
         Output { to, faults: 0 }
     }
 }
 
-impl<P: Print> Sink for Output<'_, P> {
+impl<W: Write> Sink for Output<W> {
     ghost use Rattle.std.specs.Prelude.{None};
+    ghost use Rattle.qc_io.specs.Outside.{alone};
 
     ghost written = { λ _. None };
 
-    ghost beside = { λ _. None };
+    ghost beside = { λ _. alone };
 
     ghost faults = { λ sink. sink.faults };
 
-    fn write(&mut self, piece: &[u8]) -> Result<usize, Failed> {
-        if piece.is_empty() {
-            return Ok(0);
-        }
-        match self.to.write_some(piece) {
-            Ok(count) if count > 0 => Ok(count),
-            _ => Err(fault(&mut self.faults)),
-        }
+    fn write(&mut self, piece: &[u8]) -> Result<usize, Failed>
+        ensures counts { Counts self.old.faults self.new.faults result }
+        ensures writes { WritesOnce (W.contents self.old.to) (W.contents self.new.to) piece.now result }
+    {
+        write_once(&mut self.to, &mut self.faults, piece)
     }
 }

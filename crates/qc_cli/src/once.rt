@@ -1,0 +1,32 @@
+//! One call of a writer or a reader of the system.
+ghost use Rattle.std.specs.Prelude.{◌≡◌, length};
+ghost use Rattle.qc_cli.specs.Once.{Counts, ReadsOnce, WritesOnce};
+
+use qc_io::{Failed, fault};
+use std::io::{Read, Write};
+
+/// Writes once. An empty piece makes no call. An error is a fault, and so is a write that takes nothing.
+pub fn write_once<W: Write>(to: &mut W, faults: &mut u64, piece: &[u8]) -> Result<usize, Failed>
+    ensures counts { Counts faults.old faults.new result }
+    ensures writes { WritesOnce (W.contents to.old) (W.contents to.new) piece.now result }
+    ensures empty { length piece.now ≡ 0 → to.new ≡ to.old }
+{
+    if piece.is_empty() {
+        return Ok(0);
+    }
+    match to.write(piece) {
+        Ok(count) if count > 0 => Ok(count),
+        _ => Err(fault(faults)),
+    }
+}
+
+/// Reads once. An error is a fault.
+pub fn read_once<R: Read>(from: &mut R, faults: &mut u64, buf: &mut [u8]) -> Result<usize, Failed>
+    ensures counts { Counts faults.old faults.new result }
+    ensures reads { ReadsOnce (R.remaining from.old) (R.remaining from.new) buf.new result }
+{
+    match from.read(buf) {
+        Ok(count) => Ok(count),
+        Err(_) => Err(fault(faults)),
+    }
+}
