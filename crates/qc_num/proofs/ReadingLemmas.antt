@@ -25,10 +25,10 @@ pub passed : {A E : Type 0} (test : Bool) (a b : A) (fault : E) → ◌≡◌ {A
 passed true a b fault e = (refl, same_ok e)
 passed false a b fault e = cc
 
--- the same where the test chose the fault
-pub passed_not : {A E : Type 0} (test : Bool) (a b : A) (fault : E) → ◌≡◌ {A = Result A E} (cond test (Err fault) (Ok a)) (Ok b) → (test ≡ false) × (a ≡ b)
-passed_not true a b fault e = cc
-passed_not false a b fault e = (refl, same_ok e)
+-- the same where the test chose the fault, and else the steps went on
+pub passed_not : {A E : Type 0} (test : Bool) (r : Result A E) (b : A) (fault : E) → cond test (Err fault) r ≡ Ok b → (test ≡ false) × (r ≡ Ok b)
+passed_not true r b fault e = cc
+passed_not false r b fault e = (refl, e)
 
 pub with_fault_ok : {A E F : Type 0} (f : E → F) (r : Result A E) (a : A) → with_fault f r ≡ Ok a → r ≡ Ok a
 with_fault_ok f (Ok x) a e = let same : x ≡ a = same_ok e in cc
