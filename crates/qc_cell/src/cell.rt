@@ -1,7 +1,11 @@
-ghost use Rattle.std.specs.Prelude.{◌≡◌, ◌≢◌, ◌<◌, ◌%◌, [], ◌∷◌, IfOk};
+ghost use Rattle.std.specs.Prelude.{◌≡◌, ◌≢◌, ◌<◌, ◌%◌, [], ◌∷◌};
 
 use crate::digits::{are_digits, number, two_digits};
-use crate::text::CellText;
+use qc_num::Text;
+use std::marker::Model;
+
+/// The text of a cell: six digits, or seven from bay 100 on.
+pub type CellText = Text<7>;
 
 /// A place on board, by its ISO 9711 numbers.
 ///
@@ -16,6 +20,18 @@ pub struct Cell {
     pub row: u8,
     /// 2 to 98, even.
     pub tier: u8,
+}
+
+impl Model for Cell {
+    ghost use Rattle.qc_cell.specs.Cells.{CellView, IsCell};
+
+    ghost Value = { CellView };
+
+    ghost view = { λ c. record { bay = c.bay; row = c.row; tier = c.tier } };
+
+    ghost invariant = { λ c. IsCell (record { bay = c.bay; row = c.row; tier = c.tier }) };
+
+    ghost inverse = { λ c. record { bay = c.bay; row = c.row; tier = c.tier } };
 }
 
 /// Why a text isn't a cell: the first of these that applies.
@@ -33,6 +49,23 @@ pub enum CellFault {
     TierZero,
 }
 
+impl CellFault {
+    ghost use Rattle.qc_cell.specs.Cells.{fault_text};
+
+    /// The fault as reports print it.
+    pub fn text(self) -> &'static str
+        ensures { result.now ≡ fault_text self }
+    {
+        match self {
+            CellFault::Length => "Length",
+            CellFault::Digit => "Digit",
+            CellFault::BayZero => "BayZero",
+            CellFault::TierOdd => "TierOdd",
+            CellFault::TierZero => "TierZero",
+        }
+    }
+}
+
 impl Cell {
     ghost use Rattle.std.specs.Prelude.{Ok};
     ghost use Rattle.qc_cell.specs.Cells.{IsCell, cell_in, cell_of, cell_text, is_on_deck, overlap, slots};
@@ -40,8 +73,7 @@ impl Cell {
     /// The cell that six or seven digits write: the last two are the tier, the two before them the
     /// row, and the first two or three the bay.
     pub fn read(text: &[u8]) -> Result<Cell, CellFault>
-        ensures cell { result ≡ cell_in text.now }
-        ensures range { IfOk result IsCell }
+        ensures { result ≡ cell_in text.now }
     {
         if text.len() != 6 && text.len() != 7 {
             return Err(CellFault::Length);
@@ -59,8 +91,7 @@ impl Cell {
         requires bay { bay < 1000 }
         requires row { row < 100 }
         requires tier { tier < 100 }
-        ensures cell { result ≡ cell_of bay row tier }
-        ensures range { IfOk result IsCell }
+        ensures { result ≡ cell_of bay row tier }
     {
         if bay == 0 {
             return Err(CellFault::BayZero);
@@ -76,24 +107,20 @@ impl Cell {
 
     /// The cell's text: `BBRRTT` for bays below 100, else `BBBRRTT`.
     pub fn write(&self) -> CellText
-        requires { IsCell self.now }
         ensures text { result ≡ cell_text self.now }
         ensures reads { cell_in result ≡ Ok self.now }
+        ensures cell { IsCell self.now }
     {
         let (row_tens, row_ones) = two_digits(self.row);
         let (tier_tens, tier_ones) = two_digits(self.tier);
         let (bay_tens, bay_ones) = two_digits((self.bay % 100) as u8);
         if self.bay < 100 {
-            let bytes = [
-                bay_tens, bay_ones, row_tens, row_ones, tier_tens, tier_ones, 0,
-            ];
-            CellText { bytes, len: 6 }
+            Text::of(&[bay_tens, bay_ones, row_tens, row_ones, tier_tens, tier_ones])
         } else {
             let hundreds = b'0' + (self.bay / 100) as u8;
-            let bytes = [
+            Text::of(&[
                 hundreds, bay_tens, bay_ones, row_tens, row_ones, tier_tens, tier_ones,
-            ];
-            CellText { bytes, len: 7 }
+            ])
         }
     }
 
@@ -107,10 +134,11 @@ impl Cell {
     /// The first and the last 20-foot bay that the cell covers: at an odd bay that bay twice.
     pub fn slots(&self) -> (u16, u16)
         ensures even { self.now.bay % 2 ≡ 0 → slots self.now.bay ≡ result.0 ∷ result.1 ∷ [] }
-        ensures odd { self.now.bay % 2 ≢ 0 → (slots self.now.bay ≡ result.0 ∷ []) × (result.1 ≡ result.0) }
+        ensures odd { self.now.bay % 2 ≢ 0 → (slots self.now.bay ≡ result.0 ∷ [])
+            × (result.1 ≡ result.0) }
     {
         if self.bay % 2 == 0 {
-            (self.bay.saturating_sub(1), self.bay + 1)
+            (self.bay - 1, self.bay + 1)
         } else {
             (self.bay, self.bay)
         }

@@ -3,7 +3,5 @@
 
 mod cell;
 mod digits;
-mod text;
 
-pub use cell::{Cell, CellFault};
-pub use text::CellText;
+pub use cell::{Cell, CellFault, CellText};
