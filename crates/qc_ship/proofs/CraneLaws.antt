@@ -1,24 +1,28 @@
 -- What cranes that were read are.
-use Rattle.std.proofs.Common.{◌≡◌, ◌≢◌, ℕ, ◌-◌, ◌<◌, ◌≤◌, ℤ, pos, ◌+ℤ◌, ◌≤ℤ◌, Bool, true, false, cond, List, [], length, get_or, Some, Ok, Err, sym, subst, ◌∙◌, inl, inr, arith, slice_index}
+use Rattle.std.proofs.Common.{◌≡◌, ◌≢◌, ℕ, ◌-◌, ◌<◌, ◌≤◌, ℤ, pos, ◌+ℤ◌, ◌≤ℤ◌, Bool, true, false, cond, List, [], length, map, get_or, Contains, Some, Ok, Err, sym, subst, ◌∙◌, inl, inr, arith, slice_index}
 use Rattle.std.specs.Prelude.{All, AllPairs, int_le, bytes_eq}
 use Rattle.std.specs.List.{list_any}
 use Rattle.std.proofs.lemmas.Bool.{cases_lt, false≢true}
 use Rattle.std.proofs.lemmas.Int.{ints}
 use Rattle.std.proofs.lemmas.List.{get_or_default}
-use Rattle.std.proofs.lemmas.List.Elements.{All-push}
+use Rattle.std.proofs.lemmas.List.Elements.{All-push, Contains-get_or}
 use Rattle.std.proofs.lemmas.List.Folds.{list_any-from_Any}
 use Rattle.std.proofs.lemmas.List.Quantifiers.{all_pairs_push}
 use Rattle.std.proofs.lemmas.Slice.Eq.{bytes_eq-Decides}
+use Rattle.qc_num.specs.Reading.{◌>>=◌}
+use Rattle.qc_num.proofs.Lists.{Contains-map}
+use Rattle.qc_num.proofs.ReadingLemmas.{bind_ok, same_ok, passed, passed_not}
 use Rattle.toml.specs.Data.{Data, Members, get_member}
 use Rattle.qc_model.specs.declared.crane.Crane.{Crane}
+use Rattle.qc_model.specs.declared.limits.TheConstants.{MOST_CRANES, MOST_READY}
 use Rattle.qc_ship.specs.declared.fault.Key.{Key}
 use Rattle.qc_ship.specs.declared.fault.Key.TheVariants as key
 use Rattle.qc_ship.specs.declared.fault.ShipKind.TheVariants as kind
 use Rattle.qc_ship.specs.Keys.{key_text, fault}
 use Rattle.qc_ship.specs.Ship.{least_start, greatest_start}
-use Rattle.qc_ship.specs.ShipValues.{Reading, ◌>>=◌, required, integer_in, number_in, number_or, array_in, each, last, next_number}
+use Rattle.qc_ship.specs.ShipValues.{Reading, required, integer_in, number_in, number_or, array_in, each, last, next_number}
 use Rattle.qc_ship.specs.ShipFile.{table_in, name_at, bay_at, hatch_place, crane_at, keeps_gap, crane_in, cranes_at}
-use Rattle.qc_ship.proofs.ShipLaws.{bind_ok, same_ok, passed, passed_not, each-keeps, length-each, chain-push, integer_in-bounds, number_in-bounds, array_in-count}
+use Rattle.qc_ship.proofs.ShipLaws.{each-keeps, length-each, chain-push, integer_in-bounds, number_in-bounds, array_in-count}
 use Rattle.qc_ship.proofs.HatchLaws.{Places, either_way, test_at_last}
 
 pub number_or-bounds : (default : ℕ) (k : Key) (number low high : ℕ) (ms : Members) (n : ℕ)
@@ -26,12 +30,12 @@ pub number_or-bounds : (default : ℕ) (k : Key) (number low high : ℕ) (ms : M
 number_or-bounds default k number low high ms n e from to =
     either_way (λ m. (low ≤ m) × (m ≤ high)) (number_in k number low high) (get_member (key_text k) ms) default n e (from, to) (λ d read. number_in-bounds k number low high d n read)
 
--- a crane's start bay, ready time and reach, where n is the last place
-abbrev pub IsCraneOf : Bool → ℕ → Crane → Type 0
-IsCraneOf in_decimetres n c =
-    (c.ready ≤ 1000000)
+-- a crane's start bay, ready time and reach, which goes from the place of a hatch to that of the same or a later one
+abbrev pub IsCraneOf : Bool → List ℕ → Crane → Type 0
+IsCraneOf in_decimetres places c =
+    (c.ready ≤ MOST_READY)
     × ((least_start in_decimetres ≤ℤ c.bay) × (c.bay ≤ℤ greatest_start in_decimetres))
-    × ((pos 1 ≤ℤ c.from) × (c.from ≤ℤ c.to) × (c.to ≤ℤ pos n))
+    × (Contains (map pos places) c.from × Contains (map pos places) c.to × (c.from ≤ℤ c.to))
 
 -- places rise with the hatches
 place_rises : (places : List ℕ) (i j : ℕ) → AllPairs (λ p q. p < q) places → i ≤ j → j < length places → slice_index places i ≤ slice_index places j
@@ -41,14 +45,15 @@ place_rises places i j order from within =
       | inr past ↦ (let same : i ≡ j = omega arith in subst (λ (k : ℕ). slice_index places i ≤ slice_index places k) same (omega arith))
     ]
 
-reach_of : (count : ℕ) (places : List ℕ) (from to : ℕ) → Places count places → 1 ≤ from → from ≤ to → to ≤ count
-    → (pos 1 ≤ℤ hatch_place places from) × (hatch_place places from ≤ℤ hatch_place places to) × (hatch_place places to ≤ℤ pos (slice_index places (length places - 1)))
+-- the place of a hatch is one of the places
+is_place : (places : List ℕ) (hatch : ℕ) → 1 ≤ hatch → hatch ≤ length places → Contains (map pos places) (hatch_place places hatch)
+is_place places hatch from to = Contains-map pos places (slice_index places (hatch - 1)) (Contains-get_or places (hatch - 1) 0 (omega arith))
+
+reach_of : (count : ℕ) (places : List ℕ) (from to : ℕ) → Places count places → 1 ≤ from → from ≤ to → to ≤ length places
+    → Contains (map pos places) (hatch_place places from) × Contains (map pos places) (hatch_place places to) × (hatch_place places from ≤ℤ hatch_place places to)
 reach_of count places from to are low middle high =
-    let total = are.total in
-    let first = (are.range (from - 1) 0 (omega arith)).0 in
     let rises = place_rises places (from - 1) (to - 1) are.order (omega arith) (omega arith) in
-    let ends = place_rises places (to - 1) (length places - 1) are.order (omega arith) (omega arith) in
-    (omega (arith, ints, first), omega (arith, ints, rises), omega (arith, ints, ends))
+    (is_place places from low (omega arith), is_place places to (omega arith) high, omega (arith, ints, rises))
 
 -- the checks of a crane's keys after its name, its ready time, its start bay and its first hatch
 abbrev with_to : List ℕ → ℕ → Members → List ℕ → ℕ → ℤ → ℕ → Reading Crane
@@ -63,27 +68,26 @@ abbrev with_bay : Bool → List ℕ → ℕ → Members → List ℕ → ℕ →
 with_bay in_decimetres places number ms name ready = bay_at in_decimetres number ms >>= with_from places number ms name ready
 
 abbrev with_ready : Bool → List ℕ → ℕ → Members → List ℕ → Reading Crane
-with_ready in_decimetres places number ms name = number_or 0 key.Ready number 0 1000000 ms >>= with_bay in_decimetres places number ms name
+with_ready in_decimetres places number ms name = number_or 0 key.Ready number 0 MOST_READY ms >>= with_bay in_decimetres places number ms name
 
 crane_at-tells : (in_decimetres : Bool) (count : ℕ) (places : List ℕ) (number : ℕ) (ms : Members) (c : Crane)
     → Places count places → 1 ≤ count → crane_at in_decimetres places number ms ≡ Ok c
-    → IsCraneOf in_decimetres (slice_index places (length places - 1)) c
+    → IsCraneOf in_decimetres places c
 crane_at-tells in_decimetres count places number ms c are some e =
-    let total = are.total in
     let (name, named, e1) = bind_ok (name_at number ms) (with_ready in_decimetres places number ms) c e in
-    let (ready, at_ready, e2) = bind_ok (number_or 0 key.Ready number 0 1000000 ms) (with_bay in_decimetres places number ms name) c e1 in
+    let (ready, at_ready, e2) = bind_ok (number_or 0 key.Ready number 0 MOST_READY ms) (with_bay in_decimetres places number ms name) c e1 in
     let (bay, at_bay, e3) = bind_ok (bay_at in_decimetres number ms) (with_from places number ms name ready) c e2 in
     let (from, at_from, e4) = bind_ok (number_or 1 key.From number 1 (length places) ms) (with_to places number ms name ready bay) c e3 in
     let (to, at_to, e5) = bind_ok (number_or (length places) key.To number from (length places) ms)
     (λ to. Ok (record { name = name; ready = ready; bay = bay; from = hatch_place places from; to = hatch_place places to })) c e4 in
     let (d, given, read) = bind_ok (required key.Bay number ms) (integer_in key.Bay number (least_start in_decimetres) (greatest_start in_decimetres)) bay at_bay in
-    let readies = number_or-bounds 0 key.Ready number 0 1000000 ms ready at_ready (omega arith) (omega arith) in
+    let readies = number_or-bounds 0 key.Ready number 0 MOST_READY ms ready at_ready (omega arith) (omega arith) in
     let starts = integer_in-bounds key.Bay number (least_start in_decimetres) (greatest_start in_decimetres) d bay read in
     let froms = number_or-bounds 1 key.From number 1 (length places) ms from at_from (omega arith) (omega arith) in
     let tos = number_or-bounds (length places) key.To number from (length places) ms to at_to froms.1 (omega arith) in
-    let P : Crane → Type 0 = IsCraneOf in_decimetres (slice_index places (length places - 1)) in
-    subst P (same_ok (record { name = name; ready = ready; bay = bay; from = hatch_place places from; to = hatch_place places to }) c e5)
-    (readies.1, starts, reach_of count places from to are froms.0 tos.0 (omega (arith, tos.1, total)))
+    let P : Crane → Type 0 = IsCraneOf in_decimetres places in
+    subst P (same_ok e5)
+    (readies.1, starts, reach_of count places from to are froms.0 tos.0 tos.1)
 
 -- the order of two neighbouring cranes
 order_test : (gap : ℕ) (p c : Crane) → int_le (p.bay +ℤ pos gap) c.bay ≡ true → (p.bay +ℤ pos gap) ≤ℤ c.bay
@@ -107,7 +111,7 @@ new_name before c none k d within = λ same.
 
 crane_in-tells : (in_decimetres : Bool) (gap count : ℕ) (places : List ℕ) (before : List Crane) (d : Data) (c : Crane)
     → Places count places → 1 ≤ count → crane_in in_decimetres gap places before d ≡ Ok c
-    → IsCraneOf in_decimetres (slice_index places (length places - 1)) c
+    → IsCraneOf in_decimetres places c
     × ((k : ℕ) (e : Crane) → k < length before → (get_or before k e).name ≢ c.name)
     × ((p : Crane) → last before ≡ Some p → (p.bay +ℤ pos gap) ≤ℤ c.bay)
 crane_in-tells in_decimetres gap count places before d c are some e =
@@ -116,7 +120,7 @@ crane_in-tells in_decimetres gap count places before d c are some e =
     let (crane, keys, e2) = bind_ok (crane_at in_decimetres places number ms) (among gap before) c e1 in
     let (fresh, e3) = passed_not (list_any (λ earlier. bytes_eq earlier.name crane.name) before) (apart_enough gap before crane) c (fault kind.NameTwice key.Name number) e2 in
     let (behind, same) = passed (keeps_gap gap before crane.bay) crane c (fault kind.CraneOrder key.Crane number) e3 in
-    let P : Crane → Type 0 = λ c. IsCraneOf in_decimetres (slice_index places (length places - 1)) c
+    let P : Crane → Type 0 = λ c. IsCraneOf in_decimetres places c
     × ((k : ℕ) (e : Crane) → k < length before → (get_or before k e).name ≢ c.name)
     × ((p : Crane) → last before ≡ Some p → (p.bay +ℤ pos gap) ≤ℤ c.bay) in
     subst P same (
@@ -126,30 +130,29 @@ crane_in-tells in_decimetres gap count places before d c are some e =
     )
 
 -- the cranes of a file
-pub record Cranes (in_decimetres : Bool) (gap n : ℕ) (cranes : List Crane) : Type 0 where
-  pub count : (1 ≤ length cranes) × (length cranes ≤ 8)
-  pub each_one : All (IsCraneOf in_decimetres n) cranes
+pub record Cranes (in_decimetres : Bool) (gap : ℕ) (places : List ℕ) (cranes : List Crane) : Type 0 where
+  pub count : (1 ≤ length cranes) × (length cranes ≤ MOST_CRANES)
+  pub each_one : All (IsCraneOf in_decimetres places) cranes
   pub names : AllPairs (λ c d. c.name ≢ d.name) cranes
   pub order : AllPairs (λ c d. (c.bay +ℤ pos gap) ≤ℤ d.bay) cranes
 
 -- what holds of the cranes so far
-abbrev SoFar : Bool → ℕ → ℕ → List Crane → Type 0
-SoFar in_decimetres gap n cranes =
-    All (IsCraneOf in_decimetres n) cranes × AllPairs (λ c d. c.name ≢ d.name) cranes × AllPairs (λ c d. (c.bay +ℤ pos gap) ≤ℤ d.bay) cranes
+abbrev SoFar : Bool → ℕ → List ℕ → List Crane → Type 0
+SoFar in_decimetres gap places cranes =
+    All (IsCraneOf in_decimetres places) cranes × AllPairs (λ c d. c.name ≢ d.name) cranes × AllPairs (λ c d. (c.bay +ℤ pos gap) ≤ℤ d.bay) cranes
 
 pub Cranes-from : (in_decimetres : Bool) (gap count : ℕ) (places : List ℕ) (ms : Members) (cranes : List Crane)
     → Places count places → 1 ≤ count → cranes_at in_decimetres gap places ms ≡ Ok cranes
-    → Cranes in_decimetres gap (slice_index places (length places - 1)) cranes
+    → Cranes in_decimetres gap places cranes
 Cranes-from in_decimetres gap count places ms cranes are some e =
-    let n = slice_index places (length places - 1) in
     let judge = crane_in in_decimetres gap places in
-    let (d, found, more) = bind_ok (required key.Crane 0 ms) (λ d. array_in key.Crane 1 8 d >>= each judge []) cranes e in
-    let (ds, read, judged) = bind_ok (array_in key.Crane 1 8 d) (each judge []) cranes more in
-    let counts = array_in-count key.Crane 1 8 d ds read in
+    let (d, found, more) = bind_ok (required key.Crane 0 ms) (λ d. array_in key.Crane 1 MOST_CRANES d >>= each judge []) cranes e in
+    let (ds, read, judged) = bind_ok (array_in key.Crane 1 MOST_CRANES d) (each judge []) cranes more in
+    let counts = array_in-count key.Crane 1 MOST_CRANES d ds read in
     let long = length-each judge [] ds cranes judged in
-    let kept : SoFar in_decimetres gap n cranes = each-keeps judge (SoFar in_decimetres gap n) (λ before d c so_far step.
+    let kept : SoFar in_decimetres gap places cranes = each-keeps judge (SoFar in_decimetres gap places) (λ before d c so_far step.
     let tells = crane_in-tells in_decimetres gap count places before d c are some step in (
-      All-push (IsCraneOf in_decimetres n) before c so_far.0 tells.0,
+      All-push (IsCraneOf in_decimetres places) before c so_far.0 tells.0,
       all_pairs_push (λ c d. c.name ≢ d.name) before c so_far.1 tells.1,
       chain-push (λ c d. (c.bay +ℤ pos gap) ≤ℤ d.bay) (λ x y z left right. omega (arith, ints)) before c so_far.2 tells.2,
     ))

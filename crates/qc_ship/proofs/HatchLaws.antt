@@ -8,16 +8,20 @@ use Rattle.std.proofs.lemmas.Bool.{cases_Bool}
 use Rattle.std.proofs.lemmas.Bool.Decides.{nat_tests}
 use Rattle.std.proofs.lemmas.List.Elements.{All-push}
 use Rattle.std.proofs.lemmas.List.FromFn.{get_or-range_with_len, length-range_with_len}
+use Rattle.qc_num.specs.Reading.{◌>>=◌}
+use Rattle.qc_num.proofs.ReadingLemmas.{bind_ok, same_ok, passed, passed_not}
 use Rattle.toml.specs.Data.{Data, Members, get_member}
+use Rattle.qc_model.specs.declared.limits.TheConstants.{MOST_HATCHES, MOST_PLACE}
+use Rattle.qc_ship.specs.declared.limits.TheConstants.{GREATEST_HATCH, MOST_HATCH_PAIRS}
 use Rattle.qc_ship.specs.declared.fault.ShipFault.{ShipFault}
 use Rattle.qc_ship.specs.declared.fault.Key.TheVariants as key
 use Rattle.qc_ship.specs.declared.fault.ShipKind.TheVariants as kind
 use Rattle.qc_ship.specs.Keys.{key_text, fault}
 use Rattle.qc_ship.specs.declared.ship.HatchPair.{HatchPair}
 use Rattle.qc_ship.specs.Ship.{lowest_bay, highest_bay, HasHatches}
-use Rattle.qc_ship.specs.ShipValues.{Reading, ◌>>=◌, required, array_in, each, last, next_number}
+use Rattle.qc_ship.specs.ShipValues.{Reading, required, array_in, each, last, next_number}
 use Rattle.qc_ship.specs.ShipFile.{hatch_in, place_in, hatches_at, places_in, places_at, hatch_of, two_integers, pair_in, pairs_in, apart_at}
-use Rattle.qc_ship.proofs.ShipLaws.{bind_ok, same_ok, passed, passed_not, each-keeps, length-each, chain-push, number_in-bounds, array_in-count}
+use Rattle.qc_ship.proofs.ShipLaws.{each-keeps, length-each, chain-push, number_in-bounds, array_in-count}
 
 same_some : {A : Type 0} (a b : A) → Some a ≡ Some b → a ≡ b
 same_some a b e = cc
@@ -39,32 +43,32 @@ lowest-highest h =
 
 -- what a hatch that was read is
 hatch_in-tells : (before : List ℕ) (d : Data) (h : ℕ) → hatch_in before d ≡ Ok h
-    → ((1 ≤ h) × (h ≤ 998)) × ((p : ℕ) → last before ≡ Some p → highest_bay p < lowest_bay h)
+    → ((1 ≤ h) × (h ≤ GREATEST_HATCH)) × ((p : ℕ) → last before ≡ Some p → highest_bay p < lowest_bay h)
 hatch_in-tells before d h e =
     let (n, read, judged) = bind_ok _ _ h e in
     let (behind, same) = passed _ n h _ judged in
-    let bounds : (1 ≤ n) × (n ≤ 998) = number_in-bounds _ _ 1 998 d n read in
+    let bounds : (1 ≤ n) × (n ≤ GREATEST_HATCH) = number_in-bounds _ _ 1 GREATEST_HATCH d n read in
     ((omega arith, omega arith), λ p here. subst (λ x. highest_bay p < lowest_bay x) same (below _ _ (test_at_last _ (last before) p here behind)))
 
 place_in-tells : (before : List ℕ) (d : Data) (h : ℕ) → place_in before d ≡ Ok h
-    → ((1 ≤ h) × (h ≤ 6000)) × ((p : ℕ) → last before ≡ Some p → p < h)
+    → ((1 ≤ h) × (h ≤ MOST_PLACE)) × ((p : ℕ) → last before ≡ Some p → p < h)
 place_in-tells before d h e =
     let (n, read, judged) = bind_ok _ _ h e in
     let (behind, same) = passed _ n h _ judged in
-    let bounds : (1 ≤ n) × (n ≤ 6000) = number_in-bounds _ _ 1 6000 d n read in
+    let bounds : (1 ≤ n) × (n ≤ MOST_PLACE) = number_in-bounds _ _ 1 MOST_PLACE d n read in
     ((omega arith, omega arith), λ p here. subst (λ x. p < x) same (below _ _ (test_at_last _ (last before) p here behind)))
 
 -- the hatches of a file
 pub HasHatches-from : (ms : Members) (hatches : List ℕ) → hatches_at ms ≡ Ok hatches → HasHatches hatches
 HasHatches-from ms hatches e =
-    let (d, found, more) = bind_ok (required key.Hatches 0 ms) (λ d. array_in key.Hatches 1 60 d >>= each hatch_in []) hatches e in
-    let (ds, read, judged) = bind_ok (array_in key.Hatches 1 60 d) (each hatch_in []) hatches more in
-    let counts : (1 ≤ length ds) × (length ds ≤ 60) = array_in-count key.Hatches 1 60 d ds read in
+    let (d, found, more) = bind_ok (required key.Hatches 0 ms) (λ d. array_in key.Hatches 1 MOST_HATCHES d >>= each hatch_in []) hatches e in
+    let (ds, read, judged) = bind_ok (array_in key.Hatches 1 MOST_HATCHES d) (each hatch_in []) hatches more in
+    let counts : (1 ≤ length ds) × (length ds ≤ MOST_HATCHES) = array_in-count key.Hatches 1 MOST_HATCHES d ds read in
     let long : length hatches ≡ 0 + length ds = length-each hatch_in [] ds hatches judged in
-    let P : List ℕ → Type 0 = λ hs. All (λ h. (1 ≤ h) × (h ≤ 998)) hs × AllPairs (λ g h. highest_bay g < lowest_bay h) hs in
+    let P : List ℕ → Type 0 = λ hs. All (λ h. (1 ≤ h) × (h ≤ GREATEST_HATCH)) hs × AllPairs (λ g h. highest_bay g < lowest_bay h) hs in
     let kept : P hatches = each-keeps hatch_in P (λ before d h so_far step.
     let tells = hatch_in-tells before d h step in (
-      All-push (λ h. (1 ≤ h) × (h ≤ 998)) before h so_far.0 tells.0,
+      All-push (λ h. (1 ≤ h) × (h ≤ GREATEST_HATCH)) before h so_far.0 tells.0,
       chain-push (λ g h. highest_bay g < lowest_bay h) (λ x y z left right. omega (arith, lowest-highest y)) before h so_far.1 tells.1,
     ))
     [] ds hatches (λ k d within. absurd (omega arith), λ i j d between within. absurd (omega arith)) judged in
@@ -73,7 +77,7 @@ HasHatches-from ms hatches e =
 -- places that rise from 1 to 6,000, one for each hatch
 pub record Places (count : ℕ) (places : List ℕ) : Type 0 where
   pub total : length places ≡ count
-  pub range : All (λ p. (1 ≤ p) × (p ≤ 6000)) places
+  pub range : All (λ p. (1 ≤ p) × (p ≤ MOST_PLACE)) places
   pub order : AllPairs (λ p q. p < q) places
 
 Places-from_array : (count : ℕ) (d : Data) (places : List ℕ) → places_in count d ≡ Ok places → Places count places
@@ -81,16 +85,16 @@ Places-from_array count d places e =
     let (ds, read, judged) = bind_ok (array_in key.Places count count d) (each place_in []) places e in
     let counts : (count ≤ length ds) × (length ds ≤ count) = array_in-count key.Places count count d ds read in
     let long : length places ≡ 0 + length ds = length-each place_in [] ds places judged in
-    let P : List ℕ → Type 0 = λ ps. All (λ p. (1 ≤ p) × (p ≤ 6000)) ps × AllPairs (λ p q. p < q) ps in
+    let P : List ℕ → Type 0 = λ ps. All (λ p. (1 ≤ p) × (p ≤ MOST_PLACE)) ps × AllPairs (λ p q. p < q) ps in
     let kept : P places = each-keeps place_in P (λ before d h so_far step.
     let tells = place_in-tells before d h step in (
-      All-push (λ p. (1 ≤ p) × (p ≤ 6000)) before h so_far.0 tells.0,
+      All-push (λ p. (1 ≤ p) × (p ≤ MOST_PLACE)) before h so_far.0 tells.0,
       chain-push (λ p q. p < q) (λ x y z left right. omega arith) before h so_far.1 tells.1,
     ))
     [] ds places (λ k d within. absurd (omega arith), λ i j d between within. absurd (omega arith)) judged in
     record { total = omega (arith, counts.0, counts.1, long); range = kept.0; order = kept.1 }
 
-Places-counted : (count : ℕ) → count ≤ 60 → Places count (range_with_len 1 count)
+Places-counted : (count : ℕ) → count ≤ MOST_HATCHES → Places count (range_with_len 1 count)
 Places-counted count few = record {
   total = length-range_with_len 1 count;
   range = λ k d within.
@@ -105,10 +109,10 @@ Places-counted count few = record {
 -- a value at a key that may be left out
 pub either_way : {A B : Type 0} (P : B → Type 0) (read : A → Reading B) (o : Option A) (default b : B)
     → option_map_or read o (Ok default) ≡ Ok b → P default → ((a : A) → read a ≡ Ok b → P b) → P b
-either_way P read None default b e left_out given = subst P (same_ok default b e) left_out
+either_way P read None default b e left_out given = subst P (same_ok e) left_out
 either_way P read (Some a) default b e left_out given = given a e
 
-pub Places-from : (count : ℕ) (ms : Members) (places : List ℕ) → count ≤ 60 → places_at count ms ≡ Ok places → Places count places
+pub Places-from : (count : ℕ) (ms : Members) (places : List ℕ) → count ≤ MOST_HATCHES → places_at count ms ≡ Ok places → Places count places
 Places-from count ms places few e =
     either_way (Places count) (places_in count) _ (range_with_len 1 count) places e (Places-counted count few) (λ d read. Places-from_array count d places read)
 
@@ -129,7 +133,7 @@ find-Contains test (y ∷ ys) x e =
 
 found : {A : Type 0} (o : Option A) (f : ShipFault) (a : A) → ◌≡◌ {A = Reading A} (ok_or o f) (Ok a) → o ≡ Some a
 found None f a e = cc
-found (Some x) f a e = ap Some (same_ok x a e)
+found (Some x) f a e = ap Some (same_ok e)
 
 -- the checks of a pair after its numbers, and after its first hatch
 abbrev second_hatch : List ℕ → ℕ → ℤ → ℕ → Reading HatchPair
@@ -149,19 +153,19 @@ pair_in-tells hatches before d pair e =
     let (b, at_b, e3) = bind_ok (ok_or (hatch_of hatches numbers.1) apart) (λ b. cond (a == b) (Err apart) (Ok (record { a = a; b = b }))) pair e2 in
     let (differ, same) = passed_not (a == b) (Ok (record { a = a; b = b })) pair apart e3 in
     let P : HatchPair → Type 0 = IsPairOf hatches in
-    subst P (same_ok (record { a = a; b = b }) pair same) (
+    subst P (same_ok same) (
       find-Contains (λ hatch. int_eq (pos hatch) numbers.0) hatches a (found (hatch_of hatches numbers.0) apart a at_a),
       find-Contains (λ hatch. int_eq (pos hatch) numbers.1) hatches b (found (hatch_of hatches numbers.1) apart b at_b),
       λ equal. not_equal a b differ equal,
     )
 
 pub HasPairs-from : (hatches : List ℕ) (ms : Members) (pairs : List HatchPair) → apart_at hatches ms ≡ Ok pairs
-    → (length pairs ≤ 100) × All (IsPairOf hatches) pairs
+    → (length pairs ≤ MOST_HATCH_PAIRS) × All (IsPairOf hatches) pairs
 HasPairs-from hatches ms pairs e =
-    let P : List HatchPair → Type 0 = λ ps. (length ps ≤ 100) × All (IsPairOf hatches) ps in
+    let P : List HatchPair → Type 0 = λ ps. (length ps ≤ MOST_HATCH_PAIRS) × All (IsPairOf hatches) ps in
     either_way P (pairs_in hatches) (get_member (key_text key.Apart) ms) [] pairs e (omega arith, λ k d within. absurd (omega arith)) (λ d read.
-    let (ds, items, judged) = bind_ok (array_in key.Apart 0 100 d) (each (pair_in hatches) []) pairs read in
-    let counts : (0 ≤ length ds) × (length ds ≤ 100) = array_in-count key.Apart 0 100 d ds items in
+    let (ds, items, judged) = bind_ok (array_in key.Apart 0 MOST_HATCH_PAIRS d) (each (pair_in hatches) []) pairs read in
+    let counts : (0 ≤ length ds) × (length ds ≤ MOST_HATCH_PAIRS) = array_in-count key.Apart 0 MOST_HATCH_PAIRS d ds items in
     let long : length pairs ≡ 0 + length ds = length-each (pair_in hatches) [] ds pairs judged in
     let Q : List HatchPair → Type 0 = All (IsPairOf hatches) in (
       omega (arith, counts.1, long),

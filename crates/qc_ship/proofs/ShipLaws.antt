@@ -1,5 +1,5 @@
 -- What the checks of a ship file leave: the ship keeps the limits of its type.
-use Rattle.std.proofs.Common.{length-append, map, ◌≡◌, ℕ, ◌+◌, ◌-◌, ◌<◌, ◌≤◌, ℤ, pos, negsuc, ◌≤ℤ◌, Bool, true, false, cond, List, [], ◌∷◌, ◌++◌, length, get_or, Some, Ok, Err, refl, sym, subst, ap, ◌∙◌, inl, inr, arith}
+use Rattle.std.proofs.Common.{length-append, map, ◌≡◌, ℕ, ◌+◌, ◌-◌, ◌<◌, ◌≤◌, ℤ, pos, negsuc, ◌≤ℤ◌, cond, List, [], ◌∷◌, ◌++◌, length, get_or, Some, Ok, Err, sym, subst, ap, ◌∙◌, inl, inr, arith}
 use Rattle.std.specs.Prelude.{AllPairs, nat_le, ◌&&◌, unsigned_abs, ok_or, option_map}
 use Rattle.std.specs.List.{range_with_len}
 use Rattle.std.proofs.lemmas.Bool.{cases_lt}
@@ -9,42 +9,25 @@ use Rattle.std.proofs.lemmas.List.FromFn.{get_or-range_with_len, length-range_wi
 use Rattle.std.proofs.lemmas.Grind.{same_number_lists}
 use Rattle.std.proofs.lemmas.List.Quantifiers.{all_pairs_push}
 use Rattle.std.proofs.lemmas.Option.{slice_get-get_or}
+use Rattle.qc_num.proofs.ReadingLemmas.{bind_ok, same_ok, passed}
 use Rattle.toml.specs.Data.{Data, string, integer, float, boolean, datetime, array, table, as_array}
 use Rattle.qc_ship.specs.declared.fault.Key.{Key}
-use Rattle.qc_ship.specs.declared.fault.ShipFault.{ShipFault}
 use Rattle.qc_ship.specs.declared.fault.ShipKind.TheVariants.{WrongKind, Range}
 use Rattle.qc_ship.specs.Keys.{fault}
-use Rattle.qc_ship.specs.ShipValues.{Reading, ◌>>=◌, elements, integer_in, number_in, array_in, each, last}
-
--- a check passes where all of its checks do
-pub bind_ok : {A B : Type 0} (r : Reading A) (next : A → Reading B) (b : B) → (r >>= next) ≡ Ok b → (a : A) × (r ≡ Ok a) × (next a ≡ Ok b)
-bind_ok (Ok a) next b e = (a, refl, e)
-bind_ok (Err f) next b e = cc
-
-pub same_ok : {A : Type 0} (a b : A) → ◌≡◌ {A = Reading A} (Ok a) (Ok b) → a ≡ b
-same_ok a b e = cc
-
--- a test that chose the value passed
-pub passed : {A : Type 0} (test : Bool) (a b : A) (f : ShipFault) → ◌≡◌ {A = Reading A} (cond test (Ok a) (Err f)) (Ok b) → (test ≡ true) × (a ≡ b)
-passed true a b f e = (refl, same_ok a b e)
-passed false a b f e = cc
-
-pub passed_not : {A : Type 0} (test : Bool) (r : Reading A) (b : A) (f : ShipFault) → cond test (Err f) r ≡ Ok b → (test ≡ false) × (r ≡ Ok b)
-passed_not true r b f e = cc
-passed_not false r b f e = (refl, e)
+use Rattle.qc_ship.specs.ShipValues.{Reading, elements, integer_in, number_in, array_in, each, last}
 
 -- what holds of the values so far holds of all of them
 pub each-keeps : {B : Type 0} (judge : List B → Data → Reading B) (P : List B → Type 0)
     → ((before : List B) (d : Data) (b : B) → P before → judge before d ≡ Ok b → P (before ++ b ∷ []))
     → (before : List B) (ds : List Data) (out : List B) → P before → each judge before ds ≡ Ok out → P out
-each-keeps judge P keeps before [] out here e = subst P (same_ok before out e) here
+each-keeps judge P keeps before [] out here e = subst P (same_ok e) here
 each-keeps judge P keeps before (d ∷ ds) out here e =
     let (b, judged, rest) = bind_ok (judge before d) (λ b. each judge (before ++ b ∷ []) ds) out e in
     each-keeps judge P keeps (before ++ b ∷ []) ds out (keeps before d b here judged) rest
 
 pub length-each : {B : Type 0} (judge : List B → Data → Reading B) (before : List B) (ds : List Data) (out : List B)
     → each judge before ds ≡ Ok out → length out ≡ length before + length ds
-length-each judge before [] out e = grind (arith, ap length (same_ok before out e))
+length-each judge before [] out e = grind (arith, ap length (same_ok e))
 length-each judge before (d ∷ ds) out e =
     let (b, judged, rest) = bind_ok (judge before d) (λ b. each judge (before ++ b ∷ []) ds) out e in
     omega (arith, length-each judge (before ++ b ∷ []) ds out rest, length-append before (b ∷ []))
@@ -88,7 +71,7 @@ pub number_in-bounds : (key : Key) (number low high : ℕ) (d : Data) (n : ℕ) 
 number_in-bounds key number low high d n e =
     let (z, read, same) = bind_ok (integer_in key number (pos low) (pos high) d) (λ z. Ok (unsigned_abs z)) n e in
     let bounds = integer_in-bounds key number (pos low) (pos high) d z read in
-    within_naturals low high z n bounds.0 bounds.1 (same_ok _ n same)
+    within_naturals low high z n bounds.0 bounds.1 (same_ok same)
 
 pub array_in-count : (key : Key) (low high : ℕ) (d : Data) (ds : List Data) → array_in key low high d ≡ Ok ds → (low ≤ length ds) × (length ds ≤ high)
 array_in-count key low high d ds e =

@@ -4,17 +4,21 @@ use Rattle.std.specs.Prelude.{is_some}
 use Rattle.std.specs.List.{range_with_len}
 use Rattle.std.specs.Option.{option_map_or}
 use Rattle.std.proofs.lemmas.Bool.{cases_Bool}
+use Rattle.qc_num.specs.Reading.{◌>>=◌}
+use Rattle.qc_num.proofs.ReadingLemmas.{bind_ok, same_ok}
 use Rattle.toml.specs.Data.{Data, Members, get_member}
 use Rattle.qc_model.specs.declared.crane.Crane.{Crane}
+use Rattle.qc_model.specs.declared.limits.TheConstants.{MOST_GAP_BY_PLACES}
+use Rattle.qc_ship.specs.declared.limits.TheConstants.{MOST_MARGIN, MOST_MOVE_TICKS}
 use Rattle.qc_ship.specs.declared.fault.Key.{Key}
 use Rattle.qc_ship.specs.declared.fault.Key.TheVariants as key
 use Rattle.qc_ship.specs.declared.ship.Times.{Times}
 use Rattle.qc_ship.specs.declared.ship.HatchPair.{HatchPair}
 use Rattle.qc_ship.specs.Keys.{key_text}
 use Rattle.qc_ship.specs.Ship.{most_gap, most_travel, IsShip}
-use Rattle.qc_ship.specs.ShipValues.{Reading, ◌>>=◌, required, number_in, number_at, number_or}
+use Rattle.qc_ship.specs.ShipValues.{Reading, required, number_in, number_at, number_or}
 use Rattle.qc_ship.specs.ShipFile.{hatches_at, places_in, places_at, gives_places, gap_at, ordered_at, times_at, apart_at, cranes_at, ship_with}
-use Rattle.qc_ship.proofs.ShipLaws.{bind_ok, same_ok, number_in-bounds}
+use Rattle.qc_ship.proofs.ShipLaws.{number_in-bounds}
 use Rattle.qc_ship.proofs.HatchLaws.{HasHatches-from, Places-from, HasPairs-from}
 use Rattle.qc_ship.proofs.CraneLaws.{number_or-bounds, Cranes-from}
 
@@ -26,11 +30,11 @@ number_at-bounds k number low high ms n e =
 gap_at-bounds : (ms : Members) (gap : ℕ) → gap_at ms ≡ Ok gap → (1 ≤ gap) × (gap ≤ most_gap (gives_places ms))
 gap_at-bounds ms gap e =
     elim (cases_Bool (gives_places ms)) [
-      | inl given ↦ rw given (number_at-bounds key.Clear 0 1 2000 ms gap (rw given at e))
+      | inl given ↦ rw given (number_at-bounds key.Clear 0 1 MOST_GAP_BY_PLACES ms gap (rw given at e))
       | inr counted ↦ (
-          let (margin, read, same) = bind_ok (number_at key.Margin 0 0 20 ms) (λ margin. Ok (margin + 1)) gap (rw counted at e) in
-          let bounds = number_at-bounds key.Margin 0 0 20 ms margin read in
-          let equal = same_ok (margin + 1) gap same in
+          let (margin, read, same) = bind_ok (number_at key.Margin 0 0 MOST_MARGIN ms) (λ margin. Ok (margin + 1)) gap (rw counted at e) in
+          let bounds = number_at-bounds key.Margin 0 0 MOST_MARGIN ms margin read in
+          let equal = same_ok same in
           rw counted (omega (arith, equal), omega (arith, equal, bounds.1)))
     ]
 
@@ -40,13 +44,13 @@ with_ordered ms gap travel deck_move hold_move cover =
     ordered_at ms >>= λ ordered. Ok (record { gap = gap; travel = travel; deck_move = deck_move; hold_move = hold_move; cover = cover; ordered = ordered })
 
 abbrev with_cover : Members → ℕ → ℕ → ℕ → ℕ → Reading Times
-with_cover ms gap travel deck_move hold_move = number_or 0 key.Cover 0 0 10000 ms >>= with_ordered ms gap travel deck_move hold_move
+with_cover ms gap travel deck_move hold_move = number_or 0 key.Cover 0 0 MOST_MOVE_TICKS ms >>= with_ordered ms gap travel deck_move hold_move
 
 abbrev with_hold_move : Members → ℕ → ℕ → ℕ → Reading Times
-with_hold_move ms gap travel deck_move = number_at key.HoldMove 0 1 10000 ms >>= with_cover ms gap travel deck_move
+with_hold_move ms gap travel deck_move = number_at key.HoldMove 0 1 MOST_MOVE_TICKS ms >>= with_cover ms gap travel deck_move
 
 abbrev with_deck_move : Members → ℕ → ℕ → Reading Times
-with_deck_move ms gap travel = number_at key.DeckMove 0 1 10000 ms >>= with_hold_move ms gap travel
+with_deck_move ms gap travel = number_at key.DeckMove 0 1 MOST_MOVE_TICKS ms >>= with_hold_move ms gap travel
 
 abbrev with_travel : Members → ℕ → Reading Times
 with_travel ms gap = number_at key.Travel 0 1 (most_travel (gives_places ms)) ms >>= with_deck_move ms gap
@@ -55,27 +59,27 @@ with_travel ms gap = number_at key.Travel 0 1 (most_travel (gives_places ms)) ms
 record TimesAreIn (in_decimetres : Bool) (times : Times) : Type 0 where
   gap : (1 ≤ times.gap) × (times.gap ≤ most_gap in_decimetres)
   travel : (1 ≤ times.travel) × (times.travel ≤ most_travel in_decimetres)
-  deck_move : (1 ≤ times.deck_move) × (times.deck_move ≤ 10000)
-  hold_move : (1 ≤ times.hold_move) × (times.hold_move ≤ 10000)
-  cover : times.cover ≤ 10000
+  deck_move : (1 ≤ times.deck_move) × (times.deck_move ≤ MOST_MOVE_TICKS)
+  hold_move : (1 ≤ times.hold_move) × (times.hold_move ≤ MOST_MOVE_TICKS)
+  cover : times.cover ≤ MOST_MOVE_TICKS
 
 TimesAreIn-from : (ms : Members) (times : Times) → times_at ms ≡ Ok times → TimesAreIn (gives_places ms) times
 unfolding times_at
 TimesAreIn-from ms times e =
     let (gap, at_gap, e1) = bind_ok (gap_at ms) (with_travel ms) times e in
     let (travel, at_travel, e2) = bind_ok (number_at key.Travel 0 1 (most_travel (gives_places ms)) ms) (with_deck_move ms gap) times e1 in
-    let (deck_move, at_deck, e3) = bind_ok (number_at key.DeckMove 0 1 10000 ms) (with_hold_move ms gap travel) times e2 in
-    let (hold_move, at_hold, e4) = bind_ok (number_at key.HoldMove 0 1 10000 ms) (with_cover ms gap travel deck_move) times e3 in
-    let (cover, at_cover, e5) = bind_ok (number_or 0 key.Cover 0 0 10000 ms) (with_ordered ms gap travel deck_move hold_move) times e4 in
+    let (deck_move, at_deck, e3) = bind_ok (number_at key.DeckMove 0 1 MOST_MOVE_TICKS ms) (with_hold_move ms gap travel) times e2 in
+    let (hold_move, at_hold, e4) = bind_ok (number_at key.HoldMove 0 1 MOST_MOVE_TICKS ms) (with_cover ms gap travel deck_move) times e3 in
+    let (cover, at_cover, e5) = bind_ok (number_or 0 key.Cover 0 0 MOST_MOVE_TICKS ms) (with_ordered ms gap travel deck_move hold_move) times e4 in
     let (ordered, at_ordered, e6) = bind_ok (ordered_at ms)
     (λ ordered. Ok (record { gap = gap; travel = travel; deck_move = deck_move; hold_move = hold_move; cover = cover; ordered = ordered })) times e5 in
     let P : Times → Type 0 = TimesAreIn (gives_places ms) in
-    subst P (same_ok (record { gap = gap; travel = travel; deck_move = deck_move; hold_move = hold_move; cover = cover; ordered = ordered }) times e6) (record {
+    subst P (same_ok e6) (record {
       gap = gap_at-bounds ms gap at_gap;
       travel = number_at-bounds key.Travel 0 1 (most_travel (gives_places ms)) ms travel at_travel;
-      deck_move = number_at-bounds key.DeckMove 0 1 10000 ms deck_move at_deck;
-      hold_move = number_at-bounds key.HoldMove 0 1 10000 ms hold_move at_hold;
-      cover = (number_or-bounds 0 key.Cover 0 0 10000 ms cover at_cover (omega arith) (omega arith)).1;
+      deck_move = number_at-bounds key.DeckMove 0 1 MOST_MOVE_TICKS ms deck_move at_deck;
+      hold_move = number_at-bounds key.HoldMove 0 1 MOST_MOVE_TICKS ms hold_move at_hold;
+      cover = (number_or-bounds 0 key.Cover 0 0 MOST_MOVE_TICKS ms cover at_cover (omega arith) (omega arith)).1;
     })
 
 -- where no places are given they are 1, 2 and so on
@@ -83,7 +87,7 @@ counted_places : (count : ℕ) (ms : Members) (places : List ℕ) → places_at 
 counted_places count ms places e none = at_none (get_member (key_text key.Places) ms) none e
   where
     at_none : (o : Option Data) → is_some o ≡ false → option_map_or (places_in count) o (Ok (range_with_len 1 count)) ≡ Ok places → places ≡ range_with_len 1 count
-    at_none None none e = sym (same_ok (range_with_len 1 count) places e)
+    at_none None none e = sym (same_ok e)
     at_none (Some d) none e = cc
 
 -- parts that were read make a ship

@@ -3,6 +3,7 @@ use Rattle.std.specs.Prelude.{ℕ, List, codes}
 use Rattle.qc_ship.specs.declared.fault.Key.{Key}
 use Rattle.qc_ship.specs.declared.fault.Key.TheVariants as key
 use Rattle.qc_ship.specs.declared.fault.ShipKind.{ShipKind}
+use Rattle.qc_ship.specs.declared.fault.ShipKind.TheVariants as kind
 use Rattle.qc_ship.specs.declared.fault.ShipFault.{ShipFault}
 
 -- a key as the file has it; the file itself has none
@@ -24,6 +25,17 @@ key_text key.Ready = codes "ready"
 key_text key.Bay = codes "bay"
 key_text key.From = codes "from"
 key_text key.To = codes "to"
+
+-- the text of what is wrong
+abbrev pub kind_text : ShipKind → List ℕ
+kind_text kind.NotToml = codes "NotToml"
+kind_text kind.Missing = codes "Missing"
+kind_text kind.WrongKind = codes "WrongKind"
+kind_text kind.Range = codes "Range"
+kind_text kind.HatchOrder = codes "HatchOrder"
+kind_text kind.CraneOrder = codes "CraneOrder"
+kind_text kind.NameTwice = codes "NameTwice"
+kind_text kind.Apart = codes "Apart"
 
 -- this is wrong with the element of this number at this key; number 0 is the key itself
 abbrev pub fault : ShipKind → Key → ℕ → ShipFault

@@ -6,11 +6,14 @@ use Rattle.std.specs.Option.{option_map_or}
 use Rattle.std.specs.Str.{is_utf8}
 use Rattle.toml.specs.Data.{Data, integer, array, table, no_items, item, Members, get_member}
 use Rattle.toml.specs.Parse.{parse_document}
+use Rattle.qc_num.specs.Reading.{◌>>=◌}
 use Rattle.qc_model.specs.Names.{is_name}
 use Rattle.qc_model.specs.declared.crane.Crane.{Crane}
+use Rattle.qc_model.specs.declared.limits.TheConstants.{MOST_CRANES, MOST_GAP_BY_PLACES, MOST_HATCHES, MOST_PLACE, MOST_READY}
+use Rattle.qc_ship.specs.declared.limits.TheConstants.{GREATEST_HATCH, MOST_HATCH_PAIRS, MOST_MARGIN, MOST_MOVE_TICKS}
 use Rattle.qc_ship.specs.Keys.{key_text, fault}
 use Rattle.qc_ship.specs.Ship.{ShipView, lowest_bay, highest_bay, most_travel, least_start, greatest_start}
-use Rattle.qc_ship.specs.ShipValues.{Reading, ◌>>=◌, required, integer_in, number_in, number_at, number_or, array_in, text_in, each, next_number, last}
+use Rattle.qc_ship.specs.ShipValues.{Reading, required, integer_in, number_in, number_at, number_or, array_in, text_in, each, next_number, last}
 use Rattle.qc_ship.specs.declared.ship.Times.{Times}
 use Rattle.qc_ship.specs.declared.ship.HatchPair.{HatchPair}
 use Rattle.qc_ship.specs.declared.fault.Key.TheVariants as key
@@ -19,7 +22,7 @@ use Rattle.qc_ship.specs.declared.fault.ShipKind.TheVariants as kind
 -- a hatch: 1 to 998, its bays wholly behind those of the hatch before it
 abbrev pub hatch_in : List ℕ → Data → Reading ℕ
 hatch_in before d = do
-  hatch ← number_in key.Hatches (next_number before) 1 998 d
+  hatch ← number_in key.Hatches (next_number before) 1 GREATEST_HATCH d
   if option_map_or (λ previous. nat_lt (highest_bay previous) (lowest_bay hatch)) (last before) true
       then Ok hatch
       else Err (fault kind.HatchOrder key.Hatches (next_number before))
@@ -27,13 +30,13 @@ hatch_in before d = do
 abbrev pub hatches_at : Members → Reading (List ℕ)
 hatches_at ms = do
   d ← required key.Hatches 0 ms
-  ds ← array_in key.Hatches 1 60 d
+  ds ← array_in key.Hatches 1 MOST_HATCHES d
   each hatch_in [] ds
 
 -- a place: 1 to 6,000, behind the place before it
 abbrev pub place_in : List ℕ → Data → Reading ℕ
 place_in before d = do
-  place ← number_in key.Places (next_number before) 1 6000 d
+  place ← number_in key.Places (next_number before) 1 MOST_PLACE d
   if option_map_or (λ previous. nat_lt previous place) (last before) true
       then Ok place
       else Err (fault kind.HatchOrder key.Places (next_number before))
@@ -46,7 +49,8 @@ places_in count d = do
 
 -- the places of this many hatches: 1, 2 and so on where they aren't given
 abbrev pub places_at : ℕ → Members → Reading (List ℕ)
-places_at count ms = option_map_or (places_in count) (get_member (key_text key.Places) ms) (Ok (range_with_len 1 count))
+places_at count ms = option_map_or (places_in count) (get_member (key_text key.Places) ms)
+    (Ok (range_with_len 1 count))
 
 -- whether places are given, which are in decimetres
 abbrev pub gives_places : Members → Bool
@@ -56,9 +60,9 @@ gives_places ms = is_some (get_member (key_text key.Places) ms)
 abbrev pub gap_at : Members → Reading ℕ
 gap_at ms =
     if gives_places ms
-    then number_at key.Clear 0 1 2000 ms
+    then number_at key.Clear 0 1 MOST_GAP_BY_PLACES ms
     else (do
-      margin ← number_at key.Margin 0 0 20 ms
+      margin ← number_at key.Margin 0 0 MOST_MARGIN ms
       Ok (margin + 1))
 
 -- `"ordered"` or `"free"`
@@ -90,7 +94,7 @@ pair_in hatches before d = do
 
 abbrev pub pairs_in : List ℕ → Data → Reading (List HatchPair)
 pairs_in hatches d = do
-  ds ← array_in key.Apart 0 100 d
+  ds ← array_in key.Apart 0 MOST_HATCH_PAIRS d
   each (pair_in hatches) [] ds
 
 abbrev pub apart_at : List ℕ → Members → Reading (List HatchPair)
@@ -114,13 +118,14 @@ hatch_place places hatch = pos (slice_index places (hatch - 1))
 -- the start bay of a crane
 abbrev pub bay_at : Bool → ℕ → Members → Reading ℤ
 bay_at in_decimetres number ms =
-    required key.Bay number ms >>= integer_in key.Bay number (least_start in_decimetres) (greatest_start in_decimetres)
+    required key.Bay number ms
+    >>= integer_in key.Bay number (least_start in_decimetres) (greatest_start in_decimetres)
 
 -- the keys of a crane's table
 abbrev pub crane_at : Bool → List ℕ → ℕ → Members → Reading Crane
 crane_at in_decimetres places number ms = do
   name ← name_at number ms
-  ready ← number_or 0 key.Ready number 0 1000000 ms
+  ready ← number_or 0 key.Ready number 0 MOST_READY ms
   bay ← bay_at in_decimetres number ms
   from ← number_or 1 key.From number 1 (length places) ms
   to ← number_or (length places) key.To number from (length places) ms
@@ -128,7 +133,8 @@ crane_at in_decimetres places number ms = do
 
 -- the bay is at least the gap behind the start bay of the crane before
 abbrev pub keeps_gap : ℕ → List Crane → ℤ → Bool
-keeps_gap gap before bay = option_map_or (λ previous. int_le (previous.bay +ℤ pos gap) bay) (last before) true
+keeps_gap gap before bay = option_map_or (λ previous. int_le (previous.bay +ℤ pos gap) bay)
+    (last before) true
 
 -- a crane: a table, with a name that no crane before it has, at least the gap behind the crane before it
 abbrev pub crane_in : Bool → ℕ → List ℕ → List Crane → Data → Reading Crane
@@ -144,7 +150,7 @@ crane_in in_decimetres gap places before d = do
 abbrev pub cranes_at : Bool → ℕ → List ℕ → Members → Reading (List Crane)
 cranes_at in_decimetres gap places ms = do
   d ← required key.Crane 0 ms
-  ds ← array_in key.Crane 1 8 d
+  ds ← array_in key.Crane 1 MOST_CRANES d
   each (crane_in in_decimetres gap places) [] ds
 
 -- the gap, the ticks and the order of restows
@@ -152,9 +158,9 @@ unfoldable pub times_at : Members → Reading Times
 times_at ms = do
   gap ← gap_at ms
   travel ← number_at key.Travel 0 1 (most_travel (gives_places ms)) ms
-  deck_move ← number_at key.DeckMove 0 1 10000 ms
-  hold_move ← number_at key.HoldMove 0 1 10000 ms
-  cover ← number_or 0 key.Cover 0 0 10000 ms
+  deck_move ← number_at key.DeckMove 0 1 MOST_MOVE_TICKS ms
+  hold_move ← number_at key.HoldMove 0 1 MOST_MOVE_TICKS ms
+  cover ← number_or 0 key.Cover 0 0 MOST_MOVE_TICKS ms
   ordered ← ordered_at ms
   Ok (record { gap = gap; travel = travel; deck_move = deck_move; hold_move = hold_move; cover = cover; ordered = ordered })
 

@@ -1,6 +1,7 @@
 -- Values of a TOML table, each with its fault.
 use Rattle.std.specs.Prelude.{◌≡◌, ℕ, ◌+◌, ◌-◌, ℤ, pos, List, [], ◌∷◌, ◌++◌, length, slice_get, ◌&&◌, nat_le, int_le, unsigned_abs, if◌then◌else◌, Option, Result, Ok, Err, ok_or, option_map}
 use Rattle.std.specs.Option.{option_map_or}
+use Rattle.qc_num.specs.Reading.{◌>>=◌}
 use Rattle.toml.specs.Data.{Data, integer, string, Items, no_items, item, Members, get_member, as_array}
 use Rattle.qc_ship.specs.Keys.{key_text, fault}
 use Rattle.qc_ship.specs.declared.fault.Key.{Key}
@@ -12,12 +13,6 @@ use Rattle.qc_ship.specs.declared.fault.ShipError.TheVariants.{Fault, OutOfMemor
 -- a value, or the first fault on the way to it
 abbrev pub Reading : Type 0 → Type 0
 Reading V = Result V ShipFault
-
--- a check, and then the checks that need its value
-infixl 10 ◌>>=◌
-abbrev pub ◌>>=◌ : {A B : Type 0} → Reading A → (A → Reading B) → Reading B
-Ok a >>= next = next a
-Err f >>= next = Err f
 
 -- what was read stands for this reading, unless memory ran out
 abbrev pub IsReading : {T V : Type 0} → (T → V) → Reading V → Result T ShipError → Type 0
@@ -40,7 +35,8 @@ elements (item d ds) = d ∷ elements ds
 
 -- an integer from `low` to `high`
 abbrev pub integer_in : Key → ℕ → ℤ → ℤ → Data → Reading ℤ
-integer_in key number low high (integer n) = if int_le low n && int_le n high then Ok n else Err (fault Range key number)
+integer_in key number low high (integer n) = if int_le low n && int_le n high then Ok n
+    else Err (fault Range key number)
 integer_in key number low high _ = Err (fault WrongKind key number)
 
 -- the same, as a natural

@@ -6,7 +6,7 @@ ghost use Rattle.qc_ship.specs.ShipFile.{table_in, name_at, bay_at, keeps_gap, h
 
 use crate::values::{fault, integer_in, number_or, required, text_in};
 use crate::{Key, ShipError, ShipFault, ShipKind};
-use qc_model::{Crane, Name};
+use qc_model::{Crane, MOST_CRANES, MOST_HATCHES, MOST_READY, Name};
 use qc_num::Bay;
 use std::alloc::Global;
 use toml::{Table, Value};
@@ -49,12 +49,12 @@ fn crane_at(
     table: &Table,
 ) -> Result<Crane, ShipFault>
     requires some { 1 ≤ length places.now }
-    requires few { length places.now ≤ 60 }
+    requires few { length places.now ≤ MOST_HATCHES }
     ensures { result ≡ crane_at in_decimetres places.now number (table_view table.now) }
 {
     let last = places.len() as u32;
     let name = name_at(number, table)?;
-    let ready = number_or(table, 0, Key::Ready, number, 0, 1_000_000)?;
+    let ready = number_or(table, 0, Key::Ready, number, 0, MOST_READY as u32)?;
     let bay = bay_at(in_decimetres, number, table)?;
     let from = number_or(table, 1, Key::From, number, 1, last)?;
     let to = number_or(table, last, Key::To, number, from as u32, last)?;
@@ -91,7 +91,7 @@ fn crane_in(
     value: &Value,
 ) -> Result<Crane, ShipFault>
     requires some { 1 ≤ length places.now }
-    requires few { length places.now ≤ 60 }
+    requires few { length places.now ≤ MOST_HATCHES }
     requires number { length before.now < 1000 }
     ensures { result ≡ crane_in in_decimetres gap places.now before.now (view value.now) }
 {
@@ -140,9 +140,10 @@ pub(crate) fn read_cranes(
     values: &[Value],
 ) -> Result<Vec<Crane>, ShipError>
     requires some { 1 ≤ length places.now }
-    requires few { length places.now ≤ 60 }
-    requires count { length values.now ≤ 8 }
-    ensures { IsReading (λ v. v.items) (each (crane_in in_decimetres gap places.now) [] (map view values.now)) result }
+    requires few { length places.now ≤ MOST_HATCHES }
+    requires count { length values.now ≤ MOST_CRANES }
+    ensures { IsReading (λ v. v.items)
+        (each (crane_in in_decimetres gap places.now) [] (map view values.now)) result }
 {
     let mut cranes = Vec::new(alloc);
     for value in values {

@@ -25,6 +25,26 @@ pub enum ShipKind {
     Apart,
 }
 
+impl ShipKind {
+    ghost use Rattle.qc_ship.specs.Keys.{kind_text};
+
+    /// The kind as reports print it.
+    pub fn text(self) -> &'static str
+        ensures { result.now ≡ kind_text self }
+    {
+        match self {
+            ShipKind::NotToml => "NotToml",
+            ShipKind::Missing => "Missing",
+            ShipKind::WrongKind => "WrongKind",
+            ShipKind::Range => "Range",
+            ShipKind::HatchOrder => "HatchOrder",
+            ShipKind::CraneOrder => "CraneOrder",
+            ShipKind::NameTwice => "NameTwice",
+            ShipKind::Apart => "Apart",
+        }
+    }
+}
+
 /// The keys of a ship file.
 #[derive(Clone, Copy, Debug, PartialEq, Eq)]
 pub enum Key {
@@ -77,7 +97,8 @@ impl Key {
     }
 }
 
-/// The first fault of a ship file. `number` counts the elements of an array from 1; it is 0 for the key itself.
+/// The first fault of a ship file. `number` counts the elements of an array from 1; it is 0 for the
+/// key itself.
 #[derive(Clone, Copy, Debug, PartialEq, Eq)]
 pub struct ShipFault {
     pub kind: ShipKind,

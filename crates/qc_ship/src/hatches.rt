@@ -5,7 +5,8 @@ ghost use Rattle.qc_ship.specs.ShipValues.{IsReading, each};
 ghost use Rattle.qc_ship.specs.ShipFile.{hatch_in, place_in};
 
 use crate::values::{fault, number_in};
-use crate::{Key, ShipError, ShipFault, ShipKind};
+use crate::{GREATEST_HATCH, Key, ShipError, ShipFault, ShipKind};
+use qc_model::{MOST_HATCHES, MOST_PLACE};
 use std::alloc::Global;
 use toml::Value;
 
@@ -35,7 +36,7 @@ fn hatch_in(before: &[u16], value: &Value) -> Result<u16, ShipFault>
     ensures { result ≡ hatch_in before.now (view value.now) }
 {
     let number = before.len() as u32 + 1;
-    let hatch = number_in(Key::Hatches, number, 1, 998, value)? as u16;
+    let hatch = number_in(Key::Hatches, number, 1, u32::from(GREATEST_HATCH), value)? as u16;
     match before.last() {
         Some(previous) if lowest_bay(hatch) <= highest_bay(*previous) => {
             Err(fault(ShipKind::HatchOrder, Key::Hatches, number))
@@ -50,7 +51,7 @@ fn place_in(before: &[u16], value: &Value) -> Result<u16, ShipFault>
     ensures { result ≡ place_in before.now (view value.now) }
 {
     let number = before.len() as u32 + 1;
-    let place = number_in(Key::Places, number, 1, 6000, value)? as u16;
+    let place = number_in(Key::Places, number, 1, u32::from(MOST_PLACE), value)? as u16;
     match before.last() {
         Some(previous) if place <= *previous => Err(fault(
             ShipKind::HatchOrder,
@@ -63,7 +64,7 @@ fn place_in(before: &[u16], value: &Value) -> Result<u16, ShipFault>
 
 /// The places of an array's values.
 pub(crate) fn read_places(alloc: Global, values: &[Value]) -> Result<Vec<u16>, ShipError>
-    requires { length values.now ≤ 60 }
+    requires { length values.now ≤ MOST_HATCHES }
     ensures { IsReading (λ v. v.items) (each place_in [] (map view values.now)) result }
 {
     let mut places = Vec::new(alloc);
@@ -76,7 +77,7 @@ pub(crate) fn read_places(alloc: Global, values: &[Value]) -> Result<Vec<u16>, S
 
 /// The hatches of an array's values.
 pub(crate) fn read_hatches(alloc: Global, values: &[Value]) -> Result<Vec<u16>, ShipError>
-    requires { length values.now ≤ 60 }
+    requires { length values.now ≤ MOST_HATCHES }
     ensures { IsReading (λ v. v.items) (each hatch_in [] (map view values.now)) result }
 {
     let mut hatches = Vec::new(alloc);

@@ -4,7 +4,7 @@ ghost use Rattle.qc_ship.specs.ShipValues.{IsReading, each};
 ghost use Rattle.qc_ship.specs.ShipFile.{two_integers, hatch_of, pair_in};
 
 use crate::values::{fault, items_of};
-use crate::{HatchPair, Key, ShipError, ShipFault, ShipKind};
+use crate::{HatchPair, Key, MOST_HATCH_PAIRS, ShipError, ShipFault, ShipKind};
 use std::alloc::Global;
 use toml::Value;
 
@@ -49,7 +49,7 @@ pub(crate) fn read_pairs(
     hatches: &[u16],
     values: &[Value],
 ) -> Result<Vec<HatchPair>, ShipError>
-    requires { length values.now ≤ 100 }
+    requires { length values.now ≤ MOST_HATCH_PAIRS }
     ensures { IsReading (λ v. v.items) (each (pair_in hatches.now) [] (map view values.now)) result }
 {
     let mut pairs = Vec::new(alloc);

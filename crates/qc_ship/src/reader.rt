@@ -13,8 +13,13 @@ use crate::hatches::{read_hatches, read_places};
 use crate::pairs::read_pairs;
 use crate::ship::Times;
 use crate::values::{array_in, fault, number_at, number_or, required, text_in, value_at};
-use crate::{HatchPair, Key, Ship, ShipError, ShipFault, ShipKind};
-use qc_model::Crane;
+use crate::{
+    HatchPair, Key, MOST_HATCH_PAIRS, MOST_MARGIN, MOST_MOVE_TICKS, Ship, ShipError, ShipFault,
+    ShipKind,
+};
+use qc_model::{
+    Crane, MOST_CRANES, MOST_GAP_BY_PLACES, MOST_HATCHES, MOST_TRAVEL, MOST_TRAVEL_BY_PLACES,
+};
 use qc_num::Tick;
 use std::alloc::{AllocError, Global};
 use toml::{Table, Value};
@@ -37,12 +42,12 @@ fn hatches_at(alloc: Global, table: &Table) -> Result<Vec<u16>, ShipError>
     ensures { IsReading (λ v. v.items) (hatches_at (table_view table.now)) result }
 {
     let value = required(table, Key::Hatches, 0)?;
-    let values = array_in(Key::Hatches, 1, 60, value)?;
+    let values = array_in(Key::Hatches, 1, usize::from(MOST_HATCHES), value)?;
     read_hatches(alloc, values)
 }
 
 fn places_at(alloc: Global, count: usize, table: &Table) -> Result<Vec<u16>, ShipError>
-    requires { count ≤ 60 }
+    requires { count ≤ MOST_HATCHES }
     ensures { IsReading (λ v. v.items) (places_at count (table_view table.now)) result }
 {
     match value_at(table, Key::Places) {
@@ -53,7 +58,7 @@ fn places_at(alloc: Global, count: usize, table: &Table) -> Result<Vec<u16>, Shi
 
 /// The places of hatches that stand one crane bay apart.
 fn counted_places(alloc: Global, count: u16) -> Result<Vec<u16>, AllocError>
-    requires { count ≤ 60 }
+    requires { count ≤ MOST_HATCHES }
     ensures { IfOk result (λ v. v.items ≡ range_with_len 1 count) }
 {
     let mut places = Vec::new(alloc);
@@ -74,9 +79,9 @@ fn gap_at(table: &Table) -> Result<u16, ShipFault>
     ensures { result ≡ gap_at (table_view table.now) }
 {
     if gives_places(table) {
-        Ok(number_at(table, Key::Clear, 1, 2000)? as u16)
+        Ok(number_at(table, Key::Clear, 1, u32::from(MOST_GAP_BY_PLACES))? as u16)
     } else {
-        Ok(number_at(table, Key::Margin, 0, 20)? as u16 + 1)
+        Ok(number_at(table, Key::Margin, 0, MOST_MARGIN)? as u16 + 1)
     }
 }
 
@@ -86,9 +91,9 @@ fn times_at(table: &Table) -> Result<Times, ShipFault>
 {
     let gap = gap_at(table)?;
     let travel = number_at(table, Key::Travel, 1, most_travel(gives_places(table)))?;
-    let deck_move = number_at(table, Key::DeckMove, 1, 10_000)?;
-    let hold_move = number_at(table, Key::HoldMove, 1, 10_000)?;
-    let cover = number_or(table, 0, Key::Cover, 0, 0, 10_000)?;
+    let deck_move = number_at(table, Key::DeckMove, 1, MOST_MOVE_TICKS)?;
+    let hold_move = number_at(table, Key::HoldMove, 1, MOST_MOVE_TICKS)?;
+    let cover = number_or(table, 0, Key::Cover, 0, 0, MOST_MOVE_TICKS)?;
     let ordered = ordered_at(table)?;
     Ok(Times {
         gap,
@@ -103,7 +108,11 @@ fn times_at(table: &Table) -> Result<Times, ShipFault>
 fn most_travel(in_decimetres: bool) -> u32
     ensures { result ≡ most_travel in_decimetres }
 {
-    if in_decimetres { 100 } else { 10_000 }
+    if in_decimetres {
+        MOST_TRAVEL_BY_PLACES as u32
+    } else {
+        MOST_TRAVEL as u32
+    }
 }
 
 fn restows_in(value: &Value) -> Result<bool, ShipFault>
@@ -129,7 +138,11 @@ fn apart_at(alloc: Global, hatches: &[u16], table: &Table) -> Result<Vec<HatchPa
     ensures { IsReading (λ v. v.items) (apart_at hatches.now (table_view table.now)) result }
 {
     match value_at(table, Key::Apart) {
-        Some(value) => read_pairs(alloc, hatches, array_in(Key::Apart, 0, 100, value)?),
+        Some(value) => read_pairs(
+            alloc,
+            hatches,
+            array_in(Key::Apart, 0, MOST_HATCH_PAIRS, value)?,
+        ),
         None => Ok(Vec::new(alloc)),
     }
 }
@@ -142,11 +155,12 @@ fn cranes_at(
     table: &Table,
 ) -> Result<Vec<Crane>, ShipError>
     requires some { 1 ≤ length places.now }
-    requires few { length places.now ≤ 60 }
-    ensures { IsReading (λ v. v.items) (cranes_at in_decimetres gap places.now (table_view table.now)) result }
+    requires few { length places.now ≤ MOST_HATCHES }
+    ensures { IsReading (λ v. v.items)
+        (cranes_at in_decimetres gap places.now (table_view table.now)) result }
 {
     let value = required(table, Key::Crane, 0)?;
-    let values = array_in(Key::Crane, 1, 8, value)?;
+    let values = array_in(Key::Crane, 1, usize::from(MOST_CRANES), value)?;
     read_cranes(alloc, in_decimetres, gap, places, values)
 }
 

@@ -88,7 +88,8 @@ impl Ship {
         self.hatches.as_slice()
     }
 
-    /// The crane bay of each hatch, in the same order: 1, 2 and so on, or decimetres along the rail where the file gives places.
+    /// The crane bay of each hatch, in the same order: 1, 2 and so on, or decimetres along the rail
+    /// where the file gives places.
     pub fn places(&self) -> &[u16]
         ensures places { result.now ≡ self.now.places }
         ensures ship { IsShip self.now }
@@ -107,7 +108,8 @@ impl Ship {
         }
     }
 
-    /// Bays that two neighbouring cranes keep free between them: one less than the least distance of their bays.
+    /// Bays that two neighbouring cranes keep free between them: one less than the least distance
+    /// of their bays.
     pub fn margin(&self) -> Bay
         ensures margin { result ≡ pos self.now.gap -ℤ pos 1 }
         ensures ship { IsShip self.now }
@@ -163,7 +165,8 @@ impl Ship {
         self.apart.as_slice()
     }
 
-    /// The cranes along the rail. The reach of each goes from the place of its first hatch to that of its last.
+    /// The cranes along the rail. The reach of each goes from the place of its first hatch to that
+    /// of its last.
     pub fn cranes(&self) -> &[Crane]
         ensures cranes { result.now ≡ self.now.cranes }
         ensures ship { IsShip self.now }
@@ -191,7 +194,7 @@ fn hatch_of_bay(hatches: &[u16], cell_bay: u16) -> Option<usize>
 }
 
 /// Whether a hatch takes the cells of a bay: an even one those of the bays beside it too.
-fn takes(hatch: u16, cell_bay: u16) -> bool
+pub fn takes(hatch: u16, cell_bay: u16) -> bool
     ensures { result ≡ takes hatch cell_bay }
 {
     hatch == cell_bay || hatch % 2 == 0 && hatch.abs_diff(cell_bay) == 1
