@@ -1,6 +1,5 @@
 -- How the rows of a list follow from its records.
 use Rattle.std.proofs.Common.{◌≡◌, ◌≢◌, ◌<◌, ◌≤◌, ◌+◌, ◌++◌, ◌∷◌, ◌==◌, ◌&&◌, ℕ, List, [], length, get_or, Bool, true, false, nat_lt, Result, Ok, Err, Option, IsSome, is_some, All, AllPairs, refl, sym, ap, inl, inr, ◌∙◌, arith}
-use Rattle.std.specs.Bool.{⊤}
 use Rattle.std.specs.List.{list_any}
 use Rattle.std.proofs.lemmas.Bool.{and_from, cases_Bool, false≢true, false_from_ne_true, lt-ltb, ltb-true}
 use Rattle.std.proofs.lemmas.List.{length_push}
@@ -9,14 +8,16 @@ use Rattle.std.proofs.lemmas.List.Folds.{list_any_at}
 use Rattle.std.proofs.lemmas.List.Quantifiers.{all_pairs_push}
 use Rattle.std.proofs.lemmas.Slice.Eq.{bytes_eq-Decides}
 use Rattle.std.specs.Str.{bytes_eq}
-use Rattle.qc_cell.specs.Cells.{IsCell, cell_in, overlap}
-use Rattle.qc_cell.specs.declared.cell.Cell.{Cell}
+use Rattle.qc_num.specs.Reading.{◌>>=◌, require, with_fault}
+use Rattle.qc_num.proofs.ReadingLemmas.{bind_ok, require_ok, same_ok, with_fault_ok}
+use Rattle.qc_cell.specs.Cells.{CellView, cell_in, overlap}
 use Rattle.qc_records.specs.Records.{field_of}
 use Rattle.qc_ship.specs.Ship.{ShipView, place_of_bay}
 use Rattle.qc_stow.specs.Moves.{AreMoves, has_id, is_taken, same_move}
 use Rattle.qc_stow.specs.Fields.{is_id, length_text}
-use Rattle.qc_stow.specs.Rows.{◌>>=◌, cell_step, move_in, require, row_in, row_of}
+use Rattle.qc_stow.specs.Rows.{move_in, row_in, row_of}
 use Rattle.qc_stow.specs.Stow.{IsReading, apart_from, numbered, over_hatch, row_after, row_on, rows_after}
+use Rattle.qc_stow.specs.declared.moves.TheConstants.{MOST_MOVES}
 use Rattle.qc_stow.specs.declared.row.Move.{Move}
 use Rattle.qc_stow.specs.declared.row.Move.TheVariants.{Discharge, Load}
 use Rattle.qc_stow.specs.declared.row.Row.{Row}
@@ -50,25 +51,9 @@ pub rows-end : (ship : ShipView) (earlier : List Row) → rows_after ship earlie
 unfolding rows_after
 rows-end ship earlier = refl
 
--- what checks that passed have shown
-bind-ok : {A B E : Type 0} (r : Result A E) (next : A → Result B E) (b : B) → (r >>= next) ≡ Ok b → (a : A) × (r ≡ Ok a) × (next a ≡ Ok b)
-bind-ok (Ok a) next b e = (a, refl, e)
-bind-ok (Err why) next b e = cc e
-
-ok-same : {A E : Type 0} {a b : A} → ◌≡◌ {A = Result A E} (Ok a) (Ok b) → a ≡ b
-ok-same e = cc e
-
-require-ok : {E : Type 0} (test : Bool) (why : E) (u : ⊤) → require test why ≡ Ok u → test ≡ true
-require-ok true why u e = refl
-require-ok false why u e = cc e
-
-numbered-ok : {A : Type 0} (number : ℕ) (r : Result A StowKind) (a : A) → numbered number r ≡ Ok a → r ≡ Ok a
-numbered-ok number (Ok x) a e = let same : x ≡ a = cc e in ap Ok same
-numbered-ok number (Err why) a e = cc e
-
 -- what is known of a row after others
 record FollowsRows (ship : ShipView) (earlier : List Row) (row : Row) : Type 0 where
-  few : length earlier < 50000
+  few : length earlier < MOST_MOVES
   hatch : is_some (place_of_bay ship row.cell.bay) ≡ true
   id : has_id earlier row ≡ false
   cell : is_taken earlier row ≡ false
@@ -78,7 +63,7 @@ some-is o e = e
 
 hatch-known : (ship : ShipView) (found row : Row) → over_hatch ship found ≡ Ok row → (is_some (place_of_bay ship found.cell.bay) ≡ true) × (found ≡ row)
 hatch-known ship found row e = elim (cases_Bool (is_some (place_of_bay ship found.cell.bay))) [
-  | inl there ↦ (there, ok-same (rw there at e))
+  | inl there ↦ (there, same_ok (rw there at e))
   | inr missing ↦ cc (rw missing at e)
 ]
 
@@ -88,19 +73,19 @@ apart-known earlier found row e = elim (cases_Bool (has_id earlier found)) [
   | inl twice ↦ cc (rw twice at e)
   | inr new ↦ elim (cases_Bool (is_taken earlier found)) [
     | inl taken ↦ cc (rw (new, taken) at e)
-    | inr free ↦ (new, free, ok-same (rw (new, free) at e))
+    | inr free ↦ (new, free, same_ok (rw (new, free) at e))
   ]
 ]
 
 row-follows : (ship : ShipView) (earlier : List Row) (fields : List (List ℕ)) (row : Row) → row_after ship earlier fields ≡ Ok row → FollowsRows ship earlier row
 row-follows ship earlier fields row e =
-    let (u, few, rest) = bind-ok (require (nat_lt (length earlier) 50000) kind.TooMany) (λ _. row_on ship fields >>= apart_from earlier) row e in
-    let (here, on, apart) = bind-ok (row_on ship fields) (apart_from earlier) row rest in
-    let (found, read, hatched) = bind-ok (row_in fields) (over_hatch ship) here on in
+    let (u, few, rest) = bind_ok (require (nat_lt (length earlier) MOST_MOVES) kind.TooMany) (λ _. row_on ship fields >>= apart_from earlier) row e in
+    let (here, on, apart) = bind_ok (row_on ship fields) (apart_from earlier) row rest in
+    let (found, read, hatched) = bind_ok (row_in fields) (over_hatch ship) here on in
     let (hatch, is-found) = hatch-known ship found here hatched in
     let (id, cell, is-row) = apart-known earlier here row apart in
     record {
-      few = ltb-true (length earlier) 50000 (require-ok (nat_lt (length earlier) 50000) kind.TooMany u few);
+      few = ltb-true (length earlier) MOST_MOVES (require_ok (nat_lt (length earlier) MOST_MOVES) kind.TooMany u few);
       hatch = rw (is-found, is-row) at hatch;
       id = rw is-row at id;
       cell = rw is-row at cell;
@@ -108,8 +93,8 @@ row-follows ship earlier fields row e =
 
 -- a row comes only after fewer than 50,000
 pub rows-room : (ship : ShipView) (earlier : List Row) (fields : List (List ℕ)) (row : Row) (number : ℕ)
-    → numbered number (row_after ship earlier fields) ≡ Ok row → length earlier < 50000
-rows-room ship earlier fields row number e = (row-follows ship earlier fields row (numbered-ok number (row_after ship earlier fields) row e)).few
+    → numbered number (row_after ship earlier fields) ≡ Ok row → length earlier < MOST_MOVES
+rows-room ship earlier fields row number e = (row-follows ship earlier fields row (with_fault_ok _ (row_after ship earlier fields) row e)).few
 
 same-move : (a b : Move) → a ≡ b → same_move b a ≡ true
 same-move Discharge Discharge e = refl
@@ -118,19 +103,19 @@ same-move Load Discharge e = cc e
 same-move Load Load e = refl
 
 -- the id of a row is the first field of its record
-id-kept : (id size : List ℕ) (move : Result Move StowKind) (cell : Result Cell StowKind) (row : Row)
+id-kept : (id size : List ℕ) (move : Result Move StowKind) (cell : Result CellView StowKind) (row : Row)
     → (move >>= λ m. cell >>= λ c. row_of id size m c) ≡ Ok row → row.id ≡ id
 id-kept id size (Err why) cell row e = cc e
 id-kept id size (Ok m) (Err why) row e = cc e
 id-kept id size (Ok m) (Ok c) row e = elim (cases_Bool (bytes_eq size (length_text c.bay))) [
-  | inl fits ↦ ap (λ (r : Row). r.id) (sym (ok-same (rw fits at e)))
+  | inl fits ↦ ap (λ (r : Row). r.id) (sym (same_ok (rw fits at e)))
   | inr other ↦ cc (rw other at e)
 ]
 
 id-in : (fields : List (List ℕ)) (row : Row) → row_in fields ≡ Ok row → row.id ≡ field_of fields 0
 id-in fields row e = elim (cases_Bool (length fields == 4)) [
   | inl four ↦ elim (cases_Bool (is_id (field_of fields 0))) [
-    | inl id ↦ id-kept (field_of fields 0) (field_of fields 3) (move_in (field_of fields 1)) (cell_step (cell_in (field_of fields 2))) row (rw (four, id) at e)
+    | inl id ↦ id-kept (field_of fields 0) (field_of fields 3) (move_in (field_of fields 1)) (with_fault kind.Cell (cell_in (field_of fields 2))) row (rw (four, id) at e)
     | inr other ↦ cc (rw (four, other) at e)
   ]
   | inr other ↦ cc (rw other at e)
@@ -138,29 +123,29 @@ id-in fields row e = elim (cases_Bool (length fields == 4)) [
 
 pub row-id : (ship : ShipView) (fields : List (List ℕ)) (row : Row) → row_on ship fields ≡ Ok row → row.id ≡ field_of fields 0
 row-id ship fields row e =
-    let (found, read, hatched) = bind-ok (row_in fields) (over_hatch ship) row e in
+    let (found, read, hatched) = bind_ok (row_in fields) (over_hatch ship) row e in
     let (hatch, is-found) = hatch-known ship found row hatched in
     ap (λ (r : Row). r.id) (sym is-found) ∙ id-in fields found read
 
 -- the row after others, by the checks that are made of it
-module _ (ship : ShipView) (earlier : List Row) (fields : List (List ℕ)) (row : Row) (number : ℕ) (few : length earlier < 50000) (on : row_on ship fields ≡ Ok row) where
+module _ (ship : ShipView) (earlier : List Row) (fields : List (List ℕ)) (row : Row) (number : ℕ) (few : length earlier < MOST_MOVES) (on : row_on ship fields ≡ Ok row) where
   pub after-id : has_id earlier row ≡ true → numbered number (row_after ship earlier fields) ≡ Err (record { number = number; kind = kind.IdTwice })
-  after-id twice = let room = lt-ltb (length earlier) 50000 few in rw (room, on, twice) refl
+  after-id twice = let room = lt-ltb (length earlier) MOST_MOVES few in rw (room, on, twice) refl
 
   pub after-cell : has_id earlier row ≡ false → is_taken earlier row ≡ true
       → numbered number (row_after ship earlier fields) ≡ Err (record { number = number; kind = kind.CellTaken })
-  after-cell new taken = let room = lt-ltb (length earlier) 50000 few in rw (room, on, new, taken) refl
+  after-cell new taken = let room = lt-ltb (length earlier) MOST_MOVES few in rw (room, on, new, taken) refl
 
   pub after-row : has_id earlier row ≡ false → is_taken earlier row ≡ false → numbered number (row_after ship earlier fields) ≡ Ok row
-  after-row new free = let room = lt-ltb (length earlier) 50000 few in rw (room, on, new, free) refl
+  after-row new free = let room = lt-ltb (length earlier) MOST_MOVES few in rw (room, on, new, free) refl
 
 -- where no element passes, that at a place doesn't
 none-at : {X : Type 0} (test : X → Bool) (xs : List X) (k : ℕ) (d : X) → k < length xs → list_any test xs ≡ false → test (get_or xs k d) ≡ true → ⊥
 none-at test xs k d within none here = false≢true (sym none ∙ list_any_at test xs k d within here)
 
--- what rows keep but for the ranges of their cells
+-- what rows keep, and that each is over a hatch
 record StandApart (ship : ShipView) (rows : List Row) : Type 0 where
-  count : length rows ≤ 50000
+  count : length rows ≤ MOST_MOVES
   ids : AllPairs (λ a b. a.kind ≡ b.kind → a.id ≢ b.id) rows
   apart : AllPairs (λ a b. a.kind ≡ b.kind → overlap b.cell a.cell ≡ false) rows
   hatches : All (λ row. IsSome (place_of_bay ship row.cell.bay)) rows
@@ -190,15 +175,15 @@ stand-more ship earlier row stand follows = record {
 stand-rows : (ship : ShipView) (earlier : List Row) (records : List (List (List ℕ))) (rows : List Row) → rows_after ship earlier records ≡ Ok rows
     → StandApart ship earlier → StandApart ship rows
 unfolding rows_after
-stand-rows ship earlier [] rows e stand = let same : earlier ≡ rows = ok-same e in rw same at stand
+stand-rows ship earlier [] rows e stand = let same : earlier ≡ rows = same_ok e in rw same at stand
 stand-rows ship earlier (fields ∷ records) rows e stand =
-    let (row, here, rest) = bind-ok (numbered (length earlier + 2) (row_after ship earlier fields)) (λ row. rows_after ship (earlier ++ row ∷ []) records) rows e in
-    let follows = row-follows ship earlier fields row (numbered-ok (length earlier + 2) (row_after ship earlier fields) row here) in
+    let (row, here, rest) = bind_ok (numbered (length earlier + 2) (row_after ship earlier fields)) (λ row. rows_after ship (earlier ++ row ∷ []) records) rows e in
+    let follows = row-follows ship earlier fields row (with_fault_ok _ (row_after ship earlier fields) row here) in
     stand-rows ship (earlier ++ row ∷ []) records rows rest (stand-more ship earlier row stand follows)
 
 -- so the rows of a list are moves, each over a hatch
-pub rows-keep : (ship : ShipView) (records : List (List (List ℕ))) (rows : List Row) → rows_after ship [] records ≡ Ok rows → All (λ row. IsCell row.cell) rows
+pub rows-keep : (ship : ShipView) (records : List (List (List ℕ))) (rows : List Row) → rows_after ship [] records ≡ Ok rows
     → AreMoves rows × All (λ row. IsSome (place_of_bay ship row.cell.bay)) rows
-rows-keep ship records rows e cells =
+rows-keep ship records rows e =
     let stand = stand-rows ship [] records rows e (stand-none ship) in
-    (record { count = stand.count; cells = cells; ids = stand.ids; apart = stand.apart }, stand.hatches)
+    (record { count = stand.count; ids = stand.ids; apart = stand.apart }, stand.hatches)

@@ -1,16 +1,16 @@
 -- What is taken, by the rows that took it.
-use Rattle.std.proofs.Common.{◌≡◌, ◌++◌, ◌∷◌, ◌&&◌, ◌||◌, ◌==◌, ℕ, List, [], map, Bool, true, false, refl, ap, ◌∙◌}
+use Rattle.std.proofs.Common.{◌≡◌, ◌++◌, ◌∷◌, ◌&&◌, ◌||◌, ◌==◌, List, [], map, Bool, true, false, refl, ap, ◌∙◌}
 use Rattle.std.proofs.lemmas.Grind.{flat_map-append}
 use Rattle.std.proofs.lemmas.List.{append-nil, map-append}
 use Rattle.std.proofs.lemmas.List.Folds.{list_any-append}
 use Rattle.std.specs.List.{list_any}
 use Rattle.std.specs.Str.{bytes_eq}
-use Rattle.qc_cell.specs.Cells.{overlap, slots}
-use Rattle.qc_cell.specs.declared.cell.Cell.{Cell}
+use Rattle.qc_cell.specs.Cells.{CellView, overlap, slots}
 use Rattle.qc_stow.specs.Moves.{has_id, is_taken, same_move}
-use Rattle.qc_stow.specs.Taken.{has_taken_cell, has_taken_id, has_taken_place, ids_of, places_of, places_taken, same_cell}
+use Rattle.qc_stow.specs.Taken.{has_taken_cell, has_taken_id, has_taken_slot, ids_of, same_slot, slot_at, slots_of, slots_taken}
 use Rattle.qc_stow.specs.declared.row.Move.{Move}
 use Rattle.qc_stow.specs.declared.row.Row.{Row}
+use Rattle.qc_stow.specs.declared.taken.Slot.{Slot}
 
 -- a test of some element of a list that another was mapped to
 pub list_any-map : {X Y : Type 0} (test : Y → Bool) (f : X → Y) (xs : List X) → list_any test (map f xs) ≡ list_any (λ x. test (f x)) xs
@@ -69,41 +69,37 @@ list_any-either : {X : Type 0} (f g : X → Bool) (xs : List X) → list_any (λ
 list_any-either f g [] = refl
 list_any-either f g (x ∷ xs) = rw (list_any-either f g xs) (either-step (f x) (g x) (list_any f xs) (list_any g xs))
 
--- the place of 20 feet of a cell at one of its bays
-abbrev place_at : Cell → ℕ → Cell
-place_at cell bay = record { bay = bay; row = cell.row; tier = cell.tier }
+-- a slot, and a cell, against the slots that one row takes
+slot-one : (kind other : Move) (slot : Slot) (cell : CellView)
+    → has_taken_slot (map (λ s. (other, s)) (slots_of cell)) kind slot
+    ≡ (same_move kind other && (((slot.row == cell.row) && (slot.tier == cell.tier)) && list_any (λ bay. slot.bay == bay) (slots cell.bay)))
+slot-one kind other slot cell =
+    list_any-map (λ taken. same_move kind taken.0 && same_slot slot taken.1) (λ (s : Slot). (other, s)) (slots_of cell)
+    ∙ list_any-map (λ s. same_move kind other && same_slot slot s) (slot_at cell) (slots cell.bay)
+    ∙ list_any-inner (λ bay. slot.bay == bay) (same_move kind other) (slot.row == cell.row) (slot.tier == cell.tier) (slots cell.bay)
 
--- a place, and a cell, against the places that one row takes
-place-one : (kind other : Move) (place cell : Cell)
-    → has_taken_place (map (λ p. (other, p)) (places_of cell)) kind place
-    ≡ (same_move kind other && (((place.row == cell.row) && (place.tier == cell.tier)) && list_any (λ bay. place.bay == bay) (slots cell.bay)))
-place-one kind other place cell =
-    list_any-map (λ taken. same_move kind taken.0 && same_cell place taken.1) (λ (p : Cell). (other, p)) (places_of cell)
-    ∙ list_any-map (λ p. same_move kind other && same_cell place p) (place_at cell) (slots cell.bay)
-    ∙ list_any-inner (λ bay. place.bay == bay) (same_move kind other) (place.row == cell.row) (place.tier == cell.tier) (slots cell.bay)
-
-cell-one : (kind other : Move) (a b : Cell) → has_taken_cell (map (λ p. (other, p)) (places_of b)) kind a ≡ (same_move kind other && overlap a b)
+cell-one : (kind other : Move) (a b : CellView) → has_taken_cell (map (λ s. (other, s)) (slots_of b)) kind a ≡ (same_move kind other && overlap a b)
 cell-one kind other a b =
-    list_any-map (has_taken_place (map (λ p. (other, p)) (places_of b)) kind) (place_at a) (slots a.bay)
+    list_any-map (has_taken_slot (map (λ s. (other, s)) (slots_of b)) kind) (slot_at a) (slots a.bay)
     ∙ list_any-agree _ (λ bay. same_move kind other && (((a.row == b.row) && (a.tier == b.tier)) && list_any (λ slot. bay == slot) (slots b.bay))) (slots a.bay)
-    (λ bay. place-one kind other (place_at a bay) b)
+    (λ bay. slot-one kind other (slot_at a bay) b)
     ∙ list_any-outer (λ bay. list_any (λ slot. bay == slot) (slots b.bay)) (same_move kind other) ((a.row == b.row) && (a.tier == b.tier)) (slots a.bay)
 
--- the places that rows take
-pub cell-taken : (rows : List Row) (row : Row) → has_taken_cell (places_taken rows) row.kind row.cell ≡ is_taken rows row
-cell-taken [] row = list_any-none (places_of row.cell)
+-- the slots that rows take
+pub cell-taken : (rows : List Row) (row : Row) → has_taken_cell (slots_taken rows) row.kind row.cell ≡ is_taken rows row
+cell-taken [] row = list_any-none (slots_of row.cell)
 cell-taken (first ∷ rows) row =
-    let here = map (λ (p : Cell). (first.kind, p)) (places_of first.cell) in
-    list_any-agree _ (λ place. has_taken_place here row.kind place || has_taken_place (places_taken rows) row.kind place) (places_of row.cell)
-    (λ place. list_any-append (λ taken. same_move row.kind taken.0 && same_cell place taken.1) here (places_taken rows))
-    ∙ list_any-either (has_taken_place here row.kind) (has_taken_place (places_taken rows) row.kind) (places_of row.cell)
+    let here = map (λ (s : Slot). (first.kind, s)) (slots_of first.cell) in
+    list_any-agree _ (λ slot. has_taken_slot here row.kind slot || has_taken_slot (slots_taken rows) row.kind slot) (slots_of row.cell)
+    (λ slot. list_any-append (λ taken. same_move row.kind taken.0 && same_slot slot taken.1) here (slots_taken rows))
+    ∙ list_any-either (has_taken_slot here row.kind) (has_taken_slot (slots_taken rows) row.kind) (slots_of row.cell)
     ∙ rw (cell-one row.kind first.kind row.cell first.cell, cell-taken rows row) refl
 
--- one more row takes its id and its places
+-- one more row takes its id and its slots
 pub ids-more : (rows : List Row) (row : Row) → ids_of (rows ++ row ∷ []) ≡ ids_of rows ++ (row.kind, row.id) ∷ []
 ids-more rows row = map-append (λ (r : Row). (r.kind, r.id)) rows (row ∷ [])
 
-pub places-more : (rows : List Row) (row : Row) → places_taken (rows ++ row ∷ []) ≡ places_taken rows ++ map (λ place. (row.kind, place)) (places_of row.cell)
-places-more rows row =
-    flat_map-append (λ (r : Row). map (λ (p : Cell). (r.kind, p)) (places_of r.cell)) rows (row ∷ [])
-    ∙ ap (λ (last : List (Move × Cell)). places_taken rows ++ last) (append-nil (map (λ (p : Cell). (row.kind, p)) (places_of row.cell)))
+pub slots-more : (rows : List Row) (row : Row) → slots_taken (rows ++ row ∷ []) ≡ slots_taken rows ++ map (λ slot. (row.kind, slot)) (slots_of row.cell)
+slots-more rows row =
+    flat_map-append (λ (r : Row). map (λ (s : Slot). (r.kind, s)) (slots_of r.cell)) rows (row ∷ [])
+    ∙ ap (λ (last : List (Move × Slot)). slots_taken rows ++ last) (append-nil (map (λ (s : Slot). (row.kind, s)) (slots_of row.cell)))

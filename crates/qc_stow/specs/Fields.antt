@@ -7,8 +7,9 @@ use Rattle.qc_records.specs.Records.{field_of}
 -- the four names of the columns
 abbrev pub is_header : List (List ℕ) → Bool
 is_header fields =
-    (length fields == 4) && bytes_eq (field_of fields 0) (codes "id") && bytes_eq (field_of fields 1) (codes "move")
-    && bytes_eq (field_of fields 2) (codes "cell") && bytes_eq (field_of fields 3) (codes "length")
+    (length fields == 4) && bytes_eq (field_of fields 0) (codes "id")
+    && bytes_eq (field_of fields 1) (codes "move") && bytes_eq (field_of fields 2) (codes "cell")
+    && bytes_eq (field_of fields 3) (codes "length")
 
 -- a visible character that is no comma and no double quote
 abbrev pub is_id_byte : ℕ → Bool

@@ -1,3 +1,4 @@
+pub mod Faults
 pub mod Fields
 pub mod Rows
 pub mod Moves

@@ -1,9 +1,8 @@
 -- One record of a stowage list, read by itself.
-use Rattle.std.specs.Prelude.{ℕ, List, length, Bool, true, false, ◌==◌, if◌then◌else◌, Result, Ok, Err, codes, ⊤}
+use Rattle.std.specs.Prelude.{ℕ, List, length, ◌==◌, if◌then◌else◌, Result, Ok, Err, codes}
 use Rattle.std.specs.Str.{bytes_eq}
-use Rattle.qc_cell.specs.Cells.{cell_in}
-use Rattle.qc_cell.specs.declared.cell.Cell.{Cell}
-use Rattle.qc_cell.specs.declared.cell.CellFault.{CellFault}
+use Rattle.qc_num.specs.Reading.{◌>>=◌, require, with_fault}
+use Rattle.qc_cell.specs.Cells.{CellView, cell_in}
 use Rattle.qc_records.specs.Records.{field_of}
 use Rattle.qc_stow.specs.Fields.{is_id, length_text}
 use Rattle.qc_stow.specs.declared.row.Move.{Move}
@@ -12,28 +11,13 @@ use Rattle.qc_stow.specs.declared.row.Row.{Row}
 use Rattle.qc_stow.specs.declared.fault.StowKind.{StowKind}
 use Rattle.qc_stow.specs.declared.fault.StowKind.TheVariants as kind
 
--- a check, and then those that need its value
-infixl 10 ◌>>=◌
-abbrev pub ◌>>=◌ : {A B E : Type 0} → Result A E → (A → Result B E) → Result B E
-Ok a >>= next = next a
-Err e >>= next = Err e
-
--- a check with the fault where it fails
-abbrev pub require : {E : Type 0} → Bool → E → Result ⊤ E
-require true e = Ok tt
-require false e = Err e
-
 -- what the field of the move says
 abbrev pub move_in : List ℕ → Result Move StowKind
-move_in field = if bytes_eq field (codes "D") then Ok Discharge else (if bytes_eq field (codes "L") then Ok Load else Err kind.MoveKind)
-
--- what was read as a cell, with a cell's fault as one of the list
-abbrev pub cell_step : Result Cell CellFault → Result Cell StowKind
-cell_step (Ok cell) = Ok cell
-cell_step (Err fault) = Err (kind.Cell fault)
+move_in field = if bytes_eq field (codes "D") then Ok Discharge
+    else (if bytes_eq field (codes "L") then Ok Load else Err kind.MoveKind)
 
 -- the row of an id, a move and a cell, where the length is that of the cell's bay
-abbrev pub row_of : List ℕ → List ℕ → Move → Cell → Result Row StowKind
+abbrev pub row_of : List ℕ → List ℕ → Move → CellView → Result Row StowKind
 row_of id size move cell = do
   _ ← require (bytes_eq size (length_text cell.bay)) kind.LengthMismatch
   Ok (record { id = id; kind = move; cell = cell })
@@ -44,5 +28,5 @@ row_in fields = do
   _ ← require (length fields == 4) kind.Fields
   _ ← require (is_id (field_of fields 0)) kind.Id
   move ← move_in (field_of fields 1)
-  cell ← cell_step (cell_in (field_of fields 2))
+  cell ← with_fault kind.Cell (cell_in (field_of fields 2))
   row_of (field_of fields 0) (field_of fields 3) move cell

@@ -2,37 +2,41 @@
 use Rattle.std.specs.Prelude.{ℕ, List, map, flat_map, Bool, ◌&&◌, ◌==◌}
 use Rattle.std.specs.List.{list_any}
 use Rattle.std.specs.Str.{bytes_eq}
-use Rattle.qc_cell.specs.Cells.{slots}
-use Rattle.qc_cell.specs.declared.cell.Cell.{Cell}
+use Rattle.qc_cell.specs.Cells.{CellView, slots}
 use Rattle.qc_stow.specs.Moves.{same_move}
 use Rattle.qc_stow.specs.declared.row.Move.{Move}
 use Rattle.qc_stow.specs.declared.row.Row.{Row}
+use Rattle.qc_stow.specs.declared.taken.Slot.{Slot}
 
--- ids and places of 20 feet, each with the kind of the move that took it
+-- ids and slots of 20 feet, each with the kind of the move that took it
 pub record TakenView : Type 0 where
   pub ids : List (Move × List ℕ)
-  pub places : List (Move × Cell)
+  pub slots : List (Move × Slot)
 
--- the places of 20 feet that a cell covers
-abbrev pub places_of : Cell → List Cell
-places_of cell = map (λ bay. record { bay = bay; row = cell.row; tier = cell.tier }) (slots cell.bay)
+-- the slot of a cell at one of its bays of 20 feet, and all of its slots
+abbrev pub slot_at : CellView → ℕ → Slot
+slot_at cell bay = record { bay = bay; row = cell.row; tier = cell.tier }
 
-abbrev pub same_cell : Cell → Cell → Bool
-same_cell a b = (a.bay == b.bay) && (a.row == b.row) && (a.tier == b.tier)
+abbrev pub slots_of : CellView → List Slot
+slots_of cell = map (slot_at cell) (slots cell.bay)
 
--- a move of the same kind has taken an id, a place, or one of the places of a cell
+abbrev pub same_slot : Slot → Slot → Bool
+same_slot a b = (a.bay == b.bay) && (a.row == b.row) && (a.tier == b.tier)
+
+-- a move of the same kind has taken an id, a slot, or one of the slots of a cell
 abbrev pub has_taken_id : List (Move × List ℕ) → Move → List ℕ → Bool
 has_taken_id ids kind id = list_any (λ taken. same_move kind taken.0 && bytes_eq id taken.1) ids
 
-abbrev pub has_taken_place : List (Move × Cell) → Move → Cell → Bool
-has_taken_place places kind place = list_any (λ taken. same_move kind taken.0 && same_cell place taken.1) places
+abbrev pub has_taken_slot : List (Move × Slot) → Move → Slot → Bool
+has_taken_slot taken kind slot = list_any
+    (λ earlier. same_move kind earlier.0 && same_slot slot earlier.1) taken
 
-abbrev pub has_taken_cell : List (Move × Cell) → Move → Cell → Bool
-has_taken_cell places kind cell = list_any (has_taken_place places kind) (places_of cell)
+abbrev pub has_taken_cell : List (Move × Slot) → Move → CellView → Bool
+has_taken_cell taken kind cell = list_any (has_taken_slot taken kind) (slots_of cell)
 
 -- what rows take
 abbrev pub ids_of : List Row → List (Move × List ℕ)
 ids_of rows = map (λ row. (row.kind, row.id)) rows
 
-abbrev pub places_taken : List Row → List (Move × Cell)
-places_taken rows = flat_map (λ row. map (λ place. (row.kind, place)) (places_of row.cell)) rows
+abbrev pub slots_taken : List Row → List (Move × Slot)
+slots_taken rows = flat_map (λ row. map (λ slot. (row.kind, slot)) (slots_of row.cell)) rows

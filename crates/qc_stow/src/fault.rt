@@ -30,6 +30,28 @@ pub enum StowKind {
     CellTaken,
 }
 
+impl StowKind {
+    ghost use Rattle.qc_stow.specs.Faults.{kind_text};
+
+    /// The kind as reports print it.
+    pub fn text(self) -> &'static str
+        ensures { result.now ≡ kind_text self }
+    {
+        match self {
+            StowKind::Header => "Header",
+            StowKind::TooMany => "TooMany",
+            StowKind::Fields => "Fields",
+            StowKind::Id => "Id",
+            StowKind::MoveKind => "MoveKind",
+            StowKind::Cell(fault) => fault.text(),
+            StowKind::LengthMismatch => "LengthMismatch",
+            StowKind::NoHatch => "NoHatch",
+            StowKind::IdTwice => "IdTwice",
+            StowKind::CellTaken => "CellTaken",
+        }
+    }
+}
+
 /// The first fault of a stowage list.
 #[derive(Clone, Copy, Debug, PartialEq, Eq)]
 pub struct StowFault {

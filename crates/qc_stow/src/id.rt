@@ -2,24 +2,24 @@ ghost use Rattle.std.specs.Prelude.{◌≡◌, IfSome, IsSome, IsTrue, ◌↔◌
 ghost use Rattle.std.specs.List.{list_all};
 ghost use Rattle.qc_stow.specs.Fields.{is_id, is_id_byte};
 
+use qc_num::Text;
 use std::marker::Model;
 
 /// The id of a container: 1 to 20 visible ASCII characters without comma and double quote.
 #[derive(Clone, Debug, Drop)]
 pub struct Id {
-    bytes: [u8; 20],
-    len: usize,
+    text: Text<20>,
 }
 
 impl Model for Id {
-    ghost use Rattle.std.specs.Prelude.{ℕ, List, take, ◌≤◌, IsTrue};
+    ghost use Rattle.std.specs.Prelude.{ℕ, List, IsTrue};
     ghost use Rattle.qc_stow.specs.Fields.{is_id};
 
     ghost Value = { List ℕ };
 
-    ghost view = { λ i. take i.len i.bytes };
+    ghost view = { λ id. id.text };
 
-    ghost invariant = { λ i. (i.len ≤ 20) × IsTrue (is_id (take i.len i.bytes)) };
+    ghost invariant = { λ id. IsTrue (is_id id.text) };
 }
 
 fn is_id_byte(b: u8) -> bool
@@ -49,10 +49,9 @@ impl Id {
         if !is_id(bytes) {
             return None;
         }
-        let len = bytes.len();
-        let mut kept = [0u8; 20];
-        kept[..len].copy_from_slice(bytes);
-        Some(Id { bytes: kept, len })
+        Some(Id {
+            text: Text::of(bytes),
+        })
     }
 
     /// The id's bytes.
@@ -60,6 +59,6 @@ impl Id {
         ensures bytes { result.now ≡ self.now }
         ensures id { IsTrue (is_id self.now) }
     {
-        &self.bytes[..self.len]
+        self.text.as_bytes()
     }
 }

@@ -11,6 +11,6 @@ mod taken;
 
 pub use fault::{StowError, StowFault, StowKind};
 pub use id::Id;
-pub use moves::Moves;
+pub use moves::{MOST_MOVES, Moves};
 pub use reader::read_stow;
 pub use row::{Move, Row};

@@ -4,6 +4,9 @@ ghost use Rattle.qc_stow.specs.Moves.{AreMoves};
 use crate::row::Row;
 use std::marker::Model;
 
+/// The most moves of a stowage list.
+pub const MOST_MOVES: usize = 50_000;
+
 /// The moves of a stowage list: at most 50,000, of which no two of one kind have one id or
 /// overlapping cells.
 #[derive(Debug, Drop)]

@@ -3,14 +3,13 @@
 ghost use Rattle.std.specs.Prelude.{◌≡◌, ◌+◌, ◌≤◌, [], ◌∷◌, ◌++◌, length, map, All, IfOk, IsSome};
 ghost use Rattle.csv.specs.Records.{fields_of};
 ghost use Rattle.qc_ship.specs.Ship.{place_of_bay};
-ghost use Rattle.qc_cell.specs.Cells.{IsCell};
 ghost use Rattle.qc_stow.specs.Stow.{IsReading, moves_in, numbered, row_after, row_on, rows_after};
-ghost use Rattle.qc_stow.specs.Taken.{ids_of, places_taken};
+ghost use Rattle.qc_stow.specs.Taken.{ids_of, slots_taken};
 ghost use Rattle.qc_stow.specs.declared.fault.StowError.TheVariants.{Fault};
 
 use crate::fault::{StowError, StowFault, StowKind};
 use crate::fields::is_header;
-use crate::moves::Moves;
+use crate::moves::{MOST_MOVES, Moves};
 use crate::row::Row;
 use crate::taken::Taken;
 use csv::ByteRecord;
@@ -18,14 +17,12 @@ use qc_records::{field, first_records};
 use qc_ship::Ship;
 use std::alloc::Global;
 
-const MOST_MOVES: usize = 50_000;
-
 // The header, the most moves, and one record more that tells a longer list.
 const RECORDS: usize = MOST_MOVES + 2;
 
 // The fault of a move, by its place among the moves from 0.
 fn fault(at: usize, kind: StowKind) -> StowError
-    requires { at ≤ 50000 }
+    requires { at ≤ MOST_MOVES }
     ensures { result ≡ Fault (record { number = at + 2; kind = kind }) }
 {
     StowError::Fault(StowFault {
@@ -36,8 +33,7 @@ fn fault(at: usize, kind: StowKind) -> StowError
 
 // The row of a record whose bay a hatch of the ship takes.
 fn row_on(fields: &ByteRecord, ship: &Ship) -> Result<Row, StowKind>
-    ensures row { result ≡ row_on ship.now (fields_of fields.now) }
-    ensures cell { IfOk result (λ row. IsCell row.cell) }
+    ensures { result ≡ row_on ship.now (fields_of fields.now) }
 {
     let row = Row::read(fields)?;
     if ship.bay_of(row.cell.bay).is_none() {
@@ -46,20 +42,21 @@ fn row_on(fields: &ByteRecord, ship: &Ship) -> Result<Row, StowKind>
     Ok(row)
 }
 
-// The row of a record after the rows of all records before it, whose ids and places are taken.
+// The row of a record after the rows of all records before it, whose ids and slots are taken.
 fn next_row<'a>(
     earlier: &[Row],
     fields: &'a ByteRecord,
     ship: &Ship,
     taken: &mut Taken<'a>,
 ) -> Result<Row, StowError>
-    requires few { length earlier.now ≤ 50000 }
+    requires few { length earlier.now ≤ MOST_MOVES }
     requires ids { taken.old.ids ≡ ids_of earlier.now }
-    requires places { taken.old.places ≡ places_taken earlier.now }
-    ensures row { IsReading (λ row. row) (numbered (length earlier.now + 2) (row_after ship.now earlier.now (fields_of fields.now))) result }
-    ensures cell { IfOk result (λ row. IsCell row.cell) }
+    requires slots { taken.old.slots ≡ slots_taken earlier.now }
+    ensures row { IsReading (λ row. row)
+        (numbered (length earlier.now + 2) (row_after ship.now earlier.now (fields_of fields.now)))
+        result }
     ensures ids { IfOk result (λ row. taken.new.ids ≡ ids_of (earlier.now ++ row ∷ [])) }
-    ensures places { IfOk result (λ row. taken.new.places ≡ places_taken (earlier.now ++ row ∷ [])) }
+    ensures slots { IfOk result (λ row. taken.new.slots ≡ slots_taken (earlier.now ++ row ∷ [])) }
 {
     let at = earlier.len();
     if at == MOST_MOVES {
@@ -80,8 +77,7 @@ fn next_row<'a>(
 
 // The rows of the records after the header.
 fn read_rows(alloc: Global, records: &[ByteRecord], ship: &Ship) -> Result<Vec<Row>, StowError>
-    ensures rows { IsReading (λ v. v.items) (rows_after ship.now [] (map fields_of records.now)) result }
-    ensures cells { IfOk result (λ v. All (λ row. IsCell row.cell) v.items) }
+    ensures { IsReading (λ v. v.items) (rows_after ship.now [] (map fields_of records.now)) result }
 {
     let mut rows = Vec::new(alloc);
     let mut taken = Taken::new(alloc);

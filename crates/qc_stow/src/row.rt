@@ -1,4 +1,4 @@
-ghost use Rattle.std.specs.Prelude.{◌≡◌, IfOk};
+ghost use Rattle.std.specs.Prelude.{◌≡◌};
 ghost use Rattle.csv.specs.Records.{fields_of};
 
 use crate::fault::StowKind;
@@ -17,6 +17,24 @@ pub enum Move {
     Load,
 }
 
+impl Move {
+    ghost use Rattle.qc_stow.specs.Moves.{is_discharge, is_load};
+
+    /// Whether the container goes off the ship.
+    pub fn is_discharge(self) -> bool
+        ensures { result ≡ is_discharge self }
+    {
+        self == Move::Discharge
+    }
+
+    /// Whether the container goes onto the ship.
+    pub fn is_load(self) -> bool
+        ensures { result ≡ is_load self }
+    {
+        self == Move::Load
+    }
+}
+
 /// The move of one container.
 #[derive(Debug, Drop)]
 pub struct Row {
@@ -26,8 +44,9 @@ pub struct Row {
 }
 
 impl Row {
-    ghost use Rattle.qc_stow.specs.Rows.{cell_step, move_in, row_in};
-    ghost use Rattle.qc_cell.specs.Cells.{IsCell, cell_in};
+    ghost use Rattle.qc_stow.specs.Rows.{move_in, row_in};
+    ghost use Rattle.qc_cell.specs.Cells.{cell_in};
+    ghost use Rattle.qc_num.specs.Reading.{with_fault};
 
     fn move_in(field: &[u8]) -> Result<Move, StowKind>
         ensures { result ≡ move_in field.now }
@@ -42,8 +61,7 @@ impl Row {
     }
 
     fn cell_in(field: &[u8]) -> Result<Cell, StowKind>
-        ensures cell { result ≡ cell_step (cell_in field.now) }
-        ensures range { IfOk result IsCell }
+        ensures { result ≡ with_fault StowKind.Cell (cell_in field.now) }
     {
         match Cell::read(field) {
             Ok(cell) => Ok(cell),
@@ -53,8 +71,7 @@ impl Row {
 
     // The row that the fields of a record write, or the first fault of them.
     pub(crate) fn read(fields: &ByteRecord) -> Result<Row, StowKind>
-        ensures row { result ≡ row_in (fields_of fields.now) }
-        ensures cell { IfOk result (λ row. IsCell row.cell) }
+        ensures { result ≡ row_in (fields_of fields.now) }
     {
         if fields.len() != 4 {
             return Err(StowKind::Fields);

@@ -1,5 +1,5 @@
 ghost use Rattle.std.specs.Prelude.{◌≡◌, [], ◌∷◌, ◌++◌, map, not, IfOk, IsTrue};
-ghost use Rattle.qc_stow.specs.Taken.{has_taken_cell, has_taken_id, has_taken_place, places_of};
+ghost use Rattle.qc_stow.specs.Taken.{has_taken_cell, has_taken_id, has_taken_slot, slots_of};
 
 use crate::row::Move;
 use indexmap::IndexSet;
@@ -8,11 +8,19 @@ use qc_num::OutOfMemory;
 use std::alloc::Global;
 use std::marker::Model;
 
-// The ids and the places of 20 feet that moves have taken, each by a kind of move.
+// A slot of 20 feet.
+#[derive(Clone, Copy, PartialEq, Eq, Hash)]
+pub(crate) struct Slot {
+    bay: u16,
+    row: u8,
+    tier: u8,
+}
+
+// The ids and the slots of 20 feet that moves have taken, each by a kind of move.
 #[derive(Drop)]
 pub(crate) struct Taken<'a> {
     ids: IndexSet<(Move, &'a [u8])>,
-    places: IndexSet<(Move, Cell)>,
+    slots: IndexSet<(Move, Slot)>,
 }
 
 impl<'a> Model for Taken<'a> {
@@ -21,51 +29,63 @@ impl<'a> Model for Taken<'a> {
 
     ghost Value = { TakenView };
 
-    ghost view = { λ t. record { ids = map (λ key. (key.0, key.1.now)) t.ids.keys; places = t.places.keys } };
+    ghost view = { λ t. record {
+      ids = map (λ key. (key.0, key.1.now)) t.ids.keys;
+      slots = t.slots.keys;
+    } };
 }
 
 impl<'a> Taken<'a> {
     pub(crate) fn new(alloc: Global) -> Taken<'a>
         ensures ids { result.ids ≡ [] }
-        ensures places { result.places ≡ [] }
+        ensures slots { result.slots ≡ [] }
     {
         Taken {
             ids: IndexSet::new(alloc),
-            places: IndexSet::new(alloc),
+            slots: IndexSet::new(alloc),
         }
     }
 
     // Takes an id for a kind of move; `false` where it is taken already.
     pub(crate) fn take_id(&mut self, kind: Move, id: &'a [u8]) -> Result<bool, OutOfMemory>
         ensures new { IfOk result (λ new. new ≡ not (has_taken_id self.old.ids kind id.now)) }
-        ensures ids { IfOk result (λ new. IsTrue new → self.new.ids ≡ self.old.ids ++ (kind, id.now) ∷ []) }
-        ensures places { self.new.places ≡ self.old.places }
+        ensures ids { IfOk result (λ new. IsTrue new → self.new.ids ≡ self.old.ids
+            ++ (kind, id.now) ∷ []) }
+        ensures slots { self.new.slots ≡ self.old.slots }
     {
         Ok(self.ids.insert((kind, id))?)
     }
 
-    // Takes a place of 20 feet; `false` where it is taken already.
-    fn take_place(&mut self, kind: Move, place: Cell) -> Result<bool, OutOfMemory>
-        ensures new { IfOk result (λ new. new ≡ not (has_taken_place self.old.places kind place)) }
-        ensures places { IfOk result (λ new. IsTrue new → self.new.places ≡ self.old.places ++ (kind, place) ∷ []) }
+    // Takes a slot; `false` where it is taken already.
+    fn take_slot(&mut self, kind: Move, slot: Slot) -> Result<bool, OutOfMemory>
+        ensures new { IfOk result (λ new. new ≡ not (has_taken_slot self.old.slots kind slot)) }
+        ensures slots { IfOk result
+            (λ new. IsTrue new → self.new.slots ≡ self.old.slots ++ (kind, slot) ∷ []) }
         ensures ids { self.new.ids ≡ self.old.ids }
     {
-        Ok(self.places.insert((kind, place))?)
+        Ok(self.slots.insert((kind, slot))?)
     }
 
-    // Takes the places of a cell; `false` where one of them is taken already.
+    // Takes the slots of a cell; `false` where one of them is taken already.
     pub(crate) fn take_cell(&mut self, kind: Move, cell: Cell) -> Result<bool, OutOfMemory>
-        ensures new { IfOk result (λ new. new ≡ not (has_taken_cell self.old.places kind cell)) }
-        ensures places { IfOk result (λ new. IsTrue new → self.new.places ≡ self.old.places ++ map (λ place. (kind, place)) (places_of cell)) }
+        ensures new { IfOk result (λ new. new ≡ not (has_taken_cell self.old.slots kind cell)) }
+        ensures slots { IfOk result
+            (λ new. IsTrue new → self.new.slots ≡ self.old.slots
+            ++ map (λ slot. (kind, slot)) (slots_of cell)) }
         ensures ids { self.new.ids ≡ self.old.ids }
     {
         let (first, last) = cell.slots();
-        if !self.take_place(kind, Cell { bay: first, ..cell })? {
+        let slot = Slot {
+            bay: first,
+            row: cell.row,
+            tier: cell.tier,
+        };
+        if !self.take_slot(kind, slot)? {
             return Ok(false);
         }
         if last == first {
             return Ok(true);
         }
-        self.take_place(kind, Cell { bay: last, ..cell })
+        self.take_slot(kind, Slot { bay: last, ..slot })
     }
 }

@@ -1,10 +1,8 @@
 use Rattle.std.proofs.Common.{◌≡◌, ◌∙◌, ◌++◌, ◌∷◌, ◌+◌, [], List, Ok, Err, subst, length, map, drop, sym, ap, true, rules, arith, Vec, Global}
 use Rattle.std.specs.Result.{is_ok}
 use Rattle.std.proofs.lemmas.List.{at_drop_all, at_drop_more, length_push}
-use Rattle.std.proofs.lemmas.List.Elements.{All-push}
 use Rattle.csv.specs.Records.{fields_of}
 use Rattle.csv.specs.Records as csv
-use Rattle.qc_cell.specs.Cells.{IsCell}
 use Rattle.qc_stow.specs.Stow.{IsReading, numbered, row_after, rows_after}
 use Rattle.qc_stow.specs.declared.row.Row.{Row}
 use Rattle.qc_stow.proofs.StowFacts.{rows-end, rows-more, rows-room, rows-stop}
@@ -28,12 +26,11 @@ loop-fields-preserved c =
       rows = inv.rows ∙ next ∙ rows-more ship earlier fields rest row step ∙ ap (λ (rows : List Row). rows_after ship rows rest) (sym pushed);
       few = rw pushed (omega arith);
       ids = rw pushed (rw c.as_slice.ensures.value at c.in-Ok.ensures.ids);
-      places = rw pushed (rw c.as_slice.ensures.value at c.in-Ok.ensures.places);
-      cells = rw pushed (All-push (λ (r : Row). IsCell r.cell) earlier row inv.cells c.in-Ok.ensures.cell);
+      slots = rw pushed (rw c.as_slice.ensures.value at c.in-Ok.ensures.slots);
     }
 
-pub returns-in-Err-clause-rows : goal.returns-in-Err-clause-rows
-returns-in-Err-clause-rows c =
+pub returns-in-Err : goal.returns-in-Err
+returns-in-Err c =
     let ship = c.args.ship.now in
     let earlier = c.loop-fields.rows.items in
     let fields = fields_of c.fields-item.result in
@@ -43,7 +40,7 @@ returns-in-Err-clause-rows c =
     c.as_slice.ensures.value c.in-Err.ensures.row in
     rows-stop (λ (v : Vec Row Global). v.items) _ ship earlier fields rest c.in-Err.error (c.loop-fields.invariant.rows ∙ next) fault
 
-pub returns-clause-rows : goal.returns-clause-rows
-returns-clause-rows c =
+pub returns : goal.returns
+returns c =
     let end = at_drop_all (λ (xs : List csv.Row). rows_after c.args.ship.now c.loop-fields.rows.items (map fields_of xs)) c.args.records.now c.loop-fields.fields-index c.loop-fields-test.false in
     c.loop-fields.invariant.rows ∙ end ∙ rows-end c.args.ship.now c.loop-fields.rows.items
