@@ -114,11 +114,6 @@ contains_flat_map f [] x y (k, lt, e) has = absurd (omega arith)
 contains_flat_map f (z ∷ xs) x y (zero, lt, e) has = Contains-append_left (f z) (flat_map f xs) y (rw e has)
 contains_flat_map f (z ∷ xs) x y (suc k, lt, e) has = Contains-append_right (f z) (flat_map f xs) y (contains_flat_map f xs x y (k, omega arith, e) has)
 
-pub contains_map : {X Y : Type 0} (f : X → Y) (xs : List X) (x : X) → Contains xs x → Contains (map f xs) (f x)
-contains_map f [] x (k, lt, e) = absurd (omega arith)
-contains_map f (z ∷ xs) x (zero, lt, e) = (0, omega arith, ap f e)
-contains_map f (z ∷ xs) x (suc k, lt, e) = let c = contains_map f xs x (k, omega arith, e) in (suc c.0, omega (arith, c.1), c.2)
-
 pub contains_filter : {X : Type 0} (test : X → Bool) (xs : List X) (x : X) → Contains xs x → test x ≡ true → Contains (filter test xs) x
 contains_filter test [] x (k, lt, e) passes = absurd (omega arith)
 contains_filter test (z ∷ xs) x (zero, lt, e) passes = let here : test z ≡ true = ap test e ∙ passes in rw here (0, omega arith, e)

@@ -1,15 +1,16 @@
 -- The steps of the loops that build lists of tasks and of pairs.
 use Rattle.std.proofs.Common.{◌≡◌, ℕ, ◌+◌, ◌<◌, ◌≤◌, ◌++◌, Bool, true, false, cond, List, [], ◌∷◌, length, get_or, take, map, refl, sym, ap, subst, ◌∙◌, arith, append-nil, append_assoc}
-use Rattle.std.specs.List.{filter, flat_map, range_with_len, zip}
+use Rattle.std.specs.List.{filter, flat_map, range_with_len, zip, AllByRecursion as Each}
 use Rattle.std.proofs.lemmas.List.{take_more, take_all}
 use Rattle.std.proofs.lemmas.List.Concat.{flat_map-append}
-use Rattle.std.proofs.lemmas.List.Elements.{filter-append, filter_agree}
+use Rattle.std.proofs.lemmas.List.Elements.{filter-append}
 use Rattle.std.proofs.lemmas.List.FromFn.{map-range_with_len_more}
 use Rattle.std.proofs.lemmas.Slice.Zip.{length-zip, get_or-zip}
 use Rattle.std.proofs.lemmas.List.{map-append, map-id}
 use Rattle.qc_model.specs.declared.pair.Pair.{Pair}
 use Rattle.qc_model.specs.Instance.{pair_of}
 use Rattle.qc_tasks.specs.InstanceOf.{pairs_from, pairs_with}
+use Rattle.qc_tasks.proofs.Lists.{each_range, each_weaker}
 
 -- one element more of two lists in step
 pub flat_map-zip_more : {K V A : Type 0} (f : K × V → List A) (ks : List K) (vs : List V) (i n : ℕ) (k : K) (v : V) → n ≡ i + 1 → i < length ks → i < length vs → k ≡ get_or ks i k → v ≡ get_or vs i v → flat_map f (take n (zip ks vs)) ≡ flat_map f (take i (zip ks vs)) ++ f (k, v)
@@ -52,10 +53,18 @@ pairs_row test count n m now next en had more =
     ∙ sym (flat_map-append (pairs_from count test) (range_with_len 0 n) (n ∷ []))
     ∙ ap (flat_map (pairs_from count test)) (sym (range_more n m en))
 
--- pairs by tests that agree
-flat_map-agree : {X Y : Type 0} (f g : X → List Y) → ((x : X) → f x ≡ g x) → (xs : List X) → flat_map f xs ≡ flat_map g xs
-flat_map-agree f g same [] = refl
-flat_map-agree f g same (x ∷ xs) = ap (λ ys. ys ++ flat_map f xs) (same x) ∙ ap (λ ys. g x ++ ys) (flat_map-agree f g same xs)
+-- pairs by tests that agree below the count
+filter_same : {X : Type 0} (p q : X → Bool) (xs : List X) → Each (λ x. p x ≡ q x) xs → filter p xs ≡ filter q xs
+filter_same p q [] same = refl
+filter_same p q (x ∷ xs) same = rw (same.0, filter_same p q xs same.1) refl
 
-pub pairs_agree : (count : ℕ) (s t : ℕ → ℕ → Bool) → ((i j : ℕ) → s i j ≡ t i j) → pairs_with count s ≡ pairs_with count t
-pairs_agree count s t same = flat_map-agree (pairs_from count s) (pairs_from count t) (λ i. ap (map (pair_of i)) (filter_agree (s i) (t i) (same i) (range_with_len 0 count))) (range_with_len 0 count)
+flat_map_same : {X Y : Type 0} (f g : X → List Y) (xs : List X) → Each (λ x. f x ≡ g x) xs → flat_map f xs ≡ flat_map g xs
+flat_map_same f g [] same = refl
+flat_map_same f g (x ∷ xs) same = rw (same.0, flat_map_same f g xs same.1) refl
+
+pub pairs_agree : (count : ℕ) (s t : ℕ → ℕ → Bool) → ((i j : ℕ) → i < count → j < count → s i j ≡ t i j) → pairs_with count s ≡ pairs_with count t
+pairs_agree count s t same =
+    flat_map_same (pairs_from count s) (pairs_from count t) (range_with_len 0 count)
+    (each_weaker (λ k. (0 ≤ k) × (k < 0 + count)) (λ i. pairs_from count s i ≡ pairs_from count t i) (range_with_len 0 count)
+    (λ i il. ap (map (pair_of i)) (filter_same (s i) (t i) (range_with_len 0 count)
+    (each_weaker (λ k. (0 ≤ k) × (k < 0 + count)) (λ j. s i j ≡ t i j) (range_with_len 0 count) (λ j jl. same i j (omega (arith, il)) (omega (arith, jl))) (each_range 0 count)))) (each_range 0 count))

@@ -9,10 +9,11 @@ use Rattle.std.proofs.lemmas.List.Sums.{length-filter, sum_by-cons}
 use Rattle.std.proofs.lemmas.List.{length-map}
 use Rattle.qc_model.specs.declared.pair.Pair.{Pair}
 use Rattle.qc_model.specs.declared.task.Task.{Task}
-use Rattle.qc_model.specs.Instance.{pair_of, no_task}
+use Rattle.qc_model.specs.Instance.{IsEarlier, pair_of, no_task}
+use Rattle.qc_num.proofs.Lists.{Contains-map}
 use Rattle.qc_ship.specs.declared.ship.HatchPair.{HatchPair}
 use Rattle.qc_tasks.specs.InstanceOf.{is_apart, names_both, pairs_from, pairs_with, task_at}
-use Rattle.qc_tasks.proofs.Lists.{EachPair, each_from, each_weaker, each_flat_map, each_map, each_filter, each_range, pair_weaker, pair_flat_map, pair_map, pair_filter, pair_range, pairs_by_index, contains_range, contains_flat_map, contains_map, contains_filter, sum_by-each, sum_by-plus, sum_by-same, count_four}
+use Rattle.qc_tasks.proofs.Lists.{EachPair, each_from, each_weaker, each_flat_map, each_map, each_filter, each_range, pair_weaker, pair_flat_map, pair_map, pair_filter, pair_range, pairs_by_index, contains_range, contains_flat_map, contains_filter, sum_by-each, sum_by-plus, sum_by-same, count_four}
 
 -- a pair of numbers below the count that pass the test
 abbrev Passes : ℕ → (ℕ → ℕ → Bool) → Pair → Type 0
@@ -35,32 +36,26 @@ pairs_pass count test i j has =
 pub pairs_have : (count : ℕ) (test : ℕ → ℕ → Bool) (i j : ℕ) → i < count → j < count → test i j ≡ true → Contains (pairs_with count test) (pair_of i j)
 pairs_have count test i j il jl passes =
     contains_flat_map (pairs_from count test) (range_with_len 0 count) i (pair_of i j) (contains_range 0 count i (omega arith) (omega arith))
-    (contains_map (pair_of i) (filter (test i) (range_with_len 0 count)) j (contains_filter (test i) (range_with_len 0 count) j (contains_range 0 count j (omega arith) (omega arith)) passes))
+    (Contains-map (pair_of i) (filter (test i) (range_with_len 0 count)) j (contains_filter (test i) (range_with_len 0 count) j (contains_range 0 count j (omega arith) (omega arith)) passes))
 
--- one pair stands before another
-abbrev pub Sooner : Pair → Pair → Type 0
-Sooner p q = 240 * p.first + p.second < 240 * q.first + q.second
-
-row_sorted : (count : ℕ) (test : ℕ → ℕ → Bool) (i : ℕ) → EachPair Sooner (pairs_from count test i)
+row_sorted : (count : ℕ) (test : ℕ → ℕ → Bool) (i : ℕ) → EachPair IsEarlier (pairs_from count test i)
 row_sorted count test i =
-    pair_map Sooner (pair_of i) (filter (test i) (range_with_len 0 count))
-    (pair_filter (λ j k. Sooner (pair_of i j) (pair_of i k)) (test i) (range_with_len 0 count)
-    (pair_weaker (λ j k. j < k) (λ j k. Sooner (pair_of i j) (pair_of i k)) (range_with_len 0 count) (λ j k lt. omega arith) (pair_range 0 count)))
+    pair_map IsEarlier (pair_of i) (filter (test i) (range_with_len 0 count))
+    (pair_filter (λ j k. IsEarlier (pair_of i j) (pair_of i k)) (test i) (range_with_len 0 count)
+    (pair_weaker (λ j k. j < k) (λ j k. IsEarlier (pair_of i j) (pair_of i k)) (range_with_len 0 count) (λ j k lt. (omega arith, λ _. lt)) (pair_range 0 count)))
 
--- a pair of the number i and one below the count
-row_within : (count : ℕ) (test : ℕ → ℕ → Bool) (i : ℕ) → Each (λ (p : Pair). (p.first ≡ i) × (p.second < count)) (pairs_from count test i)
-row_within count test i =
-    each_map (λ (p : Pair). (p.first ≡ i) × (p.second < count)) (pair_of i) (filter (test i) (range_with_len 0 count))
-    (each_weaker (λ k. ((0 ≤ k) × (k < 0 + count)) × (test i k ≡ true)) (λ k. (i ≡ i) × (k < count)) (filter (test i) (range_with_len 0 count))
-    (λ k h. (refl, omega (arith, h.0))) (each_filter (λ k. (0 ≤ k) × (k < 0 + count)) (test i) (range_with_len 0 count) (each_range 0 count)))
+-- the pairs of the number i
+row_first : (count : ℕ) (test : ℕ → ℕ → Bool) (i : ℕ) → Each (λ (p : Pair). p.first ≡ i) (pairs_from count test i)
+row_first count test i =
+    each_map (λ (p : Pair). p.first ≡ i) (pair_of i) (filter (test i) (range_with_len 0 count)) (each_from (λ k. i ≡ i) (filter (test i) (range_with_len 0 count)) (λ k. refl))
 
-pub pairs_sorted : (count : ℕ) (test : ℕ → ℕ → Bool) → count ≤ 240 → AllPairs Sooner (pairs_with count test)
-pairs_sorted count test few =
-    pairs_by_index Sooner (pairs_with count test)
-    (pair_flat_map Sooner (pairs_from count test) (range_with_len 0 count) (each_from (λ i. EachPair Sooner (pairs_from count test i)) (range_with_len 0 count) (row_sorted count test))
-    (pair_weaker (λ i k. i < k) (λ i k. Each (λ p. Each (Sooner p) (pairs_from count test k)) (pairs_from count test i)) (range_with_len 0 count)
-    (λ i k lt. each_weaker (λ (p : Pair). (p.first ≡ i) × (p.second < count)) (λ p. Each (Sooner p) (pairs_from count test k)) (pairs_from count test i)
-    (λ p ip. each_weaker (λ (q : Pair). (q.first ≡ k) × (q.second < count)) (Sooner p) (pairs_from count test k) (λ q iq. omega (arith, ip, iq, lt, few)) (row_within count test k)) (row_within count test i))
+pub pairs_sorted : (count : ℕ) (test : ℕ → ℕ → Bool) → AllPairs IsEarlier (pairs_with count test)
+pairs_sorted count test =
+    pairs_by_index IsEarlier (pairs_with count test)
+    (pair_flat_map IsEarlier (pairs_from count test) (range_with_len 0 count) (each_from (λ i. EachPair IsEarlier (pairs_from count test i)) (range_with_len 0 count) (row_sorted count test))
+    (pair_weaker (λ i k. i < k) (λ i k. Each (λ p. Each (IsEarlier p) (pairs_from count test k)) (pairs_from count test i)) (range_with_len 0 count)
+    (λ i k lt. each_weaker (λ (p : Pair). p.first ≡ i) (λ p. Each (IsEarlier p) (pairs_from count test k)) (pairs_from count test i)
+    (λ p ip. each_weaker (λ (q : Pair). q.first ≡ k) (IsEarlier p) (pairs_from count test k) (λ q iq. (omega (arith, ip, iq, lt), λ e. absurd (omega (arith, ip, iq, lt, e)))) (row_first count test k)) (row_first count test i))
     (pair_range 0 count)))
 
 -- how many pairs there are

@@ -1,23 +1,27 @@
 -- The tasks of a ship keep what the tasks of an instance keep.
-use Rattle.std.proofs.Common.{◌≡◌, ◌⊎◌, ℕ, ◌+◌, ◌*◌, ◌%◌, ◌<◌, ◌≤◌, ◌==◌, true, false, cond, List, length, refl, sym, ap, inl, inr, ◌∙◌, arith, count_by, sum_by, pos, ◌<ℤ◌}
+use Rattle.std.proofs.Common.{◌≡◌, ◌⊎◌, ℕ, ◌+◌, ◌*◌, ◌%◌, ◌<◌, ◌≤◌, ◌==◌, Bool, true, false, cond, List, length, refl, sym, ap, inl, inr, ◌∙◌, arith, count_by, sum_by, pos, ◌<ℤ◌}
 use Rattle.std.specs.List.{flat_map, zip, AllByRecursion as Each}
-use Rattle.std.specs.Prelude.{nat_eq}
+use Rattle.std.specs.Prelude.{◌&&◌, nat_eq, nat_le}
+use Rattle.std.proofs.Math.Bool.{and-false}
 use Rattle.std.proofs.Math.Nat.{mul-le-mul_left}
-use Rattle.std.proofs.lemmas.Bool.{cases_Bool}
-use Rattle.std.proofs.lemmas.Bool.Decides.{nat_tests}
+use Rattle.std.proofs.lemmas.Bool.{and_parts, cases_Bool}
+use Rattle.std.proofs.lemmas.Bool.Decides.{Decides-eqb, nat_tests}
 use Rattle.std.proofs.lemmas.Int.{ints}
 use Rattle.std.proofs.lemmas.List.Concat.{length-flat_map}
 use Rattle.std.proofs.lemmas.List.Elements.{All-from_recursion}
 use Rattle.std.proofs.lemmas.List.Sums.{sum_by-le, count_by-le-length}
 use Rattle.std.proofs.lemmas.Slice.Zip.{length-zip}
+use Rattle.qc_model.specs.declared.limits.TheConstants.{MOST_TASKS}
 use Rattle.qc_model.specs.declared.task.Phase.{Phase}
 use Rattle.qc_model.specs.declared.task.Phase.TheVariants.{DeckOut, HoldOut, HoldIn, DeckIn}
 use Rattle.qc_model.specs.declared.task.Task.{Task}
 use Rattle.qc_model.specs.Tasks.{phase_rank, task_rank}
-use Rattle.qc_ship.specs.Ship.{ShipView, IsShip, HasTimes, lowest_bay, highest_bay}
+use Rattle.qc_ship.specs.Ship.{ShipView, IsShip, HasTimes, takes, lowest_bay, highest_bay}
+use Rattle.qc_cell.specs.Cells.{is_on_deck}
 use Rattle.qc_stow.specs.declared.row.Row.{Row}
-use Rattle.qc_tasks.specs.InstanceOf.{moves_at, phases, tasks_at, tasks_of, ticks_in}
-use Rattle.qc_tasks.proofs.Lists.{EachPair, each_from, each_weaker, each_flat_map, pair_weaker, pair_flat_map, pair_zip, pairs_from_index, sum_by-flat_map, sum_by-each, count_none, count_one, count_four}
+use Rattle.qc_tasks.specs.InstanceOf.{is_move_of, moves_at, phase_with, phases, tasks_at, tasks_of, ticks_in}
+use Rattle.qc_tasks.specs.Restows.{ShareNoMove}
+use Rattle.qc_tasks.proofs.Lists.{EachPair, each_from, each_weaker, each_flat_map, pair_weaker, pair_flat_map, pair_zip, pairs_from_index, sum_by-flat_map, sum_by-each, count_none, count_one, count_four, pairs_by_index}
 
 -- a hatch with its place lies behind another
 abbrev pub Behind : ℕ × ℕ → ℕ × ℕ → Type 0
@@ -34,8 +38,16 @@ bays_around h = elim (cases_Bool (nat_eq (h % 2) 0)) [
   | inr odd ↦ rw odd (omega arith, omega arith)
 ]
 
-pub lower_hatch : (g h : ℕ × ℕ) → Behind g h → g.0 < h.0
-lower_hatch g h behind = omega (arith, bays_around g.0, bays_around h.0, behind.0)
+pub lower_hatch : (g h : ℕ) → highest_bay g < lowest_bay h → g < h
+lower_hatch g h behind = omega (arith, bays_around g, bays_around h, behind)
+
+-- a bay is taken by one hatch at most
+pub takes_once : (g h bay : ℕ) → highest_bay g < lowest_bay h → takes g bay ≡ true → takes h bay ≡ false
+takes_once g h bay behind here = after (nat_le (lowest_bay g) bay) (lowest_bay h) (highest_bay g) bay (nat_le bay (highest_bay h)) behind here
+  where
+    after : (a : Bool) (low high bay : ℕ) (b : Bool) → high < low → (a && nat_le bay high) ≡ true → (nat_le low bay && b) ≡ false
+    after true low high bay b lt here = let out : nat_le low bay ≡ false = grind (arith, nat_tests) in rw out refl
+    after false low high bay b lt here = cc here
 
 low_rank : (phase : Phase) → phase_rank phase ≤ 3
 low_rank DeckOut = omega arith
@@ -59,7 +71,7 @@ pub record IsTaskAt (hatch : ℕ × ℕ) (t : Task) : Type 0 where
 -- the later of two tasks in order
 pub record Follows (t u : Task) : Type 0 where
   pub rank : task_rank t < task_rank u
-  pub place : ((t.hatch ≡ u.hatch) × (t.bay ≡ u.bay)) ⊎ ((t.hatch < u.hatch) × (t.bay <ℤ u.bay))
+  pub place : ((t.hatch ≡ u.hatch) × (t.bay ≡ u.bay)) ⊎ ((highest_bay t.hatch < lowest_bay u.hatch) × (t.bay <ℤ u.bay))
 
 some_ticks : (ship : ShipView) → HasTimes ship → (phase : Phase) (n : ℕ) → 1 ≤ n → 1 ≤ ticks_in ship phase n
 some_ticks ship times DeckOut n some = omega (arith, mul-le-mul_left n times.deck_move.0)
@@ -84,8 +96,8 @@ follows_phase hatch place p q t u it iu lt = record {
 
 follows_hatch : (g h : ℕ × ℕ) (t u : Task) → Behind g h → IsTaskAt g t → IsTaskAt h u → Follows t u
 follows_hatch g h t u behind it iu = record {
-  rank = omega (arith, it.hatch_is, iu.hatch_is, lower_hatch g h behind, low_rank t.phase, low_rank u.phase);
-  place = inr (omega (arith, it.hatch_is, iu.hatch_is, lower_hatch g h behind), omega (arith, ints, it.bay_is, iu.bay_is, behind.1));
+  rank = omega (arith, it.hatch_is, iu.hatch_is, lower_hatch g.0 h.0 behind.0, low_rank t.phase, low_rank u.phase);
+  place = inr (rw (it.hatch_is, iu.hatch_is) behind.0, omega (arith, ints, it.bay_is, iu.bay_is, behind.1));
 }
 
 phases_rise : EachPair (λ p q. phase_rank p < phase_rank q) phases
@@ -143,7 +155,7 @@ module _ (ship : ShipView) (is : IsShip ship) (rows : List Row) where
   hatch_long : (h : ℕ × ℕ) → length (flat_map (tasks_at ship rows h.0 h.1) phases) ≤ 4
   hatch_long h = omega (arith, length-flat_map (tasks_at ship rows h.0 h.1) phases, sum_by-le (λ p. length (tasks_at ship rows h.0 h.1 p)) 1 phases (All-from_recursion (λ p. length (tasks_at ship rows h.0 h.1 p) ≤ 1) phases (each_from (λ p. length (tasks_at ship rows h.0 h.1 p) ≤ 1) phases (one_long h))))
 
-  pub few_tasks : length (tasks_of ship rows) ≤ 240
+  pub few_tasks : length (tasks_of ship rows) ≤ MOST_TASKS
   few_tasks =
       omega (
         arith,
@@ -162,7 +174,7 @@ module _ (ship : ShipView) (is : IsShip ship) (rows : List Row) where
 
   pub four_tasks : (c : ℕ) → count_by (λ (t : Task). t.hatch == c) (tasks_of ship rows) ≤ 4
   four_tasks c =
-      let few = count_one (λ (h : ℕ × ℕ). h.0 == c) (zip ship.hatches ship.places) (pair_weaker Behind (λ g h. (g.0 == c) ≡ true → (h.0 == c) ≡ false) (zip ship.hatches ship.places) (λ g h behind here. other_number g.0 h.0 c (lower_hatch g h behind) here) (hatches_behind ship is)) in
+      let few = count_one (λ (h : ℕ × ℕ). h.0 == c) (zip ship.hatches ship.places) (pair_weaker Behind (λ g h. (g.0 == c) ≡ true → (h.0 == c) ≡ false) (zip ship.hatches ship.places) (λ g h behind here. other_number g.0 h.0 c (lower_hatch g.0 h.0 behind.0) here) (hatches_behind ship is)) in
       omega (
         arith,
         few,
@@ -173,3 +185,21 @@ module _ (ship : ShipView) (is : IsShip ship) (rows : List Row) where
     where
       other_number : (g h c : ℕ) → g < h → (g == c) ≡ true → (h == c) ≡ false
       other_number g h c lt here = grind (arith, nat_tests)
+
+  -- a move belongs to one task at most
+  one_task : (t u : Task) → Follows t u → (row : Row) → is_move_of t row ≡ true → is_move_of u row ≡ false
+  one_task t u f row mine =
+      let parts = and_parts _ _ mine in
+      elim f.place [
+        | inl same ↦
+            let phase = (Decides-eqb (phase_rank (phase_with row.kind (is_on_deck row.cell))) (phase_rank t.phase)).0 parts.1 in
+            let later : phase_rank t.phase < phase_rank u.phase = omega (arith, f.rank, same.0) in
+            let other : (phase_rank (phase_with row.kind (is_on_deck row.cell)) == phase_rank u.phase) ≡ false = grind (arith, nat_tests, phase, later) in
+            rw other (and-false (takes u.hatch row.cell.bay))
+        | inr behind ↦ rw (takes_once t.hatch u.hatch row.cell.bay behind.0 parts.0) refl
+      ]
+
+  pub share_no_move : ShareNoMove (tasks_of ship rows)
+  share_no_move =
+      pairs_by_index (λ t u. (row : Row) → is_move_of t row ≡ true → is_move_of u row ≡ false) (tasks_of ship rows)
+      (pair_weaker Follows (λ t u. (row : Row) → is_move_of t row ≡ true → is_move_of u row ≡ false) (tasks_of ship rows) one_task all_follow)

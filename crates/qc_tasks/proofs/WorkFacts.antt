@@ -1,20 +1,20 @@
 -- The tasks of a ship together don't take too long, since each move belongs to at most one task.
-use Rattle.std.proofs.Common.{◌≡◌, ℕ, ◌+◌, ◌*◌, ◌<◌, ◌≤◌, ◌∷◌, ◌==◌, ◌&&◌, [], Bool, true, false, cond, List, length, refl, ◌∙◌, arith, sum_by}
+use Rattle.std.proofs.Common.{◌≡◌, ℕ, ◌+◌, ◌*◌, ◌≤◌, ◌∷◌, ◌==◌, ◌&&◌, [], Bool, true, false, cond, List, length, refl, ◌∙◌, arith, sum_by}
 use Rattle.std.specs.List.{flat_map, zip}
-use Rattle.std.specs.Prelude.{nat_le}
-use Rattle.std.proofs.lemmas.Bool.Decides.{nat_tests}
 use Rattle.std.proofs.lemmas.List.Sums.{sum_by-cons}
 use Rattle.std.proofs.lemmas.Slice.Zip.{length-zip}
+use Rattle.qc_model.specs.declared.limits.TheConstants.{MOST_WORK}
 use Rattle.qc_model.specs.declared.task.Phase.{Phase}
 use Rattle.qc_model.specs.declared.task.Phase.TheVariants.{DeckOut, HoldOut, HoldIn, DeckIn}
 use Rattle.qc_model.specs.declared.task.Task.{Task}
 use Rattle.qc_model.specs.Tasks.{phase_rank}
-use Rattle.qc_ship.specs.Ship.{ShipView, IsShip, takes, lowest_bay, highest_bay}
+use Rattle.qc_ship.specs.Ship.{ShipView, IsShip, takes}
 use Rattle.qc_cell.specs.Cells.{is_on_deck}
+use Rattle.qc_stow.specs.declared.moves.TheConstants.{MOST_MOVES}
 use Rattle.qc_stow.specs.declared.row.Row.{Row}
 use Rattle.qc_tasks.specs.InstanceOf.{is_move_at, moves_at, phase_with, phases, tasks_at, tasks_of}
 use Rattle.qc_tasks.proofs.Lists.{EachPair, each_from, pair_weaker, sum_by-flat_map, sum_by-each, sum_by-plus, sum_by-same, count_one}
-use Rattle.qc_tasks.proofs.TaskFacts.{Behind, hatches_behind, one_work}
+use Rattle.qc_tasks.proofs.TaskFacts.{Behind, hatches_behind, one_work, takes_once}
 
 one_phase : (t : Bool) (φ : Phase) → sum_by (λ phase. cond (t && (phase_rank φ == phase_rank phase)) 1 0) phases ≤ cond t 1 0
 one_phase false φ = omega arith
@@ -22,13 +22,6 @@ one_phase true DeckOut = omega arith
 one_phase true HoldOut = omega arith
 one_phase true HoldIn = omega arith
 one_phase true DeckIn = omega arith
-
-takes_once : (g h bay : ℕ) → highest_bay g < lowest_bay h → takes g bay ≡ true → takes h bay ≡ false
-takes_once g h bay behind here = after (nat_le (lowest_bay g) bay) (lowest_bay h) (highest_bay g) bay (nat_le bay (highest_bay h)) behind here
-  where
-    after : (a : Bool) (low high bay : ℕ) (b : Bool) → high < low → (a && nat_le bay high) ≡ true → (nat_le low bay && b) ≡ false
-    after true low high bay b lt here = let out : nat_le low bay ≡ false = grind (arith, nat_tests) in rw out refl
-    after false low high bay b lt here = cc here
 
 row_once : (hatches : List (ℕ × ℕ)) → EachPair Behind hatches → (row : Row) → sum_by (λ h. sum_by (λ phase. cond (is_move_at h.0 phase row) 1 0) phases) hatches ≤ 1
 row_once hatches behind row =
@@ -79,7 +72,7 @@ module _ (ship : ShipView) (is : IsShip ship) (rows : List Row) where
             (each_from (λ p. sum_by (λ (t : Task). t.ticks) (tasks_at ship rows h.0 h.1 p) ≤ 10000 * moves_at rows h.0 p + 10000) phases (one_work ship is rows h)),
       )
 
-  pub all_work : length rows ≤ 50000 → sum_by (λ (t : Task). t.ticks) (tasks_of ship rows) ≤ 502400000
+  pub all_work : length rows ≤ MOST_MOVES → sum_by (λ (t : Task). t.ticks) (tasks_of ship rows) ≤ MOST_WORK
   all_work few =
       omega (
         arith,

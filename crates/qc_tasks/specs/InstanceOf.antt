@@ -1,6 +1,6 @@
 -- The instance of a ship and the moves of a stowage list.
-use Rattle.std.specs.Prelude.{ℕ, ◌+◌, ◌*◌, pos, Bool, true, false, ◌&&◌, ◌||◌, ◌==◌, nat_lt, min, max, if◌then◌else◌, List, [], ◌∷◌, length, map, filter, find, position, count_by, slice_index_or, Option, None, Some, option_and_then}
-use Rattle.std.specs.List.{filter_map, list_any, flat_map, range_with_len, zip}
+use Rattle.std.specs.Prelude.{ℕ, ◌+◌, ◌*◌, pos, Bool, true, false, ◌&&◌, ◌||◌, ◌==◌, nat_lt, min, max, if◌then◌else◌, List, [], ◌∷◌, length, map, filter, count_by, slice_index_or}
+use Rattle.std.specs.List.{list_any, flat_map, range_with_len, zip}
 use Rattle.std.specs.Str.{bytes_eq}
 use Rattle.qc_cell.specs.Cells.{is_on_deck}
 use Rattle.qc_model.specs.declared.task.Phase.{Phase}
@@ -11,6 +11,7 @@ use Rattle.qc_model.specs.Tasks.{phase_rank}
 use Rattle.qc_model.specs.Instance.{InstanceView, pair_of, no_task}
 use Rattle.qc_ship.specs.declared.ship.HatchPair.{HatchPair}
 use Rattle.qc_ship.specs.Ship.{ShipView, takes, greatest_place}
+use Rattle.qc_stow.specs.Moves.{is_discharge, is_load}
 use Rattle.qc_stow.specs.declared.row.Move.{Move}
 use Rattle.qc_stow.specs.declared.row.Move.TheVariants.{Discharge, Load}
 use Rattle.qc_stow.specs.declared.row.Row.{Row}
@@ -28,7 +29,8 @@ phase_with Load true = DeckIn
 
 -- the move is one of a hatch's moves in a phase
 abbrev pub is_move_at : ℕ → Phase → Row → Bool
-is_move_at hatch phase row = takes hatch row.cell.bay && (phase_rank (phase_with row.kind (is_on_deck row.cell)) == phase_rank phase)
+is_move_at hatch phase row = takes hatch row.cell.bay
+    && (phase_rank (phase_with row.kind (is_on_deck row.cell)) == phase_rank phase)
 
 -- how many moves a hatch has in a phase
 abbrev pub moves_at : List Row → ℕ → Phase → ℕ
@@ -46,17 +48,24 @@ abbrev pub tasks_at : ShipView → List Row → ℕ → ℕ → Phase → List T
 tasks_at ship rows hatch place phase =
     if moves_at rows hatch phase == 0
     then []
-    else record { hatch = hatch; phase = phase; bay = pos place; ticks = ticks_in ship phase (moves_at rows hatch phase) } ∷ []
+    else record {
+      hatch = hatch;
+      phase = phase;
+      bay = pos place;
+      ticks = ticks_in ship phase (moves_at rows hatch phase);
+    } ∷ []
 
 -- the tasks in order of hatch, then phase
 abbrev pub tasks_of : ShipView → List Row → List Task
-tasks_of ship rows = flat_map (λ hatch. flat_map (tasks_at ship rows hatch.0 hatch.1) phases) (zip ship.hatches ship.places)
+tasks_of ship rows = flat_map (λ hatch. flat_map (tasks_at ship rows hatch.0 hatch.1) phases)
+    (zip ship.hatches ship.places)
 
 -- the pairs of the number i and one below `count` that pass a test, in order
 abbrev pub pairs_from : ℕ → (ℕ → ℕ → Bool) → ℕ → List Pair
 pairs_from count test i = map (pair_of i) (filter (test i) (range_with_len 0 count))
 
--- the pairs of numbers below `count` that pass a test, in order of the first number and then of the second
+-- the pairs of numbers below `count` that pass a test, in order of the first number and then of the
+-- second
 abbrev pub pairs_with : ℕ → (ℕ → ℕ → Bool) → List Pair
 pairs_with count test = flat_map (pairs_from count test) (range_with_len 0 count)
 
@@ -64,62 +73,34 @@ pairs_with count test = flat_map (pairs_from count test) (range_with_len 0 count
 abbrev pub is_move_of : Task → Row → Bool
 is_move_of t row = is_move_at t.hatch t.phase row
 
--- the number of the task that a move belongs to
-abbrev pub task_with : List Task → Row → Option ℕ
-task_with tasks row = position (λ t. is_move_of t row) tasks
+-- the move discharges this container, as one of a task's moves
+abbrev pub discharges : Task → List ℕ → Row → Bool
+discharges t id row = is_discharge row.kind && is_move_of t row && bytes_eq row.id id
 
-abbrev pub is_discharge : Move → Bool
-is_discharge Discharge = true
-is_discharge Load = false
-
-abbrev pub is_load : Move → Bool
-is_load Discharge = false
-is_load Load = true
-
--- the discharge of a container
-abbrev pub discharge_of : List Row → List ℕ → Option Row
-discharge_of rows id = find (λ row. is_discharge row.kind && bytes_eq row.id id) rows
-
--- the task of the discharge of a container
-abbrev pub discharged_by : List Task → List Row → List ℕ → Option ℕ
-discharged_by tasks rows id = option_and_then (task_with tasks) (discharge_of rows id)
-
--- two numbers, if both are there
-abbrev pub both : Option ℕ → Option ℕ → Option (ℕ × ℕ)
-both None j = None
-both (Some i) None = None
-both (Some i) (Some j) = Some (i, j)
-
--- the tasks of the discharge and of the load of a container, where the move is its load
-abbrev pub restow_of : List Task → List Row → Row → Option (ℕ × ℕ)
-restow_of tasks rows row = if is_load row.kind then both (discharged_by tasks rows row.id) (task_with tasks row) else None
-
--- the tasks of all containers that are discharged and loaded
-abbrev pub restows : List Task → List Row → List (ℕ × ℕ)
-restows tasks rows = filter_map (restow_of tasks rows) rows
-
--- two pairs of numbers are the same
-abbrev pub same_numbers : ℕ × ℕ → ℕ × ℕ → Bool
-same_numbers p q = (p.0 == q.0) && (p.1 == q.1)
-
--- task i discharges a container that task j loads
-abbrev pub is_restow : List Task → List Row → ℕ → ℕ → Bool
-is_restow tasks rows i j = list_any (same_numbers (i, j)) (restows tasks rows)
-
--- tasks of one hatch, the first of a lower phase
-abbrev pub is_earlier_phase : Task → Task → Bool
-is_earlier_phase t u = (t.hatch == u.hatch) && nat_lt (phase_rank t.phase) (phase_rank u.phase)
+-- the move is a load of task u, whose container some discharge of task t took off
+abbrev pub brings_back : List Row → Task → Task → Row → Bool
+brings_back rows t u row = is_load row.kind && list_any (discharges t row.id) rows && is_move_of u row
 
 -- the task of this number
 abbrev pub task_at : List Task → ℕ → Task
 task_at tasks i = slice_index_or tasks i no_task
 
--- task i must end before task j starts: it has an earlier phase of the hatch, or there is a restow that is kept in order
+-- some discharge of task i and some load of task j have one id
+abbrev pub is_restow : List Task → List Row → ℕ → ℕ → Bool
+is_restow tasks rows i j = list_any (brings_back rows (task_at tasks i) (task_at tasks j)) rows
+
+-- tasks of one hatch, the first of a lower phase
+abbrev pub is_earlier_phase : Task → Task → Bool
+is_earlier_phase t u = (t.hatch == u.hatch) && nat_lt (phase_rank t.phase) (phase_rank u.phase)
+
+-- task i must end before task j starts: it has an earlier phase of the hatch, or there is a restow
+-- that is kept in order
 abbrev pub is_before : (ℕ → ℕ → Bool) → List Task → ℕ → ℕ → Bool
 is_before restow tasks i j = is_earlier_phase (task_at tasks i) (task_at tasks j) || restow i j
 
 abbrev pub before_of : Bool → List Row → List Task → List Pair
-before_of ordered rows tasks = pairs_with (length tasks) (is_before (λ i j. ordered && is_restow tasks rows i j) tasks)
+before_of ordered rows tasks = pairs_with (length tasks)
+    (is_before (λ i j. ordered && is_restow tasks rows i j) tasks)
 
 -- an entry names the hatches of both tasks, of which the first has the lower one and so the lower number
 abbrev pub names_both : Task → Task → HatchPair → Bool

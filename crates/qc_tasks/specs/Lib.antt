@@ -1,3 +1,3 @@
 pub mod InstanceOf
-pub mod Numbers
+pub mod Restows
 pub mod TasksText

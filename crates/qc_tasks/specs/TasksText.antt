@@ -1,5 +1,5 @@
 -- The report of an instance's tasks and of the rules between them.
-use Rattle.std.specs.Prelude.{ℕ, List, [], ◌∷◌, ◌++◌, codes, decimal, sum_by}
+use Rattle.std.specs.Prelude.{ℕ, List, ◌++◌, codes, decimal, sum_by}
 use Rattle.std.specs.List.{flat_map}
 use Rattle.std.specs.Fmt.{signed_decimal}
 use Rattle.qc_model.specs.declared.task.Task.{Task}
@@ -7,27 +7,23 @@ use Rattle.qc_model.specs.declared.pair.Pair.{Pair}
 use Rattle.qc_model.specs.Tasks.{task_text}
 use Rattle.qc_model.specs.Instance.{InstanceView, task}
 
--- a text and the space behind it
-abbrev pub word : List ℕ → List ℕ
-word text = text ++ 32 ∷ []
-
--- a text and the line feed behind it
-abbrev pub last_word : List ℕ → List ℕ
-last_word text = text ++ 10 ∷ []
-
 -- the line of a task: its name, its crane bay and its length in ticks
 abbrev pub task_line : Task → List ℕ
-task_line t = codes "task " ++ (word (task_text t) ++ (word (signed_decimal t.bay) ++ last_word (decimal t.ticks)))
+task_line t = codes "task " ++ task_text t ++ codes " " ++ signed_decimal t.bay ++ codes " "
+    ++ decimal t.ticks ++ codes "\n"
 
 -- the line of a pair: what it says of two tasks, and their names
 abbrev pub pair_line : InstanceView → List ℕ → Pair → List ℕ
-pair_line inst title pair = title ++ (word (task_text (task inst pair.first)) ++ last_word (task_text (task inst pair.second)))
+pair_line inst title pair = title ++ task_text (task inst pair.first) ++ codes " "
+    ++ task_text (task inst pair.second) ++ codes "\n"
 
 -- the length of all tasks together
 abbrev pub total_line : InstanceView → List ℕ
-total_line inst = codes "total " ++ last_word (decimal (sum_by (λ t. t.ticks) inst.tasks))
+total_line inst = codes "total " ++ decimal (sum_by (λ t. t.ticks) inst.tasks) ++ codes "\n"
 
--- the report: a line for each task, each pair of which the first is before the second, and each pair that is apart, and the total
+-- the report: a line for each task, each pair of which the first is before the second, and each
+-- pair that is apart, and the total
 abbrev pub tasks_text : InstanceView → List ℕ
 tasks_text inst =
-    flat_map task_line inst.tasks ++ (flat_map (pair_line inst (codes "before ")) inst.before ++ (flat_map (pair_line inst (codes "apart ")) inst.apart ++ total_line inst))
+    flat_map task_line inst.tasks ++ (flat_map (pair_line inst (codes "before ")) inst.before
+    ++ (flat_map (pair_line inst (codes "apart ")) inst.apart ++ total_line inst))

@@ -2,7 +2,7 @@
 ghost use Rattle.std.specs.Prelude.{◌≡◌, ◌≤◌, ◌<◌, ◌++◌, length, IfOk, OnOk};
 ghost use Rattle.qc_tasks.specs.InstanceOf.{apart_of, is_apart, names_both, pairs_from};
 
-use qc_model::{Pair, Task};
+use qc_model::{MOST_TASKS, Pair, Task};
 use qc_num::OutOfMemory;
 use qc_ship::HatchPair;
 use std::alloc::Global;
@@ -30,9 +30,10 @@ fn push_apart(
     tasks: &[Task],
     first: usize,
 ) -> Result<(), OutOfMemory>
-    requires count { length tasks.now ≤ 240 }
+    requires count { length tasks.now ≤ MOST_TASKS }
     requires first { first < length tasks.now }
-    ensures { OnOk result (pairs.new.items ≡ pairs.old.items ++ pairs_from (length tasks.now) (is_apart entries.now tasks.now) first) }
+    ensures { OnOk result (pairs.new.items ≡ pairs.old.items
+        ++ pairs_from (length tasks.now) (is_apart entries.now tasks.now) first) }
 {
     for second in 0..tasks.len() {
         if is_apart(entries, tasks, first, second) {
@@ -51,7 +52,7 @@ pub(crate) fn pairs_apart(
     entries: &[HatchPair],
     tasks: &[Task],
 ) -> Result<Vec<Pair>, OutOfMemory>
-    requires { length tasks.now ≤ 240 }
+    requires { length tasks.now ≤ MOST_TASKS }
     ensures { IfOk result (λ v. v.items ≡ apart_of entries.now tasks.now) }
 {
     let mut pairs = Vec::new(alloc);

@@ -1,20 +1,21 @@
 //! Which tasks end before others start.
-ghost use Rattle.std.specs.Prelude.{◌≡◌, ◌≤◌, ◌<◌, ◌++◌, ◌&&◌, if◌then◌else◌, ℕ, List, length, bytes_eq, option_map, IfOk, OnOk};
+ghost use Rattle.std.specs.Prelude.{◌≡◌, ◌≤◌, ◌<◌, ◌++◌, ◌&&◌, ℕ, List, length, position, bytes_eq, IfOk, OnOk};
+ghost use Rattle.std.specs.List.{list_any};
 ghost use Rattle.indexmap.specs.IndexMap.{get_by};
-ghost use Rattle.indexmap.specs.IndexSet.{contains};
-ghost use Rattle.qc_tasks.specs.InstanceOf.{before_of, both, discharge_of, is_before, is_earlier_phase, is_load, is_restow, pairs_from, pairs_with, same_numbers, task_with};
-ghost use Rattle.qc_tasks.specs.Numbers.{flat};
+ghost use Rattle.qc_stow.specs.Moves.{AreMoves, is_load};
+ghost use Rattle.qc_tasks.specs.InstanceOf.{before_of, discharges, is_before, is_earlier_phase, is_move_of, is_restow, pairs_from, pairs_with, task_at};
+ghost use Rattle.qc_tasks.specs.Restows.{ShareNoMove, is_in, is_number, is_pair};
 
-use crate::moves::{is_discharge, is_load, is_move_of, rank};
+use crate::moves::is_move_of;
 use indexmap::{IndexMap, IndexSet};
-use qc_model::{Pair, Task};
+use qc_model::{MOST_TASKS, Pair, Task};
 use qc_num::OutOfMemory;
 use qc_stow::Row;
 use std::alloc::Global;
 
 /// The number of the task that a move belongs to.
 fn task_with(tasks: &[Task], row: &Row) -> Option<usize>
-    ensures { result ≡ task_with tasks.now row.now }
+    ensures { result ≡ position (λ t. is_move_of t row.now) tasks.now }
 {
     tasks.iter().position(|task| is_move_of(task, row))
 }
@@ -24,41 +25,36 @@ fn discharges<'a>(
     alloc: Global,
     tasks: &[Task],
     rows: &'a [Row],
-) -> Result<IndexMap<&'a [u8], Option<usize>>, OutOfMemory>
-    ensures { IfOk result (λ m. (id : List ℕ) → get_by (λ key. bytes_eq id key.now) m ≡ option_map (task_with tasks.now) (discharge_of rows.now id)) }
+) -> Result<IndexMap<&'a [u8], usize>, OutOfMemory>
+    requires tasks { ShareNoMove tasks.now }
+    requires moves { AreMoves rows.now }
+    ensures { IfOk result (λ numbers. (id : List ℕ) (i : ℕ) → i < length tasks.now
+        → is_number i (get_by (λ key. bytes_eq id key.now) numbers)
+        ≡ list_any (discharges (task_at tasks.now i) id) rows.now) }
 {
     let mut numbers = IndexMap::new(alloc);
     for row in rows {
-        let id = row.id.as_bytes();
-        if is_discharge(row.kind) && !numbers.contains_key(&id) {
-            numbers.insert(id, task_with(tasks, row))?;
+        if row.kind.is_discharge() {
+            if let Some(number) = task_with(tasks, row) {
+                numbers.insert(row.id.as_bytes(), number)?;
+            }
         }
     }
     Ok(numbers)
 }
 
-/// The task of the discharge of a container.
-fn discharged_by(numbers: &IndexMap<&[u8], Option<usize>>, id: &[u8]) -> Option<usize>
-    ensures { result ≡ flat (get_by (λ key. bytes_eq id.now key.now) numbers.now) }
-{
-    match numbers.get(&id) {
-        Some(number) => *number,
-        None => None,
-    }
-}
-
 /// The tasks of the discharge and of the load of a container, where the move is its load.
-fn restow_of(
-    tasks: &[Task],
-    numbers: &IndexMap<&[u8], Option<usize>>,
-    row: &Row,
-) -> Option<(usize, usize)>
-    ensures { result ≡ (if is_load row.now.kind then both (flat (get_by (λ key. bytes_eq row.now.id key.now) numbers.now)) (task_with tasks.now row.now) else None) }
+fn restow_of(tasks: &[Task], numbers: &IndexMap<&[u8], usize>, row: &Row) -> Option<(usize, usize)>
+    requires { ShareNoMove tasks.now }
+    ensures { (i j : ℕ) → j < length tasks.now
+        → is_pair i j result ≡ (is_load row.now.kind
+        && is_number i (get_by (λ key. bytes_eq row.now.id key.now) numbers.now)
+        && is_move_of (task_at tasks.now j) row.now) }
 {
-    if !is_load(row.kind) {
+    if !row.kind.is_load() {
         return None;
     }
-    let first = discharged_by(numbers, row.id.as_bytes())?;
+    let first = *numbers.get(&row.id.as_bytes())?;
     let second = task_with(tasks, row)?;
     Some((first, second))
 }
@@ -69,7 +65,10 @@ fn restows(
     tasks: &[Task],
     rows: &[Row],
 ) -> Result<IndexSet<(usize, usize)>, OutOfMemory>
-    ensures { IfOk result (λ s. (i j : ℕ) → contains same_numbers s (i, j) ≡ is_restow tasks.now rows.now i j) }
+    requires tasks { ShareNoMove tasks.now }
+    requires moves { AreMoves rows.now }
+    ensures { IfOk result (λ pairs. (i j : ℕ) → i < length tasks.now → j < length tasks.now
+        → is_in pairs i j ≡ is_restow tasks.now rows.now i j) }
 {
     let numbers = discharges(alloc, tasks, rows)?;
     let mut pairs = IndexSet::new(alloc);
@@ -85,7 +84,7 @@ fn restows(
 fn is_earlier_phase(first: &Task, second: &Task) -> bool
     ensures { result ≡ is_earlier_phase first.now second.now }
 {
-    first.hatch == second.hatch && rank(first.phase) < rank(second.phase)
+    first.hatch == second.hatch && first.phase.rank() < second.phase.rank()
 }
 
 /// Whether task `first` must end before task `second` starts.
@@ -97,7 +96,7 @@ fn is_before(
 ) -> bool
     requires first { first < length tasks.now }
     requires second { second < length tasks.now }
-    ensures { result ≡ is_before (λ i j. contains same_numbers restows.now (i, j)) tasks.now first second }
+    ensures { result ≡ is_before (is_in restows.now) tasks.now first second }
 {
     is_earlier_phase(&tasks[first], &tasks[second]) || restows.contains(&(first, second))
 }
@@ -109,9 +108,10 @@ fn push_before(
     restows: &IndexSet<(usize, usize)>,
     first: usize,
 ) -> Result<(), OutOfMemory>
-    requires count { length tasks.now ≤ 240 }
+    requires count { length tasks.now ≤ MOST_TASKS }
     requires first { first < length tasks.now }
-    ensures { OnOk result (pairs.new.items ≡ pairs.old.items ++ pairs_from (length tasks.now) (is_before (λ i j. contains same_numbers restows.now (i, j)) tasks.now) first) }
+    ensures { OnOk result (pairs.new.items ≡ pairs.old.items
+        ++ pairs_from (length tasks.now) (is_before (is_in restows.now) tasks.now) first) }
 {
     for second in 0..tasks.len() {
         if is_before(tasks, restows, first, second) {
@@ -130,8 +130,9 @@ fn pairs_before(
     tasks: &[Task],
     restows: &IndexSet<(usize, usize)>,
 ) -> Result<Vec<Pair>, OutOfMemory>
-    requires { length tasks.now ≤ 240 }
-    ensures { IfOk result (λ v. v.items ≡ pairs_with (length tasks.now) (is_before (λ i j. contains same_numbers restows.now (i, j)) tasks.now)) }
+    requires { length tasks.now ≤ MOST_TASKS }
+    ensures { IfOk result (λ v. v.items
+        ≡ pairs_with (length tasks.now) (is_before (is_in restows.now) tasks.now)) }
 {
     let mut pairs = Vec::new(alloc);
     for first in 0..tasks.len() {
@@ -147,7 +148,9 @@ pub(crate) fn before_of(
     rows: &[Row],
     tasks: &[Task],
 ) -> Result<Vec<Pair>, OutOfMemory>
-    requires { length tasks.now ≤ 240 }
+    requires count { length tasks.now ≤ MOST_TASKS }
+    requires tasks { ShareNoMove tasks.now }
+    requires moves { AreMoves rows.now }
     ensures { IfOk result (λ v. v.items ≡ before_of ordered rows.now tasks.now) }
 {
     if ordered {

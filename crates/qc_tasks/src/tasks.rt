@@ -7,12 +7,12 @@ use crate::moves::moves_at;
 use qc_model::{Phase, Task};
 use qc_num::{Bay, OutOfMemory, Tick};
 use qc_ship::Ship;
-use qc_stow::Row;
+use qc_stow::{MOST_MOVES, Row};
 use std::alloc::Global;
 
 /// The ticks of so many moves in a phase.
 fn ticks_in(ship: &Ship, phase: Phase, moves: usize) -> Tick
-    requires { moves ≤ 50000 }
+    requires { moves ≤ MOST_MOVES }
     ensures { result ≡ ticks_in ship.now phase moves }
 {
     let moves = moves as Tick;
@@ -31,8 +31,9 @@ fn push_task(
     place: u16,
     phase: Phase,
 ) -> Result<(), OutOfMemory>
-    requires { length rows.now ≤ 50000 }
-    ensures { OnOk result (tasks.new.items ≡ tasks.old.items ++ tasks_at ship.now rows.now hatch place phase) }
+    requires { length rows.now ≤ MOST_MOVES }
+    ensures { OnOk result (tasks.new.items ≡ tasks.old.items
+        ++ tasks_at ship.now rows.now hatch place phase) }
 {
     let moves = moves_at(rows, hatch, phase);
     if moves > 0 {
@@ -55,8 +56,9 @@ fn push_tasks(
     hatch: u16,
     place: u16,
 ) -> Result<(), OutOfMemory>
-    requires { length rows.now ≤ 50000 }
-    ensures { OnOk result (tasks.new.items ≡ tasks.old.items ++ flat_map (tasks_at ship.now rows.now hatch place) phases) }
+    requires { length rows.now ≤ MOST_MOVES }
+    ensures { OnOk result (tasks.new.items ≡ tasks.old.items
+        ++ flat_map (tasks_at ship.now rows.now hatch place) phases) }
 {
     push_task(tasks, ship, rows, hatch, place, Phase::DeckOut)?;
     push_task(tasks, ship, rows, hatch, place, Phase::HoldOut)?;
@@ -66,7 +68,7 @@ fn push_tasks(
 
 /// The tasks in order of hatch, then phase: those that have a move.
 pub(crate) fn tasks_of(alloc: Global, ship: &Ship, rows: &[Row]) -> Result<Vec<Task>, OutOfMemory>
-    requires { length rows.now ≤ 50000 }
+    requires { length rows.now ≤ MOST_MOVES }
     ensures { IfOk result (λ v. v.items ≡ tasks_of ship.now rows.now) }
 {
     let mut tasks = Vec::new(alloc);

@@ -1,24 +1,31 @@
-use Rattle.std.proofs.Common.{◌≡◌, ◌∙◌, ◌+◌, ◌++◌, ◌∷◌, [], sym, ap, take}
-use Rattle.std.proofs.lemmas.List.{take_more}
-use Rattle.qc_stow.specs.declared.row.Row.{Row}
-use Rattle.qc_tasks.proofs.Restows.{insert_entry-last, knows_skip, knows_again, knows_more}
+use Rattle.std.proofs.Common.{◌≡◌, ◌∙◌, false, refl, sym, ap}
+use Rattle.std.proofs.Math.Bool.{and-false}
+use Rattle.qc_stow.specs.Moves.{is_discharge}
+use Rattle.qc_tasks.specs.InstanceOf.{is_move_of, task_at}
+use Rattle.qc_tasks.specs.Restows.{is_number}
+use Rattle.qc_tasks.proofs.Restows.{knows_more, knows_skip, task_is}
 use Rattle.qc_tasks.proofs.before.discharges.Goals as goal
-use Rattle.qc_tasks.proofs.before.discharges.Goals.{then-is_discharge+then-not-contains_key+in_ok-insert, else-is_discharge, else-is_discharge-via-then-is_discharge+else-not-contains_key, else-is_discharge-via-else-is_discharge}
+use Rattle.qc_tasks.proofs.before.discharges.Goals.{then-is_discharge+in-Some+in_ok-insert, then-is_discharge+in_default, else-is_discharge}
 
 pub loop-row-preserved : goal.loop-row-preserved
 loop-row-preserved c =
+    let tasks = c.args.tasks.now in
     let rows = c.args.rows.now in
     let row = c.row-item.result in
-    let next : take (c.loop-row.row-index + 1) rows ≡ take c.loop-row.row-index rows ++ row ∷ [] = take_more rows c.loop-row.row-index row c.loop-row-test.true ∙ ap (λ (r : Row). take c.loop-row.row-index rows ++ r ∷ []) (sym c.row-item.is) in
     elim c.if-is_discharge.branch [
-      | then-is_discharge+then-not-contains_key+in_ok-insert w ↦
-          let new = sym (rw c.as_bytes-id.ensures.bytes at w.contains_key.ensures) ∙ w.if-not-contains_key.true in
-          let last = w.in_ok-insert.ensures.entries ∙ insert_entry-last _ c.loop-row.numbers.entries c.as_bytes-id.result w.task_with.result (sym w.contains_key.ensures ∙ w.if-not-contains_key.true) in
-          rw (w.numbers-is, next, last, w.task_with.ensures)
-          (knows_more c.args.tasks.now (take c.loop-row.row-index rows) row c.loop-row.numbers.entries c.as_bytes-id.result c.loop-row.invariant (sym c.is_discharge.ensures ∙ w.if-is_discharge.true) c.as_bytes-id.ensures.bytes new)
-      | else-is_discharge w ↦ elim w.else-is_discharge.branch [
-        | else-is_discharge-via-then-is_discharge+else-not-contains_key w' ↦
-            rw (w.numbers-is, next) (knows_again c.args.tasks.now (take c.loop-row.row-index rows) row c.loop-row.numbers.entries c.loop-row.invariant (sym (rw c.as_bytes-id.ensures.bytes at w'.contains_key.ensures) ∙ w'.if-not-contains_key.false))
-        | else-is_discharge-via-else-is_discharge w' ↦ rw (w.numbers-is, next) (knows_skip c.args.tasks.now (take c.loop-row.row-index rows) row c.loop-row.numbers.entries c.loop-row.invariant (sym c.is_discharge.ensures ∙ w'.if-is_discharge.false))
-      ]
+      | then-is_discharge+in-Some+in_ok-insert w ↦
+          rw w.numbers-is
+          (knows_more tasks rows c.loop-row.row-index row c.loop-row.numbers.entries c.loop-row-test.true c.row-item.is c.loop-row.invariant
+          c.requires.tasks c.requires.moves (sym c.is_discharge.ensures ∙ w.if-is_discharge.true) w.in-Some.number (sym w.task_with.ensures ∙ w.in-Some.is) _
+          (λ id. rw w.as_bytes.ensures.bytes at (w.in_ok-insert.ensures.updates.0 (record { ref_ptr = w.as_bytes.result.ref_ptr; now = id }))))
+      | then-is_discharge+in_default w ↦
+          rw w.numbers-is
+          (knows_skip tasks rows c.loop-row.row-index row c.loop-row.numbers.entries c.loop-row-test.true c.row-item.is c.loop-row.invariant (λ i il.
+          let other : is_move_of (task_at tasks i) row ≡ false = sym (task_is tasks c.requires.tasks row i il) ∙ ap (is_number i) (sym w.task_with.ensures ∙ w.in_default.is) in
+          rw other (and-false (is_discharge row.kind))))
+      | else-is_discharge w ↦
+          rw w.numbers-is
+          (knows_skip tasks rows c.loop-row.row-index row c.loop-row.numbers.entries c.loop-row-test.true c.row-item.is c.loop-row.invariant (λ i il.
+          let none : is_discharge row.kind ≡ false = sym c.is_discharge.ensures ∙ w.if-is_discharge.false in
+          rw none refl))
     ]

@@ -1,8 +1,9 @@
-use Rattle.std.proofs.Common.{◌≡◌, ℕ, take}
-use Rattle.std.specs.List.{filter_map, list_any}
-use Rattle.indexmap.specs.IndexSet.{contains}
-use Rattle.qc_tasks.specs.InstanceOf.{restow_of, same_numbers}
+use Rattle.std.proofs.Common.{◌≡◌, ◌<◌, ℕ, length, take}
+use Rattle.std.specs.List.{list_any}
+use Rattle.qc_tasks.specs.InstanceOf.{brings_back, task_at}
+use Rattle.qc_tasks.specs.Restows.{is_in}
 use Rattle.qc_tasks.proofs.before.restows.Given as goal
 
 abbrev pub invariant-loop-row : goal.invariant-loop-row
-invariant-loop-row l = (i j : ℕ) → contains same_numbers l.pairs (i, j) ≡ list_any (same_numbers (i, j)) (filter_map (restow_of l.tasks l.rows) (take l.row-index l.rows))
+invariant-loop-row l = (i j : ℕ) → i < length l.tasks → j < length l.tasks
+    → is_in l.pairs i j ≡ list_any (brings_back l.rows (task_at l.tasks i) (task_at l.tasks j)) (take l.row-index l.rows)

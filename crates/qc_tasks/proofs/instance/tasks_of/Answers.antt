@@ -4,12 +4,17 @@ use Rattle.qc_model.specs.Bays.{at_least_zero}
 use Rattle.qc_model.specs.Instance.{Valid}
 use Rattle.qc_ship.specs.Ship.{greatest_place}
 use Rattle.qc_tasks.specs.InstanceOf.{apart_of, before_of, tasks_of}
-use Rattle.qc_tasks.proofs.TaskFacts.{few_tasks}
+use Rattle.qc_tasks.proofs.TaskFacts.{few_tasks, share_no_move}
 use Rattle.qc_tasks.proofs.ValidInstance.{bays_high, gap_high, same_instance, valid_instance}
 use Rattle.qc_tasks.proofs.instance.tasks_of.Goals as goal
 
-pub before_of-requires : goal.before_of-requires
-before_of-requires c =
+pub before_of-requires-clause-tasks : goal.before_of-requires-clause-tasks
+before_of-requires-clause-tasks c =
+    let tasks : c.in_ok-tasks.tasks.items ≡ tasks_of c.args.ship.now c.rows-rows.result.now = c.in_ok-tasks.ensures in
+    rw (c.as_slice.ensures.value, tasks) (share_no_move c.args.ship.now c.cranes.ensures.ship c.rows-rows.result.now)
+
+pub before_of-requires-clause-count : goal.before_of-requires-clause-count
+before_of-requires-clause-count c =
     let tasks : c.in_ok-tasks.tasks.items ≡ tasks_of c.args.ship.now c.rows-rows.result.now = c.in_ok-tasks.ensures in
     rw (c.as_slice.ensures.value, tasks) (few_tasks c.args.ship.now c.cranes.ensures.ship c.rows-rows.result.now)
 
@@ -18,8 +23,8 @@ pairs_apart-requires c =
     let tasks : c.in_ok-tasks.tasks.items ≡ tasks_of c.args.ship.now c.rows-rows.result.now = c.in_ok-tasks.ensures in
     rw (c.as_slice-2.ensures.value, tasks) (few_tasks c.args.ship.now c.cranes.ensures.ship c.rows-rows.result.now)
 
-pub of-requires-clause-valid : goal.of-requires-clause-valid
-of-requires-clause-valid c =
+pub of-requires : goal.of-requires
+of-requires c =
     let ship = c.args.ship.now in
     let rows = c.args.moves.now in
     let is = c.bays.ensures.ship in

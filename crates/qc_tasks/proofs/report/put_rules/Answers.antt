@@ -1,17 +1,29 @@
-use Rattle.std.proofs.Common.{List, subst, arith}
+use Rattle.std.proofs.Common.{List, subst, arith, rules}
 use Rattle.std.specs.Prelude.{Contains}
+use Rattle.qc_io.proofs.WritesLemmas.{writes_cut, writes_then}
 use Rattle.qc_model.specs.declared.pair.Pair.{Pair}
 use Rattle.qc_model.specs.Instance.{pair_of}
 use Rattle.qc_tasks.proofs.report.put_rules.Goals as goal
 
-pub put_pairs-requires : goal.put_pairs-requires
-put_pairs-requires g c = record {
-  tasks = λ i j listed. c.before-2.ensures.valid.before.range i j (subst (λ (pairs : List Pair). Contains pairs (pair_of i j)) c.before-2.ensures.before listed);
-}
+pub put_pairs-requires-clause-tasks : goal.put_pairs-requires-clause-tasks
+put_pairs-requires-clause-tasks g c = λ i j listed.
+    c.before-2.ensures.valid.before.range i j (subst (λ (pairs : List Pair). Contains pairs (pair_of i j)) c.before-2.ensures.before listed)
 
-pub put_pairs-requires-2 : goal.put_pairs-requires-2
-put_pairs-requires-2 g c = record {
-  tasks = λ i j listed.
-      let range = c.apart.ensures.valid.apart.range i j (subst (λ (pairs : List Pair). Contains pairs (pair_of i j)) c.apart.ensures.apart listed) in
-      (omega (arith, range.0, range.1), range.1);
-}
+pub put_pairs-requires-2-clause-tasks : goal.put_pairs-requires-2-clause-tasks
+put_pairs-requires-2-clause-tasks g c = λ i j listed.
+    let range = c.apart.ensures.valid.apart.range i j (subst (λ (pairs : List Pair). Contains pairs (pair_of i j)) c.apart.ensures.apart listed) in
+    (omega (arith, range.0, range.1), range.1)
+
+pub returns-in_err-put_pairs-2 : goal.returns-in_err-put_pairs-2
+returns-in_err-put_pairs-2 g c =
+    writes_then g.K.Sink.written g.K.Sink.beside g.K.Sink.faults c.args.sink.now c.put_pairs.new.sink c.put_pairs-2.new.sink _ _ c.from_residual-in_err-put_pairs-2.result
+    (rw c.before-2.ensures.before at c.in_ok-put_pairs.ensures)
+    (writes_cut g.K.Sink.written g.K.Sink.beside g.K.Sink.faults c.put_pairs.new.sink c.put_pairs-2.new.sink _ _ _ c.from_residual-in_err-put_pairs-2.result (search rules)
+    (rw c.apart.ensures.apart at c.in_err-put_pairs-2.ensures))
+
+pub returns : goal.returns
+returns g c =
+    writes_then g.K.Sink.written g.K.Sink.beside g.K.Sink.faults c.args.sink.now c.put_pairs.new.sink c.put_all.new.sink _ _ c.put_all.result
+    (rw c.before-2.ensures.before at c.in_ok-put_pairs.ensures)
+    (writes_then g.K.Sink.written g.K.Sink.beside g.K.Sink.faults c.put_pairs.new.sink c.put_pairs-2.new.sink c.put_all.new.sink _ _ c.put_all.result
+    (rw c.apart.ensures.apart at c.in_ok-put_pairs-2.ensures) (rw (c.as_bytes.ensures.bytes, c.total_line.ensures) at c.put_all.ensures.writes))

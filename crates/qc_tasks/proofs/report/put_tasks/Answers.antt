@@ -1,14 +1,15 @@
-use Rattle.std.proofs.Common.{◌<◌, length, get_or, arith}
-use Rattle.std.proofs.lemmas.List.{get_or_default}
-use Rattle.qc_io.proofs.Items.{item_cut}
-use Rattle.qc_io.proofs.Pieces.{on_err}
+use Rattle.std.proofs.Common.{◌∙◌, arith, rules}
+use Rattle.qc_io.proofs.WritesLemmas.{items_cut, items_more}
 use Rattle.qc_model.specs.Instance.{no_task}
 use Rattle.qc_tasks.specs.TasksText.{task_line}
 use Rattle.qc_tasks.proofs.report.put_tasks.Goals as goal
 
-pub returns-in_err-put_task-clause-err : goal.returns-in_err-put_task-clause-err
-returns-in_err-put_task-clause-err g c =
-    let lt : c.loop-task.task-index < length c.args.tasks.now = omega arith in
-    let task = get_or c.args.tasks.now c.loop-task.task-index no_task in
-    on_err c.from_residual.result
-    (item_cut task_line c.args.tasks.now c.loop-task.task-index task _ _ _ lt (get_or_default c.args.tasks.now c.loop-task.task-index no_task task lt) c.loop-task.invariant.written c.in_err-put_task.ensures.err)
+pub returns-in_err-put_all : goal.returns-in_err-put_all
+returns-in_err-put_all g c =
+    items_cut g.K.Sink.written g.K.Sink.beside g.K.Sink.faults task_line c.args.tasks.now c.loop-task.task-index no_task c.args.sink.now c.loop-task.sink c.put_all.new.sink _
+    _ c.from_residual.result (search rules) (omega arith) (c.as_bytes.ensures.bytes ∙ c.task_line.ensures) c.loop-task.invariant c.in_err-put_all.ensures.writes
+
+pub loop-task-preserved : goal.loop-task-preserved
+loop-task-preserved g c =
+    items_more g.K.Sink.written g.K.Sink.beside g.K.Sink.faults task_line c.args.tasks.now c.loop-task.task-index no_task c.args.sink.now c.loop-task.sink c.put_all.new.sink _
+    (omega arith) (c.as_bytes.ensures.bytes ∙ c.task_line.ensures) c.loop-task.invariant c.in_ok-put_all.ensures.writes
