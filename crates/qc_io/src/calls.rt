@@ -30,6 +30,13 @@ impl Calls {
         }
     }
 
+    /// How many calls were made.
+    pub fn count(&self) -> u64
+        ensures { result ≡ self.now.count }
+    {
+        self.count
+    }
+
     /// Sets a call to fail, by its number.
     pub fn fail(&mut self, call: u64) -> Result<(), AllocError>
         ensures ok { OnOk result (self.new ≡ record self.old { failing = self.old.failing ++ call ∷ [] }) }

@@ -101,6 +101,13 @@ impl MemShelf {
         self.most = most;
     }
 
+    /// How many calls of the four were made.
+    pub fn calls(&self) -> u64
+        ensures { result ≡ self.now.calls.count }
+    {
+        self.calls.count()
+    }
+
     /// The bytes of a file, and none where the shelf doesn't hold the name.
     pub fn bytes(&self, name: &str) -> Option<&[u8]>
         ensures { option_map (λ bytes. bytes.now) result ≡ get self.now.files name.now }

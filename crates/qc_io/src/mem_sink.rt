@@ -45,6 +45,13 @@ impl MemSink {
         Ok(())
     }
 
+    /// How many calls of `write` were made.
+    pub fn calls(&self) -> u64
+        ensures { result ≡ self.now.calls.count }
+    {
+        self.calls.count()
+    }
+
     /// The bytes so far.
     pub fn bytes(&self) -> &[u8]
         ensures { result.now ≡ self.now.bytes }
