@@ -1,0 +1,48 @@
+ghost use Rattle.std.specs.Prelude.{◌≡◌, ◌+◌, ◌<◌, length, IfOk, replicate, slice_index, slice_set};
+
+use qc_num::{OutOfMemory, Steps};
+use std::alloc::Global;
+use std::marker::Model;
+use std::sync::ledger::Ledger;
+
+/// A fixed number of cells that hold a number each. All memory is taken by `new`.
+#[derive(Drop)]
+pub struct Cells {
+    values: Vec<u64>,
+}
+
+impl Model for Cells {
+    ghost use Rattle.std.specs.Prelude.{ℕ, List};
+
+    ghost Value = { List ℕ };
+
+    ghost view = { λ cells. cells.values.items };
+}
+
+impl Cells {
+    /// That many cells, each 0.
+    pub fn new(alloc: Global, count: u32) -> Result<Cells, OutOfMemory>
+        ensures { IfOk result (λ cells. cells ≡ replicate count 0) }
+    {
+        let values = vec![in alloc; 0u64; count as usize].map_err(OutOfMemory::from)?;
+        Ok(Cells { values })
+    }
+
+    /// What the cell holds. Cells are numbered from 0.
+    pub fn get(&self, place: u32) -> u64
+        requires { place < length self.now }
+        ensures { result ≡ slice_index self.now place }
+    {
+        self.values[place as usize]
+    }
+
+    /// Writes the cell, in one step.
+    pub fn set<L: Ledger>(&mut self, place: u32, value: u64, steps: &mut Steps<L>)
+        requires { place < length self.old }
+        ensures written { self.new ≡ slice_set self.old place value }
+        ensures counted { steps.new ≡ steps.old + 1 }
+    {
+        self.values[place as usize] = value;
+        steps.tick();
+    }
+}
