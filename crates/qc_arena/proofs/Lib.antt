@@ -1,1 +1,4 @@
+pub mod Lent
+pub mod Rows
 pub mod Threads
+pub mod Values

@@ -1,7 +1,7 @@
 -- Arcs: what contracts see of an arena, and the arcs of a node.
 use Rattle.std.specs.Prelude.{ℕ, List, ◌==◌, reverse}
 use Rattle.std.specs.List.{filter}
-use Rattle.qc_arena.specs.declared.cell.Edge.{Edge}
+use Rattle.qc_arena.specs.declared.edge.Edge.{Edge}
 
 -- the arcs in the order of pushing, the number of nodes, and the most arcs that there may be
 pub record Arcs : Type 0 where

@@ -1,2 +1,4 @@
 pub mod Arcs
 pub mod Chains
+pub mod Memory
+pub mod Sound

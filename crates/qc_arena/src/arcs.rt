@@ -1,8 +1,9 @@
-ghost use Rattle.std.specs.Prelude.{◌≡◌, ◌↔◌, ◌+◌, ◌<◌, [], ◌∷◌, ◌++◌, length, IfOk, IsSome, None, ◌≤◌, replicate, vec_capacity};
+ghost use Rattle.std.specs.Prelude.{◌≡◌, ◌↔◌, ◌<◌, [], ◌∷◌, ◌++◌, IfOk, IsSome, None, length, replicate};
 ghost use Rattle.std.specs.Option.{option_to_list};
 ghost use Rattle.qc_arena.specs.Arcs.{leaving, entering};
+ghost use Rattle.qc_arena.specs.declared.block.Link.{Link};
 
-use crate::cell::Cell;
+use crate::block::{Block, Cell, Lease, Link, release, reserve};
 use crate::{Edge, In, Out};
 use qc_num::{OutOfMemory, Tick};
 use std::alloc::Global;
@@ -10,30 +11,43 @@ use std::marker::Model;
 
 /// Arcs between a fixed number of nodes, seen as the list of arcs in the order of pushing. All
 /// memory is taken by `new`.
-#[derive(Drop)]
 pub struct ArcArena {
-    cells: Vec<Cell>,
-    newest_out: Vec<Option<u32>>,
-    newest_in: Vec<Option<u32>>,
+    block: Block,
+    lease: Lease<Global>,
+    alloc: Global,
+    newest_out: Vec<Option<Link>>,
+    newest_in: Vec<Option<Link>>,
+    len: u32,
     cap: u32,
 }
 
 impl Model for ArcArena {
-    ghost use Rattle.std.specs.Prelude.{◌≡◌, ◌≤◌, ◌<◌, ◌^◌, map, vec_len, vec_capacity};
+    ghost use Rattle.std.specs.Prelude.{map, vec_len};
     ghost use Rattle.qc_arena.specs.Arcs.{Arcs};
 
     ghost Value = { Arcs };
 
-    ghost use Rattle.qc_arena.specs.Chains.{arc_of, at_origin, at_target, IsThreaded};
+    ghost use Rattle.qc_arena.specs.Chains.{arc_of};
+    ghost use Rattle.qc_arena.specs.Sound.{IsSound};
 
-    ghost view = { λ a. record { arcs = map arc_of a.cells.items; nodes = vec_len a.newest_out; cap = a.cap } };
+    ghost view = { λ a. record { arcs = map arc_of a.block.cells; nodes = vec_len a.newest_out; cap = a.cap } };
 
-    ghost invariant = { λ a. IsThreaded at_origin a.cells.items a.newest_out.items
-        × IsThreaded at_target a.cells.items a.newest_in.items
-        × (vec_len a.newest_in ≡ vec_len a.newest_out)
-        × (vec_len a.cells ≤ a.cap)
-        × (a.cap ≤ vec_capacity a.cells)
-        × (a.cap < 2 ^ 32) };
+    ghost invariant = { IsSound };
+}
+
+impl Drop for ArcArena {
+    fn drop(self) {
+        let ArcArena {
+            block,
+            lease,
+            alloc,
+            newest_out: _,
+            newest_in: _,
+            len: _,
+            cap,
+        } = self;
+        release(block, lease, &alloc, cap as usize);
+    }
 }
 
 impl ArcArena {
@@ -41,22 +55,27 @@ impl ArcArena {
     pub fn new(alloc: Global, nodes: u16, cap: u32) -> Result<ArcArena, OutOfMemory>
         ensures { IfOk result (λ arena. arena ≡ record { arcs = []; nodes = nodes; cap = cap }) }
     {
-        let cells = no_cells(alloc, cap)?;
         let newest_out = no_links(alloc, nodes)?;
         let newest_in = no_links(alloc, nodes)?;
-        Ok(ArcArena {
-            cells,
-            newest_out,
-            newest_in,
-            cap,
-        })
+        match reserve(&alloc, cap as usize) {
+            Some((block, lease)) => Ok(ArcArena {
+                block,
+                lease,
+                alloc,
+                newest_out,
+                newest_in,
+                len: 0,
+                cap,
+            }),
+            None => Err(OutOfMemory),
+        }
     }
 
     /// How many arcs there are.
     pub fn len(&self) -> u32
         ensures { result ≡ length self.now.arcs }
     {
-        self.cells.len() as u32
+        self.len
     }
 
     /// Puts an arc on top.
@@ -66,18 +85,19 @@ impl ArcArena {
         requires to { to < self.old.nodes }
         ensures { self.new ≡ record self.old { arcs = self.old.arcs ++ record { from = from; to = to; len = len } ∷ [] } }
     {
-        let number = Some(self.cells.len() as u32);
+        let number = self.len;
         let cell = Cell {
-            arc: Edge { from, to, len },
+            from,
+            to,
+            number,
+            len,
             older_out: self.newest_out[from as usize],
             older_in: self.newest_in[to as usize],
         };
-        match self.cells.push(cell) {
-            Ok(()) => {}
-            Err(_) => unreachable!(),
-        }
-        self.newest_out[from as usize] = number;
-        self.newest_in[to as usize] = number;
+        let link = self.block.push(number as usize, cell);
+        self.newest_out[from as usize] = Some(link);
+        self.newest_in[to as usize] = Some(link);
+        self.len = number + 1;
     }
 
     /// Takes the newest arc away, or answers `None` where there is no arc.
@@ -85,10 +105,14 @@ impl ArcArena {
         ensures arcs { self.old ≡ record self.new { arcs = self.new.arcs ++ option_to_list result } }
         ensures some { IsSome result ↔ (0 < length self.old.arcs) }
     {
-        let cell = self.cells.pop()?;
-        self.newest_out[cell.arc.from as usize] = cell.older_out;
-        self.newest_in[cell.arc.to as usize] = cell.older_in;
-        Some(cell.arc)
+        if self.len == 0 {
+            return None;
+        }
+        self.len -= 1;
+        let cell = self.block.pop(self.len as usize);
+        self.newest_out[cell.from as usize] = cell.older_out;
+        self.newest_in[cell.to as usize] = cell.older_in;
+        Some(cell.arc())
     }
 
     /// The arcs that leave the node, newest first.
@@ -99,7 +123,7 @@ impl ArcArena {
             Some(link) => *link,
             None => None,
         };
-        Out::over(self.cells.as_slice(), node, next)
+        Out::over(&self.block, node, self.len, next)
     }
 
     /// The arcs that enter the node, newest first.
@@ -110,20 +134,12 @@ impl ArcArena {
             Some(link) => *link,
             None => None,
         };
-        In::over(self.cells.as_slice(), node, next)
+        In::over(&self.block, node, self.len, next)
     }
 }
 
-// No cell, and room for `cap` of them.
-fn no_cells(alloc: Global, cap: u32) -> Result<Vec<Cell>, OutOfMemory>
-    ensures none { IfOk result (λ cells. cells.items ≡ []) }
-    ensures room { IfOk result (λ cells. cap ≤ vec_capacity cells) }
-{
-    Vec::with_capacity(alloc, cap as usize).map_err(OutOfMemory::from)
-}
-
 // A link for each node, which leads nowhere.
-fn no_links(alloc: Global, nodes: u16) -> Result<Vec<Option<u32>>, OutOfMemory>
+fn no_links(alloc: Global, nodes: u16) -> Result<Vec<Option<Link>>, OutOfMemory>
     ensures { IfOk result (λ links. links.items ≡ replicate nodes None) }
 {
     vec![in alloc; None; nodes as usize].map_err(OutOfMemory::from)
