@@ -40,8 +40,11 @@ module _ {M : Type 1} {𝓤 : Ura M} (𝓛 : Logic 𝓤) (l : Lft) (R : RattleTy
 pub lent_one : (R : RattleType) {M : Type 1} {𝓤 : Ura M} (𝓛 : Logic 𝓤) (κ : Lft) (b o : ℕ) (xs : List R.Denot) (k : ℕ) (d : R.Denot) → k < length xs
     → ent 𝓤 (sem 𝓛 (row_lent R b o xs κ)) (sem 𝓛 (shared_of R (get_or xs k d) b (k * type_size R + o) κ))
 lent_one R 𝓛 κ b o [] k d inside = absurd (omega arith)
-lent_one R 𝓛 κ b o (x ∷ xs) zero d inside = qed 𝓛 (‵ (row_lent R b o (x ∷ xs) κ) ∷ []) ∵ fsplit ! $ move ! (1 ∷ []) $ drop ! $
-    rewrite ! 0 (λ (i : ℕ). ‵ (shared_of R x b i κ)) {x = 0 * type_size R + o} (omega (arith, zero-mul (type_size R))) refl $ done !
+lent_one R 𝓛 κ b o (x ∷ xs) zero d inside = qed 𝓛 (‵ (row_lent R b o (x ∷ xs) κ) ∷ []) ∵ fsplit ! $ move ! (1 ∷ []) $
+    drop ! $
+    rewrite ! 0 (λ (i : ℕ). ‵ (shared_of R x b i κ)) {x = 0 * type_size R + o} (omega (arith, zero-mul (type_size R))) refl $
+    done !
 lent_one R 𝓛 κ b o (x ∷ xs) (suc k) d inside = qed 𝓛 (‵ (row_lent R b o (x ∷ xs) κ) ∷ []) ∵ fsplit ! $ drop ! $
     use1 𝓛 (‵ (shared_of R (get_or xs k d) b (k * type_size R + (o + type_size R)) κ)) (lent_one R 𝓛 κ b (o + type_size R) xs k d (omega (arith, inside))) $
-    rewrite ! 0 (λ (i : ℕ). ‵ (shared_of R (get_or xs k d) b i κ)) {x = suc k * type_size R + o} (omega (arith, suc-mul k (type_size R))) refl $ done !
+    rewrite ! 0 (λ (i : ℕ). ‵ (shared_of R (get_or xs k d) b i κ)) {x = suc k * type_size R + o} (omega (arith, suc-mul k (type_size R))) refl $
+    done !

@@ -1,5 +1,5 @@
 -- Memory: what a block of raw memory owns and lends, for values of the row R.
-use Rattle.std.specs.Prelude.{ℕ, ◌+◌, ◌*◌, ◌^◌, List, [], ◌∷◌, length}
+use Rattle.std.specs.Prelude.{ℕ, ◌+◌, ◌*◌, ◌^◌, ◌<◌, List, [], ◌∷◌, length}
 use Rattle.std.specs.Mem.{type_size}
 use base.Fraction.{full_share}
 use base.Fml.{Lft, Fml, ftrue, ffalse, fsep, flt, froom}
@@ -32,12 +32,17 @@ module _ (R : RattleType) where
 
   -- the values xs, and after them room for as many as spare says
   abbrev pub block_owns : Ptr → List R.Denot → ℕ → Fml
-  block_owns (block_ptr b o) xs spare = fsep (row_owns b o xs) (fsep (flt ((length xs + spare) * type_size R) (2 ^ 63)) (room_owns b (length xs * type_size R + o) spare))
+  block_owns (block_ptr b o) xs spare = fsep (row_owns b o xs)
+      (fsep (flt ((length xs + spare) * type_size R) (2 ^ 63)) (room_owns b (length xs * type_size R + o) spare))
   block_owns null_ptr xs spare = ffalse
 
   abbrev pub block_lent : Ptr → List R.Denot → Lft → Fml
   block_lent (block_ptr b o) xs = row_lent b o xs
   block_lent null_ptr xs = said ffalse
+
+  -- a block for cap values has at most 2 ^ 63 - 1 bytes
+  abbrev pub FitsBlock : ℕ → Type 0
+  FitsBlock cap = cap * type_size R < 2 ^ 63
 
   -- the type that a block for cap values is for
   abbrev pub block_type : ℕ → Ty

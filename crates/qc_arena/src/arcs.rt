@@ -83,7 +83,9 @@ impl ArcArena {
         requires room { length self.old.arcs < self.old.cap }
         requires from { from < self.old.nodes }
         requires to { to < self.old.nodes }
-        ensures { self.new ≡ record self.old { arcs = self.old.arcs ++ record { from = from; to = to; len = len } ∷ [] } }
+        ensures { self.new ≡ record self.old {
+          arcs = self.old.arcs ++ record { from = from; to = to; len = len } ∷ [];
+        } }
     {
         let number = self.len;
         let cell = Cell {

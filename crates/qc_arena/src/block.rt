@@ -1,11 +1,11 @@
 //! One block of raw memory for cells. The functions here are the only ones that reach the memory,
 //! and each is proved by hand.
-ghost use Rattle.std.specs.Prelude.{◌≡◌, ℕ, ◌+◌, ◌*◌, ◌<◌, ◌^◌, [], ◌∷◌, ◌++◌, List, IfSome, length, slice_index_or};
+ghost use Rattle.std.specs.Prelude.{◌≡◌, ℕ, ◌+◌, ◌<◌, [], ◌∷◌, ◌++◌, List, IfSome, length, slice_index_or};
 ghost use denote.RawPtr.{Ptr};
 ghost use Rattle.qc_arena.specs.declared.block.Cell.{Cell};
 ghost use Rattle.qc_arena.specs.contracts.block.Cell.{the_row};
 ghost use Rattle.qc_arena.specs.Chains.{arc_of};
-ghost use Rattle.qc_arena.specs.Memory.{block_owns, block_lent, block_type, place_of};
+ghost use Rattle.qc_arena.specs.Memory.{FitsBlock, block_owns, block_lent, block_type, place_of};
 
 use crate::Edge;
 use qc_num::Tick;
@@ -73,8 +73,9 @@ impl<A: Allocator> Model for Lease<A> {
 
 /// Room for that many cells, or `None` where the allocator refuses it.
 pub(crate) fn reserve<A: Allocator>(alloc: &A, cap: usize) -> Option<(Block, Lease<A>)>
-    requires { cap * 48 < 2 ^ 63 }
-    ensures { IfSome result (λ r. (r.0.cells ≡ []) × (r.0.spare ≡ cap) × (r.1.at ≡ r.0.at) × (r.1.cap ≡ cap) × (r.1.alloc ≡ alloc.now)) }
+    requires { FitsBlock the_row cap }
+    ensures { IfSome result (λ r. (r.0.cells ≡ []) × (r.0.spare ≡ cap)
+        × (r.1.at ≡ r.0.at) × (r.1.cap ≡ cap) × (r.1.alloc ≡ alloc.now)) }
 {
     match alloc.allocate(cap * size_of::<Cell>(), align_of::<Cell>()) {
         Ok(block) => {
@@ -87,7 +88,8 @@ pub(crate) fn reserve<A: Allocator>(alloc: &A, cap: usize) -> Option<(Block, Lea
 
 /// Gives the block back.
 pub(crate) fn release<A: Allocator>(block: Block, lease: Lease<A>, alloc: &A, cap: usize)
-    requires { (length block.cells + block.spare ≡ cap) × (lease.at ≡ block.at) × (lease.cap ≡ cap) × (lease.alloc ≡ alloc.now) }
+    requires { (length block.cells + block.spare ≡ cap)
+        × (lease.at ≡ block.at) × (lease.cap ≡ cap) × (lease.alloc ≡ alloc.now) }
 {
     let Block { at } = block;
     let Lease { mark: _ } = lease;
@@ -100,7 +102,8 @@ impl Block {
     /// The cell that the link leads to.
     pub(crate) fn get(&self, link: Link) -> &Cell
         requires { (k : ℕ) × (k < length self.now.cells) × (link.at ≡ place_of the_row self.now.at k) }
-        ensures { (k : ℕ) (d : Cell) → link.at ≡ place_of the_row self.now.at k → result.now ≡ slice_index_or self.now.cells k d }
+        ensures { (k : ℕ) (d : Cell) → link.at ≡ place_of the_row self.now.at k
+            → result.now ≡ slice_index_or self.now.cells k d }
     {
         unsafe { &*link.at }
     }
@@ -108,7 +111,10 @@ impl Block {
     /// Writes a cell behind the others, of which there are `number`, and answers where it lies.
     pub(crate) fn push(&mut self, number: usize, cell: Cell) -> Link
         requires { (number ≡ length self.old.cells) × (0 < self.old.spare) }
-        ensures { (self.new.cells ≡ self.old.cells ++ cell ∷ []) × (self.new.spare + 1 ≡ self.old.spare) × (self.new.at ≡ self.old.at) × (result.at ≡ place_of the_row self.old.at number) }
+        ensures { (self.new.cells ≡ self.old.cells ++ cell ∷ [])
+            × (self.new.spare + 1 ≡ self.old.spare)
+            × (self.new.at ≡ self.old.at)
+            × (result.at ≡ place_of the_row self.old.at number) }
     {
         unsafe {
             let at = self.at.add(number);
@@ -120,7 +126,9 @@ impl Block {
     /// Takes the newest cell away, before which there are `number`.
     pub(crate) fn pop(&mut self, number: usize) -> Cell
         requires { number + 1 ≡ length self.old.cells }
-        ensures { (self.old.cells ≡ self.new.cells ++ result ∷ []) × (self.new.spare ≡ self.old.spare + 1) × (self.new.at ≡ self.old.at) }
+        ensures { (self.old.cells ≡ self.new.cells ++ result ∷ [])
+            × (self.new.spare ≡ self.old.spare + 1)
+            × (self.new.at ≡ self.old.at) }
     {
         unsafe { *self.at.add(number) }
     }

@@ -46,12 +46,11 @@ impl Trail {
     /// Notes what a cell holds before it is written.
     pub fn note(&mut self, place: u32, old: u64)
         requires { length self.old.notes < self.old.cap }
-        ensures { self.new ≡ record self.old { notes = self.old.notes ++ record { place = place; old = old } ∷ [] } }
+        ensures { self.new ≡ record self.old {
+          notes = self.old.notes ++ record { place = place; old = old } ∷ [];
+        } }
     {
-        match self.notes.push(Note { place, old }) {
-            Ok(()) => {}
-            Err(_) => unreachable!(),
-        }
+        self.notes.push_reserved(Note { place, old });
     }
 
     /// How many notes there are.

@@ -69,7 +69,8 @@ release_spec 𝓤 𝓛 𝓜 𝓡 wired A L g d dd met md =
     let τ : Ty = block_type R n in
     qed 𝓛 ((raw (alive 𝓛 ended.signature z.0.0 z.0.1) ⊛ ‵ (owns (types_at ended.signature.params z.0.0) a vss)) ∷ (raw (fact 𝓤 (z.0.0.1.0 ⊑ A.lives)) ⊛ raw (fact 𝓤 ((length x.cells + x.spare ≡ n) × (k.at ≡ x.at) × (k.cap ≡ n) × (k.alloc ≡ h)))) ∷ []) ∵
     move ! (1 ∷ []) $ split ! $ heard ! _ (λ lives. heard ! _ (λ asked. split ! $ move ! (1 ∷ []) $
-    fsplit ! $ fsplit ! $ drop ! $ in_a_block ! x.at (λ p. block_owns R p x.cells x.spare) (id⊢ 𝓤 (never 𝓤)) (λ b o at.
+    fsplit ! $ fsplit ! $ drop ! $
+    in_a_block ! x.at (λ p. block_owns R p x.cells x.spare) (id⊢ 𝓤 (never 𝓤)) (λ b o at.
     -- [the block; the other parameters; the tokens]
     move ! (1 ∷ []) $ fsplit ! $ fsplit ! $ drop ! $
     rewrite ! 0 (λ (u : A.Denot × ℕ × Ptr). ‵ (g.dealloc_token u.0 (block_type R u.1) u.2)) (λ i. (asked.3 i, asked.2 i, (asked.1 ∙ at) i)) refl $
@@ -82,8 +83,10 @@ release_spec 𝓤 𝓛 𝓜 𝓡 wired A L g d dd met md =
     let fits : bytes < 2 ^ 64 = omega (arith, small, asked.0) in
     let y = at_gives Y 𝓛 𝓜.mem 𝓡.returns κ q handle h b o bytes 8 τ in
     let word : vss.0 ≡ block_val (block_ptr b o) ∷ [] = block_lowers.val_is x vss.0 are.0 ∙ ap (λ (p : Ptr). block_val p ∷ []) at in
-    move ! (1 ∷ 0 ∷ []) $ use2 𝓛 (‵ (room_owns R b o (length x.cells + x.spare))) (all_room R refl 𝓛 b o x.cells x.spare) $
-    rewrite ! 0 (λ (i : ℕ). ‵ (room_owns R b o i)) asked.0 refl $ use1 𝓛 (‵ (froom τ b o)) (𝓛.laws.room-raw (ty_array (lone R.mir) n) b o) $
+    move ! (1 ∷ 0 ∷ []) $
+    use2 𝓛 (‵ (room_owns R b o (length x.cells + x.spare))) (all_room R refl 𝓛 b o x.cells x.spare) $
+    rewrite ! 0 (λ (i : ℕ). ‵ (room_owns R b o i)) asked.0 refl $
+    use1 𝓛 (‵ (froom τ b o)) (𝓛.laws.room-raw (ty_array (lone R.mir) n) b o) $
     move ! (0 ∷ 5 ∷ 3 ∷ 1 ∷ []) $ group ! 4 $
     use1 𝓛 (raw ((Gives Y 𝓛 𝓜.mem 𝓡.returns).pre y)) (Gives-goes Y 𝓛 𝓜.mem 𝓡.returns κ q handle h (⊑_trans κ z.0.0.1.0 A.lives z.0.2.0 lives) b o bytes 8 τ
     (ap capped (size-raw (ty_array (lone R.mir) n)) ∙ capped_is bytes fits) (ap capped (align-raw (ty_array (lone R.mir) n))) fits (lit< tt)) $
@@ -95,10 +98,12 @@ release_spec 𝓤 𝓛 𝓜 𝓡 wired A L g d dd met md =
     sets ! (of_opd ! (get ! refl)) refl (tt, tt) $
     sets ! (bin ! (get ! refl) (lit ! tt) (record { fits = fits })) refl (tt, record { fits = fits }) $
     calls_at_last ! (framed 𝓤 H 𝓜 (tables 𝓤 H 𝓜 𝓡 𝓡.env)) (Gives Y 𝓛 𝓜.mem 𝓡.returns) (met.deallocate dd) y (and_then ! (get ! refl) (and_then ! (get ! refl) (and_then ! (get ! refl) (and_then ! (lit ! tt) (no_more !))))) (λ v.
-    use1 𝓛 (later (given (v ≡ vunit) (‵ (flft κ q)))) (Gives-Gives Y 𝓛 𝓜.mem 𝓡.returns κ q handle h b o bytes 8 τ v) $ await ! tt $ learn ! (λ is_unit.
+    use1 𝓛 (later (given (v ≡ vunit) (‵ (flft κ q)))) (Gives-Gives Y 𝓛 𝓜.mem 𝓡.returns κ q handle h b o bytes 8 τ v) $
+    await ! tt $ learn ! (λ is_unit.
     lands_last ! refl (subst (λ (u : Val). T (has_ty ty_unit u) × WT u) (sym is_unit) (tt, tt)) $
     exec ! C Λ En (after 2 fn.body) (at_ret En Post) $ sets ! (of_opd ! (unit_lit !)) refl (tt, tt) $
     returns ! (look_at ! 0 refl) $ free_all ! refl $ keep ! (0 ∷ 1 ∷ []) $ join ! $
     feq_i ! (List Val) (vunit ∷ []) (vunit ∷ []) refl $ nothing ! $
-    nothing ! $ nothing ! $ fjoin ! $ nothing ! $ fjoin ! $ nothing ! $ fjoin ! $ nothing ! $ fjoin ! $ move ! (3 ∷ 0 ∷ 2 ∷ 1 ∷ []) $
+    nothing ! $ nothing ! $ fjoin ! $ nothing ! $ fjoin ! $ nothing ! $ fjoin ! $ nothing ! $ fjoin ! $
+    move ! (3 ∷ 0 ∷ 2 ∷ 1 ∷ []) $
     by ! (leaves 𝓛 ended stayed c z vunit tt (tt, (tt, (tt, (tt, tt)))) (tt, (tt, (tt, (tt, tt)))))))))))))

@@ -33,7 +33,7 @@ use Rattle.std.proofs.VecSteps.Shapes.{after, head, arm_body}
 use denote.Triple.Table.{framed}
 use Rattle.std.proofs.option.Made.{Some-of, none_of}
 use Rattle.std.proofs.raw_atomic.Walks.{proved_at, leaves}
-use Rattle.qc_arena.specs.Memory.{block_type, room_owns}
+use Rattle.qc_arena.specs.Memory.{FitsBlock, block_type, room_owns}
 use Rattle.qc_arena.specs.contracts.block.Block as B
 use Rattle.qc_arena.specs.contracts.block.Lease as Le
 use Rattle.qc_arena.specs.contracts.block.Cell.{the_row as R}
@@ -70,7 +70,7 @@ reserve_spec 𝓤 𝓛 𝓜 𝓡 wired A L g d dd met md =
     let Right : RattleType = Le.the_row (param 0 A) g in
     let Pair : RattleType = Tuple (B.the_row ∷ Right ∷ []) in
     let Then : Env 𝓤 H → After 𝓤 H = λ En. any_q (after_seq 𝓤 H (Wp 𝓤 H C Λ En (after 3 fn.body) (at_return 𝓤 H En Post)) (at_return 𝓤 H En Post)) in
-    qed 𝓛 ((raw (alive 𝓛 ended.signature z.0.0 z.0.1) ⊛ ‵ (owns (types_at ended.signature.params z.0.0) a vss)) ∷ (raw (fact 𝓤 (z.0.0.1.0 ⊑ A.lives)) ⊛ raw (fact 𝓤 (n * 48 < 2 ^ 63))) ∷ []) ∵
+    qed 𝓛 ((raw (alive 𝓛 ended.signature z.0.0 z.0.1) ⊛ ‵ (owns (types_at ended.signature.params z.0.0) a vss)) ∷ (raw (fact 𝓤 (z.0.0.1.0 ⊑ A.lives)) ⊛ raw (fact 𝓤 (FitsBlock R n))) ∷ []) ∵
     move ! (1 ∷ []) $ split ! $ heard ! _ (λ lives. heard ! _ (λ small. split ! $ move ! (1 ∷ []) $
     fsplit ! $ fsplit ! $ drop ! $ use1 𝓛 (‵ (seen Y κ at h)) (id⊢ 𝓤 _) $ move ! (2 ∷ []) $
     use1 𝓛 (‵ (flft κ q) ⊛ ‵ (flft z.0.0.1.0 z.0.1.1.0) ⊛ ‵ ftrue) (id⊢ 𝓤 _) $ split ! $ move ! (2 ∷ 0 ∷ 1 ∷ []) $
@@ -82,12 +82,14 @@ reserve_spec 𝓤 𝓛 𝓜 𝓡 wired A L g d dd met md =
     use2 𝓛 (raw ((Takes Y 𝓛 𝓜.mem 𝓡.returns).pre y)) (Takes-goes Y 𝓛 𝓜.mem 𝓡.returns κ q at h (⊑_trans κ z.0.0.1.0 A.lives z.0.2.0 lives) bytes 8 τ
     (ap capped (size-raw (ty_array (lone R.mir) n)) ∙ capped_is bytes fits) (ap capped (align-raw (ty_array (lone R.mir) n))) fits (lit< tt)) $
     calls_at ! (framed 𝓤 H 𝓜 (tables 𝓤 H 𝓜 𝓡 𝓡.env)) (Takes Y 𝓛 𝓜.mem 𝓡.returns) (met.allocate dd) y (and_then ! (get ! refl) (and_then ! (get ! refl) (and_then ! (lit ! tt) (no_more !)))) (λ v.
-    use1 𝓛 (later (raw (Answered Y 𝓛 𝓜.mem 𝓡.returns h τ v) ⊛ ‵ (flft κ q))) (Takes-gives Y 𝓛 𝓜.mem 𝓡.returns κ q at h bytes 8 τ v) $ await ! tt $ split ! $
+    use1 𝓛 (later (raw (Answered Y 𝓛 𝓜.mem 𝓡.returns h τ v) ⊛ ‵ (flft κ q))) (Takes-gives Y 𝓛 𝓜.mem 𝓡.returns κ q at h bytes 8 τ v) $
+    await ! tt $ split ! $
     answers Y ! 𝓜.mem 𝓡.returns h τ v
     (λ b o e.
     -- [the room; the right to free it; the token; the other tokens; ..]
     lands_as ! e refl (tt, (record { fits = lit< tt }, (tt, tt))) $
-    first ! $ switches_on ! (get_tag ! (vrt ! refl (fld ! refl (stop !))) (whole !)) $ exec ! C Λ En (arm_body 0 (head (after 2 fn.body))) (Then En) $
+    first ! $ switches_on ! (get_tag ! (vrt ! refl (fld ! refl (stop !))) (whole !)) $
+    exec ! C Λ En (arm_body 0 (head (after 2 fn.body))) (Then En) $
     sets ! (of_opd ! (get_in ! (vrt ! refl (fld ! refl (stop !))) (in_variant ! 0 0 refl refl (whole !)))) refl (tt, tt) $
     sets ! (of_opd ! (get ! refl)) refl (tt, tt) $
     sets ! (agg ! (and_then ! (get ! refl) (no_more !))) refl (tt, (tt, tt)) $
@@ -103,7 +105,8 @@ reserve_spec 𝓤 𝓛 𝓜 𝓡 wired A L g d dd met md =
     let x : B.the_row.Denot = record { at = p; cells = []; spare = n } in
     let k : Right.Denot = record { mark = record {}; alloc = h; at = p; cap = n } in
     let here : 0 * 48 + o ≡ o = omega arith in
-    use1 𝓛 (‵ (room_owns R b o n)) (𝓛.laws.raw-room (ty_array (lone R.mir) n) b o) $ rewrite ! 0 (λ (i : ℕ). ‵ (room_owns R b i n)) (sym here) refl $
+    use1 𝓛 (‵ (room_owns R b o n)) (𝓛.laws.raw-room (ty_array (lone R.mir) n) b o) $
+    rewrite ! 0 (λ (i : ℕ). ‵ (room_owns R b i n)) (sym here) refl $
     flt_i ! ((0 + n) * 48) (2 ^ 63) (omega (arith, small)) $ fjoin ! $ nothing ! $ fjoin ! $
     use0 𝓛 (‵ (block_fields p (block_val p ∷ []))) (block_made 𝓛 p) $ fjoin ! $ move ! (2 ∷ []) $
     use0 𝓛 (‵ (lease_fields (lease_val ∷ []))) (lease_made 𝓛) $ fjoin ! $ move ! (1 ∷ 0 ∷ []) $
@@ -114,7 +117,8 @@ reserve_spec 𝓤 𝓛 𝓜 𝓡 wired A L g d dd met md =
     by ! (leaves 𝓛 ended stayed c z (live 1 (vcons (pair_val (block_val p) lease_val) vnil)) (Some (x, k)) (tt, (tt, tt)) (tt, (tt, tt))))
     (λ e.
     lands_as ! e refl (tt, (record { fits = lit< tt }, (tt, tt))) $
-    first ! $ switches_on ! (get_tag ! (vrt ! refl (fld ! refl (stop !))) (whole !)) $ exec ! C Λ En (arm_body 1 (head (after 2 fn.body))) (Then En) $
+    first ! $ switches_on ! (get_tag ! (vrt ! refl (fld ! refl (stop !))) (whole !)) $
+    exec ! C Λ En (arm_body 1 (head (after 2 fn.body))) (Then En) $
     sets_last ! (agg ! (and_then ! (lit ! tt) (no_more !))) refl (tt, (record { fits = lit< tt }, tt)) $
     exec ! C Λ En (after 3 fn.body) (at_ret En Post) $
     sets ! (of_opd ! (get ! refl)) refl (tt, (record { fits = lit< tt }, tt)) $

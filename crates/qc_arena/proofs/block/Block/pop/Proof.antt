@@ -63,7 +63,8 @@ pop_spec 𝓤 𝓛 𝓜 𝓡 wired =
     let x : Cell = get_or d.cells n blank in
     let before : List Cell = take n d.cells in
     qed 𝓛 (((‵ (flft κ q) ⊛ ‵ ftrue) ⊛ ‵ (owns (types_at f.ended.signature.params z.0.0) a vss)) ∷ raw (fact 𝓤 (n + 1 ≡ length d.cells)) ∷ []) ∵
-    move ! (1 ∷ []) $ heard ! _ (λ asked. split ! $ split ! $ move ! (2 ∷ []) $ fsplit ! $ fsplit3 ! $ feq_l ! (λ passed.
+    move ! (1 ∷ []) $
+    heard ! _ (λ asked. split ! $ split ! $ move ! (2 ∷ []) $ fsplit ! $ fsplit3 ! $ feq_l ! (λ passed.
     let cut : d.cells ≡ before ++ x ∷ [] = all_but_last d.cells n blank asked in
     let long : length before ≡ n = length-take-le n d.cells (omega (arith, asked)) in
     -- [obs; bor; the number; the token; no more tokens]
@@ -83,9 +84,11 @@ pop_spec 𝓤 𝓛 𝓜 𝓡 wired =
     let new : B.the_row.Denot = record { at = d.at; cells = before; spare = d.spare + 1 } in
     -- [the room; the cells; self's fields; self; ..]
     move ! (1 ∷ []) $ rewrite ! 0 (λ (xs : List Cell). ‵ (row_owns R b o xs)) cut refl $
-    use1 𝓛 (‵ (part_at R full_share x b (length before * s + o)) ⊛ ‵ (row_owns R b o before)) (row_less R 𝓛 b x o before) $ split ! $
+    use1 𝓛 (‵ (part_at R full_share x b (length before * s + o)) ⊛ ‵ (row_owns R b o before)) (row_less R 𝓛 b x o before) $
+    split ! $
     rewrite ! 0 (λ (i : ℕ). ‵ (part_at R full_share x b (i * s + o))) long refl $
-    use1 𝓛 (some (λ (v : Val). ‵ (fat full_share (lone R.mir) b off v) ⊛ ‵ (R.own_val x (v ∷ [])))) (part_out 𝓛 R refl full_share x b off) $ pick ! (λ v. split ! $ well_typed ! (λ good.
+    use1 𝓛 (some (λ (v : Val). ‵ (fat full_share (lone R.mir) b off v) ⊛ ‵ (R.own_val x (v ∷ [])))) (part_out 𝓛 R refl full_share x b off) $
+    pick ! (λ v. split ! $ well_typed ! (λ good.
     -- [the last cell; its own; the cells before; the room; self's fields; self; ..]
     first ! $ blocks ! $
     sets ! (of_opd ! (load ! (through ! refl (fld ! refl (stop !))) (look_in ! 5 (sub ! 0 refl (whole !))))) refl (tt, tt) $
@@ -94,7 +97,8 @@ pop_spec 𝓤 𝓛 𝓜 𝓡 wired =
     sets_last ! (of_opd ! (load ! (through ! refl (stop !)) (look ! 0 refl))) refl good $
     exec ! C Λ En (after 1 fn.body) (at_ret En Post) $ sets ! (of_opd ! (get ! refl)) refl good $
     use1 𝓛 (‵ (froom (lone R.mir) b off)) (𝓛.laws.at_room (lone R.mir) b off v) $
-    move ! (0 ∷ 3 ∷ []) $ rewrite ! 1 (λ (i : ℕ). ‵ (room_owns R b i d.spare)) {x = off + s} (omega (arith, asked)) refl $
+    move ! (0 ∷ 3 ∷ []) $
+    rewrite ! 1 (λ (i : ℕ). ‵ (room_owns R b i d.spare)) {x = off + s} (omega (arith, asked)) refl $
     use2 𝓛 (‵ (room_owns R b off (suc d.spare))) (𝓛.laws.room_cons (lone R.mir) d.spare b off) $
     rewrite ! 0 (λ (w : ℕ × ℕ). ‵ (room_owns R b (w.0 * s + o) w.1)) {x = (length before, d.spare + 1)} (λ i. (sym long i, up i)) refl $
     flt_i ! ((length before + (d.spare + 1)) * s) (2 ^ 63) (omega (arith, small, long, asked)) $ fjoin ! $
@@ -104,7 +108,8 @@ pop_spec 𝓤 𝓛 𝓜 𝓡 wired =
     move ! (2 ∷ 0 ∷ []) $ fjoin ! $ move ! (2 ∷ 0 ∷ 3 ∷ 4 ∷ 5 ∷ []) $ closes ! tt B.the_row new us rb ro $
     -- [two parts of self; the token; the cell's own]
     returns ! (look_at ! 0 refl) $ free_all ! refl $ keep ! (0 ∷ 1 ∷ 2 ∷ 3 ∷ []) $
-    feq_i ! (List Val) vss.0 (vptr rb ro ∷ []) passed $ fjoin3 ! $ nothing ! $ nothing ! $ fjoin ! $ move ! (1 ∷ 0 ∷ []) $ fjoin ! $
+    feq_i ! (List Val) vss.0 (vptr rb ro ∷ []) passed $ fjoin3 ! $ nothing ! $ nothing ! $ fjoin ! $
+    move ! (1 ∷ 0 ∷ []) $ fjoin ! $
     use0 𝓛 (raw (fact 𝓤 ((d.cells ≡ before ++ x ∷ []) × (d.spare + 1 ≡ d.spare + 1) × (d.at ≡ d.at)))) (fact_i 𝓤 _ (emp 𝓤) (cut, refl, refl)) $
     nothing ! $ move ! (3 ∷ 0 ∷ []) $ join ! $ move ! (0 ∷ 2 ∷ 3 ∷ 1 ∷ []) $
     by ! (leaves 𝓛 f.ended stayed c z v x (new, (tt, tt)) (tt, (tt, tt)))))))))))))

@@ -64,7 +64,8 @@ push_spec 𝓤 𝓛 𝓜 𝓡 wired =
     let x : Cell = a.1.1.0 in
     let s : ℕ = type_size R in
     qed 𝓛 (((‵ (flft κ q) ⊛ ‵ ftrue) ⊛ ‵ (owns (types_at f.ended.signature.params z.0.0) a vss)) ∷ raw (fact 𝓤 ((n ≡ length d.cells) × (0 < d.spare))) ∷ []) ∵
-    move ! (1 ∷ []) $ heard ! _ (λ asked. split ! $ split ! $ move ! (2 ∷ []) $ fsplit ! $ fsplit3 ! $ feq_l ! (λ passed.
+    move ! (1 ∷ []) $
+    heard ! _ (λ asked. split ! $ split ! $ move ! (2 ∷ []) $ fsplit ! $ fsplit3 ! $ feq_l ! (λ passed.
     -- [obs; bor; the number and the cell; the token; no more tokens]
     move ! (2 ∷ []) $ fsplit ! $ drop ! $ fsplit ! $
     move ! (2 ∷ 3 ∷ 4 ∷ 0 ∷ []) $
@@ -87,7 +88,8 @@ push_spec 𝓤 𝓛 𝓜 𝓡 wired =
     let far : n * s < 2 ^ 64 = omega (arith, asked.0, small, asked.1) in
     let new : B.the_row.Denot = record { at = d.at; cells = d.cells ++ x ∷ []; spare = m } in
     rewrite ! 0 (λ (w : ℕ × ℕ). ‵ (room_owns R b (w.0 * s + o) w.1)) {x = (n, suc m)} (λ i. (sym asked.0 i, one_more i)) refl $
-    use1 𝓛 (‵ (froom (lone R.mir) b off) ⊛ ‵ (room_owns R b (off + s) m)) (𝓛.laws.room_uncons (lone R.mir) m b off) $ split ! $
+    use1 𝓛 (‵ (froom (lone R.mir) b off) ⊛ ‵ (room_owns R b (off + s) m)) (𝓛.laws.room_uncons (lone R.mir) m b off) $
+    split ! $
     -- [the place; the room after it; the cells; self's fields; self; ..; the cell's own]
     first ! $ blocks ! $
     sets ! (of_opd ! (load ! (through ! refl (fld ! refl (stop !))) (look_in ! 4 (sub ! 0 refl (whole !))))) refl (tt, tt) $
@@ -100,8 +102,10 @@ push_spec 𝓤 𝓛 𝓜 𝓡 wired =
     rewrite ! 0 (λ (i : ℕ). ‵ (part_at R full_share x b (i * s + o))) asked.0 refl $
     move ! (0 ∷ 2 ∷ []) $ use2 𝓛 (‵ (row_owns R b o new.cells)) (row_more R 𝓛 b x o d.cells) $
     -- [the cells; the room after them; self's fields; self; ..]
-    move ! (1 ∷ []) $ rewrite ! 0 (λ (i : ℕ). ‵ (room_owns R b i m)) {x = length new.cells * s + o} (omega (arith, asked.0, length-append d.cells (x ∷ []))) refl $
-    flt_i ! ((length new.cells + m) * s) (2 ^ 63) (omega (arith, small, one_more, length-append d.cells (x ∷ []))) $ fjoin ! $
+    move ! (1 ∷ []) $
+    rewrite ! 0 (λ (i : ℕ). ‵ (room_owns R b i m)) {x = length new.cells * s + o} (omega (arith, asked.0, length-append d.cells (x ∷ []))) refl $
+    flt_i ! ((length new.cells + m) * s) (2 ^ 63) (omega (arith, small, one_more, length-append d.cells (x ∷ []))) $
+    fjoin ! $
     move ! (1 ∷ 0 ∷ []) $ fjoin ! $ rewrite ! 0 (λ (p : Ptr). ‵ (block_owns R p new.cells m)) (sym at) refl $
     rewrite ! 2 (λ (ws : List Val). ‵ (cell_at full_share B.the_row.mir ws rb ro)) (sym struct_word) refl $
     move ! (1 ∷ []) $ fjoin ! $ move ! (1 ∷ []) $ closes ! tt B.the_row new us rb ro $
@@ -109,7 +113,8 @@ push_spec 𝓤 𝓛 𝓜 𝓡 wired =
     -- [two parts of self; the token]
     let r : L.the_row.Denot = record { at = place_of R d.at n } in
     let w : Val = vstruct (vcons (vptr b off) vnil) in
-    feq_i ! (List Val) vss.0 (vptr rb ro ∷ []) passed $ fjoin3 ! $ nothing ! $ nothing ! $ fjoin ! $ nothing ! $ fjoin ! $ move ! (1 ∷ 0 ∷ []) $ fjoin ! $
+    feq_i ! (List Val) vss.0 (vptr rb ro ∷ []) passed $ fjoin3 ! $ nothing ! $ nothing ! $ fjoin ! $ nothing ! $
+    fjoin ! $ move ! (1 ∷ 0 ∷ []) $ fjoin ! $
     use0 𝓛 (raw (fact 𝓤 ((new.cells ≡ d.cells ++ x ∷ []) × (m + 1 ≡ d.spare) × (d.at ≡ d.at) × (r.at ≡ r.at)))) (fact_i 𝓤 _ (emp 𝓤) (refl, omega (arith, one_more), refl, refl)) $
     owned ! L.the_row (Is L.the_row) (makes L.the_type the_plain 𝓛) r (w ∷ []) ((vptr b off ∷ [], tt), (refl, (ap (λ (p : Ptr). ptr_val (place_of R p n) ∷ []) (sym at), tt))) $
     nothing ! $ move ! (4 ∷ 0 ∷ []) $ join ! $ move ! (0 ∷ 3 ∷ 1 ∷ 2 ∷ []) $
