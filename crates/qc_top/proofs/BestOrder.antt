@@ -61,7 +61,7 @@ module _ (inst : InstanceView) (valid : Valid inst) (some_crane : 0 < length ins
       let way = product_small inst.travel _ (limits inst valid).travel (near (crane inst 0).bay (bay_of inst j) ((limits inst valid).berths 0 some_crane) (task_near j h)) in
       omega (arith, way, valid.cranes.ready 0 some_crane)
 
-  pub order_end_small : (i j : ℕ) → i < length inst.tasks → j < length inst.tasks → order_end inst.travel (crane inst 0) (task inst i) (task inst j) ≤ 2 ^ 40
+  pub order_end_small : (i j : ℕ) → i < length inst.tasks → j < length inst.tasks → order_end inst.travel (crane inst 0) (task inst i) (task inst j) < 10 ^ 12
   order_end_small i j hi hj =
       let way = product_small inst.travel _ (limits inst valid).travel (near (bay_of inst i) (bay_of inst j) (task_near i hi) (task_near j hj)) in
       omega (arith, way, head_small i hi, task_ticks_small i hi, task_ticks_small j hj)
@@ -115,7 +115,7 @@ module _ (inst : InstanceView) (valid : Valid inst) (small : IsSmall inst) where
             let within = end_le_last_end inst.tasks other 0 first (omega (arith, goes_slots inst small own other goes)) in
             last_end_le inst.tasks sched _ (λ j h k. only_zero (λ m. end_of inst sched m ≤ ends inst other) _ j one h (omega (arith, late, within)));
         upward_if_equal = λ _ _ _. up;
-        bounded = All-from_get_or (λ (s : Slot). s.start ≤ 2 ^ 40) sched no_slot (λ k h. only_zero (λ m. start_of sched m ≤ 2 ^ 40) 1 k refl h (omega (arith, head_small inst valid some_crane 0 (omega arith))));
+        bounded = All-from_get_or (λ (s : Slot). s.start < 10 ^ 12) sched no_slot (λ k h. only_zero (λ m. start_of sched m < 10 ^ 12) 1 k refl h (omega (arith, head_small inst valid some_crane 0 (omega arith))));
       }
 
   module _ (sched : List Slot) (i j : ℕ) (hi : i < length inst.tasks) (hj : j < length inst.tasks) (ne : i ≢ j) (leads : Leads inst sched i j) (better : IsBetterFirst inst.travel (crane inst 0) (task inst i) (task inst j)) where
@@ -140,7 +140,7 @@ module _ (inst : InstanceView) (valid : Valid inst) (small : IsSmall inst) where
           let early = leads_ends inst small own sched i j hi hj ne leads in
           elim (goes_late inst small own other goes i j hi hj ne) [ inl h ↦ omega (arith, early, h) | inr h ↦ omega (arith, early, h, better_end) ];
       upward_if_equal = λ other up le. by_lt_z (bay_of inst i) (bay_of inst j) (leads_up inst small own sched i j hi hj ne leads) (λ h. turned_late other up le (below (bay_of inst i) (bay_of inst j) h (own i j hi hj ne)));
-      bounded = All-from_get_or (λ (s : Slot). s.start ≤ 2 ^ 40) sched no_slot (λ k h. elim (leads.only k (omega (arith, leads.slots))) [
+      bounded = All-from_get_or (λ (s : Slot). s.start < 10 ^ 12) sched no_slot (λ k h. elim (leads.only k (omega (arith, leads.slots))) [
         | inl e ↦ rw e (omega (arith, leads.first, order_end_small inst valid some_crane i j hi hj))
         | inr e ↦ rw e (omega (arith, leads.second, order_end_small inst valid some_crane i j hi hj))
       ]);

@@ -1,10 +1,7 @@
-pub mod WordLemmas
-pub mod PlanLines
-pub mod PlanWords
-pub mod DueLemmas
+pub mod StepLemmas
+pub mod ServeLemmas
 pub mod RunLemmas
-pub mod Stored
-pub mod Planned
+pub mod WordLemmas
 pub mod SmallLemmas
 pub mod OneCrane
 pub mod OneCraneMirror

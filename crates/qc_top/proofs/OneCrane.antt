@@ -64,7 +64,7 @@ module _ (inst : InstanceView) (small : IsSmall inst) (own : HasOwnBays inst) (s
       berth = λ j v hj hv ne. absurd (ne (zero_crane v hv ∙ sym (up.on_first j hj)));
     };
     upward = record {
-      one_crane = λ i j hi hj _ lt. up.climbs i j hi hj lt;
+      one_crane = λ i j hi hj _ lt. omega (arith, up.climbs i j hi hj lt);
       two_cranes = λ i j hi hj lt. absurd (omega (arith, up.on_first i hi, up.on_first j hj));
     };
   }
@@ -76,5 +76,5 @@ module _ (inst : InstanceView) (small : IsSmall inst) (own : HasOwnBays inst) (s
         slots = up.feasible.all_tasks;
         on_first = zero;
         ready = λ j h. rw (zero j h) at (up.feasible.ready j h);
-        climbs = λ i j hi hj lt. up.upward.one_crane i j hi hj (zero i hi ∙ sym (zero j hj)) lt;
+        climbs = λ i j hi hj lt. omega (arith, up.upward.one_crane i j hi hj (zero i hi ∙ sym (zero j hj)) lt);
       }

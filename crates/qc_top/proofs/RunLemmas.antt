@@ -1,315 +1,299 @@
 -- What follows from a run's account of itself.
-use Rattle.std.proofs.Common.{◌≡◌, ◌≢◌, ℕ, List, Option, None, Some, Result, Ok, Err, refl, sym, ap, ◌∙◌, subst, inl, inr}
-use Rattle.std.specs.Prelude.{IfSome, IsSome, is_some, IsOk, is_ok, ◌⊎◌}
+use Rattle.std.proofs.Common.{◌≡◌, ◌≢◌, ◌≤◌, ℕ, List, [], ◌++◌, Option, None, Some, Result, Ok, Err, refl, sym, ap, ◌∙◌, subst, inl, inr, ◌⊎◌, arith}
+use Rattle.std.specs.Prelude.{IfSome, IsSomeAnd, option_and_then}
 use Rattle.std.specs.FinMap.{get}
-use Rattle.qc_io.specs.Outside.{Files, Rose, ReadCause, with_piece}
+use Rattle.std.specs.Io.KnownBytes.{append_known}
+use Rattle.qc_num.specs.Reading.{◌>>=◌}
+use Rattle.qc_num.proofs.ReadingLemmas.{bind_ok, same_ok}
+use Rattle.qc_io.specs.Outside.{Files, Stand, Rose, ReadCause, GrewByPart, next_count}
 use Rattle.qc_model.specs.Instance.{InstanceView}
-use Rattle.qc_ship.specs.Ship.{ShipView}
+use Rattle.qc_tasks.specs.TasksText.{tasks_text}
 use Rattle.qc_top.specs.declared.answer.Input.{Input}
-use Rattle.qc_top.specs.declared.answer.Input.TheVariants.{Ship, Stow}
+use Rattle.qc_top.specs.declared.answer.Input.TheVariants as input
+use Rattle.qc_top.specs.declared.answer.Refusal.{Refusal}
+use Rattle.qc_top.specs.declared.answer.Refusal.TheVariants as refusal
+use Rattle.qc_top.specs.declared.answer.Stop.{Stop}
+use Rattle.qc_top.specs.declared.answer.Stop.TheVariants as stop
 use Rattle.qc_top.specs.declared.answer.Answer.{Answer}
-use Rattle.qc_top.specs.declared.answer.Answer.TheVariants.{Optimal, Tasks, Usage, ReadFault, TooLarge, BadShip, BadStow, WriteFault, OutOfMemory, Unbuilt}
-use Rattle.qc_top.specs.declared.words.Request.{Request}
-use Rattle.qc_top.specs.declared.words.Request.TheVariants as request
+use Rattle.qc_top.specs.declared.answer.Answer.TheVariants as answer
 use Rattle.qc_top.specs.declared.status.Status.{Status}
 use Rattle.qc_top.specs.declared.status.Status.TheVariants as status
-use Rattle.qc_top.specs.Answers.{status_of, report_text}
-use Rattle.qc_ship.specs.ShipFile.{ship_file}
-use Rattle.qc_stow.specs.Stow.{moves_in}
-use Rattle.qc_tasks.specs.InstanceOf.{instance_of}
-use Rattle.qc_top.specs.Due.{input_due, ship_due, stow_due, instance_due, built, plan_due, within_limit, or_bad_ship, or_bad_stow, ◌>>=◌}
-use Rattle.qc_top.specs.Words.{request_of}
-use Rattle.qc_top.specs.Run.{Stand, HoldsBest, IsRefused, Plans, Lists, Serves, Runs, IsPlanned, IsListed, IsComplete, word}
+use Rattle.qc_top.specs.Asked.{Asked, plan, tasks, unbuilt, usage, name_of, IsPlan}
+use Rattle.qc_top.specs.Words.{Asks}
+use Rattle.qc_top.specs.Due.{Reads, Work, print, search, reads_in, without, bytes_of, instance_due, due}
+use Rattle.qc_top.specs.Answers.{status_of, report_text, refusal_status, ending_of}
+use Rattle.qc_top.specs.Account.{ComesTo, IsUnread, IsRefused, Stops, ComesThrough, IsReading, IsPlanned, IsStopped, IsWriting, Serves, Printed, IsReported, IsCut, IsRun}
+use Rattle.qc_top.specs.Promises.{IsPlanTold, AreTasksTold, IsRefusal, IsRefusalTold, IsCutTold, IsStopTold, EndsWith, NoneFailed, status_due, Promises}
 
--- an optimal answer: only a plan gives it
-planned : (req : Request) (texts : List (List ℕ)) (before after : Stand) (end : ℕ) → Serves req texts before after (Optimal end) → Plans (word texts 1) (word texts 2) (word texts 3) before after (Optimal end)
-planned request.Plan texts before after end h = h
-planned request.Tasks texts before after end h = absurd h.1
-planned request.Unbuilt texts before after end h = absurd (cc h.0)
-planned request.Usage texts before after end h = absurd (cc h.0)
+-- the text of what is to be printed
+abbrev text_of : Result Work Refusal → List ℕ
+text_of (Ok (print ending)) = ending.text
+text_of _ = []
 
-with_report : (files : Option Files) (printed_before printed_after : Option (List ℕ)) (due : Files → Result InstanceView Answer) (plan : List ℕ) (after : Option Files) (end : ℕ) → IfSome files (λ held. HoldsBest (due held) held plan end after) → printed_after ≡ with_piece printed_before (report_text (Optimal end)) → IfSome files (λ held. IfSome printed_before (λ bytes. IsPlanned (due held) held plan bytes after printed_after))
-with_report None pb pa due plan after end h e = tt
-with_report (Some held) None pa due plan after end h e = tt
-with_report (Some held) (Some bytes) pa due plan after end h e = record {
-  inst = h.inst;
-  sched = h.sched;
-  planned = h.planned;
-  best = h.best;
-  file = h.file;
-  report = e ∙ ap (λ n. with_piece (Some bytes) (report_text (Optimal n))) h.ends_then;
-}
+-- the statuses of refusals are none of the others
+abbrev pub IsOther : Status → Type 0
+IsOther status.Optimal = ⊥
+IsOther status.Done = ⊥
+IsOther status.WriteFault = ⊥
+IsOther status.OutOfMemory = ⊥
+IsOther _ = Unit {0}
 
-optimal_answer : (a : Answer) → status_of a ≡ status.Optimal → (end : ℕ) × (a ≡ Optimal end)
-optimal_answer (Optimal end) e = (end, refl)
-optimal_answer (Tasks inst) e = absurd (cc e)
-optimal_answer Usage e = absurd (cc e)
-optimal_answer (ReadFault file) e = absurd (cc e)
-optimal_answer (TooLarge file) e = absurd (cc e)
-optimal_answer (BadShip fault) e = absurd (cc e)
-optimal_answer (BadStow fault) e = absurd (cc e)
-optimal_answer WriteFault e = absurd (cc e)
-optimal_answer OutOfMemory e = absurd (cc e)
-optimal_answer Unbuilt e = absurd (cc e)
+other : (why : Refusal) → IsOther (refusal_status why)
+other refusal.Usage = tt
+other (refusal.ReadFault file) = tt
+other (refusal.TooLarge file) = tt
+other (refusal.BadShip fault) = tt
+other (refusal.BadStow fault) = tt
+other refusal.Unbuilt = tt
 
-pub optimal_run : (texts : List (List ℕ)) (before after : Stand) (pb pa : Option (List ℕ)) (fb fa : ℕ) (ended : Status) → Runs texts before after pb pa fb fa ended → ended ≡ status.Optimal → IfSome before.files (λ held. IfSome pb (λ bytes. IsPlanned (plan_due held (word texts 1) (word texts 2)) held (word texts 3) bytes after.files pa))
-optimal_run texts before after pb pa fb fa ended run is =
-    elim run.reports [
-      | inl whole ↦
-          let found = optimal_answer run.answer (sym whole.status ∙ is) in
-          let serves = subst (Serves (request_of texts) texts before after) found.1 run.serves in
-          with_report before.files pb pa (λ held. plan_due held (word texts 1) (word texts 2)) (word texts 3) after.files found.0
-          (planned (request_of texts) texts before after found.0 serves)
-          (subst (λ a. pa ≡ with_piece pb (report_text a)) found.1 whole.printed)
-      | inr cut ↦ absurd (cc (cut.status, is))
+not_other : (why : Refusal) (s : Status) → refusal_status why ≡ s → IsOther s
+not_other why s e = subst IsOther e (other why)
+
+-- what comes of told files is due of them
+comes_due : (asked : Asked) (held : Files) (files : Option Files) → files ≡ Some held → (r : Result Work Refusal) → ComesTo (due asked) asked files r → due asked (reads_in held asked) ≡ r
+comes_due asked held None told r h = absurd (cc told)
+comes_due asked held (Some files) told r h = let same : files ≡ held = cc in rw (← same) h
+
+planned_due : (asked : Asked) (held : Files) (files : Option Files) → files ≡ Some held → (end : ℕ) (now : Option Files) → (h : IfSome files (λ held. IsPlanned asked held end now)) → (inst : InstanceView) × (due asked (reads_in held asked) ≡ Ok (search inst))
+planned_due asked held None told end now h = absurd (cc told)
+planned_due asked held (Some files) told end now h = let same : files ≡ held = cc in (h.inst, rw (← same) h.found.due)
+
+some_and : {A : Type 0} {P : A → Type 0} (o : Option A) → IsSomeAnd o P → (a : A) × (o ≡ Some a) × P a
+some_and None h = absurd h
+some_and (Some a) h = (a, refl, h)
+
+-- without a file that isn't held all is as with it
+without_missing : (file : Input) (held : Files) (asked : Asked) (name : List ℕ) → name_of file asked ≡ Some name → get held name ≡ None → without file (reads_in held asked) ≡ reads_in held asked
+without_missing input.Ship held asked name named missing = let reads = reads_in held asked in ap (λ (o : Option (List ℕ)). record reads { ship = o }) (sym (ap (option_and_then (get held)) named ∙ missing))
+without_missing input.Stow held asked name named missing = let reads = reads_in held asked in ap (λ (o : Option (List ℕ)). record reads { stow = o }) (sym (ap (option_and_then (get held)) named ∙ missing))
+without_missing input.Plan held asked name named missing = let reads = reads_in held asked in ap (λ (o : Option (List ℕ)). record reads { plan = o }) (sym (ap (option_and_then (get held)) named ∙ missing))
+without_missing input.Tree held asked name named missing = let reads = reads_in held asked in ap (λ (o : Option (List ℕ)). record reads { tree = o }) (sym (ap (option_and_then (get held)) named ∙ missing))
+
+-- a file that couldn't be read though no call failed is due as unread
+unread_due : (asked : Asked) (held : Files) (files : Option Files) → files ≡ Some held → (file : Input) (rb ra : ℕ) → ¬ Rose rb ra → IsSomeAnd (name_of file asked) (ReadCause rb ra files)
+    → IfSome files (λ held. due asked (without file (reads_in held asked)) ≡ Err (refusal.ReadFault file)) → due asked (reads_in held asked) ≡ Err (refusal.ReadFault file)
+unread_due asked held None told file rb ra none cause turn = absurd (cc told)
+unread_due asked held (Some files) told file rb ra none cause turn =
+    let same : files ≡ held = cc in
+    let (name, named, why) = some_and (name_of file asked) cause in
+    elim why [
+      | inl rose ↦ absurd (none rose)
+      | inr missing ↦ rw (← same) (rw (without_missing file files asked name named missing) at turn)
     ]
 
--- tasks are printed on request alone
-listed : (req : Request) (texts : List (List ℕ)) (before after : Stand) (inst : InstanceView) → Serves req texts before after (Tasks inst) → IfSome before.files (λ held. instance_due held (word texts 1) (word texts 2) ≡ Ok inst)
-listed request.Plan texts before after inst h = absurd h.1
-listed request.Tasks texts before after inst h = h.1
-listed request.Unbuilt texts before after inst h = absurd (cc h.0)
-listed request.Usage texts before after inst h = absurd (cc h.0)
+module _ (words : List (List ℕ)) (before after : Stand) (pb pa : Printed) (ended : Status) (run : IsRun words before after pb pa ended) where
+  -- the words ask for one thing
+  asked_is : (asked : Asked) → Asks words asked → Serves asked before after run.answer
+  asked_is asked asks = subst (λ a. Serves a before after run.answer) (sym run.asks ∙ asks) run.serves
 
-with_list : (files : Option Files) (printed_before printed_after : Option (List ℕ)) (due : Files → Result InstanceView Answer) (inst : InstanceView) → IfSome files (λ held. due held ≡ Ok inst) → printed_after ≡ with_piece printed_before (report_text (Tasks inst)) → IfSome files (λ held. IfSome printed_before (λ bytes. IsListed (due held) bytes printed_after))
-with_list None pb pa due inst h e = tt
-with_list (Some held) None pa due inst h e = tt
-with_list (Some held) (Some bytes) pa due inst h e = record { inst = inst; listed = h; report = e }
+  plan_told : (asked : Asked) → IsPlan asked → (a : Answer) → Serves asked before after a → status_of a ≡ status.Optimal → pa.bytes ≡ append_known pb.bytes (report_text a)
+      → IfSome before.files (λ held. IsPlanTold asked held after.files pb pa)
+  plan_told (plan s w p t) is (answer.Planned end) serves e report = told before.files serves.2 where
+    told : (files : Option Files) → IfSome files (λ held. IsPlanned (plan s w p t) held end after.files) → IfSome files (λ held. IsPlanTold (plan s w p t) held after.files pb pa)
+    told None h = tt
+    told (Some held) h = record { end = end; planned = h; report = report }
+  plan_told (plan s w p t) is (answer.Stopped (stop.Refused why)) serves e report = absurd (not_other why status.Optimal e)
+  plan_told (plan s w p t) is (answer.Stopped stop.OutOfMemory) serves e report = absurd (cc e)
+  plan_told (plan s w p t) is answer.WriteFault serves e report = absurd (cc e)
+  plan_told (plan s w p t) is (answer.Tasks inst) serves e report = absurd serves
+  plan_told (tasks s w) is a serves e report = absurd is
+  plan_told unbuilt is a serves e report = absurd is
+  plan_told usage is a serves e report = absurd is
 
-tasks_answer : (a : Answer) → status_of a ≡ status.Done → (inst : InstanceView) × (a ≡ Tasks inst)
-tasks_answer (Optimal end) e = absurd (cc e)
-tasks_answer (Tasks inst) e = (inst, refl)
-tasks_answer Usage e = absurd (cc e)
-tasks_answer (ReadFault file) e = absurd (cc e)
-tasks_answer (TooLarge file) e = absurd (cc e)
-tasks_answer (BadShip fault) e = absurd (cc e)
-tasks_answer (BadStow fault) e = absurd (cc e)
-tasks_answer WriteFault e = absurd (cc e)
-tasks_answer OutOfMemory e = absurd (cc e)
-tasks_answer Unbuilt e = absurd (cc e)
+  plan_optimal : (asked : Asked) → Asks words asked → IsPlan asked → ended ≡ status.Optimal
+      → IfSome before.files (λ held. IsPlanTold asked held after.files pb pa)
+  plan_optimal asked asks is e = elim run.reports [
+    | inl whole ↦ plan_told asked is run.answer (asked_is asked asks) (sym whole.status ∙ e) whole.printed
+    | inr cut ↦ absurd (cc (cut.status, e))
+  ]
 
-pub tasks_run : (texts : List (List ℕ)) (before after : Stand) (pb pa : Option (List ℕ)) (fb fa : ℕ) (ended : Status) → Runs texts before after pb pa fb fa ended → ended ≡ status.Done → IfSome before.files (λ held. IfSome pb (λ bytes. IsListed (instance_due held (word texts 1) (word texts 2)) bytes pa))
-tasks_run texts before after pb pa fb fa ended run is =
-    elim run.reports [
-      | inl whole ↦
-          let found = tasks_answer run.answer (sym whole.status ∙ is) in
-          let serves = subst (Serves (request_of texts) texts before after) found.1 run.serves in
-          with_list before.files pb pa (λ held. instance_due held (word texts 1) (word texts 2)) found.0
-          (listed (request_of texts) texts before after found.0 serves)
-          (subst (λ a. pa ≡ with_piece pb (report_text a)) found.1 whole.printed)
-      | inr cut ↦ absurd (cc (cut.status, is))
+  tasks_told : (ship stow : List ℕ) (a : Answer) → Serves (tasks ship stow) before after a → status_of a ≡ status.Done → pa.bytes ≡ append_known pb.bytes (report_text a)
+      → IfSome before.files (λ held. AreTasksTold (tasks ship stow) held pb pa)
+  tasks_told ship stow (answer.Tasks inst) serves e report = told before.files serves.ending.1 where
+    told : (files : Option Files) → ComesTo (due (tasks ship stow)) (tasks ship stow) files (Ok (print (ending_of (answer.Tasks inst)))) → IfSome files (λ held. AreTasksTold (tasks ship stow) held pb pa)
+    told None h = tt
+    told (Some held) h =
+        let (found, at, same) = bind_ok (instance_due (reads_in held (tasks ship stow))) (λ i. Ok (print (ending_of (answer.Tasks i)))) (print (ending_of (answer.Tasks inst))) h in
+        let texts = ap text_of same in
+        record { inst = found; due = at; report = report ∙ ap (append_known pb.bytes) (sym texts) }
+  tasks_told ship stow (answer.Planned end) serves e report = absurd (cc e)
+  tasks_told ship stow (answer.Stopped (stop.Refused why)) serves e report = absurd (not_other why status.Done e)
+  tasks_told ship stow (answer.Stopped stop.OutOfMemory) serves e report = absurd (cc e)
+  tasks_told ship stow answer.WriteFault serves e report = absurd (cc e)
+
+  tasks_done : (ship stow : List ℕ) → Asks words (tasks ship stow) → ended ≡ status.Done
+      → IfSome before.files (λ held. AreTasksTold (tasks ship stow) held pb pa)
+  tasks_done ship stow asks e = elim run.reports [
+    | inl whole ↦ tasks_told ship stow run.answer (asked_is (tasks ship stow) asks) (sym whole.status ∙ e) whole.printed
+    | inr cut ↦ absurd (cc (cut.status, e))
+  ]
+
+  -- the refusal whose status is told
+  refusal_told : (asked : Asked) (a : Answer) → Serves asked before after a → IsRefusal (status_of a) → ended ≡ status_of a → pa.bytes ≡ append_known pb.bytes (report_text a)
+      → IsRefusalTold asked before after pb pa ended
+  refusal_told asked (answer.Stopped (stop.Refused why)) serves is e report = record { why = why; status = e; cause = serves; report = report }
+  refusal_told asked (answer.Stopped stop.OutOfMemory) serves is e report = absurd is
+  refusal_told asked answer.WriteFault serves is e report = absurd is
+  refusal_told asked (answer.Tasks inst) serves is e report = absurd is
+  refusal_told asked (answer.Planned end) serves is e report = absurd is
+
+  refused : (asked : Asked) → Asks words asked → IsRefusal ended → IsRefusalTold asked before after pb pa ended
+  refused asked asks is = elim run.reports [
+    | inl whole ↦ refusal_told asked run.answer (asked_is asked asks) (subst IsRefusal whole.status is) whole.status whole.printed
+    | inr cut ↦ absurd (subst IsRefusal cut.status is)
+  ]
+
+  files_stay : (asked : Asked) → Asks words asked → ¬ IsPlan asked → after.files ≡ before.files
+  files_stay asked asks never = by asked (asked_is asked asks) never where
+    by : (asked : Asked) → Serves asked before after run.answer → ¬ IsPlan asked → after.files ≡ before.files
+    by (plan s w p t) serves never = absurd (never tt)
+    by (tasks s w) serves never = serves.files
+    by unbuilt serves never = ap (λ (s : Stand). s.files) serves.1
+    by usage serves never = ap (λ (s : Stand). s.files) serves.1
+
+  plan_stays : (asked : Asked) → IsPlan asked → (a : Answer) → Serves asked before after a → status_of a ≢ status.Optimal → status_of a ≢ status.WriteFault → after.files ≡ before.files
+  plan_stays (plan s w p t) is (answer.Stopped why) serves one two = serves.1
+  plan_stays (plan s w p t) is (answer.Planned end) serves one two = absurd (one refl)
+  plan_stays (plan s w p t) is answer.WriteFault serves one two = absurd (two refl)
+  plan_stays (plan s w p t) is (answer.Tasks inst) serves one two = absurd serves
+  plan_stays (tasks s w) is a serves one two = absurd is
+  plan_stays unbuilt is a serves one two = absurd is
+  plan_stays usage is a serves one two = absurd is
+
+  plan_leaves : (asked : Asked) → Asks words asked → IsPlan asked → ended ≢ status.Optimal → ended ≢ status.WriteFault → after.files ≡ before.files
+  plan_leaves asked asks is one two = elim run.reports [
+    | inl whole ↦ plan_stays asked is run.answer (asked_is asked asks) (λ e. one (whole.status ∙ e)) (λ e. two (whole.status ∙ e))
+    | inr cut ↦ absurd (two cut.status)
+  ]
+
+  -- what a plan may have left, whatever it came to
+  left : (s w p t : List ℕ) (a : Answer) → Serves (plan s w p t) before after a → IfSome before.files (λ held. (after.files ≡ Some held) ⊎ IsStopped (plan s w p t) held after.files)
+  left s w p t (answer.Stopped why) serves = same before.files serves.1 where
+    same : (files : Option Files) → after.files ≡ files → IfSome files (λ held. (after.files ≡ Some held) ⊎ IsStopped (plan s w p t) held after.files)
+    same None e = tt
+    same (Some held) e = inl e
+  left s w p t answer.WriteFault serves = stopped before.files serves.2 where
+    stopped : (files : Option Files) → IfSome files (λ held. IsStopped (plan s w p t) held after.files) → IfSome files (λ held. (after.files ≡ Some held) ⊎ IsStopped (plan s w p t) held after.files)
+    stopped None h = tt
+    stopped (Some held) h = inr h
+  left s w p t (answer.Planned end) serves = whole before.files serves.2 where
+    whole : (files : Option Files) → IfSome files (λ held. IsPlanned (plan s w p t) held end after.files) → IfSome files (λ held. (after.files ≡ Some held) ⊎ IsStopped (plan s w p t) held after.files)
+    whole None h = tt
+    whole (Some held) h = inr (record { inst = h.inst; sched = h.sched; found = h.found; files = inr (inr h.files) })
+  left s w p t (answer.Tasks inst) serves = absurd serves
+
+  plan_stopped : (asked : Asked) → Asks words asked → IsPlan asked → ended ≡ status.WriteFault
+      → IfSome before.files (λ held. (after.files ≡ Some held) ⊎ IsStopped asked held after.files)
+  plan_stopped asked asks is e = by asked is (asked_is asked asks) where
+    by : (asked : Asked) → IsPlan asked → Serves asked before after run.answer → IfSome before.files (λ held. (after.files ≡ Some held) ⊎ IsStopped asked held after.files)
+    by (plan s w p t) is serves = left s w p t run.answer serves
+    by (tasks s w) is serves = absurd is
+    by unbuilt is serves = absurd is
+    by usage is serves = absurd is
+
+  -- a write fault that isn't the sink's is one of the shelf, on the way of a plan
+  write_answer : (asked : Asked) (a : Answer) → Serves asked before after a → status_of a ≡ status.WriteFault → IsPlan asked × Rose before.faults after.faults × (a ≡ answer.WriteFault)
+  write_answer asked (answer.Stopped (stop.Refused why)) serves e = absurd (not_other why status.WriteFault e)
+  write_answer asked (answer.Stopped stop.OutOfMemory) serves e = absurd (cc e)
+  write_answer asked (answer.Planned end) serves e = absurd (cc e)
+  write_answer asked (answer.Tasks inst) serves e = absurd (cc e)
+  write_answer (plan s w p t) answer.WriteFault serves e = (tt, serves.0, refl)
+  write_answer (tasks s w) answer.WriteFault serves e = absurd serves.ending
+  write_answer unbuilt answer.WriteFault serves e = absurd (cc serves.0)
+  write_answer usage answer.WriteFault serves e = absurd (cc serves.0)
+
+  write_fault : (asked : Asked) → Asks words asked → ended ≡ status.WriteFault → IsCutTold asked before after pb pa ⊎ IsStopTold asked before after pb pa
+  write_fault asked asks e = elim run.reports [
+    | inl whole ↦
+        let (is, rose, same) = write_answer asked run.answer (asked_is asked asks) (sym whole.status ∙ e) in
+        inr (record {
+          plan = is;
+          rose = rose;
+          serves = subst (Serves asked before after) same (asked_is asked asks);
+          faults = whole.faults;
+          report = whole.printed ∙ ap (λ a. append_known pb.bytes (report_text a)) same;
+        })
+    | inr cut ↦ inl (record { rose = cut.rose; answer = run.answer; serves = asked_is asked asks; report = cut.printed })
+  ]
+
+  -- only words that are no command are answered by Usage
+  usage_asked : (asked : Asked) (a : Answer) → Serves asked before after a → status_of a ≡ status.Usage → asked ≡ usage
+  usage_asked asked (answer.Stopped (stop.Refused (refusal.ReadFault file))) serves e = absurd (cc e)
+  usage_asked asked (answer.Stopped (stop.Refused (refusal.TooLarge file))) serves e = absurd (cc e)
+  usage_asked asked (answer.Stopped (stop.Refused (refusal.BadShip fault))) serves e = absurd (cc e)
+  usage_asked asked (answer.Stopped (stop.Refused (refusal.BadStow fault))) serves e = absurd (cc e)
+  usage_asked asked (answer.Stopped (stop.Refused refusal.Unbuilt)) serves e = absurd (cc e)
+  usage_asked asked (answer.Stopped stop.OutOfMemory) serves e = absurd (cc e)
+  usage_asked asked (answer.Planned end) serves e = absurd (cc e)
+  usage_asked asked (answer.Tasks inst) serves e = absurd (cc e)
+  usage_asked asked answer.WriteFault serves e = absurd (cc e)
+  usage_asked (plan s w p t) (answer.Stopped (stop.Refused refusal.Usage)) serves e = absurd serves.0
+  usage_asked (tasks s w) (answer.Stopped (stop.Refused refusal.Usage)) serves e = absurd serves.ending
+  usage_asked unbuilt (answer.Stopped (stop.Refused refusal.Usage)) serves e = absurd (cc serves.0)
+  usage_asked usage (answer.Stopped (stop.Refused refusal.Usage)) serves e = refl
+
+  usage_words : ended ≡ status.Usage → Asks words usage
+  usage_words e = elim run.reports [
+    | inl whole ↦ run.asks ∙ usage_asked run.asked run.answer run.serves (sym whole.status ∙ e)
+    | inr cut ↦ absurd (cc (cut.status, e))
+  ]
+
+  not_built : Asks words unbuilt → EndsWith status.Unbuilt pb pa ended
+  not_built asks = elim run.reports [
+    | inl whole ↦ inl (whole.status ∙ ap status_of (asked_is unbuilt asks).0)
+    | inr cut ↦ inr (cut.status, cut.rose)
+  ]
+
+  no_command : Asks words usage → EndsWith status.Usage pb pa ended
+  no_command asks = elim run.reports [
+    | inl whole ↦ inl (whole.status ∙ ap status_of (asked_is usage asks).0)
+    | inr cut ↦ inr (cut.status, cut.rose)
+  ]
+
+  -- what is due of the files comes where no call failed
+  module _ (none : NoneFailed before after pb pa) where
+    stop_due : (asked : Asked) (held : Files) → before.files ≡ Some held → (why : Stop) → Stops (due asked) asked before after why
+        → (status_of (answer.Stopped why) ≡ status_due (due asked (reads_in held asked))) ⊎ (status_of (answer.Stopped why) ≡ status.OutOfMemory)
+    stop_due asked held told stop.OutOfMemory h = inr refl
+    stop_due asked held told (stop.Refused refusal.Usage) h = absurd h
+    stop_due asked held told (stop.Refused (refusal.ReadFault file)) h = inl (sym (ap status_due (unread_due asked held before.files told file _ _ none.reading h.cause h.turn)))
+    stop_due asked held told (stop.Refused (refusal.TooLarge file)) h = inl (sym (ap status_due (comes_due asked held before.files told (Err (refusal.TooLarge file)) h.1)))
+    stop_due asked held told (stop.Refused (refusal.BadShip fault)) h = inl (sym (ap status_due (comes_due asked held before.files told (Err (refusal.BadShip fault)) h.1)))
+    stop_due asked held told (stop.Refused (refusal.BadStow fault)) h = inl (sym (ap status_due (comes_due asked held before.files told (Err (refusal.BadStow fault)) h.1)))
+    stop_due asked held told (stop.Refused refusal.Unbuilt) h = inl (sym (ap status_due (comes_due asked held before.files told (Err refusal.Unbuilt) h.1)))
+
+    answer_due : (asked : Asked) (held : Files) → before.files ≡ Some held → (a : Answer) → Serves asked before after a
+        → (status_of a ≡ status_due (due asked (reads_in held asked))) ⊎ (status_of a ≡ status.OutOfMemory)
+    answer_due (plan s w p t) held told (answer.Stopped why) serves = stop_due (plan s w p t) held told why serves.0
+    answer_due (plan s w p t) held told (answer.Planned end) serves = inl (sym (ap status_due (planned_due (plan s w p t) held before.files told end after.files serves.2).1))
+    answer_due (plan s w p t) held told answer.WriteFault serves = absurd (none.writing serves.0)
+    answer_due (plan s w p t) held told (answer.Tasks inst) serves = absurd serves
+    answer_due (tasks s w) held told (answer.Stopped why) serves = stop_due (tasks s w) held told why serves.ending
+    answer_due (tasks s w) held told answer.WriteFault serves = absurd serves.ending
+    answer_due (tasks s w) held told (answer.Tasks inst) serves = inl (sym (ap status_due (comes_due (tasks s w) held before.files told (Ok (print (ending_of (answer.Tasks inst)))) serves.ending.1)))
+    answer_due (tasks s w) held told (answer.Planned end) serves = absurd serves.ending
+    answer_due unbuilt held told a serves = inl (ap status_of serves.0)
+    answer_due usage held told a serves = inl (ap status_of serves.0)
+
+    complete_at : (asked : Asked) → Asks words asked → (files : Option Files) → before.files ≡ files
+        → IfSome files (λ held. (ended ≡ status_due (due asked (reads_in held asked))) ⊎ (ended ≡ status.OutOfMemory))
+    complete_at asked asks None told = tt
+    complete_at asked asks (Some held) told = elim run.reports [
+      | inl whole ↦ subst (λ s. (s ≡ status_due (due asked (reads_in held asked))) ⊎ (s ≡ status.OutOfMemory)) (sym whole.status) (answer_due asked held told run.answer (asked_is asked asks))
+      | inr cut ↦ absurd (none.printing cut.rose)
     ]
 
--- what a plan leaves alone
-plan_stays : (ship stow plan : List ℕ) (before after : Stand) (a : Answer) → Plans ship stow plan before after a → status_of a ≢ status.Optimal → status_of a ≢ status.WriteFault → after.files ≡ before.files
-plan_stays ship stow plan before after (Optimal end) h no_plan no_fault = absurd (no_plan refl)
-plan_stays ship stow plan before after (Tasks inst) h no_plan no_fault = h.0
-plan_stays ship stow plan before after Usage h no_plan no_fault = h.0
-plan_stays ship stow plan before after (ReadFault file) h no_plan no_fault = h.0
-plan_stays ship stow plan before after (TooLarge file) h no_plan no_fault = h.0
-plan_stays ship stow plan before after (BadShip fault) h no_plan no_fault = h.0
-plan_stays ship stow plan before after (BadStow fault) h no_plan no_fault = h.0
-plan_stays ship stow plan before after WriteFault h no_plan no_fault = absurd (no_fault refl)
-plan_stays ship stow plan before after OutOfMemory h no_plan no_fault = h.0
-plan_stays ship stow plan before after Unbuilt h no_plan no_fault = h.0
-
-list_stays : (ship stow : List ℕ) (before after : Stand) (a : Answer) → Lists ship stow before after a → after.files ≡ before.files
-list_stays ship stow before after (Optimal end) h = h.0
-list_stays ship stow before after (Tasks inst) h = h.0
-list_stays ship stow before after Usage h = h.0
-list_stays ship stow before after (ReadFault file) h = h.0
-list_stays ship stow before after (TooLarge file) h = h.0
-list_stays ship stow before after (BadShip fault) h = h.0
-list_stays ship stow before after (BadStow fault) h = h.0
-list_stays ship stow before after WriteFault h = h.0
-list_stays ship stow before after OutOfMemory h = h.0
-list_stays ship stow before after Unbuilt h = h.0
-
-serve_stays : (req : Request) (texts : List (List ℕ)) (before after : Stand) (a : Answer) → Serves req texts before after a → status_of a ≢ status.Optimal → status_of a ≢ status.WriteFault → after.files ≡ before.files
-serve_stays request.Plan texts before after a h no_plan no_fault = plan_stays _ _ _ before after a h no_plan no_fault
-serve_stays request.Tasks texts before after a h no_plan no_fault = list_stays _ _ before after a h
-serve_stays request.Unbuilt texts before after a h no_plan no_fault = ap (λ (s : Stand). s.files) h.1
-serve_stays request.Usage texts before after a h no_plan no_fault = ap (λ (s : Stand). s.files) h.1
-
-pub run_stays : (texts : List (List ℕ)) (before after : Stand) (pb pa : Option (List ℕ)) (fb fa : ℕ) (ended : Status) → Runs texts before after pb pa fb fa ended → ended ≢ status.Optimal → ended ≢ status.WriteFault → after.files ≡ before.files
-run_stays texts before after pb pa fb fa ended run no_plan no_fault =
-    elim run.reports [
-      | inl whole ↦ serve_stays (request_of texts) texts before after run.answer run.serves (λ e. no_plan (whole.status ∙ e)) (λ e. no_fault (whole.status ∙ e))
-      | inr cut ↦ absurd (no_fault cut.status)
-    ]
-
-write_answer : (a : Answer) → status_of a ≡ status.WriteFault → a ≡ WriteFault
-write_answer (Optimal end) e = absurd (cc e)
-write_answer (Tasks inst) e = absurd (cc e)
-write_answer Usage e = absurd (cc e)
-write_answer (ReadFault file) e = absurd (cc e)
-write_answer (TooLarge file) e = absurd (cc e)
-write_answer (BadShip fault) e = absurd (cc e)
-write_answer (BadStow fault) e = absurd (cc e)
-write_answer WriteFault e = refl
-write_answer OutOfMemory e = absurd (cc e)
-write_answer Unbuilt e = absurd (cc e)
-
--- a write fault that isn't the sink's is one of the shelf, on the way of a plan
-write_serves : (req : Request) (texts : List (List ℕ)) (before after : Stand) → Serves req texts before after WriteFault → (req ≡ request.Plan) × Rose before.faults after.faults
-write_serves request.Plan texts before after h = (refl, h.0)
-write_serves request.Tasks texts before after h = absurd h.1
-write_serves request.Unbuilt texts before after h = absurd (cc h.0)
-write_serves request.Usage texts before after h = absurd (cc h.0)
-
-pub run_rose : (texts : List (List ℕ)) (before after : Stand) (pb pa : Option (List ℕ)) (fb fa : ℕ) (ended : Status) → Runs texts before after pb pa fb fa ended → ended ≡ status.WriteFault → (request_of texts ≡ request.Plan) × Rose before.faults after.faults ⊎ Rose fb fa
-run_rose texts before after pb pa fb fa ended run is =
-    elim run.reports [
-      | inl whole ↦
-          let found = write_answer run.answer (sym whole.status ∙ is) in
-          inl (write_serves (request_of texts) texts before after (subst (Serves (request_of texts) texts before after) found run.serves))
-      | inr cut ↦ inr cut.rose
-    ]
-
-usage_answer : (a : Answer) → status_of a ≡ status.Usage → a ≡ Usage
-usage_answer (Optimal end) e = absurd (cc e)
-usage_answer (Tasks inst) e = absurd (cc e)
-usage_answer Usage e = refl
-usage_answer (ReadFault file) e = absurd (cc e)
-usage_answer (TooLarge file) e = absurd (cc e)
-usage_answer (BadShip fault) e = absurd (cc e)
-usage_answer (BadStow fault) e = absurd (cc e)
-usage_answer WriteFault e = absurd (cc e)
-usage_answer OutOfMemory e = absurd (cc e)
-usage_answer Unbuilt e = absurd (cc e)
-
-usage_serves : (req : Request) (texts : List (List ℕ)) (before after : Stand) → Serves req texts before after Usage → req ≡ request.Usage
-usage_serves request.Plan texts before after h = absurd h.1
-usage_serves request.Tasks texts before after h = absurd h.1
-usage_serves request.Unbuilt texts before after h = absurd (cc h.0)
-usage_serves request.Usage texts before after h = refl
-
-pub run_usage : (texts : List (List ℕ)) (before after : Stand) (pb pa : Option (List ℕ)) (fb fa : ℕ) (ended : Status) → Runs texts before after pb pa fb fa ended → ended ≡ status.Usage → request_of texts ≡ request.Usage
-run_usage texts before after pb pa fb fa ended run is =
-    elim run.reports [
-      | inl whole ↦
-          let found = usage_answer run.answer (sym whole.status ∙ is) in
-          usage_serves (request_of texts) texts before after (subst (Serves (request_of texts) texts before after) found run.serves)
-      | inr cut ↦ absurd (cc (cut.status, is))
-    ]
-
-pub run_no_command : (texts : List (List ℕ)) (before after : Stand) (pb pa : Option (List ℕ)) (fb fa : ℕ) (ended : Status) → Runs texts before after pb pa fb fa ended → request_of texts ≡ request.Usage → (ended ≡ status.Usage) ⊎ (ended ≡ status.WriteFault) × Rose fb fa
-run_no_command texts before after pb pa fb fa ended run is =
-    let serves = subst (λ req. Serves req texts before after run.answer) is run.serves in
-    elim run.reports [
-      | inl whole ↦ inl (whole.status ∙ ap status_of serves.0)
-      | inr cut ↦ inr (cut.status, cut.rose)
-    ]
-
-bind_ok : {A B : Type 0} (r : Result A Answer) (f : A → Result B Answer) → IsOk (r >>= f) → IsOk r
-bind_ok (Ok x) f h = refl
-bind_ok (Err a) f h = absurd (cc h)
-
--- the moves that are due where the instance is, with the ship that is due
-stow_ok : (ship : Result ShipView Answer) (files : Files) (stow : List ℕ) → IsOk (ship >>= λ s. stow_due files s stow >>= λ rows. Ok (instance_of s rows)) → IsOk (input_due files Stow stow)
-stow_ok (Ok s) files stow h = bind_ok (input_due files Stow stow) (λ bytes. or_bad_stow (moves_in s bytes)) (bind_ok (stow_due files s stow) (λ rows. Ok (instance_of s rows)) h)
-stow_ok (Err a) files stow h = absurd (cc h)
-
-ship_ok : (files : Files) (ship stow : List ℕ) → IsOk (instance_due files ship stow) → IsOk (input_due files Ship ship)
-ship_ok files ship stow h = bind_ok (input_due files Ship ship) (λ bytes. or_bad_ship (ship_file bytes)) (bind_ok (ship_due files ship) (λ s. stow_due files s stow >>= λ rows. Ok (instance_of s rows)) h)
-
-none_refused : (file : Input) (o : Option (List ℕ)) → o ≡ None → IsOk (within_limit file o) → ⊥
-none_refused file None e h = cc h
-none_refused file (Some x) e h = cc e
-
--- a file whose reading is due is read, unless the count rose
-is_read : (files : Option Files) (due : Files → Type 0) (rb ra : ℕ) (name : List ℕ) (file : Input) → ((held : Files) → due held → IsOk (input_due held file name)) → ¬ Rose rb ra → IsSome files → IfSome files due → ReadCause rb ra files name → ⊥
-is_read None due rb ra name file follows no_rise told h cause = cc told
-is_read (Some held) due rb ra name file follows no_rise told h (inl rose) = no_rise rose
-is_read (Some held) due rb ra name file follows no_rise told h (inr missing) = none_refused file (get held name) missing (follows held h)
-
--- what is due isn't refused
-not_refused : (files : Option Files) (due : Files → Result InstanceView Answer) (a : Answer) → IsSome files → IfSome files (λ held. IsOk (due held)) → IfSome files (λ held. due held ≡ Err a) → ⊥
-not_refused None due a told is refused = cc told
-not_refused (Some held) due a told is refused = cc (is, ap is_ok refused)
-
--- where the instance is due, the only refusal is want of memory
-no_refusal : (due : Files → Result InstanceView Answer) (ship stow : List ℕ) (before after : Stand) (a : Answer) → ((held : Files) → IsOk (due held) → IsOk (instance_due held ship stow)) → IsRefused due ship stow before after a → IfSome before.files (λ held. IsOk (due held)) → IsSome before.files → ¬ Rose before.read_faults after.read_faults → status_of a ≡ status.OutOfMemory
-no_refusal due ship stow before after (Optimal end) part h is told no_read = absurd h
-no_refusal due ship stow before after (Tasks inst) part h is told no_read = absurd h
-no_refusal due ship stow before after Usage part h is told no_read = absurd h
-no_refusal due ship stow before after WriteFault part h is told no_read = absurd h
-no_refusal due ship stow before after OutOfMemory part h is told no_read = refl
-no_refusal due ship stow before after (ReadFault Ship) part h is told no_read = absurd (is_read before.files (λ held. IsOk (due held)) _ _ ship Ship (λ held d. ship_ok held ship stow (part held d)) no_read told is h)
-no_refusal due ship stow before after (ReadFault Stow) part h is told no_read = absurd (is_read before.files (λ held. IsOk (due held)) _ _ stow Stow (λ held d. stow_ok (ship_due held ship) held stow (part held d)) no_read told is h.0)
-no_refusal due ship stow before after (TooLarge file) part h is told no_read = absurd (not_refused before.files due (TooLarge file) told is h)
-no_refusal due ship stow before after (BadShip fault) part h is told no_read = absurd (not_refused before.files due (BadShip fault) told is h)
-no_refusal due ship stow before after (BadStow fault) part h is told no_read = absurd (not_refused before.files due (BadStow fault) told is h)
-no_refusal due ship stow before after Unbuilt part h is told no_read = absurd (not_refused before.files due Unbuilt told is h)
-
-plan_refusal : (ship stow plan : List ℕ) (before after : Stand) (a : Answer) → IsRefused (λ held. plan_due held ship stow) ship stow before after a → IfSome before.files (λ held. IsOk (plan_due held ship stow)) → IsSome before.files → ¬ Rose before.read_faults after.read_faults → (status_of a ≡ status.Optimal) ⊎ (status_of a ≡ status.OutOfMemory)
-plan_refusal ship stow plan before after a h is told no_read = inr (no_refusal (λ held. plan_due held ship stow) ship stow before after a (λ held. bind_ok (instance_due held ship stow) built) h is told no_read)
-
--- a plan that is due comes, but for want of memory
-plan_comes : (ship stow plan : List ℕ) (before after : Stand) (a : Answer) → Plans ship stow plan before after a → IfSome before.files (λ held. IsOk (plan_due held ship stow)) → IsSome before.files → ¬ Rose before.faults after.faults → ¬ Rose before.read_faults after.read_faults → (status_of a ≡ status.Optimal) ⊎ (status_of a ≡ status.OutOfMemory)
-plan_comes ship stow plan before after (Optimal end) h is told no_write no_read = inl refl
-plan_comes ship stow plan before after WriteFault h is told no_write no_read = absurd (no_write h.0)
-plan_comes ship stow plan before after (Tasks inst) h is told no_write no_read = absurd h.1
-plan_comes ship stow plan before after Usage h is told no_write no_read = absurd h.1
-plan_comes ship stow plan before after (ReadFault file) h is told no_write no_read = plan_refusal ship stow plan before after (ReadFault file) h.1 is told no_read
-plan_comes ship stow plan before after (TooLarge file) h is told no_write no_read = plan_refusal ship stow plan before after (TooLarge file) h.1 is told no_read
-plan_comes ship stow plan before after (BadShip fault) h is told no_write no_read = plan_refusal ship stow plan before after (BadShip fault) h.1 is told no_read
-plan_comes ship stow plan before after (BadStow fault) h is told no_write no_read = plan_refusal ship stow plan before after (BadStow fault) h.1 is told no_read
-plan_comes ship stow plan before after OutOfMemory h is told no_write no_read = inr refl
-plan_comes ship stow plan before after Unbuilt h is told no_write no_read = plan_refusal ship stow plan before after Unbuilt h.1 is told no_read
-
-list_refusal : (ship stow : List ℕ) (before after : Stand) (a : Answer) → IsRefused (λ held. instance_due held ship stow) ship stow before after a → IfSome before.files (λ held. IsOk (instance_due held ship stow)) → IsSome before.files → ¬ Rose before.read_faults after.read_faults → (status_of a ≡ status.Done) ⊎ (status_of a ≡ status.OutOfMemory)
-list_refusal ship stow before after a h is told no_read = inr (no_refusal (λ held. instance_due held ship stow) ship stow before after a (λ held d. d) h is told no_read)
-
--- tasks that are due come, but for want of memory
-list_comes : (ship stow : List ℕ) (before after : Stand) (a : Answer) → Lists ship stow before after a → IfSome before.files (λ held. IsOk (instance_due held ship stow)) → IsSome before.files → ¬ Rose before.read_faults after.read_faults → (status_of a ≡ status.Done) ⊎ (status_of a ≡ status.OutOfMemory)
-list_comes ship stow before after (Tasks inst) h is told no_read = inl refl
-list_comes ship stow before after (Optimal end) h is told no_read = absurd h.1
-list_comes ship stow before after Usage h is told no_read = absurd h.1
-list_comes ship stow before after (ReadFault file) h is told no_read = list_refusal ship stow before after (ReadFault file) h.1 is told no_read
-list_comes ship stow before after (TooLarge file) h is told no_read = list_refusal ship stow before after (TooLarge file) h.1 is told no_read
-list_comes ship stow before after (BadShip fault) h is told no_read = list_refusal ship stow before after (BadShip fault) h.1 is told no_read
-list_comes ship stow before after (BadStow fault) h is told no_read = list_refusal ship stow before after (BadStow fault) h.1 is told no_read
-list_comes ship stow before after WriteFault h is told no_read = absurd h.1
-list_comes ship stow before after OutOfMemory h is told no_read = inr refl
-list_comes ship stow before after Unbuilt h is told no_read = list_refusal ship stow before after Unbuilt h.1 is told no_read
-
-told_by : (files : Option Files) (held : Files) → files ≡ Some held → IsSome files
-told_by files held e = ap is_some e
-
-due_by : (files : Option Files) (held : Files) (P : Files → Type 0) → files ≡ Some held → P held → IfSome files P
-due_by files held P e p = subst (λ o. IfSome o P) (sym e) p
-
-complete_at : (texts : List (List ℕ)) (held : Files) (before after : Stand) (pb pa : Option (List ℕ)) (fb fa : ℕ) (ended : Status) → before.files ≡ Some held → Runs texts before after pb pa fb fa ended → IsComplete texts held before after fb fa ended
-complete_at texts held before after pb pa fb fa ended told run = record {
-  plan = λ is due no_write no_read no_print.
-      let serves = subst (λ req. Serves req texts before after run.answer) is run.serves in
-      elim run.reports [
-        | inl whole ↦
-            elim (plan_comes (word texts 1) (word texts 2) (word texts 3) before after run.answer serves
-            (due_by before.files held (λ h. IsOk (plan_due h (word texts 1) (word texts 2))) told due) (told_by before.files held told) no_write no_read) [
-              | inl e ↦ inl (whole.status ∙ e)
-              | inr e ↦ inr (whole.status ∙ e)
-            ]
-        | inr cut ↦ absurd (no_print cut.rose)
-      ];
-  tasks = λ is due no_read no_print.
-      let serves = subst (λ req. Serves req texts before after run.answer) is run.serves in
-      elim run.reports [
-        | inl whole ↦
-            elim (list_comes (word texts 1) (word texts 2) before after run.answer serves
-            (due_by before.files held (λ h. IsOk (instance_due h (word texts 1) (word texts 2))) told due) (told_by before.files held told) no_read) [
-              | inl e ↦ inl (whole.status ∙ e)
-              | inr e ↦ inr (whole.status ∙ e)
-            ]
-        | inr cut ↦ absurd (no_print cut.rose)
-      ];
-}
-
-complete_files : (texts : List (List ℕ)) (before after : Stand) (fb fa : ℕ) (ended : Status) (files : Option Files) → ((held : Files) → files ≡ Some held → IsComplete texts held before after fb fa ended) → IfSome files (λ held. IsComplete texts held before after fb fa ended)
-complete_files texts before after fb fa ended None follows = tt
-complete_files texts before after fb fa ended (Some held) follows = follows held refl
-
-pub run_complete : (texts : List (List ℕ)) (before after : Stand) (pb pa : Option (List ℕ)) (fb fa : ℕ) (ended : Status) → Runs texts before after pb pa fb fa ended → IfSome before.files (λ held. IsComplete texts held before after fb fa ended)
-run_complete texts before after pb pa fb fa ended run =
-    complete_files texts before after fb fa ended before.files (λ held told. complete_at texts held before after pb pa fb fa ended told run)
+  pub promises : Promises words before after pb pa ended
+  promises = record {
+    plan_optimal = plan_optimal;
+    tasks_done = tasks_done;
+    refused = refused;
+    files_stay = files_stay;
+    plan_leaves = plan_leaves;
+    plan_stopped = plan_stopped;
+    write_fault = write_fault;
+    usage_words = usage_words;
+    no_command = no_command;
+    not_built = not_built;
+    complete = λ asked asks none. complete_at none asked asks before.files refl;
+  }

@@ -6,7 +6,7 @@ use Rattle.qc_model.specs.declared.task.Task.{Task}
 use Rattle.qc_model.specs.declared.schedule.Slot.{Slot}
 use Rattle.qc_model.specs.Bays.{bays_up, bays_between}
 use Rattle.qc_model.specs.Instance.{InstanceView, Valid, task, crane, bay_of, no_task}
-use Rattle.qc_model.specs.Rules.{crane_of, start_of, end_of, no_slot, last_end, ends}
+use Rattle.qc_model.specs.Rules.{crane_of, start_of, end_of, no_slot, last_end, ends, starts}
 use Rattle.qc_model.specs.OneWay.{GoesUp, GoesDown, GoesOneWay}
 use Rattle.qc_model.proofs.Bays.{bays}
 use Rattle.qc_top.specs.Orders.{head, next_start, order_end}
@@ -31,14 +31,14 @@ pub by_way_travel : (t : ℕ) (a b c : ℤ) → t * bays_between a c ≤ t * bay
 by_way_travel t a b c = omega (arith, mul-le-mul_left t (by_way a b c))
 
 -- each task ends by the end of all
-pub end_le_last_end : (ts : List Task) (ss : List Slot) (j : ℕ) → j < length ts → j < length ss → (get_or ss j no_slot).start + (get_or ts j no_task).ticks ≤ last_end ts ss
+pub end_le_last_end : (ts : List Task) (ss : List Slot) (j : ℕ) → j < length ts → j < length ss → (get_or ss j no_slot).start + (get_or ts j no_task).ticks ≤ last_end ts (starts ss)
 end_le_last_end [] ss j h k = absurd (omega arith)
 end_le_last_end (t ∷ ts) [] j h k = absurd (omega arith)
 end_le_last_end (t ∷ ts) (s ∷ ss) zero h k = omega arith
 end_le_last_end (t ∷ ts) (s ∷ ss) (suc j) h k = omega (arith, end_le_last_end ts ss j (omega arith) (omega arith))
 
 -- what every task ends by, all end by
-pub last_end_le : (ts : List Task) (ss : List Slot) (m : ℕ) → ((j : ℕ) → j < length ts → j < length ss → (get_or ss j no_slot).start + (get_or ts j no_task).ticks ≤ m) → last_end ts ss ≤ m
+pub last_end_le : (ts : List Task) (ss : List Slot) (m : ℕ) → ((j : ℕ) → j < length ts → j < length ss → (get_or ss j no_slot).start + (get_or ts j no_task).ticks ≤ m) → last_end ts (starts ss) ≤ m
 last_end_le [] ss m h = omega arith
 last_end_le (t ∷ ts) [] m h = omega arith
 last_end_le (t ∷ ts) (s ∷ ss) m h = omega (arith, h 0 (omega arith) (omega arith), last_end_le ts ss m (λ j p q. h (suc j) (omega arith) (omega arith)))

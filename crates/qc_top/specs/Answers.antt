@@ -1,6 +1,5 @@
 -- What a run comes to, what it prints and the status that it ends with.
 use Rattle.std.specs.Prelude.{◌≡◌, ℕ, ◌⊎◌, List, [], ◌∷◌, ◌++◌, codes, decimal, Option}
-use Rattle.qc_io.specs.Outside.{Rose, GrewByPart, with_piece}
 use Rattle.qc_cell.specs.declared.cell.CellFault.{CellFault}
 use Rattle.qc_cell.specs.declared.cell.CellFault.TheVariants as cell
 use Rattle.qc_ship.specs.declared.fault.ShipKind.{ShipKind}
@@ -14,10 +13,15 @@ use Rattle.qc_stow.specs.declared.fault.StowFault.{StowFault}
 use Rattle.qc_tasks.specs.TasksText.{tasks_text}
 use Rattle.qc_top.specs.declared.answer.Input.{Input}
 use Rattle.qc_top.specs.declared.answer.Input.TheVariants as input
+use Rattle.qc_top.specs.declared.answer.Refusal.{Refusal}
+use Rattle.qc_top.specs.declared.answer.Refusal.TheVariants as refusal
+use Rattle.qc_top.specs.declared.answer.Stop.{Stop}
+use Rattle.qc_top.specs.declared.answer.Stop.TheVariants as stop
 use Rattle.qc_top.specs.declared.answer.Answer.{Answer}
 use Rattle.qc_top.specs.declared.answer.Answer.TheVariants as answer
 use Rattle.qc_top.specs.declared.status.Status.{Status}
 use Rattle.qc_top.specs.declared.status.Status.TheVariants as status
+use Rattle.qc_top.specs.Due.{Ending}
 
 -- the exit status of each status
 abbrev pub status_code : Status → ℕ
@@ -42,6 +46,8 @@ status_code status.Unbuilt = 16
 abbrev pub input_text : Input → List ℕ
 input_text input.Ship = codes "ship"
 input_text input.Stow = codes "stow"
+input_text input.Plan = codes "plan"
+input_text input.Tree = codes "tree"
 
 abbrev pub usage_text : List ℕ
 usage_text = codes "Usage\nqc plan SHIP STOW PLAN TREE [--nodes N]\nqc check SHIP STOW PLAN TREE\nqc tasks SHIP STOW\nqc show SHIP STOW PLAN\nqc make NUMBER HATCHES CRANES\n"
@@ -60,17 +66,15 @@ ship_kind_text ship.CraneOrder = codes "CraneOrder"
 ship_kind_text ship.NameTwice = codes "NameTwice"
 ship_kind_text ship.Apart = codes "Apart"
 
--- where in the ship file the fault is: the key and the number of its element
-abbrev pub place_text : Key → ℕ → List ℕ
-place_text key number = codes " " ++ (key_text key ++ (codes " " ++ line (decimal number)))
+-- the line of a fault in the ship file with its place: the key and the number of its element
+abbrev pub place_line : List ℕ → ShipFault → List ℕ
+place_line kind fault =
+    codes "BadShip " ++ kind ++ codes " " ++ key_text fault.key ++ codes " " ++ decimal fault.number ++ codes "\n"
 
--- a text that is no TOML has no place
-abbrev pub ship_place_text : ShipFault → ShipKind → List ℕ
-ship_place_text fault ship.NotToml = codes "\n"
-ship_place_text fault _ = place_text fault.key fault.number
-
-abbrev pub ship_fault_text : ShipFault → List ℕ
-ship_fault_text fault = ship_kind_text fault.kind ++ ship_place_text fault fault.kind
+-- the line of a fault in the ship file; a text that is no TOML has no place
+abbrev pub bad_ship_text : ShipKind → ShipFault → List ℕ
+bad_ship_text ship.NotToml fault = codes "BadShip NotToml\n"
+bad_ship_text kind fault = place_line (ship_kind_text kind) fault
 
 abbrev pub cell_fault_text : CellFault → List ℕ
 cell_fault_text cell.Length = codes "Length"
@@ -92,47 +96,57 @@ stow_kind_text stow.NoHatch = codes "NoHatch"
 stow_kind_text stow.IdTwice = codes "IdTwice"
 stow_kind_text stow.CellTaken = codes "CellTaken"
 
--- the fault of a stowage list and its record
-abbrev pub stow_fault_text : StowFault → List ℕ
-stow_fault_text fault = stow_kind_text fault.kind ++ (codes " " ++ line (decimal fault.number))
+-- the line of a fault in the stowage list with its record
+abbrev pub bad_stow_text : StowFault → List ℕ
+bad_stow_text fault = codes "BadStow " ++ stow_kind_text fault.kind ++ codes " " ++ decimal fault.number ++ codes "\n"
+
+-- the line of an end in ticks
+abbrev pub end_line : ℕ → List ℕ
+end_line end = codes "end " ++ decimal end ++ codes "\n"
+
+-- what is printed for a best plan
+abbrev pub planned_text : ℕ → List ℕ
+planned_text end = codes "Optimal\n" ++ end_line end
+
+-- what is printed for a refusal
+abbrev pub refusal_text : Refusal → List ℕ
+refusal_text refusal.Usage = usage_text
+refusal_text (refusal.ReadFault file) = codes "ReadFault " ++ line (input_text file)
+refusal_text (refusal.TooLarge file) = codes "TooLarge " ++ line (input_text file)
+refusal_text (refusal.BadShip fault) = bad_ship_text fault.kind fault
+refusal_text (refusal.BadStow fault) = bad_stow_text fault
+refusal_text refusal.Unbuilt = codes "Unbuilt\n"
+
+abbrev pub refusal_status : Refusal → Status
+refusal_status refusal.Usage = status.Usage
+refusal_status (refusal.ReadFault file) = status.ReadFault
+refusal_status (refusal.TooLarge file) = status.TooLarge
+refusal_status (refusal.BadShip fault) = status.BadShip
+refusal_status (refusal.BadStow fault) = status.BadStow
+refusal_status refusal.Unbuilt = status.Unbuilt
+
+-- what is printed where a request stops
+abbrev pub stop_text : Stop → List ℕ
+stop_text (stop.Refused why) = refusal_text why
+stop_text stop.OutOfMemory = codes "OutOfMemory\n"
+
+abbrev pub stop_status : Stop → Status
+stop_status (stop.Refused why) = refusal_status why
+stop_status stop.OutOfMemory = status.OutOfMemory
 
 -- what is printed for an answer
 abbrev pub report_text : Answer → List ℕ
-report_text (answer.Optimal end) = codes "Optimal\nend " ++ line (decimal end)
-report_text (answer.Tasks inst) = tasks_text inst
-report_text answer.Usage = usage_text
-report_text (answer.ReadFault file) = codes "ReadFault " ++ line (input_text file)
-report_text (answer.TooLarge file) = codes "TooLarge " ++ line (input_text file)
-report_text (answer.BadShip fault) = codes "BadShip " ++ ship_fault_text fault
-report_text (answer.BadStow fault) = codes "BadStow " ++ stow_fault_text fault
+report_text (answer.Stopped why) = stop_text why
 report_text answer.WriteFault = codes "WriteFault\n"
-report_text answer.OutOfMemory = codes "OutOfMemory\n"
-report_text answer.Unbuilt = codes "Unbuilt\n"
+report_text (answer.Tasks inst) = tasks_text inst
+report_text (answer.Planned end) = planned_text end
 
 abbrev pub status_of : Answer → Status
-status_of (answer.Optimal end) = status.Optimal
-status_of (answer.Tasks inst) = status.Done
-status_of answer.Usage = status.Usage
-status_of (answer.ReadFault file) = status.ReadFault
-status_of (answer.TooLarge file) = status.TooLarge
-status_of (answer.BadShip fault) = status.BadShip
-status_of (answer.BadStow fault) = status.BadStow
+status_of (answer.Stopped why) = stop_status why
 status_of answer.WriteFault = status.WriteFault
-status_of answer.OutOfMemory = status.OutOfMemory
-status_of answer.Unbuilt = status.Unbuilt
+status_of (answer.Tasks inst) = status.Done
+status_of (answer.Planned end) = status.Optimal
 
--- the report went out whole
-pub record IsReported (answer : Answer) (before after : Option (List ℕ)) (ended : Status) : Type 0 where
-  pub printed : after ≡ with_piece before (report_text answer)
-  pub status : ended ≡ status_of answer
-
--- the sink failed on the way, so that a part of the report went out
-pub record IsCut (answer : Answer) (before after : Option (List ℕ)) (faults_before faults_after : ℕ) (ended : Status) : Type 0 where
-  pub printed : GrewByPart before after (report_text answer)
-  pub rose : Rose faults_before faults_after
-  pub status : ended ≡ status.WriteFault
-
--- the report of the answer went out, or the sink failed on the way
-abbrev pub Reports : Answer → Option (List ℕ) → Option (List ℕ) → ℕ → ℕ → Status → Type 0
-Reports answer before after faults_before faults_after ended =
-    IsReported answer before after ended ⊎ IsCut answer before after faults_before faults_after ended
+-- how an answer ends
+abbrev pub ending_of : Answer → Ending
+ending_of a = record { status = status_of a; text = report_text a }

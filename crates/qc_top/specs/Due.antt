@@ -1,71 +1,110 @@
--- What the files of a ship lead to, and the order of refusals.
-use Rattle.std.specs.Prelude.{ℕ, List, length, nat_le, if◌then◌else◌, Option, Some, None, Result, Ok, Err}
+-- What a request and the files that it reads lead to, with the order of refusals.
+use Rattle.std.specs.Prelude.{ℕ, List, length, nat_le, if◌then◌else◌, Option, Some, None, option_and_then, Result, Ok, Err}
 use Rattle.std.specs.FinMap.{get}
+use Rattle.qc_num.specs.Reading.{◌>>=◌, with_fault}
 use Rattle.qc_io.specs.Outside.{Files}
 use Rattle.qc_model.specs.Instance.{InstanceView}
 use Rattle.qc_ship.specs.Ship.{ShipView}
-use Rattle.qc_ship.specs.declared.fault.ShipFault.{ShipFault}
 use Rattle.qc_ship.specs.ShipFile.{ship_file}
 use Rattle.qc_stow.specs.declared.row.Row.{Row}
-use Rattle.qc_stow.specs.declared.fault.StowFault.{StowFault}
 use Rattle.qc_stow.specs.Stow.{moves_in}
 use Rattle.qc_tasks.specs.InstanceOf.{instance_of}
+use Rattle.qc_tasks.specs.TasksText.{tasks_text}
 use Rattle.qc_top.specs.declared.answer.Input.{Input}
 use Rattle.qc_top.specs.declared.answer.Input.TheVariants as input
-use Rattle.qc_top.specs.declared.answer.Answer.{Answer}
-use Rattle.qc_top.specs.declared.answer.Answer.TheVariants as answer
+use Rattle.qc_top.specs.declared.answer.Refusal.{Refusal}
+use Rattle.qc_top.specs.declared.answer.Refusal.TheVariants as refusal
+use Rattle.qc_top.specs.declared.status.Status.{Status}
+use Rattle.qc_top.specs.declared.status.Status.TheVariants as status
+use Rattle.qc_top.specs.Asked.{Asked, plan, tasks, unbuilt, usage, name_of}
 use Rattle.qc_top.specs.Orders.{is_small}
 
--- the greatest length of a ship file and of a stowage list, in bytes
+-- the bytes of the files that are read, by what they are for; none where the file isn't held or isn't read
+pub record Reads : Type 0 where
+  pub ship : Option (List ℕ)
+  pub stow : Option (List ℕ)
+  pub plan : Option (List ℕ)
+  pub tree : Option (List ℕ)
+
+abbrev pub bytes_of : Input → Reads → Option (List ℕ)
+bytes_of input.Ship reads = reads.ship
+bytes_of input.Stow reads = reads.stow
+bytes_of input.Plan reads = reads.plan
+bytes_of input.Tree reads = reads.tree
+
+-- the same, as if one of the files weren't held
+abbrev pub without : Input → Reads → Reads
+without input.Ship reads = record reads { ship = None }
+without input.Stow reads = record reads { stow = None }
+without input.Plan reads = record reads { plan = None }
+without input.Tree reads = record reads { tree = None }
+
+-- what a request reads of these files
+abbrev pub reads_in : Files → Asked → Reads
+reads_in held asked = record {
+  ship = option_and_then (get held) (name_of input.Ship asked);
+  stow = option_and_then (get held) (name_of input.Stow asked);
+  plan = option_and_then (get held) (name_of input.Plan asked);
+  tree = option_and_then (get held) (name_of input.Tree asked);
+}
+
+-- how a command ends that only reads: its status and its report
+pub record Ending : Type 0 where
+  pub status : Status
+  pub text : List ℕ
+
+-- what is to be done: a report is to be printed, or a best schedule of an instance is to be found and written
+pub data Work : Type 0 where
+  print : (ending : Ending) → Work
+  search : (inst : InstanceView) → Work
+
+-- the greatest length of a file that is read whole, in bytes
 abbrev pub file_limit : ℕ
 file_limit = 8388608
 
--- a step, and then those that need its value; the first refusal counts
-infixl 10 ◌>>=◌
-abbrev pub ◌>>=◌ : {A B : Type 0} → Result A Answer → (A → Result B Answer) → Result B Answer
-Ok x >>= next = next x
-Err a >>= next = Err a
-
 -- the bytes of a file that is held and isn't too large
-abbrev pub within_limit : Input → Option (List ℕ) → Result (List ℕ) Answer
-within_limit file None = Err (answer.ReadFault file)
-within_limit file (Some bytes) = if nat_le (length bytes) file_limit then Ok bytes else Err (answer.TooLarge file)
+abbrev pub within_limit : Input → Option (List ℕ) → Result (List ℕ) Refusal
+within_limit file None = Err (refusal.ReadFault file)
+within_limit file (Some bytes) =
+    if nat_le (length bytes) file_limit then Ok bytes else Err (refusal.TooLarge file)
 
-abbrev pub input_due : Files → Input → List ℕ → Result (List ℕ) Answer
-input_due files file name = within_limit file (get files name)
-
--- a fault of a ship file or of a stowage list as an answer
-abbrev pub or_bad_ship : Result ShipView ShipFault → Result ShipView Answer
-or_bad_ship (Ok ship) = Ok ship
-or_bad_ship (Err fault) = Err (answer.BadShip fault)
-
-abbrev pub or_bad_stow : Result (List Row) StowFault → Result (List Row) Answer
-or_bad_stow (Ok rows) = Ok rows
-or_bad_stow (Err fault) = Err (answer.BadStow fault)
+abbrev pub input_due : Input → Reads → Result (List ℕ) Refusal
+input_due file reads = within_limit file (bytes_of file reads)
 
 -- the ship, or the first refusal of its file
-abbrev pub ship_due : Files → List ℕ → Result ShipView Answer
-ship_due files ship = do
-  bytes ← input_due files input.Ship ship
-  or_bad_ship (ship_file bytes)
+abbrev pub ship_due : Reads → Result ShipView Refusal
+ship_due reads = do
+  bytes ← input_due input.Ship reads
+  with_fault refusal.BadShip (ship_file bytes)
 
 -- the moves of the stowage list, or the first refusal of its file
-abbrev pub stow_due : Files → ShipView → List ℕ → Result (List Row) Answer
-stow_due files ship stow = do
-  bytes ← input_due files input.Stow stow
-  or_bad_stow (moves_in ship bytes)
+abbrev pub moves_due : ShipView → Reads → Result (List Row) Refusal
+moves_due ship reads = do
+  bytes ← input_due input.Stow reads
+  with_fault refusal.BadStow (moves_in ship bytes)
 
 -- the instance of the files, or the first refusal: first of the ship file, then of the stowage list
-abbrev pub instance_due : Files → List ℕ → List ℕ → Result InstanceView Answer
-instance_due files ship stow = do
-  read ← ship_due files ship
-  rows ← stow_due files read stow
-  Ok (instance_of read rows)
+abbrev pub instance_due : Reads → Result InstanceView Refusal
+instance_due reads = do
+  ship ← ship_due reads
+  rows ← moves_due ship reads
+  Ok (instance_of ship rows)
 
--- an instance of a form that is planned
-abbrev pub built : InstanceView → Result InstanceView Answer
-built inst = if is_small inst then Ok inst else Err answer.Unbuilt
+-- the tasks of the instance are to be printed
+abbrev pub tasks_due : Reads → Result Work Refusal
+tasks_due reads = do
+  inst ← instance_due reads
+  Ok (print (record { status = status.Done; text = tasks_text inst }))
 
--- the instance that is planned, or the first refusal
-abbrev pub plan_due : Files → List ℕ → List ℕ → Result InstanceView Answer
-plan_due files ship stow = instance_due files ship stow >>= built
+-- a best schedule of the instance is to be found, where it is of a form that is planned
+abbrev pub plan_due : Reads → Result Work Refusal
+plan_due reads = do
+  inst ← instance_due reads
+  if is_small inst then Ok (search inst) else Err refusal.Unbuilt
+
+-- what a request leads to
+abbrev pub due : Asked → Reads → Result Work Refusal
+due (plan s w p t) reads = plan_due reads
+due (tasks s w) reads = tasks_due reads
+due unbuilt reads = Err refusal.Unbuilt
+due usage reads = Err refusal.Usage

@@ -1,6 +1,8 @@
+pub mod Asked
 pub mod Words
-pub mod Answers
-pub mod PlanText
 pub mod Orders
 pub mod Due
-pub mod Run
+pub mod Answers
+pub mod PlanText
+pub mod Account
+pub mod Promises

@@ -36,6 +36,6 @@ IsBetterFirst travel c a b = (order_end travel c a b < order_end travel c b a) �
 abbrev pub AreBestStarts : ℕ → Crane → Task → Task → ℕ → ℕ → Type 0
 AreBestStarts travel c a b start_a start_b = ((start_a ≡ head travel c a) × (start_b ≡ next_start travel c a b) × IsBetterFirst travel c a b) ⊎ ((start_b ≡ head travel c b) × (start_a ≡ next_start travel c b a) × IsBetterFirst travel c b a)
 
--- no task starts after tick 2^40
+-- each start has at most 12 digits
 abbrev pub HasEarlyStarts : List Slot → Type 0
-HasEarlyStarts sched = All (λ s. s.start ≤ 2 ^ 40) sched
+HasEarlyStarts sched = All (λ s. s.start < 10 ^ 12) sched

@@ -1,40 +1,71 @@
 //! What a run comes to, and its report.
-ghost use Rattle.std.specs.Prelude.{◌≡◌, ◌≤◌, ◌++◌, OnOk, OnErr};
-ghost use Rattle.qc_io.specs.Outside.{Rose, GrewByPart, with_piece};
-ghost use Rattle.qc_top.specs.Answers.{input_text, line, report_text, status_of, Reports};
+ghost use Rattle.std.specs.Prelude.{◌≡◌, ◌≤◌, ◌++◌, codes};
+ghost use Rattle.qc_io.specs.Outside.{Rose};
+ghost use Rattle.qc_io.specs.Writes.{Writes};
+ghost use Rattle.qc_top.specs.Answers.{input_text, line, end_line, planned_text, refusal_text, report_text, refusal_status, status_of};
+ghost use Rattle.qc_top.specs.Account.{Reports, printed_of};
 
 use crate::faults::{put_ship_fault, put_stow_fault};
 use crate::status::Status;
-use qc_io::{Sink, WriteFault, put_all, put_number, put_pair};
+use qc_io::{Sink, WriteFault, put_all};
 use qc_model::Instance;
-use qc_num::Tick;
+use qc_num::{OutOfMemory, Text, Tick};
 use qc_ship::ShipFault;
 use qc_stow::StowFault;
 use qc_tasks::write_tasks;
 
-/// A file that a command reads, named by its place among the words.
+/// A file that a command reads, by what it is for.
 #[derive(Clone, Copy, Debug, PartialEq, Eq)]
 pub enum Input {
     Ship,
     Stow,
+    Plan,
+    Tree,
+}
+
+/// Why a request isn't served.
+#[derive(Clone, Copy, Debug)]
+pub enum Refusal {
+    /// The words are no command.
+    Usage,
+    /// The file isn't there or couldn't be read.
+    ReadFault(Input),
+    /// The file has more than 8,388,608 bytes.
+    TooLarge(Input),
+    BadShip(ShipFault),
+    BadStow(StowFault),
+    /// A form of input that isn't built yet.
+    Unbuilt,
+}
+
+/// Why a request was given up before anything was written.
+#[derive(Clone, Copy, Debug)]
+pub enum Stop {
+    Refused(Refusal),
+    OutOfMemory,
+}
+
+impl From<OutOfMemory> for Stop {
+    ghost use Rattle.std.specs.Prelude.{◌≡◌};
+    ghost use Rattle.qc_top.specs.declared.answer.Stop.TheVariants as stop;
+
+    ghost from_gives = { λ _ error. error ≡ stop.OutOfMemory };
+
+    fn from(_refused: OutOfMemory) -> Stop {
+        Stop::OutOfMemory
+    }
 }
 
 /// What a run comes to before it is reported.
 #[derive(Drop)]
 pub enum Answer {
-    /// The best plan was written; it ends at this tick.
-    Optimal { end: Tick },
+    Stopped(Stop),
+    /// A file couldn't be written whole.
+    WriteFault,
     /// The tasks of this instance are to be printed.
     Tasks { inst: Instance },
-    Usage,
-    ReadFault { file: Input },
-    TooLarge { file: Input },
-    BadShip { fault: ShipFault },
-    BadStow { fault: StowFault },
-    /// The plan file couldn't be written whole.
-    WriteFault,
-    OutOfMemory,
-    Unbuilt,
+    /// The best plan was written; it ends at this tick.
+    Planned { end: Tick },
 }
 
 const USAGE: &[u8] = b"Usage
@@ -45,13 +76,40 @@ qc show SHIP STOW PLAN
 qc make NUMBER HATCHES CRANES
 ";
 
-/// The line of a file that was refused: the name is one of `ship` and `stow`.
-fn input_line(file: Input) -> &'static [u8]
-    ensures { result.now ≡ line (input_text file) }
+/// The line of a file that couldn't be read.
+fn unread_line(file: Input) -> &'static [u8]
+    ensures { result.now ≡ codes "ReadFault " ++ line (input_text file) }
 {
     match file {
-        Input::Ship => b"ship\n",
-        Input::Stow => b"stow\n",
+        Input::Ship => b"ReadFault ship\n",
+        Input::Stow => b"ReadFault stow\n",
+        Input::Plan => b"ReadFault plan\n",
+        Input::Tree => b"ReadFault tree\n",
+    }
+}
+
+/// The line of a file that is too large.
+fn large_line(file: Input) -> &'static [u8]
+    ensures { result.now ≡ codes "TooLarge " ++ line (input_text file) }
+{
+    match file {
+        Input::Ship => b"TooLarge ship\n",
+        Input::Stow => b"TooLarge stow\n",
+        Input::Plan => b"TooLarge plan\n",
+        Input::Tree => b"TooLarge tree\n",
+    }
+}
+
+fn refusal_status(why: Refusal) -> Status
+    ensures { result ≡ refusal_status why }
+{
+    match why {
+        Refusal::Usage => Status::Usage,
+        Refusal::ReadFault(_) => Status::ReadFault,
+        Refusal::TooLarge(_) => Status::TooLarge,
+        Refusal::BadShip(_) => Status::BadShip,
+        Refusal::BadStow(_) => Status::BadStow,
+        Refusal::Unbuilt => Status::Unbuilt,
     }
 }
 
@@ -60,43 +118,60 @@ fn status_of(answer: &Answer) -> Status
     ensures { result ≡ status_of answer.now }
 {
     match answer {
-        Answer::Optimal { .. } => Status::Optimal,
-        Answer::Tasks { .. } => Status::Done,
-        Answer::Usage => Status::Usage,
-        Answer::ReadFault { .. } => Status::ReadFault,
-        Answer::TooLarge { .. } => Status::TooLarge,
-        Answer::BadShip { .. } => Status::BadShip,
-        Answer::BadStow { .. } => Status::BadStow,
+        Answer::Stopped(Stop::Refused(why)) => refusal_status(*why),
+        Answer::Stopped(Stop::OutOfMemory) => Status::OutOfMemory,
         Answer::WriteFault => Status::WriteFault,
-        Answer::OutOfMemory => Status::OutOfMemory,
-        Answer::Unbuilt => Status::Unbuilt,
+        Answer::Tasks { .. } => Status::Done,
+        Answer::Planned { .. } => Status::Optimal,
     }
 }
 
+fn put_refusal<K: Sink>(why: Refusal, out: &mut K) -> Result<(), WriteFault>
+    ensures { Writes K.written K.beside K.faults out.old out.new (refusal_text why) result }
+{
+    match why {
+        Refusal::Usage => put_all(out, USAGE),
+        Refusal::ReadFault(file) => put_all(out, unread_line(file)),
+        Refusal::TooLarge(file) => put_all(out, large_line(file)),
+        Refusal::BadShip(fault) => put_ship_fault(fault, out),
+        Refusal::BadStow(fault) => put_stow_fault(fault, out),
+        Refusal::Unbuilt => put_all(out, b"Unbuilt\n"),
+    }
+}
+
+fn put_end<K: Sink>(end: Tick, out: &mut K) -> Result<(), WriteFault>
+    ensures { Writes K.written K.beside K.faults out.old out.new (end_line end) result }
+{
+    let mut line: Text<32> = Text::of(b"end ");
+    line.push_number(end);
+    line.push(b"\n");
+    put_all(out, line.as_bytes())
+}
+
+#[tactic(auto, using(qc_io::proofs::WritesLemmas::writes_then, qc_io::proofs::WritesLemmas::writes_cut))]
+fn put_planned<K: Sink>(end: Tick, out: &mut K) -> Result<(), WriteFault>
+    ensures { Writes K.written K.beside K.faults out.old out.new (planned_text end) result }
+{
+    put_all(out, b"Optimal\n")?;
+    put_end(end, out)
+}
+
 fn put_report<K: Sink>(answer: &Answer, out: &mut K) -> Result<(), WriteFault>
-    ensures ok { OnOk result (K.written out.new ≡ with_piece (K.written out.old) (report_text answer.now)) }
-    ensures err { OnErr result (GrewByPart (K.written out.old) (K.written out.new) (report_text answer.now)) }
-    ensures err_rose { OnErr result (Rose (K.faults out.old) (K.faults out.new)) }
-    ensures beside_stays { K.beside out.new ≡ K.beside out.old }
-    ensures faults_never_fall { K.faults out.old ≤ K.faults out.new }
+    ensures { Writes K.written K.beside K.faults out.old out.new (report_text answer.now) result }
 {
     match answer {
-        Answer::Optimal { end } => put_number(out, b"Optimal\nend ", *end, b"\n"),
-        Answer::Tasks { inst } => write_tasks(inst, out),
-        Answer::Usage => put_all(out, USAGE),
-        Answer::ReadFault { file } => put_pair(out, b"ReadFault ", input_line(*file)),
-        Answer::TooLarge { file } => put_pair(out, b"TooLarge ", input_line(*file)),
-        Answer::BadShip { fault } => put_ship_fault(out, *fault),
-        Answer::BadStow { fault } => put_stow_fault(out, *fault),
+        Answer::Stopped(Stop::Refused(why)) => put_refusal(*why, out),
+        Answer::Stopped(Stop::OutOfMemory) => put_all(out, b"OutOfMemory\n"),
         Answer::WriteFault => put_all(out, b"WriteFault\n"),
-        Answer::OutOfMemory => put_all(out, b"OutOfMemory\n"),
-        Answer::Unbuilt => put_all(out, b"Unbuilt\n"),
+        Answer::Tasks { inst } => write_tasks(inst, out),
+        Answer::Planned { end } => put_planned(*end, out),
     }
 }
 
 /// Prints the report of an answer. Where the sink fails on the way the status is `WriteFault`.
 pub(crate) fn report<K: Sink>(answer: &Answer, out: &mut K) -> Status
-    ensures reports { Reports answer.now (K.written out.old) (K.written out.new) (K.faults out.old) (K.faults out.new) result }
+    ensures reports { Reports answer.now
+        (printed_of K.written K.faults out.old) (printed_of K.written K.faults out.new) result }
     ensures beside_stays { K.beside out.new ≡ K.beside out.old }
     ensures faults_never_fall { K.faults out.old ≤ K.faults out.new }
 {

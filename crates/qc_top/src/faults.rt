@@ -1,16 +1,17 @@
 //! The reports of faults in a ship file and in a stowage list.
-ghost use Rattle.std.specs.Prelude.{◌≡◌, ◌≤◌, ◌++◌, ◌∷◌, [], codes, decimal, OnOk, OnErr};
-ghost use Rattle.qc_io.specs.Outside.{Rose, GrewByPart, with_piece};
-ghost use Rattle.qc_ship.specs.Keys.{key_text};
-ghost use Rattle.qc_top.specs.Answers.{ship_kind_text, place_text, ship_place_text, ship_fault_text, cell_fault_text, stow_kind_text, stow_fault_text};
+ghost use Rattle.std.specs.Prelude.{◌≡◌, ◌≤◌, ◌++◌, length};
+ghost use Rattle.qc_io.specs.Writes.{Writes};
+ghost use Rattle.qc_top.specs.Answers.{ship_kind_text, bad_ship_text, place_line, cell_fault_text, stow_kind_text, bad_stow_text};
 
 use qc_cell::CellFault;
-use qc_io::{Sink, WriteFault, put_all, put_number, put_pair};
-use qc_ship::{Key, ShipFault, ShipKind};
+use qc_io::{Sink, WriteFault, put_all};
+use qc_num::Text;
+use qc_ship::{ShipFault, ShipKind};
 use qc_stow::{StowFault, StowKind};
 
 fn ship_kind_text(kind: ShipKind) -> &'static [u8]
-    ensures { result.now ≡ ship_kind_text kind }
+    ensures text { result.now ≡ ship_kind_text kind }
+    ensures short { length result.now ≤ 10 }
 {
     match kind {
         ShipKind::NotToml => b"NotToml",
@@ -24,71 +25,34 @@ fn ship_kind_text(kind: ShipKind) -> &'static [u8]
     }
 }
 
-#[tactic(auto, using(qc_io::proofs::Pieces::part_of_first, qc_io::proofs::Pieces::part_of_second, qc_io::proofs::Pieces::whole_pair))]
-fn put_key<K: Sink>(out: &mut K, key: Key, number: u32) -> Result<(), WriteFault>
-    ensures ok { OnOk result (K.written out.new ≡ with_piece (K.written out.old) (key_text key ++ (codes " " ++ (decimal number ++ 10 ∷ [])))) }
-    ensures err { OnErr result (GrewByPart (K.written out.old) (K.written out.new) (key_text key ++ (codes " " ++ (decimal number ++ 10 ∷ [])))) }
-    ensures err_rose { OnErr result (Rose (K.faults out.old) (K.faults out.new)) }
-    ensures beside_stays { K.beside out.new ≡ K.beside out.old }
-    ensures faults_never_fall { K.faults out.old ≤ K.faults out.new }
+/// Writes a fault of the ship file with its place: the key and the number of its element.
+fn put_place<K: Sink>(kind: &[u8], fault: ShipFault, out: &mut K) -> Result<(), WriteFault>
+    requires { length kind.now ≤ 10 }
+    ensures { Writes K.written K.beside K.faults out.old out.new (place_line kind.now fault) result }
 {
-    put_all(out, key.text().as_bytes())?;
-    put_number(out, b" ", u64::from(number), b"\n")
+    let mut line: Text<64> = Text::of(b"BadShip ");
+    line.push(kind);
+    line.push(b" ");
+    line.push(fault.key.text().as_bytes());
+    line.push(b" ");
+    line.push_number(u64::from(fault.number));
+    line.push(b"\n");
+    put_all(out, line.as_bytes())
 }
 
-/// Writes where in the ship file a fault is; a text that is no TOML has no place.
-#[tactic(auto, using(qc_io::proofs::Pieces::part_of_first, qc_io::proofs::Pieces::part_of_second, qc_io::proofs::Pieces::whole_pair))]
-fn put_place<K: Sink>(out: &mut K, key: Key, number: u32) -> Result<(), WriteFault>
-    ensures ok { OnOk result (K.written out.new ≡ with_piece (K.written out.old) (place_text key number)) }
-    ensures err { OnErr result (GrewByPart (K.written out.old) (K.written out.new) (place_text key number)) }
-    ensures err_rose { OnErr result (Rose (K.faults out.old) (K.faults out.new)) }
-    ensures beside_stays { K.beside out.new ≡ K.beside out.old }
-    ensures faults_never_fall { K.faults out.old ≤ K.faults out.new }
-{
-    put_all(out, b" ")?;
-    put_key(out, key, number)
-}
-
-fn put_ship_place<K: Sink>(out: &mut K, fault: ShipFault) -> Result<(), WriteFault>
-    ensures ok { OnOk result (K.written out.new ≡ with_piece (K.written out.old) (ship_place_text fault fault.kind)) }
-    ensures err { OnErr result (GrewByPart (K.written out.old) (K.written out.new) (ship_place_text fault fault.kind)) }
-    ensures err_rose { OnErr result (Rose (K.faults out.old) (K.faults out.new)) }
-    ensures beside_stays { K.beside out.new ≡ K.beside out.old }
-    ensures faults_never_fall { K.faults out.old ≤ K.faults out.new }
+/// Writes the report of a fault in the ship file; a text that is no TOML has no place.
+pub(crate) fn put_ship_fault<K: Sink>(fault: ShipFault, out: &mut K) -> Result<(), WriteFault>
+    ensures { Writes K.written K.beside K.faults out.old out.new (bad_ship_text fault.kind fault) result }
 {
     match fault.kind {
-        ShipKind::NotToml => put_all(out, b"\n"),
-        _ => put_place(out, fault.key, fault.number),
+        ShipKind::NotToml => put_all(out, b"BadShip NotToml\n"),
+        kind => put_place(ship_kind_text(kind), fault, out),
     }
 }
 
-#[tactic(auto, using(qc_io::proofs::Pieces::part_of_first, qc_io::proofs::Pieces::part_of_second, qc_io::proofs::Pieces::whole_pair))]
-fn put_ship_kind<K: Sink>(out: &mut K, fault: ShipFault) -> Result<(), WriteFault>
-    ensures ok { OnOk result (K.written out.new ≡ with_piece (K.written out.old) (ship_fault_text fault)) }
-    ensures err { OnErr result (GrewByPart (K.written out.old) (K.written out.new) (ship_fault_text fault)) }
-    ensures err_rose { OnErr result (Rose (K.faults out.old) (K.faults out.new)) }
-    ensures beside_stays { K.beside out.new ≡ K.beside out.old }
-    ensures faults_never_fall { K.faults out.old ≤ K.faults out.new }
-{
-    put_all(out, ship_kind_text(fault.kind))?;
-    put_ship_place(out, fault)
-}
-
-/// Writes the report of a fault in the ship file.
-#[tactic(auto, using(qc_io::proofs::Pieces::part_of_first, qc_io::proofs::Pieces::part_of_second, qc_io::proofs::Pieces::whole_pair))]
-pub(crate) fn put_ship_fault<K: Sink>(out: &mut K, fault: ShipFault) -> Result<(), WriteFault>
-    ensures ok { OnOk result (K.written out.new ≡ with_piece (K.written out.old) (codes "BadShip " ++ ship_fault_text fault)) }
-    ensures err { OnErr result (GrewByPart (K.written out.old) (K.written out.new) (codes "BadShip " ++ ship_fault_text fault)) }
-    ensures err_rose { OnErr result (Rose (K.faults out.old) (K.faults out.new)) }
-    ensures beside_stays { K.beside out.new ≡ K.beside out.old }
-    ensures faults_never_fall { K.faults out.old ≤ K.faults out.new }
-{
-    put_all(out, b"BadShip ")?;
-    put_ship_kind(out, fault)
-}
-
 fn cell_fault_text(fault: CellFault) -> &'static [u8]
-    ensures { result.now ≡ cell_fault_text fault }
+    ensures text { result.now ≡ cell_fault_text fault }
+    ensures short { length result.now ≤ 14 }
 {
     match fault {
         CellFault::Length => b"Length",
@@ -100,7 +64,8 @@ fn cell_fault_text(fault: CellFault) -> &'static [u8]
 }
 
 fn stow_kind_text(kind: StowKind) -> &'static [u8]
-    ensures { result.now ≡ stow_kind_text kind }
+    ensures text { result.now ≡ stow_kind_text kind }
+    ensures short { length result.now ≤ 14 }
 {
     match kind {
         StowKind::Header => b"Header",
@@ -116,27 +81,14 @@ fn stow_kind_text(kind: StowKind) -> &'static [u8]
     }
 }
 
-#[tactic(auto, using(qc_io::proofs::Pieces::part_of_first, qc_io::proofs::Pieces::part_of_second, qc_io::proofs::Pieces::whole_pair))]
-fn put_stow_kind<K: Sink>(out: &mut K, fault: StowFault) -> Result<(), WriteFault>
-    ensures ok { OnOk result (K.written out.new ≡ with_piece (K.written out.old) (stow_fault_text fault)) }
-    ensures err { OnErr result (GrewByPart (K.written out.old) (K.written out.new) (stow_fault_text fault)) }
-    ensures err_rose { OnErr result (Rose (K.faults out.old) (K.faults out.new)) }
-    ensures beside_stays { K.beside out.new ≡ K.beside out.old }
-    ensures faults_never_fall { K.faults out.old ≤ K.faults out.new }
-{
-    put_all(out, stow_kind_text(fault.kind))?;
-    put_number(out, b" ", u64::from(fault.number), b"\n")
-}
-
 /// Writes the report of a fault in the stowage list.
-#[tactic(auto, using(qc_io::proofs::Pieces::part_of_first, qc_io::proofs::Pieces::part_of_second, qc_io::proofs::Pieces::whole_pair))]
-pub(crate) fn put_stow_fault<K: Sink>(out: &mut K, fault: StowFault) -> Result<(), WriteFault>
-    ensures ok { OnOk result (K.written out.new ≡ with_piece (K.written out.old) (codes "BadStow " ++ stow_fault_text fault)) }
-    ensures err { OnErr result (GrewByPart (K.written out.old) (K.written out.new) (codes "BadStow " ++ stow_fault_text fault)) }
-    ensures err_rose { OnErr result (Rose (K.faults out.old) (K.faults out.new)) }
-    ensures beside_stays { K.beside out.new ≡ K.beside out.old }
-    ensures faults_never_fall { K.faults out.old ≤ K.faults out.new }
+pub(crate) fn put_stow_fault<K: Sink>(fault: StowFault, out: &mut K) -> Result<(), WriteFault>
+    ensures { Writes K.written K.beside K.faults out.old out.new (bad_stow_text fault) result }
 {
-    put_all(out, b"BadStow ")?;
-    put_stow_kind(out, fault)
+    let mut line: Text<64> = Text::of(b"BadStow ");
+    line.push(stow_kind_text(fault.kind));
+    line.push(b" ");
+    line.push_number(u64::from(fault.number));
+    line.push(b"\n");
+    put_all(out, line.as_bytes())
 }

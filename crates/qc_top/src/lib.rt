@@ -12,7 +12,7 @@ mod status;
 mod tasks;
 mod words;
 
-pub use answer::{Answer, Input};
+pub use answer::{Answer, Input, Refusal, Stop};
 pub use program::run;
 pub use status::Status;
 pub use words::Request;

@@ -1,11 +1,14 @@
 //! The files that a command reads.
-ghost use Rattle.std.specs.Prelude.{◌≡◌, ◌≤◌, IfOk, IfErr, IfSome, Ok};
-ghost use Rattle.qc_top.specs.Due.{input_due, ship_due, stow_due, instance_due};
-ghost use Rattle.qc_top.specs.Run.{Stand, IsInputRefused, IsRefused, IsShipRefused, IsStowRefused};
+ghost use Rattle.std.specs.Prelude.{◌≡◌, IfOk, Some, All, IsSome};
+ghost use Rattle.qc_io.specs.Outside.{stand_of};
 ghost use Rattle.qc_ship.specs.Ship.{place_of_bay};
-ghost use Rattle.std.specs.Prelude.{All, IsSome};
+ghost use Rattle.qc_top.specs.declared.answer.Input.TheVariants as input;
+ghost use Rattle.qc_top.specs.Asked.{asked_for, name_of};
+ghost use Rattle.qc_top.specs.Due.{input_due, ship_due, moves_due, instance_due};
+ghost use Rattle.qc_top.specs.Account.{IsStep};
 
-use crate::answer::{Answer, Input};
+use crate::answer::{Input, Refusal, Stop};
+use crate::words::Request;
 use qc_io::{ReadAll, Shelf, read_all};
 use qc_model::Instance;
 use qc_num::{Bytes, OutOfMemory};
@@ -17,82 +20,82 @@ use std::alloc::Global;
 /// The greatest length of a ship file and of a stowage list, in bytes.
 const FILE_LIMIT: usize = 8_388_608;
 
-/// The bytes of a file that the command reads.
+/// The bytes of a file that the request reads.
 fn read_input<S: Shelf>(
     alloc: Global,
+    request: &Request<'_>,
     file: Input,
-    name: &str,
     shelf: &mut S,
-) -> Result<Bytes, Answer>
-    ensures ok { IfOk result (λ bytes. IfSome (S.files shelf.old) (λ held. input_due held file name.now ≡ Ok bytes)) }
-    ensures err { IfErr result (IsInputRefused file name.now (S.files shelf.old) (S.read_faults shelf.old) (S.read_faults shelf.new)) }
-    ensures files_stay { S.files shelf.new ≡ S.files shelf.old }
-    ensures faults_stay { S.Sink.faults shelf.new ≡ S.Sink.faults shelf.old }
-    ensures read_faults_never_fall { S.read_faults shelf.old ≤ S.read_faults shelf.new }
+) -> Result<Bytes, Stop>
+    requires { IsSome (name_of file (asked_for request.now)) }
+    ensures { IsStep (input_due file) (asked_for request.now)
+        (stand_of S.files S.Sink.faults S.read_faults shelf.old)
+        (stand_of S.files S.Sink.faults S.read_faults shelf.new) result }
 {
+    let Some(name) = request.name_of(file) else {
+        unreachable!()
+    };
     match read_all(alloc, shelf, name, FILE_LIMIT) {
         Ok(bytes) => Ok(bytes),
-        Err(ReadAll::ReadFault) => Err(Answer::ReadFault { file }),
-        Err(ReadAll::TooLarge) => Err(Answer::TooLarge { file }),
-        Err(ReadAll::OutOfMemory) => Err(Answer::OutOfMemory),
+        Err(ReadAll::ReadFault) => Err(Stop::Refused(Refusal::ReadFault(file))),
+        Err(ReadAll::TooLarge) => Err(Stop::Refused(Refusal::TooLarge(file))),
+        Err(ReadAll::OutOfMemory) => Err(Stop::OutOfMemory),
     }
 }
 
 /// The ship of the ship file.
-fn ship_from<S: Shelf>(alloc: Global, name: &str, shelf: &mut S) -> Result<Ship, Answer>
-    ensures ok { IfOk result (λ ship. IfSome (S.files shelf.old) (λ held. ship_due held name.now ≡ Ok ship)) }
-    ensures err { IfErr result (IsShipRefused name.now (S.files shelf.old) (S.read_faults shelf.old) (S.read_faults shelf.new)) }
-    ensures files_stay { S.files shelf.new ≡ S.files shelf.old }
-    ensures faults_stay { S.Sink.faults shelf.new ≡ S.Sink.faults shelf.old }
-    ensures read_faults_never_fall { S.read_faults shelf.old ≤ S.read_faults shelf.new }
+fn read_ship_file<S: Shelf>(
+    alloc: Global,
+    request: &Request<'_>,
+    shelf: &mut S,
+) -> Result<Ship, Stop>
+    requires { IsSome (name_of input.Ship (asked_for request.now)) }
+    ensures { IsStep ship_due (asked_for request.now)
+        (stand_of S.files S.Sink.faults S.read_faults shelf.old)
+        (stand_of S.files S.Sink.faults S.read_faults shelf.new) result }
 {
-    let bytes = read_input(alloc, Input::Ship, name, shelf)?;
+    let bytes = read_input(alloc, request, Input::Ship, shelf)?;
     match read_ship(alloc, bytes.as_slice()) {
         Ok(ship) => Ok(ship),
-        Err(ShipError::Fault(fault)) => Err(Answer::BadShip { fault }),
-        Err(ShipError::OutOfMemory) => Err(Answer::OutOfMemory),
+        Err(ShipError::Fault(fault)) => Err(Stop::Refused(Refusal::BadShip(fault))),
+        Err(ShipError::OutOfMemory) => Err(Stop::OutOfMemory),
     }
 }
 
 /// The moves of the stowage list.
-fn moves_from<S: Shelf>(
+fn read_moves<S: Shelf>(
     alloc: Global,
-    name: &str,
+    request: &Request<'_>,
     ship: &Ship,
     shelf: &mut S,
-) -> Result<Moves, Answer>
-    ensures ok { IfOk result (λ moves. IfSome (S.files shelf.old) (λ held. stow_due held ship.now name.now ≡ Ok moves)) }
+) -> Result<Moves, Stop>
+    requires { IsSome (name_of input.Stow (asked_for request.now)) }
+    ensures step { IsStep (moves_due ship.now) (asked_for request.now)
+        (stand_of S.files S.Sink.faults S.read_faults shelf.old)
+        (stand_of S.files S.Sink.faults S.read_faults shelf.new) result }
     ensures hatches { IfOk result (All (λ row. IsSome (place_of_bay ship.now row.cell.bay))) }
-    ensures err { IfErr result (IsStowRefused name.now ship.now (S.files shelf.old) (S.read_faults shelf.old) (S.read_faults shelf.new)) }
-    ensures files_stay { S.files shelf.new ≡ S.files shelf.old }
-    ensures faults_stay { S.Sink.faults shelf.new ≡ S.Sink.faults shelf.old }
-    ensures read_faults_never_fall { S.read_faults shelf.old ≤ S.read_faults shelf.new }
 {
-    let bytes = read_input(alloc, Input::Stow, name, shelf)?;
+    let bytes = read_input(alloc, request, Input::Stow, shelf)?;
     match read_stow(alloc, bytes.as_slice(), ship) {
         Ok(moves) => Ok(moves),
-        Err(StowError::Fault(fault)) => Err(Answer::BadStow { fault }),
-        Err(StowError::OutOfMemory) => Err(Answer::OutOfMemory),
+        Err(StowError::Fault(fault)) => Err(Stop::Refused(Refusal::BadStow(fault))),
+        Err(StowError::OutOfMemory) => Err(Stop::OutOfMemory),
     }
 }
 
-/// The instance of the ship file and the stowage list on the shelf, or why there is none.
+/// The instance of the ship file and the stowage list, or why there is none.
 pub(crate) fn read_instance<S: Shelf>(
     alloc: Global,
-    ship: &str,
-    stow: &str,
+    request: &Request<'_>,
     shelf: &mut S,
-) -> Result<Instance, Answer>
-    ensures ok { IfOk result (λ inst. IfSome (S.files shelf.old) (λ held. instance_due held ship.now stow.now ≡ Ok inst)) }
-    ensures err { IfErr result (IsRefused (λ held. instance_due held ship.now stow.now) ship.now stow.now (record { files = S.files shelf.old; faults = S.Sink.faults shelf.old; read_faults = S.read_faults shelf.old }) (record { files = S.files shelf.new; faults = S.Sink.faults shelf.new; read_faults = S.read_faults shelf.new })) }
-    ensures files_stay { S.files shelf.new ≡ S.files shelf.old }
-    ensures faults_stay { S.Sink.faults shelf.new ≡ S.Sink.faults shelf.old }
-    ensures read_faults_never_fall { S.read_faults shelf.old ≤ S.read_faults shelf.new }
+) -> Result<Instance, Stop>
+    requires ship { IsSome (name_of input.Ship (asked_for request.now)) }
+    requires stow { IsSome (name_of input.Stow (asked_for request.now)) }
+    ensures { IsStep instance_due (asked_for request.now)
+        (stand_of S.files S.Sink.faults S.read_faults shelf.old)
+        (stand_of S.files S.Sink.faults S.read_faults shelf.new) result }
 {
-    let ship = ship_from(alloc, ship, shelf)?;
-    let moves = moves_from(alloc, stow, &ship, shelf)?;
-    match tasks_of(alloc, &ship, &moves) {
-        Ok(inst) => Ok(inst),
-        Err(OutOfMemory) => Err(Answer::OutOfMemory),
-    }
+    let ship = read_ship_file(alloc, request, shelf)?;
+    let moves = read_moves(alloc, request, &ship, shelf)?;
+    Ok(tasks_of(alloc, &ship, &moves)?)
 }

@@ -1,19 +1,26 @@
 //! The command that prints the tasks.
-ghost use Rattle.std.specs.Prelude.{◌≡◌, ◌≤◌};
-ghost use Rattle.qc_top.specs.Run.{Stand, Lists};
+ghost use Rattle.std.specs.Prelude.{◌≤◌};
+ghost use Rattle.qc_io.specs.Outside.{stand_of};
+ghost use Rattle.qc_top.specs.Asked.{asked_for, IsTasks};
+ghost use Rattle.qc_top.specs.Account.{IsReading};
 
 use crate::answer::Answer;
 use crate::reading::read_instance;
+use crate::words::Request;
 use qc_io::Shelf;
 use std::alloc::Global;
 
 /// Reads the ship file and the stowage list; the tasks of their instance are to be printed.
-pub(crate) fn tasks<S: Shelf>(alloc: Global, ship: &str, stow: &str, shelf: &mut S) -> Answer
-    ensures lists { Lists ship.now stow.now (record { files = S.files shelf.old; faults = S.Sink.faults shelf.old; read_faults = S.read_faults shelf.old }) (record { files = S.files shelf.new; faults = S.Sink.faults shelf.new; read_faults = S.read_faults shelf.new }) result }
+pub(crate) fn list_tasks<S: Shelf>(alloc: Global, request: &Request<'_>, shelf: &mut S) -> Answer
+    requires { IsTasks (asked_for request.now) }
+    ensures serves { IsReading (asked_for request.now)
+        (stand_of S.files S.Sink.faults S.read_faults shelf.old)
+        (stand_of S.files S.Sink.faults S.read_faults shelf.new) result }
     ensures faults_never_fall { S.Sink.faults shelf.old ≤ S.Sink.faults shelf.new }
+    ensures read_faults_never_fall { S.read_faults shelf.old ≤ S.read_faults shelf.new }
 {
-    match read_instance(alloc, ship, stow, shelf) {
+    match read_instance(alloc, request, shelf) {
         Ok(inst) => Answer::Tasks { inst },
-        Err(answer) => answer,
+        Err(stop) => Answer::Stopped(stop),
     }
 }

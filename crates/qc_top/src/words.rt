@@ -1,20 +1,43 @@
 //! The words of a command line, read by hand.
-ghost use Rattle.std.specs.Prelude.{◌≡◌, if◌then◌else◌};
-ghost use Rattle.qc_top.specs.Words.{texts, is_file_word, is_number_to, are_plan_files, plan_request, check_request, tasks_request, show_request, make_request, request_of};
+ghost use Rattle.std.specs.Prelude.{◌≡◌, if◌then◌else◌, option_map};
+ghost use Rattle.qc_top.specs.Asked.{asked_for, name_of, usage};
+ghost use Rattle.qc_top.specs.Words.{texts, is_file_word, is_number_to, are_plan_files, plan_asked, check_asked, tasks_asked, show_asked, make_asked, asked_by};
 
+use crate::answer::Input;
 use itoa::Buffer;
 
-/// What the words ask for.
+/// What the words ask for, with the names of the files.
 #[derive(Clone, Copy, Debug, PartialEq, Eq)]
-pub enum Request {
-    /// A plan, with the default number of branchings.
-    Plan,
+pub enum Request<'a> {
+    /// A plan and its tree, with the default number of branchings.
+    Plan {
+        ship: &'a str,
+        stow: &'a str,
+        plan: &'a str,
+        tree: &'a str,
+    },
     /// The tasks.
-    Tasks,
+    Tasks {
+        ship: &'a str,
+        stow: &'a str,
+    },
     /// A form of a command that isn't built yet.
     Unbuilt,
     /// Words that are no command.
     Usage,
+}
+
+impl<'a> Request<'a> {
+    /// The name of a file that is read on this request, by what the file is for.
+    pub(crate) fn name_of(&self, file: Input) -> Option<&'a str>
+        ensures { option_map (λ name. name.now) result ≡ name_of file (asked_for self.now) }
+    {
+        match (file, *self) {
+            (Input::Ship, Request::Plan { ship, .. } | Request::Tasks { ship, .. }) => Some(ship),
+            (Input::Stow, Request::Plan { stow, .. } | Request::Tasks { stow, .. }) => Some(stow),
+            _ => None,
+        }
+    }
 }
 
 fn is_file_word(word: &str) -> bool
@@ -46,21 +69,30 @@ fn are_plan_files(s: &str, w: &str, p: &str, t: &str) -> bool
         && !(s == w || s == p || s == t || w == p || w == t || p == t)
 }
 
-fn built_if(canonical: bool, request: Request) -> Request
-    ensures { result ≡ (if canonical then request else Request.Usage) }
+/// The request where the words are canonical.
+fn asked_if(canonical: bool, request: Request<'_>) -> Request<'_>
+    ensures { asked_for result ≡ (if canonical then asked_for request.entry else usage) }
 {
     if canonical { request } else { Request::Usage }
 }
 
-fn plan_request(args: &[String]) -> Request
-    ensures { result ≡ plan_request (texts args.now) }
+fn plan_asked(args: &[String]) -> Request<'_>
+    ensures { asked_for result ≡ plan_asked (texts args.now) }
 {
     match args {
-        [s, w, p, t] => built_if(
-            are_plan_files(s.as_str(), w.as_str(), p.as_str(), t.as_str()),
-            Request::Plan,
-        ),
-        [s, w, p, t, option, number] => built_if(
+        [s, w, p, t] => {
+            let (ship, stow, plan, tree) = (s.as_str(), w.as_str(), p.as_str(), t.as_str());
+            asked_if(
+                are_plan_files(ship, stow, plan, tree),
+                Request::Plan {
+                    ship,
+                    stow,
+                    plan,
+                    tree,
+                },
+            )
+        }
+        [s, w, p, t, option, number] => asked_if(
             are_plan_files(s.as_str(), w.as_str(), p.as_str(), t.as_str())
                 && option.as_str() == "--nodes"
                 && is_number_to(number.as_str(), 100_000),
@@ -70,11 +102,11 @@ fn plan_request(args: &[String]) -> Request
     }
 }
 
-fn check_request(args: &[String]) -> Request
-    ensures { result ≡ check_request (texts args.now) }
+fn check_asked(args: &[String]) -> Request<'_>
+    ensures { asked_for result ≡ check_asked (texts args.now) }
 {
     match args {
-        [s, w, p, t] => built_if(
+        [s, w, p, t] => asked_if(
             is_file_word(s.as_str())
                 && is_file_word(w.as_str())
                 && (is_file_word(p.as_str()) || p.as_str() == "-")
@@ -85,23 +117,26 @@ fn check_request(args: &[String]) -> Request
     }
 }
 
-fn tasks_request(args: &[String]) -> Request
-    ensures { result ≡ tasks_request (texts args.now) }
+fn tasks_asked(args: &[String]) -> Request<'_>
+    ensures { asked_for result ≡ tasks_asked (texts args.now) }
 {
     match args {
-        [s, w] => built_if(
-            is_file_word(s.as_str()) && is_file_word(w.as_str()),
-            Request::Tasks,
-        ),
+        [s, w] => {
+            let (ship, stow) = (s.as_str(), w.as_str());
+            asked_if(
+                is_file_word(ship) && is_file_word(stow),
+                Request::Tasks { ship, stow },
+            )
+        }
         _ => Request::Usage,
     }
 }
 
-fn show_request(args: &[String]) -> Request
-    ensures { result ≡ show_request (texts args.now) }
+fn show_asked(args: &[String]) -> Request<'_>
+    ensures { asked_for result ≡ show_asked (texts args.now) }
 {
     match args {
-        [s, w, p] => built_if(
+        [s, w, p] => asked_if(
             is_file_word(s.as_str()) && is_file_word(w.as_str()) && is_file_word(p.as_str()),
             Request::Unbuilt,
         ),
@@ -109,11 +144,11 @@ fn show_request(args: &[String]) -> Request
     }
 }
 
-fn make_request(args: &[String]) -> Request
-    ensures { result ≡ make_request (texts args.now) }
+fn make_asked(args: &[String]) -> Request<'_>
+    ensures { asked_for result ≡ make_asked (texts args.now) }
 {
     match args {
-        [number, hatches, cranes] => built_if(
+        [number, hatches, cranes] => asked_if(
             is_number_to(number.as_str(), 2_147_483_647)
                 && is_number_to(hatches.as_str(), 60)
                 && is_number_to(cranes.as_str(), 8)
@@ -126,17 +161,17 @@ fn make_request(args: &[String]) -> Request
 }
 
 /// What the words of a command line, without the program's name, ask for.
-pub(crate) fn request_of(words: &[String]) -> Request
-    ensures { result ≡ request_of (texts words.now) }
+pub(crate) fn asked_by(words: &[String]) -> Request<'_>
+    ensures { asked_for result ≡ asked_by (texts words.now) }
 {
     match words {
         [] => Request::Usage,
         [name, args @ ..] => match name.as_str() {
-            "plan" => plan_request(args),
-            "check" => check_request(args),
-            "tasks" => tasks_request(args),
-            "show" => show_request(args),
-            "make" => make_request(args),
+            "plan" => plan_asked(args),
+            "check" => check_asked(args),
+            "tasks" => tasks_asked(args),
+            "show" => show_asked(args),
+            "make" => make_asked(args),
             _ => Request::Usage,
         },
     }

@@ -1,15 +1,22 @@
-use Rattle.std.specs.Prelude.{codes}
-use Rattle.std.proofs.lemmas.Result.{on_err_weaker}
-use Rattle.qc_io.proofs.Pieces.{part_of_first, part_of_second, on_err}
-use Rattle.qc_top.specs.Answers.{ship_fault_text}
+use Rattle.std.proofs.Common.{◌≡◌, refl, sym, subst}
+use Rattle.qc_io.specs.Writes.{Writes}
+use Rattle.qc_ship.specs.declared.fault.ShipKind.{ShipKind}
+use Rattle.qc_ship.specs.declared.fault.ShipKind.TheVariants as ship
+use Rattle.qc_ship.specs.declared.fault.ShipFault.{ShipFault}
+use Rattle.qc_top.specs.Answers.{ship_kind_text, place_line, bad_ship_text}
 use Rattle.qc_top.proofs.faults.put_ship_fault.Goals as goal
 
-pub returns-in_err-put_all-clause-err : goal.returns-in_err-put_all-clause-err
-returns-in_err-put_all-clause-err g c =
-    on_err c.from_residual.result (part_of_first _ _ (codes "BadShip ") (ship_fault_text c.args.fault) c.in_err-put_all.ensures.err)
+-- a fault of a text that is TOML has a place
+has_place : (kind : ShipKind) (fault : ShipFault) → (kind ≡ ship.NotToml → ⊥) → place_line (ship_kind_text kind) fault ≡ bad_ship_text kind fault
+has_place ship.NotToml fault other = absurd (other refl)
+has_place ship.Missing fault other = refl
+has_place ship.WrongKind fault other = refl
+has_place ship.Range fault other = refl
+has_place ship.HatchOrder fault other = refl
+has_place ship.CraneOrder fault other = refl
+has_place ship.NameTwice fault other = refl
+has_place ship.Apart fault other = refl
 
-pub returns-clause-err : goal.returns-clause-err
-returns-clause-err g c =
-    on_err_weaker c.put_ship_kind.result
-    (part_of_second _ _ _ (codes "BadShip ") (ship_fault_text c.args.fault) c.in_ok-put_all.ensures.ok)
-    c.put_ship_kind.ensures.err
+pub returns-in_default : goal.returns-in_default
+returns-in_default g c =
+    rw (← has_place c.args.fault.kind c.args.fault c.in_default.not-NotToml, ← c.ship_kind_text.ensures.text) c.put_place.ensures

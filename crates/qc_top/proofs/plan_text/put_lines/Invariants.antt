@@ -1,9 +1,10 @@
-use Rattle.std.proofs.Common.{◌≡◌, ◌≤◌, length}
-use Rattle.qc_top.proofs.PlanLines.{LinesSoFar}
+use Rattle.std.proofs.Common.{◌≡◌, length, take, Ok}
+use Rattle.std.specs.List.{flat_map, zip}
+use Rattle.qc_io.specs.Writes.{Writes}
+use Rattle.qc_top.specs.PlanText.{plan_line}
 use Rattle.qc_top.proofs.plan_text.put_lines.Given as goal
 
 abbrev pub invariant-loop-task : goal.invariant-loop-task
 invariant-loop-task g l =
-    LinesSoFar l.inst l.inst.tasks l.sched (g.K.Sink.written l.initial.sink) (g.K.Sink.written l.sink) (length l.yielded)
-    × (g.K.Sink.beside l.sink ≡ g.K.Sink.beside l.initial.sink)
-    × (g.K.Sink.faults l.initial.sink ≤ g.K.Sink.faults l.sink)
+    Writes g.K.Sink.written g.K.Sink.beside g.K.Sink.faults l.initial.sink l.sink
+    (flat_map (λ line. plan_line l.inst line.0 line.1) (take (length l.yielded) (zip l.inst.tasks l.sched))) (Ok tt)

@@ -1,13 +1,18 @@
-use Rattle.std.proofs.Common.{codes}
-use Rattle.std.proofs.lemmas.Result.{on_err_weaker}
-use Rattle.qc_top.specs.PlanText.{plan_lines}
-use Rattle.qc_io.proofs.Pieces.{part_of_first, part_of_second, on_err}
+use Rattle.std.proofs.Common.{rules}
+use Rattle.std.specs.Prelude.{codes}
+use Rattle.std.specs.List.{flat_map, zip}
+use Rattle.qc_io.proofs.WritesLemmas.{writes_then, writes_cut}
+use Rattle.qc_top.specs.PlanText.{plan_line}
 use Rattle.qc_top.proofs.plan_text.write_plan.Goals as goal
 
-pub returns-in_err-put_all-clause-err : goal.returns-in_err-put_all-clause-err
-returns-in_err-put_all-clause-err g c =
-    on_err c.from_residual.result (part_of_first _ _ (codes "task,crane,start,end\n") (plan_lines c.args.inst.now c.args.inst.now.tasks c.args.sched.now) c.in_err-put_all.ensures.err)
+pub returns : goal.returns
+returns g c =
+    writes_then _ _ _ c.args.sink.now c.put_all.new.sink c.put_lines.new.sink (codes "task,crane,start,end\n")
+    (flat_map (λ line. plan_line c.args.inst.now line.0 line.1) (zip c.args.inst.now.tasks c.args.sched.now)) c.put_lines.result
+    c.in_ok-put_all.ensures.writes c.put_lines.ensures
 
-pub returns-clause-err : goal.returns-clause-err
-returns-clause-err g c =
-    on_err_weaker c.put_lines.result (part_of_second _ _ _ (codes "task,crane,start,end\n") (plan_lines c.args.inst.now c.args.inst.now.tasks c.args.sched.now) c.in_ok-put_all.ensures.ok) c.put_lines.ensures.err
+pub returns-in_err-put_all : goal.returns-in_err-put_all
+returns-in_err-put_all g c =
+    writes_cut _ _ _ c.args.sink.now c.put_all.new.sink (codes "task,crane,start,end\n")
+    (flat_map (λ line. plan_line c.args.inst.now line.0 line.1) (zip c.args.inst.now.tasks c.args.sched.now)) _ c.from_residual.result
+    (search rules) c.in_err-put_all.ensures.writes

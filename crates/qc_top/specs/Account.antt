@@ -1,0 +1,162 @@
+-- The account of a run: what its answer says of the words, of the shelf and of the sink.
+use Rattle.std.specs.Prelude.{◌≡◌, ℕ, ◌≤◌, ◌⊎◌, List, [], ◌∷◌, take, Option, None, Some, Result, Ok, Err, IfOk, IfErr, IfSome, IsSomeAnd}
+use Rattle.std.specs.FinMap.{insert}
+use Rattle.std.specs.Io.KnownBytes.{append_known}
+use Rattle.qc_io.specs.Outside.{Files, Rose, ReadCause, GrewByPart, Stand}
+use Rattle.qc_model.specs.declared.schedule.Slot.{Slot}
+use Rattle.qc_model.specs.Instance.{InstanceView}
+use Rattle.qc_model.specs.Rules.{ends}
+use Rattle.qc_model.specs.OneWay.{GoesOneWay}
+use Rattle.qc_top.specs.declared.answer.Input.{Input}
+use Rattle.qc_top.specs.declared.answer.Refusal.{Refusal}
+use Rattle.qc_top.specs.declared.answer.Refusal.TheVariants as refusal
+use Rattle.qc_top.specs.declared.answer.Stop.{Stop}
+use Rattle.qc_top.specs.declared.answer.Stop.TheVariants as stop
+use Rattle.qc_top.specs.declared.answer.Answer.{Answer}
+use Rattle.qc_top.specs.declared.answer.Answer.TheVariants as answer
+use Rattle.qc_top.specs.declared.status.Status.{Status}
+use Rattle.qc_top.specs.declared.status.Status.TheVariants as status
+use Rattle.qc_top.specs.Asked.{Asked, plan, tasks, unbuilt, usage, name_of}
+use Rattle.qc_top.specs.Words.{Asks}
+use Rattle.qc_top.specs.Due.{Reads, Work, print, search, Ending, reads_in, without, due}
+use Rattle.qc_top.specs.Answers.{ending_of, report_text, status_of}
+use Rattle.qc_top.specs.PlanText.{plan_text}
+
+-- where the shelf tells its files, a step over them comes to this
+abbrev pub ComesTo : {A : Type 0} → (Reads → Result A Refusal) → Asked → Option Files → Result A Refusal → Type 0
+ComesTo step asked files outcome = IfSome files (λ held. step (reads_in held asked) ≡ outcome)
+
+-- the file couldn't be read: its name is missing or a call that reads failed, and no refusal comes before that of this file
+pub record IsUnread {A : Type 0} (step : Reads → Result A Refusal) (asked : Asked) (before after : Stand) (file : Input) : Type 0 where
+  pub cause : IsSomeAnd (name_of file asked) (ReadCause before.read_faults after.read_faults before.files)
+  pub turn : IfSome before.files (λ held. step (without file (reads_in held asked)) ≡ Err (refusal.ReadFault file))
+
+-- a refusal comes where it is due, and no call failed; that a file couldn't be read has its own cause
+abbrev pub IsRefused : {A : Type 0} → (Reads → Result A Refusal) → Asked → Stand → Stand → Refusal → Type 0
+IsRefused step asked before after refusal.Usage = ⊥
+IsRefused step asked before after (refusal.ReadFault file) = IsUnread step asked before after file
+IsRefused step asked before after r = (after.read_faults ≡ before.read_faults) × ComesTo step asked before.files (Err r)
+
+-- a step that reads stopped for a refusal or for want of memory, which is free
+abbrev pub Stops : {A : Type 0} → (Reads → Result A Refusal) → Asked → Stand → Stand → Stop → Type 0
+Stops step asked before after (stop.Refused r) = IsRefused step asked before after r
+Stops step asked before after stop.OutOfMemory = after.read_faults ≡ before.read_faults
+
+-- a step that reads came to what is due of it, and left the files
+pub record IsStep {A : Type 0} (step : Reads → Result A Refusal) (asked : Asked) (before after : Stand) (result : Result A Stop) : Type 0 where
+  pub ok : IfOk result (λ x. (after.read_faults ≡ before.read_faults) × ComesTo step asked before.files (Ok x))
+  pub err : IfErr result (Stops step asked before after)
+  pub files : after.files ≡ before.files
+  pub faults : after.faults ≡ before.faults
+  pub read_faults : before.read_faults ≤ after.read_faults
+
+-- a request that only reads came to the ending that is due, or stopped
+abbrev pub ComesThrough : Asked → Stand → Stand → Answer → Type 0
+ComesThrough asked before after (answer.Stopped why) = Stops (due asked) asked before after why
+ComesThrough asked before after answer.WriteFault = ⊥
+ComesThrough asked before after (answer.Planned end) = ⊥
+ComesThrough asked before after a =
+    (after.read_faults ≡ before.read_faults) × ComesTo (due asked) asked before.files (Ok (print (ending_of a)))
+
+-- what a request that only reads says of the shelf
+pub record IsReading (asked : Asked) (before after : Stand) (a : Answer) : Type 0 where
+  pub ending : ComesThrough asked before after a
+  pub files : after.files ≡ before.files
+  pub faults : after.faults ≡ before.faults
+
+-- the schedule goes one way, and no schedule that goes one way ends earlier
+pub record IsBest (inst : InstanceView) (sched : List Slot) : Type 0 where
+  pub goes : GoesOneWay inst sched
+  pub least : (other : List Slot) → GoesOneWay inst other → ends inst sched ≤ ends inst other
+
+-- a text and the name of the file into which it is written
+abbrev pub Named : Type 0
+Named = List ℕ × List ℕ
+
+-- the files once each text is written into the file of its name, one after the other
+abbrev pub written : List Named → Files → Files
+written [] held = held
+written (text ∷ texts) held = written texts (insert held text.0 text.1)
+
+-- what a stopped writing leaves: nothing yet, a front part of a text, or that text whole and then the same of the rest
+abbrev pub IsCutShort : List Named → Files → Option Files → Type 0
+IsCutShort [] held now = now ≡ Some held
+IsCutShort (text ∷ texts) held now =
+    (now ≡ Some held)
+    ⊎ (((count : ℕ) × (now ≡ Some (insert held text.0 (take count text.1))))
+    ⊎ IsCutShort texts (insert held text.0 text.1) now)
+
+-- the files that a request writes, with their texts
+abbrev pub texts_of : Asked → InstanceView → List Slot → List Named
+texts_of (plan s w p t) inst sched = (p, plan_text inst sched) ∷ []
+texts_of _ inst sched = []
+
+-- a best schedule of the instance that is due
+pub record IsFound (asked : Asked) (held : Files) (inst : InstanceView) (sched : List Slot) : Type 0 where
+  pub due : due asked (reads_in held asked) ≡ Ok (search inst)
+  pub best : IsBest inst sched
+
+-- its texts are written, and this is its end
+pub record IsPlanned (asked : Asked) (held : Files) (end : ℕ) (now : Option Files) : Type 0 where
+  pub inst : InstanceView
+  pub sched : List Slot
+  pub found : IsFound asked held inst sched
+  pub ends : end ≡ ends inst sched
+  pub files : now ≡ Some (written (texts_of asked inst sched) held)
+
+-- the writing of its texts was stopped
+pub record IsStopped (asked : Asked) (held : Files) (now : Option Files) : Type 0 where
+  pub inst : InstanceView
+  pub sched : List Slot
+  pub found : IsFound asked held inst sched
+  pub files : IsCutShort (texts_of asked inst sched) held now
+
+-- what a request that writes says of the shelf
+abbrev pub IsWriting : Asked → Stand → Stand → Answer → Type 0
+IsWriting asked before after (answer.Stopped why) =
+    Stops (due asked) asked before after why × (after.files ≡ before.files) × (after.faults ≡ before.faults)
+IsWriting asked before after (answer.Planned end) =
+    (after.faults ≡ before.faults) × (after.read_faults ≡ before.read_faults)
+    × IfSome before.files (λ held. IsPlanned asked held end after.files)
+IsWriting asked before after answer.WriteFault =
+    Rose before.faults after.faults × (after.read_faults ≡ before.read_faults)
+    × IfSome before.files (λ held. IsStopped asked held after.files)
+IsWriting asked before after _ = ⊥
+
+-- what a request says of its answer and of the shelf
+abbrev pub Serves : Asked → Stand → Stand → Answer → Type 0
+Serves usage before after a = (a ≡ answer.Stopped (stop.Refused refusal.Usage)) × (after ≡ before)
+Serves unbuilt before after a = (a ≡ answer.Stopped (stop.Refused refusal.Unbuilt)) × (after ≡ before)
+Serves (plan s w p t) before after a = IsWriting (plan s w p t) before after a
+Serves asked before after a = IsReading asked before after a
+
+-- what is seen of the sink: its bytes, where it tells them, and its count of faults
+pub record Printed : Type 0 where
+  pub bytes : Option (List ℕ)
+  pub faults : ℕ
+
+abbrev pub printed_of : {K : Type 0} → (K → Option (List ℕ)) → (K → ℕ) → K → Printed
+printed_of written faults sink = record { bytes = written sink; faults = faults sink }
+
+-- the report of the answer went out whole
+pub record IsReported (a : Answer) (before after : Printed) (ended : Status) : Type 0 where
+  pub printed : after.bytes ≡ append_known before.bytes (report_text a)
+  pub faults : after.faults ≡ before.faults
+  pub status : ended ≡ status_of a
+
+-- the sink failed on the way, so that a front part of the report went out
+pub record IsCut (a : Answer) (before after : Printed) (ended : Status) : Type 0 where
+  pub printed : GrewByPart before.bytes after.bytes (report_text a)
+  pub rose : Rose before.faults after.faults
+  pub status : ended ≡ status.WriteFault
+
+abbrev pub Reports : Answer → Printed → Printed → Status → Type 0
+Reports a before after ended = IsReported a before after ended ⊎ IsCut a before after ended
+
+-- a run: the words ask for something, which comes to an answer, and that is reported
+pub record IsRun (words : List (List ℕ)) (before after : Stand) (printed_before printed_after : Printed) (ended : Status) : Type 0 where
+  pub asked : Asked
+  pub asks : Asks words asked
+  pub answer : Answer
+  pub serves : Serves asked before after answer
+  pub reports : Reports answer printed_before printed_after ended

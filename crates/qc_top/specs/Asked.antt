@@ -1,0 +1,46 @@
+-- What a command line asks for, with the names of its files.
+use Rattle.std.specs.Prelude.{ℕ, List, Option, None, Some}
+use Rattle.qc_top.specs.declared.answer.Input.{Input}
+use Rattle.qc_top.specs.declared.answer.Input.TheVariants as input
+use Rattle.qc_top.specs.declared.words.Request.{Request}
+use Rattle.qc_top.specs.declared.words.Request.TheVariants as request
+
+pub data Asked : Type 0 where
+  -- a plan and its tree, for a ship file and a stowage list
+  plan : (ship stow plan tree : List ℕ) → Asked
+  -- the tasks of a ship file and a stowage list
+  tasks : (ship stow : List ℕ) → Asked
+  -- a form of a command that isn't built yet
+  unbuilt : Asked
+  -- words that are no command
+  usage : Asked
+
+-- what a request of the program asks for
+abbrev pub asked_for : Request → Asked
+asked_for (request.Plan ship stow plan_name tree) = plan ship.now stow.now plan_name.now tree.now
+asked_for (request.Tasks ship stow) = tasks ship.now stow.now
+asked_for request.Unbuilt = unbuilt
+asked_for request.Usage = usage
+
+-- the name of a file that is read on this request, by what the file is for
+abbrev pub name_of : Input → Asked → Option (List ℕ)
+name_of input.Ship (plan s w p t) = Some s
+name_of input.Stow (plan s w p t) = Some w
+name_of input.Ship (tasks s w) = Some s
+name_of input.Stow (tasks s w) = Some w
+name_of _ _ = None
+
+-- a plan is asked for
+abbrev pub IsPlan : Asked → Type 0
+IsPlan (plan s w p t) = Unit {0}
+IsPlan _ = ⊥
+
+-- the tasks are asked for
+abbrev pub IsTasks : Asked → Type 0
+IsTasks (tasks s w) = Unit {0}
+IsTasks _ = ⊥
+
+-- the name of the file that a plan goes into
+abbrev pub plan_name : Asked → Option (List ℕ)
+plan_name (plan s w p t) = Some p
+plan_name _ = None
