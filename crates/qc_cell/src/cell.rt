@@ -1,4 +1,4 @@
-ghost use Rattle.std.specs.Prelude.{◌≡◌, ◌≢◌, ◌<◌, ◌%◌, [], ◌∷◌};
+ghost use Rattle.std.specs.Prelude.{◌≡◌, ◌≢◌, ◌<◌, ◌≤◌, length, ◌%◌, [], ◌∷◌};
 
 use crate::digits::{are_digits, number, two_digits};
 use qc_num::Text;
@@ -54,7 +54,8 @@ impl CellFault {
 
     /// The fault as reports print it.
     pub fn text(self) -> &'static str
-        ensures { result.now ≡ fault_text self }
+        ensures text { result.now ≡ fault_text self }
+        ensures short { length result.now ≤ 7 }
     {
         match self {
             CellFault::Length => "Length",

@@ -1,4 +1,4 @@
-ghost use Rattle.std.specs.Prelude.{◌≡◌};
+ghost use Rattle.std.specs.Prelude.{◌≡◌, ◌≤◌, length};
 ghost use Rattle.qc_ship.specs.declared.fault.ShipError.TheVariants.{Fault, OutOfMemory};
 
 use std::alloc::{AllocError, AllocFailed};
@@ -30,7 +30,8 @@ impl ShipKind {
 
     /// The kind as reports print it.
     pub fn text(self) -> &'static str
-        ensures { result.now ≡ kind_text self }
+        ensures text { result.now ≡ kind_text self }
+        ensures short { length result.now ≤ 10 }
     {
         match self {
             ShipKind::NotToml => "NotToml",
@@ -73,7 +74,8 @@ impl Key {
 
     /// The key as the file has it; empty for the file itself.
     pub fn text(self) -> &'static str
-        ensures { result.now ≡ key_text self }
+        ensures text { result.now ≡ key_text self }
+        ensures short { length result.now ≤ 9 }
     {
         match self {
             Key::Whole => "",

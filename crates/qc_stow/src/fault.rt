@@ -1,4 +1,4 @@
-ghost use Rattle.std.specs.Prelude.{◌≡◌};
+ghost use Rattle.std.specs.Prelude.{◌≡◌, ◌≤◌, length};
 ghost use Rattle.qc_stow.specs.declared.fault.StowError.TheVariants.{Fault, OutOfMemory};
 
 use qc_cell::CellFault;
@@ -35,7 +35,8 @@ impl StowKind {
 
     /// The kind as reports print it.
     pub fn text(self) -> &'static str
-        ensures { result.now ≡ kind_text self }
+        ensures text { result.now ≡ kind_text self }
+        ensures short { length result.now ≤ 14 }
     {
         match self {
             StowKind::Header => "Header",

@@ -1,14 +1,11 @@
 -- What a run comes to, what it prints and the status that it ends with.
 use Rattle.std.specs.Prelude.{◌≡◌, ℕ, ◌⊎◌, List, [], ◌∷◌, ◌++◌, codes, decimal, Option}
-use Rattle.qc_cell.specs.declared.cell.CellFault.{CellFault}
-use Rattle.qc_cell.specs.declared.cell.CellFault.TheVariants as cell
 use Rattle.qc_ship.specs.declared.fault.ShipKind.{ShipKind}
 use Rattle.qc_ship.specs.declared.fault.ShipKind.TheVariants as ship
 use Rattle.qc_ship.specs.declared.fault.Key.{Key}
 use Rattle.qc_ship.specs.declared.fault.ShipFault.{ShipFault}
-use Rattle.qc_ship.specs.Keys.{key_text}
-use Rattle.qc_stow.specs.declared.fault.StowKind.{StowKind}
-use Rattle.qc_stow.specs.declared.fault.StowKind.TheVariants as stow
+use Rattle.qc_ship.specs.Keys.{key_text, kind_text}
+use Rattle.qc_stow.specs.Faults.{kind_text as stow_text}
 use Rattle.qc_stow.specs.declared.fault.StowFault.{StowFault}
 use Rattle.qc_tasks.specs.TasksText.{tasks_text}
 use Rattle.qc_top.specs.declared.answer.Input.{Input}
@@ -56,49 +53,19 @@ usage_text = codes "Usage\nqc plan SHIP STOW PLAN TREE [--nodes N]\nqc check SHI
 abbrev pub line : List ℕ → List ℕ
 line text = text ++ 10 ∷ []
 
-abbrev pub ship_kind_text : ShipKind → List ℕ
-ship_kind_text ship.NotToml = codes "NotToml"
-ship_kind_text ship.Missing = codes "Missing"
-ship_kind_text ship.WrongKind = codes "WrongKind"
-ship_kind_text ship.Range = codes "Range"
-ship_kind_text ship.HatchOrder = codes "HatchOrder"
-ship_kind_text ship.CraneOrder = codes "CraneOrder"
-ship_kind_text ship.NameTwice = codes "NameTwice"
-ship_kind_text ship.Apart = codes "Apart"
-
 -- the line of a fault in the ship file with its place: the key and the number of its element
-abbrev pub place_line : List ℕ → ShipFault → List ℕ
+abbrev pub place_line : ShipKind → ShipFault → List ℕ
 place_line kind fault =
-    codes "BadShip " ++ kind ++ codes " " ++ key_text fault.key ++ codes " " ++ decimal fault.number ++ codes "\n"
+    codes "BadShip " ++ kind_text kind ++ codes " " ++ key_text fault.key ++ codes " " ++ decimal fault.number ++ codes "\n"
 
 -- the line of a fault in the ship file; a text that is no TOML has no place
 abbrev pub bad_ship_text : ShipKind → ShipFault → List ℕ
 bad_ship_text ship.NotToml fault = codes "BadShip NotToml\n"
-bad_ship_text kind fault = place_line (ship_kind_text kind) fault
-
-abbrev pub cell_fault_text : CellFault → List ℕ
-cell_fault_text cell.Length = codes "Length"
-cell_fault_text cell.Digit = codes "Digit"
-cell_fault_text cell.BayZero = codes "BayZero"
-cell_fault_text cell.TierOdd = codes "TierOdd"
-cell_fault_text cell.TierZero = codes "TierZero"
-
--- the name of a fault of a record; a cell's fault has its own
-abbrev pub stow_kind_text : StowKind → List ℕ
-stow_kind_text stow.Header = codes "Header"
-stow_kind_text stow.TooMany = codes "TooMany"
-stow_kind_text stow.Fields = codes "Fields"
-stow_kind_text stow.Id = codes "Id"
-stow_kind_text stow.MoveKind = codes "MoveKind"
-stow_kind_text (stow.Cell fault) = cell_fault_text fault
-stow_kind_text stow.LengthMismatch = codes "LengthMismatch"
-stow_kind_text stow.NoHatch = codes "NoHatch"
-stow_kind_text stow.IdTwice = codes "IdTwice"
-stow_kind_text stow.CellTaken = codes "CellTaken"
+bad_ship_text kind fault = place_line kind fault
 
 -- the line of a fault in the stowage list with its record
 abbrev pub bad_stow_text : StowFault → List ℕ
-bad_stow_text fault = codes "BadStow " ++ stow_kind_text fault.kind ++ codes " " ++ decimal fault.number ++ codes "\n"
+bad_stow_text fault = codes "BadStow " ++ stow_text fault.kind ++ codes " " ++ decimal fault.number ++ codes "\n"
 
 -- the line of an end in ticks
 abbrev pub end_line : ℕ → List ℕ

@@ -2,4 +2,4 @@ use Rattle.toml.proofs.Views.{table_get}
 use Rattle.qc_ship.proofs.values.value_at.Goals as goal
 
 pub returns : goal.returns
-returns c = rw (← c.text.ensures) (table_get c.get.result c.text.result.now c.args.table.now.entries c.get.ensures.value)
+returns c = rw (← c.text.ensures.text) (table_get c.get.result c.text.result.now c.args.table.now.entries c.get.ensures.value)

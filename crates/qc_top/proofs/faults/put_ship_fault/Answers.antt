@@ -3,11 +3,11 @@ use Rattle.qc_io.specs.Writes.{Writes}
 use Rattle.qc_ship.specs.declared.fault.ShipKind.{ShipKind}
 use Rattle.qc_ship.specs.declared.fault.ShipKind.TheVariants as ship
 use Rattle.qc_ship.specs.declared.fault.ShipFault.{ShipFault}
-use Rattle.qc_top.specs.Answers.{ship_kind_text, place_line, bad_ship_text}
+use Rattle.qc_top.specs.Answers.{place_line, bad_ship_text}
 use Rattle.qc_top.proofs.faults.put_ship_fault.Goals as goal
 
 -- a fault of a text that is TOML has a place
-has_place : (kind : ShipKind) (fault : ShipFault) → (kind ≡ ship.NotToml → ⊥) → place_line (ship_kind_text kind) fault ≡ bad_ship_text kind fault
+has_place : (kind : ShipKind) (fault : ShipFault) → (kind ≡ ship.NotToml → ⊥) → place_line kind fault ≡ bad_ship_text kind fault
 has_place ship.NotToml fault other = absurd (other refl)
 has_place ship.Missing fault other = refl
 has_place ship.WrongKind fault other = refl
@@ -19,4 +19,4 @@ has_place ship.Apart fault other = refl
 
 pub returns-in_default : goal.returns-in_default
 returns-in_default g c =
-    rw (← has_place c.args.fault.kind c.args.fault c.in_default.not-NotToml, ← c.ship_kind_text.ensures.text) c.put_place.ensures
+    rw (← has_place c.args.fault.kind c.args.fault c.in_default.not-NotToml) c.put_place.ensures
