@@ -1,3 +1,5 @@
 pub mod Outcome
+pub mod Stores
+pub mod Sweep
 pub mod Verdict
 pub mod Wanted

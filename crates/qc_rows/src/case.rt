@@ -28,10 +28,13 @@ pub struct Given {
     /// The words of the command line, and none where the case doesn't say them yet.
     pub words: Option<Vec<String>>,
     pub files: Vec<Named>,
-    pub failures: Vec<Failure>,
+    /// The calls of the shelf that are to fail.
+    pub shelf_failures: Vec<u64>,
+    /// The calls of the sink that are to fail.
+    pub sink_failures: Vec<u64>,
     /// The store whose calls fail one after the other, each in a run of its own.
     pub sweep: Option<Store>,
-    /// The most bytes that a call of the shelf takes or gives.
+    /// The most bytes that a call of the shelf takes or gives; 0 stands for 1.
     pub pieces: Option<usize>,
 }
 
@@ -42,7 +45,8 @@ pub struct WantedFile {
     pub wanted: Wanted,
 }
 
-/// What must come back from a run.
+/// What must come back from a run. A file that is given and isn't named here is to be kept, and a word
+/// that names no file is to name none.
 #[derive(Drop)]
 pub struct Outcome {
     pub status: u8,
@@ -66,7 +70,8 @@ impl Case {
             given: Given {
                 words: None,
                 files: Vec::new(alloc),
-                failures: Vec::new(alloc),
+                shelf_failures: Vec::new(alloc),
+                sink_failures: Vec::new(alloc),
                 sweep: None,
                 pieces: None,
             },

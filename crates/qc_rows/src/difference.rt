@@ -1,7 +1,7 @@
 // What came back in place of what, as text.
 
-use crate::case::{Outcome, WantedFile};
-use crate::judge::Ran;
+use crate::case::{Given, Named, Outcome};
+use crate::judge::{Ran, is_kept, is_no_file};
 use crate::wanted::{Wanted, is_met};
 use std::alloc::{AllocError, Global};
 
@@ -79,16 +79,54 @@ fn add_part(text: &mut String, part: &str) -> Result<(), AllocError> {
 
 fn add_file(
     alloc: Global,
-    file: &WantedFile,
+    name: &str,
+    wanted: &Wanted,
     got: Option<&[u8]>,
     text: &mut String,
 ) -> Result<(), AllocError> {
-    let name = file.name.as_str();
     if got.is_none() {
         return add_part(text, format!(in alloc; "no file {name}")?.as_str());
     }
-    let what = compared(alloc, &file.wanted, got)?;
+    let what = compared(alloc, wanted, got)?;
     add_part(text, format!(in alloc; "file {name} {what}")?.as_str())
+}
+
+// A given file that isn't as it was.
+fn add_changed(
+    alloc: Global,
+    file: &Named,
+    got: Option<&[u8]>,
+    text: &mut String,
+) -> Result<(), AllocError> {
+    let wanted = Wanted::Whole(Vec::from_slice(alloc, file.bytes.as_slice())?);
+    add_file(alloc, file.name.as_str(), &wanted, got, text)
+}
+
+// The files of which the outcome says nothing.
+fn add_others(
+    alloc: Global,
+    given: &Given,
+    outcome: &Outcome,
+    ran: &Ran,
+    text: &mut String,
+) -> Result<(), AllocError> {
+    let files = given.files.as_slice();
+    let named = outcome.files.as_slice();
+    for file in files {
+        if !is_kept(named, &ran.shelf, file) {
+            add_changed(alloc, file, ran.shelf.bytes(file.name.as_str()), text)?;
+        }
+    }
+    let Some(words) = &given.words else {
+        return Ok(());
+    };
+    for word in words {
+        let name = word.as_str();
+        if !is_no_file(files, named, &ran.shelf, name) {
+            add_file(alloc, name, &Wanted::Absent, ran.shelf.bytes(name), text)?;
+        }
+    }
+    Ok(())
 }
 
 fn add_report(
@@ -107,7 +145,12 @@ fn add_report(
 }
 
 /// All in which the run differs from the outcome.
-pub fn difference(alloc: Global, outcome: &Outcome, ran: &Ran) -> Result<String, AllocError> {
+pub fn difference(
+    alloc: Global,
+    given: &Given,
+    outcome: &Outcome,
+    ran: &Ran,
+) -> Result<String, AllocError> {
     let mut text = String::new(alloc);
     let got = ran.status;
     let wanted = outcome.status;
@@ -119,8 +162,9 @@ pub fn difference(alloc: Global, outcome: &Outcome, ran: &Ran) -> Result<String,
     for file in &outcome.files {
         let got = ran.shelf.bytes(file.name.as_str());
         if !is_met(&file.wanted, got) {
-            add_file(alloc, file, got, &mut text)?;
+            add_file(alloc, file.name.as_str(), &file.wanted, got, &mut text)?;
         }
     }
+    add_others(alloc, given, outcome, ran, &mut text)?;
     Ok(text)
 }

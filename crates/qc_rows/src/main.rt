@@ -1,6 +1,6 @@
 //! Runs cases of the program and prints one line for each: whether what came back is what was wanted.
 //!
-//! A case is a file `NAME.case`. Its headings are first what the run is given: `words`, `word`, `file`,
+//! A case is a file `NAME.case` in a folder of its command. Its headings are first what the run is given: `words`, `word`, `file`,
 //! `pieces` and `fail`, then for each outcome `status`, `report` and what becomes of files: `left`,
 //! `left-front`, `left-any`, `absent`. Content lines follow a heading: `|TEXT` is a line, `>TEXT` text
 //! without a line feed, `=0D 0A` bytes, and `*N LINE` repeats one of these. `docs/ROWS.md` has the
@@ -15,6 +15,8 @@ mod flaw;
 mod judge;
 mod play;
 mod reader;
+mod stores;
+mod sweep;
 mod verdict;
 mod wanted;
 
@@ -36,11 +38,34 @@ fn folder<R: Env + AllocGlobal>(rt: &R) -> Result<String> {
     }
 }
 
-// The names of all files of the folder, sorted.
-fn file_names<R: Files + AllocGlobal + Clone + Drop>(rt: &R, folder: &str) -> Result<Vec<String>> {
-    let mut names = Vec::new(rt.alloc());
+// The names in the folder, each behind `front`.
+fn add_names<R: Files + AllocGlobal + Clone + Drop>(
+    rt: &R,
+    folder: &str,
+    front: &str,
+    names: &mut Vec<String>,
+) -> Result<()> {
     for entry in fs::read_dir(rt, folder)? {
-        names.push(String::from_str(rt.alloc(), entry?.file_name())?)?;
+        let entry = entry?;
+        let name = entry.file_name();
+        names.push(format!(in rt.alloc(); "{front}{name}")?)?;
+    }
+    Ok(())
+}
+
+// The names of all files of the folder and of the folders in it, sorted.
+fn file_names<R: Files + AllocGlobal + Clone + Drop>(rt: &R, folder: &str) -> Result<Vec<String>> {
+    let mut entries = Vec::new(rt.alloc());
+    add_names(rt, folder, "", &mut entries)?;
+    let mut names = Vec::new(rt.alloc());
+    for entry in entries {
+        let path = format!(in rt.alloc(); "{folder}/{entry}")?;
+        if fs::metadata(rt, path.as_str())?.is_dir() {
+            let front = format!(in rt.alloc(); "{entry}/")?;
+            add_names(rt, path.as_str(), front.as_str(), &mut names)?;
+        } else {
+            names.push(entry)?;
+        }
     }
     names.sort()?;
     Ok(names)

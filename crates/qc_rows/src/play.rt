@@ -1,54 +1,31 @@
 // The runs of a case.
 
-ghost use Rattle.std.specs.Prelude.{◌↔◌, IsTrue, Any, IfOk};
-ghost use Rattle.qc_rows.specs.Outcome.{Meets};
+ghost use Rattle.std.specs.Prelude.{◌↔◌, IsTrue, Any, IfOk, length, ◌<◌, ◌^◌};
+ghost use Rattle.qc_rows.specs.Sweep.{CameTo, IsSwept};
 ghost use Rattle.qc_rows.specs.Verdict.{IsHeld};
 
-use crate::case::{Case, Failure, Given, Outcome, Store};
+use crate::case::{Case, Given, Outcome, Store};
 use crate::difference::difference;
 use crate::judge::{Ran, is_outcome};
+use crate::stores::{shelf_of, sink_of};
+use crate::sweep::{calls_of, is_swept};
 use crate::verdict::Verdict;
-use qc_io::{MemShelf, MemSink, Sink};
 use qc_num::OutOfMemory;
 use qc_top::run;
 use std::alloc::Global;
 
 // The most calls of a store that a sweep lets fail, each in a run of its own.
-const MOST_CALLS: u64 = 100_000;
+const MOST_CALLS: u64 = 10_000;
 
-fn shelf_of(alloc: Global, given: &Given) -> Result<MemShelf, OutOfMemory> {
-    let mut shelf = MemShelf::new(alloc)?;
-    for file in &given.files {
-        shelf.put(file.name.as_str(), file.bytes.as_slice())?;
-    }
-    match given.pieces {
-        Some(most) if most > 0 => shelf.pieces(most),
-        _ => {}
-    }
-    Ok(shelf)
-}
-
-fn set_to_fail(
-    failure: Failure,
-    shelf: &mut MemShelf,
-    sink: &mut MemSink,
-) -> Result<(), OutOfMemory> {
-    match failure.store {
-        Store::Shelf => shelf.fail(failure.call),
-        Store::Sink => sink.fail(failure.call),
-    }
-}
-
-// One run, with one more call that is to fail.
-fn run_once(alloc: Global, given: &Given, more: Option<Failure>) -> Result<Ran, OutOfMemory> {
-    let mut shelf = shelf_of(alloc, given)?;
-    let mut sink = MemSink::new(alloc)?;
-    for failure in &given.failures {
-        set_to_fail(*failure, &mut shelf, &mut sink)?;
-    }
-    if let Some(failure) = more {
-        set_to_fail(failure, &mut shelf, &mut sink)?;
-    }
+// One run, with one more call of a store that is to fail.
+fn run_once(alloc: Global, given: &Given, more: Option<(Store, u64)>) -> Result<Ran, OutOfMemory> {
+    let (shelf_call, sink_call) = match more {
+        Some((Store::Shelf, call)) => (Some(call), None),
+        Some((Store::Sink, call)) => (None, Some(call)),
+        None => (None, None),
+    };
+    let mut shelf = shelf_of(alloc, given, shelf_call)?;
+    let mut sink = sink_of(alloc, given, sink_call)?;
     let words: &[String] = match &given.words {
         Some(words) => words.as_slice(),
         None => &[],
@@ -61,11 +38,11 @@ fn run_once(alloc: Global, given: &Given, more: Option<Failure>) -> Result<Ran, 
     })
 }
 
-fn is_any_met(outcomes: &[Outcome], ran: &Ran) -> bool
-    ensures { IsTrue result ↔ Any (λ outcome. Meets outcome ran.now.status ran.now.sink.bytes ran.now.shelf.files) outcomes.now }
+fn is_any_met(given: &Given, outcomes: &[Outcome], ran: &Ran) -> bool
+    ensures { IsTrue result ↔ Any (λ outcome. CameTo given.now outcome ran.now) outcomes.now }
 {
     for outcome in outcomes {
-        if is_outcome(outcome, ran) {
+        if is_outcome(given, outcome, ran) {
             return true;
         }
     }
@@ -73,84 +50,105 @@ fn is_any_met(outcomes: &[Outcome], ran: &Ran) -> bool
 }
 
 // Whether the run came to one of the outcomes.
-fn judged(alloc: Global, outcomes: &[Outcome], ran: &Ran) -> Result<Verdict, OutOfMemory>
-    ensures { IfOk result (λ verdict. IsHeld verdict
-        ↔ Any (λ outcome. Meets outcome ran.now.status ran.now.sink.bytes ran.now.shelf.files) outcomes.now) }
+fn judged(
+    alloc: Global,
+    given: &Given,
+    outcomes: &[Outcome],
+    ran: &Ran,
+) -> Result<Verdict, OutOfMemory>
+    ensures { IfOk result (λ verdict. IsHeld verdict ↔ Any (λ outcome. CameTo given.now outcome ran.now) outcomes.now) }
 {
-    if is_any_met(outcomes, ran) {
+    if is_any_met(given, outcomes, ran) {
         return Ok(Verdict::Held);
     }
     match outcomes.first() {
-        Some(outcome) => Ok(Verdict::Failed(difference(alloc, outcome, ran)?)),
+        Some(outcome) => Ok(Verdict::Failed(difference(alloc, given, outcome, ran)?)),
         None => Ok(Verdict::Failed(String::from_str(alloc, "no outcome")?)),
     }
 }
 
-// Whether the call after those of the run is set to fail, so that none of the run's own was.
-fn met_no_failure(ran: &mut Ran, store: Store) -> bool {
-    match store {
-        Store::Shelf => ran.shelf.write(&[]).is_err(),
-        Store::Sink => ran.sink.write(&[]).is_err(),
-    }
-}
-
-// How many outcomes came up to this run, where it met a failure: it came to the newest of them or to
-// the next, which isn't the last.
-fn reached_by(outcomes: &[Outcome], reached: usize, ran: &Ran) -> Option<usize> {
-    if reached > 0 && reached <= outcomes.len() && is_outcome(&outcomes[reached - 1], ran) {
+// How many outcomes came up to this run: it came to the newest of them or to the next.
+fn reached_by(given: &Given, outcomes: &[Outcome], reached: usize, ran: &Ran) -> Option<usize> {
+    if reached > 0 && reached <= outcomes.len() && is_outcome(given, &outcomes[reached - 1], ran) {
         return Some(reached);
     }
-    if reached < outcomes.len()
-        && outcomes.len() - reached > 1
-        && is_outcome(&outcomes[reached], ran)
-    {
+    if reached < outcomes.len() && is_outcome(given, &outcomes[reached], ran) {
         return Some(reached + 1);
     }
     None
 }
 
-fn failed_at(
+// The first run of a sweep that came to no outcome, as text.
+fn first_miss(
     alloc: Global,
-    call: u64,
+    given: &Given,
     outcomes: &[Outcome],
-    at: usize,
-    ran: &Ran,
-) -> Result<Verdict, OutOfMemory> {
-    let what = match outcomes.get(at) {
-        Some(outcome) => difference(alloc, outcome, ran)?,
-        None => String::from_str(alloc, "no outcome is left")?,
-    };
-    Ok(Verdict::Failed(format!(in alloc; "call {call} failing: {what}")?))
+    runs: &[Ran],
+) -> Result<String, OutOfMemory> {
+    let mut reached = 0;
+    let mut call = 0u64;
+    for ran in runs {
+        call = call.saturating_add(1);
+        reached = match (
+            reached_by(given, outcomes, reached, ran),
+            outcomes.get(reached),
+        ) {
+            (Some(next), _) => next,
+            (None, None) => return Ok(format!(in alloc;
+                "call {call} failing: no outcome is left"
+            )?),
+            (None, Some(outcome)) => {
+                let what = difference(alloc, given, outcome, ran)?;
+                return Ok(format!(in alloc; "call {call} failing: {what}")?);
+            }
+        };
+    }
+    let count = runs.len();
+    Ok(format!(in alloc; "{count} runs came to {reached} of the outcomes")?)
 }
 
-// The runs in which each call of the store fails, up to the first run that meets no failure.
-fn swept(alloc: Global, case: &Case, store: Store) -> Result<Verdict, OutOfMemory> {
-    let outcomes = case.outcomes.as_slice();
-    let mut reached = 0;
+// Whether the runs of a sweep came to the outcomes in their order.
+fn judged_sweep(
+    alloc: Global,
+    given: &Given,
+    store: Store,
+    outcomes: &[Outcome],
+    runs: &[Ran],
+) -> Result<Verdict, OutOfMemory>
+    requires { length runs.now < 2 ^ 63 }
+    ensures { IfOk result (λ verdict. IsHeld verdict → IsSwept given.now store 1 outcomes.now runs.now) }
+{
+    if is_swept(given, store, 1, outcomes, runs) {
+        return Ok(Verdict::Held);
+    }
+    Ok(Verdict::Failed(first_miss(alloc, given, outcomes, runs)?))
+}
+
+// The runs in which one call of the store after the other fails, up to the first that meets no failure.
+fn swept_runs(alloc: Global, given: &Given, store: Store) -> Result<Vec<Ran>, OutOfMemory> {
+    let mut runs = Vec::new(alloc);
     for call in 1..MOST_CALLS {
-        let mut ran = run_once(alloc, &case.given, Some(Failure { store, call }))?;
-        if met_no_failure(&mut ran, store) {
-            let left = outcomes.get(reached..).unwrap_or(&[]);
-            if left.len() != 1 {
-                return failed_at(alloc, call, outcomes, reached, &ran);
-            }
-            return judged(alloc, left, &ran);
-        }
-        match reached_by(outcomes, reached, &ran) {
-            Some(next) => reached = next,
-            None => return failed_at(alloc, call, outcomes, reached, &ran),
+        let ran = run_once(alloc, given, Some((store, call)))?;
+        let met_none = calls_of(store, &ran) < call;
+        runs.push(ran)?;
+        if met_none {
+            break;
         }
     }
-    Ok(Verdict::Failed(String::from_str(alloc, "each run met a failure")?))
+    Ok(runs)
 }
 
 /// Runs the case.
 pub fn play(alloc: Global, case: &Case) -> Result<Verdict, OutOfMemory> {
+    let outcomes = case.outcomes.as_slice();
     match case.given.sweep {
-        Some(store) => swept(alloc, case, store),
+        Some(store) => {
+            let runs = swept_runs(alloc, &case.given, store)?;
+            judged_sweep(alloc, &case.given, store, outcomes, runs.as_slice())
+        }
         None => {
             let ran = run_once(alloc, &case.given, None)?;
-            judged(alloc, case.outcomes.as_slice(), &ran)
+            judged(alloc, &case.given, outcomes, &ran)
         }
     }
 }

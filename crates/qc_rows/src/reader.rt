@@ -1,9 +1,10 @@
 // From the blocks of a case file to a case.
 
 use crate::block::{Block, blocks_of};
-use crate::case::{Case, Failure, Given, Named, Outcome, Store, WantedFile};
+use crate::case::{Case, Given, Named, Outcome, Store, WantedFile};
 use crate::content::number;
 use crate::flaw::{Fault, Flaw};
+use crate::judge::{is_given, is_wanted};
 use crate::wanted::Wanted;
 use std::alloc::Global;
 
@@ -52,7 +53,7 @@ fn add_file(alloc: Global, name: &str, bytes: Vec<u8>, given: &mut Given) -> Res
     if name.is_empty() {
         return Err(Flaw::Value);
     }
-    if given.files.iter().any(|file| file.name.as_str() == name) {
+    if is_given(given.files.as_slice(), name) {
         return Err(Flaw::Twice);
     }
     let name = String::from_str(alloc, name)?;
@@ -89,7 +90,10 @@ fn add_failure(text: &str, given: &mut Given) -> Result<(), Flaw> {
     }
     match number(call) {
         Some(call) if call > 0 => {
-            given.failures.push(Failure { store, call })?;
+            match store {
+                Store::Shelf => given.shelf_failures.push(call)?,
+                Store::Sink => given.sink_failures.push(call)?,
+            }
             Ok(())
         }
         _ => Err(Flaw::Value),
@@ -151,11 +155,6 @@ fn wanted_of(keyword: &str, bytes: Vec<u8>) -> Option<Wanted> {
     }
 }
 
-// Whether the outcome says something of the file.
-fn is_named(files: &[WantedFile], name: &str) -> bool {
-    files.iter().any(|file| file.name.as_str() == name)
-}
-
 fn add_report(value: &str, wanted: Wanted, outcome: &mut Outcome) -> Result<(), Flaw> {
     if !value.is_empty() {
         return Err(Flaw::Value);
@@ -176,7 +175,7 @@ fn add_left(
     if name.is_empty() {
         return Err(Flaw::Value);
     }
-    if is_named(files.as_slice(), name) {
+    if is_wanted(files.as_slice(), name) {
         return Err(Flaw::Twice);
     }
     let name = String::from_str(alloc, name)?;
@@ -211,7 +210,7 @@ fn takes_content(keyword: &str) -> bool {
     }
 }
 
-fn is_given(keyword: &str) -> bool {
+fn is_said_of_the_run(keyword: &str) -> bool {
     match keyword {
         "words" | "word" | "file" | "fail" | "pieces" => true,
         _ => false,
@@ -229,7 +228,7 @@ fn add_block(alloc: Global, block: Block, case: &mut Case) -> Result<(), Flaw> {
     if has_content && !takes_content(keyword) {
         return Err(Flaw::Content);
     }
-    if is_given(keyword) {
+    if is_said_of_the_run(keyword) {
         if !case.outcomes.is_empty() {
             return Err(Flaw::Late);
         }
@@ -241,39 +240,10 @@ fn add_block(alloc: Global, block: Block, case: &mut Case) -> Result<(), Flaw> {
     add_wanted(alloc, keyword, value, bytes, &mut case.outcomes)
 }
 
-// A file of which the outcome says nothing is as before the run.
-fn add_kept(alloc: Global, given: &[Named], files: &mut Vec<WantedFile>) -> Result<(), Flaw> {
-    for file in given {
-        if !is_named(files.as_slice(), file.name.as_str()) {
-            let bytes = Vec::from_slice(alloc, file.bytes.as_slice())?;
-            add_left(alloc, file.name.as_str(), Wanted::Whole(bytes), files)?;
-        }
-    }
-    Ok(())
-}
-
-// A word that names no file yet names none after the run, where the outcome says nothing of it.
-fn add_absent(alloc: Global, words: &[String], files: &mut Vec<WantedFile>) -> Result<(), Flaw> {
-    for word in words {
-        if !word.is_empty() && !is_named(files.as_slice(), word.as_str()) {
-            add_left(alloc, word.as_str(), Wanted::Absent, files)?;
-        }
-    }
-    Ok(())
-}
-
-fn complete(alloc: Global, given: &Given, outcomes: &mut Vec<Outcome>) -> Result<(), Flaw> {
-    let Some(words) = &given.words else {
-        return Err(Flaw::Missing);
-    };
-    for outcome in outcomes.iter_mut() {
-        if outcome.report.is_none() {
-            return Err(Flaw::Missing);
-        }
-        add_kept(alloc, given.files.as_slice(), &mut outcome.files)?;
-        add_absent(alloc, words.as_slice(), &mut outcome.files)?;
-    }
-    Ok(())
+fn is_complete(case: &Case) -> bool {
+    case.given.words.is_some()
+        && !case.outcomes.is_empty()
+        && case.outcomes.iter().all(|outcome| outcome.report.is_some())
 }
 
 /// The case that a case file tells, or its first flaw.
@@ -286,18 +256,11 @@ pub fn read_case(alloc: Global, text: &str) -> Result<Case, Fault> {
             return Err(Fault { line: last, flaw });
         }
     }
-    let Case {
-        given,
-        mut outcomes,
-    } = case;
-    if outcomes.is_empty() {
+    if !is_complete(&case) {
         return Err(Fault {
             line: last,
             flaw: Flaw::Missing,
         });
     }
-    match complete(alloc, &given, &mut outcomes) {
-        Ok(()) => Ok(Case { given, outcomes }),
-        Err(flaw) => Err(Fault { line: last, flaw }),
-    }
+    Ok(case)
 }

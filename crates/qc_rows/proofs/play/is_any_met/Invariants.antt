@@ -1,8 +1,7 @@
 use Rattle.std.specs.List.{AllWithin}
-use Rattle.qc_rows.specs.Outcome.{Meets}
+use Rattle.qc_rows.specs.Sweep.{CameTo}
 use Rattle.qc_rows.proofs.play.is_any_met.Given as goal
 
 -- no outcome so far is met
 abbrev pub invariant-loop-outcome : goal.invariant-loop-outcome
-invariant-loop-outcome l =
-    AllWithin (λ outcome. ¬ (Meets outcome l.ran.status l.ran.sink.bytes l.ran.shelf.files)) l.outcomes 0 l.outcome-index
+invariant-loop-outcome l = AllWithin (λ outcome. ¬ (CameTo l.given outcome l.ran)) l.outcomes 0 l.outcome-index
