@@ -55,7 +55,7 @@ impl CellFault {
     /// The fault as reports print it.
     pub fn text(self) -> &'static str
         ensures text { result.now ≡ fault_text self }
-        ensures short { length result.now ≤ 7 }
+        ensures short { length result.now ≤ 8 }
     {
         match self {
             CellFault::Length => "Length",
