@@ -23,28 +23,38 @@ use Rattle.qc_top.specs.Answers.{ending_of, report_text, status_of}
 use Rattle.qc_top.specs.PlanText.{plan_text}
 
 -- where the shelf tells its files, a step over them comes to this
-abbrev pub ComesTo : {A : Type 0} → (Reads → Result A Refusal) → Asked → Option Files → Result A Refusal → Type 0
+abbrev pub ComesTo :
+    {A : Type 0} → (Reads → Result A Refusal) → Asked → Option Files → Result A Refusal → Type 0
 ComesTo step asked files outcome = IfSome files (λ held. step (reads_in held asked) ≡ outcome)
 
--- the file couldn't be read: its name is missing or a call that reads failed, and no refusal comes before that of this file
-pub record IsUnread {A : Type 0} (step : Reads → Result A Refusal) (asked : Asked) (before after : Stand) (file : Input) : Type 0 where
-  pub cause : IsSomeAnd (name_of file asked) (ReadCause before.read_faults after.read_faults before.files)
-  pub turn : IfSome before.files (λ held. step (without file (reads_in held asked)) ≡ Err (refusal.ReadFault file))
+-- the file couldn't be read: its name is missing or a call that reads failed, and no refusal comes before
+-- that of this file
+pub record IsUnread {A : Type 0} (step : Reads → Result A Refusal) (asked : Asked) (before after : Stand)
+    (file : Input) : Type 0 where
+  pub cause :
+      IsSomeAnd (name_of file asked) (ReadCause before.read_faults after.read_faults before.files)
+  pub turn :
+      IfSome before.files (λ held. step (without file (reads_in held asked)) ≡ Err (refusal.ReadFault file))
 
 -- a refusal comes where it is due, and no call failed; that a file couldn't be read has its own cause
-abbrev pub IsRefused : {A : Type 0} → (Reads → Result A Refusal) → Asked → Stand → Stand → Refusal → Type 0
+abbrev pub IsRefused :
+    {A : Type 0} → (Reads → Result A Refusal) → Asked → Stand → Stand → Refusal → Type 0
 IsRefused step asked before after refusal.Usage = ⊥
 IsRefused step asked before after (refusal.ReadFault file) = IsUnread step asked before after file
-IsRefused step asked before after r = (after.read_faults ≡ before.read_faults) × ComesTo step asked before.files (Err r)
+IsRefused step asked before after r =
+    (after.read_faults ≡ before.read_faults) × ComesTo step asked before.files (Err r)
 
 -- a step that reads stopped for a refusal or for want of memory, which is free
-abbrev pub Stops : {A : Type 0} → (Reads → Result A Refusal) → Asked → Stand → Stand → Stop → Type 0
+abbrev pub Stops :
+    {A : Type 0} → (Reads → Result A Refusal) → Asked → Stand → Stand → Stop → Type 0
 Stops step asked before after (stop.Refused r) = IsRefused step asked before after r
 Stops step asked before after stop.OutOfMemory = after.read_faults ≡ before.read_faults
 
 -- a step that reads came to what is due of it, and left the files
-pub record IsStep {A : Type 0} (step : Reads → Result A Refusal) (asked : Asked) (before after : Stand) (result : Result A Stop) : Type 0 where
-  pub ok : IfOk result (λ x. (after.read_faults ≡ before.read_faults) × ComesTo step asked before.files (Ok x))
+pub record IsStep {A : Type 0} (step : Reads → Result A Refusal) (asked : Asked) (before after : Stand)
+    (result : Result A Stop) : Type 0 where
+  pub ok :
+      IfOk result (λ x. (after.read_faults ≡ before.read_faults) × ComesTo step asked before.files (Ok x))
   pub err : IfErr result (Stops step asked before after)
   pub files : after.files ≡ before.files
   pub faults : after.faults ≡ before.faults
@@ -56,7 +66,8 @@ ComesThrough asked before after (answer.Stopped why) = Stops (due asked) asked b
 ComesThrough asked before after answer.WriteFault = ⊥
 ComesThrough asked before after (answer.Planned end) = ⊥
 ComesThrough asked before after a =
-    (after.read_faults ≡ before.read_faults) × ComesTo (due asked) asked before.files (Ok (print (ending_of a)))
+    (after.read_faults ≡ before.read_faults)
+    × ComesTo (due asked) asked before.files (Ok (print (ending_of a)))
 
 -- what a request that only reads says of the shelf
 pub record IsReading (asked : Asked) (before after : Stand) (a : Answer) : Type 0 where
@@ -78,7 +89,8 @@ abbrev pub written : List Named → Files → Files
 written [] held = held
 written (text ∷ texts) held = written texts (insert held text.0 text.1)
 
--- what a stopped writing leaves: nothing yet, a front part of a text, or that text whole and then the same of the rest
+-- what a stopped writing leaves: nothing yet, a front part of a text, or that text whole and then the same
+-- of the rest
 abbrev pub IsCutShort : List Named → Files → Option Files → Type 0
 IsCutShort [] held now = now ≡ Some held
 IsCutShort (text ∷ texts) held now =
@@ -154,7 +166,8 @@ abbrev pub Reports : Answer → Printed → Printed → Status → Type 0
 Reports a before after ended = IsReported a before after ended ⊎ IsCut a before after ended
 
 -- a run: the words ask for something, which comes to an answer, and that is reported
-pub record IsRun (words : List (List ℕ)) (before after : Stand) (printed_before printed_after : Printed) (ended : Status) : Type 0 where
+pub record IsRun (words : List (List ℕ)) (before after : Stand) (printed_before printed_after : Printed)
+    (ended : Status) : Type 0 where
   pub asked : Asked
   pub asks : Asks words asked
   pub answer : Answer

@@ -56,7 +56,8 @@ line text = text ++ 10 ∷ []
 -- the line of a fault in the ship file with its place: the key and the number of its element
 abbrev pub place_line : ShipKind → ShipFault → List ℕ
 place_line kind fault =
-    codes "BadShip " ++ kind_text kind ++ codes " " ++ key_text fault.key ++ codes " " ++ decimal fault.number ++ codes "\n"
+    codes "BadShip " ++ kind_text kind ++ codes " " ++ key_text fault.key ++ codes " " ++ decimal fault.number
+    ++ codes "\n"
 
 -- the line of a fault in the ship file; a text that is no TOML has no place
 abbrev pub bad_ship_text : ShipKind → ShipFault → List ℕ
@@ -65,7 +66,8 @@ bad_ship_text kind fault = place_line kind fault
 
 -- the line of a fault in the stowage list with its record
 abbrev pub bad_stow_text : StowFault → List ℕ
-bad_stow_text fault = codes "BadStow " ++ stow_text fault.kind ++ codes " " ++ decimal fault.number ++ codes "\n"
+bad_stow_text fault =
+    codes "BadStow " ++ stow_text fault.kind ++ codes " " ++ decimal fault.number ++ codes "\n"
 
 -- the line of an end in ticks
 abbrev pub end_line : ℕ → List ℕ

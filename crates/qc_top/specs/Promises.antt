@@ -39,7 +39,8 @@ IsRefusal status.Unbuilt = Unit {0}
 IsRefusal _ = ⊥
 
 -- a refusal with this status, which is due or has its cause, was printed
-pub record IsRefusalTold (asked : Asked) (before after : Stand) (printed_before printed_after : Printed) (ended : Status) : Type 0 where
+pub record IsRefusalTold (asked : Asked) (before after : Stand) (printed_before printed_after : Printed)
+    (ended : Status) : Type 0 where
   pub why : Refusal
   pub status : ended ≡ refusal_status why
   pub cause : Serves asked before after (answer.Stopped (stop.Refused why))
@@ -58,14 +59,16 @@ status_due (Ok (search inst)) = status.Optimal
 status_due (Err why) = refusal_status why
 
 -- the sink failed itself, so that it got a front part of the report of the answer
-pub record IsCutTold (asked : Asked) (before after : Stand) (printed_before printed_after : Printed) : Type 0 where
+pub record IsCutTold (asked : Asked) (before after : Stand) (printed_before printed_after : Printed)
+    : Type 0 where
   pub rose : Rose printed_before.faults printed_after.faults
   pub answer : Answer
   pub serves : Serves asked before after answer
   pub report : GrewByPart printed_before.bytes printed_after.bytes (report_text answer)
 
 -- the shelf failed while a plan was written, and the sink got the line of that
-pub record IsStopTold (asked : Asked) (before after : Stand) (printed_before printed_after : Printed) : Type 0 where
+pub record IsStopTold (asked : Asked) (before after : Stand) (printed_before printed_after : Printed)
+    : Type 0 where
   pub plan : IsPlan asked
   pub rose : Rose before.faults after.faults
   pub serves : Serves asked before after answer.WriteFault
@@ -74,9 +77,11 @@ pub record IsStopTold (asked : Asked) (before after : Stand) (printed_before pri
 
 -- the status, or that the sink failed
 abbrev pub EndsWith : Status → Printed → Printed → Status → Type 0
-EndsWith wanted before after ended = (ended ≡ wanted) ⊎ ((ended ≡ status.WriteFault) × Rose before.faults after.faults)
+EndsWith wanted before after ended =
+    (ended ≡ wanted) ⊎ ((ended ≡ status.WriteFault) × Rose before.faults after.faults)
 
-pub record Promises (words : List (List ℕ)) (before after : Stand) (printed_before printed_after : Printed) (ended : Status) : Type 0 where
+pub record Promises (words : List (List ℕ)) (before after : Stand) (printed_before printed_after : Printed)
+    (ended : Status) : Type 0 where
   -- Optimal of a plan
   pub plan_optimal :
       (asked : Asked) → Asks words asked → IsPlan asked → ended ≡ status.Optimal
@@ -110,4 +115,5 @@ pub record Promises (words : List (List ℕ)) (before after : Stand) (printed_be
   -- what is due of the files comes where no call failed, or want of memory does
   pub complete :
       (asked : Asked) → Asks words asked → NoneFailed before after printed_before printed_after
-      → IfSome before.files (λ held. (ended ≡ status_due (due asked (reads_in held asked))) ⊎ (ended ≡ status.OutOfMemory))
+      → IfSome before.files (λ held.
+      (ended ≡ status_due (due asked (reads_in held asked))) ⊎ (ended ≡ status.OutOfMemory))

@@ -16,7 +16,8 @@ is_file_word (b ∷ bs) = not (b == 45)
 
 -- a number up to the greatest, in plain decimal
 abbrev pub is_number_to : ℕ → List ℕ → Bool
-is_number_to greatest word = bytes_eq word (decimal (digits_value 10 word)) && nat_le (digits_value 10 word) greatest
+is_number_to greatest word =
+    bytes_eq word (decimal (digits_value 10 word)) && nat_le (digits_value 10 word) greatest
 
 -- four names of files, no two of them equal
 abbrev pub are_plan_files : List ℕ → List ℕ → List ℕ → List ℕ → Bool
@@ -32,7 +33,9 @@ plan_asked _ = usage
 
 abbrev pub check_asked : List (List ℕ) → Asked
 check_asked (s ∷ w ∷ p ∷ t ∷ []) =
-    if is_file_word s && is_file_word w && (is_file_word p || bytes_eq p (codes "-")) && is_file_word t then unbuilt else usage
+    if is_file_word s && is_file_word w && (is_file_word p || bytes_eq p (codes "-")) && is_file_word t
+    then unbuilt
+    else usage
 check_asked _ = usage
 
 abbrev pub tasks_asked : List (List ℕ) → Asked
@@ -45,7 +48,8 @@ show_asked _ = usage
 
 abbrev pub make_asked : List (List ℕ) → Asked
 make_asked (n ∷ h ∷ c ∷ []) =
-    if is_number_to 2147483647 n && is_number_to 60 h && is_number_to 8 c && not (bytes_eq h (codes "0")) && not (bytes_eq c (codes "0"))
+    if is_number_to 2147483647 n && is_number_to 60 h && is_number_to 8 c
+    && not (bytes_eq h (codes "0")) && not (bytes_eq c (codes "0"))
     then unbuilt
     else usage
 make_asked _ = usage
