@@ -7,12 +7,10 @@ mod mem_sink;
 mod outside;
 mod reading;
 mod rest;
-mod texts;
 mod writing;
 
 pub use mem_shelf::MemShelf;
 pub use mem_sink::MemSink;
 pub use outside::{Failed, Shelf, Sink, fault};
 pub use reading::{ReadAll, read_all};
-pub use texts::{put_number, put_pair};
 pub use writing::{WriteFault, put_all};
