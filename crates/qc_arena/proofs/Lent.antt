@@ -37,7 +37,8 @@ module _ {M : Type 1} {𝓤 : Ura M} (𝓛 : Logic 𝓤) (l : Lft) (R : RattleTy
   lends_block null_ptr xs spare = Lends-false 𝓛 (said ffalse) l
 
 -- the value of that number
-pub lent_one : (R : RattleType) {M : Type 1} {𝓤 : Ura M} (𝓛 : Logic 𝓤) (κ : Lft) (b o : ℕ) (xs : List R.Denot) (k : ℕ) (d : R.Denot) → k < length xs
+pub lent_one : (R : RattleType) {M : Type 1} {𝓤 : Ura M} (𝓛 : Logic 𝓤) (κ : Lft) (b o : ℕ) (xs : List R.Denot) (k : ℕ) (d : R.Denot)
+    → k < length xs
     → ent 𝓤 (sem 𝓛 (row_lent R b o xs κ)) (sem 𝓛 (shared_of R (get_or xs k d) b (k * type_size R + o) κ))
 lent_one R 𝓛 κ b o [] k d inside = absurd (omega arith)
 lent_one R 𝓛 κ b o (x ∷ xs) zero d inside = qed 𝓛 (‵ (row_lent R b o (x ∷ xs) κ) ∷ []) ∵ fsplit ! $ move ! (1 ∷ []) $

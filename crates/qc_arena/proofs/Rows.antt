@@ -16,7 +16,8 @@ use borrow.Table.OneValue.{part_out}
 use Rattle.qc_arena.specs.Memory.{row_owns, room_owns}
 
 module _ (R : RattleType) {M : Type 1} {𝓤 : Ura M} (𝓛 : Logic 𝓤) (b : ℕ) (y : R.Denot) where
-  pub row_more : (o : ℕ) (xs : List R.Denot) → ent 𝓤 (sep 𝓤 (sem 𝓛 (part_at R full_share y b (length xs * type_size R + o))) (sem 𝓛 (row_owns R b o xs))) (sem 𝓛 (row_owns R b o (xs ++ y ∷ [])))
+  pub row_more : (o : ℕ) (xs : List R.Denot)
+      → ent 𝓤 (sep 𝓤 (sem 𝓛 (part_at R full_share y b (length xs * type_size R + o))) (sem 𝓛 (row_owns R b o xs))) (sem 𝓛 (row_owns R b o (xs ++ y ∷ [])))
   row_more o [] = qed 𝓛 (‵ (part_at R full_share y b (0 * type_size R + o)) ∷ ‵ (row_owns R b o []) ∷ []) ∵
       rewrite ! 0 (λ (i : ℕ). ‵ (part_at R full_share y b i)) {x = o} (omega (arith, zero-mul (type_size R))) refl $
       fjoin ! $ done !
@@ -26,7 +27,8 @@ module _ (R : RattleType) {M : Type 1} {𝓤 : Ura M} (𝓛 : Logic 𝓤) (b : �
       use2 𝓛 (‵ (row_owns R b (o + type_size R) (xs ++ y ∷ []))) (row_more (o + type_size R) xs) $
       move ! (1 ∷ 0 ∷ []) $ fjoin ! $ done !
 
-  pub row_less : (o : ℕ) (xs : List R.Denot) → ent 𝓤 (sem 𝓛 (row_owns R b o (xs ++ y ∷ []))) (sep 𝓤 (sem 𝓛 (part_at R full_share y b (length xs * type_size R + o))) (sem 𝓛 (row_owns R b o xs)))
+  pub row_less : (o : ℕ) (xs : List R.Denot)
+      → ent 𝓤 (sem 𝓛 (row_owns R b o (xs ++ y ∷ []))) (sep 𝓤 (sem 𝓛 (part_at R full_share y b (length xs * type_size R + o))) (sem 𝓛 (row_owns R b o xs)))
   row_less o [] = qed 𝓛 (‵ (row_owns R b o (y ∷ [])) ∷ []) ∵ fsplit ! $
       rewrite ! 0 (λ (i : ℕ). ‵ (part_at R full_share y b i)) {x = 0 * type_size R + o} (omega (arith, zero-mul (type_size R))) refl $
       done !
@@ -43,7 +45,8 @@ module _ (R : RattleType) (one : R.mir ≡ lone R.mir ∷ []) {M : Type 1} {𝓤
       pick ! (λ v. split ! $ keep ! (0 ∷ []) $ by ! (𝓛.laws.at_room (lone R.mir) b o v))
 
   -- values and the room after them are room
-  pub all_room : (o : ℕ) (xs : List R.Denot) (n : ℕ) → ent 𝓤 (sep 𝓤 (sem 𝓛 (row_owns R b o xs)) (sem 𝓛 (room_owns R b (length xs * type_size R + o) n))) (sem 𝓛 (room_owns R b o (length xs + n)))
+  pub all_room : (o : ℕ) (xs : List R.Denot) (n : ℕ)
+      → ent 𝓤 (sep 𝓤 (sem 𝓛 (row_owns R b o xs)) (sem 𝓛 (room_owns R b (length xs * type_size R + o) n))) (sem 𝓛 (room_owns R b o (length xs + n)))
   all_room o [] n = qed 𝓛 (‵ (row_owns R b o []) ∷ ‵ (room_owns R b (0 * type_size R + o) n) ∷ []) ∵ drop ! $
       rewrite ! 0 (λ (i : ℕ). ‵ (room_owns R b i n)) {x = o} (omega (arith, zero-mul (type_size R))) refl $
       rewrite ! 0 (λ (i : ℕ). ‵ (room_owns R b o i)) {x = 0 + n} (omega arith) refl $ done !

@@ -38,7 +38,8 @@ record Found (base : Ptr) (side : Side) (node number : ℕ) (cells : List Cell) 
 same_number : {a b : ℕ} → ◌≡◌ {A = Option ℕ} (Some a) (Some b) → a ≡ b
 same_number e = cc
 
-found : (base : Ptr) (side : Side) (node number : ℕ) (cells : List Cell) → newest side node cells ≡ Some number → AreLinked base side cells → Found base side node number cells
+found : (base : Ptr) (side : Side) (node number : ℕ) (cells : List Cell) → newest side node cells ≡ Some number
+    → AreLinked base side cells → Found base side node number cells
 found base side node number [] e linked = cc
 found base side node number (cell ∷ older) e linked = elim (cases_Bool (side.node (arc_of cell) == node)) [
   | inl here ↦ record {
@@ -86,7 +87,8 @@ record Cut (cells : List Cell) (number : ℕ) (cell : Cell) (older : List Cell) 
   before : take number cells ≡ reverse older
   cell_is : (d : Cell) → slice_index_or cells number d ≡ cell
 
-cut : (cells front older : List Cell) (cell : Cell) (among number : ℕ) → reverse (take among cells) ≡ front ++ cell ∷ older → length older ≡ number → Cut cells number cell older
+cut : (cells front older : List Cell) (cell : Cell) (among number : ℕ)
+    → reverse (take among cells) ≡ front ++ cell ∷ older → length older ≡ number → Cut cells number cell older
 cut cells front older cell among number split count =
     let rest : List Cell = reverse front ++ drop among cells in
     let taken : take among cells ≡ reverse older ++ (cell ∷ reverse front) =
@@ -115,11 +117,14 @@ pub record Step (base : Ptr) (side : Side) (cells : List Cell) (node among : ℕ
   pub place : link.at ≡ place_of the_row base number
   pub after : (cell : Cell) → cell ≡ slice_index_or cells number cell → After base side cells node among cell
 
-numbered : (base : Ptr) (o : Option ℕ) (link : Link) → Some link ≡ option_map (λ number. record { at = place_of the_row base number }) o → (number : ℕ) × (o ≡ Some number) × (link.at ≡ place_of the_row base number)
+numbered : (base : Ptr) (o : Option ℕ) (link : Link)
+    → Some link ≡ option_map (λ number. record { at = place_of the_row base number }) o
+    → (number : ℕ) × (o ≡ Some number) × (link.at ≡ place_of the_row base number)
 numbered base (Some number) link e = (number, refl, cc)
 numbered base None link e = cc
 
-pub next_cell : (base : Ptr) (side : Side) (cells : List Cell) (node among : ℕ) (link : Link) → IsAhead base side cells node among (Some link) → Step base side cells node among link
+pub next_cell : (base : Ptr) (side : Side) (cells : List Cell) (node among : ℕ) (link : Link)
+    → IsAhead base side cells node among (Some link) → Step base side cells node among link
 next_cell base side cells node among link here =
     let to = numbered base (newest side node (reverse (take among cells))) link here.first in
     let number : ℕ = to.0 in
@@ -146,15 +151,19 @@ next_cell base side cells node among link here =
     }
 
 -- a walk with no link has no arc before it
-pub no_cell : (base : Ptr) (side : Side) (cells : List Cell) (node among : ℕ) → IsAhead base side cells node among None → side_arcs side node among cells ≡ []
+pub no_cell : (base : Ptr) (side : Side) (cells : List Cell) (node among : ℕ)
+    → IsAhead base side cells node among None → side_arcs side node among cells ≡ []
 no_cell base side cells node among here =
     ap (filter (λ arc. side.node arc == node)) (map_reverse arc_of (take among cells)) ∙ none_found side node (reverse (take among cells)) (no_number (newest side node (reverse (take among cells))) here.first) where
-      no_number : (o : Option ℕ) → ◌≡◌ {A = Option Link} None (option_map (λ number. record { at = place_of the_row base number }) o) → o ≡ None
+      no_number : (o : Option ℕ)
+          → ◌≡◌ {A = Option Link} None (option_map (λ number. record { at = place_of the_row base number }) o)
+          → o ≡ None
       no_number (Some number) e = cc
       no_number None e = refl
 
 -- without the newest cell, whose node leads to the next older one
-pub threaded_less : (base : Ptr) (side : Side) (cells : List Cell) (cell : Cell) (heads : List (Option Link)) → IsThreaded base side (cells ++ cell ∷ []) heads
+pub threaded_less : (base : Ptr) (side : Side) (cells : List Cell) (cell : Cell) (heads : List (Option Link))
+    → IsThreaded base side (cells ++ cell ∷ []) heads
     → IsThreaded base side cells (slice_set heads (side.node (arc_of cell)) (side.older cell))
 threaded_less base side cells cell heads all =
     let node : ℕ = side.node (arc_of cell) in
@@ -173,7 +182,8 @@ threaded_less base side cells cell heads all =
     }
 
 -- the same of a block that has lost that cell
-pub threaded_popped : (base base' : Ptr) (side : Side) (cells cells' : List Cell) (cell : Cell) (heads : List (Option Link)) → base' ≡ base → cells ≡ cells' ++ cell ∷ [] → IsThreaded base side cells heads
+pub threaded_popped : (base base' : Ptr) (side : Side) (cells cells' : List Cell) (cell : Cell) (heads : List (Option Link))
+    → base' ≡ base → cells ≡ cells' ++ cell ∷ [] → IsThreaded base side cells heads
     → IsThreaded base' side cells' (slice_set heads (side.node (arc_of cell)) (side.older cell))
 threaded_popped base base' side cells cells' cell heads same_base less all =
     threaded_less base' side cells' cell heads (subst (λ p. IsThreaded p side (cells' ++ cell ∷ []) heads) (sym same_base) (subst (λ xs. IsThreaded base side xs heads) less all))

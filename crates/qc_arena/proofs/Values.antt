@@ -24,7 +24,8 @@ block_val p = vstruct (vcons (ptr_val p) vnil)
 abbrev pub block_fields : Ptr → List Val → Fml
 block_fields p = (of_fields (RawPtr ∷ [])).own_val (p, tt)
 
-pub block_made : {M : Type 1} {𝓤 : Ura M} (𝓛 : Logic 𝓤) (p : Ptr) → ent 𝓤 (emp 𝓤) (sem 𝓛 (block_fields p (block_val p ∷ [])))
+pub block_made : {M : Type 1} {𝓤 : Ura M} (𝓛 : Logic 𝓤) (p : Ptr)
+    → ent 𝓤 (emp 𝓤) (sem 𝓛 (block_fields p (block_val p ∷ [])))
 block_made 𝓛 p = makes_shadow 𝓛 (block_fields p (block_val p ∷ [])) (λ _. (tt, (tt, tt))) ((ptr_val p ∷ [], tt), (refl, (refl, tt)))
 
 abbrev pub lease_val : Val

@@ -53,7 +53,17 @@ release_spec 𝓤 𝓛 𝓜 𝓡 wired A L g d dd met md =
     let stayed : Stays ended.signature.params ended.kept = (stay_dropped _ ended.kept.0, (stay_dropped _ ended.kept.1.0, (stay_dropped _ ended.kept.1.1.0, (stay_dropped _ ended.kept.1.1.1.0, tt)))) in
     let C = (tables 𝓤 H 𝓜 𝓡 𝓡.env).C in
     let Λ = (tables 𝓤 H 𝓜 𝓡 𝓡.env).Λ in
-    proved_at 𝓛 ended stayed c 𝓜 𝓡 (Goes-blank 𝓛 2 (plain (λ _. B.the_row)) ended.kept.0 (λ κs x g. tt), (Goes-blank 𝓛 2 (plain (λ _. Right)) ended.kept.1.0 (λ κs x g. tt), (Goes-dropped 𝓛 2 (RefOf (0 ∷ []) tt (plain (λ _. param 0 A)) (λ _. tt)) ended.kept.1.1.0 (λ κs x g. refl), (Goes-dropped 𝓛 2 (plain (λ _. usize)) ended.kept.1.1.1.0 (λ κs x g. refl), tt)))) (#self args) fn (code.unfolded 𝓤 H 𝓜 𝓡 wired (A, tt) d dd) (λ z are.
+    proved_at 𝓛 ended stayed c 𝓜 𝓡 (
+      Goes-blank 𝓛 2 (plain (λ _. B.the_row)) ended.kept.0 (λ κs x g. tt),
+      (
+        Goes-blank 𝓛 2 (plain (λ _. Right)) ended.kept.1.0 (λ κs x g. tt),
+        (
+          Goes-dropped 𝓛 2 (RefOf (0 ∷ []) tt (plain (λ _. param 0 A)) (λ _. tt)) ended.kept.1.1.0 (λ κs x g. refl),
+          (Goes-dropped 𝓛 2 (plain (λ _. usize)) ended.kept.1.1.1.0 (λ κs x g. refl), tt),
+        ),
+      ),
+    )
+    (#self args) fn (code.unfolded 𝓤 H 𝓜 𝓡 wired (A, tt) d dd) (λ z are.
     let Post : Val → SProp 𝓤 = (walk_of 𝓛 ended stayed c).post z in
     let κ : Lft = z.0.0.0 in
     let q : Share = z.0.1.0 in

@@ -50,7 +50,13 @@ push_spec 𝓤 𝓛 𝓜 𝓡 wired =
     let fn : Fn = code.function in
     let C = (tables 𝓤 H 𝓜 𝓡 𝓡.env).C in
     let Λ = (tables 𝓤 H 𝓜 𝓡 𝓡.env).Λ in
-    proved_at 𝓛 f.ended stayed c 𝓜 𝓡 (Goes-ref 𝓛 1 0 tt (plain (λ _. B.the_row)), (Goes-dropped 𝓛 1 (plain (λ _. usize)) yes (λ κs x g. refl), (Goes-dropped 𝓛 1 (plain (λ _. R)) yes (λ κs x g. refl), tt)))
+    proved_at 𝓛 f.ended stayed c 𝓜 𝓡 (
+      Goes-ref 𝓛 1 0 tt (plain (λ _. B.the_row)),
+      (
+        Goes-dropped 𝓛 1 (plain (λ _. usize)) yes (λ κs x g. refl),
+        (Goes-dropped 𝓛 1 (plain (λ _. R)) yes (λ κs x g. refl), tt),
+      ),
+    )
     #self fn (code.unfolded 𝓤 H 𝓜 𝓡 wired) (λ z are.
     let Post : Val → SProp 𝓤 = (walk_of 𝓛 f.ended stayed c).post z in
     let κ : Lft = z.0.0.0 in
