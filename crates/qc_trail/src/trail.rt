@@ -24,14 +24,15 @@ pub struct Trail {
 }
 
 impl Model for Trail {
-    ghost use Rattle.std.specs.Prelude.{◌≤◌, ◌<◌, ◌^◌, vec_len, vec_capacity};
     ghost use Rattle.qc_trail.specs.Trails.{Notes};
 
     ghost Value = { Notes };
 
+    ghost use Rattle.qc_trail.specs.Room.{HasRoom};
+
     ghost view = { λ trail. record { notes = trail.notes.items; cap = trail.cap } };
 
-    ghost invariant = { λ trail. (vec_len trail.notes ≤ trail.cap) × (trail.cap ≤ vec_capacity trail.notes) × (trail.cap < 2 ^ 32) };
+    ghost invariant = { HasRoom };
 }
 
 impl Trail {
