@@ -81,7 +81,13 @@ pub record Beside : Type 0 where
 -- what no write changes of a shelf
 abbrev pub beside_of : Option Files → Option (List ℕ) → Option (List ℕ) → Bool → ℕ → Beside
 beside_of files made rest reading read_faults =
-    record { others = others_of files made; made = made; rest = rest; reading = reading; read_faults = read_faults }
+    record {
+      others = others_of files made;
+      made = made;
+      rest = rest;
+      reading = reading;
+      read_faults = read_faults;
+    }
 
 -- beside a sink that is no shelf there is nothing
 abbrev pub alone : Beside

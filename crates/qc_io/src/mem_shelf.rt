@@ -76,7 +76,8 @@ impl MemShelf {
 
     /// Puts a file on the shelf, in place of one of the same name.
     pub fn put(&mut self, name: &str, bytes: &[u8]) -> Result<(), OutOfMemory>
-        ensures ok { OnOk result (self.new ≡ record self.old { files = insert self.old.files name.now bytes.now }) }
+        ensures ok { OnOk result
+            (self.new ≡ record self.old { files = insert self.old.files name.now bytes.now }) }
         ensures err { OnErr result (self.new ≡ self.old) }
     {
         hold(self.alloc, &mut self.files, name, bytes)?;
@@ -86,7 +87,9 @@ impl MemShelf {
     /// Sets a call of `write`, `open`, `read` or `create` to fail, by its number, counted from 1 over all
     /// four.
     pub fn fail(&mut self, call: u64) -> Result<(), OutOfMemory>
-        ensures ok { OnOk result (self.new ≡ record self.old { calls = record self.old.calls { failing = self.old.calls.failing ++ call ∷ [] } }) }
+        ensures ok { OnOk result (self.new ≡ record self.old {
+          calls = record self.old.calls { failing = self.old.calls.failing ++ call ∷ [] };
+        }) }
         ensures err { OnErr result (self.new ≡ self.old) }
     {
         self.calls.fail(call)?;
@@ -223,7 +226,8 @@ impl Shelf for MemShelf {
         requires room { 0 < length buf.old }
         ensures count { IfOk result (λ count. count
             ≡ min (length (unwrap_or self.old.rest [])) (min (length buf.old) self.old.most)) }
-        ensures moved { IfOk result (λ count. take count buf.new ≡ take count (unwrap_or self.old.rest [])) }
+        ensures moved { IfOk result (λ count.
+            take count buf.new ≡ take count (unwrap_or self.old.rest [])) }
         ensures ok { IfOk result (λ count. self.new ≡ record self.old {
           rest = Some (drop count (unwrap_or self.old.rest []));
           calls = counted self.old.calls;

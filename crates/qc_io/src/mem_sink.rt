@@ -27,7 +27,11 @@ impl Model for MemSink {
 impl MemSink {
     /// A sink that took no bytes.
     pub fn new(alloc: Global) -> Result<MemSink, OutOfMemory>
-        ensures { IfOk result (λ sink. sink ≡ record { bytes = []; faults = 0; calls = record { count = 0; failing = [] } }) }
+        ensures { IfOk result (λ sink. sink ≡ record {
+          bytes = [];
+          faults = 0;
+          calls = record { count = 0; failing = [] };
+        }) }
     {
         Ok(MemSink {
             bytes: Vec::new(alloc),
@@ -38,7 +42,9 @@ impl MemSink {
 
     /// Sets a call of `write` to fail, by its number, counted from 1.
     pub fn fail(&mut self, call: u64) -> Result<(), OutOfMemory>
-        ensures ok { OnOk result (self.new ≡ record self.old { calls = record self.old.calls { failing = self.old.calls.failing ++ call ∷ [] } }) }
+        ensures ok { OnOk result (self.new ≡ record self.old {
+          calls = record self.old.calls { failing = self.old.calls.failing ++ call ∷ [] };
+        }) }
         ensures err { OnErr result (self.new ≡ self.old) }
     {
         self.calls.fail(call)?;
@@ -73,8 +79,14 @@ impl Sink for MemSink {
     /// Takes the whole piece. It fails where the call is set to fail, or for want of memory.
     fn write(&mut self, piece: &[u8]) -> Result<usize, Failed>
         ensures count { IfOk result (λ count. count ≡ length piece.now) }
-        ensures ok { OnOk result (self.new ≡ record self.old { bytes = self.old.bytes ++ piece.now; calls = counted self.old.calls }) }
-        ensures err { OnErr result (self.new ≡ record self.old { faults = next_count self.old.faults; calls = counted self.old.calls }) }
+        ensures ok { OnOk result (self.new ≡ record self.old {
+          bytes = self.old.bytes ++ piece.now;
+          calls = counted self.old.calls;
+        }) }
+        ensures err { OnErr result (self.new ≡ record self.old {
+          faults = next_count self.old.faults;
+          calls = counted self.old.calls;
+        }) }
         ensures set_to_fail { NextFails self.old.calls → IsErr result }
         ensures faults_never_fall { self.old.faults ≤ self.new.faults }
     {

@@ -30,7 +30,8 @@ pub trait Sink {
     fn write(&mut self, piece: &[u8]) -> Result<usize, Failed>
         ensures at_least { IfOk result (λ count. 0 < length piece.now → 0 < count) }
         ensures at_most { IfOk result (λ count. count ≤ length piece.now) }
-        ensures appended { IfOk result (λ count. written self.new ≡ append_known (written self.old) (take count piece.now)) }
+        ensures appended { IfOk result (λ count.
+            written self.new ≡ append_known (written self.old) (take count piece.now)) }
         ensures ok_faults { OnOk result (faults self.new ≡ faults self.old) }
         ensures err_written { OnErr result (written self.new ≡ written self.old) }
         ensures err_rose { OnErr result (Rose (faults self.old) (faults self.new)) }
@@ -74,8 +75,10 @@ pub trait Shelf: Sink {
         requires open { reading self.old ≡ true }
         requires room { 0 < length buf.old }
         ensures at_most { IfOk result (λ count. count ≤ length buf.new) }
-        ensures moved { IfOk result (λ count. rest self.old ≡ prepend_known (take count buf.new) (rest self.new)) }
-        ensures ended { IfOk result (λ count. IfSome (rest self.old) (λ bytes. (count ≡ 0) ↔ (bytes ≡ []))) }
+        ensures moved { IfOk result (λ count.
+            rest self.old ≡ prepend_known (take count buf.new) (rest self.new)) }
+        ensures ended { IfOk result (λ count.
+            IfSome (rest self.old) (λ bytes. (count ≡ 0) ↔ (bytes ≡ []))) }
         ensures ok_faults { OnOk result (read_faults self.new ≡ read_faults self.old) }
         ensures err_rest { OnErr result (rest self.new ≡ rest self.old) }
         ensures err_rose { OnErr result (Rose (read_faults self.old) (read_faults self.new)) }

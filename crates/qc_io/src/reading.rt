@@ -56,7 +56,8 @@ pub fn read_all<S: Shelf>(
     ensures within { IfOk result (λ bytes. length bytes ≤ limit) }
     ensures read_fault { result ≡ Err ReadAll.ReadFault
         → ReadCause (S.read_faults shelf.old) (S.read_faults shelf.new) (S.files shelf.old) name.now }
-    ensures unfailed { ¬ (result ≡ Err ReadAll.ReadFault) → S.read_faults shelf.new ≡ S.read_faults shelf.old }
+    ensures unfailed { ¬ (result ≡ Err ReadAll.ReadFault)
+        → S.read_faults shelf.new ≡ S.read_faults shelf.old }
     ensures missing { IsMissing (S.files shelf.old) name.now → result ≡ Err ReadAll.ReadFault }
     ensures too_large { result ≡ Err ReadAll.TooLarge
         → IfSome (file_at (S.files shelf.old) name.now) (λ bytes. limit < length bytes) }
@@ -105,11 +106,14 @@ fn read_block<S: Shelf>(
     ensures more { IfOk result (λ more. more ≡ true → vec_len bytes.old < vec_len bytes.new) }
     ensures ended { IfOk result (λ more. more ≡ false → IfSome (S.rest shelf.new) (λ rest. rest ≡ [])) }
     ensures still_within { OnOk result (vec_len bytes.new ≤ limit) }
-    ensures read_fault { result ≡ Err ReadAll.ReadFault → Rose (S.read_faults shelf.old) (S.read_faults shelf.new) }
-    ensures unfailed { ¬ (result ≡ Err ReadAll.ReadFault) → S.read_faults shelf.new ≡ S.read_faults shelf.old }
+    ensures read_fault { result ≡ Err ReadAll.ReadFault
+        → Rose (S.read_faults shelf.old) (S.read_faults shelf.new) }
+    ensures unfailed { ¬ (result ≡ Err ReadAll.ReadFault)
+        → S.read_faults shelf.new ≡ S.read_faults shelf.old }
     ensures too_large { result ≡ Err ReadAll.TooLarge
         → IfSome (prepend_known bytes.old.items (S.rest shelf.old)) (λ whole. limit < length whole) }
-    ensures taken { TakesAtMost (limit + 1) (prepend_known bytes.old.items (S.rest shelf.old)) (S.rest shelf.new) }
+    ensures taken { TakesAtMost (limit + 1)
+        (prepend_known bytes.old.items (S.rest shelf.old)) (S.rest shelf.new) }
     ensures reading_stays { S.reading shelf.new ≡ true }
     ensures files_stay { S.files shelf.new ≡ S.files shelf.old }
     ensures made_stays { S.made shelf.new ≡ S.made shelf.old }
