@@ -10,3 +10,5 @@ pub mod Seen
 pub mod Judge
 pub mod Judged
 pub mod InstanceFields
+pub mod Nodes
+pub mod Leaves

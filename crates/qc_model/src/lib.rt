@@ -2,6 +2,7 @@
 #![tactic(auto)]
 
 mod crane;
+mod decision;
 mod direction;
 mod instance;
 mod judge;
@@ -18,6 +19,7 @@ mod task;
 mod ticks;
 
 pub use crane::Crane;
+pub use decision::Decision;
 pub use direction::Direction;
 pub use instance::Instance;
 pub use limits::{

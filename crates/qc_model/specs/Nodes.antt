@@ -1,0 +1,143 @@
+-- Nodes of a search: lists of decisions, and what they ask of every upward schedule that agrees with them.
+use Rattle.std.specs.Prelude.{◌≡◌, ℕ, ◌+◌, ◌<◌, ◌≤◌, ◌≤ℤ◌, ◌⊎◌, max, Bool, false, IsTrue, IsFalse, ◌&&◌, ◌||◌, ◌==◌, nat_lt, int_le, int_lt, if◌then◌else◌, List, [], ◌∷◌, map, filter, length, slice_index, Option, None, Some, IsSome, IfSome, unwrap_or}
+use Rattle.std.specs.List.{list_any, range_with_len}
+use Rattle.qc_model.specs.declared.decision.Decision.{Decision}
+use Rattle.qc_model.specs.declared.decision.Decision.TheVariants.{Assign, Order}
+use Rattle.qc_model.specs.declared.pair.Pair.{Pair}
+use Rattle.qc_model.specs.declared.schedule.Slot.{Slot}
+use Rattle.qc_model.specs.Instance.{InstanceView, bay_of, ticks_of, crane, IsApart}
+use Rattle.qc_model.specs.Rules.{crane_of, start_of, end_of, last_end}
+use Rattle.qc_model.specs.Ticks.{arrival, berth_clear, berth_distance, task_distance, climb, lead}
+
+-- the crane of an assigned task
+abbrev pub assigned : List Decision → ℕ → Option ℕ
+assigned [] j = None
+assigned (Assign i k ∷ ds) j = if i == j then Some k else assigned ds j
+assigned (Order i k ∷ ds) j = assigned ds j
+
+-- task i is decided to be done before the apart task j
+abbrev pub is_ordered : List Decision → ℕ → ℕ → Bool
+is_ordered [] i j = false
+is_ordered (Assign h k ∷ ds) i j = is_ordered ds i j
+is_ordered (Order h k ∷ ds) i j = ((h == i) && (k == j)) || is_ordered ds i j
+
+-- what a list of decisions keeps: its tasks and cranes are those of the instance, ordered pairs are apart in one
+-- order or the other, and no task is assigned twice and no pair ordered twice
+abbrev pub Fits : InstanceView → List Decision → Type 0
+Fits inst [] = Unit {0}
+Fits inst (Assign i k ∷ ds) =
+    (i < length inst.tasks) × (k < length inst.cranes) × (assigned ds i ≡ None) × Fits inst ds
+Fits inst (Order i j ∷ ds) =
+    (IsApart inst i j ⊎ IsApart inst j i) × IsFalse (is_ordered ds i j) × IsFalse (is_ordered ds j i) × Fits inst ds
+
+-- the schedule is as decided
+abbrev pub Agrees : InstanceView → List Decision → List Slot → Type 0
+Agrees inst [] sched = Unit {0}
+Agrees inst (Assign i k ∷ ds) sched = (crane_of sched i ≡ k) × Agrees inst ds sched
+Agrees inst (Order i j ∷ ds) sched = (end_of inst sched i ≤ start_of sched j) × Agrees inst ds sched
+
+-- the greater of two numbers that may be missing
+abbrev pub greater : Option ℕ → Option ℕ → Option ℕ
+greater None n = n
+greater (Some m) None = Some m
+greater (Some m) (Some n) = Some (max m n)
+
+-- task i must end before task j starts
+abbrev pub is_sooner : InstanceView → List Decision → ℕ → ℕ → Bool
+is_sooner inst ds i j = list_any (λ pair. (pair.first == i) && (pair.second == j)) inst.before || is_ordered ds i j
+
+abbrev pub sooner_ticks : InstanceView → List Decision → ℕ → ℕ → Option ℕ
+sooner_ticks inst ds i j = if is_sooner inst ds i j then Some (ticks_of inst i) else None
+
+-- what the cranes v of task i and w of task j ask for: one crane climbs from i to j, and a lower crane gives way to a higher one
+abbrev pub crane_ticks : InstanceView → ℕ → ℕ → Option ℕ → Option ℕ → Option ℕ
+crane_ticks inst i j (Some v) (Some w) =
+    if v == w
+    then (if int_lt (bay_of inst i) (bay_of inst j) then Some (climb inst i j) else None)
+    else (if nat_lt w v && nat_lt 0 (task_distance inst i v j w) then Some (lead inst i v j w) else None)
+crane_ticks inst i j _ _ = None
+
+-- the ticks by which task j must start after the start of task i; none where nothing is forced
+abbrev pub forced : InstanceView → List Decision → ℕ → ℕ → Option ℕ
+forced inst ds i j = greater (sooner_ticks inst ds i j) (crane_ticks inst i j (assigned ds i) (assigned ds j))
+
+-- one of the two tasks is forced to start after the other
+abbrev pub IsSettled : InstanceView → List Decision → ℕ → ℕ → Type 0
+IsSettled inst ds i j = IsSome (forced inst ds i j) ⊎ IsSome (forced inst ds j i)
+
+-- the greatest of these numbers, and 0 where there is none
+abbrev pub greatest : List ℕ → ℕ
+greatest [] = 0
+greatest (n ∷ ns) = max n (greatest ns)
+
+-- the least of these numbers, and 0 where there is none
+abbrev pub least : List ℕ → ℕ
+least [] = 0
+least (n ∷ []) = n
+least (n ∷ m ∷ ns) = min n (least (m ∷ ns))
+
+-- when the bay of task j is clear of the berth of crane v for crane k; 0 where it always is
+abbrev pub berth_wait : InstanceView → ℕ → ℕ → ℕ → ℕ
+berth_wait inst j k v =
+    if (v == k) || (berth_distance inst v k (bay_of inst j) == 0) then 0 else berth_clear inst v k (bay_of inst j)
+
+-- when crane k can first be at task j, with all berths clear
+abbrev pub free : InstanceView → ℕ → ℕ → ℕ
+free inst j k =
+    max (arrival inst k (bay_of inst j)) (greatest (map (berth_wait inst j k) (range_with_len 0 (length inst.cranes))))
+
+-- task j lies within the reach of crane k
+abbrev pub reaches : InstanceView → ℕ → ℕ → Bool
+reaches inst j k = int_le (crane inst k).from (bay_of inst j) && int_le (bay_of inst j) (crane inst k).to
+
+-- when a task can start at the least, by when each crane can be there: with its crane, or with the earliest crane
+-- that reaches it
+abbrev pub head_by : InstanceView → (ℕ → ℕ) → ℕ → Option ℕ → ℕ
+head_by inst there j (Some k) = there k
+head_by inst there j None = least (map there (filter (reaches inst j) (range_with_len 0 (length inst.cranes))))
+
+abbrev pub head : InstanceView → List Decision → ℕ → ℕ
+head inst ds j = head_by inst (free inst j) j (assigned ds j)
+
+-- the same without the berths of other cranes, as trees of the first version have it
+abbrev pub head1 : InstanceView → List Decision → ℕ → ℕ
+head1 inst ds j = head_by inst (λ k. arrival inst k (bay_of inst j)) j (assigned ds j)
+
+-- each assigned task lies within the reach of its crane
+abbrev pub IsInReach : InstanceView → List Decision → Type 0
+IsInReach inst [] = Unit {0}
+IsInReach inst (Assign j k ∷ ds) = IsTrue (reaches inst j k) × IsInReach inst ds
+IsInReach inst (Order i j ∷ ds) = IsInReach inst ds
+
+-- the starts keep all that is forced, and no task starts before its head
+pub record Meets (inst : InstanceView) (ds : List Decision) (starts : List ℕ) : Type 0 where
+  pub all_tasks : length starts ≡ length inst.tasks
+  pub heads : (j : ℕ) → j < length inst.tasks → head inst ds j ≤ slice_index starts j
+  pub steps :
+      (i j : ℕ) → i < length inst.tasks → j < length inst.tasks
+      → IfSome (forced inst ds i j) (λ ticks. slice_index starts i + ticks ≤ slice_index starts j)
+
+-- the starts that meet the node and are, task by task, at most all others that do
+pub record AreLeast (inst : InstanceView) (ds : List Decision) (starts : List ℕ) : Type 0 where
+  pub meets : Meets inst ds starts
+  pub least :
+      (others : List ℕ) → Meets inst ds others
+      → (j : ℕ) → j < length inst.tasks → slice_index starts j ≤ slice_index others j
+
+-- some starts meet the node, and its tasks are in reach
+pub record IsSolvable (inst : InstanceView) (ds : List Decision) : Type 0 where
+  pub in_reach : IsInReach inst ds
+  pub starts : List ℕ
+  pub meets : Meets inst ds starts
+
+-- every task is assigned and every apart pair settled
+pub record IsComplete (inst : InstanceView) (ds : List Decision) : Type 0 where
+  pub tasks : (j : ℕ) → j < length inst.tasks → IsSome (assigned ds j)
+  pub pairs : (i j : ℕ) → IsApart inst i j → IsSettled inst ds i j
+
+-- the schedule of a complete node with these starts
+abbrev pub slot_with : List Decision → List ℕ → ℕ → Slot
+slot_with ds starts j = record { crane = unwrap_or (assigned ds j) 0; start = slice_index starts j }
+
+abbrev pub schedule_with : InstanceView → List Decision → List ℕ → List Slot
+schedule_with inst ds starts = map (slot_with ds starts) (range_with_len 0 (length inst.tasks))
