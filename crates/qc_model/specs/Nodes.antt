@@ -79,7 +79,7 @@ least (n ∷ m ∷ ns) = min n (least (m ∷ ns))
 -- when the bay of task j is clear of the berth of crane v for crane k; 0 where it always is
 abbrev pub berth_wait : InstanceView → ℕ → ℕ → ℕ → ℕ
 berth_wait inst j k v =
-    if (v == k) || (berth_distance inst v k (bay_of inst j) == 0) then 0 else berth_clear inst v k (bay_of inst j)
+    if berth_distance inst v k (bay_of inst j) == 0 then 0 else berth_clear inst v k (bay_of inst j)
 
 -- when crane k can first be at task j, with all berths clear
 abbrev pub free : InstanceView → ℕ → ℕ → ℕ
@@ -114,8 +114,8 @@ pub record Meets (inst : InstanceView) (ds : List Decision) (starts : List ℕ) 
   pub all_tasks : length starts ≡ length inst.tasks
   pub heads : (j : ℕ) → j < length inst.tasks → head inst ds j ≤ slice_index starts j
   pub steps :
-      (i j : ℕ) → i < length inst.tasks → j < length inst.tasks
-      → IfSome (forced inst ds i j) (λ ticks. slice_index starts i + ticks ≤ slice_index starts j)
+      (i j ticks : ℕ) → i < length inst.tasks → j < length inst.tasks → forced inst ds i j ≡ Some ticks
+      → slice_index starts i + ticks ≤ slice_index starts j
 
 -- the starts that meet the node and are, task by task, at most all others that do
 pub record AreLeast (inst : InstanceView) (ds : List Decision) (starts : List ℕ) : Type 0 where
@@ -124,11 +124,21 @@ pub record AreLeast (inst : InstanceView) (ds : List Decision) (starts : List �
       (others : List ℕ) → Meets inst ds others
       → (j : ℕ) → j < length inst.tasks → slice_index starts j ≤ slice_index others j
 
+-- the end of the least starts of a node
+pub record IsNodeEnd (inst : InstanceView) (ds : List Decision) (end : ℕ) : Type 0 where
+  pub starts : List ℕ
+  pub least : AreLeast inst ds starts
+  pub ends : end ≡ last_end inst.tasks starts
+
+-- some starts meet the node
+pub record HasStarts (inst : InstanceView) (ds : List Decision) : Type 0 where
+  pub starts : List ℕ
+  pub meets : Meets inst ds starts
+
 -- some starts meet the node, and its tasks are in reach
 pub record IsSolvable (inst : InstanceView) (ds : List Decision) : Type 0 where
   pub in_reach : IsInReach inst ds
-  pub starts : List ℕ
-  pub meets : Meets inst ds starts
+  pub met : HasStarts inst ds
 
 -- every task is assigned and every apart pair settled
 pub record IsComplete (inst : InstanceView) (ds : List Decision) : Type 0 where
