@@ -35,7 +35,7 @@ travel_swapped inst sched i j k same =
     let e : bays_between (bay_of inst i) (bay_of inst j) ≡ bays_between (bay_of inst j) (bay_of inst i) = omega arith in
     swapped inst sched _ _ i j (ap (λ b. inst.travel * b) e) (k (sym same))
 
-distance_swapped : (inst : InstanceView) (v : ℕ) (x : ℤ) (w : ℕ) (y : ℤ) → distance inst v x w y ≡ distance inst w y v x
+pub distance_swapped : (inst : InstanceView) (v : ℕ) (x : ℤ) (w : ℕ) (y : ℤ) → distance inst v x w y ≡ distance inst w y v x
 distance_swapped inst v x w y =
     elim (cases_order v w) [
       | inl e ↦ let p : w ≤ v = omega arith in let q : v ≤ w = omega arith in rw (le-ltb v w p, le-ltb w v q) refl
@@ -51,7 +51,7 @@ margin_swapped inst sched i j k differ near =
     swapped inst sched _ _ i j e (k (λ s. differ (sym s)) (rw e near))
 
 -- for two numbers that differ, by which is the lower
-by_order : {P : Type 0} (i j : ℕ) → (i ≡ j → P) → (i < j → P) → (j < i → P) → P
+pub by_order : {P : Type 0} (i j : ℕ) → (i ≡ j → P) → (i < j → P) → (j < i → P) → P
 by_order i j same up down = elim (cases_order i j) [ inl e ↦ same e | inr u ↦ elim u [ inl h ↦ up h | inr h ↦ down h ] ]
 
 feasible_of : (inst : InstanceView) (sched : List Slot) → IsSound inst sched → ((rule : Rule) → rule_rank rule < 7 → KeepsAll inst sched rule) → Feasible inst sched

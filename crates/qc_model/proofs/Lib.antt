@@ -8,3 +8,5 @@ pub mod PairOrder
 pub mod InRange
 mod RuleOrder
 mod Parts
+pub mod NodeLemmas
+pub mod LeafLemmas

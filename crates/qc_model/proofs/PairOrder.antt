@@ -31,7 +31,7 @@ sorted_pairs pairs h = λ k d low high.
     let e = h k (k + 1) d (omega arith) high in
     not_less _ _ _ _ e.0 e.1
 
-same_pair : (q r : Pair) → q.first ≡ r.first → q.second ≡ r.second → q ≡ r
+pub same_pair : (q r : Pair) → q.first ≡ r.first → q.second ≡ r.second → q ≡ r
 same_pair q r first second = ap (λ m. record { first = m; second = q.second }) first ∙ ap (λ m. record { first = r.first; second = m }) second
 
 -- a binary search tells whether the pair is there
