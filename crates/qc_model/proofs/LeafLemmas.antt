@@ -1,16 +1,22 @@
--- What leaves show: a ring has no solution, and what a chain shows is at most the end of all starts that meet the node.
-use Rattle.std.proofs.Common.{◌≡◌, ℕ, zero, suc, ◌+◌, ◌<◌, ◌≤◌, Bool, true, List, [], ◌∷◌, ◌++◌, length, slice_index_or, Option, None, Some, IfSome, is_some, refl, subst, arith, leb}
-use Rattle.std.proofs.lemmas.Bool.{and_parts, false≢true, ltb-true}
-use Rattle.std.specs.Prelude.{nat_lt, option_and_then, option_map, slice_index}
+-- What leaves show holds: a ring has no solution, and the end that a leaf shows is at most that of every upward schedule that agrees with the node.
+use Rattle.std.proofs.Common.{◌≡◌, ℕ, ◌+◌, ◌<◌, ◌≤◌, Bool, true, List, [], ◌∷◌, ◌++◌, ◌&&◌, length, Option, None, Some, IfSome, is_some, refl, sym, ◌∙◌, subst, arith, leb}
+use Rattle.std.proofs.lemmas.Bool.{and_parts, cond_both, false≢true, leb-true, ltb-true, not-true}
+use Rattle.std.specs.Prelude.{nat_le, nat_lt, option_and_then, option_map, slice_index}
 use Rattle.std.specs.List.{list_all}
 use Rattle.qc_model.specs.declared.decision.Decision.{Decision}
-use Rattle.qc_model.specs.declared.task.Task.{Task}
+use Rattle.qc_model.specs.declared.decision.Decision.TheVariants.{Assign, Order}
+use Rattle.qc_model.specs.declared.schedule.Slot.{Slot}
+use Rattle.qc_num.specs.declared.bound.Bound.{Bound}
+use Rattle.qc_num.specs.declared.bound.Bound.TheVariants.{Least, Never}
+use Rattle.qc_num.specs.Bounds.{IsAtMost}
 use Rattle.qc_model.specs.declared.limits.TheConstants.{MOST_TASKS}
-use Rattle.qc_model.specs.Instance.{InstanceView, Valid, no_task, ticks_of}
-use Rattle.qc_model.specs.Leaves.{Version, are_tasks, chain_end, chain_ticks, head_in, is_ring, with_berths, without_berths}
-use Rattle.qc_model.specs.Nodes.{Meets, forced, head}
-use Rattle.qc_model.specs.Rules.{last_end}
-use Rattle.qc_model.proofs.NodeLemmas.{forced_ticks, head1_le, if_some}
+use Rattle.qc_model.specs.Instance.{InstanceView, Valid, ticks_of}
+use Rattle.qc_model.specs.Leaves.{Leaf, Version, are_tasks, chain, reach, ring, work, is_out_of_reach, leaf_value, work_holds, chain_end, chain_ticks, head_in, is_ring, with_berths, without_berths}
+use Rattle.qc_model.specs.Nodes.{Agrees, Fits, Meets, reaches, forced, head}
+use Rattle.qc_model.specs.OneWay.{GoesUp}
+use Rattle.qc_model.specs.Rules.{ends, last_end, starts}
+use Rattle.qc_model.proofs.NodeLemmas.{ends_by, forced_ticks, head1_le, if_some, in_reach_of, meets_of}
+use Rattle.qc_model.proofs.WorkLemmas.{work_end_le}
 
 -- the tasks are those of the instance
 abbrev are_within : InstanceView → List ℕ → Bool
@@ -29,14 +35,6 @@ step_met : (inst : InstanceView) (ds : List Decision) (starts : List ℕ) → Me
 step_met inst ds starts m i j low high =
     if_some (forced inst ds i j) (λ n. (slice_index starts i + n ≤ slice_index starts j) × (ticks_of inst i ≤ n))
     (λ n e. (m.steps i j n low high e, subst (λ (o : Option ℕ). IfSome o (λ n. ticks_of inst i ≤ n)) e (forced_ticks inst ds i j)))
-
--- every task ends by the last end
-ends_by : (tasks : List Task) (starts : List ℕ) (j : ℕ) → length starts ≡ length tasks → j < length tasks
-    → slice_index starts j + (slice_index_or tasks j no_task).ticks ≤ last_end tasks starts
-ends_by [] starts j e low = absurd (omega arith)
-ends_by (t ∷ ts) [] j e low = absurd (omega arith)
-ends_by (t ∷ ts) (s ∷ ss) zero e low = omega arith
-ends_by (t ∷ ts) (s ∷ ss) (suc j) e low = let rest = ends_by ts ss j (omega arith) (omega arith) in omega arith
 
 -- a chain behind a task ends by the last end
 chain_met : (inst : InstanceView) (ds : List Decision) (starts : List ℕ) → Meets inst ds starts
@@ -99,15 +97,58 @@ ring_met inst ds starts m i (j ∷ js) l low all high =
 -- a ring has no solution
 pub no_ring_met : (inst : InstanceView) (ds : List Decision) (tasks : List ℕ) → Valid inst → is_ring inst ds tasks ≡ true → are_tasks inst tasks ≡ true
     → (starts : List ℕ) → ¬ Meets inst ds starts
-no_ring_met inst ds [] v ring all starts m = absurd (false≢true ring)
-no_ring_met inst ds (j ∷ js) v ring all starts m =
+no_ring_met inst ds [] v turn all starts m = absurd (false≢true turn)
+no_ring_met inst ds (j ∷ js) v turn all starts m =
     let within = (and_parts (leb (length (j ∷ js)) MOST_TASKS) (are_within inst (j ∷ js)) all).1 in
     let parts = and_parts (nat_lt j (length inst.tasks)) (are_within inst js) within in
     let low = ltb-true j (length inst.tasks) parts.0 in
     let long = v.tasks.ticks j low in
-    turns (chain_ticks inst ds j (js ++ j ∷ [])) ring long (ring_met inst ds starts m j js j low parts.1 low)
+    turns (chain_ticks inst ds j (js ++ j ∷ [])) turn long (ring_met inst ds starts m j js j low parts.1 low)
   where
     turns : (o : Option ℕ) → is_some o ≡ true → 1 ≤ ticks_of inst j
         → IfSome o (λ n. (slice_index starts j + n ≤ slice_index starts j + ticks_of inst j) × (ticks_of inst j + ticks_of inst j ≤ n)) → ⊥
     turns None some long h = absurd (false≢true some)
     turns (Some n) some long h = omega arith
+
+-- a decision that is out of reach is that of no schedule
+in_reach : (inst : InstanceView) (ds : List Decision) (sched : List Slot) → Fits inst ds → GoesUp inst sched → Agrees inst ds sched → is_out_of_reach inst ds ≡ true → ⊥
+in_reach inst [] sched fits g a t = false≢true t
+in_reach inst (Order i j ∷ ds) sched fits g a t = false≢true t
+in_reach inst (Assign j k ∷ ds) sched fits g a t =
+    let r = in_reach_of inst (Assign j k ∷ ds) sched g.feasible fits a in
+    false≢true (sym (not-true (reaches inst j k) t) ∙ r.0)
+
+leaf_shows : (version : Version) (inst : InstanceView) (ds : List Decision) (leaf : Leaf) (sched : List Slot)
+    → Valid inst → Fits inst ds → GoesUp inst sched → Agrees inst ds sched → IfSome (leaf_value version inst ds leaf) (λ bound. IsAtMost bound (Least (ends inst sched)))
+leaf_shows version inst ds (chain tasks) sched v fits g a =
+    cond_both (are_tasks inst tasks) (option_map Least (chain_end version inst ds tasks)) None (λ o. IfSome o (λ bound. IsAtMost bound (Least (ends inst sched))))
+    (λ all. number (chain_end version inst ds tasks)
+    (chain_end_met version inst ds (starts sched) (meets_of inst ds sched g a) tasks (and_parts (leb (length tasks) MOST_TASKS) (are_within inst tasks) all).1))
+    (λ _. tt)
+  where
+    number : (o : Option ℕ) → IfSome o (λ end. end ≤ ends inst sched) → IfSome (option_map Least o) (λ bound. IsAtMost bound (Least (ends inst sched)))
+    number None h = tt
+    number (Some end) h = h
+leaf_shows version inst ds (ring tasks) sched v fits g a =
+    cond_both _ (Some Never) None (λ o. IfSome o (λ bound. IsAtMost bound (Least (ends inst sched))))
+    (λ t.
+    let parts = and_parts (are_tasks inst tasks && nat_le 2 (length tasks)) (is_ring inst ds tasks) t in
+    let all = and_parts (are_tasks inst tasks) (nat_le 2 (length tasks)) parts.0 in
+    absurd (no_ring_met inst ds tasks v parts.1 all.0 (starts sched) (meets_of inst ds sched g a)))
+    (λ _. tt)
+leaf_shows version inst ds reach sched v fits g a =
+    cond_both (is_out_of_reach inst ds) (Some Never) None (λ o. IfSome o (λ bound. IsAtMost bound (Least (ends inst sched))))
+    (λ t. absurd (in_reach inst ds sched fits g a t))
+    (λ _. tt)
+leaf_shows version inst ds (work end) sched v fits g a =
+    cond_both (nat_le 1 end && work_holds inst ds end) (Some (Least end)) None (λ o. IfSome o (λ bound. IsAtMost bound (Least (ends inst sched))))
+    (λ t.
+    let parts = and_parts (nat_le 1 end) (work_holds inst ds end) t in
+    work_end_le inst ds end parts.1 (leb-true 1 end parts.0) sched v fits g a)
+    (λ _. tt)
+
+-- what a leaf shows is at most the end of every upward schedule that agrees with the node, and Never where there is none
+pub leaf_value_le : (version : Version) (inst : InstanceView) (ds : List Decision) (leaf : Leaf) (bound : Bound) (sched : List Slot)
+    → leaf_value version inst ds leaf ≡ Some bound → Valid inst → Fits inst ds → GoesUp inst sched → Agrees inst ds sched → IsAtMost bound (Least (ends inst sched))
+leaf_value_le version inst ds leaf bound sched e v fits g a =
+    subst (λ (o : Option Bound). IfSome o (λ b. IsAtMost b (Least (ends inst sched)))) e (leaf_shows version inst ds leaf sched v fits g a)

@@ -9,4 +9,6 @@ pub mod InRange
 mod RuleOrder
 mod Parts
 pub mod NodeLemmas
+mod Sums
+mod WorkLemmas
 pub mod LeafLemmas

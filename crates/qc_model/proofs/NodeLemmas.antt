@@ -12,11 +12,12 @@ use Rattle.qc_model.specs.declared.decision.Decision.{Decision}
 use Rattle.qc_model.specs.declared.decision.Decision.TheVariants.{Assign, Order}
 use Rattle.qc_model.specs.declared.pair.Pair.{Pair}
 use Rattle.qc_model.specs.declared.schedule.Slot.{Slot}
+use Rattle.qc_model.specs.declared.task.Task.{Task}
 use Rattle.qc_model.specs.Bays.{bays_up, bays_between}
 use Rattle.qc_model.proofs.Bays.{bays}
 use Rattle.qc_model.proofs.GoesLemmas.{by_order, distance_swapped}
 use Rattle.qc_model.proofs.PairOrder.{same_pair}
-use Rattle.qc_model.specs.Instance.{InstanceView, Valid, IsApart, IsBefore, bay_of, pair_of, ticks_of}
+use Rattle.qc_model.specs.Instance.{InstanceView, no_task, Valid, IsApart, IsBefore, bay_of, pair_of, ticks_of}
 use Rattle.qc_model.specs.Nodes.{Agrees, Fits, IsComplete, IsInReach, IsSettled, Meets, assigned, berth_wait, crane_ticks, forced, free, greater, greatest, head, head1, head_by, is_ordered, is_sooner, least, reaches, schedule_with, slot_with, sooner_ticks}
 use Rattle.qc_model.specs.OneWay.{GoesUp, Upward}
 use Rattle.qc_model.specs.Rules.{Feasible, IsClear, KeepsBerth, KeepsTravel, crane_of, end_of, ends, last_end, no_slot, start_of, starts}
@@ -98,7 +99,7 @@ greater_second s t (Some m) (Some n) h = omega arith
 
 -- ---- what the decisions say
 
-assigned_is : (inst : InstanceView) (ds : List Decision) (sched : List Slot) → Agrees inst ds sched → (j : ℕ) → IfSome (assigned ds j) (λ k. crane_of sched j ≡ k)
+pub assigned_is : (inst : InstanceView) (ds : List Decision) (sched : List Slot) → Agrees inst ds sched → (j : ℕ) → IfSome (assigned ds j) (λ k. crane_of sched j ≡ k)
 assigned_is inst [] sched h j = tt
 assigned_is inst (Order i k ∷ ds) sched h j = assigned_is inst ds sched h.1 j
 assigned_is inst (Assign i k ∷ ds) sched h j =
@@ -210,10 +211,18 @@ within_reach from bay to low high = and_from (int_le from bay) (int_le bay to) (
 reach_kept : (inst : InstanceView) (sched : List Slot) → Feasible inst sched → (j : ℕ) → j < length inst.tasks → reaches inst j (crane_of sched j) ≡ true
 reach_kept inst sched f j low = let r = f.reach j low in within_reach _ _ _ r.0 r.1
 
-start_at : (sched : List Slot) (j : ℕ) → slice_index (starts sched) j ≡ start_of sched j
+pub start_at : (sched : List Slot) (j : ℕ) → slice_index (starts sched) j ≡ start_of sched j
 start_at [] j = refl
 start_at (slot ∷ slots) zero = refl
 start_at (slot ∷ slots) (suc j) = start_at slots j
+
+-- every task ends by the last end
+pub ends_by : (tasks : List Task) (starts : List ℕ) (j : ℕ) → length starts ≡ length tasks → j < length tasks
+    → slice_index starts j + (get_or tasks j no_task).ticks ≤ last_end tasks starts
+ends_by [] starts j e low = absurd (omega arith)
+ends_by (t ∷ ts) [] j e low = absurd (omega arith)
+ends_by (t ∷ ts) (s ∷ ss) zero e low = omega arith
+ends_by (t ∷ ts) (s ∷ ss) (suc j) e low = let rest = ends_by ts ss j (omega arith) (omega arith) in omega arith
 
 -- an upward schedule that agrees with a node meets it
 pub meets_of : (inst : InstanceView) (ds : List Decision) (sched : List Slot) → GoesUp inst sched → Agrees inst ds sched → Meets inst ds (starts sched)
