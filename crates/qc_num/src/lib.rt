@@ -4,14 +4,14 @@
 mod bound;
 mod bytes;
 mod memory;
+mod path;
 mod steps;
 mod text;
 
 pub use bound::Bound;
 pub use bytes::Bytes;
 pub use memory::OutOfMemory;
-use smallvec::SmallVec;
-use std::alloc::Global;
+pub use path::Path;
 pub use steps::Steps;
 pub use text::Text;
 
@@ -20,6 +20,3 @@ pub type Tick = u64;
 
 /// A crane bay, counted along the rail from the bow. Below 1 lies ahead of the ship.
 pub type Bay = i32;
-
-/// A list of task numbers: of a chain or a ring, in its order. It takes memory for more than 32.
-pub type Path = SmallVec<u16, 32, Global>;
