@@ -8,7 +8,9 @@ pub mod PairOrder
 pub mod InRange
 mod RuleOrder
 mod Parts
+mod Extremes
 pub mod NodeLemmas
+pub mod CompleteNodes
 mod Sums
 mod WorkLemmas
 pub mod LeafLemmas

@@ -1,0 +1,278 @@
+-- A complete node with starts that meet it is an upward schedule, as decided, with these starts.
+use Rattle.std.proofs.Common.{◌≡◌, ◌≢◌, ℕ, ◌+◌, ◌*◌, ◌<◌, ◌≤◌, true, false, eqb, ◌&&◌, ◌⊎◌, inl, inr, List, [], ◌∷◌, length, get_or, Option, None, Some, IfSome, IsSome, unwrap_or, ℤ, ◌≤ℤ◌, ◌<ℤ◌, refl, ap, ap₂, sym, subst, ◌∙◌, arith, ext_get_or, mul-zero}
+use Rattle.std.proofs.lemmas.Bool.{and_from, and_parts, cases_Bool, cond-false, cond-true, cond_both, eq-eqb, eqb-true, false≢true, lt-ltb, ne_eqb, or_left, or_right}
+use Rattle.std.proofs.lemmas.Int.{by_lt_z, ints}
+use Rattle.std.proofs.lemmas.List.{length-map}
+use Rattle.std.proofs.lemmas.List.FromFn.{get_or-map-range_with_len, length-map-range_with_len}
+use Rattle.std.proofs.lemmas.Option.{same_Some}
+use Rattle.std.specs.Prelude.{int_lt, nat_lt, slice_index}
+use Rattle.qc_model.specs.declared.decision.Decision.{Decision}
+use Rattle.qc_model.specs.declared.decision.Decision.TheVariants.{Assign, Order}
+use Rattle.qc_model.specs.declared.schedule.Slot.{Slot}
+use Rattle.qc_model.specs.Bays.{bays_between, bays_up}
+use Rattle.qc_model.specs.Instance.{InstanceView, IsApart, Valid, bay_of, ticks_of}
+use Rattle.qc_model.specs.Nodes.{Agrees, Fits, IsComplete, IsInReach, Meets, assigned, berth_wait, crane_ticks, forced, free, greater, head_by, is_ordered, is_sooner, reaches, schedule_with, slot_with, sooner_ticks}
+use Rattle.qc_model.specs.OneWay.{GoesUp}
+use Rattle.qc_model.specs.Rules.{Feasible, IsClear, KeepsApart, KeepsBerth, KeepsMargin, KeepsTravel, crane_of, end_of, ends, last_end, no_slot, start_of, starts}
+use Rattle.qc_model.specs.Ticks.{berth_clear, berth_distance, climb, lead, task_distance, travel_between}
+use Rattle.qc_model.proofs.Bays.{bays}
+use Rattle.qc_model.proofs.Extremes.{le_greatest}
+use Rattle.qc_model.proofs.GoesLemmas.{by_order, distance_swapped}
+use Rattle.qc_model.proofs.NodeLemmas.{IsStep, T_true, greater_keeps, if_some, sooner_before, start_at, true_T}
+
+-- ---- what the decisions say
+
+-- the crane of a task is one of the instance, and reaches it
+record IsPlaced (inst : InstanceView) (j k : ℕ) : Type 0 where
+  task : j < length inst.tasks
+  crane : k < length inst.cranes
+  reach : reaches inst j k ≡ true
+
+placed : (inst : InstanceView) (ds : List Decision) → Fits inst ds → IsInReach inst ds → (j : ℕ) → IfSome (assigned ds j) (IsPlaced inst j)
+placed inst [] fits reach j = tt
+placed inst (Order g k ∷ ds) fits reach j = placed inst ds fits.3 reach j
+placed inst (Assign g k ∷ ds) fits reach j =
+    cond_both (eqb g j) (Some k) (assigned ds j) (λ o. IfSome o (IsPlaced inst j))
+    (λ same.
+    let here : IsPlaced inst g k = record { task = fits.0; crane = fits.1; reach = reach.0 } in
+    subst (λ (i : ℕ). IsPlaced inst i k) (eqb-true g j same) here)
+    (λ other. placed inst ds fits.3 reach.1 j)
+
+-- a schedule is as decided where each assigned task is on its crane, and each pair in its order
+agrees_of : (inst : InstanceView) (sched : List Slot) (ds : List Decision) → Fits inst ds
+    → ((j k : ℕ) → assigned ds j ≡ Some k → crane_of sched j ≡ k)
+    → ((i j : ℕ) → IsApart inst i j ⊎ IsApart inst j i → is_ordered ds i j ≡ true → end_of inst sched i ≤ start_of sched j)
+    → Agrees inst ds sched
+agrees_of inst sched [] fits cranes orders = tt
+agrees_of inst sched (Order i j ∷ ds) fits cranes orders =
+    let itself = and_from (eqb i i) (eqb j j) (eq-eqb i i refl) (eq-eqb j j refl) in (
+      orders i j fits.0 (or_left (eqb i i && eqb j j) (is_ordered ds i j) itself),
+      agrees_of inst sched ds fits.3 cranes (λ g h pair t. orders g h pair (or_right (eqb i g && eqb j h) (is_ordered ds g h) t)),
+    )
+agrees_of inst sched (Assign i k ∷ ds) fits cranes orders = (
+  cranes i k (cond-true (eqb i i) (Some k) (assigned ds i) (eq-eqb i i refl)),
+  agrees_of inst sched ds fits.3 (λ j v e. cranes j v (other j v e (cases_Bool (eqb i j)))) orders,
+)
+  where
+    other : (j v : ℕ) → assigned ds j ≡ Some v → (eqb i j ≡ true) ⊎ (eqb i j ≡ false) → assigned (Assign i k ∷ ds) j ≡ Some v
+    other j v e (inl same) =
+        let none : assigned ds j ≡ None = subst (λ (x : ℕ). assigned ds x ≡ None) (eqb-true i j same) fits.2 in
+        absurd (cc)
+    other j v e (inr differ) = cond-false (eqb i j) (Some k) (assigned ds j) differ ∙ e
+
+-- ---- what is forced
+
+module _ (inst : InstanceView) (i j v w : ℕ) where
+  climb_asked : v ≡ w → bay_of inst i <ℤ bay_of inst j → crane_ticks inst i j (Some v) (Some w) ≡ Some (climb inst i j)
+  climb_asked same up =
+      cond-true (eqb v w) _ _ (eq-eqb v w same) ∙ cond-true (int_lt (bay_of inst i) (bay_of inst j)) _ _ (T_true up.lt)
+
+  lead_asked : w < v → 0 < task_distance inst i v j w → crane_ticks inst i j (Some v) (Some w) ≡ Some (lead inst i v j w)
+  lead_asked lower near =
+      let both = and_from (nat_lt w v) (nat_lt 0 (task_distance inst i v j w)) (lt-ltb w v lower) (lt-ltb 0 _ near) in
+      cond-false (eqb v w) _ _ (ne_eqb v w (λ e. absurd (omega arith)))
+      ∙ cond-true (nat_lt w v && nat_lt 0 (task_distance inst i v j w)) _ _ both
+
+-- a step is no shorter than the task before it
+abbrev IsLong : InstanceView → ℕ → Option ℕ → Type 0
+IsLong inst i step = IfSome step (λ n. ticks_of inst i ≤ n)
+
+pub forced_ticks : (inst : InstanceView) (ds : List Decision) (i j : ℕ) → IfSome (forced inst ds i j) (λ n. ticks_of inst i ≤ n)
+forced_ticks inst ds i j =
+    greater_keeps (λ n. ticks_of inst i ≤ n) (sooner_ticks inst ds i j) (crane_ticks inst i j (assigned ds i) (assigned ds j))
+    (cond_both (is_sooner inst ds i j) _ _ (IsLong inst i) (λ _. omega arith) (λ _. tt))
+    (of_cranes (assigned ds i) (assigned ds j))
+  where
+    of_cranes : (p q : Option ℕ) → IsLong inst i (crane_ticks inst i j p q)
+    of_cranes None q = tt
+    of_cranes (Some v) None = tt
+    of_cranes (Some v) (Some w) =
+        cond_both (eqb v w) _ _ (IsLong inst i)
+        (λ _. cond_both (int_lt (bay_of inst i) (bay_of inst j)) _ _ (IsLong inst i) (λ _. omega arith) (λ _. tt))
+        (λ _. cond_both (nat_lt w v && nat_lt 0 (task_distance inst i v j w)) _ _ (IsLong inst i) (λ _. omega arith) (λ _. tt))
+
+-- what the greater of two steps keeps, the first keeps, and so does the second
+greater_first : (s t : ℕ) (a b : Option ℕ) → IsStep s t (greater a b) → IsStep s t a
+greater_first s t None b h = tt
+greater_first s t (Some m) None h = h
+greater_first s t (Some m) (Some n) h = omega arith
+
+greater_second : (s t : ℕ) (a b : Option ℕ) → IsStep s t (greater a b) → IsStep s t b
+greater_second s t None b h = h
+greater_second s t (Some m) None h = tt
+greater_second s t (Some m) (Some n) h = omega arith
+
+-- ---- the schedule that is done
+
+-- it has a crane for each task as decided, and these starts
+record IsDone (inst : InstanceView) (ds : List Decision) (begins : List ℕ) (sched : List Slot) : Type 0 where
+  all_tasks : length sched ≡ length inst.tasks
+  cranes : (j : ℕ) → j < length inst.tasks → assigned ds j ≡ Some (crane_of sched j)
+  places : (j : ℕ) → j < length inst.tasks → IsPlaced inst j (crane_of sched j)
+  meets : Meets inst ds begins
+  starts : (j : ℕ) → j < length inst.tasks → slice_index begins j ≡ start_of sched j
+
+slot_is : (inst : InstanceView) (ds : List Decision) (begins : List ℕ) (j : ℕ) → j < length inst.tasks
+    → get_or (schedule_with inst ds begins) j no_slot ≡ slot_with ds begins j
+slot_is inst ds begins j low = get_or-map-range_with_len (slot_with ds begins) 0 (length inst.tasks) j j no_slot low (omega arith)
+
+done_with : (inst : InstanceView) (ds : List Decision) (begins : List ℕ)
+    → Fits inst ds → IsComplete inst ds → IsInReach inst ds → Meets inst ds begins → IsDone inst ds begins (schedule_with inst ds begins)
+done_with inst ds begins fits complete reach meets = record {
+  all_tasks = length-map-range_with_len (slot_with ds begins) 0 (length inst.tasks);
+  cranes = λ j low. given (assigned ds j) (complete.tasks j low) ∙ ap Some (sym (crane_is j low));
+  places = λ j low. subst (IsPlaced inst j) (sym (crane_is j low)) (put (assigned ds j) (complete.tasks j low) (placed inst ds fits reach j));
+  meets = meets;
+  starts = λ j low. sym (ap (λ slot. slot.start) (slot_is inst ds begins j low));
+}
+  where
+    crane_is : (j : ℕ) → j < length inst.tasks → crane_of (schedule_with inst ds begins) j ≡ unwrap_or (assigned ds j) 0
+    crane_is j low = ap (λ slot. slot.crane) (slot_is inst ds begins j low)
+
+    given : (o : Option ℕ) → IsSome o → o ≡ Some (unwrap_or o 0)
+    given None some = absurd (false≢true some)
+    given (Some k) some = refl
+
+    put : {j : ℕ} (o : Option ℕ) → IsSome o → IfSome o (IsPlaced inst j) → IsPlaced inst j (unwrap_or o 0)
+    put None some h = absurd (false≢true some)
+    put (Some k) some h = h
+
+module _ (inst : InstanceView) (ds : List Decision) (begins : List ℕ) (sched : List Slot) (d : IsDone inst ds begins sched) where
+  forced_done : (i j : ℕ) → i < length inst.tasks → j < length inst.tasks
+      → IsStep (start_of sched i) (start_of sched j) (forced inst ds i j)
+  forced_done i j low high = if_some (forced inst ds i j) (λ n. start_of sched i + n ≤ start_of sched j) (λ n e.
+      omega (arith, d.meets.steps i j n low high e, d.starts i low, d.starts j high))
+
+  sooner_done : (i j : ℕ) → i < length inst.tasks → j < length inst.tasks → is_sooner inst ds i j ≡ true
+      → end_of inst sched i ≤ start_of sched j
+  sooner_done i j low high t =
+      let step = greater_first (start_of sched i) (start_of sched j) (sooner_ticks inst ds i j) (crane_ticks inst i j (assigned ds i) (assigned ds j)) (forced_done i j low high) in
+      subst (IsStep (start_of sched i) (start_of sched j)) (cond-true (is_sooner inst ds i j) (Some (ticks_of inst i)) None t) step
+
+  cranes_done : (i j n : ℕ) → i < length inst.tasks → j < length inst.tasks
+      → crane_ticks inst i j (Some (crane_of sched i)) (Some (crane_of sched j)) ≡ Some n → start_of sched i + n ≤ start_of sched j
+  cranes_done i j n low high e =
+      let step = greater_second (start_of sched i) (start_of sched j) (sooner_ticks inst ds i j) (crane_ticks inst i j (assigned ds i) (assigned ds j)) (forced_done i j low high) in
+      subst (IsStep (start_of sched i) (start_of sched j)) (ap₂ (crane_ticks inst i j) (d.cranes i low) (d.cranes j high) ∙ e) step
+
+  climb_done : (i j : ℕ) → i < length inst.tasks → j < length inst.tasks → crane_of sched i ≡ crane_of sched j
+      → bay_of inst i <ℤ bay_of inst j → start_of sched i + climb inst i j ≤ start_of sched j
+  climb_done i j low high same up = cranes_done i j _ low high (climb_asked inst i j _ _ same up)
+
+  lead_done : (i j : ℕ) → i < length inst.tasks → j < length inst.tasks → crane_of sched j < crane_of sched i
+      → 0 < task_distance inst i (crane_of sched i) j (crane_of sched j)
+      → start_of sched i + lead inst i (crane_of sched i) j (crane_of sched j) ≤ start_of sched j
+  lead_done i j low high lower near = cranes_done i j _ low high (lead_asked inst i j _ _ lower near)
+
+  margin_done : (i j : ℕ) → i < length inst.tasks → j < length inst.tasks → KeepsMargin inst sched i j
+  margin_done i j low high differ near = by_order (crane_of sched i) (crane_of sched j)
+      (λ e. absurd (differ e))
+      (λ l.
+      let e = distance_swapped inst (crane_of sched i) (bay_of inst i) (crane_of sched j) (bay_of inst j) in
+      inr (omega (arith, e, lead_done j i high low l (omega (arith, e, near)))))
+      (λ l. inl (omega (arith, lead_done i j low high l near)))
+
+  free_done : (j : ℕ) → j < length inst.tasks → free inst j (crane_of sched j) ≤ start_of sched j
+  free_done j low = omega (arith, ap (head_by inst (free inst j) j) (d.cranes j low), d.meets.heads j low, d.starts j low)
+
+  berth_done : (j v : ℕ) → j < length inst.tasks → v < length inst.cranes → KeepsBerth inst sched j v
+  berth_done j v low high differ away =
+      let waits = le_greatest (berth_wait inst j (crane_of sched j)) v 0 (length inst.cranes) (omega arith) (omega arith) in
+      let far = ne_eqb (berth_distance inst v (crane_of sched j) (bay_of inst j)) 0 (λ e. absurd (omega arith)) in
+      let is = cond-false (eqb (berth_distance inst v (crane_of sched j) (bay_of inst j)) 0) 0 (berth_clear inst v (crane_of sched j) (bay_of inst j)) far in
+      omega (arith, free_done j low, waits, is)
+
+  apart_done : IsComplete inst ds → (i j : ℕ) → i < length inst.tasks → j < length inst.tasks → KeepsApart inst sched i j
+  apart_done complete i j low high a = elim (complete.pairs i j a) [
+    | inl some ↦ inl (gone i j (forced inst ds i j) some (forced_ticks inst ds i j) (forced_done i j low high))
+    | inr some ↦ inr (gone j i (forced inst ds j i) some (forced_ticks inst ds j i) (forced_done j i high low))
+  ]
+    where
+      gone : (g h : ℕ) (o : Option ℕ) → IsSome o → IsLong inst g o → IsStep (start_of sched g) (start_of sched h) o
+          → end_of inst sched g + 0 ≤ start_of sched h
+      gone g h None some long step = absurd (false≢true some)
+      gone g h (Some n) some long step = omega arith
+
+  -- between two tasks of a crane: up from the lower to the higher, and at one bay in the order of their phases
+  travel_done : Valid inst → (i j : ℕ) → i < length inst.tasks → j < length inst.tasks → i ≢ j → KeepsTravel inst sched i j
+  travel_done v i j low high differ same = by_lt_z (bay_of inst i) (bay_of inst j)
+      (λ up. inl (omega (arith, climb_done i j low high same up, ap (λ n. inst.travel * n) (one_way (bay_of inst i) (bay_of inst j) up))))
+      (λ over. by_lt_z (bay_of inst j) (bay_of inst i)
+      (λ up. inr (omega (arith, climb_done j i high low (sym same) up, ap (λ n. inst.travel * n) (back (bay_of inst i) (bay_of inst j) up))))
+      (λ under. beside (equal _ _ over under)))
+    where
+      one_way : (x y : ℤ) → x <ℤ y → bays_up x y ≡ bays_between x y
+      one_way x y up = omega (arith, bays)
+
+      back : (x y : ℤ) → y <ℤ x → bays_up y x ≡ bays_between x y
+      back x y up = omega (arith, bays)
+
+      equal : (x y : ℤ) → y ≤ℤ x → x ≤ℤ y → x ≡ y
+      equal x y over under = omega (arith, ints)
+
+      here : (x y : ℤ) → x ≡ y → bays_between x y ≡ 0
+      here x y e = omega (arith, bays)
+
+      beside : bay_of inst i ≡ bay_of inst j → IsClear inst sched (travel_between inst (bay_of inst i) (bay_of inst j)) i j
+      beside e =
+          let hatch = (v.tasks.hatches i j low high).0 e in
+          let none = ap (λ n. inst.travel * n) (here (bay_of inst i) (bay_of inst j) e) ∙ mul-zero inst.travel in
+          by_order i j (λ s. absurd (differ s))
+          (λ l. inl (omega (arith, none, sooner_done i j low high (sooner_before inst ds i j (v.before.phases i j l high hatch)))))
+          (λ l. inr (omega (arith, none, sooner_done j i high low (sooner_before inst ds j i (v.before.phases j i l low (sym hatch))))))
+
+  feasible_done : Valid inst → IsComplete inst ds → Feasible inst sched
+  feasible_done v complete = record {
+    all_tasks = d.all_tasks;
+    crane_range = λ j low. (d.places j low).crane;
+    reach = λ j low. let p = and_parts _ _ (d.places j low).reach in (record { le = true_T p.0 }, record { le = true_T p.1 });
+    ready = λ j low. omega (arith, free_done j low);
+    travel = travel_done v;
+    before = λ i j low high b. sooner_done i j low high (sooner_before inst ds i j b);
+    apart = apart_done complete;
+    margin = margin_done;
+    berth = berth_done;
+  }
+
+-- ---- a complete node with starts that meet it
+
+module _ (inst : InstanceView) (ds : List Decision) (begins : List ℕ) (v : Valid inst) (fits : Fits inst ds) (complete : IsComplete inst ds) (reach : IsInReach inst ds) (meets : Meets inst ds begins) where
+  done : IsDone inst ds begins (schedule_with inst ds begins)
+  done = done_with inst ds begins fits complete reach meets
+
+  -- it goes upward
+  pub goes_with : GoesUp inst (schedule_with inst ds begins)
+  goes_with = record {
+    feasible = feasible_done inst ds begins _ done v complete;
+    upward = record { one_crane = climb_done inst ds begins _ done; two_cranes = lead_done inst ds begins _ done };
+  }
+
+  -- it is as decided
+  pub agrees_with : Agrees inst ds (schedule_with inst ds begins)
+  agrees_with = agrees_of inst (schedule_with inst ds begins) ds fits
+      (λ j k e. let p = placed_at j k e in same_Some _ _ (sym (done.cranes j p.task) ∙ e))
+      (λ i j pair t. let r = in_range i j pair in sooner_done inst ds begins _ done i j r.0 r.1 (or_right _ (is_ordered ds i j) t))
+    where
+      placed_at : (j k : ℕ) → assigned ds j ≡ Some k → IsPlaced inst j k
+      placed_at j k e = subst (λ (o : Option ℕ). IfSome o (IsPlaced inst j)) e (placed inst ds fits reach j)
+
+      in_range : (i j : ℕ) → IsApart inst i j ⊎ IsApart inst j i → (i < length inst.tasks) × (j < length inst.tasks)
+      in_range i j (inl a) = let r = v.apart.range i j a in (omega arith, r.1)
+      in_range i j (inr a) = let r = v.apart.range j i a in (r.1, omega arith)
+
+-- its starts are those, and so is its end
+pub starts_with : (inst : InstanceView) (ds : List Decision) (begins : List ℕ) → length begins ≡ length inst.tasks
+    → starts (schedule_with inst ds begins) ≡ begins
+starts_with inst ds begins e =
+    ext_get_or 0 (starts (schedule_with inst ds begins)) begins (count ∙ sym e) (λ j low.
+    let there : j < length inst.tasks = omega (arith, count) in
+    start_at (schedule_with inst ds begins) j ∙ ap (λ slot. slot.start) (slot_is inst ds begins j there))
+  where
+    count : length (starts (schedule_with inst ds begins)) ≡ length inst.tasks
+    count =
+        length-map (schedule_with inst ds begins) (λ slot. slot.start)
+        ∙ length-map-range_with_len (slot_with ds begins) 0 (length inst.tasks)
+
+pub ends_with : (inst : InstanceView) (ds : List Decision) (begins : List ℕ) → Meets inst ds begins
+    → ends inst (schedule_with inst ds begins) ≡ last_end inst.tasks begins
+ends_with inst ds begins meets = ap (last_end inst.tasks) (starts_with inst ds begins meets.all_tasks)
