@@ -28,7 +28,8 @@ record IsPlaced (inst : InstanceView) (j k : ℕ) : Type 0 where
   crane : k < length inst.cranes
   reach : reaches inst j k ≡ true
 
-placed : (inst : InstanceView) (ds : List Decision) → Fits inst ds → IsInReach inst ds → (j : ℕ) → IfSome (assigned ds j) (IsPlaced inst j)
+placed : (inst : InstanceView) (ds : List Decision) → Fits inst ds → IsInReach inst ds → (j : ℕ)
+    → IfSome (assigned ds j) (IsPlaced inst j)
 placed inst [] fits reach j = tt
 placed inst (Order g k ∷ ds) fits reach j = placed inst ds fits.3 reach j
 placed inst (Assign g k ∷ ds) fits reach j =
@@ -54,22 +55,27 @@ agrees_of inst sched (Assign i k ∷ ds) fits cranes orders = (
   agrees_of inst sched ds fits.3 (λ j v e. cranes j v (other j v e (cases_Bool (eqb i j)))) orders,
 )
   where
-    other : (j v : ℕ) → assigned ds j ≡ Some v → (eqb i j ≡ true) ⊎ (eqb i j ≡ false) → assigned (Assign i k ∷ ds) j ≡ Some v
+    other : (j v : ℕ) → assigned ds j ≡ Some v → (eqb i j ≡ true) ⊎ (eqb i j ≡ false)
+        → assigned (Assign i k ∷ ds) j ≡ Some v
     other j v e (inl same) =
-        let none : assigned ds j ≡ None = subst (λ (x : ℕ). assigned ds x ≡ None) (eqb-true i j same) fits.2 in
+        let none : assigned ds j ≡ None =
+        subst (λ (x : ℕ). assigned ds x ≡ None) (eqb-true i j same) fits.2 in
         absurd (cc)
     other j v e (inr differ) = cond-false (eqb i j) (Some k) (assigned ds j) differ ∙ e
 
 -- ---- what is forced
 
 module _ (inst : InstanceView) (i j v w : ℕ) where
-  climb_asked : v ≡ w → bay_of inst i <ℤ bay_of inst j → crane_ticks inst i j (Some v) (Some w) ≡ Some (climb inst i j)
+  climb_asked : v ≡ w → bay_of inst i <ℤ bay_of inst j
+      → crane_ticks inst i j (Some v) (Some w) ≡ Some (climb inst i j)
   climb_asked same up =
       cond-true (eqb v w) _ _ (eq-eqb v w same) ∙ cond-true (int_lt (bay_of inst i) (bay_of inst j)) _ _ (T_true up.lt)
 
-  lead_asked : w < v → 0 < task_distance inst i v j w → crane_ticks inst i j (Some v) (Some w) ≡ Some (lead inst i v j w)
+  lead_asked : w < v → 0 < task_distance inst i v j w
+      → crane_ticks inst i j (Some v) (Some w) ≡ Some (lead inst i v j w)
   lead_asked lower near =
-      let both = and_from (nat_lt w v) (nat_lt 0 (task_distance inst i v j w)) (lt-ltb w v lower) (lt-ltb 0 _ near) in
+      let both =
+      and_from (nat_lt w v) (nat_lt 0 (task_distance inst i v j w)) (lt-ltb w v lower) (lt-ltb 0 _ near) in
       cond-false (eqb v w) _ _ (ne_eqb v w (λ e. absurd (omega arith)))
       ∙ cond-true (nat_lt w v && nat_lt 0 (task_distance inst i v j w)) _ _ both
 
@@ -77,7 +83,8 @@ module _ (inst : InstanceView) (i j v w : ℕ) where
 abbrev IsLong : InstanceView → ℕ → Option ℕ → Type 0
 IsLong inst i step = IfSome step (λ n. ticks_of inst i ≤ n)
 
-pub forced_ticks : (inst : InstanceView) (ds : List Decision) (i j : ℕ) → IfSome (forced inst ds i j) (λ n. ticks_of inst i ≤ n)
+pub forced_ticks : (inst : InstanceView) (ds : List Decision) (i j : ℕ)
+    → IfSome (forced inst ds i j) (λ n. ticks_of inst i ≤ n)
 forced_ticks inst ds i j =
     greater_keeps (λ n. ticks_of inst i ≤ n) (sooner_ticks inst ds i j) (crane_ticks inst i j (assigned ds i) (assigned ds j))
     (cond_both (is_sooner inst ds i j) _ _ (IsLong inst i) (λ _. omega arith) (λ _. tt))
@@ -114,10 +121,12 @@ record IsDone (inst : InstanceView) (ds : List Decision) (begins : List ℕ) (sc
 
 slot_is : (inst : InstanceView) (ds : List Decision) (begins : List ℕ) (j : ℕ) → j < length inst.tasks
     → get_or (schedule_with inst ds begins) j no_slot ≡ slot_with ds begins j
-slot_is inst ds begins j low = get_or-map-range_with_len (slot_with ds begins) 0 (length inst.tasks) j j no_slot low (omega arith)
+slot_is inst ds begins j low =
+    get_or-map-range_with_len (slot_with ds begins) 0 (length inst.tasks) j j no_slot low (omega arith)
 
 done_with : (inst : InstanceView) (ds : List Decision) (begins : List ℕ)
-    → Fits inst ds → IsComplete inst ds → IsInReach inst ds → Meets inst ds begins → IsDone inst ds begins (schedule_with inst ds begins)
+    → Fits inst ds → IsComplete inst ds → IsInReach inst ds → Meets inst ds begins
+    → IsDone inst ds begins (schedule_with inst ds begins)
 done_with inst ds begins fits complete reach meets = record {
   all_tasks = length-map-range_with_len (slot_with ds begins) 0 (length inst.tasks);
   cranes = λ j low. given (assigned ds j) (complete.tasks j low) ∙ ap Some (sym (crane_is j low));
@@ -126,7 +135,8 @@ done_with inst ds begins fits complete reach meets = record {
   starts = λ j low. sym (ap (λ slot. slot.start) (slot_is inst ds begins j low));
 }
   where
-    crane_is : (j : ℕ) → j < length inst.tasks → crane_of (schedule_with inst ds begins) j ≡ unwrap_or (assigned ds j) 0
+    crane_is : (j : ℕ) → j < length inst.tasks
+        → crane_of (schedule_with inst ds begins) j ≡ unwrap_or (assigned ds j) 0
     crane_is j low = ap (λ slot. slot.crane) (slot_is inst ds begins j low)
 
     given : (o : Option ℕ) → IsSome o → o ≡ Some (unwrap_or o 0)
@@ -137,29 +147,36 @@ done_with inst ds begins fits complete reach meets = record {
     put None some h = absurd (false≢true some)
     put (Some k) some h = h
 
-module _ (inst : InstanceView) (ds : List Decision) (begins : List ℕ) (sched : List Slot) (d : IsDone inst ds begins sched) where
+module _ (inst : InstanceView) (ds : List Decision) (begins : List ℕ) (sched : List Slot)
+    (d : IsDone inst ds begins sched) where
   forced_done : (i j : ℕ) → i < length inst.tasks → j < length inst.tasks
       → IsStep (start_of sched i) (start_of sched j) (forced inst ds i j)
-  forced_done i j low high = if_some (forced inst ds i j) (λ n. start_of sched i + n ≤ start_of sched j) (λ n e.
+  forced_done i j low high =
+      if_some (forced inst ds i j) (λ n. start_of sched i + n ≤ start_of sched j) (λ n e.
       omega (arith, d.meets.steps i j n low high e, d.starts i low, d.starts j high))
 
   sooner_done : (i j : ℕ) → i < length inst.tasks → j < length inst.tasks → is_sooner inst ds i j ≡ true
       → end_of inst sched i ≤ start_of sched j
   sooner_done i j low high t =
-      let step = greater_first (start_of sched i) (start_of sched j) (sooner_ticks inst ds i j) (crane_ticks inst i j (assigned ds i) (assigned ds j)) (forced_done i j low high) in
+      let step =
+      greater_first (start_of sched i) (start_of sched j) (sooner_ticks inst ds i j) (crane_ticks inst i j (assigned ds i) (assigned ds j)) (forced_done i j low high) in
       subst (IsStep (start_of sched i) (start_of sched j)) (cond-true (is_sooner inst ds i j) (Some (ticks_of inst i)) None t) step
 
   cranes_done : (i j n : ℕ) → i < length inst.tasks → j < length inst.tasks
-      → crane_ticks inst i j (Some (crane_of sched i)) (Some (crane_of sched j)) ≡ Some n → start_of sched i + n ≤ start_of sched j
+      → crane_ticks inst i j (Some (crane_of sched i)) (Some (crane_of sched j)) ≡ Some n
+      → start_of sched i + n ≤ start_of sched j
   cranes_done i j n low high e =
-      let step = greater_second (start_of sched i) (start_of sched j) (sooner_ticks inst ds i j) (crane_ticks inst i j (assigned ds i) (assigned ds j)) (forced_done i j low high) in
+      let step =
+      greater_second (start_of sched i) (start_of sched j) (sooner_ticks inst ds i j) (crane_ticks inst i j (assigned ds i) (assigned ds j)) (forced_done i j low high) in
       subst (IsStep (start_of sched i) (start_of sched j)) (ap₂ (crane_ticks inst i j) (d.cranes i low) (d.cranes j high) ∙ e) step
 
-  climb_done : (i j : ℕ) → i < length inst.tasks → j < length inst.tasks → crane_of sched i ≡ crane_of sched j
+  climb_done : (i j : ℕ) → i < length inst.tasks → j < length inst.tasks
+      → crane_of sched i ≡ crane_of sched j
       → bay_of inst i <ℤ bay_of inst j → start_of sched i + climb inst i j ≤ start_of sched j
   climb_done i j low high same up = cranes_done i j _ low high (climb_asked inst i j _ _ same up)
 
-  lead_done : (i j : ℕ) → i < length inst.tasks → j < length inst.tasks → crane_of sched j < crane_of sched i
+  lead_done : (i j : ℕ) → i < length inst.tasks → j < length inst.tasks
+      → crane_of sched j < crane_of sched i
       → 0 < task_distance inst i (crane_of sched i) j (crane_of sched j)
       → start_of sched i + lead inst i (crane_of sched i) j (crane_of sched j) ≤ start_of sched j
   lead_done i j low high lower near = cranes_done i j _ low high (lead_asked inst i j _ _ lower near)
@@ -168,33 +185,41 @@ module _ (inst : InstanceView) (ds : List Decision) (begins : List ℕ) (sched :
   margin_done i j low high differ near = by_order (crane_of sched i) (crane_of sched j)
       (λ e. absurd (differ e))
       (λ l.
-      let e = distance_swapped inst (crane_of sched i) (bay_of inst i) (crane_of sched j) (bay_of inst j) in
+      let e =
+      distance_swapped inst (crane_of sched i) (bay_of inst i) (crane_of sched j) (bay_of inst j) in
       inr (omega (arith, e, lead_done j i high low l (omega (arith, e, near)))))
       (λ l. inl (omega (arith, lead_done i j low high l near)))
 
   free_done : (j : ℕ) → j < length inst.tasks → free inst j (crane_of sched j) ≤ start_of sched j
-  free_done j low = omega (arith, ap (head_by inst (free inst j) j) (d.cranes j low), d.meets.heads j low, d.starts j low)
+  free_done j low =
+      omega (arith, ap (head_by inst (free inst j) j) (d.cranes j low), d.meets.heads j low, d.starts j low)
 
   berth_done : (j v : ℕ) → j < length inst.tasks → v < length inst.cranes → KeepsBerth inst sched j v
   berth_done j v low high differ away =
-      let waits = le_greatest (berth_wait inst j (crane_of sched j)) v 0 (length inst.cranes) (omega arith) (omega arith) in
-      let far = ne_eqb (berth_distance inst v (crane_of sched j) (bay_of inst j)) 0 (λ e. absurd (omega arith)) in
-      let is = cond-false (eqb (berth_distance inst v (crane_of sched j) (bay_of inst j)) 0) 0 (berth_clear inst v (crane_of sched j) (bay_of inst j)) far in
+      let waits =
+      le_greatest (berth_wait inst j (crane_of sched j)) v 0 (length inst.cranes) (omega arith) (omega arith) in
+      let far =
+      ne_eqb (berth_distance inst v (crane_of sched j) (bay_of inst j)) 0 (λ e. absurd (omega arith)) in
+      let is =
+      cond-false (eqb (berth_distance inst v (crane_of sched j) (bay_of inst j)) 0) 0 (berth_clear inst v (crane_of sched j) (bay_of inst j)) far in
       omega (arith, free_done j low, waits, is)
 
-  apart_done : IsComplete inst ds → (i j : ℕ) → i < length inst.tasks → j < length inst.tasks → KeepsApart inst sched i j
+  apart_done : IsComplete inst ds → (i j : ℕ) → i < length inst.tasks → j < length inst.tasks
+      → KeepsApart inst sched i j
   apart_done complete i j low high a = elim (complete.pairs i j a) [
     | inl some ↦ inl (gone i j (forced inst ds i j) some (forced_ticks inst ds i j) (forced_done i j low high))
     | inr some ↦ inr (gone j i (forced inst ds j i) some (forced_ticks inst ds j i) (forced_done j i high low))
   ]
     where
-      gone : (g h : ℕ) (o : Option ℕ) → IsSome o → IsLong inst g o → IsStep (start_of sched g) (start_of sched h) o
+      gone : (g h : ℕ) (o : Option ℕ) → IsSome o → IsLong inst g o
+          → IsStep (start_of sched g) (start_of sched h) o
           → end_of inst sched g + 0 ≤ start_of sched h
       gone g h None some long step = absurd (false≢true some)
       gone g h (Some n) some long step = omega arith
 
   -- between two tasks of a crane: up from the lower to the higher, and at one bay in the order of their phases
-  travel_done : Valid inst → (i j : ℕ) → i < length inst.tasks → j < length inst.tasks → i ≢ j → KeepsTravel inst sched i j
+  travel_done : Valid inst → (i j : ℕ) → i < length inst.tasks → j < length inst.tasks → i ≢ j
+      → KeepsTravel inst sched i j
   travel_done v i j low high differ same = by_lt_z (bay_of inst i) (bay_of inst j)
       (λ up. inl (omega (arith, climb_done i j low high same up, ap (λ n. inst.travel * n) (one_way (bay_of inst i) (bay_of inst j) up))))
       (λ over. by_lt_z (bay_of inst j) (bay_of inst i)
@@ -213,10 +238,12 @@ module _ (inst : InstanceView) (ds : List Decision) (begins : List ℕ) (sched :
       here : (x y : ℤ) → x ≡ y → bays_between x y ≡ 0
       here x y e = omega (arith, bays)
 
-      beside : bay_of inst i ≡ bay_of inst j → IsClear inst sched (travel_between inst (bay_of inst i) (bay_of inst j)) i j
+      beside : bay_of inst i ≡ bay_of inst j
+          → IsClear inst sched (travel_between inst (bay_of inst i) (bay_of inst j)) i j
       beside e =
           let hatch = (v.tasks.hatches i j low high).0 e in
-          let none = ap (λ n. inst.travel * n) (here (bay_of inst i) (bay_of inst j) e) ∙ mul-zero inst.travel in
+          let none =
+          ap (λ n. inst.travel * n) (here (bay_of inst i) (bay_of inst j) e) ∙ mul-zero inst.travel in
           by_order i j (λ s. absurd (differ s))
           (λ l. inl (omega (arith, none, sooner_done i j low high (sooner_before inst ds i j (v.before.phases i j l high hatch)))))
           (λ l. inr (omega (arith, none, sooner_done j i high low (sooner_before inst ds j i (v.before.phases j i l low (sym hatch))))))
@@ -236,7 +263,9 @@ module _ (inst : InstanceView) (ds : List Decision) (begins : List ℕ) (sched :
 
 -- ---- a complete node with starts that meet it
 
-module _ (inst : InstanceView) (ds : List Decision) (begins : List ℕ) (v : Valid inst) (fits : Fits inst ds) (complete : IsComplete inst ds) (reach : IsInReach inst ds) (meets : Meets inst ds begins) where
+module _ (inst : InstanceView) (ds : List Decision) (begins : List ℕ) (v : Valid inst)
+    (fits : Fits inst ds) (complete : IsComplete inst ds) (reach : IsInReach inst ds)
+    (meets : Meets inst ds begins) where
   done : IsDone inst ds begins (schedule_with inst ds begins)
   done = done_with inst ds begins fits complete reach meets
 
@@ -254,14 +283,17 @@ module _ (inst : InstanceView) (ds : List Decision) (begins : List ℕ) (v : Val
       (λ i j pair t. let r = in_range i j pair in sooner_done inst ds begins _ done i j r.0 r.1 (or_right _ (is_ordered ds i j) t))
     where
       placed_at : (j k : ℕ) → assigned ds j ≡ Some k → IsPlaced inst j k
-      placed_at j k e = subst (λ (o : Option ℕ). IfSome o (IsPlaced inst j)) e (placed inst ds fits reach j)
+      placed_at j k e =
+          subst (λ (o : Option ℕ). IfSome o (IsPlaced inst j)) e (placed inst ds fits reach j)
 
-      in_range : (i j : ℕ) → IsApart inst i j ⊎ IsApart inst j i → (i < length inst.tasks) × (j < length inst.tasks)
+      in_range : (i j : ℕ) → IsApart inst i j ⊎ IsApart inst j i
+          → (i < length inst.tasks) × (j < length inst.tasks)
       in_range i j (inl a) = let r = v.apart.range i j a in (omega arith, r.1)
       in_range i j (inr a) = let r = v.apart.range j i a in (r.1, omega arith)
 
 -- its starts are those, and so is its end
-pub starts_with : (inst : InstanceView) (ds : List Decision) (begins : List ℕ) → length begins ≡ length inst.tasks
+pub starts_with : (inst : InstanceView) (ds : List Decision) (begins : List ℕ)
+    → length begins ≡ length inst.tasks
     → starts (schedule_with inst ds begins) ≡ begins
 starts_with inst ds begins e =
     ext_get_or 0 (starts (schedule_with inst ds begins)) begins (count ∙ sym e) (λ j low.

@@ -5,18 +5,22 @@ use Rattle.std.specs.Prelude.{filter}
 use Rattle.std.specs.List.{range_with_len}
 use Rattle.qc_model.specs.Nodes.{greatest, least}
 
-pub greatest_le : (f : ℕ → ℕ) (m a n : ℕ) → ((k : ℕ) → k < a + n → f k ≤ m) → greatest (map f (range_with_len a n)) ≤ m
+pub greatest_le : (f : ℕ → ℕ) (m a n : ℕ) → ((k : ℕ) → k < a + n → f k ≤ m)
+    → greatest (map f (range_with_len a n)) ≤ m
 greatest_le f m a zero h = omega arith
-greatest_le f m a (suc n) h = omega (arith, h a (omega arith), greatest_le f m (a + 1) n (λ k low. h k (omega arith)))
+greatest_le f m a (suc n) h =
+    omega (arith, h a (omega arith), greatest_le f m (a + 1) n (λ k low. h k (omega arith)))
 
-pub le_greatest : (f : ℕ → ℕ) (k a n : ℕ) → a ≤ k → k < a + n → f k ≤ greatest (map f (range_with_len a n))
+pub le_greatest : (f : ℕ → ℕ) (k a n : ℕ) → a ≤ k → k < a + n
+    → f k ≤ greatest (map f (range_with_len a n))
 le_greatest f k a zero low high = absurd (omega arith)
 le_greatest f k a (suc n) low high = elim (cases_lt a k) [
   | inl l ↦ omega (arith, le_greatest f k (a + 1) n (omega arith) (omega arith))
   | inr l ↦ let e : a ≡ k = omega arith in omega (arith, ap f e)
 ]
 
-pub least_rises : (f g : ℕ → ℕ) (ks : List ℕ) → ((k : ℕ) → f k ≤ g k) → least (map f ks) ≤ least (map g ks)
+pub least_rises : (f g : ℕ → ℕ) (ks : List ℕ) → ((k : ℕ) → f k ≤ g k)
+    → least (map f ks) ≤ least (map g ks)
 least_rises f g [] h = omega arith
 least_rises f g (k ∷ []) h = h k
 least_rises f g (k ∷ m ∷ ks) h = omega (arith, h k, least_rises f g (m ∷ ks) h)
@@ -28,7 +32,8 @@ least_first y (z ∷ zs) = omega arith
 -- of those that pass a test
 module _ (f : ℕ → ℕ) (p : ℕ → Bool) where
   -- with one more in front
-  least_rest : (x k a n : ℕ) → a ≤ k → k < a + n → p k ≡ true → least (x ∷ map f (filter p (range_with_len a n))) ≤ f k
+  least_rest : (x k a n : ℕ) → a ≤ k → k < a + n → p k ≡ true
+      → least (x ∷ map f (filter p (range_with_len a n))) ≤ f k
   least_rest x k a zero low high t = absurd (omega arith)
   least_rest x k a (suc n) low high t =
       let rest = filter p (range_with_len (a + 1) n) in
@@ -42,7 +47,8 @@ module _ (f : ℕ → ℕ) (p : ℕ → Bool) where
         | inr l ↦ let e : a ≡ k = omega arith in absurd (false≢true (sym fails ∙ ap p e ∙ t))
       ])
 
-  pub least_le : (k a n : ℕ) → a ≤ k → k < a + n → p k ≡ true → least (map f (filter p (range_with_len a n))) ≤ f k
+  pub least_le : (k a n : ℕ) → a ≤ k → k < a + n → p k ≡ true
+      → least (map f (filter p (range_with_len a n))) ≤ f k
   least_le k a zero low high t = absurd (omega arith)
   least_le k a (suc n) low high t =
       let rest = filter p (range_with_len (a + 1) n) in

@@ -24,23 +24,27 @@ use Rattle.qc_model.proofs.WorkLemmas.{work_end_le}
 abbrev are_within : InstanceView → List ℕ → Bool
 are_within inst tasks = list_all (λ j. nat_lt j (length inst.tasks)) tasks
 
-within : (inst : InstanceView) (tasks : List ℕ) → are_tasks inst tasks ≡ true → are_within inst tasks ≡ true
+within : (inst : InstanceView) (tasks : List ℕ) → are_tasks inst tasks ≡ true
+    → are_within inst tasks ≡ true
 within inst tasks all = (and_parts (leb (length tasks) MOST_TASKS) (are_within inst tasks) all).1
 
 -- the first of them, and the others
-first_of_them : (inst : InstanceView) (j : ℕ) (js : List ℕ) → are_within inst (j ∷ js) ≡ true → (j < length inst.tasks) × (are_within inst js ≡ true)
+first_of_them : (inst : InstanceView) (j : ℕ) (js : List ℕ) → are_within inst (j ∷ js) ≡ true
+    → (j < length inst.tasks) × (are_within inst js ≡ true)
 first_of_them inst j js all =
     let parts = and_parts (nat_lt j (length inst.tasks)) (are_within inst js) all in
     (ltb-true j (length inst.tasks) parts.0, parts.1)
 
 -- a step and what follows it
-joined : (P Q R : ℕ → Type 0) (a b : Option ℕ) → IfSome a P → IfSome b Q → ((x y : ℕ) → P x → Q y → R (x + y))
+joined : (P Q R : ℕ → Type 0) (a b : Option ℕ) → IfSome a P → IfSome b Q
+    → ((x y : ℕ) → P x → Q y → R (x + y))
     → IfSome (option_and_then (λ step. option_map (λ rest. step + rest) b) a) R
 joined P Q R None b p q h = tt
 joined P Q R (Some x) None p q h = tt
 joined P Q R (Some x) (Some y) p q h = h x y p q
 
-head_in_le : (version : Version) (inst : InstanceView) (ds : List Decision) (j : ℕ) → head_in version inst ds j ≤ head inst ds j
+head_in_le : (version : Version) (inst : InstanceView) (ds : List Decision) (j : ℕ)
+    → head_in version inst ds j ≤ head inst ds j
 head_in_le without_berths inst ds j = head1_le inst ds j
 head_in_le with_berths inst ds j = omega arith
 
@@ -49,9 +53,11 @@ module _ (inst : InstanceView) (ds : List Decision) (begins : List ℕ) (m : Mee
   abbrev Steps : ℕ → ℕ → ℕ → Type 0
   Steps i j n = (slice_index begins i + n ≤ slice_index begins j) × (ticks_of inst i ≤ n)
 
-  step_met : (i j : ℕ) → i < length inst.tasks → j < length inst.tasks → IfSome (forced inst ds i j) (Steps i j)
+  step_met : (i j : ℕ) → i < length inst.tasks → j < length inst.tasks
+      → IfSome (forced inst ds i j) (Steps i j)
   step_met i j low high = if_some (forced inst ds i j) (Steps i j) (λ n e.
-      let long = subst (λ (o : Option ℕ). IfSome o (λ n. ticks_of inst i ≤ n)) e (forced_ticks inst ds i j) in
+      let long =
+      subst (λ (o : Option ℕ). IfSome o (λ n. ticks_of inst i ≤ n)) e (forced_ticks inst ds i j) in
       (m.steps i j n low high e, long))
 
   -- a chain behind a task ends by the last end
@@ -71,7 +77,8 @@ module _ (inst : InstanceView) (ds : List Decision) (begins : List ℕ) (m : Mee
       let first = first_of_them inst j js all in
       with_head (chain_ticks inst ds j js) (omega (arith, head_in_le version inst ds j, m.heads j first.0)) (chain_met j js first.0 first.1)
     where
-      with_head : (o : Option ℕ) → head_in version inst ds j ≤ slice_index begins j → IsStep (slice_index begins j) (last_end inst.tasks begins) o
+      with_head : (o : Option ℕ) → head_in version inst ds j ≤ slice_index begins j
+          → IsStep (slice_index begins j) (last_end inst.tasks begins) o
           → IfSome (option_map (λ ticks. head_in version inst ds j + ticks) o) (λ end. end ≤ last_end inst.tasks begins)
       with_head None h k = tt
       with_head (Some n) h k = omega arith
@@ -80,7 +87,8 @@ module _ (inst : InstanceView) (ds : List Decision) (begins : List ℕ) (m : Mee
   abbrev Leads : ℕ → ℕ → ℕ → Type 0
   Leads i l n = (slice_index begins i + n ≤ slice_index begins l + ticks_of inst l) × (ticks_of inst i + ticks_of inst l ≤ n)
 
-  chain_to_met : (i : ℕ) (js : List ℕ) (l : ℕ) → i < length inst.tasks → are_within inst js ≡ true → l < length inst.tasks
+  chain_to_met : (i : ℕ) (js : List ℕ) (l : ℕ) → i < length inst.tasks → are_within inst js ≡ true
+      → l < length inst.tasks
       → IfSome (chain_ticks inst ds i (js ++ l ∷ [])) (Leads i l)
   chain_to_met i [] l low all high =
       joined (Steps i l) (λ n. n ≡ ticks_of inst l) (Leads i l) (forced inst ds i l) (Some (ticks_of inst l))
@@ -91,13 +99,15 @@ module _ (inst : InstanceView) (ds : List Decision) (begins : List ℕ) (m : Mee
       (step_met i j low next.0) (chain_to_met j js l next.0 next.1 high) (λ x y p q. (omega arith, omega arith))
 
   -- what a chain shows is at most the last end
-  pub chain_end_le : (version : Version) (tasks : List ℕ) (end : ℕ) → chain_end version inst ds tasks ≡ Some end → are_tasks inst tasks ≡ true
+  pub chain_end_le : (version : Version) (tasks : List ℕ) (end : ℕ)
+      → chain_end version inst ds tasks ≡ Some end → are_tasks inst tasks ≡ true
       → end ≤ last_end inst.tasks begins
   chain_end_le version tasks end e all =
       subst (λ (o : Option ℕ). IfSome o (λ n. n ≤ last_end inst.tasks begins)) e (chain_end_met version tasks (within inst tasks all))
 
   -- and there is no ring
-  pub no_ring_met : Valid inst → (tasks : List ℕ) → is_ring inst ds tasks ≡ true → are_tasks inst tasks ≡ true → ⊥
+  pub no_ring_met : Valid inst → (tasks : List ℕ) → is_ring inst ds tasks ≡ true
+      → are_tasks inst tasks ≡ true → ⊥
   no_ring_met v [] turn all = false≢true turn
   no_ring_met v (j ∷ js) turn all =
       let first = first_of_them inst j js (within inst (j ∷ js) all) in
@@ -108,7 +118,8 @@ module _ (inst : InstanceView) (ds : List Decision) (begins : List ℕ) (m : Mee
       turns (Some n) some long h = omega arith
 
 -- a decision that is out of reach is that of no schedule
-in_reach : (inst : InstanceView) (ds : List Decision) (sched : List Slot) → Fits inst ds → GoesUp inst sched → Agrees inst ds sched
+in_reach : (inst : InstanceView) (ds : List Decision) (sched : List Slot) → Fits inst ds
+    → GoesUp inst sched → Agrees inst ds sched
     → is_out_of_reach inst ds ≡ true → ⊥
 in_reach inst [] sched fits g a t = false≢true t
 in_reach inst (Order i j ∷ ds) sched fits g a t = false≢true t
@@ -116,7 +127,8 @@ in_reach inst (Assign j k ∷ ds) sched fits g a t =
     let r = in_reach_of inst sched g.feasible (Assign j k ∷ ds) fits a in
     false≢true (sym (not-true (reaches inst j k) t) ∙ r.0)
 
-module _ (inst : InstanceView) (ds : List Decision) (sched : List Slot) (v : Valid inst) (fits : Fits inst ds) (g : GoesUp inst sched) (a : Agrees inst ds sched) where
+module _ (inst : InstanceView) (ds : List Decision) (sched : List Slot) (v : Valid inst)
+    (fits : Fits inst ds) (g : GoesUp inst sched) (a : Agrees inst ds sched) where
   abbrev Shows : Option Bound → Type 0
   Shows o = IfSome o (λ bound. IsAtMost bound (Least (ends inst sched)))
 
@@ -146,6 +158,7 @@ module _ (inst : InstanceView) (ds : List Decision) (sched : List Slot) (v : Val
       (λ _. tt)
 
   -- what a leaf shows is at most the end of the schedule: it never shows Never
-  pub leaf_value_le : (version : Version) (leaf : Leaf) (bound : Bound) → leaf_value version inst ds leaf ≡ Some bound
+  pub leaf_value_le : (version : Version) (leaf : Leaf) (bound : Bound)
+      → leaf_value version inst ds leaf ≡ Some bound
       → IsAtMost bound (Least (ends inst sched))
   leaf_value_le version leaf bound e = subst Shows e (leaf_shows version leaf)

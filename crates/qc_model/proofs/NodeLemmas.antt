@@ -39,7 +39,8 @@ greater_keeps P (Some m) (Some n) h k = elim (cases_lt m n) [
 -- ---- what the decisions say
 
 module _ (inst : InstanceView) (sched : List Slot) where
-  pub assigned_is : (ds : List Decision) → Agrees inst ds sched → (j : ℕ) → IfSome (assigned ds j) (λ k. crane_of sched j ≡ k)
+  pub assigned_is : (ds : List Decision) → Agrees inst ds sched → (j : ℕ)
+      → IfSome (assigned ds j) (λ k. crane_of sched j ≡ k)
   assigned_is [] a j = tt
   assigned_is (Order i k ∷ ds) a j = assigned_is ds a.1 j
   assigned_is (Assign i k ∷ ds) a j =
@@ -63,7 +64,8 @@ module _ (inst : InstanceView) (sched : List Slot) where
 abbrev is_pair : ℕ → ℕ → Pair → Bool
 is_pair i j pair = (pair.first == i) && (pair.second == j)
 
-before_found : (i j : ℕ) (pairs : List Pair) → list_any (is_pair i j) pairs ≡ true → Contains pairs (pair_of i j)
+before_found : (i j : ℕ) (pairs : List Pair) → list_any (is_pair i j) pairs ≡ true
+    → Contains pairs (pair_of i j)
 before_found i j [] t = absurd (false≢true t)
 before_found i j (p ∷ ps) t = elim (or_cases (is_pair i j p) (list_any (is_pair i j) ps) t) [
   | inl e ↦
@@ -72,7 +74,8 @@ before_found i j (p ∷ ps) t = elim (or_cases (is_pair i j p) (list_any (is_pai
   | inr e ↦ let c = before_found i j ps e in (suc c.0, omega (arith, c.1), c.2)
 ]
 
-pub sooner_before : (inst : InstanceView) (ds : List Decision) (i j : ℕ) → IsBefore inst i j → is_sooner inst ds i j ≡ true
+pub sooner_before : (inst : InstanceView) (ds : List Decision) (i j : ℕ) → IsBefore inst i j
+    → is_sooner inst ds i j ≡ true
 sooner_before inst ds i j b =
     let itself = and_from (eqb i i) (eqb j j) (eq-eqb i i refl) (eq-eqb j j refl) in
     let found = subst (λ (p : Pair). is_pair i j p ≡ true) (sym b.2) itself in
@@ -85,7 +88,8 @@ T_true {b = false} t = absurd t
 pub true_T : {b : Bool} → b ≡ true → T b
 true_T e = subst T (sym e) tt
 
-within_reach : (inst : InstanceView) (sched : List Slot) (j : ℕ) → KeepsReach inst sched j → reaches inst j (crane_of sched j) ≡ true
+within_reach : (inst : InstanceView) (sched : List Slot) (j : ℕ) → KeepsReach inst sched j
+    → reaches inst j (crane_of sched j) ≡ true
 within_reach inst sched j r = and_from _ _ (T_true r.0.le) (T_true r.1.le)
 
 one_crane_apart : (inst : InstanceView) (v w : ℕ) (x y : ℤ) → v ≡ w → distance inst v x w y ≡ 0
@@ -100,16 +104,19 @@ start_at (slot ∷ slots) zero = refl
 start_at (slot ∷ slots) (suc j) = start_at slots j
 
 -- every task ends by the last end
-pub ends_by : (tasks : List Task) (begins : List ℕ) (j : ℕ) → length begins ≡ length tasks → j < length tasks
+pub ends_by : (tasks : List Task) (begins : List ℕ) (j : ℕ) → length begins ≡ length tasks
+    → j < length tasks
     → slice_index begins j + (get_or tasks j no_task).ticks ≤ last_end tasks begins
 ends_by [] begins j e low = absurd (omega arith)
 ends_by (t ∷ ts) [] j e low = absurd (omega arith)
 ends_by (t ∷ ts) (s ∷ ss) zero e low = omega arith
-ends_by (t ∷ ts) (s ∷ ss) (suc j) e low = let rest = ends_by ts ss j (omega arith) (omega arith) in omega arith
+ends_by (t ∷ ts) (s ∷ ss) (suc j) e low =
+    let rest = ends_by ts ss j (omega arith) (omega arith) in omega arith
 
 -- ---- an upward schedule that agrees with a node meets it
 
-module _ (inst : InstanceView) (ds : List Decision) (sched : List Slot) (g : GoesUp inst sched) (a : Agrees inst ds sched) where
+module _ (inst : InstanceView) (ds : List Decision) (sched : List Slot) (g : GoesUp inst sched)
+    (a : Agrees inst ds sched) where
   sooner_kept : (i j : ℕ) → i < length inst.tasks → j < length inst.tasks → is_sooner inst ds i j ≡ true
       → end_of inst sched i ≤ start_of sched j
   sooner_kept i j low high t = elim (or_cases (list_any (is_pair i j) inst.before) (is_ordered ds i j) t) [
@@ -130,7 +137,8 @@ module _ (inst : InstanceView) (ds : List Decision) (sched : List Slot) (g : Goe
       (λ _. cond_both (nat_lt w v && nat_lt 0 (task_distance inst i v j w)) _ _ (IsStep (start_of sched i) (start_of sched j))
       (λ both.
       let parts = and_parts (nat_lt w v) (nat_lt 0 (task_distance inst i v j w)) both in
-      let leads = λ (x y : ℕ). y < x → 0 < task_distance inst i x j y → start_of sched i + lead inst i x j y ≤ start_of sched j in
+      let leads =
+      λ (x y : ℕ). y < x → 0 < task_distance inst i x j y → start_of sched i + lead inst i x j y ≤ start_of sched j in
       subst₂ leads c d (g.upward.two_cranes i j low high) (ltb-true w v parts.0) (ltb-true 0 _ parts.1))
       (λ _. tt))
 
@@ -147,7 +155,8 @@ module _ (inst : InstanceView) (ds : List Decision) (sched : List Slot) (g : Goe
   free_kept : (j : ℕ) → j < length inst.tasks → free inst j (crane_of sched j) ≤ start_of sched j
   free_kept j low = omega (arith, g.feasible.ready j low, berths)
     where
-      waits : (v : ℕ) → v < 0 + length inst.cranes → berth_wait inst j (crane_of sched j) v ≤ start_of sched j
+      waits : (v : ℕ) → v < 0 + length inst.cranes
+          → berth_wait inst j (crane_of sched j) v ≤ start_of sched j
       waits v high =
           cond_both (eqb (berth_distance inst v (crane_of sched j) (bay_of inst j)) 0) _ _ (λ n. n ≤ start_of sched j)
           (λ _. omega arith)
@@ -156,7 +165,8 @@ module _ (inst : InstanceView) (ds : List Decision) (sched : List Slot) (g : Goe
           g.feasible.berth j v low (omega arith) (λ e. far (one_crane_apart inst v (crane_of sched j) _ _ e)) (omega (arith, pos_of_ne-zero far)))
 
       berths : greatest (map (berth_wait inst j (crane_of sched j)) (range_with_len 0 (length inst.cranes))) ≤ start_of sched j
-      berths = greatest_le (berth_wait inst j (crane_of sched j)) (start_of sched j) 0 (length inst.cranes) waits
+      berths =
+          greatest_le (berth_wait inst j (crane_of sched j)) (start_of sched j) 0 (length inst.cranes) waits
 
   head_kept : (j : ℕ) → j < length inst.tasks → (o : Option ℕ) → IfSome o (λ k. crane_of sched j ≡ k)
       → head_by inst (free inst j) j o ≤ start_of sched j
@@ -185,7 +195,8 @@ pub in_reach_of : (inst : InstanceView) (sched : List Slot) → Feasible inst sc
 in_reach_of inst sched f [] fits a = tt
 in_reach_of inst sched f (Order i j ∷ ds) fits a = in_reach_of inst sched f ds fits.3 a.1
 in_reach_of inst sched f (Assign j k ∷ ds) fits a =
-    let reach = subst (λ (v : ℕ). reaches inst j v ≡ true) a.0 (within_reach inst sched j (f.reach j fits.0)) in
+    let reach =
+    subst (λ (v : ℕ). reaches inst j v ≡ true) a.0 (within_reach inst sched j (f.reach j fits.0)) in
     (reach, in_reach_of inst sched f ds fits.3 a.1)
 
 -- ---- heads without berths are no greater than those with them
@@ -193,7 +204,8 @@ in_reach_of inst sched f (Assign j k ∷ ds) fits a =
 pub head1_le : (inst : InstanceView) (ds : List Decision) (j : ℕ) → head1 inst ds j ≤ head inst ds j
 head1_le inst ds j = lower (assigned ds j)
   where
-    lower : (o : Option ℕ) → head_by inst (λ k. arrival inst k (bay_of inst j)) j o ≤ head_by inst (free inst j) j o
+    lower : (o : Option ℕ)
+        → head_by inst (λ k. arrival inst k (bay_of inst j)) j o ≤ head_by inst (free inst j) j o
     lower (Some k) = omega arith
     lower None =
         least_rises (λ k. arrival inst k (bay_of inst j)) (free inst j) (filter (reaches inst j) (range_with_len 0 (length inst.cranes))) (λ k. omega arith)

@@ -5,12 +5,14 @@ use Rattle.std.proofs.lemmas.List.Sums.{sum_by-cons}
 use Rattle.std.specs.Prelude.{sum_by}
 use Rattle.std.specs.List.{range_with_len}
 
-pub sum_zero : (f : ℕ → ℕ) (a n : ℕ) → ((j : ℕ) → a ≤ j → j < a + n → f j ≡ 0) → sum_by f (range_with_len a n) ≡ 0
+pub sum_zero : (f : ℕ → ℕ) (a n : ℕ) → ((j : ℕ) → a ≤ j → j < a + n → f j ≡ 0)
+    → sum_by f (range_with_len a n) ≡ 0
 sum_zero f a zero h = refl
 sum_zero f a (suc n) h =
     omega (arith, sum_by-cons f a (range_with_len (a + 1) n), h a (omega arith) (omega arith), sum_zero f (a + 1) n (λ j low high. h j (omega arith) (omega arith)))
 
-pub sum_le : (f g : ℕ → ℕ) (a n : ℕ) → ((j : ℕ) → a ≤ j → j < a + n → f j ≤ g j) → sum_by f (range_with_len a n) ≤ sum_by g (range_with_len a n)
+pub sum_le : (f g : ℕ → ℕ) (a n : ℕ) → ((j : ℕ) → a ≤ j → j < a + n → f j ≤ g j)
+    → sum_by f (range_with_len a n) ≤ sum_by g (range_with_len a n)
 sum_le f g a zero h = omega arith
 sum_le f g a (suc n) h =
     omega (arith, sum_by-cons f a (range_with_len (a + 1) n), sum_by-cons g a (range_with_len (a + 1) n), h a (omega arith) (omega arith), sum_le f g (a + 1) n (λ j low high. h j (omega arith) (omega arith)))
@@ -30,7 +32,8 @@ sum_both f g h a (suc n) k =
     )
 
 -- one term that is greater by so much
-pub sum_raised : (f g : ℕ → ℕ) (d i a n : ℕ) → a ≤ i → i < a + n → g i + d ≤ f i → ((j : ℕ) → i ≢ j → g j ≤ f j)
+pub sum_raised : (f g : ℕ → ℕ) (d i a n : ℕ) → a ≤ i → i < a + n → g i + d ≤ f i
+    → ((j : ℕ) → i ≢ j → g j ≤ f j)
     → sum_by g (range_with_len a n) + d ≤ sum_by f (range_with_len a n)
 sum_raised f g d i a zero low high here other = absurd (omega arith)
 sum_raised f g d i a (suc n) low high here other =
@@ -57,7 +60,8 @@ sum_raised f g d i a (suc n) low high here other =
     ]
 
 -- of all terms at most one is greater, and by 1 alone
-sum_once : (f g : ℕ → ℕ) (a n : ℕ) → ((j : ℕ) → f j ≤ g j + 1) → ((i j : ℕ) → i < j → j < a + n → g i < f i → f j ≤ g j)
+sum_once : (f g : ℕ → ℕ) (a n : ℕ) → ((j : ℕ) → f j ≤ g j + 1)
+    → ((i j : ℕ) → i < j → j < a + n → g i < f i → f j ≤ g j)
     → sum_by f (range_with_len a n) ≤ sum_by g (range_with_len a n) + 1
 sum_once f g a zero one alone = omega arith
 sum_once f g a (suc n) one alone =
@@ -82,7 +86,8 @@ sum_once f g a (suc n) one alone =
 -- of n jobs those that are on: each lies within the time, and no two overlap
 pub record InARow (on : ℕ → Bool) (start long : ℕ → ℕ) (n from to : ℕ) : Type 0 where
   pub within : (j : ℕ) → j < n → on j ≡ true → (from ≤ start j) × (start j + long j ≤ to)
-  pub clear : (i j : ℕ) → i < j → j < n → on i ≡ true → on j ≡ true → (start i + long i ≤ start j) ⊎ (start j + long j ≤ start i)
+  pub clear : (i j : ℕ) → i < j → j < n → on i ≡ true → on j ≡ true
+      → (start i + long i ≤ start j) ⊎ (start j + long j ≤ start i)
 
 -- how much of each job is done by a moment
 abbrev done_by : (ℕ → Bool) → (ℕ → ℕ) → (ℕ → ℕ) → ℕ → ℕ → ℕ
@@ -97,10 +102,12 @@ one_more true x s p = omega arith
 one_more false x s p = omega arith
 
 one_at_a_time : (b c : Bool) (x s p t q : ℕ) → (b ≡ true → c ≡ true → (s + p ≤ t) ⊎ (t + q ≤ s))
-    → cond b (min p (x - s)) 0 < cond b (min p (suc x - s)) 0 → cond c (min q (suc x - t)) 0 ≤ cond c (min q (x - t)) 0
+    → cond b (min p (x - s)) 0 < cond b (min p (suc x - s)) 0
+    → cond c (min q (suc x - t)) 0 ≤ cond c (min q (x - t)) 0
 one_at_a_time false c x s p t q clear rises = absurd (omega arith)
 one_at_a_time true false x s p t q clear rises = omega arith
-one_at_a_time true true x s p t q clear rises = elim (clear refl refl) [ inl h ↦ omega arith | inr h ↦ omega arith ]
+one_at_a_time true true x s p t q clear rises =
+    elim (clear refl refl) [ inl h ↦ omega arith | inr h ↦ omega arith ]
 
 done_time : (on : ℕ → Bool) (start long : ℕ → ℕ) (n from to : ℕ) → InARow on start long n from to
     → (x : ℕ) → sum_by (done_by on start long x) (range_with_len 0 n) ≤ x - from

@@ -39,26 +39,32 @@ module _ (b low high : ℤ) where
   along_up : (x y : ℤ) → x <ℤ y → along b low high y ≤ along b low high x + bays_up x y
   along_up x y h = omega (arith, bays)
 
-  along_end : (x : ℤ) → low ≤ℤ high → high ≤ℤ x → along b low high x ≡ bays_between b low + bays_up low high
+  along_end : (x : ℤ) → low ≤ℤ high → high ≤ℤ x
+      → along b low high x ≡ bays_between b low + bays_up low high
   along_end x up h = omega (arith, bays)
 
 -- ---- the tasks that a crane does
 
 -- their ticks together
 abbrev crane_sum : InstanceView → List Slot → ℕ → ℕ
-crane_sum inst sched k = sum_by (λ j. cond (eqb (crane_of sched j) k) (ticks_of inst j) 0) (range_with_len 0 (length inst.tasks))
+crane_sum inst sched k =
+    sum_by (λ j. cond (eqb (crane_of sched j) k) (ticks_of inst j) 0) (range_with_len 0 (length inst.tasks))
 
 record IsOn (inst : InstanceView) (sched : List Slot) (k j : ℕ) : Type 0 where
   task : j < length inst.tasks
   crane : crane_of sched j ≡ k
 
-module _ (inst : InstanceView) (sched : List Slot) (k tick : ℕ) (g : GoesUp inst sched) (by_then : (j : ℕ) → j < length inst.tasks → end_of inst sched j ≤ tick) where
-  arrives : (j : ℕ) → IsOn inst sched k j → (crane inst k).ready + travel_between inst (crane inst k).bay (bay_of inst j) ≤ start_of sched j
-  arrives j on = subst (λ (v : ℕ). arrival inst v (bay_of inst j) ≤ start_of sched j) on.crane (g.feasible.ready j on.task)
+module _ (inst : InstanceView) (sched : List Slot) (k tick : ℕ) (g : GoesUp inst sched)
+    (by_then : (j : ℕ) → j < length inst.tasks → end_of inst sched j ≤ tick) where
+  arrives : (j : ℕ) → IsOn inst sched k j
+      → (crane inst k).ready + travel_between inst (crane inst k).bay (bay_of inst j) ≤ start_of sched j
+  arrives j on =
+      subst (λ (v : ℕ). arrival inst v (bay_of inst j) ≤ start_of sched j) on.crane (g.feasible.ready j on.task)
 
   climbs : (i j : ℕ) → IsOn inst sched k i → IsOn inst sched k j → bay_of inst i <ℤ bay_of inst j
       → end_of inst sched i + inst.travel * bays_up (bay_of inst i) (bay_of inst j) ≤ start_of sched j
-  climbs i j on_i on_j up = omega (arith, g.upward.one_crane i j on_i.task on_j.task (on_i.crane ∙ sym on_j.crane) up)
+  climbs i j on_i on_j up =
+      omega (arith, g.upward.one_crane i j on_i.task on_j.task (on_i.crane ∙ sym on_j.crane) up)
 
   -- what is gone of the way before each task leaves so much less time for them
   row_of : (gone : ℕ → ℕ) (way : ℕ)
@@ -76,9 +82,11 @@ module _ (inst : InstanceView) (sched : List Slot) (k tick : ℕ) (g : GoesUp in
 
       within : (j : ℕ) → j < length inst.tasks → eqb (crane_of sched j) k ≡ true
           → ((crane inst k).ready ≤ start_of sched j - gone j) × ((start_of sched j - gone j) + ticks_of inst j ≤ tick - way)
-      within j low t = let on = is_on j low t in (omega (arith, first j on), omega (arith, first j on, last j on))
+      within j low t =
+          let on = is_on j low t in (omega (arith, first j on), omega (arith, first j on, last j on))
 
-      clear : (i j : ℕ) → i < j → j < length inst.tasks → eqb (crane_of sched i) k ≡ true → eqb (crane_of sched j) k ≡ true
+      clear : (i j : ℕ) → i < j → j < length inst.tasks → eqb (crane_of sched i) k ≡ true
+          → eqb (crane_of sched j) k ≡ true
           → ((start_of sched i - gone i) + ticks_of inst i ≤ start_of sched j - gone j) ⊎ ((start_of sched j - gone j) + ticks_of inst j ≤ start_of sched i - gone i)
       clear i j order high t u =
           let on_i = is_on i (omega arith) t in
@@ -89,7 +97,8 @@ module _ (inst : InstanceView) (sched : List Slot) (k tick : ℕ) (g : GoesUp in
 
   -- they fit between when the crane is ready and the last end
   all_fit : crane_sum inst sched k ≤ tick - (crane inst k).ready
-  all_fit = omega (arith, row_of (λ _. 0) 0 (λ j on. omega (arith, arrives j on)) (λ j on. omega (arith, by_then j on.task)) next)
+  all_fit =
+      omega (arith, row_of (λ _. 0) 0 (λ j on. omega (arith, arrives j on)) (λ j on. omega (arith, by_then j on.task)) next)
     where
       next : (i j : ℕ) → IsOn inst sched k i → IsOn inst sched k j → i ≢ j
           → (end_of inst sched i + 0 ≤ start_of sched j + 0) ⊎ (end_of inst sched j + 0 ≤ start_of sched i + 0)
@@ -111,24 +120,31 @@ module _ (inst : InstanceView) (sched : List Slot) (k tick : ℕ) (g : GoesUp in
       gone j = inst.travel * so_far j
 
       way : ℕ
-      way = inst.travel * (bays_between (crane inst k).bay (bay_of inst f) + bays_up (bay_of inst f) (bay_of inst h))
+      way =
+          inst.travel * (bays_between (crane inst k).bay (bay_of inst f) + bays_up (bay_of inst f) (bay_of inst h))
 
-      more : (i j : ℕ) → bay_of inst i <ℤ bay_of inst j → gone j ≤ gone i + inst.travel * bays_up (bay_of inst i) (bay_of inst j)
+      more : (i j : ℕ) → bay_of inst i <ℤ bay_of inst j
+          → gone j ≤ gone i + inst.travel * bays_up (bay_of inst i) (bay_of inst j)
       more i j up =
-          let most = mul-le-mul_left inst.travel (along_up (crane inst k).bay (bay_of inst f) (bay_of inst h) _ _ up) in
+          let most =
+          mul-le-mul_left inst.travel (along_up (crane inst k).bay (bay_of inst f) (bay_of inst h) _ _ up) in
           omega (arith, most, mul-add inst.travel (so_far i) (bays_up (bay_of inst i) (bay_of inst j)))
 
       all_gone : (j : ℕ) → bay_of inst h ≤ℤ bay_of inst j → gone j ≡ way
-      all_gone j above = ap (λ n. inst.travel * n) (along_end (crane inst k).bay (bay_of inst f) (bay_of inst h) (bay_of inst j) order above)
+      all_gone j above =
+          ap (λ n. inst.travel * n) (along_end (crane inst k).bay (bay_of inst f) (bay_of inst h) (bay_of inst j) order above)
 
       first : (j : ℕ) → IsOn inst sched k j → (crane inst k).ready + gone j ≤ start_of sched j
       first j on = by_lt_z (bay_of inst f) (bay_of inst j)
           (λ above.
-          let most = mul-le-mul_left inst.travel (along_above (crane inst k).bay (bay_of inst f) (bay_of inst h) (bay_of inst j) above) in
-          let parts = mul-add inst.travel (bays_between (crane inst k).bay (bay_of inst f)) (bays_up (bay_of inst f) (bay_of inst j)) in
+          let most =
+          mul-le-mul_left inst.travel (along_above (crane inst k).bay (bay_of inst f) (bay_of inst h) (bay_of inst j) above) in
+          let parts =
+          mul-add inst.travel (bays_between (crane inst k).bay (bay_of inst f)) (bays_up (bay_of inst f) (bay_of inst j)) in
           omega (arith, most, parts, arrives f on_f, climbs f j on_f on above))
           (λ below.
-          let most = mul-le-mul_left inst.travel (along_start (crane inst k).bay (bay_of inst f) (bay_of inst h) (bay_of inst j) below) in
+          let most =
+          mul-le-mul_left inst.travel (along_start (crane inst k).bay (bay_of inst f) (bay_of inst h) (bay_of inst j) below) in
           omega (arith, most, arrives j on))
 
       last : (j : ℕ) → IsOn inst sched k j → end_of inst sched j + way ≤ tick + gone j
@@ -144,12 +160,14 @@ module _ (inst : InstanceView) (sched : List Slot) (k tick : ℕ) (g : GoesUp in
           (λ up. inr (omega (arith, climbs j i on_j on_i up, more j i up)))
           (λ under.
           let e : bay_of inst i ≡ bay_of inst j = omega (arith, ints) in
-          let same : gone i ≡ gone j = ap (λ x. inst.travel * along (crane inst k).bay (bay_of inst f) (bay_of inst h) x) e in
+          let same : gone i ≡ gone j =
+          ap (λ x. inst.travel * along (crane inst k).bay (bay_of inst f) (bay_of inst h) x) e in
           elim (g.feasible.travel i j on_i.task on_j.task differ (on_i.crane ∙ sym on_j.crane)) [ inl l ↦ inl (omega arith) | inr l ↦ inr (omega arith) ]))
 
 -- ---- the tasks that are assigned to a crane
 
-on_crane : (inst : InstanceView) (sched : List Slot) (k : ℕ) (ds : List Decision) → Fits inst ds → Agrees inst ds sched
+on_crane : (inst : InstanceView) (sched : List Slot) (k : ℕ) (ds : List Decision) → Fits inst ds
+    → Agrees inst ds sched
     → AllByRecursion (IsOn inst sched k) (tasks_on ds k)
 on_crane inst sched k [] fits a = tt
 on_crane inst sched k (Order i j ∷ ds) fits a = on_crane inst sched k ds fits.3 a.1
@@ -205,13 +223,15 @@ assigned_sum inst k (Assign i v ∷ ds) fits =
     (λ _. omega (arith, raised, rest))
   where
     here : ticks_for inst (Assign i v ∷ ds) k i ≡ cond (eqb v k) (ticks_of inst i) 0
-    here = ap (λ o. cond (is_for o k) (ticks_of inst i) 0) (cond-true (eqb i i) (Some v) (assigned ds i) (eq-eqb i i refl))
+    here =
+        ap (λ o. cond (is_for o k) (ticks_of inst i) 0) (cond-true (eqb i i) (Some v) (assigned ds i) (eq-eqb i i refl))
 
     before : ticks_for inst ds k i ≡ 0
     before = ap (λ o. cond (is_for o k) (ticks_of inst i) 0) fits.2
 
     other : (j : ℕ) → i ≢ j → ticks_for inst ds k j ≤ ticks_for inst (Assign i v ∷ ds) k j
-    other j differ = le_of_eq (sym (ap (λ o. cond (is_for o k) (ticks_of inst j) 0) (cond-false (eqb i j) (Some v) (assigned ds j) (ne_eqb i j differ))))
+    other j differ =
+        le_of_eq (sym (ap (λ o. cond (is_for o k) (ticks_of inst j) 0) (cond-false (eqb i j) (Some v) (assigned ds j) (ne_eqb i j differ))))
 
     raised : sum_by (ticks_for inst ds k) (range_with_len 0 (length inst.tasks)) + cond (eqb v k) (ticks_of inst i) 0
         ≤ sum_by (ticks_for inst (Assign i v ∷ ds) k) (range_with_len 0 (length inst.tasks))
@@ -222,13 +242,15 @@ assigned_sum inst k (Assign i v ∷ ds) fits =
 -- ---- the tasks that aren't assigned, and the cranes that do them
 
 -- the tasks that pass a test, by the cranes that do them
-by_crane : (passes : ℕ → Bool) (crane_at ticks : ℕ → ℕ) (cranes a n : ℕ) → ((j : ℕ) → a ≤ j → j < a + n → crane_at j < cranes)
+by_crane : (passes : ℕ → Bool) (crane_at ticks : ℕ → ℕ) (cranes a n : ℕ)
+    → ((j : ℕ) → a ≤ j → j < a + n → crane_at j < cranes)
     → sum_by ticks (filter passes (range_with_len a n))
     ≤ sum_by (λ k. sum_by (λ j. cond (passes j && eqb (crane_at j) k) (ticks j) 0) (range_with_len a n)) (range_with_len 0 cranes)
 by_crane passes crane_at ticks cranes a zero low = omega arith
 by_crane passes crane_at ticks cranes a (suc n) low =
     let others = filter passes (range_with_len (a + 1) n) in
-    let rest = by_crane passes crane_at ticks cranes (a + 1) n (λ j above high. low j (omega arith) (omega arith)) in
+    let rest =
+    by_crane passes crane_at ticks cranes (a + 1) n (λ j above high. low j (omega arith) (omega arith)) in
     cond_both (passes a) (a ∷ others) others (λ js. sum_by ticks js ≤ sum_by (λ k. sum_by (part k) (range_with_len a (suc n))) (range_with_len 0 cranes))
     (λ t. omega (arith, both, rest, mine t, sum_by-cons ticks a others))
     (λ _. omega (arith, both, rest))
@@ -244,19 +266,22 @@ by_crane passes crane_at ticks cranes a (suc n) low =
 
     mine : passes a ≡ true → ticks a ≤ sum_by (λ k. part k a) (range_with_len 0 cranes)
     mine t =
-        let found = and_from (passes a) (eqb (crane_at a) (crane_at a)) t (eq-eqb (crane_at a) (crane_at a) refl) in
+        let found =
+        and_from (passes a) (eqb (crane_at a) (crane_at a)) t (eq-eqb (crane_at a) (crane_at a) refl) in
         let is = cond-true (passes a && eqb (crane_at a) (crane_at a)) (ticks a) 0 found in
         let there = low a (omega arith) (omega arith) in
         omega (arith, sum_raised (λ k. part k a) (λ _. 0) (ticks a) (crane_at a) 0 cranes (omega arith) (omega arith) (omega (arith, is)) (λ _ _. omega arith))
 
 abbrev ticks_open : InstanceView → List Decision → List Slot → ℕ → ℕ → ℕ
-ticks_open inst ds sched k j = cond (is_none (assigned ds j) && eqb (crane_of sched j) k) (ticks_of inst j) 0
+ticks_open inst ds sched k j =
+    cond (is_none (assigned ds j) && eqb (crane_of sched j) k) (ticks_of inst j) 0
 
 -- what a crane does beside what is assigned to it
 abbrev open_sum : InstanceView → List Decision → List Slot → ℕ → ℕ
 open_sum inst ds sched k = sum_by (ticks_open inst ds sched k) (range_with_len 0 (length inst.tasks))
 
-assigned_and_open : (inst : InstanceView) (ds : List Decision) (sched : List Slot) → Fits inst ds → Agrees inst ds sched → (k : ℕ)
+assigned_and_open : (inst : InstanceView) (ds : List Decision) (sched : List Slot) → Fits inst ds
+    → Agrees inst ds sched → (k : ℕ)
     → ticks_over inst (tasks_on ds k) + open_sum inst ds sched k ≤ crane_sum inst sched k
 assigned_and_open inst ds sched fits a k =
     omega (
@@ -269,41 +294,50 @@ assigned_and_open inst ds sched fits a k =
     parts : (o : Option ℕ) (c ticks : ℕ) → IfSome o (λ v. c ≡ v)
         → cond (is_for o k) ticks 0 + cond (is_none o && eqb c k) ticks 0 ≤ cond (eqb c k) ticks 0
     parts None c ticks is = omega arith
-    parts (Some v) c ticks is = subst (λ (u : ℕ). cond (eqb u k) ticks 0 + 0 ≤ cond (eqb c k) ticks 0) is (omega arith)
+    parts (Some v) c ticks is =
+        subst (λ (u : ℕ). cond (eqb u k) ticks 0 + 0 ≤ cond (eqb c k) ticks 0) is (omega arith)
 
 -- ---- what is left to the cranes
 
-module _ (inst : InstanceView) (sched : List Slot) (v : Valid inst) (g : GoesUp inst sched) (tick : ℕ) (by_then : (j : ℕ) → j < length inst.tasks → end_of inst sched j ≤ tick) where
+module _ (inst : InstanceView) (sched : List Slot) (v : Valid inst) (g : GoesUp inst sched) (tick : ℕ)
+    (by_then : (j : ℕ) → j < length inst.tasks → end_of inst sched j ≤ tick) where
   -- a crane has the time for what is assigned to it and for what it does beside that
-  room : (k beside : ℕ) (js : List ℕ) → AllByRecursion (IsOn inst sched k) js → ticks_over inst js + beside ≤ crane_sum inst sched k
+  room : (k beside : ℕ) (js : List ℕ) → AllByRecursion (IsOn inst sched k) js
+      → ticks_over inst js + beside ≤ crane_sum inst sched k
       → (beside ≤ tick - ((crane inst k).ready + used_for inst k js)) × (0 < length js → (crane inst k).ready + used_for inst k js ≤ tick)
-  room k beside [] all sum = (omega (arith, all_fit inst sched k tick g by_then), λ some. absurd (omega arith))
+  room k beside [] all sum =
+      (omega (arith, all_fit inst sched k tick g by_then), λ some. absurd (omega arith))
   room k beside (j ∷ js) all sum =
       let f = lowest_bay inst (IsOn inst sched k) j js all.0 all.1 in
       let h = highest_bay inst (IsOn inst sched k) j js all.0 all.1 in
       let order = order_of _ _ _ _ f.bay h.bay (lowest_le_highest inst j js) in
-      let fit = subst₂ fits_with f.bay h.bay (all_fit_with inst sched k tick g by_then f.task h.task f.is h.is order) in
+      let fit =
+      subst₂ fits_with f.bay h.bay (all_fit_with inst sched k tick g by_then f.task h.task f.is h.is order) in
       let long = v.tasks.ticks j all.0.task in
       let all_ticks = sum_by-cons (ticks_of inst) j js in
       (omega (arith, fit, long, all_ticks), λ some. omega (arith, fit, long, all_ticks))
     where
       fits_with : ℤ → ℤ → Type 0
-      fits_with x y = crane_sum inst sched k ≤ (tick - inst.travel * (bays_between (crane inst k).bay x + bays_up x y)) - (crane inst k).ready
+      fits_with x y =
+          crane_sum inst sched k ≤ (tick - inst.travel * (bays_between (crane inst k).bay x + bays_up x y)) - (crane inst k).ready
 
       order_of : (a b x y : ℤ) → a ≡ x → b ≡ y → x ≤ℤ y → a ≤ℤ b
       order_of a b x y p q up = omega (arith, ints)
 
-module _ (inst : InstanceView) (ds : List Decision) (sched : List Slot) (v : Valid inst) (fits : Fits inst ds) (g : GoesUp inst sched) (a : Agrees inst ds sched) where
+module _ (inst : InstanceView) (ds : List Decision) (sched : List Slot) (v : Valid inst)
+    (fits : Fits inst ds) (g : GoesUp inst sched) (a : Agrees inst ds sched) where
   -- the work fits before every tick by which the schedule has ended
   work_fits : (tick : ℕ) → ends inst sched ≤ tick
       → (list_any (is_overfull inst ds tick) (crane_numbers inst)
       || nat_lt (sum_by (spare inst ds tick) (crane_numbers inst)) (ticks_over inst (open_tasks inst ds))) ≡ true → ⊥
   work_fits tick by t = elim (or_cases (list_any (is_overfull inst ds tick) (crane_numbers inst)) (nat_lt (sum_by (spare inst ds tick) (crane_numbers inst)) (ticks_over inst (open_tasks inst ds))) t) [
     | inl over ↦
-        let none = list_any_none (is_overfull inst ds tick) (crane_numbers inst) (λ i d low. not_over (get_or (crane_numbers inst) i d)) in
+        let none =
+        list_any_none (is_overfull inst ds tick) (crane_numbers inst) (λ i d low. not_over (get_or (crane_numbers inst) i d)) in
         false≢true (sym none ∙ over)
     | inr short ↦
-        let less = ltb-true (sum_by (spare inst ds tick) (crane_numbers inst)) (ticks_over inst (open_tasks inst ds)) short in
+        let less =
+        ltb-true (sum_by (spare inst ds tick) (crane_numbers inst)) (ticks_over inst (open_tasks inst ds)) short in
         absurd (omega (
           arith,
           less,
@@ -317,13 +351,15 @@ module _ (inst : InstanceView) (ds : List Decision) (sched : List Slot) (v : Val
           let count = length-map sched (λ slot. slot.start) ∙ g.feasible.all_tasks in
           omega (arith, by, start_at sched j, ends_by inst.tasks (starts sched) j count low)
 
-      left : (k : ℕ) → (open_sum inst ds sched k ≤ spare inst ds tick k) × (0 < length (tasks_on ds k) → (crane inst k).ready + used inst ds k ≤ tick)
+      left : (k : ℕ)
+          → (open_sum inst ds sched k ≤ spare inst ds tick k) × (0 < length (tasks_on ds k) → (crane inst k).ready + used inst ds k ≤ tick)
       left k =
           room inst sched v g tick by_then k (open_sum inst ds sched k) (tasks_on ds k) (on_crane inst sched k ds fits a) (assigned_and_open inst ds sched fits a k)
 
       not_over : (k : ℕ) → is_overfull inst ds tick k ≡ false
       not_over k = false_from_ne_true (is_overfull inst ds tick k) (λ t.
-          let parts = and_parts (nat_lt 0 (length (tasks_on ds k))) (nat_lt tick ((crane inst k).ready + used inst ds k)) t in
+          let parts =
+          and_parts (nat_lt 0 (length (tasks_on ds k))) (nat_lt tick ((crane inst k).ready + used inst ds k)) t in
           let in_time = (left k).1 (ltb-true 0 _ parts.0) in
           let late = ltb-true tick ((crane inst k).ready + used inst ds k) parts.1 in
           absurd (omega arith))
