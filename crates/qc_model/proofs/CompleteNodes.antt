@@ -48,7 +48,8 @@ agrees_of inst sched [] fits cranes orders = tt
 agrees_of inst sched (Order i j ∷ ds) fits cranes orders =
     let itself = and_from (eqb i i) (eqb j j) (eq-eqb i i refl) (eq-eqb j j refl) in (
       orders i j fits.0 (or_left (eqb i i && eqb j j) (is_ordered ds i j) itself),
-      agrees_of inst sched ds fits.3 cranes (λ g h pair t. orders g h pair (or_right (eqb i g && eqb j h) (is_ordered ds g h) t)),
+      agrees_of inst sched ds fits.3 cranes
+          (λ g h pair t. orders g h pair (or_right (eqb i g && eqb j h) (is_ordered ds g h) t)),
     )
 agrees_of inst sched (Assign i k ∷ ds) fits cranes orders = (
   cranes i k (cond-true (eqb i i) (Some k) (assigned ds i) (eq-eqb i i refl)),
@@ -130,7 +131,9 @@ done_with : (inst : InstanceView) (ds : List Decision) (begins : List ℕ)
 done_with inst ds begins fits complete reach meets = record {
   all_tasks = length-map-range_with_len (slot_with ds begins) 0 (length inst.tasks);
   cranes = λ j low. given (assigned ds j) (complete.tasks j low) ∙ ap Some (sym (crane_is j low));
-  places = λ j low. subst (IsPlaced inst j) (sym (crane_is j low)) (put (assigned ds j) (complete.tasks j low) (placed inst ds fits reach j));
+  places = λ j low.
+      let there = put (assigned ds j) (complete.tasks j low) (placed inst ds fits reach j) in
+      subst (IsPlaced inst j) (sym (crane_is j low)) there;
   meets = meets;
   starts = λ j low. sym (ap (λ slot. slot.start) (slot_is inst ds begins j low));
 }
@@ -159,16 +162,18 @@ module _ (inst : InstanceView) (ds : List Decision) (begins : List ℕ) (sched :
       → end_of inst sched i ≤ start_of sched j
   sooner_done i j low high t =
       let step =
-      greater_first (start_of sched i) (start_of sched j) (sooner_ticks inst ds i j) (crane_ticks inst i j (assigned ds i) (assigned ds j)) (forced_done i j low high) in
-      subst (IsStep (start_of sched i) (start_of sched j)) (cond-true (is_sooner inst ds i j) (Some (ticks_of inst i)) None t) step
+      greater_first _ _ (sooner_ticks inst ds i j) (crane_ticks inst i j (assigned ds i) (assigned ds j)) (forced_done i j low high) in
+      let is = cond-true (is_sooner inst ds i j) (Some (ticks_of inst i)) None t in
+      subst (IsStep (start_of sched i) (start_of sched j)) is step
 
   cranes_done : (i j n : ℕ) → i < length inst.tasks → j < length inst.tasks
       → crane_ticks inst i j (Some (crane_of sched i)) (Some (crane_of sched j)) ≡ Some n
       → start_of sched i + n ≤ start_of sched j
   cranes_done i j n low high e =
       let step =
-      greater_second (start_of sched i) (start_of sched j) (sooner_ticks inst ds i j) (crane_ticks inst i j (assigned ds i) (assigned ds j)) (forced_done i j low high) in
-      subst (IsStep (start_of sched i) (start_of sched j)) (ap₂ (crane_ticks inst i j) (d.cranes i low) (d.cranes j high) ∙ e) step
+      greater_second _ _ (sooner_ticks inst ds i j) (crane_ticks inst i j (assigned ds i) (assigned ds j)) (forced_done i j low high) in
+      let is = ap₂ (crane_ticks inst i j) (d.cranes i low) (d.cranes j high) ∙ e in
+      subst (IsStep (start_of sched i) (start_of sched j)) is step
 
   climb_done : (i j : ℕ) → i < length inst.tasks → j < length inst.tasks
       → crane_of sched i ≡ crane_of sched j
@@ -201,7 +206,7 @@ module _ (inst : InstanceView) (ds : List Decision) (begins : List ℕ) (sched :
       let far =
       ne_eqb (berth_distance inst v (crane_of sched j) (bay_of inst j)) 0 (λ e. absurd (omega arith)) in
       let is =
-      cond-false (eqb (berth_distance inst v (crane_of sched j) (bay_of inst j)) 0) 0 (berth_clear inst v (crane_of sched j) (bay_of inst j)) far in
+      cond-false _ 0 (berth_clear inst v (crane_of sched j) (bay_of inst j)) far in
       omega (arith, free_done j low, waits, is)
 
   apart_done : IsComplete inst ds → (i j : ℕ) → i < length inst.tasks → j < length inst.tasks
@@ -221,9 +226,13 @@ module _ (inst : InstanceView) (ds : List Decision) (begins : List ℕ) (sched :
   travel_done : Valid inst → (i j : ℕ) → i < length inst.tasks → j < length inst.tasks → i ≢ j
       → KeepsTravel inst sched i j
   travel_done v i j low high differ same = by_lt_z (bay_of inst i) (bay_of inst j)
-      (λ up. inl (omega (arith, climb_done i j low high same up, ap (λ n. inst.travel * n) (one_way (bay_of inst i) (bay_of inst j) up))))
+      (λ up.
+      let way = ap (λ n. inst.travel * n) (one_way (bay_of inst i) (bay_of inst j) up) in
+      inl (omega (arith, climb_done i j low high same up, way)))
       (λ over. by_lt_z (bay_of inst j) (bay_of inst i)
-      (λ up. inr (omega (arith, climb_done j i high low (sym same) up, ap (λ n. inst.travel * n) (back (bay_of inst i) (bay_of inst j) up))))
+      (λ up.
+      let way = ap (λ n. inst.travel * n) (back (bay_of inst i) (bay_of inst j) up) in
+      inr (omega (arith, climb_done j i high low (sym same) up, way)))
       (λ under. beside (equal _ _ over under)))
     where
       one_way : (x y : ℤ) → x <ℤ y → bays_up x y ≡ bays_between x y
@@ -245,14 +254,20 @@ module _ (inst : InstanceView) (ds : List Decision) (begins : List ℕ) (sched :
           let none =
           ap (λ n. inst.travel * n) (here (bay_of inst i) (bay_of inst j) e) ∙ mul-zero inst.travel in
           by_order i j (λ s. absurd (differ s))
-          (λ l. inl (omega (arith, none, sooner_done i j low high (sooner_before inst ds i j (v.before.phases i j l high hatch)))))
-          (λ l. inr (omega (arith, none, sooner_done j i high low (sooner_before inst ds j i (v.before.phases j i l low (sym hatch))))))
+          (λ l.
+          let before = sooner_before inst ds i j (v.before.phases i j l high hatch) in
+          inl (omega (arith, none, sooner_done i j low high before)))
+          (λ l.
+          let before = sooner_before inst ds j i (v.before.phases j i l low (sym hatch)) in
+          inr (omega (arith, none, sooner_done j i high low before)))
 
   feasible_done : Valid inst → IsComplete inst ds → Feasible inst sched
   feasible_done v complete = record {
     all_tasks = d.all_tasks;
     crane_range = λ j low. (d.places j low).crane;
-    reach = λ j low. let p = and_parts _ _ (d.places j low).reach in (record { le = true_T p.0 }, record { le = true_T p.1 });
+    reach = λ j low.
+        let both = and_parts _ _ (d.places j low).reach in
+        (record { le = true_T both.0 }, record { le = true_T both.1 });
     ready = λ j low. omega (arith, free_done j low);
     travel = travel_done v;
     before = λ i j low high b. sooner_done i j low high (sooner_before inst ds i j b);
@@ -280,7 +295,9 @@ module _ (inst : InstanceView) (ds : List Decision) (begins : List ℕ) (v : Val
   pub agrees_with : Agrees inst ds (schedule_with inst ds begins)
   agrees_with = agrees_of inst (schedule_with inst ds begins) ds fits
       (λ j k e. let p = placed_at j k e in same_Some _ _ (sym (done.cranes j p.task) ∙ e))
-      (λ i j pair t. let r = in_range i j pair in sooner_done inst ds begins _ done i j r.0 r.1 (or_right _ (is_ordered ds i j) t))
+      (λ i j pair t.
+      let r = in_range i j pair in
+      sooner_done inst ds begins _ done i j r.0 r.1 (or_right _ (is_ordered ds i j) t))
     where
       placed_at : (j k : ℕ) → assigned ds j ≡ Some k → IsPlaced inst j k
       placed_at j k e =

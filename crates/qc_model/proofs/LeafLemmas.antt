@@ -1,5 +1,5 @@
--- What leaves show holds: a ring has no solution, and the end that a leaf shows is at most that of every upward schedule
--- that agrees with the node.
+-- What leaves show holds: a ring has no solution, and the end that a leaf shows is at most that of every
+-- upward schedule that agrees with the node.
 use Rattle.std.proofs.Common.{◌≡◌, ℕ, ◌+◌, ◌<◌, ◌≤◌, Bool, true, ◌&&◌, leb, List, [], ◌∷◌, ◌++◌, length, Option, None, Some, IfSome, is_some, sym, subst, refl, ◌∙◌, arith}
 use Rattle.std.proofs.lemmas.Bool.{and_parts, cond_both, false≢true, leb-true, ltb-true, not-true}
 use Rattle.std.specs.Prelude.{nat_le, nat_lt, option_and_then, option_map, slice_index}
@@ -60,13 +60,17 @@ module _ (inst : InstanceView) (ds : List Decision) (begins : List ℕ) (m : Mee
       subst (λ (o : Option ℕ). IfSome o (λ n. ticks_of inst i ≤ n)) e (forced_ticks inst ds i j) in
       (m.steps i j n low high e, long))
 
+  -- so long after the start of the task it is at most the last end
+  abbrev EndsBy : ℕ → ℕ → Type 0
+  EndsBy i n = slice_index begins i + n ≤ last_end inst.tasks begins
+
   -- a chain behind a task ends by the last end
   chain_met : (i : ℕ) (js : List ℕ) → i < length inst.tasks → are_within inst js ≡ true
       → IsStep (slice_index begins i) (last_end inst.tasks begins) (chain_ticks inst ds i js)
   chain_met i [] low all = ends_by inst.tasks begins i m.all_tasks low
   chain_met i (j ∷ js) low all =
       let next = first_of_them inst j js all in
-      joined (Steps i j) (λ n. slice_index begins j + n ≤ last_end inst.tasks begins) (λ n. slice_index begins i + n ≤ last_end inst.tasks begins)
+      joined (Steps i j) (EndsBy j) (EndsBy i)
       (forced inst ds i j) (chain_ticks inst ds j js) (step_met i j low next.0) (chain_met j js next.0 next.1)
       (λ x y p q. omega arith)
 
@@ -75,7 +79,8 @@ module _ (inst : InstanceView) (ds : List Decision) (begins : List ℕ) (m : Mee
   chain_end_met version [] all = omega arith
   chain_end_met version (j ∷ js) all =
       let first = first_of_them inst j js all in
-      with_head (chain_ticks inst ds j js) (omega (arith, head_in_le version inst ds j, m.heads j first.0)) (chain_met j js first.0 first.1)
+      let low : head_in version inst ds j ≤ slice_index begins j = omega (arith, head_in_le version inst ds j, m.heads j first.0) in
+      with_head (chain_ticks inst ds j js) low (chain_met j js first.0 first.1)
     where
       with_head : (o : Option ℕ) → head_in version inst ds j ≤ slice_index begins j
           → IsStep (slice_index begins j) (last_end inst.tasks begins) o
@@ -103,7 +108,8 @@ module _ (inst : InstanceView) (ds : List Decision) (begins : List ℕ) (m : Mee
       → chain_end version inst ds tasks ≡ Some end → are_tasks inst tasks ≡ true
       → end ≤ last_end inst.tasks begins
   chain_end_le version tasks end e all =
-      subst (λ (o : Option ℕ). IfSome o (λ n. n ≤ last_end inst.tasks begins)) e (chain_end_met version tasks (within inst tasks all))
+      let met = chain_end_met version tasks (within inst tasks all) in
+      subst (λ (o : Option ℕ). IfSome o (λ n. n ≤ last_end inst.tasks begins)) e met
 
   -- and there is no ring
   pub no_ring_met : Valid inst → (tasks : List ℕ) → is_ring inst ds tasks ≡ true
@@ -111,7 +117,8 @@ module _ (inst : InstanceView) (ds : List Decision) (begins : List ℕ) (m : Mee
   no_ring_met v [] turn all = false≢true turn
   no_ring_met v (j ∷ js) turn all =
       let first = first_of_them inst j js (within inst (j ∷ js) all) in
-      turns (chain_ticks inst ds j (js ++ j ∷ [])) turn (v.tasks.ticks j first.0) (chain_to_met j js j first.0 first.1 first.0)
+      let back = chain_to_met j js j first.0 first.1 first.0 in
+      turns (chain_ticks inst ds j (js ++ j ∷ [])) turn (v.tasks.ticks j first.0) back
     where
       turns : (o : Option ℕ) → is_some o ≡ true → 1 ≤ ticks_of inst j → IfSome o (Leads j j) → ⊥
       turns None some long h = false≢true some
@@ -135,7 +142,9 @@ module _ (inst : InstanceView) (ds : List Decision) (sched : List Slot) (v : Val
   leaf_shows : (version : Version) (leaf : Leaf) → Shows (leaf_value version inst ds leaf)
   leaf_shows version (chain tasks) =
       cond_both (are_tasks inst tasks) (option_map Least (chain_end version inst ds tasks)) None Shows
-      (λ all. number (chain_end version inst ds tasks) (chain_end_met inst ds (starts sched) (meets_of inst ds sched g a) version tasks (within inst tasks all)))
+      (λ all.
+      let met = chain_end_met inst ds (starts sched) (meets_of inst ds sched g a) version tasks (within inst tasks all) in
+      number (chain_end version inst ds tasks) met)
       (λ _. tt)
     where
       number : (o : Option ℕ) → IfSome o (λ end. end ≤ ends inst sched) → Shows (option_map Least o)

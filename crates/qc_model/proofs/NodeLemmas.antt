@@ -150,7 +150,8 @@ module _ (inst : InstanceView) (ds : List Decision) (sched : List Slot) (g : Goe
       (cond_both (is_sooner inst ds i j) _ _ (IsStep (start_of sched i) (start_of sched j))
       (λ t. sooner_kept i j low high t)
       (λ _. tt))
-      (cranes_kept i j low high (assigned ds i) (assigned ds j) (assigned_is inst sched ds a i) (assigned_is inst sched ds a j))
+      (cranes_kept i j low high (assigned ds i) (assigned ds j)
+      (assigned_is inst sched ds a i) (assigned_is inst sched ds a j))
 
   free_kept : (j : ℕ) → j < length inst.tasks → free inst j (crane_of sched j) ≤ start_of sched j
   free_kept j low = omega (arith, g.feasible.ready j low, berths)
@@ -162,9 +163,11 @@ module _ (inst : InstanceView) (ds : List Decision) (sched : List Slot) (g : Goe
           (λ _. omega arith)
           (λ away.
           let far = eqb-false (berth_distance inst v (crane_of sched j) (bay_of inst j)) 0 away in
-          g.feasible.berth j v low (omega arith) (λ e. far (one_crane_apart inst v (crane_of sched j) _ _ e)) (omega (arith, pos_of_ne-zero far)))
+          let differ = λ (e : v ≡ crane_of sched j). far (one_crane_apart inst v (crane_of sched j) _ _ e) in
+          g.feasible.berth j v low (omega arith) differ (omega (arith, pos_of_ne-zero far)))
 
-      berths : greatest (map (berth_wait inst j (crane_of sched j)) (range_with_len 0 (length inst.cranes))) ≤ start_of sched j
+      berths : greatest (map (berth_wait inst j (crane_of sched j)) (range_with_len 0 (length inst.cranes)))
+          ≤ start_of sched j
       berths =
           greatest_le (berth_wait inst j (crane_of sched j)) (start_of sched j) 0 (length inst.cranes) waits
 
@@ -208,4 +211,5 @@ head1_le inst ds j = lower (assigned ds j)
         → head_by inst (λ k. arrival inst k (bay_of inst j)) j o ≤ head_by inst (free inst j) j o
     lower (Some k) = omega arith
     lower None =
-        least_rises (λ k. arrival inst k (bay_of inst j)) (free inst j) (filter (reaches inst j) (range_with_len 0 (length inst.cranes))) (λ k. omega arith)
+        let reaching = filter (reaches inst j) (range_with_len 0 (length inst.cranes)) in
+        least_rises (λ k. arrival inst k (bay_of inst j)) (free inst j) reaching (λ k. omega arith)

@@ -62,7 +62,8 @@ module _ (inst : InstanceView) (sched : List Slot) (k tick : ℕ) (g : GoesUp in
   abbrev ready : ℕ
   ready = (crane inst k).ready
 
-  arrives : (j : ℕ) → IsOn inst sched k j → ready + travel_between inst (crane inst k).bay (bay_of inst j) ≤ start_of sched j
+  arrives : (j : ℕ) → IsOn inst sched k j
+      → ready + travel_between inst (crane inst k).bay (bay_of inst j) ≤ start_of sched j
   arrives j on =
       subst (λ (v : ℕ). arrival inst v (bay_of inst j) ≤ start_of sched j) on.crane (g.feasible.ready j on.task)
 
@@ -119,7 +120,8 @@ module _ (inst : InstanceView) (sched : List Slot) (k tick : ℕ) (g : GoesUp in
       omega arith
 
   -- and so does its way from its start bay to one of them, f, and up to another, h
-  module _ (f h : ℕ) (on_f : IsOn inst sched k f) (on_h : IsOn inst sched k h) (order : bay_of inst f ≤ℤ bay_of inst h) where
+  module _ (f h : ℕ) (on_f : IsOn inst sched k f) (on_h : IsOn inst sched k h)
+      (order : bay_of inst f ≤ℤ bay_of inst h) where
     abbrev so_far : ℤ → ℕ
     so_far x = along (crane inst k).bay (bay_of inst f) (bay_of inst h) x
 
@@ -129,7 +131,8 @@ module _ (inst : InstanceView) (sched : List Slot) (k tick : ℕ) (g : GoesUp in
     abbrev way : ℕ
     way = way_of inst k (bay_of inst f) (bay_of inst h)
 
-    more : (i j : ℕ) → bay_of inst i <ℤ bay_of inst j → gone j ≤ gone i + inst.travel * bays_up (bay_of inst i) (bay_of inst j)
+    more : (i j : ℕ) → bay_of inst i <ℤ bay_of inst j
+        → gone j ≤ gone i + inst.travel * bays_up (bay_of inst i) (bay_of inst j)
     more i j up =
         let most = along_up (crane inst k).bay (bay_of inst f) (bay_of inst h) (bay_of inst i) (bay_of inst j) up in
         let parts = mul-add inst.travel (so_far (bay_of inst i)) (bays_up (bay_of inst i) (bay_of inst j)) in
@@ -144,7 +147,8 @@ module _ (inst : InstanceView) (sched : List Slot) (k tick : ℕ) (g : GoesUp in
     first j on = by_lt_z (bay_of inst f) (bay_of inst j)
         (λ above.
         let most = along_above (crane inst k).bay (bay_of inst f) (bay_of inst h) (bay_of inst j) above in
-        let parts = mul-add inst.travel (bays_between (crane inst k).bay (bay_of inst f)) (bays_up (bay_of inst f) (bay_of inst j)) in
+        let first_part = bays_between (crane inst k).bay (bay_of inst f) in
+        let parts = mul-add inst.travel first_part (bays_up (bay_of inst f) (bay_of inst j)) in
         omega (arith, mul-le-mul_left inst.travel most, parts, arrives f on_f, climbs f j on_f on above))
         (λ below.
         let most = along_start (crane inst k).bay (bay_of inst f) (bay_of inst h) (bay_of inst j) below in
@@ -242,7 +246,8 @@ assigned_sum inst k (Assign i v ∷ ds) fits =
         let same = cond-false (eqb i j) (Some v) (assigned ds j) (ne_eqb i j differ) in
         le_of_eq (sym (ap (λ o. ticks_if k o (ticks_of inst j)) same))
 
-    raised : sum_by (ticks_for inst k ds) (task_numbers inst) + this ≤ sum_by (ticks_for inst k (Assign i v ∷ ds)) (task_numbers inst)
+    raised : sum_by (ticks_for inst k ds) (task_numbers inst) + this
+        ≤ sum_by (ticks_for inst k (Assign i v ∷ ds)) (task_numbers inst)
     raised =
         sum_raised (ticks_for inst k (Assign i v ∷ ds)) (ticks_for inst k ds) this i 0 (length inst.tasks)
         (omega arith) (omega (arith, fits.0)) (omega (arith, here, before)) other
