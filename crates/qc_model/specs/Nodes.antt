@@ -1,9 +1,8 @@
 -- Nodes of a search: lists of decisions, and what they ask of every upward schedule that agrees with them.
-use Rattle.std.specs.Prelude.{◌≡◌, ℕ, ◌+◌, ◌<◌, ◌≤◌, ◌≤ℤ◌, ◌⊎◌, max, min, Bool, false, IsTrue, IsFalse, ◌&&◌, ◌||◌, ◌==◌, nat_lt, int_le, int_lt, if◌then◌else◌, List, [], ◌∷◌, map, filter, length, slice_index, Option, None, Some, IsSome, IfSome, unwrap_or}
+use Rattle.std.specs.Prelude.{◌≡◌, ℕ, ◌+◌, ◌<◌, ◌≤◌, ◌⊎◌, max, min, Bool, false, IsTrue, IsFalse, ◌&&◌, ◌||◌, ◌==◌, nat_lt, int_le, int_lt, if◌then◌else◌, List, [], ◌∷◌, map, filter, length, slice_index, Option, None, Some, IsSome, unwrap_or}
 use Rattle.std.specs.List.{list_any, range_with_len}
 use Rattle.qc_model.specs.declared.decision.Decision.{Decision}
 use Rattle.qc_model.specs.declared.decision.Decision.TheVariants.{Assign, Order}
-use Rattle.qc_model.specs.declared.pair.Pair.{Pair}
 use Rattle.qc_model.specs.declared.schedule.Slot.{Slot}
 use Rattle.qc_model.specs.Instance.{InstanceView, bay_of, ticks_of, crane, IsApart}
 use Rattle.qc_model.specs.Rules.{crane_of, start_of, end_of, last_end}
