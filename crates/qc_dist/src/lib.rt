@@ -1,0 +1,9 @@
+//! The decisions of a search, and what they ask of every schedule that agrees with them: distances,
+//! forced inequalities, the ticks at which tasks can start at the least, and whether the work fits.
+#![tactic(auto)]
+
+mod parts;
+mod travel;
+
+pub use qc_model::Decision;
+pub use travel::{distance, head, in_reach, span};

@@ -1,0 +1,85 @@
+ghost use Rattle.std.specs.Prelude.{◌≡◌, ◌+◌, ◌<◌, ◌≤◌, length};
+ghost use Rattle.qc_model.specs.declared.limits.TheConstants.{MOST_DISTANCE, MOST_READY, MOST_WORK};
+ghost use Rattle.qc_model.specs.Instance.{bay_of, ticks_of};
+ghost use Rattle.qc_model.specs.Nodes.{berth_wait, free, reaches};
+ghost use Rattle.qc_model.specs.Ticks.{arrival, task_distance, travel_between};
+
+use crate::parts::{crane_count, post_at, task_at};
+use qc_model::{Instance, bays_between, travel_over};
+use qc_num::Tick;
+
+/// The ticks by which task `i` on crane `v` and task `j` on crane `w` keep clear of each other
+/// (after Bierwirth and Meisel 2009), and 0 on one crane. Numbers are counted from 0.
+pub fn distance(inst: &Instance, i: u16, v: u16, j: u16, w: u16) -> Tick
+    requires first_task { i < length inst.now.tasks }
+    requires first_crane { v < length inst.now.cranes }
+    requires second_task { j < length inst.now.tasks }
+    requires second_crane { w < length inst.now.cranes }
+    ensures ticks { result ≡ task_distance inst.now i v j w }
+    ensures bound { result ≤ MOST_DISTANCE }
+{
+    qc_model::distance(inst, v, task_at(inst, i).bay, w, task_at(inst, j).bay)
+}
+
+/// When crane `k` can first be at task `j`, whatever stands between.
+pub(crate) fn arrival(inst: &Instance, j: u16, k: u16) -> Tick
+    requires task { j < length inst.now.tasks }
+    requires crane { k < length inst.now.cranes }
+    ensures ticks { result ≡ arrival inst.now k (bay_of inst.now j) }
+    ensures bound { result ≤ MOST_READY + MOST_DISTANCE }
+{
+    let post = post_at(inst, k);
+    let task = task_at(inst, j);
+    post.ready + travel_over(inst, bays_between(post.bay, task.bay))
+}
+
+/// When task `j` is clear of the start bay of crane `v` for crane `k`; 0 where it always is.
+fn berth_wait(inst: &Instance, j: u16, k: u16, v: u16) -> Tick
+    requires task { j < length inst.now.tasks }
+    requires crane { k < length inst.now.cranes }
+    requires other { v < length inst.now.cranes }
+    ensures ticks { result ≡ berth_wait inst.now j k v }
+    ensures bound { result ≤ MOST_READY + MOST_DISTANCE }
+{
+    let post = post_at(inst, v);
+    let clear = qc_model::distance(inst, v, post.bay, k, task_at(inst, j).bay);
+    if clear == 0 { 0 } else { post.ready + clear }
+}
+
+/// When crane `k` can first be at task `j`: it is ready and comes from its start bay, and each
+/// other crane has left its own where that is too near.
+pub fn head(inst: &Instance, j: u16, k: u16) -> Tick
+    requires task { j < length inst.now.tasks }
+    requires crane { k < length inst.now.cranes }
+    ensures ticks { result ≡ free inst.now j k }
+    ensures bound { result ≤ MOST_READY + MOST_DISTANCE }
+{
+    let mut tick = arrival(inst, j, k);
+    for v in 0..crane_count(inst) {
+        tick = tick.max(berth_wait(inst, j, k, v));
+    }
+    tick
+}
+
+/// The ticks of task `i` and of the travel between it and task `j`.
+pub fn span(inst: &Instance, i: u16, j: u16) -> Tick
+    requires first { i < length inst.now.tasks }
+    requires second { j < length inst.now.tasks }
+    ensures ticks { result ≡ ticks_of inst.now i
+        + travel_between inst.now (bay_of inst.now i) (bay_of inst.now j) }
+    ensures bound { result ≤ MOST_WORK + MOST_DISTANCE }
+{
+    let first = task_at(inst, i);
+    first.ticks + travel_over(inst, bays_between(first.bay, task_at(inst, j).bay))
+}
+
+/// Whether task `j` lies within the reach of crane `k`.
+pub fn in_reach(inst: &Instance, j: u16, k: u16) -> bool
+    requires task { j < length inst.now.tasks }
+    requires crane { k < length inst.now.cranes }
+    ensures { result ≡ reaches inst.now j k }
+{
+    let post = post_at(inst, k);
+    let bay = task_at(inst, j).bay;
+    post.from <= bay && bay <= post.to
+}
