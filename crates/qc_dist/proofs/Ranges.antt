@@ -1,8 +1,12 @@
 -- The greatest and the least of numbers, one more at a time.
-use Rattle.std.proofs.Common.{◌≡◌, ℕ, ◌+◌, ◌≤◌, max, min, Bool, List, [], ◌∷◌, ◌++◌, map, refl, ap, ◌∙◌, arith}
-use Rattle.std.specs.List.{range_with_len}
+use Rattle.std.proofs.Common.{◌≡◌, ℕ, ◌+◌, ◌≤◌, max, min, Bool, true, false, cond, List, [], ◌∷◌, ◌++◌, map, refl, sym, ap, ◌∙◌, arith}
+use Rattle.std.specs.Prelude.{Option, None, Some, unwrap_or}
+use Rattle.std.specs.Option.{option_map_or}
+use Rattle.std.specs.List.{filter, range_with_len}
+use Rattle.std.proofs.lemmas.List.{append-nil, map-append, map-id}
+use Rattle.std.proofs.lemmas.List.Elements.{filter-append}
 use Rattle.std.proofs.lemmas.List.FromFn.{map-range_with_len_more}
-use Rattle.qc_model.specs.Nodes.{greatest}
+use Rattle.qc_model.specs.Nodes.{greatest, least}
 
 greatest-append : (xs : List ℕ) (x : ℕ) → greatest (xs ++ x ∷ []) ≡ max (greatest xs) x
 greatest-append [] x = omega arith
@@ -10,3 +14,48 @@ greatest-append (y ∷ ys) x = omega (arith, greatest-append ys x)
 
 pub greatest_more : (f : ℕ → ℕ) (n : ℕ) → greatest (map f (range_with_len 0 (n + 1))) ≡ max (greatest (map f (range_with_len 0 n))) (f n)
 greatest_more f n = ap greatest (map-range_with_len_more f 0 n n (omega arith)) ∙ greatest-append (map f (range_with_len 0 n)) (f n)
+
+-- the least of these numbers, if there is one
+abbrev pub least_option : List ℕ → Option ℕ
+least_option [] = None
+least_option (n ∷ ns) = Some (least (n ∷ ns))
+
+least-append : (y : ℕ) (ys : List ℕ) (x : ℕ) → least ((y ∷ ys) ++ x ∷ []) ≡ min (least (y ∷ ys)) x
+least-append y [] x = refl
+least-append y (z ∷ zs) x = omega (arith, least-append z zs x)
+
+least_option-append : (xs : List ℕ) (x : ℕ) → least_option (xs ++ x ∷ []) ≡ Some (option_map_or (λ n. min n x) (least_option xs) x)
+least_option-append [] x = refl
+least_option-append (y ∷ ys) x = ap Some (least-append y ys x)
+
+-- without numbers the least is 0
+pub least_option_is : (ns : List ℕ) → unwrap_or (least_option ns) 0 ≡ least ns
+least_option_is [] = refl
+least_option_is (n ∷ ns) = refl
+
+pub range_more : (n : ℕ) → range_with_len 0 (n + 1) ≡ range_with_len 0 n ++ n ∷ []
+range_more n = sym (map-id (range_with_len 0 (n + 1))) ∙ map-range_with_len_more (λ k. k) 0 n n (omega arith) ∙ ap (λ ks. ks ++ n ∷ []) (map-id (range_with_len 0 n))
+
+-- the numbers that pass, with one more
+passed_yes : (p : ℕ → Bool) (n : ℕ) → p n ≡ true → filter p (range_with_len 0 (n + 1)) ≡ filter p (range_with_len 0 n) ++ n ∷ []
+passed_yes p n holds =
+    ap (filter p) (range_more n) ∙ filter-append p (range_with_len 0 n) (n ∷ []) ∙ ap (λ b. filter p (range_with_len 0 n) ++ cond b (n ∷ []) []) holds
+
+passed_no : (p : ℕ → Bool) (n : ℕ) → p n ≡ false → filter p (range_with_len 0 (n + 1)) ≡ filter p (range_with_len 0 n) ++ []
+passed_no p n fails =
+    ap (filter p) (range_more n) ∙ filter-append p (range_with_len 0 n) (n ∷ []) ∙ ap (λ b. filter p (range_with_len 0 n) ++ cond b (n ∷ []) []) fails
+
+pub least_step : (f : ℕ → ℕ) (p : ℕ → Bool) (n : ℕ) (o : Option ℕ) (r : ℕ)
+    → o ≡ least_option (map f (filter p (range_with_len 0 n))) → p n ≡ true → r ≡ option_map_or (λ m. min m (f n)) o (f n)
+    → Some r ≡ least_option (map f (filter p (range_with_len 0 (n + 1))))
+least_step f p n o r e holds is =
+    let xs = filter p (range_with_len 0 n) in
+    ap Some (is ∙ ap (λ q. option_map_or (λ m. min m (f n)) q (f n)) e)
+    ∙ sym (least_option-append (map f xs) (f n))
+    ∙ sym (ap (λ ys. least_option (map f ys)) (passed_yes p n holds) ∙ ap least_option (map-append f xs (n ∷ [])))
+
+pub least_skip : (f : ℕ → ℕ) (p : ℕ → Bool) (n : ℕ) (o : Option ℕ)
+    → o ≡ least_option (map f (filter p (range_with_len 0 n))) → p n ≡ false
+    → o ≡ least_option (map f (filter p (range_with_len 0 (n + 1))))
+least_skip f p n o e fails =
+    e ∙ sym (ap (λ ys. least_option (map f ys)) (passed_no p n fails ∙ append-nil (filter p (range_with_len 0 n))))

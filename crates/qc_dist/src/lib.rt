@@ -2,6 +2,8 @@
 //! forced inequalities, the ticks at which tasks can start at the least, and whether the work fits.
 #![tactic(auto)]
 
+mod heads;
+mod loads;
 mod parts;
 mod travel;
 

@@ -1,0 +1,20 @@
+use Rattle.std.proofs.Common.{ℕ, min, sym, ◌∙◌, ap}
+use Rattle.std.specs.Option.{option_map_or}
+use Rattle.qc_model.specs.Nodes.{reaches}
+use Rattle.qc_dist.specs.Heads.{there}
+use Rattle.qc_dist.proofs.Ranges.{least_step, least_skip}
+use Rattle.qc_dist.proofs.heads.least_head.Goals.{then-in_reach, else-in_reach}
+use Rattle.qc_dist.proofs.heads.least_head.Goals as goal
+
+pub loop-k-preserved : goal.loop-k-preserved
+loop-k-preserved c =
+    let f = there c.args.berths c.args.inst.now c.args.j in
+    let p = reaches c.args.inst.now c.args.j in
+    let k = c.loop-k.k in
+    elim c.if-in_reach.branch [
+      | then-in_reach w ↦
+          let is = w.sooner.ensures ∙ ap (λ (t : ℕ). option_map_or (λ m. min m t) c.loop-k.least t) w.there.ensures.ticks in
+          w.least-is ∙ least_step f p k c.loop-k.least w.sooner.result c.loop-k.invariant (sym c.in_reach.ensures ∙ w.if-in_reach.true) is
+      | else-in_reach w ↦
+          w.least-is ∙ least_skip f p k c.loop-k.least c.loop-k.invariant (sym c.in_reach.ensures ∙ w.if-in_reach.false)
+    ]

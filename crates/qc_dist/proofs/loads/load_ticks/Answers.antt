@@ -1,0 +1,17 @@
+use Rattle.std.proofs.Common.{◌≡◌, ◌*◌, ℕ, refl, ap, arith}
+use Rattle.qc_model.specs.Bays.{bays_up, bays_between}
+use Rattle.qc_model.specs.Instance.{crane}
+use Rattle.qc_model.proofs.OnRail.{read_bay}
+use Rattle.qc_dist.proofs.loads.load_ticks.Goals as goal
+
+pub returns-in-Some-clause-ticks : goal.returns-in-Some-clause-ticks
+returns-in-Some-clause-ticks c =
+    let load = c.in-Some.load in
+    let kept = rw c.in-Some.is at c.requires.load in
+    let berth = read_bay c.post_at.result.bay (crane c.args.inst.now c.args.k).bay c.post_at.ensures.bay (rw c.post_at.ensures.bay at c.post_at.ensures.on_rail) in
+    let low = read_bay load.lowest load.lowest refl kept.1 in
+    let high = read_bay load.highest load.highest refl kept.2 in
+    let between : c.bays_between.result ≡ bays_between (crane c.args.inst.now c.args.k).bay load.lowest = cc in
+    let up : c.bays_up.result ≡ bays_up load.lowest load.highest = cc in
+    let product : ℕ → ℕ = λ bays. c.args.inst.now.travel * bays in
+    rw c.in-Some.is (omega (arith, ap product between, ap product up))

@@ -1,0 +1,28 @@
+-- When tasks can start at the least, as it is kept for an instance.
+use Rattle.std.specs.Prelude.{◌≡◌, ℕ, ◌<◌, List, [], length, slice_index, slice_index_or}
+use Rattle.qc_dist.specs.declared.heads.Berths.{Berths}
+use Rattle.qc_dist.specs.declared.heads.Berths.TheVariants.{Counted, Ignored}
+use Rattle.qc_dist.specs.declared.heads.Heads.{Heads}
+use Rattle.qc_model.specs.Instance.{InstanceView, bay_of}
+use Rattle.qc_model.specs.Nodes.{free, head, head1}
+use Rattle.qc_model.specs.Ticks.{arrival}
+
+-- when crane k can first be at task j, with the berths of other cranes or without
+abbrev pub there : Berths → InstanceView → ℕ → ℕ → ℕ
+there Counted inst j k = free inst j k
+there Ignored inst j k = arrival inst k (bay_of inst j)
+
+-- when each crane can first be at task j, with all berths clear
+abbrev pub IsFreeRow : InstanceView → ℕ → List ℕ → Type 0
+IsFreeRow inst j row = (k : ℕ) → k < length inst.cranes → slice_index row k ≡ free inst j k
+
+-- when task j can start at the least: with each crane, and while it has none
+pub record IsHeads (inst : InstanceView) (j : ℕ) (heads : Heads) : Type 0 where
+  pub free : IsFreeRow inst j heads.free
+  pub least : heads.least ≡ head inst [] j
+  pub least_alone : heads.least_alone ≡ head1 inst [] j
+
+-- when each task can start at the least
+pub record IsHeadTable (inst : InstanceView) (table : List Heads) : Type 0 where
+  pub count : length table ≡ length inst.tasks
+  pub heads : (j : ℕ) (d : Heads) → j < length inst.tasks → IsHeads inst j (slice_index_or table j d)

@@ -1,0 +1,100 @@
+// When tasks can start at the least, for every task and crane: computed once for an instance.
+
+ghost use Rattle.std.specs.Prelude.{◌≡◌, ◌+◌, ◌<◌, ◌≤◌, None, length, min, IfOk};
+ghost use Rattle.std.specs.Option.{option_map_or};
+ghost use Rattle.qc_model.specs.declared.limits.TheConstants.{MOST_DISTANCE, MOST_READY};
+ghost use Rattle.qc_model.specs.Nodes.{free, head_by};
+ghost use Rattle.qc_dist.specs.Heads.{IsFreeRow, IsHeads, IsHeadTable, there};
+
+use crate::parts::{crane_count, task_count};
+use crate::travel::{arrival, head, in_reach};
+use qc_model::{Instance, MOST_CRANES};
+use qc_num::{OutOfMemory, Tick};
+use std::alloc::Global;
+
+/// Whether the start bays of other cranes count.
+#[derive(Clone, Copy)]
+pub(crate) enum Berths {
+    Counted,
+    Ignored,
+}
+
+/// When a task can start at the least.
+#[derive(Clone, Copy)]
+pub(crate) struct Heads {
+    /// With each crane.
+    pub(crate) free: [Tick; MOST_CRANES as usize],
+    /// With the earliest crane that reaches it; 0 where none does.
+    pub(crate) least: Tick,
+    /// The same where the start bays of other cranes don't count.
+    pub(crate) least_alone: Tick,
+}
+
+/// When crane `k` can first be at task `j`.
+fn there(inst: &Instance, berths: Berths, j: u16, k: u16) -> Tick
+    requires task { j < length inst.now.tasks }
+    requires crane { k < length inst.now.cranes }
+    ensures ticks { result ≡ there berths inst.now j k }
+    ensures bound { result ≤ MOST_READY + MOST_DISTANCE }
+{
+    match berths {
+        Berths::Counted => head(inst, j, k),
+        Berths::Ignored => arrival(inst, j, k),
+    }
+}
+
+/// The lesser of a tick and those before it, if there were any.
+fn sooner(least: Option<Tick>, tick: Tick) -> Tick
+    ensures { result ≡ option_map_or (λ other. min other tick) least tick }
+{
+    least.map_or(tick, |other| other.min(tick))
+}
+
+/// When task `j` can start at the least if its crane is open.
+fn least_head(inst: &Instance, berths: Berths, j: u16) -> Tick
+    requires { j < length inst.now.tasks }
+    ensures ticks { result ≡ head_by inst.now (there berths inst.now j) j None }
+{
+    let mut least: Option<Tick> = None;
+    for k in 0..crane_count(inst) {
+        if in_reach(inst, j, k) {
+            least = Some(sooner(least, there(inst, berths, j, k)));
+        }
+    }
+    least.unwrap_or(0)
+}
+
+/// When each crane can first be at task `j`.
+fn free_row(inst: &Instance, j: u16) -> [Tick; MOST_CRANES as usize]
+    requires { j < length inst.now.tasks }
+    ensures { IsFreeRow inst.now j result }
+{
+    let mut row = [0; MOST_CRANES as usize];
+    for k in 0..crane_count(inst) {
+        row[k as usize] = head(inst, j, k);
+    }
+    row
+}
+
+/// When task `j` can start at the least.
+fn heads_of(inst: &Instance, j: u16) -> Heads
+    requires { j < length inst.now.tasks }
+    ensures { IsHeads inst.now j result }
+{
+    Heads {
+        free: free_row(inst, j),
+        least: least_head(inst, Berths::Counted, j),
+        least_alone: least_head(inst, Berths::Ignored, j),
+    }
+}
+
+/// When the tasks can start at the least.
+pub(crate) fn head_table(alloc: Global, inst: &Instance) -> Result<Vec<Heads>, OutOfMemory>
+    ensures { IfOk result (λ table. IsHeadTable inst.now table.items) }
+{
+    let mut table = Vec::new(alloc);
+    for j in 0..task_count(inst) {
+        table.push(heads_of(inst, j))?;
+    }
+    Ok(table)
+}
