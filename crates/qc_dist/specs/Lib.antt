@@ -1,2 +1,6 @@
 pub mod Heads
 pub mod Loads
+pub mod Node
+pub mod Tables
+pub mod Kept
+pub mod Fields

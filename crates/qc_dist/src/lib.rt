@@ -2,10 +2,14 @@
 //! forced inequalities, the ticks at which tasks can start at the least, and whether the work fits.
 #![tactic(auto)]
 
+mod decisions;
+mod grid;
 mod heads;
 mod loads;
+mod made;
 mod parts;
 mod travel;
 
+pub use decisions::Decisions;
 pub use qc_model::Decision;
 pub use travel::{distance, head, in_reach, span};

@@ -1,0 +1,12 @@
+use Rattle.std.proofs.Common.{◌∙◌}
+use Rattle.std.specs.Prelude.{reverse}
+use Rattle.qc_dist.specs.Kept.{decisions_of}
+use Rattle.qc_dist.proofs.Facts.{assigned_range}
+use Rattle.qc_dist.proofs.decisions.Decisions.crane_of.Goals as goal
+
+pub returns-clause-range : goal.returns-clause-range
+returns-clause-range c =
+    let kept = c.self.invariant in
+    let inside = rw (← c.self.view_is) at c.requires in
+    rw (← c.self.view_is)
+    (rw (c.index.ensures ∙ kept.crane_table.values c.args.task c.index.result.now inside) (assigned_range c.self.inside.inst (decisions_of (reverse c.self.inside.made.items)) kept.fits c.args.task))

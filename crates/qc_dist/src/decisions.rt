@@ -1,0 +1,149 @@
+ghost use Rattle.std.specs.Prelude.{◌≡◌, ◌<◌, ◌⊎◌, None, [], ◌∷◌, IfOk, IfSome, MatchOption, length};
+ghost use Rattle.qc_model.specs.declared.decision.Decision.TheVariants.{Assign, Order};
+ghost use Rattle.qc_model.specs.Instance.{IsApart};
+ghost use Rattle.qc_model.specs.Nodes.{Fits, IsSettled, assigned};
+
+use crate::grid::{before_marks, cell, no_marks};
+use crate::heads::{Heads, head_table};
+use crate::loads::{Load, load_with};
+use crate::made::Made;
+use crate::parts::{crane_count, task_at, task_count, total_ticks};
+use qc_model::{Decision, Instance, copy};
+use qc_num::{OutOfMemory, Tick};
+use std::alloc::Global;
+use std::marker::Model;
+
+/// The decisions of a search for one instance, of which it keeps a copy. Beside them stand tables
+/// and totals, so that what they ask for is answered without going through them. All memory is
+/// taken by `new`.
+#[derive(Drop)]
+pub struct Decisions {
+    inst: Instance,
+    /// Oldest first.
+    made: Vec<Made>,
+    /// The crane of each task.
+    cranes: Vec<Option<u16>>,
+    /// The pairs that the instance orders.
+    before: Vec<bool>,
+    /// The pairs that are decided.
+    ordered: Vec<bool>,
+    /// When each task can start.
+    heads: Vec<Heads>,
+    /// What the tasks of each crane come to.
+    loads: Vec<Option<Load>>,
+    /// The ticks of the tasks that no crane has.
+    open_ticks: Tick,
+}
+
+impl Model for Decisions {
+    ghost use Rattle.qc_dist.specs.Node.{Node};
+
+    ghost Value = { Node };
+
+    ghost use Rattle.qc_dist.specs.Fields.{node_of, IsKept};
+
+    ghost view = { node_of };
+
+    ghost invariant = { IsKept };
+}
+
+impl Decisions {
+    ghost use Rattle.qc_dist.specs.Node.{IsOpen};
+
+    /// No decision for the instance, and room for one a task and one an apart pair.
+    pub fn new(alloc: Global, inst: &Instance) -> Result<Decisions, OutOfMemory>
+        ensures { IfOk result (λ made. made ≡ record { inst = inst.now; decisions = [] }) }
+    {
+        let tasks = task_count(inst);
+        let room = tasks as usize + inst.apart().len();
+        Ok(Decisions {
+            made: Vec::with_capacity(alloc, room)?,
+            cranes: vec![in alloc; None; tasks as usize]?,
+            before: before_marks(alloc, inst)?,
+            ordered: no_marks(alloc, tasks)?,
+            heads: head_table(alloc, inst)?,
+            loads: vec![in alloc; None; crane_count(inst) as usize]?,
+            open_ticks: total_ticks(inst),
+            inst: copy(alloc, inst)?,
+        })
+    }
+
+    /// Decides one thing more.
+    pub fn add(&mut self, inst: &Instance, decision: Decision)
+        requires same { self.old.inst ≡ inst.now }
+        requires open { IsOpen inst.now self.old.decisions decision }
+        ensures added { self.new ≡ record self.old {
+          decisions = decision ∷ self.old.decisions;
+        } }
+        ensures fits { Fits inst.now self.new.decisions }
+    {
+        match decision {
+            Decision::Assign(task, crane) => self.assign(inst, task, crane),
+            Decision::Order(first, second) => self.order(first, second),
+        }
+    }
+
+    /// Decides the crane of a task.
+    fn assign(&mut self, inst: &Instance, task: u16, crane: u16)
+        requires same { self.old.inst ≡ inst.now }
+        requires task { task < length inst.now.tasks }
+        requires crane { crane < length inst.now.cranes }
+        requires none { assigned self.old.decisions task ≡ None }
+        ensures added { self.new ≡ record self.old {
+          decisions = Assign task crane ∷ self.old.decisions;
+        } }
+        ensures fits { Fits self.new.inst self.new.decisions }
+    {
+        let load = self.loads[crane as usize];
+        let job = task_at(inst, task);
+        let decision = Decision::Assign(task, crane);
+        self.made.push_reserved(Made { decision, load });
+        self.cranes[task as usize] = Some(crane);
+        self.loads[crane as usize] = Some(load_with(load, job));
+        self.open_ticks -= job.ticks;
+    }
+
+    /// Decides which of two apart tasks is done first.
+    fn order(&mut self, first: u16, second: u16)
+        requires apart { IsApart self.old.inst first second ⊎ IsApart self.old.inst second first }
+        requires unsettled { ¬ IsSettled self.old.inst self.old.decisions first second }
+        ensures added { self.new ≡ record self.old {
+          decisions = Order first second ∷ self.old.decisions;
+        } }
+        ensures fits { Fits self.new.inst self.new.decisions }
+    {
+        let decision = Decision::Order(first, second);
+        self.made.push_reserved(Made { decision, load: None });
+        self.ordered[cell(first, second)] = true;
+    }
+
+    /// Takes the newest decision back; `None` exactly where there is none.
+    pub fn undo(&mut self) -> Option<Decision>
+        ensures undone { MatchOption result
+            ((self.old.decisions ≡ []) × (self.new ≡ self.old))
+            (λ decision. self.old ≡ record self.new {
+              decisions = decision ∷ self.new.decisions;
+            }) }
+        ensures fits { Fits self.new.inst self.new.decisions }
+    {
+        let made = self.made.pop()?;
+        match made.decision {
+            Decision::Assign(task, crane) => {
+                self.cranes[task as usize] = None;
+                self.loads[crane as usize] = made.load;
+                self.open_ticks += task_at(&self.inst, task).ticks;
+            }
+            Decision::Order(first, second) => self.ordered[cell(first, second)] = false,
+        }
+        Some(made.decision)
+    }
+
+    /// The crane of a task; `None` exactly where it has none.
+    pub fn crane_of(&self, task: u16) -> Option<u16>
+        requires { task < length self.now.inst.tasks }
+        ensures crane { result ≡ assigned self.now.decisions task }
+        ensures range { IfSome result (λ crane. crane < length self.now.inst.cranes) }
+    {
+        self.cranes[task as usize]
+    }
+}
