@@ -1,5 +1,6 @@
 -- When tasks can start at the least, as it is kept for an instance.
-use Rattle.std.specs.Prelude.{◌≡◌, ℕ, ◌<◌, List, [], length, slice_index, slice_index_or}
+use Rattle.std.specs.Prelude.{◌≡◌, ℕ, ◌+◌, ◌<◌, ◌≤◌, List, [], length, slice_index, slice_index_or}
+use Rattle.qc_model.specs.declared.limits.TheConstants.{MOST_DISTANCE, MOST_READY}
 use Rattle.qc_dist.specs.declared.heads.Berths.{Berths}
 use Rattle.qc_dist.specs.declared.heads.Berths.TheVariants.{Counted, Ignored}
 use Rattle.qc_dist.specs.declared.heads.Heads.{Heads}
@@ -13,14 +14,18 @@ there Counted inst j k = free inst j k
 there Ignored inst j k = arrival inst k (bay_of inst j)
 
 -- when each crane can first be at task j, with all berths clear
-abbrev pub IsFreeRow : InstanceView → ℕ → List ℕ → Type 0
-IsFreeRow inst j row = (k : ℕ) → k < length inst.cranes → slice_index row k ≡ free inst j k
+pub record IsFreeRow (inst : InstanceView) (j : ℕ) (row : List ℕ) : Type 0 where
+  pub count : length inst.cranes ≤ length row
+  pub values : (k : ℕ) → k < length inst.cranes
+      → (slice_index row k ≡ free inst j k) × (slice_index row k ≤ MOST_READY + MOST_DISTANCE)
 
 -- when task j can start at the least: with each crane, and while it has none
 pub record IsHeads (inst : InstanceView) (j : ℕ) (heads : Heads) : Type 0 where
   pub free : IsFreeRow inst j heads.free
   pub least : heads.least ≡ head inst [] j
   pub least_alone : heads.least_alone ≡ head1 inst [] j
+  pub bound : heads.least ≤ MOST_READY + MOST_DISTANCE
+  pub bound_alone : heads.least_alone ≤ MOST_READY + MOST_DISTANCE
 
 -- when each task can start at the least
 pub record IsHeadTable (inst : InstanceView) (table : List Heads) : Type 0 where

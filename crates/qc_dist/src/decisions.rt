@@ -1,7 +1,10 @@
 ghost use Rattle.std.specs.Prelude.{◌≡◌, ◌<◌, ◌⊎◌, None, [], ◌∷◌, IfOk, IfSome, MatchOption, length};
 ghost use Rattle.qc_model.specs.declared.decision.Decision.TheVariants.{Assign, Order};
 ghost use Rattle.qc_model.specs.Instance.{IsApart};
-ghost use Rattle.qc_model.specs.Nodes.{Fits, IsSettled, assigned};
+ghost use Rattle.qc_model.specs.Nodes.{Fits, IsSettled, assigned, is_sooner};
+ghost use Rattle.qc_dist.specs.Heads.{IsHeads};
+ghost use Rattle.qc_dist.specs.Kept.{crane_load, open_ticks};
+ghost use Rattle.qc_dist.specs.Loads.{IsLoad};
 
 use crate::grid::{before_marks, cell, no_marks};
 use crate::heads::{Heads, head_table};
@@ -145,5 +148,38 @@ impl Decisions {
         ensures range { IfSome result (λ crane. crane < length self.now.inst.cranes) }
     {
         self.cranes[task as usize]
+    }
+
+    /// Whether a task must end before another starts.
+    pub(crate) fn is_sooner(&self, first: u16, second: u16) -> bool
+        requires first { first < length self.now.inst.tasks }
+        requires second { second < length self.now.inst.tasks }
+        ensures { result ≡ is_sooner self.now.inst self.now.decisions first second }
+    {
+        self.before[cell(first, second)] || self.ordered[cell(first, second)]
+    }
+
+    /// When a task can start at the least.
+    pub(crate) fn heads_of(&self, task: u16) -> &Heads
+        requires { task < length self.now.inst.tasks }
+        ensures { IsHeads self.now.inst task result.now }
+    {
+        &self.heads[task as usize]
+    }
+
+    /// What the tasks of a crane come to; `None` where it has none.
+    pub(crate) fn load_of(&self, crane: u16) -> Option<Load>
+        requires { crane < length self.now.inst.cranes }
+        ensures load { result ≡ crane_load self.now.inst self.now.decisions crane }
+        ensures bounded { IfSome result IsLoad }
+    {
+        self.loads[crane as usize]
+    }
+
+    /// The ticks of the tasks that no crane has.
+    pub(crate) fn open_ticks(&self) -> Tick
+        ensures { result ≡ open_ticks self.now.inst self.now.decisions }
+    {
+        self.open_ticks
     }
 }

@@ -45,7 +45,8 @@ fn there(inst: &Instance, berths: Berths, j: u16, k: u16) -> Tick
 
 /// The lesser of a tick and those before it, if there were any.
 fn sooner(least: Option<Tick>, tick: Tick) -> Tick
-    ensures { result ≡ option_map_or (λ other. min other tick) least tick }
+    ensures least { result ≡ option_map_or (λ other. min other tick) least tick }
+    ensures bound { result ≤ tick }
 {
     least.map_or(tick, |other| other.min(tick))
 }
@@ -54,6 +55,7 @@ fn sooner(least: Option<Tick>, tick: Tick) -> Tick
 fn least_head(inst: &Instance, berths: Berths, j: u16) -> Tick
     requires { j < length inst.now.tasks }
     ensures ticks { result ≡ head_by inst.now (there berths inst.now j) j None }
+    ensures bound { result ≤ MOST_READY + MOST_DISTANCE }
 {
     let mut least: Option<Tick> = None;
     for k in 0..crane_count(inst) {

@@ -3,12 +3,14 @@
 #![tactic(auto)]
 
 mod decisions;
+mod forced;
 mod grid;
 mod heads;
 mod loads;
 mod made;
 mod parts;
 mod travel;
+mod work;
 
 pub use decisions::Decisions;
 pub use qc_model::Decision;

@@ -1,4 +1,4 @@
-use Rattle.std.proofs.Common.{ℕ, min, sym, ◌∙◌, ap}
+use Rattle.std.proofs.Common.{ℕ, min, sym, ◌∙◌, ap, arith}
 use Rattle.std.specs.Option.{option_map_or}
 use Rattle.qc_model.specs.Nodes.{reaches}
 use Rattle.qc_dist.specs.Heads.{there}
@@ -11,10 +11,16 @@ loop-k-preserved c =
     let f = there c.args.berths c.args.inst.now c.args.j in
     let p = reaches c.args.inst.now c.args.j in
     let k = c.loop-k.k in
+    let before = c.loop-k.invariant in
     elim c.if-in_reach.branch [
       | then-in_reach w ↦
-          let is = w.sooner.ensures ∙ ap (λ (t : ℕ). option_map_or (λ m. min m t) c.loop-k.least t) w.there.ensures.ticks in
-          w.least-is ∙ least_step f p k c.loop-k.least w.sooner.result c.loop-k.invariant (sym c.in_reach.ensures ∙ w.if-in_reach.true) is
-      | else-in_reach w ↦
-          w.least-is ∙ least_skip f p k c.loop-k.least c.loop-k.invariant (sym c.in_reach.ensures ∙ w.if-in_reach.false)
+          let is = w.sooner.ensures.least ∙ ap (λ (t : ℕ). option_map_or (λ m. min m t) c.loop-k.least t) w.there.ensures.ticks in
+          record {
+            so_far = w.least-is ∙ least_step f p k c.loop-k.least w.sooner.result before.so_far (sym c.in_reach.ensures ∙ w.if-in_reach.true) is;
+            bound = rw w.least-is (omega (arith, w.sooner.ensures.bound, w.there.ensures.bound));
+          }
+      | else-in_reach w ↦ record {
+          so_far = w.least-is ∙ least_skip f p k c.loop-k.least before.so_far (sym c.in_reach.ensures ∙ w.if-in_reach.false);
+          bound = rw w.least-is before.bound;
+        }
     ]

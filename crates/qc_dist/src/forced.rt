@@ -1,0 +1,140 @@
+ghost use Rattle.std.specs.Prelude.{◌≡◌, ◌+◌, ◌<◌, ◌≤◌, ◌↔◌, ◌&&◌, nat_lt, int_lt, if◌then◌else◌, None, Some, IfSome, IsTrue, length};
+ghost use Rattle.qc_model.specs.declared.limits.TheConstants.{MOST_DISTANCE, MOST_READY, MOST_WORK};
+ghost use Rattle.qc_model.specs.Instance.{bay_of};
+ghost use Rattle.qc_model.specs.Nodes.{IsSettled, crane_ticks, forced, greater, head, head1};
+ghost use Rattle.qc_model.specs.Ticks.{climb, lead, task_distance};
+
+use crate::Decisions;
+use crate::parts::task_at;
+use crate::travel::{arrival, distance};
+use qc_model::{Instance, bays_up, travel_over};
+use qc_num::Tick;
+
+/// The greater of two numbers that may be missing.
+fn greater(one: Option<Tick>, other: Option<Tick>) -> Option<Tick>
+    ensures { result ≡ greater one other }
+{
+    match (one, other) {
+        (None, other) => other,
+        (Some(ticks), None) => Some(ticks),
+        (Some(ticks), Some(more)) => Some(ticks.max(more)),
+    }
+}
+
+/// The ticks from the start of task `i` to that of task `j` where one crane does both and `j` lies
+/// higher.
+fn climb_ticks(inst: &Instance, i: u16, j: u16) -> Option<Tick>
+    requires first { i < length inst.now.tasks }
+    requires second { j < length inst.now.tasks }
+    ensures ticks { result ≡ (if int_lt (bay_of inst.now i) (bay_of inst.now j)
+        then Some (climb inst.now i j)
+        else None) }
+    ensures bound { IfSome result (λ ticks. ticks ≤ MOST_WORK + MOST_DISTANCE) }
+{
+    let first = task_at(inst, i);
+    let second = task_at(inst, j);
+    if first.bay < second.bay {
+        Some(first.ticks + travel_over(inst, bays_up(first.bay, second.bay)))
+    } else {
+        None
+    }
+}
+
+/// The ticks from the start of task `i` on crane `v` to that of task `j` on crane `w` where `w` is
+/// lower and gives way.
+fn lead_ticks(inst: &Instance, i: u16, v: u16, j: u16, w: u16) -> Option<Tick>
+    requires first_task { i < length inst.now.tasks }
+    requires first_crane { v < length inst.now.cranes }
+    requires second_task { j < length inst.now.tasks }
+    requires second_crane { w < length inst.now.cranes }
+    ensures ticks { result ≡ (if nat_lt w v && nat_lt 0 (task_distance inst.now i v j w)
+        then Some (lead inst.now i v j w)
+        else None) }
+    ensures bound { IfSome result (λ ticks. ticks ≤ MOST_WORK + MOST_DISTANCE) }
+{
+    let clear = distance(inst, i, v, j, w);
+    if w < v && 0 < clear {
+        Some(task_at(inst, i).ticks + clear)
+    } else {
+        None
+    }
+}
+
+/// What the cranes of two tasks ask for, where both are assigned.
+fn crane_ticks(
+    inst: &Instance,
+    i: u16,
+    j: u16,
+    first: Option<u16>,
+    second: Option<u16>,
+) -> Option<Tick>
+    requires first_task { i < length inst.now.tasks }
+    requires second_task { j < length inst.now.tasks }
+    requires first_crane { IfSome first (λ crane. crane < length inst.now.cranes) }
+    requires second_crane { IfSome second (λ crane. crane < length inst.now.cranes) }
+    ensures ticks { result ≡ crane_ticks inst.now i j first second }
+    ensures bound { IfSome result (λ ticks. ticks ≤ MOST_WORK + MOST_DISTANCE) }
+{
+    match (first, second) {
+        (Some(v), Some(w)) if v == w => climb_ticks(inst, i, j),
+        (Some(v), Some(w)) => lead_ticks(inst, i, v, j, w),
+        _ => None,
+    }
+}
+
+impl Decisions {
+    /// The ticks by which task `j` must start after the start of task `i` in every upward schedule
+    /// that agrees with the decisions; `None` exactly where nothing is forced.
+    pub fn forced(&self, inst: &Instance, i: u16, j: u16) -> Option<Tick>
+        requires same { self.now.inst ≡ inst.now }
+        requires first { i < length inst.now.tasks }
+        requires second { j < length inst.now.tasks }
+        ensures ticks { result ≡ forced inst.now self.now.decisions i j }
+        ensures bound { IfSome result (λ ticks. ticks ≤ MOST_WORK + MOST_DISTANCE) }
+    {
+        let sooner = if self.is_sooner(i, j) {
+            Some(task_at(inst, i).ticks)
+        } else {
+            None
+        };
+        greater(sooner, crane_ticks(inst, i, j, self.crane_of(i), self.crane_of(j)))
+    }
+
+    /// Whether one of two tasks is forced to start after the other.
+    pub fn settled(&self, inst: &Instance, i: u16, j: u16) -> bool
+        requires same { self.now.inst ≡ inst.now }
+        requires first { i < length inst.now.tasks }
+        requires second { j < length inst.now.tasks }
+        ensures { IsTrue result ↔ IsSettled inst.now self.now.decisions i j }
+    {
+        self.forced(inst, i, j).is_some() || self.forced(inst, j, i).is_some()
+    }
+
+    /// When task `j` can start at the least: with its crane, or with the earliest crane that reaches
+    /// it, and 0 where none does.
+    pub fn lead(&self, inst: &Instance, j: u16) -> Tick
+        requires same { self.now.inst ≡ inst.now }
+        requires task { j < length inst.now.tasks }
+        ensures ticks { result ≡ head inst.now self.now.decisions j }
+        ensures bound { result ≤ MOST_READY + MOST_DISTANCE }
+    {
+        let heads = self.heads_of(j);
+        match self.crane_of(j) {
+            Some(crane) => heads.free[crane as usize],
+            None => heads.least,
+        }
+    }
+
+    /// The same where the start bays of other cranes don't count, as in trees of the first version.
+    pub fn lead1(&self, inst: &Instance, j: u16) -> Tick
+        requires same { self.now.inst ≡ inst.now }
+        requires task { j < length inst.now.tasks }
+        ensures ticks { result ≡ head1 inst.now self.now.decisions j }
+        ensures bound { result ≤ MOST_READY + MOST_DISTANCE }
+    {
+        match self.crane_of(j) {
+            Some(crane) => arrival(inst, j, crane),
+            None => self.heads_of(j).least_alone,
+        }
+    }
+}

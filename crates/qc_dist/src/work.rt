@@ -1,0 +1,69 @@
+ghost use Rattle.std.specs.Prelude.{◌≡◌, ◌+◌, ◌-◌, ◌<◌, ◌≤◌, ◌^◌, length, sum_by};
+ghost use Rattle.std.specs.List.{list_any};
+ghost use Rattle.qc_model.specs.Instance.{crane};
+ghost use Rattle.qc_model.specs.Leaves.{crane_numbers, is_overfull, spare, used, work_holds};
+ghost use Rattle.qc_dist.specs.Kept.{open_ticks};
+
+use crate::Decisions;
+use crate::loads::load_ticks;
+use crate::parts::{crane_count, post_at};
+use qc_model::Instance;
+use qc_num::Tick;
+
+impl Decisions {
+    /// When a crane is done at the soonest with the tasks that it has.
+    fn done_at(&self, inst: &Instance, k: u16) -> Tick
+        requires same { self.now.inst ≡ inst.now }
+        requires crane { k < length inst.now.cranes }
+        ensures ticks { result ≡ (crane inst.now k).ready + used inst.now self.now.decisions k }
+    {
+        post_at(inst, k).ready + load_ticks(inst, k, self.load_of(k))
+    }
+
+    /// Whether a crane has tasks that it can't end by the tick.
+    fn is_overfull(&self, inst: &Instance, tick: Tick, k: u16) -> bool
+        requires same { self.now.inst ≡ inst.now }
+        requires crane { k < length inst.now.cranes }
+        ensures { result ≡ is_overfull inst.now self.now.decisions tick k }
+    {
+        self.load_of(k).is_some() && tick < self.done_at(inst, k)
+    }
+
+    /// Whether some crane has tasks that it can't end by the tick.
+    fn is_any_overfull(&self, inst: &Instance, tick: Tick) -> bool
+        requires { self.now.inst ≡ inst.now }
+        ensures { result ≡ list_any (is_overfull inst.now self.now.decisions tick)
+            (crane_numbers inst.now) }
+    {
+        for k in 0..crane_count(inst) {
+            if self.is_overfull(inst, tick, k) {
+                return true;
+            }
+        }
+        false
+    }
+
+    /// The ticks of unassigned tasks for which the cranes have no time left until the tick.
+    fn left_over(&self, inst: &Instance, tick: Tick) -> Tick
+        requires { self.now.inst ≡ inst.now }
+        ensures { result ≡ open_ticks inst.now self.now.decisions
+            - sum_by (spare inst.now self.now.decisions tick) (crane_numbers inst.now) }
+    {
+        let mut left = self.open_ticks();
+        for k in 0..crane_count(inst) {
+            left = left.saturating_sub(tick.saturating_sub(self.done_at(inst, k)));
+        }
+        left
+    }
+
+    /// Whether the work can't end before tick `v`: some crane's tasks can't, or all unassigned tasks
+    /// together don't fit into the time that is left to the cranes.
+    pub fn work_holds(&self, inst: &Instance, v: u64) -> bool
+        requires same { self.now.inst ≡ inst.now }
+        requires end { 1 ≤ v }
+        ensures { result ≡ work_holds inst.now self.now.decisions v }
+    {
+        let tick = v - 1;
+        self.is_any_overfull(inst, tick) || 0 < self.left_over(inst, tick)
+    }
+}
