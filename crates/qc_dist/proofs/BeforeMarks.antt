@@ -1,5 +1,5 @@
 -- The table of the pairs that an instance orders, one pair more.
-use Rattle.std.proofs.Common.{◌≡◌, ℕ, ◌+◌, ◌*◌, ◌<◌, ◌≤◌, Bool, true, ◌&&◌, ◌||◌, nat_eq, List, length, slice_index_or, slice_set, take, refl, sym, ap, ◌∙◌, subst, arith}
+use Rattle.std.proofs.Common.{◌≡◌, ℕ, ◌+◌, ◌*◌, ◌<◌, Bool, true, ◌&&◌, ◌||◌, nat_eq, List, length, slice_index_or, slice_set, take, sym, ap, ◌∙◌, subst, arith}
 use Rattle.std.specs.List.{list_any}
 use Rattle.std.proofs.Math.Bool.{or_comm}
 use Rattle.std.proofs.lemmas.List.Elements.{Contains-get_or}
@@ -31,8 +31,8 @@ before_more inst v xs e k d inside at is marks grid =
     let range = pair_inside inst v xs e k d inside in
     let here : k < length inst.before = omega (arith, ap length e) in
     rw is (grid_same _ _ (length inst.tasks) _
-        (λ i j.
-            ap (λ (r : Pair). (nat_eq r.first i && nat_eq r.second j) || among inst.before k i j) same
-            ∙ or_comm (nat_eq q.first i && nat_eq q.second j) (among inst.before k i j)
-            ∙ sym (list_any_more (λ (r : Pair). nat_eq r.first i && nat_eq r.second j) inst.before k d here))
-        (grid_mark (among inst.before k) (length inst.tasks) marks p.first p.second v.tasks.count range.0 range.1 grid))
+    (λ i j.
+    ap (λ (r : Pair). (nat_eq r.first i && nat_eq r.second j) || among inst.before k i j) same
+    ∙ or_comm (nat_eq q.first i && nat_eq q.second j) (among inst.before k i j)
+    ∙ sym (list_any_more (λ (r : Pair). nat_eq r.first i && nat_eq r.second j) inst.before k d here))
+    (grid_mark (among inst.before k) (length inst.tasks) marks p.first p.second v.tasks.count range.0 range.1 grid))

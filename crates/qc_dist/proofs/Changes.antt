@@ -86,8 +86,8 @@ pub newest_kept :
     → AreKept inst (record { decision = d; load = m.load } ∷ reverse left) capacity cranes before ordered heads loads ticks
 newest_kept inst made left m capacity cranes before ordered heads loads ticks d kept popped is =
     subst (λ ms. AreKept inst ms capacity cranes before ordered heads loads ticks)
-        (ap reverse popped ∙ reverse-append left (m ∷ []) ∙ ap (λ e. record { decision = e; load = m.load } ∷ reverse left) is)
-        kept
+    (ap reverse popped ∙ reverse-append left (m ∷ []) ∙ ap (λ e. record { decision = e; load = m.load } ∷ reverse left) is)
+    kept
 
 pub after_unassign :
     (inst : InstanceView) (made left : List Made) (m : Made) (capacity same : ℕ) (cranes : List (Option ℕ)) (before ordered : List Bool)
@@ -98,7 +98,7 @@ pub after_unassign :
 after_unassign inst made left m capacity same cranes before ordered heads loads ticks j k job kept popped is found held =
     rw (held, found)
     (kept_unassign inst (reverse left) capacity cranes before ordered heads loads ticks j k m.load
-        (newest_kept inst made left m capacity cranes before ordered heads loads ticks (Assign j k) kept popped is))
+    (newest_kept inst made left m capacity cranes before ordered heads loads ticks (Assign j k) kept popped is))
 
 -- tasks of which the order was decided are tasks of the instance
 pub newest_range :

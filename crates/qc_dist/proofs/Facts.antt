@@ -40,6 +40,6 @@ ordered_forced inst ds i j h =
 -- two tasks of which neither is forced after the other aren't ordered
 pub unsettled_unordered : (inst : InstanceView) (ds : List Decision) (i j : ℕ) → (¬ IsSettled inst ds i j) → (is_ordered ds i j ≡ false) × (is_ordered ds j i ≡ false)
 unsettled_unordered inst ds i j unsettled = (
-    false_from_ne_true (is_ordered ds i j) (λ h. unsettled (inl (ordered_forced inst ds i j h))),
-    false_from_ne_true (is_ordered ds j i) (λ h. unsettled (inr (ordered_forced inst ds j i h)))
-  )
+  false_from_ne_true (is_ordered ds i j) (λ h. unsettled (inl (ordered_forced inst ds i j h))),
+  false_from_ne_true (is_ordered ds j i) (λ h. unsettled (inr (ordered_forced inst ds j i h))),
+)

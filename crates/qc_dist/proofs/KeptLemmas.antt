@@ -1,5 +1,5 @@
 -- What is kept beside decisions, after one more and after one less.
-use Rattle.std.proofs.Common.{◌≡◌, ℕ, ◌+◌, ◌-◌, ◌*◌, ◌<◌, ◌≤◌, ◌⊎◌, Bool, true, false, cond, nat_eq, Option, None, Some, List, [], ◌∷◌, length, slice_set, inl, inr, refl, sym, ap, ◌∙◌, subst, arith}
+use Rattle.std.proofs.Common.{◌≡◌, ℕ, ◌+◌, ◌-◌, ◌*◌, ◌<◌, ◌⊎◌, Bool, true, false, cond, nat_eq, Option, None, Some, List, [], ◌∷◌, length, slice_set, inl, inr, refl, sym, ap, ◌∙◌, arith}
 use Rattle.std.specs.Prelude.{is_none, IsFalse}
 use Rattle.std.proofs.lemmas.Bool.{cases_eq, eq-eqb, ne_eqb}
 use Rattle.std.proofs.lemmas.List.Sums.{sum_by-cons}
@@ -8,12 +8,11 @@ use Rattle.qc_dist.specs.declared.loads.Load.{Load}
 use Rattle.qc_dist.specs.declared.made.Made.{Made}
 use Rattle.qc_model.specs.declared.decision.Decision.{Decision}
 use Rattle.qc_model.specs.declared.decision.Decision.TheVariants.{Assign, Order}
-use Rattle.qc_model.specs.Instance.{InstanceView, Valid, IsApart, task, ticks_of}
+use Rattle.qc_model.specs.Instance.{InstanceView, IsApart, task, ticks_of}
 use Rattle.qc_model.specs.Leaves.{highest, lowest, tasks_on, ticks_over}
 use Rattle.qc_model.specs.Nodes.{assigned, is_ordered}
 use Rattle.qc_dist.specs.Kept.{AreKept, crane_load, decisions_of, open_ticks}
 use Rattle.qc_dist.specs.Loads.{load_of, load_with}
-use Rattle.qc_dist.specs.Tables.{IsTable}
 use Rattle.qc_dist.proofs.Sums.{sum_without}
 use Rattle.qc_dist.proofs.Tables.{grid_mark, grid_unmark, table_back, table_put, table_same}
 
@@ -44,10 +43,10 @@ pub ticks_after : (inst : InstanceView) (ds : List Decision) (j k : ℕ) → j <
     → open_ticks inst (Assign j k ∷ ds) + ticks_of inst j ≡ open_ticks inst ds
 ticks_after inst ds j k inside none =
     sum_without (ticks_of inst) (λ i. is_none (assigned ds i)) (λ i. is_none (assigned (Assign j k ∷ ds) i)) j
-        (λ i differ. ap (λ b. is_none (cond b (Some k) (assigned ds i))) (ne_eqb j i (λ e. differ (sym e))))
-        (ap is_none none)
-        (ap (λ b. is_none (cond b (Some k) (assigned ds j))) (eq-eqb j j refl))
-        (length inst.tasks) 0 (omega arith) (omega arith)
+    (λ i differ. ap (λ b. is_none (cond b (Some k) (assigned ds i))) (ne_eqb j i (λ e. differ (sym e))))
+    (ap is_none none)
+    (ap (λ b. is_none (cond b (Some k) (assigned ds j))) (eq-eqb j j refl))
+    (length inst.tasks) 0 (omega arith) (omega arith)
 
 pub kept_assign :
     (inst : InstanceView) (made : List Made) (capacity : ℕ) (cranes : List (Option ℕ)) (before ordered : List Bool)
@@ -55,7 +54,7 @@ pub kept_assign :
     → AreKept inst made capacity cranes before ordered heads loads ticks
     → j < length inst.tasks → k < length inst.cranes → assigned (decisions_of made) j ≡ None → old ≡ crane_load inst (decisions_of made) k
     → AreKept inst (record { decision = Assign j k; load = old } ∷ made) capacity (slice_set cranes j (Some k)) before ordered
-        heads (slice_set loads k (Some (load_with old (task inst j)))) (ticks - ticks_of inst j)
+    heads (slice_set loads k (Some (load_with old (task inst j)))) (ticks - ticks_of inst j)
 kept_assign inst made capacity cranes before ordered heads loads ticks j k old kept in_tasks in_cranes none is =
     let ds = decisions_of made in
     record {

@@ -1,5 +1,5 @@
 -- There are no more decisions than tasks and apart pairs together.
-use Rattle.std.proofs.Common.{◌≡◌, ℕ, ◌+◌, ◌<◌, ◌≤◌, ◌⊎◌, Bool, true, false, not, cond, ◌&&◌, ◌||◌, nat_eq, Option, None, Some, List, [], ◌∷◌, length, slice_index_or, inl, inr, refl, sym, ap, ◌∙◌, arith}
+use Rattle.std.proofs.Common.{◌≡◌, ℕ, ◌+◌, ◌<◌, ◌≤◌, ◌⊎◌, Bool, true, false, not, cond, ◌&&◌, ◌||◌, nat_eq, Option, None, Some, List, [], ◌∷◌, length, slice_index_or, inl, inr, refl, ap, ◌∙◌, arith}
 use Rattle.std.specs.Prelude.{is_none}
 use Rattle.std.specs.List.{count_by, range_with_len}
 use Rattle.std.proofs.lemmas.Bool.{eq-eqb}
@@ -47,16 +47,16 @@ ordered_less : (inst : InstanceView) (ds : List Decision) (i j : ℕ) → IsApar
     → is_ordered ds i j ≡ false → is_ordered ds j i ≡ false → unordered inst (Order i j ∷ ds) + 1 ≤ unordered inst ds
 ordered_less inst ds i j (inl at) one other =
     count_less (is_unordered (Order i j ∷ ds)) (is_unordered ds)
-        (λ p h. none_before_or (nat_eq i p.first && nat_eq j p.second) (is_ordered ds p.first p.second) (nat_eq i p.second && nat_eq j p.first) (is_ordered ds p.second p.first) h)
-        inst.apart at.0 (pair_of i j) at.1
-        (ap (is_unordered ds) at.2 ∙ either (is_ordered ds i j) (is_ordered ds j i) one other)
-        (ap (is_unordered (Order i j ∷ ds)) at.2 ∙ first_of_two (nat_eq i i && nat_eq j j) (is_ordered ds i j) ((nat_eq i j && nat_eq j i) || is_ordered ds j i) (pair_is i j))
+    (λ p h. none_before_or (nat_eq i p.first && nat_eq j p.second) (is_ordered ds p.first p.second) (nat_eq i p.second && nat_eq j p.first) (is_ordered ds p.second p.first) h)
+    inst.apart at.0 (pair_of i j) at.1
+    (ap (is_unordered ds) at.2 ∙ either (is_ordered ds i j) (is_ordered ds j i) one other)
+    (ap (is_unordered (Order i j ∷ ds)) at.2 ∙ first_of_two (nat_eq i i && nat_eq j j) (is_ordered ds i j) ((nat_eq i j && nat_eq j i) || is_ordered ds j i) (pair_is i j))
 ordered_less inst ds i j (inr at) one other =
     count_less (is_unordered (Order i j ∷ ds)) (is_unordered ds)
-        (λ p h. none_before_or (nat_eq i p.first && nat_eq j p.second) (is_ordered ds p.first p.second) (nat_eq i p.second && nat_eq j p.first) (is_ordered ds p.second p.first) h)
-        inst.apart at.0 (pair_of j i) at.1
-        (ap (is_unordered ds) at.2 ∙ either (is_ordered ds j i) (is_ordered ds i j) other one)
-        (ap (is_unordered (Order i j ∷ ds)) at.2 ∙ second_of_two ((nat_eq i j && nat_eq j i) || is_ordered ds j i) (nat_eq i i && nat_eq j j) (is_ordered ds i j) (pair_is i j))
+    (λ p h. none_before_or (nat_eq i p.first && nat_eq j p.second) (is_ordered ds p.first p.second) (nat_eq i p.second && nat_eq j p.first) (is_ordered ds p.second p.first) h)
+    inst.apart at.0 (pair_of j i) at.1
+    (ap (is_unordered ds) at.2 ∙ either (is_ordered ds j i) (is_ordered ds i j) other one)
+    (ap (is_unordered (Order i j ∷ ds)) at.2 ∙ second_of_two ((nat_eq i j && nat_eq j i) || is_ordered ds j i) (nat_eq i i && nat_eq j j) (is_ordered ds i j) (pair_is i j))
 
 assigned_less : (inst : InstanceView) (ds : List Decision) (i k : ℕ) → i < length inst.tasks → assigned ds i ≡ None
     → unassigned inst (Assign i k ∷ ds) + 1 ≤ unassigned inst ds
@@ -64,10 +64,10 @@ assigned_less inst ds i k inside none =
     let at : slice_index_or (range_with_len 0 (length inst.tasks)) i 0 ≡ i = omega (arith, get_or-range_with_len 0 (length inst.tasks) i 0 inside) in
     let count = length-range_with_len 0 (length inst.tasks) in
     count_less (λ j. is_none (assigned (Assign i k ∷ ds) j)) (λ j. is_none (assigned ds j))
-        (λ j h. none_before (nat_eq i j) k (assigned ds j) h)
-        (range_with_len 0 (length inst.tasks)) i 0 (omega arith)
-        (ap (λ j. is_none (assigned ds j)) at ∙ ap is_none none)
-        (ap (λ j. is_none (assigned (Assign i k ∷ ds) j)) at ∙ ap (λ b. is_none (cond b (Some k) (assigned ds i))) (eq-eqb i i refl))
+    (λ j h. none_before (nat_eq i j) k (assigned ds j) h)
+    (range_with_len 0 (length inst.tasks)) i 0 (omega arith)
+    (ap (λ j. is_none (assigned ds j)) at ∙ ap is_none none)
+    (ap (λ j. is_none (assigned (Assign i k ∷ ds) j)) at ∙ ap (λ b. is_none (cond b (Some k) (assigned ds i))) (eq-eqb i i refl))
 
 counted : (inst : InstanceView) (ds : List Decision) → Fits inst ds
     → length ds + (unassigned inst ds + unordered inst ds) ≤ length inst.tasks + length inst.apart

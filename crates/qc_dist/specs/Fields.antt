@@ -10,4 +10,4 @@ node_of f = record { inst = f.inst; decisions = decisions_of (reverse f.made.ite
 abbrev pub IsKept : Inside → Type 0
 IsKept f =
     AreKept f.inst (reverse f.made.items) (vec_capacity f.made) f.cranes.items f.before.items f.ordered.items
-        f.heads.items f.loads.items f.open_ticks
+    f.heads.items f.loads.items f.open_ticks

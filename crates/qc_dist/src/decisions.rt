@@ -116,7 +116,10 @@ impl Decisions {
         ensures fits { Fits self.new.inst self.new.decisions }
     {
         let decision = Decision::Order(first, second);
-        self.made.push_reserved(Made { decision, load: None });
+        self.made.push_reserved(Made {
+            decision,
+            load: None,
+        });
         self.ordered[cell(first, second)] = true;
     }
 

@@ -97,7 +97,10 @@ impl Decisions {
         } else {
             None
         };
-        greater(sooner, crane_ticks(inst, i, j, self.crane_of(i), self.crane_of(j)))
+        greater(
+            sooner,
+            crane_ticks(inst, i, j, self.crane_of(i), self.crane_of(j)),
+        )
     }
 
     /// Whether one of two tasks is forced to start after the other.

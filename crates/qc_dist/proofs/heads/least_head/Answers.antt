@@ -20,7 +20,7 @@ loop-k-preserved c =
             bound = rw w.least-is (omega (arith, w.sooner.ensures.bound, w.there.ensures.bound));
           }
       | else-in_reach w ↦ record {
-          so_far = w.least-is ∙ least_skip f p k c.loop-k.least before.so_far (sym c.in_reach.ensures ∙ w.if-in_reach.false);
-          bound = rw w.least-is before.bound;
-        }
+        so_far = w.least-is ∙ least_skip f p k c.loop-k.least before.so_far (sym c.in_reach.ensures ∙ w.if-in_reach.false);
+        bound = rw w.least-is before.bound;
+      }
     ]

@@ -1,4 +1,4 @@
-use Rattle.std.proofs.Common.{◌≡◌, length, reverse, ◌∙◌, ap, arith}
+use Rattle.std.proofs.Common.{◌≡◌, reverse, ◌∙◌, ap, arith}
 use Rattle.qc_model.specs.declared.task.Task.{Task}
 use Rattle.qc_model.specs.declared.decision.Decision.TheVariants.{Assign}
 use Rattle.qc_model.specs.Instance.{InstanceView, task, ticks_of}
@@ -43,4 +43,4 @@ invariant_of-self c =
     let job : c.task_at-job.result ≡ task f.inst c.args.task = cc in
     rw c.load_with.ensures
     (after_assign f.inst f.made.items c.push_reserved.new.self.items _ _ f.cranes.items f.before.items f.ordered.items f.heads.items f.loads.items f.open_ticks
-        c.args.task c.args.crane c.index-load.result.now c.task_at-job.result c.self.invariant can c.index-load.ensures job c.push_reserved.ensures.items c.push_reserved.ensures.capacity)
+    c.args.task c.args.crane c.index-load.result.now c.task_at-job.result c.self.invariant can c.index-load.ensures job c.push_reserved.ensures.items c.push_reserved.ensures.capacity)

@@ -1,4 +1,4 @@
-use Rattle.std.proofs.Common.{◌≡◌, ◌<◌, true, false, length, sym, arith}
+use Rattle.std.proofs.Common.{◌≡◌, true, false, length, sym, arith}
 use Rattle.qc_model.specs.Leaves.{is_overfull}
 use Rattle.qc_dist.proofs.Ranges.{any_fails, any_passes}
 use Rattle.qc_dist.proofs.decisions.Decisions.is_any_overfull.Goals as goal

@@ -1,7 +1,6 @@
-use Rattle.std.proofs.Common.{reverse, None, [], ◌∷◌, arith}
+use Rattle.std.proofs.Common.{None, [], ◌∷◌, arith}
 use Rattle.std.proofs.lemmas.List.{reverse-append}
 use Rattle.qc_model.specs.declared.decision.Decision.TheVariants.{Order}
-use Rattle.qc_dist.specs.Kept.{decisions_of}
 use Rattle.qc_dist.proofs.Changes.{after_order, can_order, made_room}
 use Rattle.qc_dist.proofs.decisions.Decisions.order.Goals as goal
 
@@ -36,7 +35,7 @@ invariant_of-self c =
     let f = c.self.inside in
     let can = can_order f c.self.invariant c.args.self.now c.args.first c.args.second c.self.view_is c.requires.apart c.requires.unsettled in
     after_order f.inst f.made.items c.push_reserved.new.self.items _ _ f.cranes.items f.before.items f.ordered.items f.heads.items f.loads.items f.open_ticks
-        c.args.first c.args.second c.cell.result c.self.invariant can c.cell.ensures c.push_reserved.ensures.items c.push_reserved.ensures.capacity
+    c.args.first c.args.second c.cell.result c.self.invariant can c.cell.ensures c.push_reserved.ensures.items c.push_reserved.ensures.capacity
 
 pub returns-clause-fits : goal.returns-clause-fits
 returns-clause-fits c =
