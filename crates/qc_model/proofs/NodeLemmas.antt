@@ -64,7 +64,7 @@ module _ (inst : InstanceView) (sched : List Slot) where
 abbrev is_pair : ℕ → ℕ → Pair → Bool
 is_pair i j pair = (pair.first == i) && (pair.second == j)
 
-before_found : (i j : ℕ) (pairs : List Pair) → list_any (is_pair i j) pairs ≡ true
+pub before_found : (i j : ℕ) (pairs : List Pair) → list_any (is_pair i j) pairs ≡ true
     → Contains pairs (pair_of i j)
 before_found i j [] t = absurd (false≢true t)
 before_found i j (p ∷ ps) t = elim (or_cases (is_pair i j p) (list_any (is_pair i j) ps) t) [
