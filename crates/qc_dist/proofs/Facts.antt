@@ -5,8 +5,7 @@ use Rattle.std.proofs.lemmas.Bool.{false_from_ne_true}
 use Rattle.qc_model.specs.declared.decision.Decision.{Decision}
 use Rattle.qc_model.specs.declared.decision.Decision.TheVariants.{Assign, Order}
 use Rattle.qc_model.specs.Instance.{InstanceView, IsApart, Valid, ticks_of}
-use Rattle.qc_model.specs.Nodes.{Fits, IsSettled, assigned, crane_ticks, forced, greater, is_ordered}
-use Rattle.qc_dist.specs.Kept.{is_before}
+use Rattle.qc_model.specs.Nodes.{Fits, IsSettled, assigned, crane_ticks, forced, greater, is_ordered, is_before}
 
 either_below : (b : Bool) (k n : ℕ) (o : Option ℕ) → k < n → IfSome o (λ v. v < n) → IfSome (cond b (Some k) o) (λ v. v < n)
 either_below true k n o h rest = h

@@ -1,6 +1,5 @@
 -- What is kept beside decisions: each table and total is that of the definition.
-use Rattle.std.specs.Prelude.{◌≡◌, ℕ, ◌+◌, ◌≤◌, Bool, ◌&&◌, ◌==◌, List, [], ◌∷◌, length, map, Option}
-use Rattle.std.specs.List.{list_any}
+use Rattle.std.specs.Prelude.{◌≡◌, ℕ, ◌+◌, ◌≤◌, Bool, List, [], ◌∷◌, length, map, Option}
 use Rattle.qc_dist.specs.declared.heads.Heads.{Heads}
 use Rattle.qc_dist.specs.declared.loads.Load.{Load}
 use Rattle.qc_dist.specs.declared.made.Made.{Made}
@@ -8,7 +7,7 @@ use Rattle.qc_model.specs.declared.decision.Decision.{Decision}
 use Rattle.qc_model.specs.declared.decision.Decision.TheVariants.{Assign, Order}
 use Rattle.qc_model.specs.Instance.{InstanceView, Valid}
 use Rattle.qc_model.specs.Leaves.{open_tasks, tasks_on, ticks_over}
-use Rattle.qc_model.specs.Nodes.{Fits, assigned, is_ordered}
+use Rattle.qc_model.specs.Nodes.{Fits, assigned, is_before, is_ordered}
 use Rattle.qc_dist.specs.Heads.{IsHeadTable}
 use Rattle.qc_dist.specs.Loads.{load_of}
 use Rattle.qc_dist.specs.Tables.{IsGrid, IsTable}
@@ -16,10 +15,6 @@ use Rattle.qc_dist.specs.Tables.{IsGrid, IsTable}
 -- the decisions alone, newest first like what was made
 abbrev pub decisions_of : List Made → List Decision
 decisions_of made = map (λ (m : Made). m.decision) made
-
--- whether task i must end before task j starts, whatever is decided
-abbrev pub is_before : InstanceView → ℕ → ℕ → Bool
-is_before inst i j = list_any (λ pair. (pair.first == i) && (pair.second == j)) inst.before
 
 -- what the tasks of crane k come to
 abbrev pub crane_load : InstanceView → List Decision → ℕ → Option Load

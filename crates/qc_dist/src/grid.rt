@@ -2,7 +2,7 @@
 
 ghost use Rattle.std.specs.Prelude.{◌≡◌, ◌+◌, ◌*◌, ◌<◌, ◌≤◌, IfOk, false, length};
 ghost use Rattle.qc_model.specs.declared.limits.TheConstants.{MOST_TASKS};
-ghost use Rattle.qc_dist.specs.Kept.{is_before};
+ghost use Rattle.qc_model.specs.Nodes.{is_before};
 ghost use Rattle.qc_dist.specs.Tables.{IsGrid};
 
 use crate::parts::task_count;

@@ -41,9 +41,13 @@ greater None n = n
 greater (Some m) None = Some m
 greater (Some m) (Some n) = Some (max m n)
 
+-- task i is before task j, whatever is decided
+abbrev pub is_before : InstanceView → ℕ → ℕ → Bool
+is_before inst i j = list_any (λ pair. (pair.first == i) && (pair.second == j)) inst.before
+
 -- task i must end before task j starts
 abbrev pub is_sooner : InstanceView → List Decision → ℕ → ℕ → Bool
-is_sooner inst ds i j = list_any (λ pair. (pair.first == i) && (pair.second == j)) inst.before || is_ordered ds i j
+is_sooner inst ds i j = is_before inst i j || is_ordered ds i j
 
 abbrev pub sooner_ticks : InstanceView → List Decision → ℕ → ℕ → Option ℕ
 sooner_ticks inst ds i j = if is_sooner inst ds i j then Some (ticks_of inst i) else None
