@@ -24,26 +24,32 @@ at_target = record { node = λ arc. arc.to; older = λ cell. cell.older_in }
 -- the number of the node's newest cell, of cells given newest first
 abbrev pub newest : Side → ℕ → List Cell → Option ℕ
 newest side node [] = None
-newest side node (cell ∷ older) = cond (side.node (arc_of cell) == node) (Some (length older)) (newest side node older)
+newest side node (cell ∷ older) =
+    cond (side.node (arc_of cell) == node) (Some (length older)) (newest side node older)
 
 -- a link to that cell, in the block that begins at base
 abbrev pub newest_link : Ptr → Side → ℕ → List Cell → Option Link
-newest_link base side node cells = option_map (λ number. record { at = place_of the_row base number }) (newest side node cells)
+newest_link base side node cells =
+    option_map (λ number. record { at = place_of the_row base number }) (newest side node cells)
 
 -- each cell knows its number, and leads to the next older one of its node
 abbrev pub AreLinked : Ptr → Side → List Cell → Type 0
 AreLinked base side [] = Unit {0}
 AreLinked base side (cell ∷ older) =
-    (cell.number ≡ length older) × (side.older cell ≡ newest_link base side (side.node (arc_of cell)) older) × AreLinked base side older
+    (cell.number ≡ length older)
+    × (side.older cell ≡ newest_link base side (side.node (arc_of cell)) older)
+    × AreLinked base side older
 
 -- the cells are linked, and each node has its newest one
-pub record IsThreaded (base : Ptr) (side : Side) (cells : List Cell) (heads : List (Option Link)) : Type 0 where
+pub record IsThreaded (base : Ptr) (side : Side) (cells : List Cell) (heads : List (Option Link))
+    : Type 0 where
   pub linked : AreLinked base side (reverse cells)
   pub first : (node : ℕ) → slice_index_or heads node None ≡ newest_link base side node (reverse cells)
   pub inside : All (λ cell. side.node (arc_of cell) < length heads) cells
 
 -- a walk stands before the node's newest of the first `among` cells
-pub record IsAhead (base : Ptr) (side : Side) (cells : List Cell) (node among : ℕ) (next : Option Link) : Type 0 where
+pub record IsAhead (base : Ptr) (side : Side) (cells : List Cell) (node among : ℕ) (next : Option Link)
+    : Type 0 where
   pub within : among ≤ length cells
   pub linked : AreLinked base side (reverse (take among cells))
   pub first : next ≡ newest_link base side node (reverse (take among cells))

@@ -47,7 +47,8 @@ files_written files (Some name) piece = grown_at files name piece
 abbrev pub held_code : Coded Held
 held_code =
     code_by (Files × (Option (List ℕ) × (Option (List ℕ) × (ℕ × (ℕ × (ℕ × (List ℕ × ℕ)))))))
-    (coded× (code (coded_list coded_ℕ) (coded_list coded_ℕ)) (coded× (coded_option (coded_list coded_ℕ)) (coded× (coded_option (coded_list coded_ℕ))
+    (coded× (code (coded_list coded_ℕ) (coded_list coded_ℕ))
+    (coded× (coded_option (coded_list coded_ℕ)) (coded× (coded_option (coded_list coded_ℕ))
     (coded× coded_ℕ (coded× coded_ℕ (coded× coded_ℕ (coded× (coded_list coded_ℕ) coded_ℕ)))))))
     (λ h. (h.files, (h.rest, (h.made, (h.faults, (h.read_faults, (h.calls.count, (h.calls.failing, h.most))))))))
     (λ p. record {

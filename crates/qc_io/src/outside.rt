@@ -64,7 +64,8 @@ pub trait Shelf: Sink {
         ensures ok_faults { OnOk result (read_faults self.new ≡ read_faults self.old) }
         ensures missing { IsMissing (files self.old) name.now → IsErr result }
         ensures err_closed { OnErr result (reading self.new ≡ false) }
-        ensures err_cause { OnErr result (ReadCause (read_faults self.old) (read_faults self.new) (files self.old) name.now) }
+        ensures err_cause { OnErr result
+            (ReadCause (read_faults self.old) (read_faults self.new) (files self.old) name.now) }
         ensures files_stay { files self.new ≡ files self.old }
         ensures made_stays { made self.new ≡ made self.old }
         ensures faults_stay { Self.faults self.new ≡ Self.faults self.old }

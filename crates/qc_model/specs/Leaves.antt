@@ -39,7 +39,8 @@ chain_ticks inst ds i (j ∷ js) =
 -- the end that a chain shows
 abbrev pub chain_end : Version → InstanceView → List Decision → List ℕ → Option ℕ
 chain_end version inst ds [] = Some 0
-chain_end version inst ds (j ∷ js) = option_map (λ ticks. head_in version inst ds j + ticks) (chain_ticks inst ds j js)
+chain_end version inst ds (j ∷ js) =
+    option_map (λ ticks. head_in version inst ds j + ticks) (chain_ticks inst ds j js)
 
 -- each step along the tasks is forced, and so is the one from the last to the first
 abbrev pub is_ring : InstanceView → List Decision → List ℕ → Bool
@@ -73,12 +74,14 @@ abbrev pub highest : InstanceView → ℕ → List ℕ → ℤ
 highest inst j [] = bay_of inst j
 highest inst j (i ∷ is) = int_max (bay_of inst j) (highest inst i is)
 
--- the ticks that a crane needs for these tasks from when it is ready: it works them all, goes to the lowest and from there to the highest
+-- the ticks that a crane needs for these tasks from when it is ready: it works them all, goes to the lowest and
+-- from there to the highest
 abbrev pub used_for : InstanceView → ℕ → List ℕ → ℕ
 used_for inst k [] = 0
 used_for inst k (j ∷ js) =
     ticks_over inst (j ∷ js)
-    + inst.travel * (bays_between (crane inst k).bay (lowest inst j js) + bays_up (lowest inst j js) (highest inst j js))
+    + inst.travel
+    * (bays_between (crane inst k).bay (lowest inst j js) + bays_up (lowest inst j js) (highest inst j js))
 
 abbrev pub used : InstanceView → List Decision → ℕ → ℕ
 used inst ds k = used_for inst k (tasks_on ds k)
@@ -95,7 +98,8 @@ is_overfull inst ds tick k =
 abbrev pub spare : InstanceView → List Decision → ℕ → ℕ → ℕ
 spare inst ds tick k = tick - ((crane inst k).ready + used inst ds k)
 
--- the work doesn't fit before this end: some crane's tasks don't, or all unassigned tasks together don't fit into what is left to the cranes
+-- the work doesn't fit before this end: some crane's tasks don't, or all unassigned tasks together don't fit into
+-- what is left to the cranes
 abbrev pub work_holds : InstanceView → List Decision → ℕ → Bool
 work_holds inst ds end =
     list_any (is_overfull inst ds (end - 1)) (crane_numbers inst)

@@ -27,7 +27,8 @@ Fits inst [] = Unit {0}
 Fits inst (Assign i k ∷ ds) =
     (i < length inst.tasks) × (k < length inst.cranes) × (assigned ds i ≡ None) × Fits inst ds
 Fits inst (Order i j ∷ ds) =
-    (IsApart inst i j ⊎ IsApart inst j i) × IsFalse (is_ordered ds i j) × IsFalse (is_ordered ds j i) × Fits inst ds
+    (IsApart inst i j ⊎ IsApart inst j i)
+    × IsFalse (is_ordered ds i j) × IsFalse (is_ordered ds j i) × Fits inst ds
 
 -- the schedule is as decided
 abbrev pub Agrees : InstanceView → List Decision → List Slot → Type 0
@@ -52,7 +53,8 @@ is_sooner inst ds i j = is_before inst i j || is_ordered ds i j
 abbrev pub sooner_ticks : InstanceView → List Decision → ℕ → ℕ → Option ℕ
 sooner_ticks inst ds i j = if is_sooner inst ds i j then Some (ticks_of inst i) else None
 
--- what the cranes v of task i and w of task j ask for: one crane climbs from i to j, and a lower crane gives way to a higher one
+-- what the cranes v of task i and w of task j ask for: one crane climbs from i to j, and a lower crane gives way to
+-- a higher one
 abbrev pub crane_ticks : InstanceView → ℕ → ℕ → Option ℕ → Option ℕ → Option ℕ
 crane_ticks inst i j (Some v) (Some w) =
     if v == w
@@ -87,7 +89,8 @@ berth_wait inst j k v =
 -- when crane k can first be at task j, with all berths clear
 abbrev pub free : InstanceView → ℕ → ℕ → ℕ
 free inst j k =
-    max (arrival inst k (bay_of inst j)) (greatest (map (berth_wait inst j k) (range_with_len 0 (length inst.cranes))))
+    max (arrival inst k (bay_of inst j))
+    (greatest (map (berth_wait inst j k) (range_with_len 0 (length inst.cranes))))
 
 -- task j lies within the reach of crane k
 abbrev pub reaches : InstanceView → ℕ → ℕ → Bool

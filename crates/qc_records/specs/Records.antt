@@ -2,7 +2,8 @@
 use Rattle.std.specs.Prelude.{ℕ, List, [], get_or}
 use Rattle.csv.specs.Reading.{default_config, records, strip_bom}
 
--- the records of a file, each a list of fields: commas, double quotes, nothing trimmed, a byte-order mark at the start dropped
+-- the records of a file, each a list of fields: commas, double quotes, nothing trimmed, a byte-order mark at the
+-- start dropped
 abbrev pub records_of : List ℕ → List (List (List ℕ))
 records_of text = records default_config (strip_bom text)
 

@@ -36,9 +36,14 @@ shelf_with files most failing = record {
 
 -- a shelf with the files, the pieces and the failures of the case, and one more failure
 abbrev pub shelf_of : Given → Option ℕ → Held
-shelf_of given more = shelf_with given.files.items (most_of given.pieces) (with_call given.shelf_failures.items more)
+shelf_of given more =
+    shelf_with given.files.items (most_of given.pieces) (with_call given.shelf_failures.items more)
 
 -- an empty sink with the failures of the case, and one more
 abbrev pub sink_of : Given → Option ℕ → Taken
 sink_of given more =
-    record { bytes = []; faults = 0; calls = record { count = 0; failing = with_call given.sink_failures.items more } }
+    record {
+      bytes = [];
+      faults = 0;
+      calls = record { count = 0; failing = with_call given.sink_failures.items more };
+    }

@@ -25,4 +25,5 @@ IsSwept given store call (outcome ∷ []) (ran ∷ []) = CameTo given outcome ra
 IsSwept given store call (outcome ∷ []) (ran ∷ again ∷ runs) = ⊥
 IsSwept given store call (outcome ∷ next ∷ more) (ran ∷ runs) =
     CameTo given outcome ran × (call ≤ calls_of store ran)
-    × (IsSwept given store (call + 1) (outcome ∷ next ∷ more) runs ⊎ IsSwept given store (call + 1) (next ∷ more) runs)
+    × (IsSwept given store (call + 1) (outcome ∷ next ∷ more) runs
+    ⊎ IsSwept given store (call + 1) (next ∷ more) runs)

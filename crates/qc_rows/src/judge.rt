@@ -33,7 +33,8 @@ pub fn is_wanted(files: &[WantedFile], name: &str) -> bool
 }
 
 fn files_are_met(files: &[WantedFile], shelf: &MemShelf) -> bool
-    ensures { IsTrue result ↔ All (λ file. IsMet file.wanted (get shelf.now.files (string_bytes file.name))) files.now }
+    ensures { IsTrue result
+        ↔ All (λ file. IsMet file.wanted (get shelf.now.files (string_bytes file.name))) files.now }
 {
     files.iter().all(|file| is_met(&file.wanted, shelf.bytes(file.name.as_str())))
 }
@@ -81,7 +82,8 @@ fn all_are_kept(given: &[Named], wanted: &[WantedFile], shelf: &MemShelf) -> boo
 
 fn words_are_no_files(given: &Given, wanted: &[WantedFile], shelf: &MemShelf) -> bool
     ensures { IsTrue result ↔ IfSome given.now.words
-        (λ words. All (λ word. IsNoFile given.now.files.items wanted.now shelf.now.files (string_bytes word)) words.items) }
+        (λ words. All (λ word. IsNoFile given.now.files.items wanted.now shelf.now.files
+            (string_bytes word)) words.items) }
 {
     let files = given.files.as_slice();
     match &given.words {

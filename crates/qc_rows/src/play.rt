@@ -56,7 +56,8 @@ fn judged(
     outcomes: &[Outcome],
     ran: &Ran,
 ) -> Result<Verdict, OutOfMemory>
-    ensures { IfOk result (λ verdict. IsHeld verdict ↔ Any (λ outcome. CameTo given.now outcome ran.now) outcomes.now) }
+    ensures { IfOk result (λ verdict. IsHeld verdict
+        ↔ Any (λ outcome. CameTo given.now outcome ran.now) outcomes.now) }
 {
     if is_any_met(given, outcomes, ran) {
         return Ok(Verdict::Held);

@@ -162,7 +162,14 @@ times_at ms = do
   hold_move ← number_at key.HoldMove 0 1 MOST_MOVE_TICKS ms
   cover ← number_or 0 key.Cover 0 0 MOST_MOVE_TICKS ms
   ordered ← ordered_at ms
-  Ok (record { gap = gap; travel = travel; deck_move = deck_move; hold_move = hold_move; cover = cover; ordered = ordered })
+  Ok (record {
+    gap = gap;
+    travel = travel;
+    deck_move = deck_move;
+    hold_move = hold_move;
+    cover = cover;
+    ordered = ordered;
+  })
 
 -- the ship of these parts
 abbrev pub ship_with : Bool → List ℕ → List ℕ → Times → List HatchPair → List Crane → ShipView

@@ -82,8 +82,10 @@ fn slot_from(start: Tick) -> Slot
 pub fn best_order(alloc: Global, inst: &Instance) -> Result<Schedule, OutOfMemory>
     requires small { IsTrue (is_small inst.now) }
     ensures goes { IfOk result (λ s. GoesOneWay inst.now s) }
-    ensures best { IfOk result (λ s. (other : List Slot) → GoesOneWay inst.now other → ends inst.now s ≤ ends inst.now other) }
-    ensures upward_if_equal { IfOk result (λ s. (other : List Slot) → GoesUp inst.now other → ends inst.now other ≤ ends inst.now s → GoesUp inst.now s) }
+    ensures best { IfOk result (λ s. (other : List Slot) → GoesOneWay inst.now other
+        → ends inst.now s ≤ ends inst.now other) }
+    ensures upward_if_equal { IfOk result (λ s. (other : List Slot) → GoesUp inst.now other
+        → ends inst.now other ≤ ends inst.now s → GoesUp inst.now s) }
     ensures slots { IfOk result (λ s. length s ≡ length inst.now.tasks) }
     ensures cranes { IfOk result (λ s. All (λ slot. slot.crane < length inst.now.cranes) s) }
     ensures bounded { IfOk result HasEarlyStarts }
