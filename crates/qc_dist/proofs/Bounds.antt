@@ -15,7 +15,7 @@ use Rattle.qc_model.specs.Instance.{InstanceView, Valid, IsOnRail, bay_of, ticks
 use Rattle.qc_model.specs.Leaves.{highest, lowest, open_tasks, tasks_on, ticks_over}
 use Rattle.qc_model.specs.Nodes.{assigned}
 use Rattle.qc_model.proofs.OnRail.{task_on_rail, ticks_bounded}
-use Rattle.qc_dist.specs.Kept.{crane_load, open_ticks}
+use Rattle.qc_dist.specs.Kept.{crane_load, unassigned_ticks}
 use Rattle.qc_dist.specs.Loads.{IsLoad, load_of}
 
 -- past the last task there is nothing
@@ -35,9 +35,11 @@ few_ticks inst v j = elim (cases_lt j (length inst.tasks)) [
       omega arith
 ]
 
-pub ticks_over_bounded : (inst : InstanceView) → Valid inst → (js : List ℕ) → ticks_over inst js ≤ 502400000 * length js
+pub ticks_over_bounded : (inst : InstanceView) → Valid inst → (js : List ℕ)
+    → ticks_over inst js ≤ 502400000 * length js
 ticks_over_bounded inst v [] = omega arith
-ticks_over_bounded inst v (j ∷ js) = omega (arith, sum_by-cons (ticks_of inst) j js, few_ticks inst v j, ticks_over_bounded inst v js)
+ticks_over_bounded inst v (j ∷ js) =
+    omega (arith, sum_by-cons (ticks_of inst) j js, few_ticks inst v j, ticks_over_bounded inst v js)
 
 either_on_rail : (b : Bool) (x y : ℤ) → IsOnRail x → IsOnRail y → IsOnRail (cond b x y)
 either_on_rail true x y one other = one
@@ -45,11 +47,17 @@ either_on_rail false x y one other = other
 
 lowest_on_rail : (inst : InstanceView) → Valid inst → (j : ℕ) (js : List ℕ) → IsOnRail (lowest inst j js)
 lowest_on_rail inst v j [] = on_rail inst v j
-lowest_on_rail inst v j (i ∷ is) = either_on_rail (int_lt (lowest inst i is) (bay_of inst j)) (lowest inst i is) (bay_of inst j) (lowest_on_rail inst v i is) (on_rail inst v j)
+lowest_on_rail inst v j (i ∷ is) =
+    let rest = lowest inst i is in
+    let bay = bay_of inst j in
+    either_on_rail (int_lt rest bay) rest bay (lowest_on_rail inst v i is) (on_rail inst v j)
 
 highest_on_rail : (inst : InstanceView) → Valid inst → (j : ℕ) (js : List ℕ) → IsOnRail (highest inst j js)
 highest_on_rail inst v j [] = on_rail inst v j
-highest_on_rail inst v j (i ∷ is) = either_on_rail (int_lt (highest inst i is) (bay_of inst j)) (bay_of inst j) (highest inst i is) (on_rail inst v j) (highest_on_rail inst v i is)
+highest_on_rail inst v j (i ∷ is) =
+    let rest = highest inst i is in
+    let bay = bay_of inst j in
+    either_on_rail (int_lt rest bay) bay rest (on_rail inst v j) (highest_on_rail inst v i is)
 
 one_more : (b : Bool) (j : ℕ) (js : List ℕ) (n : ℕ) → length js ≤ n → length (cond b (j ∷ js) js) ≤ suc n
 one_more true j js n few = omega arith
@@ -61,19 +69,24 @@ tasks_on_few [] k = omega arith
 tasks_on_few (Assign j v ∷ ds) k = one_more (nat_eq v k) j (tasks_on ds k) (length ds) (tasks_on_few ds k)
 tasks_on_few (Order i j ∷ ds) k = omega (arith, tasks_on_few ds k)
 
-load_bounded : (inst : InstanceView) → Valid inst → (js : List ℕ) → length js ≤ 1840 → IfSome (load_of inst js) IsLoad
+load_bounded : (inst : InstanceView) → Valid inst → (js : List ℕ)
+    → length js ≤ 1840 → IfSome (load_of inst js) IsLoad
 load_bounded inst v [] few = tt
 load_bounded inst v (j ∷ js) few =
     (omega (arith, ticks_over_bounded inst v (j ∷ js)), lowest_on_rail inst v j js, highest_on_rail inst v j js)
 
 -- what the tasks of a crane come to is small enough to be added to
-pub crane_load_bounded : (inst : InstanceView) → Valid inst → (ds : List Decision) (k : ℕ) → length ds ≤ length inst.tasks + length inst.apart → IfSome (crane_load inst ds k) IsLoad
+pub crane_load_bounded : (inst : InstanceView) → Valid inst → (ds : List Decision) (k : ℕ)
+    → length ds ≤ length inst.tasks + length inst.apart → IfSome (crane_load inst ds k) IsLoad
 crane_load_bounded inst v ds k few =
     load_bounded inst v (tasks_on ds k) (omega (arith, tasks_on_few ds k, v.tasks.count, v.apart.count))
 
 -- the ticks of all unassigned tasks
-pub open_bounded : (inst : InstanceView) → Valid inst → (ds : List Decision) → open_ticks inst ds ≤ 502400000 * 240
+pub open_bounded : (inst : InstanceView) → Valid inst → (ds : List Decision)
+    → unassigned_ticks inst ds ≤ 502400000 * 240
 open_bounded inst v ds =
     let p : ℕ → Bool = λ j. is_none (assigned ds j) in
     let all = range_with_len 0 (length inst.tasks) in
-    omega (arith, ticks_over_bounded inst v (open_tasks inst ds), length-filter p all, count_by-le-length p all, length-range_with_len 0 (length inst.tasks), v.tasks.count)
+    let few = length-range_with_len 0 (length inst.tasks) in
+    let ticks = ticks_over_bounded inst v (open_tasks inst ds) in
+    omega (arith, ticks, length-filter p all, count_by-le-length p all, few, v.tasks.count)

@@ -14,8 +14,10 @@ greatest-append : (xs : List ℕ) (x : ℕ) → greatest (xs ++ x ∷ []) ≡ ma
 greatest-append [] x = omega arith
 greatest-append (y ∷ ys) x = omega (arith, greatest-append ys x)
 
-pub greatest_more : (f : ℕ → ℕ) (n : ℕ) → greatest (map f (range_with_len 0 (n + 1))) ≡ max (greatest (map f (range_with_len 0 n))) (f n)
-greatest_more f n = ap greatest (map-range_with_len_more f 0 n n (omega arith)) ∙ greatest-append (map f (range_with_len 0 n)) (f n)
+pub greatest_more : (f : ℕ → ℕ) (n : ℕ)
+    → greatest (map f (range_with_len 0 (n + 1))) ≡ max (greatest (map f (range_with_len 0 n))) (f n)
+greatest_more f n =
+    ap greatest (map-range_with_len_more f 0 n n (omega arith)) ∙ greatest-append (map f (range_with_len 0 n)) (f n)
 
 -- the least of these numbers, if there is one
 abbrev pub least_option : List ℕ → Option ℕ
@@ -26,7 +28,8 @@ least-append : (y : ℕ) (ys : List ℕ) (x : ℕ) → least ((y ∷ ys) ++ x �
 least-append y [] x = refl
 least-append y (z ∷ zs) x = omega (arith, least-append z zs x)
 
-least_option-append : (xs : List ℕ) (x : ℕ) → least_option (xs ++ x ∷ []) ≡ Some (option_map_or (λ n. min n x) (least_option xs) x)
+least_option-append : (xs : List ℕ) (x : ℕ)
+    → least_option (xs ++ x ∷ []) ≡ Some (option_map_or (λ n. min n x) (least_option xs) x)
 least_option-append [] x = refl
 least_option-append (y ∷ ys) x = ap Some (least-append y ys x)
 
@@ -36,31 +39,40 @@ least_option_is [] = refl
 least_option_is (n ∷ ns) = refl
 
 pub range_more : (n : ℕ) → range_with_len 0 (n + 1) ≡ range_with_len 0 n ++ n ∷ []
-range_more n = sym (map-id (range_with_len 0 (n + 1))) ∙ map-range_with_len_more (λ k. k) 0 n n (omega arith) ∙ ap (λ ks. ks ++ n ∷ []) (map-id (range_with_len 0 n))
+range_more n =
+    sym (map-id (range_with_len 0 (n + 1))) ∙ map-range_with_len_more (λ k. k) 0 n n (omega arith)
+    ∙ ap (λ ks. ks ++ n ∷ []) (map-id (range_with_len 0 n))
 
 -- the numbers that pass, with one more
-passed_yes : (p : ℕ → Bool) (n : ℕ) → p n ≡ true → filter p (range_with_len 0 (n + 1)) ≡ filter p (range_with_len 0 n) ++ n ∷ []
+passed_yes : (p : ℕ → Bool) (n : ℕ) → p n ≡ true
+    → filter p (range_with_len 0 (n + 1)) ≡ filter p (range_with_len 0 n) ++ n ∷ []
 passed_yes p n holds =
-    ap (filter p) (range_more n) ∙ filter-append p (range_with_len 0 n) (n ∷ []) ∙ ap (λ b. filter p (range_with_len 0 n) ++ cond b (n ∷ []) []) holds
+    ap (filter p) (range_more n) ∙ filter-append p (range_with_len 0 n) (n ∷ [])
+    ∙ ap (λ b. filter p (range_with_len 0 n) ++ cond b (n ∷ []) []) holds
 
-passed_no : (p : ℕ → Bool) (n : ℕ) → p n ≡ false → filter p (range_with_len 0 (n + 1)) ≡ filter p (range_with_len 0 n) ++ []
+passed_no : (p : ℕ → Bool) (n : ℕ) → p n ≡ false
+    → filter p (range_with_len 0 (n + 1)) ≡ filter p (range_with_len 0 n) ++ []
 passed_no p n fails =
-    ap (filter p) (range_more n) ∙ filter-append p (range_with_len 0 n) (n ∷ []) ∙ ap (λ b. filter p (range_with_len 0 n) ++ cond b (n ∷ []) []) fails
+    ap (filter p) (range_more n) ∙ filter-append p (range_with_len 0 n) (n ∷ [])
+    ∙ ap (λ b. filter p (range_with_len 0 n) ++ cond b (n ∷ []) []) fails
 
 pub least_step : (f : ℕ → ℕ) (p : ℕ → Bool) (n : ℕ) (o : Option ℕ) (r : ℕ)
-    → o ≡ least_option (map f (filter p (range_with_len 0 n))) → p n ≡ true → r ≡ option_map_or (λ m. min m (f n)) o (f n)
+    → o ≡ least_option (map f (filter p (range_with_len 0 n))) → p n ≡ true
+    → r ≡ option_map_or (λ m. min m (f n)) o (f n)
     → Some r ≡ least_option (map f (filter p (range_with_len 0 (n + 1))))
 least_step f p n o r e holds is =
     let xs = filter p (range_with_len 0 n) in
     ap Some (is ∙ ap (λ q. option_map_or (λ m. min m (f n)) q (f n)) e)
     ∙ sym (least_option-append (map f xs) (f n))
-    ∙ sym (ap (λ ys. least_option (map f ys)) (passed_yes p n holds) ∙ ap least_option (map-append f xs (n ∷ [])))
+    ∙ sym (ap (λ ys. least_option (map f ys)) (passed_yes p n holds)
+    ∙ ap least_option (map-append f xs (n ∷ [])))
 
 pub least_skip : (f : ℕ → ℕ) (p : ℕ → Bool) (n : ℕ) (o : Option ℕ)
     → o ≡ least_option (map f (filter p (range_with_len 0 n))) → p n ≡ false
     → o ≡ least_option (map f (filter p (range_with_len 0 (n + 1))))
 least_skip f p n o e fails =
-    e ∙ sym (ap (λ ys. least_option (map f ys)) (passed_no p n fails ∙ append-nil (filter p (range_with_len 0 n))))
+    let same = passed_no p n fails ∙ append-nil (filter p (range_with_len 0 n)) in
+    e ∙ sym (ap (λ ys. least_option (map f ys)) same)
 
 pub sum_more : (f : ℕ → ℕ) (n : ℕ) → sum_by f (range_with_len 0 (n + 1)) ≡ sum_by f (range_with_len 0 n) + f n
 sum_more f n = ap (sum_by f) (range_more n) ∙ sum_by_push f (range_with_len 0 n) n
@@ -73,8 +85,12 @@ filter_all (x ∷ xs) = ap (λ ys. x ∷ ys) (filter_all xs)
 -- a test that some number passes
 pub any_passes : (p : ℕ → Bool) (n k : ℕ) → k < n → p k ≡ true → list_any p (range_with_len 0 n) ≡ true
 any_passes p n k inside passes =
-    list_any-from_Any p (range_with_len 0 n) (k, k, omega (arith, length-range_with_len 0 n), omega (arith, get_or-range_with_len 0 n k k inside), passes)
+    let at = get_or-range_with_len 0 n k k inside in
+    let count = length-range_with_len 0 n in
+    list_any-from_Any p (range_with_len 0 n) (k, k, omega (arith, count), omega (arith, at), passes)
 
-pub any_fails : (p : ℕ → Bool) (n : ℕ) → list_any p (range_with_len 0 n) ≡ false → p n ≡ false → list_any p (range_with_len 0 (n + 1)) ≡ false
+pub any_fails : (p : ℕ → Bool) (n : ℕ) → list_any p (range_with_len 0 n) ≡ false → p n ≡ false
+    → list_any p (range_with_len 0 (n + 1)) ≡ false
 any_fails p n before fails =
-    ap (list_any p) (range_more n) ∙ list_any-append p (range_with_len 0 n) (n ∷ []) ∙ ap (λ b. b || (p n || false)) before ∙ ap (λ b. b || false) fails
+    ap (list_any p) (range_more n) ∙ list_any-append p (range_with_len 0 n) (n ∷ [])
+    ∙ ap (λ b. b || (p n || false)) before ∙ ap (λ b. b || false) fails

@@ -11,7 +11,7 @@ use Rattle.qc_model.specs.declared.pair.Pair.{Pair}
 use Rattle.qc_model.specs.Instance.{InstanceView, IsApart, pair_of}
 use Rattle.qc_model.specs.Nodes.{Fits, assigned, is_ordered}
 use Rattle.qc_dist.proofs.Sums.{count_less}
-use Rattle.qc_dist.proofs.Tables.{pair_is}
+use Rattle.qc_dist.proofs.Assigned.{ordered_here}
 
 abbrev is_unordered : List Decision → Pair → Bool
 is_unordered ds p = not (is_ordered ds p.first p.second || is_ordered ds p.second p.first)
@@ -36,29 +36,38 @@ none_before_or false false false v h = h
 either : (x y : Bool) → x ≡ false → y ≡ false → not (x || y) ≡ true
 either x y p q = ap (λ b. not (b || y)) p ∙ ap not q
 
-first_of_two : (x u z : Bool) → x ≡ true → not ((x || u) || z) ≡ false
-first_of_two x u z p = ap (λ b. not ((b || u) || z)) p
+first_of_two : (x y : Bool) → x ≡ true → not (x || y) ≡ false
+first_of_two x y p = ap (λ b. not (b || y)) p
 
-second_of_two : (z y v : Bool) → y ≡ true → not (z || (y || v)) ≡ false
-second_of_two true y v p = refl
-second_of_two false y v p = ap (λ b. not (b || v)) p
+second_of_two : (x y : Bool) → y ≡ true → not (x || y) ≡ false
+second_of_two true y p = refl
+second_of_two false y p = ap not p
+
+-- an ordered pair was unordered before it
+ordered_before : (ds : List Decision) (i j : ℕ) (p : Pair)
+    → is_unordered (Order i j ∷ ds) p ≡ true → is_unordered ds p ≡ true
+ordered_before ds i j p h =
+    none_before_or (nat_eq i p.first && nat_eq j p.second) (is_ordered ds p.first p.second)
+    (nat_eq i p.second && nat_eq j p.first) (is_ordered ds p.second p.first) h
 
 ordered_less : (inst : InstanceView) (ds : List Decision) (i j : ℕ) → IsApart inst i j ⊎ IsApart inst j i
-    → is_ordered ds i j ≡ false → is_ordered ds j i ≡ false → unordered inst (Order i j ∷ ds) + 1 ≤ unordered inst ds
+    → is_ordered ds i j ≡ false → is_ordered ds j i ≡ false
+    → unordered inst (Order i j ∷ ds) + 1 ≤ unordered inst ds
 ordered_less inst ds i j (inl at) one other =
-    count_less (is_unordered (Order i j ∷ ds)) (is_unordered ds)
-    (λ p h. none_before_or (nat_eq i p.first && nat_eq j p.second) (is_ordered ds p.first p.second) (nat_eq i p.second && nat_eq j p.first) (is_ordered ds p.second p.first) h)
-    inst.apart at.0 (pair_of i j) at.1
+    let ordered = is_ordered (Order i j ∷ ds) in
+    let after = is_unordered (Order i j ∷ ds) in
+    count_less after (is_unordered ds) (ordered_before ds i j) inst.apart at.0 (pair_of i j) at.1
     (ap (is_unordered ds) at.2 ∙ either (is_ordered ds i j) (is_ordered ds j i) one other)
-    (ap (is_unordered (Order i j ∷ ds)) at.2 ∙ first_of_two (nat_eq i i && nat_eq j j) (is_ordered ds i j) ((nat_eq i j && nat_eq j i) || is_ordered ds j i) (pair_is i j))
+    (ap after at.2 ∙ first_of_two (ordered i j) (ordered j i) (ordered_here ds i j))
 ordered_less inst ds i j (inr at) one other =
-    count_less (is_unordered (Order i j ∷ ds)) (is_unordered ds)
-    (λ p h. none_before_or (nat_eq i p.first && nat_eq j p.second) (is_ordered ds p.first p.second) (nat_eq i p.second && nat_eq j p.first) (is_ordered ds p.second p.first) h)
-    inst.apart at.0 (pair_of j i) at.1
+    let ordered = is_ordered (Order i j ∷ ds) in
+    let after = is_unordered (Order i j ∷ ds) in
+    count_less after (is_unordered ds) (ordered_before ds i j) inst.apart at.0 (pair_of j i) at.1
     (ap (is_unordered ds) at.2 ∙ either (is_ordered ds j i) (is_ordered ds i j) other one)
-    (ap (is_unordered (Order i j ∷ ds)) at.2 ∙ second_of_two ((nat_eq i j && nat_eq j i) || is_ordered ds j i) (nat_eq i i && nat_eq j j) (is_ordered ds i j) (pair_is i j))
+    (ap after at.2 ∙ second_of_two (ordered j i) (ordered i j) (ordered_here ds i j))
 
-assigned_less : (inst : InstanceView) (ds : List Decision) (i k : ℕ) → i < length inst.tasks → assigned ds i ≡ None
+assigned_less : (inst : InstanceView) (ds : List Decision) (i k : ℕ)
+    → i < length inst.tasks → assigned ds i ≡ None
     → unassigned inst (Assign i k ∷ ds) + 1 ≤ unassigned inst ds
 assigned_less inst ds i k inside none =
     let at : slice_index_or (range_with_len 0 (length inst.tasks)) i 0 ≡ i = omega (arith, get_or-range_with_len 0 (length inst.tasks) i 0 inside) in
@@ -72,9 +81,13 @@ assigned_less inst ds i k inside none =
 counted : (inst : InstanceView) (ds : List Decision) → Fits inst ds
     → length ds + (unassigned inst ds + unordered inst ds) ≤ length inst.tasks + length inst.apart
 counted inst [] f =
-    omega (arith, count_by-le-length (λ (j : ℕ). true) (range_with_len 0 (length inst.tasks)), count_by-le-length (λ (p : Pair). true) inst.apart, length-range_with_len 0 (length inst.tasks))
+    let all = range_with_len 0 (length inst.tasks) in
+    let tasks = count_by-le-length (λ (j : ℕ). true) all in
+    let pairs = count_by-le-length (λ (p : Pair). true) inst.apart in
+    omega (arith, tasks, pairs, length-range_with_len 0 (length inst.tasks))
 counted inst (Assign i k ∷ ds) f = omega (arith, counted inst ds f.3, assigned_less inst ds i k f.0 f.2)
 counted inst (Order i j ∷ ds) f = omega (arith, counted inst ds f.3, ordered_less inst ds i j f.0 f.1 f.2)
 
-pub fits_room : (inst : InstanceView) (ds : List Decision) → Fits inst ds → length ds ≤ length inst.tasks + length inst.apart
+pub fits_room : (inst : InstanceView) (ds : List Decision) → Fits inst ds
+    → length ds ≤ length inst.tasks + length inst.apart
 fits_room inst ds f = omega (arith, counted inst ds f)

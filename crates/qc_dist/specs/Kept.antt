@@ -7,7 +7,7 @@ use Rattle.qc_model.specs.declared.decision.Decision.{Decision}
 use Rattle.qc_model.specs.declared.decision.Decision.TheVariants.{Assign, Order}
 use Rattle.qc_model.specs.Instance.{InstanceView, Valid}
 use Rattle.qc_model.specs.Leaves.{open_tasks, tasks_on, ticks_over}
-use Rattle.qc_model.specs.Nodes.{Fits, assigned, is_before, is_ordered}
+use Rattle.qc_model.specs.Nodes.{Fits, assigned, is_ordered, is_sooner}
 use Rattle.qc_dist.specs.Heads.{IsHeadTable}
 use Rattle.qc_dist.specs.Loads.{load_of}
 use Rattle.qc_dist.specs.Tables.{IsGrid, IsTable}
@@ -30,20 +30,28 @@ AreOlder inst [] = Unit {0}
 AreOlder inst (m ∷ made) = IsOlder inst (decisions_of made) m.decision m.load × AreOlder inst made
 
 -- the ticks of all tasks that no crane has
-abbrev pub open_ticks : InstanceView → List Decision → ℕ
-open_ticks inst ds = ticks_over inst (open_tasks inst ds)
+abbrev pub unassigned_ticks : InstanceView → List Decision → ℕ
+unassigned_ticks inst ds = ticks_over inst (open_tasks inst ds)
 
--- what is kept beside what was made, newest first
-pub record AreKept
-    (inst : InstanceView) (made : List Made) (capacity : ℕ) (cranes : List (Option ℕ)) (before ordered : List Bool)
-    (heads : List Heads) (loads : List (Option Load)) (ticks : ℕ) : Type 0 where
+-- the tables and totals beside what was made, and the room for what is made
+pub record Beside : Type 0 where
+  pub room : ℕ
+  pub cranes : List (Option ℕ)
+  pub before : List Bool
+  pub ordered : List Bool
+  pub heads : List Heads
+  pub loads : List (Option Load)
+  pub open_ticks : ℕ
+
+-- they are those of what was made, newest first
+pub record AreKept (inst : InstanceView) (made : List Made) (b : Beside) : Type 0 where
   pub valid : Valid inst
   pub fits : Fits inst (decisions_of made)
-  pub room : length inst.tasks + length inst.apart ≤ capacity
-  pub crane_table : IsTable (assigned (decisions_of made)) (length inst.tasks) cranes
-  pub before_table : IsGrid (is_before inst) (length inst.tasks) before
-  pub order_table : IsGrid (is_ordered (decisions_of made)) (length inst.tasks) ordered
-  pub head_table : IsHeadTable inst heads
-  pub load_table : IsTable (crane_load inst (decisions_of made)) (length inst.cranes) loads
+  pub room : length inst.tasks + length inst.apart ≤ b.room
+  pub cranes : IsTable (assigned (decisions_of made)) (length inst.tasks) b.cranes
+  pub before : IsGrid (is_sooner inst []) (length inst.tasks) b.before
+  pub ordered : IsGrid (is_ordered (decisions_of made)) (length inst.tasks) b.ordered
+  pub heads : IsHeadTable inst b.heads
+  pub loads : IsTable (crane_load inst (decisions_of made)) (length inst.cranes) b.loads
   pub older : AreOlder inst made
-  pub unassigned : ticks ≡ open_ticks inst (decisions_of made)
+  pub unassigned : b.open_ticks ≡ unassigned_ticks inst (decisions_of made)

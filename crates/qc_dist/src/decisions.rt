@@ -3,7 +3,7 @@ ghost use Rattle.qc_model.specs.declared.decision.Decision.TheVariants.{Assign, 
 ghost use Rattle.qc_model.specs.Instance.{IsApart};
 ghost use Rattle.qc_model.specs.Nodes.{Fits, IsSettled, assigned, is_sooner};
 ghost use Rattle.qc_dist.specs.Heads.{IsHeads};
-ghost use Rattle.qc_dist.specs.Kept.{crane_load, open_ticks};
+ghost use Rattle.qc_dist.specs.Kept.{crane_load, unassigned_ticks};
 ghost use Rattle.qc_dist.specs.Loads.{IsLoad};
 
 use crate::grid::{before_marks, cell, no_marks};
@@ -74,7 +74,7 @@ impl Decisions {
     /// Decides one thing more.
     pub fn add(&mut self, inst: &Instance, decision: Decision)
         requires same { self.old.inst ≡ inst.now }
-        requires open { IsOpen inst.now self.old.decisions decision }
+        requires undecided { IsOpen inst.now self.old.decisions decision }
         ensures added { self.new ≡ record self.old {
           decisions = decision ∷ self.old.decisions;
         } }
@@ -181,7 +181,7 @@ impl Decisions {
 
     /// The ticks of the tasks that no crane has.
     pub(crate) fn open_ticks(&self) -> Tick
-        ensures { result ≡ open_ticks self.now.inst self.now.decisions }
+        ensures { result ≡ unassigned_ticks self.now.inst self.now.decisions }
     {
         self.open_ticks
     }

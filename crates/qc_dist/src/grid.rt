@@ -1,8 +1,8 @@
 // Tables of pairs of tasks.
 
-ghost use Rattle.std.specs.Prelude.{◌≡◌, ◌+◌, ◌*◌, ◌<◌, ◌≤◌, IfOk, false, length};
+ghost use Rattle.std.specs.Prelude.{◌≡◌, ◌+◌, ◌*◌, ◌<◌, ◌≤◌, [], IfOk, false, length};
 ghost use Rattle.qc_model.specs.declared.limits.TheConstants.{MOST_TASKS};
-ghost use Rattle.qc_model.specs.Nodes.{is_before};
+ghost use Rattle.qc_model.specs.Nodes.{is_sooner};
 ghost use Rattle.qc_dist.specs.Tables.{IsGrid};
 
 use crate::parts::task_count;
@@ -32,7 +32,7 @@ pub(crate) fn no_marks(alloc: Global, tasks: u16) -> Result<Vec<bool>, OutOfMemo
 /// The pairs of which the first task must end before the second starts, whatever is decided.
 pub(crate) fn before_marks(alloc: Global, inst: &Instance) -> Result<Vec<bool>, OutOfMemory>
     ensures { IfOk result
-        (λ marks. IsGrid (is_before inst.now) (length inst.now.tasks) marks.items) }
+        (λ marks. IsGrid (is_sooner inst.now []) (length inst.now.tasks) marks.items) }
 {
     let mut marks = no_marks(alloc, task_count(inst))?;
     for pair in inst.before() {

@@ -3,7 +3,7 @@
 ghost use Rattle.std.specs.Prelude.{◌≡◌, ◌<◌, ◌≤◌, [], length};
 ghost use Rattle.qc_model.specs.declared.limits.TheConstants.{MOST_CRANES, MOST_READY, MOST_TASKS, MOST_WORK};
 ghost use Rattle.qc_model.specs.Instance.{IsOnRail, Valid, crane, task};
-ghost use Rattle.qc_dist.specs.Kept.{open_ticks};
+ghost use Rattle.qc_dist.specs.Kept.{unassigned_ticks};
 
 use qc_model::{Instance, Task};
 use qc_num::{Bay, Tick};
@@ -66,7 +66,7 @@ pub(crate) fn post_at(inst: &Instance, number: u16) -> Post
 
 /// The ticks of all tasks.
 pub(crate) fn total_ticks(inst: &Instance) -> Tick
-    ensures { result ≡ open_ticks inst.now [] }
+    ensures { result ≡ unassigned_ticks inst.now [] }
 {
     let mut total = 0;
     for number in 0..task_count(inst) {

@@ -2,7 +2,7 @@ ghost use Rattle.std.specs.Prelude.{◌≡◌, ◌+◌, ◌-◌, ◌<◌, ◌≤
 ghost use Rattle.std.specs.List.{list_any};
 ghost use Rattle.qc_model.specs.Instance.{crane};
 ghost use Rattle.qc_model.specs.Leaves.{crane_numbers, is_overfull, spare, used, work_holds};
-ghost use Rattle.qc_dist.specs.Kept.{open_ticks};
+ghost use Rattle.qc_dist.specs.Kept.{unassigned_ticks};
 
 use crate::Decisions;
 use crate::loads::load_ticks;
@@ -46,7 +46,7 @@ impl Decisions {
     /// The ticks of unassigned tasks for which the cranes have no time left until the tick.
     fn left_over(&self, inst: &Instance, tick: Tick) -> Tick
         requires { self.now.inst ≡ inst.now }
-        ensures { result ≡ open_ticks inst.now self.now.decisions
+        ensures { result ≡ unassigned_ticks inst.now self.now.decisions
             - sum_by (spare inst.now self.now.decisions tick) (crane_numbers inst.now) }
     {
         let mut left = self.open_ticks();

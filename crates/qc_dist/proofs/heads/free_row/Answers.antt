@@ -9,5 +9,6 @@ loop-k-preserved c =
       count = length-set c.loop-k.row c.loop-k.k c.head.result ∙ before.count;
       so_far = below_more _ _
           (λ v h. let other : v ≢ c.loop-k.k = omega arith in rw get_or-set_other (before.so_far v h))
-          (let inside : c.loop-k.k < length c.loop-k.row = omega arith in rw get_or-set_same (c.head.ensures.ticks, omega (arith, c.head.ensures.bound)));
+          (let inside : c.loop-k.k < length c.loop-k.row = omega arith in
+          rw get_or-set_same (c.head.ensures.ticks, omega (arith, c.head.ensures.bound)));
     }

@@ -14,13 +14,17 @@ loop-k-preserved c =
     let before = c.loop-k.invariant in
     elim c.if-in_reach.branch [
       | then-in_reach w ↦
-          let is = w.sooner.ensures.least ∙ ap (λ (t : ℕ). option_map_or (λ m. min m t) c.loop-k.least t) w.there.ensures.ticks in
+          let lesser = λ (t : ℕ). option_map_or (λ m. min m t) c.loop-k.least t in
+          let is = w.sooner.ensures.least ∙ ap lesser w.there.ensures.ticks in
+          let reached = sym c.in_reach.ensures ∙ w.if-in_reach.true in
           record {
-            so_far = w.least-is ∙ least_step f p k c.loop-k.least w.sooner.result before.so_far (sym c.in_reach.ensures ∙ w.if-in_reach.true) is;
+            so_far = w.least-is ∙ least_step f p k c.loop-k.least w.sooner.result before.so_far reached is;
             bound = rw w.least-is (omega (arith, w.sooner.ensures.bound, w.there.ensures.bound));
           }
       | else-in_reach w ↦ record {
-        so_far = w.least-is ∙ least_skip f p k c.loop-k.least before.so_far (sym c.in_reach.ensures ∙ w.if-in_reach.false);
+        so_far =
+            w.least-is
+            ∙ least_skip f p k c.loop-k.least before.so_far (sym c.in_reach.ensures ∙ w.if-in_reach.false);
         bound = rw w.least-is before.bound;
       }
     ]

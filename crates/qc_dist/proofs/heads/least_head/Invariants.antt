@@ -9,6 +9,7 @@ use Rattle.qc_dist.proofs.heads.least_head.Given as goal
 
 abbrev pub invariant-loop-k : goal.invariant-loop-k
 invariant-loop-k l = record {
-  so_far : l.least ≡ least_option (map (there l.berths l.inst l.j) (filter (reaches l.inst l.j) (range_with_len 0 l.k)));
+  so_far : l.least
+      ≡ least_option (map (there l.berths l.inst l.j) (filter (reaches l.inst l.j) (range_with_len 0 l.k)));
   bound : IfSome l.least (λ tick. tick ≤ MOST_READY + MOST_DISTANCE);
 }

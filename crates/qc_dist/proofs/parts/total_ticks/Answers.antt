@@ -9,9 +9,9 @@ pub loop-number-preserved : goal.loop-number-preserved
 loop-number-preserved c =
     let inst = c.args.inst.now in
     let number = c.loop-number.number in
-    let ticks : c.task_at-total.result.ticks ≡ ticks_of inst number = ap (λ (t : Task). t.ticks) c.task_at-total.ensures.task in
+    let ticks = ap (λ (t : Task). t.ticks) c.task_at-total.ensures.task in
     record {
-      so_far = omega (arith, sum_more (ticks_of inst) number);
+      so_far = omega (arith, ticks, sum_more (ticks_of inst) number);
       bound = omega (arith, c.task_at-total.ensures.bound);
     }
 
@@ -20,4 +20,5 @@ returns c =
     let ticks = ticks_of c.args.inst.now in
     let all = range_with_len 0 (length c.args.inst.now.tasks) in
     let count : c.loop-number.number ≡ length c.args.inst.now.tasks = omega arith in
-    c.loop-number.invariant.so_far ∙ ap (λ n. sum_by ticks (range_with_len 0 n)) count ∙ sym (ap (sum_by ticks) (filter_all all))
+    c.loop-number.invariant.so_far ∙ ap (λ n. sum_by ticks (range_with_len 0 n)) count
+    ∙ sym (ap (sum_by ticks) (filter_all all))

@@ -8,6 +8,7 @@ use Rattle.qc_dist.proofs.travel.head.Given as goal
 
 abbrev pub invariant-loop-v : goal.invariant-loop-v
 invariant-loop-v l = record {
-  so_far : l.tick ≡ max (arrival l.inst l.k (bay_of l.inst l.j)) (greatest (map (berth_wait l.inst l.j l.k) (range_with_len 0 l.v)));
+  so_far : l.tick
+      ≡ max (arrival l.inst l.k (bay_of l.inst l.j)) (greatest (map (berth_wait l.inst l.j l.k) (range_with_len 0 l.v)));
   bound : l.tick ≤ MOST_READY + MOST_DISTANCE;
 }

@@ -8,5 +8,7 @@ pub returns-clause-range : goal.returns-clause-range
 returns-clause-range c =
     let kept = c.self.invariant in
     let inside = rw (← c.self.view_is) at c.requires in
+    let f = c.self.inside in
     rw (← c.self.view_is)
-    (rw (c.index.ensures ∙ kept.crane_table.values c.args.task c.index.result.now inside) (assigned_range c.self.inside.inst (decisions_of (reverse c.self.inside.made.items)) kept.fits c.args.task))
+    (rw (c.index.ensures ∙ kept.cranes.values c.args.task c.index.result.now inside)
+    (assigned_range f.inst (decisions_of (reverse f.made.items)) kept.fits c.args.task))

@@ -10,5 +10,5 @@ returns-clause-bounded c =
     let kept = c.self.invariant in
     let ds = decisions_of (reverse f.made.items) in
     let inside = rw (← c.self.view_is) at c.requires in
-    rw (c.index.ensures ∙ kept.load_table.values c.args.crane c.index.result.now inside)
+    rw (c.index.ensures ∙ kept.loads.values c.args.crane c.index.result.now inside)
     (crane_load_bounded f.inst kept.valid ds c.args.crane (fits_room f.inst ds kept.fits))

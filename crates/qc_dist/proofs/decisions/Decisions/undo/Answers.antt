@@ -1,4 +1,5 @@
 use Rattle.std.proofs.Common.{reverse, arith}
+use Rattle.qc_dist.specs.Fields.{beside}
 use Rattle.qc_dist.specs.Kept.{decisions_of}
 use Rattle.qc_dist.proofs.Bounds.{open_bounded}
 use Rattle.qc_dist.proofs.Changes.{after_unassign, after_unorder, newest_range}
@@ -8,37 +9,39 @@ pub overflow_add-self : goal.overflow_add-self
 overflow_add-self c =
     let f = c.self.inside in
     let kept = c.self.invariant in
-    omega (arith, kept.unassigned, open_bounded f.inst kept.valid (decisions_of (reverse f.made.items)), c.task_at.ensures.bound)
+    let ds = decisions_of (reverse f.made.items) in
+    omega (arith, kept.unassigned, open_bounded f.inst kept.valid ds, c.task_at.ensures.bound)
 
 pub invariant_of-self-in-Assign : goal.invariant_of-self-in-Assign
 invariant_of-self-in-Assign c =
     let f = c.self.inside in
-    after_unassign f.inst f.made.items c.pop.new.self.items c.in_ok-made.made _ _ f.cranes.items f.before.items f.ordered.items f.heads.items f.loads.items f.open_ticks
-    c.in-Assign.task c.in-Assign.crane c.task_at.result c.self.invariant c.in_ok-made.ensures.items c.in-Assign.is c.task_at.ensures.task c.in_ok-made.ensures.capacity
+    after_unassign f.inst f.made.items c.pop.new.self.items c.in_ok-made.made _ (beside f) c.in-Assign.task c.in-Assign.crane
+    c.task_at.result c.self.invariant c.in_ok-made.ensures.items c.in-Assign.is c.task_at.ensures.task
+    c.in_ok-made.ensures.capacity
 
 pub cell-requires-clause-first : goal.cell-requires-clause-first
 cell-requires-clause-first c =
     let f = c.self.inside in
-    let range = newest_range f.inst f.made.items c.pop.new.self.items c.in_ok-made.made c.in-Order.first c.in-Order.second
-    c.self.invariant.valid c.self.invariant.fits c.in_ok-made.ensures.items c.in-Order.is in
+    let range = newest_range f.inst f.made.items c.pop.new.self.items c.in_ok-made.made (beside f)
+    c.in-Order.first c.in-Order.second c.self.invariant c.in_ok-made.ensures.items c.in-Order.is in
     omega (arith, c.self.invariant.valid.tasks.count, range)
 
 pub cell-requires-clause-second : goal.cell-requires-clause-second
 cell-requires-clause-second c =
     let f = c.self.inside in
-    let range = newest_range f.inst f.made.items c.pop.new.self.items c.in_ok-made.made c.in-Order.first c.in-Order.second
-    c.self.invariant.valid c.self.invariant.fits c.in_ok-made.ensures.items c.in-Order.is in
+    let range = newest_range f.inst f.made.items c.pop.new.self.items c.in_ok-made.made (beside f)
+    c.in-Order.first c.in-Order.second c.self.invariant c.in_ok-made.ensures.items c.in-Order.is in
     omega (arith, c.self.invariant.valid.tasks.count, range)
 
 pub index_mut-requires-in-Order : goal.index_mut-requires-in-Order
 index_mut-requires-in-Order c =
     let f = c.self.inside in
-    let range = newest_range f.inst f.made.items c.pop.new.self.items c.in_ok-made.made c.in-Order.first c.in-Order.second
-    c.self.invariant.valid c.self.invariant.fits c.in_ok-made.ensures.items c.in-Order.is in
-    omega (arith, c.self.invariant.valid.tasks.count, c.self.invariant.order_table.count, f.ordered.ok.0, range)
+    let range = newest_range f.inst f.made.items c.pop.new.self.items c.in_ok-made.made (beside f)
+    c.in-Order.first c.in-Order.second c.self.invariant c.in_ok-made.ensures.items c.in-Order.is in
+    omega (arith, c.self.invariant.valid.tasks.count, c.self.invariant.ordered.count, f.ordered.ok.0, range)
 
 pub invariant_of-self-in-Order : goal.invariant_of-self-in-Order
 invariant_of-self-in-Order c =
     let f = c.self.inside in
-    after_unorder f.inst f.made.items c.pop.new.self.items c.in_ok-made.made _ _ f.cranes.items f.before.items f.ordered.items f.heads.items f.loads.items f.open_ticks
-    c.in-Order.first c.in-Order.second c.cell.result c.self.invariant c.in_ok-made.ensures.items c.in-Order.is c.cell.ensures c.in_ok-made.ensures.capacity
+    after_unorder f.inst f.made.items c.pop.new.self.items c.in_ok-made.made _ (beside f) c.in-Order.first c.in-Order.second
+    c.cell.result c.self.invariant c.in_ok-made.ensures.items c.in-Order.is c.cell.ensures c.in_ok-made.ensures.capacity
