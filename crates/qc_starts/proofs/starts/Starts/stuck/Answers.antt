@@ -1,0 +1,17 @@
+use Rattle.std.proofs.Common.{subst}
+use Rattle.qc_model.specs.Nodes.{HasStarts}
+use Rattle.qc_starts.specs.Seen.{IsStep, StartsNode}
+use Rattle.qc_starts.proofs.KeptLemmas.{step_of}
+use Rattle.qc_starts.proofs.starts.Starts.stuck.Goals as goal
+
+pub returns-in-Cycle : goal.returns-in-Cycle
+returns-in-Cycle c =
+    subst (λ (n : StartsNode). ¬ HasStarts n.inst n.decisions) c.self.view_is
+    (subst (IsStep c.self.inside.inst c.self.inside.decisions.decisions) c.in-Cycle.is
+    (step_of _ _ c.self.inside.table _ c.self.invariant.found))
+
+pub returns-in-Raised : goal.returns-in-Raised
+returns-in-Raised c =
+    subst (λ (n : StartsNode). HasStarts n.inst n.decisions) c.self.view_is
+    (subst (IsStep c.self.inside.inst c.self.inside.decisions.decisions) c.in-Raised.is
+    (step_of _ _ c.self.inside.table _ c.self.invariant.found))

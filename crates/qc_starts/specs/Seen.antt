@@ -1,0 +1,50 @@
+-- What contracts see of the least starts of a node, and what is answered of it.
+use Rattle.std.specs.Prelude.{◌≡◌, ℕ, ◌-◌, ◌<◌, Bool, true, false, List, drop, length, slice_index, IsSome, Some}
+use Rattle.qc_model.specs.declared.decision.Decision.{Decision}
+use Rattle.qc_model.specs.Instance.{InstanceView, IsApart}
+use Rattle.qc_model.specs.Leaves.{chain, leaf_value, ring, with_berths}
+use Rattle.qc_model.specs.Nodes.{AreLeast, HasStarts, IsNodeEnd, IsSettled, assigned}
+use Rattle.qc_num.specs.declared.bound.Bound.TheVariants.{Least, Never}
+use Rattle.qc_starts.specs.declared.least.Step.{Step}
+use Rattle.qc_starts.specs.declared.least.Step.TheVariants.{Raised, Cycle}
+
+-- the instance, and the decisions, newest first
+pub record StartsNode : Type 0 where
+  pub inst : InstanceView
+  pub decisions : List Decision
+
+-- the first of these decisions
+abbrev pub first_of : ℕ → List Decision → List Decision
+first_of mark ds = drop (length ds - mark) ds
+
+-- what a decision leads to: some starts meet the node, or none do
+abbrev pub IsStep : InstanceView → List Decision → Step → Type 0
+IsStep inst ds Raised = HasStarts inst ds
+IsStep inst ds Cycle = ¬ HasStarts inst ds
+
+-- whether no starts meet the node
+abbrev pub HasNone : InstanceView → List Decision → Bool → Type 0
+HasNone inst ds true = ¬ HasStarts inst ds
+HasNone inst ds false = HasStarts inst ds
+
+-- the least start of a task
+pub record IsNodeStart (inst : InstanceView) (ds : List Decision) (j start : ℕ) : Type 0 where
+  pub starts : List ℕ
+  pub least : AreLeast inst ds starts
+  pub is : start ≡ slice_index starts j
+
+-- the tasks are a chain that shows the node's end
+pub record IsWhy (inst : InstanceView) (ds : List Decision) (tasks : List ℕ) : Type 0 where
+  pub end : ℕ
+  pub ends : IsNodeEnd inst ds end
+  pub chain : leaf_value with_berths inst ds (chain tasks) ≡ Some (Least end)
+
+-- the tasks are a ring
+abbrev pub IsCycle : InstanceView → List Decision → List ℕ → Type 0
+IsCycle inst ds tasks = leaf_value with_berths inst ds (ring tasks) ≡ Some Never
+
+abbrev pub AreAssigned : InstanceView → List Decision → Type 0
+AreAssigned inst ds = (j : ℕ) → j < length inst.tasks → IsSome (assigned ds j)
+
+abbrev pub AreSettled : InstanceView → List Decision → Type 0
+AreSettled inst ds = (i j : ℕ) → IsApart inst i j → IsSettled inst ds i j

@@ -1,0 +1,221 @@
+ghost use Rattle.std.specs.Prelude.{◌≡◌, ◌↔◌, ◌<◌, ◌≤◌, ◌⊎◌, None, [], ◌∷◌, IfOk, IfSome, IsTrue, length};
+ghost use Rattle.qc_model.specs.declared.decision.Decision.TheVariants.{Assign, Order};
+ghost use Rattle.qc_model.specs.declared.limits.TheConstants.{MOST_START};
+ghost use Rattle.qc_model.specs.Instance.{IsApart};
+ghost use Rattle.qc_model.specs.Nodes.{HasStarts, IsComplete, IsNodeEnd, IsSettled, assigned, reaches};
+ghost use Rattle.qc_num.specs.Paths.{HasRoom};
+ghost use Rattle.qc_starts.specs.Seen.{HasNone, IsCycle, IsNodeStart, IsWhy, first_of};
+
+use crate::complete::{are_assigned, are_settled};
+use crate::least::{Step, Table};
+use crate::made::{copy_path, undo_to};
+use qc_dist::Decisions;
+use qc_model::{Decision, Instance, copy};
+use qc_num::{OutOfMemory, Path, Steps, Tick};
+use std::alloc::Global;
+use std::marker::Model;
+use std::sync::ledger::Ledger;
+
+/// The least starts of a node of the search: of an instance, of which it keeps a copy, and a list of
+/// decisions. Where no starts meet the node it is stuck, until decisions are taken back. All memory
+/// is taken by `open`.
+#[derive(Drop)]
+pub struct Starts {
+    inst: Instance,
+    decisions: Decisions,
+    /// The number of decisions.
+    made: u32,
+    table: Table,
+    /// What was found for the decisions.
+    step: Step,
+}
+
+impl Model for Starts {
+    ghost use Rattle.qc_starts.specs.Seen.{StartsNode};
+
+    ghost Value = { StartsNode };
+
+    ghost use Rattle.qc_starts.specs.Fields.{node_of, IsKept};
+
+    ghost view = { node_of };
+
+    ghost invariant = { IsKept };
+}
+
+impl Starts {
+    ghost use Rattle.qc_dist.specs.Node.{IsOpen};
+    ghost use Rattle.qc_starts.specs.Seen.{IsStep};
+
+    /// No decision for the instance.
+    pub fn open(alloc: Global, inst: &Instance) -> Result<Starts, OutOfMemory>
+        ensures inst { IfOk result (λ node. node.inst ≡ inst.now) }
+        ensures decisions { IfOk result (λ node. node.decisions ≡ []) }
+    {
+        let decisions = Decisions::new(alloc, inst)?;
+        let mut table = Table::open(alloc, inst)?;
+        let inst = copy(alloc, inst)?;
+        let step = table.settle(&decisions, &inst);
+        Ok(Starts {
+            inst,
+            decisions,
+            made: 0,
+            table,
+            step,
+        })
+    }
+
+    /// Decides one thing more.
+    fn decide(&mut self, inst: &Instance, decision: Decision) -> Step
+        requires same { self.old.inst ≡ inst.now }
+        requires open { IsOpen inst.now self.old.decisions decision }
+        ensures inst { self.new.inst ≡ self.old.inst }
+        ensures decisions { self.new.decisions ≡ decision ∷ self.old.decisions }
+        ensures step { IsStep inst.now self.new.decisions result }
+    {
+        self.decisions.add(inst, decision);
+        self.made += 1;
+        self.step = self.table.settle(&self.decisions, inst);
+        self.step
+    }
+
+    /// Puts a task on a crane that reaches it. `Cycle` exactly where no starts meet the node any more.
+    pub fn assign<L: Ledger>(
+        &mut self,
+        inst: &Instance,
+        task: u16,
+        crane: u16,
+        steps: &mut Steps<L>,
+    ) -> Step
+        requires same { self.old.inst ≡ inst.now }
+        requires starts { HasStarts inst.now self.old.decisions }
+        requires task { task < length inst.now.tasks }
+        requires crane { crane < length inst.now.cranes }
+        requires none { assigned self.old.decisions task ≡ None }
+        requires reach { IsTrue (reaches inst.now task crane) }
+        ensures inst { self.new.inst ≡ self.old.inst }
+        ensures decisions { self.new.decisions ≡ Assign task crane ∷ self.old.decisions }
+        ensures step { IsStep inst.now self.new.decisions result }
+        ensures steps { steps.old ≤ steps.new }
+    {
+        steps.tick();
+        self.decide(inst, Decision::Assign(task, crane))
+    }
+
+    /// Puts one of two apart tasks first. `Cycle` exactly where no starts meet the node any more.
+    pub fn order<L: Ledger>(
+        &mut self,
+        inst: &Instance,
+        i: u16,
+        j: u16,
+        steps: &mut Steps<L>,
+    ) -> Step
+        requires same { self.old.inst ≡ inst.now }
+        requires starts { HasStarts inst.now self.old.decisions }
+        requires apart { IsApart inst.now i j ⊎ IsApart inst.now j i }
+        requires unsettled { ¬ IsSettled inst.now self.old.decisions i j }
+        ensures inst { self.new.inst ≡ self.old.inst }
+        ensures decisions { self.new.decisions ≡ Order i j ∷ self.old.decisions }
+        ensures step { IsStep inst.now self.new.decisions result }
+        ensures steps { steps.old ≤ steps.new }
+    {
+        steps.tick();
+        self.decide(inst, Decision::Order(i, j))
+    }
+
+    /// Whether no starts meet the node.
+    pub fn stuck(&self) -> bool
+        ensures { HasNone self.now.inst self.now.decisions result }
+    {
+        match self.step {
+            Step::Raised => false,
+            Step::Cycle => true,
+        }
+    }
+
+    /// The number of decisions.
+    pub fn mark(&self) -> u32
+        ensures { result ≡ length self.now.decisions }
+    {
+        self.made
+    }
+
+    /// Takes back all decisions but the first `mark`.
+    pub fn retract<L: Ledger>(&mut self, mark: u32, steps: &mut Steps<L>)
+        requires { mark ≤ length self.old.decisions }
+        ensures inst { self.new.inst ≡ self.old.inst }
+        ensures decisions { self.new.decisions ≡ first_of mark self.old.decisions }
+        ensures steps { steps.old ≤ steps.new }
+    {
+        steps.tick();
+        undo_to(&mut self.decisions, self.made, mark);
+        self.made = mark;
+        self.step = self.table.settle(&self.decisions, &self.inst);
+    }
+
+    /// When a task starts at the least.
+    pub fn start(&self, j: u16) -> Tick
+        requires starts { HasStarts self.now.inst self.now.decisions }
+        requires task { j < length self.now.inst.tasks }
+        ensures start { IsNodeStart self.now.inst self.now.decisions j result }
+        ensures bound { result ≤ MOST_START }
+    {
+        self.table.cells[j as usize].start
+    }
+
+    /// When the last task ends, if all start at the least; 0 where there is no task.
+    pub fn ends(&self) -> Tick
+        requires { HasStarts self.now.inst self.now.decisions }
+        ensures end { IsNodeEnd self.now.inst self.now.decisions result }
+        ensures bound { result ≤ MOST_START }
+    {
+        self.table.ends
+    }
+
+    /// The crane of a task; `None` exactly where it has none.
+    pub fn crane_of(&self, j: u16) -> Option<u16>
+        requires { j < length self.now.inst.tasks }
+        ensures crane { result ≡ assigned self.now.decisions j }
+        ensures range { IfSome result (λ crane. crane < length self.now.inst.cranes) }
+    {
+        self.decisions.crane_of(j)
+    }
+
+    /// Whether all tasks have a crane and all apart pairs are settled.
+    pub fn complete(&self) -> bool
+        ensures { IsTrue result ↔ IsComplete self.now.inst self.now.decisions }
+    {
+        are_assigned(&self.decisions, &self.inst) && are_settled(&self.decisions, &self.inst)
+    }
+
+    /// Whether one of two tasks is forced to start after the other.
+    pub fn settled(&self, i: u16, j: u16) -> bool
+        requires first { i < length self.now.inst.tasks }
+        requires second { j < length self.now.inst.tasks }
+        ensures { IsTrue result ↔ IsSettled self.now.inst self.now.decisions i j }
+    {
+        self.decisions.settled(&self.inst, i, j)
+    }
+
+    /// Writes a chain of tasks, each forced after the one before it, that ends when the node does;
+    /// an empty one where there is no task.
+    pub fn why_path(&self, path: &mut Path)
+        requires starts { HasStarts self.now.inst self.now.decisions }
+        requires room { HasRoom (length self.now.inst.tasks) path.old }
+        ensures why { IsWhy self.now.inst self.now.decisions path.new.items }
+        ensures count { length path.new.items ≤ length self.now.inst.tasks }
+        ensures room { path.new.capacity ≡ path.old.capacity }
+    {
+        copy_path(&self.table.path, path);
+    }
+
+    /// Writes a ring of tasks, each forced after the one before it, and the first after the last.
+    pub fn cycle(&self, path: &mut Path)
+        requires stuck { ¬ HasStarts self.now.inst self.now.decisions }
+        requires room { HasRoom (length self.now.inst.tasks) path.old }
+        ensures ring { IsCycle self.now.inst self.now.decisions path.new.items }
+        ensures count { length path.new.items ≤ length self.now.inst.tasks }
+        ensures room { path.new.capacity ≡ path.old.capacity }
+    {
+        copy_path(&self.table.path, path);
+    }
+}
