@@ -1,0 +1,33 @@
+use qc_num::Bound;
+
+/// A line of a tree's text. Tasks are numbered from 1, as in the text. The tasks of a chain or ring
+/// stand in a path beside it.
+#[derive(Clone, Copy, Debug, PartialEq, Eq)]
+pub enum Line {
+    /// The title of a tree of version 1: a berth keeps no task away before its crane's first one.
+    Title,
+    /// The title of a tree of version 2: start berths count.
+    Title2,
+    /// Here begins the part of the upward schedules.
+    Up,
+    /// Here begins the part of the downward schedules.
+    Down,
+    /// Branching on the task: which crane does it.
+    Assign(u16),
+    /// Branching on the pair: which of both comes first.
+    Order(u16, u16),
+    /// A leaf: a chain of tasks, each forced after the one before.
+    Chain,
+    /// A leaf: a ring of tasks, each forced after the one before.
+    Ring,
+    /// A leaf: the newest decision assigns a task out of its crane's reach.
+    Reach,
+    /// A leaf: the work doesn't fit before this tick.
+    Work(u64),
+    /// The number of branchings, and the tree's value.
+    End(u32, Bound),
+}
+
+/// The text is no line of a tree.
+#[derive(Clone, Copy, Debug, PartialEq, Eq, Hash)]
+pub struct BadLine;
