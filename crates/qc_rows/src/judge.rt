@@ -83,7 +83,7 @@ fn all_are_kept(given: &[Named], wanted: &[WantedFile], shelf: &MemShelf) -> boo
 fn words_are_no_files(given: &Given, wanted: &[WantedFile], shelf: &MemShelf) -> bool
     ensures { IsTrue result ↔ IfSome given.now.words
         (λ words. All (λ word. IsNoFile given.now.files.items wanted.now shelf.now.files
-            (string_bytes word)) words.items) }
+        (string_bytes word)) words.items) }
 {
     let files = given.files.as_slice();
     match &given.words {

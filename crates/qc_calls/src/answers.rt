@@ -1,0 +1,159 @@
+// Makes calls, and compares what they answer.
+
+ghost use Rattle.std.specs.Prelude.{◌≡◌, ◌<◌, IfOk, IsTrue, drop, length};
+ghost use Rattle.qc_model.specs.Instance.{bay_of, crane};
+ghost use Rattle.qc_model.specs.OneWay.{mirror};
+ghost use Rattle.qc_dist.specs.Node.{IsOpen};
+ghost use Rattle.qc_calls.specs.Calls.{CanBeMade, IsAnswered, after, newest};
+
+use crate::row::Call;
+use crate::same::is_same;
+use qc_dist::{Decisions, distance, head, in_reach, span};
+use qc_model::{Crane, Decision, Instance, copy, mirror};
+use qc_num::{Bay, OutOfMemory};
+use std::alloc::Global;
+
+pub fn is_task(inst: &Instance, task: u16) -> bool
+    ensures { IsTrue result → task < length inst.now.tasks }
+{
+    (task as usize) < inst.tasks().len()
+}
+
+pub fn is_crane(inst: &Instance, crane: u16) -> bool
+    ensures { IsTrue result → crane < length inst.now.cranes }
+{
+    (crane as usize) < inst.cranes().len()
+}
+
+// Whether the decision may be made.
+fn is_open(decisions: &Decisions, inst: &Instance, decision: Decision) -> bool
+    requires { decisions.now.inst ≡ inst.now }
+    ensures { IsTrue result → IsOpen inst.now decisions.now.decisions decision }
+{
+    match decision {
+        Decision::Assign(task, crane) => {
+            is_task(inst, task) && is_crane(inst, crane) && decisions.crane_of(task).is_none()
+        }
+        Decision::Order(first, second) => {
+            (inst.is_apart(first, second) || inst.is_apart(second, first))
+                && is_task(inst, first)
+                && is_task(inst, second)
+                && !decisions.settled(inst, first, second)
+        }
+    }
+}
+
+/// Whether the call can be made: its tasks and cranes are there, and what it decides is open.
+pub fn can_be_made(decisions: &Decisions, inst: &Instance, call: Call) -> bool
+    requires { decisions.now.inst ≡ inst.now }
+    ensures { IsTrue result → CanBeMade inst.now decisions.now.decisions call }
+{
+    match call {
+        Call::Add(decision) => is_open(decisions, inst, decision),
+        Call::CraneOf(j, _) => is_task(inst, j),
+        Call::Lead(j, _) | Call::Lead1(j, _) => is_task(inst, j),
+        Call::Forced(i, j, _) | Call::Span(i, j, _) => is_task(inst, i) && is_task(inst, j),
+        Call::Settled(i, j, _) => is_task(inst, i) && is_task(inst, j),
+        Call::WorkHolds(v, _) => 1 <= v,
+        Call::Distance(i, v, j, w, _) => {
+            is_task(inst, i) && is_crane(inst, v) && is_task(inst, j) && is_crane(inst, w)
+        }
+        Call::Head(j, k, _) => is_task(inst, j) && is_crane(inst, k),
+        Call::InReach(j, k, _) => is_task(inst, j) && is_crane(inst, k),
+        Call::MirrorBay(j, _) => is_task(inst, j),
+        Call::MirrorCrane(k, _, _) => is_crane(inst, k),
+        Call::Undo(_) | Call::Same => true,
+    }
+}
+
+// Takes the newest decision back; whether it is this one.
+fn undoes(decisions: &mut Decisions, wanted: Option<Decision>) -> bool
+    ensures newest { IsTrue result → newest decisions.old.decisions ≡ wanted }
+    ensures older { decisions.new ≡ record decisions.old {
+      decisions = drop 1 decisions.old.decisions;
+    } }
+{
+    decisions.undo() == wanted
+}
+
+// Whether the task is at this bay in the mirror.
+fn is_mirror_bay(alloc: Global, inst: &Instance, task: u16, bay: Bay) -> Result<bool, OutOfMemory>
+    requires { task < length inst.now.tasks }
+    ensures { IfOk result (λ is. IsTrue is → bay_of (mirror inst.now) task ≡ bay) }
+{
+    let turned = mirror(alloc, inst)?;
+    Ok(turned.tasks()[task as usize].bay == bay)
+}
+
+// Whether the crane has this name and start bay.
+fn is_at(post: &Crane, name: &str, bay: Bay) -> bool
+    ensures name { IsTrue result → post.now.name ≡ name.now }
+    ensures bay { IsTrue result → post.now.bay ≡ bay }
+{
+    post.name.as_bytes() == name.as_bytes() && post.bay == bay
+}
+
+// Whether the crane has this name and start bay in the mirror.
+fn is_mirror_crane(
+    alloc: Global,
+    inst: &Instance,
+    number: u16,
+    name: &str,
+    bay: Bay,
+) -> Result<bool, OutOfMemory>
+    requires { number < length inst.now.cranes }
+    ensures name { IfOk result
+        (λ is. IsTrue is → (crane (mirror inst.now) number).name ≡ name.now) }
+    ensures bay { IfOk result (λ is. IsTrue is → (crane (mirror inst.now) number).bay ≡ bay) }
+{
+    let turned = mirror(alloc, inst)?;
+    let post = &turned.cranes()[number as usize];
+    Ok(is_at(post, name, bay))
+}
+
+// Whether the mirror of the mirror is the instance, and so is the copy.
+fn is_same_again(alloc: Global, inst: &Instance) -> Result<bool, OutOfMemory>
+    ensures { IfOk result (λ is. IsTrue is → mirror (mirror inst.now) ≡ inst.now) }
+{
+    let turned = mirror(alloc, inst)?;
+    let back = mirror(alloc, &turned)?;
+    let copied = copy(alloc, inst)?;
+    Ok(is_same(&back, inst) && is_same(&copied, inst))
+}
+
+/// Makes the call; whether it answers as it must.
+pub fn answers(
+    alloc: Global,
+    decisions: &mut Decisions,
+    inst: &Instance,
+    call: Call,
+) -> Result<bool, OutOfMemory>
+    requires same { decisions.old.inst ≡ inst.now }
+    requires possible { CanBeMade inst.now decisions.old.decisions call }
+    ensures answer { IfOk result
+        (λ held. IsTrue held → IsAnswered inst.now decisions.old.decisions call) }
+    ensures after { decisions.new ≡ record decisions.old {
+      decisions = after decisions.old.decisions call;
+    } }
+{
+    match call {
+        Call::Add(decision) => {
+            decisions.add(inst, decision);
+            Ok(true)
+        }
+        Call::Undo(newest) => Ok(undoes(decisions, newest)),
+        Call::CraneOf(j, crane) => Ok(decisions.crane_of(j) == crane),
+        Call::Forced(i, j, ticks) => Ok(decisions.forced(inst, i, j) == ticks),
+        Call::Settled(i, j, is) => Ok(decisions.settled(inst, i, j) == is),
+        Call::Lead(j, tick) => Ok(decisions.lead(inst, j) == tick),
+        Call::Lead1(j, tick) => Ok(decisions.lead1(inst, j) == tick),
+        Call::WorkHolds(v, holds) => Ok(decisions.work_holds(inst, v) == holds),
+        Call::Distance(i, v, j, w, ticks) => Ok(distance(inst, i, v, j, w) == ticks),
+        Call::Head(j, k, tick) => Ok(head(inst, j, k) == tick),
+        Call::Span(i, j, ticks) => Ok(span(inst, i, j) == ticks),
+        Call::InReach(j, k, is) => Ok(in_reach(inst, j, k) == is),
+        Call::MirrorBay(j, bay) => is_mirror_bay(alloc, inst, j, bay),
+        Call::MirrorCrane(k, name, bay) => is_mirror_crane(alloc, inst, k, name, bay),
+        Call::Same => is_same_again(alloc, inst),
+    }
+}

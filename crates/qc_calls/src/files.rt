@@ -1,0 +1,65 @@
+// The texts of ship files and stowage lists. Hatches 2, 6, 10 and 14 are at bays 1 to 4; travel takes
+// 1 tick a bay and a move 10.
+
+macro_rules! ship {
+    ($keys:literal, $cranes:literal) => {
+        concat!(
+            "hatches = [2, 6, 10, 14]\ntravel = 1\ndeck_move = 10\nhold_move = 10\n",
+            $keys,
+            "\ncrane = [",
+            $cranes,
+            "]\n"
+        )
+    };
+}
+
+pub const ONE: &str = ship!("margin = 1", "{name = 'C1', bay = 1}");
+
+pub const FROM_2: &str = ship!("margin = 1", "{name = 'C1', bay = 1, from = 2}");
+
+pub const TO_1: &str = ship!("margin = 1", "{name = 'C1', bay = 1, to = 1}");
+
+pub const TWO: &str = ship!(
+    "margin = 1",
+    "{name = 'C1', bay = 1}, {name = 'C2', bay = 3}"
+);
+
+pub const NO_MARGIN: &str = ship!(
+    "margin = 0",
+    "{name = 'C1', bay = 1}, {name = 'C2', bay = 3}"
+);
+
+pub const APART: &str = ship!(
+    "margin = 1\napart = [[2, 14]]",
+    "{name = 'C1', bay = 1}, {name = 'C2', bay = 3}"
+);
+
+pub const LATE: &str = ship!(
+    "margin = 1",
+    "{name = 'C1', bay = 2, ready = 100}, {name = 'C2', bay = 4}"
+);
+
+pub const THREE: &str = ship!(
+    "margin = 1",
+    "{name = 'C1', bay = 1}, {name = 'C2', bay = 3}, {name = 'C3', bay = 5}"
+);
+
+macro_rules! list {
+    ($($row:literal)*) => {
+        concat!("id,move,cell,length\n", $($row, ",40\n",)*)
+    };
+}
+
+// The tasks 2-DD and 6-DD of 20 ticks.
+pub const AT_2_AND_6: &str = list!("A,D,020082" "B,D,020084" "C,D,060082" "D,D,060084");
+// The tasks 2-DD, 6-DD and 10-DD of 10 ticks.
+pub const AT_2_6_10: &str = list!("A,D,020082" "B,D,060082" "C,D,100082");
+// The tasks 2-DD of 20 and 14-DD of 30 ticks.
+pub const AT_2_AND_14: &str =
+    list!("A,D,020082" "B,D,020084" "C,D,140082" "D,D,140084" "E,D,140086");
+// The tasks 2-DD and 14-DD of 10 ticks.
+pub const ENDS: &str = list!("A,D,020082" "B,D,140082");
+// The task 10-DD of 10 ticks.
+pub const AT_10: &str = list!("A,D,100082");
+// The tasks 2-DD and 2-DH of 10 ticks.
+pub const DECK_HOLD: &str = list!("A,D,020082" "B,D,020002");

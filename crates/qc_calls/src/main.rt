@@ -1,0 +1,80 @@
+//! Runs tables of inner calls and prints one line a row: whether it answers as it must.
+//!
+//! `schedules.rt` has schedules and what their judge must answer, `calls.rt` calls on decisions and on
+//! the mirror, and `starts.rt` calls on least starts. A line is `ok NAME` or `FAILED NAME: ` with what
+//! is otherwise; the status is 1 where a row failed.
+#![tactic(auto)]
+
+mod answer;
+mod answers;
+mod calls;
+mod files;
+mod instance;
+mod judge;
+mod row;
+mod run;
+mod same;
+mod schedules;
+mod slots;
+mod starts;
+mod starts_answers;
+mod starts_run;
+mod verdict;
+
+use anyhow::Result;
+use calls::CALLS;
+use judge::verdict_on_schedule;
+use row::{CallRow, ScheduleRow, StartsRow};
+use run::verdict_on_calls;
+use schedules::SCHEDULES;
+use starts::STARTS;
+use starts_run::verdict_on_starts;
+use std::process::ExitCode;
+use verdict::{Verdict, is_held, line};
+
+// Prints the line of a row; whether it held.
+fn show<R: Print + AllocGlobal>(rt: &R, name: &str, verdict: &Verdict) -> Result<bool> {
+    rt.println(line(rt.alloc(), name, verdict)?)?;
+    Ok(is_held(verdict))
+}
+
+// Prints a line for each schedule; whether all held.
+fn judge_schedules<R: Print + AllocGlobal>(rt: &R, rows: &[ScheduleRow]) -> Result<bool> {
+    let mut all_held = !rows.is_empty();
+    for row in rows {
+        let verdict = verdict_on_schedule(rt.alloc(), row)?;
+        all_held = show(rt, row.name, &verdict)? && all_held;
+    }
+    Ok(all_held)
+}
+
+// Prints a line for each row of calls; whether all held.
+fn run_calls<R: Print + AllocGlobal>(rt: &R, rows: &[CallRow]) -> Result<bool> {
+    let mut all_held = !rows.is_empty();
+    for row in rows {
+        let verdict = verdict_on_calls(rt.alloc(), row)?;
+        all_held = show(rt, row.name, &verdict)? && all_held;
+    }
+    Ok(all_held)
+}
+
+// Prints a line for each row of calls on least starts; whether all held.
+fn run_starts<R: Print + AllocGlobal>(rt: &R, rows: &[StartsRow]) -> Result<bool> {
+    let mut all_held = !rows.is_empty();
+    for row in rows {
+        let verdict = verdict_on_starts(rt.alloc(), row)?;
+        all_held = show(rt, row.name, &verdict)? && all_held;
+    }
+    Ok(all_held)
+}
+
+fn main(rt: HostRuntime) -> Result<ExitCode> {
+    let schedules_hold = judge_schedules(&rt, SCHEDULES)?;
+    let calls_hold = run_calls(&rt, CALLS)?;
+    let starts_hold = run_starts(&rt, STARTS)?;
+    if schedules_hold && calls_hold && starts_hold {
+        Ok(ExitCode::SUCCESS)
+    } else {
+        Ok(ExitCode::FAILURE)
+    }
+}

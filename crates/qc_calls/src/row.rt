@@ -1,0 +1,94 @@
+use qc_model::{Decision, Slot};
+use qc_num::{Bay, Tick};
+use qc_starts::Step;
+
+/// A schedule and what the judge must answer.
+#[derive(Clone, Copy, Debug)]
+pub struct ScheduleRow {
+    /// What the row shows.
+    pub name: &'static str,
+    /// The ship file.
+    pub ship: &'static str,
+    /// The stowage list.
+    pub list: &'static str,
+    /// A slot for each task, in the order of the tasks.
+    pub slots: &'static [Slot],
+    /// The answer as it is printed: `Up`, `Down`, or the rule and the task or tasks that break it.
+    pub answer: &'static str,
+}
+
+/// Calls on an instance and on decisions for it, one after the other.
+#[derive(Clone, Copy, Debug)]
+pub struct CallRow {
+    /// What the row shows.
+    pub name: &'static str,
+    /// The ship file.
+    pub ship: &'static str,
+    /// The stowage list.
+    pub list: &'static str,
+    /// The first call finds no decision.
+    pub calls: &'static [Call],
+}
+
+/// A call, with what it must answer as the last part. Tasks and cranes are counted from 0.
+#[derive(Clone, Copy, Debug)]
+pub enum Call {
+    /// Makes the decision.
+    Add(Decision),
+    /// Takes the newest decision back.
+    Undo(Option<Decision>),
+    /// The crane of the task.
+    CraneOf(u16, Option<u16>),
+    /// From the start of the first task to that of the second.
+    Forced(u16, u16, Option<Tick>),
+    Settled(u16, u16, bool),
+    Lead(u16, Tick),
+    Lead1(u16, Tick),
+    WorkHolds(u64, bool),
+    /// A task and its crane, and another task and its crane.
+    Distance(u16, u16, u16, u16, Tick),
+    /// The task and the crane.
+    Head(u16, u16, Tick),
+    Span(u16, u16, Tick),
+    /// The task and the crane.
+    InReach(u16, u16, bool),
+    /// The bay of the task in the mirror.
+    MirrorBay(u16, Bay),
+    /// The name and the start bay of the crane in the mirror.
+    MirrorCrane(u16, &'static str, Bay),
+    /// The mirror of the mirror is the instance, and so is the copy.
+    Same,
+}
+
+/// Calls on the least starts of nodes, one after the other.
+#[derive(Clone, Copy, Debug)]
+pub struct StartsRow {
+    /// What the row shows.
+    pub name: &'static str,
+    /// The ship file.
+    pub ship: &'static str,
+    /// The stowage list.
+    pub list: &'static str,
+    /// The first call finds no decision.
+    pub calls: &'static [StartsCall],
+}
+
+/// A call of the least starts, with what it must answer as the last part.
+#[derive(Clone, Copy, Debug)]
+pub enum StartsCall {
+    /// Makes the decision.
+    Decide(Decision, Step),
+    /// Takes all decisions back but so many.
+    Retract(u32),
+    Stuck(bool),
+    Mark(u32),
+    Start(u16, Tick),
+    Ends(Tick),
+    /// The crane of the task.
+    HasCrane(u16, Option<u16>),
+    Settles(u16, u16, bool),
+    Complete(bool),
+    WhyPath(&'static [u16]),
+    /// The number of tasks in the ring.
+    Ring(usize),
+}

@@ -1,0 +1,141 @@
+// Makes calls on least starts, and compares what they answer.
+
+ghost use Rattle.std.specs.Prelude.{◌≡◌, ◌∷◌, IfOk, IsTrue};
+ghost use Rattle.qc_model.specs.Nodes.{HasStarts};
+ghost use Rattle.qc_dist.specs.Node.{IsOpen};
+ghost use Rattle.qc_starts.specs.Seen.{IsStep, IsWhy};
+ghost use Rattle.qc_calls.specs.StartsCalls.{CanBeMade, HasRingOf, IsAnswered, IsReached, after};
+
+use crate::answers::{is_crane, is_task};
+use crate::row::StartsCall;
+use qc_dist::in_reach;
+use qc_model::{Decision, Instance};
+use qc_num::{OutOfMemory, Path, Steps};
+use qc_starts::{Starts, Step};
+use std::alloc::Global;
+use std::sync::ledger::Ledger;
+
+// Whether the decision may be made, and with a crane that reaches the task.
+fn is_open(starts: &Starts, inst: &Instance, decision: Decision) -> bool
+    requires { starts.now.inst ≡ inst.now }
+    ensures open { IsTrue result → IsOpen inst.now starts.now.decisions decision }
+    ensures reached { IsTrue result → IsReached inst.now decision }
+{
+    match decision {
+        Decision::Assign(task, crane) => {
+            is_task(inst, task)
+                && is_crane(inst, crane)
+                && starts.crane_of(task).is_none()
+                && in_reach(inst, task, crane)
+        }
+        Decision::Order(first, second) => {
+            (inst.is_apart(first, second) || inst.is_apart(second, first))
+                && is_task(inst, first)
+                && is_task(inst, second)
+                && !starts.settled(first, second)
+        }
+    }
+}
+
+/// Whether the call can be made: its tasks and cranes are there, and what it decides is open.
+pub fn can_be_made(starts: &Starts, inst: &Instance, call: StartsCall) -> bool
+    requires { starts.now.inst ≡ inst.now }
+    ensures { IsTrue result → CanBeMade inst.now starts.now.decisions call }
+{
+    match call {
+        StartsCall::Decide(decision, _) => !starts.stuck() && is_open(starts, inst, decision),
+        StartsCall::Retract(mark) => mark <= starts.mark(),
+        StartsCall::Start(j, _) => !starts.stuck() && is_task(inst, j),
+        StartsCall::Ends(_) | StartsCall::WhyPath(_) => !starts.stuck(),
+        StartsCall::Ring(_) => starts.stuck(),
+        StartsCall::HasCrane(j, _) => is_task(inst, j),
+        StartsCall::Settles(i, j, _) => is_task(inst, i) && is_task(inst, j),
+        StartsCall::Stuck(_) | StartsCall::Mark(_) | StartsCall::Complete(_) => true,
+    }
+}
+
+// Makes the decision; what it leads to.
+fn decide<L: Ledger>(
+    starts: &mut Starts,
+    inst: &Instance,
+    decision: Decision,
+    steps: &mut Steps<L>,
+) -> Step
+    requires same { starts.old.inst ≡ inst.now }
+    requires starts { HasStarts inst.now starts.old.decisions }
+    requires open { IsOpen inst.now starts.old.decisions decision }
+    requires reached { IsReached inst.now decision }
+    ensures inst { starts.new.inst ≡ starts.old.inst }
+    ensures decisions { starts.new.decisions ≡ decision ∷ starts.old.decisions }
+    ensures step { IsStep inst.now starts.new.decisions result }
+{
+    match decision {
+        Decision::Assign(task, crane) => starts.assign(inst, task, crane, steps),
+        Decision::Order(first, second) => starts.order(inst, first, second, steps),
+    }
+}
+
+// Whether the chain is of these tasks.
+fn is_why(
+    alloc: Global,
+    starts: &Starts,
+    inst: &Instance,
+    tasks: &[u16],
+) -> Result<bool, OutOfMemory>
+    requires same { starts.now.inst ≡ inst.now }
+    requires starts { HasStarts inst.now starts.now.decisions }
+    ensures { IfOk result (λ is. IsTrue is → IsWhy inst.now starts.now.decisions tasks.now) }
+{
+    let mut path = Path::with_capacity(alloc, inst.tasks().len())?;
+    starts.why_path(&mut path);
+    Ok(path.as_slice() == tasks)
+}
+
+// Whether the ring is of so many tasks.
+fn is_ring_of(
+    alloc: Global,
+    starts: &Starts,
+    inst: &Instance,
+    count: usize,
+) -> Result<bool, OutOfMemory>
+    requires same { starts.now.inst ≡ inst.now }
+    requires stuck { ¬ HasStarts inst.now starts.now.decisions }
+    ensures { IfOk result (λ is. IsTrue is → HasRingOf inst.now starts.now.decisions count) }
+{
+    let mut path = Path::with_capacity(alloc, inst.tasks().len())?;
+    starts.cycle(&mut path);
+    Ok(path.len() == count)
+}
+
+/// Makes the call; whether it answers as it must.
+pub fn answers<L: Ledger>(
+    alloc: Global,
+    starts: &mut Starts,
+    inst: &Instance,
+    call: StartsCall,
+    steps: &mut Steps<L>,
+) -> Result<bool, OutOfMemory>
+    requires same { starts.old.inst ≡ inst.now }
+    requires possible { CanBeMade inst.now starts.old.decisions call }
+    ensures answer { IfOk result
+        (λ held. IsTrue held → IsAnswered inst.now starts.old.decisions call) }
+    ensures inst { starts.new.inst ≡ starts.old.inst }
+    ensures after { starts.new.decisions ≡ after starts.old.decisions call }
+{
+    match call {
+        StartsCall::Decide(decision, step) => Ok(decide(starts, inst, decision, steps) == step),
+        StartsCall::Retract(mark) => {
+            starts.retract(mark, steps);
+            Ok(true)
+        }
+        StartsCall::Stuck(is) => Ok(starts.stuck() == is),
+        StartsCall::Mark(mark) => Ok(starts.mark() == mark),
+        StartsCall::Start(j, tick) => Ok(starts.start(j) == tick),
+        StartsCall::Ends(tick) => Ok(starts.ends() == tick),
+        StartsCall::HasCrane(j, crane) => Ok(starts.crane_of(j) == crane),
+        StartsCall::Settles(i, j, is) => Ok(starts.settled(i, j) == is),
+        StartsCall::Complete(is) => Ok(starts.complete() == is),
+        StartsCall::WhyPath(tasks) => is_why(alloc, starts, inst, tasks),
+        StartsCall::Ring(count) => is_ring_of(alloc, starts, inst, count),
+    }
+}
