@@ -63,3 +63,5 @@ pub const ENDS: &str = list!("A,D,020082" "B,D,140082");
 pub const AT_10: &str = list!("A,D,100082");
 // The tasks 2-DD and 2-DH of 10 ticks.
 pub const DECK_HOLD: &str = list!("A,D,020082" "B,D,020002");
+// The tasks 2-DD, 2-DH and 14-DD of 10 ticks.
+pub const DECK_HOLD_AND_14: &str = list!("A,D,020082" "B,D,020002" "C,D,140082");

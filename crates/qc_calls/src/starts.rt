@@ -1,7 +1,7 @@
 // Calls on least starts, and what they must answer. Tasks and cranes are counted from 0. What cranes
 // keep between them is told in `calls.rt`.
 
-use crate::files::{APART, AT_2_AND_6, AT_2_AND_14, DECK_HOLD, ONE, TWO};
+use crate::files::{APART, AT_2_AND_6, AT_2_AND_14, DECK_HOLD, DECK_HOLD_AND_14, ONE, TWO};
 use crate::row::StartsCall::{
     Complete, Decide, Ends, HasCrane, Mark, Retract, Ring, Settles, Start, Stuck, WhyPath,
 };
@@ -93,6 +93,28 @@ pub const STARTS: &[StartsRow] = &[
             Retract(1),
             Stuck(false),
             Mark(1),
+        ]
+    ),
+    // The hold at bay 1 waits for the deck there, the task at bay 4 for the hold, since one crane does
+    // both, and the deck for the task at bay 4, as decided.
+    row!(
+        "ring-of-three",
+        APART,
+        DECK_HOLD_AND_14,
+        [
+            Decide(Assign(1, 0), Raised),
+            Decide(Assign(2, 0), Raised),
+            Settles(0, 2, false),
+            Decide(Order(2, 0), Cycle),
+            Stuck(true),
+            Ring(3),
+            Retract(2),
+            Stuck(false),
+            Start(0, 0),
+            Start(1, 10),
+            Start(2, 23),
+            Ends(33),
+            WhyPath(&[0, 1, 2]),
         ]
     ),
     // The task of 30 ticks at bay 4 is first: the second crane goes 1 bay, and the other task of 20
