@@ -3,10 +3,8 @@ use Rattle.std.proofs.Common.{◌≡◌, ℕ, true, ◌&&◌, eqb, inl, inr, ◌
 use Rattle.std.proofs.lemmas.Bool.{and_parts, or_cases, cond_both, cond-false, eqb-true, ltb-true, false≢true, false_from_ne_true}
 use Rattle.std.proofs.lemmas.Int.{ints}
 use Rattle.std.specs.Prelude.{int_lt, nat_lt}
-use Rattle.std.specs.List.{list_any}
 use Rattle.qc_model.specs.declared.decision.Decision.{Decision}
 use Rattle.qc_model.specs.declared.decision.Decision.TheVariants.{Assign, Order}
-use Rattle.qc_model.specs.declared.pair.Pair.{Pair}
 use Rattle.qc_model.specs.Instance.{InstanceView, IsApart, Valid, bay_of, ticks_of}
 use Rattle.qc_model.specs.Nodes.{Fits, assigned, crane_ticks, forced, greater, is_before, is_ordered, is_sooner}
 use Rattle.qc_model.proofs.NodeLemmas.{before_found}

@@ -1,6 +1,7 @@
 -- Cells and edges that hold what decisions ask for.
 use Rattle.std.specs.Prelude.{◌≡◌, ℕ, ◌+◌, ◌*◌, ◌<◌, ◌≤◌, ◌^◌, List, length, None, Some}
 use Rattle.qc_model.specs.declared.decision.Decision.{Decision}
+use Rattle.qc_model.specs.declared.limits.TheConstants.{MOST_TASKS}
 use Rattle.qc_model.specs.Instance.{InstanceView, Valid}
 use Rattle.qc_model.specs.Nodes.{forced, head}
 use Rattle.qc_starts.specs.declared.cells.Cell.{Cell}
@@ -27,14 +28,14 @@ pub record AreAsked (inst : InstanceView) (ds : List Decision) (edges : List Edg
   pub count : length edges ≤ pairs
   pub each : (k : ℕ) → k < length edges → IsAsked inst ds (edge_at edges k)
   pub whole :
-      (i j ticks : ℕ) → i < length inst.tasks → j < length inst.tasks → 240 * i + j < pairs
+      (i j ticks : ℕ) → i < length inst.tasks → j < length inst.tasks → MOST_TASKS * i + j < pairs
       → forced inst ds i j ≡ Some ticks → HasEdge edges (record { from = i; to = j; len = ticks })
 
 -- edges and cells that hold what the node asks for
 pub record ArePosed (inst : InstanceView) (ds : List Decision) (edges : List Edge) (cells : List Cell) : Type 0 where
   pub valid : Valid inst
-  pub few : length inst.tasks ≤ 240
-  pub asked : AreAsked inst ds edges (240 * length inst.tasks)
+  pub few : length inst.tasks ≤ MOST_TASKS
+  pub asked : AreAsked inst ds edges (MOST_TASKS * length inst.tasks)
   pub count : length cells ≡ length inst.tasks
   pub heads : (j : ℕ) → j < length inst.tasks → (cell cells j).head ≡ head inst ds j
   pub low : (j : ℕ) → j < length inst.tasks → head inst ds j ≤ 2 ^ 31

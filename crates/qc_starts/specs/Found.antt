@@ -1,7 +1,7 @@
 -- What is found for a node.
 use Rattle.std.specs.Prelude.{◌≡◌, ℕ, ◌+◌, ◌*◌, ◌<◌, ◌≤◌, Bool, true, nat_lt, List, [], ◌∷◌, map, length, Option, None, Some, vec_capacity}
 use Rattle.qc_model.specs.declared.decision.Decision.{Decision}
-use Rattle.qc_model.specs.declared.limits.TheConstants.{MOST_START}
+use Rattle.qc_model.specs.declared.limits.TheConstants.{MOST_START, MOST_TASKS}
 use Rattle.qc_model.specs.Instance.{InstanceView, ticks_of}
 use Rattle.qc_model.specs.Leaves.{chain, leaf_value, ring, with_berths}
 use Rattle.qc_model.specs.Nodes.{AreLeast, HasStarts}
@@ -41,7 +41,7 @@ IsTraced inst cells (i ∷ js) end =
 
 -- there is room for all that may be found for the instance
 pub record HasRoom (inst : InstanceView) (table : Table) : Type 0 where
-  pub edges : 240 * length inst.tasks ≤ vec_capacity table.edges
+  pub edges : MOST_TASKS * length inst.tasks ≤ vec_capacity table.edges
   pub cells : length table.cells.items ≡ length inst.tasks
   pub path : length inst.tasks ≤ vec_capacity table.path
 

@@ -1,6 +1,7 @@
 -- What rounds over edges raise: starts that are heads or follow from another, and at most those of all
 -- that keep the edges.
 use Rattle.std.specs.Prelude.{◌≡◌, ℕ, ◌+◌, ◌*◌, ◌<◌, ◌≤◌, ◌^◌, Bool, nat_lt, List, length, Option, None, Some, slice_index_or, slice_set}
+use Rattle.qc_model.specs.declared.limits.TheConstants.{MOST_TASKS}
 use Rattle.qc_starts.specs.declared.cells.Cell.{Cell}
 use Rattle.qc_starts.specs.declared.cells.Edge.{Edge}
 
@@ -28,7 +29,7 @@ pub record IsEdge (n : ℕ) (edge : Edge) : Type 0 where
   pub most : edge.len ≤ 2 ^ 31
 
 pub record AreEdges (n : ℕ) (edges : List Edge) : Type 0 where
-  pub tasks : n ≤ 240
+  pub tasks : n ≤ MOST_TASKS
   pub count : length edges ≤ 2 ^ 16
   pub each : (k : ℕ) → k < length edges → IsEdge n (edge_at edges k)
 

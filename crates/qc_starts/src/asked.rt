@@ -41,9 +41,9 @@ pub(crate) fn fill_cells(decisions: &Decisions, inst: &Instance, cells: &mut [Ce
 fn add_edges(decisions: &Decisions, inst: &Instance, from: u16, edges: &mut Vec<Edge>)
     requires same { decisions.now.inst ≡ inst.now }
     requires task { from < length inst.now.tasks }
-    requires room { 240 * length inst.now.tasks ≤ vec_capacity edges.old }
-    requires asked { AreAsked inst.now decisions.now.decisions edges.old.items (240 * from) }
-    ensures asked { AreAsked inst.now decisions.now.decisions edges.new.items (240 * (from + 1)) }
+    requires room { MOST_TASKS * length inst.now.tasks ≤ vec_capacity edges.old }
+    requires asked { AreAsked inst.now decisions.now.decisions edges.old.items (MOST_TASKS * from) }
+    ensures asked { AreAsked inst.now decisions.now.decisions edges.new.items (MOST_TASKS * (from + 1)) }
     ensures room { vec_capacity edges.new ≡ vec_capacity edges.old }
 {
     for to in 0..task_count(inst) {
@@ -56,9 +56,9 @@ fn add_edges(decisions: &Decisions, inst: &Instance, from: u16, edges: &mut Vec<
 /// Writes an edge for each two tasks of which one is forced after the other.
 pub(crate) fn fill_edges(decisions: &Decisions, inst: &Instance, edges: &mut Vec<Edge>)
     requires same { decisions.now.inst ≡ inst.now }
-    requires room { 240 * length inst.now.tasks ≤ vec_capacity edges.old }
+    requires room { MOST_TASKS * length inst.now.tasks ≤ vec_capacity edges.old }
     ensures asked { AreAsked inst.now decisions.now.decisions edges.new.items
-        (240 * length inst.now.tasks) }
+        (MOST_TASKS * length inst.now.tasks) }
     ensures room { vec_capacity edges.new ≡ vec_capacity edges.old }
 {
     edges.clear();

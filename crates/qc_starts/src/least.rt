@@ -14,7 +14,7 @@ use crate::cells::{Cell, Edge};
 use crate::rounds::raise_all;
 use crate::walk::{chain_to, ring_behind};
 use qc_dist::Decisions;
-use qc_model::Instance;
+use qc_model::{Instance, MOST_TASKS};
 use qc_num::{OutOfMemory, Tick};
 use std::alloc::Global;
 
@@ -107,7 +107,7 @@ fn pose(
     cells: &mut [Cell],
 ) -> Option<u16>
     requires same { decisions.now.inst ≡ inst.now }
-    requires edges { 240 * length inst.now.tasks ≤ vec_capacity edges.old }
+    requires edges { MOST_TASKS * length inst.now.tasks ≤ vec_capacity edges.old }
     requires cells { length cells.old ≡ length inst.now.tasks }
     ensures posed { ArePosed inst.now decisions.now.decisions edges.new.items cells.new }
     ensures raised { IsRaised edges.new.items cells.new (length cells.new + 1) }
@@ -131,7 +131,7 @@ fn find(
 ) -> Option<Tick>
     requires same { decisions.now.inst ≡ inst.now }
     requires fits { Fits inst.now decisions.now.decisions }
-    requires edges { 240 * length inst.now.tasks ≤ vec_capacity edges.old }
+    requires edges { MOST_TASKS * length inst.now.tasks ≤ vec_capacity edges.old }
     requires cells { length cells.old ≡ length inst.now.tasks }
     requires path { length inst.now.tasks ≤ vec_capacity path.old }
     ensures found { IsShown inst.now decisions.now.decisions cells.new path.new.items result }
@@ -172,7 +172,7 @@ impl Table {
             round: 0,
         };
         Ok(Table {
-            edges: Vec::with_capacity(alloc, 240 * tasks)?,
+            edges: Vec::with_capacity(alloc, MOST_TASKS as usize * tasks)?,
             cells: vec![in alloc; none; tasks]?,
             path: Vec::with_capacity(alloc, tasks)?,
             ends: 0,

@@ -1,6 +1,7 @@
 // Rounds over the edges, until no start is too early.
 
 ghost use Rattle.std.specs.Prelude.{◌≡◌, ◌+◌, ◌<◌, ◌≤◌, ◌^◌, length};
+ghost use Rattle.qc_model.specs.declared.limits.TheConstants.{MOST_TASKS};
 ghost use Rattle.qc_starts.specs.Rounds.{AreAfter, AreEdges, AreWithin, HaveHeads, IsRaised, IsTold, cell, is_late};
 
 use crate::cells::{Cell, Edge, raise};
@@ -19,7 +20,7 @@ fn is_late(cells: &[Cell], edge: Edge) -> bool
 /// last, if any was.
 fn raise_round(edges: &[Edge], done: u16, cells: &mut [Cell]) -> Option<u16>
     requires edges { AreEdges (length cells.old) edges.now }
-    requires soon { done ≤ 240 }
+    requires soon { done ≤ MOST_TASKS }
     requires before { AreAfter edges.now cells.old done }
     ensures after { AreAfter edges.now cells.new (done + 1) }
     ensures heads { HaveHeads cells.old cells.new }
