@@ -1,5 +1,5 @@
 -- Bounds: numbers of ticks, and Never above them all.
-use Rattle.std.specs.Prelude.{◌≤◌, min}
+use Rattle.std.specs.Prelude.{◌≤◌, min, Bool, true, false, ◌==◌, List, [], ◌∷◌}
 use Rattle.qc_num.specs.declared.bound.Bound.{Bound}
 use Rattle.qc_num.specs.declared.bound.Bound.TheVariants.{Least, Never}
 
@@ -15,3 +15,14 @@ abbrev pub lesser : Bound → Bound → Bound
 lesser (Least a) (Least b) = Least (min a b)
 lesser (Least a) Never = Least a
 lesser Never b = b
+
+-- the least of these bounds, and Never where there is none
+abbrev pub least_bound : List Bound → Bound
+least_bound [] = Never
+least_bound (b ∷ bs) = lesser b (least_bound bs)
+
+-- both bounds are the same
+abbrev pub is_bound : Bound → Bound → Bool
+is_bound (Least a) (Least b) = a == b
+is_bound Never Never = true
+is_bound _ _ = false

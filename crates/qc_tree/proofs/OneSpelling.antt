@@ -49,7 +49,7 @@ one_list (x ∷ xs) ys p q same =
     ap (λ zs. x ∷ zs) (one_list xs more.0 (All-tail IsTask x xs p) more.2 more.3) ∙ sym more.1
 
 -- the word for no end is no number
-never_digits : (x : ℕ) → x < 2 ^ 64 → decimal x ++ [] ≡ codes "never" → ⊥
+pub never_digits : (x : ℕ) → x < 2 ^ 64 → decimal x ++ [] ≡ codes "never" → ⊥
 never_digits x wide same =
     let none = one_split (decimal x) [] [] (codes "never") (decimal_digits x wide) refl tt refl same in
     omega (arith, decimal_nonempty x wide, ap length none.0)

@@ -7,7 +7,7 @@ mod reader;
 mod reading;
 mod writing;
 
-pub use line::{BadLine, Line};
+pub use line::{BadLine, Line, MOST_BRANCHINGS};
 pub use reader::{LineFault, LineOpen, LineReader};
 pub use reading::read_line;
 pub use writing::write_line;

@@ -1,5 +1,8 @@
 use qc_num::Bound;
 
+/// How many branchings a tree has at most.
+pub const MOST_BRANCHINGS: u32 = 100_000;
+
 /// A line of a tree's text. Tasks are numbered from 1, as in the text. The tasks of a chain or ring
 /// stand in a path beside it.
 #[derive(Clone, Copy, Debug, PartialEq, Eq)]
