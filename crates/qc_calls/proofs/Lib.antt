@@ -1,2 +1,4 @@
+mod OneAnswer
 pub mod Answered
 pub mod SameLemmas
+pub mod FilesLemmas

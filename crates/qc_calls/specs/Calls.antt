@@ -7,6 +7,7 @@ use Rattle.qc_model.specs.Nodes.{IsSettled, assigned, forced, free, head, head1,
 use Rattle.qc_model.specs.OneWay.{mirror}
 use Rattle.qc_model.specs.Ticks.{task_distance, travel_between}
 use Rattle.qc_dist.specs.Node.{IsOpen}
+use Rattle.qc_calls.specs.OfFiles.{OfFiles}
 use Rattle.qc_calls.specs.declared.row.Call.{Call}
 use Rattle.qc_calls.specs.declared.row.Call.TheVariants.{Add, Undo, CraneOf, Forced, Settled, Lead, Lead1, WorkHolds, Distance, Head, Span, InReach, MirrorBay, MirrorCrane, Same}
 
@@ -34,6 +35,10 @@ abbrev pub newest : List Decision → Option Decision
 newest [] = None
 newest (d ∷ ds) = Some d
 
+-- what the copy of the first must be is the second, and so is what the mirror of its mirror must be
+abbrev pub AreAgain : InstanceView → InstanceView → Type 0
+AreAgain inst other = (inst ≡ other) × (mirror (mirror inst) ≡ other)
+
 -- what the call must answer is what is defined
 abbrev pub IsAnswered : InstanceView → List Decision → Call → Type 0
 IsAnswered inst ds (Add d) = Unit {0}
@@ -52,7 +57,7 @@ IsAnswered inst ds (InReach j k is) = reaches inst j k ≡ is
 IsAnswered inst ds (MirrorBay j bay) = bay_of (mirror inst) j ≡ bay
 IsAnswered inst ds (MirrorCrane k name bay) =
     ((crane (mirror inst) k).name ≡ name.now) × ((crane (mirror inst) k).bay ≡ bay)
-IsAnswered inst ds Same = mirror (mirror inst) ≡ inst
+IsAnswered inst ds (Same ship list) = OfFiles ship.now list.now (AreAgain inst)
 
 -- the decisions that the next call finds
 abbrev pub after : List Decision → Call → List Decision

@@ -1,5 +1,6 @@
 pub mod Answer
 pub mod Calls
+pub mod OfFiles
 pub mod Passes
 pub mod StartsCalls
 pub mod Verdict

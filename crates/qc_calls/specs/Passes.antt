@@ -1,28 +1,27 @@
 -- When a row passes.
-use Rattle.std.specs.Prelude.{◌≡◌, ℕ, List, [], Result, MatchResult, IsOkAnd}
+use Rattle.std.specs.Prelude.{◌≡◌, ℕ, List, [], Result, MatchResult}
 use Rattle.qc_model.specs.declared.direction.Direction.{Direction}
 use Rattle.qc_model.specs.declared.rules.Break.{Break}
 use Rattle.qc_model.specs.declared.schedule.Slot.{Slot}
 use Rattle.qc_model.specs.Instance.{InstanceView}
 use Rattle.qc_model.specs.Judge.{IsJudgeable, IsDirection, IsFirstBreak}
-use Rattle.qc_ship.specs.ShipFile.{ship_file}
-use Rattle.qc_stow.specs.Stow.{moves_in}
-use Rattle.qc_tasks.specs.InstanceOf.{instance_of}
+use Rattle.qc_model.specs.OneWay.{GoesOneWay}
 use Rattle.qc_calls.specs.declared.row.CallRow.{CallRow}
 use Rattle.qc_calls.specs.declared.row.ScheduleRow.{ScheduleRow}
 use Rattle.qc_calls.specs.Answer.{answer_text}
 use Rattle.qc_calls.specs.declared.row.StartsRow.{StartsRow}
 use Rattle.qc_calls.specs.Calls.{AreAnswered}
+use Rattle.qc_calls.specs.OfFiles.{OfFiles}
 use Rattle.qc_calls.specs.StartsCalls.{AreStartsAnswered}
 
--- the files can be read, and their instance is of this kind
-abbrev pub OfFiles : List ℕ → List ℕ → (InstanceView → Type 0) → Type 0
-OfFiles ship list Kind =
-    IsOkAnd (ship_file ship) (λ s. IsOkAnd (moves_in s list) (λ moves. Kind (instance_of s moves)))
+-- the schedule goes neither way, and this is its first break on the way up
+pub record IsBroken (inst : InstanceView) (slots : List Slot) (broken : Break) : Type 0 where
+  pub neither : ¬ GoesOneWay inst slots
+  pub first : IsFirstBreak inst slots broken
 
 -- the direction of the schedule, or its first break where it goes neither way
 abbrev pub IsAnswer : InstanceView → List Slot → Result Direction Break → Type 0
-IsAnswer inst slots answer = MatchResult answer (IsDirection inst slots) (IsFirstBreak inst slots)
+IsAnswer inst slots answer = MatchResult answer (IsDirection inst slots) (IsBroken inst slots)
 
 -- the schedule can be judged, and its answer is printed so
 pub record IsAnsweredBy (inst : InstanceView) (slots : List Slot) (text : List ℕ) : Type 0 where

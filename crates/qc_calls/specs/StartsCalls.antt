@@ -1,19 +1,17 @@
 -- What calls on least starts answer, one after the other, by the definitions of nodes. Decisions are
 -- newest first.
-use Rattle.std.specs.Prelude.{◌≡◌, ◌↔◌, ℕ, ◌<◌, ◌≤◌, List, [], ◌∷◌, length, IsTrue}
+use Rattle.std.specs.Prelude.{◌≡◌, ◌↔◌, ℕ, ◌<◌, ◌≤◌, List, [], ◌∷◌, length, IsTrue, MatchOption}
+use Rattle.qc_num.specs.declared.bound.Bound.{Bound}
 use Rattle.qc_model.specs.declared.decision.Decision.{Decision}
-use Rattle.qc_model.specs.declared.decision.Decision.TheVariants.{Assign, Order}
+use Rattle.qc_model.specs.Closing.{IsClosable, IsWorkBound}
 use Rattle.qc_model.specs.Instance.{InstanceView}
-use Rattle.qc_model.specs.Nodes.{HasStarts, IsComplete, IsNodeEnd, IsSettled, assigned, reaches}
+use Rattle.qc_model.specs.Nodes.{HasStarts, IsComplete, IsNodeEnd, IsSettled, assigned}
 use Rattle.qc_dist.specs.Node.{IsOpen}
-use Rattle.qc_starts.specs.Seen.{HasNone, IsCycle, IsNodeStart, IsStep, IsWhy, first_of}
+use Rattle.qc_starts.specs.Seen.{HasNone, IsCycle, IsNodeStart, IsReached, IsStep, IsWhy, first_of}
+use Rattle.qc_bounds.specs.declared.leaves.LeafKind.{LeafKind}
+use Rattle.qc_bounds.specs.Closed.{IsClosedBy, IsSpentBy}
 use Rattle.qc_calls.specs.declared.row.StartsCall.{StartsCall}
-use Rattle.qc_calls.specs.declared.row.StartsCall.TheVariants.{Decide, Retract, Stuck, Mark, Start, Ends, HasCrane, Settles, Complete, WhyPath, Ring}
-
--- a task is put on a crane that reaches it
-abbrev pub IsReached : InstanceView → Decision → Type 0
-IsReached inst (Assign j k) = IsTrue (reaches inst j k)
-IsReached inst (Order i j) = Unit {0}
+use Rattle.qc_calls.specs.declared.row.StartsCall.TheVariants.{Decide, Retract, Stuck, Mark, Start, Ends, HasCrane, Settles, Complete, WhyPath, Ring, WorkBound, Close, Spent}
 
 -- the tasks of the call are there, what it decides is open, and where it speaks of starts or of a ring
 -- there are such
@@ -34,6 +32,17 @@ pub record HasRingOf (inst : InstanceView) (ds : List Decision) (count : ℕ) : 
   pub ring : IsCycle inst ds tasks
   pub count_is : length tasks ≡ count
 
+-- the leaf closes the node at u
+pub record HasLeaf (inst : InstanceView) (ds : List Decision) (u : Bound) (leaf : LeafKind) : Type 0 where
+  pub tasks : List ℕ
+  pub closable : IsClosable inst ds u
+  pub closed : IsClosedBy inst ds u leaf tasks
+
+-- the leaf stands for the node without branching
+pub record HasSpent (inst : InstanceView) (ds : List Decision) (leaf : LeafKind) : Type 0 where
+  pub tasks : List ℕ
+  pub spent : IsSpentBy inst ds leaf tasks
+
 -- what the call must answer is what is defined
 abbrev pub IsAnswered : InstanceView → List Decision → StartsCall → Type 0
 IsAnswered inst ds (Decide d step) = IsStep inst (d ∷ ds) step
@@ -47,6 +56,9 @@ IsAnswered inst ds (Settles i j is) = IsTrue is ↔ IsSettled inst ds i j
 IsAnswered inst ds (Complete is) = IsTrue is ↔ IsComplete inst ds
 IsAnswered inst ds (WhyPath path) = IsWhy inst ds path.now
 IsAnswered inst ds (Ring count) = HasRingOf inst ds count
+IsAnswered inst ds (WorkBound bound) = IsWorkBound inst ds bound
+IsAnswered inst ds (Close u leaf) = MatchOption leaf (¬ IsClosable inst ds u) (HasLeaf inst ds u)
+IsAnswered inst ds (Spent leaf) = HasSpent inst ds leaf
 
 -- the decisions that the next call finds
 abbrev pub after : List Decision → StartsCall → List Decision

@@ -1,44 +1,61 @@
 // Makes calls, and compares what they answer.
 
-ghost use Rattle.std.specs.Prelude.{◌≡◌, ◌<◌, IfOk, IsTrue, drop, length};
-ghost use Rattle.qc_model.specs.Instance.{bay_of, crane};
+ghost use Rattle.std.specs.Prelude.{◌≡◌, ◌↔◌, ◌<◌, ◌⊎◌, IfOk, IsTrue, drop, length};
+ghost use Rattle.qc_model.specs.Instance.{IsApart, Valid, bay_of, crane};
 ghost use Rattle.qc_model.specs.OneWay.{mirror};
 ghost use Rattle.qc_dist.specs.Node.{IsOpen};
-ghost use Rattle.qc_calls.specs.Calls.{CanBeMade, IsAnswered, after, newest};
+ghost use Rattle.qc_calls.specs.Calls.{AreAgain, CanBeMade, IsAnswered, after, newest};
+ghost use Rattle.qc_calls.specs.OfFiles.{OfFiles};
 
+use crate::instance::instance_in;
 use crate::row::Call;
-use crate::same::is_same;
+use crate::same::are_same;
 use qc_dist::{Decisions, distance, head, in_reach, span};
-use qc_model::{Crane, Decision, Instance, copy, mirror};
+use qc_model::{Decision, Instance, copy, mirror};
 use qc_num::{Bay, OutOfMemory};
 use std::alloc::Global;
 
 pub fn is_task(inst: &Instance, task: u16) -> bool
-    ensures { IsTrue result → task < length inst.now.tasks }
+    ensures there { IsTrue result ↔ (task < length inst.now.tasks) }
+    ensures valid { Valid inst.now }
 {
     (task as usize) < inst.tasks().len()
 }
 
 pub fn is_crane(inst: &Instance, crane: u16) -> bool
-    ensures { IsTrue result → crane < length inst.now.cranes }
+    ensures { IsTrue result ↔ (crane < length inst.now.cranes) }
 {
     (crane as usize) < inst.cranes().len()
+}
+
+pub fn are_tasks(inst: &Instance, first: u16, second: u16) -> bool
+    ensures there { IsTrue result
+        ↔ ((first < length inst.now.tasks) × (second < length inst.now.tasks)) }
+    ensures valid { Valid inst.now }
+{
+    is_task(inst, first) && is_task(inst, second)
+}
+
+/// Whether both are tasks that are apart.
+pub fn are_apart(inst: &Instance, first: u16, second: u16) -> bool
+    ensures apart { IsTrue result ↔ (IsApart inst.now first second ⊎ IsApart inst.now second first) }
+    ensures first { IsTrue result → first < length inst.now.tasks }
+    ensures second { IsTrue result → second < length inst.now.tasks }
+{
+    are_tasks(inst, first, second) && (inst.is_apart(first, second) || inst.is_apart(second, first))
 }
 
 // Whether the decision may be made.
 fn is_open(decisions: &Decisions, inst: &Instance, decision: Decision) -> bool
     requires { decisions.now.inst ≡ inst.now }
-    ensures { IsTrue result → IsOpen inst.now decisions.now.decisions decision }
+    ensures { IsTrue result ↔ IsOpen inst.now decisions.now.decisions decision }
 {
     match decision {
         Decision::Assign(task, crane) => {
             is_task(inst, task) && is_crane(inst, crane) && decisions.crane_of(task).is_none()
         }
         Decision::Order(first, second) => {
-            (inst.is_apart(first, second) || inst.is_apart(second, first))
-                && is_task(inst, first)
-                && is_task(inst, second)
-                && !decisions.settled(inst, first, second)
+            are_apart(inst, first, second) && !decisions.settled(inst, first, second)
         }
     }
 }
@@ -46,14 +63,14 @@ fn is_open(decisions: &Decisions, inst: &Instance, decision: Decision) -> bool
 /// Whether the call can be made: its tasks and cranes are there, and what it decides is open.
 pub fn can_be_made(decisions: &Decisions, inst: &Instance, call: Call) -> bool
     requires { decisions.now.inst ≡ inst.now }
-    ensures { IsTrue result → CanBeMade inst.now decisions.now.decisions call }
+    ensures { IsTrue result ↔ CanBeMade inst.now decisions.now.decisions call }
 {
     match call {
         Call::Add(decision) => is_open(decisions, inst, decision),
         Call::CraneOf(j, _) => is_task(inst, j),
         Call::Lead(j, _) | Call::Lead1(j, _) => is_task(inst, j),
-        Call::Forced(i, j, _) | Call::Span(i, j, _) => is_task(inst, i) && is_task(inst, j),
-        Call::Settled(i, j, _) => is_task(inst, i) && is_task(inst, j),
+        Call::Forced(i, j, _) | Call::Span(i, j, _) => are_tasks(inst, i, j),
+        Call::Settled(i, j, _) => are_tasks(inst, i, j),
         Call::WorkHolds(v, _) => 1 <= v,
         Call::Distance(i, v, j, w, _) => {
             is_task(inst, i) && is_crane(inst, v) && is_task(inst, j) && is_crane(inst, w)
@@ -62,13 +79,13 @@ pub fn can_be_made(decisions: &Decisions, inst: &Instance, call: Call) -> bool
         Call::InReach(j, k, _) => is_task(inst, j) && is_crane(inst, k),
         Call::MirrorBay(j, _) => is_task(inst, j),
         Call::MirrorCrane(k, _, _) => is_crane(inst, k),
-        Call::Undo(_) | Call::Same => true,
+        Call::Undo(_) | Call::Same(_, _) => true,
     }
 }
 
 // Takes the newest decision back; whether it is this one.
 fn undoes(decisions: &mut Decisions, wanted: Option<Decision>) -> bool
-    ensures newest { IsTrue result → newest decisions.old.decisions ≡ wanted }
+    ensures newest { IsTrue result ↔ (newest decisions.old.decisions ≡ wanted) }
     ensures older { decisions.new ≡ record decisions.old {
       decisions = drop 1 decisions.old.decisions;
     } }
@@ -79,17 +96,19 @@ fn undoes(decisions: &mut Decisions, wanted: Option<Decision>) -> bool
 // Whether the task is at this bay in the mirror.
 fn is_mirror_bay(alloc: Global, inst: &Instance, task: u16, bay: Bay) -> Result<bool, OutOfMemory>
     requires { task < length inst.now.tasks }
-    ensures { IfOk result (λ is. IsTrue is → bay_of (mirror inst.now) task ≡ bay) }
+    ensures { IfOk result (λ is. IsTrue is ↔ (bay_of (mirror inst.now) task ≡ bay)) }
 {
     let turned = mirror(alloc, inst)?;
     Ok(turned.tasks()[task as usize].bay == bay)
 }
 
-// Whether the crane has this name and start bay.
-fn is_at(post: &Crane, name: &str, bay: Bay) -> bool
-    ensures name { IsTrue result → post.now.name ≡ name.now }
-    ensures bay { IsTrue result → post.now.bay ≡ bay }
+// Whether the crane of this number has this name and start bay.
+fn is_at(inst: &Instance, number: u16, name: &str, bay: Bay) -> bool
+    requires { number < length inst.now.cranes }
+    ensures { IsTrue result
+        ↔ (((crane inst.now number).name ≡ name.now) × ((crane inst.now number).bay ≡ bay)) }
 {
+    let post = &inst.cranes()[number as usize];
     post.name.as_bytes() == name.as_bytes() && post.bay == bay
 }
 
@@ -102,23 +121,25 @@ fn is_mirror_crane(
     bay: Bay,
 ) -> Result<bool, OutOfMemory>
     requires { number < length inst.now.cranes }
-    ensures name { IfOk result
-        (λ is. IsTrue is → (crane (mirror inst.now) number).name ≡ name.now) }
-    ensures bay { IfOk result (λ is. IsTrue is → (crane (mirror inst.now) number).bay ≡ bay) }
+    ensures { IfOk result (λ is. IsTrue is
+        ↔ (((crane (mirror inst.now) number).name ≡ name.now)
+        × ((crane (mirror inst.now) number).bay ≡ bay))) }
 {
     let turned = mirror(alloc, inst)?;
-    let post = &turned.cranes()[number as usize];
-    Ok(is_at(post, name, bay))
+    Ok(is_at(&turned, number, name, bay))
 }
 
-// Whether the mirror of the mirror is the instance, and so is the copy.
-fn is_same_again(alloc: Global, inst: &Instance) -> Result<bool, OutOfMemory>
-    ensures { IfOk result (λ is. IsTrue is → mirror (mirror inst.now) ≡ inst.now) }
+// Whether the copy, and the mirror of the mirror, are the instance of these files.
+fn are_again(alloc: Global, inst: &Instance, ship: &str, list: &str) -> Result<bool, OutOfMemory>
+    ensures { IfOk result (λ are. IsTrue are ↔ OfFiles ship.now list.now (AreAgain inst.now)) }
 {
     let turned = mirror(alloc, inst)?;
     let back = mirror(alloc, &turned)?;
     let copied = copy(alloc, inst)?;
-    Ok(is_same(&back, inst) && is_same(&copied, inst))
+    match instance_in(alloc, ship, list)? {
+        Ok(wanted) => Ok(are_same(&copied, &back, &wanted)),
+        Err(_) => Ok(false),
+    }
 }
 
 /// Makes the call; whether it answers as it must.
@@ -131,7 +152,7 @@ pub fn answers(
     requires same { decisions.old.inst ≡ inst.now }
     requires possible { CanBeMade inst.now decisions.old.decisions call }
     ensures answer { IfOk result
-        (λ held. IsTrue held → IsAnswered inst.now decisions.old.decisions call) }
+        (λ held. IsTrue held ↔ IsAnswered inst.now decisions.old.decisions call) }
     ensures after { decisions.new ≡ record decisions.old {
       decisions = after decisions.old.decisions call;
     } }
@@ -154,6 +175,6 @@ pub fn answers(
         Call::InReach(j, k, is) => Ok(in_reach(inst, j, k) == is),
         Call::MirrorBay(j, bay) => is_mirror_bay(alloc, inst, j, bay),
         Call::MirrorCrane(k, name, bay) => is_mirror_crane(alloc, inst, k, name, bay),
-        Call::Same => is_same_again(alloc, inst),
+        Call::Same(ship, list) => are_again(alloc, inst, ship, list),
     }
 }

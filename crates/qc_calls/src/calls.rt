@@ -308,7 +308,7 @@ pub const CALLS: &[CallRow] = &[
             MirrorBay(1, 3),
             MirrorCrane(0, "C2", 2),
             MirrorCrane(1, "C1", 4),
-            Same,
+            Same(TWO, AT_2_AND_6),
         ]
     ),
     // Tasks at bays 1 and 4, cranes at 1, 3 and 5.
@@ -322,7 +322,7 @@ pub const CALLS: &[CallRow] = &[
             MirrorCrane(0, "C3", 0),
             MirrorCrane(1, "C2", 2),
             MirrorCrane(2, "C1", 4),
-            Same,
+            Same(THREE, ENDS),
         ]
     ),
     // A task at bay 4; the pair speaks of numbers, which stay.
@@ -330,6 +330,6 @@ pub const CALLS: &[CallRow] = &[
         "mirror-with-an-apart-pair",
         APART,
         AT_2_AND_14,
-        [MirrorBay(1, 1), Same]
+        [MirrorBay(1, 1), Same(APART, AT_2_AND_14)]
     ),
 ];

@@ -1,7 +1,7 @@
 // The instance of a row.
 
-ghost use Rattle.std.specs.Prelude.{◌≡◌, IfOk};
-ghost use Rattle.qc_calls.specs.Passes.{OfFiles};
+ghost use Rattle.std.specs.Prelude.{◌≡◌, IfOk, IfErr};
+ghost use Rattle.qc_calls.specs.OfFiles.{OfFiles};
 
 use qc_model::Instance;
 use qc_num::OutOfMemory;
@@ -16,7 +16,10 @@ pub fn instance_in(
     ship: &str,
     list: &str,
 ) -> Result<Result<Instance, &'static str>, OutOfMemory>
-    ensures { IfOk result (λ read. IfOk read (λ inst. OfFiles ship.now list.now (λ i. i ≡ inst))) }
+    ensures read { IfOk result
+        (λ read. IfOk read (λ inst. OfFiles ship.now list.now (λ i. i ≡ inst))) }
+    ensures refused { IfOk result
+        (λ read. IfErr read (λ _. ¬ OfFiles ship.now list.now (λ _. Unit {0}))) }
 {
     let ship = match read_ship(alloc, ship.as_bytes()) {
         Ok(ship) => ship,

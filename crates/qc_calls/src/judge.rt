@@ -10,7 +10,7 @@ use crate::instance::instance_in;
 use crate::row::ScheduleRow;
 use crate::slots::schedule_of;
 use crate::verdict::{Verdict, failed};
-use qc_model::{Break, Direction, Instance, MOST_TASKS, Task, direction_of, is_judgeable};
+use qc_model::{Break, Direction, Instance, Task, direction_of, is_judgeable};
 use qc_num::OutOfMemory;
 use std::alloc::Global;
 
@@ -44,22 +44,23 @@ fn compare(
 
 fn judge(alloc: Global, inst: &Instance, row: &ScheduleRow) -> Result<Verdict, OutOfMemory>
     ensures { IfOk result
-        (λ verdict. IsHeld verdict → IsAnsweredBy inst.now row.now.slots.now row.now.answer.now) }
+        (λ verdict. IsHeld verdict ↔ IsAnsweredBy inst.now row.now.slots.now row.now.answer.now) }
 {
-    if row.slots.len() > MOST_TASKS as usize {
-        return failed(alloc, "the schedule has too many tasks");
+    let tasks = inst.tasks();
+    if row.slots.len() != tasks.len() {
+        return failed(alloc, "the schedule has other tasks");
     }
     let schedule = schedule_of(alloc, row.slots)?;
     if !is_judgeable(inst, &schedule) {
         return failed(alloc, "the schedule can't be judged");
     }
     let answer = direction_of(inst, &schedule);
-    compare(alloc, inst.tasks(), answer, row.answer)
+    compare(alloc, tasks, answer, row.answer)
 }
 
-/// The verdict on a schedule: held only where its row passes.
+/// The verdict on a schedule: held exactly where its row passes.
 pub fn verdict_on_schedule(alloc: Global, row: &ScheduleRow) -> Result<Verdict, OutOfMemory>
-    ensures { IfOk result (λ verdict. IsHeld verdict → PassesSchedule row.now) }
+    ensures { IfOk result (λ verdict. IsHeld verdict ↔ PassesSchedule row.now) }
 {
     match instance_in(alloc, row.ship, row.list)? {
         Ok(inst) => judge(alloc, &inst, row),

@@ -1,13 +1,14 @@
 //! Runs tables of inner calls and prints one line a row: whether it answers as it must.
 //!
 //! `schedules.rt` has schedules and what their judge must answer, `calls.rt` calls on decisions and on
-//! the mirror, and `starts.rt` calls on least starts. A line is `ok NAME` or `FAILED NAME: ` with what
-//! is otherwise; the status is 1 where a row failed.
+//! the mirror, `starts.rt` calls on least starts, and `closed.rt` calls on the leaves that close nodes.
+//! A line is `ok NAME` or `FAILED NAME: ` with what is otherwise; the status is 1 where a row failed.
 #![tactic(auto)]
 
 mod answer;
 mod answers;
 mod calls;
+mod closed;
 mod files;
 mod instance;
 mod judge;
@@ -23,6 +24,7 @@ mod verdict;
 
 use anyhow::Result;
 use calls::CALLS;
+use closed::CLOSED;
 use judge::verdict_on_schedule;
 use row::{CallRow, ScheduleRow, StartsRow};
 use run::verdict_on_calls;
@@ -72,7 +74,8 @@ fn main(rt: HostRuntime) -> Result<ExitCode> {
     let schedules_hold = judge_schedules(&rt, SCHEDULES)?;
     let calls_hold = run_calls(&rt, CALLS)?;
     let starts_hold = run_starts(&rt, STARTS)?;
-    if schedules_hold && calls_hold && starts_hold {
+    let closed_hold = run_starts(&rt, CLOSED)?;
+    if schedules_hold && calls_hold && starts_hold && closed_hold {
         Ok(ExitCode::SUCCESS)
     } else {
         Ok(ExitCode::FAILURE)

@@ -1,5 +1,6 @@
+use qc_bounds::LeafKind;
 use qc_model::{Decision, Slot};
-use qc_num::{Bay, Tick};
+use qc_num::{Bay, Bound, Tick};
 use qc_starts::Step;
 
 /// A schedule and what the judge must answer.
@@ -56,8 +57,8 @@ pub enum Call {
     MirrorBay(u16, Bay),
     /// The name and the start bay of the crane in the mirror.
     MirrorCrane(u16, &'static str, Bay),
-    /// The mirror of the mirror is the instance, and so is the copy.
-    Same,
+    /// A ship file and a stowage list: their instance is the copy, and the mirror of the mirror.
+    Same(&'static str, &'static str),
 }
 
 /// Calls on the least starts of nodes, one after the other.
@@ -91,4 +92,8 @@ pub enum StartsCall {
     WhyPath(&'static [u16]),
     /// The number of tasks in the ring.
     Ring(usize),
+    WorkBound(Tick),
+    /// The bound at which the node may be closed, and the leaf.
+    Close(Bound, Option<LeafKind>),
+    Spent(LeafKind),
 }

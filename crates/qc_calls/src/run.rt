@@ -1,6 +1,6 @@
 // The verdict on calls.
 
-ghost use Rattle.std.specs.Prelude.{IfOk, []};
+ghost use Rattle.std.specs.Prelude.{◌↔◌, IfOk, []};
 ghost use Rattle.qc_calls.specs.Calls.{AreAnswered};
 ghost use Rattle.qc_calls.specs.Passes.{PassesCalls};
 ghost use Rattle.qc_calls.specs.Verdict.{IsHeld};
@@ -22,7 +22,7 @@ pub fn failed_at(alloc: Global, number: usize, why: &str) -> Result<Verdict, Out
 }
 
 fn run(alloc: Global, inst: &Instance, calls: &[Call]) -> Result<Verdict, OutOfMemory>
-    ensures { IfOk result (λ verdict. IsHeld verdict → AreAnswered inst.now [] calls.now) }
+    ensures { IfOk result (λ verdict. IsHeld verdict ↔ AreAnswered inst.now [] calls.now) }
 {
     let mut decisions = Decisions::new(alloc, inst)?;
     for (number, call) in calls.iter().enumerate() {
@@ -36,9 +36,9 @@ fn run(alloc: Global, inst: &Instance, calls: &[Call]) -> Result<Verdict, OutOfM
     Ok(Verdict::Held)
 }
 
-/// The verdict on a row of calls: held only where it passes.
+/// The verdict on a row of calls: held exactly where it passes.
 pub fn verdict_on_calls(alloc: Global, row: &CallRow) -> Result<Verdict, OutOfMemory>
-    ensures { IfOk result (λ verdict. IsHeld verdict → PassesCalls row.now) }
+    ensures { IfOk result (λ verdict. IsHeld verdict ↔ PassesCalls row.now) }
 {
     match instance_in(alloc, row.ship, row.list)? {
         Ok(inst) => run(alloc, &inst, row.calls),

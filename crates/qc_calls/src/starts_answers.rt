@@ -1,16 +1,18 @@
 // Makes calls on least starts, and compares what they answer.
 
-ghost use Rattle.std.specs.Prelude.{◌≡◌, ◌∷◌, IfOk, IsTrue};
+ghost use Rattle.std.specs.Prelude.{◌≡◌, ◌∷◌, IfOk, IsTrue, MatchOption};
 ghost use Rattle.qc_model.specs.Nodes.{HasStarts};
 ghost use Rattle.qc_dist.specs.Node.{IsOpen};
-ghost use Rattle.qc_starts.specs.Seen.{IsStep, IsWhy};
-ghost use Rattle.qc_calls.specs.StartsCalls.{CanBeMade, HasRingOf, IsAnswered, IsReached, after};
+ghost use Rattle.qc_model.specs.Closing.{IsClosable};
+ghost use Rattle.qc_starts.specs.Seen.{IsReached, IsStep, IsWhy};
+ghost use Rattle.qc_calls.specs.StartsCalls.{CanBeMade, HasLeaf, HasRingOf, HasSpent, IsAnswered, after};
 
-use crate::answers::{is_crane, is_task};
+use crate::answers::{are_apart, are_tasks, is_crane, is_task};
 use crate::row::StartsCall;
+use qc_bounds::{LeafKind, close, spent, work_bound};
 use qc_dist::in_reach;
 use qc_model::{Decision, Instance};
-use qc_num::{OutOfMemory, Path, Steps};
+use qc_num::{Bound, OutOfMemory, Path, Steps};
 use qc_starts::{Starts, Step};
 use std::alloc::Global;
 use std::sync::ledger::Ledger;
@@ -29,10 +31,7 @@ fn is_open(starts: &Starts, inst: &Instance, decision: Decision) -> bool
                 && in_reach(inst, task, crane)
         }
         Decision::Order(first, second) => {
-            (inst.is_apart(first, second) || inst.is_apart(second, first))
-                && is_task(inst, first)
-                && is_task(inst, second)
-                && !starts.settled(first, second)
+            are_apart(inst, first, second) && !starts.settled(first, second)
         }
     }
 }
@@ -49,8 +48,9 @@ pub fn can_be_made(starts: &Starts, inst: &Instance, call: StartsCall) -> bool
         StartsCall::Ends(_) | StartsCall::WhyPath(_) => !starts.stuck(),
         StartsCall::Ring(_) => starts.stuck(),
         StartsCall::HasCrane(j, _) => is_task(inst, j),
-        StartsCall::Settles(i, j, _) => is_task(inst, i) && is_task(inst, j),
+        StartsCall::Settles(i, j, _) => are_tasks(inst, i, j),
         StartsCall::Stuck(_) | StartsCall::Mark(_) | StartsCall::Complete(_) => true,
+        StartsCall::WorkBound(_) | StartsCall::Close(_, _) | StartsCall::Spent(_) => true,
     }
 }
 
@@ -107,6 +107,37 @@ fn is_ring_of(
     Ok(path.len() == count)
 }
 
+// Whether the node is closed by this leaf, or by none.
+fn is_closed_by(
+    alloc: Global,
+    starts: &Starts,
+    inst: &Instance,
+    bound: Bound,
+    leaf: Option<LeafKind>,
+) -> Result<bool, OutOfMemory>
+    requires { starts.now.inst ≡ inst.now }
+    ensures { IfOk result (λ is. IsTrue is → MatchOption leaf
+        (¬ IsClosable inst.now starts.now.decisions bound)
+        (HasLeaf inst.now starts.now.decisions bound)) }
+{
+    let mut path = Path::with_capacity(alloc, inst.tasks().len())?;
+    Ok(close(inst, starts, bound, &mut path) == leaf)
+}
+
+// Whether this leaf stands for the node.
+fn is_spent_by(
+    alloc: Global,
+    starts: &Starts,
+    inst: &Instance,
+    leaf: LeafKind,
+) -> Result<bool, OutOfMemory>
+    requires { starts.now.inst ≡ inst.now }
+    ensures { IfOk result (λ is. IsTrue is → HasSpent inst.now starts.now.decisions leaf) }
+{
+    let mut path = Path::with_capacity(alloc, inst.tasks().len())?;
+    Ok(spent(inst, starts, &mut path) == leaf)
+}
+
 /// Makes the call; whether it answers as it must.
 pub fn answers<L: Ledger>(
     alloc: Global,
@@ -137,5 +168,8 @@ pub fn answers<L: Ledger>(
         StartsCall::Complete(is) => Ok(starts.complete() == is),
         StartsCall::WhyPath(tasks) => is_why(alloc, starts, inst, tasks),
         StartsCall::Ring(count) => is_ring_of(alloc, starts, inst, count),
+        StartsCall::WorkBound(bound) => Ok(work_bound(inst, starts) == bound),
+        StartsCall::Close(bound, leaf) => is_closed_by(alloc, starts, inst, bound, leaf),
+        StartsCall::Spent(leaf) => is_spent_by(alloc, starts, inst, leaf),
     }
 }

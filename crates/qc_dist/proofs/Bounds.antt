@@ -1,5 +1,5 @@
 -- Bounds on what the tasks of a list come to.
-use Rattle.std.proofs.Common.{◌≡◌, ℕ, suc, ◌+◌, ◌*◌, ◌≤◌, ℤ, pos, Bool, true, false, cond, nat_eq, List, [], ◌∷◌, length, inl, inr, ap, arith}
+use Rattle.std.proofs.Common.{◌≡◌, ℕ, ◌*◌, ◌≤◌, ℤ, pos, Bool, true, false, cond, List, [], ◌∷◌, length, inl, inr, ap, arith}
 use Rattle.std.specs.Prelude.{IfSome, int_lt, is_none}
 use Rattle.std.specs.List.{range_with_len}
 use Rattle.std.proofs.lemmas.Bool.{cases_lt}
@@ -8,18 +8,18 @@ use Rattle.std.proofs.Math.ListN.{get_or-eq_default}
 use Rattle.std.proofs.lemmas.List.FromFn.{length-range_with_len}
 use Rattle.std.proofs.lemmas.List.Sums.{count_by-le-length, length-filter, sum_by-cons}
 use Rattle.qc_model.specs.declared.decision.Decision.{Decision}
-use Rattle.qc_model.specs.declared.decision.Decision.TheVariants.{Assign, Order}
 use Rattle.qc_model.specs.declared.task.Task.{Task}
 use Rattle.qc_model.specs.declared.direction.Direction.TheVariants.{Up}
 use Rattle.qc_model.specs.Instance.{InstanceView, Valid, IsOnRail, bay_of, ticks_of, no_task}
 use Rattle.qc_model.specs.Leaves.{highest, lowest, open_tasks, tasks_on, ticks_over}
-use Rattle.qc_model.specs.Nodes.{assigned}
+use Rattle.qc_model.specs.Nodes.{Fits, assigned}
 use Rattle.qc_model.proofs.OnRail.{task_on_rail, ticks_bounded}
 use Rattle.qc_dist.specs.Kept.{crane_load, unassigned_ticks}
 use Rattle.qc_dist.specs.Loads.{IsLoad, load_of}
+use Rattle.qc_dist.proofs.Room.{tasks_on_few}
 
 -- past the last task there is nothing
-on_rail : (inst : InstanceView) → Valid inst → (j : ℕ) → IsOnRail (bay_of inst j)
+pub on_rail : (inst : InstanceView) → Valid inst → (j : ℕ) → IsOnRail (bay_of inst j)
 on_rail inst v j = elim (cases_lt j (length inst.tasks)) [
   | inl inside ↦ task_on_rail inst v Up j inside
   | inr past ↦
@@ -27,7 +27,7 @@ on_rail inst v j = elim (cases_lt j (length inst.tasks)) [
       (omega (arith, ints), omega (arith, ints))
 ]
 
-few_ticks : (inst : InstanceView) → Valid inst → (j : ℕ) → ticks_of inst j ≤ 502400000
+pub few_ticks : (inst : InstanceView) → Valid inst → (j : ℕ) → ticks_of inst j ≤ 502400000
 few_ticks inst v j = elim (cases_lt j (length inst.tasks)) [
   | inl inside ↦ ticks_bounded inst v j inside
   | inr past ↦
@@ -45,41 +45,31 @@ either_on_rail : (b : Bool) (x y : ℤ) → IsOnRail x → IsOnRail y → IsOnRa
 either_on_rail true x y one other = one
 either_on_rail false x y one other = other
 
-lowest_on_rail : (inst : InstanceView) → Valid inst → (j : ℕ) (js : List ℕ) → IsOnRail (lowest inst j js)
+pub lowest_on_rail : (inst : InstanceView) → Valid inst → (j : ℕ) (js : List ℕ) → IsOnRail (lowest inst j js)
 lowest_on_rail inst v j [] = on_rail inst v j
 lowest_on_rail inst v j (i ∷ is) =
     let rest = lowest inst i is in
     let bay = bay_of inst j in
     either_on_rail (int_lt rest bay) rest bay (lowest_on_rail inst v i is) (on_rail inst v j)
 
-highest_on_rail : (inst : InstanceView) → Valid inst → (j : ℕ) (js : List ℕ) → IsOnRail (highest inst j js)
+pub highest_on_rail : (inst : InstanceView) → Valid inst → (j : ℕ) (js : List ℕ) → IsOnRail (highest inst j js)
 highest_on_rail inst v j [] = on_rail inst v j
 highest_on_rail inst v j (i ∷ is) =
     let rest = highest inst i is in
     let bay = bay_of inst j in
     either_on_rail (int_lt rest bay) bay rest (on_rail inst v j) (highest_on_rail inst v i is)
 
-one_more : (b : Bool) (j : ℕ) (js : List ℕ) (n : ℕ) → length js ≤ n → length (cond b (j ∷ js) js) ≤ suc n
-one_more true j js n few = omega arith
-one_more false j js n few = omega arith
-
--- a crane has no more tasks than there are decisions
-tasks_on_few : (ds : List Decision) (k : ℕ) → length (tasks_on ds k) ≤ length ds
-tasks_on_few [] k = omega arith
-tasks_on_few (Assign j v ∷ ds) k = one_more (nat_eq v k) j (tasks_on ds k) (length ds) (tasks_on_few ds k)
-tasks_on_few (Order i j ∷ ds) k = omega (arith, tasks_on_few ds k)
-
 load_bounded : (inst : InstanceView) → Valid inst → (js : List ℕ)
-    → length js ≤ 1840 → IfSome (load_of inst js) IsLoad
+    → length js ≤ 240 → IfSome (load_of inst js) IsLoad
 load_bounded inst v [] few = tt
 load_bounded inst v (j ∷ js) few =
     (omega (arith, ticks_over_bounded inst v (j ∷ js)), lowest_on_rail inst v j js, highest_on_rail inst v j js)
 
 -- what the tasks of a crane come to is small enough to be added to
-pub crane_load_bounded : (inst : InstanceView) → Valid inst → (ds : List Decision) (k : ℕ)
-    → length ds ≤ length inst.tasks + length inst.apart → IfSome (crane_load inst ds k) IsLoad
-crane_load_bounded inst v ds k few =
-    load_bounded inst v (tasks_on ds k) (omega (arith, tasks_on_few ds k, v.tasks.count, v.apart.count))
+pub crane_load_bounded : (inst : InstanceView) → Valid inst → (ds : List Decision) → Fits inst ds → (k : ℕ)
+    → IfSome (crane_load inst ds k) IsLoad
+crane_load_bounded inst v ds f k =
+    load_bounded inst v (tasks_on ds k) (omega (arith, tasks_on_few inst ds f k, v.tasks.count))
 
 -- the ticks of all unassigned tasks
 pub open_bounded : (inst : InstanceView) → Valid inst → (ds : List Decision)

@@ -9,6 +9,7 @@ use Rattle.qc_model.specs.declared.decision.Decision.{Decision}
 use Rattle.qc_model.specs.declared.decision.Decision.TheVariants.{Assign, Order}
 use Rattle.qc_model.specs.declared.pair.Pair.{Pair}
 use Rattle.qc_model.specs.Instance.{InstanceView, IsApart, pair_of}
+use Rattle.qc_model.specs.Leaves.{tasks_on}
 use Rattle.qc_model.specs.Nodes.{Fits, assigned, is_ordered}
 use Rattle.qc_dist.proofs.Sums.{count_less}
 use Rattle.qc_dist.proofs.Assigned.{ordered_here}
@@ -87,6 +88,25 @@ counted inst [] f =
     omega (arith, tasks, pairs, length-range_with_len 0 (length inst.tasks))
 counted inst (Assign i k ∷ ds) f = omega (arith, counted inst ds f.3, assigned_less inst ds i k f.0 f.2)
 counted inst (Order i j ∷ ds) f = omega (arith, counted inst ds f.3, ordered_less inst ds i j f.0 f.1 f.2)
+
+one_more : (b : Bool) (j : ℕ) (js : List ℕ) → length (cond b (j ∷ js) js) ≤ length js + 1
+one_more true j js = omega arith
+one_more false j js = omega arith
+
+on_and_unassigned : (inst : InstanceView) (ds : List Decision) → Fits inst ds → (k : ℕ)
+    → length (tasks_on ds k) + unassigned inst ds ≤ length inst.tasks
+on_and_unassigned inst [] f k =
+    let all = range_with_len 0 (length inst.tasks) in
+    omega (arith, count_by-le-length (λ (j : ℕ). true) all, length-range_with_len 0 (length inst.tasks))
+on_and_unassigned inst (Assign i v ∷ ds) f k =
+    let rest = on_and_unassigned inst ds f.3 k in
+    omega (arith, rest, one_more (nat_eq v k) i (tasks_on ds k), assigned_less inst ds i v f.0 f.2)
+on_and_unassigned inst (Order i j ∷ ds) f k = on_and_unassigned inst ds f.3 k
+
+-- a crane has no more tasks than there are
+pub tasks_on_few : (inst : InstanceView) (ds : List Decision) → Fits inst ds → (k : ℕ)
+    → length (tasks_on ds k) ≤ length inst.tasks
+tasks_on_few inst ds f k = omega (arith, on_and_unassigned inst ds f k)
 
 pub fits_room : (inst : InstanceView) (ds : List Decision) → Fits inst ds
     → length ds ≤ length inst.tasks + length inst.apart

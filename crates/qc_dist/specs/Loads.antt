@@ -1,7 +1,8 @@
 -- What the tasks of a crane come to, as it is kept beside the decisions.
-use Rattle.std.specs.Prelude.{ℕ, ◌+◌, ◌*◌, ◌^◌, ◌<◌, List, [], ◌∷◌, Option, None, Some}
+use Rattle.std.specs.Prelude.{ℕ, ◌+◌, ◌*◌, ◌≤◌, List, [], ◌∷◌, Option, None, Some}
 use Rattle.std.specs.Int.{int_min, int_max}
 use Rattle.qc_dist.specs.declared.loads.Load.{Load}
+use Rattle.qc_model.specs.declared.limits.TheConstants.{MOST_TASKS, MOST_WORK}
 use Rattle.qc_model.specs.declared.task.Task.{Task}
 use Rattle.qc_model.specs.Bays.{bays_up, bays_between}
 use Rattle.qc_model.specs.Instance.{InstanceView, IsOnRail, crane}
@@ -9,7 +10,7 @@ use Rattle.qc_model.specs.Leaves.{highest, lowest, ticks_over}
 
 -- the bays are places on the rail, and the ticks are few enough to be added to
 abbrev pub IsLoad : Load → Type 0
-IsLoad load = (load.ticks < 2 ^ 60) × IsOnRail load.lowest × IsOnRail load.highest
+IsLoad load = (load.ticks ≤ MOST_TASKS * MOST_WORK) × IsOnRail load.lowest × IsOnRail load.highest
 
 -- the tasks of a crane together; none where it has none
 abbrev pub load_of : InstanceView → List ℕ → Option Load

@@ -1,5 +1,6 @@
-ghost use Rattle.std.specs.Prelude.{◌≡◌, ◌<◌, ◌⊎◌, None, [], ◌∷◌, IfOk, IfSome, MatchOption, length};
+ghost use Rattle.std.specs.Prelude.{◌≡◌, ◌*◌, ◌<◌, ◌≤◌, ◌⊎◌, None, [], ◌∷◌, IfOk, IfSome, MatchOption, length};
 ghost use Rattle.qc_model.specs.declared.decision.Decision.TheVariants.{Assign, Order};
+ghost use Rattle.qc_model.specs.declared.limits.TheConstants.{MOST_TASKS, MOST_WORK};
 ghost use Rattle.qc_model.specs.Instance.{IsApart};
 ghost use Rattle.qc_model.specs.Nodes.{Fits, IsSettled, assigned, is_sooner};
 ghost use Rattle.qc_dist.specs.Heads.{IsHeads};
@@ -51,7 +52,7 @@ impl Model for Decisions {
 }
 
 impl Decisions {
-    ghost use Rattle.qc_dist.specs.Node.{IsOpen};
+    ghost use Rattle.qc_dist.specs.Node.{IsOpen, newest};
 
     /// No decision for the instance, and room for one a task and one an apart pair.
     pub fn new(alloc: Global, inst: &Instance) -> Result<Decisions, OutOfMemory>
@@ -144,6 +145,14 @@ impl Decisions {
         Some(made.decision)
     }
 
+    /// The newest decision; `None` exactly where there is none.
+    pub fn newest(&self) -> Option<Decision>
+        ensures { result ≡ newest self.now.decisions }
+    {
+        let made = self.made.last()?;
+        Some(made.decision)
+    }
+
     /// The crane of a task; `None` exactly where it has none.
     pub fn crane_of(&self, task: u16) -> Option<u16>
         requires { task < length self.now.inst.tasks }
@@ -180,8 +189,9 @@ impl Decisions {
     }
 
     /// The ticks of the tasks that no crane has.
-    pub(crate) fn open_ticks(&self) -> Tick
-        ensures { result ≡ unassigned_ticks self.now.inst self.now.decisions }
+    pub fn open_ticks(&self) -> Tick
+        ensures ticks { result ≡ unassigned_ticks self.now.inst self.now.decisions }
+        ensures bound { result ≤ MOST_TASKS * MOST_WORK }
     {
         self.open_ticks
     }

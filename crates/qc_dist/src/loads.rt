@@ -1,7 +1,7 @@
 // What the tasks of a crane come to.
 
-ghost use Rattle.std.specs.Prelude.{◌≡◌, ◌+◌, ◌<◌, ◌≤◌, ◌^◌, Some, IfSome, length};
-ghost use Rattle.qc_model.specs.declared.limits.TheConstants.{MOST_DISTANCE, MOST_WORK};
+ghost use Rattle.std.specs.Prelude.{◌≡◌, ◌+◌, ◌*◌, ◌<◌, ◌≤◌, Some, IfSome, length};
+ghost use Rattle.qc_model.specs.declared.limits.TheConstants.{MOST_DISTANCE, MOST_TASKS, MOST_WORK};
 ghost use Rattle.qc_dist.specs.Loads.{IsLoad, load_with, load_ticks};
 
 use crate::parts::post_at;
@@ -45,7 +45,7 @@ pub(crate) fn load_ticks(inst: &Instance, k: u16, load: Option<Load>) -> Tick
     requires crane { k < length inst.now.cranes }
     requires load { IfSome load IsLoad }
     ensures ticks { result ≡ load_ticks inst.now k load }
-    ensures bound { result < 2 ^ 62 }
+    ensures bound { result ≤ MOST_TASKS * MOST_WORK + 2 * MOST_DISTANCE }
 {
     match load {
         None => 0,

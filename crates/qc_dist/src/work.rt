@@ -1,7 +1,7 @@
-ghost use Rattle.std.specs.Prelude.{◌≡◌, ◌+◌, ◌-◌, ◌<◌, ◌≤◌, ◌^◌, length, sum_by};
+ghost use Rattle.std.specs.Prelude.{◌≡◌, ◌+◌, ◌-◌, ◌*◌, ◌<◌, ◌≤◌, length, nat_lt, sum_by};
 ghost use Rattle.std.specs.List.{list_any};
-ghost use Rattle.qc_model.specs.Instance.{crane};
-ghost use Rattle.qc_model.specs.Leaves.{crane_numbers, is_overfull, spare, used, work_holds};
+ghost use Rattle.qc_model.specs.declared.limits.TheConstants.{MOST_DISTANCE, MOST_READY, MOST_TASKS, MOST_WORK};
+ghost use Rattle.qc_model.specs.Leaves.{crane_numbers, done_at, is_overfull, spare, tasks_on, work_holds};
 ghost use Rattle.qc_dist.specs.Kept.{unassigned_ticks};
 
 use crate::Decisions;
@@ -11,11 +11,21 @@ use qc_model::Instance;
 use qc_num::Tick;
 
 impl Decisions {
-    /// When a crane is done at the soonest with the tasks that it has.
-    fn done_at(&self, inst: &Instance, k: u16) -> Tick
+    /// Whether a crane has a task.
+    pub fn has_tasks(&self, k: u16) -> bool
+        requires { k < length self.now.inst.cranes }
+        ensures { result ≡ nat_lt 0 (length (tasks_on self.now.decisions k)) }
+    {
+        self.load_of(k).is_some()
+    }
+
+    /// When a crane is done at the soonest with the tasks that it has, by their ticks and its way
+    /// alone.
+    pub fn done_at(&self, inst: &Instance, k: u16) -> Tick
         requires same { self.now.inst ≡ inst.now }
         requires crane { k < length inst.now.cranes }
-        ensures ticks { result ≡ (crane inst.now k).ready + used inst.now self.now.decisions k }
+        ensures ticks { result ≡ done_at inst.now self.now.decisions k }
+        ensures bound { result ≤ MOST_READY + MOST_TASKS * MOST_WORK + 2 * MOST_DISTANCE }
     {
         post_at(inst, k).ready + load_ticks(inst, k, self.load_of(k))
     }
@@ -26,7 +36,7 @@ impl Decisions {
         requires crane { k < length inst.now.cranes }
         ensures { result ≡ is_overfull inst.now self.now.decisions tick k }
     {
-        self.load_of(k).is_some() && tick < self.done_at(inst, k)
+        self.has_tasks(k) && tick < self.done_at(inst, k)
     }
 
     /// Whether some crane has tasks that it can't end by the tick.

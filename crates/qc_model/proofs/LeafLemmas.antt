@@ -36,7 +36,7 @@ first_of_them inst j js all =
     (ltb-true j (length inst.tasks) parts.0, parts.1)
 
 -- a step and what follows it
-joined : (P Q R : ℕ → Type 0) (a b : Option ℕ) → IfSome a P → IfSome b Q
+pub joined : (P Q R : ℕ → Type 0) (a b : Option ℕ) → IfSome a P → IfSome b Q
     → ((x y : ℕ) → P x → Q y → R (x + y))
     → IfSome (option_and_then (λ step. option_map (λ rest. step + rest) b) a) R
 joined P Q R None b p q h = tt

@@ -8,7 +8,7 @@ pub mod PairOrder
 pub mod InRange
 mod RuleOrder
 mod Parts
-mod Extremes
+pub mod Extremes
 pub mod NodeLemmas
 pub mod CompleteNodes
 mod Sums

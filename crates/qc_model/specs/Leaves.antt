@@ -86,17 +86,21 @@ used_for inst k (j ∷ js) =
 abbrev pub used : InstanceView → List Decision → ℕ → ℕ
 used inst ds k = used_for inst k (tasks_on ds k)
 
+-- when crane k is done at the soonest with the tasks that it has
+abbrev pub done_at : InstanceView → List Decision → ℕ → ℕ
+done_at inst ds k = (crane inst k).ready + used inst ds k
+
 abbrev pub crane_numbers : InstanceView → List ℕ
 crane_numbers inst = range_with_len 0 (length inst.cranes)
 
 -- crane k has tasks that it can't end by the tick
 abbrev pub is_overfull : InstanceView → List Decision → ℕ → ℕ → Bool
 is_overfull inst ds tick k =
-    nat_lt 0 (length (tasks_on ds k)) && nat_lt tick ((crane inst k).ready + used inst ds k)
+    nat_lt 0 (length (tasks_on ds k)) && nat_lt tick (done_at inst ds k)
 
 -- the ticks that are left to crane k until the tick
 abbrev pub spare : InstanceView → List Decision → ℕ → ℕ → ℕ
-spare inst ds tick k = tick - ((crane inst k).ready + used inst ds k)
+spare inst ds tick k = tick - done_at inst ds k
 
 -- the work doesn't fit before this end: some crane's tasks don't, or all unassigned tasks together don't fit into
 -- what is left to the cranes

@@ -12,3 +12,4 @@ pub mod Judged
 pub mod InstanceFields
 pub mod Nodes
 pub mod Leaves
+pub mod Closing

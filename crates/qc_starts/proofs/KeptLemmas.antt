@@ -4,9 +4,10 @@ use Rattle.std.proofs.lemmas.List.{get_or_default}
 use Rattle.qc_dist.specs.Node.{Node}
 use Rattle.qc_dist.proofs.Room.{fits_room}
 use Rattle.qc_model.specs.declared.decision.Decision.{Decision}
+use Rattle.qc_model.specs.declared.decision.Decision.TheVariants.{Assign, Order}
 use Rattle.qc_model.specs.declared.pair.Pair.{Pair}
 use Rattle.qc_model.specs.Instance.{InstanceView, IsApart, Valid, pair_of}
-use Rattle.qc_model.specs.Nodes.{Fits, HasStarts, IsNodeEnd, IsSettled}
+use Rattle.qc_model.specs.Nodes.{Fits, HasStarts, IsInReach, IsNodeEnd, IsSettled}
 use Rattle.qc_model.proofs.NodeLemmas.{ends_by}
 use Rattle.qc_starts.specs.declared.cells.Cell.{Cell}
 use Rattle.qc_starts.specs.declared.least.Step.{Step}
@@ -91,6 +92,13 @@ drop_more : (k : ℕ) (ds : List Decision) (d : Decision) (rest : List Decision)
 drop_more zero ds d rest e = ap (drop 1) e
 drop_more (suc k) [] d rest e = absurd (cc)
 drop_more (suc k) (x ∷ ds) d rest e = drop_more k ds d rest e
+
+-- the first decisions are in reach as all are
+pub first_in_reach : (inst : InstanceView) (ds : List Decision) (k : ℕ) → IsInReach inst ds → IsInReach inst (drop k ds)
+first_in_reach inst ds zero reach = reach
+first_in_reach inst [] (suc k) reach = tt
+first_in_reach inst (Assign j v ∷ ds) (suc k) reach = first_in_reach inst ds k reach.1
+first_in_reach inst (Order i j ∷ ds) (suc k) reach = first_in_reach inst ds k reach
 
 -- one more decision is taken back
 pub record IsUndone (old new : Node) (ds : List Decision) (k : ℕ) : Type 0 where

@@ -2,7 +2,7 @@
 use Rattle.std.specs.Prelude.{◌≡◌, ℕ, length}
 use Rattle.qc_dist.specs.Node.{Node}
 use Rattle.qc_model.specs.Instance.{InstanceView, Valid}
-use Rattle.qc_model.specs.Nodes.{Fits}
+use Rattle.qc_model.specs.Nodes.{Fits, IsInReach}
 use Rattle.qc_starts.specs.declared.least.Step.{Step}
 use Rattle.qc_starts.specs.declared.least.Table.{Table}
 use Rattle.qc_starts.specs.declared.starts.Starts.TheInside.{Inside}
@@ -14,6 +14,7 @@ pub record AreKept (inst : InstanceView) (node : Node) (made : ℕ) (table : Tab
   pub valid : Valid inst
   pub same : node.inst ≡ inst
   pub fits : Fits inst node.decisions
+  pub in_reach : IsInReach inst node.decisions
   pub count : made ≡ length node.decisions
   pub room : HasRoom inst table
   pub found : IsFound inst node.decisions table step

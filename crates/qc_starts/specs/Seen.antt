@@ -1,9 +1,10 @@
 -- What contracts see of the least starts of a node, and what is answered of it.
-use Rattle.std.specs.Prelude.{◌≡◌, ℕ, ◌-◌, ◌<◌, Bool, true, false, List, drop, length, slice_index, IsSome, Some}
+use Rattle.std.specs.Prelude.{◌≡◌, ℕ, ◌-◌, ◌<◌, Bool, true, false, List, drop, length, slice_index, IsSome, IsTrue, Some}
 use Rattle.qc_model.specs.declared.decision.Decision.{Decision}
+use Rattle.qc_model.specs.declared.decision.Decision.TheVariants.{Assign, Order}
 use Rattle.qc_model.specs.Instance.{InstanceView, IsApart}
 use Rattle.qc_model.specs.Leaves.{chain, leaf_value, ring, with_berths}
-use Rattle.qc_model.specs.Nodes.{AreLeast, HasStarts, IsNodeEnd, IsSettled, assigned}
+use Rattle.qc_model.specs.Nodes.{AreLeast, HasStarts, IsNodeEnd, IsSettled, assigned, reaches}
 use Rattle.qc_num.specs.declared.bound.Bound.TheVariants.{Least, Never}
 use Rattle.qc_starts.specs.declared.least.Step.{Step}
 use Rattle.qc_starts.specs.declared.least.Step.TheVariants.{Raised, Cycle}
@@ -16,6 +17,11 @@ pub record StartsNode : Type 0 where
 -- the first of these decisions
 abbrev pub first_of : ℕ → List Decision → List Decision
 first_of mark ds = drop (length ds - mark) ds
+
+-- a decision on a crane is for one that reaches the task
+abbrev pub IsReached : InstanceView → Decision → Type 0
+IsReached inst (Assign j k) = IsTrue (reaches inst j k)
+IsReached inst (Order i j) = Unit {0}
 
 -- what a decision leads to: some starts meet the node, or none do
 abbrev pub IsStep : InstanceView → List Decision → Step → Type 0

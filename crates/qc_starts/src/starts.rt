@@ -1,9 +1,11 @@
-ghost use Rattle.std.specs.Prelude.{◌≡◌, ◌↔◌, ◌<◌, ◌≤◌, ◌⊎◌, None, [], ◌∷◌, IfOk, IfSome, IsTrue, length};
+ghost use Rattle.std.specs.Prelude.{◌≡◌, ◌↔◌, ◌+◌, ◌*◌, ◌<◌, ◌≤◌, ◌⊎◌, None, [], ◌∷◌, IfOk, IfSome, IsTrue, length, nat_lt};
 ghost use Rattle.qc_model.specs.declared.decision.Decision.TheVariants.{Assign, Order};
-ghost use Rattle.qc_model.specs.declared.limits.TheConstants.{MOST_START};
+ghost use Rattle.qc_model.specs.declared.limits.TheConstants.{MOST_DISTANCE, MOST_READY, MOST_START, MOST_TASKS, MOST_WORK};
 ghost use Rattle.qc_model.specs.Instance.{IsApart};
-ghost use Rattle.qc_model.specs.Nodes.{HasStarts, IsComplete, IsNodeEnd, IsSettled, assigned, reaches};
+ghost use Rattle.qc_model.specs.Leaves.{done_at, tasks_on};
+ghost use Rattle.qc_model.specs.Nodes.{Fits, HasStarts, IsComplete, IsInReach, IsNodeEnd, IsSettled, assigned, reaches};
 ghost use Rattle.qc_num.specs.Paths.{HasRoom};
+ghost use Rattle.qc_dist.specs.Kept.{unassigned_ticks};
 ghost use Rattle.qc_starts.specs.Seen.{HasNone, IsCycle, IsNodeStart, IsWhy, first_of};
 
 use crate::complete::{are_assigned, are_settled};
@@ -44,7 +46,7 @@ impl Model for Starts {
 
 impl Starts {
     ghost use Rattle.qc_dist.specs.Node.{IsOpen};
-    ghost use Rattle.qc_starts.specs.Seen.{IsStep};
+    ghost use Rattle.qc_starts.specs.Seen.{IsReached, IsStep};
 
     /// No decision for the instance.
     pub fn open(alloc: Global, inst: &Instance) -> Result<Starts, OutOfMemory>
@@ -68,6 +70,7 @@ impl Starts {
     fn decide(&mut self, inst: &Instance, decision: Decision) -> Step
         requires same { self.old.inst ≡ inst.now }
         requires open { IsOpen inst.now self.old.decisions decision }
+        requires reach { IsReached inst.now decision }
         ensures inst { self.new.inst ≡ self.old.inst }
         ensures decisions { self.new.decisions ≡ decision ∷ self.old.decisions }
         ensures step { IsStep inst.now self.new.decisions result }
@@ -124,7 +127,9 @@ impl Starts {
 
     /// Whether no starts meet the node.
     pub fn stuck(&self) -> bool
-        ensures { HasNone self.now.inst self.now.decisions result }
+        ensures none { HasNone self.now.inst self.now.decisions result }
+        ensures fits { Fits self.now.inst self.now.decisions }
+        ensures in_reach { IsInReach self.now.inst self.now.decisions }
     {
         match self.step {
             Step::Raised => false,
@@ -178,6 +183,32 @@ impl Starts {
         ensures range { IfSome result (λ crane. crane < length self.now.inst.cranes) }
     {
         self.decisions.crane_of(j)
+    }
+
+    /// Whether a crane has a task.
+    pub fn has_tasks(&self, k: u16) -> bool
+        requires { k < length self.now.inst.cranes }
+        ensures { result ≡ nat_lt 0 (length (tasks_on self.now.decisions k)) }
+    {
+        self.decisions.has_tasks(k)
+    }
+
+    /// When a crane is done at the soonest with the tasks that it has, by their ticks and its way
+    /// alone.
+    pub fn done_at(&self, k: u16) -> Tick
+        requires { k < length self.now.inst.cranes }
+        ensures ticks { result ≡ done_at self.now.inst self.now.decisions k }
+        ensures bound { result ≤ MOST_READY + MOST_TASKS * MOST_WORK + 2 * MOST_DISTANCE }
+    {
+        self.decisions.done_at(&self.inst, k)
+    }
+
+    /// The ticks of the tasks that no crane has.
+    pub fn open_ticks(&self) -> Tick
+        ensures ticks { result ≡ unassigned_ticks self.now.inst self.now.decisions }
+        ensures bound { result ≤ MOST_TASKS * MOST_WORK }
+    {
+        self.decisions.open_ticks()
     }
 
     /// Whether all tasks have a crane and all apart pairs are settled.

@@ -1,5 +1,6 @@
-use Rattle.std.proofs.Common.{◌≡◌, ℕ, ◌+◌, ◌-◌, ◌<◌, drop, length, suc, ap, ◌∙◌, arith}
-use Rattle.qc_starts.proofs.KeptLemmas.{undone}
+use Rattle.std.proofs.Common.{◌≡◌, ℕ, ◌+◌, ◌-◌, ◌<◌, drop, length, suc, ap, sym, subst₂, ◌∙◌, arith}
+use Rattle.qc_model.specs.Nodes.{IsInReach}
+use Rattle.qc_starts.proofs.KeptLemmas.{first_in_reach, undone}
 use Rattle.qc_starts.proofs.made.undo_to.Goals as goal
 
 pub loop-preserved : goal.loop-preserved
@@ -16,6 +17,13 @@ loop-preserved c =
       count = omega (arith, by.count);
       dropped = by.dropped ∙ ap (λ (k : ℕ). drop k c.args.decisions.now.decisions) next;
     }
+
+pub returns-clause-in_reach : goal.returns-clause-in_reach
+returns-clause-in_reach c =
+    let is = c.loop.invariant in
+    let old = c.args.decisions.now in
+    let reach = first_in_reach old.inst old.decisions (c.loop.counter - c.args.mark) c.requires.in_reach in
+    subst₂ IsInReach (sym is.inst) (sym is.dropped) reach
 
 pub returns-clause-first : goal.returns-clause-first
 returns-clause-first c =

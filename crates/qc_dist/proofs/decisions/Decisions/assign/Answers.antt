@@ -8,7 +8,6 @@ use Rattle.qc_dist.specs.Node.{Node}
 use Rattle.qc_dist.proofs.Bounds.{crane_load_bounded}
 use Rattle.qc_dist.proofs.Changes.{after_assign, can_assign, made_room}
 use Rattle.qc_dist.proofs.Assigned.{ticks_after}
-use Rattle.qc_dist.proofs.Room.{fits_room}
 use Rattle.qc_dist.proofs.decisions.Decisions.assign.Goals as goal
 
 pub push_reserved-requires : goal.push_reserved-requires
@@ -28,7 +27,7 @@ load_with-requires-clause-load c =
     let r = c.requires in
     let can = can_assign f _ _ c.args.task c.args.crane c.self.view_is r.same r.task r.crane r.none in
     rw (c.index-load.ensures ∙ kept.loads.values c.args.crane c.index-load.result.now can.crane)
-    (crane_load_bounded f.inst kept.valid ds c.args.crane (fits_room f.inst ds kept.fits))
+    (crane_load_bounded f.inst kept.valid ds kept.fits c.args.crane)
 
 pub overflow_sub-self : goal.overflow_sub-self
 overflow_sub-self c =

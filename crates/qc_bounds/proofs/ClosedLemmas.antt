@@ -1,0 +1,75 @@
+-- Which leaf closes a node, and that nothing else does.
+use Rattle.std.proofs.Common.{◌≡◌, ℕ, suc, ◌<◌, ◌≤◌, true, not, ◌⊎◌, inl, inr, List, [], ◌∷◌, length, slice_index, sym, ap, subst, ◌∙◌, arith}
+use Rattle.std.proofs.lemmas.Bool.{false≢true}
+use Rattle.qc_num.specs.Bounds.{IsAtMost}
+use Rattle.qc_num.specs.declared.bound.Bound.{Bound}
+use Rattle.qc_num.specs.declared.bound.Bound.TheVariants.{Least, Never}
+use Rattle.qc_model.specs.declared.decision.Decision.{Decision}
+use Rattle.qc_model.specs.declared.decision.Decision.TheVariants.{Assign, Order}
+use Rattle.qc_model.specs.declared.task.Task.{Task}
+use Rattle.qc_model.specs.Closing.{IsClosable, IsWorkBound, out_of_reach, no_starts, complete, ends_late, work_late}
+use Rattle.qc_model.specs.Instance.{InstanceView}
+use Rattle.qc_model.specs.Leaves.{is_out_of_reach}
+use Rattle.qc_model.specs.Nodes.{HasStarts, IsComplete, IsInReach, IsNodeEnd}
+use Rattle.qc_model.specs.Rules.{last_end}
+use Rattle.qc_starts.specs.Seen.{IsWhy}
+use Rattle.qc_bounds.specs.declared.leaves.LeafKind.TheVariants.{Chain}
+use Rattle.qc_bounds.specs.Closed.{IsClosedBy, IsSpentBy}
+
+-- starts that are no later end no later
+last_end_le : (tasks : List Task) (starts others : List ℕ) → length starts ≡ length tasks → length others ≡ length tasks
+    → ((k : ℕ) → k < length tasks → slice_index starts k ≤ slice_index others k)
+    → last_end tasks starts ≤ last_end tasks others
+last_end_le [] starts others count same all = omega arith
+last_end_le (t ∷ ts) [] others count same all = omega arith
+last_end_le (t ∷ ts) (s ∷ ss) [] count same all = absurd (omega arith)
+last_end_le (t ∷ ts) (s ∷ ss) (o ∷ os) count same all =
+    let rest = last_end_le ts ss os (omega arith) (omega arith) (λ k low. all (suc k) (omega arith)) in
+    omega (arith, all 0 (omega arith), rest)
+
+-- a node has one end
+end_le : (inst : InstanceView) (ds : List Decision) (end other : ℕ) → IsNodeEnd inst ds end → IsNodeEnd inst ds other
+    → end ≤ other
+end_le inst ds end other a b =
+    let le = last_end_le inst.tasks a.starts b.starts a.least.meets.all_tasks b.least.meets.all_tasks
+    (a.least.least b.starts b.least.meets) in
+    omega (arith, a.ends, b.ends, le)
+
+pub one_end : (inst : InstanceView) (ds : List Decision) (end other : ℕ) → IsNodeEnd inst ds end
+    → IsNodeEnd inst ds other → end ≡ other
+one_end inst ds end other a b = omega (arith, end_le inst ds end other a b, end_le inst ds other end b a)
+
+never_out_of_reach : (inst : InstanceView) (ds : List Decision) → IsInReach inst ds → is_out_of_reach inst ds ≡ true → ⊥
+never_out_of_reach inst [] reach out = false≢true out
+never_out_of_reach inst (Assign j k ∷ ds) reach out = false≢true (sym (ap not reach.0) ∙ out)
+never_out_of_reach inst (Order i j ∷ ds) reach out = false≢true out
+
+-- what is late is late with a later end
+later : (u : Bound) (end more : ℕ) → end ≤ more → IsAtMost u (Least end) → IsAtMost u (Least more)
+later (Least n) end more le late = omega arith
+later Never end more le late = late
+
+module _ (inst : InstanceView) (ds : List Decision) where
+  pub chain_closes : (u : Bound) (tasks : List ℕ) (end : ℕ) → IsWhy inst ds tasks → IsNodeEnd inst ds end
+      → IsComplete inst ds ⊎ IsAtMost u (Least end) → IsClosedBy inst ds u Chain tasks
+  chain_closes u tasks end why is (inl all) = (why, inl all)
+  chain_closes u tasks end why is (inr late) =
+      (why, inr (subst (λ (n : ℕ). IsAtMost u (Least n)) (one_end inst ds end why.end is why.ends) late))
+
+  -- a node in reach that is neither complete nor late in either way isn't closable
+  pub never_closable : (u : Bound) (end bound : ℕ) → IsInReach inst ds → HasStarts inst ds → (¬ IsComplete inst ds)
+      → IsNodeEnd inst ds end → (¬ IsAtMost u (Least end)) → IsWorkBound inst ds bound → (¬ IsAtMost u (Least bound))
+      → IsClosable inst ds u → ⊥
+  never_closable u end bound reach starts more is early shown short (out_of_reach out) = never_out_of_reach inst ds reach out
+  never_closable u end bound reach starts more is early shown short (no_starts none) = none starts
+  never_closable u end bound reach starts more is early shown short (complete all) = more all
+  never_closable u end bound reach starts more is early shown short (ends_late late) =
+      early (later u late.end end (end_le inst ds late.end end late.is is) late.late)
+  never_closable u end bound reach starts more is early shown short (work_late late) =
+      short (later u late.end bound (shown.greatest late.end late.positive late.holds) late.late)
+
+  pub chain_spends : (tasks : List ℕ) (end bound : ℕ) → IsWhy inst ds tasks → IsNodeEnd inst ds end
+      → IsWorkBound inst ds bound → IsComplete inst ds ⊎ (bound ≤ end) → IsSpentBy inst ds Chain tasks
+  chain_spends tasks end bound why is shown (inl all) = (why, inl all)
+  chain_spends tasks end bound why is shown (inr low) =
+      (why, inr (bound, shown, omega (arith, one_end inst ds end why.end is why.ends)))

@@ -1,0 +1,46 @@
+-- The leaf that closes a node, or that stands for one that isn't branched on.
+use Rattle.std.specs.Prelude.{◌≡◌, ℕ, ◌<◌, ◌≤◌, ◌⊎◌, List, [], Some}
+use Rattle.qc_num.specs.Bounds.{IsAtMost}
+use Rattle.qc_num.specs.declared.bound.Bound.{Bound}
+use Rattle.qc_num.specs.declared.bound.Bound.TheVariants.{Least}
+use Rattle.qc_model.specs.declared.decision.Decision.{Decision}
+use Rattle.qc_model.specs.declared.limits.TheConstants.{MOST_START}
+use Rattle.qc_model.specs.Closing.{IsWorkBound}
+use Rattle.qc_model.specs.Instance.{InstanceView}
+use Rattle.qc_model.specs.Leaves.{leaf_value, with_berths, work}
+use Rattle.qc_model.specs.Nodes.{HasStarts, IsComplete, IsNodeEnd}
+use Rattle.qc_starts.specs.Seen.{IsCycle, IsWhy}
+use Rattle.qc_bounds.specs.declared.leaves.LeafKind.{LeafKind}
+use Rattle.qc_bounds.specs.declared.leaves.LeafKind.TheVariants.{Chain, Ring, Work}
+
+-- no starts meet the node, and the tasks are a ring
+pub record IsRingLeaf (inst : InstanceView) (ds : List Decision) (tasks : List ℕ) : Type 0 where
+  pub none : ¬ HasStarts inst ds
+  pub ring : IsCycle inst ds tasks
+
+-- the node has starts and more to decide, its work shows the end and none above it; there are no tasks
+pub record IsWorkLeaf (inst : InstanceView) (ds : List Decision) (end : ℕ) (tasks : List ℕ) : Type 0 where
+  pub starts : HasStarts inst ds
+  pub undecided : ¬ IsComplete inst ds
+  pub bound : IsWorkBound inst ds end
+  pub shows : leaf_value with_berths inst ds (work end) ≡ Some (Least end)
+  pub soon : end ≤ MOST_START
+  pub empty : tasks ≡ []
+
+-- the leaf of a node that is closed at u: a ring where no starts meet it, the chain to its end where it
+-- is complete, else one that shows at least u
+abbrev pub IsClosedBy : InstanceView → List Decision → Bound → LeafKind → List ℕ → Type 0
+IsClosedBy inst ds u Ring tasks = IsRingLeaf inst ds tasks
+IsClosedBy inst ds u Chain tasks =
+    (why : IsWhy inst ds tasks) × (IsComplete inst ds ⊎ IsAtMost u (Least why.end))
+IsClosedBy inst ds u (Work end) tasks = IsWorkLeaf inst ds end tasks × IsAtMost u (Least end)
+
+-- the leaf that stands for a node without branching: a ring where no starts meet it, the chain to its
+-- end where it is complete or its work shows no more, else its work
+abbrev pub IsSpentBy : InstanceView → List Decision → LeafKind → List ℕ → Type 0
+IsSpentBy inst ds Ring tasks = IsRingLeaf inst ds tasks
+IsSpentBy inst ds Chain tasks =
+    (why : IsWhy inst ds tasks)
+    × (IsComplete inst ds ⊎ ((bound : ℕ) × IsWorkBound inst ds bound × (bound ≤ why.end)))
+IsSpentBy inst ds (Work end) tasks =
+    IsWorkLeaf inst ds end tasks × ((sooner : ℕ) × IsNodeEnd inst ds sooner × (sooner < end))
