@@ -1,0 +1,247 @@
+-- What a leaf shows at a node that fits a valid instance has at most 15 digits.
+use Rattle.std.proofs.Common.{◌≡◌, ℕ, zero, suc, ◌+◌, ◌-◌, ◌*◌, ◌<◌, ◌≤◌, ◌^◌, Bool, true, ◌&&◌, ◌==◌, inl, inr, List, [], ◌∷◌, length, map, Option, None, Some, IfSome, ℤ, pos, ◌+ℤ◌, arith}
+use Rattle.std.specs.Prelude.{filter, int_lt, nat_le, nat_lt, option_map}
+use Rattle.std.specs.List.{list_all, list_any, range_with_len, sum_by}
+use Rattle.std.proofs.lemmas.Bool.{and_parts, cond_both, false≢true, leb-true, ltb-true, or_cases}
+use Rattle.std.proofs.lemmas.List.Sums.{sum_by-cons}
+use Rattle.std.proofs.lemmas.Nat.{mul-le}
+use Rattle.qc_num.specs.declared.bound.Bound.TheVariants.{Least, Never}
+use Rattle.qc_model.specs.declared.decision.Decision.{Decision}
+use Rattle.qc_model.specs.Bays.{bays_up, bays_between}
+use Rattle.qc_model.specs.Instance.{InstanceView, Valid, IsOnRail, bay_of, ticks_of, crane}
+use Rattle.qc_model.specs.Leaves.{Leaf, Version, are_tasks, chain, chain_end, chain_ticks, crane_numbers, head_in, highest, is_overfull, is_ring, is_out_of_reach, leaf_value, lowest, reach, ring, spare, tasks_on, ticks_over, open_tasks, used, used_for, with_berths, without_berths, work, work_holds}
+use Rattle.qc_model.specs.Nodes.{Fits, assigned, berth_wait, crane_ticks, forced, free, head_by, least, reaches, sooner_ticks, is_sooner}
+use Rattle.qc_model.specs.Ticks.{arrival, berth_clear, berth_distance, climb, distance, lead, task_distance}
+use Rattle.qc_model.specs.declared.limits.TheConstants.{MOST_APART, MOST_BAYS, MOST_DISTANCE, MOST_GAP_BY_PLACES, MOST_READY, MOST_TASKS, MOST_TRAVEL, MOST_WORK}
+use Rattle.qc_model.specs.declared.direction.Direction.TheVariants.{Up}
+use Rattle.qc_model.proofs.Bays.{bays}
+use Rattle.qc_model.proofs.Extremes.{greatest_le}
+use Rattle.qc_model.proofs.LeafLemmas.{joined}
+use Rattle.qc_model.proofs.LimitsOf.{limits_of}
+use Rattle.qc_model.proofs.NodeLemmas.{greater_keeps}
+use Rattle.qc_model.proofs.OnRail.{berth_on_rail}
+use Rattle.qc_dist.proofs.Bounds.{few_ticks, highest_on_rail, lowest_on_rail, on_rail, open_bounded, ticks_over_bounded}
+use Rattle.qc_dist.proofs.Facts.{assigned_range}
+use Rattle.qc_dist.proofs.Room.{fits_room, tasks_on_few}
+use Rattle.qc_tree.specs.Lines.{IsValue}
+
+-- places on the rail, and ones shifted by some gaps, aren't far apart
+up_few : (x y : ℤ) (g : ℕ) → IsOnRail x → IsOnRail y → g ≤ 16000 → bays_up x (y +ℤ pos g) ≤ MOST_BAYS
+up_few x y g h k few = omega (arith, bays)
+
+up_rail : (x y : ℤ) → IsOnRail x → IsOnRail y → bays_up x y ≤ MOST_BAYS
+up_rail x y h k = omega (arith, bays)
+
+between_rail : (x y : ℤ) → IsOnRail x → IsOnRail y → bays_between x y ≤ MOST_BAYS
+between_rail x y h k = omega (arith, bays)
+
+-- the least of numbers that are all at most m
+least_few : (f : ℕ → ℕ) (p : ℕ → Bool) (m a n : ℕ) → ((k : ℕ) → k < a + n → f k ≤ m)
+    → least (map f (filter p (range_with_len a n))) ≤ m
+least_few f p m a zero few = omega arith
+least_few f p m a (suc n) few =
+    let rest = filter p (range_with_len (a + 1) n) in
+    cond_both (p a) (a ∷ rest) rest (λ ks. least (map f ks) ≤ m)
+    (λ _. at_first rest)
+    (λ _. least_few f p m (a + 1) n (λ k low. few k (omega arith)))
+  where
+    at_first : (ks : List ℕ) → least (map f (a ∷ ks)) ≤ m
+    at_first [] = few a (omega arith)
+    at_first (k ∷ ks) = omega (arith, few a (omega arith))
+
+-- a number that passes
+passing : (p : ℕ → Bool) (a n : ℕ) → list_any p (range_with_len a n) ≡ true → (k : ℕ) × (k < a + n) × (p k ≡ true)
+passing p a zero e = absurd (false≢true e)
+passing p a (suc n) e = elim (or_cases (p a) (list_any p (range_with_len (a + 1) n)) e) [
+  | inl here ↦ (a, omega arith, here)
+  | inr there ↦ let k = passing p (a + 1) n there in (k.0, omega (arith, k.1), k.2)
+]
+
+first_le_sum : (f : ℕ → ℕ) (n : ℕ) → 1 ≤ n → f 0 ≤ sum_by f (range_with_len 0 n)
+first_le_sum f zero some = absurd (omega arith)
+first_le_sum f (suc n) some = omega (arith, sum_by-cons f 0 (range_with_len (0 + 1) n))
+
+module _ (inst : InstanceView) (valid : Valid inst) where
+  -- travel over so many bays
+  travel_few : (n : ℕ) → n ≤ MOST_BAYS → inst.travel * n ≤ MOST_DISTANCE
+  travel_few n few = mul-le inst.travel n MOST_TRAVEL MOST_BAYS (limits_of inst valid).travel few
+
+  gaps_few : (v w : ℕ) → w < length inst.cranes → inst.gap * (w - v) ≤ 16000
+  gaps_few v w low =
+      let l = limits_of inst valid in
+      mul-le inst.gap (w - v) MOST_GAP_BY_PLACES 8 l.gap.1 (omega (arith, low, l.cranes))
+
+  distance_few : (v w : ℕ) (x y : ℤ) → v < length inst.cranes → w < length inst.cranes → IsOnRail x → IsOnRail y
+      → distance inst v x w y ≤ MOST_DISTANCE
+  distance_few v w x y low high h k =
+      cond_both (nat_lt v w) _ _ (λ n. inst.travel * n ≤ MOST_DISTANCE)
+      (λ _. travel_few _ (up_few y x (inst.gap * (w - v)) k h (gaps_few v w high)))
+      (λ _. cond_both (nat_lt w v) _ _ (λ n. inst.travel * n ≤ MOST_DISTANCE)
+      (λ _. travel_few _ (up_few x y (inst.gap * (v - w)) h k (gaps_few w v low)))
+      (λ _. travel_few 0 (omega arith)))
+
+  berth_rail : (k : ℕ) → k < length inst.cranes → IsOnRail (crane inst k).bay
+  berth_rail k low = berth_on_rail inst valid Up k low
+
+  task_rail : (j : ℕ) → IsOnRail (bay_of inst j)
+  task_rail j = on_rail inst valid j
+
+  arrival_few : (j k : ℕ) → k < length inst.cranes → arrival inst k (bay_of inst j) ≤ MOST_READY + MOST_DISTANCE
+  arrival_few j k low =
+      let ready : (crane inst k).ready ≤ MOST_READY = valid.cranes.ready k low in
+      let far =
+      travel_few (bays_between (crane inst k).bay (bay_of inst j))
+      (between_rail (crane inst k).bay (bay_of inst j) (berth_rail k low) (task_rail j)) in
+      omega (arith, ready, far)
+
+  wait_few : (j k v : ℕ) → k < length inst.cranes → v < length inst.cranes
+      → berth_wait inst j k v ≤ MOST_READY + MOST_DISTANCE
+  wait_few j k v low high =
+      let ready : (crane inst v).ready ≤ MOST_READY = valid.cranes.ready v high in
+      let far = distance_few v k (crane inst v).bay (bay_of inst j) high low (berth_rail v high) (task_rail j) in
+      cond_both (berth_distance inst v k (bay_of inst j) == 0) 0 (berth_clear inst v k (bay_of inst j))
+      (λ n. n ≤ MOST_READY + MOST_DISTANCE)
+      (λ _. omega arith) (λ _. omega (arith, ready, far))
+
+  free_few : (j k : ℕ) → k < length inst.cranes → free inst j k ≤ MOST_READY + MOST_DISTANCE
+  free_few j k low =
+      let waits =
+      greatest_le (berth_wait inst j k) (MOST_READY + MOST_DISTANCE) 0 (length inst.cranes)
+      (λ v high. wait_few j k v low (omega arith)) in
+      omega (arith, waits, arrival_few j k low)
+
+  head_by_few : (there : ℕ → ℕ) (j : ℕ)
+      → ((k : ℕ) → k < length inst.cranes → there k ≤ MOST_READY + MOST_DISTANCE)
+      → (o : Option ℕ) → IfSome o (λ k. k < length inst.cranes)
+      → head_by inst there j o ≤ MOST_READY + MOST_DISTANCE
+  head_by_few there j few (Some k) low = few k low
+  head_by_few there j few None low =
+      least_few there (reaches inst j) (MOST_READY + MOST_DISTANCE) 0 (length inst.cranes)
+      (λ k here. few k (omega arith))
+
+  head_few : (version : Version) (ds : List Decision) → Fits inst ds → (j : ℕ)
+      → head_in version inst ds j ≤ MOST_READY + MOST_DISTANCE
+  head_few without_berths ds fits j =
+      head_by_few (λ k. arrival inst k (bay_of inst j)) j (arrival_few j) (assigned ds j)
+      (assigned_range inst ds fits j)
+  head_few with_berths ds fits j =
+      head_by_few (free inst j) j (free_few j) (assigned ds j) (assigned_range inst ds fits j)
+
+  -- a step of a chain
+  abbrev IsStepFew : ℕ → Type 0
+  IsStepFew n = n ≤ MOST_WORK + MOST_DISTANCE
+
+  crane_few : (i j : ℕ) (p q : Option ℕ) → IfSome p (λ k. k < length inst.cranes)
+      → IfSome q (λ k. k < length inst.cranes)
+      → IfSome (crane_ticks inst i j p q) IsStepFew
+  crane_few i j None q low high = tt
+  crane_few i j (Some v) None low high = tt
+  crane_few i j (Some v) (Some w) low high =
+      let up =
+      travel_few (bays_up (bay_of inst i) (bay_of inst j))
+      (up_rail (bay_of inst i) (bay_of inst j) (task_rail i) (task_rail j)) in
+      let far = distance_few v w (bay_of inst i) (bay_of inst j) low high (task_rail i) (task_rail j) in
+      cond_both (v == w) _ _ (λ o. IfSome o IsStepFew)
+      (λ _. cond_both (int_lt (bay_of inst i) (bay_of inst j)) (Some (climb inst i j)) None
+      (λ o. IfSome o IsStepFew)
+      (λ _. omega (arith, few_ticks inst valid i, up)) (λ _. tt))
+      (λ _. cond_both (nat_lt w v && nat_lt 0 (task_distance inst i v j w)) (Some (lead inst i v j w)) None
+      (λ o. IfSome o IsStepFew)
+      (λ _. omega (arith, few_ticks inst valid i, far)) (λ _. tt))
+
+  forced_few : (ds : List Decision) → Fits inst ds → (i j : ℕ) → IfSome (forced inst ds i j) IsStepFew
+  forced_few ds fits i j =
+      greater_keeps IsStepFew (sooner_ticks inst ds i j) (crane_ticks inst i j (assigned ds i) (assigned ds j))
+      (cond_both (is_sooner inst ds i j) (Some (ticks_of inst i)) None (λ o. IfSome o IsStepFew)
+      (λ _. omega (arith, few_ticks inst valid i)) (λ _. tt))
+      (crane_few i j (assigned ds i) (assigned ds j) (assigned_range inst ds fits i)
+      (assigned_range inst ds fits j))
+
+  chain_few : (ds : List Decision) → Fits inst ds → (i : ℕ) (js : List ℕ)
+      → IfSome (chain_ticks inst ds i js) (λ n. n ≤ (MOST_WORK + MOST_DISTANCE) * (length js + 1))
+  chain_few ds fits i [] = omega (arith, few_ticks inst valid i)
+  chain_few ds fits i (j ∷ js) =
+      joined IsStepFew (λ n. n ≤ (MOST_WORK + MOST_DISTANCE) * (length js + 1))
+      (λ n. n ≤ (MOST_WORK + MOST_DISTANCE) * (length (j ∷ js) + 1))
+      (forced inst ds i j) (chain_ticks inst ds j js) (forced_few ds fits i j) (chain_few ds fits j js)
+      (λ x y p q. omega arith)
+
+  used_for_few : (k : ℕ) → k < length inst.cranes → (js : List ℕ) → length js ≤ MOST_TASKS + MOST_APART
+      → used_for inst k js ≤ 1000000000000
+  used_for_few k low [] few = omega arith
+  used_for_few k low (j ∷ js) few =
+      let low_rail = lowest_on_rail inst valid j js in
+      let way = between_rail (crane inst k).bay (lowest inst j js) (berth_rail k low) low_rail in
+      let up = up_rail (lowest inst j js) (highest inst j js) low_rail (highest_on_rail inst valid j js) in
+      let bays_gone =
+      bays_between (crane inst k).bay (lowest inst j js) + bays_up (lowest inst j js) (highest inst j js) in
+      let gone =
+      mul-le inst.travel bays_gone MOST_TRAVEL 120000 (limits_of inst valid).travel (omega (arith, way, up)) in
+      omega (arith, gone, ticks_over_bounded inst valid (j ∷ js), few)
+
+  used_few : (ds : List Decision) → Fits inst ds → (k : ℕ) → k < length inst.cranes
+      → used inst ds k ≤ 1000000000000
+  used_few ds fits k low =
+      let few : length (tasks_on ds k) ≤ MOST_TASKS + MOST_APART =
+      omega (arith, tasks_on_few inst ds fits k, valid.tasks.count)
+      in
+      used_for_few k low (tasks_on ds k) few
+
+  -- by when a crane has done what it has, at the most
+  done_few : (ds : List Decision) → Fits inst ds → (k : ℕ) → k < length inst.cranes
+      → (crane inst k).ready + used inst ds k ≤ 1000001000000
+  done_few ds fits k low =
+      let ready : (crane inst k).ready ≤ MOST_READY = valid.cranes.ready k low in
+      omega (arith, ready, used_few ds fits k low)
+
+  work_few : (ds : List Decision) → Fits inst ds → (end : ℕ) → work_holds inst ds end ≡ true → end < 10 ^ 15
+  work_few ds fits end holds =
+      elim (or_cases (list_any (is_overfull inst ds (end - 1)) (crane_numbers inst))
+      (nat_lt (sum_by (spare inst ds (end - 1)) (crane_numbers inst))
+      (ticks_over inst (open_tasks inst ds))) holds) [
+        | inl over ↦
+            let k = passing (is_overfull inst ds (end - 1)) 0 (length inst.cranes) over in
+            let parts =
+            and_parts (nat_lt 0 (length (tasks_on ds k.0)))
+            (nat_lt (end - 1) ((crane inst k.0).ready + used inst ds k.0)) k.2 in
+            let full = ltb-true (end - 1) ((crane inst k.0).ready + used inst ds k.0) parts.1 in
+            omega (arith, full, done_few ds fits k.0 (omega (arith, k.1)))
+        | inr short ↦
+            let less =
+            ltb-true (sum_by (spare inst ds (end - 1)) (crane_numbers inst))
+            (ticks_over inst (open_tasks inst ds)) short in
+            let first = first_le_sum (spare inst ds (end - 1)) (length inst.cranes) valid.cranes.count.0 in
+            let done = done_few ds fits 0 (omega (arith, valid.cranes.count.0)) in
+            omega (arith, less, first, done, open_bounded inst valid ds)
+      ]
+
+  pub leaf_few : (version : Version) (ds : List Decision) → Fits inst ds → (shows : Leaf)
+      → IfSome (leaf_value version inst ds shows) IsValue
+  leaf_few version ds fits (chain tasks) =
+      cond_both (are_tasks inst tasks) (option_map Least (chain_end version inst ds tasks)) None
+      (λ o. IfSome o IsValue)
+      (λ all. chain_value tasks
+      (leb-true (length tasks) MOST_TASKS
+      (and_parts (nat_le (length tasks) MOST_TASKS) (list_all (λ j. nat_lt j (length inst.tasks)) tasks) all).0))
+      (λ _. tt)
+    where
+      with_head : (o : Option ℕ) (h n : ℕ) → h ≤ MOST_READY + MOST_DISTANCE
+          → IfSome o (λ m. m ≤ (MOST_WORK + MOST_DISTANCE) * n) → n ≤ MOST_TASKS
+          → IfSome (option_map Least (option_map (λ ticks. h + ticks) o)) IsValue
+      with_head None h n head few short = tt
+      with_head (Some m) h n head few short = omega arith
+
+      chain_value : (js : List ℕ) → length js ≤ MOST_TASKS
+          → IfSome (option_map Least (chain_end version inst ds js)) IsValue
+      chain_value [] short = omega arith
+      chain_value (j ∷ js) short =
+          with_head (chain_ticks inst ds j js) (head_in version inst ds j) (length js + 1)
+          (head_few version ds fits j) (chain_few ds fits j js) (omega arith)
+  leaf_few version ds fits (ring tasks) =
+      cond_both (are_tasks inst tasks && nat_le 2 (length tasks) && is_ring inst ds tasks) (Some Never) None
+      (λ o. IfSome o IsValue) (λ _. tt) (λ _. tt)
+  leaf_few version ds fits reach =
+      cond_both (is_out_of_reach inst ds) (Some Never) None (λ o. IfSome o IsValue) (λ _. tt) (λ _. tt)
+  leaf_few version ds fits (work end) =
+      cond_both (nat_le 1 end && work_holds inst ds end) (Some (Least end)) None (λ o. IfSome o IsValue)
+      (λ both. work_few ds fits end (and_parts (nat_le 1 end) (work_holds inst ds end) both).1) (λ _. tt)

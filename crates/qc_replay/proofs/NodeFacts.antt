@@ -1,0 +1,249 @@
+-- What the lines of nodes come to.
+use Rattle.std.proofs.Common.{◌≡◌, ℕ, ◌+◌, ◌-◌, ◌<◌, ◌≤◌, inl, inr, Bool, true, false, not, ◌&&◌, ◌||◌, nat_lt, List, [], ◌∷◌, ◌++◌, length, map, drop, Option, None, Some, is_some, Result, Ok, Err, refl, sym, ap, ◌∙◌, append_assoc, arith}
+use Rattle.std.proofs.lemmas.Simd.{map-map}
+use Rattle.std.specs.Prelude.{is_none, nat_le, ok_or, option_map, if◌then◌else◌}
+use Rattle.std.specs.List.{list_all}
+use Rattle.std.proofs.lemmas.Bool.{and_from, and_parts, cases_Bool, false_from_ne_true, le-leb, leb-true, lt-ltb, ltb-true, or_left, or_right, true≢false}
+use Rattle.std.proofs.lemmas.List.{length-append, length-map, map-append}
+use Rattle.qc_num.specs.declared.bound.Bound.{Bound}
+use Rattle.qc_num.specs.declared.bound.Bound.TheVariants.{Least, Never}
+use Rattle.qc_num.specs.Bounds.{lesser}
+use Rattle.qc_num.specs.Reading.{◌>>=◌, require}
+use Rattle.qc_num.proofs.ReadingLemmas.{passed}
+use Rattle.qc_model.specs.declared.decision.Decision.{Decision}
+use Rattle.qc_model.specs.declared.direction.Direction.{Direction}
+use Rattle.qc_model.specs.declared.limits.TheConstants.{MOST_CRANES, MOST_TASKS}
+use Rattle.qc_model.specs.Instance.{InstanceView}
+use Rattle.qc_model.specs.declared.decision.Decision.TheVariants as decide
+use Rattle.qc_model.specs.Nodes.{IsSettled, assigned, forced}
+use Rattle.qc_model.specs.Leaves.{Leaf, are_tasks, crane_numbers, chain, chain_end, is_ring, leaf_value, ring}
+use Rattle.qc_tree.specs.declared.line.TheConstants.{MOST_BRANCHINGS}
+use Rattle.qc_tree.specs.declared.line.Line.{Line}
+use Rattle.qc_tree.specs.declared.line.Line.TheVariants.{Chain, Ring}
+use Rattle.qc_tree.specs.declared.line.Line.TheVariants as line
+use Rattle.qc_replay.specs.declared.fault.TreeKind.{TreeKind}
+use Rattle.qc_replay.specs.declared.fault.TreeKind.TheVariants as kind
+use Rattle.qc_replay.specs.declared.leaf.Heads.{Heads}
+use Rattle.qc_replay.specs.declared.node.Tally.{Tally}
+use Rattle.qc_replay.specs.Part.{IsJudged, Shows, Standing, behind, nodes, steps_left, version_of, with_branching, within}
+use Rattle.qc_replay.specs.Walk.{Coming, Reading, at_node, branched_to, came, closed_by, from_file, is_apart, is_number, is_settled, node, on_pair, on_task}
+
+number_inside : (inst : InstanceView) (i : ℕ) → is_number inst i ≡ true → nat_lt (i - 1) (length inst.tasks) ≡ true
+number_inside inst i is =
+    let parts = and_parts (nat_lt 0 i) (nat_le i (length inst.tasks)) is in
+    lt-ltb (i - 1) (length inst.tasks)
+    (omega (arith, ltb-true 0 i parts.0, leb-true i (length inst.tasks) parts.1))
+
+all_inside : (inst : InstanceView) (list : List ℕ) → list_all (is_number inst) list ≡ true
+    → list_all (λ j. nat_lt j (length inst.tasks)) (from_file list) ≡ true
+all_inside inst [] all = refl
+all_inside inst (i ∷ is) all =
+    let parts = and_parts (is_number inst i) (list_all (is_number inst) is) all in
+    and_from _ _ (number_inside inst i parts.0) (all_inside inst is parts.1)
+
+-- numbers of tasks are tasks
+pub are_tasks_of : (inst : InstanceView) (list : List ℕ) → list_all (is_number inst) list ≡ true
+    → length list ≤ MOST_TASKS → are_tasks inst (from_file list) ≡ true
+are_tasks_of inst list all few =
+    and_from _ _ (le-leb (length (from_file list)) MOST_TASKS (omega (arith, length-map list (λ i. i - 1), few)))
+    (all_inside inst list all)
+
+-- a leaf of a line, by its value
+shown_leaf : (inst : InstanceView) (ds : List Decision) (heads : Heads) (leaf : Leaf) (fault : TreeKind)
+    (result : Result Bound TreeKind) → ok_or (leaf_value (version_of heads) inst ds leaf) fault ≡ result
+    → (r : Reading) → r.version ≡ version_of heads
+    → closed_by r fault (leaf_value r.version inst ds leaf)
+    ≡ (result >>= λ value. Ok (record (came r) { bound = lesser r.bound value }))
+shown_leaf inst ds heads leaf fault result is r version =
+    ap (λ v. ok_or (leaf_value v inst ds leaf) fault >>= λ value. Ok (record (came r) { bound = lesser r.bound value })) version
+    ∙ ap (λ result. result >>= λ value. Ok (record (came r) { bound = lesser r.bound value })) is
+
+module _ (inst : InstanceView) (ds : List Decision) (heads : Heads) (list : List ℕ)
+    (all : list_all (is_number inst) list ≡ true) (few : length list ≤ MOST_TASKS) where
+  -- the end of a chain, or none
+  pub chain_shows : (end : Option ℕ) → end ≡ chain_end (version_of heads) inst ds (from_file list)
+      → Shows inst ds heads Chain list (ok_or (option_map Least end) kind.NotForced)
+  chain_shows end is way r version =
+      ap (λ b. require b kind.UnknownTask >>= λ _. closed_by r kind.NotForced (leaf_value r.version inst ds (chain (from_file list)))) all
+      ∙ shown_leaf inst ds heads (chain (from_file list)) kind.NotForced _
+      (ap (λ b. ok_or (if b then option_map Least (chain_end (version_of heads) inst ds (from_file list)) else None) kind.NotForced)
+      (are_tasks_of inst list all few)
+      ∙ ap (λ o. ok_or (option_map Least o) kind.NotForced) (sym is)) r version
+
+  -- a ring, or none
+  pub ring_shows : 2 ≤ length list → (turns : Bool) → turns ≡ is_ring inst ds (from_file list)
+      → Shows inst ds heads Ring list (ok_or (if turns then Some Never else None) kind.NotCycle)
+  ring_shows some turns is way r version =
+      ap (λ b. require b kind.UnknownTask >>= λ _. closed_by r kind.NotCycle (leaf_value r.version inst ds (ring (from_file list)))) all
+      ∙ shown_leaf inst ds heads (ring (from_file list)) kind.NotCycle _
+      (ap (λ b. ok_or (if b then Some Never else None) kind.NotCycle) tests) r version
+    where
+      long : nat_le 2 (length (from_file list)) ≡ true
+      long = le-leb 2 (length (from_file list)) (omega (arith, length-map list (λ i. i - 1), some))
+
+      tests : (are_tasks inst (from_file list) && nat_le 2 (length (from_file list)) && is_ring inst ds (from_file list)) ≡ turns
+      tests =
+          ap (λ b. b && nat_le 2 (length (from_file list)) && is_ring inst ds (from_file list)) (are_tasks_of inst list all few)
+          ∙ ap (λ b. true && b && is_ring inst ds (from_file list)) long ∙ sym is
+
+-- ---- numbers and tests
+
+pub number_range : (inst : InstanceView) (i : ℕ) → is_number inst i ≡ true
+    → (0 < i) × (i - 1 < length inst.tasks)
+number_range inst i is =
+    let parts = and_parts (nat_lt 0 i) (nat_le i (length inst.tasks)) is in
+    let some = ltb-true 0 i parts.0 in
+    (some, omega (arith, some, leb-true i (length inst.tasks) parts.1))
+
+pub unsettled_test : (inst : InstanceView) (ds : List Decision) (i j : ℕ) → (¬ IsSettled inst ds i j)
+    → not (is_settled inst ds i j) ≡ true
+unsettled_test inst ds i j un =
+    let one = false_from_ne_true (is_some (forced inst ds i j)) (λ h. un (inl h)) in
+    let other = false_from_ne_true (is_some (forced inst ds j i)) (λ h. un (inr h)) in
+    ap (λ b. not (b || is_some (forced inst ds j i))) one ∙ ap not other
+
+pub settled_test : (inst : InstanceView) (ds : List Decision) (i j : ℕ) → IsSettled inst ds i j
+    → not (is_settled inst ds i j) ≡ false
+settled_test inst ds i j (inl h) = ap not (or_left (is_some (forced inst ds i j)) (is_some (forced inst ds j i)) h)
+settled_test inst ds i j (inr h) = ap not (or_right (is_some (forced inst ds i j)) (is_some (forced inst ds j i)) h)
+
+pub none_of : (o : Option ℕ) → is_some o ≡ false → o ≡ None
+none_of None none = refl
+none_of (Some n) none = absurd (true≢false none)
+
+-- a branching that was counted
+pub branching_made : (t now : Tally) → with_branching t ≡ Ok now
+    → (nat_lt t.branched MOST_BRANCHINGS ≡ true) × (record t { branched = t.branched + 1 } ≡ now)
+branching_made t now is =
+    passed (nat_lt t.branched MOST_BRANCHINGS) (record t { branched = t.branched + 1 }) now kind.Branchings is
+
+-- ---- a line of a part, judged
+
+module _ (heads : Heads) (inst : InstanceView) (before after : Standing) (same : before.inst ≡ inst)
+    (live : before.live ≡ true) (tally : Tally) where
+  pub nodes_here : nodes before ≡ before.decisions ∷ drop 1 (nodes before)
+  nodes_here = ap (λ b. if b then before.decisions ∷ behind before.inst before.decisions else []) live
+      ∙ ap (λ b. before.decisions ∷ drop 1 (if b then before.decisions ∷ behind before.inst before.decisions else [])) (sym live)
+
+  module _ (way : Direction) (more : List Coming) where
+    abbrev here : Reading
+    here = within way heads before more tally
+
+    -- what comes behind the node
+    abbrev past : List Coming
+    past = map (node way) (drop 1 (nodes before)) ++ more
+
+    past_is : drop 1 here.coming ≡ past
+    past_is = ap (λ ns. drop 1 (map (node way) ns ++ more)) nodes_here
+
+    -- these nodes in its place
+    with_nodes : (made : List (List Decision)) → nodes after ≡ made ++ drop 1 (nodes before)
+        → map (node way) made ++ drop 1 here.coming ≡ map (node way) (nodes after) ++ more
+    with_nodes made is =
+        ap (λ cs. map (node way) made ++ cs) past_is
+        ∙ sym (append_assoc (map (node way) made) (map (node way) (drop 1 (nodes before))) more)
+        ∙ ap (λ cs. cs ++ more) (sym (map-append (node way) made (drop 1 (nodes before))))
+        ∙ ap (λ ns. map (node way) ns ++ more) (sym is)
+
+    branched_on : (now : Tally) (made : List (List Decision)) → with_branching tally ≡ Ok now
+        → nodes after ≡ made ++ drop 1 (nodes before)
+        → branched_to here (map (node way) made) ≡ Ok (within way heads after more now)
+    branched_on now made counted is =
+        let one = branching_made tally now counted in
+        ap (λ b. require b kind.Branchings >>= λ _. Ok (record here { coming = map (node way) made ++ drop 1 here.coming; branched = tally.branched + 1 })) one.0
+        ∙ ap (λ cs. Ok (record here { coming = cs; branched = tally.branched + 1 })) (with_nodes made is)
+        ∙ ap (λ t. Ok (within way heads after more t)) one.1
+
+    not_branched : with_branching tally ≡ Err kind.Branchings → (children : List Coming)
+        → branched_to here children ≡ Err kind.Branchings
+    not_branched full children = elim (cases_Bool (nat_lt tally.branched MOST_BRANCHINGS)) [
+      | inl low ↦ absurd (cc (full, low))
+      | inr high ↦ ap (λ b. require b kind.Branchings >>= λ _. Ok (record here { coming = children ++ drop 1 here.coming; branched = tally.branched + 1 })) high
+    ]
+
+    -- a leaf in its place
+    came_is : (now : Tally) → nodes after ≡ drop 1 (nodes before)
+        → record (came here) { branched = now.branched; bound = now.bound } ≡ within way heads after more now
+    came_is now is =
+        ap (λ cs. record here { coming = cs; branched = now.branched; bound = now.bound })
+        (past_is ∙ ap (λ ns. map (node way) ns ++ more) (sym is))
+
+  -- a leaf of this value
+  pub leaf_judged : (line : Line) (list : List ℕ) (value : Bound)
+      → Shows inst before.decisions heads line list (Ok value) → nodes after ≡ drop 1 (nodes before)
+      → IsJudged heads before tally line list after (Ok (record tally { bound = lesser tally.bound value }))
+  leaf_judged line list value shows is way more =
+      ap (λ i. at_node i way before.decisions (here way more) line list) same
+      ∙ shows way (here way more) refl
+      ∙ ap Ok (came_is way more (record tally { bound = lesser tally.bound value }) is)
+
+  -- a leaf that doesn't hold
+  pub leaf_refused : (line : Line) (list : List ℕ) (fault : TreeKind)
+      → Shows inst before.decisions heads line list (Err fault)
+      → IsJudged heads before tally line list after (Err fault)
+  leaf_refused line list fault shows way more =
+      ap (λ i. at_node i way before.decisions (here way more) line list) same ∙ shows way (here way more) refl
+
+  module _ (i : ℕ) (list : List ℕ) (number : is_number inst i ≡ true) where
+    task_line : (way : Direction) (more : List Coming)
+        → at_node before.inst way before.decisions (here way more) (line.Assign i) list
+        ≡ on_task inst way before.decisions (here way more) (i - 1)
+    task_line way more =
+        ap (λ j. at_node j way before.decisions (here way more) (line.Assign i) list) same
+        ∙ ap (λ b. require b kind.UnknownTask >>= λ _. on_task inst way before.decisions (here way more) (i - 1)) number
+
+    -- a branching on a task
+    pub task_judged : (now : Tally) → assigned before.decisions (i - 1) ≡ None → with_branching tally ≡ Ok now
+        → nodes after ≡ map (λ k. decide.Assign (i - 1) k ∷ before.decisions) (crane_numbers inst) ++ drop 1 (nodes before)
+        → IsJudged heads before tally (line.Assign i) list after (Ok now)
+    task_judged now none counted is way more =
+        let ds = before.decisions in
+        let children = map (λ k. node way (decide.Assign (i - 1) k ∷ ds)) (crane_numbers inst) in
+        task_line way more
+        ∙ ap (λ o. require (is_none o) kind.Decided >>= λ _. branched_to (here way more) children) none
+        ∙ ap (branched_to (here way more)) (sym (map-map (node way) (λ k. decide.Assign (i - 1) k ∷ ds) (crane_numbers inst)))
+        ∙ branched_on way more now _ counted is
+
+  module _ (i j : ℕ) (list : List ℕ) (numbers : (is_number inst i && is_number inst j) ≡ true) where
+    pair_line : (way : Direction) (more : List Coming)
+        → at_node before.inst way before.decisions (here way more) (line.Order i j) list
+        ≡ on_pair inst way before.decisions (here way more) (i - 1) (j - 1)
+    pair_line way more =
+        ap (λ k. at_node k way before.decisions (here way more) (line.Order i j) list) same
+        ∙ ap (λ b. require b kind.UnknownTask >>= λ _. on_pair inst way before.decisions (here way more) (i - 1) (j - 1)) numbers
+
+    module _ (apart : is_apart inst (i - 1) (j - 1) ≡ true) where
+      abbrev orders : List (List Decision)
+      orders =
+          (decide.Order (i - 1) (j - 1) ∷ before.decisions) ∷ (decide.Order (j - 1) (i - 1) ∷ before.decisions) ∷ []
+
+      tested_pair : (way : Direction) (more : List Coming)
+          → at_node before.inst way before.decisions (here way more) (line.Order i j) list
+          ≡ (require (not (is_settled inst before.decisions (i - 1) (j - 1))) kind.Decided
+          >>= λ _. branched_to (here way more) (map (node way) orders))
+      tested_pair way more =
+          pair_line way more
+          ∙ ap (λ b. require b kind.NotApart >>= λ _. (require (not (is_settled inst before.decisions (i - 1) (j - 1))) kind.Decided
+          >>= λ _. branched_to (here way more) (map (node way) orders))) apart
+
+      -- a branching on a pair
+      pub pair_judged : (now : Tally) → (¬ IsSettled inst before.decisions (i - 1) (j - 1)) → with_branching tally ≡ Ok now
+          → nodes after ≡ orders ++ drop 1 (nodes before)
+          → IsJudged heads before tally (line.Order i j) list after (Ok now)
+      pair_judged now un counted is way more =
+          tested_pair way more
+          ∙ ap (λ b. require b kind.Decided >>= λ _. branched_to (here way more) (map (node way) orders))
+          (unsettled_test inst before.decisions (i - 1) (j - 1) un)
+          ∙ branched_on way more now orders counted is
+
+  -- fewer lines may come after a branching
+  pub fewer_after : (now : Tally) (made : List (List Decision)) → with_branching tally ≡ Ok now
+      → nodes after ≡ made ++ drop 1 (nodes before) → length made ≤ MOST_CRANES
+      → steps_left after now < steps_left before tally
+  fewer_after now made counted is few =
+      let one = branching_made tally now counted in
+      let low = ltb-true tally.branched MOST_BRANCHINGS one.0 in
+      let count = ap length is ∙ length-append made (drop 1 (nodes before)) in
+      let long = ap length nodes_here in
+      let next = ap (λ (t : Tally). t.branched) one.1 in
+      omega (arith, low, count, long, next, few)

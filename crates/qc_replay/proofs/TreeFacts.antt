@@ -1,0 +1,122 @@
+-- A file, read from its title to its end.
+use Rattle.std.proofs.Common.{◌≡◌, ℕ, true, false, List, [], ◌∷◌, ◌++◌, map, Option, None, Some, IfSome, Result, Ok, Err, sym, ap, subst, subst₂, ◌∙◌}
+use Rattle.std.specs.Prelude.{IfOk, IsSomeAnd, if◌then◌else◌, ◌<◌, length}
+use Rattle.qc_model.specs.declared.direction.Direction.{Direction}
+use Rattle.qc_model.specs.Instance.{InstanceView, Valid}
+use Rattle.qc_tree.specs.Trees.{IsTree, Tree, tree_text}
+use Rattle.qc_replay.specs.declared.fault.Replayed.{Replayed}
+use Rattle.qc_replay.specs.declared.fault.TreeFault.{TreeFault}
+use Rattle.qc_replay.specs.declared.fault.TreeKind.TheVariants as kind
+use Rattle.qc_replay.specs.declared.leaf.Heads.{Heads}
+use Rattle.qc_replay.specs.declared.node.Tally.{Tally}
+use Rattle.qc_replay.specs.File.{Fails, IsReadThrough, Leads, texts}
+use Rattle.qc_replay.specs.Frame.{standing_at}
+use Rattle.qc_replay.specs.Part.{Standing, behind, within}
+use Rattle.qc_replay.specs.Read.{IsReached, lines_text}
+use Rattle.qc_replay.specs.Shown.{IsShown, NoneEarlier}
+use Rattle.qc_replay.specs.Walk.{Coming, Reading, node, start, texts_from, tree_in}
+use Rattle.qc_replay.proofs.FileFacts.{at_end, behind_end}
+use Rattle.qc_replay.proofs.ReadLemmas.{none_earlier_of, shown_of}
+use Rattle.qc_replay.proofs.TreeTextLemmas.{tree_read}
+
+-- ---- where a part begins and ends
+
+module _ (way : Direction) (heads : Heads) (s : Standing) (more : List Coming) (tally : Tally) where
+  -- nothing of it is read
+  pub part_begins : (inst : InstanceView) → s ≡ record { inst = inst; decisions = []; live = true }
+      → standing_at heads tally (node way [] ∷ more) ≡ within way heads s more tally
+  part_begins inst is = ap (λ (t : Standing). within way heads t more tally) (sym is)
+
+  -- all of it is
+  pub part_ends : s.live ≡ false → within way heads s more tally ≡ standing_at heads tally more
+  part_ends over = ap (λ b. standing_at heads tally (map (node way) (if b then s.decisions ∷ behind s.inst s.decisions else []) ++ more)) over
+
+-- a part, read from its first node to its last
+module _ (whole inst : InstanceView) (way : Direction) (heads : Heads) (before : Standing) (more : List Coming) (tally : Tally)
+    (fresh : before ≡ record { inst = inst; decisions = []; live = true }) (n : ℕ) (left : Option (List ℕ)) where
+  abbrev pub fresh_part : Reading
+  fresh_part = standing_at heads tally (node way [] ∷ more)
+
+  pub part_read : (m : ℕ) (after : Standing) (now : Tally) (rest : Option (List ℕ)) → after.live ≡ false
+      → Leads whole n (within way heads before more tally) left m (within way heads after more now) rest
+      → Leads whole n fresh_part left m (standing_at heads now more) rest
+  part_read m after now rest over leads =
+      subst₂ (λ (r l : Reading). Leads whole n r left m l rest)
+      (sym (part_begins way heads before more tally inst fresh)) (part_ends way heads after more now over) leads
+
+  pub part_fails : (fault : TreeFault) → Fails whole n (within way heads before more tally) left fault
+      → Fails whole n fresh_part left fault
+  part_fails fault fails =
+      subst (λ (r : Reading). Fails whole n r left fault) (sym (part_begins way heads before more tally inst fresh)) fails
+
+-- ---- the whole file
+
+module _ (inst : InstanceView) (file : Option (List ℕ)) (read : Replayed) (through : IsReadThrough inst file read) where
+  pub read_in : IfSome file (λ bytes. tree_in inst bytes ≡ Ok read)
+  read_in = at_bytes file through.rest through.leads.taken through.all
+    where
+      at_bytes : (f rest : Option (List ℕ))
+          → IfSome f (λ x. IsSomeAnd rest (λ y. (x ≡ lines_text through.leads.lines ++ y)
+          × (texts_from inst 1 start (texts x) ≡ texts_from inst through.number through.last (texts y))))
+          → IfSome rest (λ y. y ≡ []) → IfSome f (λ x. tree_in inst x ≡ Ok read)
+      at_bytes None rest h none = tt
+      at_bytes (Some x) None h none = absurd h
+      at_bytes (Some x) (Some y) h none =
+          h.1 ∙ ap (λ z. texts_from inst through.number through.last (texts z)) none
+          ∙ at_end inst through.number through.last through.over ∙ ap Ok (sym through.same)
+
+  reached : IsReached inst through.last file through.rest
+  reached = record {
+    lines = through.leads.lines;
+    reading = through.leads.reading;
+    taken = at_bytes file through.rest through.leads.taken;
+  }
+    where
+      at_bytes : (f rest : Option (List ℕ))
+          → IfSome f (λ x. IsSomeAnd rest (λ y. (x ≡ lines_text through.leads.lines ++ y)
+          × (texts_from inst 1 start (texts x) ≡ texts_from inst through.number through.last (texts y))))
+          → IfSome f (λ x. IfSome rest (λ y. x ≡ lines_text through.leads.lines ++ y))
+      at_bytes None rest h = tt
+      at_bytes (Some x) None h = tt
+      at_bytes (Some x) (Some y) h = h.0
+
+  nothing_left : IfSome file (λ _. through.rest ≡ Some [])
+  nothing_left = at_bytes file through.rest through.leads.taken through.all
+    where
+      at_bytes : (f rest : Option (List ℕ))
+          → IfSome f (λ x. IsSomeAnd rest (λ y. (x ≡ lines_text through.leads.lines ++ y)
+          × (texts_from inst 1 start (texts x) ≡ texts_from inst through.number through.last (texts y))))
+          → IfSome rest (λ y. y ≡ []) → IfSome f (λ _. rest ≡ Some [])
+      at_bytes None rest h none = tt
+      at_bytes (Some x) None h none = absurd h
+      at_bytes (Some x) (Some y) h none = ap Some none
+
+  pub shows : IsShown inst file read
+  shows = subst (IsShown inst file) (sym through.same)
+      (shown_of inst through.last file through.rest reached nothing_left through.over)
+
+  pub no_earlier : Valid inst → NoneEarlier inst read.bound
+  no_earlier v = subst (λ (r : Replayed). NoneEarlier inst r.bound) (sym through.same)
+      (none_earlier_of inst through.last file through.rest v reached through.over)
+
+-- something stands behind the last line
+pub behind_fails : (inst : InstanceView) (n : ℕ) (r : Reading) (left : Option (List ℕ)) (fault : TreeFault) → r.coming ≡ []
+    → (fault.line ≡ n) × (fault.kind ≡ kind.After) × IfSome left (λ bytes. 0 < length bytes) → Fails inst n r left fault
+behind_fails inst n r None fault over h = tt
+behind_fails inst n r (Some bytes) fault over h =
+    behind_end inst n r bytes over h.2
+    ∙ ap (λ line. Err (record { line = line; kind = kind.After })) (sym h.0)
+    ∙ ap (λ why. Err (record { line = fault.line; kind = why })) (sym h.1)
+
+-- what holds of each value that was answered
+pub each_ok : {A E : Type 0} (P Q : A → Type 0) (result : Result A E) → ((a : A) → P a → Q a) → IfOk result P → IfOk result Q
+each_ok P Q (Ok a) all h = all a h
+each_ok P Q (Err e) all h = tt
+
+-- the text of a tree has no fault
+pub never_faulty : (inst : InstanceView) → Valid inst → (file : Option (List ℕ)) (fault : TreeFault)
+    → Fails inst 1 start file fault → (tree : Tree) → IsTree inst tree → file ≡ Some (tree_text inst tree) → ⊥
+never_faulty inst v None fault fails tree is text = cc
+never_faulty inst v (Some bytes) fault fails tree is text =
+    let same : bytes ≡ tree_text inst tree = cc in
+    absurd (cc (fails, ap (tree_in inst) same, tree_read inst v tree is))

@@ -1,0 +1,7 @@
+pub mod Faults
+pub mod Walk
+pub mod Shown
+pub mod Read
+pub mod Part
+pub mod File
+pub mod Frame

@@ -1,0 +1,110 @@
+-- A part of a tree as it is kept while it is read.
+use Rattle.std.specs.Prelude.{◌≡◌, ℕ, ◌+◌, ◌<◌, ◌≤◌, Bool, nat_lt, if◌then◌else◌, List, [], ◌∷◌, ◌++◌, length, map, drop, Option, None, Some, Result, Ok, Err, ◌-◌, ◌*◌}
+use Rattle.qc_num.specs.declared.bound.Bound.{Bound}
+use Rattle.qc_num.specs.Bounds.{lesser}
+use Rattle.qc_num.specs.Reading.{◌>>=◌}
+use Rattle.qc_dist.specs.Node.{IsOpen}
+use Rattle.qc_model.specs.declared.direction.Direction.{Direction}
+use Rattle.qc_model.specs.declared.limits.TheConstants.{MOST_CRANES}
+use Rattle.qc_model.specs.declared.decision.Decision.{Decision}
+use Rattle.qc_model.specs.declared.decision.Decision.TheVariants.{Assign, Order}
+use Rattle.qc_model.specs.Instance.{InstanceView}
+use Rattle.qc_model.specs.Leaves.{Version, without_berths, with_berths, crane_numbers}
+use Rattle.qc_tree.specs.declared.line.Line.{Line}
+use Rattle.qc_tree.specs.declared.line.Line.TheVariants as line
+use Rattle.qc_tree.specs.declared.line.TheConstants.{MOST_BRANCHINGS}
+use Rattle.qc_replay.specs.declared.descent.Descent.TheInside.{Inside}
+use Rattle.qc_replay.specs.declared.fault.TreeKind.{TreeKind}
+use Rattle.qc_replay.specs.declared.fault.TreeKind.TheVariants as kind
+use Rattle.qc_replay.specs.declared.leaf.Heads.{Heads}
+use Rattle.qc_replay.specs.declared.leaf.Heads.TheVariants.{Alone, Berths}
+use Rattle.qc_replay.specs.declared.node.Tally.{Tally}
+use Rattle.qc_replay.specs.Walk.{Coming, Reading, at_node, came, node}
+
+-- the version of trees that counts with these heads
+abbrev pub version_of : Heads → Version
+version_of Alone = without_berths
+version_of Berths = with_berths
+
+-- the number of a task in a file
+abbrev pub IsNumber : InstanceView → ℕ → Type 0
+IsNumber inst i = (0 < i) × (i ≤ length inst.tasks)
+
+-- where the reading of a part stands: the decisions of its next node, if one must still come
+pub record Standing : Type 0 where
+  pub inst : InstanceView
+  pub decisions : List Decision
+  pub live : Bool
+
+-- the children that come after the one of this decision, under its branching; the first child of a pair is the
+-- one in which the lower task is first
+abbrev pub later : InstanceView → List Decision → Decision → List (List Decision)
+later inst ds (Assign j k) = map (λ v. Assign j v ∷ ds) (drop (k + 1) (crane_numbers inst))
+later inst ds (Order i j) = if nat_lt i j then (Order j i ∷ ds) ∷ [] else []
+
+-- the child after the one of this decision, wherever that was open; none where it is the last
+abbrev pub IsNextChild : InstanceView → Decision → Option Decision → Type 0
+IsNextChild inst d None = (ds : List Decision) → IsOpen inst ds d → later inst ds d ≡ []
+IsNextChild inst d (Some next) =
+    (ds : List Decision) → IsOpen inst ds d
+    → IsOpen inst ds next × (later inst ds d ≡ (next ∷ ds) ∷ later inst ds next)
+
+-- the nodes that must come after the one of these decisions
+abbrev pub behind : InstanceView → List Decision → List (List Decision)
+behind inst [] = []
+behind inst (d ∷ ds) = later inst ds d ++ behind inst ds
+
+-- the nodes that must still come, the next one first
+abbrev pub nodes : Standing → List (List Decision)
+nodes s = if s.live then s.decisions ∷ behind s.inst s.decisions else []
+
+-- each decision was open where it was made
+abbrev pub WereOpen : InstanceView → List Decision → Type 0
+WereOpen inst [] = Unit {0}
+WereOpen inst (d ∷ ds) = IsOpen inst ds d × WereOpen inst ds
+
+abbrev pub standing_of : Inside → Standing
+standing_of f = record { inst = f.node.inst; decisions = f.node.decisions; live = f.live }
+
+abbrev pub IsKept : Inside → Type 0
+IsKept f = WereOpen f.node.inst f.node.decisions
+
+-- what a line shows at a node: the value of a leaf, or its fault
+abbrev pub Shows : InstanceView → List Decision → Heads → Line → List ℕ → Result Bound TreeKind → Type 0
+Shows inst ds heads line list result =
+    (way : Direction) (r : Reading) → r.version ≡ version_of heads
+    → at_node inst way ds r line list
+    ≡ (result >>= λ value. Ok (record (came r) { bound = lesser r.bound value }))
+
+-- the line branches on nothing
+abbrev pub IsNoBranching : Line → Type 0
+IsNoBranching (line.Assign i) = ⊥
+IsNoBranching (line.Order i j) = ⊥
+IsNoBranching _ = Unit {0}
+
+-- one branching more, as long as a tree may have more
+abbrev pub with_branching : Tally → Result Tally TreeKind
+with_branching tally =
+    if nat_lt tally.branched MOST_BRANCHINGS then Ok (record tally { branched = tally.branched + 1 })
+    else Err kind.Branchings
+
+-- a reading in a part: its nodes come next, and then what follows the part
+abbrev pub within : Direction → Heads → Standing → List Coming → Tally → Reading
+within way heads s more tally = record {
+  version = version_of heads;
+  coming = map (node way) (nodes s) ++ more;
+  branched = tally.branched;
+  bound = tally.bound;
+}
+
+-- how many lines may still come in a part: those that must, and those of each branching that is left
+abbrev pub steps_left : Standing → Tally → ℕ
+steps_left s tally = length (nodes s) + MOST_CRANES * (MOST_BRANCHINGS - tally.branched)
+
+-- what came of a line in a part: a reading further on, or a fault
+abbrev pub IsJudged :
+    Heads → Standing → Tally → Line → List ℕ → Standing → Result Tally TreeKind → Type 0
+IsJudged heads before tally line list after result =
+    (way : Direction) (more : List Coming)
+    → at_node before.inst way before.decisions (within way heads before more tally) line list
+    ≡ (result >>= λ now. Ok (within way heads after more now))

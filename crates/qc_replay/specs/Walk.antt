@@ -1,0 +1,160 @@
+-- What a tree's file shows, line by line, or its first fault.
+use Rattle.std.specs.Prelude.{ℕ, ◌+◌, ◌-◌, Bool, not, ◌&&◌, ◌||◌, ◌==◌, nat_lt, nat_le, if◌then◌else◌, List, [], ◌∷◌, ◌++◌, map, length, drop, Option, is_none, is_some, Result, Ok, Err, ok_or, ⊤}
+use Rattle.std.specs.List.{list_all, list_any, slice_split}
+use Rattle.qc_num.specs.declared.bound.Bound.{Bound}
+use Rattle.qc_num.specs.declared.bound.Bound.TheVariants.{Never}
+use Rattle.qc_num.specs.Bounds.{lesser, is_bound}
+use Rattle.qc_num.specs.Reading.{◌>>=◌, require, with_fault}
+use Rattle.qc_model.specs.declared.decision.Decision.{Decision}
+use Rattle.qc_model.specs.declared.decision.Decision.TheVariants as decide
+use Rattle.qc_model.specs.declared.direction.Direction.{Direction}
+use Rattle.qc_model.specs.declared.direction.Direction.TheVariants as way
+use Rattle.qc_model.specs.Instance.{InstanceView}
+use Rattle.qc_model.specs.Leaves.{Version, chain, ring, reach, work, without_berths, with_berths, crane_numbers, leaf_value}
+use Rattle.qc_model.specs.Nodes.{assigned, forced}
+use Rattle.qc_model.specs.Seen.{seen}
+use Rattle.qc_tree.specs.declared.line.TheConstants.{MOST_BRANCHINGS}
+use Rattle.qc_tree.specs.declared.line.Line.{Line}
+use Rattle.qc_tree.specs.declared.line.Line.TheVariants as line
+use Rattle.qc_tree.specs.LineIn.{line_in}
+use Rattle.qc_replay.specs.declared.fault.Replayed.{Replayed}
+use Rattle.qc_replay.specs.declared.fault.TreeFault.{TreeFault}
+use Rattle.qc_replay.specs.declared.fault.TreeKind.{TreeKind}
+use Rattle.qc_replay.specs.declared.fault.TreeKind.TheVariants as kind
+
+-- a line that must still come
+pub data Coming : Type 0 where
+  title up down end : Coming
+  -- a node of the part that goes this way, by its decisions, newest first
+  node : (way : Direction) → (decisions : List Decision) → Coming
+
+-- how far a file is read: what must still come, the next line first, and what the lines so far come to
+pub record Reading : Type 0 where
+  pub version : Version
+  pub coming : List Coming
+  pub branched : ℕ
+  pub bound : Bound
+
+abbrev pub start : Reading
+start = record {
+  version = with_berths;
+  coming = title ∷ up ∷ node way.Up [] ∷ down ∷ node way.Down [] ∷ end ∷ [];
+  branched = 0;
+  bound = Never;
+}
+
+-- the line has come
+abbrev pub came : Reading → Reading
+came r = record r { coming = drop 1 r.coming }
+
+-- a branching: its children come next
+abbrev pub branched_to : Reading → List Coming → Result Reading TreeKind
+branched_to r children = do
+  _ ← require (nat_lt r.branched MOST_BRANCHINGS) kind.Branchings
+  Ok (record r { coming = children ++ drop 1 r.coming; branched = r.branched + 1 })
+
+-- a leaf, with its fault where it doesn't hold
+abbrev pub closed_by : Reading → TreeKind → Option Bound → Result Reading TreeKind
+closed_by r fault value = do
+  v ← ok_or value fault
+  Ok (record (came r) { bound = lesser r.bound v })
+
+-- a number in a file is that of a task
+abbrev pub is_number : InstanceView → ℕ → Bool
+is_number inst i = nat_lt 0 i && nat_le i (length inst.tasks)
+
+-- tasks as they are numbered from 0
+abbrev pub from_file : List ℕ → List ℕ
+from_file list = map (λ i. i - 1) list
+
+abbrev pub is_apart : InstanceView → ℕ → ℕ → Bool
+is_apart inst i j = list_any (λ pair. (pair.first == i) && (pair.second == j)) inst.apart
+
+abbrev pub is_settled : InstanceView → List Decision → ℕ → ℕ → Bool
+is_settled inst ds i j = is_some (forced inst ds i j) || is_some (forced inst ds j i)
+
+-- branching on a task: a node for each crane
+abbrev pub on_task : InstanceView → Direction → List Decision → Reading → ℕ → Result Reading TreeKind
+on_task inst d ds r j = do
+  _ ← require (is_none (assigned ds j)) kind.Decided
+  branched_to r (map (λ k. node d (decide.Assign j k ∷ ds)) (crane_numbers inst))
+
+-- branching on an apart pair: a node for each order
+abbrev pub on_pair : InstanceView → Direction → List Decision → Reading → ℕ → ℕ → Result Reading TreeKind
+on_pair inst d ds r i j = do
+  _ ← require (is_apart inst i j) kind.NotApart
+  _ ← require (not (is_settled inst ds i j)) kind.Decided
+  branched_to r (node d (decide.Order i j ∷ ds) ∷ node d (decide.Order j i ∷ ds) ∷ [])
+
+-- a line where a node must stand, which is one of this instance
+abbrev pub at_node : InstanceView → Direction → List Decision → Reading → Line → List ℕ → Result Reading TreeKind
+at_node inst d ds r (line.Assign i) list = do
+  _ ← require (is_number inst i) kind.UnknownTask
+  on_task inst d ds r (i - 1)
+at_node inst d ds r (line.Order i j) list = do
+  _ ← require (is_number inst i && is_number inst j) kind.UnknownTask
+  on_pair inst d ds r (i - 1) (j - 1)
+at_node inst d ds r line.Chain list = do
+  _ ← require (list_all (is_number inst) list) kind.UnknownTask
+  closed_by r kind.NotForced (leaf_value r.version inst ds (chain (from_file list)))
+at_node inst d ds r line.Ring list = do
+  _ ← require (list_all (is_number inst) list) kind.UnknownTask
+  closed_by r kind.NotCycle (leaf_value r.version inst ds (ring (from_file list)))
+at_node inst d ds r line.Reach list = closed_by r kind.InReach (leaf_value r.version inst ds reach)
+at_node inst d ds r (line.Work v) list = closed_by r kind.WorkShort (leaf_value r.version inst ds (work v))
+at_node inst d ds r _ list = Err kind.Place
+
+-- a line where this must come
+abbrev pub at : InstanceView → Reading → Coming → Line → List ℕ → Result Reading TreeKind
+at inst r title line.Title list = Ok (record (came r) { version = without_berths })
+at inst r title line.Title2 list = Ok (came r)
+at inst r up line.Up list = Ok (came r)
+at inst r down line.Down list = Ok (came r)
+at inst r end (line.End b x) list = do
+  _ ← require ((b == r.branched) && is_bound x r.bound) kind.Counts
+  Ok (came r)
+at inst r (node d ds) line list = at_node (seen inst d) d ds r line list
+at inst r _ line list = Err kind.Place
+
+-- the greatest length of a line with its line feed
+abbrev pub most_bytes : ℕ
+most_bytes = 1200
+
+-- what must come next; after the last line nothing may
+abbrev pub next_of : List Coming → Result Coming TreeKind
+next_of [] = Err kind.After
+next_of (c ∷ more) = Ok c
+
+-- a text that a line feed follows
+abbrev pub at_text : InstanceView → Reading → List ℕ → Result Reading TreeKind
+at_text inst r text = do
+  c ← next_of r.coming
+  _ ← require (nat_lt (length text) most_bytes) kind.LineTooLong
+  seen ← ok_or (line_in text) kind.Spelling
+  at inst r c seen.line seen.list
+
+-- the text behind the last line feed: the file ends there, and should end before it
+abbrev pub at_rest : List Coming → List ℕ → Result ⊤ TreeKind
+at_rest [] rest = require (length rest == 0) kind.After
+at_rest (c ∷ more) rest = Err (if nat_le most_bytes (length rest) then kind.LineTooLong else kind.Cut)
+
+-- a fault with its line, from 1
+abbrev pub numbered : {A : Type 0} → ℕ → Result A TreeKind → Result A TreeFault
+numbered n = with_fault (λ why. record { line = n; kind = why })
+
+abbrev pub replayed : Reading → Replayed
+replayed r = record { bound = r.bound; branched = r.branched }
+
+-- what the texts between line feeds come to, the first of which is line n, or their first fault
+abbrev pub texts_from : InstanceView → ℕ → Reading → List (List ℕ) → Result Replayed TreeFault
+texts_from inst n r [] = Ok (replayed r)
+texts_from inst n r (rest ∷ []) = do
+  _ ← numbered n (at_rest r.coming rest)
+  Ok (replayed r)
+texts_from inst n r (text ∷ next ∷ more) = do
+  now ← numbered n (at_text inst r text)
+  texts_from inst (n + 1) now (next ∷ more)
+
+-- what a tree's file shows for an instance, or its first fault
+abbrev pub tree_in : InstanceView → List ℕ → Result Replayed TreeFault
+tree_in inst bytes = texts_from inst 1 start (slice_split (λ b. b == 10) bytes)

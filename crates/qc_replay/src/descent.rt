@@ -1,0 +1,151 @@
+//! The way through a part of a tree, node by node.
+ghost use Rattle.std.specs.Prelude.{◌≡◌, ◌<◌, ◌++◌, ◌∷◌, [], List, IfOk, MatchOption, None, drop, length, map, true};
+ghost use Rattle.qc_dist.specs.Node.{IsOpen, Node};
+ghost use Rattle.qc_model.specs.declared.decision.Decision.{Decision};
+ghost use Rattle.qc_model.specs.declared.decision.Decision.TheVariants.{Assign, Order};
+ghost use Rattle.qc_model.specs.Instance.{IsApart, Valid};
+ghost use Rattle.qc_model.specs.Leaves.{crane_numbers};
+ghost use Rattle.qc_model.specs.Nodes.{IsSettled, assigned};
+ghost use Rattle.qc_replay.specs.Part.{IsNextChild, WereOpen, behind, nodes};
+
+use qc_dist::Decisions;
+use qc_model::{Decision, Instance};
+use qc_num::OutOfMemory;
+use std::alloc::Global;
+use std::marker::Model;
+
+/// Where the reading of a part stands: the decisions of the next node, as long as one must come. The
+/// branchings on the way to it are these decisions, so no other list is kept. All memory is taken by
+/// `new`.
+#[derive(Drop)]
+pub(crate) struct Descent {
+    node: Decisions,
+    live: bool,
+}
+
+impl Model for Descent {
+    ghost use Rattle.qc_replay.specs.Part.{Standing, standing_of, IsKept};
+
+    ghost Value = { Standing };
+
+    ghost view = { standing_of };
+
+    ghost invariant = { IsKept };
+}
+
+/// The child that puts the task on the next crane.
+fn next_crane(inst: &Instance, task: u16, crane: u16) -> Option<Decision>
+    ensures { IsNextChild inst.now (Assign task crane) result }
+{
+    if crane as usize + 1 < inst.cranes().len() {
+        Some(Decision::Assign(task, crane + 1))
+    } else {
+        None
+    }
+}
+
+/// The child with the pair in the other order: the one with the lower task first comes first.
+fn turned(inst: &Instance, first: u16, second: u16) -> Option<Decision>
+    ensures { IsNextChild inst.now (Order first second) result }
+{
+    if first < second {
+        Some(Decision::Order(second, first))
+    } else {
+        None
+    }
+}
+
+/// The child that follows this one under its branching.
+fn next_child(inst: &Instance, decision: Decision) -> Option<Decision>
+    ensures { IsNextChild inst.now decision result }
+{
+    match decision {
+        Decision::Assign(task, crane) => next_crane(inst, task, crane),
+        Decision::Order(first, second) => turned(inst, first, second),
+    }
+}
+
+impl Descent {
+    /// At the root of a part of the instance.
+    pub(crate) fn new(alloc: Global, inst: &Instance) -> Result<Descent, OutOfMemory>
+        ensures { IfOk result (λ new. new ≡ record { inst = inst.now; decisions = []; live = true }) }
+    {
+        Ok(Descent {
+            node: Decisions::new(alloc, inst)?,
+            live: true,
+        })
+    }
+
+    /// Whether a node must still come.
+    pub(crate) fn is_live(&self) -> bool
+        ensures { result ≡ self.now.live }
+    {
+        self.live
+    }
+
+    /// The decisions of the next node.
+    pub(crate) fn node(&self) -> &Decisions
+        ensures node { result.now ≡ record { inst = self.now.inst; decisions = self.now.decisions } }
+        ensures were_open { WereOpen self.now.inst self.now.decisions }
+    {
+        &self.node
+    }
+
+    /// The next node branches on the crane of a task.
+    pub(crate) fn on_task(&mut self, inst: &Instance, task: u16)
+        requires same { self.old.inst ≡ inst.now }
+        requires valid { Valid inst.now }
+        requires live { self.old.live ≡ true }
+        requires task { task < length inst.now.tasks }
+        requires none { assigned self.old.decisions task ≡ None }
+        ensures same { self.new.inst ≡ inst.now }
+        ensures nodes { nodes self.new
+            ≡ map (λ k. Assign task k ∷ self.old.decisions) (crane_numbers inst.now)
+            ++ drop 1 (nodes self.old) }
+    {
+        self.node.add(inst, Decision::Assign(task, 0));
+    }
+
+    /// The next node branches on the order of an apart pair.
+    pub(crate) fn on_pair(&mut self, inst: &Instance, first: u16, second: u16)
+        requires same { self.old.inst ≡ inst.now }
+        requires valid { Valid inst.now }
+        requires live { self.old.live ≡ true }
+        requires apart { IsApart inst.now first second }
+        requires unsettled { ¬ IsSettled inst.now self.old.decisions first second }
+        ensures same { self.new.inst ≡ inst.now }
+        ensures nodes { nodes self.new ≡ (Order first second ∷ self.old.decisions)
+            ∷ (Order second first ∷ self.old.decisions) ∷ drop 1 (nodes self.old) }
+    {
+        self.node.add(inst, Decision::Order(first, second));
+    }
+
+    /// The next node is a leaf.
+    pub(crate) fn leave(&mut self, inst: &Instance)
+        requires same { self.old.inst ≡ inst.now }
+        requires live { self.old.live ≡ true }
+        ensures same { self.new.inst ≡ inst.now }
+        ensures nodes { nodes self.new ≡ drop 1 (nodes self.old) }
+    {
+        self.live = climb(inst, &mut self.node);
+    }
+}
+
+/// Takes decisions back up to the newest branching with a child that is left, and goes to that child;
+/// whether there was one.
+fn climb(inst: &Instance, node: &mut Decisions) -> bool
+    requires same { node.old.inst ≡ inst.now }
+    requires were_open { WereOpen inst.now node.old.decisions }
+    ensures same { node.new.inst ≡ inst.now }
+    ensures were_open { WereOpen inst.now node.new.decisions }
+    ensures nodes { nodes (record { inst = inst.now; decisions = node.new.decisions; live = result })
+        ≡ behind inst.now node.old.decisions }
+{
+    while let Some(decision) = node.undo() {
+        if let Some(next) = next_child(inst, decision) {
+            node.add(inst, next);
+            return true;
+        }
+    }
+    false
+}

@@ -1,0 +1,114 @@
+ghost use Rattle.std.specs.Prelude.{◌≡◌, ◌≤◌, length};
+
+use qc_num::{Bound, OutOfMemory};
+use std::alloc::AllocError;
+use thiserror::Error;
+
+/// Why a line of a tree's file is refused. For one line the first that applies counts, in this order,
+/// but that `After` comes before all others.
+#[derive(Clone, Copy, Debug, PartialEq, Eq, Hash)]
+pub enum TreeKind {
+    /// It is longer than 1,200 bytes with its line feed.
+    LineTooLong,
+    /// The file is at its end, and the line has no line feed yet.
+    Cut,
+    /// No line of a tree has this text.
+    Spelling,
+    /// A line of another kind is due here.
+    Place,
+    /// It names a task that the instance hasn't.
+    UnknownTask,
+    /// The two tasks, the lower first, are no apart pair of the instance.
+    NotApart,
+    /// What it branches on is decided: the task has a crane, or one of the pair is forced to wait.
+    Decided,
+    /// A tree has at most 100,000 branchings.
+    Branchings,
+    /// A task of the chain isn't forced to come after the one before it.
+    NotForced,
+    /// A task of the ring isn't forced to come after the one before it.
+    NotCycle,
+    /// The newest decision is in reach.
+    InReach,
+    /// The work fits.
+    WorkShort,
+    /// The last line tells another number of branchings, or another value.
+    Counts,
+    /// There is more behind the last line.
+    After,
+}
+
+impl TreeKind {
+    ghost use Rattle.qc_replay.specs.Faults.{kind_text};
+
+    /// The kind as reports print it.
+    pub fn text(self) -> &'static str
+        ensures text { result.now ≡ kind_text self }
+        ensures short { length result.now ≤ 11 }
+    {
+        match self {
+            TreeKind::LineTooLong => "LineTooLong",
+            TreeKind::Cut => "Cut",
+            TreeKind::Spelling => "Spelling",
+            TreeKind::Place => "Place",
+            TreeKind::UnknownTask => "UnknownTask",
+            TreeKind::NotApart => "NotApart",
+            TreeKind::Decided => "Decided",
+            TreeKind::Branchings => "Branchings",
+            TreeKind::NotForced => "NotForced",
+            TreeKind::NotCycle => "NotCycle",
+            TreeKind::InReach => "InReach",
+            TreeKind::WorkShort => "WorkShort",
+            TreeKind::Counts => "Counts",
+            TreeKind::After => "After",
+        }
+    }
+}
+
+/// The first fault of a tree's file.
+#[derive(Clone, Copy, Debug, PartialEq, Eq)]
+pub struct TreeFault {
+    /// The line, from 1.
+    pub line: u32,
+    pub kind: TreeKind,
+}
+
+/// What a tree shows.
+#[derive(Clone, Copy, Debug, PartialEq, Eq)]
+pub struct Replayed {
+    /// No schedule that goes one way ends before this tick; `Never`: there is no such schedule.
+    pub bound: Bound,
+    /// How many branchings the tree has, at most 100,000.
+    pub branched: u32,
+}
+
+/// Why no tree was read.
+#[derive(Debug, Drop, Error)]
+pub enum ReplayError {
+    #[error("the file could not be read")]
+    ReadFault,
+    #[error("{0:?}")]
+    Tree(TreeFault),
+    #[error("out of memory")]
+    OutOfMemory,
+}
+
+impl From<OutOfMemory> for ReplayError {
+    ghost use Rattle.qc_replay.specs.declared.fault.ReplayError.TheVariants.{OutOfMemory};
+
+    ghost from_gives = { λ _ error. error ≡ OutOfMemory };
+
+    fn from(_refused: OutOfMemory) -> ReplayError {
+        ReplayError::OutOfMemory
+    }
+}
+
+impl From<AllocError> for ReplayError {
+    ghost use Rattle.qc_replay.specs.declared.fault.ReplayError.TheVariants.{OutOfMemory};
+
+    ghost from_gives = { λ _ error. error ≡ OutOfMemory };
+
+    fn from(_refused: AllocError) -> ReplayError {
+        ReplayError::OutOfMemory
+    }
+}

@@ -1,0 +1,15 @@
+//! The replay of a bound tree: a file is read line by line, and what it shows is found without a
+//! search.
+#![tactic(auto)]
+
+mod descent;
+mod fault;
+mod frame;
+mod leaf;
+mod lines;
+mod node;
+mod part;
+mod tree_file;
+
+pub use fault::{ReplayError, Replayed, TreeFault, TreeKind};
+pub use tree_file::replay;
