@@ -1,13 +1,12 @@
 -- What follows from a run's account of itself.
-use Rattle.std.proofs.Common.{◌≡◌, ◌≢◌, ◌≤◌, ℕ, List, [], ◌++◌, Option, None, Some, Result, Ok, Err, refl, sym, ap, ◌∙◌, subst, inl, inr, ◌⊎◌, arith}
+use Rattle.std.proofs.Common.{◌≡◌, ◌≢◌, ℕ, List, [], Option, None, Some, Result, Ok, Err, refl, sym, ap, ◌∙◌, subst, inl, inr, ◌⊎◌}
 use Rattle.std.specs.Prelude.{IfSome, IsSomeAnd, option_and_then}
 use Rattle.std.specs.FinMap.{get}
 use Rattle.std.specs.Io.KnownBytes.{append_known}
-use Rattle.qc_num.specs.Reading.{◌>>=◌}
-use Rattle.qc_num.proofs.ReadingLemmas.{bind_ok, same_ok}
-use Rattle.qc_io.specs.Outside.{Files, Stand, Rose, ReadCause, GrewByPart, next_count}
+use Rattle.qc_num.specs.declared.bound.Bound.TheVariants.{Least, Never}
+use Rattle.qc_num.proofs.ReadingLemmas.{bind_ok}
+use Rattle.qc_io.specs.Outside.{Files, Stand, Rose, ReadCause}
 use Rattle.qc_model.specs.Instance.{InstanceView}
-use Rattle.qc_tasks.specs.TasksText.{tasks_text}
 use Rattle.qc_top.specs.declared.answer.Input.{Input}
 use Rattle.qc_top.specs.declared.answer.Input.TheVariants as input
 use Rattle.qc_top.specs.declared.answer.Refusal.{Refusal}
@@ -18,12 +17,13 @@ use Rattle.qc_top.specs.declared.answer.Answer.{Answer}
 use Rattle.qc_top.specs.declared.answer.Answer.TheVariants as answer
 use Rattle.qc_top.specs.declared.status.Status.{Status}
 use Rattle.qc_top.specs.declared.status.Status.TheVariants as status
-use Rattle.qc_top.specs.Asked.{Asked, plan, tasks, unbuilt, usage, name_of, IsPlan}
+use Rattle.qc_top.specs.Asked.{Asked, plan, check, tasks, unbuilt, usage, name_of, IsPlan}
 use Rattle.qc_top.specs.Words.{Asks}
-use Rattle.qc_top.specs.Due.{Reads, Work, print, search, reads_in, without, bytes_of, instance_due, due}
+use Rattle.qc_top.specs.Due.{Work, print, search, reads_in, without, instance_due, due}
 use Rattle.qc_top.specs.Answers.{status_of, report_text, refusal_status, ending_of}
-use Rattle.qc_top.specs.Account.{ComesTo, IsUnread, IsRefused, Stops, ComesThrough, IsReading, IsPlanned, IsStopped, IsWriting, Serves, Printed, IsReported, IsCut, IsRun}
-use Rattle.qc_top.specs.Promises.{IsPlanTold, AreTasksTold, IsRefusal, IsRefusalTold, IsCutTold, IsStopTold, EndsWith, NoneFailed, status_due, Promises}
+use Rattle.qc_top.specs.Account.{ComesTo, Stops, IsPlanned, IsStopped, Serves, Printed, IsRun}
+use Rattle.qc_top.specs.Shown.{IsBoundShown, IsNoneShown, TellsTree}
+use Rattle.qc_top.specs.Promises.{IsPlanTold, AreTasksTold, IsEndTold, IsNoneTold, IsRefusal, IsRefusalTold, IsCutTold, IsStopTold, EndsWith, NoneFailed, status_due, Promises}
 
 -- the text of what is to be printed
 abbrev text_of : Result Work Refusal → List ℕ
@@ -36,6 +36,7 @@ IsOther status.Optimal = ⊥
 IsOther status.Done = ⊥
 IsOther status.WriteFault = ⊥
 IsOther status.OutOfMemory = ⊥
+IsOther status.Infeasible = ⊥
 IsOther _ = Unit {0}
 
 other : (why : Refusal) → IsOther (refusal_status why)
@@ -44,6 +45,7 @@ other (refusal.ReadFault file) = tt
 other (refusal.TooLarge file) = tt
 other (refusal.BadShip fault) = tt
 other (refusal.BadStow fault) = tt
+other (refusal.BadTree fault) = tt
 other refusal.Unbuilt = tt
 
 not_other : (why : Refusal) (s : Status) → refusal_status why ≡ s → IsOther s
@@ -81,7 +83,7 @@ unread_due asked held (Some files) told file rb ra none cause turn =
       | inr missing ↦ rw (← same) (rw (without_missing file files asked name named missing) at turn)
     ]
 
-module _ (words : List (List ℕ)) (before after : Stand) (pb pa : Printed) (ended : Status) (run : IsRun words before after pb pa ended) where
+module _ (words : List (List ℕ)) (before after : Stand) (pb pa : Printed) (ended : Status) (run : IsRun words before after pb pa ended) (tells : TellsTree run.asked before.files run.answer) where
   -- the words ask for one thing
   asked_is : (asked : Asked) → Asks words asked → Serves asked before after run.answer
   asked_is asked asks = subst (λ a. Serves a before after run.answer) (sym run.asks ∙ asks) run.serves
@@ -96,6 +98,8 @@ module _ (words : List (List ℕ)) (before after : Stand) (pb pa : Printed) (end
   plan_told (plan s w p t) is (answer.Stopped stop.OutOfMemory) serves e report = absurd (cc e)
   plan_told (plan s w p t) is answer.WriteFault serves e report = absurd (cc e)
   plan_told (plan s w p t) is (answer.Tasks inst) serves e report = absurd serves
+  plan_told (plan s w p t) is (answer.Checked bound) serves e report = absurd serves
+  plan_told (check s w t) is a serves e report = absurd is
   plan_told (tasks s w) is a serves e report = absurd is
   plan_told unbuilt is a serves e report = absurd is
   plan_told usage is a serves e report = absurd is
@@ -107,15 +111,19 @@ module _ (words : List (List ℕ)) (before after : Stand) (pb pa : Printed) (end
     | inr cut ↦ absurd (cc (cut.status, e))
   ]
 
+  -- an answer that only reads printed the tasks
+  tasks_printed : (ship stow : List ℕ) (a : Answer) (files : Option Files) → ComesTo (due (tasks ship stow)) (tasks ship stow) files (Ok (print (ending_of a))) → pa.bytes ≡ append_known pb.bytes (report_text a)
+      → IfSome files (λ held. AreTasksTold (tasks ship stow) held pb pa)
+  tasks_printed ship stow a None h report = tt
+  tasks_printed ship stow a (Some held) h report =
+      let (found, at, same) = bind_ok (instance_due (reads_in held (tasks ship stow))) (λ i. Ok (print (ending_of (answer.Tasks i)))) (print (ending_of a)) h in
+      let texts = ap text_of same in
+      record { inst = found; due = at; report = report ∙ ap (append_known pb.bytes) (sym texts) }
+
   tasks_told : (ship stow : List ℕ) (a : Answer) → Serves (tasks ship stow) before after a → status_of a ≡ status.Done → pa.bytes ≡ append_known pb.bytes (report_text a)
       → IfSome before.files (λ held. AreTasksTold (tasks ship stow) held pb pa)
-  tasks_told ship stow (answer.Tasks inst) serves e report = told before.files serves.ending.1 where
-    told : (files : Option Files) → ComesTo (due (tasks ship stow)) (tasks ship stow) files (Ok (print (ending_of (answer.Tasks inst)))) → IfSome files (λ held. AreTasksTold (tasks ship stow) held pb pa)
-    told None h = tt
-    told (Some held) h =
-        let (found, at, same) = bind_ok (instance_due (reads_in held (tasks ship stow))) (λ i. Ok (print (ending_of (answer.Tasks i)))) (print (ending_of (answer.Tasks inst))) h in
-        let texts = ap text_of same in
-        record { inst = found; due = at; report = report ∙ ap (append_known pb.bytes) (sym texts) }
+  tasks_told ship stow (answer.Tasks inst) serves e report = tasks_printed ship stow (answer.Tasks inst) before.files serves.ending.1 report
+  tasks_told ship stow (answer.Checked bound) serves e report = tasks_printed ship stow (answer.Checked bound) before.files serves.ending.1 report
   tasks_told ship stow (answer.Planned end) serves e report = absurd (cc e)
   tasks_told ship stow (answer.Stopped (stop.Refused why)) serves e report = absurd (not_other why status.Done e)
   tasks_told ship stow (answer.Stopped stop.OutOfMemory) serves e report = absurd (cc e)
@@ -128,6 +136,72 @@ module _ (words : List (List ℕ)) (before after : Stand) (pb pa : Printed) (end
     | inr cut ↦ absurd (cc (cut.status, e))
   ]
 
+  -- the tree of a check
+  tree_is : (asked : Asked) → Asks words asked → TellsTree asked before.files run.answer
+  tree_is asked asks = subst (λ a. TellsTree a before.files run.answer) (sym run.asks ∙ asks) tells
+
+  end_told : (ship stow tree : List ℕ) (a : Answer) → TellsTree (check ship stow tree) before.files a → status_of a ≡ status.Done → pa.bytes ≡ append_known pb.bytes (report_text a)
+      → IfSome before.files (λ held. IsEndTold (check ship stow tree) held pb pa)
+  end_told ship stow tree (answer.Checked (Least end)) shown e report = told before.files shown where
+    told : (files : Option Files) → IfSome files (λ held. IsBoundShown (check ship stow tree) held (Least end)) → IfSome files (λ held. IsEndTold (check ship stow tree) held pb pa)
+    told None h = tt
+    told (Some held) h = record { end = end; shown = h; report = report }
+  end_told ship stow tree (answer.Checked Never) shown e report = absurd (cc e)
+  end_told ship stow tree (answer.Stopped (stop.Refused why)) shown e report = absurd (not_other why status.Done e)
+  end_told ship stow tree (answer.Stopped stop.OutOfMemory) shown e report = absurd (cc e)
+  end_told ship stow tree answer.WriteFault shown e report = absurd shown
+  end_told ship stow tree (answer.Tasks inst) shown e report = absurd shown
+  end_told ship stow tree (answer.Planned end) shown e report = absurd shown
+
+  check_done : (ship stow tree : List ℕ) → Asks words (check ship stow tree) → ended ≡ status.Done
+      → IfSome before.files (λ held. IsEndTold (check ship stow tree) held pb pa)
+  check_done ship stow tree asks e = elim run.reports [
+    | inl whole ↦ end_told ship stow tree run.answer (tree_is (check ship stow tree) asks) (sym whole.status ∙ e) whole.printed
+    | inr cut ↦ absurd (cc (cut.status, e))
+  ]
+
+  none_told : (ship stow tree : List ℕ) (a : Answer) → TellsTree (check ship stow tree) before.files a → status_of a ≡ status.Infeasible → pa.bytes ≡ append_known pb.bytes (report_text a)
+      → IfSome before.files (λ held. IsNoneTold (check ship stow tree) held pb pa)
+  none_told ship stow tree (answer.Checked Never) shown e report = told before.files shown where
+    told : (files : Option Files) → IfSome files (λ held. IsBoundShown (check ship stow tree) held Never) → IfSome files (λ held. IsNoneTold (check ship stow tree) held pb pa)
+    told None h = tt
+    told (Some held) h = record { shown = h; report = report }
+  none_told ship stow tree (answer.Checked (Least end)) shown e report = absurd (cc e)
+  none_told ship stow tree (answer.Stopped (stop.Refused why)) shown e report = absurd (not_other why status.Infeasible e)
+  none_told ship stow tree (answer.Stopped stop.OutOfMemory) shown e report = absurd (cc e)
+  none_told ship stow tree answer.WriteFault shown e report = absurd shown
+  none_told ship stow tree (answer.Tasks inst) shown e report = absurd shown
+  none_told ship stow tree (answer.Planned end) shown e report = absurd shown
+
+  check_infeasible : (ship stow tree : List ℕ) → Asks words (check ship stow tree) → ended ≡ status.Infeasible
+      → IfSome before.files (λ held. IsNoneTold (check ship stow tree) held pb pa)
+  check_infeasible ship stow tree asks e = elim run.reports [
+    | inl whole ↦ none_told ship stow tree run.answer (tree_is (check ship stow tree) asks) (sym whole.status ∙ e) whole.printed
+    | inr cut ↦ absurd (cc (cut.status, e))
+  ]
+
+  no_tree_told : (ship stow tree : List ℕ) (a : Answer) → TellsTree (check ship stow tree) before.files a → status_of a ≡ status.BadTree
+      → IfSome before.files (λ held. IsNoneShown (check ship stow tree) held)
+  no_tree_told ship stow tree (answer.Stopped (stop.Refused (refusal.BadTree fault))) none e = none
+  no_tree_told ship stow tree (answer.Stopped (stop.Refused refusal.Usage)) none e = absurd (cc e)
+  no_tree_told ship stow tree (answer.Stopped (stop.Refused (refusal.ReadFault file))) none e = absurd (cc e)
+  no_tree_told ship stow tree (answer.Stopped (stop.Refused (refusal.TooLarge file))) none e = absurd (cc e)
+  no_tree_told ship stow tree (answer.Stopped (stop.Refused (refusal.BadShip fault))) none e = absurd (cc e)
+  no_tree_told ship stow tree (answer.Stopped (stop.Refused (refusal.BadStow fault))) none e = absurd (cc e)
+  no_tree_told ship stow tree (answer.Stopped (stop.Refused refusal.Unbuilt)) none e = absurd (cc e)
+  no_tree_told ship stow tree (answer.Stopped stop.OutOfMemory) none e = absurd (cc e)
+  no_tree_told ship stow tree (answer.Checked (Least end)) none e = absurd (cc e)
+  no_tree_told ship stow tree (answer.Checked Never) none e = absurd (cc e)
+  no_tree_told ship stow tree answer.WriteFault none e = absurd none
+  no_tree_told ship stow tree (answer.Tasks inst) none e = absurd none
+  no_tree_told ship stow tree (answer.Planned end) none e = absurd none
+
+  check_bad_tree : (ship stow tree : List ℕ) → Asks words (check ship stow tree) → ended ≡ status.BadTree → IfSome before.files (λ held. IsNoneShown (check ship stow tree) held)
+  check_bad_tree ship stow tree asks e = elim run.reports [
+    | inl whole ↦ no_tree_told ship stow tree run.answer (tree_is (check ship stow tree) asks) (sym whole.status ∙ e)
+    | inr cut ↦ absurd (cc (cut.status, e))
+  ]
+
   -- the refusal whose status is told
   refusal_told : (asked : Asked) (a : Answer) → Serves asked before after a → IsRefusal (status_of a) → ended ≡ status_of a → pa.bytes ≡ append_known pb.bytes (report_text a)
       → IsRefusalTold asked before after pb pa ended
@@ -135,6 +209,8 @@ module _ (words : List (List ℕ)) (before after : Stand) (pb pa : Printed) (end
   refusal_told asked (answer.Stopped stop.OutOfMemory) serves is e report = absurd is
   refusal_told asked answer.WriteFault serves is e report = absurd is
   refusal_told asked (answer.Tasks inst) serves is e report = absurd is
+  refusal_told asked (answer.Checked (Least end)) serves is e report = absurd is
+  refusal_told asked (answer.Checked Never) serves is e report = absurd is
   refusal_told asked (answer.Planned end) serves is e report = absurd is
 
   refused : (asked : Asked) → Asks words asked → IsRefusal ended → IsRefusalTold asked before after pb pa ended
@@ -147,6 +223,7 @@ module _ (words : List (List ℕ)) (before after : Stand) (pb pa : Printed) (end
   files_stay asked asks never = by asked (asked_is asked asks) never where
     by : (asked : Asked) → Serves asked before after run.answer → ¬ IsPlan asked → after.files ≡ before.files
     by (plan s w p t) serves never = absurd (never tt)
+    by (check s w t) serves never = serves.files
     by (tasks s w) serves never = serves.files
     by unbuilt serves never = ap (λ (s : Stand). s.files) serves.1
     by usage serves never = ap (λ (s : Stand). s.files) serves.1
@@ -156,6 +233,8 @@ module _ (words : List (List ℕ)) (before after : Stand) (pb pa : Printed) (end
   plan_stays (plan s w p t) is (answer.Planned end) serves one two = absurd (one refl)
   plan_stays (plan s w p t) is answer.WriteFault serves one two = absurd (two refl)
   plan_stays (plan s w p t) is (answer.Tasks inst) serves one two = absurd serves
+  plan_stays (plan s w p t) is (answer.Checked bound) serves one two = absurd serves
+  plan_stays (check s w t) is a serves one two = absurd is
   plan_stays (tasks s w) is a serves one two = absurd is
   plan_stays unbuilt is a serves one two = absurd is
   plan_stays usage is a serves one two = absurd is
@@ -181,12 +260,14 @@ module _ (words : List (List ℕ)) (before after : Stand) (pb pa : Printed) (end
     whole None h = tt
     whole (Some held) h = inr (record { inst = h.inst; sched = h.sched; found = h.found; files = inr (inr h.files) })
   left s w p t (answer.Tasks inst) serves = absurd serves
+  left s w p t (answer.Checked bound) serves = absurd serves
 
   plan_stopped : (asked : Asked) → Asks words asked → IsPlan asked → ended ≡ status.WriteFault
       → IfSome before.files (λ held. (after.files ≡ Some held) ⊎ IsStopped asked held after.files)
   plan_stopped asked asks is e = by asked is (asked_is asked asks) where
     by : (asked : Asked) → IsPlan asked → Serves asked before after run.answer → IfSome before.files (λ held. (after.files ≡ Some held) ⊎ IsStopped asked held after.files)
     by (plan s w p t) is serves = left s w p t run.answer serves
+    by (check s w t) is serves = absurd is
     by (tasks s w) is serves = absurd is
     by unbuilt is serves = absurd is
     by usage is serves = absurd is
@@ -197,7 +278,10 @@ module _ (words : List (List ℕ)) (before after : Stand) (pb pa : Printed) (end
   write_answer asked (answer.Stopped stop.OutOfMemory) serves e = absurd (cc e)
   write_answer asked (answer.Planned end) serves e = absurd (cc e)
   write_answer asked (answer.Tasks inst) serves e = absurd (cc e)
+  write_answer asked (answer.Checked (Least end)) serves e = absurd (cc e)
+  write_answer asked (answer.Checked Never) serves e = absurd (cc e)
   write_answer (plan s w p t) answer.WriteFault serves e = (tt, serves.0, refl)
+  write_answer (check s w t) answer.WriteFault serves e = absurd serves.ending
   write_answer (tasks s w) answer.WriteFault serves e = absurd serves.ending
   write_answer unbuilt answer.WriteFault serves e = absurd (cc serves.0)
   write_answer usage answer.WriteFault serves e = absurd (cc serves.0)
@@ -222,12 +306,16 @@ module _ (words : List (List ℕ)) (before after : Stand) (pb pa : Printed) (end
   usage_asked asked (answer.Stopped (stop.Refused (refusal.TooLarge file))) serves e = absurd (cc e)
   usage_asked asked (answer.Stopped (stop.Refused (refusal.BadShip fault))) serves e = absurd (cc e)
   usage_asked asked (answer.Stopped (stop.Refused (refusal.BadStow fault))) serves e = absurd (cc e)
+  usage_asked asked (answer.Stopped (stop.Refused (refusal.BadTree fault))) serves e = absurd (cc e)
   usage_asked asked (answer.Stopped (stop.Refused refusal.Unbuilt)) serves e = absurd (cc e)
   usage_asked asked (answer.Stopped stop.OutOfMemory) serves e = absurd (cc e)
   usage_asked asked (answer.Planned end) serves e = absurd (cc e)
   usage_asked asked (answer.Tasks inst) serves e = absurd (cc e)
+  usage_asked asked (answer.Checked (Least end)) serves e = absurd (cc e)
+  usage_asked asked (answer.Checked Never) serves e = absurd (cc e)
   usage_asked asked answer.WriteFault serves e = absurd (cc e)
   usage_asked (plan s w p t) (answer.Stopped (stop.Refused refusal.Usage)) serves e = absurd serves.0
+  usage_asked (check s w t) (answer.Stopped (stop.Refused refusal.Usage)) serves e = absurd serves.ending
   usage_asked (tasks s w) (answer.Stopped (stop.Refused refusal.Usage)) serves e = absurd serves.ending
   usage_asked unbuilt (answer.Stopped (stop.Refused refusal.Usage)) serves e = absurd (cc serves.0)
   usage_asked usage (answer.Stopped (stop.Refused refusal.Usage)) serves e = refl
@@ -260,6 +348,7 @@ module _ (words : List (List ℕ)) (before after : Stand) (pb pa : Printed) (end
     stop_due asked held told (stop.Refused (refusal.TooLarge file)) h = inl (sym (ap status_due (comes_due asked held before.files told (Err (refusal.TooLarge file)) h.1)))
     stop_due asked held told (stop.Refused (refusal.BadShip fault)) h = inl (sym (ap status_due (comes_due asked held before.files told (Err (refusal.BadShip fault)) h.1)))
     stop_due asked held told (stop.Refused (refusal.BadStow fault)) h = inl (sym (ap status_due (comes_due asked held before.files told (Err (refusal.BadStow fault)) h.1)))
+    stop_due asked held told (stop.Refused (refusal.BadTree fault)) h = inl (sym (ap status_due (comes_due asked held before.files told (Err (refusal.BadTree fault)) h.1)))
     stop_due asked held told (stop.Refused refusal.Unbuilt) h = inl (sym (ap status_due (comes_due asked held before.files told (Err refusal.Unbuilt) h.1)))
 
     answer_due : (asked : Asked) (held : Files) → before.files ≡ Some held → (a : Answer) → Serves asked before after a
@@ -268,9 +357,16 @@ module _ (words : List (List ℕ)) (before after : Stand) (pb pa : Printed) (end
     answer_due (plan s w p t) held told (answer.Planned end) serves = inl (sym (ap status_due (planned_due (plan s w p t) held before.files told end after.files serves.2).1))
     answer_due (plan s w p t) held told answer.WriteFault serves = absurd (none.writing serves.0)
     answer_due (plan s w p t) held told (answer.Tasks inst) serves = absurd serves
+    answer_due (plan s w p t) held told (answer.Checked bound) serves = absurd serves
+    answer_due (check s w t) held told (answer.Stopped why) serves = stop_due (check s w t) held told why serves.ending
+    answer_due (check s w t) held told answer.WriteFault serves = absurd serves.ending
+    answer_due (check s w t) held told (answer.Tasks inst) serves = inl (sym (ap status_due (comes_due (check s w t) held before.files told (Ok (print (ending_of (answer.Tasks inst)))) serves.ending.1)))
+    answer_due (check s w t) held told (answer.Checked bound) serves = inl (sym (ap status_due (comes_due (check s w t) held before.files told (Ok (print (ending_of (answer.Checked bound)))) serves.ending.1)))
+    answer_due (check s w t) held told (answer.Planned end) serves = absurd serves.ending
     answer_due (tasks s w) held told (answer.Stopped why) serves = stop_due (tasks s w) held told why serves.ending
     answer_due (tasks s w) held told answer.WriteFault serves = absurd serves.ending
     answer_due (tasks s w) held told (answer.Tasks inst) serves = inl (sym (ap status_due (comes_due (tasks s w) held before.files told (Ok (print (ending_of (answer.Tasks inst)))) serves.ending.1)))
+    answer_due (tasks s w) held told (answer.Checked bound) serves = inl (sym (ap status_due (comes_due (tasks s w) held before.files told (Ok (print (ending_of (answer.Checked bound)))) serves.ending.1)))
     answer_due (tasks s w) held told (answer.Planned end) serves = absurd serves.ending
     answer_due unbuilt held told a serves = inl (ap status_of serves.0)
     answer_due usage held told a serves = inl (ap status_of serves.0)
@@ -287,6 +383,9 @@ module _ (words : List (List ℕ)) (before after : Stand) (pb pa : Printed) (end
   promises = record {
     plan_optimal = plan_optimal;
     tasks_done = tasks_done;
+    check_done = check_done;
+    check_infeasible = check_infeasible;
+    check_bad_tree = check_bad_tree;
     refused = refused;
     files_stay = files_stay;
     plan_leaves = plan_leaves;

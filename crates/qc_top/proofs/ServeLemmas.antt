@@ -1,47 +1,18 @@
 -- What a request comes to, from what its steps come to.
-use Rattle.std.proofs.Common.{◌≡◌, ℕ, Bool, true, false, List, [], ◌∷◌, Option, None, Some, Result, Ok, Err, ◌⊎◌, refl, sym, ap, ◌∙◌, subst, inl, inr, take}
-use Rattle.std.specs.Prelude.{IfSome, OnOk, OnErr, ⊤, if◌then◌else◌, cond}
+use Rattle.std.proofs.Common.{◌≡◌, ℕ, Bool, List, [], ◌∷◌, Option, None, Some, Result, Ok, Err, ◌⊎◌, ap, ◌∙◌, inl, inr, take}
+use Rattle.std.specs.Prelude.{IfSome, OnOk, OnErr, ⊤}
 use Rattle.std.specs.FinMap.{insert}
 use Rattle.qc_io.specs.declared.writing.WriteFault.{WriteFault}
-use Rattle.qc_io.specs.Outside.{Files, Stand, Rose, Beside, with_file, written_of, beside_of}
+use Rattle.qc_io.specs.Outside.{Files, Stand, Beside, with_file, written_of, beside_of}
 use Rattle.qc_io.specs.Writes.{Writes}
 use Rattle.qc_io.proofs.AsSink.{stored, stored_part}
 use Rattle.qc_model.specs.declared.schedule.Slot.{Slot}
 use Rattle.qc_model.specs.Instance.{InstanceView}
 use Rattle.qc_model.specs.Rules.{ends}
-use Rattle.qc_top.specs.declared.answer.Refusal.{Refusal}
-use Rattle.qc_top.specs.declared.answer.Refusal.TheVariants as refusal
-use Rattle.qc_top.specs.declared.answer.Stop.{Stop}
-use Rattle.qc_top.specs.declared.answer.Stop.TheVariants as stop
-use Rattle.qc_top.specs.declared.answer.Answer.{Answer}
-use Rattle.qc_top.specs.declared.answer.Answer.TheVariants as answer
-use Rattle.qc_top.specs.declared.status.Status.TheVariants as status
-use Rattle.qc_tasks.specs.TasksText.{tasks_text}
-use Rattle.qc_top.specs.Asked.{Asked, plan, tasks, unbuilt, usage, plan_name, IsTasks}
-use Rattle.qc_top.specs.Due.{Reads, Work, print, search, reads_in, instance_due, due}
-use Rattle.qc_top.specs.Orders.{is_small}
+use Rattle.qc_top.specs.Asked.{Asked, plan, check, tasks, unbuilt, usage, plan_name}
+use Rattle.qc_top.specs.Due.{search, reads_in, due}
 use Rattle.qc_top.specs.PlanText.{plan_text}
-use Rattle.qc_top.specs.Account.{ComesTo, Stops, IsStep, IsReading, IsBest, Named, written, IsCutShort, IsFound, IsPlanned, IsStopped, IsWriting}
-use Rattle.qc_top.proofs.StepLemmas.{comes_then, stops_first, step_same}
-
--- the instance's tasks are to be printed
-pub tasks_listed : (asked : Asked) → IsTasks asked → (before after : Stand) (inst : InstanceView) → IsStep instance_due asked before after (Ok inst) → IsReading asked before after (answer.Tasks inst)
-tasks_listed (tasks s w) is before after inst step =
-    let both = step_same instance_due (λ inst reads. Ok (print (record { status = status.Done; text = tasks_text inst }))) (tasks s w) before after inst _ step (λ reads. refl) in
-    record { ending = both.ok; files = step.files; faults = step.faults }
-tasks_listed (plan s w p t) is before after inst step = absurd is
-tasks_listed unbuilt is before after inst step = absurd is
-tasks_listed usage is before after inst step = absurd is
-
-pub tasks_stopped : (asked : Asked) → IsTasks asked → (before after : Stand) (why : Stop) → IsStep instance_due asked before after (Err why) → IsReading asked before after (answer.Stopped why)
-tasks_stopped (tasks s w) is before after why step = record {
-  ending = stops_first instance_due (λ inst reads. Ok (print (record { status = status.Done; text = tasks_text inst }))) (tasks s w) before after why step.err;
-  files = step.files;
-  faults = step.faults;
-}
-tasks_stopped (plan s w p t) is before after why step = absurd is
-tasks_stopped unbuilt is before after why step = absurd is
-tasks_stopped usage is before after why step = absurd is
+use Rattle.qc_top.specs.Account.{ComesTo, IsBest, written, IsCutShort, IsFound, IsPlanned, IsStopped}
 
 -- two shelves stand alike
 pub same_stand : (a b : Stand) → a.files ≡ b.files → a.faults ≡ b.faults → a.read_faults ≡ b.read_faults → a ≡ b
@@ -93,6 +64,7 @@ plan_written asked name is None after inst sched end due_is best end_is stored =
 plan_written (plan s w p t) name is (Some held) after inst sched end due_is best end_is stored =
     let same : p ≡ name = cc in
     record { inst = inst; sched = sched; found = found (plan s w p t) held inst sched due_is best; ends = end_is; files = rw same stored }
+plan_written (check s w t) name is (Some held) after inst sched end due_is best end_is stored = absurd (cc is)
 plan_written (tasks s w) name is (Some held) after inst sched end due_is best end_is stored = absurd (cc is)
 plan_written unbuilt name is (Some held) after inst sched end due_is best end_is stored = absurd (cc is)
 plan_written usage name is (Some held) after inst sched end due_is best end_is stored = absurd (cc is)
@@ -106,6 +78,7 @@ plan_cut asked name is None after inst sched due_is best left = tt
 plan_cut (plan s w p t) name is (Some held) after inst sched due_is best left =
     let same : p ≡ name = cc in
     record { inst = inst; sched = sched; found = found (plan s w p t) held inst sched due_is best; files = rw same left }
+plan_cut (check s w t) name is (Some held) after inst sched due_is best left = absurd (cc is)
 plan_cut (tasks s w) name is (Some held) after inst sched due_is best left = absurd (cc is)
 plan_cut unbuilt name is (Some held) after inst sched due_is best left = absurd (cc is)
 plan_cut usage name is (Some held) after inst sched due_is best left = absurd (cc is)

@@ -1,5 +1,5 @@
 -- The account of a run: what its answer says of the words, of the shelf and of the sink.
-use Rattle.std.specs.Prelude.{◌≡◌, ℕ, ◌≤◌, ◌⊎◌, List, [], ◌∷◌, take, Option, None, Some, Result, Ok, Err, IfOk, IfErr, IfSome, IsSomeAnd}
+use Rattle.std.specs.Prelude.{◌≡◌, ℕ, ◌≤◌, ◌⊎◌, List, [], ◌∷◌, take, Option, Some, Result, Ok, Err, IfOk, IfErr, IfSome, IsSomeAnd}
 use Rattle.std.specs.FinMap.{insert}
 use Rattle.std.specs.Io.KnownBytes.{append_known}
 use Rattle.qc_io.specs.Outside.{Files, Rose, ReadCause, GrewByPart, Stand}
@@ -16,9 +16,9 @@ use Rattle.qc_top.specs.declared.answer.Answer.{Answer}
 use Rattle.qc_top.specs.declared.answer.Answer.TheVariants as answer
 use Rattle.qc_top.specs.declared.status.Status.{Status}
 use Rattle.qc_top.specs.declared.status.Status.TheVariants as status
-use Rattle.qc_top.specs.Asked.{Asked, plan, tasks, unbuilt, usage, name_of}
+use Rattle.qc_top.specs.Asked.{Asked, plan, unbuilt, usage, name_of}
 use Rattle.qc_top.specs.Words.{Asks}
-use Rattle.qc_top.specs.Due.{Reads, Work, print, search, Ending, reads_in, without, due}
+use Rattle.qc_top.specs.Due.{Reads, print, search, reads_in, without, due}
 use Rattle.qc_top.specs.Answers.{ending_of, report_text, status_of}
 use Rattle.qc_top.specs.PlanText.{plan_text}
 

@@ -1,8 +1,9 @@
 -- What a run comes to, what it prints and the status that it ends with.
-use Rattle.std.specs.Prelude.{◌≡◌, ℕ, ◌⊎◌, List, [], ◌∷◌, ◌++◌, codes, decimal, Option}
+use Rattle.std.specs.Prelude.{ℕ, List, [], ◌∷◌, ◌++◌, codes, decimal}
+use Rattle.qc_replay.specs.Faults.{kind_text as tree_text}
+use Rattle.qc_replay.specs.declared.fault.TreeFault.{TreeFault}
 use Rattle.qc_ship.specs.declared.fault.ShipKind.{ShipKind}
 use Rattle.qc_ship.specs.declared.fault.ShipKind.TheVariants as ship
-use Rattle.qc_ship.specs.declared.fault.Key.{Key}
 use Rattle.qc_ship.specs.declared.fault.ShipFault.{ShipFault}
 use Rattle.qc_ship.specs.Keys.{key_text, kind_text}
 use Rattle.qc_stow.specs.Faults.{kind_text as stow_text}
@@ -18,7 +19,7 @@ use Rattle.qc_top.specs.declared.answer.Answer.{Answer}
 use Rattle.qc_top.specs.declared.answer.Answer.TheVariants as answer
 use Rattle.qc_top.specs.declared.status.Status.{Status}
 use Rattle.qc_top.specs.declared.status.Status.TheVariants as status
-use Rattle.qc_top.specs.Due.{Ending}
+use Rattle.qc_top.specs.Due.{Ending, bound_ending}
 
 -- the exit status of each status
 abbrev pub status_code : Status → ℕ
@@ -69,6 +70,11 @@ abbrev pub bad_stow_text : StowFault → List ℕ
 bad_stow_text fault =
     codes "BadStow " ++ stow_text fault.kind ++ codes " " ++ decimal fault.number ++ codes "\n"
 
+-- the line of a fault in the tree's file with its line there
+abbrev pub bad_tree_text : TreeFault → List ℕ
+bad_tree_text fault =
+    codes "BadTree " ++ tree_text fault.kind ++ codes " " ++ decimal fault.line ++ codes "\n"
+
 -- the line of an end in ticks
 abbrev pub end_line : ℕ → List ℕ
 end_line end = codes "end " ++ decimal end ++ codes "\n"
@@ -84,6 +90,7 @@ refusal_text (refusal.ReadFault file) = codes "ReadFault " ++ line (input_text f
 refusal_text (refusal.TooLarge file) = codes "TooLarge " ++ line (input_text file)
 refusal_text (refusal.BadShip fault) = bad_ship_text fault.kind fault
 refusal_text (refusal.BadStow fault) = bad_stow_text fault
+refusal_text (refusal.BadTree fault) = bad_tree_text fault
 refusal_text refusal.Unbuilt = codes "Unbuilt\n"
 
 abbrev pub refusal_status : Refusal → Status
@@ -92,6 +99,7 @@ refusal_status (refusal.ReadFault file) = status.ReadFault
 refusal_status (refusal.TooLarge file) = status.TooLarge
 refusal_status (refusal.BadShip fault) = status.BadShip
 refusal_status (refusal.BadStow fault) = status.BadStow
+refusal_status (refusal.BadTree fault) = status.BadTree
 refusal_status refusal.Unbuilt = status.Unbuilt
 
 -- what is printed where a request stops
@@ -108,12 +116,14 @@ abbrev pub report_text : Answer → List ℕ
 report_text (answer.Stopped why) = stop_text why
 report_text answer.WriteFault = codes "WriteFault\n"
 report_text (answer.Tasks inst) = tasks_text inst
+report_text (answer.Checked bound) = (bound_ending bound).text
 report_text (answer.Planned end) = planned_text end
 
 abbrev pub status_of : Answer → Status
 status_of (answer.Stopped why) = stop_status why
 status_of answer.WriteFault = status.WriteFault
 status_of (answer.Tasks inst) = status.Done
+status_of (answer.Checked bound) = (bound_ending bound).status
 status_of (answer.Planned end) = status.Optimal
 
 -- how an answer ends

@@ -8,6 +8,8 @@ use Rattle.qc_top.specs.declared.words.Request.TheVariants as request
 pub data Asked : Type 0 where
   -- a plan and its tree, for a ship file and a stowage list
   plan : (ship stow plan tree : List ℕ) → Asked
+  -- what a tree shows for a ship file and a stowage list, without a plan
+  check : (ship stow tree : List ℕ) → Asked
   -- the tasks of a ship file and a stowage list
   tasks : (ship stow : List ℕ) → Asked
   -- a form of a command that isn't built yet
@@ -18,6 +20,7 @@ pub data Asked : Type 0 where
 -- what a request of the program asks for
 abbrev pub asked_for : Request → Asked
 asked_for (request.Plan ship stow plan_name tree) = plan ship.now stow.now plan_name.now tree.now
+asked_for (request.Check ship stow tree) = check ship.now stow.now tree.now
 asked_for (request.Tasks ship stow) = tasks ship.now stow.now
 asked_for request.Unbuilt = unbuilt
 asked_for request.Usage = usage
@@ -26,6 +29,9 @@ asked_for request.Usage = usage
 abbrev pub name_of : Input → Asked → Option (List ℕ)
 name_of input.Ship (plan s w p t) = Some s
 name_of input.Stow (plan s w p t) = Some w
+name_of input.Ship (check s w t) = Some s
+name_of input.Stow (check s w t) = Some w
+name_of input.Tree (check s w t) = Some t
 name_of input.Ship (tasks s w) = Some s
 name_of input.Stow (tasks s w) = Some w
 name_of _ _ = None
@@ -34,6 +40,11 @@ name_of _ _ = None
 abbrev pub IsPlan : Asked → Type 0
 IsPlan (plan s w p t) = Unit {0}
 IsPlan _ = ⊥
+
+-- a tree alone is asked about
+abbrev pub IsCheck : Asked → Type 0
+IsCheck (check s w t) = Unit {0}
+IsCheck _ = ⊥
 
 -- the tasks are asked for
 abbrev pub IsTasks : Asked → Type 0

@@ -1,9 +1,13 @@
 -- What a request and the files that it reads lead to, with the order of refusals.
-use Rattle.std.specs.Prelude.{ℕ, List, length, nat_le, if◌then◌else◌, Option, Some, None, option_and_then, Result, Ok, Err}
+use Rattle.std.specs.Prelude.{ℕ, List, ◌++◌, codes, decimal, length, nat_le, if◌then◌else◌, Option, Some, None, option_and_then, ok_or, Result, Ok, Err}
 use Rattle.std.specs.FinMap.{get}
+use Rattle.qc_num.specs.declared.bound.Bound.{Bound}
+use Rattle.qc_num.specs.declared.bound.Bound.TheVariants.{Least, Never}
 use Rattle.qc_num.specs.Reading.{◌>>=◌, with_fault}
 use Rattle.qc_io.specs.Outside.{Files}
 use Rattle.qc_model.specs.Instance.{InstanceView}
+use Rattle.qc_replay.specs.declared.fault.Replayed.{Replayed}
+use Rattle.qc_replay.specs.Walk.{tree_in}
 use Rattle.qc_ship.specs.Ship.{ShipView}
 use Rattle.qc_ship.specs.ShipFile.{ship_file}
 use Rattle.qc_stow.specs.declared.row.Row.{Row}
@@ -16,7 +20,7 @@ use Rattle.qc_top.specs.declared.answer.Refusal.{Refusal}
 use Rattle.qc_top.specs.declared.answer.Refusal.TheVariants as refusal
 use Rattle.qc_top.specs.declared.status.Status.{Status}
 use Rattle.qc_top.specs.declared.status.Status.TheVariants as status
-use Rattle.qc_top.specs.Asked.{Asked, plan, tasks, unbuilt, usage, name_of}
+use Rattle.qc_top.specs.Asked.{Asked, plan, check, tasks, unbuilt, usage, name_of}
 use Rattle.qc_top.specs.Orders.{is_small}
 
 -- the bytes of the files that are read, by what they are for; none where the file isn't held or isn't read
@@ -96,6 +100,29 @@ tasks_due reads = do
   inst ← instance_due reads
   Ok (print (record { status = status.Done; text = tasks_text inst }))
 
+-- what the tree of the tree's file shows for the instance, or the first refusal of that file
+abbrev pub tree_due : InstanceView → Reads → Result Replayed Refusal
+tree_due inst reads = do
+  bytes ← ok_or reads.tree (refusal.ReadFault input.Tree)
+  with_fault refusal.BadTree (tree_in inst bytes)
+
+-- what that tree shows for the instance of the files, or the first refusal: the tree's file comes last
+abbrev pub shown_due : Reads → Result Replayed Refusal
+shown_due reads = do
+  inst ← instance_due reads
+  tree_due inst reads
+
+-- how a check ends that reads no plan
+abbrev pub bound_ending : Bound → Ending
+bound_ending (Least end) = record { status = status.Done; text = codes "Bound " ++ decimal end ++ codes "\n" }
+bound_ending Never = record { status = status.Infeasible; text = codes "Infeasible\n" }
+
+-- what the tree shows is to be printed
+abbrev pub check_due : Reads → Result Work Refusal
+check_due reads = do
+  read ← shown_due reads
+  Ok (print (bound_ending read.bound))
+
 -- a best schedule of the instance is to be found, where it is of a form that is planned
 abbrev pub plan_due : Reads → Result Work Refusal
 plan_due reads = do
@@ -105,6 +132,7 @@ plan_due reads = do
 -- what a request leads to
 abbrev pub due : Asked → Reads → Result Work Refusal
 due (plan s w p t) reads = plan_due reads
+due (check s w t) reads = check_due reads
 due (tasks s w) reads = tasks_due reads
 due unbuilt reads = Err refusal.Unbuilt
 due usage reads = Err refusal.Usage

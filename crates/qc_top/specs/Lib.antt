@@ -3,6 +3,7 @@ pub mod Words
 pub mod Orders
 pub mod Due
 pub mod Answers
+pub mod Shown
 pub mod PlanText
 pub mod Account
 pub mod Promises

@@ -1,6 +1,7 @@
 -- What follows from a run's account, said by itself for whoever reads one status.
-use Rattle.std.specs.Prelude.{◌≡◌, ◌≢◌, ℕ, ◌⊎◌, List, Option, codes, Some, Result, Ok, Err, IfSome}
+use Rattle.std.specs.Prelude.{◌≡◌, ◌≢◌, ℕ, ◌⊎◌, List, ◌++◌, Option, codes, decimal, Some, Result, Ok, Err, IfSome}
 use Rattle.std.specs.Io.KnownBytes.{append_known}
+use Rattle.qc_num.specs.declared.bound.Bound.TheVariants.{Least, Never}
 use Rattle.qc_io.specs.Outside.{Files, Rose, GrewByPart, Stand}
 use Rattle.qc_model.specs.Instance.{InstanceView}
 use Rattle.qc_tasks.specs.TasksText.{tasks_text}
@@ -10,10 +11,11 @@ use Rattle.qc_top.specs.declared.answer.Answer.{Answer}
 use Rattle.qc_top.specs.declared.answer.Answer.TheVariants as answer
 use Rattle.qc_top.specs.declared.status.Status.{Status}
 use Rattle.qc_top.specs.declared.status.Status.TheVariants as status
-use Rattle.qc_top.specs.Asked.{Asked, plan, tasks, unbuilt, usage, IsPlan}
+use Rattle.qc_top.specs.Asked.{Asked, check, tasks, unbuilt, usage, IsPlan}
 use Rattle.qc_top.specs.Words.{Asks}
 use Rattle.qc_top.specs.Due.{Work, print, search, reads_in, instance_due, due}
 use Rattle.qc_top.specs.Answers.{report_text, refusal_text, refusal_status}
+use Rattle.qc_top.specs.Shown.{IsBoundShown, IsNoneShown}
 use Rattle.qc_top.specs.Account.{IsPlanned, IsStopped, Serves, Printed}
 
 -- the plan file holds the plan of a best schedule, whose end was printed, and all other files are as they were
@@ -28,6 +30,17 @@ pub record AreTasksTold (asked : Asked) (held : Files) (before after : Printed) 
   pub due : instance_due (reads_in held asked) ≡ Ok inst
   pub report : after.bytes ≡ append_known before.bytes (tasks_text inst)
 
+-- the value of the tree was printed, an end that no schedule beats
+pub record IsEndTold (asked : Asked) (held : Files) (before after : Printed) : Type 0 where
+  pub end : ℕ
+  pub shown : IsBoundShown asked held (Least end)
+  pub report : after.bytes ≡ append_known before.bytes (codes "Bound " ++ decimal end ++ codes "\n")
+
+-- it was printed that no schedule goes one way, as the tree shows
+pub record IsNoneTold (asked : Asked) (held : Files) (before after : Printed) : Type 0 where
+  pub shown : IsBoundShown asked held Never
+  pub report : after.bytes ≡ append_known before.bytes (codes "Infeasible\n")
+
 -- the status is that of a refusal
 abbrev pub IsRefusal : Status → Type 0
 IsRefusal status.Usage = Unit {0}
@@ -35,6 +48,7 @@ IsRefusal status.ReadFault = Unit {0}
 IsRefusal status.TooLarge = Unit {0}
 IsRefusal status.BadShip = Unit {0}
 IsRefusal status.BadStow = Unit {0}
+IsRefusal status.BadTree = Unit {0}
 IsRefusal status.Unbuilt = Unit {0}
 IsRefusal _ = ⊥
 
@@ -90,6 +104,16 @@ pub record Promises (words : List (List ℕ)) (before after : Stand) (printed_be
   pub tasks_done :
       (ship stow : List ℕ) → Asks words (tasks ship stow) → ended ≡ status.Done
       → IfSome before.files (λ held. AreTasksTold (tasks ship stow) held printed_before printed_after)
+  -- Done, Infeasible and BadTree of a check of a tree alone
+  pub check_done :
+      (ship stow tree : List ℕ) → Asks words (check ship stow tree) → ended ≡ status.Done
+      → IfSome before.files (λ held. IsEndTold (check ship stow tree) held printed_before printed_after)
+  pub check_infeasible :
+      (ship stow tree : List ℕ) → Asks words (check ship stow tree) → ended ≡ status.Infeasible
+      → IfSome before.files (λ held. IsNoneTold (check ship stow tree) held printed_before printed_after)
+  pub check_bad_tree :
+      (ship stow tree : List ℕ) → Asks words (check ship stow tree) → ended ≡ status.BadTree
+      → IfSome before.files (λ held. IsNoneShown (check ship stow tree) held)
   -- each refusal
   pub refused :
       (asked : Asked) → Asks words asked → IsRefusal ended

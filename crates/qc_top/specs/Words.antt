@@ -3,7 +3,7 @@ use Rattle.std.specs.Prelude.{◌≡◌, ℕ, Bool, false, not, ◌&&◌, ◌||�
 use Rattle.std.specs.declared.alloc.Global.{Global}
 use Rattle.std.specs.Str.{bytes_eq}
 use Rattle.std.specs.Str.Parse.{digits_value}
-use Rattle.qc_top.specs.Asked.{Asked, plan, tasks, unbuilt, usage}
+use Rattle.qc_top.specs.Asked.{Asked, plan, check, tasks, unbuilt, usage}
 
 -- the bytes of each word
 abbrev pub texts : List (String Global) → List (List ℕ)
@@ -31,10 +31,14 @@ plan_asked (s ∷ w ∷ p ∷ t ∷ o ∷ n ∷ []) =
     if are_plan_files s w p t && bytes_eq o (codes "--nodes") && is_number_to 100000 n then unbuilt else usage
 plan_asked _ = usage
 
+-- with '-' in place of a plan the tree alone is asked about
+abbrev pub check_of : (ship stow plan tree : List ℕ) → Asked
+check_of s w p t = if bytes_eq p (codes "-") then check s w t else unbuilt
+
 abbrev pub check_asked : List (List ℕ) → Asked
 check_asked (s ∷ w ∷ p ∷ t ∷ []) =
     if is_file_word s && is_file_word w && (is_file_word p || bytes_eq p (codes "-")) && is_file_word t
-    then unbuilt
+    then check_of s w p t
     else usage
 check_asked _ = usage
 

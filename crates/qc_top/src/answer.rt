@@ -3,13 +3,15 @@ ghost use Rattle.std.specs.Prelude.{◌≡◌, ◌≤◌, ◌++◌, codes};
 ghost use Rattle.qc_io.specs.Outside.{Rose};
 ghost use Rattle.qc_io.specs.Writes.{Writes};
 ghost use Rattle.qc_top.specs.Answers.{input_text, line, end_line, planned_text, refusal_text, report_text, refusal_status, status_of};
+ghost use Rattle.qc_top.specs.Due.{bound_ending};
 ghost use Rattle.qc_top.specs.Account.{Reports, printed_of};
 
-use crate::faults::{put_ship_fault, put_stow_fault};
+use crate::faults::{put_ship_fault, put_stow_fault, put_tree_fault};
 use crate::status::Status;
 use qc_io::{Sink, WriteFault, put_all};
 use qc_model::Instance;
-use qc_num::{OutOfMemory, Text, Tick};
+use qc_num::{Bound, OutOfMemory, Text, Tick};
+use qc_replay::TreeFault;
 use qc_ship::ShipFault;
 use qc_stow::StowFault;
 use qc_tasks::write_tasks;
@@ -34,6 +36,7 @@ pub enum Refusal {
     TooLarge(Input),
     BadShip(ShipFault),
     BadStow(StowFault),
+    BadTree(TreeFault),
     /// A form of input that isn't built yet.
     Unbuilt,
 }
@@ -64,6 +67,9 @@ pub enum Answer {
     WriteFault,
     /// The tasks of this instance are to be printed.
     Tasks { inst: Instance },
+    /// What the tree shows is to be printed: an end in ticks that no one-way schedule beats, or that there is
+    /// none.
+    Checked { bound: Bound },
     /// The best plan was written; it ends at this tick.
     Planned { end: Tick },
 }
@@ -109,7 +115,17 @@ fn refusal_status(why: Refusal) -> Status
         Refusal::TooLarge(_) => Status::TooLarge,
         Refusal::BadShip(_) => Status::BadShip,
         Refusal::BadStow(_) => Status::BadStow,
+        Refusal::BadTree(_) => Status::BadTree,
         Refusal::Unbuilt => Status::Unbuilt,
+    }
+}
+
+fn bound_status(bound: Bound) -> Status
+    ensures { result ≡ (bound_ending bound).status }
+{
+    match bound {
+        Bound::Least(_) => Status::Done,
+        Bound::Never => Status::Infeasible,
     }
 }
 
@@ -122,6 +138,7 @@ fn status_of(answer: &Answer) -> Status
         Answer::Stopped(Stop::OutOfMemory) => Status::OutOfMemory,
         Answer::WriteFault => Status::WriteFault,
         Answer::Tasks { .. } => Status::Done,
+        Answer::Checked { bound } => bound_status(*bound),
         Answer::Planned { .. } => Status::Optimal,
     }
 }
@@ -135,6 +152,7 @@ fn put_refusal<K: Sink>(why: Refusal, out: &mut K) -> Result<(), WriteFault>
         Refusal::TooLarge(file) => put_all(out, large_line(file)),
         Refusal::BadShip(fault) => put_ship_fault(fault, out),
         Refusal::BadStow(fault) => put_stow_fault(fault, out),
+        Refusal::BadTree(fault) => put_tree_fault(fault, out),
         Refusal::Unbuilt => put_all(out, b"Unbuilt\n"),
     }
 }
@@ -156,6 +174,21 @@ fn put_planned<K: Sink>(end: Tick, out: &mut K) -> Result<(), WriteFault>
     put_end(end, out)
 }
 
+/// Writes what a tree shows.
+fn put_bound<K: Sink>(bound: Bound, out: &mut K) -> Result<(), WriteFault>
+    ensures { Writes K.written K.beside K.faults out.old out.new (bound_ending bound).text result }
+{
+    match bound {
+        Bound::Least(end) => {
+            let mut line: Text<32> = Text::of(b"Bound ");
+            line.push_number(end);
+            line.push(b"\n");
+            put_all(out, line.as_bytes())
+        }
+        Bound::Never => put_all(out, b"Infeasible\n"),
+    }
+}
+
 fn put_report<K: Sink>(answer: &Answer, out: &mut K) -> Result<(), WriteFault>
     ensures { Writes K.written K.beside K.faults out.old out.new (report_text answer.now) result }
 {
@@ -164,6 +197,7 @@ fn put_report<K: Sink>(answer: &Answer, out: &mut K) -> Result<(), WriteFault>
         Answer::Stopped(Stop::OutOfMemory) => put_all(out, b"OutOfMemory\n"),
         Answer::WriteFault => put_all(out, b"WriteFault\n"),
         Answer::Tasks { inst } => write_tasks(inst, out),
+        Answer::Checked { bound } => put_bound(*bound, out),
         Answer::Planned { end } => put_planned(*end, out),
     }
 }

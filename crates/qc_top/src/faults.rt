@@ -1,9 +1,10 @@
-//! The reports of faults in a ship file and in a stowage list.
+//! The reports of faults in a ship file, in a stowage list and in a tree's file.
 ghost use Rattle.qc_io.specs.Writes.{Writes};
-ghost use Rattle.qc_top.specs.Answers.{bad_ship_text, place_line, bad_stow_text};
+ghost use Rattle.qc_top.specs.Answers.{bad_ship_text, place_line, bad_stow_text, bad_tree_text};
 
 use qc_io::{Sink, WriteFault, put_all};
 use qc_num::Text;
+use qc_replay::TreeFault;
 use qc_ship::{ShipFault, ShipKind};
 use qc_stow::StowFault;
 
@@ -39,6 +40,18 @@ pub(crate) fn put_stow_fault<K: Sink>(fault: StowFault, out: &mut K) -> Result<(
     line.push(fault.kind.text().as_bytes());
     line.push(b" ");
     line.push_number(u64::from(fault.number));
+    line.push(b"\n");
+    put_all(out, line.as_bytes())
+}
+
+/// Writes the report of a fault in a tree's file.
+pub(crate) fn put_tree_fault<K: Sink>(fault: TreeFault, out: &mut K) -> Result<(), WriteFault>
+    ensures { Writes K.written K.beside K.faults out.old out.new (bad_tree_text fault) result }
+{
+    let mut line: Text<64> = Text::of(b"BadTree ");
+    line.push(fault.kind.text().as_bytes());
+    line.push(b" ");
+    line.push_number(u64::from(fault.line));
     line.push(b"\n");
     put_all(out, line.as_bytes())
 }

@@ -4,9 +4,11 @@ ghost use Rattle.qc_io.specs.Outside.{stand_of};
 ghost use Rattle.qc_top.specs.Asked.{asked_for};
 ghost use Rattle.qc_top.specs.Words.{texts};
 ghost use Rattle.qc_top.specs.Account.{Serves, IsRun, printed_of};
+ghost use Rattle.qc_top.specs.Shown.{TellsTree};
 ghost use Rattle.qc_top.specs.Promises.{Promises};
 
 use crate::answer::{Answer, Refusal, Stop, report};
+use crate::check::check;
 use crate::plan::plan;
 use crate::status::Status;
 use crate::tasks::list_tasks;
@@ -18,11 +20,13 @@ fn serve<S: Shelf>(alloc: Global, request: &Request<'_>, shelf: &mut S) -> Answe
     ensures serves { Serves (asked_for request.now)
         (stand_of S.files S.Sink.faults S.read_faults shelf.old)
         (stand_of S.files S.Sink.faults S.read_faults shelf.new) result }
+    ensures tells { TellsTree (asked_for request.now) (S.files shelf.old) result }
     ensures faults_never_fall { S.Sink.faults shelf.old ≤ S.Sink.faults shelf.new }
     ensures read_faults_never_fall { S.read_faults shelf.old ≤ S.read_faults shelf.new }
 {
     match request {
         Request::Plan { plan: name, .. } => plan(alloc, request, name, shelf),
+        Request::Check { .. } => check(alloc, request, shelf),
         Request::Tasks { .. } => list_tasks(alloc, request, shelf),
         Request::Unbuilt => Answer::Stopped(Stop::Refused(Refusal::Unbuilt)),
         Request::Usage => Answer::Stopped(Stop::Refused(Refusal::Usage)),

@@ -1,17 +1,22 @@
 //! The files that a command reads.
-ghost use Rattle.std.specs.Prelude.{◌≡◌, IfOk, Some, All, IsSome};
+ghost use Rattle.std.specs.Prelude.{◌≡◌, Err, IfOk, IfSome, Some, All, IsSome};
 ghost use Rattle.qc_io.specs.Outside.{stand_of};
 ghost use Rattle.qc_ship.specs.Ship.{place_of_bay};
+ghost use Rattle.qc_replay.specs.declared.fault.TreeFault.{TreeFault};
 ghost use Rattle.qc_top.specs.declared.answer.Input.TheVariants as input;
+ghost use Rattle.qc_top.specs.declared.answer.Refusal.TheVariants as refusal;
+ghost use Rattle.qc_top.specs.declared.answer.Stop.TheVariants as stop;
 ghost use Rattle.qc_top.specs.Asked.{asked_for, name_of};
-ghost use Rattle.qc_top.specs.Due.{input_due, ship_due, moves_due, instance_due};
+ghost use Rattle.qc_top.specs.Due.{input_due, ship_due, moves_due, instance_due, tree_due, reads_in};
 ghost use Rattle.qc_top.specs.Account.{IsStep};
+ghost use Rattle.qc_top.specs.Shown.{IsTreeShown, IsNoTree};
 
 use crate::answer::{Input, Refusal, Stop};
 use crate::words::Request;
 use qc_io::{ReadAll, Shelf, read_all};
 use qc_model::Instance;
 use qc_num::{Bytes, OutOfMemory};
+use qc_replay::{ReplayError, Replayed, replay};
 use qc_ship::{Ship, ShipError, read_ship};
 use qc_stow::{Moves, StowError, read_stow};
 use qc_tasks::tasks_of;
@@ -98,4 +103,32 @@ pub(crate) fn read_instance<S: Shelf>(
     let ship = read_ship_file(alloc, request, shelf)?;
     let moves = read_moves(alloc, request, &ship, shelf)?;
     Ok(tasks_of(alloc, &ship, &moves)?)
+}
+
+/// What the tree of the tree's file shows for the instance.
+pub(crate) fn read_tree<S: Shelf>(
+    alloc: Global,
+    request: &Request<'_>,
+    inst: &Instance,
+    shelf: &mut S,
+) -> Result<Replayed, Stop>
+    requires { IsSome (name_of input.Tree (asked_for request.now)) }
+    ensures step { IsStep (tree_due inst.now) (asked_for request.now)
+        (stand_of S.files S.Sink.faults S.read_faults shelf.old)
+        (stand_of S.files S.Sink.faults S.read_faults shelf.new) result }
+    ensures shown { IfOk result (λ read. IfSome (S.files shelf.old) (λ held.
+        IsTreeShown inst.now (reads_in held (asked_for request.now)).tree read.bound)) }
+    ensures none { (fault : TreeFault) → result ≡ Err (stop.Refused (refusal.BadTree fault))
+        → IfSome (S.files shelf.old) (λ held.
+        IsNoTree inst.now (reads_in held (asked_for request.now)).tree) }
+{
+    let Some(name) = request.name_of(Input::Tree) else {
+        unreachable!()
+    };
+    match replay(alloc, inst, shelf, name) {
+        Ok(read) => Ok(read),
+        Err(ReplayError::ReadFault) => Err(Stop::Refused(Refusal::ReadFault(Input::Tree))),
+        Err(ReplayError::Tree(fault)) => Err(Stop::Refused(Refusal::BadTree(fault))),
+        Err(ReplayError::OutOfMemory) => Err(Stop::OutOfMemory),
+    }
 }

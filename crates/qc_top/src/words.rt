@@ -1,7 +1,7 @@
 //! The words of a command line, read by hand.
 ghost use Rattle.std.specs.Prelude.{◌≡◌, if◌then◌else◌, option_map};
 ghost use Rattle.qc_top.specs.Asked.{asked_for, name_of, usage};
-ghost use Rattle.qc_top.specs.Words.{texts, is_file_word, is_number_to, are_plan_files, plan_asked, check_asked, tasks_asked, show_asked, make_asked, asked_by};
+ghost use Rattle.qc_top.specs.Words.{texts, is_file_word, is_number_to, are_plan_files, plan_asked, check_of, check_asked, tasks_asked, show_asked, make_asked, asked_by};
 
 use crate::answer::Input;
 use itoa::Buffer;
@@ -14,6 +14,12 @@ pub enum Request<'a> {
         ship: &'a str,
         stow: &'a str,
         plan: &'a str,
+        tree: &'a str,
+    },
+    /// What a tree shows, without a plan.
+    Check {
+        ship: &'a str,
+        stow: &'a str,
         tree: &'a str,
     },
     /// The tasks.
@@ -33,8 +39,19 @@ impl<'a> Request<'a> {
         ensures { option_map (λ name. name.now) result ≡ name_of file (asked_for self.now) }
     {
         match (file, *self) {
-            (Input::Ship, Request::Plan { ship, .. } | Request::Tasks { ship, .. }) => Some(ship),
-            (Input::Stow, Request::Plan { stow, .. } | Request::Tasks { stow, .. }) => Some(stow),
+            (
+                Input::Ship,
+                Request::Plan { ship, .. }
+                | Request::Check { ship, .. }
+                | Request::Tasks { ship, .. },
+            ) => Some(ship),
+            (
+                Input::Stow,
+                Request::Plan { stow, .. }
+                | Request::Check { stow, .. }
+                | Request::Tasks { stow, .. },
+            ) => Some(stow),
+            (Input::Tree, Request::Check { tree, .. }) => Some(tree),
             _ => None,
         }
     }
@@ -102,17 +119,31 @@ fn plan_asked(args: &[String]) -> Request<'_>
     }
 }
 
+/// With `-` in place of a plan the tree alone is asked about.
+fn check_of<'a>(ship: &'a str, stow: &'a str, plan: &str, tree: &'a str) -> Request<'a>
+    ensures { asked_for result ≡ check_of ship.now stow.now plan.now tree.now }
+{
+    if plan == "-" {
+        Request::Check { ship, stow, tree }
+    } else {
+        Request::Unbuilt
+    }
+}
+
 fn check_asked(args: &[String]) -> Request<'_>
     ensures { asked_for result ≡ check_asked (texts args.now) }
 {
     match args {
-        [s, w, p, t] => asked_if(
-            is_file_word(s.as_str())
-                && is_file_word(w.as_str())
-                && (is_file_word(p.as_str()) || p.as_str() == "-")
-                && is_file_word(t.as_str()),
-            Request::Unbuilt,
-        ),
+        [s, w, p, t] => {
+            let (ship, stow, plan, tree) = (s.as_str(), w.as_str(), p.as_str(), t.as_str());
+            asked_if(
+                is_file_word(ship)
+                    && is_file_word(stow)
+                    && (is_file_word(plan) || plan == "-")
+                    && is_file_word(tree),
+                check_of(ship, stow, plan, tree),
+            )
+        }
         _ => Request::Usage,
     }
 }

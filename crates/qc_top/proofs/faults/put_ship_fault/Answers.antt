@@ -1,5 +1,4 @@
-use Rattle.std.proofs.Common.{◌≡◌, refl, sym, subst}
-use Rattle.qc_io.specs.Writes.{Writes}
+use Rattle.std.proofs.Common.{◌≡◌, refl}
 use Rattle.qc_ship.specs.declared.fault.ShipKind.{ShipKind}
 use Rattle.qc_ship.specs.declared.fault.ShipKind.TheVariants as ship
 use Rattle.qc_ship.specs.declared.fault.ShipFault.{ShipFault}

@@ -1,4 +1,4 @@
-use Rattle.std.proofs.Common.{◌≡◌, subst}
+use Rattle.std.proofs.Common.{subst}
 use Rattle.qc_io.specs.Outside.{stand_of}
 use Rattle.qc_top.specs.Asked.{asked_for}
 use Rattle.qc_top.specs.Account.{IsWriting}

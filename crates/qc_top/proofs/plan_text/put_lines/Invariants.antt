@@ -1,4 +1,4 @@
-use Rattle.std.proofs.Common.{◌≡◌, length, take, Ok}
+use Rattle.std.proofs.Common.{length, take, Ok}
 use Rattle.std.specs.List.{flat_map, zip}
 use Rattle.qc_io.specs.Writes.{Writes}
 use Rattle.qc_top.specs.PlanText.{plan_line}

@@ -17,4 +17,4 @@ returns-clause-promises g c =
       serves = c.serve-answer.ensures.serves;
       reports = c.report.ensures.reports;
     } in
-    promises (texts c.args.words.now) (stand c.args.shelf.now) (stand c.serve-answer.new.shelf) (printed c.args.out.now) (printed c.report.new.out) c.report.result run
+    promises (texts c.args.words.now) (stand c.args.shelf.now) (stand c.serve-answer.new.shelf) (printed c.args.out.now) (printed c.report.new.out) c.report.result run c.serve-answer.ensures.tells

@@ -1,4 +1,4 @@
-use Rattle.std.proofs.Common.{◌≡◌, Ok, ap, sym, ◌∙◌}
+use Rattle.std.proofs.Common.{ap, sym, ◌∙◌}
 use Rattle.qc_num.specs.Reading.{with_fault}
 use Rattle.qc_stow.specs.Stow.{moves_in}
 use Rattle.qc_top.specs.declared.answer.Refusal.TheVariants as refusal

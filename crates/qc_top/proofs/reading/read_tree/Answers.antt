@@ -1,0 +1,21 @@
+use Rattle.std.proofs.Common.{Err, ap, sym}
+use Rattle.qc_top.specs.Asked.{asked_for}
+use Rattle.qc_top.proofs.StepLemmas.{tree_fault}
+use Rattle.qc_top.proofs.reading.read_tree.Goals as goal
+
+pub returns-in-Err-Tree-clause-step : goal.returns-in-Err-Tree-clause-step
+returns-in-Err-Tree-clause-step g c =
+    let fault = c.in-Err-Tree.fault in
+    let files = g.S.Shelf.files c.args.shelf.now in
+    record {
+      ok = tt;
+      err = (
+        c.in-Err-Tree.ensures.unfailed (λ e. cc),
+        tree_fault c.args.inst.now (asked_for c.args.request.now) c.in-Some.name.now (sym c.in-Some.ensures) files fault
+            (λ missing. absurd (cc (c.in-Err-Tree.ensures.missing missing (λ e. cc))))
+            (c.in-Err-Tree.ensures.fault fault (ap Err c.in-Err-Tree.field-0-is)),
+      );
+      files = c.replay.ensures.files_stay;
+      faults = c.replay.ensures.faults_stay;
+      read_faults = c.replay.ensures.read_faults_never_fall;
+    }
