@@ -6,7 +6,7 @@ use std::alloc::Global;
 /// Whether the line is content of the heading before it.
 pub fn is_content(line: &str) -> bool {
     match line.as_bytes() {
-        [b'|' | b'>' | b'=' | b'*', ..] => true,
+        [b'|' | b'/' | b'>' | b'=' | b'*', ..] => true,
         _ => false,
     }
 }
@@ -41,12 +41,24 @@ fn add_hex(text: &str, bytes: &mut Vec<u8>) -> Result<(), Flaw> {
     Ok(())
 }
 
-// A line without its repetition: text with a line feed, text without one, or bytes.
+// Texts, each with a line feed.
+fn add_lines(texts: &str, bytes: &mut Vec<u8>) -> Result<(), Flaw> {
+    for text in texts.split('/') {
+        bytes.extend_from_slice(text.as_bytes())?;
+        bytes.push(b'\n')?;
+    }
+    Ok(())
+}
+
+// A line without its repetition: text with a line feed, texts with one each, text without one, or bytes.
 fn add_plain(line: &str, bytes: &mut Vec<u8>) -> Result<(), Flaw> {
     if let Some(text) = line.strip_prefix('|') {
         bytes.extend_from_slice(text.as_bytes())?;
         bytes.push(b'\n')?;
         return Ok(());
+    }
+    if let Some(texts) = line.strip_prefix('/') {
+        return add_lines(texts, bytes);
     }
     if let Some(text) = line.strip_prefix('>') {
         bytes.extend_from_slice(text.as_bytes())?;
