@@ -1,9 +1,10 @@
 -- What the lines of nodes come to.
-use Rattle.std.proofs.Common.{◌≡◌, ℕ, ◌+◌, ◌-◌, ◌<◌, ◌≤◌, inl, inr, Bool, true, false, not, ◌&&◌, ◌||◌, nat_lt, List, [], ◌∷◌, ◌++◌, length, map, drop, Option, None, Some, is_some, Result, Ok, Err, refl, sym, ap, ◌∙◌, append_assoc, arith}
+use Rattle.std.proofs.Common.{◌≡◌, ◌↔◌, ℕ, ◌==◌, ◌+◌, ◌-◌, ◌<◌, ◌≤◌, inl, inr, Bool, true, false, not, ◌&&◌, ◌||◌, nat_lt, List, [], ◌∷◌, ◌++◌, length, map, drop, Option, None, Some, is_some, Result, Ok, Err, refl, sym, ap, subst, ◌∙◌, append_assoc, arith}
 use Rattle.std.proofs.lemmas.Simd.{map-map}
-use Rattle.std.specs.Prelude.{is_none, nat_le, ok_or, option_map, if◌then◌else◌}
+use Rattle.std.specs.Prelude.{IsTrue, eqb, is_none, nat_le, ok_or, option_map, if◌then◌else◌}
 use Rattle.std.specs.List.{list_all}
-use Rattle.std.proofs.lemmas.Bool.{and_from, and_parts, cases_Bool, false_from_ne_true, le-leb, leb-true, lt-ltb, ltb-true, or_left, or_right, true≢false}
+use Rattle.std.proofs.lemmas.Bool.{and_from, and_parts, cases_Bool, eq-eqb, false_from_ne_true, le-leb, leb-true, lt-ltb, ltb-true, or_left, or_right, true≢false}
+use Rattle.std.proofs.lemmas.List.Folds.{list_any_at}
 use Rattle.std.proofs.lemmas.List.{length-append, length-map, map-append}
 use Rattle.qc_num.specs.declared.bound.Bound.{Bound}
 use Rattle.qc_num.specs.declared.bound.Bound.TheVariants.{Least, Never}
@@ -13,10 +14,12 @@ use Rattle.qc_num.proofs.ReadingLemmas.{passed}
 use Rattle.qc_model.specs.declared.decision.Decision.{Decision}
 use Rattle.qc_model.specs.declared.direction.Direction.{Direction}
 use Rattle.qc_model.specs.declared.limits.TheConstants.{MOST_CRANES, MOST_TASKS}
-use Rattle.qc_model.specs.Instance.{InstanceView}
+use Rattle.qc_model.specs.declared.pair.Pair.{Pair}
+use Rattle.qc_model.specs.Instance.{InstanceView, IsApart, pair_of}
 use Rattle.qc_model.specs.declared.decision.Decision.TheVariants as decide
 use Rattle.qc_model.specs.Nodes.{IsSettled, assigned, forced}
 use Rattle.qc_model.specs.Leaves.{Leaf, are_tasks, crane_numbers, chain, chain_end, is_ring, leaf_value, ring}
+use Rattle.qc_model.proofs.NodeLemmas.{before_found}
 use Rattle.qc_tree.specs.declared.line.TheConstants.{MOST_BRANCHINGS}
 use Rattle.qc_tree.specs.declared.line.Line.{Line}
 use Rattle.qc_tree.specs.declared.line.Line.TheVariants.{Chain, Ring}
@@ -95,6 +98,15 @@ number_range inst i is =
     let some = ltb-true 0 i parts.0 in
     (some, omega (arith, some, leb-true i (length inst.tasks) parts.1))
 
+abbrev is_pair : ℕ → ℕ → Pair → Bool
+is_pair i j pair = (pair.first == i) && (pair.second == j)
+
+apart_listed : (inst : InstanceView) (i j : ℕ) → IsApart inst i j → is_apart inst i j ≡ true
+apart_listed inst i j b =
+    let itself = and_from (eqb i i) (eqb j j) (eq-eqb i i refl) (eq-eqb j j refl) in
+    let found = subst (λ (p : Pair). is_pair i j p ≡ true) (sym b.2) itself in
+    list_any_at (is_pair i j) inst.apart b.0 (pair_of i j) b.1 found
+
 pub unsettled_test : (inst : InstanceView) (ds : List Decision) (i j : ℕ) → (¬ IsSettled inst ds i j)
     → not (is_settled inst ds i j) ≡ true
 unsettled_test inst ds i j un =
@@ -110,6 +122,13 @@ settled_test inst ds i j (inr h) = ap not (or_right (is_some (forced inst ds i j
 pub none_of : (o : Option ℕ) → is_some o ≡ false → o ≡ None
 none_of None none = refl
 none_of (Some n) none = absurd (true≢false none)
+
+-- a pair is in the list exactly where a search for it finds it
+pub apart_found : (inst : InstanceView) (i j : ℕ) (found : Bool) → (IsTrue found ↔ IsApart inst i j)
+    → found ≡ is_apart inst i j
+apart_found inst i j true is = sym (apart_listed inst i j (is.0 refl))
+apart_found inst i j false is =
+    sym (false_from_ne_true (is_apart inst i j) (λ t. true≢false (sym (is.1 (before_found i j inst.apart t)))))
 
 -- a branching that was counted
 pub branching_made : (t now : Tally) → with_branching t ≡ Ok now

@@ -198,9 +198,7 @@ fn on_task(
 fn is_apart(inst: &Instance, first: u16, second: u16) -> bool
     ensures { result ≡ is_apart inst.now first second }
 {
-    inst.apart()
-        .iter()
-        .any(|pair| pair.first == first && pair.second == second)
+    inst.is_apart(first, second)
 }
 
 /// Branching on the order of an apart pair.
