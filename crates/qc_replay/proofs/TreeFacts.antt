@@ -3,7 +3,7 @@ use Rattle.std.proofs.Common.{◌≡◌, ℕ, true, false, List, [], ◌∷◌, 
 use Rattle.std.specs.Prelude.{IfOk, IsSomeAnd, if◌then◌else◌, ◌<◌, length}
 use Rattle.qc_model.specs.declared.direction.Direction.{Direction}
 use Rattle.qc_model.specs.Instance.{InstanceView, Valid}
-use Rattle.qc_tree.specs.Trees.{IsTree, Tree, tree_text}
+use Rattle.qc_tree.specs.Trees.{IsTree, Tree, tree_branchings, tree_text, tree_value}
 use Rattle.qc_replay.specs.declared.fault.Replayed.{Replayed}
 use Rattle.qc_replay.specs.declared.fault.TreeFault.{TreeFault}
 use Rattle.qc_replay.specs.declared.fault.TreeKind.TheVariants as kind
@@ -112,6 +112,16 @@ behind_fails inst n r (Some bytes) fault over h =
 pub each_ok : {A E : Type 0} (P Q : A → Type 0) (result : Result A E) → ((a : A) → P a → Q a) → IfOk result P → IfOk result Q
 each_ok P Q (Ok a) all h = all a h
 each_ok P Q (Err e) all h = tt
+
+-- what was read of the text of a tree is its value
+pub one_value : (inst : InstanceView) → Valid inst → (file : Option (List ℕ)) (read : Replayed)
+    → IsReadThrough inst file read → (tree : Tree) → IsTree inst tree → file ≡ Some (tree_text inst tree)
+    → (read.bound ≡ tree_value inst tree) × (read.branched ≡ tree_branchings inst tree)
+one_value inst v file read through tree is text =
+    let told = subst (λ (f : Option (List ℕ)). IfSome f (λ bytes. tree_in inst bytes ≡ Ok read)) text
+        (read_in inst file read through) in
+    let same = sym told ∙ tree_read inst v tree is in
+    (cc same, cc same)
 
 -- the text of a tree has no fault
 pub never_faulty : (inst : InstanceView) → Valid inst → (file : Option (List ℕ)) (fault : TreeFault)

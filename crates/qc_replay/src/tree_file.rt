@@ -1,7 +1,7 @@
 //! The replay of a file.
 ghost use Rattle.std.specs.Prelude.{◌≡◌, ◌+◌, ◌*◌, ◌≤◌, [], Ok, Err, Some, IfOk, IfSome, true};
 ghost use Rattle.qc_io.specs.Outside.{IsMissing, ReadCause, file_at};
-ghost use Rattle.qc_tree.specs.Trees.{IsTree, Tree, tree_text};
+ghost use Rattle.qc_tree.specs.Trees.{IsTree, Tree, tree_branchings, tree_text, tree_value};
 ghost use Rattle.std.specs.Io.KnownBytes.{prepend_known};
 ghost use Rattle.qc_model.specs.OneWay.{mirror};
 ghost use Rattle.qc_num.specs.Paths.{HasRoom};
@@ -46,6 +46,9 @@ pub fn replay<S: Shelf>(
     ensures every_tree { (tree : Tree) (fault : TreeFault) → IsTree inst.now tree
         → file_at (S.files shelf.old) name.now ≡ Some (tree_text inst.now tree)
         → ¬ (result ≡ Err (ReplayError.Tree fault)) }
+    ensures one_value { IfOk result (λ read. (tree : Tree) → IsTree inst.now tree
+        → file_at (S.files shelf.old) name.now ≡ Some (tree_text inst.now tree)
+        → (read.bound ≡ tree_value inst.now tree) × (read.branched ≡ tree_branchings inst.now tree)) }
 
     ensures missing { IsMissing (S.files shelf.old) name.now → ¬ (result ≡ Err ReplayError.OutOfMemory)
         → result ≡ Err ReplayError.ReadFault }
