@@ -35,6 +35,7 @@ pub record Reading : Type 0 where
   pub branched : ℕ
   pub bound : Bound
 
+-- nothing is read; the version is that of the title once this has come
 abbrev pub start : Reading
 start = record {
   version = with_berths;
@@ -67,9 +68,11 @@ is_number inst i = nat_lt 0 i && nat_le i (length inst.tasks)
 abbrev pub from_file : List ℕ → List ℕ
 from_file list = map (λ i. i - 1) list
 
+-- the pair is one of the instance's apart pairs, the lower task first
 abbrev pub is_apart : InstanceView → ℕ → ℕ → Bool
 is_apart inst i j = list_any (λ pair. (pair.first == i) && (pair.second == j)) inst.apart
 
+-- one of the two tasks is forced to start after the other
 abbrev pub is_settled : InstanceView → List Decision → ℕ → ℕ → Bool
 is_settled inst ds i j = is_some (forced inst ds i j) || is_some (forced inst ds j i)
 
@@ -142,6 +145,7 @@ at_rest (c ∷ more) rest = Err (if nat_le most_bytes (length rest) then kind.Li
 abbrev pub numbered : {A : Type 0} → ℕ → Result A TreeKind → Result A TreeFault
 numbered n = with_fault (λ why. record { line = n; kind = why })
 
+-- what all lines come to
 abbrev pub replayed : Reading → Replayed
 replayed r = record { bound = r.bound; branched = r.branched }
 

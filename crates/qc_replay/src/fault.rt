@@ -26,11 +26,11 @@ pub enum TreeKind {
     Branchings,
     /// A task of the chain isn't forced to come after the one before it.
     NotForced,
-    /// A task of the ring isn't forced to come after the one before it.
+    /// A task of the ring isn't forced to come after the one before it, or the first after the last.
     NotCycle,
-    /// The newest decision is in reach.
+    /// The newest decision doesn't put a task on a crane that can't reach it.
     InReach,
-    /// The work fits.
+    /// The work fits before the end.
     WorkShort,
     /// The last line tells another number of branchings, or another value.
     Counts,
