@@ -1,18 +1,27 @@
 -- Steps that read, one after the other: what is due of both.
-use Rattle.std.proofs.Common.{◌≡◌, ℕ, List, Option, None, Some, Result, Ok, Err, refl, ap, ◌∙◌}
-use Rattle.std.specs.Prelude.{IfSome, ok_or, option_and_then}
+use Rattle.std.proofs.Common.{◌≡◌, ℕ, List, Option, None, Some, Result, Ok, Err, refl, sym, ap, subst, ◌∙◌}
+use Rattle.std.specs.Prelude.{IfErr, IfSome, length, nat_le, ok_or, option_and_then}
+use Rattle.std.proofs.lemmas.Bool.{cond_both}
 use Rattle.std.specs.FinMap.{get}
 use Rattle.qc_num.specs.Reading.{◌>>=◌, with_fault}
 use Rattle.qc_io.specs.Outside.{Files, Stand, IsMissing, file_at}
 use Rattle.qc_model.specs.Instance.{InstanceView}
+use Rattle.qc_tree.specs.Trees.{Tree, IsTree, tree_text}
 use Rattle.qc_replay.specs.declared.fault.TreeFault.{TreeFault}
 use Rattle.qc_replay.specs.Walk.{tree_in}
+use Rattle.qc_ship.specs.ShipFile.{ship_file}
+use Rattle.qc_stow.specs.Stow.{moves_in}
+use Rattle.qc_tasks.specs.InstanceOf.{instance_of}
+use Rattle.qc_top.specs.declared.answer.Input.{Input}
 use Rattle.qc_top.specs.declared.answer.Input.TheVariants as input
 use Rattle.qc_top.specs.declared.answer.Refusal.{Refusal}
 use Rattle.qc_top.specs.declared.answer.Refusal.TheVariants as refusal
+use Rattle.qc_top.specs.declared.answer.Stop.{Stop}
+use Rattle.qc_top.specs.declared.answer.Stop.TheVariants as stop
 use Rattle.qc_top.specs.Asked.{Asked, name_of}
-use Rattle.qc_top.specs.Due.{Reads, reads_in, tree_due}
-use Rattle.qc_top.specs.Account.{ComesTo, IsStep}
+use Rattle.qc_top.specs.Due.{Reads, file_limit, input_due, instance_due, moves_due, reads_in, ship_due, tree_due, within_limit}
+use Rattle.qc_top.specs.Account.{ComesTo, IsStep, Stops}
+use Rattle.qc_top.specs.Shown.{IsNoTree}
 
 module _ {A B : Type 0} (step : Reads → Result A Refusal) (next : A → Reads → Result B Refusal) (asked : Asked) where
   -- the second step comes to what both do, where the first came through
@@ -46,3 +55,59 @@ pub tree_fault :
 tree_fault inst asked name named None fault is_held shown = tt
 tree_fault inst asked name named (Some held) fault is_held shown =
     tree_fault_in inst (reads_in held asked).tree (get held name) fault (ap (option_and_then (get held)) named) is_held shown
+
+-- the file of a tree with a fault is held, and is no tree's
+no_tree_in :
+    (inst : InstanceView) (file : Option (List ℕ)) → ¬ (file ≡ None)
+    → ((tree : Tree) → IsTree inst tree → ¬ (file ≡ Some (tree_text inst tree))) → IsNoTree inst file
+no_tree_in inst None is_held none = absurd (is_held refl)
+no_tree_in inst (Some bytes) is_held none = λ tree is same. none tree is (ap Some same)
+
+pub no_tree :
+    (inst : InstanceView) (asked : Asked) (name : List ℕ) → name_of input.Tree asked ≡ Some name → (files : Option Files) → ¬ IsMissing files name
+    → ((tree : Tree) → IsTree inst tree → ¬ (file_at files name ≡ Some (tree_text inst tree)))
+    → IfSome files (λ held. IsNoTree inst (reads_in held asked).tree)
+no_tree inst asked name named None is_held none = tt
+no_tree inst asked name named (Some held) is_held none =
+    subst (IsNoTree inst) (sym (ap (option_and_then (get held)) named)) (no_tree_in inst (get held name) is_held none)
+
+-- ---- no fault of a tree comes of the other two files
+
+abbrev IsEarly : Refusal → Type 0
+IsEarly (refusal.BadTree fault) = ⊥
+IsEarly why = Unit {0}
+
+input_early : (file : Input) (bytes : Option (List ℕ)) → IfErr (within_limit file bytes) IsEarly
+input_early file None = tt
+input_early file (Some bytes) =
+    cond_both (nat_le (length bytes) file_limit) (Ok bytes) (Err (refusal.TooLarge file)) (λ r. IfErr r IsEarly) (λ _. tt) (λ _. tt)
+
+fault_early : {A E : Type 0} (f : E → Refusal) → ((e : E) → IsEarly (f e)) → (r : Result A E) → IfErr (with_fault f r) IsEarly
+fault_early f early (Ok a) = tt
+fault_early f early (Err e) = early e
+
+then_early : {A B : Type 0} (r : Result A Refusal) (next : A → Result B Refusal) → IfErr r IsEarly
+    → ((a : A) → IfErr (next a) IsEarly) → IfErr (r >>= next) IsEarly
+then_early (Ok a) next first second = second a
+then_early (Err e) next first second = first
+
+instance_early : (reads : Reads) → IfErr (instance_due reads) IsEarly
+instance_early reads =
+    then_early (ship_due reads) (λ ship. moves_due ship reads >>= λ rows. Ok (instance_of ship rows))
+    (then_early (input_due input.Ship reads) (λ bytes. with_fault refusal.BadShip (ship_file bytes)) (input_early input.Ship reads.ship)
+    (λ bytes. fault_early refusal.BadShip (λ _. tt) (ship_file bytes)))
+    (λ ship. then_early (moves_due ship reads) (λ rows. Ok (instance_of ship rows))
+    (then_early (input_due input.Stow reads) (λ bytes. with_fault refusal.BadStow (moves_in ship bytes)) (input_early input.Stow reads.stow)
+    (λ bytes. fault_early refusal.BadStow (λ _. tt) (moves_in ship bytes)))
+    (λ rows. tt))
+
+pub no_fault_yet :
+    (asked : Asked) (before after : Stand) (result : Result InstanceView Stop) → IfErr result (Stops instance_due asked before after)
+    → (fault : TreeFault) → result ≡ Err (stop.Refused (refusal.BadTree fault)) → (P : Files → Type 0) → IfSome before.files P
+no_fault_yet asked before after result stops fault is P =
+    told before.files (subst (λ (r : Result InstanceView Stop). IfErr r (Stops instance_due asked before after)) is stops).1
+  where
+    told : (files : Option Files) → ComesTo instance_due asked files (Err (refusal.BadTree fault)) → IfSome files P
+    told None due = tt
+    told (Some held) due =
+        absurd (subst (λ (r : Result InstanceView Refusal). IfErr r IsEarly) due (instance_early (reads_in held asked)))

@@ -1,5 +1,5 @@
 -- What a tree's file shows for the instance of a run.
-use Rattle.std.specs.Prelude.{◌≡◌, ℕ, List, Option, Some, Ok, IfSome}
+use Rattle.std.specs.Prelude.{◌≡◌, ◌≢◌, ℕ, List, Option, Some, Ok, IfSome, IsSomeAnd}
 use Rattle.qc_num.specs.declared.bound.Bound.{Bound}
 use Rattle.qc_io.specs.Outside.{Files}
 use Rattle.qc_model.specs.Instance.{InstanceView}
@@ -27,14 +27,15 @@ pub record IsBoundShown (asked : Asked) (held : Files) (bound : Bound) : Type 0 
   pub due : instance_due (reads_in held asked) ≡ Ok inst
   pub shown : IsTreeShown inst (reads_in held asked).tree bound
 
--- the file isn't the text of a tree of the instance
+-- the file is held, and isn't the text of a tree of the instance
 abbrev pub IsNoTree : InstanceView → Option (List ℕ) → Type 0
-IsNoTree inst file = (tree : Tree) → IsTree inst tree → ¬ (file ≡ Some (tree_text inst tree))
+IsNoTree inst file = IsSomeAnd file (λ bytes. (tree : Tree) → IsTree inst tree → bytes ≢ tree_text inst tree)
 
 -- the same for the instance of the two files and the tree's file
-abbrev pub IsNoneShown : Asked → Files → Type 0
-IsNoneShown asked held =
-    (inst : InstanceView) → instance_due (reads_in held asked) ≡ Ok inst → IsNoTree inst (reads_in held asked).tree
+pub record IsNoneShown (asked : Asked) (held : Files) : Type 0 where
+  pub inst : InstanceView
+  pub due : instance_due (reads_in held asked) ≡ Ok inst
+  pub none : IsNoTree inst (reads_in held asked).tree
 
 -- what an answer to a check tells of the tree's file; other requests tell nothing of it
 abbrev pub TellsTree : Asked → Option Files → Answer → Type 0

@@ -1,6 +1,6 @@
 use Rattle.std.proofs.Common.{Err, ap, sym}
 use Rattle.qc_top.specs.Asked.{asked_for}
-use Rattle.qc_top.proofs.StepLemmas.{tree_fault}
+use Rattle.qc_top.proofs.StepLemmas.{no_tree, tree_fault}
 use Rattle.qc_top.proofs.reading.read_tree.Goals as goal
 
 pub returns-in-Err-Tree-clause-step : goal.returns-in-Err-Tree-clause-step
@@ -19,3 +19,10 @@ returns-in-Err-Tree-clause-step g c =
       faults = c.replay.ensures.faults_stay;
       read_faults = c.replay.ensures.read_faults_never_fall;
     }
+
+pub returns-in-Err-Tree-clause-none : goal.returns-in-Err-Tree-clause-none
+returns-in-Err-Tree-clause-none g c = λ fault is.
+    let files = g.S.Shelf.files c.args.shelf.now in
+    no_tree c.args.inst.now (asked_for c.args.request.now) c.in-Some.name.now (sym c.in-Some.ensures) files
+    (λ missing. absurd (cc (c.in-Err-Tree.ensures.missing missing (λ e. cc))))
+    (λ tree is_tree same. c.in-Err-Tree.ensures.every_tree tree c.in-Err-Tree.fault is_tree same (ap Err c.in-Err-Tree.field-0-is))
