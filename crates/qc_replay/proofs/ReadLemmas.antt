@@ -26,14 +26,14 @@ use Rattle.qc_tree.specs.declared.line.Line.{Line}
 use Rattle.qc_tree.specs.declared.line.Line.TheVariants as line
 use Rattle.qc_tree.specs.declared.line.TheConstants.{MOST_BRANCHINGS}
 use Rattle.qc_tree.specs.LineIn.{Listed}
-use Rattle.qc_tree.specs.Trees.{IsPart, IsTree, Part, Tree, branchings, in_file, leaf, leaf_text, part_text, part_value, tree_branchings, tree_text, tree_value, whole_line}
+use Rattle.qc_tree.specs.Trees.{IsPart, IsTree, NoneEarlier, Part, Tree, branchings, in_file, leaf, leaf_text, part_text, part_value, tree_branchings, tree_text, tree_value, whole_line}
 use Rattle.qc_tree.specs.Trees as parts
 use Rattle.qc_tree.proofs.TreeBound.{tree_bound}
 use Rattle.qc_replay.specs.declared.fault.TreeKind.{TreeKind}
 use Rattle.qc_replay.specs.declared.fault.TreeKind.TheVariants as kind
 use Rattle.qc_replay.specs.Walk.{Coming, Reading, at, at_node, branched_to, came, closed_by, down, end, from_file, is_apart, is_number, is_settled, node, on_pair, on_task, replayed, start, title, up}
 use Rattle.qc_replay.specs.Read.{IsReached, lines_text, with_line, with_lines}
-use Rattle.qc_replay.specs.Shown.{IsShown, NoneEarlier}
+use Rattle.qc_replay.specs.Shown.{IsShown}
 
 -- ---- steps that came through
 

@@ -3,7 +3,7 @@ use Rattle.std.proofs.Common.{◌≡◌, ℕ, true, false, List, [], ◌∷◌, 
 use Rattle.std.specs.Prelude.{IfOk, IsSomeAnd, if◌then◌else◌, ◌<◌, length}
 use Rattle.qc_model.specs.declared.direction.Direction.{Direction}
 use Rattle.qc_model.specs.Instance.{InstanceView, Valid}
-use Rattle.qc_tree.specs.Trees.{IsTree, Tree, tree_branchings, tree_text, tree_value}
+use Rattle.qc_tree.specs.Trees.{IsTree, NoneEarlier, Tree, tree_branchings, tree_text, tree_value}
 use Rattle.qc_replay.specs.declared.fault.Replayed.{Replayed}
 use Rattle.qc_replay.specs.declared.fault.TreeFault.{TreeFault}
 use Rattle.qc_replay.specs.declared.fault.TreeKind.TheVariants as kind
@@ -13,7 +13,7 @@ use Rattle.qc_replay.specs.File.{Fails, IsReadThrough, Leads, texts}
 use Rattle.qc_replay.specs.Frame.{standing_at}
 use Rattle.qc_replay.specs.Part.{Standing, behind, within}
 use Rattle.qc_replay.specs.Read.{IsReached, lines_text}
-use Rattle.qc_replay.specs.Shown.{IsShown, NoneEarlier}
+use Rattle.qc_replay.specs.Shown.{IsShown}
 use Rattle.qc_replay.specs.Walk.{Coming, Reading, node, start, texts_from, tree_in}
 use Rattle.qc_replay.proofs.FileFacts.{at_end, behind_end}
 use Rattle.qc_replay.proofs.ReadLemmas.{none_earlier_of, shown_of}

@@ -1,7 +1,7 @@
 //! The replay of a file.
 ghost use Rattle.std.specs.Prelude.{◌≡◌, ◌+◌, ◌*◌, ◌≤◌, [], Ok, Err, Some, IfOk, IfSome, true};
 ghost use Rattle.qc_io.specs.Outside.{IsMissing, ReadCause, file_at};
-ghost use Rattle.qc_tree.specs.Trees.{IsTree, Tree, tree_branchings, tree_text, tree_value};
+ghost use Rattle.qc_tree.specs.Trees.{IsTree, NoneEarlier, Tree, tree_branchings, tree_text, tree_value};
 ghost use Rattle.std.specs.Io.KnownBytes.{prepend_known};
 ghost use Rattle.qc_model.specs.OneWay.{mirror};
 ghost use Rattle.qc_num.specs.Paths.{HasRoom};
@@ -10,7 +10,7 @@ ghost use Rattle.qc_model.specs.Instance.{InstanceView};
 ghost use Rattle.qc_tree.specs.declared.line.TheConstants.{MOST_BRANCHINGS};
 ghost use Rattle.qc_replay.specs.File.{Fails, IsReadThrough, Leads, OnlyReads, stage_of};
 ghost use Rattle.qc_replay.specs.Frame.{all_read, branchings_left, half_way};
-ghost use Rattle.qc_replay.specs.Shown.{IsShown, NoneEarlier};
+ghost use Rattle.qc_replay.specs.Shown.{IsShown};
 ghost use Rattle.qc_replay.specs.Walk.{start, tree_in};
 ghost use Rattle.qc_replay.specs.declared.fault.TreeFault.{TreeFault};
 

@@ -45,7 +45,7 @@ impl Model for Starts {
 }
 
 impl Starts {
-    ghost use Rattle.qc_dist.specs.Node.{IsOpen};
+    ghost use Rattle.qc_dist.specs.Node.{IsOpen, newest};
     ghost use Rattle.qc_starts.specs.Seen.{IsReached, IsStep};
 
     /// No decision for the instance.
@@ -142,6 +142,13 @@ impl Starts {
         ensures { result ≡ length self.now.decisions }
     {
         self.made
+    }
+
+    /// The newest decision; `None` where there is none.
+    pub fn newest(&self) -> Option<Decision>
+        ensures { result ≡ newest self.now.decisions }
+    {
+        self.decisions.newest()
     }
 
     /// Takes back all decisions but the first `mark`.

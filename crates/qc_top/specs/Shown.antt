@@ -3,8 +3,7 @@ use Rattle.std.specs.Prelude.{◌≡◌, ◌≢◌, ℕ, List, Option, Some, Ok,
 use Rattle.qc_num.specs.declared.bound.Bound.{Bound}
 use Rattle.qc_io.specs.Outside.{Files}
 use Rattle.qc_model.specs.Instance.{InstanceView}
-use Rattle.qc_tree.specs.Trees.{Tree, IsTree, tree_text, tree_value}
-use Rattle.qc_replay.specs.Shown.{NoneEarlier}
+use Rattle.qc_tree.specs.Trees.{IsTree, NoneEarlier, Tree, tree_text, tree_value}
 use Rattle.qc_top.specs.declared.answer.Refusal.TheVariants as refusal
 use Rattle.qc_top.specs.declared.answer.Stop.TheVariants as stop
 use Rattle.qc_top.specs.declared.answer.Answer.{Answer}

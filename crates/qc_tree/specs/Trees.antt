@@ -2,14 +2,16 @@
 use Rattle.std.specs.Prelude.{◌≡◌, ℕ, ◌+◌, ◌<◌, ◌≤◌, List, [], ◌∷◌, ◌++◌, map, length, unwrap_or, None, IsSome, sum_by}
 use Rattle.std.specs.List.{flat_map}
 use Rattle.qc_num.specs.declared.bound.Bound.{Bound}
-use Rattle.qc_num.specs.declared.bound.Bound.TheVariants.{Never}
-use Rattle.qc_num.specs.Bounds.{lesser, least_bound}
+use Rattle.qc_num.specs.declared.bound.Bound.TheVariants.{Least, Never}
+use Rattle.qc_num.specs.Bounds.{IsAtMost, lesser, least_bound}
 use Rattle.qc_model.specs.declared.decision.Decision.{Decision}
 use Rattle.qc_model.specs.declared.decision.Decision.TheVariants as decide
+use Rattle.qc_model.specs.declared.schedule.Slot.{Slot}
 use Rattle.qc_model.specs.Instance.{InstanceView, IsApart}
 use Rattle.qc_model.specs.Leaves.{Leaf, Version, chain, ring, reach, work, without_berths, with_berths, crane_numbers, leaf_value}
 use Rattle.qc_model.specs.Nodes.{IsSettled, assigned}
-use Rattle.qc_model.specs.OneWay.{mirror}
+use Rattle.qc_model.specs.OneWay.{GoesOneWay, mirror}
+use Rattle.qc_model.specs.Rules.{ends}
 use Rattle.qc_tree.specs.declared.line.TheConstants.{MOST_BRANCHINGS}
 use Rattle.qc_tree.specs.declared.line.Line.{Line}
 use Rattle.qc_tree.specs.declared.line.Line.TheVariants.{Title, Title2, Up, Down, Assign, Order, Chain, Ring, Reach, Work, End}
@@ -103,3 +105,8 @@ tree_text inst tree =
     ++ whole_line Up [] ++ part_text (crane_numbers inst) tree.up
     ++ whole_line Down [] ++ part_text (crane_numbers inst) tree.down
     ++ whole_line (End (tree_branchings inst tree) (tree_value inst tree)) []
+
+-- no schedule that goes one way ends before the bound; where it is Never, there is none
+abbrev pub NoneEarlier : InstanceView → Bound → Type 0
+NoneEarlier inst bound =
+    (sched : List Slot) → GoesOneWay inst sched → IsAtMost bound (Least (ends inst sched))

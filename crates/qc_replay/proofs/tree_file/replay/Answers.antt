@@ -4,9 +4,9 @@ use Rattle.qc_io.specs.Outside.{file_at}
 use Rattle.qc_model.specs.declared.direction.Direction.TheVariants as way
 use Rattle.qc_model.specs.Instance.{Valid}
 use Rattle.qc_model.proofs.MirrorLemmas.{seen_valid}
-use Rattle.qc_tree.specs.Trees.{IsTree, Tree, tree_branchings, tree_text, tree_value}
+use Rattle.qc_tree.specs.Trees.{IsTree, NoneEarlier, Tree, tree_branchings, tree_text, tree_value}
 use Rattle.qc_replay.specs.File.{Fails, IsReadThrough}
-use Rattle.qc_replay.specs.Shown.{IsShown, NoneEarlier}
+use Rattle.qc_replay.specs.Shown.{IsShown}
 use Rattle.qc_replay.specs.Walk.{start, tree_in}
 use Rattle.qc_replay.proofs.TreeFacts.{each_ok, never_faulty, no_earlier, one_value, read_in, shows}
 use Rattle.qc_replay.proofs.tree_file.replay.Goals as goal
