@@ -22,7 +22,7 @@ use Rattle.qc_model.proofs.NodeLemmas.{greater_keeps}
 use Rattle.qc_model.proofs.OnRail.{berth_on_rail}
 use Rattle.qc_dist.proofs.Bounds.{few_ticks, highest_on_rail, lowest_on_rail, on_rail, open_bounded, ticks_over_bounded}
 use Rattle.qc_dist.proofs.Facts.{assigned_range}
-use Rattle.qc_dist.proofs.Room.{fits_room, tasks_on_few}
+use Rattle.qc_dist.proofs.Room.{tasks_on_few}
 use Rattle.qc_tree.specs.Lines.{IsValue}
 
 -- places on the rail, and ones shifted by some gaps, aren't far apart

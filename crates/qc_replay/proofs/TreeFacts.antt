@@ -119,7 +119,7 @@ pub one_value : (inst : InstanceView) → Valid inst → (file : Option (List �
     → (read.bound ≡ tree_value inst tree) × (read.branched ≡ tree_branchings inst tree)
 one_value inst v file read through tree is text =
     let told = subst (λ (f : Option (List ℕ)). IfSome f (λ bytes. tree_in inst bytes ≡ Ok read)) text
-        (read_in inst file read through) in
+    (read_in inst file read through) in
     let same = sym told ∙ tree_read inst v tree is in
     (cc same, cc same)
 

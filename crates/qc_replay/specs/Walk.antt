@@ -136,7 +136,7 @@ at_text inst r text = do
   seen ← ok_or (line_in text) kind.Spelling
   at inst r c seen.line seen.list
 
--- the text behind the last line feed: the file ends there, and should end before it
+-- the text behind the last line feed: empty after the last line, and before it the line that is missing
 abbrev pub at_rest : List Coming → List ℕ → Result ⊤ TreeKind
 at_rest [] rest = require (length rest == 0) kind.After
 at_rest (c ∷ more) rest = Err (if nat_le most_bytes (length rest) then kind.LineTooLong else kind.Cut)
