@@ -151,7 +151,9 @@ replayed r = record { bound = r.bound; branched = r.branched }
 
 -- what the texts between line feeds come to, the first of which is line n, or their first fault
 abbrev pub texts_from : InstanceView → ℕ → Reading → List (List ℕ) → Result Replayed TreeFault
-texts_from inst n r [] = Ok (replayed r)
+texts_from inst n r [] = do
+  _ ← numbered n (at_rest r.coming [])
+  Ok (replayed r)
 texts_from inst n r (rest ∷ []) = do
   _ ← numbered n (at_rest r.coming rest)
   Ok (replayed r)

@@ -7,9 +7,9 @@ pub const MOST_BRANCHINGS: u32 = 100_000;
 /// stand in a path beside it.
 #[derive(Clone, Copy, Debug, PartialEq, Eq)]
 pub enum Line {
-    /// The title of a tree of version 1: a berth keeps no task away before its crane's first one.
+    /// The title of a tree of version 1: heads don't count the start berths of other cranes.
     Title,
-    /// The title of a tree of version 2: start berths count.
+    /// The title of a tree of version 2: heads count them.
     Title2,
     /// Here begins the part of the upward schedules.
     Up,
