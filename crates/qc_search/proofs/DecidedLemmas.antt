@@ -1,0 +1,231 @@
+-- What a schedule decides asks for no less than a complete node that it is of.
+use Rattle.std.proofs.Common.{◌≡◌, ℕ, zero, suc, ◌+◌, ◌<◌, ◌≤◌, ◌⊎◌, inl, inr, true, false, eqb, ◌&&◌, List, [], ◌∷◌, ◌++◌, length, map, Contains, Option, None, Some, IfSome, IsSome, refl, ap, ap₂, sym, subst, subst₂, ◌∙◌, arith}
+use Rattle.std.proofs.lemmas.Bool.{and_from, and_parts, cond-true, cond_both, eq-eqb, eqb-true, false≢true, le-leb, leb-true, or_cases, or_left, or_right}
+use Rattle.std.specs.Prelude.{nat_le, slice_index, slice_index_or}
+use Rattle.std.specs.List.{range_with_len}
+use Rattle.qc_model.specs.declared.decision.Decision.{Decision}
+use Rattle.qc_model.specs.declared.decision.Decision.TheVariants.{Assign, Order}
+use Rattle.qc_model.specs.declared.pair.Pair.{Pair}
+use Rattle.qc_model.specs.declared.schedule.Slot.{Slot}
+use Rattle.qc_model.specs.Instance.{InstanceView, IsApart, Valid, pair_of, ticks_of}
+use Rattle.qc_model.specs.Leaves.{task_numbers}
+use Rattle.qc_model.specs.Nodes.{Agrees, AreLeast, Fits, IsComplete, IsInReach, Meets, assigned, crane_ticks, forced, free, greater, head_by, is_before, is_ordered, is_sooner, schedule_with, sooner_ticks}
+use Rattle.qc_model.specs.OneWay.{GoesUp}
+use Rattle.qc_model.specs.Rules.{IsClear, crane_of, end_of, start_of, starts}
+use Rattle.qc_model.proofs.CompleteNodes.{agrees_with, goes_with, starts_with}
+use Rattle.qc_model.proofs.NodeLemmas.{IsStep, assigned_is, greater_keeps, if_some, meets_of}
+use Rattle.qc_search.specs.Run.{decided_by, order_in}
+
+-- what the greater of two steps keeps, both keep
+greater_first : (s t : ℕ) (a b : Option ℕ) → IsStep s t (greater a b) → IsStep s t a
+greater_first s t None b h = tt
+greater_first s t (Some m) None h = h
+greater_first s t (Some m) (Some n) h = omega arith
+
+greater_second : (s t : ℕ) (a b : Option ℕ) → IsStep s t (greater a b) → IsStep s t b
+greater_second s t None b h = h
+greater_second s t (Some m) None h = tt
+greater_second s t (Some m) (Some n) h = omega arith
+
+some_is : (o : Option ℕ) (k : ℕ) → IsSome o → IfSome o (λ v. k ≡ v) → o ≡ Some k
+some_is None k some is = absurd (false≢true some)
+some_is (Some v) k some is = ap Some (sym is)
+
+-- a pair is ordered still, whatever is decided besides
+ordered_more : (d : Decision) (ds : List Decision) (i j : ℕ) → is_ordered ds i j ≡ true → is_ordered (d ∷ ds) i j ≡ true
+ordered_more (Assign h k) ds i j t = t
+ordered_more (Order h k) ds i j t = or_right (eqb h i && eqb k j) (is_ordered ds i j) t
+
+ordered_here : (ds : List Decision) (i j : ℕ) → is_ordered (Order i j ∷ ds) i j ≡ true
+ordered_here ds i j =
+    or_left (eqb i i && eqb j j) (is_ordered ds i j) (and_from (eqb i i) (eqb j j) (eq-eqb i i refl) (eq-eqb j j refl))
+
+module _ (inst : InstanceView) (sched : List Slot) where
+  abbrev on_crane : ℕ → Decision
+  on_crane j = Assign j (crane_of sched j)
+
+  abbrev orders : List Pair → List Decision
+  orders pairs = map (order_in inst sched) pairs
+
+  ordered_kept : (ds : List Decision) → Agrees inst ds sched → (i j : ℕ) → is_ordered ds i j ≡ true
+      → end_of inst sched i ≤ start_of sched j
+  ordered_kept [] a i j t = absurd (false≢true t)
+  ordered_kept (Assign g k ∷ ds) a i j t = ordered_kept ds a.1 i j t
+  ordered_kept (Order g k ∷ ds) a i j t = elim (or_cases (eqb g i && eqb k j) (is_ordered ds i j) t) [
+    | inl e ↦
+        let p = and_parts (eqb g i) (eqb k j) e in
+        subst₂ (λ (x y : ℕ). end_of inst sched x ≤ start_of sched y) (eqb-true g i p.0) (eqb-true k j p.1) a.0
+    | inr e ↦ ordered_kept ds a.1 i j e
+  ]
+
+  -- ---- the schedule agrees with what it decides
+
+  order_agrees : (p : Pair) (ds : List Decision) → IsClear inst sched 0 p.first p.second → Agrees inst ds sched
+      → Agrees inst (order_in inst sched p ∷ ds) sched
+  order_agrees p ds clear rest =
+      cond_both (nat_le (end_of inst sched p.first) (start_of sched p.second)) (Order p.first p.second)
+      (Order p.second p.first) (λ (d : Decision). Agrees inst (d ∷ ds) sched)
+      (λ t. (leb-true _ _ t, rest))
+      (λ f. (other f clear, rest))
+    where
+      other : nat_le (end_of inst sched p.first) (start_of sched p.second) ≡ false
+          → IsClear inst sched 0 p.first p.second → end_of inst sched p.second ≤ start_of sched p.first
+      other f (inl a) =
+          absurd (false≢true (sym f ∙ le-leb (end_of inst sched p.first) (start_of sched p.second) (omega (arith, a))))
+      other f (inr b) = omega (arith, b)
+
+  orders_agree : (pairs : List Pair) → ((p : Pair) → Contains pairs p → IsClear inst sched 0 p.first p.second)
+      → Agrees inst (orders pairs) sched
+  orders_agree [] h = tt
+  orders_agree (p ∷ ps) h =
+      order_agrees p (orders ps) (h p (0, omega arith, refl))
+      (orders_agree ps (λ q c. h q (suc c.0, omega (arith, c.1), c.2)))
+
+  cranes_agree : (ks : List ℕ) (ds : List Decision) → Agrees inst ds sched → Agrees inst (map on_crane ks ++ ds) sched
+  cranes_agree [] ds h = h
+  cranes_agree (k ∷ ks) ds h = (refl, cranes_agree ks ds h)
+
+  pub decided_agrees : GoesUp inst sched → ((i j : ℕ) → IsApart inst i j → (i < length inst.tasks) × (j < length inst.tasks))
+      → Agrees inst (decided_by inst sched) sched
+  decided_agrees g range =
+      cranes_agree (task_numbers inst) (orders inst.apart)
+      (orders_agree inst.apart (λ p c.
+      let r = range p.first p.second c in g.feasible.apart p.first p.second r.0 r.1 c))
+
+  -- ---- what it decides
+
+  assigned_in : (a n : ℕ) (ds : List Decision) (j : ℕ) → a ≤ j → j < a + n
+      → assigned (map on_crane (range_with_len a n) ++ ds) j ≡ Some (crane_of sched j)
+  assigned_in a zero ds j low high = absurd (omega arith)
+  assigned_in a (suc n) ds j low high =
+      cond_both (eqb a j) (Some (crane_of sched a)) (assigned (map on_crane (range_with_len (a + 1) n) ++ ds) j)
+      (λ (o : Option ℕ). o ≡ Some (crane_of sched j))
+      (λ t. ap (λ (k : ℕ). Some (crane_of sched k)) (same t))
+      (λ f. let differ = other f in assigned_in (a + 1) n ds j (omega arith) (omega arith))
+    where
+      same : eqb a j ≡ true → a ≡ j
+      same t = eqb-true a j t
+
+      other : eqb a j ≡ false → ¬ (a ≡ j)
+      other f e = false≢true (sym f ∙ eq-eqb a j e)
+
+  pub decided_crane : (j : ℕ) → j < length inst.tasks → assigned (decided_by inst sched) j ≡ Some (crane_of sched j)
+  decided_crane j low = assigned_in 0 (length inst.tasks) (orders inst.apart) j (omega arith) (omega arith)
+
+  behind_cranes : (ks : List ℕ) (ds : List Decision) (i j : ℕ) → is_ordered ds i j ≡ true
+      → is_ordered (map on_crane ks ++ ds) i j ≡ true
+  behind_cranes [] ds i j t = t
+  behind_cranes (k ∷ ks) ds i j t = behind_cranes ks ds i j t
+
+  ordered_at : (pairs : List Pair) (k : ℕ) (p : Pair) → k < length pairs → slice_index_or pairs k p ≡ p → (i j : ℕ)
+      → order_in inst sched p ≡ Order i j → is_ordered (orders pairs) i j ≡ true
+  ordered_at [] k p low e i j is = absurd (omega arith)
+  ordered_at (q ∷ qs) zero p low e i j is =
+      subst (λ (d : Decision). is_ordered (d ∷ orders qs) i j ≡ true) (sym (ap (order_in inst sched) e ∙ is))
+      (ordered_here (orders qs) i j)
+  ordered_at (q ∷ qs) (suc k) p low e i j is =
+      ordered_more (order_in inst sched q) (orders qs) i j (ordered_at qs k p (omega (arith, low)) e i j is)
+
+  ordered_as : (p : Pair) → Contains inst.apart p → (i j : ℕ) → order_in inst sched p ≡ Order i j
+      → is_ordered (decided_by inst sched) i j ≡ true
+  ordered_as p c i j is =
+      behind_cranes (task_numbers inst) (orders inst.apart) i j (ordered_at inst.apart c.0 p c.1 c.2 i j is)
+
+  -- a pair that the schedule has in this order is so decided
+  pub decided_order : Valid inst → (i j : ℕ) → IsApart inst i j ⊎ IsApart inst j i
+      → end_of inst sched i ≤ start_of sched j → is_ordered (decided_by inst sched) i j ≡ true
+  decided_order v i j (inl a) first =
+      ordered_as (pair_of i j) a i j
+      (cond-true (nat_le (end_of inst sched i) (start_of sched j)) (Order i j) (Order j i)
+      (le-leb (end_of inst sched i) (start_of sched j) first))
+  decided_order v i j (inr a) first =
+      ordered_as (pair_of j i) a i j
+      (cond_both (nat_le (end_of inst sched j) (start_of sched i)) (Order j i) (Order i j) (λ (d : Decision). d ≡ Order i j)
+      (λ t. absurd (both_first (leb-true _ _ t)))
+      (λ f. refl))
+    where
+      both_first : end_of inst sched j ≤ start_of sched i → ⊥
+      both_first second =
+          let r = v.apart.range j i a in
+          let one = v.tasks.ticks i r.1 in
+          omega (arith, first, second, one)
+
+-- ---- the schedule of a complete node
+
+module _ (inst : InstanceView) (ds : List Decision) (begins : List ℕ) (v : Valid inst)
+    (fits : Fits inst ds) (complete : IsComplete inst ds) (reach : IsInReach inst ds)
+    (least : AreLeast inst ds begins) where
+  abbrev sched : List Slot
+  sched = schedule_with inst ds begins
+
+  abbrev decided : List Decision
+  decided = decided_by inst sched
+
+  goes : GoesUp inst sched
+  goes = goes_with inst ds begins v fits complete reach least.meets
+
+  agrees : Agrees inst ds sched
+  agrees = agrees_with inst ds begins v fits complete reach least.meets
+
+  same_crane : (j : ℕ) → j < length inst.tasks → assigned decided j ≡ assigned ds j
+  same_crane j low =
+      decided_crane inst sched j low
+      ∙ sym (some_is (assigned ds j) (crane_of sched j) (complete.tasks j low) (assigned_is inst sched ds agrees j))
+
+  -- an ordered pair is one of the apart pairs
+  ordered_apart : (es : List Decision) → Fits inst es → (i j : ℕ) → is_ordered es i j ≡ true
+      → IsApart inst i j ⊎ IsApart inst j i
+  ordered_apart [] f i j t = absurd (false≢true t)
+  ordered_apart (Assign h k ∷ es) f i j t = ordered_apart es f.3 i j t
+  ordered_apart (Order h k ∷ es) f i j t = elim (or_cases (eqb h i && eqb k j) (is_ordered es i j) t) [
+    | inl e ↦
+        let p = and_parts (eqb h i) (eqb k j) e in
+        subst₂ (λ (x y : ℕ). IsApart inst x y ⊎ IsApart inst y x) (eqb-true h i p.0) (eqb-true k j p.1) f.0
+    | inr e ↦ ordered_apart es f.3 i j e
+  ]
+
+  sooner_too : (i j : ℕ) → is_sooner inst ds i j ≡ true → is_sooner inst decided i j ≡ true
+  sooner_too i j t = by_case (or_cases (is_before inst i j) (is_ordered ds i j) t)
+    where
+      by_case : (is_before inst i j ≡ true) ⊎ (is_ordered ds i j ≡ true) → is_sooner inst decided i j ≡ true
+      by_case (inl e) = or_left (is_before inst i j) (is_ordered decided i j) e
+      by_case (inr e) =
+          or_right (is_before inst i j) (is_ordered decided i j)
+          (decided_order inst sched v i j (ordered_apart ds fits i j e) (ordered_kept inst sched ds agrees i j e))
+
+  -- starts that keep what the schedule decides keep the node
+  pub node_met : (others : List ℕ) → Meets inst decided others → Meets inst ds others
+  node_met others m = record {
+    all_tasks = m.all_tasks;
+    heads = λ j low.
+        subst (λ (o : Option ℕ). head_by inst (free inst j) j o ≤ slice_index others j) (same_crane j low) (m.heads j low);
+    steps = λ i j ticks low high e.
+        subst (IsStep (slice_index others i) (slice_index others j)) e (step_kept i j low high);
+  }
+    where
+      step_kept : (i j : ℕ) → i < length inst.tasks → j < length inst.tasks
+          → IsStep (slice_index others i) (slice_index others j) (forced inst ds i j)
+      step_kept i j low high =
+          let s = slice_index others i in
+          let t = slice_index others j in
+          let kept : IsStep s t (forced inst decided i j) =
+          if_some (forced inst decided i j) (λ n. s + n ≤ t) (λ n e. m.steps i j n low high e) in
+          let soon = sooner_ticks inst decided i j in
+          let cranes = crane_ticks inst i j (assigned decided i) (assigned decided j) in
+          greater_keeps (λ n. s + n ≤ t) (sooner_ticks inst ds i j) (crane_ticks inst i j (assigned ds i) (assigned ds j))
+          (cond_both (is_sooner inst ds i j) (Some (ticks_of inst i)) None (IsStep s t)
+          (λ is. subst (IsStep s t) (cond-true (is_sooner inst decided i j) (Some (ticks_of inst i)) None (sooner_too i j is))
+          (greater_first s t soon cranes kept))
+          (λ _. tt))
+          (subst (IsStep s t) (ap₂ (crane_ticks inst i j) (same_crane i low) (same_crane j high))
+          (greater_second s t soon cranes kept))
+
+  -- its starts are the least with what it decides
+  pub decided_least : AreLeast inst decided (starts sched)
+  decided_least = record {
+    meets = meets_of inst decided sched goes (decided_agrees inst sched goes (λ i j a.
+        let r = v.apart.range i j a in (omega (arith, r.0, r.1), r.1)));
+    least = λ others m j low.
+        subst (λ (b : List ℕ). slice_index b j ≤ slice_index others j)
+        (sym (starts_with inst ds begins least.meets.all_tasks)) (least.least others (node_met others m) j low);
+  }

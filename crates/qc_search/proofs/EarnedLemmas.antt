@@ -1,0 +1,144 @@
+-- Nodes that are earned one behind the other.
+use Rattle.std.proofs.Common.{◌≡◌, ℕ, ◌+◌, cond, List, [], ◌∷◌, ◌++◌, drop, get_or, refl, ap, sym, subst, ◌∙◌, append_assoc, arith}
+use Rattle.std.proofs.lemmas.List.{append-nil}
+use Rattle.std.proofs.lemmas.List.Elements.{All-append, All-cons, Contains-append_left, Contains-push}
+use Rattle.std.proofs.lemmas.List.Sums.{sum_by-append}
+use Rattle.std.specs.Prelude.{All, Any, Contains, is_none}
+use Rattle.qc_num.specs.declared.bound.Bound.{Bound}
+use Rattle.qc_num.specs.declared.bound.Bound.TheVariants.{Least, Never}
+use Rattle.qc_num.specs.Bounds.{IsAtMost, lesser}
+use Rattle.qc_model.specs.Instance.{InstanceView}
+use Rattle.qc_search.specs.Earned.{IsEarnedBehind, IsMetEnd, IsSolvedBy, TreeNode, branchings_in}
+use Rattle.qc_search.specs.Course.{AreEarned, node_value, value_in}
+
+-- ---- lists
+
+cons_tail : {A : Type 0} (x y : A) (xs ys : List A) → (x ∷ xs) ≡ (y ∷ ys) → xs ≡ ys
+cons_tail x y xs ys e = ap (λ l. drop 1 l) e
+
+cons_head : {A : Type 0} (x y : A) (xs ys : List A) → (x ∷ xs) ≡ (y ∷ ys) → x ≡ y
+cons_head x y xs ys e = ap (λ l. get_or l 0 x) e
+
+no_cons : {A : Type 0} (b : List A) (x : A) (a : List A) → [] ≡ (b ++ x ∷ a) → ⊥
+no_cons [] x a e = cc e
+no_cons (y ∷ b) x a e = cc e
+
+-- an element with a fact
+pub any_of : {A : Type 0} (P : A → Type 0) (xs : List A) (x : A) → Contains xs x → P x → Any P xs
+any_of P xs x c p = (c.0, x, c.1, c.2, p)
+
+pub of_any : {A : Type 0} (P : A → Type 0) (xs : List A) → Any P xs → (x : A) × Contains xs x × P x
+of_any P xs a = (a.1, (a.0, a.2, a.3), a.4)
+
+pub any_before : {A : Type 0} (P : A → Type 0) (xs ys : List A) → Any P xs → Any P (xs ++ ys)
+any_before P xs ys a =
+    any_of P (xs ++ ys) a.1 (Contains-append_left xs ys a.1 (a.0, a.2, a.3)) a.4
+
+all_one : {A : Type 0} (P : A → Type 0) (x : A) → P x → All P (x ∷ [])
+all_one P x p = All-cons P x [] p (λ k d low. absurd (omega arith))
+
+-- ---- one behind the other
+
+module _ (home : InstanceView) (most : ℕ) where
+  pub earned_then : (before one two : List TreeNode) → AreEarned home most before one
+      → AreEarned home most (before ++ one) two → AreEarned home most before (one ++ two)
+  earned_then before [] two h k = subst (λ (b : List TreeNode). AreEarned home most b two) (append-nil before) k
+  earned_then before (node ∷ one) two h k = (
+    h.0,
+    earned_then (before ++ node ∷ []) one two h.1
+        (subst (λ (b : List TreeNode). AreEarned home most b two) (sym (append_assoc before (node ∷ []) one)) k),
+  )
+
+  each_earned : (nodes before : List TreeNode) → AreEarned home most before nodes
+      → (front : List TreeNode) (node : TreeNode) (rest : List TreeNode) → nodes ≡ front ++ node ∷ rest
+      → IsEarnedBehind home most (before ++ front) node
+  each_earned [] before h front node rest e = absurd (no_cons front node rest e)
+  each_earned (n ∷ nodes) before h [] node rest e =
+      subst (λ (b : List TreeNode). IsEarnedBehind home most b node) (sym (append-nil before))
+      (subst (IsEarnedBehind home most before) (cons_head n node nodes rest e) h.0)
+  each_earned (n ∷ nodes) before h (x ∷ front) node rest e =
+      let below = each_earned nodes (before ++ n ∷ []) h.1 front node rest (cons_tail n x nodes (front ++ node ∷ rest) e) in
+      subst (λ (b : List TreeNode). IsEarnedBehind home most b node)
+      (append_assoc before (n ∷ []) front
+      ∙ ap (λ (y : TreeNode). before ++ y ∷ front) (cons_head n x nodes (front ++ node ∷ rest) e))
+      below
+
+  pub all_earned : (nodes : List TreeNode) → AreEarned home most [] nodes
+      → (front : List TreeNode) (node : TreeNode) (rest : List TreeNode) → nodes ≡ front ++ node ∷ rest
+      → IsEarnedBehind home most front node
+  all_earned nodes h = each_earned nodes [] h
+
+-- ---- the least end that was met
+
+at_most_through : (a b c : Bound) → IsAtMost a b → IsAtMost b c → IsAtMost a c
+at_most_through (Least a) (Least b) (Least c) h k = omega arith
+at_most_through (Least a) (Least b) Never h k = tt
+at_most_through (Least a) Never (Least c) h k = absurd k
+at_most_through (Least a) Never Never h k = tt
+at_most_through Never (Least b) c h k = absurd h
+at_most_through Never Never c h k = k
+
+same_least : (a b : ℕ) → ◌≡◌ {A = Bound} (Least a) (Least b) → a ≡ b
+same_least a b e = ap number e
+  where
+    number : Bound → ℕ
+    number (Least n) = n
+    number Never = 0
+
+module _ (home : InstanceView) (before : List TreeNode) (u : Bound) (met : IsMetEnd home before u)
+    (node : TreeNode) where
+  -- a node that is not solved sooner
+  pub met_passed : ((end : ℕ) → IsSolvedBy home end node → IsAtMost u (Least end))
+      → IsMetEnd home (before ++ node ∷ []) u
+  met_passed late = record {
+    reached = λ end is. any_before (IsSolvedBy home end) before (node ∷ []) (met.reached end is);
+    least = λ end.
+        let P = λ (n : TreeNode). IsSolvedBy home end n → IsAtMost u (Least end) in
+        All-append P before (node ∷ []) (met.least end) (all_one P node (late end));
+  }
+
+  -- a node that is
+  pub met_taken : (end : ℕ) → IsSolvedBy home end node
+      → ((other : ℕ) → IsSolvedBy home other node → other ≡ end) → IsAtMost (Least end) u
+      → IsMetEnd home (before ++ node ∷ []) (Least end)
+  met_taken end solved one sooner = record {
+    reached = λ other is.
+        subst (λ (n : ℕ). Any (IsSolvedBy home n) (before ++ node ∷ [])) (same_least end other is)
+        (any_of (IsSolvedBy home end) (before ++ node ∷ []) node (Contains-push before node) solved);
+    least = λ other.
+        let P = λ (n : TreeNode). IsSolvedBy home other n → IsAtMost (Least end) (Least other) in
+        All-append P before (node ∷ [])
+        (λ k d low s. at_most_through (Least end) u (Least other) sooner (met.least other k d low s))
+        (all_one P node (λ s. omega (arith, one other s)));
+  }
+
+-- nothing is met yet
+pub none_met : (home : InstanceView) → IsMetEnd home [] Never
+none_met home = record { reached = λ end e. absurd (cc e); least = λ end k d low. absurd (omega arith) }
+
+-- ---- what nodes come to
+
+lesser_assoc : (a b c : Bound) → lesser (lesser a b) c ≡ lesser a (lesser b c)
+lesser_assoc (Least a) (Least b) (Least c) = ap Least (omega arith)
+lesser_assoc (Least a) (Least b) Never = refl
+lesser_assoc (Least a) Never c = refl
+lesser_assoc Never b c = refl
+
+lesser_never : (a : Bound) → lesser a Never ≡ a
+lesser_never (Least a) = refl
+lesser_never Never = refl
+
+pub value-append : (home : InstanceView) (one two : List TreeNode)
+    → value_in home (one ++ two) ≡ lesser (value_in home one) (value_in home two)
+value-append home [] two = refl
+value-append home (node ∷ one) two =
+    ap (lesser (node_value home node)) (value-append home one two)
+    ∙ sym (lesser_assoc (node_value home node) (value_in home one) (value_in home two))
+
+pub value_push : (home : InstanceView) (before : List TreeNode) (node : TreeNode)
+    → value_in home (before ++ node ∷ []) ≡ lesser (value_in home before) (node_value home node)
+value_push home before node =
+    value-append home before (node ∷ []) ∙ ap (lesser (value_in home before)) (lesser_never (node_value home node))
+
+pub branchings-append : (one two : List TreeNode) → branchings_in (one ++ two) ≡ branchings_in one + branchings_in two
+branchings-append = sum_by-append (λ (node : TreeNode). cond (is_none node.shows) 1 0)

@@ -1,0 +1,16 @@
+pub mod VisitLemmas
+pub mod EarnedLemmas
+pub mod CourseLemmas
+pub mod StepLemmas
+pub mod ClosingSteps
+pub mod DescentLemmas
+pub mod RunLemmas
+pub mod BestLemmas
+pub mod LineLemmas
+pub mod NodeSteps
+pub mod AdvanceLemmas
+pub mod TightLemmas
+pub mod EndLemmas
+pub mod TreeLemmas
+pub mod DecidedLemmas
+pub mod ShownLemmas

@@ -1,0 +1,84 @@
+-- Which leaves can be written.
+use Rattle.std.proofs.Common.{◌≡◌, ℕ, ◌+◌, ◌<◌, ◌≤◌, Bool, true, false, List, [], ◌∷◌, All, length, drop, Option, None, Some, refl, ap, sym, subst, ◌∙◌, cond, arith}
+use Rattle.std.proofs.lemmas.Bool.{and_parts, leb-true, ltb-true}
+use Rattle.std.proofs.lemmas.List.{length-map, take_at}
+use Rattle.std.proofs.lemmas.List.Elements.{All-cons, All-map}
+use Rattle.std.specs.Prelude.{◌&&◌, nat_le, nat_lt}
+use Rattle.std.specs.List.{list_all, refill}
+use Rattle.qc_num.specs.declared.bound.Bound.TheVariants.{Least, Never}
+use Rattle.qc_bounds.specs.declared.leaves.LeafKind.{LeafKind}
+use Rattle.qc_bounds.specs.declared.leaves.LeafKind.TheVariants as kind
+use Rattle.qc_model.specs.declared.decision.Decision.{Decision}
+use Rattle.qc_model.specs.declared.limits.TheConstants.{MOST_TASKS}
+use Rattle.qc_model.specs.Instance.{InstanceView}
+use Rattle.qc_model.specs.Leaves.{are_tasks, is_ring, work_holds}
+use Rattle.qc_tree.specs.Lines.{AreTasks, IsLine, IsTask}
+use Rattle.qc_tree.specs.Trees.{in_file, leaf_text, whole_line}
+use Rattle.qc_search.specs.Course.{AreNumbers, IsLeafBy, IsWritable, leaf_line, leaf_of}
+
+-- tasks as they are numbered in a file
+named : (tasks : List ℕ) → AreNumbers tasks → AreTasks (in_file tasks)
+named tasks h = (omega (arith, length-map tasks (λ j. j + 1), h.0), All-map IsTask (λ j. j + 1) tasks (λ k d low. omega (arith, h.1 k d low)))
+
+pub written : (leaf : LeafKind) (tasks : List ℕ) → IsWritable leaf tasks → IsLine (leaf_line leaf) (in_file tasks)
+written kind.Chain tasks h = named tasks h
+written kind.Ring tasks h = (omega (arith, length-map tasks (λ j. j + 1), h.0), named tasks h.1)
+written (kind.Work end) tasks h = (h.1, omega (arith, h.2))
+
+pub leaf_line_text : (leaf : LeafKind) (tasks : List ℕ) → whole_line (leaf_line leaf) (in_file tasks) ≡ leaf_text (leaf_of leaf tasks)
+leaf_line_text kind.Chain tasks = refl
+leaf_line_text kind.Ring tasks = refl
+leaf_line_text (kind.Work end) tasks = refl
+
+-- ---- a leaf that holds
+
+some_true : {A : Type 0} (b : Bool) (x : Option A) (v : A) → cond b x None ≡ Some v → b ≡ true
+some_true true x v e = refl
+some_true false x v e = absurd (cc e)
+
+all_below : (n m : ℕ) (tasks : List ℕ) → n ≤ m → list_all (λ j. nat_lt j n) tasks ≡ true → All (λ j. j < m) tasks
+all_below n m [] few t = λ k d low. absurd (omega arith)
+all_below n m (j ∷ tasks) few t =
+    let both = and_parts (nat_lt j n) (list_all (λ i. nat_lt i n) tasks) t in
+    All-cons (λ i. i < m) j tasks (omega (arith, ltb-true j n both.0, few)) (all_below n m tasks few both.1)
+
+numbers_of : (inst : InstanceView) (tasks : List ℕ) → length inst.tasks ≤ MOST_TASKS → are_tasks inst tasks ≡ true
+    → AreNumbers tasks
+numbers_of inst tasks few t =
+    let both = and_parts (nat_le (length tasks) MOST_TASKS) (list_all (λ j. nat_lt j (length inst.tasks)) tasks) t in
+    (leb-true (length tasks) MOST_TASKS both.0, all_below (length inst.tasks) MOST_TASKS tasks few both.1)
+
+pub writable : (inst : InstanceView) (ds : List Decision) (leaf : LeafKind) (tasks : List ℕ)
+    → length inst.tasks ≤ MOST_TASKS → IsLeafBy inst ds leaf tasks → IsWritable leaf tasks
+writable inst ds kind.Chain tasks few h =
+    numbers_of inst tasks few (some_true (are_tasks inst tasks) _ _ h.chain)
+writable inst ds kind.Ring tasks few h =
+    let all = some_true (are_tasks inst tasks && nat_le 2 (length tasks) && is_ring inst ds tasks) (Some Never) Never h in
+    let two = and_parts (are_tasks inst tasks && nat_le 2 (length tasks)) (is_ring inst ds tasks) all in
+    let one = and_parts (are_tasks inst tasks) (nat_le 2 (length tasks)) two.0 in
+    (leb-true 2 (length tasks) one.1, numbers_of inst tasks few one.0)
+writable inst ds (kind.Work end) tasks few h =
+    let all = some_true (nat_le 1 end && work_holds inst ds end) (Some (Least end)) (Least end) h.2 in
+    let one = and_parts (nat_le 1 end) (work_holds inst ds end) all in (
+      subst AreNumbers (sym h.0) (omega arith, λ k d low. absurd (omega arith)),
+      leb-true 1 end one.0,
+      h.1,
+    )
+
+-- ---- tasks that were numbered anew in their place
+
+pub refilled : (tasks news : List ℕ) → length news ≡ length tasks → refill (length tasks) tasks news ≡ news
+refilled tasks news same = take_at news (drop (length news) tasks) (length tasks) same
+
+-- the line of the tasks in their place
+pub written_in : (leaf : LeafKind) (old new : List ℕ) → new ≡ in_file old → IsWritable leaf old
+    → IsLine (leaf_line leaf) (refill (length old) old new)
+written_in leaf old new is can =
+    let count : length new ≡ length old = ap (λ (l : List ℕ). length l) is ∙ length-map old (λ j. j + 1) in
+    subst (IsLine (leaf_line leaf)) (sym (refilled old new count ∙ is)) (written leaf old can)
+
+pub text_in : (leaf : LeafKind) (old new : List ℕ) → new ≡ in_file old
+    → whole_line (leaf_line leaf) (refill (length old) old new) ≡ leaf_text (leaf_of leaf old)
+text_in leaf old new is =
+    let count : length new ≡ length old = ap (λ (l : List ℕ). length l) is ∙ length-map old (λ j. j + 1) in
+    ap (whole_line (leaf_line leaf)) (refilled old new count ∙ is) ∙ leaf_line_text leaf old

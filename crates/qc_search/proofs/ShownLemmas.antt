@@ -1,0 +1,173 @@
+-- The best schedule as it is answered: it can be judged, and is tight.
+use Rattle.std.proofs.Common.{◌≡◌, ℕ, ◌-◌, ◌<◌, ◌≤◌, All, List, length, get_or, map, refl, ap, sym, subst, ◌∙◌, ext_get_or, arith}
+use Rattle.std.proofs.lemmas.List.{get_or-map, get_or_default, length-map}
+use Rattle.std.specs.Prelude.{IfSome}
+use Rattle.qc_num.specs.declared.bound.Bound.{Bound}
+use Rattle.qc_num.specs.declared.bound.Bound.TheVariants.{Least, Never}
+use Rattle.qc_model.specs.declared.direction.Direction.{Direction}
+use Rattle.qc_model.specs.declared.direction.Direction.TheVariants.{Up, Down}
+use Rattle.qc_model.specs.declared.limits.TheConstants.{MOST_START}
+use Rattle.qc_model.specs.declared.schedule.Slot.{Slot}
+use Rattle.qc_model.specs.Instance.{InstanceView, Valid}
+use Rattle.qc_model.specs.Judge.{Goes, IsJudgeable}
+use Rattle.qc_model.specs.Nodes.{AreLeast, schedule_with}
+use Rattle.qc_model.specs.OneWay.{GoesUp, flipped, mirror}
+use Rattle.qc_model.specs.Rules.{crane_of, no_slot, start_of, starts}
+use Rattle.qc_model.specs.Seen.{seen, seen_schedule}
+use Rattle.qc_model.proofs.CompleteNodes.{goes_with, starts_with}
+use Rattle.qc_model.proofs.MirrorLemmas.{seen_valid}
+use Rattle.qc_model.proofs.NodeLemmas.{ends_by, start_at}
+use Rattle.qc_model.proofs.SeenLemmas.{seen-crane_count, seen-crane_of, seen-start_of, seen-task_count}
+use Rattle.qc_search.specs.declared.course.Course.{Course}
+use Rattle.qc_search.specs.Course.{IsCourse, IsKeptBest, shown_best}
+use Rattle.qc_search.specs.Earned.{TreeNode}
+use Rattle.qc_search.specs.Run.{IsTight, decided_by}
+use Rattle.qc_search.proofs.DecidedLemmas.{decided_least}
+
+-- turned twice, a schedule is as it was
+turned_back : (cranes : ℕ) (sched : List Slot)
+    → ((j : ℕ) → j < length sched → crane_of sched j < cranes)
+    → map (flipped cranes) (map (flipped cranes) sched) ≡ sched
+turned_back cranes sched low =
+    ext_get_or no_slot (map (flipped cranes) (map (flipped cranes) sched)) sched (twice ∙ once) (λ j at.
+    let here : j < length sched = omega (arith, twice, once, at) in
+    get_or-map (flipped cranes) (map (flipped cranes) sched) j no_slot no_slot (omega (arith, once, here))
+    ∙ ap (flipped cranes) (get_or-map (flipped cranes) sched j no_slot no_slot here)
+    ∙ back (get_or sched j no_slot) (low j here))
+  where
+    twice : length (map (flipped cranes) (map (flipped cranes) sched)) ≡ length (map (flipped cranes) sched)
+    twice = length-map (map (flipped cranes) sched) (flipped cranes)
+
+    once : length (map (flipped cranes) sched) ≡ length sched
+    once = length-map sched (flipped cranes)
+
+    back : (s : Slot) → s.crane < cranes → flipped cranes (flipped cranes s) ≡ s
+    back s h =
+        let same : cranes - 1 - (cranes - 1 - s.crane) ≡ s.crane = omega (arith, h) in
+        ap (λ (k : ℕ). record s { crane = k }) same
+
+module _ (home : InstanceView) (v : Valid home) (done : Course) (nodes : List TreeNode) (end : ℕ)
+    (k : IsKeptBest home done nodes end) where
+  abbrev inst : InstanceView
+  inst = seen home k.node.way
+
+  abbrev kept : List Slot
+  kept = schedule_with inst k.node.decisions k.begins
+
+  kept_valid : Valid inst
+  kept_valid = seen_valid home v k.node.way
+
+  kept_goes : GoesUp inst kept
+  kept_goes =
+      goes_with inst k.node.decisions k.begins kept_valid k.fits k.solved.complete k.solved.in_reach k.solved.least.meets
+
+  kept_least : AreLeast inst (decided_by inst kept) (starts kept)
+  kept_least =
+      decided_least inst k.node.decisions k.begins kept_valid k.fits k.solved.complete k.solved.in_reach k.solved.least
+
+  kept_count : length kept ≡ length home.tasks
+  kept_count = kept_goes.feasible.all_tasks ∙ seen-task_count home k.node.way
+
+  kept_low : (j : ℕ) → j < length home.tasks → crane_of kept j < length home.cranes
+  kept_low j low =
+      let n = seen-task_count home k.node.way in
+      let c = kept_goes.feasible.crane_range j (omega (arith, n, low)) in
+      omega (arith, c, seen-crane_count home k.node.way)
+
+  kept_soon : (j : ℕ) → j < length home.tasks → start_of kept j ≤ MOST_START
+  kept_soon j low =
+      let n = seen-task_count home k.node.way in
+      let met = k.solved.least.meets.all_tasks in
+      let by = ends_by inst.tasks k.begins j met (omega (arith, n, low)) in
+      let is = ap (λ (b : List ℕ). get_or b j 0) (starts_with inst k.node.decisions k.begins met) in
+      omega (arith, by, is, start_at kept j, k.ends, k.soon)
+
+  pub kept_cranes : All (λ (s : Slot). s.crane < length home.cranes) done.best
+  kept_cranes =
+      subst (All (λ (s : Slot). s.crane < length home.cranes)) (sym k.is) (λ j d low.
+      let here = kept_low j (omega (arith, kept_count, low)) in
+      subst (λ (s : Slot). s.crane < length home.cranes) (get_or_default kept j no_slot d low) here)
+
+turned_as_met : (home : InstanceView) (way : Direction) (sched : List Slot)
+    → ((j : ℕ) → j < length sched → crane_of sched j < length home.cranes)
+    → seen_schedule home (seen_schedule home sched way) way ≡ sched
+turned_as_met home Up sched low = refl
+turned_as_met home Down sched low = turned_back (length home.cranes) sched low
+
+seen_low : (home : InstanceView) (way : Direction) (sched : List Slot) (j : ℕ) → j < length sched
+    → crane_of sched j < length home.cranes → crane_of (seen_schedule home sched way) j < length home.cranes
+seen_low home Up sched j at low = low
+seen_low home Down sched j at low = omega (arith, seen-crane_of home sched Down j at, low)
+
+seen_count : (home : InstanceView) (way : Direction) (sched : List Slot)
+    → length (seen_schedule home sched way) ≡ length sched
+seen_count home Up sched = refl
+seen_count home Down sched = length-map sched (flipped (length home.cranes))
+
+goes_as : (home : InstanceView) (way : Direction) (sched met : List Slot) → seen_schedule home sched way ≡ met
+    → ((j : ℕ) → j < length home.tasks → crane_of sched j < length home.cranes) → GoesUp (seen home way) met
+    → Goes home sched way
+goes_as home Up sched met same low goes = subst (GoesUp home) (sym same) goes
+goes_as home Down sched met same low goes =
+    record { crane_range = low; mirrored = subst (GoesUp (mirror home)) (sym same) goes }
+
+module _ (home : InstanceView) (v : Valid home) (done : Course) (nodes : List TreeNode) (end : ℕ)
+    (k : IsKeptBest home done nodes end) where
+  abbrev side : Direction
+  side = k.node.way
+
+  abbrev shown : List Slot
+  shown = seen_schedule home (schedule_with (seen home side) k.node.decisions k.begins) side
+
+  shown_low : (j : ℕ) → j < length home.tasks → crane_of shown j < length home.cranes
+  shown_low j low =
+      seen_low home side (schedule_with (seen home side) k.node.decisions k.begins) j
+      (omega (arith, kept_count home v done nodes end k, low)) (kept_low home v done nodes end k j low)
+
+  shown_judgeable : IsJudgeable home shown
+  shown_judgeable = record {
+    all_tasks = seen_count home side (schedule_with (seen home side) k.node.decisions k.begins)
+        ∙ kept_count home v done nodes end k;
+    crane_range = shown_low;
+    start_range = λ j low.
+        let is = seen-start_of home (schedule_with (seen home side) k.node.decisions k.begins) side j
+        (omega (arith, kept_count home v done nodes end k, low)) in
+        omega (arith, is, kept_soon home v done nodes end k j low);
+  }
+
+  shown_tight : IsTight home shown
+  shown_tight =
+      let met = schedule_with (seen home side) k.node.decisions k.begins in
+      let same = turned_as_met home side met (λ j low.
+      kept_low home v done nodes end k j (omega (arith, kept_count home v done nodes end k, low))) in
+      record {
+        way = side;
+        goes = goes_as home side shown met same shown_low (kept_goes home v done nodes end k);
+        least = subst (λ (s : List Slot). AreLeast (seen home side) (decided_by (seen home side) s) (starts s)) (sym same)
+            (kept_least home v done nodes end k);
+      }
+
+module _ (home : InstanceView) (v : Valid home) (done : Course) (nodes : List TreeNode)
+    (course : IsCourse home done nodes) where
+  pub cranes_low : (end : ℕ) → done.met ≡ Least end → All (λ (s : Slot). s.crane < length home.cranes) done.best
+  cranes_low end e = kept_cranes home v done nodes end (course.best end e)
+
+  module _ (P : List Slot → Type 0)
+      (shown_is : (end : ℕ) (k : IsKeptBest home done nodes end)
+      → P (seen_schedule home (schedule_with (seen home k.node.way) k.node.decisions k.begins) k.node.way)) where
+    by_met : (met : Bound) (way : Direction) → done.met ≡ met → done.way ≡ way
+        → IfSome (shown_best (length home.cranes) met way done.best) P
+    by_met Never way met_is way_is = tt
+    by_met (Least end) Up met_is way_is =
+        let k = course.best end met_is in
+        subst P (ap (seen_schedule home _) (k.way ∙ way_is) ∙ sym k.is) (shown_is end k)
+    by_met (Least end) Down met_is way_is =
+        let k = course.best end met_is in
+        subst P (ap (seen_schedule home _) (k.way ∙ way_is) ∙ ap (λ (s : List Slot). seen_schedule home s Down) (sym k.is))
+        (shown_is end k)
+
+  pub judgeable_is : IfSome (shown_best (length home.cranes) done.met done.way done.best) (IsJudgeable home)
+  judgeable_is = by_met (IsJudgeable home) (shown_judgeable home v done nodes) done.met done.way refl refl
+
+  pub tight_is : IfSome (shown_best (length home.cranes) done.met done.way done.best) (IsTight home)
+  tight_is = by_met (IsTight home) (shown_tight home v done nodes) done.met done.way refl refl

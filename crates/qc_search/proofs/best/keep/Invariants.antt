@@ -1,0 +1,12 @@
+use Rattle.std.proofs.Common.{◌≡◌, ℕ, ◌<◌, List, length, slice_index_or}
+use Rattle.qc_model.specs.Nodes.{AreLeast, slot_with}
+use Rattle.qc_model.specs.Rules.{no_slot}
+use Rattle.qc_search.proofs.best.keep.Given as goal
+
+abbrev pub invariant-loop-task : goal.invariant-loop-task
+invariant-loop-task l = record {
+  count : length l.best ≡ length l.inst.tasks;
+  slots :
+      (begins : List ℕ) → AreLeast l.inst l.starts.decisions begins → (j : ℕ) → j < l.task
+      → slice_index_or l.best j no_slot ≡ slot_with l.starts.decisions begins j;
+}

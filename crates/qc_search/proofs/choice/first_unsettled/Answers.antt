@@ -1,0 +1,53 @@
+use Rattle.std.proofs.Common.{ℕ, ◌<◌, inl, inr, List, length, get_or, sym, ap, subst, arith}
+use Rattle.std.proofs.lemmas.Bool.{cases_eq}
+use Rattle.qc_model.specs.declared.pair.Pair.{Pair}
+use Rattle.qc_model.specs.Instance.{InstanceView, pair_of}
+use Rattle.qc_starts.proofs.KeptLemmas.{IsSettledPair, apart_at, settled_at}
+use Rattle.qc_search.proofs.choice.first_unsettled.Goals as goal
+
+pub settled-requires-clause-first : goal.settled-requires-clause-first
+settled-requires-clause-first c =
+    let inst = c.args.inst.now in
+    let k = c.loop-pair.pair-index in
+    let e = c.apart-pair-items.ensures.apart in
+    let low : k < length inst.apart = omega (arith, c.loop-pair-test.true, ap (length {A = Pair}) e) in
+    let range = c.apart-pair-items.ensures.valid.apart.range _ _ (apart_at inst k (pair_of 0 0) low) in
+    subst (λ (i : InstanceView). (get_or c.apart-pair-items.result.now k (pair_of 0 0)).first < length i.tasks) (sym c.requires.same)
+    (subst (λ (pairs : List Pair). (get_or pairs k (pair_of 0 0)).first < length inst.tasks) (sym e)
+    (omega (arith, range.0, range.1)))
+
+pub settled-requires-clause-second : goal.settled-requires-clause-second
+settled-requires-clause-second c =
+    let inst = c.args.inst.now in
+    let k = c.loop-pair.pair-index in
+    let e = c.apart-pair-items.ensures.apart in
+    let low : k < length inst.apart = omega (arith, c.loop-pair-test.true, ap (length {A = Pair}) e) in
+    let range = c.apart-pair-items.ensures.valid.apart.range _ _ (apart_at inst k (pair_of 0 0) low) in
+    subst (λ (i : InstanceView). (get_or c.apart-pair-items.result.now k (pair_of 0 0)).second < length i.tasks) (sym c.requires.same)
+    (subst (λ (pairs : List Pair). (get_or pairs k (pair_of 0 0)).second < length inst.tasks) (sym e) range.1)
+
+pub loop-pair-preserved : goal.loop-pair-preserved
+loop-pair-preserved c = λ k under. elim (cases_eq k c.loop-pair.pair-index) [
+  | inl same ↦
+      let pairs = c.apart-pair-items.result.now in
+      let ds = c.args.starts.now.decisions in
+      let here =
+      subst (λ (i : InstanceView). IsSettledPair i ds (get_or pairs c.loop-pair.pair-index (pair_of 0 0))) c.requires.same
+      (c.settled.ensures.0 c.if-not-settled.false) in
+      subst (λ (n : ℕ). IsSettledPair c.args.inst.now ds (get_or pairs n (pair_of 0 0))) (sym same) here
+  | inr other ↦ c.loop-pair.invariant k (omega arith)
+]
+
+pub unreachable-requires : goal.unreachable-requires
+unreachable-requires c =
+    let inst = c.args.inst.now in
+    let ds = c.args.starts.now.decisions in
+    let e = c.apart-pair-items.ensures.apart in
+    c.requires.undecided (record {
+      tasks = c.requires.assigned;
+      pairs = λ i j a.
+          let low : a.0 < c.loop-pair.pair-index = omega (arith, c.loop-pair-test.false, a.1, ap (length {A = Pair}) e) in
+          let found = c.loop-pair.invariant a.0 low in
+          settled_at inst ds i j a
+          (subst (λ (pairs : List Pair). IsSettledPair inst ds (get_or pairs a.0 (pair_of 0 0))) e found);
+    })

@@ -1,0 +1,125 @@
+-- Which bound trees a search with a budget of branchings may write.
+use Rattle.std.specs.Prelude.{◌≡◌, ℕ, ◌<◌, ◌≤◌, IsTrue, List, [], ◌∷◌, ◌++◌, Option, None, Some, is_none, All, Any, count_by}
+use Rattle.std.specs.List.{flat_map}
+use Rattle.qc_num.specs.declared.bound.Bound.{Bound}
+use Rattle.qc_num.specs.declared.bound.Bound.TheVariants.{Least}
+use Rattle.qc_num.specs.Bounds.{IsAtMost}
+use Rattle.qc_model.specs.declared.decision.Decision.{Decision}
+use Rattle.qc_model.specs.declared.decision.Decision.TheVariants as decide
+use Rattle.qc_model.specs.declared.direction.Direction.{Direction}
+use Rattle.qc_model.specs.declared.direction.Direction.TheVariants.{Up, Down}
+use Rattle.qc_model.specs.Closing.{IsClosable, IsWorkBound}
+use Rattle.qc_model.specs.Instance.{InstanceView}
+use Rattle.qc_model.specs.Leaves.{Leaf, chain, ring, reach, work, with_berths, crane_numbers, is_out_of_reach, leaf_value}
+use Rattle.qc_model.specs.Nodes.{AreLeast, HasStarts, IsComplete, IsInReach, IsNodeEnd}
+use Rattle.qc_model.specs.Rules.{last_end}
+use Rattle.qc_model.specs.Seen.{seen}
+use Rattle.qc_tree.specs.Trees.{Part, Tree, leaf, on_pair, on_task, tree_branchings}
+
+-- a node of a tree: in which of the two parts it stands, its decisions, newest first, and its leaf, or none where the
+-- tree branches
+pub record TreeNode : Type 0 where
+  pub way : Direction
+  pub decisions : List Decision
+  pub shows : Option Leaf
+
+abbrev pub node_at : Direction → List Decision → Option Leaf → TreeNode
+node_at way ds shows = record { way = way; decisions = ds; shows = shows }
+
+-- the nodes of a part, in the order of the file
+abbrev pub part_nodes : List ℕ → Direction → List Decision → Part → List TreeNode
+part_nodes cranes way ds (leaf shows) = node_at way ds (Some shows) ∷ []
+part_nodes cranes way ds (on_task j children) =
+    node_at way ds None ∷ flat_map (λ k. part_nodes cranes way (decide.Assign j k ∷ ds) (children k)) cranes
+part_nodes cranes way ds (on_pair i j in_order turned) =
+    node_at way ds None
+    ∷ part_nodes cranes way (decide.Order i j ∷ ds) in_order ++ part_nodes cranes way (decide.Order j i ∷ ds) turned
+
+-- the nodes of a tree, in the order of the file
+abbrev pub tree_nodes : InstanceView → Tree → List TreeNode
+tree_nodes inst tree =
+    part_nodes (crane_numbers inst) Up [] tree.up ++ part_nodes (crane_numbers inst) Down [] tree.down
+
+-- all is decided at the node, within reach, and these are its least starts
+pub record IsSolved (inst : InstanceView) (node : TreeNode) (starts : List ℕ) : Type 0 where
+  pub complete : IsComplete (seen inst node.way) node.decisions
+  pub in_reach : IsInReach (seen inst node.way) node.decisions
+  pub least : AreLeast (seen inst node.way) node.decisions starts
+
+-- when the last task ends with these starts
+abbrev pub solved_end : InstanceView → TreeNode → List ℕ → ℕ
+solved_end inst node starts = last_end (seen inst node.way).tasks starts
+
+-- some least starts of the node end then
+pub record IsSolvedBy (inst : InstanceView) (end : ℕ) (node : TreeNode) : Type 0 where
+  pub starts : List ℕ
+  pub solved : IsSolved inst node starts
+  pub ends : end ≡ solved_end inst node starts
+
+-- the least end of the complete nodes with a solution among these; Never where there is none
+pub record IsMetEnd (inst : InstanceView) (nodes : List TreeNode) (met : Bound) : Type 0 where
+  pub reached : (end : ℕ) → met ≡ Least end → Any (IsSolvedBy inst end) nodes
+  pub least : (end : ℕ) → All (λ node. IsSolvedBy inst end node → IsAtMost met (Least end)) nodes
+
+-- how many branchings are among these nodes
+abbrev pub branchings_in : List TreeNode → ℕ
+branchings_in = count_by (λ node. is_none node.shows)
+
+-- the leaf is a chain that shows this end
+pub record IsChainTo (inst : InstanceView) (ds : List Decision) (end : ℕ) (shows : Leaf) : Type 0 where
+  pub tasks : List ℕ
+  pub is : shows ≡ chain tasks
+  pub value : leaf_value with_berths inst ds shows ≡ Some (Least end)
+
+-- the leaf is a chain or work, and shows an end that is at least u
+pub record ShowsLate (inst : InstanceView) (ds : List Decision) (u : Bound) (shows : Leaf) : Type 0 where
+  pub end : ℕ
+  pub value : leaf_value with_berths inst ds shows ≡ Some (Least end)
+  pub late : IsAtMost u (Least end)
+
+-- the leaf of a node that is closed at u: out of reach it is told so; else without starts a ring; else where all is
+-- decided a chain to the node's very end; else what shows an end of at least u
+pub record IsClosedAt (inst : InstanceView) (ds : List Decision) (u : Bound) (shows : Leaf) : Type 0 where
+  pub out_of_reach : IsTrue (is_out_of_reach inst ds) → shows ≡ reach
+  pub no_starts :
+      ¬ (IsTrue (is_out_of_reach inst ds)) → ¬ (HasStarts inst ds) → (tasks : List ℕ) × (shows ≡ ring tasks)
+  pub complete :
+      ¬ (IsTrue (is_out_of_reach inst ds)) → HasStarts inst ds → IsComplete inst ds
+      → (end : ℕ) × IsNodeEnd inst ds end × IsChainTo inst ds end shows
+  pub late :
+      ¬ (IsTrue (is_out_of_reach inst ds)) → HasStarts inst ds → ¬ (IsComplete inst ds)
+      → ShowsLate inst ds u shows
+
+-- the leaf of a node that isn't closed: it shows the greater of the node's end and the end before which its work
+-- doesn't fit, by a chain where both are the same
+pub record IsGivenUp (inst : InstanceView) (ds : List Decision) (shows : Leaf) : Type 0 where
+  pub end : ℕ
+  pub ends : IsNodeEnd inst ds end
+  pub bound : ℕ
+  pub works : IsWorkBound inst ds bound
+  pub by_chain : bound ≤ end → IsChainTo inst ds end shows
+  pub by_work : end < bound → shows ≡ work bound
+
+-- what may stand at a node, u being the least end that was met before it, and so many branchings before it written:
+-- a branching only where u doesn't close the node; the leaf that closes it where u does; and else a leaf only
+-- once all branchings are spent
+abbrev pub MayStand : InstanceView → List Decision → Bound → (branched most : ℕ) → Option Leaf → Type 0
+MayStand inst ds u branched most None = ¬ (IsClosable inst ds u)
+MayStand inst ds u branched most (Some shows) =
+    (IsClosable inst ds u → IsClosedAt inst ds u shows)
+    × (¬ (IsClosable inst ds u) → (branched ≡ most) × IsGivenUp inst ds shows)
+
+-- the node is as it may be behind those before it in the file
+pub record IsEarnedBehind
+    (inst : InstanceView) (most : ℕ) (before : List TreeNode) (node : TreeNode) : Type 0 where
+  pub u : Bound
+  pub met : IsMetEnd inst before u
+  pub stands : MayStand (seen inst node.way) node.decisions u (branchings_in before) most node.shows
+
+-- the tree is of the second version, has at most so many branchings, and earns each of its nodes
+pub record IsEarned (inst : InstanceView) (most : ℕ) (tree : Tree) : Type 0 where
+  pub version : tree.version ≡ with_berths
+  pub few : tree_branchings inst tree ≤ most
+  pub each :
+      (before : List TreeNode) (node : TreeNode) (behind : List TreeNode)
+      → tree_nodes inst tree ≡ before ++ node ∷ behind → IsEarnedBehind inst most before node

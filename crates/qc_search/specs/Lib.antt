@@ -1,0 +1,5 @@
+pub mod Earned
+pub mod Run
+pub mod Fields
+pub mod Walk
+pub mod Course

@@ -1,0 +1,71 @@
+//! What a search came to.
+
+use qc_model::Schedule;
+use qc_num::Bound;
+use std::marker::Model;
+
+/// How a search came out.
+#[derive(Clone, Copy, Debug, PartialEq, Eq)]
+pub enum Kind {
+    /// No schedule that goes one way ends before the best that was met.
+    Optimal,
+    /// No schedule goes one way.
+    Infeasible,
+    /// All branchings are spent, and the tree's value is less than the least end that was met, or none
+    /// was met.
+    Budget,
+}
+
+/// What a search came to.
+#[derive(Drop)]
+pub struct Done {
+    pub(crate) kind: Kind,
+    pub(crate) bound: Bound,
+    pub(crate) branched: u32,
+    pub(crate) best: Option<Schedule>,
+}
+
+impl Model for Done {
+    ghost use Rattle.qc_search.specs.Run.{DoneView};
+
+    ghost Value = { DoneView };
+
+    ghost view = { λ done. record {
+      kind = done.kind;
+      bound = done.bound;
+      branched = done.branched;
+      best = done.best;
+    } };
+}
+
+impl Done {
+    ghost use Rattle.std.specs.Prelude.{◌≡◌, option_map};
+
+    /// How the search came out.
+    pub fn kind(&self) -> Kind
+        ensures { result ≡ self.now.kind }
+    {
+        self.kind
+    }
+
+    /// The tree's value, in ticks: no schedule that goes one way ends earlier; `Never`: there is none.
+    pub fn bound(&self) -> Bound
+        ensures { result ≡ self.now.bound }
+    {
+        self.bound
+    }
+
+    /// The tree's number of branchings.
+    pub fn branched(&self) -> u32
+        ensures { result ≡ self.now.branched }
+    {
+        self.branched
+    }
+
+    /// The best schedule that was met; `None` exactly where none was.
+    pub fn best(&self) -> Option<&Schedule>
+        ensures { option_map (λ sched. sched.now) result ≡ self.now.best }
+    {
+        self.best.as_ref()
+    }
+}
