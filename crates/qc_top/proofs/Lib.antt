@@ -2,8 +2,4 @@ pub mod StepLemmas
 pub mod ServeLemmas
 pub mod RunLemmas
 pub mod WordLemmas
-pub mod SmallLemmas
-pub mod OneCrane
-pub mod OneCraneMirror
-pub mod TwoOrders
-pub mod BestOrder
+pub mod FoundLemmas

@@ -1,7 +1,7 @@
 -- What follows from a run's account of itself.
-use Rattle.std.proofs.Common.{◌≡◌, ◌≢◌, ℕ, List, [], Option, None, Some, Result, Ok, Err, refl, sym, ap, ◌∙◌, subst, inl, inr, ◌⊎◌}
-use Rattle.std.specs.Prelude.{IfSome, IsSomeAnd, option_and_then}
-use Rattle.std.specs.FinMap.{get}
+use Rattle.std.proofs.Common.{◌≡◌, ◌≢◌, ℕ, List, [], ◌∷◌, Option, None, Some, Result, Ok, Err, refl, sym, ap, ◌∙◌, subst, inl, inr, ◌⊎◌}
+use Rattle.std.specs.Prelude.{IfSome, IsSomeAnd, codes, option_and_then, true, false}
+use Rattle.std.specs.FinMap.{get, insert}
 use Rattle.std.specs.Io.KnownBytes.{append_known}
 use Rattle.qc_num.specs.declared.bound.Bound.TheVariants.{Least, Never}
 use Rattle.qc_num.proofs.ReadingLemmas.{bind_ok}
@@ -21,9 +21,12 @@ use Rattle.qc_top.specs.Asked.{Asked, plan, check, tasks, unbuilt, usage, name_o
 use Rattle.qc_top.specs.Words.{Asks}
 use Rattle.qc_top.specs.Due.{Work, print, search, reads_in, without, instance_due, due}
 use Rattle.qc_top.specs.Answers.{status_of, report_text, refusal_status, ending_of}
-use Rattle.qc_top.specs.Account.{ComesTo, Stops, IsPlanned, IsStopped, Serves, Printed, IsRun}
+use Rattle.qc_top.specs.Account.{ComesTo, Stops, IsSearched, IsStopped, IsWriting, Named, written, texts_of, IsCutShort, Serves, Printed, IsRun}
+use Rattle.qc_top.proofs.FoundLemmas.{plan_ends, search_end, no_refusal, ends_in_time, ends_late, kind_told, word_told, kind_none, is_best, none_goes}
+use Rattle.qc_top.proofs.ServeLemmas.{met_best}
+use Rattle.qc_search.specs.declared.done.Kind.TheVariants as kind
 use Rattle.qc_top.specs.Shown.{IsBoundShown, IsNoneShown, TellsTree}
-use Rattle.qc_top.specs.Promises.{IsPlanTold, AreTasksTold, IsEndTold, IsNoneTold, IsRefusal, IsRefusalTold, IsCutTold, IsStopTold, EndsWith, NoneFailed, status_due, Promises}
+use Rattle.qc_top.specs.Promises.{IsPlanTold, IsOptimalTold, IsUnplannedTold, IsInfeasibleTold, IsSearchEnd, EndsAsDue, AreTasksTold, IsEndTold, IsNoneTold, IsRefusal, IsRefusalTold, IsCutTold, IsStopTold, EndsWith, NoneFailed, Promises}
 
 -- the text of what is to be printed
 abbrev text_of : Result Work Refusal → List ℕ
@@ -37,6 +40,8 @@ IsOther status.Done = ⊥
 IsOther status.WriteFault = ⊥
 IsOther status.OutOfMemory = ⊥
 IsOther status.Infeasible = ⊥
+IsOther status.BudgetPlan = ⊥
+IsOther status.BudgetNone = ⊥
 IsOther _ = Unit {0}
 
 other : (why : Refusal) → IsOther (refusal_status why)
@@ -56,9 +61,10 @@ comes_due : (asked : Asked) (held : Files) (files : Option Files) → files ≡ 
 comes_due asked held None told r h = absurd (cc told)
 comes_due asked held (Some files) told r h = let same : files ≡ held = cc in rw (← same) h
 
-planned_due : (asked : Asked) (held : Files) (files : Option Files) → files ≡ Some held → (end : ℕ) (now : Option Files) → (h : IfSome files (λ held. IsPlanned asked held end now)) → (inst : InstanceView) × (due asked (reads_in held asked) ≡ Ok (search inst))
-planned_due asked held None told end now h = absurd (cc told)
-planned_due asked held (Some files) told end now h = let same : files ≡ held = cc in (h.inst, rw (← same) h.found.due)
+searched_due : (asked : Asked) (held : Files) (files : Option Files) → files ≡ Some held → (a : Answer) (now : Option Files) → IfSome files (λ held. IsSearched asked held a now)
+    → (inst : InstanceView) × (nodes : ℕ) × (due asked (reads_in held asked) ≡ Ok (search inst nodes))
+searched_due asked held None told a now h = absurd (cc told)
+searched_due asked held (Some files) told a now h = let same : files ≡ held = cc in (h.inst, h.nodes, rw (← same) h.due)
 
 some_and : {A : Type 0} {P : A → Type 0} (o : Option A) → IsSomeAnd o P → (a : A) × (o ≡ Some a) × P a
 some_and None h = absurd h
@@ -88,26 +94,128 @@ module _ (words : List (List ℕ)) (before after : Stand) (pb pa : Printed) (end
   asked_is : (asked : Asked) → Asks words asked → Serves asked before after run.answer
   asked_is asked asks = subst (λ a. Serves a before after run.answer) (sym run.asks ∙ asks) run.serves
 
-  plan_told : (asked : Asked) → IsPlan asked → (a : Answer) → Serves asked before after a → status_of a ≡ status.Optimal → pa.bytes ≡ append_known pb.bytes (report_text a)
-      → IfSome before.files (λ held. IsPlanTold asked held after.files pb pa)
-  plan_told (plan s w p t) is (answer.Planned end) serves e report = told before.files serves.2 where
-    told : (files : Option Files) → IfSome files (λ held. IsPlanned (plan s w p t) held end after.files) → IfSome files (λ held. IsPlanTold (plan s w p t) held after.files pb pa)
-    told None h = tt
-    told (Some held) h = record { end = end; planned = h; report = report }
-  plan_told (plan s w p t) is (answer.Stopped (stop.Refused why)) serves e report = absurd (not_other why status.Optimal e)
-  plan_told (plan s w p t) is (answer.Stopped stop.OutOfMemory) serves e report = absurd (cc e)
-  plan_told (plan s w p t) is answer.WriteFault serves e report = absurd (cc e)
-  plan_told (plan s w p t) is (answer.Tasks inst) serves e report = absurd serves
-  plan_told (plan s w p t) is (answer.Checked bound) serves e report = absurd serves
-  plan_told (check s w t) is a serves e report = absurd is
-  plan_told (tasks s w) is a serves e report = absurd is
-  plan_told unbuilt is a serves e report = absurd is
-  plan_told usage is a serves e report = absurd is
+  -- what an answer to a plan tells
+  plan_is : (asked : Asked) (a : Answer) → IsPlan asked → Serves asked before after a → IsWriting asked before after a
+  plan_is (plan s w p t n) a is serves = serves
+  plan_is (check s w t) a is serves = absurd is
+  plan_is (tasks s w) a is serves = absurd is
+  plan_is unbuilt a is serves = absurd is
+  plan_is usage a is serves = absurd is
+
+  module _ (asked : Asked) where
+    optimal_told : (a : Answer) → IsWriting asked before after a → status_of a ≡ status.Optimal → pa.bytes ≡ append_known pb.bytes (report_text a)
+        → IfSome before.files (λ held. IsOptimalTold asked held after.files pb pa)
+    optimal_told (answer.Planned told) serves e report = by before.files serves.2 where
+      by : (files : Option Files) → IfSome files (λ held. IsSearched asked held (answer.Planned told) after.files) → IfSome files (λ held. IsOptimalTold asked held after.files pb pa)
+      by None h = tt
+      by (Some held) h =
+          let le = ends_in_time told e in
+          record {
+            plan = record {
+              told = told;
+              searched = h;
+              kind = kind_told h.inst h.done told true h.found.kind h.told le;
+              report = report;
+              word = word_told told true le;
+            };
+            best = is_best h.inst h.nodes h.tree h.done told h.found h.told le;
+          }
+    optimal_told (answer.Unplanned bound branched) serves e report = absurd (cc e)
+    optimal_told (answer.Infeasible branched) serves e report = absurd (cc e)
+    optimal_told (answer.Stopped (stop.Refused why)) serves e report = absurd (not_other why status.Optimal e)
+    optimal_told (answer.Stopped stop.OutOfMemory) serves e report = absurd (cc e)
+    optimal_told answer.WriteFault serves e report = absurd (cc e)
+    optimal_told (answer.Tasks inst) serves e report = absurd serves
+    optimal_told (answer.Checked bound) serves e report = absurd serves
+
+    budget_told : (a : Answer) → IsWriting asked before after a → status_of a ≡ status.BudgetPlan → pa.bytes ≡ append_known pb.bytes (report_text a)
+        → IfSome before.files (λ held. IsPlanTold asked held after.files pb pa kind.Budget (codes "Budget"))
+    budget_told (answer.Planned told) serves e report = by before.files serves.2 where
+      by : (files : Option Files) → IfSome files (λ held. IsSearched asked held (answer.Planned told) after.files)
+          → IfSome files (λ held. IsPlanTold asked held after.files pb pa kind.Budget (codes "Budget"))
+      by None h = tt
+      by (Some held) h =
+          let le = ends_late told e in
+          record {
+            told = told;
+            searched = h;
+            kind = kind_told h.inst h.done told false h.found.kind h.told le;
+            report = report;
+            word = word_told told false le;
+          }
+    budget_told (answer.Unplanned bound branched) serves e report = absurd (cc e)
+    budget_told (answer.Infeasible branched) serves e report = absurd (cc e)
+    budget_told (answer.Stopped (stop.Refused why)) serves e report = absurd (not_other why status.BudgetPlan e)
+    budget_told (answer.Stopped stop.OutOfMemory) serves e report = absurd (cc e)
+    budget_told answer.WriteFault serves e report = absurd (cc e)
+    budget_told (answer.Tasks inst) serves e report = absurd serves
+    budget_told (answer.Checked bound) serves e report = absurd serves
+
+    unplanned_told : (a : Answer) → IsWriting asked before after a → status_of a ≡ status.BudgetNone → pa.bytes ≡ append_known pb.bytes (report_text a)
+        → IfSome before.files (λ held. IsUnplannedTold asked held after.files pb pa)
+    unplanned_told (answer.Unplanned bound branched) serves e report = by before.files serves.2 where
+      by : (files : Option Files) → IfSome files (λ held. IsSearched asked held (answer.Unplanned bound branched) after.files) → IfSome files (λ held. IsUnplannedTold asked held after.files pb pa)
+      by None h = tt
+      by (Some held) h = record {
+        bound = bound;
+        branched = branched;
+        searched = h;
+        kind = kind_none h.inst h.done (Least bound) h.found.kind h.told.0 h.told.1;
+        report = report;
+      }
+    unplanned_told (answer.Planned told) serves e report = absurd (plan_ends told status.BudgetNone e)
+    unplanned_told (answer.Infeasible branched) serves e report = absurd (cc e)
+    unplanned_told (answer.Stopped (stop.Refused why)) serves e report = absurd (not_other why status.BudgetNone e)
+    unplanned_told (answer.Stopped stop.OutOfMemory) serves e report = absurd (cc e)
+    unplanned_told answer.WriteFault serves e report = absurd (cc e)
+    unplanned_told (answer.Tasks inst) serves e report = absurd serves
+    unplanned_told (answer.Checked bound) serves e report = absurd serves
+
+    infeasible_told : (a : Answer) → IsWriting asked before after a → status_of a ≡ status.Infeasible → pa.bytes ≡ append_known pb.bytes (report_text a)
+        → IfSome before.files (λ held. IsInfeasibleTold asked held after.files pb pa)
+    infeasible_told (answer.Infeasible branched) serves e report = by before.files serves.2 where
+      by : (files : Option Files) → IfSome files (λ held. IsSearched asked held (answer.Infeasible branched) after.files) → IfSome files (λ held. IsInfeasibleTold asked held after.files pb pa)
+      by None h = tt
+      by (Some held) h = record {
+        branched = branched;
+        searched = h;
+        kind = kind_none h.inst h.done Never h.found.kind h.told.0 h.told.1;
+        none = none_goes h.inst h.nodes h.tree h.done h.found h.told.1;
+        report = report;
+      }
+    infeasible_told (answer.Planned told) serves e report = absurd (plan_ends told status.Infeasible e)
+    infeasible_told (answer.Unplanned bound branched) serves e report = absurd (cc e)
+    infeasible_told (answer.Stopped (stop.Refused why)) serves e report = absurd (not_other why status.Infeasible e)
+    infeasible_told (answer.Stopped stop.OutOfMemory) serves e report = absurd (cc e)
+    infeasible_told answer.WriteFault serves e report = absurd (cc e)
+    infeasible_told (answer.Tasks inst) serves e report = absurd serves
+    infeasible_told (answer.Checked bound) serves e report = absurd serves
 
   plan_optimal : (asked : Asked) → Asks words asked → IsPlan asked → ended ≡ status.Optimal
-      → IfSome before.files (λ held. IsPlanTold asked held after.files pb pa)
+      → IfSome before.files (λ held. IsOptimalTold asked held after.files pb pa)
   plan_optimal asked asks is e = elim run.reports [
-    | inl whole ↦ plan_told asked is run.answer (asked_is asked asks) (sym whole.status ∙ e) whole.printed
+    | inl whole ↦ optimal_told asked run.answer (plan_is asked run.answer is (asked_is asked asks)) (sym whole.status ∙ e) whole.printed
+    | inr cut ↦ absurd (cc (cut.status, e))
+  ]
+
+  plan_budget : (asked : Asked) → Asks words asked → IsPlan asked → ended ≡ status.BudgetPlan
+      → IfSome before.files (λ held. IsPlanTold asked held after.files pb pa kind.Budget (codes "Budget"))
+  plan_budget asked asks is e = elim run.reports [
+    | inl whole ↦ budget_told asked run.answer (plan_is asked run.answer is (asked_is asked asks)) (sym whole.status ∙ e) whole.printed
+    | inr cut ↦ absurd (cc (cut.status, e))
+  ]
+
+  plan_none : (asked : Asked) → Asks words asked → IsPlan asked → ended ≡ status.BudgetNone
+      → IfSome before.files (λ held. IsUnplannedTold asked held after.files pb pa)
+  plan_none asked asks is e = elim run.reports [
+    | inl whole ↦ unplanned_told asked run.answer (plan_is asked run.answer is (asked_is asked asks)) (sym whole.status ∙ e) whole.printed
+    | inr cut ↦ absurd (cc (cut.status, e))
+  ]
+
+  plan_infeasible : (asked : Asked) → Asks words asked → IsPlan asked → ended ≡ status.Infeasible
+      → IfSome before.files (λ held. IsInfeasibleTold asked held after.files pb pa)
+  plan_infeasible asked asks is e = elim run.reports [
+    | inl whole ↦ infeasible_told asked run.answer (plan_is asked run.answer is (asked_is asked asks)) (sym whole.status ∙ e) whole.printed
     | inr cut ↦ absurd (cc (cut.status, e))
   ]
 
@@ -124,7 +232,9 @@ module _ (words : List (List ℕ)) (before after : Stand) (pb pa : Printed) (end
       → IfSome before.files (λ held. AreTasksTold (tasks ship stow) held pb pa)
   tasks_told ship stow (answer.Tasks inst) serves e report = tasks_printed ship stow (answer.Tasks inst) before.files serves.ending.1 report
   tasks_told ship stow (answer.Checked bound) serves e report = tasks_printed ship stow (answer.Checked bound) before.files serves.ending.1 report
-  tasks_told ship stow (answer.Planned end) serves e report = absurd (cc e)
+  tasks_told ship stow (answer.Planned made) serves e report = absurd serves.ending
+  tasks_told ship stow (answer.Unplanned bound branched) serves e report = absurd serves.ending
+  tasks_told ship stow (answer.Infeasible branched) serves e report = absurd serves.ending
   tasks_told ship stow (answer.Stopped (stop.Refused why)) serves e report = absurd (not_other why status.Done e)
   tasks_told ship stow (answer.Stopped stop.OutOfMemory) serves e report = absurd (cc e)
   tasks_told ship stow answer.WriteFault serves e report = absurd (cc e)
@@ -151,7 +261,9 @@ module _ (words : List (List ℕ)) (before after : Stand) (pb pa : Printed) (end
   end_told ship stow tree (answer.Stopped stop.OutOfMemory) shown e report = absurd (cc e)
   end_told ship stow tree answer.WriteFault shown e report = absurd shown
   end_told ship stow tree (answer.Tasks inst) shown e report = absurd shown
-  end_told ship stow tree (answer.Planned end) shown e report = absurd shown
+  end_told ship stow tree (answer.Planned made) shown e report = absurd shown
+  end_told ship stow tree (answer.Unplanned bound branched) shown e report = absurd shown
+  end_told ship stow tree (answer.Infeasible branched) shown e report = absurd shown
 
   check_done : (ship stow tree : List ℕ) → Asks words (check ship stow tree) → ended ≡ status.Done
       → IfSome before.files (λ held. IsEndTold (check ship stow tree) held pb pa)
@@ -171,7 +283,9 @@ module _ (words : List (List ℕ)) (before after : Stand) (pb pa : Printed) (end
   none_told ship stow tree (answer.Stopped stop.OutOfMemory) shown e report = absurd (cc e)
   none_told ship stow tree answer.WriteFault shown e report = absurd shown
   none_told ship stow tree (answer.Tasks inst) shown e report = absurd shown
-  none_told ship stow tree (answer.Planned end) shown e report = absurd shown
+  none_told ship stow tree (answer.Planned made) shown e report = absurd shown
+  none_told ship stow tree (answer.Unplanned bound branched) shown e report = absurd shown
+  none_told ship stow tree (answer.Infeasible branched) shown e report = absurd shown
 
   check_infeasible : (ship stow tree : List ℕ) → Asks words (check ship stow tree) → ended ≡ status.Infeasible
       → IfSome before.files (λ held. IsNoneTold (check ship stow tree) held pb pa)
@@ -194,7 +308,9 @@ module _ (words : List (List ℕ)) (before after : Stand) (pb pa : Printed) (end
   no_tree_told ship stow tree (answer.Checked Never) none e = absurd (cc e)
   no_tree_told ship stow tree answer.WriteFault none e = absurd none
   no_tree_told ship stow tree (answer.Tasks inst) none e = absurd none
-  no_tree_told ship stow tree (answer.Planned end) none e = absurd none
+  no_tree_told ship stow tree (answer.Planned made) none e = absurd none
+  no_tree_told ship stow tree (answer.Unplanned bound branched) none e = absurd none
+  no_tree_told ship stow tree (answer.Infeasible branched) none e = absurd none
 
   check_bad_tree : (ship stow tree : List ℕ) → Asks words (check ship stow tree) → ended ≡ status.BadTree → IfSome before.files (λ held. IsNoneShown (check ship stow tree) held)
   check_bad_tree ship stow tree asks e = elim run.reports [
@@ -211,7 +327,9 @@ module _ (words : List (List ℕ)) (before after : Stand) (pb pa : Printed) (end
   refusal_told asked (answer.Tasks inst) serves is e report = absurd is
   refusal_told asked (answer.Checked (Least end)) serves is e report = absurd is
   refusal_told asked (answer.Checked Never) serves is e report = absurd is
-  refusal_told asked (answer.Planned end) serves is e report = absurd is
+  refusal_told asked (answer.Planned made) serves is e report = absurd (no_refusal made is)
+  refusal_told asked (answer.Unplanned bound branched) serves is e report = absurd is
+  refusal_told asked (answer.Infeasible branched) serves is e report = absurd is
 
   refused : (asked : Asked) → Asks words asked → IsRefusal ended → IsRefusalTold asked before after pb pa ended
   refused asked asks is = elim run.reports [
@@ -222,51 +340,71 @@ module _ (words : List (List ℕ)) (before after : Stand) (pb pa : Printed) (end
   files_stay : (asked : Asked) → Asks words asked → ¬ IsPlan asked → after.files ≡ before.files
   files_stay asked asks never = by asked (asked_is asked asks) never where
     by : (asked : Asked) → Serves asked before after run.answer → ¬ IsPlan asked → after.files ≡ before.files
-    by (plan s w p t) serves never = absurd (never tt)
+    by (plan s w p t n) serves never = absurd (never tt)
     by (check s w t) serves never = serves.files
     by (tasks s w) serves never = serves.files
     by unbuilt serves never = ap (λ (s : Stand). s.files) serves.1
     by usage serves never = ap (λ (s : Stand). s.files) serves.1
 
-  plan_stays : (asked : Asked) → IsPlan asked → (a : Answer) → Serves asked before after a → status_of a ≢ status.Optimal → status_of a ≢ status.WriteFault → after.files ≡ before.files
-  plan_stays (plan s w p t) is (answer.Stopped why) serves one two = serves.1
-  plan_stays (plan s w p t) is (answer.Planned end) serves one two = absurd (one refl)
-  plan_stays (plan s w p t) is answer.WriteFault serves one two = absurd (two refl)
-  plan_stays (plan s w p t) is (answer.Tasks inst) serves one two = absurd serves
-  plan_stays (plan s w p t) is (answer.Checked bound) serves one two = absurd serves
+  plan_stays : (asked : Asked) → IsPlan asked → (a : Answer) → Serves asked before after a → ¬ IsSearchEnd (status_of a) → status_of a ≢ status.WriteFault → after.files ≡ before.files
+  plan_stays (plan s w p t n) is (answer.Stopped why) serves one two = serves.1
+  plan_stays (plan s w p t n) is (answer.Planned made) serves one two = absurd (one (search_end made))
+  plan_stays (plan s w p t n) is (answer.Unplanned bound branched) serves one two = absurd (one tt)
+  plan_stays (plan s w p t n) is (answer.Infeasible branched) serves one two = absurd (one tt)
+  plan_stays (plan s w p t n) is answer.WriteFault serves one two = absurd (two refl)
+  plan_stays (plan s w p t n) is (answer.Tasks inst) serves one two = absurd serves
+  plan_stays (plan s w p t n) is (answer.Checked bound) serves one two = absurd serves
   plan_stays (check s w t) is a serves one two = absurd is
   plan_stays (tasks s w) is a serves one two = absurd is
   plan_stays unbuilt is a serves one two = absurd is
   plan_stays usage is a serves one two = absurd is
 
-  plan_leaves : (asked : Asked) → Asks words asked → IsPlan asked → ended ≢ status.Optimal → ended ≢ status.WriteFault → after.files ≡ before.files
+  plan_leaves : (asked : Asked) → Asks words asked → IsPlan asked → ¬ IsSearchEnd ended → ended ≢ status.WriteFault → after.files ≡ before.files
   plan_leaves asked asks is one two = elim run.reports [
-    | inl whole ↦ plan_stays asked is run.answer (asked_is asked asks) (λ e. one (whole.status ∙ e)) (λ e. two (whole.status ∙ e))
+    | inl whole ↦ plan_stays asked is run.answer (asked_is asked asks) (λ end. one (subst IsSearchEnd (sym whole.status) end)) (λ e. two (whole.status ∙ e))
     | inr cut ↦ absurd (two cut.status)
   ]
 
+  -- a writing that came through left what a stopped one may leave
+  all_written : (texts : List Named) (held : Files) (now : Option Files) → now ≡ Some (written texts held) → IsCutShort texts held now
+  all_written [] held now e = e
+  all_written (text ∷ texts) held now e = inr (inr (all_written texts (insert held text.0 text.1) now e))
+
+  whole : (s w p t : List ℕ) (n : ℕ) (a : Answer) (files : Option Files) → IfSome files (λ held. IsSearched (plan s w p t n) held a after.files)
+      → IfSome files (λ held. (after.files ≡ Some held) ⊎ IsStopped (plan s w p t n) held after.files)
+  whole s w p t n a None h = tt
+  whole s w p t n a (Some held) h = inr (record {
+    inst = h.inst;
+    nodes = h.nodes;
+    due = h.due;
+    tree = h.tree;
+    is_tree = h.found.run.is_tree;
+    best = h.done.best;
+    met = met_best h.inst h.nodes h.tree h.done h.found;
+    files = all_written (texts_of (plan s w p t n) h.inst h.tree h.done.best) held after.files h.files;
+  })
+
   -- what a plan may have left, whatever it came to
-  left : (s w p t : List ℕ) (a : Answer) → Serves (plan s w p t) before after a → IfSome before.files (λ held. (after.files ≡ Some held) ⊎ IsStopped (plan s w p t) held after.files)
-  left s w p t (answer.Stopped why) serves = same before.files serves.1 where
-    same : (files : Option Files) → after.files ≡ files → IfSome files (λ held. (after.files ≡ Some held) ⊎ IsStopped (plan s w p t) held after.files)
+  left : (s w p t : List ℕ) (n : ℕ) (a : Answer) → Serves (plan s w p t n) before after a → IfSome before.files (λ held. (after.files ≡ Some held) ⊎ IsStopped (plan s w p t n) held after.files)
+  left s w p t n (answer.Stopped why) serves = same before.files serves.1 where
+    same : (files : Option Files) → after.files ≡ files → IfSome files (λ held. (after.files ≡ Some held) ⊎ IsStopped (plan s w p t n) held after.files)
     same None e = tt
     same (Some held) e = inl e
-  left s w p t answer.WriteFault serves = stopped before.files serves.2 where
-    stopped : (files : Option Files) → IfSome files (λ held. IsStopped (plan s w p t) held after.files) → IfSome files (λ held. (after.files ≡ Some held) ⊎ IsStopped (plan s w p t) held after.files)
+  left s w p t n answer.WriteFault serves = stopped before.files serves.2 where
+    stopped : (files : Option Files) → IfSome files (λ held. IsStopped (plan s w p t n) held after.files) → IfSome files (λ held. (after.files ≡ Some held) ⊎ IsStopped (plan s w p t n) held after.files)
     stopped None h = tt
     stopped (Some held) h = inr h
-  left s w p t (answer.Planned end) serves = whole before.files serves.2 where
-    whole : (files : Option Files) → IfSome files (λ held. IsPlanned (plan s w p t) held end after.files) → IfSome files (λ held. (after.files ≡ Some held) ⊎ IsStopped (plan s w p t) held after.files)
-    whole None h = tt
-    whole (Some held) h = inr (record { inst = h.inst; sched = h.sched; found = h.found; files = inr (inr h.files) })
-  left s w p t (answer.Tasks inst) serves = absurd serves
-  left s w p t (answer.Checked bound) serves = absurd serves
+  left s w p t n (answer.Planned told) serves = whole s w p t n (answer.Planned told) before.files serves.2
+  left s w p t n (answer.Unplanned bound branched) serves = whole s w p t n (answer.Unplanned bound branched) before.files serves.2
+  left s w p t n (answer.Infeasible branched) serves = whole s w p t n (answer.Infeasible branched) before.files serves.2
+  left s w p t n (answer.Tasks inst) serves = absurd serves
+  left s w p t n (answer.Checked bound) serves = absurd serves
 
   plan_stopped : (asked : Asked) → Asks words asked → IsPlan asked → ended ≡ status.WriteFault
       → IfSome before.files (λ held. (after.files ≡ Some held) ⊎ IsStopped asked held after.files)
   plan_stopped asked asks is e = by asked is (asked_is asked asks) where
     by : (asked : Asked) → IsPlan asked → Serves asked before after run.answer → IfSome before.files (λ held. (after.files ≡ Some held) ⊎ IsStopped asked held after.files)
-    by (plan s w p t) is serves = left s w p t run.answer serves
+    by (plan s w p t n) is serves = left s w p t n run.answer serves
     by (check s w t) is serves = absurd is
     by (tasks s w) is serves = absurd is
     by unbuilt is serves = absurd is
@@ -276,11 +414,13 @@ module _ (words : List (List ℕ)) (before after : Stand) (pb pa : Printed) (end
   write_answer : (asked : Asked) (a : Answer) → Serves asked before after a → status_of a ≡ status.WriteFault → IsPlan asked × Rose before.faults after.faults × (a ≡ answer.WriteFault)
   write_answer asked (answer.Stopped (stop.Refused why)) serves e = absurd (not_other why status.WriteFault e)
   write_answer asked (answer.Stopped stop.OutOfMemory) serves e = absurd (cc e)
-  write_answer asked (answer.Planned end) serves e = absurd (cc e)
+  write_answer asked (answer.Planned made) serves e = absurd (plan_ends made status.WriteFault e)
+  write_answer asked (answer.Unplanned bound branched) serves e = absurd (cc e)
+  write_answer asked (answer.Infeasible branched) serves e = absurd (cc e)
   write_answer asked (answer.Tasks inst) serves e = absurd (cc e)
   write_answer asked (answer.Checked (Least end)) serves e = absurd (cc e)
   write_answer asked (answer.Checked Never) serves e = absurd (cc e)
-  write_answer (plan s w p t) answer.WriteFault serves e = (tt, serves.0, refl)
+  write_answer (plan s w p t n) answer.WriteFault serves e = (tt, serves.0, refl)
   write_answer (check s w t) answer.WriteFault serves e = absurd serves.ending
   write_answer (tasks s w) answer.WriteFault serves e = absurd serves.ending
   write_answer unbuilt answer.WriteFault serves e = absurd (cc serves.0)
@@ -309,12 +449,14 @@ module _ (words : List (List ℕ)) (before after : Stand) (pb pa : Printed) (end
   usage_asked asked (answer.Stopped (stop.Refused (refusal.BadTree fault))) serves e = absurd (cc e)
   usage_asked asked (answer.Stopped (stop.Refused refusal.Unbuilt)) serves e = absurd (cc e)
   usage_asked asked (answer.Stopped stop.OutOfMemory) serves e = absurd (cc e)
-  usage_asked asked (answer.Planned end) serves e = absurd (cc e)
+  usage_asked asked (answer.Planned made) serves e = absurd (plan_ends made status.Usage e)
+  usage_asked asked (answer.Unplanned bound branched) serves e = absurd (cc e)
+  usage_asked asked (answer.Infeasible branched) serves e = absurd (cc e)
   usage_asked asked (answer.Tasks inst) serves e = absurd (cc e)
   usage_asked asked (answer.Checked (Least end)) serves e = absurd (cc e)
   usage_asked asked (answer.Checked Never) serves e = absurd (cc e)
   usage_asked asked answer.WriteFault serves e = absurd (cc e)
-  usage_asked (plan s w p t) (answer.Stopped (stop.Refused refusal.Usage)) serves e = absurd serves.0
+  usage_asked (plan s w p t n) (answer.Stopped (stop.Refused refusal.Usage)) serves e = absurd serves.0
   usage_asked (check s w t) (answer.Stopped (stop.Refused refusal.Usage)) serves e = absurd serves.ending
   usage_asked (tasks s w) (answer.Stopped (stop.Refused refusal.Usage)) serves e = absurd serves.ending
   usage_asked unbuilt (answer.Stopped (stop.Refused refusal.Usage)) serves e = absurd (cc serves.0)
@@ -340,48 +482,63 @@ module _ (words : List (List ℕ)) (before after : Stand) (pb pa : Printed) (end
 
   -- what is due of the files comes where no call failed
   module _ (none : NoneFailed before after pb pa) where
+    as_due : (d wanted : Result Work Refusal) (s : Status) → d ≡ wanted → EndsAsDue wanted s → EndsAsDue d s
+    as_due d wanted s e h = subst (λ x. EndsAsDue x s) (sym e) h
+
     stop_due : (asked : Asked) (held : Files) → before.files ≡ Some held → (why : Stop) → Stops (due asked) asked before after why
-        → (status_of (answer.Stopped why) ≡ status_due (due asked (reads_in held asked))) ⊎ (status_of (answer.Stopped why) ≡ status.OutOfMemory)
+        → EndsAsDue (due asked (reads_in held asked)) (status_of (answer.Stopped why)) ⊎ (status_of (answer.Stopped why) ≡ status.OutOfMemory)
     stop_due asked held told stop.OutOfMemory h = inr refl
     stop_due asked held told (stop.Refused refusal.Usage) h = absurd h
-    stop_due asked held told (stop.Refused (refusal.ReadFault file)) h = inl (sym (ap status_due (unread_due asked held before.files told file _ _ none.reading h.cause h.turn)))
-    stop_due asked held told (stop.Refused (refusal.TooLarge file)) h = inl (sym (ap status_due (comes_due asked held before.files told (Err (refusal.TooLarge file)) h.1)))
-    stop_due asked held told (stop.Refused (refusal.BadShip fault)) h = inl (sym (ap status_due (comes_due asked held before.files told (Err (refusal.BadShip fault)) h.1)))
-    stop_due asked held told (stop.Refused (refusal.BadStow fault)) h = inl (sym (ap status_due (comes_due asked held before.files told (Err (refusal.BadStow fault)) h.1)))
-    stop_due asked held told (stop.Refused (refusal.BadTree fault)) h = inl (sym (ap status_due (comes_due asked held before.files told (Err (refusal.BadTree fault)) h.1)))
-    stop_due asked held told (stop.Refused refusal.Unbuilt) h = inl (sym (ap status_due (comes_due asked held before.files told (Err refusal.Unbuilt) h.1)))
+    stop_due asked held told (stop.Refused (refusal.ReadFault file)) h = inl (as_due _ _ _ (unread_due asked held before.files told file _ _ none.reading h.cause h.turn) refl)
+    stop_due asked held told (stop.Refused (refusal.TooLarge file)) h = inl (as_due _ _ _ (comes_due asked held before.files told (Err (refusal.TooLarge file)) h.1) refl)
+    stop_due asked held told (stop.Refused (refusal.BadShip fault)) h = inl (as_due _ _ _ (comes_due asked held before.files told (Err (refusal.BadShip fault)) h.1) refl)
+    stop_due asked held told (stop.Refused (refusal.BadStow fault)) h = inl (as_due _ _ _ (comes_due asked held before.files told (Err (refusal.BadStow fault)) h.1) refl)
+    stop_due asked held told (stop.Refused (refusal.BadTree fault)) h = inl (as_due _ _ _ (comes_due asked held before.files told (Err (refusal.BadTree fault)) h.1) refl)
+    stop_due asked held told (stop.Refused refusal.Unbuilt) h = inl (as_due _ _ _ (comes_due asked held before.files told (Err refusal.Unbuilt) h.1) refl)
 
     answer_due : (asked : Asked) (held : Files) → before.files ≡ Some held → (a : Answer) → Serves asked before after a
-        → (status_of a ≡ status_due (due asked (reads_in held asked))) ⊎ (status_of a ≡ status.OutOfMemory)
-    answer_due (plan s w p t) held told (answer.Stopped why) serves = stop_due (plan s w p t) held told why serves.0
-    answer_due (plan s w p t) held told (answer.Planned end) serves = inl (sym (ap status_due (planned_due (plan s w p t) held before.files told end after.files serves.2).1))
-    answer_due (plan s w p t) held told answer.WriteFault serves = absurd (none.writing serves.0)
-    answer_due (plan s w p t) held told (answer.Tasks inst) serves = absurd serves
-    answer_due (plan s w p t) held told (answer.Checked bound) serves = absurd serves
+        → EndsAsDue (due asked (reads_in held asked)) (status_of a) ⊎ (status_of a ≡ status.OutOfMemory)
+    answer_due (plan s w p t n) held told (answer.Stopped why) serves = stop_due (plan s w p t n) held told why serves.0
+    answer_due (plan s w p t n) held told (answer.Planned made) serves =
+        inl (as_due _ _ _ (searched_due (plan s w p t n) held before.files told (answer.Planned made) after.files serves.2).2 (search_end made))
+    answer_due (plan s w p t n) held told (answer.Unplanned bound branched) serves =
+        inl (as_due _ _ _ (searched_due (plan s w p t n) held before.files told (answer.Unplanned bound branched) after.files serves.2).2 tt)
+    answer_due (plan s w p t n) held told (answer.Infeasible branched) serves =
+        inl (as_due _ _ _ (searched_due (plan s w p t n) held before.files told (answer.Infeasible branched) after.files serves.2).2 tt)
+    answer_due (plan s w p t n) held told answer.WriteFault serves = absurd (none.writing serves.0)
+    answer_due (plan s w p t n) held told (answer.Tasks inst) serves = absurd serves
+    answer_due (plan s w p t n) held told (answer.Checked bound) serves = absurd serves
     answer_due (check s w t) held told (answer.Stopped why) serves = stop_due (check s w t) held told why serves.ending
     answer_due (check s w t) held told answer.WriteFault serves = absurd serves.ending
-    answer_due (check s w t) held told (answer.Tasks inst) serves = inl (sym (ap status_due (comes_due (check s w t) held before.files told (Ok (print (ending_of (answer.Tasks inst)))) serves.ending.1)))
-    answer_due (check s w t) held told (answer.Checked bound) serves = inl (sym (ap status_due (comes_due (check s w t) held before.files told (Ok (print (ending_of (answer.Checked bound)))) serves.ending.1)))
-    answer_due (check s w t) held told (answer.Planned end) serves = absurd serves.ending
+    answer_due (check s w t) held told (answer.Tasks inst) serves = inl (as_due _ _ _ (comes_due (check s w t) held before.files told (Ok (print (ending_of (answer.Tasks inst)))) serves.ending.1) refl)
+    answer_due (check s w t) held told (answer.Checked bound) serves = inl (as_due _ _ _ (comes_due (check s w t) held before.files told (Ok (print (ending_of (answer.Checked bound)))) serves.ending.1) refl)
+    answer_due (check s w t) held told (answer.Planned made) serves = absurd serves.ending
+    answer_due (check s w t) held told (answer.Unplanned bound branched) serves = absurd serves.ending
+    answer_due (check s w t) held told (answer.Infeasible branched) serves = absurd serves.ending
     answer_due (tasks s w) held told (answer.Stopped why) serves = stop_due (tasks s w) held told why serves.ending
     answer_due (tasks s w) held told answer.WriteFault serves = absurd serves.ending
-    answer_due (tasks s w) held told (answer.Tasks inst) serves = inl (sym (ap status_due (comes_due (tasks s w) held before.files told (Ok (print (ending_of (answer.Tasks inst)))) serves.ending.1)))
-    answer_due (tasks s w) held told (answer.Checked bound) serves = inl (sym (ap status_due (comes_due (tasks s w) held before.files told (Ok (print (ending_of (answer.Checked bound)))) serves.ending.1)))
-    answer_due (tasks s w) held told (answer.Planned end) serves = absurd serves.ending
+    answer_due (tasks s w) held told (answer.Tasks inst) serves = inl (as_due _ _ _ (comes_due (tasks s w) held before.files told (Ok (print (ending_of (answer.Tasks inst)))) serves.ending.1) refl)
+    answer_due (tasks s w) held told (answer.Checked bound) serves = inl (as_due _ _ _ (comes_due (tasks s w) held before.files told (Ok (print (ending_of (answer.Checked bound)))) serves.ending.1) refl)
+    answer_due (tasks s w) held told (answer.Planned made) serves = absurd serves.ending
+    answer_due (tasks s w) held told (answer.Unplanned bound branched) serves = absurd serves.ending
+    answer_due (tasks s w) held told (answer.Infeasible branched) serves = absurd serves.ending
     answer_due unbuilt held told a serves = inl (ap status_of serves.0)
     answer_due usage held told a serves = inl (ap status_of serves.0)
 
     complete_at : (asked : Asked) → Asks words asked → (files : Option Files) → before.files ≡ files
-        → IfSome files (λ held. (ended ≡ status_due (due asked (reads_in held asked))) ⊎ (ended ≡ status.OutOfMemory))
+        → IfSome files (λ held. EndsAsDue (due asked (reads_in held asked)) ended ⊎ (ended ≡ status.OutOfMemory))
     complete_at asked asks None told = tt
     complete_at asked asks (Some held) told = elim run.reports [
-      | inl whole ↦ subst (λ s. (s ≡ status_due (due asked (reads_in held asked))) ⊎ (s ≡ status.OutOfMemory)) (sym whole.status) (answer_due asked held told run.answer (asked_is asked asks))
+      | inl whole ↦ subst (λ s. EndsAsDue (due asked (reads_in held asked)) s ⊎ (s ≡ status.OutOfMemory)) (sym whole.status) (answer_due asked held told run.answer (asked_is asked asks))
       | inr cut ↦ absurd (none.printing cut.rose)
     ]
 
   pub promises : Promises words before after pb pa ended
   promises = record {
     plan_optimal = plan_optimal;
+    plan_infeasible = plan_infeasible;
+    plan_budget = plan_budget;
+    plan_none = plan_none;
     tasks_done = tasks_done;
     check_done = check_done;
     check_infeasible = check_infeasible;

@@ -1,12 +1,12 @@
 -- The account of a run: what its answer says of the words, of the shelf and of the sink.
-use Rattle.std.specs.Prelude.{◌≡◌, ℕ, ◌≤◌, ◌⊎◌, List, [], ◌∷◌, take, Option, Some, Result, Ok, Err, IfOk, IfErr, IfSome, IsSomeAnd}
+use Rattle.std.specs.Prelude.{◌≡◌, ℕ, ◌≤◌, ◌⊎◌, List, [], ◌∷◌, take, Option, None, Some, Result, Ok, Err, IfOk, IfErr, IfSome, IsSomeAnd}
 use Rattle.std.specs.FinMap.{insert}
 use Rattle.std.specs.Io.KnownBytes.{append_known}
 use Rattle.qc_io.specs.Outside.{Files, Rose, ReadCause, GrewByPart, Stand}
 use Rattle.qc_model.specs.declared.schedule.Slot.{Slot}
 use Rattle.qc_model.specs.Instance.{InstanceView}
-use Rattle.qc_model.specs.Rules.{ends}
-use Rattle.qc_model.specs.OneWay.{GoesOneWay}
+use Rattle.qc_search.specs.Run.{DoneView, IsMetBest, SearchView}
+use Rattle.qc_tree.specs.Trees.{IsTree, Tree, tree_text}
 use Rattle.qc_top.specs.declared.answer.Input.{Input}
 use Rattle.qc_top.specs.declared.answer.Refusal.{Refusal}
 use Rattle.qc_top.specs.declared.answer.Refusal.TheVariants as refusal
@@ -21,6 +21,7 @@ use Rattle.qc_top.specs.Words.{Asks}
 use Rattle.qc_top.specs.Due.{Reads, print, search, reads_in, without, due}
 use Rattle.qc_top.specs.Answers.{ending_of, report_text, status_of}
 use Rattle.qc_top.specs.PlanText.{plan_text}
+use Rattle.qc_top.specs.Found.{IsFound, Tells}
 
 -- where the shelf tells its files, a step over them comes to this
 abbrev pub ComesTo :
@@ -64,7 +65,9 @@ pub record IsStep {A : Type 0} (step : Reads → Result A Refusal) (asked : Aske
 abbrev pub ComesThrough : Asked → Stand → Stand → Answer → Type 0
 ComesThrough asked before after (answer.Stopped why) = Stops (due asked) asked before after why
 ComesThrough asked before after answer.WriteFault = ⊥
-ComesThrough asked before after (answer.Planned end) = ⊥
+ComesThrough asked before after (answer.Planned told) = ⊥
+ComesThrough asked before after (answer.Unplanned bound branched) = ⊥
+ComesThrough asked before after (answer.Infeasible branched) = ⊥
 ComesThrough asked before after a =
     (after.read_faults ≡ before.read_faults)
     × ComesTo (due asked) asked before.files (Ok (print (ending_of a)))
@@ -74,11 +77,6 @@ pub record IsReading (asked : Asked) (before after : Stand) (a : Answer) : Type 
   pub ending : ComesThrough asked before after a
   pub files : after.files ≡ before.files
   pub faults : after.faults ≡ before.faults
-
--- the schedule goes one way, and no schedule that goes one way ends earlier
-pub record IsBest (inst : InstanceView) (sched : List Slot) : Type 0 where
-  pub goes : GoesOneWay inst sched
-  pub least : (other : List Slot) → GoesOneWay inst other → ends inst sched ≤ ends inst other
 
 -- a text and the name of the file into which it is written
 abbrev pub Named : Type 0
@@ -98,48 +96,69 @@ IsCutShort (text ∷ texts) held now =
     ⊎ (((count : ℕ) × (now ≡ Some (insert held text.0 (take count text.1))))
     ⊎ IsCutShort texts (insert held text.0 text.1) now)
 
--- the files that a request writes, with their texts
-abbrev pub texts_of : Asked → InstanceView → List Slot → List Named
-texts_of (plan s w p t) inst sched = (p, plan_text inst sched) ∷ []
-texts_of _ inst sched = []
+-- the plan's file, where there is a schedule
+abbrev pub plan_texts : List ℕ → InstanceView → Option (List Slot) → List Named
+plan_texts name inst None = []
+plan_texts name inst (Some sched) = (name, plan_text inst sched) ∷ []
 
--- a best schedule of the instance that is due
-pub record IsFound (asked : Asked) (held : Files) (inst : InstanceView) (sched : List Slot) : Type 0 where
-  pub due : due asked (reads_in held asked) ≡ Ok (search inst)
-  pub best : IsBest inst sched
+-- the files that a request writes, with their texts: the tree, and then the plan where there is a schedule
+abbrev pub texts_of : Asked → InstanceView → Tree → Option (List Slot) → List Named
+texts_of (plan s w p t n) inst tree best = (t, tree_text inst tree) ∷ plan_texts p inst best
+texts_of _ inst tree best = []
 
--- its texts are written, and this is its end
-pub record IsPlanned (asked : Asked) (held : Files) (end : ℕ) (now : Option Files) : Type 0 where
+-- the search came to this, and the file of this name holds its tree
+pub record IsStored (search : SearchView) (name : List ℕ) (held : Files) (now : Option Files) (done : DoneView)
+    : Type 0 where
+  pub tree : Tree
+  pub found : IsFound search.inst search.nodes tree done
+  pub files : now ≡ Some (insert held name (tree_text search.inst tree))
+
+-- the file of this name is as it was, or holds a front part of the text of a tree of the instance
+pub record IsTreeCut (inst : InstanceView) (name : List ℕ) (held : Files) (now : Option Files) : Type 0 where
+  pub tree : Tree
+  pub is_tree : IsTree inst tree
+  pub files : IsCutShort ((name, tree_text inst tree) ∷ []) held now
+
+-- the search that is due came to what the answer tells, and its texts are written
+pub record IsSearched (asked : Asked) (held : Files) (a : Answer) (now : Option Files) : Type 0 where
   pub inst : InstanceView
-  pub sched : List Slot
-  pub found : IsFound asked held inst sched
-  pub ends : end ≡ ends inst sched
-  pub files : now ≡ Some (written (texts_of asked inst sched) held)
+  pub nodes : ℕ
+  pub due : due asked (reads_in held asked) ≡ Ok (search inst nodes)
+  pub tree : Tree
+  pub done : DoneView
+  pub found : IsFound inst nodes tree done
+  pub told : Tells inst done a
+  pub files : now ≡ Some (written (texts_of asked inst tree done.best) held)
 
--- the writing of its texts was stopped
+-- the writing of a tree of the instance that is due was stopped, or that of a best schedule that this tree meets
 pub record IsStopped (asked : Asked) (held : Files) (now : Option Files) : Type 0 where
   pub inst : InstanceView
-  pub sched : List Slot
-  pub found : IsFound asked held inst sched
-  pub files : IsCutShort (texts_of asked inst sched) held now
+  pub nodes : ℕ
+  pub due : due asked (reads_in held asked) ≡ Ok (search inst nodes)
+  pub tree : Tree
+  pub is_tree : IsTree inst tree
+  pub best : Option (List Slot)
+  pub met : IfSome best (IsMetBest inst tree)
+  pub files : IsCutShort (texts_of asked inst tree best) held now
 
 -- what a request that writes says of the shelf
 abbrev pub IsWriting : Asked → Stand → Stand → Answer → Type 0
 IsWriting asked before after (answer.Stopped why) =
     Stops (due asked) asked before after why × (after.files ≡ before.files) × (after.faults ≡ before.faults)
-IsWriting asked before after (answer.Planned end) =
-    (after.faults ≡ before.faults) × (after.read_faults ≡ before.read_faults)
-    × IfSome before.files (λ held. IsPlanned asked held end after.files)
 IsWriting asked before after answer.WriteFault =
     Rose before.faults after.faults × (after.read_faults ≡ before.read_faults)
     × IfSome before.files (λ held. IsStopped asked held after.files)
-IsWriting asked before after _ = ⊥
+IsWriting asked before after (answer.Tasks inst) = ⊥
+IsWriting asked before after (answer.Checked bound) = ⊥
+IsWriting asked before after a =
+    (after.faults ≡ before.faults) × (after.read_faults ≡ before.read_faults)
+    × IfSome before.files (λ held. IsSearched asked held a after.files)
 
 -- what a request says of its answer and of the shelf
 abbrev pub Serves : Asked → Stand → Stand → Answer → Type 0
 Serves usage before after a = (a ≡ answer.Stopped (stop.Refused refusal.Usage)) × (after ≡ before)
 Serves unbuilt before after a = (a ≡ answer.Stopped (stop.Refused refusal.Unbuilt)) × (after ≡ before)
-Serves (plan s w p t) before after a = IsWriting (plan s w p t) before after a
+Serves (plan s w p t n) before after a = IsWriting (plan s w p t n) before after a
 Serves asked before after a = IsReading asked before after a
 
 -- what is seen of the sink: its bytes, where it tells them, and its count of faults

@@ -1,5 +1,7 @@
 -- What a run comes to, what it prints and the status that it ends with.
-use Rattle.std.specs.Prelude.{ℕ, List, [], ◌∷◌, ◌++◌, codes, decimal}
+use Rattle.std.specs.Prelude.{ℕ, nat_le, if◌then◌else◌, List, [], ◌∷◌, ◌++◌, codes, decimal}
+use Rattle.qc_model.specs.declared.direction.Direction.{Direction}
+use Rattle.qc_model.specs.declared.direction.Direction.TheVariants.{Up, Down}
 use Rattle.qc_replay.specs.Faults.{kind_text as tree_text}
 use Rattle.qc_replay.specs.declared.fault.TreeFault.{TreeFault}
 use Rattle.qc_ship.specs.declared.fault.ShipKind.{ShipKind}
@@ -15,6 +17,7 @@ use Rattle.qc_top.specs.declared.answer.Refusal.{Refusal}
 use Rattle.qc_top.specs.declared.answer.Refusal.TheVariants as refusal
 use Rattle.qc_top.specs.declared.answer.Stop.{Stop}
 use Rattle.qc_top.specs.declared.answer.Stop.TheVariants as stop
+use Rattle.qc_top.specs.declared.answer.Planned.{Planned}
 use Rattle.qc_top.specs.declared.answer.Answer.{Answer}
 use Rattle.qc_top.specs.declared.answer.Answer.TheVariants as answer
 use Rattle.qc_top.specs.declared.status.Status.{Status}
@@ -75,13 +78,32 @@ abbrev pub bad_tree_text : TreeFault → List ℕ
 bad_tree_text fault =
     codes "BadTree " ++ tree_text fault.kind ++ codes " " ++ decimal fault.line ++ codes "\n"
 
--- the line of an end in ticks
-abbrev pub end_line : ℕ → List ℕ
-end_line end = codes "end " ++ decimal end ++ codes "\n"
+-- the first word for a plan that was found: it is a best one where no schedule ends before it does
+abbrev pub planned_word : Planned → List ℕ
+planned_word told = if nat_le told.end told.bound then codes "Optimal" else codes "Budget"
 
--- what is printed for a best plan
-abbrev pub planned_text : ℕ → List ℕ
-planned_text end = codes "Optimal\n" ++ end_line end
+abbrev pub planned_status : Planned → Status
+planned_status told = if nat_le told.end told.bound then status.Optimal else status.BudgetPlan
+
+abbrev pub direction_text : Direction → List ℕ
+direction_text Up = codes "up"
+direction_text Down = codes "down"
+
+-- what is printed for a plan that was found
+abbrev pub planned_text : Planned → List ℕ
+planned_text told =
+    planned_word told ++ codes "\nend " ++ decimal told.end ++ codes "\nbound " ++ decimal told.bound
+    ++ codes "\nbranched " ++ decimal told.branched ++ codes "\ndirection " ++ direction_text told.direction
+    ++ codes "\n"
+
+-- what is printed where all branchings are spent and no plan was found
+abbrev pub unplanned_text : ℕ → ℕ → List ℕ
+unplanned_text bound branched =
+    codes "Budget\nbound " ++ decimal bound ++ codes "\nbranched " ++ decimal branched ++ codes "\n"
+
+-- what is printed where there is no plan
+abbrev pub infeasible_text : ℕ → List ℕ
+infeasible_text branched = codes "Infeasible\nbranched " ++ decimal branched ++ codes "\n"
 
 -- what is printed for a refusal
 abbrev pub refusal_text : Refusal → List ℕ
@@ -117,14 +139,18 @@ report_text (answer.Stopped why) = stop_text why
 report_text answer.WriteFault = codes "WriteFault\n"
 report_text (answer.Tasks inst) = tasks_text inst
 report_text (answer.Checked bound) = (bound_ending bound).text
-report_text (answer.Planned end) = planned_text end
+report_text (answer.Planned told) = planned_text told
+report_text (answer.Unplanned bound branched) = unplanned_text bound branched
+report_text (answer.Infeasible branched) = infeasible_text branched
 
 abbrev pub status_of : Answer → Status
 status_of (answer.Stopped why) = stop_status why
 status_of answer.WriteFault = status.WriteFault
 status_of (answer.Tasks inst) = status.Done
 status_of (answer.Checked bound) = (bound_ending bound).status
-status_of (answer.Planned end) = status.Optimal
+status_of (answer.Planned told) = planned_status told
+status_of (answer.Unplanned bound branched) = status.BudgetNone
+status_of (answer.Infeasible branched) = status.Infeasible
 
 -- how an answer ends
 abbrev pub ending_of : Answer → Ending

@@ -21,7 +21,6 @@ use Rattle.qc_top.specs.declared.answer.Refusal.TheVariants as refusal
 use Rattle.qc_top.specs.declared.status.Status.{Status}
 use Rattle.qc_top.specs.declared.status.Status.TheVariants as status
 use Rattle.qc_top.specs.Asked.{Asked, plan, check, tasks, unbuilt, usage, name_of}
-use Rattle.qc_top.specs.Orders.{is_small}
 
 -- the bytes of the files that are read, by what they are for; none where the file isn't held or isn't read
 pub record Reads : Type 0 where
@@ -57,10 +56,11 @@ pub record Ending : Type 0 where
   pub status : Status
   pub text : List ℕ
 
--- what is to be done: a report is to be printed, or a best schedule of an instance is to be found and written
+-- what is to be done: a report is to be printed, or an instance is to be searched with at most so many branchings
+-- and what comes of it written
 pub data Work : Type 0 where
   print : (ending : Ending) → Work
-  search : (inst : InstanceView) → Work
+  search : (inst : InstanceView) (nodes : ℕ) → Work
 
 -- the greatest length of a file that is read whole, in bytes
 abbrev pub file_limit : ℕ
@@ -123,15 +123,15 @@ check_due reads = do
   read ← shown_due reads
   Ok (print (bound_ending read.bound))
 
--- a best schedule of the instance is to be found, where it is of a form that is planned
-abbrev pub plan_due : Reads → Result Work Refusal
-plan_due reads = do
+-- the instance is to be searched with at most so many branchings
+abbrev pub plan_due : ℕ → Reads → Result Work Refusal
+plan_due nodes reads = do
   inst ← instance_due reads
-  if is_small inst then Ok (search inst) else Err refusal.Unbuilt
+  Ok (search inst nodes)
 
 -- what a request leads to
 abbrev pub due : Asked → Reads → Result Work Refusal
-due (plan s w p t) reads = plan_due reads
+due (plan s w p t n) reads = plan_due n reads
 due (check s w t) reads = check_due reads
 due (tasks s w) reads = tasks_due reads
 due unbuilt reads = Err refusal.Unbuilt

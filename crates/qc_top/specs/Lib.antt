@@ -1,9 +1,9 @@
 pub mod Asked
 pub mod Words
-pub mod Orders
 pub mod Due
 pub mod Answers
 pub mod Shown
 pub mod PlanText
+pub mod Found
 pub mod Account
 pub mod Promises

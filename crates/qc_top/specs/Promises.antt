@@ -1,12 +1,18 @@
 -- What follows from a run's account, said by itself for whoever reads one status.
-use Rattle.std.specs.Prelude.{◌≡◌, ◌≢◌, ℕ, ◌⊎◌, List, ◌++◌, Option, codes, decimal, Some, Result, Ok, Err, IfSome}
+use Rattle.std.specs.Prelude.{◌≡◌, ◌≢◌, ℕ, ◌≤◌, ◌⊎◌, List, ◌++◌, Option, codes, decimal, Some, Result, Ok, Err, IfSome}
 use Rattle.std.specs.Io.KnownBytes.{append_known}
 use Rattle.qc_num.specs.declared.bound.Bound.TheVariants.{Least, Never}
 use Rattle.qc_io.specs.Outside.{Files, Rose, GrewByPart, Stand}
+use Rattle.qc_model.specs.declared.schedule.Slot.{Slot}
 use Rattle.qc_model.specs.Instance.{InstanceView}
+use Rattle.qc_model.specs.OneWay.{GoesOneWay}
+use Rattle.qc_model.specs.Rules.{ends}
+use Rattle.qc_search.specs.declared.done.Kind.{Kind}
+use Rattle.qc_search.specs.declared.done.Kind.TheVariants as kind
 use Rattle.qc_tasks.specs.TasksText.{tasks_text}
 use Rattle.qc_top.specs.declared.answer.Refusal.{Refusal}
 use Rattle.qc_top.specs.declared.answer.Stop.TheVariants as stop
+use Rattle.qc_top.specs.declared.answer.Planned.{Planned}
 use Rattle.qc_top.specs.declared.answer.Answer.{Answer}
 use Rattle.qc_top.specs.declared.answer.Answer.TheVariants as answer
 use Rattle.qc_top.specs.declared.status.Status.{Status}
@@ -14,15 +20,46 @@ use Rattle.qc_top.specs.declared.status.Status.TheVariants as status
 use Rattle.qc_top.specs.Asked.{Asked, check, tasks, unbuilt, usage, IsPlan}
 use Rattle.qc_top.specs.Words.{Asks}
 use Rattle.qc_top.specs.Due.{Work, print, search, reads_in, instance_due, due}
-use Rattle.qc_top.specs.Answers.{report_text, refusal_text, refusal_status}
+use Rattle.qc_top.specs.Answers.{infeasible_text, planned_text, planned_word, refusal_text, report_text, refusal_status, unplanned_text}
 use Rattle.qc_top.specs.Shown.{IsBoundShown, IsNoneShown}
-use Rattle.qc_top.specs.Account.{IsPlanned, IsStopped, Serves, Printed}
+use Rattle.qc_top.specs.Account.{IsSearched, IsStopped, Serves, Printed}
 
--- the plan file holds the plan of a best schedule, whose end was printed, and all other files are as they were
-pub record IsPlanTold (asked : Asked) (held : Files) (now : Option Files) (before after : Printed) : Type 0 where
-  pub end : ℕ
-  pub planned : IsPlanned asked held end now
-  pub report : after.bytes ≡ append_known before.bytes (report_text (answer.Planned end))
+-- the schedule goes one way, and no schedule that goes one way ends earlier
+pub record IsBest (inst : InstanceView) (sched : List Slot) : Type 0 where
+  pub goes : GoesOneWay inst sched
+  pub least : (other : List Slot) → GoesOneWay inst other → ends inst sched ≤ ends inst other
+
+-- the search that is due met a schedule: its tree and the plan of that schedule are written, all other files are as
+-- they were, and both are told
+pub record IsPlanTold (asked : Asked) (held : Files) (now : Option Files) (before after : Printed) (wanted : Kind)
+    (first : List ℕ) : Type 0 where
+  pub told : Planned
+  pub searched : IsSearched asked held (answer.Planned told) now
+  pub kind : searched.done.kind ≡ wanted
+  pub report : after.bytes ≡ append_known before.bytes (planned_text told)
+  pub word : planned_word told ≡ first
+
+-- and this schedule is a best one
+pub record IsOptimalTold (asked : Asked) (held : Files) (now : Option Files) (before after : Printed) : Type 0 where
+  pub plan : IsPlanTold asked held now before after kind.Optimal (codes "Optimal")
+  pub best : IsBest plan.searched.inst plan.searched.told.sched
+
+-- the search that is due met no schedule and spent its branchings: its tree is written, all other files are as they
+-- were, and its bound is told
+pub record IsUnplannedTold (asked : Asked) (held : Files) (now : Option Files) (before after : Printed) : Type 0 where
+  pub bound : ℕ
+  pub branched : ℕ
+  pub searched : IsSearched asked held (answer.Unplanned bound branched) now
+  pub kind : searched.done.kind ≡ kind.Budget
+  pub report : after.bytes ≡ append_known before.bytes (unplanned_text bound branched)
+
+-- no schedule goes one way, as the tree shows that is written; all other files are as they were
+pub record IsInfeasibleTold (asked : Asked) (held : Files) (now : Option Files) (before after : Printed) : Type 0 where
+  pub branched : ℕ
+  pub searched : IsSearched asked held (answer.Infeasible branched) now
+  pub kind : searched.done.kind ≡ kind.Infeasible
+  pub none : (sched : List Slot) → ¬ GoesOneWay searched.inst sched
+  pub report : after.bytes ≡ append_known before.bytes (infeasible_text branched)
 
 -- the tasks of the instance of the two files were printed
 pub record AreTasksTold (asked : Asked) (held : Files) (before after : Printed) : Type 0 where
@@ -66,11 +103,19 @@ pub record NoneFailed (before after : Stand) (printed_before printed_after : Pri
   pub reading : ¬ Rose before.read_faults after.read_faults
   pub printing : ¬ Rose printed_before.faults printed_after.faults
 
--- the status with which the work that is due ends where nothing fails
-abbrev pub status_due : Result Work Refusal → Status
-status_due (Ok (print ending)) = ending.status
-status_due (Ok (search inst)) = status.Optimal
-status_due (Err why) = refusal_status why
+-- a search ends with this status
+abbrev pub IsSearchEnd : Status → Type 0
+IsSearchEnd status.Optimal = Unit {0}
+IsSearchEnd status.Infeasible = Unit {0}
+IsSearchEnd status.BudgetPlan = Unit {0}
+IsSearchEnd status.BudgetNone = Unit {0}
+IsSearchEnd _ = ⊥
+
+-- the work that is due ends so where nothing fails
+abbrev pub EndsAsDue : Result Work Refusal → Status → Type 0
+EndsAsDue (Ok (print ending)) ended = ended ≡ ending.status
+EndsAsDue (Ok (search inst nodes)) ended = IsSearchEnd ended
+EndsAsDue (Err why) ended = ended ≡ refusal_status why
 
 -- the sink failed itself, so that it got a front part of the report of the answer
 pub record IsCutTold (asked : Asked) (before after : Stand) (printed_before printed_after : Printed)
@@ -96,10 +141,20 @@ EndsWith wanted before after ended =
 
 pub record Promises (words : List (List ℕ)) (before after : Stand) (printed_before printed_after : Printed)
     (ended : Status) : Type 0 where
-  -- Optimal of a plan
+  -- Optimal, Infeasible, BudgetPlan and BudgetNone of a plan
   pub plan_optimal :
       (asked : Asked) → Asks words asked → IsPlan asked → ended ≡ status.Optimal
-      → IfSome before.files (λ held. IsPlanTold asked held after.files printed_before printed_after)
+      → IfSome before.files (λ held. IsOptimalTold asked held after.files printed_before printed_after)
+  pub plan_infeasible :
+      (asked : Asked) → Asks words asked → IsPlan asked → ended ≡ status.Infeasible
+      → IfSome before.files (λ held. IsInfeasibleTold asked held after.files printed_before printed_after)
+  pub plan_budget :
+      (asked : Asked) → Asks words asked → IsPlan asked → ended ≡ status.BudgetPlan
+      → IfSome before.files (λ held.
+      IsPlanTold asked held after.files printed_before printed_after kind.Budget (codes "Budget"))
+  pub plan_none :
+      (asked : Asked) → Asks words asked → IsPlan asked → ended ≡ status.BudgetNone
+      → IfSome before.files (λ held. IsUnplannedTold asked held after.files printed_before printed_after)
   -- Done of the tasks
   pub tasks_done :
       (ship stow : List ℕ) → Asks words (tasks ship stow) → ended ≡ status.Done
@@ -121,7 +176,7 @@ pub record Promises (words : List (List ℕ)) (before after : Stand) (printed_be
   -- the files stay where no plan is asked for, and where a plan was neither written nor stopped
   pub files_stay : (asked : Asked) → Asks words asked → ¬ IsPlan asked → after.files ≡ before.files
   pub plan_leaves :
-      (asked : Asked) → Asks words asked → IsPlan asked → ended ≢ status.Optimal → ended ≢ status.WriteFault
+      (asked : Asked) → Asks words asked → IsPlan asked → ¬ IsSearchEnd ended → ended ≢ status.WriteFault
       → after.files ≡ before.files
   -- what the files hold where a plan ends with WriteFault: what they held, or what a stopped writing leaves
   pub plan_stopped :
@@ -140,4 +195,4 @@ pub record Promises (words : List (List ℕ)) (before after : Stand) (printed_be
   pub complete :
       (asked : Asked) → Asks words asked → NoneFailed before after printed_before printed_after
       → IfSome before.files (λ held.
-      (ended ≡ status_due (due asked (reads_in held asked))) ⊎ (ended ≡ status.OutOfMemory))
+      EndsAsDue (due asked (reads_in held asked)) ended ⊎ (ended ≡ status.OutOfMemory))

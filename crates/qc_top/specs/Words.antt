@@ -1,8 +1,9 @@
 -- The words of a command line, and what they ask for.
-use Rattle.std.specs.Prelude.{◌≡◌, ℕ, Bool, false, not, ◌&&◌, ◌||◌, ◌==◌, nat_le, if◌then◌else◌, List, [], ◌∷◌, codes, decimal, map, string_bytes, String}
+use Rattle.std.specs.Prelude.{◌≡◌, ℕ, Bool, false, not, ◌&&◌, ◌||◌, ◌==◌, nat_le, if◌then◌else◌, List, [], ◌∷◌, Option, None, Some, codes, decimal, map, string_bytes, String}
 use Rattle.std.specs.declared.alloc.Global.{Global}
 use Rattle.std.specs.Str.{bytes_eq}
 use Rattle.std.specs.Str.Parse.{digits_value}
+use Rattle.qc_tree.specs.declared.line.TheConstants.{MOST_BRANCHINGS}
 use Rattle.qc_top.specs.Asked.{Asked, plan, check, tasks, unbuilt, usage}
 
 -- the bytes of each word
@@ -25,10 +26,22 @@ are_plan_files s w p t =
     is_file_word s && is_file_word w && is_file_word p && is_file_word t
     && not (bytes_eq s w || bytes_eq s p || bytes_eq s t || bytes_eq w p || bytes_eq w t || bytes_eq p t)
 
+-- the number of branchings that an option and its number give
+abbrev pub nodes_in : List ℕ → List ℕ → Option ℕ
+nodes_in option number =
+    if bytes_eq option (codes "--nodes") && is_number_to MOST_BRANCHINGS number
+    then Some (digits_value 10 number)
+    else None
+
+-- a plan with so many branchings
+abbrev pub plan_with : (ship stow plan tree : List ℕ) → Option ℕ → Asked
+plan_with s w p t None = usage
+plan_with s w p t (Some nodes) = if are_plan_files s w p t then plan s w p t nodes else usage
+
+-- where the words don't say it there are at most 20,000 branchings
 abbrev pub plan_asked : List (List ℕ) → Asked
-plan_asked (s ∷ w ∷ p ∷ t ∷ []) = if are_plan_files s w p t then plan s w p t else usage
-plan_asked (s ∷ w ∷ p ∷ t ∷ o ∷ n ∷ []) =
-    if are_plan_files s w p t && bytes_eq o (codes "--nodes") && is_number_to 100000 n then unbuilt else usage
+plan_asked (s ∷ w ∷ p ∷ t ∷ []) = plan_with s w p t (Some 20000)
+plan_asked (s ∷ w ∷ p ∷ t ∷ o ∷ n ∷ []) = plan_with s w p t (nodes_in o n)
 plan_asked _ = usage
 
 -- with '-' in place of a plan the tree alone is asked about

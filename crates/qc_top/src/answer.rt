@@ -1,15 +1,15 @@
 //! What a run comes to, and its report.
-ghost use Rattle.std.specs.Prelude.{◌≡◌, ◌≤◌, ◌++◌, codes};
+ghost use Rattle.std.specs.Prelude.{◌≡◌, ◌≤◌, ◌++◌, codes, length};
 ghost use Rattle.qc_io.specs.Outside.{Rose};
 ghost use Rattle.qc_io.specs.Writes.{Writes};
-ghost use Rattle.qc_top.specs.Answers.{input_text, line, end_line, planned_text, refusal_text, report_text, refusal_status, status_of};
+ghost use Rattle.qc_top.specs.Answers.{input_text, line, planned_word, direction_text, planned_text, unplanned_text, infeasible_text, refusal_text, report_text, planned_status, refusal_status, status_of};
 ghost use Rattle.qc_top.specs.Due.{bound_ending};
 ghost use Rattle.qc_top.specs.Account.{Reports, printed_of};
 
 use crate::faults::{put_ship_fault, put_stow_fault, put_tree_fault};
 use crate::status::Status;
 use qc_io::{Sink, WriteFault, put_all};
-use qc_model::Instance;
+use qc_model::{Direction, Instance};
 use qc_num::{Bound, OutOfMemory, Text, Tick};
 use qc_replay::TreeFault;
 use qc_ship::ShipFault;
@@ -59,6 +59,19 @@ impl From<OutOfMemory> for Stop {
     }
 }
 
+/// What is told of a search that met a schedule.
+#[derive(Clone, Copy, Debug, PartialEq, Eq)]
+pub struct Planned {
+    /// When the plan's last task ends, in ticks.
+    pub end: Tick,
+    /// No schedule that goes one way ends before this tick.
+    pub bound: Tick,
+    /// The tree's number of branchings.
+    pub branched: u64,
+    /// The way in which the plan goes.
+    pub direction: Direction,
+}
+
 /// What a run comes to before it is reported.
 #[derive(Drop)]
 pub enum Answer {
@@ -70,8 +83,12 @@ pub enum Answer {
     /// What the tree shows is to be printed: an end in ticks that no one-way schedule beats, or that there is
     /// none.
     Checked { bound: Bound },
-    /// The best plan was written; it ends at this tick.
-    Planned { end: Tick },
+    /// The search's tree and the plan of the best schedule that it met are written.
+    Planned(Planned),
+    /// The search's tree is written. It met no schedule, and none that goes one way ends before `bound`, in ticks.
+    Unplanned { bound: Tick, branched: u64 },
+    /// The search's tree is written. No schedule goes one way.
+    Infeasible { branched: u64 },
 }
 
 const USAGE: &[u8] = b"Usage
@@ -129,6 +146,16 @@ fn bound_status(bound: Bound) -> Status
     }
 }
 
+fn planned_status(told: Planned) -> Status
+    ensures { result ≡ planned_status told }
+{
+    if told.end <= told.bound {
+        Status::Optimal
+    } else {
+        Status::BudgetPlan
+    }
+}
+
 /// The status that the answer has where its report goes out.
 fn status_of(answer: &Answer) -> Status
     ensures { result ≡ status_of answer.now }
@@ -139,7 +166,9 @@ fn status_of(answer: &Answer) -> Status
         Answer::WriteFault => Status::WriteFault,
         Answer::Tasks { .. } => Status::Done,
         Answer::Checked { bound } => bound_status(*bound),
-        Answer::Planned { .. } => Status::Optimal,
+        Answer::Planned(told) => planned_status(*told),
+        Answer::Unplanned { .. } => Status::BudgetNone,
+        Answer::Infeasible { .. } => Status::Infeasible,
     }
 }
 
@@ -157,21 +186,65 @@ fn put_refusal<K: Sink>(why: Refusal, out: &mut K) -> Result<(), WriteFault>
     }
 }
 
-fn put_end<K: Sink>(end: Tick, out: &mut K) -> Result<(), WriteFault>
-    ensures { Writes K.written K.beside K.faults out.old out.new (end_line end) result }
+fn planned_word(told: Planned) -> &'static [u8]
+    ensures text { result.now ≡ planned_word told }
+    ensures short { length result.now ≤ 7 }
 {
-    let mut line: Text<32> = Text::of(b"end ");
-    line.push_number(end);
-    line.push(b"\n");
-    put_all(out, line.as_bytes())
+    if told.end <= told.bound {
+        b"Optimal"
+    } else {
+        b"Budget"
+    }
 }
 
-#[tactic(auto, using(qc_io::proofs::WritesLemmas::writes_then, qc_io::proofs::WritesLemmas::writes_cut))]
-fn put_planned<K: Sink>(end: Tick, out: &mut K) -> Result<(), WriteFault>
-    ensures { Writes K.written K.beside K.faults out.old out.new (planned_text end) result }
+fn direction_text(direction: Direction) -> &'static [u8]
+    ensures text { result.now ≡ direction_text direction }
+    ensures short { length result.now ≤ 4 }
 {
-    put_all(out, b"Optimal\n")?;
-    put_end(end, out)
+    match direction {
+        Direction::Up => b"up",
+        Direction::Down => b"down",
+    }
+}
+
+/// Writes what is told of a search that met a schedule.
+fn put_planned<K: Sink>(told: Planned, out: &mut K) -> Result<(), WriteFault>
+    ensures { Writes K.written K.beside K.faults out.old out.new (planned_text told) result }
+{
+    let mut text: Text<128> = Text::new();
+    text.push(planned_word(told));
+    text.push(b"\nend ");
+    text.push_number(told.end);
+    text.push(b"\nbound ");
+    text.push_number(told.bound);
+    text.push(b"\nbranched ");
+    text.push_number(told.branched);
+    text.push(b"\ndirection ");
+    text.push(direction_text(told.direction));
+    text.push(b"\n");
+    put_all(out, text.as_bytes())
+}
+
+/// Writes what is told of a search that spent its branchings and met no schedule.
+fn put_unplanned<K: Sink>(bound: Tick, branched: u64, out: &mut K) -> Result<(), WriteFault>
+    ensures { Writes K.written K.beside K.faults out.old out.new (unplanned_text bound branched) result }
+{
+    let mut text: Text<64> = Text::of(b"Budget\nbound ");
+    text.push_number(bound);
+    text.push(b"\nbranched ");
+    text.push_number(branched);
+    text.push(b"\n");
+    put_all(out, text.as_bytes())
+}
+
+/// Writes what is told of a search that showed that no schedule goes one way.
+fn put_infeasible<K: Sink>(branched: u64, out: &mut K) -> Result<(), WriteFault>
+    ensures { Writes K.written K.beside K.faults out.old out.new (infeasible_text branched) result }
+{
+    let mut text: Text<64> = Text::of(b"Infeasible\nbranched ");
+    text.push_number(branched);
+    text.push(b"\n");
+    put_all(out, text.as_bytes())
 }
 
 /// Writes what a tree shows.
@@ -198,7 +271,9 @@ fn put_report<K: Sink>(answer: &Answer, out: &mut K) -> Result<(), WriteFault>
         Answer::WriteFault => put_all(out, b"WriteFault\n"),
         Answer::Tasks { inst } => write_tasks(inst, out),
         Answer::Checked { bound } => put_bound(*bound, out),
-        Answer::Planned { end } => put_planned(*end, out),
+        Answer::Planned(told) => put_planned(*told, out),
+        Answer::Unplanned { bound, branched } => put_unplanned(*bound, *branched, out),
+        Answer::Infeasible { branched } => put_infeasible(*branched, out),
     }
 }
 

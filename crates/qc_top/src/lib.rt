@@ -4,7 +4,7 @@
 mod answer;
 mod check;
 mod faults;
-mod orders;
+mod found;
 mod plan;
 mod plan_text;
 mod program;
@@ -13,7 +13,7 @@ mod status;
 mod tasks;
 mod words;
 
-pub use answer::{Answer, Input, Refusal, Stop};
+pub use answer::{Answer, Input, Planned, Refusal, Stop};
 pub use program::run;
 pub use status::Status;
 pub use words::Request;

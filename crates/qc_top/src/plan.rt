@@ -1,21 +1,56 @@
 //! The command that plans.
-ghost use Rattle.std.specs.Prelude.{◌≡◌, ◌≤◌, [], ◌∷◌, IfSome, OnOk, OnErr, true};
+ghost use Rattle.std.specs.Prelude.{◌≡◌, ◌≤◌, ◌<◌, [], ◌∷◌, IfOk, IfSome, OnOk, OnErr};
 ghost use Rattle.qc_io.specs.Outside.{Rose, stand_of};
 ghost use Rattle.qc_model.specs.Judge.{IsJudgeable};
-ghost use Rattle.qc_top.specs.Asked.{asked_for, plan_name};
+ghost use Rattle.qc_search.specs.Run.{IsTight};
+ghost use Rattle.qc_tree.specs.declared.line.TheConstants.{MOST_BRANCHINGS};
+ghost use Rattle.qc_tree.specs.Trees.{NoneEarlier};
+ghost use Rattle.qc_top.specs.Asked.{asked_for, IsPlanTo};
 ghost use Rattle.qc_top.specs.PlanText.{plan_text};
-ghost use Rattle.qc_top.specs.Due.{due, search};
-ghost use Rattle.qc_top.specs.Orders.{is_small};
-ghost use Rattle.qc_top.specs.Account.{ComesTo, written, IsCutShort, IsWriting};
+ghost use Rattle.qc_top.specs.Due.{due, search as searched};
+ghost use Rattle.qc_top.specs.Account.{ComesTo, IsStored, IsTreeCut, written, plan_texts, IsCutShort, IsWriting};
 
-use crate::answer::{Answer, Refusal, Stop};
-use crate::orders::{best_order, end_of, is_small};
+use crate::answer::{Answer, Stop};
+use crate::found::answer_of;
 use crate::plan_text::write_plan;
 use crate::reading::read_instance;
 use crate::words::Request;
 use qc_io::{Shelf, WriteFault};
 use qc_model::{Instance, Schedule};
+use qc_num::{OutOfMemory, Steps};
+use qc_search::{Done, Search};
 use std::alloc::Global;
+use std::marker::Brand;
+use std::sync::ledger::{Blank, Ledger};
+
+/// Runs the search, with the tree's file as its sink.
+fn store_tree<S: Shelf, L: Ledger>(
+    search: Search,
+    name: &str,
+    blank: Blank,
+    shelf: &mut S,
+) -> Result<Done, WriteFault>
+    requires name { blank.name ≡ L.name }
+    requires parts { blank.parts ≡ L.parts }
+    requires some { 0 < L.parts }
+    ensures ok { IfOk result (λ done. IfSome (S.files shelf.old) (λ held.
+        IsStored search name.now held (S.files shelf.new) done)) }
+    ensures judgeable { IfOk result (λ done. IfSome done.best (IsJudgeable search.inst)) }
+    ensures tight { IfOk result (λ done. IfSome done.best (IsTight search.inst)) }
+    ensures none_earlier { IfOk result (λ done. NoneEarlier search.inst done.bound) }
+    ensures ok_faults { OnOk result (S.Sink.faults shelf.new ≡ S.Sink.faults shelf.old) }
+    ensures err { OnErr result (IfSome (S.files shelf.old) (λ held.
+        IsTreeCut search.inst name.now held (S.files shelf.new))) }
+    ensures err_rose { OnErr result (Rose (S.Sink.faults shelf.old) (S.Sink.faults shelf.new)) }
+    ensures faults_never_fall { S.Sink.faults shelf.old ≤ S.Sink.faults shelf.new }
+    ensures read_faults { S.read_faults shelf.new ≡ S.read_faults shelf.old }
+{
+    if shelf.create(name).is_err() {
+        return Err(WriteFault);
+    }
+    let mut steps = Steps::<L>::new(blank);
+    search.run(shelf, &mut steps)
+}
 
 /// Writes the plan file.
 fn store_plan<S: Shelf>(
@@ -40,43 +75,71 @@ fn store_plan<S: Shelf>(
     write_plan(inst, sched, shelf)
 }
 
-/// Writes the plan of a best one-way schedule of the instance.
-fn plan_instance<S: Shelf>(
-    alloc: Global,
-    request: &Request<'_>,
+/// Writes the plan file where the search met a schedule, and else none.
+fn store_best<S: Shelf>(
     inst: &Instance,
+    done: &Done,
     name: &str,
     shelf: &mut S,
+) -> Result<(), WriteFault>
+    requires { IfSome done.now.best (IsJudgeable inst.now) }
+    ensures ok { OnOk result (IfSome (S.files shelf.old) (λ held.
+        S.files shelf.new ≡ Some (written (plan_texts name.now inst.now done.now.best) held))) }
+    ensures ok_faults { OnOk result (S.Sink.faults shelf.new ≡ S.Sink.faults shelf.old) }
+    ensures err { OnErr result (IfSome (S.files shelf.old) (λ held.
+        IsCutShort (plan_texts name.now inst.now done.now.best) held (S.files shelf.new))) }
+    ensures err_rose { OnErr result (Rose (S.Sink.faults shelf.old) (S.Sink.faults shelf.new)) }
+    ensures faults_never_fall { S.Sink.faults shelf.old ≤ S.Sink.faults shelf.new }
+    ensures read_faults { S.read_faults shelf.new ≡ S.read_faults shelf.old }
+{
+    match done.best() {
+        Some(sched) => store_plan(inst, sched, name, shelf),
+        None => Ok(()),
+    }
+}
+
+/// Runs the search, writes its tree and the plan of the best schedule that it met, and answers what is
+/// told of it.
+fn plan_instance<S: Shelf, L: Ledger>(
+    request: &Request<'_>,
+    inst: &Instance,
+    search: Search,
+    names: (&str, &str),
+    blank: Blank,
+    shelf: &mut S,
 ) -> Answer
-    requires name { plan_name (asked_for request.now) ≡ Some name.now }
-    requires small { is_small inst.now ≡ true }
+    requires plan { IsPlanTo (asked_for request.now) names.0.now names.1.now search.nodes }
+    requires same { search.inst ≡ inst.now }
     requires due { ComesTo (due (asked_for request.now)) (asked_for request.now)
-        (S.files shelf.old) (Ok (search inst.now)) }
+        (S.files shelf.old) (Ok (searched inst.now search.nodes)) }
+    requires name { blank.name ≡ L.name }
+    requires parts { blank.parts ≡ L.parts }
+    requires some { 0 < L.parts }
     ensures serves { IsWriting (asked_for request.now)
         (stand_of S.files S.Sink.faults S.read_faults shelf.old)
         (stand_of S.files S.Sink.faults S.read_faults shelf.new) result }
     ensures faults_never_fall { S.Sink.faults shelf.old ≤ S.Sink.faults shelf.new }
     ensures read_faults_never_fall { S.read_faults shelf.old ≤ S.read_faults shelf.new }
 {
-    let sched = match best_order(alloc, inst) {
-        Ok(sched) => sched,
-        Err(OutOfMemory) => return Answer::Stopped(Stop::OutOfMemory),
+    let Ok(done) = store_tree::<S, L>(search, names.1, blank, shelf) else {
+        return Answer::WriteFault;
     };
-    let end = end_of(inst, &sched);
-    match store_plan(inst, &sched, name, shelf) {
-        Ok(()) => Answer::Planned { end },
+    match store_best(inst, &done, names.0, shelf) {
+        Ok(()) => answer_of(inst, &done),
         Err(WriteFault) => Answer::WriteFault,
     }
 }
 
-/// Reads the ship file and the stowage list and writes the plan of a best one-way schedule.
+/// Reads the ship file and the stowage list, searches their instance, and writes the tree and the plan.
 pub(crate) fn plan<S: Shelf>(
     alloc: Global,
     request: &Request<'_>,
-    name: &str,
+    names: (&str, &str),
+    nodes: u32,
     shelf: &mut S,
 ) -> Answer
-    requires { plan_name (asked_for request.now) ≡ Some name.now }
+    requires plan { IsPlanTo (asked_for request.now) names.0.now names.1.now nodes }
+    requires few { nodes ≤ MOST_BRANCHINGS }
     ensures serves { IsWriting (asked_for request.now)
         (stand_of S.files S.Sink.faults S.read_faults shelf.old)
         (stand_of S.files S.Sink.faults S.read_faults shelf.new) result }
@@ -87,8 +150,15 @@ pub(crate) fn plan<S: Shelf>(
         Ok(inst) => inst,
         Err(stop) => return Answer::Stopped(stop),
     };
-    if !is_small(&inst) {
-        return Answer::Stopped(Stop::Refused(Refusal::Unbuilt));
+    match Search::open(alloc, &inst, nodes) {
+        Ok(search) => plan_instance::<S, Brand>(
+            request,
+            &inst,
+            search,
+            names,
+            Blank::new(1),
+            shelf,
+        ),
+        Err(OutOfMemory) => Answer::Stopped(Stop::OutOfMemory),
     }
-    plan_instance(alloc, request, &inst, name, shelf)
 }

@@ -1,7 +1,7 @@
 //! One run of the program: from words to a status.
 ghost use Rattle.std.specs.Prelude.{◌≡◌, ◌≤◌};
 ghost use Rattle.qc_io.specs.Outside.{stand_of};
-ghost use Rattle.qc_top.specs.Asked.{asked_for};
+ghost use Rattle.qc_top.specs.Asked.{asked_for, HasFewNodes};
 ghost use Rattle.qc_top.specs.Words.{texts};
 ghost use Rattle.qc_top.specs.Account.{Serves, IsRun, printed_of};
 ghost use Rattle.qc_top.specs.Shown.{TellsTree};
@@ -17,6 +17,7 @@ use qc_io::{Shelf, Sink};
 use std::alloc::Global;
 
 fn serve<S: Shelf>(alloc: Global, request: &Request<'_>, shelf: &mut S) -> Answer
+    requires { HasFewNodes (asked_for request.now) }
     ensures serves { Serves (asked_for request.now)
         (stand_of S.files S.Sink.faults S.read_faults shelf.old)
         (stand_of S.files S.Sink.faults S.read_faults shelf.new) result }
@@ -25,7 +26,12 @@ fn serve<S: Shelf>(alloc: Global, request: &Request<'_>, shelf: &mut S) -> Answe
     ensures read_faults_never_fall { S.read_faults shelf.old ≤ S.read_faults shelf.new }
 {
     match request {
-        Request::Plan { plan: name, .. } => plan(alloc, request, name, shelf),
+        Request::Plan {
+            plan: name,
+            tree,
+            nodes,
+            ..
+        } => plan(alloc, request, (*name, *tree), *nodes, shelf),
         Request::Check { .. } => check(alloc, request, shelf),
         Request::Tasks { .. } => list_tasks(alloc, request, shelf),
         Request::Unbuilt => Answer::Stopped(Stop::Refused(Refusal::Unbuilt)),

@@ -1,20 +1,25 @@
 //! The words of a command line, read by hand.
 ghost use Rattle.std.specs.Prelude.{◌≡◌, if◌then◌else◌, option_map};
 ghost use Rattle.qc_top.specs.Asked.{asked_for, name_of, usage};
-ghost use Rattle.qc_top.specs.Words.{texts, is_file_word, is_number_to, are_plan_files, plan_asked, check_of, check_asked, tasks_asked, show_asked, make_asked, asked_by};
+ghost use Rattle.qc_top.specs.Words.{texts, is_file_word, is_number_to, are_plan_files, nodes_in, plan_with, plan_asked, check_of, check_asked, tasks_asked, show_asked, make_asked, asked_by};
 
 use crate::answer::Input;
 use itoa::Buffer;
+use qc_tree::MOST_BRANCHINGS;
+
+/// How many branchings a plan has at most where the words don't say it.
+const USUAL_BRANCHINGS: u32 = 20_000;
 
 /// What the words ask for, with the names of the files.
 #[derive(Clone, Copy, Debug, PartialEq, Eq)]
 pub enum Request<'a> {
-    /// A plan and its tree, with the default number of branchings.
+    /// A plan and its tree, with at most so many branchings.
     Plan {
         ship: &'a str,
         stow: &'a str,
         plan: &'a str,
         tree: &'a str,
+        nodes: u32,
     },
     /// What a tree shows, without a plan.
     Check {
@@ -93,27 +98,58 @@ fn asked_if(canonical: bool, request: Request<'_>) -> Request<'_>
     if canonical { request } else { Request::Usage }
 }
 
+/// The number of branchings that an option and its number give.
+fn nodes_in(option: &str, number: &str) -> Option<u32>
+    ensures { result ≡ nodes_in option.now number.now }
+{
+    if option == "--nodes" && is_number_to(number, MOST_BRANCHINGS) {
+        number.parse::<u32>().ok()
+    } else {
+        None
+    }
+}
+
+fn plan_with<'a>(
+    ship: &'a str,
+    stow: &'a str,
+    plan: &'a str,
+    tree: &'a str,
+    nodes: Option<u32>,
+) -> Request<'a>
+    ensures { asked_for result ≡ plan_with ship.now stow.now plan.now tree.now nodes }
+{
+    match nodes {
+        Some(nodes) => asked_if(
+            are_plan_files(ship, stow, plan, tree),
+            Request::Plan {
+                ship,
+                stow,
+                plan,
+                tree,
+                nodes,
+            },
+        ),
+        None => Request::Usage,
+    }
+}
+
 fn plan_asked(args: &[String]) -> Request<'_>
     ensures { asked_for result ≡ plan_asked (texts args.now) }
 {
     match args {
-        [s, w, p, t] => {
-            let (ship, stow, plan, tree) = (s.as_str(), w.as_str(), p.as_str(), t.as_str());
-            asked_if(
-                are_plan_files(ship, stow, plan, tree),
-                Request::Plan {
-                    ship,
-                    stow,
-                    plan,
-                    tree,
-                },
-            )
-        }
-        [s, w, p, t, option, number] => asked_if(
-            are_plan_files(s.as_str(), w.as_str(), p.as_str(), t.as_str())
-                && option.as_str() == "--nodes"
-                && is_number_to(number.as_str(), 100_000),
-            Request::Unbuilt,
+        [s, w, p, t] => plan_with(
+            s.as_str(),
+            w.as_str(),
+            p.as_str(),
+            t.as_str(),
+            Some(USUAL_BRANCHINGS),
+        ),
+        [s, w, p, t, option, number] => plan_with(
+            s.as_str(),
+            w.as_str(),
+            p.as_str(),
+            t.as_str(),
+            nodes_in(option.as_str(), number.as_str()),
         ),
         _ => Request::Usage,
     }

@@ -1,19 +1,33 @@
-use Rattle.qc_top.specs.Account.{IsBest}
-use Rattle.qc_top.proofs.ServeLemmas.{plan_written, plan_cut}
+use Rattle.std.proofs.Common.{◌∙◌}
+use Rattle.qc_io.specs.Outside.{stand_of}
+use Rattle.qc_top.specs.Asked.{asked_for}
+use Rattle.qc_top.proofs.ServeLemmas.{plan_searched, plan_cut, plan_tree_cut, writes_told}
 use Rattle.qc_top.proofs.plan.plan_instance.Goals as goal
 
-pub returns-in-Ok-store_plan-clause-serves : goal.returns-in-Ok-store_plan-clause-serves
-returns-in-Ok-store_plan-clause-serves g c =
-    let best : IsBest c.args.inst.now c.in-Ok.sched = record { goes = c.in-Ok.ensures.goes; least = c.in-Ok.ensures.best } in (
-      c.in-Ok-store_plan.ensures.ok_faults,
-      c.in-Ok-store_plan.ensures.read_faults,
-      plan_written _ _ c.requires.name _ _ c.args.inst.now c.in-Ok.sched c.end_of-end.result c.requires.due best c.end_of-end.ensures c.in-Ok-store_plan.ensures.ok,
-    )
+pub returns-in_default-clause-serves : goal.returns-in_default-clause-serves
+returns-in_default-clause-serves g c = (
+  c.in_default.ensures.err_rose,
+  c.store_tree.ensures.read_faults,
+  plan_tree_cut (asked_for c.args.request.now) _ _ c.args.search.nodes c.requires.plan c.args.search.inst _
+      (g.S.Shelf.files c.store_tree.new.shelf) (g.S.Shelf.files c.store_tree.new.shelf)
+      (rw c.requires.same c.requires.due) c.in_default.ensures.err,
+)
+
+pub returns-in-Ok-store_best-clause-serves : goal.returns-in-Ok-store_best-clause-serves
+returns-in-Ok-store_best-clause-serves g c =
+    let stand = stand_of g.S.Shelf.files g.S.Sink.faults g.S.Shelf.read_faults in
+    writes_told (asked_for c.args.request.now) (stand c.args.shelf.now) (stand c.store_best.new.shelf) c.args.inst.now c.in-Ok.done c.answer_of.result c.answer_of.ensures
+    (c.in-Ok-store_best.ensures.ok_faults ∙ c.in-Ok.ensures.ok_faults) (c.store_best.ensures.read_faults ∙ c.store_tree.ensures.read_faults)
+    (plan_searched (asked_for c.args.request.now) _ _ c.args.search.nodes c.requires.plan c.args.search.inst _
+    (g.S.Shelf.files c.store_tree.new.shelf) (g.S.Shelf.files c.store_best.new.shelf)
+    (rw c.requires.same c.requires.due) c.in-Ok.done c.answer_of.result c.in-Ok.ensures.ok
+    (rw c.requires.same c.in-Ok-store_best.ensures.ok) (rw c.requires.same c.answer_of.ensures))
 
 pub returns-clause-serves : goal.returns-clause-serves
-returns-clause-serves g c =
-    let best : IsBest c.args.inst.now c.in-Ok.sched = record { goes = c.in-Ok.ensures.goes; least = c.in-Ok.ensures.best } in (
-      c.in-Err-store_plan.ensures.err_rose,
-      c.in-Err-store_plan.ensures.read_faults,
-      plan_cut _ _ c.requires.name _ _ c.args.inst.now c.in-Ok.sched c.requires.due best c.in-Err-store_plan.ensures.err,
-    )
+returns-clause-serves g c = (
+  rw c.in-Ok.ensures.ok_faults at c.in-Err.ensures.err_rose,
+  c.store_best.ensures.read_faults ∙ c.store_tree.ensures.read_faults,
+  plan_cut (asked_for c.args.request.now) _ _ c.args.search.nodes c.requires.plan c.args.search.inst _
+      (g.S.Shelf.files c.store_tree.new.shelf) (g.S.Shelf.files c.store_best.new.shelf)
+      (rw c.requires.same c.requires.due) c.in-Ok.done c.in-Ok.ensures.ok (rw c.requires.same c.in-Err.ensures.err),
+)

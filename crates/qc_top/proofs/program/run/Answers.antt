@@ -1,7 +1,8 @@
-use Rattle.std.proofs.Common.{sym}
+use Rattle.std.proofs.Common.{subst, sym}
 use Rattle.qc_io.specs.Outside.{stand_of}
 use Rattle.qc_top.specs.Words.{texts}
-use Rattle.qc_top.specs.Asked.{asked_for}
+use Rattle.qc_top.specs.Asked.{asked_for, HasFewNodes}
+use Rattle.qc_top.proofs.WordLemmas.{few_nodes}
 use Rattle.qc_top.specs.Account.{IsRun, printed_of}
 use Rattle.qc_top.proofs.RunLemmas.{promises}
 use Rattle.qc_top.proofs.program.run.Goals as goal
@@ -18,3 +19,6 @@ returns-clause-promises g c =
       reports = c.report.ensures.reports;
     } in
     promises (texts c.args.words.now) (stand c.args.shelf.now) (stand c.serve-answer.new.shelf) (printed c.args.out.now) (printed c.report.new.out) c.report.result run c.serve-answer.ensures.tells
+
+pub serve-answer-requires : goal.serve-answer-requires
+serve-answer-requires g c = subst HasFewNodes (sym c.asked_by-request.ensures) (few_nodes (texts c.args.words.now))
