@@ -1,0 +1,135 @@
+#!/usr/bin/env python3
+"""Plans ships that are made from numbers, and prints what it took.
+
+    bench/bench.py [KIND ..]      KIND is made, kim or vessel; all of them where none is named
+
+For each ship: tasks, cranes, how the plan ended, its end and bound in ticks, the gap between them, branchings,
+seconds, microseconds a branching, and the most memory in MB. Only Python's standard library is needed; `./qc` is
+built first where it isn't.
+"""
+import os
+import subprocess
+import sys
+import tempfile
+import time
+
+ROOT = os.path.dirname(os.path.dirname(os.path.abspath(__file__)))
+PROGRAM = os.path.join(ROOT, "crates", "qc_cli", "out", "qc_cli")
+PHASES = (("D", "82"), ("D", "02"), ("L", "02"), ("L", "82"))
+
+
+def draws(number):
+    """The numbers 0 to 30 that follow from a first one, by a linear congruence modulo 2^31."""
+    while True:
+        number = (1103515245 * number + 12345) % 2147483648
+        yield number // 65536 % 31
+
+
+def ship(hatches, cranes, margin, travel, deck, hold, cover):
+    lines = [f"hatches = {hatches}", f"margin = {margin}", f"travel = {travel}",
+             f"deck_move = {deck}", f"hold_move = {hold}", f"cover = {cover}"]
+    for name, bay in cranes:
+        lines += ["", "[[crane]]", f'name = "{name}"', f"bay = {bay}"]
+    return "\n".join(lines) + "\n"
+
+
+def moves(hatch, phase, count):
+    kind, tier = PHASES[phase]
+    return [f"{hatch}-{phase}-{i},{kind},{hatch:03}{i % 10:02}{int(tier) + 2 * (i // 10):02},40"
+            for i in range(count)]
+
+
+def made(number, hatches, cranes):
+    """Hatches of four phases, each of 0 to 30 moves, and cranes side by side at the bow."""
+    draw = draws(number)
+    rows = ["id,move,cell,length"]
+    for k in range(hatches):
+        for phase in range(4):
+            rows += moves(4 * k + 2, phase, next(draw))
+    places = [(f"C{k + 1}", 2 * k + 1) for k in range(cranes)]
+    return ship([4 * k + 2 for k in range(hatches)], places, 1, 60, 120, 110, 240), rows
+
+
+def kim(number, tasks, cranes):
+    """One task a hatch, of 3 to 180 ticks, after the size of the ships of Kim and Park (2004)."""
+    draw = draws(number)
+    rows = ["id,move,cell,length"]
+    for k in range(tasks):
+        count = 3 + (31 * next(draw) + next(draw)) % 178
+        rows += [f"{k}-{i},D,{4 * k + 2:03}{i // 13:02}{70 + 2 * (i % 13):02},40" for i in range(count)]
+    gap = max(2, tasks // cranes)
+    places = [(f"C{k + 1}", 1 + gap * k) for k in range(cranes)]
+    return ship([4 * k + 2 for k in range(tasks)], places, 1, 1, 1, 1, 0), rows
+
+
+def vessel(number, hatches, cranes):
+    """Four phases, most work amidships, cranes spread over the ship."""
+    draw = draws(number)
+    rows = ["id,move,cell,length"]
+    for k in range(hatches):
+        middle = 1 + min(k, hatches - 1 - k)
+        for phase in range(4):
+            rows += moves(4 * k + 2, phase, min(99, middle * next(draw) // 3))
+    places = [(f"C{k + 1}", 1 + k * hatches // cranes) for k in range(cranes)]
+    return ship([4 * k + 2 for k in range(hatches)], places, 1, 30, 100, 120, 300), rows
+
+
+SHIPS = {
+    "made": (made, [(7, 4, 2), (1, 8, 2), (1, 15, 2), (3, 10, 3), (2, 10, 3)]),
+    "kim": (kim, [(1, 10, 2), (2, 15, 2), (3, 20, 3), (4, 25, 3), (5, 30, 4), (6, 35, 4)]),
+    "vessel": (vessel, [(1, 8, 2), (2, 12, 3), (3, 20, 4)]),
+}
+
+
+def most_memory(child):
+    """The most memory in MB that a process is seen to hold until it ends; all is taken at its beginning."""
+    most = 0
+    while child.poll() is None:
+        try:
+            with open(f"/proc/{child.pid}/status", encoding="ascii") as status:
+                most = max([most] + [int(line.split()[1]) for line in status if line.startswith("VmHWM")])
+        except (FileNotFoundError, ProcessLookupError):
+            pass
+        time.sleep(0.001)
+    return most / 1024
+
+
+def plan(kind, numbers, nodes):
+    toml, rows = SHIPS[kind][0](*numbers)
+    with tempfile.TemporaryDirectory() as folder:
+        for name, text in (("ship.toml", toml), ("stow.csv", "\n".join(rows) + "\n")):
+            with open(os.path.join(folder, name), "w", encoding="ascii") as file:
+                file.write(text)
+        files = [os.path.join(folder, f) for f in ("ship.toml", "stow.csv", "plan.csv", "tree.txt")]
+        report = os.path.join(folder, "report")
+        start = time.perf_counter()
+        with open(report, "w", encoding="ascii") as out:
+            child = subprocess.Popen([PROGRAM, "plan", *files, "--nodes", str(nodes)], stdout=out)
+            memory = most_memory(child)
+        seconds = time.perf_counter() - start
+        with open(report, encoding="ascii") as text:
+            lines = text.read().splitlines()
+        tasks = subprocess.run([PROGRAM, "tasks", *files[:2]], capture_output=True, text=True, check=False)
+        told = dict(line.split(" ", 1) for line in lines if " " in line)
+        count = sum(line.startswith("task ") for line in tasks.stdout.splitlines())
+        return count, numbers[2], lines[0], told, seconds, memory
+
+
+def main(words):
+    subprocess.run([os.path.join(ROOT, "qc")], capture_output=True, check=False)
+    print("| Ship | Tasks | Cranes | Ended | End | Bound | Gap % | Branched | Seconds | µs a branching | MB |")
+    print("|---|---|---|---|---|---|---|---|---|---|---|")
+    for kind in words or SHIPS:
+        for numbers in SHIPS[kind][1]:
+            tasks, cranes, ended, told, seconds, memory = plan(kind, numbers, 20000)
+            end, bound = int(told.get("end", 0)), int(told.get("bound", 0))
+            branched = int(told.get("branched", 0))
+            gap = 100 * (end - bound) / end if end else 0
+            each = 1e6 * seconds / max(1, branched)
+            name = f"{kind} " + " ".join(map(str, numbers))
+            print(f"| `{name}` | {tasks} | {cranes} | {ended} | {end:,} | {bound:,} | {gap:.1f} | {branched:,} "
+                  f"| {seconds:.2f} | {each:.0f} | {memory:.1f} |", flush=True)
+
+
+if __name__ == "__main__":
+    main(sys.argv[1:])
