@@ -14,13 +14,15 @@ use Rattle.qc_model.specs.Nodes.{Fits, assigned, is_ordered}
 use Rattle.qc_dist.proofs.Sums.{count_less}
 use Rattle.qc_dist.proofs.Assigned.{ordered_here}
 
-abbrev is_unordered : List Decision → Pair → Bool
+abbrev pub is_unordered : List Decision → Pair → Bool
 is_unordered ds p = not (is_ordered ds p.first p.second || is_ordered ds p.second p.first)
 
-abbrev unassigned : InstanceView → List Decision → ℕ
+-- how many tasks no crane has
+abbrev pub unassigned : InstanceView → List Decision → ℕ
 unassigned inst ds = count_by (λ j. is_none (assigned ds j)) (range_with_len 0 (length inst.tasks))
 
-abbrev unordered : InstanceView → List Decision → ℕ
+-- how many apart pairs have no order
+abbrev pub unordered : InstanceView → List Decision → ℕ
 unordered inst ds = count_by (is_unordered ds) inst.apart
 
 -- what is unassigned after a decision was so before it
@@ -51,7 +53,7 @@ ordered_before ds i j p h =
     none_before_or (nat_eq i p.first && nat_eq j p.second) (is_ordered ds p.first p.second)
     (nat_eq i p.second && nat_eq j p.first) (is_ordered ds p.second p.first) h
 
-ordered_less : (inst : InstanceView) (ds : List Decision) (i j : ℕ) → IsApart inst i j ⊎ IsApart inst j i
+pub ordered_less : (inst : InstanceView) (ds : List Decision) (i j : ℕ) → IsApart inst i j ⊎ IsApart inst j i
     → is_ordered ds i j ≡ false → is_ordered ds j i ≡ false
     → unordered inst (Order i j ∷ ds) + 1 ≤ unordered inst ds
 ordered_less inst ds i j (inl at) one other =
@@ -67,7 +69,7 @@ ordered_less inst ds i j (inr at) one other =
     (ap (is_unordered ds) at.2 ∙ either (is_ordered ds j i) (is_ordered ds i j) other one)
     (ap after at.2 ∙ second_of_two (ordered j i) (ordered i j) (ordered_here ds i j))
 
-assigned_less : (inst : InstanceView) (ds : List Decision) (i k : ℕ)
+pub assigned_less : (inst : InstanceView) (ds : List Decision) (i k : ℕ)
     → i < length inst.tasks → assigned ds i ≡ None
     → unassigned inst (Assign i k ∷ ds) + 1 ≤ unassigned inst ds
 assigned_less inst ds i k inside none =
@@ -79,7 +81,7 @@ assigned_less inst ds i k inside none =
     (ap (λ j. is_none (assigned ds j)) at ∙ ap is_none none)
     (ap (λ j. is_none (assigned (Assign i k ∷ ds) j)) at ∙ ap (λ b. is_none (cond b (Some k) (assigned ds i))) (eq-eqb i i refl))
 
-counted : (inst : InstanceView) (ds : List Decision) → Fits inst ds
+pub counted : (inst : InstanceView) (ds : List Decision) → Fits inst ds
     → length ds + (unassigned inst ds + unordered inst ds) ≤ length inst.tasks + length inst.apart
 counted inst [] f =
     let all = range_with_len 0 (length inst.tasks) in

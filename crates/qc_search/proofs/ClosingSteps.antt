@@ -8,13 +8,15 @@ use Rattle.qc_num.specs.Bounds.{IsAtMost, lesser}
 use Rattle.qc_bounds.specs.declared.leaves.LeafKind.{LeafKind}
 use Rattle.qc_bounds.specs.declared.leaves.LeafKind.TheVariants as kind
 use Rattle.qc_bounds.specs.Closed.{IsClosedBy, IsSpentBy}
+use Rattle.qc_bounds.proofs.ClosedLemmas.{one_end}
 use Rattle.qc_model.specs.declared.decision.Decision.{Decision}
 use Rattle.qc_model.specs.declared.decision.Decision.TheVariants.{Assign, Order}
 use Rattle.qc_model.specs.declared.direction.Direction.{Direction}
 use Rattle.qc_model.specs.Closing.{IsClosable, IsWorkBound, complete, no_starts, out_of_reach}
 use Rattle.qc_model.specs.Instance.{InstanceView}
 use Rattle.qc_model.specs.Leaves.{Leaf, chain, is_out_of_reach, leaf_value, reach, with_berths}
-use Rattle.qc_model.specs.Nodes.{HasStarts, IsComplete, IsInReach, reaches}
+use Rattle.qc_model.specs.Nodes.{HasStarts, IsComplete, IsInReach, IsNodeEnd, reaches}
+use Rattle.qc_model.specs.Rules.{last_end}
 use Rattle.qc_model.specs.Seen.{seen}
 use Rattle.qc_starts.specs.Seen.{IsReached, IsWhy}
 use Rattle.qc_tree.specs.Trees.{leaf_text}
@@ -25,8 +27,8 @@ use Rattle.qc_search.specs.Earned.{IsChainTo, IsClosedAt, IsEarnedBehind, IsGive
 use Rattle.qc_search.specs.Course.{Comes, IsAlong, IsCourse, IsLeafBy, IsPassed, IsTaken, leaf_of, value_by, value_in}
 use Rattle.qc_search.specs.Walk.{Holds, IsOpenBranch, children, shown_by, sign_of, sign_text}
 use Rattle.qc_search.proofs.CourseLemmas.{comes_one}
-use Rattle.qc_search.proofs.EarnedLemmas.{branchings-append, met_passed, value_push}
-use Rattle.qc_search.proofs.StepLemmas.{kept_on, leaf_comes}
+use Rattle.qc_search.proofs.EarnedLemmas.{at_most_never, at_most_same, at_most_through, branchings-append, met_passed, value_push}
+use Rattle.qc_search.proofs.StepLemmas.{kept_on, leaf_comes, met_before}
 
 -- ---- out of reach
 
@@ -76,6 +78,8 @@ reach_comes inst way ds d more course away =
       met = refl;
       way_is = refl;
       best = refl;
+      late = λ left.
+          subst (IsAtMost course.met) (sym (ap (λ (o : Option Bound). unwrap_or o Never) shows)) (at_most_never course.met);
     })
 
 -- ---- closed, and given up
@@ -162,6 +166,35 @@ given_as inst ds u (kind.Work end) tasks h open_node = record {
   by_work = λ _. refl;
 }
 
+-- the end that was met once the node's schedule is taken, or passed by, is no later than the node's own
+met_by_end : (inst : InstanceView) (way : Direction) (ds : List Decision) (old mid : Course) (end : ℕ)
+    → IsPassed inst ds old mid ⊎ IsTaken inst way ds old mid → IsInReach inst ds → IsComplete inst ds
+    → IsNodeEnd inst ds end → IsAtMost mid.met (Least end)
+met_by_end inst way ds old mid end (inl p) within all e =
+    subst (λ (c : Course). IsAtMost c.met (Least end)) (sym p.same)
+    (subst (λ (n : ℕ). IsAtMost old.met (Least n)) (sym e.ends) (p.late e.starts all within e.least))
+met_by_end inst way ds old mid end (inr t) within all e =
+    let mine : IsNodeEnd inst ds (last_end inst.tasks t.begins) =
+    record { starts = t.begins; least = t.least; ends = refl } in
+    subst (λ (c : Course). IsAtMost c.met (Least end)) (sym t.is)
+    (omega (arith, one_end inst ds end (last_end inst.tasks t.begins) e mine))
+
+-- the leaf of a closed node shows no end sooner than the one that was met
+closed_late : (inst : InstanceView) (way : Direction) (ds : List Decision) (old mid : Course) (leaf : LeafKind)
+    (tasks : List ℕ) → IsPassed inst ds old mid ⊎ IsTaken inst way ds old mid → IsInReach inst ds
+    → IsClosedBy inst ds old.met leaf tasks → IsAtMost mid.met (value_by inst ds (Some (leaf_of leaf tasks)))
+closed_late inst way ds old mid kind.Chain tasks meets within h =
+    subst (IsAtMost mid.met) (sym (ap (λ (o : Option Bound). unwrap_or o Never) h.0.chain)) (by_due h.1)
+  where
+    by_due : IsComplete inst ds ⊎ IsAtMost old.met (Least h.0.end) → IsAtMost mid.met (Least h.0.end)
+    by_due (inl all) = met_by_end inst way ds old mid h.0.end meets within all h.0.ends
+    by_due (inr late) = at_most_through mid.met old.met (Least h.0.end) (met_before inst way ds old mid meets) late
+closed_late inst way ds old mid kind.Ring tasks meets within h =
+    subst (IsAtMost mid.met) (sym (ap (λ (o : Option Bound). unwrap_or o Never) h.ring)) (at_most_never mid.met)
+closed_late inst way ds old mid (kind.Work end) tasks meets within h =
+    subst (IsAtMost mid.met) (sym (ap (λ (o : Option Bound). unwrap_or o Never) h.0.shows))
+    (at_most_through mid.met old.met (Least end) (met_before inst way ds old mid meets) h.1)
+
 module _ (inst : InstanceView) (way : Direction) (ds : List Decision) (more : List (List Decision))
     (leaf : LeafKind) (old new : Course) where
   abbrev shows : Leaf
@@ -187,6 +220,9 @@ module _ (inst : InstanceView) (way : Direction) (ds : List Decision) (more : Li
         met = ap (λ (c : Course). c.met) is;
         way_is = ap (λ (c : Course). c.way) is;
         best = ap (λ (c : Course). c.best) is;
+        late = λ left.
+            subst (λ (b : Bound). IsAtMost b (value_by inst ds (Some shows))) (sym (ap (λ (c : Course). c.met) is))
+            (closed_late inst way ds old mid leaf old.path.items meets within by);
       })
 
   pub spent_comes : ¬ IsClosable inst ds old.met → old.branched ≡ old.nodes
@@ -206,6 +242,7 @@ module _ (inst : InstanceView) (way : Direction) (ds : List Decision) (more : Li
         met = ap (λ (c : Course). c.met) is;
         way_is = ap (λ (c : Course). c.way) is;
         best = ap (λ (c : Course). c.best) is;
+        late = λ left. absurd (omega (arith, left, spent));
       })
 
 -- ---- a branching
@@ -255,6 +292,9 @@ module _ (home : InstanceView) (way : Direction) (ds : List Decision) (shown : O
               ∙ ap (lesser (value_in home before)) (sym worthless) ∙ sym (value_push home before here);
           met = subst (IsMetEnd home (before ++ here ∷ [])) (sym s.met) met;
           best = λ end e. kept_on home old new before here end s.way_is s.best (course.best end (sym s.met ∙ e));
+          late = λ left.
+              subst (IsAtMost new.met) (sym s.bound)
+              (subst (λ (b : Bound). IsAtMost b old.bound) (sym s.met) (course.late s.left));
         },
       )
 

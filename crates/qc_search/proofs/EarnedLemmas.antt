@@ -70,13 +70,29 @@ module _ (home : InstanceView) (most : ℕ) where
 
 -- ---- the least end that was met
 
-at_most_through : (a b c : Bound) → IsAtMost a b → IsAtMost b c → IsAtMost a c
+pub at_most_through : (a b c : Bound) → IsAtMost a b → IsAtMost b c → IsAtMost a c
 at_most_through (Least a) (Least b) (Least c) h k = omega arith
 at_most_through (Least a) (Least b) Never h k = tt
 at_most_through (Least a) Never (Least c) h k = absurd k
 at_most_through (Least a) Never Never h k = tt
 at_most_through Never (Least b) c h k = absurd h
 at_most_through Never Never c h k = k
+
+pub at_most_same : (a : Bound) → IsAtMost a a
+at_most_same (Least a) = omega arith
+at_most_same Never = tt
+
+pub at_most_never : (a : Bound) → IsAtMost a Never
+at_most_never (Least a) = tt
+at_most_never Never = tt
+
+-- what is no greater than two bounds is no greater than the lesser
+pub at_most_lesser : (a b c : Bound) → IsAtMost a b → IsAtMost a c → IsAtMost a (lesser b c)
+at_most_lesser (Least a) (Least b) (Least c) h k = omega arith
+at_most_lesser (Least a) (Least b) Never h k = h
+at_most_lesser (Least a) Never c h k = k
+at_most_lesser Never (Least b) c h k = absurd h
+at_most_lesser Never Never c h k = k
 
 same_least : (a b : ℕ) → ◌≡◌ {A = Bound} (Least a) (Least b) → a ≡ b
 same_least a b e = ap number e

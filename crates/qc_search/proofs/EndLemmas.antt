@@ -9,17 +9,18 @@ use Rattle.qc_tree.specs.declared.line.TheConstants.{MOST_BRANCHINGS}
 use Rattle.qc_tree.specs.Trees.{NoneEarlier, Tree, whole_line}
 use Rattle.qc_tree.proofs.TreeBound.{tree_bound}
 use Rattle.qc_num.specs.declared.bound.Bound.TheVariants.{Least, Never}
-use Rattle.qc_model.specs.Judge.{IsJudgeable}
 use Rattle.qc_model.specs.declared.schedule.Slot.{Slot}
 use Rattle.smallvec.specs.SmallVec.{SmallVec}
-use Rattle.std.specs.Prelude.{All, IfSome}
+use Rattle.std.specs.Prelude.{All}
 use Rattle.qc_search.specs.declared.course.Course.{Course}
 use Rattle.qc_search.specs.Course.{Comes, IsCourse, WentTree, shown_best}
 use Rattle.qc_search.specs.Earned.{tree_nodes}
-use Rattle.qc_search.specs.Run.{DoneView, IsSearched, IsTight, outcome, best_end}
+use Rattle.qc_search.specs.declared.done.Kind.TheVariants.{Budget}
+use Rattle.qc_search.specs.Run.{DoneView, IsSearched, IsSound, outcome, best_end}
+use Rattle.qc_search.proofs.CountLemmas.{few_in_tree}
 use Rattle.qc_search.proofs.EarnedLemmas.{none_met}
 use Rattle.qc_search.proofs.ShownLemmas.{cranes_low, judgeable_is, tight_is}
-use Rattle.qc_search.proofs.RunLemmas.{bound_is, branched_is, course_done, run_is, searched, text_is, tree_is}
+use Rattle.qc_search.proofs.RunLemmas.{bound_is, branched_is, course_done, run_is, searched, spent_is, text_is, tree_is}
 use Rattle.qc_search.proofs.TightLemmas.{best_end_is}
 
 module _ (home : InstanceView) (v : Valid home) (begun turned done : Course) (one two : List ℕ)
@@ -78,6 +79,7 @@ begun_course home begun nodes best path is = subst (λ (c : Course). IsCourse ho
   bound = refl;
   met = none_met home;
   best = λ end e. absurd (cc e);
+  late = λ left. tt;
 })
 
 -- what is told of a tree that was written
@@ -105,17 +107,28 @@ module _ {K B : Type 0} (written : K → Option (List ℕ)) (beside : K → B) (
       (searched_is home v begun w.between done w.one w.two w.up w.down first few (written before) (written after)
       w.writes.whole)
 
-  pub went_none_earlier : NoneEarlier home done.bound
-  went_none_earlier = none_earlier home v begun w.between done w.one w.two w.up w.down first few
-
-  pub went_kind : outcome done.bound done.met ≡ outcome done.bound (best_end home (told_of home done).best)
-  went_kind = kind_is home v begun w.between done w.one w.two w.up w.down first few
-
   pub went_cranes : (end : ℕ) → done.met ≡ Least end → All (λ (s : Slot). s.crane < length home.cranes) done.best
   went_cranes = cranes_low home v done _ done_course
 
-  pub went_judgeable : IfSome (told_of home done).best (IsJudgeable home)
-  went_judgeable = judgeable_is home v done _ done_course
-
-  pub went_tight : IfSome (told_of home done).best (IsTight home)
-  went_tight = tight_is home v done _ done_course
+  pub went_sound : (nodes : ℕ) → begun.nodes ≡ nodes
+      → IsSound (record { inst = home; nodes = nodes }) (told_of home done)
+  went_sound nodes same = record {
+    none_earlier = none_earlier home v begun w.between done w.one w.two w.up w.down first few;
+    judgeable = judgeable_is home v done _ done_course;
+    tight = tight_is home v done _ done_course;
+    kind = kind_is home v begun w.between done w.one w.two w.up w.down first few;
+    spent = λ kind. spent kind ∙ same;
+    decides = λ enough kind.
+        omega (
+          arith,
+          enough,
+          same,
+          spent kind,
+          branched_is home begun w.between done w.one w.two w.up w.down first few,
+          few_in_tree home (tree home v begun w.between done w.one w.two w.up w.down first few)
+              (tree_is home begun w.between done w.one w.two w.up w.down first few),
+        );
+  }
+    where
+      spent : outcome done.bound done.met ≡ Budget → done.branched ≡ begun.nodes
+      spent = spent_is home begun w.between done w.one w.two w.up w.down first few

@@ -4,6 +4,7 @@ pub mod CourseLemmas
 pub mod StepLemmas
 pub mod ClosingSteps
 pub mod DescentLemmas
+pub mod CountLemmas
 pub mod RunLemmas
 pub mod BestLemmas
 pub mod LineLemmas

@@ -52,6 +52,7 @@ course_by_path home course path nodes c = record {
   bound = c.bound;
   met = c.met;
   best = λ end e. kept_by_path home course path nodes end (c.best end e);
+  late = c.late;
 }
 
 module _ (inst : InstanceView) (way : Direction) (due : List (List Decision)) (old : Course) (path : SmallVec ℕ)

@@ -1,11 +1,13 @@
 -- Two parts that were searched make a tree that is a run.
-use Rattle.std.proofs.Common.{◌≡◌, ℕ, ◌+◌, ◌≤◌, List, [], ◌∷◌, ◌++◌, length, map, None, refl, ap, ap₂, sym, subst, ◌∙◌, arith}
+use Rattle.std.proofs.Common.{◌≡◌, ℕ, ◌+◌, ◌<◌, ◌≤◌, ◌⊎◌, inl, inr, Bool, true, cond, List, [], ◌∷◌, ◌++◌, length, map, None, refl, ap, ap₂, sym, subst, ◌∙◌, arith}
+use Rattle.std.proofs.Math.Nat.{eq-or-lt_of_le}
+use Rattle.std.proofs.lemmas.Bool.{le-leb}
 use Rattle.std.proofs.lemmas.List.Sums.{sum_by-cons}
 use Rattle.std.specs.Prelude.{MatchOption, sum_by, unwrap_or}
 use Rattle.std.specs.List.{flat_map, range_with_len}
 use Rattle.qc_num.specs.declared.bound.Bound.{Bound}
 use Rattle.qc_num.specs.declared.bound.Bound.TheVariants.{Least, Never}
-use Rattle.qc_num.specs.Bounds.{least_bound, lesser}
+use Rattle.qc_num.specs.Bounds.{IsAtMost, least_bound, lesser}
 use Rattle.qc_model.specs.declared.decision.Decision.{Decision}
 use Rattle.qc_model.specs.declared.decision.Decision.TheVariants as decide
 use Rattle.qc_model.specs.declared.direction.Direction.{Direction}
@@ -20,6 +22,7 @@ use Rattle.qc_tree.specs.declared.line.Line.TheVariants as line
 use Rattle.qc_tree.specs.declared.line.TheConstants.{MOST_BRANCHINGS}
 use Rattle.qc_tree.specs.Trees.{IsTree, Part, Tree, branchings, leaf, on_pair, on_task, part_text, part_value, tree_branchings, tree_text, tree_value, whole_line}
 use Rattle.qc_search.specs.declared.course.Course.{Course}
+use Rattle.qc_search.specs.declared.done.Kind.TheVariants.{Budget, Optimal}
 use Rattle.qc_search.specs.Earned.{IsEarned, IsMetEnd, TreeNode, branchings_in, node_at, part_nodes, tree_nodes}
 use Rattle.qc_search.specs.Course.{AreEarned, Comes, IsCourse, IsKeptBest, shown_best, value_in, visit_nodes}
 use Rattle.qc_search.specs.Run.{IsMetBest, IsRun, outcome}
@@ -78,6 +81,13 @@ module _ (home : InstanceView) (way : Direction) where
       ap₂ lesser (nodes_valued (decide.Order i j ∷ ds) first) (nodes_valued (decide.Order j i ∷ ds) second)
       ∙ sym (value-append home (part_nodes cranes way (decide.Order i j ∷ ds) first)
       (part_nodes cranes way (decide.Order j i ∷ ds) second))
+
+-- where no leaf shows an end sooner than the one that was met, the outcome isn't Budget
+decided : (value met : Bound) → outcome value met ≡ Budget → IsAtMost met value → ⊥
+decided Never met is late = cc is
+decided (Least value) Never is late = late
+decided (Least value) (Least end) is late =
+    cc (sym is ∙ ap (λ (b : Bool). cond b Optimal Budget) (le-leb end value late))
 
 -- ---- both parts
 
@@ -201,6 +211,14 @@ module _ (home : InstanceView) (begun turned done : Course) (one two : List ℕ)
       (IsMetBest home searched)
   best_is = best_by done.met done.way refl refl
 
+  -- under Budget all branchings are spent
+  pub spent_is : outcome done.bound done.met ≡ Budget → done.branched ≡ begun.nodes
+  spent_is kind = by_left (eq-or-lt_of_le course_done.few)
+    where
+      by_left : (done.branched ≡ done.nodes) ⊎ (done.branched < done.nodes) → done.branched ≡ begun.nodes
+      by_left (inl all) = all ∙ same_most
+      by_left (inr left) = absurd (decided done.bound done.met kind (course_done.late left))
+
   pub run_is : IsRun home begun.nodes searched (shown_best (length home.cranes) done.met done.way done.best)
       (outcome done.bound done.met)
   run_is = record {
@@ -210,4 +228,5 @@ module _ (home : InstanceView) (begun turned done : Course) (one two : List ℕ)
     ends = course_done.met;
     is_best = best_is;
     is_kind = ap (λ (b : Bound). outcome b done.met) bound_is;
+    spent = λ kind. sym branched_is ∙ spent_is kind;
   }

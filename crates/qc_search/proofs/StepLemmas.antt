@@ -1,5 +1,5 @@
 -- The steps of a search: leaves and branchings.
-use Rattle.std.proofs.Common.{◌≡◌, ℕ, ◌⊎◌, inl, inr, List, [], ◌∷◌, ◌++◌, Option, Some, IsSome, refl, ap, ap₂, sym, subst, ◌∙◌, arith}
+use Rattle.std.proofs.Common.{◌≡◌, ℕ, ◌<◌, ◌⊎◌, inl, inr, List, [], ◌∷◌, ◌++◌, Option, Some, IsSome, refl, ap, ap₂, sym, subst, ◌∙◌, arith}
 use Rattle.std.proofs.lemmas.List.Elements.{Contains-append_left, Contains-push}
 use Rattle.qc_num.specs.declared.bound.Bound.{Bound}
 use Rattle.qc_num.specs.declared.bound.Bound.TheVariants.{Least, Never}
@@ -19,7 +19,7 @@ use Rattle.qc_search.specs.Earned.{IsClosedAt, IsEarnedBehind, IsGivenUp, IsMetE
 use Rattle.qc_search.specs.Course.{Comes, IsAlong, IsCourse, IsKeptBest, IsPassed, IsTaken, value_by}
 use Rattle.qc_search.specs.Walk.{ends}
 use Rattle.qc_search.proofs.CourseLemmas.{comes_one}
-use Rattle.qc_search.proofs.EarnedLemmas.{branchings-append, met_passed, met_taken, value_push}
+use Rattle.qc_search.proofs.EarnedLemmas.{at_most_lesser, at_most_same, at_most_through, branchings-append, met_passed, met_taken, value_push}
 
 -- ---- a leaf
 
@@ -37,6 +37,7 @@ pub record IsLeafStep
   pub met : new.met ≡ mid.met
   pub way_is : new.way ≡ mid.way
   pub best : new.best ≡ mid.best
+  pub late : old.branched < old.nodes → IsAtMost new.met (value_by inst ds (Some shows))
 
 -- a schedule that was kept is kept on
 pub kept_on : (home : InstanceView) (old new : Course) (before : List TreeNode) (node : TreeNode) (end : ℕ)
@@ -60,6 +61,12 @@ same_least a b e = ap number e
     number : Bound → ℕ
     number (Least n) = n
     number Never = 0
+
+-- a later meeting is no later end
+pub met_before : (inst : InstanceView) (way : Direction) (ds : List Decision) (old mid : Course)
+    → IsPassed inst ds old mid ⊎ IsTaken inst way ds old mid → IsAtMost mid.met old.met
+met_before inst way ds old mid (inl p) = subst (λ (c : Course). IsAtMost c.met old.met) (sym p.same) (at_most_same old.met)
+met_before inst way ds old mid (inr t) = subst (λ (c : Course). IsAtMost c.met old.met) (sym t.is) t.sooner
 
 module _ (home : InstanceView) (way : Direction) (ds : List Decision) (shown : Option Leaf)
     (before : List TreeNode) where
@@ -144,6 +151,12 @@ module _ (home : InstanceView) (way : Direction) (ds : List Decision) (shown : O
           ∙ sym (value_push home before here);
       met = subst (IsMetEnd home (before ++ here ∷ [])) (sym s.met) (met_mid old s.mid course.met s.meets);
       best = kept_new s.mid new s.met s.way_is s.best (kept_mid old s.mid course.best s.meets);
+      late = λ left.
+          let before_left : old.branched < old.nodes = omega (arith, left, s.branched, s.nodes) in
+          let sooner = subst (λ (b : Bound). IsAtMost b old.met) (sym s.met) (met_before (seen home way) way ds old s.mid s.meets) in
+          subst (IsAtMost new.met) (sym s.bound)
+          (at_most_lesser new.met old.bound (value_by (seen home way) ds (Some shows))
+          (at_most_through new.met old.met old.bound sooner (course.late before_left)) (s.late before_left));
     },
   )
     where

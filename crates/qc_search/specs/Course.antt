@@ -60,6 +60,8 @@ pub record IsCourse (home : InstanceView) (course : Course) (nodes : List TreeNo
   pub bound : course.bound ≡ value_in home nodes
   pub met : IsMetEnd home nodes course.met
   pub best : (end : ℕ) → course.met ≡ Least end → IsKeptBest home course nodes end
+  -- no leaf shows an end sooner than the one that was met while branchings are left
+  pub late : course.branched < course.nodes → IsAtMost course.met course.bound
 
 -- each node is earned behind those before it
 abbrev pub AreEarned : InstanceView → ℕ → List TreeNode → List TreeNode → Type 0

@@ -1,5 +1,5 @@
 -- What a search comes to: a tree that is earned, the best schedule that it met, and how both stand to each other.
-use Rattle.std.specs.Prelude.{◌≡◌, ℕ, nat_le, if◌then◌else◌, List, ◌++◌, map, Option, None, Some, MatchOption, Contains}
+use Rattle.std.specs.Prelude.{◌≡◌, ◌≢◌, ℕ, ◌+◌, ◌*◌, ◌^◌, ◌≤◌, max, nat_le, if◌then◌else◌, List, ◌++◌, length, map, Option, None, Some, IfSome, MatchOption, Contains}
 use Rattle.std.specs.Io.KnownBytes.{append_known}
 use Rattle.qc_io.specs.Outside.{GrewByPart}
 use Rattle.qc_num.specs.declared.bound.Bound.{Bound}
@@ -10,12 +10,12 @@ use Rattle.qc_model.specs.declared.direction.Direction.{Direction}
 use Rattle.qc_model.specs.declared.pair.Pair.{Pair}
 use Rattle.qc_model.specs.declared.schedule.Slot.{Slot}
 use Rattle.qc_model.specs.Instance.{InstanceView}
-use Rattle.qc_model.specs.Judge.{Goes}
+use Rattle.qc_model.specs.Judge.{Goes, IsJudgeable}
 use Rattle.qc_model.specs.Leaves.{task_numbers}
 use Rattle.qc_model.specs.Nodes.{AreLeast, schedule_with}
 use Rattle.qc_model.specs.Rules.{crane_of, end_of, ends, start_of, starts}
 use Rattle.qc_model.specs.Seen.{seen, seen_schedule}
-use Rattle.qc_tree.specs.Trees.{Tree, IsTree, tree_branchings, tree_text, tree_value}
+use Rattle.qc_tree.specs.Trees.{NoneEarlier, Tree, IsTree, tree_branchings, tree_text, tree_value}
 use Rattle.qc_search.specs.declared.done.Kind.{Kind}
 use Rattle.qc_search.specs.declared.done.Kind.TheVariants.{Budget, Infeasible, Optimal}
 use Rattle.qc_search.specs.Earned.{TreeNode, IsEarned, IsMetEnd, IsSolved, solved_end, tree_nodes}
@@ -64,6 +64,12 @@ pub record IsRun (inst : InstanceView) (most : ℕ) (tree : Tree) (best : Option
   pub ends : IsMetEnd inst (tree_nodes inst tree) met
   pub is_best : MatchOption best (met ≡ Never) (IsMetBest inst tree)
   pub is_kind : kind ≡ outcome (tree_value inst tree) met
+  -- under Budget all branchings are spent
+  pub spent : kind ≡ Budget → tree_branchings inst tree ≡ most
+
+-- every tree of the instance has fewer branchings
+abbrev pub branching_limit : InstanceView → ℕ
+branching_limit inst = 2 * max 2 (length inst.cranes) ^ (length inst.tasks + length inst.apart)
 
 -- a search that isn't run yet: for this instance, with so many branchings
 pub record SearchView : Type 0 where
@@ -81,6 +87,20 @@ pub record DoneView : Type 0 where
 abbrev pub best_end : InstanceView → Option (List Slot) → Bound
 best_end inst None = Never
 best_end inst (Some sched) = Least (ends inst sched)
+
+-- what holds of each search that comes to its end, whether the sink tells its bytes or not
+pub record IsSound (search : SearchView) (done : DoneView) : Type 0 where
+  -- no schedule that goes one way ends before the bound; where it is Never, there is none
+  pub none_earlier : NoneEarlier search.inst done.bound
+  -- the best schedule can be judged, and no task of it could start earlier
+  pub judgeable : IfSome done.best (IsJudgeable search.inst)
+  pub tight : IfSome done.best (IsTight search.inst)
+  -- the outcome is that of the bound and of the best schedule's end
+  pub kind : done.kind ≡ outcome done.bound (best_end search.inst done.best)
+  -- under Budget exactly as many branchings are written as may be
+  pub spent : done.kind ≡ Budget → done.branched ≡ search.nodes
+  -- with so many branchings the search comes to a decision
+  pub decides : branching_limit search.inst ≤ search.nodes → done.kind ≢ Budget
 
 -- the bytes grew by the text of a tree that is a run, and what is told is told of that tree
 pub record IsSearched (search : SearchView) (before after : Option (List ℕ)) (done : DoneView) : Type 0 where

@@ -1,5 +1,5 @@
 //! A search of both parts of a tree.
-ghost use Rattle.std.specs.Prelude.{◌≡◌, ◌<◌, ◌≤◌, ℕ, All, OnErr, OnOk, IfOk, IfSome};
+ghost use Rattle.std.specs.Prelude.{◌≡◌, ◌<◌, ◌≤◌, ℕ, All, OnErr, OnOk, IfOk};
 ghost use Rattle.qc_io.specs.Outside.{Rose};
 ghost use Rattle.qc_num.specs.declared.bound.Bound.TheVariants.{Least};
 ghost use Rattle.qc_tree.specs.declared.line.TheConstants.{MOST_BRANCHINGS};
@@ -62,9 +62,7 @@ fn told(course: Course, cranes: u16) -> Done
 }
 
 impl Search {
-    ghost use Rattle.qc_model.specs.Judge.{IsJudgeable};
-    ghost use Rattle.qc_tree.specs.Trees.{NoneEarlier};
-    ghost use Rattle.qc_search.specs.Run.{IsCutOff, IsSearched, IsTight, best_end};
+    ghost use Rattle.qc_search.specs.Run.{IsCutOff, IsSearched, IsSound};
 
     /// A search for the instance with at most so many branchings. All memory is taken here.
     pub fn open(alloc: Global, inst: &Instance, nodes: u32) -> Result<Search, OutOfMemory>
@@ -93,11 +91,7 @@ impl Search {
         ensures searched { IfOk result (IsSearched self (K.written sink.old) (K.written sink.new)) }
 
         // What holds whether the sink tells its bytes or not.
-        ensures none_earlier { IfOk result (λ done. NoneEarlier self.inst done.bound) }
-        ensures judgeable { IfOk result (λ done. IfSome done.best (IsJudgeable self.inst)) }
-        ensures tight { IfOk result (λ done. IfSome done.best (IsTight self.inst)) }
-        ensures kind { IfOk result
-            (λ done. done.kind ≡ outcome done.bound (best_end self.inst done.best)) }
+        ensures sound { IfOk result (IsSound self) }
 
         ensures cut { OnErr result (IsCutOff self.inst (K.written sink.old) (K.written sink.new)) }
         ensures rose { OnErr result (Rose (K.faults sink.old) (K.faults sink.new)) }

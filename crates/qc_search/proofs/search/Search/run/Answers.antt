@@ -1,11 +1,10 @@
 use Rattle.std.proofs.Common.{◌≡◌, ◌<◌, ◌∙◌, ℕ, All, IfSome, length, List, ap, sym, subst, arith}
 use Rattle.qc_model.specs.declared.crane.Crane.{Crane}
 use Rattle.qc_model.specs.declared.schedule.Slot.{Slot}
-use Rattle.qc_model.specs.Judge.{IsJudgeable}
-use Rattle.qc_tree.specs.Trees.{NoneEarlier}
 use Rattle.qc_search.specs.declared.course.Course.{Course}
-use Rattle.qc_search.specs.Run.{DoneView, IsSearched, IsTight, SearchView, best_end, outcome}
-use Rattle.qc_search.proofs.EndLemmas.{begun_course, told_of, told_with, went_cranes, went_judgeable, went_kind, went_none_earlier, went_searched, went_tight}
+use Rattle.qc_search.specs.Run.{IsSearched, IsSound, SearchView}
+use Rattle.qc_search.specs.Fields.{search_of}
+use Rattle.qc_search.proofs.EndLemmas.{begun_course, told_of, told_with, went_cranes, went_searched, went_sound}
 use Rattle.qc_search.proofs.search.Search.run.Goals as goal
 
 pub told-requires : goal.told-requires
@@ -31,50 +30,14 @@ returns-clause-searched g c =
     (subst (λ (s : SearchView). IsSearched s (g.K.Sink.written c.args.sink.now) (g.K.Sink.written c.write_tree.new.sink)
     (told_of c.self.inside.inst c.write_tree.new.course)) c.self.view_is searched)
 
-pub returns-clause-none_earlier : goal.returns-clause-none_earlier
-returns-clause-none_earlier g c =
+pub returns-clause-sound : goal.returns-clause-sound
+returns-clause-sound g c =
     let told : c.told.result ≡ told_of c.self.inside.inst c.write_tree.new.course =
     c.told.ensures ∙ ap (λ (ks : List Crane). told_with (length ks) c.write_tree.new.course) c.cranes.ensures.cranes in
-    subst (λ (s : SearchView). NoneEarlier s.inst c.told.result.bound) c.self.view_is
-    (subst (λ (d : DoneView). NoneEarlier c.self.inside.inst d.bound) (sym told)
-    (went_none_earlier g.K.Sink.written g.K.Sink.beside g.K.Sink.faults c.args.sink.now
+    subst (λ (s : SearchView). IsSound s c.told.result) c.self.view_is
+    (subst (IsSound (search_of c.self.inside)) (sym told)
+    (went_sound g.K.Sink.written g.K.Sink.beside g.K.Sink.faults c.args.sink.now
     c.write_tree.new.sink c.self.inside.inst c.self.invariant.valid c.first_course-course.result c.write_tree.new.course
     (begun_course c.self.inside.inst _ c.self.inside.nodes c.self.inside.best c.self.inside.path c.first_course-course.ensures)
     (omega (arith, ap (λ (k : Course). k.nodes) c.first_course-course.ensures, c.self.invariant.few))
-    c.in_ok-write_tree.ensures.goes))
-
-pub returns-clause-judgeable : goal.returns-clause-judgeable
-returns-clause-judgeable g c =
-    let told : c.told.result ≡ told_of c.self.inside.inst c.write_tree.new.course =
-    c.told.ensures ∙ ap (λ (ks : List Crane). told_with (length ks) c.write_tree.new.course) c.cranes.ensures.cranes in
-    subst (λ (s : SearchView). IfSome c.told.result.best (IsJudgeable s.inst)) c.self.view_is
-    (subst (λ (d : DoneView). IfSome d.best (IsJudgeable c.self.inside.inst)) (sym told)
-    (went_judgeable g.K.Sink.written g.K.Sink.beside g.K.Sink.faults c.args.sink.now
-    c.write_tree.new.sink c.self.inside.inst c.self.invariant.valid c.first_course-course.result c.write_tree.new.course
-    (begun_course c.self.inside.inst _ c.self.inside.nodes c.self.inside.best c.self.inside.path c.first_course-course.ensures)
-    (omega (arith, ap (λ (k : Course). k.nodes) c.first_course-course.ensures, c.self.invariant.few))
-    c.in_ok-write_tree.ensures.goes))
-
-pub returns-clause-tight : goal.returns-clause-tight
-returns-clause-tight g c =
-    let told : c.told.result ≡ told_of c.self.inside.inst c.write_tree.new.course =
-    c.told.ensures ∙ ap (λ (ks : List Crane). told_with (length ks) c.write_tree.new.course) c.cranes.ensures.cranes in
-    subst (λ (s : SearchView). IfSome c.told.result.best (IsTight s.inst)) c.self.view_is
-    (subst (λ (d : DoneView). IfSome d.best (IsTight c.self.inside.inst)) (sym told)
-    (went_tight g.K.Sink.written g.K.Sink.beside g.K.Sink.faults c.args.sink.now
-    c.write_tree.new.sink c.self.inside.inst c.self.invariant.valid c.first_course-course.result c.write_tree.new.course
-    (begun_course c.self.inside.inst _ c.self.inside.nodes c.self.inside.best c.self.inside.path c.first_course-course.ensures)
-    (omega (arith, ap (λ (k : Course). k.nodes) c.first_course-course.ensures, c.self.invariant.few))
-    c.in_ok-write_tree.ensures.goes))
-
-pub returns-clause-kind : goal.returns-clause-kind
-returns-clause-kind g c =
-    let told : c.told.result ≡ told_of c.self.inside.inst c.write_tree.new.course =
-    c.told.ensures ∙ ap (λ (ks : List Crane). told_with (length ks) c.write_tree.new.course) c.cranes.ensures.cranes in
-    subst (λ (s : SearchView). c.told.result.kind ≡ outcome c.told.result.bound (best_end s.inst c.told.result.best)) c.self.view_is
-    (subst (λ (d : DoneView). d.kind ≡ outcome d.bound (best_end c.self.inside.inst d.best)) (sym told)
-    (went_kind g.K.Sink.written g.K.Sink.beside g.K.Sink.faults c.args.sink.now
-    c.write_tree.new.sink c.self.inside.inst c.self.invariant.valid c.first_course-course.result c.write_tree.new.course
-    (begun_course c.self.inside.inst _ c.self.inside.nodes c.self.inside.best c.self.inside.path c.first_course-course.ensures)
-    (omega (arith, ap (λ (k : Course). k.nodes) c.first_course-course.ensures, c.self.invariant.few))
-    c.in_ok-write_tree.ensures.goes))
+    c.in_ok-write_tree.ensures.goes c.self.inside.nodes (ap (λ (k : Course). k.nodes) c.first_course-course.ensures)))
