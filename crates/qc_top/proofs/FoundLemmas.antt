@@ -99,9 +99,9 @@ pub is_best :
     (inst : InstanceView) (nodes : ℕ) (tree : Tree) (done : DoneView) (told : Planned) → IsFound inst nodes tree done → (tells : TellsPlan inst done told)
     → nat_le told.end told.bound ≡ true → IsBest inst tells.sched
 is_best inst nodes tree done told found tells le = record {
-  goes = tight_goes inst tells.sched (of_some (IsTight inst) done.best tells.sched tells.best found.tight);
+  goes = tight_goes inst tells.sched (of_some (IsTight inst) done.best tells.sched tells.best found.sound.tight);
   least = λ other goes.
-      let late : told.bound ≤ ends inst other = subst (λ b. IsAtMost b (Least (ends inst other))) tells.bound (found.none_earlier other goes) in
+      let late : told.bound ≤ ends inst other = subst (λ b. IsAtMost b (Least (ends inst other))) tells.bound (found.sound.none_earlier other goes) in
       let soon : told.end ≤ told.bound = leb-true told.end told.bound le in
       let same = tells.end in
       omega (arith, late, soon, same);
@@ -109,4 +109,4 @@ is_best inst nodes tree done told found tells le = record {
 
 -- where no schedule ends before Never there is none
 pub none_goes : (inst : InstanceView) (nodes : ℕ) (tree : Tree) (done : DoneView) → IsFound inst nodes tree done → done.bound ≡ Never → (sched : List Slot) → ¬ GoesOneWay inst sched
-none_goes inst nodes tree done found never sched goes = subst (λ b. IsAtMost b (Least (ends inst sched))) never (found.none_earlier sched goes)
+none_goes inst nodes tree done found never sched goes = subst (λ b. IsAtMost b (Least (ends inst sched))) never (found.sound.none_earlier sched goes)

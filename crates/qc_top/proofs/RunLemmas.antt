@@ -1,5 +1,5 @@
 -- What follows from a run's account of itself.
-use Rattle.std.proofs.Common.{◌≡◌, ◌≢◌, ℕ, List, [], ◌∷◌, Option, None, Some, Result, Ok, Err, refl, sym, ap, ◌∙◌, subst, inl, inr, ◌⊎◌}
+use Rattle.std.proofs.Common.{◌≡◌, ◌≢◌, ◌≤◌, ℕ, subst₂, List, [], ◌∷◌, Option, None, Some, Result, Ok, Err, refl, sym, ap, ◌∙◌, subst, inl, inr, ◌⊎◌}
 use Rattle.std.specs.Prelude.{IfSome, IsSomeAnd, codes, option_and_then, true, false}
 use Rattle.std.specs.FinMap.{get, insert}
 use Rattle.std.specs.Io.KnownBytes.{append_known}
@@ -17,21 +17,31 @@ use Rattle.qc_top.specs.declared.answer.Answer.{Answer}
 use Rattle.qc_top.specs.declared.answer.Answer.TheVariants as answer
 use Rattle.qc_top.specs.declared.status.Status.{Status}
 use Rattle.qc_top.specs.declared.status.Status.TheVariants as status
-use Rattle.qc_top.specs.Asked.{Asked, plan, check, tasks, unbuilt, usage, name_of, IsPlan}
+use Rattle.qc_top.specs.Asked.{Asked, plan, check, tasks, unbuilt, usage, name_of, IsPlan, nodes_of}
 use Rattle.qc_top.specs.Words.{Asks}
-use Rattle.qc_top.specs.Due.{Work, print, search, reads_in, without, instance_due, due}
+use Rattle.qc_top.specs.Due.{Work, Reads, print, search, reads_in, without, instance_due, due}
 use Rattle.qc_top.specs.Answers.{status_of, report_text, refusal_status, ending_of}
 use Rattle.qc_top.specs.Account.{ComesTo, Stops, IsSearched, IsStopped, IsWriting, Named, written, texts_of, IsCutShort, Serves, Printed, IsRun}
 use Rattle.qc_top.proofs.FoundLemmas.{plan_ends, search_end, no_refusal, ends_in_time, ends_late, kind_told, word_told, kind_none, is_best, none_goes}
 use Rattle.qc_top.proofs.ServeLemmas.{met_best}
 use Rattle.qc_search.specs.declared.done.Kind.TheVariants as kind
+use Rattle.qc_search.specs.Run.{branching_limit}
 use Rattle.qc_top.specs.Shown.{IsBoundShown, IsNoneShown, TellsTree}
-use Rattle.qc_top.specs.Promises.{IsPlanTold, IsOptimalTold, IsUnplannedTold, IsInfeasibleTold, IsSearchEnd, EndsAsDue, AreTasksTold, IsEndTold, IsNoneTold, IsRefusal, IsRefusalTold, IsCutTold, IsStopTold, EndsWith, NoneFailed, Promises}
+use Rattle.qc_top.specs.Promises.{IsBudgetTold, IsOptimalTold, IsUnplannedTold, IsInfeasibleTold, IsSearchEnd, EndsAsDue, AreTasksTold, IsEndTold, IsNoneTold, IsRefusal, IsRefusalTold, IsCutTold, IsStopTold, EndsWith, NoneFailed, Promises}
 
 -- the text of what is to be printed
 abbrev text_of : Result Work Refusal → List ℕ
 text_of (Ok (print ending)) = ending.text
 text_of _ = []
+
+-- the instance and the branchings of a search that is due
+abbrev inst_in : InstanceView → Result Work Refusal → InstanceView
+inst_in none (Ok (search inst nodes)) = inst
+inst_in none _ = none
+
+abbrev nodes_in : Result Work Refusal → ℕ
+nodes_in (Ok (search inst nodes)) = nodes
+nodes_in _ = 0
 
 -- the statuses of refusals are none of the others
 abbrev pub IsOther : Status → Type 0
@@ -65,6 +75,24 @@ searched_due : (asked : Asked) (held : Files) (files : Option Files) → files �
     → (inst : InstanceView) × (nodes : ℕ) × (due asked (reads_in held asked) ≡ Ok (search inst nodes))
 searched_due asked held None told a now h = absurd (cc told)
 searched_due asked held (Some files) told a now h = let same : files ≡ held = cc in (h.inst, h.nodes, rw (← same) h.due)
+
+-- the search that is due has as many branchings as were asked for
+planned_nodes : (asked : Asked) → IsPlan asked → (reads : Reads) (inst : InstanceView) (nodes : ℕ) → due asked reads ≡ Ok (search inst nodes) → nodes ≡ nodes_of asked
+planned_nodes (plan s w p t n) is reads inst nodes e =
+    let (i, at, same) = bind_ok (instance_due reads) (λ i. Ok (search i n)) (search inst nodes) e in sym (ap nodes_in same)
+planned_nodes (check s w t) is reads inst nodes e = absurd is
+planned_nodes (tasks s w) is reads inst nodes e = absurd is
+planned_nodes unbuilt is reads inst nodes e = absurd is
+planned_nodes usage is reads inst nodes e = absurd is
+
+-- a search that ended with Budget hadn't as many branchings as decide
+undecided : (asked : Asked) (held : Files) (a : Answer) (now : Option Files) → (h : IsSearched asked held a now) → h.done.kind ≡ kind.Budget
+    → (inst : InstanceView) (nodes : ℕ) → due asked (reads_in held asked) ≡ Ok (search inst nodes) → branching_limit inst ≤ nodes → ⊥
+undecided asked held a now h budget inst nodes due_is enough =
+    let same = sym h.due ∙ due_is in
+    h.found.sound.decides
+    (subst₂ (λ (i : InstanceView) (n : ℕ). branching_limit i ≤ n) (sym (ap (inst_in inst) same)) (sym (ap nodes_in same)) enough)
+    budget
 
 some_and : {A : Type 0} {P : A → Type 0} (o : Option A) → IsSomeAnd o P → (a : A) × (o ≡ Some a) × P a
 some_and None h = absurd h
@@ -114,7 +142,7 @@ module _ (words : List (List ℕ)) (before after : Stand) (pb pa : Printed) (end
             plan = record {
               told = told;
               searched = h;
-              kind = kind_told h.inst h.done told true h.found.kind h.told le;
+              kind = kind_told h.inst h.done told true h.found.sound.kind h.told le;
               report = report;
               word = word_told told true le;
             };
@@ -128,48 +156,55 @@ module _ (words : List (List ℕ)) (before after : Stand) (pb pa : Printed) (end
     optimal_told (answer.Tasks inst) serves e report = absurd serves
     optimal_told (answer.Checked bound) serves e report = absurd serves
 
-    budget_told : (a : Answer) → IsWriting asked before after a → status_of a ≡ status.BudgetPlan → pa.bytes ≡ append_known pb.bytes (report_text a)
-        → IfSome before.files (λ held. IsPlanTold asked held after.files pb pa kind.Budget (codes "Budget"))
-    budget_told (answer.Planned told) serves e report = by before.files serves.2 where
+    budget_told : (a : Answer) → IsPlan asked → IsWriting asked before after a → status_of a ≡ status.BudgetPlan → pa.bytes ≡ append_known pb.bytes (report_text a)
+        → IfSome before.files (λ held. IsBudgetTold asked held after.files pb pa)
+    budget_told (answer.Planned told) is serves e report = by before.files serves.2 where
       by : (files : Option Files) → IfSome files (λ held. IsSearched asked held (answer.Planned told) after.files)
-          → IfSome files (λ held. IsPlanTold asked held after.files pb pa kind.Budget (codes "Budget"))
+          → IfSome files (λ held. IsBudgetTold asked held after.files pb pa)
       by None h = tt
       by (Some held) h =
           let le = ends_late told e in
+          let budget = kind_told h.inst h.done told false h.found.sound.kind h.told le in
           record {
-            told = told;
-            searched = h;
-            kind = kind_told h.inst h.done told false h.found.kind h.told le;
-            report = report;
-            word = word_told told false le;
+            plan = record {
+              told = told;
+              searched = h;
+              kind = budget;
+              report = report;
+              word = word_told told false le;
+            };
+            spent = h.told.branched ∙ h.found.sound.spent budget ∙ planned_nodes asked is (reads_in held asked) h.inst h.nodes h.due;
           }
-    budget_told (answer.Unplanned bound branched) serves e report = absurd (cc e)
-    budget_told (answer.Infeasible branched) serves e report = absurd (cc e)
-    budget_told (answer.Stopped (stop.Refused why)) serves e report = absurd (not_other why status.BudgetPlan e)
-    budget_told (answer.Stopped stop.OutOfMemory) serves e report = absurd (cc e)
-    budget_told answer.WriteFault serves e report = absurd (cc e)
-    budget_told (answer.Tasks inst) serves e report = absurd serves
-    budget_told (answer.Checked bound) serves e report = absurd serves
+    budget_told (answer.Unplanned bound branched) is serves e report = absurd (cc e)
+    budget_told (answer.Infeasible branched) is serves e report = absurd (cc e)
+    budget_told (answer.Stopped (stop.Refused why)) is serves e report = absurd (not_other why status.BudgetPlan e)
+    budget_told (answer.Stopped stop.OutOfMemory) is serves e report = absurd (cc e)
+    budget_told answer.WriteFault is serves e report = absurd (cc e)
+    budget_told (answer.Tasks inst) is serves e report = absurd serves
+    budget_told (answer.Checked bound) is serves e report = absurd serves
 
-    unplanned_told : (a : Answer) → IsWriting asked before after a → status_of a ≡ status.BudgetNone → pa.bytes ≡ append_known pb.bytes (report_text a)
+    unplanned_told : (a : Answer) → IsPlan asked → IsWriting asked before after a → status_of a ≡ status.BudgetNone → pa.bytes ≡ append_known pb.bytes (report_text a)
         → IfSome before.files (λ held. IsUnplannedTold asked held after.files pb pa)
-    unplanned_told (answer.Unplanned bound branched) serves e report = by before.files serves.2 where
+    unplanned_told (answer.Unplanned bound branched) is serves e report = by before.files serves.2 where
       by : (files : Option Files) → IfSome files (λ held. IsSearched asked held (answer.Unplanned bound branched) after.files) → IfSome files (λ held. IsUnplannedTold asked held after.files pb pa)
       by None h = tt
-      by (Some held) h = record {
-        bound = bound;
-        branched = branched;
-        searched = h;
-        kind = kind_none h.inst h.done (Least bound) h.found.kind h.told.0 h.told.1;
-        report = report;
-      }
-    unplanned_told (answer.Planned told) serves e report = absurd (plan_ends told status.BudgetNone e)
-    unplanned_told (answer.Infeasible branched) serves e report = absurd (cc e)
-    unplanned_told (answer.Stopped (stop.Refused why)) serves e report = absurd (not_other why status.BudgetNone e)
-    unplanned_told (answer.Stopped stop.OutOfMemory) serves e report = absurd (cc e)
-    unplanned_told answer.WriteFault serves e report = absurd (cc e)
-    unplanned_told (answer.Tasks inst) serves e report = absurd serves
-    unplanned_told (answer.Checked bound) serves e report = absurd serves
+      by (Some held) h =
+          let budget = kind_none h.inst h.done (Least bound) h.found.sound.kind h.told.0 h.told.1 in
+          record {
+            bound = bound;
+            branched = branched;
+            searched = h;
+            kind = budget;
+            report = report;
+            spent = h.told.2 ∙ h.found.sound.spent budget ∙ planned_nodes asked is (reads_in held asked) h.inst h.nodes h.due;
+          }
+    unplanned_told (answer.Planned told) is serves e report = absurd (plan_ends told status.BudgetNone e)
+    unplanned_told (answer.Infeasible branched) is serves e report = absurd (cc e)
+    unplanned_told (answer.Stopped (stop.Refused why)) is serves e report = absurd (not_other why status.BudgetNone e)
+    unplanned_told (answer.Stopped stop.OutOfMemory) is serves e report = absurd (cc e)
+    unplanned_told answer.WriteFault is serves e report = absurd (cc e)
+    unplanned_told (answer.Tasks inst) is serves e report = absurd serves
+    unplanned_told (answer.Checked bound) is serves e report = absurd serves
 
     infeasible_told : (a : Answer) → IsWriting asked before after a → status_of a ≡ status.Infeasible → pa.bytes ≡ append_known pb.bytes (report_text a)
         → IfSome before.files (λ held. IsInfeasibleTold asked held after.files pb pa)
@@ -179,7 +214,7 @@ module _ (words : List (List ℕ)) (before after : Stand) (pb pa : Printed) (end
       by (Some held) h = record {
         branched = branched;
         searched = h;
-        kind = kind_none h.inst h.done Never h.found.kind h.told.0 h.told.1;
+        kind = kind_none h.inst h.done Never h.found.sound.kind h.told.0 h.told.1;
         none = none_goes h.inst h.nodes h.tree h.done h.found h.told.1;
         report = report;
       }
@@ -199,16 +234,16 @@ module _ (words : List (List ℕ)) (before after : Stand) (pb pa : Printed) (end
   ]
 
   plan_budget : (asked : Asked) → Asks words asked → IsPlan asked → ended ≡ status.BudgetPlan
-      → IfSome before.files (λ held. IsPlanTold asked held after.files pb pa kind.Budget (codes "Budget"))
+      → IfSome before.files (λ held. IsBudgetTold asked held after.files pb pa)
   plan_budget asked asks is e = elim run.reports [
-    | inl whole ↦ budget_told asked run.answer (plan_is asked run.answer is (asked_is asked asks)) (sym whole.status ∙ e) whole.printed
+    | inl whole ↦ budget_told asked run.answer is (plan_is asked run.answer is (asked_is asked asks)) (sym whole.status ∙ e) whole.printed
     | inr cut ↦ absurd (cc (cut.status, e))
   ]
 
   plan_none : (asked : Asked) → Asks words asked → IsPlan asked → ended ≡ status.BudgetNone
       → IfSome before.files (λ held. IsUnplannedTold asked held after.files pb pa)
   plan_none asked asks is e = elim run.reports [
-    | inl whole ↦ unplanned_told asked run.answer (plan_is asked run.answer is (asked_is asked asks)) (sym whole.status ∙ e) whole.printed
+    | inl whole ↦ unplanned_told asked run.answer is (plan_is asked run.answer is (asked_is asked asks)) (sym whole.status ∙ e) whole.printed
     | inr cut ↦ absurd (cc (cut.status, e))
   ]
 
@@ -218,6 +253,21 @@ module _ (words : List (List ℕ)) (before after : Stand) (pb pa : Printed) (end
     | inl whole ↦ infeasible_told asked run.answer (plan_is asked run.answer is (asked_is asked asks)) (sym whole.status ∙ e) whole.printed
     | inr cut ↦ absurd (cc (cut.status, e))
   ]
+
+  -- a search that ends with Budget had fewer branchings than the limit
+  plan_decides : (asked : Asked) → Asks words asked → IsPlan asked
+      → IfSome before.files (λ held. (inst : InstanceView) (nodes : ℕ) → due asked (reads_in held asked) ≡ Ok (search inst nodes)
+      → branching_limit inst ≤ nodes → (ended ≢ status.BudgetPlan) × (ended ≢ status.BudgetNone))
+  plan_decides asked asks is = by before.files (plan_budget asked asks is) (plan_none asked asks is) where
+    by : (files : Option Files) → (ended ≡ status.BudgetPlan → IfSome files (λ held. IsBudgetTold asked held after.files pb pa))
+        → (ended ≡ status.BudgetNone → IfSome files (λ held. IsUnplannedTold asked held after.files pb pa))
+        → IfSome files (λ held. (inst : InstanceView) (nodes : ℕ) → due asked (reads_in held asked) ≡ Ok (search inst nodes)
+        → branching_limit inst ≤ nodes → (ended ≢ status.BudgetPlan) × (ended ≢ status.BudgetNone))
+    by None budget none = tt
+    by (Some held) budget none = λ inst nodes due_is enough. (
+      λ e. let b = (budget e).plan in undecided asked held (answer.Planned b.told) after.files b.searched b.kind inst nodes due_is enough,
+      λ e. let b = none e in undecided asked held (answer.Unplanned b.bound b.branched) after.files b.searched b.kind inst nodes due_is enough,
+    )
 
   -- an answer that only reads printed the tasks
   tasks_printed : (ship stow : List ℕ) (a : Answer) (files : Option Files) → ComesTo (due (tasks ship stow)) (tasks ship stow) files (Ok (print (ending_of a))) → pa.bytes ≡ append_known pb.bytes (report_text a)
@@ -539,6 +589,7 @@ module _ (words : List (List ℕ)) (before after : Stand) (pb pa : Printed) (end
     plan_infeasible = plan_infeasible;
     plan_budget = plan_budget;
     plan_none = plan_none;
+    plan_decides = plan_decides;
     tasks_done = tasks_done;
     check_done = check_done;
     check_infeasible = check_infeasible;

@@ -11,7 +11,7 @@ use Rattle.qc_model.specs.declared.schedule.Slot.{Slot}
 use Rattle.qc_model.specs.Instance.{InstanceView}
 use Rattle.qc_model.specs.Leaves.{chain, with_berths}
 use Rattle.qc_tree.specs.Trees.{IsTree, NoneEarlier, Tree, leaf, tree_text}
-use Rattle.qc_search.specs.Run.{DoneView, IsCutOff, IsMetBest, IsTight, SearchView, best_end, outcome}
+use Rattle.qc_search.specs.Run.{DoneView, IsCutOff, IsMetBest, IsSound, SearchView}
 use Rattle.qc_search.specs.Run.{IsSearched as Searched}
 use Rattle.qc_num.specs.declared.bound.Bound.TheVariants.{Never}
 use Rattle.qc_top.specs.declared.answer.Answer.{Answer}
@@ -83,11 +83,10 @@ module _ {S : Type 0} (files : S → Option Files) (made rest : S → Option (Li
   -- the search ran over the created file
   pub tree_ok :
       (job : SearchView) (r : Result DoneView WriteFault) → IfOk r (λ done. Searched job (written_so_far created) (written_so_far after) done)
-      → IfOk r (λ done. NoneEarlier job.inst done.bound) → IfOk r (λ done. IfSome done.best (IsTight job.inst))
-      → IfOk r (λ done. done.kind ≡ outcome done.bound (best_end job.inst done.best)) → OnOk r (faults after ≡ faults created)
+      → IfOk r (IsSound job) → OnOk r (faults after ≡ faults created)
       → beside after ≡ beside created → faults created ≤ faults after → IfOk r (λ done. IfSome (files before) (λ held. IsStored job name held (files after) done))
-  tree_ok job (Err fault) searched none tight kind unfailed stays rises = tt
-  tree_ok job (Ok done) searched none tight kind unfailed stays rises =
+  tree_ok job (Err fault) searched sound unfailed stays rises = tt
+  tree_ok job (Ok done) searched sound unfailed stays rises =
       let wrote : Writes written_so_far beside faults created after (tree_text job.inst searched.tree) (Ok tt) = record {
         whole = searched.written;
         unfailed = unfailed;
@@ -97,7 +96,7 @@ module _ {S : Type 0} (files : S → Option Files) (made rest : S → Option (Li
         never_falls = rises;
       } in
       tree_stored job name (files before) (files after) searched.tree done
-      (record { run = searched.run; bound = searched.bound; branched = searched.branched; none_earlier = none; tight = tight; kind = kind })
+      (record { run = searched.run; bound = searched.bound; branched = searched.branched; sound = sound })
       (stored files made rest reading read_faults written_so_far beside written_is beside_is before created after name was made_is faults
       (tree_text job.inst searched.tree) wrote)
 

@@ -42,6 +42,11 @@ abbrev pub IsPlan : Asked → Type 0
 IsPlan (plan s w p t n) = Unit {0}
 IsPlan _ = ⊥
 
+-- how many branchings a plan may take
+abbrev pub nodes_of : Asked → ℕ
+nodes_of (plan s w p t n) = n
+nodes_of _ = 0
+
 -- a tree alone is asked about
 abbrev pub IsCheck : Asked → Type 0
 IsCheck (check s w t) = Unit {0}

@@ -1,25 +1,23 @@
 -- What a search came to, and what an answer tells of it.
-use Rattle.std.specs.Prelude.{◌≡◌, ℕ, List, None, Some, IfSome}
+use Rattle.std.specs.Prelude.{◌≡◌, ℕ, List, None, Some}
 use Rattle.qc_num.specs.declared.bound.Bound.TheVariants.{Least, Never}
 use Rattle.qc_model.specs.declared.schedule.Slot.{Slot}
 use Rattle.qc_model.specs.Instance.{InstanceView}
 use Rattle.qc_model.specs.Judge.{IsDirection}
 use Rattle.qc_model.specs.Rules.{ends}
-use Rattle.qc_tree.specs.Trees.{NoneEarlier, Tree, tree_branchings, tree_value}
-use Rattle.qc_search.specs.Run.{DoneView, IsRun, IsTight, best_end, outcome}
+use Rattle.qc_tree.specs.Trees.{Tree, tree_branchings, tree_value}
+use Rattle.qc_search.specs.Run.{DoneView, IsRun, IsSound}
 use Rattle.qc_top.specs.declared.answer.Planned.{Planned}
 use Rattle.qc_top.specs.declared.answer.Answer.{Answer}
 use Rattle.qc_top.specs.declared.answer.Answer.TheVariants as answer
 
 -- what a search with so many branchings came to: its tree is one of the instance that is earned, its schedule, if any,
--- a best one that the tree meets; no schedule that goes one way ends before the tree's value
+-- a best one that the tree meets, and what holds of each search
 pub record IsFound (inst : InstanceView) (nodes : ℕ) (tree : Tree) (done : DoneView) : Type 0 where
   pub run : IsRun inst nodes tree done.best done.kind
   pub bound : done.bound ≡ tree_value inst tree
   pub branched : done.branched ≡ tree_branchings inst tree
-  pub none_earlier : NoneEarlier inst done.bound
-  pub tight : IfSome done.best (IsTight inst)
-  pub kind : done.kind ≡ outcome done.bound (best_end inst done.best)
+  pub sound : IsSound (record { inst = inst; nodes = nodes }) done
 
 -- the end of the schedule that was met, the bound, the number of branchings and the schedule's direction are told
 pub record TellsPlan (inst : InstanceView) (done : DoneView) (told : Planned) : Type 0 where

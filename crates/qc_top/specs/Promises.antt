@@ -9,6 +9,7 @@ use Rattle.qc_model.specs.OneWay.{GoesOneWay}
 use Rattle.qc_model.specs.Rules.{ends}
 use Rattle.qc_search.specs.declared.done.Kind.{Kind}
 use Rattle.qc_search.specs.declared.done.Kind.TheVariants as kind
+use Rattle.qc_search.specs.Run.{branching_limit}
 use Rattle.qc_tasks.specs.TasksText.{tasks_text}
 use Rattle.qc_top.specs.declared.answer.Refusal.{Refusal}
 use Rattle.qc_top.specs.declared.answer.Stop.TheVariants as stop
@@ -17,7 +18,7 @@ use Rattle.qc_top.specs.declared.answer.Answer.{Answer}
 use Rattle.qc_top.specs.declared.answer.Answer.TheVariants as answer
 use Rattle.qc_top.specs.declared.status.Status.{Status}
 use Rattle.qc_top.specs.declared.status.Status.TheVariants as status
-use Rattle.qc_top.specs.Asked.{Asked, check, tasks, unbuilt, usage, IsPlan}
+use Rattle.qc_top.specs.Asked.{Asked, check, tasks, unbuilt, usage, IsPlan, nodes_of}
 use Rattle.qc_top.specs.Words.{Asks}
 use Rattle.qc_top.specs.Due.{Work, print, search, reads_in, instance_due, due}
 use Rattle.qc_top.specs.Answers.{infeasible_text, planned_text, planned_word, refusal_text, report_text, refusal_status, unplanned_text}
@@ -39,19 +40,25 @@ pub record IsPlanTold (asked : Asked) (held : Files) (now : Option Files) (befor
   pub report : after.bytes ≡ append_known before.bytes (planned_text told)
   pub word : planned_word told ≡ first
 
+-- the same, and all branchings that were asked for are spent
+pub record IsBudgetTold (asked : Asked) (held : Files) (now : Option Files) (before after : Printed) : Type 0 where
+  pub plan : IsPlanTold asked held now before after kind.Budget (codes "Budget")
+  pub spent : plan.told.branched ≡ nodes_of asked
+
 -- and this schedule is a best one
 pub record IsOptimalTold (asked : Asked) (held : Files) (now : Option Files) (before after : Printed) : Type 0 where
   pub plan : IsPlanTold asked held now before after kind.Optimal (codes "Optimal")
   pub best : IsBest plan.searched.inst plan.searched.told.sched
 
--- the search that is due met no schedule and spent its branchings: its tree is written, all other files are as they
--- were, and its bound is told
+-- the search that is due met no schedule and spent all branchings that were asked for: its tree is written, all other
+-- files are as they were, and its bound is told
 pub record IsUnplannedTold (asked : Asked) (held : Files) (now : Option Files) (before after : Printed) : Type 0 where
   pub bound : ℕ
   pub branched : ℕ
   pub searched : IsSearched asked held (answer.Unplanned bound branched) now
   pub kind : searched.done.kind ≡ kind.Budget
   pub report : after.bytes ≡ append_known before.bytes (unplanned_text bound branched)
+  pub spent : branched ≡ nodes_of asked
 
 -- no schedule goes one way, as the tree shows that is written; all other files are as they were
 pub record IsInfeasibleTold (asked : Asked) (held : Files) (now : Option Files) (before after : Printed) : Type 0 where
@@ -150,11 +157,16 @@ pub record Promises (words : List (List ℕ)) (before after : Stand) (printed_be
       → IfSome before.files (λ held. IsInfeasibleTold asked held after.files printed_before printed_after)
   pub plan_budget :
       (asked : Asked) → Asks words asked → IsPlan asked → ended ≡ status.BudgetPlan
-      → IfSome before.files (λ held.
-      IsPlanTold asked held after.files printed_before printed_after kind.Budget (codes "Budget"))
+      → IfSome before.files (λ held. IsBudgetTold asked held after.files printed_before printed_after)
   pub plan_none :
       (asked : Asked) → Asks words asked → IsPlan asked → ended ≡ status.BudgetNone
       → IfSome before.files (λ held. IsUnplannedTold asked held after.files printed_before printed_after)
+  -- with enough branchings a plan isn't given up
+  pub plan_decides :
+      (asked : Asked) → Asks words asked → IsPlan asked
+      → IfSome before.files (λ held. (inst : InstanceView) (nodes : ℕ)
+      → due asked (reads_in held asked) ≡ Ok (search inst nodes) → branching_limit inst ≤ nodes
+      → (ended ≢ status.BudgetPlan) × (ended ≢ status.BudgetNone))
   -- Done of the tasks
   pub tasks_done :
       (ship stow : List ℕ) → Asks words (tasks ship stow) → ended ≡ status.Done

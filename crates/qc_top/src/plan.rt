@@ -2,9 +2,8 @@
 ghost use Rattle.std.specs.Prelude.{◌≡◌, ◌≤◌, ◌<◌, [], ◌∷◌, IfOk, IfSome, OnOk, OnErr};
 ghost use Rattle.qc_io.specs.Outside.{Rose, stand_of};
 ghost use Rattle.qc_model.specs.Judge.{IsJudgeable};
-ghost use Rattle.qc_search.specs.Run.{IsTight};
+ghost use Rattle.qc_search.specs.Run.{IsSound};
 ghost use Rattle.qc_tree.specs.declared.line.TheConstants.{MOST_BRANCHINGS};
-ghost use Rattle.qc_tree.specs.Trees.{NoneEarlier};
 ghost use Rattle.qc_top.specs.Asked.{asked_for, IsPlanTo};
 ghost use Rattle.qc_top.specs.PlanText.{plan_text};
 ghost use Rattle.qc_top.specs.Due.{due, search as searched};
@@ -35,9 +34,7 @@ fn store_tree<S: Shelf, L: Ledger>(
     requires some { 0 < L.parts }
     ensures ok { IfOk result (λ done. IfSome (S.files shelf.old) (λ held.
         IsStored search name.now held (S.files shelf.new) done)) }
-    ensures judgeable { IfOk result (λ done. IfSome done.best (IsJudgeable search.inst)) }
-    ensures tight { IfOk result (λ done. IfSome done.best (IsTight search.inst)) }
-    ensures none_earlier { IfOk result (λ done. NoneEarlier search.inst done.bound) }
+    ensures sound { IfOk result (IsSound search) }
     ensures ok_faults { OnOk result (S.Sink.faults shelf.new ≡ S.Sink.faults shelf.old) }
     ensures err { OnErr result (IfSome (S.files shelf.old) (λ held.
         IsTreeCut search.inst name.now held (S.files shelf.new))) }

@@ -15,7 +15,7 @@ returns-clause-ok g c =
     let run = c.run.ensures in
     tree_ok g.S.Shelf.files g.S.Shelf.made g.S.Shelf.rest g.S.Shelf.reading g.S.Shelf.read_faults g.S.Sink.written g.S.Sink.beside
     shelf.written_is shelf.beside_is c.args.shelf.now c.create.new.self c.run.new.sink c.args.name.now created made g.S.Sink.faults
-    c.args.search c.run.result run.searched run.none_earlier run.tight run.kind run.unfailed run.beside_stays run.never_falls
+    c.args.search c.run.result run.searched run.sound run.unfailed run.beside_stays run.never_falls
 
 pub returns-clause-err : goal.returns-clause-err
 returns-clause-err g c =
