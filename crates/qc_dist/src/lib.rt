@@ -2,6 +2,7 @@
 //! forced inequalities, the ticks at which tasks can start at the least, and whether the work fits.
 #![tactic(auto)]
 
+mod children;
 mod decisions;
 mod forced;
 mod grid;
@@ -12,6 +13,7 @@ mod parts;
 mod travel;
 mod work;
 
+pub use children::next_child;
 pub use decisions::Decisions;
 pub use qc_model::Decision;
 pub use travel::{distance, head, in_reach, span};

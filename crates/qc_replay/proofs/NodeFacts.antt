@@ -28,7 +28,8 @@ use Rattle.qc_replay.specs.declared.fault.TreeKind.{TreeKind}
 use Rattle.qc_replay.specs.declared.fault.TreeKind.TheVariants as kind
 use Rattle.qc_replay.specs.declared.leaf.Heads.{Heads}
 use Rattle.qc_replay.specs.declared.node.Tally.{Tally}
-use Rattle.qc_replay.specs.Part.{IsJudged, Shows, Standing, behind, nodes, steps_left, version_of, with_branching, within}
+use Rattle.qc_dist.specs.Children.{behind}
+use Rattle.qc_replay.specs.Part.{IsJudged, Shows, Standing, nodes, steps_left, version_of, with_branching, within}
 use Rattle.qc_replay.specs.Walk.{Coming, Reading, at_node, branched_to, came, closed_by, from_file, is_apart, is_number, is_settled, node, on_pair, on_task}
 
 number_inside : (inst : InstanceView) (i : ℕ) → is_number inst i ≡ true → nat_lt (i - 1) (length inst.tasks) ≡ true

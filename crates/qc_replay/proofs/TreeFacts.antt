@@ -11,7 +11,8 @@ use Rattle.qc_replay.specs.declared.leaf.Heads.{Heads}
 use Rattle.qc_replay.specs.declared.node.Tally.{Tally}
 use Rattle.qc_replay.specs.File.{Fails, IsReadThrough, Leads, texts}
 use Rattle.qc_replay.specs.Frame.{standing_at}
-use Rattle.qc_replay.specs.Part.{Standing, behind, within}
+use Rattle.qc_dist.specs.Children.{behind}
+use Rattle.qc_replay.specs.Part.{Standing, within}
 use Rattle.qc_replay.specs.Read.{IsReached, lines_text}
 use Rattle.qc_replay.specs.Shown.{IsShown}
 use Rattle.qc_replay.specs.Walk.{Coming, Reading, node, start, texts_from, tree_in}

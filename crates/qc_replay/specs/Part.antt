@@ -1,15 +1,15 @@
 -- A part of a tree as it is kept while it is read.
-use Rattle.std.specs.Prelude.{◌≡◌, ℕ, ◌+◌, ◌<◌, ◌≤◌, Bool, nat_lt, if◌then◌else◌, List, [], ◌∷◌, ◌++◌, length, map, drop, Option, None, Some, Result, Ok, Err, ◌-◌, ◌*◌}
+use Rattle.std.specs.Prelude.{◌≡◌, ℕ, ◌+◌, ◌<◌, ◌≤◌, Bool, nat_lt, if◌then◌else◌, List, [], ◌∷◌, ◌++◌, length, map, Result, Ok, Err, ◌-◌, ◌*◌}
 use Rattle.qc_num.specs.declared.bound.Bound.{Bound}
 use Rattle.qc_num.specs.Bounds.{lesser}
 use Rattle.qc_num.specs.Reading.{◌>>=◌}
+use Rattle.qc_dist.specs.Children.{behind}
 use Rattle.qc_dist.specs.Node.{IsOpen}
 use Rattle.qc_model.specs.declared.direction.Direction.{Direction}
 use Rattle.qc_model.specs.declared.limits.TheConstants.{MOST_CRANES}
 use Rattle.qc_model.specs.declared.decision.Decision.{Decision}
-use Rattle.qc_model.specs.declared.decision.Decision.TheVariants.{Assign, Order}
 use Rattle.qc_model.specs.Instance.{InstanceView}
-use Rattle.qc_model.specs.Leaves.{Version, without_berths, with_berths, crane_numbers}
+use Rattle.qc_model.specs.Leaves.{Version, without_berths, with_berths}
 use Rattle.qc_tree.specs.declared.line.Line.{Line}
 use Rattle.qc_tree.specs.declared.line.Line.TheVariants as line
 use Rattle.qc_tree.specs.declared.line.TheConstants.{MOST_BRANCHINGS}
@@ -35,24 +35,6 @@ pub record Standing : Type 0 where
   pub inst : InstanceView
   pub decisions : List Decision
   pub live : Bool
-
--- the children that come after the one of this decision, under its branching; the first child of a pair is the
--- one in which the lower task is first
-abbrev pub later : InstanceView → List Decision → Decision → List (List Decision)
-later inst ds (Assign j k) = map (λ v. Assign j v ∷ ds) (drop (k + 1) (crane_numbers inst))
-later inst ds (Order i j) = if nat_lt i j then (Order j i ∷ ds) ∷ [] else []
-
--- the child after the one of this decision, wherever that was open; none where it is the last
-abbrev pub IsNextChild : InstanceView → Decision → Option Decision → Type 0
-IsNextChild inst d None = (ds : List Decision) → IsOpen inst ds d → later inst ds d ≡ []
-IsNextChild inst d (Some next) =
-    (ds : List Decision) → IsOpen inst ds d
-    → IsOpen inst ds next × (later inst ds d ≡ (next ∷ ds) ∷ later inst ds next)
-
--- the nodes that must come after the one of these decisions
-abbrev pub behind : InstanceView → List Decision → List (List Decision)
-behind inst [] = []
-behind inst (d ∷ ds) = later inst ds d ++ behind inst ds
 
 -- the nodes that must still come, the next one first
 abbrev pub nodes : Standing → List (List Decision)

@@ -6,9 +6,10 @@ ghost use Rattle.qc_model.specs.declared.decision.Decision.TheVariants.{Assign, 
 ghost use Rattle.qc_model.specs.Instance.{IsApart, Valid};
 ghost use Rattle.qc_model.specs.Leaves.{crane_numbers};
 ghost use Rattle.qc_model.specs.Nodes.{IsSettled, assigned};
-ghost use Rattle.qc_replay.specs.Part.{IsNextChild, WereOpen, behind, nodes};
+ghost use Rattle.qc_dist.specs.Children.{behind};
+ghost use Rattle.qc_replay.specs.Part.{WereOpen, nodes};
 
-use qc_dist::Decisions;
+use qc_dist::{Decisions, next_child};
 use qc_model::{Decision, Instance};
 use qc_num::OutOfMemory;
 use std::alloc::Global;
@@ -31,38 +32,6 @@ impl Model for Descent {
     ghost view = { standing_of };
 
     ghost invariant = { IsKept };
-}
-
-/// The child that puts the task on the next crane.
-fn next_crane(inst: &Instance, task: u16, crane: u16) -> Option<Decision>
-    ensures { IsNextChild inst.now (Assign task crane) result }
-{
-    if crane as usize + 1 < inst.cranes().len() {
-        Some(Decision::Assign(task, crane + 1))
-    } else {
-        None
-    }
-}
-
-/// The child with the pair in the other order: the one with the lower task first comes first.
-fn turned(inst: &Instance, first: u16, second: u16) -> Option<Decision>
-    ensures { IsNextChild inst.now (Order first second) result }
-{
-    if first < second {
-        Some(Decision::Order(second, first))
-    } else {
-        None
-    }
-}
-
-/// The child that follows this one under its branching.
-fn next_child(inst: &Instance, decision: Decision) -> Option<Decision>
-    ensures { IsNextChild inst.now decision result }
-{
-    match decision {
-        Decision::Assign(task, crane) => next_crane(inst, task, crane),
-        Decision::Order(first, second) => turned(inst, first, second),
-    }
 }
 
 impl Descent {

@@ -12,7 +12,8 @@ use Rattle.qc_starts.specs.Seen.{IsReached}
 use Rattle.qc_tree.specs.Trees.{leaf_text}
 use Rattle.qc_search.specs.declared.course.Course.{Course}
 use Rattle.qc_search.specs.Course.{Stopped, Went}
-use Rattle.qc_search.specs.Walk.{IsChild, IsNextChild, behind, from_child, later}
+use Rattle.qc_dist.specs.Children.{IsNextChild, behind, later}
+use Rattle.qc_search.specs.Walk.{IsChild, from_child}
 use Rattle.qc_search.proofs.ClosingSteps.{reach_comes}
 use Rattle.qc_search.proofs.CourseLemmas.{comes_none, went_stopped, went_then}
 use Rattle.qc_search.proofs.DescentLemmas.{next_due}

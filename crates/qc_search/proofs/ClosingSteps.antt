@@ -27,7 +27,7 @@ use Rattle.qc_search.specs.Earned.{IsChainTo, IsClosedAt, IsEarnedBehind, IsGive
 use Rattle.qc_search.specs.Course.{Comes, IsAlong, IsCourse, IsLeafBy, IsPassed, IsTaken, leaf_of, value_by, value_in}
 use Rattle.qc_search.specs.Walk.{Holds, IsOpenBranch, children, shown_by, sign_of, sign_text}
 use Rattle.qc_search.proofs.CourseLemmas.{comes_one}
-use Rattle.qc_search.proofs.EarnedLemmas.{at_most_never, at_most_same, at_most_through, branchings-append, met_passed, value_push}
+use Rattle.qc_search.proofs.EarnedLemmas.{at_most_never, at_most_through, branchings-append, met_passed, value_push}
 use Rattle.qc_search.proofs.StepLemmas.{kept_on, leaf_comes, met_before}
 
 -- ---- out of reach

@@ -1,9 +1,9 @@
 -- No part has more branchings than what is left to decide allows.
-use Rattle.std.proofs.Common.{◌≡◌, ℕ, suc, zero, ◌+◌, ◌-◌, ◌*◌, ◌^◌, ◌<◌, ◌≤◌, max, List, [], ◌∷◌, length, get_or, inl, inr, refl, ap, sym, subst, ◌∙◌, arith, mul-le-mul_left}
+use Rattle.std.proofs.Common.{◌≡◌, ℕ, suc, zero, ◌+◌, ◌-◌, ◌*◌, ◌^◌, ◌<◌, ◌≤◌, max, List, [], ◌∷◌, length, get_or, inl, inr, ap, sym, subst, ◌∙◌, arith, mul-le-mul_left}
 use Rattle.std.proofs.Math.Nat.{mul_comm, one-le-pow, pow-suc, suc-mul}
 use Rattle.std.proofs.lemmas.List.FromFn.{get_or-range_with_len, length-range_with_len}
 use Rattle.std.proofs.lemmas.List.Sums.{sum_by-le}
-use Rattle.std.specs.Prelude.{All, sum_by}
+use Rattle.std.specs.Prelude.{All}
 use Rattle.std.specs.List.{range_with_len}
 use Rattle.qc_dist.proofs.Facts.{unsettled_unordered}
 use Rattle.qc_dist.proofs.Room.{assigned_less, counted, ordered_less, unassigned, unordered}
@@ -12,7 +12,7 @@ use Rattle.qc_model.specs.declared.decision.Decision.TheVariants as decide
 use Rattle.qc_model.specs.declared.direction.Direction.TheVariants.{Down}
 use Rattle.qc_model.specs.Instance.{InstanceView}
 use Rattle.qc_model.specs.Leaves.{Version, crane_numbers}
-use Rattle.qc_model.specs.OneWay.{mirror, mirror_task}
+use Rattle.qc_model.specs.OneWay.{mirror}
 use Rattle.qc_model.proofs.SeenLemmas.{seen-crane_count, seen-task_count}
 use Rattle.qc_tree.specs.Trees.{IsPart, IsTree, Part, Tree, branchings, leaf, on_pair, on_task, tree_branchings}
 use Rattle.qc_search.specs.Run.{branching_limit}

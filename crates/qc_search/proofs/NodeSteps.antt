@@ -24,7 +24,8 @@ use Rattle.qc_search.specs.declared.branch.Branch.{Branch}
 use Rattle.qc_search.specs.declared.course.Course.{Course}
 use Rattle.qc_search.specs.Earned.{TreeNode}
 use Rattle.qc_search.specs.Course.{Comes, IsAlong, IsCourse, IsKeptBest, IsPassed, IsSoon, IsTaken, Stopped, Went, leaf_of, value_by}
-use Rattle.qc_search.specs.Walk.{IsOpenBranch, WereMade, behind, first_of, from_child, from_node, sign_of, sign_text}
+use Rattle.qc_dist.specs.Children.{behind}
+use Rattle.qc_search.specs.Walk.{IsOpenBranch, WereMade, first_of, from_child, from_node, sign_of, sign_text}
 use Rattle.qc_search.proofs.ClosingSteps.{branch_comes, closed_comes, spent_comes}
 use Rattle.qc_search.proofs.DescentLemmas.{branch_due}
 

@@ -1,5 +1,6 @@
 -- A search of a part as it goes on: the nodes that must still come, and the lines of those that came.
-use Rattle.std.specs.Prelude.{◌≡◌, ℕ, ◌+◌, ◌<◌, nat_lt, if◌then◌else◌, List, [], ◌∷◌, ◌++◌, map, length, drop, Option, None, Some, IsSome}
+use Rattle.std.specs.Prelude.{◌≡◌, ℕ, ◌+◌, ◌<◌, List, [], ◌∷◌, ◌++◌, map, length, Option, None, Some, IsSome}
+use Rattle.qc_dist.specs.Children.{behind}
 use Rattle.qc_dist.specs.Node.{IsOpen}
 use Rattle.qc_model.specs.declared.decision.Decision.{Decision}
 use Rattle.qc_model.specs.declared.decision.Decision.TheVariants as decide
@@ -62,17 +63,6 @@ Leads inst (ds ∷ more) (visit ∷ visits) left =
     (visit.decisions ≡ ds) × Holds inst ds visit.sign
     × Leads inst (children inst ds visit.sign ++ more) visits left
 
--- the children that come after the one of this decision, under its branching; the first child of a pair is the
--- one in which the lower task is first
-abbrev pub later : InstanceView → List Decision → Decision → List (List Decision)
-later inst ds (decide.Assign j k) = map (λ v. decide.Assign j v ∷ ds) (drop (k + 1) (crane_numbers inst))
-later inst ds (decide.Order i j) = if nat_lt i j then (decide.Order j i ∷ ds) ∷ [] else []
-
--- the nodes that must come after the one of these decisions
-abbrev pub behind : InstanceView → List Decision → List (List Decision)
-behind inst [] = []
-behind inst (d ∷ ds) = later inst ds d ++ behind inst ds
-
 -- the nodes that must still come, from the one of these decisions on
 abbrev pub from_node : InstanceView → List Decision → List (List Decision)
 from_node inst ds = ds ∷ behind inst ds
@@ -90,13 +80,6 @@ IsChild inst ds d = IsOpen inst ds d × HasStarts inst ds
 abbrev pub WereMade : InstanceView → List Decision → Type 0
 WereMade inst [] = Unit {0}
 WereMade inst (d ∷ ds) = IsChild inst ds d × IsReached inst d × WereMade inst ds
-
--- the child after the one of this decision, wherever that was open; none where it is the last
-abbrev pub IsNextChild : InstanceView → Decision → Option Decision → Type 0
-IsNextChild inst d None = (ds : List Decision) → IsOpen inst ds d → later inst ds d ≡ []
-IsNextChild inst d (Some next) =
-    (ds : List Decision) → IsOpen inst ds d
-    → IsOpen inst ds next × (later inst ds d ≡ (next ∷ ds) ∷ later inst ds next)
 
 -- what a branching says
 abbrev pub sign_of : Branch → Sign

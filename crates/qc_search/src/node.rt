@@ -12,7 +12,8 @@ ghost use Rattle.qc_num.specs.Bounds.{lesser};
 ghost use Rattle.qc_num.specs.Paths.{HasRoom};
 ghost use Rattle.qc_tree.specs.Trees.{leaf_text};
 ghost use Rattle.qc_search.specs.Course.{IsLeafBy, IsSoon, Stopped, Went, leaf_of, steps_left, value_by};
-ghost use Rattle.qc_search.specs.Walk.{IsChild, behind, from_child, from_node};
+ghost use Rattle.qc_dist.specs.Children.{behind};
+ghost use Rattle.qc_search.specs.Walk.{IsChild, from_child, from_node};
 
 use crate::best::meet;
 use crate::choice::{Outlook, pick};

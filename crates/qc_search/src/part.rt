@@ -9,50 +9,18 @@ ghost use Rattle.qc_model.specs.Instance.{Valid};
 ghost use Rattle.qc_num.specs.Paths.{HasRoom};
 ghost use Rattle.qc_starts.specs.Seen.{IsReached};
 ghost use Rattle.qc_search.specs.Course.{Stopped, Went, due_at};
-ghost use Rattle.qc_search.specs.Walk.{IsChild, IsNextChild, WereMade, from_child, from_node};
+ghost use Rattle.qc_search.specs.Walk.{IsChild, WereMade, from_child, from_node};
 
 use crate::course::Course;
 use crate::lines::put_reach;
 use crate::node::{Side, visit};
 use crate::window::heavy_window;
-use qc_dist::in_reach;
+use qc_dist::{in_reach, next_child};
 use qc_io::{Sink, WriteFault};
 use qc_model::{Decision, Direction, Instance};
 use qc_num::Steps;
 use qc_starts::Starts;
 use std::sync::ledger::Ledger;
-
-/// The child that puts the task on the next crane.
-fn next_crane(inst: &Instance, task: u16, crane: u16) -> Option<Decision>
-    ensures { IsNextChild inst.now (Assign task crane) result }
-{
-    if crane as usize + 1 < inst.cranes().len() {
-        Some(Decision::Assign(task, crane + 1))
-    } else {
-        None
-    }
-}
-
-/// The child with the pair in the other order: the one with the lower task first comes first.
-fn turned(inst: &Instance, first: u16, second: u16) -> Option<Decision>
-    ensures { IsNextChild inst.now (Order first second) result }
-{
-    if first < second {
-        Some(Decision::Order(second, first))
-    } else {
-        None
-    }
-}
-
-/// The child that follows this one under its branching.
-fn next_child(inst: &Instance, decision: Decision) -> Option<Decision>
-    ensures { IsNextChild inst.now decision result }
-{
-    match decision {
-        Decision::Assign(task, crane) => next_crane(inst, task, crane),
-        Decision::Order(first, second) => turned(inst, first, second),
-    }
-}
 
 /// Whether the child is within reach; if so, goes to it.
 fn descend<L: Ledger>(

@@ -10,7 +10,7 @@ use Rattle.qc_io.proofs.AsSink.{stored, stored_part}
 use Rattle.qc_model.specs.declared.schedule.Slot.{Slot}
 use Rattle.qc_model.specs.Instance.{InstanceView}
 use Rattle.qc_model.specs.Leaves.{chain, with_berths}
-use Rattle.qc_tree.specs.Trees.{IsTree, NoneEarlier, Tree, leaf, tree_text}
+use Rattle.qc_tree.specs.Trees.{IsTree, Tree, leaf, tree_text}
 use Rattle.qc_search.specs.Run.{DoneView, IsCutOff, IsMetBest, IsSound, SearchView}
 use Rattle.qc_search.specs.Run.{IsSearched as Searched}
 use Rattle.qc_num.specs.declared.bound.Bound.TheVariants.{Never}

@@ -1,5 +1,6 @@
 use Rattle.std.proofs.Common.{◌≡◌, length}
-use Rattle.qc_replay.specs.Part.{WereOpen, behind}
+use Rattle.qc_dist.specs.Children.{behind}
+use Rattle.qc_replay.specs.Part.{WereOpen}
 use Rattle.qc_replay.proofs.descent.climb.Given as goal
 
 abbrev pub invariant-loop-decision : goal.invariant-loop-decision

@@ -1,4 +1,5 @@
-use Rattle.qc_search.specs.Walk.{behind, from_node}
+use Rattle.qc_dist.specs.Children.{behind}
+use Rattle.qc_search.specs.Walk.{from_node}
 use Rattle.qc_search.proofs.NodeSteps.{by_writing, closed_put}
 use Rattle.qc_search.proofs.node.put_closed.Goals as goal
 

@@ -1,6 +1,7 @@
 use Rattle.std.proofs.Common.{Some, arith, rules}
 use Rattle.std.proofs.lemmas.Bool.{false≢true}
-use Rattle.qc_search.specs.Walk.{behind, from_child, from_node}
+use Rattle.qc_dist.specs.Children.{behind}
+use Rattle.qc_search.specs.Walk.{from_child, from_node}
 use Rattle.qc_search.proofs.NodeSteps.{has_starts, not_stuck, on_fault, stopped_by_path, went_by_path}
 use Rattle.qc_search.proofs.node.visit.Goals as goal
 

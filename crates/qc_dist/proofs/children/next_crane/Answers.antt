@@ -1,6 +1,6 @@
 use Rattle.std.proofs.Common.{◌+◌, ◌<◌, ◌≤◌, length}
-use Rattle.qc_replay.proofs.DescentFacts.{last_crane, next_crane}
-use Rattle.qc_replay.proofs.descent.next_crane.Goals as goal
+use Rattle.qc_dist.proofs.ChildLemmas.{last_crane, next_crane}
+use Rattle.qc_dist.proofs.children.next_crane.Goals as goal
 
 pub returns-then-crane-cranes : goal.returns-then-crane-cranes
 returns-then-crane-cranes c = λ ds is_open.
