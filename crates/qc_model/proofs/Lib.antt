@@ -14,3 +14,9 @@ pub mod CompleteNodes
 mod Sums
 mod WorkLemmas
 pub mod LeafLemmas
+pub mod Scaled
+mod Levels
+pub mod Places
+mod PlaceTerms
+mod Moves
+pub mod SafeLemmas
