@@ -15,8 +15,9 @@ mod Sums
 mod WorkLemmas
 pub mod LeafLemmas
 pub mod Scaled
-mod Levels
+pub mod Levels
 pub mod Places
-mod PlaceTerms
-mod Moves
+pub mod PlaceTerms
+pub mod Moves
+pub mod WholeTicks
 pub mod SafeLemmas

@@ -1,5 +1,5 @@
 -- How the places of an upward schedule move.
-use Rattle.std.proofs.Common.{◌≡◌, ℕ, ◌+◌, ◌*◌, ◌<◌, ◌≤◌, ℤ, pos, ◌+ℤ◌, ◌-ℤ◌, ◌≤ℤ◌, ◌⊎◌, inl, inr, List, length, arith}
+use Rattle.std.proofs.Common.{◌≡◌, ℕ, ◌+◌, ◌*◌, ◌<◌, ◌≤◌, ℤ, pos, ◌+ℤ◌, ◌-ℤ◌, ◌≤ℤ◌, inl, inr, List, length, arith}
 use Rattle.std.proofs.lemmas.Bool.{cases_lt}
 use Rattle.std.proofs.lemmas.Int.{ints}
 use Rattle.qc_model.specs.declared.schedule.Slot.{Slot}
@@ -65,13 +65,26 @@ module _ (inst : InstanceView) (sched : List Slot) (d : ℕ) (h : HasLevels inst
     | inr after ↦ after_floor q m high above (omega (arith, ints)) after
   ]
 
-  -- at each moment no task is above the floor, or no berth is
-  pub floor_kind : (m : ℕ) → FloorOf inst sched d k (floor_level inst d k x)
-      → ((i : ℕ) → i < length inst.tasks → crane_of sched i ≤ k → task_at inst sched d i m ≤ℤ floor_level inst d k x)
-      ⊎ ((v : ℕ) → v ≤ k → berth_at inst d v m ≤ℤ floor_level inst d k x)
-  floor_kind m (at_berth w high above is) = inr (over_berth w m high above is)
-  floor_kind m (at_task q high above is) = elim (cases_lt m (d * start_of sched q)) [
-    | inl before ↦ inl (λ i low below.
-        let rule = h.climbs q i high low (omega arith) in omega (arith, ints, rule))
-    | inr after ↦ inr (after_floor q m high above (omega (arith, ints)) after)
-  ]
+  -- the moment of the floor: until then no task is above it, and from then on no berth
+  pub record HasMoment (tick : ℕ) : Type 0 where
+    pub tasks : (m : ℕ) → m ≤ d * tick → (i : ℕ) → i < length inst.tasks → crane_of sched i ≤ k
+        → task_at inst sched d i m ≤ℤ floor_level inst d k x
+    pub berths : (m : ℕ) → d * tick ≤ m → (v : ℕ) → v ≤ k → berth_at inst d v m ≤ℤ floor_level inst d k x
+
+  pub floor_moment : FloorOf inst sched d k (floor_level inst d k x) → (tick : ℕ) × HasMoment tick
+  floor_moment (at_berth w high above is) = (
+    0,
+    record {
+      tasks = λ m early i low below.
+          let rule = h.waits i w low high (omega arith) in omega (arith, ints, is, rule);
+      berths = λ m late. over_berth w m high above is;
+    },
+  )
+  floor_moment (at_task q high above is) = (
+    start_of sched q,
+    record {
+      tasks = λ m early i low below.
+          let rule = h.climbs q i high low (omega arith) in omega (arith, ints, is, rule);
+      berths = λ m late. after_floor q m high above (omega (arith, ints, is)) late;
+    },
+  )

@@ -12,11 +12,11 @@ use Rattle.qc_model.proofs.Levels.{berth_at, berth_level, lowered, task_at, task
 use Rattle.qc_model.proofs.Places.{floor_unique}
 
 -- what lies between the level of a bay for crane k and its place
-pub lift : InstanceView → ℕ → ℕ → ℤ
+unfoldable pub lift : InstanceView → ℕ → ℕ → ℤ
 lift inst d k = scaled inst d (pos (inst.gap * k))
 
 -- the level of the bay below which crane k never goes
-pub floor_level : InstanceView → ℕ → ℕ → ℤ → ℤ
+unfoldable pub floor_level : InstanceView → ℕ → ℕ → ℤ → ℤ
 floor_level inst d k x = scaled inst d (lowered inst k x)
 
 -- ---- on bays
