@@ -1,6 +1,6 @@
--- The rules of an upward schedule on one scale. The level of a bay for a crane is its place with the gaps of the
--- crane's number taken off, so that cranes at their least distance stand at one level. Each rule says where the
--- term of a task or of a berth stands at the moment of another.
+-- The rules of an upward schedule on one scale. The level of a bay for a crane is its place with the gaps of
+-- the crane's number taken off, so that cranes at their least distance stand at one level. Each rule says
+-- where a task or a berth has a crane at the moment of another.
 use Rattle.std.proofs.Common.{◌≡◌, ℕ, zero, suc, ◌+◌, ◌-◌, ◌*◌, ◌<◌, ◌≤◌, ℤ, pos, ◌+ℤ◌, ◌-ℤ◌, ◌≤ℤ◌, ◌<ℤ◌, inl, inr, List, length, ap, sym, subst, ◌∙◌, arith, mul-le-mul_left}
 use Rattle.std.proofs.lemmas.Bool.{cases_lt, cases_order, le-ltb, lt-ltb}
 use Rattle.std.proofs.lemmas.Int.{by_lt_z, ints}
@@ -91,7 +91,8 @@ berths_rise : (inst : InstanceView) → Valid inst → (v w : ℕ) → v ≤ w �
 berths_rise inst valid v zero order high = same_berth inst v zero (omega arith)
 berths_rise inst valid v (suc w) order high =
     let e : w + 1 ≡ suc w = omega arith in
-    let step = subst (λ (u : ℕ). ((crane inst w).bay +ℤ pos inst.gap) ≤ℤ (crane inst u).bay) e (valid.cranes.order w (omega arith)) in
+    let apart = valid.cranes.order w (omega arith) in
+    let step = subst (λ (u : ℕ). ((crane inst w).bay +ℤ pos inst.gap) ≤ℤ (crane inst u).bay) e apart in
     let next = next_berth inst.gap w (crane inst w).bay (crane inst (suc w)).bay step in
     elim (cases_lt w v) [
       | inl l ↦ same_berth inst v (suc w) (omega arith)
@@ -99,38 +100,45 @@ berths_rise inst valid v (suc w) order high =
     ]
 
 module _ (inst : InstanceView) (sched : List Slot) (g : GoesUp inst sched) where
+  same_way : (v w : ℕ) (x y : ℤ) → v ≡ w
+      → inst.travel * bays_up (lowered inst v x) (lowered inst w y) ≡ inst.travel * bays_up x y
+  same_way v w x y same = ap (λ b. inst.travel * b) (same_lowered inst.gap v w x y same)
+
   climbs_by : (i j : ℕ) → i < length inst.tasks → j < length inst.tasks → crane_of sched j ≤ crane_of sched i
       → 0 < inst.travel * bays_up (bay_on inst sched i) (bay_on inst sched j)
-      → end_of inst sched i + inst.travel * bays_up (bay_on inst sched i) (bay_on inst sched j) ≤ start_of sched j
+      → end_of inst sched i + inst.travel * bays_up (bay_on inst sched i) (bay_on inst sched j)
+      ≤ start_of sched j
   climbs_by i j low high order near = elim (cases_order (crane_of sched i) (crane_of sched j)) [
     | inl same ↦
-        let bays_same = ap (λ b. inst.travel * b) (same_lowered inst.gap _ _ (bay_of inst i) (bay_of inst j) same) in
+        let bays_same = same_way (crane_of sched i) (crane_of sched j) (bay_of inst i) (bay_of inst j) same in
         let up = above_of inst.travel (bay_of inst i) (bay_of inst j) (omega arith) in
         omega (arith, g.upward.one_crane i j low high same up)
     | inr u ↦ elim u [
       | inl up ↦ absurd (omega arith)
       | inr down ↦
-          let far = distance-lowered inst (crane_of sched i) (bay_of inst i) (crane_of sched j) (bay_of inst j) down in
+          let far = distance-lowered inst _ (bay_of inst i) _ (bay_of inst j) down in
           omega (arith, far, g.upward.two_cranes i j low high down (omega (arith, far)))
     ]
   ]
 
   arrives : (j v : ℕ) → j < length inst.tasks → v ≡ crane_of sched j
       → (crane inst v).ready + inst.travel * bays_between (crane inst v).bay (bay_of inst j) ≤ start_of sched j
-  arrives j v low same = subst (λ (w : ℕ). arrival inst w (bay_of inst j) ≤ start_of sched j) (sym same) (g.feasible.ready j low)
+  arrives j v low same =
+      subst (λ (w : ℕ). arrival inst w (bay_of inst j) ≤ start_of sched j) (sym same) (g.feasible.ready j low)
 
   leaves_by : (j v : ℕ) → j < length inst.tasks → v ≤ crane_of sched j
       → 0 < inst.travel * bays_up (bay_on inst sched j) (berth_of inst v)
       → (crane inst v).ready + inst.travel * bays_up (bay_on inst sched j) (berth_of inst v) ≤ start_of sched j
   leaves_by j v low order near = elim (cases_order v (crane_of sched j)) [
     | inl same ↦
-        let bays_same = ap (λ b. inst.travel * b) (same_lowered inst.gap (crane_of sched j) v (bay_of inst j) (crane inst v).bay (sym same)) in
+        let bays_same = same_way (crane_of sched j) v (bay_of inst j) (crane inst v).bay (sym same) in
         omega (arith, arrives j v low same, bays_same, other_way inst.travel (crane inst v).bay (bay_of inst j))
     | inr u ↦ elim u [
       | inl up ↦
           let turned = distance_swapped inst v (crane inst v).bay (crane_of sched j) (bay_of inst j) in
           let far = turned ∙ distance-lowered inst (crane_of sched j) (bay_of inst j) v (crane inst v).bay up in
-          let rule = g.feasible.berth j v low (omega (arith, g.feasible.crane_range j low)) (λ e. absurd (omega arith)) (omega (arith, far)) in
+          let there = g.feasible.crane_range j low in
+          let rule = g.feasible.berth j v low (omega arith) (λ e. absurd (omega arith)) (omega (arith, far)) in
           omega (arith, far, rule)
       | inr down ↦ absurd (omega arith)
     ]
@@ -141,7 +149,7 @@ module _ (inst : InstanceView) (sched : List Slot) (g : GoesUp inst sched) where
       → (crane inst v).ready + inst.travel * bays_up (berth_of inst v) (bay_on inst sched j) ≤ start_of sched j
   waits_by j v low high order near = elim (cases_order v (crane_of sched j)) [
     | inl same ↦
-        let bays_same = ap (λ b. inst.travel * b) (same_lowered inst.gap v (crane_of sched j) (crane inst v).bay (bay_of inst j) same) in
+        let bays_same = same_way v (crane_of sched j) (crane inst v).bay (bay_of inst j) same in
         omega (arith, arrives j v low same, bays_same, one_way inst.travel (crane inst v).bay (bay_of inst j))
     | inr u ↦ elim u [
       | inl up ↦ absurd (omega arith)
@@ -155,8 +163,11 @@ module _ (inst : InstanceView) (sched : List Slot) (g : GoesUp inst sched) where
   pub levels_of : Valid inst → (d : ℕ) → HasLevels inst sched d
   unfolding task_level berth_level
   levels_of valid d = record {
-    climbs = λ i j low high order. scaled_late d inst.travel (bay_on inst sched i) (bay_on inst sched j) _ _ (climbs_by i j low high order);
-    leaves = λ j v low order. scaled_late d inst.travel (bay_on inst sched j) (berth_of inst v) _ _ (leaves_by j v low order);
-    waits = λ j v low high order. scaled_late d inst.travel (berth_of inst v) (bay_on inst sched j) _ _ (waits_by j v low high order);
+    climbs = λ i j low high order.
+        scaled_late d inst.travel (bay_on inst sched i) (bay_on inst sched j) _ _ (climbs_by i j low high order);
+    leaves = λ j v low order.
+        scaled_late d inst.travel (bay_on inst sched j) (berth_of inst v) _ _ (leaves_by j v low order);
+    waits = λ j v low high order.
+        scaled_late d inst.travel (berth_of inst v) (bay_on inst sched j) _ _ (waits_by j v low high order);
     order = λ v w order high. scaled_le (d * inst.travel) _ _ (berths_rise inst valid v w order high);
   }

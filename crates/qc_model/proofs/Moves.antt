@@ -6,7 +6,7 @@ use Rattle.qc_model.specs.declared.schedule.Slot.{Slot}
 use Rattle.qc_model.specs.Instance.{InstanceView, crane}
 use Rattle.qc_model.specs.Rules.{crane_of, end_of, start_of}
 use Rattle.qc_model.proofs.Levels.{HasLevels, berth_at, berth_level, task_at, task_level}
-use Rattle.qc_model.proofs.PlaceTerms.{FloorOf, HasFloor, Term, floor_level, level_at}
+use Rattle.qc_model.proofs.PlaceTerms.{FloorOf, HasFloor, IsTop, Term, floor_level, level_at, lift}
 use Rattle.qc_model.proofs.PlaceTerms.FloorOf.{at_berth, at_task}
 use Rattle.qc_model.proofs.PlaceTerms.Term.{berth, floor, task}
 
@@ -54,8 +54,9 @@ module _ (inst : InstanceView) (sched : List Slot) (d : ℕ) (h : HasLevels inst
       let rule = h.order v w (omega arith) low in omega (arith, ints, rule)
 
   -- from a start of the crane on, no berth is above the floor
-  pub berths_low : (j m : ℕ) → j < length inst.tasks → crane_of sched j ≡ k → d * start_of sched j ≤ m
-      → FloorOf inst sched d k (floor_level inst d k x) → (v : ℕ) → v ≤ k → berth_at inst d v m ≤ℤ floor_level inst d k x
+  berths_low : (j m : ℕ) → j < length inst.tasks → crane_of sched j ≡ k → d * start_of sched j ≤ m
+      → FloorOf inst sched d k (floor_level inst d k x)
+      → (v : ℕ) → v ≤ k → berth_at inst d v m ≤ℤ floor_level inst d k x
   berths_low j m low on begun (at_berth w high above is) = over_berth w m high above is
   berths_low j m low on begun (at_task q high above is) = elim (cases_lt m (d * start_of sched q)) [
     | inl before ↦
@@ -64,6 +65,17 @@ module _ (inst : InstanceView) (sched : List Slot) (d : ℕ) (h : HasLevels inst
         after_floor j m low (omega arith) same begun
     | inr after ↦ after_floor q m high above (omega (arith, ints)) after
   ]
+
+  -- from a start of the crane on, no term is above the place a part later
+  pub onward : (j m : ℕ) (q : ℤ) → j < length inst.tasks → crane_of sched j ≡ k → d * start_of sched j ≤ m
+      → IsTop inst sched k x d (m + 1) q → (t : Term inst sched k) → (at t m +ℤ lift inst d k) ≤ℤ q
+  onward j m q low on begun top (task i there below) =
+      let most = top.most (task i there below) in omega (arith, ints, most)
+  onward j m q low on begun top (berth v below) =
+      let most = top.most floor in
+      let under = berths_low j m low on begun f.from v below in
+      omega (arith, ints, most, under)
+  onward j m q low on begun top floor = top.most floor
 
   -- the moment of the floor: until then no task is above it, and from then on no berth
   pub record HasMoment (tick : ℕ) : Type 0 where

@@ -49,12 +49,15 @@ pub lift_further : (inst : InstanceView) (d v w : ℕ) → v < w
 unfolding lift
 lift_further inst d v w low =
     let e : w ≡ v + (w - v) = omega arith in
-    scaled_sum (d * inst.travel) _ (pos (inst.gap * v)) (pos (inst.gap * (w - v))) (further inst.gap v w (w - v) e)
+    let parts = further inst.gap v w (w - v) e in
+    scaled_sum (d * inst.travel) _ (pos (inst.gap * v)) (pos (inst.gap * (w - v))) parts
 
 -- a place is a level and the lift
-itself_is : (inst : InstanceView) (d k : ℕ) (x : ℤ) → scaled inst d x ≡ (scaled inst d (lowered inst k x) +ℤ lift inst d k)
+itself_is : (inst : InstanceView) (d k : ℕ) (x : ℤ)
+    → scaled inst d x ≡ (scaled inst d (lowered inst k x) +ℤ lift inst d k)
 unfolding lift
-itself_is inst d k x = scaled_sum (d * inst.travel) x (lowered inst k x) (pos (inst.gap * k)) (omega (arith, ints))
+itself_is inst d k x =
+    scaled_sum (d * inst.travel) x (lowered inst k x) (pos (inst.gap * k)) (omega (arith, ints))
 
 less : (a b c n : ℤ) → a ≡ (b +ℤ c) → (a -ℤ n) ≡ ((b -ℤ n) +ℤ c)
 less a b c n e = omega (arith, ints)
@@ -64,7 +67,8 @@ module _ (inst : InstanceView) (sched : List Slot) (d : ℕ) where
   unfolding floor_level
   floor-lifted k x = itself_is inst d k x
 
-  pub task-lifted : (j : ℕ) → scaled inst d (bay_of inst j) ≡ (task_level inst sched d j +ℤ lift inst d (crane_of sched j))
+  pub task-lifted : (j : ℕ)
+      → scaled inst d (bay_of inst j) ≡ (task_level inst sched d j +ℤ lift inst d (crane_of sched j))
   unfolding task_level
   task-lifted j = itself_is inst d (crane_of sched j) (bay_of inst j)
 
@@ -75,18 +79,25 @@ module _ (inst : InstanceView) (sched : List Slot) (d : ℕ) where
   pub task_place-lifted : (i k m : ℕ) → crane_of sched i ≤ k
       → task_place inst sched i k m d ≡ (task_at inst sched d i m +ℤ lift inst d k)
   unfolding task_level
-  task_place-lifted i k m low = less _ (task_level inst sched d i) (lift inst d k) (pos (d * start_of sched i - m)) (ahead_is inst d (crane_of sched i) k (bay_of inst i) low)
+  task_place-lifted i k m low =
+      let whole = ahead_is inst d (crane_of sched i) k (bay_of inst i) low in
+      less _ (task_level inst sched d i) (lift inst d k) (pos (d * start_of sched i - m)) whole
 
-  pub berth_place-lifted : (v k m : ℕ) → v ≤ k → berth_place inst v k m d ≡ (berth_at inst d v m +ℤ lift inst d k)
+  pub berth_place-lifted : (v k m : ℕ) → v ≤ k
+      → berth_place inst v k m d ≡ (berth_at inst d v m +ℤ lift inst d k)
   unfolding berth_level
-  berth_place-lifted v k m low = less _ (berth_level inst d v) (lift inst d k) (pos (m - d * (crane inst v).ready)) (ahead_is inst d v k (crane inst v).bay low)
+  berth_place-lifted v k m low =
+      let whole = ahead_is inst d v k (crane inst v).bay low in
+      less _ (berth_level inst d v) (lift inst d k) (pos (m - d * (crane inst v).ready)) whole
 
   -- ---- the floor
 
   -- who gives a floor, and where it lies
   pub data FloorOf (k : ℕ) (level : ℤ) : Type 0 where
-    at_task : (j : ℕ) → j < length inst.tasks → k ≤ crane_of sched j → level ≡ task_level inst sched d j → FloorOf k level
-    at_berth : (w : ℕ) → w < length inst.cranes → k ≤ w → level ≡ berth_level inst d w → FloorOf k level
+    at_task : (j : ℕ) → j < length inst.tasks → k ≤ crane_of sched j
+        → level ≡ task_level inst sched d j → FloorOf k level
+    at_berth : (w : ℕ) → w < length inst.cranes → k ≤ w
+        → level ≡ berth_level inst d w → FloorOf k level
 
   pub record HasFloor (k : ℕ) (level : ℤ) : Type 0 where
     pub tasks : (j : ℕ) → j < length inst.tasks → k ≤ crane_of sched j → level ≤ℤ task_level inst sched d j
@@ -104,18 +115,26 @@ module _ (inst : InstanceView) (sched : List Slot) (d : ℕ) where
   has_floor k x f = record {
     tasks = λ j low above.
         let by_bays = scaled_le (d * inst.travel) x _ (f.least _ (floor_task j low above)) in
-        same_lift _ _ (lift inst d k) _ _ (floor-lifted k x) (behind_is inst d (crane_of sched j) k (bay_of inst j) above) by_bays;
+        same_lift _ _ (lift inst d k) _ _ (floor-lifted k x) (task_is j above) by_bays;
     berths = λ w low above.
         let by_bays = scaled_le (d * inst.travel) x _ (f.least _ (floor_berth w low above)) in
-        same_lift _ _ (lift inst d k) _ _ (floor-lifted k x) (behind_is inst d w k (crane inst w).bay above) by_bays;
+        same_lift _ _ (lift inst d k) _ _ (floor-lifted k x) (berth_is w above) by_bays;
     from = given x f.is;
   }
     where
+      task_is : (j : ℕ) → k ≤ crane_of sched j → scaled inst d (bay_behind inst (crane_of sched j) (bay_of inst j) k)
+          ≡ (task_level inst sched d j +ℤ lift inst d k)
+      task_is j above = behind_is inst d (crane_of sched j) k (bay_of inst j) above
+
+      berth_is : (w : ℕ) → k ≤ w
+          → scaled inst d (bay_behind inst w (crane inst w).bay k) ≡ (berth_level inst d w +ℤ lift inst d k)
+      berth_is w above = behind_is inst d w k (crane inst w).bay above
+
       given : (y : ℤ) → FloorBay inst sched k y → FloorOf k (floor_level inst d k y)
       given _ (floor_task j low above) = at_task j low above
-          (lift_same _ _ (lift inst d k) _ _ (floor-lifted k _) (behind_is inst d (crane_of sched j) k (bay_of inst j) above) refl)
+          (lift_same _ _ (lift inst d k) _ _ (floor-lifted k _) (task_is j above) refl)
       given _ (floor_berth w low above) = at_berth w low above
-          (lift_same _ _ (lift inst d k) _ _ (floor-lifted k _) (behind_is inst d w k (crane inst w).bay above) refl)
+          (lift_same _ _ (lift inst d k) _ _ (floor-lifted k _) (berth_is w above) refl)
 
 -- ---- the terms
 
@@ -139,7 +158,8 @@ module _ (inst : InstanceView) (sched : List Slot) (k : ℕ) (x : ℤ) (d : ℕ)
     pub most : (t : Term inst sched k) → (level_at t m +ℤ lift inst d k) ≤ℤ p
 
   module _ (f : IsFloor inst sched k x) (m : ℕ) where
-    term_of : (y : ℤ) → LowPlace inst sched k m d y → (t : Term inst sched k) × (y ≡ (level_at t m +ℤ lift inst d k))
+    term_of : (y : ℤ) → LowPlace inst sched k m d y
+        → (t : Term inst sched k) × (y ≡ (level_at t m +ℤ lift inst d k))
     term_of _ (of_task i low below) = (task i low below, task_place-lifted inst sched d i k m below)
     term_of _ (of_berth v below) = (berth v below, berth_place-lifted inst sched d v k m below)
     term_of _ (of_floor y g) =

@@ -16,7 +16,8 @@ use Rattle.qc_model.specs.Rules.{crane_of}
 -- ---- the best of the numbers that a function gives
 
 -- a number of a kind that is a, or past it, and past those of the first n of a function that count
-record IsBest (IsAhead : ℤ → ℤ → Type 0) (Q : ℤ → Type 0) (f : ℕ → ℤ) (Counts : ℕ → Type 0) (n : ℕ) (a b : ℤ) : Type 0 where
+record IsBest (IsAhead : ℤ → ℤ → Type 0) (Q : ℤ → Type 0) (f : ℕ → ℤ) (Counts : ℕ → Type 0)
+    (n : ℕ) (a b : ℤ) : Type 0 where
   is : Q b
   first : IsAhead a b
   rest : (i : ℕ) → i < n → Counts i → IsAhead (f i) b
@@ -71,7 +72,8 @@ down_trans : (a b c : ℤ) → Behind a b → Behind b c → Behind a c
 down_trans a b c h k = omega (arith, ints)
 
 -- one that is a, or past it, and past those of two functions
-record IsPast (IsAhead : ℤ → ℤ → Type 0) (Q : ℤ → Type 0) (f g : ℕ → ℤ) (In On : ℕ → Type 0) (n m : ℕ) (a c : ℤ) : Type 0 where
+record IsPast (IsAhead : ℤ → ℤ → Type 0) (Q : ℤ → Type 0) (f g : ℕ → ℤ) (In On : ℕ → Type 0)
+    (n m : ℕ) (a c : ℤ) : Type 0 where
   is : Q c
   start : IsAhead a c
   first : (i : ℕ) → i < n → In i → IsAhead (f i) c
@@ -104,8 +106,8 @@ floor_exists inst sched k low = (found.0, record { is = found.1.is; least = leas
     berth_bay : ℕ → ℤ
     berth_bay w = bay_behind inst w (crane inst w).bay k
 
-    found : (x : ℤ) × IsPast Behind (FloorBay inst sched k) task_bay berth_bay (λ j. k ≤ crane_of sched j) (λ w. k ≤ w)
-        (length inst.tasks) (length inst.cranes) (berth_bay k) x
+    found : (x : ℤ) × IsPast Behind (FloorBay inst sched k) task_bay berth_bay
+        (λ j. k ≤ crane_of sched j) (λ w. k ≤ w) (length inst.tasks) (length inst.cranes) (berth_bay k) x
     found = best_of_both Behind down_trans (λ a b. up_total b a) (FloorBay inst sched k) task_bay berth_bay _ _
         (λ j. at_most k (crane_of sched j)) (λ w. at_most k w) (berth_bay k) (floor_berth k low (omega arith))
         (length inst.tasks) (λ j. floor_task j) (length inst.cranes) (λ w. floor_berth w)
@@ -114,7 +116,8 @@ floor_exists inst sched k low = (found.0, record { is = found.1.is; least = leas
     least _ (floor_task j low above) = found.1.first j low above
     least _ (floor_berth w low above) = found.1.second w low above
 
-pub floor_unique : (inst : InstanceView) (sched : List Slot) (k : ℕ) (x y : ℤ) → IsFloor inst sched k x → IsFloor inst sched k y → x ≡ y
+pub floor_unique : (inst : InstanceView) (sched : List Slot) (k : ℕ) (x y : ℤ)
+    → IsFloor inst sched k x → IsFloor inst sched k y → x ≡ y
 floor_unique inst sched k x y f g = omega (arith, ints, f.least y g.is, g.least x f.is)
 
 -- ---- places
@@ -126,17 +129,24 @@ up_exists inst sched k m d low = (found.0, record { is = found.1.is; most = most
     floor : (x : ℤ) × IsFloor inst sched k x
     floor = floor_exists inst sched k low
 
-    found : (x : ℤ) × IsPast ◌≤ℤ◌ (LowPlace inst sched k m d) (λ i. task_place inst sched i k m d) (λ v. berth_place inst v k m d)
+    by_task : ℕ → ℤ
+    by_task i = task_place inst sched i k m d
+
+    by_berth : ℕ → ℤ
+    by_berth v = berth_place inst v k m d
+
+    found : (x : ℤ) × IsPast ◌≤ℤ◌ (LowPlace inst sched k m d) by_task by_berth
         (λ i. crane_of sched i ≤ k) (λ v. v ≤ k) (length inst.tasks) (suc k) (scaled inst d floor.0) x
-    found = best_of_both ◌≤ℤ◌ up_trans up_total (LowPlace inst sched k m d) (λ i. task_place inst sched i k m d) (λ v. berth_place inst v k m d)
-        _ _ (λ i. at_most (crane_of sched i) k) (λ v. at_most v k) (scaled inst d floor.0) (of_floor floor.0 floor.1)
+    found = best_of_both ◌≤ℤ◌ up_trans up_total (LowPlace inst sched k m d) by_task by_berth _ _
+        (λ i. at_most (crane_of sched i) k) (λ v. at_most v k) (scaled inst d floor.0) (of_floor floor.0 floor.1)
         (length inst.tasks) (λ i. of_task i) (suc k) (λ v _. of_berth v)
 
     most : (y : ℤ) → LowPlace inst sched k m d y → y ≤ℤ found.0
     most _ (of_task i low below) = found.1.first i low below
     most _ (of_berth v below) = found.1.second v (omega arith) below
     most _ (of_floor x f) =
-        subst (λ (z : ℤ). scaled inst d z ≤ℤ found.0) (floor_unique inst sched k floor.0 x floor.1 f) found.1.start
+        let same = floor_unique inst sched k floor.0 x floor.1 f in
+        subst (λ (z : ℤ). scaled inst d z ≤ℤ found.0) same found.1.start
 
 greatest_unique : (P : ℤ → Type 0) (p q : ℤ) → IsGreatest P p → IsGreatest P q → p ≡ q
 greatest_unique P p q f g = omega (arith, ints, f.most q g.is, g.most p f.is)
@@ -153,11 +163,13 @@ pub place_unique : (inst : InstanceView) (sched : List Slot) (way : Direction) (
 place_unique inst sched Up k m d p q f g = greatest_unique _ p q f g
 place_unique inst sched Down k m d p q f g = let e = greatest_unique _ _ _ f g in omega (arith, ints)
 
-pub place_exists : (inst : InstanceView) (sched : List Slot) (way : Direction) (k m d : ℕ) → k < length inst.cranes
-    → (p : ℤ) × IsPlace inst sched way k m d p
+pub place_exists : (inst : InstanceView) (sched : List Slot) (way : Direction) (k m d : ℕ)
+    → k < length inst.cranes → (p : ℤ) × IsPlace inst sched way k m d p
 place_exists inst sched Up k m d low = up_exists inst sched k m d low
 place_exists inst sched Down k m d low =
+    let number = length inst.cranes - 1 - k in
+    let there : number < length (mirror inst).cranes = omega (arith, seen-crane_count inst Down) in
+    let found = up_exists (mirror inst) (mirror_schedule inst sched) number m d there in
     let top = scaled inst d (pos (inst.bays + 1)) in
-    let number : length inst.cranes - 1 - k < length (mirror inst).cranes = omega (arith, seen-crane_count inst Down) in
-    let found = up_exists (mirror inst) (mirror_schedule inst sched) (length inst.cranes - 1 - k) m d number in
-    (turned top found.0, subst (IsGreatest (LowPlace (mirror inst) (mirror_schedule inst sched) (length inst.cranes - 1 - k) m d)) (sym (twice top found.0)) found.1)
+    let Seen = IsGreatest (LowPlace (mirror inst) (mirror_schedule inst sched) number m d) in
+    (turned top found.0, subst Seen (sym (twice top found.0)) found.1)

@@ -8,13 +8,13 @@ use Rattle.qc_model.specs.Instance.{InstanceView, Valid, bay_of, crane, mirror_b
 use Rattle.qc_model.specs.Motion.{IsPlace, IsSafe, IsSafeBy, scaled}
 use Rattle.qc_model.specs.Judge.{Goes}
 use Rattle.qc_model.specs.OneWay.{GoesDown, GoesUp, mirror, mirror_crane, mirror_schedule, mirror_slot}
-use Rattle.qc_model.specs.Rules.{crane_of, start_of}
+use Rattle.qc_model.specs.Rules.{crane_of, ends, start_of}
 use Rattle.qc_model.proofs.MirrorLemmas.{mirror_valid}
 use Rattle.qc_model.proofs.SeenLemmas.{seen-bay_of, seen-crane, seen-crane_count, seen-crane_of, seen-ends, seen-start_of, seen-task_count, seen-ticks_of}
 use Rattle.qc_model.proofs.Scaled.{scaled_sum}
 use Rattle.std.proofs.lemmas.List.{length-map}
 use Rattle.qc_model.proofs.Levels.{HasLevels, levels_of}
-use Rattle.qc_model.proofs.Moves.{berth_most, berths_low, step, task_most}
+use Rattle.qc_model.proofs.Moves.{berth_most, onward, step, task_most}
 use Rattle.qc_model.proofs.Places.{floor_exists, place_exists}
 use Rattle.qc_model.proofs.PlaceTerms.{FloorOf, HasFloor, IsTop, Term, berth-lifted, floor_level, has_floor, level_at, lift, lift_further, task-lifted, top_of}
 use Rattle.qc_model.proofs.PlaceTerms.FloorOf.{at_berth, at_task}
@@ -28,7 +28,8 @@ module _ (inst : InstanceView) (sched : List Slot) (valid : Valid inst) (goes : 
   abbrev bottom : (k : ℕ) → k < length inst.cranes → ℤ
   bottom k low = (floor_exists inst sched k low).0
 
-  floored : (k : ℕ) (low : k < length inst.cranes) → HasFloor inst sched d k (floor_level inst d k (bottom k low))
+  floored : (k : ℕ) (low : k < length inst.cranes)
+      → HasFloor inst sched d k (floor_level inst d k (bottom k low))
   floored k low = has_floor inst sched d k (bottom k low) (floor_exists inst sched k low).1
 
   top : (k m : ℕ) (p : ℤ) (low : k < length inst.cranes) → IsPlace inst sched Up k m d p
@@ -52,19 +53,6 @@ module _ (inst : InstanceView) (sched : List Slot) (valid : Valid inst) (goes : 
           let lies = (floored v low).berths u there (omega arith) in
           let most = top.most floor in omega (arith, ints, lies, is, most)
 
-  -- each term is at most the place a part later, from a start of the crane on
-  onward : (j m : ℕ) (q : ℤ) (low : j < length inst.tasks) (high : crane_of sched j < length inst.cranes)
-      → d * start_of sched j ≤ m → IsTop inst sched (crane_of sched j) (bottom (crane_of sched j) high) d (m + 1) q
-      → (t : Term inst sched (crane_of sched j))
-      → (level_at inst sched (crane_of sched j) (bottom (crane_of sched j) high) d t m +ℤ lift inst d (crane_of sched j)) ≤ℤ q
-  onward j m q low high begun top (task i there below) =
-      let most = top.most (task i there below) in omega (arith, ints, most)
-  onward j m q low high begun top (berth v below) =
-      let most = top.most floor in
-      let under = berths_low inst sched d levels _ _ (floored (crane_of sched j) high) j m low refl begun (floored (crane_of sched j) high).from v below in
-      omega (arith, ints, most, under)
-  onward j m q low high begun top floor = top.most floor
-
   up_safe : IsSafeBy inst sched Up d
   up_safe = record {
     somewhere = λ k m low _. place_exists inst sched Up k m d low;
@@ -77,7 +65,7 @@ module _ (inst : InstanceView) (sched : List Slot) (valid : Valid inst) (goes : 
         let high = goes.feasible.crane_range j low in
         let one = top (crane_of sched j) m p high g in
         let own = one.most (task j low (omega arith)) in
-        let most = task_most inst sched d levels _ _ (floored (crane_of sched j) high) j m low refl begun going one.from in
+        let most = task_most inst sched d levels _ _ (floored _ high) j m low refl begun going one.from in
         omega (arith, ints, one.is, own, most, task-lifted inst sched d j);
     at_berth = λ k m p low _ early g.
         let one = top k m p low g in
@@ -96,7 +84,8 @@ module _ (inst : InstanceView) (sched : List Slot) (valid : Valid inst) (goes : 
         let high = goes.feasible.crane_range j low in
         let one = top (crane_of sched j) m p high g in
         let other = top (crane_of sched j) (m + 1) q high h in
-        omega (arith, ints, one.is, onward j m q low high begun other one.from);
+        let on = onward inst sched d levels _ _ (floored _ high) j m q low refl begun other one.from in
+        omega (arith, ints, one.is, on);
   }
 
 -- ---- going down
@@ -107,69 +96,76 @@ turned_is : (inst : InstanceView) (d : ℕ) (x y : ℤ) → y ≡ mirror_bay ins
 turned_is inst d x y e = scaled_sum (d * inst.travel) (pos (inst.bays + 1)) y x (omega (arith, ints))
 
 module _ (inst : InstanceView) (sched : List Slot) (valid : Valid inst) (goes : GoesDown inst sched) (d : ℕ) where
-  abbrev top_place : ℤ
-  top_place = scaled inst d (pos (inst.bays + 1))
+  -- all as it is seen from the other end
+  abbrev other : InstanceView
+  other = mirror inst
+
+  abbrev others : List Slot
+  others = mirror_schedule inst sched
 
   abbrev number : ℕ → ℕ
   number k = length inst.cranes - 1 - k
 
-  turned : IsSafeBy (mirror inst) (mirror_schedule inst sched) Up d
-  turned = up_safe (mirror inst) (mirror_schedule inst sched) (mirror_valid inst valid) goes.mirrored d
+  abbrev over : ℤ → ℤ
+  over p = scaled inst d (pos (inst.bays + 1)) -ℤ p
 
-  count : length (mirror inst).cranes ≡ length inst.cranes
-  count = seen-crane_count inst Down
+  safe : IsSafeBy other others Up d
+  safe = up_safe other others (mirror_valid inst valid) goes.mirrored d
 
-  tasks_count : length (mirror inst).tasks ≡ length inst.tasks
-  tasks_count = seen-task_count inst Down
+  crane_there : (k : ℕ) → k < length inst.cranes → number k < length other.cranes
+  crane_there k low = omega (arith, seen-crane_count inst Down)
 
-  slots_count : length sched ≡ length inst.tasks
-  slots_count = omega (arith, length-map sched (mirror_slot inst), goes.mirrored.feasible.all_tasks, tasks_count)
+  task_there : (j : ℕ) → j < length inst.tasks → j < length other.tasks
+  task_there j low = omega (arith, seen-task_count inst Down)
 
-  start_is : (j : ℕ) → j < length inst.tasks → d * start_of (mirror_schedule inst sched) j ≡ d * start_of sched j
-  start_is j low = ap (λ s. d * s) (seen-start_of inst sched Down j (omega (arith, slots_count)))
+  slot_there : (j : ℕ) → j < length inst.tasks → j < length sched
+  slot_there j low =
+      let count = goes.mirrored.feasible.all_tasks in
+      omega (arith, length-map sched (mirror_slot inst), count, seen-task_count inst Down)
 
-  crane_is : (k : ℕ) → k < length inst.cranes → crane (mirror inst) (number k) ≡ mirror_crane inst (crane inst k)
+  within : (m : ℕ) → m ≤ d * ends inst sched → m ≤ d * ends other others
+  within m early = omega (arith, ap (λ n. d * n) (seen-ends inst sched Down))
+
+  start_is : (j : ℕ) → j < length inst.tasks → d * start_of others j ≡ d * start_of sched j
+  start_is j low = ap (λ s. d * s) (seen-start_of inst sched Down j (slot_there j low))
+
+  crane_is : (k : ℕ) → k < length inst.cranes → crane other (number k) ≡ mirror_crane inst (crane inst k)
   crane_is k low =
       let back : number (number k) ≡ k = omega arith in
       seen-crane inst Down (number k) (omega arith) ∙ ap (λ n. mirror_crane inst (crane inst n)) back
 
-  -- a place of the crane of a task, as that of its crane as seen
-  of_task : (j m : ℕ) (p : ℤ) → j < length inst.tasks → IsPlace inst sched Down (crane_of sched j) m d p
-      → IsPlace (mirror inst) (mirror_schedule inst sched) Up (crane_of (mirror_schedule inst sched) j) m d (top_place -ℤ p)
-  of_task j m p low g =
-      subst (λ (k : ℕ). IsPlace (mirror inst) (mirror_schedule inst sched) Up k m d (top_place -ℤ p))
-      (sym (seen-crane_of inst sched Down j (omega (arith, slots_count)))) g
+  place_is : (j m : ℕ) (p : ℤ) → j < length inst.tasks → IsPlace inst sched Down (crane_of sched j) m d p
+      → IsPlace other others Up (crane_of others j) m d (over p)
+  place_is j m p low g =
+      subst (λ (k : ℕ). IsPlace other others Up k m d (over p))
+      (sym (seen-crane_of inst sched Down j (slot_there j low))) g
 
   down_safe : IsSafeBy inst sched Down d
   down_safe = record {
     somewhere = λ k m low _. place_exists inst sched Down k m d low;
     margin = λ v w m p q lower high early g h.
-        let apart = turned.margin (number w) (number v) m (top_place -ℤ q) (top_place -ℤ p)
-        (omega arith) (omega (arith, count)) (omega (arith, ap (λ n. d * n) (seen-ends inst sched Down))) h g in
+        let there = crane_there v (omega arith) in
+        let apart = safe.margin (number w) (number v) m (over q) (over p) (omega arith) there (within m early) h g in
         let same : number v - number w ≡ w - v = omega arith in
         let gaps = ap (λ n. scaled inst d (pos (inst.gap * n))) same in
         omega (arith, ints, apart, gaps);
     at_task = λ j m p low begun going g.
         let ticks = ap (λ n. d * n) (seen-ticks_of inst Down j low) in
-        let there = turned.at_task j m (top_place -ℤ p) (omega (arith, tasks_count)) (omega (arith, start_is j low))
-        (omega (arith, start_is j low, ticks)) (of_task j m p low g) in
-        let is = turned_is inst d (bay_of inst j) _ (seen-bay_of inst Down j low) in
-        omega (arith, ints, there, is);
+        let there = safe.at_task j m (over p) (task_there j low) (omega (arith, start_is j low))
+        (omega (arith, start_is j low, ticks)) (place_is j m p low g) in
+        omega (arith, ints, there, turned_is inst d (bay_of inst j) _ (seen-bay_of inst Down j low));
     at_berth = λ k m p low early till g.
         let same = crane_is k low in
         let ready = ap (λ c. d * c.ready) same in
-        let there = turned.at_berth (number k) m (top_place -ℤ p) (omega (arith, count))
-        (omega (arith, ap (λ n. d * n) (seen-ends inst sched Down))) (omega (arith, ready)) g in
-        let is = turned_is inst d (crane inst k).bay _ (ap (λ c. c.bay) same) in
-        omega (arith, ints, there, is);
+        let there = safe.at_berth (number k) m (over p) (crane_there k low) (within m early) (omega (arith, ready)) g in
+        omega (arith, ints, there, turned_is inst d (crane inst k).bay _ (ap (λ c. c.bay) same));
     speed = λ k m p q low early g h.
-        let within = turned.speed (number k) m (top_place -ℤ p) (top_place -ℤ q) (omega (arith, count))
-        (omega (arith, ap (λ n. d * n) (seen-ends inst sched Down))) g h in
-        (omega (arith, ints, within), omega (arith, ints, within));
+        let step = safe.speed (number k) m (over p) (over q) (crane_there k low) (within (m + 1) early) g h in
+        (omega (arith, ints, step), omega (arith, ints, step));
     one_way = λ j m p q low begun early g h.
-        let onward = turned.one_way j m (top_place -ℤ p) (top_place -ℤ q) (omega (arith, tasks_count)) (omega (arith, start_is j low))
-        (omega (arith, ap (λ n. d * n) (seen-ends inst sched Down))) (of_task j m p low g) (of_task j (m + 1) q low h) in
-        omega (arith, ints, onward);
+        let on = safe.one_way j m (over p) (over q) (task_there j low) (omega (arith, start_is j low))
+        (within (m + 1) early) (place_is j m p low g) (place_is j (m + 1) q low h) in
+        omega (arith, ints, on);
   }
 
 pub safe_of : (inst : InstanceView) (sched : List Slot) (way : Direction) → Valid inst → Goes inst sched way

@@ -39,7 +39,9 @@ mixed_parts d r e a b is =
 mixed_le : (d r : ℕ) (a b x y : ℤ) → r ≤ d → a ≤ℤ x → b ≤ℤ y → mixed d r a b ≤ℤ mixed d r x y
 mixed_le d r a b x y part h k =
     let e : d ≡ (d - r) + r = omega arith in
-    omega (arith, ints, mixed_parts d r (d - r) a b e, mixed_parts d r (d - r) x y e, scaled_le (d - r) a x h, scaled_le r b y k)
+    let one = mixed_parts d r (d - r) a b e in
+    let other = mixed_parts d r (d - r) x y e in
+    omega (arith, ints, one, other, scaled_le (d - r) a x h, scaled_le r b y k)
 
 mixed_lift : (d r : ℕ) (a b c : ℤ) → mixed d r (a +ℤ c) (b +ℤ c) ≡ (mixed d r a b +ℤ (pos d *ℤ c))
 mixed_lift d r a b c =
@@ -55,13 +57,20 @@ mixed_flat d r a b e =
 -- ---- terms
 
 module _ (level high : ℤ) (d r a : ℕ) (is : high ≡ (pos d *ℤ level)) (part : r ≤ d) where
+  -- below its level by as many parts as there are until a tick, or since a tick
+  abbrev until : ℤ → ℕ → ℕ → ℕ → ℤ
+  until x e m s = x -ℤ pos (e * s - m)
+
+  abbrev since : ℤ → ℕ → ℕ → ℕ → ℤ
+  since x e m s = x -ℤ pos (m - e * s)
+
   -- a term that rises from n ticks below its level
-  coming : (n s : ℕ) → s ≡ a + n → 1 ≤ n
-      → (high -ℤ pos (d * s - (d * a + r))) ≡ mixed d r (level -ℤ pos (1 * s - a)) (level -ℤ pos (1 * s - (a + 1)))
-  coming n s e far =
-      let way = mixed_is d r (level -ℤ pos (1 * s - a)) (level -ℤ pos (1 * s - (a + 1))) (pos 1) (omega (arith, ints)) in
+  rises : (n s : ℕ) → s ≡ a + n → 1 ≤ n
+      → until high d (d * a + r) s ≡ mixed d r (until level 1 a s) (until level 1 (a + 1) s)
+  rises n s e far =
+      let way = mixed_is d r (until level 1 a s) (until level 1 (a + 1) s) (pos 1) (omega (arith, ints)) in
       let down_by = scaled_sum d level (level -ℤ pos n) (pos n) (omega (arith, ints)) in
-      let same : (level -ℤ pos (1 * s - a)) ≡ (level -ℤ pos n) = omega (arith, ints) in
+      let same : until level 1 a s ≡ (level -ℤ pos n) = omega (arith, ints) in
       let under = ap (λ z. pos d *ℤ z) same in
       let times = ap (λ m. d * m) e in
       let least = mul-le-mul_left d far in
@@ -69,35 +78,44 @@ module _ (level high : ℤ) (d r a : ℕ) (is : high ≡ (pos d *ℤ level)) (pa
 
   -- one that has come
   come : (s : ℕ) → s ≤ a
-      → (high -ℤ pos (d * s - (d * a + r))) ≡ mixed d r (level -ℤ pos (1 * s - a)) (level -ℤ pos (1 * s - (a + 1)))
+      → until high d (d * a + r) s ≡ mixed d r (until level 1 a s) (until level 1 (a + 1) s)
   come s late =
-      let way = mixed_flat d r (level -ℤ pos (1 * s - a)) (level -ℤ pos (1 * s - (a + 1))) (omega (arith, ints)) in
-      let same : (level -ℤ pos (1 * s - a)) ≡ level = omega (arith, ints) in
+      let way = mixed_flat d r (until level 1 a s) (until level 1 (a + 1) s) (omega (arith, ints)) in
+      let same : until level 1 a s ≡ level = omega (arith, ints) in
       let under = ap (λ z. pos d *ℤ z) same in
       let times = mul-le-mul_left d late in
       omega (arith, ints, way, under, times)
 
   -- one that has been falling for n ticks
-  leaving : (n s : ℕ) → a ≡ s + n
-      → (high -ℤ pos ((d * a + r) - d * s)) ≡ mixed d r (level -ℤ pos (a - 1 * s)) (level -ℤ pos ((a + 1) - 1 * s))
-  leaving n s e =
-      let way = mixed_is d r (level -ℤ pos (a - 1 * s)) (level -ℤ pos ((a + 1) - 1 * s)) (negsuc 0) (omega (arith, ints)) in
+  falls : (n s : ℕ) → a ≡ s + n
+      → since high d (d * a + r) s ≡ mixed d r (since level 1 a s) (since level 1 (a + 1) s)
+  falls n s e =
+      let way = mixed_is d r (since level 1 a s) (since level 1 (a + 1) s) (negsuc 0) (omega (arith, ints)) in
       let down_by = scaled_sum d level (level -ℤ pos n) (pos n) (omega (arith, ints)) in
-      let same : (level -ℤ pos (a - 1 * s)) ≡ (level -ℤ pos n) = omega (arith, ints) in
+      let same : since level 1 a s ≡ (level -ℤ pos n) = omega (arith, ints) in
       let under = ap (λ z. pos d *ℤ z) same in
       let times = ap (λ m. d * m) e in
       omega (arith, ints, way, down_by, under, times)
 
   -- one that still stands
-  staying : (n s : ℕ) → s ≡ a + n → 1 ≤ n
-      → (high -ℤ pos ((d * a + r) - d * s)) ≡ mixed d r (level -ℤ pos (a - 1 * s)) (level -ℤ pos ((a + 1) - 1 * s))
-  staying n s e far =
-      let way = mixed_flat d r (level -ℤ pos (a - 1 * s)) (level -ℤ pos ((a + 1) - 1 * s)) (omega (arith, ints)) in
-      let same : (level -ℤ pos (a - 1 * s)) ≡ level = omega (arith, ints) in
+  stands : (n s : ℕ) → s ≡ a + n → 1 ≤ n
+      → since high d (d * a + r) s ≡ mixed d r (since level 1 a s) (since level 1 (a + 1) s)
+  stands n s e far =
+      let way = mixed_flat d r (since level 1 a s) (since level 1 (a + 1) s) (omega (arith, ints)) in
+      let same : since level 1 a s ≡ level = omega (arith, ints) in
       let under = ap (λ z. pos d *ℤ z) same in
       let times = ap (λ m. d * m) e in
       let least = mul-le-mul_left d far in
       omega (arith, ints, way, under, times, least)
+
+  coming : (s : ℕ) → until high d (d * a + r) s ≡ mixed d r (until level 1 a s) (until level 1 (a + 1) s)
+  coming s = elim (cases_lt a s) [ inl l ↦ rises (s - a) s (omega arith) (omega arith) | inr l ↦ come s l ]
+
+  leaving : (s : ℕ) → since high d (d * a + r) s ≡ mixed d r (since level 1 a s) (since level 1 (a + 1) s)
+  leaving s = elim (cases_lt a s) [
+    | inl l ↦ stands (s - a) s (omega arith) (omega arith)
+    | inr l ↦ falls (a - s) s (omega arith)
+  ]
 
 times : (d t : ℕ) (x : ℤ) → (pos (d * t) *ℤ x) ≡ (pos d *ℤ (pos (1 * t) *ℤ x))
 times d t x =
@@ -116,26 +134,22 @@ module _ (inst : InstanceView) (sched : List Slot) (k : ℕ) (x : ℤ) where
         ≡ mixed d r (level_at inst sched k x 1 t a) (level_at inst sched k x 1 t (a + 1))
     unfolding task_level berth_level floor_level
     level_part (task i low below) =
-        let s = start_of sched i in
-        elim (cases_lt a s) [
-          | inl l ↦ coming (task_level inst sched 1 i) (task_level inst sched d i) d r a (times d inst.travel _) part (s - a) s (omega arith) (omega arith)
-          | inr l ↦ come (task_level inst sched 1 i) (task_level inst sched d i) d r a (times d inst.travel _) part s l
-        ]
+        coming (task_level inst sched 1 i) (task_level inst sched d i) d r a (times d inst.travel _) part
+        (start_of sched i)
     level_part (berth v below) =
-        let s = (crane inst v).ready in
-        elim (cases_lt a s) [
-          | inl l ↦ staying (berth_level inst 1 v) (berth_level inst d v) d r a (times d inst.travel _) part (s - a) s (omega arith) (omega arith)
-          | inr l ↦ leaving (berth_level inst 1 v) (berth_level inst d v) d r a (times d inst.travel _) part (a - s) s (omega arith)
-        ]
+        leaving (berth_level inst 1 v) (berth_level inst d v) d r a (times d inst.travel _) part
+        (crane inst v).ready
     level_part floor =
         times d inst.travel _ ∙ sym (mixed_flat d r (floor_level inst 1 k x) (floor_level inst 1 k x) refl)
 
     -- between two whole ticks a term goes evenly
-    height_part : (t : Term inst sched k) → height d t (d * a + r) ≡ mixed d r (height 1 t a) (height 1 t (a + 1))
+    height_part : (t : Term inst sched k)
+        → height d t (d * a + r) ≡ mixed d r (height 1 t a) (height 1 t (a + 1))
     unfolding lift
     height_part t =
+        let one = level_at inst sched k x 1 t in
         ap₂ (λ p q. p +ℤ q) (level_part t) (times d inst.travel (pos (inst.gap * k)))
-        ∙ sym (mixed_lift d r (level_at inst sched k x 1 t a) (level_at inst sched k x 1 t (a + 1)) (lift inst 1 k))
+        ∙ sym (mixed_lift d r (one a) (one (a + 1)) (lift inst 1 k))
 
   -- one term gives the place at both ends of a tick
   record IsCommon (a : ℕ) (p q : ℤ) : Type 0 where
@@ -177,7 +191,8 @@ module _ (inst : InstanceView) (sched : List Slot) (k : ℕ) (x : ℤ) where
         record { term = floor; now = omega (arith, ints, most, under, e); on = omega (arith, ints) }
     rising low floor e = record { term = floor; now = e; on = omega (arith, ints) }
 
-    sinking : ((i : ℕ) → i < length inst.tasks → crane_of sched i ≤ k → task_at inst sched 1 i (a + 1) ≤ℤ floor_level inst 1 k x)
+    sinking : ((i : ℕ) → i < length inst.tasks → crane_of sched i ≤ k
+        → task_at inst sched 1 i (a + 1) ≤ℤ floor_level inst 1 k x)
         → (t : Term inst sched k) → q ≡ height 1 t (a + 1) → IsSinking a q
     sinking low (task i is below) e =
         let most = there.most floor in
@@ -197,7 +212,8 @@ module _ (inst : InstanceView) (sched : List Slot) (k : ℕ) (x : ℤ) where
               (λ lower.
               let by_one = step inst sched 1 h k x f a here.from in
               let other = there.most here.from in
-              record { term = here.from; now = here.is; next = omega (arith, ints, s.next, s.on, here.is, by_one, other) })
+              let same : q ≡ height 1 here.from (a + 1) = omega (arith, ints, s.next, s.on, here.is, by_one, other) in
+              record { term = here.from; now = here.is; next = same })
               (λ higher. record { term = s.term; now = omega (arith, ints, most); next = s.next })
           | inr after ↦
               let r = rising (moment.1.berths a (omega arith)) here.from here.is in
@@ -206,7 +222,8 @@ module _ (inst : InstanceView) (sched : List Slot) (k : ℕ) (x : ℤ) where
               (λ lower.
               let by_one = step inst sched 1 h k x f a there.from in
               let other = here.most there.from in
-              record { term = there.from; now = omega (arith, ints, r.now, r.on, there.is, by_one, other); next = there.is })
+              let same : p ≡ height 1 there.from a = omega (arith, ints, r.now, r.on, there.is, by_one, other) in
+              record { term = there.from; now = same; next = there.is })
               (λ higher. record { term = r.term; now = r.now; next = omega (arith, ints, most) })
         ]
 
@@ -218,11 +235,11 @@ pub one_kind : (inst : InstanceView) (sched : List Slot) → Valid inst → Goes
     ⊎ ((v : ℕ) → v ≤ k → berth_place inst v k m d ≤ℤ scaled inst d x)
 one_kind inst sched valid goes k m d x least = elim (cases_lt m (d * moment.0)) [
   | inl before ↦ inl (λ i low below.
-      let under = moment.1.tasks m (omega arith) i low below in
-      raised _ _ (lift inst d k) _ _ (task_place-lifted inst sched d i k m below) (floor-lifted inst sched d k x) under)
+      let is = task_place-lifted inst sched d i k m below in
+      raised _ _ (lift inst d k) _ _ is lowest (moment.1.tasks m (omega arith) i low below))
   | inr after ↦ inr (λ v below.
-      let under = moment.1.berths m after v below in
-      raised _ _ (lift inst d k) _ _ (berth_place-lifted inst sched d v k m below) (floor-lifted inst sched d k x) under)
+      let is = berth_place-lifted inst sched d v k m below in
+      raised _ _ (lift inst d k) _ _ is lowest (moment.1.berths m after v below))
 ]
   where
     f : HasFloor inst sched d k (floor_level inst d k x)
@@ -230,6 +247,9 @@ one_kind inst sched valid goes k m d x least = elim (cases_lt m (d * moment.0)) 
 
     moment : (tick : ℕ) × HasMoment inst sched d (levels_of inst sched goes valid d) k x f tick
     moment = floor_moment inst sched d (levels_of inst sched goes valid d) k x f f.from
+
+    lowest : scaled inst d x ≡ (floor_level inst d k x +ℤ lift inst d k)
+    lowest = floor-lifted inst sched d k x
 
     raised : (a b c y z : ℤ) → y ≡ (a +ℤ c) → z ≡ (b +ℤ c) → a ≤ℤ b → y ≤ℤ z
     raised a b c y z e g h = omega (arith, ints)
@@ -259,11 +279,13 @@ pub linear_within : (inst : InstanceView) (sched : List Slot) (way : Direction) 
     → (k a d r : ℕ) (p q : ℤ) → k < length inst.cranes → r ≤ d
     → IsPlace inst sched way k a 1 p → IsPlace inst sched way k (a + 1) 1 q
     → IsPlace inst sched way k (d * a + r) d ((pos d *ℤ p) +ℤ (pos r *ℤ (q -ℤ p)))
-linear_within inst sched Up valid goes k a d r p q low part g h = linear_up inst sched valid goes k a d r p q low part g h
+linear_within inst sched Up valid goes k a d r p q low part g h =
+    linear_up inst sched valid goes k a d r p q low part g h
 linear_within inst sched Down valid goes k a d r p q low part g h =
     let number = length inst.cranes - 1 - k in
+    let there : number < length (mirror inst).cranes = omega (arith, seen-crane_count inst Down) in
     let whole = scaled inst 1 (pos (inst.bays + 1)) in
     let place = linear_up (mirror inst) (mirror_schedule inst sched) (mirror_valid inst valid) goes.mirrored number a d r
-    (whole -ℤ p) (whole -ℤ q) (omega (arith, seen-crane_count inst Down)) part g h in
-    subst (IsGreatest (LowPlace (mirror inst) (mirror_schedule inst sched) number (d * a + r) d))
-    (turned d r p q whole (scaled inst d (pos (inst.bays + 1))) (times d inst.travel (pos (inst.bays + 1)))) place
+    (whole -ℤ p) (whole -ℤ q) there part g h in
+    let Seen = IsGreatest (LowPlace (mirror inst) (mirror_schedule inst sched) number (d * a + r) d) in
+    subst Seen (turned d r p q whole _ (times d inst.travel (pos (inst.bays + 1)))) place
