@@ -14,3 +14,10 @@ pub mod CompleteNodes
 mod Sums
 mod WorkLemmas
 pub mod LeafLemmas
+pub mod Scaled
+pub mod Levels
+pub mod Places
+pub mod PlaceTerms
+pub mod Moves
+pub mod WholeTicks
+pub mod SafeLemmas

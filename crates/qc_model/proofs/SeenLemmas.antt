@@ -1,12 +1,13 @@
 -- What is seen of an instance and a schedule, part by part.
-use Rattle.std.proofs.Common.{◌≡◌, ℕ, ◌-◌, ◌<◌, ℤ, List, length, get_or, map, refl, ap, ◌∙◌, arith}
+use Rattle.std.proofs.Common.{◌≡◌, ℕ, ◌+◌, ◌-◌, ◌<◌, ℤ, List, [], ◌∷◌, length, get_or, map, max, refl, ap, ◌∙◌, arith}
 use Rattle.std.proofs.lemmas.List.{get_or-map, get_or-reverse, length-map}
 use Rattle.std.proofs.Math.ListN.{length-reverse}
 use Rattle.qc_model.specs.declared.direction.Direction.{Direction}
 use Rattle.qc_model.specs.declared.direction.Direction.TheVariants.{Up, Down}
 use Rattle.qc_model.specs.declared.schedule.Slot.{Slot}
+use Rattle.qc_model.specs.declared.task.Task.{Task}
 use Rattle.qc_model.specs.Instance.{InstanceView, no_task, no_crane, bay_of, ticks_of, crane}
-use Rattle.qc_model.specs.Rules.{no_slot, crane_of, start_of}
+use Rattle.qc_model.specs.Rules.{no_slot, crane_of, ends, last_end, start_of, starts}
 use Rattle.qc_model.specs.Ticks.{distance, travel_between}
 use Rattle.qc_model.specs.OneWay.{mirror, mirror_task, mirror_crane, mirror_slot}
 use Rattle.qc_model.specs.Seen.{seen, seen_schedule, seen_bay, seen_crane, seen_number}
@@ -65,3 +66,12 @@ seen-distance inst Down v x w y = refl
 pub seen-travel_between : (inst : InstanceView) (way : Direction) (x y : ℤ) → travel_between (seen inst way) x y ≡ travel_between inst x y
 seen-travel_between inst Up x y = refl
 seen-travel_between inst Down x y = refl
+
+pub seen-ends : (inst : InstanceView) (sched : List Slot) (way : Direction) → ends (seen inst way) (seen_schedule inst sched way) ≡ ends inst sched
+seen-ends inst sched Up = refl
+seen-ends inst sched Down = go inst.tasks sched
+  where
+    go : (ts : List Task) (ss : List Slot) → last_end (map (mirror_task inst) ts) (starts (map (mirror_slot inst) ss)) ≡ last_end ts (starts ss)
+    go [] ss = refl
+    go (t ∷ ts) [] = refl
+    go (t ∷ ts) (s ∷ ss) = ap (λ n. max (s.start + t.ticks) n) (go ts ss)

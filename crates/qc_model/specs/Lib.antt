@@ -13,3 +13,4 @@ pub mod InstanceFields
 pub mod Nodes
 pub mod Leaves
 pub mod Closing
+pub mod Motion

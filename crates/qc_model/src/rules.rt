@@ -1,8 +1,9 @@
-ghost use Rattle.std.specs.Prelude.{◌≡◌, ◌<◌, ◌≤◌, ◌↔◌, length, All, IfErr, IfOk, IfSome, IsNone, IsOk, IsTrue};
+ghost use Rattle.std.specs.Prelude.{◌≡◌, ◌<◌, ◌≤◌, ◌↔◌, length, All, IfErr, IfNone, IfOk, IfSome, IsNone, IsOk, IsTrue};
 ghost use Rattle.qc_model.specs.declared.rules.Rule.TheVariants.{OneWay};
 ghost use Rattle.qc_model.specs.Rules.{Feasible};
 ghost use Rattle.qc_model.specs.OneWay.{GoesOneWay};
 ghost use Rattle.qc_model.specs.Seen.{seen, seen_schedule};
+ghost use Rattle.qc_model.specs.Motion.{IsSafe};
 ghost use Rattle.qc_model.specs.Judge.{IsJudgeable, Goes, IsDirection, IsFirstBreak};
 
 use crate::judge::Judge;
@@ -91,9 +92,11 @@ pub fn is_judgeable(inst: &Instance, sched: &Schedule) -> bool
 /// The first rule that the schedule breaks if it is to go this way, and the first task or
 /// tasks at which it does; `None` exactly where the schedule is feasible and goes this way.
 /// Downward the rules are judged from the other end of the ship; tasks keep their numbers.
+/// Where there is no break, the motion of the schedule is safe at every moment.
 pub fn first_break(inst: &Instance, sched: &Schedule, way: Direction) -> Option<Break>
     requires { IsJudgeable inst.now sched.now }
     ensures goes { IsNone result ↔ Goes inst.now sched.now way }
+    ensures safe { IfNone result (IsSafe inst.now sched.now way) }
     ensures first { IfSome result
         (λ b. IsFirstBreak (seen inst.now way) (seen_schedule inst.now sched.now way) b) }
     ensures feasible { IfSome result (λ b. b.rule ≡ OneWay
@@ -115,11 +118,13 @@ pub fn first_break(inst: &Instance, sched: &Schedule, way: Direction) -> Option<
 }
 
 /// The direction of a schedule: up where it is feasible and goes up, else down where it is
-/// feasible and goes down, else the first break on the way up.
+/// feasible and goes down, else the first break on the way up. The motion of a schedule that has
+/// a direction is safe at every moment.
 pub fn direction_of(inst: &Instance, sched: &Schedule) -> Result<Direction, Break>
     requires { IsJudgeable inst.now sched.now }
     ensures one_way { IsOk result ↔ GoesOneWay inst.now sched.now }
     ensures direction { IfOk result (λ way. IsDirection inst.now sched.now way) }
+    ensures safe { IfOk result (λ way. IsSafe inst.now sched.now way) }
     ensures first { IfErr result (λ b. IsFirstBreak inst.now sched.now b) }
     ensures range { IfErr result
         (λ b. (b.first ≤ b.second) × (b.second < length inst.now.tasks)) }

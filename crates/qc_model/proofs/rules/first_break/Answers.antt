@@ -2,11 +2,12 @@ use Rattle.std.proofs.Common.{◌≡◌, inl, inr, slice_index_or, refl, ap, sub
 use Rattle.std.proofs.lemmas.Bool.{true≢false, cases_lt}
 use Rattle.qc_model.specs.declared.rules.Rule.{Rule}
 use Rattle.qc_model.specs.declared.rules.Rule.TheVariants.{Reach}
-use Rattle.qc_model.specs.Judge.{IsFirstBreak, rule_rank, KeepsAll}
+use Rattle.qc_model.specs.Judge.{Goes, IsFirstBreak, rule_rank, KeepsAll}
 use Rattle.qc_model.specs.Judged.{Judged}
 use Rattle.qc_model.specs.Seen.{seen, seen_schedule}
 use Rattle.qc_model.proofs.GoesLemmas.{goes_seen, breaks_seen, break_feasible, break_range}
 use Rattle.qc_model.proofs.RuleOrder.{in_order, at_rank, rank_at, rank_below}
+use Rattle.qc_model.proofs.SafeLemmas.{safe_of}
 use Rattle.qc_model.proofs.rules.first_break.Goals as goal
 
 first_is : (c : goal.In-Some) → IsFirstBreak (seen c.args.inst.now c.args.way) (seen_schedule c.args.inst.now c.args.sched.now c.args.way)
@@ -44,11 +45,19 @@ loop-rule-preserved c = λ rule h.
           subst (λ (r : Rule). KeepsAll c.new-judge.result.inst c.new-judge.result.sched r) p f
     ]
 
-pub returns-clause-goes : goal.returns-clause-goes
-returns-clause-goes c =
+-- where no rule is broken the schedule goes its way
+goes_on : (c : goal.After-loop-rule) → Goes c.args.inst.now c.args.sched.now c.args.way
+goes_on c =
     let a = c.args in
     let k = subst (λ (j : Judged). (rule : Rule) → KeepsAll j.inst j.sched rule) c.new-judge.ensures.view (λ rule. let r = rank_below rule in c.loop-rule.invariant rule (omega arith)) in
-    (λ e. goes_seen a.inst.now a.sched.now a.way c.new-judge.ensures.valid c.requires k, λ g. refl)
+    goes_seen a.inst.now a.sched.now a.way c.new-judge.ensures.valid c.requires k
+
+pub returns-clause-goes : goal.returns-clause-goes
+returns-clause-goes c = (λ e. goes_on c, λ g. refl)
+
+pub returns-clause-safe : goal.returns-clause-safe
+returns-clause-safe c =
+    safe_of c.args.inst.now c.args.sched.now c.args.way c.new-judge.ensures.valid (goes_on c)
 
 pub returns-in-Some-clause-range : goal.returns-in-Some-clause-range
 returns-in-Some-clause-range c = break_range c.args.inst.now c.args.sched.now c.args.way _ (first_is c)
