@@ -19,6 +19,7 @@ use Rattle.qc_starts.specs.Found.{HasLeast, HasRing, IsFound, starts_in}
 use Rattle.qc_starts.specs.Rounds.{cell, no_cell}
 use Rattle.qc_starts.specs.Seen.{IsNodeStart, IsStep, IsWhy, StartsNode}
 use Rattle.qc_starts.proofs.FoundLemmas.{start_in}
+use Rattle.qc_starts.proofs.LevelLemmas.{drop_more}
 
 -- ---- what is found
 
@@ -86,12 +87,6 @@ start_soon inst ds cells path end j c has task low is =
 -- decisions are few enough to be counted
 pub few_made : (inst : InstanceView) (ds : List Decision) → Valid inst → Fits inst ds → length ds < 65536
 few_made inst ds v fits = omega (arith, fits_room inst ds fits, v.tasks.count, v.apart.count)
-
-drop_more : (k : ℕ) (ds : List Decision) (d : Decision) (rest : List Decision) → drop k ds ≡ d ∷ rest
-    → drop (suc k) ds ≡ rest
-drop_more zero ds d rest e = ap (drop 1) e
-drop_more (suc k) [] d rest e = absurd (cc)
-drop_more (suc k) (x ∷ ds) d rest e = drop_more k ds d rest e
 
 -- the first decisions are in reach as all are
 pub first_in_reach : (inst : InstanceView) (ds : List Decision) (k : ℕ) → IsInReach inst ds → IsInReach inst (drop k ds)
