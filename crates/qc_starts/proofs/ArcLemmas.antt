@@ -158,8 +158,8 @@ none_between i j (arc ∷ arcs) one two = elim (cases_Bool (leads i j arc)) [
     | inl here ↦ absurd (none_some arc.len (sym two ∙ cond-true (leads j i arc) (Some arc.len) (newest_length j i arcs) here))
     | inr off ↦
         let rest = none_between i j arcs
-            (sym (cond-false (leads i j arc) (Some arc.len) (newest_length i j arcs) away) ∙ one)
-            (sym (cond-false (leads j i arc) (Some arc.len) (newest_length j i arcs) off) ∙ two) in
+        (sym (cond-false (leads i j arc) (Some arc.len) (newest_length i j arcs) away) ∙ one)
+        (sym (cond-false (leads j i arc) (Some arc.len) (newest_length j i arcs) off) ∙ two) in
         let zero_is = ap₂ (λ (a b : Bool). one_of (a || b)) away off in
         omega (arith, count_cons (joins i j) arc arcs, rest, zero_is)
   ]
@@ -231,11 +231,11 @@ module _ (inst : InstanceView) (ds : List Decision) (t k : ℕ) (valid : Valid i
   more_for i j =
       cond_both (eqb t i) (Some k) (assigned ds i) (λ a. most_arcs (assigned ds i) (assigned ds j) ≤ most_arcs a (assigned news j))
       (λ here. cond_both (eqb t j) (Some k) (assigned ds j) (λ b. most_arcs (assigned ds i) (assigned ds j) ≤ most_arcs (Some k) b)
-        (λ there. most_two_of (assigned ds i) (assigned ds j))
-        (λ away. first_some (assigned ds i) (assigned ds j)))
+      (λ there. most_two_of (assigned ds i) (assigned ds j))
+      (λ away. first_some (assigned ds i) (assigned ds j)))
       (λ off. cond_both (eqb t j) (Some k) (assigned ds j) (λ b. most_arcs (assigned ds i) (assigned ds j) ≤ most_arcs (assigned ds i) b)
-        (λ there. second_some (assigned ds i) (assigned ds j))
-        (λ away. omega arith))
+      (λ there. second_some (assigned ds i) (assigned ds j))
+      (λ away. omega arith))
     where
       most_two_of : (a b : Option ℕ) → most_arcs a b ≤ 2
       most_two_of None b = omega arith
@@ -494,37 +494,37 @@ fits_cap k (suc n) fits =
     subst (λ (m : ℕ). k ≤ suc n * m) (sym e) (omega arith)
 
 module _ (inst : InstanceView) (ds news : List Decision) (valid : Valid inst) (fits : Fits inst news) (arcs : List Edge)
-    where
-  abbrev cap : ℕ
-  cap = length inst.tasks * (length inst.tasks - 1)
+  where
+    abbrev cap : ℕ
+    cap = length inst.tasks * (length inst.tasks - 1)
 
-  pub roomy : AreArcs inst news arcs → length arcs ≤ cap
-  roomy are = fits_cap (length arcs) (length inst.tasks) (arcs_fit inst news valid fits arcs are.each are.few)
+    pub roomy : AreArcs inst news arcs → length arcs ≤ cap
+    roomy are = fits_cap (length arcs) (length inst.tasks) (arcs_fit inst news valid fits arcs are.each are.few)
 
-  module _ (g h : ℕ) (is : news ≡ (Order g h ∷ ds)) (able : IsOpen inst ds (Order g h))
-      (low : g < length inst.tasks) (high : h < length inst.tasks) (are : AreArcs inst ds arcs) where
-    pub order_after : AreArcs inst news (with_added g h (forced inst news g h) None arcs)
-    order_after =
-        let one = ordered_here_is inst ds g h able.1 in
-        let done = order_arcs inst ds g h (ticks_of inst g) arcs valid able low high one are in
-        subst (λ (xs : List Decision). AreArcs inst xs (with_added g h (forced inst xs g h) None arcs)) (sym is)
-        (subst (λ (o : Option ℕ). AreArcs inst (Order g h ∷ ds) (with_added g h o None arcs)) (sym one) done)
+    module _ (g h : ℕ) (is : news ≡ (Order g h ∷ ds)) (able : IsOpen inst ds (Order g h))
+        (low : g < length inst.tasks) (high : h < length inst.tasks) (are : AreArcs inst ds arcs) where
+      pub order_after : AreArcs inst news (with_added g h (forced inst news g h) None arcs)
+      order_after =
+          let one = ordered_here_is inst ds g h able.1 in
+          let done = order_arcs inst ds g h (ticks_of inst g) arcs valid able low high one are in
+          subst (λ (xs : List Decision). AreArcs inst xs (with_added g h (forced inst xs g h) None arcs)) (sym is)
+          (subst (λ (o : Option ℕ). AreArcs inst (Order g h ∷ ds) (with_added g h o None arcs)) (sym one) done)
 
-  module _ (t k : ℕ) (is : news ≡ (Assign t k ∷ ds)) (none : assigned ds t ≡ None) (task : t < length inst.tasks)
-      (o : ℕ) (low : o < length inst.tasks) (so_far : IsAssigning inst ds t k arcs o) where
-    pub assign_after : IsAssigning inst ds t k
-        (with_added t o (added inst news t o) (added inst news o t) arcs) (o + 1)
-    assign_after =
-        subst (λ (xs : List Decision). IsAssigning inst ds t k
-        (with_added t o (added inst xs t o) (added inst xs o t) arcs) (o + 1)) (sym is)
-        (assign_step inst ds t k valid none (subst (Fits inst) is fits) task arcs o
-        (added inst (Assign t k ∷ ds) t o) (added inst (Assign t k ∷ ds) o t) low refl refl so_far)
+    module _ (t k : ℕ) (is : news ≡ (Assign t k ∷ ds)) (none : assigned ds t ≡ None) (task : t < length inst.tasks)
+        (o : ℕ) (low : o < length inst.tasks) (so_far : IsAssigning inst ds t k arcs o) where
+      pub assign_after : IsAssigning inst ds t k
+          (with_added t o (added inst news t o) (added inst news o t) arcs) (o + 1)
+      assign_after =
+          subst (λ (xs : List Decision). IsAssigning inst ds t k
+          (with_added t o (added inst xs t o) (added inst xs o t) arcs) (o + 1)) (sym is)
+          (assign_step inst ds t k valid none (subst (Fits inst) is fits) task arcs o
+          (added inst (Assign t k ∷ ds) t o) (added inst (Assign t k ∷ ds) o t) low refl refl so_far)
 
-    pub assign_room : length (with_added t o (added inst news t o) (added inst news o t) arcs) ≤ cap
-    assign_room =
-        let done = assign_after in
-        fits_cap _ (length inst.tasks)
-        (arcs_fit inst (Assign t k ∷ ds) valid (subst (Fits inst) is fits) _ done.each done.few)
+      pub assign_room : length (with_added t o (added inst news t o) (added inst news o t) arcs) ≤ cap
+      assign_room =
+          let done = assign_after in
+          fits_cap _ (length inst.tasks)
+          (arcs_fit inst (Assign t k ∷ ds) valid (subst (Fits inst) is fits) _ done.each done.few)
 
 -- the arcs of no decision are few
 pub opening_room : (inst : InstanceView) (arcs : List Edge) (pairs : ℕ) → Valid inst → AreOpening inst arcs pairs

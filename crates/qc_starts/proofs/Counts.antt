@@ -99,7 +99,7 @@ module _ (p : Edge → Bool) (f : Edge → ℕ) where
       let rest = by_classes arcs m all.1 in
       let here = one_hit arc m all.0 in
       let plus = total-plus (λ c. one_of (in_class c arc)) (λ c. count_by (in_class c) arcs)
-          (λ c. count_by (in_class c) (arc ∷ arcs)) m (λ c. count_cons (in_class c) arc arcs) in
+      (λ c. count_by (in_class c) (arc ∷ arcs)) m (λ c. count_cons (in_class c) arc arcs) in
       omega (arith, rest, here, plus, count_cons p arc arcs)
 
 -- a test that implies another counts no more
@@ -145,7 +145,7 @@ pub arcs_few : (n : ℕ) (arcs : List Edge) → AllByRecursion (IsBetween n) arc
 arcs_few n arcs all few =
     let split = by_classes (λ _. true) greater_end arcs n (mapped arcs all) in
     let each = total-le (λ c. count_by (λ arc. true && eqb (greater_end arc) c) arcs) (λ c. 2 * c) n
-        (λ c low. of_class c) in
+    (λ c low. of_class c) in
     omega (arith, split, each, total-twice n, count_all arcs)
   where
     mapped : (arcs : List Edge) → AllByRecursion (IsBetween n) arcs
@@ -163,6 +163,10 @@ arcs_few n arcs all few =
     of_class c =
         let split = by_classes (λ arc. eqb (greater_end arc) c) lesser_end arcs c (below c arcs all) in
         let each = total-le (λ d. count_by (λ arc. eqb (greater_end arc) c && eqb (lesser_end arc) d) arcs) (λ _. 2) c
-            (λ d low. omega (arith, few c d, count_by-le (λ arc. eqb (greater_end arc) c && eqb (lesser_end arc) d) (joins c d)
-                (joined c d) arcs)) in
+        (λ d low. omega (
+          arith,
+          few c d,
+          count_by-le (λ arc. eqb (greater_end arc) c && eqb (lesser_end arc) d) (joins c d)
+              (joined c d) arcs,
+        )) in
         omega (arith, split, each, total-const 2 c)

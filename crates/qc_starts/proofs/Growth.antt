@@ -88,15 +88,15 @@ one_way inst i j n m (Some v) (Some w) e f = elim (cases_eq v w) [
   | inl same ↦
       let up = some_true (int_lt (bay_of inst i) (bay_of inst j)) _ n (sym (cond-true (eqb v w) _ _ (eq-eqb v w same)) ∙ e) in
       let down = some_true (int_lt (bay_of inst j) (bay_of inst i)) _ m
-          (sym (cond-true (eqb w v) _ _ (eq-eqb w v (sym same))) ∙ f) in
+      (sym (cond-true (eqb w v) _ _ (eq-eqb w v (sym same))) ∙ f) in
       let x = rises (bay_of inst i) (bay_of inst j) up in
       let y = rises (bay_of inst j) (bay_of inst i) down in
       omega (arith, ints)
   | inr differ ↦
       let lower = some_true (nat_lt w v && nat_lt 0 (task_distance inst i v j w)) _ n
-          (sym (cond-false (eqb v w) _ _ (ne_eqb v w differ)) ∙ e) in
+      (sym (cond-false (eqb v w) _ _ (ne_eqb v w differ)) ∙ e) in
       let higher = some_true (nat_lt v w && nat_lt 0 (task_distance inst j w i v)) _ m
-          (sym (cond-false (eqb w v) _ _ (ne_eqb w v (λ s. differ (sym s)))) ∙ f) in
+      (sym (cond-false (eqb w v) _ _ (ne_eqb w v (λ s. differ (sym s)))) ∙ f) in
       let x = ltb-true w v (and_parts (nat_lt w v) (nat_lt 0 (task_distance inst i v j w)) lower).0 in
       let y = ltb-true v w (and_parts (nat_lt v w) (nat_lt 0 (task_distance inst j w i v)) higher).0 in
       omega arith
@@ -172,6 +172,7 @@ module _ (inst : InstanceView) (ds : List Decision) (g h : ℕ) where
   ordered_same i j differ =
       ap (λ (b : Bool). greater (cond (is_before inst i j || b) (Some (ticks_of inst i)) None)
       (crane_ticks inst i j (assigned ds i) (assigned ds j))) (ordered_other ds g h i j differ)
+
   module _ (unsettled : ¬ IsSettled inst ds g h) where
     pub unsettled_from : forced inst ds g h ≡ None
     unsettled_from = none_of (forced inst ds g h) (λ some. unsettled (inl some))

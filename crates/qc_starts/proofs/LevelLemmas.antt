@@ -16,6 +16,11 @@ drop_more zero xs x rest e = ap (drop 1) e
 drop_more (suc k) [] x rest e = absurd (cc)
 drop_more (suc k) (y ∷ xs) x rest e = drop_more k xs x rest e
 
+pub drop_next : {A : Type 0} (k : ℕ) (xs : List A) → drop 1 (drop k xs) ≡ drop (suc k) xs
+drop_next zero xs = refl
+drop_next (suc k) [] = refl
+drop_next (suc k) (x ∷ xs) = drop_next k xs
+
 drop_over : {A : Type 0} (newer older : List A) → drop (length newer) (newer ++ older) ≡ older
 drop_over [] older = refl
 drop_over (x ∷ newer) older = drop_over newer older

@@ -63,13 +63,7 @@ fn push_added(decisions: &Decisions, inst: &Instance, one: u16, other: u16, aren
 }
 
 /// Puts a task on a crane, and adds the arcs of this.
-fn assign(
-    decisions: &mut Decisions,
-    inst: &Instance,
-    task: u16,
-    crane: u16,
-    arena: &mut ArcArena,
-)
+fn assign(decisions: &mut Decisions, inst: &Instance, task: u16, crane: u16, arena: &mut ArcArena)
     requires same { decisions.old.inst ≡ inst.now }
     requires open { IsOpen inst.now decisions.old.decisions (Assign task crane) }
     requires room { IsRoomy inst.now arena.old }
@@ -91,13 +85,7 @@ fn assign(
 }
 
 /// Puts one of two apart tasks first, and adds the arc of this.
-fn order(
-    decisions: &mut Decisions,
-    inst: &Instance,
-    first: u16,
-    second: u16,
-    arena: &mut ArcArena,
-)
+fn order(decisions: &mut Decisions, inst: &Instance, first: u16, second: u16, arena: &mut ArcArena)
     requires same { decisions.old.inst ≡ inst.now }
     requires open { IsOpen inst.now decisions.old.decisions (Order first second) }
     requires first { first < length inst.now.tasks }
@@ -164,7 +152,11 @@ fn push_row(decisions: &Decisions, inst: &Instance, from: u16, arena: &mut ArcAr
 }
 
 /// The arcs that are forced before any decision, and room for those of all decisions.
-pub(crate) fn open_arena(alloc: Global, inst: &Instance, decisions: &Decisions) -> Result<ArcArena, OutOfMemory>
+pub(crate) fn open_arena(
+    alloc: Global,
+    inst: &Instance,
+    decisions: &Decisions,
+) -> Result<ArcArena, OutOfMemory>
     requires same { decisions.now.inst ≡ inst.now }
     requires none { decisions.now.decisions ≡ [] }
     ensures room { IfOk result (λ arena. IsRoomy inst.now arena) }

@@ -19,9 +19,9 @@ push_added-requires-clause-room c =
     let is = c.loop-other.invariant in
     let news = c.add.new.self.decisions in
     let room = assign_room c.args.inst.now c.args.decisions.now.decisions news c.task_count-other-end.ensures.valid
-        c.add.ensures.fits (reverse c.loop-other.arena.arcs) c.args.task c.args.crane
-        (ap (λ (n : Node). n.decisions) c.add.ensures.added) c.requires.open.2 c.requires.open.0
-        c.loop-other.other (rw (← c.task_count-other-end.ensures.count) c.loop-other-test.true) is.so_far in
+    c.add.ensures.fits (reverse c.loop-other.arena.arcs) c.args.task c.args.crane
+    (ap (λ (n : Node). n.decisions) c.add.ensures.added) c.requires.open.2 c.requires.open.0
+    c.loop-other.other (rw (← c.task_count-other-end.ensures.count) c.loop-other-test.true) is.so_far in
     subst (λ cap. length (with_added c.args.task c.loop-other.other
     (added c.args.inst.now news c.args.task c.loop-other.other)
     (added c.args.inst.now news c.loop-other.other c.args.task) (reverse c.loop-other.arena.arcs)) ≤ cap)
@@ -37,9 +37,9 @@ loop-other-preserved c =
     let o = c.loop-other.other in
     let arcs = reverse c.loop-other.arena.arcs in
     let after = assign_after inst ds news c.task_count-other-end.ensures.valid
-        c.add.ensures.fits arcs t c.args.crane
-        (ap (λ (n : Node). n.decisions) c.add.ensures.added) c.requires.open.2 c.requires.open.0
-        o (rw (← c.task_count-other-end.ensures.count) c.loop-other-test.true) is.so_far in
+    c.add.ensures.fits arcs t c.args.crane
+    (ap (λ (n : Node). n.decisions) c.add.ensures.added) c.requires.open.2 c.requires.open.0
+    o (rw (← c.task_count-other-end.ensures.count) c.loop-other-test.true) is.so_far in
     let same = c.push_added.ensures.arcs in
     record {
       room = record {
@@ -56,6 +56,6 @@ pub returns-clause-arcs : goal.returns-clause-arcs
 returns-clause-arcs c =
     let is = c.loop-other.invariant in
     let done = assign_ends c.args.inst.now c.args.decisions.now.decisions c.args.task c.args.crane
-        c.task_count-other-end.ensures.valid c.requires.open.2 (reverse c.loop-other.arena.arcs) c.loop-other.other
-        (omega (arith, c.task_count-other-end.ensures.count)) is.so_far in
+    c.task_count-other-end.ensures.valid c.requires.open.2 (reverse c.loop-other.arena.arcs) c.loop-other.other
+    (omega (arith, c.task_count-other-end.ensures.count)) is.so_far in
     subst (λ (n : Node). AreArcs c.args.inst.now n.decisions (reverse c.loop-other.arena.arcs)) (sym c.add.ensures.added) done

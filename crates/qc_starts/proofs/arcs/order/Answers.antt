@@ -13,9 +13,9 @@ push_forced-requires-clause-room c =
     let arcs = reverse c.args.arena.now.arcs in
     let is = ap (λ (n : Node). n.decisions) c.add.ensures.added in
     let after = order_after inst c.args.decisions.now.decisions news c.requires.valid c.add.ensures.fits arcs
-        c.args.first c.args.second is c.requires.open c.requires.first c.requires.second c.requires.arcs in
+    c.args.first c.args.second is c.requires.open c.requires.first c.requires.second c.requires.arcs in
     let room = roomy inst c.args.decisions.now.decisions news c.requires.valid c.add.ensures.fits
-        (with_added c.args.first c.args.second (forced inst news c.args.first c.args.second) None arcs) after in
+    (with_added c.args.first c.args.second (forced inst news c.args.first c.args.second) None arcs) after in
     subst (λ cap. length (with_added c.args.first c.args.second (forced inst news c.args.first c.args.second) None arcs) ≤ cap)
     (sym c.requires.room.cap) room
 

@@ -12,7 +12,7 @@ push_forced-requires-clause-room c =
     let ds = c.args.decisions.now.decisions in
     let arcs = reverse c.loop-to.arena.arcs in
     let after = opening_next inst ds arcs c.args.from c.loop-to.to c.task_count-to-end.ensures.valid c.requires.none
-        c.requires.from (omega arith) (omega arith) is.opening in
+    c.requires.from (omega arith) (omega arith) is.opening in
     let more = with_added c.args.from c.loop-to.to (forced inst ds c.args.from c.loop-to.to) None arcs in
     subst (λ cap. length more ≤ cap) (sym is.room.cap)
     (opening_room inst more (240 * c.args.from + (c.loop-to.to + 1)) c.task_count-to-end.ensures.valid after)
@@ -24,7 +24,7 @@ loop-to-preserved c =
     let ds = c.args.decisions.now.decisions in
     let arcs = reverse c.loop-to.arena.arcs in
     let after = opening_next inst ds arcs c.args.from c.loop-to.to c.task_count-to-end.ensures.valid c.requires.none
-        c.requires.from (omega arith) (omega arith) is.opening in
+    c.requires.from (omega arith) (omega arith) is.opening in
     record {
       room = record {
         nodes = c.push_forced.ensures.nodes ∙ is.room.nodes;

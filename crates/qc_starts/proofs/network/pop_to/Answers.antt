@@ -10,7 +10,7 @@ loop-arena-preserved c =
     let by = popped c.loop-arena.arena c.pop.new.self c.pop.result c.pop.ensures.arcs c.pop.ensures.some any in
     let back = length c.args.arena.now.arcs - length c.loop-arena.arena.arcs in
     let next : suc (length c.args.arena.now.arcs - length c.loop-arena.arena.arcs)
-        ≡ length c.args.arena.now.arcs - length c.pop.new.self.arcs = omega (arith, by.count) in
+    ≡ length c.args.arena.now.arcs - length c.pop.new.self.arcs = omega (arith, by.count) in
     record {
       some = omega (arith, by.count, c.len.ensures, c.loop-arena-test.true);
       count = omega (arith, by.count);
