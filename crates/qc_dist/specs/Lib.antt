@@ -1,3 +1,4 @@
+pub mod Added
 pub mod Heads
 pub mod Loads
 pub mod Node

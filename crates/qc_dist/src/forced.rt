@@ -1,8 +1,9 @@
 ghost use Rattle.std.specs.Prelude.{◌≡◌, ◌+◌, ◌<◌, ◌≤◌, ◌↔◌, ◌&&◌, nat_lt, int_lt, if◌then◌else◌, None, Some, IfSome, IsTrue, length};
 ghost use Rattle.qc_model.specs.declared.limits.TheConstants.{MOST_DISTANCE, MOST_READY, MOST_WORK};
 ghost use Rattle.qc_model.specs.Instance.{bay_of};
-ghost use Rattle.qc_model.specs.Nodes.{IsSettled, crane_ticks, forced, greater, head, head1};
+ghost use Rattle.qc_model.specs.Nodes.{IsSettled, assigned, crane_ticks, forced, greater, head, head1, sooner_ticks};
 ghost use Rattle.qc_model.specs.Ticks.{climb, lead, task_distance};
+ghost use Rattle.qc_dist.specs.Added.{excess};
 
 use crate::Decisions;
 use crate::parts::task_at;
@@ -18,6 +19,25 @@ fn greater(one: Option<Tick>, other: Option<Tick>) -> Option<Tick>
         (None, other) => other,
         (Some(ticks), None) => Some(ticks),
         (Some(ticks), Some(more)) => Some(ticks.max(more)),
+    }
+}
+
+/// The second of two numbers that may be missing, where it is there and no first is as great.
+fn excess(one: Option<Tick>, other: Option<Tick>) -> Option<Tick>
+    requires { IfSome other (λ ticks. ticks ≤ MOST_WORK + MOST_DISTANCE) }
+    ensures ticks { result ≡ excess one other }
+    ensures bound { IfSome result (λ ticks. ticks ≤ MOST_WORK + MOST_DISTANCE) }
+{
+    match (one, other) {
+        (_, None) => None,
+        (None, Some(ticks)) => Some(ticks),
+        (Some(less), Some(ticks)) => {
+            if less < ticks {
+                Some(ticks)
+            } else {
+                None
+            }
+        }
     }
 }
 
@@ -92,13 +112,39 @@ impl Decisions {
         ensures ticks { result ≡ forced inst.now self.now.decisions i j }
         ensures bound { IfSome result (λ ticks. ticks ≤ MOST_WORK + MOST_DISTANCE) }
     {
-        let sooner = if self.is_sooner(i, j) {
+        greater(
+            self.sooner_ticks(inst, i, j),
+            crane_ticks(inst, i, j, self.crane_of(i), self.crane_of(j)),
+        )
+    }
+
+    /// What the order of two tasks asks for, whatever their cranes.
+    fn sooner_ticks(&self, inst: &Instance, i: u16, j: u16) -> Option<Tick>
+        requires same { self.now.inst ≡ inst.now }
+        requires first { i < length inst.now.tasks }
+        requires second { j < length inst.now.tasks }
+        ensures ticks { result ≡ sooner_ticks inst.now self.now.decisions i j }
+        ensures bound { IfSome result (λ ticks. ticks ≤ MOST_WORK + MOST_DISTANCE) }
+    {
+        if self.is_sooner(i, j) {
             Some(task_at(inst, i).ticks)
         } else {
             None
-        };
-        greater(
-            sooner,
+        }
+    }
+
+    /// What is forced from task `i` to task `j` where their cranes ask for more than their order
+    /// does; `None` where they don't.
+    pub fn forced_by_cranes(&self, inst: &Instance, i: u16, j: u16) -> Option<Tick>
+        requires same { self.now.inst ≡ inst.now }
+        requires first { i < length inst.now.tasks }
+        requires second { j < length inst.now.tasks }
+        ensures ticks { result ≡ excess (sooner_ticks inst.now self.now.decisions i j)
+            (crane_ticks inst.now i j (assigned self.now.decisions i) (assigned self.now.decisions j)) }
+        ensures bound { IfSome result (λ ticks. ticks ≤ MOST_WORK + MOST_DISTANCE) }
+    {
+        excess(
+            self.sooner_ticks(inst, i, j),
             crane_ticks(inst, i, j, self.crane_of(i), self.crane_of(j)),
         )
     }

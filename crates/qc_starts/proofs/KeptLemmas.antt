@@ -1,7 +1,6 @@
 -- What is kept for a node answers what is asked of it.
 use Rattle.std.proofs.Common.{◌≡◌, ℕ, zero, suc, ◌+◌, ◌<◌, ◌≤◌, List, [], ◌∷◌, length, get_or, drop, Option, None, Some, MatchOption, sym, ap, subst, ◌∙◌, arith}
 use Rattle.std.proofs.lemmas.List.{get_or_default}
-use Rattle.qc_dist.specs.Node.{Node}
 use Rattle.qc_dist.proofs.Room.{fits_room}
 use Rattle.qc_model.specs.declared.decision.Decision.{Decision}
 use Rattle.qc_model.specs.declared.decision.Decision.TheVariants.{Assign, Order}
@@ -45,7 +44,7 @@ pub least_kept : (f : Inside) (node : StartsNode) → IsKept f → node_of f ≡
 least_kept f node kept view starts =
     let here = subst (λ (n : StartsNode). HasStarts n.inst n.decisions) (sym view) starts in
     subst (λ (n : StartsNode). HasLeast n.inst n.decisions f.table.cells.items f.table.path.items f.table.ends) view
-    (least_found f.inst f.decisions.decisions f.table f.step kept.found here)
+    (least_found f.inst f.network.decisions f.table f.step kept.found here)
 
 pub ring_kept : (f : Inside) (node : StartsNode) → IsKept f → node_of f ≡ node
     → (¬ HasStarts node.inst node.decisions)
@@ -53,7 +52,7 @@ pub ring_kept : (f : Inside) (node : StartsNode) → IsKept f → node_of f ≡ 
 ring_kept f node kept view none =
     let here = subst (λ (n : StartsNode). ¬ HasStarts n.inst n.decisions) (sym view) none in
     subst (λ (n : StartsNode). HasRing n.inst n.decisions f.table.path.items) view
-    (ring_found f.inst f.decisions.decisions f.table f.step kept.found here)
+    (ring_found f.inst f.network.decisions f.table f.step kept.found here)
 
 pub end_of : (inst : InstanceView) (ds : List Decision) (cells : List Cell) (path : List ℕ) (end : ℕ)
     → HasLeast inst ds cells path end → IsNodeEnd inst ds end
@@ -87,35 +86,12 @@ start_soon inst ds cells path end j c has task low is =
 pub few_made : (inst : InstanceView) (ds : List Decision) → Valid inst → Fits inst ds → length ds < 65536
 few_made inst ds v fits = omega (arith, fits_room inst ds fits, v.tasks.count, v.apart.count)
 
-drop_more : (k : ℕ) (ds : List Decision) (d : Decision) (rest : List Decision) → drop k ds ≡ d ∷ rest
-    → drop (suc k) ds ≡ rest
-drop_more zero ds d rest e = ap (drop 1) e
-drop_more (suc k) [] d rest e = absurd (cc)
-drop_more (suc k) (x ∷ ds) d rest e = drop_more k ds d rest e
-
 -- the first decisions are in reach as all are
 pub first_in_reach : (inst : InstanceView) (ds : List Decision) (k : ℕ) → IsInReach inst ds → IsInReach inst (drop k ds)
 first_in_reach inst ds zero reach = reach
 first_in_reach inst [] (suc k) reach = tt
 first_in_reach inst (Assign j v ∷ ds) (suc k) reach = first_in_reach inst ds k reach.1
 first_in_reach inst (Order i j ∷ ds) (suc k) reach = first_in_reach inst ds k reach
-
--- one more decision is taken back
-pub record IsUndone (old new : Node) (ds : List Decision) (k : ℕ) : Type 0 where
-  pub inst : new.inst ≡ old.inst
-  pub dropped : new.decisions ≡ drop (suc k) ds
-  pub count : length new.decisions + 1 ≡ length old.decisions
-
-pub undone : (old new : Node) (ds : List Decision) (k : ℕ) (o : Option Decision)
-    → 0 < length old.decisions → old.decisions ≡ drop k ds
-    → MatchOption o ((old.decisions ≡ []) × (new ≡ old)) (λ d. old ≡ record new { decisions = d ∷ new.decisions })
-    → IsUndone old new ds k
-undone old new ds k None some is by = absurd (omega (arith, ap (length {A = Decision}) by.0))
-undone old new ds k (Some d) some is by = record {
-  inst = sym (ap (λ (n : Node). n.inst) by);
-  dropped = sym (drop_more k ds d new.decisions (sym is ∙ ap (λ (n : Node). n.decisions) by));
-  count = omega (arith, ap (λ (n : Node). length n.decisions) by);
-}
 
 -- ---- apart pairs
 

@@ -4,3 +4,7 @@ pub mod KeptLemmas
 pub mod RoundLemmas
 pub mod SelfLemmas
 pub mod WayLemmas
+pub mod ArcLemmas
+pub mod Counts
+pub mod Growth
+pub mod LevelLemmas

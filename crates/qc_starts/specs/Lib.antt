@@ -1,6 +1,9 @@
+pub mod Arcs
 pub mod Asked
 pub mod Fields
 pub mod Found
+pub mod Network
+pub mod NodeArcs
 pub mod Rounds
 pub mod Seen
 pub mod Ways

@@ -1,11 +1,13 @@
 -- What contracts see of the least starts of a node, and what is answered of it.
-use Rattle.std.specs.Prelude.{◌≡◌, ℕ, ◌-◌, ◌<◌, Bool, true, false, List, drop, length, slice_index, IsSome, IsTrue, Some}
+use Rattle.std.specs.Prelude.{◌≡◌, ℕ, ◌-◌, ◌<◌, Bool, true, false, List, drop, length, reverse, slice_index, IsSome, IsTrue, Some}
+use Rattle.qc_arena.specs.Arcs.{Arcs}
 use Rattle.qc_model.specs.declared.decision.Decision.{Decision}
 use Rattle.qc_model.specs.declared.decision.Decision.TheVariants.{Assign, Order}
 use Rattle.qc_model.specs.Instance.{InstanceView, IsApart}
 use Rattle.qc_model.specs.Leaves.{chain, leaf_value, ring, with_berths}
-use Rattle.qc_model.specs.Nodes.{AreLeast, HasStarts, IsNodeEnd, IsSettled, assigned, reaches}
+use Rattle.qc_model.specs.Nodes.{AreLeast, HasStarts, IsNodeEnd, IsSettled, assigned, forced, reaches}
 use Rattle.qc_num.specs.declared.bound.Bound.TheVariants.{Least, Never}
+use Rattle.qc_starts.specs.Arcs.{newest_length}
 use Rattle.qc_starts.specs.declared.least.Step.{Step}
 use Rattle.qc_starts.specs.declared.least.Step.TheVariants.{Raised, Cycle}
 
@@ -54,3 +56,10 @@ AreAssigned inst ds = (j : ℕ) → j < length inst.tasks → IsSome (assigned d
 
 abbrev pub AreSettled : InstanceView → List Decision → Type 0
 AreSettled inst ds = (i j : ℕ) → IsApart inst i j → IsSettled inst ds i j
+
+-- an arc from i to j is there exactly where something is forced from i to j, and the newest is as long
+pub record HoldsForced (inst : InstanceView) (ds : List Decision) (arena : Arcs) : Type 0 where
+  pub nodes : arena.nodes ≡ length inst.tasks
+  pub newest :
+      (i j : ℕ) → i < length inst.tasks → j < length inst.tasks
+      → newest_length i j (reverse arena.arcs) ≡ forced inst ds i j

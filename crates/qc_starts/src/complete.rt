@@ -1,6 +1,7 @@
 // Whether all is decided.
 
 ghost use Rattle.std.specs.Prelude.{◌≡◌, ◌↔◌, IsTrue};
+ghost use Rattle.qc_model.specs.Nodes.{IsComplete};
 ghost use Rattle.qc_starts.specs.Seen.{AreAssigned, AreSettled};
 
 use crate::asked::task_count;
@@ -8,7 +9,7 @@ use qc_dist::Decisions;
 use qc_model::Instance;
 
 /// Whether all tasks have a crane.
-pub(crate) fn are_assigned(decisions: &Decisions, inst: &Instance) -> bool
+fn are_assigned(decisions: &Decisions, inst: &Instance) -> bool
     requires { decisions.now.inst ≡ inst.now }
     ensures { IsTrue result ↔ AreAssigned inst.now decisions.now.decisions }
 {
@@ -21,7 +22,7 @@ pub(crate) fn are_assigned(decisions: &Decisions, inst: &Instance) -> bool
 }
 
 /// Whether all apart pairs are settled.
-pub(crate) fn are_settled(decisions: &Decisions, inst: &Instance) -> bool
+fn are_settled(decisions: &Decisions, inst: &Instance) -> bool
     requires { decisions.now.inst ≡ inst.now }
     ensures { IsTrue result ↔ AreSettled inst.now decisions.now.decisions }
 {
@@ -31,4 +32,12 @@ pub(crate) fn are_settled(decisions: &Decisions, inst: &Instance) -> bool
         }
     }
     true
+}
+
+/// Whether all is decided.
+pub(crate) fn is_complete(decisions: &Decisions, inst: &Instance) -> bool
+    requires { decisions.now.inst ≡ inst.now }
+    ensures { IsTrue result ↔ IsComplete inst.now decisions.now.decisions }
+{
+    are_assigned(decisions, inst) && are_settled(decisions, inst)
 }

@@ -2,11 +2,13 @@
 //! the one before it, or a ring of such tasks where nothing meets the node.
 #![tactic(auto)]
 
+mod arcs;
 mod asked;
 mod cells;
 mod complete;
 mod least;
 mod made;
+mod network;
 mod rounds;
 mod starts;
 mod walk;

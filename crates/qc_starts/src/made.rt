@@ -1,25 +1,22 @@
 // Decisions that are taken back, and paths that are handed out.
 
 ghost use Rattle.std.specs.Prelude.{◌≡◌, ◌≤◌, length};
-ghost use Rattle.qc_model.specs.Nodes.{Fits, IsInReach};
+ghost use Rattle.qc_model.specs.Nodes.{IsInReach};
 ghost use Rattle.qc_starts.specs.Seen.{first_of};
 
-use qc_dist::Decisions;
+use crate::network::Network;
 use qc_num::Path;
 
-/// Takes back all of so many decisions but the first `mark`.
-pub(crate) fn undo_to(decisions: &mut Decisions, made: u32, mark: u32)
-    requires made { made ≡ length decisions.old.decisions }
-    requires mark { mark ≤ made }
-    requires fits { Fits decisions.old.inst decisions.old.decisions }
-    requires in_reach { IsInReach decisions.old.inst decisions.old.decisions }
-    ensures inst { decisions.new.inst ≡ decisions.old.inst }
-    ensures first { decisions.new.decisions ≡ first_of mark decisions.old.decisions }
-    ensures fits { Fits decisions.new.inst decisions.new.decisions }
-    ensures in_reach { IsInReach decisions.new.inst decisions.new.decisions }
+/// Takes back all decisions but the first `mark`.
+pub(crate) fn undo_to(network: &mut Network, mark: u32)
+    requires mark { mark ≤ length network.old.decisions }
+    requires in_reach { IsInReach network.old.inst network.old.decisions }
+    ensures inst { network.new.inst ≡ network.old.inst }
+    ensures first { network.new.decisions ≡ first_of mark network.old.decisions }
+    ensures in_reach { IsInReach network.new.inst network.new.decisions }
 {
-    for _ in mark..made {
-        let _ = decisions.undo();
+    for _ in mark..network.made() {
+        network.undo();
     }
 }
 

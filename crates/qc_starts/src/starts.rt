@@ -6,12 +6,13 @@ ghost use Rattle.qc_model.specs.Leaves.{done_at, tasks_on};
 ghost use Rattle.qc_model.specs.Nodes.{Fits, HasStarts, IsComplete, IsInReach, IsNodeEnd, IsSettled, assigned, reaches};
 ghost use Rattle.qc_num.specs.Paths.{HasRoom};
 ghost use Rattle.qc_dist.specs.Kept.{unassigned_ticks};
-ghost use Rattle.qc_starts.specs.Seen.{HasNone, IsCycle, IsNodeStart, IsWhy, first_of};
+ghost use Rattle.qc_starts.specs.Seen.{HasNone, HoldsForced, IsCycle, IsNodeStart, IsWhy, first_of};
 
-use crate::complete::{are_assigned, are_settled};
+use crate::complete::is_complete;
 use crate::least::{Step, Table};
 use crate::made::{copy_path, undo_to};
-use qc_dist::Decisions;
+use crate::network::Network;
+use qc_arena::ArcArena;
 use qc_model::{Decision, Instance, copy};
 use qc_num::{OutOfMemory, Path, Steps, Tick};
 use std::alloc::Global;
@@ -24,9 +25,7 @@ use std::sync::ledger::Ledger;
 #[derive(Drop)]
 pub struct Starts {
     inst: Instance,
-    decisions: Decisions,
-    /// The number of decisions.
-    made: u32,
+    network: Network,
     table: Table,
     /// What was found for the decisions.
     step: Step,
@@ -53,14 +52,13 @@ impl Starts {
         ensures inst { IfOk result (λ node. node.inst ≡ inst.now) }
         ensures decisions { IfOk result (λ node. node.decisions ≡ []) }
     {
-        let decisions = Decisions::new(alloc, inst)?;
+        let network = Network::open(alloc, inst)?;
         let mut table = Table::open(alloc, inst)?;
         let inst = copy(alloc, inst)?;
-        let step = table.settle(&decisions, &inst);
+        let step = table.settle(network.decisions(), &inst);
         Ok(Starts {
             inst,
-            decisions,
-            made: 0,
+            network,
             table,
             step,
         })
@@ -75,9 +73,8 @@ impl Starts {
         ensures decisions { self.new.decisions ≡ decision ∷ self.old.decisions }
         ensures step { IsStep inst.now self.new.decisions result }
     {
-        self.decisions.add(inst, decision);
-        self.made += 1;
-        self.step = self.table.settle(&self.decisions, inst);
+        self.network.add(inst, decision);
+        self.step = self.table.settle(self.network.decisions(), inst);
         self.step
     }
 
@@ -141,14 +138,14 @@ impl Starts {
     pub fn mark(&self) -> u32
         ensures { result ≡ length self.now.decisions }
     {
-        self.made
+        self.network.made()
     }
 
     /// The newest decision; `None` where there is none.
     pub fn newest(&self) -> Option<Decision>
         ensures { result ≡ newest self.now.decisions }
     {
-        self.decisions.newest()
+        self.network.decisions().newest()
     }
 
     /// Takes back all decisions but the first `mark`.
@@ -159,9 +156,8 @@ impl Starts {
         ensures steps { steps.old ≤ steps.new }
     {
         steps.tick();
-        undo_to(&mut self.decisions, self.made, mark);
-        self.made = mark;
-        self.step = self.table.settle(&self.decisions, &self.inst);
+        undo_to(&mut self.network, mark);
+        self.step = self.table.settle(self.network.decisions(), &self.inst);
     }
 
     /// When a task starts at the least.
@@ -189,7 +185,7 @@ impl Starts {
         ensures crane { result ≡ assigned self.now.decisions j }
         ensures range { IfSome result (λ crane. crane < length self.now.inst.cranes) }
     {
-        self.decisions.crane_of(j)
+        self.network.decisions().crane_of(j)
     }
 
     /// Whether a crane has a task.
@@ -197,7 +193,7 @@ impl Starts {
         requires { k < length self.now.inst.cranes }
         ensures { result ≡ nat_lt 0 (length (tasks_on self.now.decisions k)) }
     {
-        self.decisions.has_tasks(k)
+        self.network.decisions().has_tasks(k)
     }
 
     /// When a crane is done at the soonest with the tasks that it has, by their ticks and its way
@@ -207,7 +203,7 @@ impl Starts {
         ensures ticks { result ≡ done_at self.now.inst self.now.decisions k }
         ensures bound { result ≤ MOST_READY + MOST_TASKS * MOST_WORK + 2 * MOST_DISTANCE }
     {
-        self.decisions.done_at(&self.inst, k)
+        self.network.decisions().done_at(&self.inst, k)
     }
 
     /// The ticks of the tasks that no crane has.
@@ -215,14 +211,14 @@ impl Starts {
         ensures ticks { result ≡ unassigned_ticks self.now.inst self.now.decisions }
         ensures bound { result ≤ MOST_TASKS * MOST_WORK }
     {
-        self.decisions.open_ticks()
+        self.network.decisions().open_ticks()
     }
 
     /// Whether all tasks have a crane and all apart pairs are settled.
     pub fn complete(&self) -> bool
         ensures { IsTrue result ↔ IsComplete self.now.inst self.now.decisions }
     {
-        are_assigned(&self.decisions, &self.inst) && are_settled(&self.decisions, &self.inst)
+        is_complete(self.network.decisions(), &self.inst)
     }
 
     /// Whether one of two tasks is forced to start after the other.
@@ -231,7 +227,15 @@ impl Starts {
         requires second { j < length self.now.inst.tasks }
         ensures { IsTrue result ↔ IsSettled self.now.inst self.now.decisions i j }
     {
-        self.decisions.settled(&self.inst, i, j)
+        self.network.decisions().settled(&self.inst, i, j)
+    }
+
+    /// The arcs between the tasks: from one to another where the second is forced to start after the
+    /// first, the newest of them as long as is forced.
+    pub fn arcs(&self) -> &ArcArena
+        ensures { HoldsForced self.now.inst self.now.decisions result.now }
+    {
+        self.network.arena()
     }
 
     /// Writes a chain of tasks, each forced after the one before it, that ends when the node does;

@@ -1,0 +1,61 @@
+use Rattle.std.proofs.Common.{◌≡◌, ◌≤◌, ◌+◌, List, [], length, reverse, refl, ap, sym, subst, ◌∙◌, arith}
+use Rattle.qc_arena.specs.declared.edge.Edge.{Edge}
+use Rattle.qc_dist.specs.Node.{Node}
+use Rattle.qc_starts.specs.Arcs.{AreArcs, IsOver, added, with_added}
+use Rattle.qc_starts.proofs.ArcLemmas.{IsAssigning, assign_after, assign_begins, assign_ends, assign_room, over_added, over_over}
+use Rattle.qc_starts.proofs.arcs.assign.Goals as goal
+
+pub loop-other-init : goal.loop-other-init
+loop-other-init c = record {
+  room = c.requires.room;
+  so_far = assign_begins c.args.inst.now c.args.decisions.now.decisions c.args.task c.args.crane
+      c.task_count-other-end.ensures.valid c.requires.open.2 c.requires.open (reverse c.args.arena.now.arcs) c.requires.arcs;
+  low = c.requires.low;
+  over = ([], refl);
+}
+
+pub push_added-requires-clause-room : goal.push_added-requires-clause-room
+push_added-requires-clause-room c =
+    let is = c.loop-other.invariant in
+    let news = c.add.new.self.decisions in
+    let room = assign_room c.args.inst.now c.args.decisions.now.decisions news c.task_count-other-end.ensures.valid
+    c.add.ensures.fits (reverse c.loop-other.arena.arcs) c.args.task c.args.crane
+    (ap (λ (n : Node). n.decisions) c.add.ensures.added) c.requires.open.2 c.requires.open.0
+    c.loop-other.other (rw (← c.task_count-other-end.ensures.count) c.loop-other-test.true) is.so_far in
+    subst (λ cap. length (with_added c.args.task c.loop-other.other
+    (added c.args.inst.now news c.args.task c.loop-other.other)
+    (added c.args.inst.now news c.loop-other.other c.args.task) (reverse c.loop-other.arena.arcs)) ≤ cap)
+    (sym is.room.cap) room
+
+pub loop-other-preserved : goal.loop-other-preserved
+loop-other-preserved c =
+    let is = c.loop-other.invariant in
+    let inst = c.args.inst.now in
+    let ds = c.args.decisions.now.decisions in
+    let news = c.add.new.self.decisions in
+    let t = c.args.task in
+    let o = c.loop-other.other in
+    let arcs = reverse c.loop-other.arena.arcs in
+    let after = assign_after inst ds news c.task_count-other-end.ensures.valid
+    c.add.ensures.fits arcs t c.args.crane
+    (ap (λ (n : Node). n.decisions) c.add.ensures.added) c.requires.open.2 c.requires.open.0
+    o (rw (← c.task_count-other-end.ensures.count) c.loop-other-test.true) is.so_far in
+    let same = c.push_added.ensures.arcs in
+    record {
+      room = record {
+        nodes = c.push_added.ensures.nodes ∙ is.room.nodes;
+        cap = c.push_added.ensures.cap ∙ is.room.cap;
+      };
+      so_far = subst (λ (xs : List Edge). IsAssigning inst ds t c.args.crane xs (o + 1)) (sym same) after;
+      low = c.push_added.ensures.low is.low;
+      over = over_over (reverse c.args.arena.now.arcs) arcs (reverse c.push_added.new.arena.arcs) is.over
+          (subst (IsOver arcs) (sym same) (over_added t o (added inst news t o) (added inst news o t) arcs));
+    }
+
+pub returns-clause-arcs : goal.returns-clause-arcs
+returns-clause-arcs c =
+    let is = c.loop-other.invariant in
+    let done = assign_ends c.args.inst.now c.args.decisions.now.decisions c.args.task c.args.crane
+    c.task_count-other-end.ensures.valid c.requires.open.2 (reverse c.loop-other.arena.arcs) c.loop-other.other
+    (omega (arith, c.task_count-other-end.ensures.count)) is.so_far in
+    subst (λ (n : Node). AreArcs c.args.inst.now n.decisions (reverse c.loop-other.arena.arcs)) (sym c.add.ensures.added) done
