@@ -122,7 +122,8 @@ module _ (inst : InstanceView) (sched : List Slot) (d : ℕ) where
     from = given x f.is;
   }
     where
-      task_is : (j : ℕ) → k ≤ crane_of sched j → scaled inst d (bay_behind inst (crane_of sched j) (bay_of inst j) k)
+      task_is : (j : ℕ) → k ≤ crane_of sched j
+          → scaled inst d (bay_behind inst (crane_of sched j) (bay_of inst j) k)
           ≡ (task_level inst sched d j +ℤ lift inst d k)
       task_is j above = behind_is inst d (crane_of sched j) k (bay_of inst j) above
 

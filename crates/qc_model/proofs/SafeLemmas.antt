@@ -145,7 +145,8 @@ module _ (inst : InstanceView) (sched : List Slot) (valid : Valid inst) (goes : 
     somewhere = λ k m low _. place_exists inst sched Down k m d low;
     margin = λ v w m p q lower high early g h.
         let there = crane_there v (omega arith) in
-        let apart = safe.margin (number w) (number v) m (over q) (over p) (omega arith) there (within m early) h g in
+        let apart = safe.margin (number w) (number v) m (over q) (over p) (omega arith) there
+        (within m early) h g in
         let same : number v - number w ≡ w - v = omega arith in
         let gaps = ap (λ n. scaled inst d (pos (inst.gap * n))) same in
         omega (arith, ints, apart, gaps);
@@ -157,7 +158,8 @@ module _ (inst : InstanceView) (sched : List Slot) (valid : Valid inst) (goes : 
     at_berth = λ k m p low early till g.
         let same = crane_is k low in
         let ready = ap (λ c. d * c.ready) same in
-        let there = safe.at_berth (number k) m (over p) (crane_there k low) (within m early) (omega (arith, ready)) g in
+        let there = safe.at_berth (number k) m (over p) (crane_there k low) (within m early)
+        (omega (arith, ready)) g in
         omega (arith, ints, there, turned_is inst d (crane inst k).bay _ (ap (λ c. c.bay) same));
     speed = λ k m p q low early g h.
         let step = safe.speed (number k) m (over p) (over q) (crane_there k low) (within (m + 1) early) g h in

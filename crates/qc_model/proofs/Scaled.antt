@@ -16,8 +16,8 @@ scaled_le n x y h =
     let parts : up x + down y ≤ up y + down x = omega (arith, ints) in
     omega (arith, ints, mul-le-mul_left n parts)
 
--- where the way from x up over b bays to y is done between the ticks n and s, a crane that comes up to y by s is
--- no higher than x at n
+-- where the way from x up over b bays to y is done between the ticks n and s, a crane that comes up to y by s
+-- is no higher than x at n
 late : (d t b : ℕ) (x y : ℤ) (n s : ℕ) → y ≤ℤ (x +ℤ pos b) → (0 < t * b → n + t * b ≤ s)
     → ((pos (d * t) *ℤ y) -ℤ pos (d * s - d * n)) ≤ℤ (pos (d * t) *ℤ x)
 late d t b x y n s most in_time =

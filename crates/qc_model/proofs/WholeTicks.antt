@@ -212,7 +212,8 @@ module _ (inst : InstanceView) (sched : List Slot) (k : ℕ) (x : ℤ) where
               (λ lower.
               let by_one = step inst sched 1 h k x f a here.from in
               let other = there.most here.from in
-              let same : q ≡ height 1 here.from (a + 1) = omega (arith, ints, s.next, s.on, here.is, by_one, other) in
+              let same : q ≡ height 1 here.from (a + 1) =
+              omega (arith, ints, s.next, s.on, here.is, by_one, other) in
               record { term = here.from; now = here.is; next = same })
               (λ higher. record { term = s.term; now = omega (arith, ints, most); next = s.next })
           | inr after ↦
@@ -222,7 +223,8 @@ module _ (inst : InstanceView) (sched : List Slot) (k : ℕ) (x : ℤ) where
               (λ lower.
               let by_one = step inst sched 1 h k x f a there.from in
               let other = here.most there.from in
-              let same : p ≡ height 1 there.from a = omega (arith, ints, r.now, r.on, there.is, by_one, other) in
+              let same : p ≡ height 1 there.from a =
+              omega (arith, ints, r.now, r.on, there.is, by_one, other) in
               record { term = there.from; now = same; next = there.is })
               (λ higher. record { term = r.term; now = r.now; next = omega (arith, ints, most) })
         ]
@@ -231,7 +233,8 @@ module _ (inst : InstanceView) (sched : List Slot) (k : ℕ) (x : ℤ) where
 
 pub one_kind : (inst : InstanceView) (sched : List Slot) → Valid inst → GoesUp inst sched
     → (k m d : ℕ) (x : ℤ) → IsFloor inst sched k x
-    → ((i : ℕ) → i < length inst.tasks → crane_of sched i ≤ k → task_place inst sched i k m d ≤ℤ scaled inst d x)
+    → ((i : ℕ) → i < length inst.tasks → crane_of sched i ≤ k
+    → task_place inst sched i k m d ≤ℤ scaled inst d x)
     ⊎ ((v : ℕ) → v ≤ k → berth_place inst v k m d ≤ℤ scaled inst d x)
 one_kind inst sched valid goes k m d x least = elim (cases_lt m (d * moment.0)) [
   | inl before ↦ inl (λ i low below.
@@ -285,7 +288,7 @@ linear_within inst sched Down valid goes k a d r p q low part g h =
     let number = length inst.cranes - 1 - k in
     let there : number < length (mirror inst).cranes = omega (arith, seen-crane_count inst Down) in
     let whole = scaled inst 1 (pos (inst.bays + 1)) in
-    let place = linear_up (mirror inst) (mirror_schedule inst sched) (mirror_valid inst valid) goes.mirrored number a d r
-    (whole -ℤ p) (whole -ℤ q) there part g h in
+    let place = linear_up (mirror inst) (mirror_schedule inst sched) (mirror_valid inst valid) goes.mirrored
+    number a d r (whole -ℤ p) (whole -ℤ q) there part g h in
     let Seen = IsGreatest (LowPlace (mirror inst) (mirror_schedule inst sched) number (d * a + r) d) in
     subst Seen (turned d r p q whole _ (times d inst.travel (pos (inst.bays + 1)))) place
