@@ -1,6 +1,6 @@
 // Numbers in plain decimal.
 
-ghost use Rattle.std.specs.Prelude.{◌≡◌, ◌≤◌, length, IsTrue};
+ghost use Rattle.std.specs.Prelude.{◌≡◌, ◌≤◌, ◌<◌, ◌^◌, length, IfSome, IsTrue};
 ghost use Rattle.std.specs.Char.{is_ascii_digit};
 ghost use Rattle.std.specs.List.{list_all};
 ghost use Rattle.std.specs.Str.Parse.{digits_value};
@@ -38,7 +38,8 @@ fn number(digits: &[u8]) -> u64
 /// the first isn't `0`.
 pub fn plain_number(text: &[u8], most: usize) -> Option<u64>
     requires { most ≤ 19 }
-    ensures { result ≡ number_in most text.now }
+    ensures number { result ≡ number_in most text.now }
+    ensures small { IfSome result (λ number. number < 10 ^ most) }
 {
     if is_plain(text, most) {
         Some(number(text))

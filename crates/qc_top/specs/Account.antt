@@ -20,7 +20,7 @@ use Rattle.qc_top.specs.Asked.{Asked, plan, unbuilt, usage, name_of}
 use Rattle.qc_top.specs.Words.{Asks}
 use Rattle.qc_top.specs.Due.{Reads, print, search, reads_in, without, due}
 use Rattle.qc_top.specs.Answers.{ending_of, report_text, status_of}
-use Rattle.qc_top.specs.PlanText.{plan_text}
+use Rattle.qc_gantt.specs.PlanText.{plan_text}
 use Rattle.qc_top.specs.Found.{IsFound, Tells}
 
 -- where the shelf tells its files, a step over them comes to this

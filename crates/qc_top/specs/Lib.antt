@@ -3,7 +3,6 @@ pub mod Words
 pub mod Due
 pub mod Answers
 pub mod Shown
-pub mod PlanText
 pub mod Found
 pub mod Account
 pub mod Promises

@@ -6,7 +6,6 @@ mod check;
 mod faults;
 mod found;
 mod plan;
-mod plan_text;
 mod program;
 mod reading;
 mod status;

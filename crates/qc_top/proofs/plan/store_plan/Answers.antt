@@ -1,6 +1,6 @@
 use Rattle.std.proofs.Common.{◌≡◌, rules, [], Some}
 use Rattle.qc_io.specs.Outside.{with_file}
-use Rattle.qc_top.specs.PlanText.{plan_text}
+use Rattle.qc_gantt.specs.PlanText.{plan_text}
 use Rattle.qc_top.proofs.ServeLemmas.{store_ok, store_err}
 use Rattle.qc_top.proofs.plan.store_plan.Goals as goal
 

@@ -9,13 +9,13 @@ returns-in_err-number c =
     let spaced = c.in_ok-first.ensures.cases.0 ∙ ap (λ b. b ∷ c.in_ok-first.behind.now) c.if-first-ne32.false in
     let plain = field_plain c.args.text.now c.in_ok-first.behind.now c.split_digits.result.0.now c.split_digits.result.1.now c.args.most
     c.requires.some c.requires.fit spaced c.split_digits.ensures.whole c.split_digits.ensures.digits c.split_digits.ensures.rest n rest field in
-    let none = number_none c.args.most c.split_digits.result.0.now c.in_err-number.ensures in
+    let none = number_none c.args.most c.split_digits.result.0.now c.in_err-number.ensures.number in
     absurd (cc (plain, none)))
 
 pub returns : goal.returns
 returns c =
     let spaced = c.in_ok-first.ensures.cases.0 ∙ ap (λ b. b ∷ c.in_ok-first.behind.now) c.if-first-ne32.false in
-    let read = number_some c.args.most c.split_digits.result.0.now c.in_ok-number.number c.in_ok-number.ensures in
+    let read = number_some c.args.most c.split_digits.result.0.now c.in_ok-number.number c.in_ok-number.ensures.number in
     let here = field_here c.args.text.now c.in_ok-first.behind.now c.split_digits.result.0.now c.split_digits.result.1.now c.args.most
     c.requires.some c.requires.fit spaced c.split_digits.ensures.whole c.split_digits.ensures.digits c.split_digits.ensures.rest read.0 in
     rw read.1 here

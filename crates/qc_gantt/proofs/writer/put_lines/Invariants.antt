@@ -1,8 +1,8 @@
 use Rattle.std.proofs.Common.{length, take, Ok}
 use Rattle.std.specs.List.{flat_map, zip}
 use Rattle.qc_io.specs.Writes.{Writes}
-use Rattle.qc_top.specs.PlanText.{plan_line}
-use Rattle.qc_top.proofs.plan_text.put_lines.Given as goal
+use Rattle.qc_gantt.specs.PlanText.{plan_line}
+use Rattle.qc_gantt.proofs.writer.put_lines.Given as goal
 
 abbrev pub invariant-loop-task : goal.invariant-loop-task
 invariant-loop-task g l =

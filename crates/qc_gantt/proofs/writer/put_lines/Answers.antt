@@ -9,8 +9,8 @@ use Rattle.qc_model.specs.declared.schedule.Slot.{Slot}
 use Rattle.qc_model.proofs.OnRail.{ticks_bounded}
 use Rattle.qc_model.specs.Instance.{InstanceView, no_task}
 use Rattle.qc_model.specs.Rules.{no_slot}
-use Rattle.qc_top.specs.PlanText.{plan_line}
-use Rattle.qc_top.proofs.plan_text.put_lines.Goals as goal
+use Rattle.qc_gantt.specs.PlanText.{plan_line}
+use Rattle.qc_gantt.proofs.writer.put_lines.Goals as goal
 
 -- the line of the task and the slot at i is that of the pair at i
 line_at :

@@ -2,8 +2,8 @@ use Rattle.std.proofs.Common.{rules}
 use Rattle.std.specs.Prelude.{codes}
 use Rattle.std.specs.List.{flat_map, zip}
 use Rattle.qc_io.proofs.WritesLemmas.{writes_then, writes_cut}
-use Rattle.qc_top.specs.PlanText.{plan_line}
-use Rattle.qc_top.proofs.plan_text.write_plan.Goals as goal
+use Rattle.qc_gantt.specs.PlanText.{plan_line}
+use Rattle.qc_gantt.proofs.writer.write_plan.Goals as goal
 
 pub returns : goal.returns
 returns g c =

@@ -1,8 +1,8 @@
-//! The text of a plan file.
+// Writing a plan file.
 ghost use Rattle.std.specs.Prelude.{◌+◌, ◌<◌, ◌^◌, length};
 ghost use Rattle.qc_io.specs.Writes.{Writes};
 ghost use Rattle.qc_model.specs.Judge.{IsJudgeable};
-ghost use Rattle.qc_top.specs.PlanText.{plan_line, plan_text};
+ghost use Rattle.qc_gantt.specs.PlanText.{plan_line, plan_text};
 ghost use Rattle.std.specs.List.{flat_map, zip};
 
 use qc_io::{Sink, WriteFault, put_all};
@@ -49,7 +49,7 @@ fn put_lines<K: Sink>(inst: &Instance, sched: &Schedule, sink: &mut K) -> Result
 /// Writes the plan file of a schedule: the header, and for each task in task order its name, its
 /// crane's name, its start and its end in ticks.
 #[tactic(auto, using(qc_io::proofs::WritesLemmas::writes_then, qc_io::proofs::WritesLemmas::writes_cut))]
-pub(crate) fn write_plan<K: Sink>(
+pub fn write_plan<K: Sink>(
     inst: &Instance,
     sched: &Schedule,
     sink: &mut K,

@@ -1,0 +1,5 @@
+pub mod Entries
+pub mod Faults
+pub mod Names
+pub mod Plan
+pub mod PlanText

@@ -1,0 +1,13 @@
+//! Plan files: a schedule as a table of tasks, cranes, starts and ends.
+#![tactic(auto)]
+
+mod entry;
+mod fault;
+mod names;
+mod reader;
+mod slots;
+mod writer;
+
+pub use fault::{PlanError, PlanFault, PlanKind};
+pub use reader::read_plan;
+pub use writer::write_plan;
