@@ -31,11 +31,11 @@ pub(crate) fn seen_number(inst: &Instance, way: Direction, crane: u16) -> u16
 /// What the rules ask of a crane: from when on it is ready, where it stands until then, and from
 /// which bay to which it reaches.
 #[derive(Clone, Copy)]
-pub(crate) struct Post {
-    pub(crate) ready: Tick,
-    pub(crate) bay: Bay,
-    pub(crate) from: Bay,
-    pub(crate) to: Bay,
+pub struct Post {
+    pub ready: Tick,
+    pub bay: Bay,
+    pub from: Bay,
+    pub to: Bay,
 }
 
 /// A crane as it is seen with a direction.
