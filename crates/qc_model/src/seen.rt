@@ -17,7 +17,7 @@ pub(crate) fn seen_bay(inst: &Instance, way: Direction, bay: Bay) -> Bay
 }
 
 /// The number of a crane as it is seen with a direction, and back again.
-pub(crate) fn seen_number(inst: &Instance, way: Direction, crane: u16) -> u16
+pub fn seen_number(inst: &Instance, way: Direction, crane: u16) -> u16
     requires { crane < length inst.now.cranes }
     ensures number { result ≡ seen_number inst.now way crane }
     ensures range { result < length inst.now.cranes }

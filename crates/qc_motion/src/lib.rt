@@ -2,6 +2,7 @@
 #![tactic(auto)]
 
 mod end;
+mod floor;
 mod sweep;
 mod track;
 
