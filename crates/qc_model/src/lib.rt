@@ -4,6 +4,7 @@
 mod crane;
 mod decision;
 mod direction;
+mod end;
 mod instance;
 mod judge;
 mod keeps;
@@ -21,6 +22,7 @@ mod ticks;
 pub use crane::Crane;
 pub use decision::Decision;
 pub use direction::Direction;
+pub use end::ends;
 pub use instance::Instance;
 pub use judge::{Judge, Work};
 pub use limits::{

@@ -6,7 +6,7 @@ use Rattle.std.specs.declared.cmp.Ordering.TheVariants.{Less, Equal, Greater}
 use Rattle.qc_model.specs.declared.schedule.Slot.{Slot}
 use Rattle.qc_model.specs.Instance.{InstanceView, Valid, IsFrom, bay_of, crane}
 use Rattle.qc_model.specs.Judge.{IsJudgeable}
-use Rattle.qc_model.specs.Motion.{IsFloor, IsGreatest, LowPlace, bay_ahead, scaled}
+use Rattle.qc_model.specs.Motion.{IsFloor, IsGreatest, LowPlace, bay_ahead, berth_place, scaled, task_place}
 use Rattle.qc_model.specs.OneWay.{GoesUp}
 use Rattle.qc_model.specs.Rules.{crane_of, start_of}
 
@@ -45,6 +45,14 @@ berth_hold it v = scaled it.inst 1 (bay_ahead it.inst v (crane it.inst v).bay it
 -- task i is one of those that the crane has to make room for
 abbrev pub IsFelt : Swept → ℕ → Type 0
 IsFelt it i = (i < length it.inst.tasks) × (crane_of it.sched i ≤ it.crane)
+
+-- the highest place of the floor, the tasks below n and the berths below v
+pub record IsHighest (it : Swept) (m n v : ℕ) (x : ℤ) : Type 0 where
+  pub is : LowPlace it.inst it.sched it.crane m 1 x
+  pub floor : floor_place it ≤ℤ x
+  pub tasks : (i : ℕ) → i < n → IsFelt it i → task_place it.inst it.sched i it.crane m 1 ≤ℤ x
+  pub berths : (w : ℕ) → w < v → berth_place it.inst w it.crane m 1 ≤ℤ x
+  pub near : IsNear x
 
 -- a place after so many ticks of motion one way
 abbrev pub moved : Ordering → ℤ → ℕ → ℤ

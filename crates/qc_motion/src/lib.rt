@@ -1,7 +1,6 @@
 //! Where the cranes of a one-way schedule stand: the ticks at which they start, stop and turn.
 #![tactic(auto)]
 
-mod end;
 mod floor;
 mod sweep;
 mod track;

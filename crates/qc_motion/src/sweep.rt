@@ -52,7 +52,7 @@ impl<'a> Model for Sweep<'a> {
 }
 
 impl<'a> Sweep<'a> {
-    ghost use Rattle.qc_motion.specs.Sweep.{IsAt, IsFelt, IsSound, berth_hold, task_hold};
+    ghost use Rattle.qc_motion.specs.Sweep.{IsAt, IsFelt, IsHighest, IsSound, berth_hold, task_hold};
 
     /// A sweep of the crane with that number in the instance.
     pub(crate) fn new(
@@ -119,14 +119,17 @@ impl<'a> Sweep<'a> {
         self.judge.tasks()
     }
 
+    /// How many berths there are of the crane and of lower ones.
+    pub(crate) fn berths(&self) -> u16
+        ensures { result ≡ self.now.crane + 1 }
+    {
+        self.crane + 1
+    }
+
     /// The highest of the floor and the places at which tasks have the crane at a tick.
     fn place_by_tasks(&self, at: Tick) -> i64
         requires { at ≤ MOST_END }
-        ensures is { LowPlace self.now.inst self.now.sched self.now.crane at 1 result }
-        ensures floor { scaled self.now.inst 1 self.now.floor ≤ℤ result }
-        ensures tasks { (i : ℕ) → IsFelt self.now i
-            → task_place self.now.inst self.now.sched i self.now.crane at 1 ≤ℤ result }
-        ensures near { IsNear result }
+        ensures { IsHighest self.now at (length self.now.inst.tasks) 0 result }
     {
         let mut place = self.judge.place_of(self.floor);
         for task in 0..self.tasks() {
@@ -144,7 +147,7 @@ impl<'a> Sweep<'a> {
         ensures near { IsNear result }
     {
         let mut place = self.place_by_tasks(at);
-        for number in 0..=self.crane {
+        for number in 0..self.berths() {
             let hold = self.berth(number);
             place = place.max(hold.place - at.saturating_sub(hold.at) as i64);
         }

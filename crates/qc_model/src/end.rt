@@ -1,12 +1,12 @@
-ghost use Rattle.std.specs.Prelude.{◌≡◌, length};
-ghost use Rattle.qc_model.specs.Rules.{ends};
+ghost use Rattle.std.specs.Prelude.{◌≡◌};
 ghost use Rattle.qc_model.specs.Judge.{IsJudgeable};
+ghost use Rattle.qc_model.specs.Rules.{ends};
 
-use qc_model::{Instance, Schedule};
+use crate::{Instance, Schedule};
 use qc_num::Tick;
 
-/// The end of a schedule: that of its last task, and 0 where there is none.
-pub(crate) fn end_of(inst: &Instance, sched: &Schedule) -> Tick
+/// When the last task ends, in ticks; 0 where there is no task.
+pub fn ends(inst: &Instance, sched: &Schedule) -> Tick
     requires { IsJudgeable inst.now sched.now }
     ensures { result ≡ ends inst.now sched.now }
 {

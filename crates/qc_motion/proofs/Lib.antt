@@ -1,0 +1,4 @@
+pub mod Extrema
+pub mod FloorLemmas
+pub mod PlaceLemmas
+pub mod SweepLemmas
