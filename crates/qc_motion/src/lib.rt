@@ -2,6 +2,7 @@
 #![tactic(auto)]
 
 mod floor;
+mod runs;
 mod sweep;
 mod track;
 

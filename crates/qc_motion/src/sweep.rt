@@ -52,7 +52,7 @@ impl<'a> Model for Sweep<'a> {
 }
 
 impl<'a> Sweep<'a> {
-    ghost use Rattle.qc_motion.specs.Sweep.{IsAt, IsFelt, IsHighest, IsSound, berth_hold, task_hold};
+    ghost use Rattle.qc_motion.specs.Sweep.{IsAt, IsFelt, IsHighest, IsSound, berth_hold, floor_place, task_hold};
 
     /// A sweep of the crane with that number in the instance.
     pub(crate) fn new(
@@ -114,16 +114,27 @@ impl<'a> Sweep<'a> {
 
     /// How many tasks there are.
     pub(crate) fn tasks(&self) -> u16
-        ensures { result ≡ length self.now.inst.tasks }
+        ensures count { result ≡ length self.now.inst.tasks }
+        ensures sound { IsSound self.now }
     {
         self.judge.tasks()
     }
 
     /// How many berths there are of the crane and of lower ones.
     pub(crate) fn berths(&self) -> u16
-        ensures { result ≡ self.now.crane + 1 }
+        ensures count { result ≡ self.now.crane + 1 }
+        ensures sound { IsSound self.now }
     {
         self.crane + 1
+    }
+
+    /// The place below which the crane never goes.
+    pub(crate) fn floor_place(&self) -> i64
+        ensures place { result ≡ floor_place self.now }
+        ensures sound { IsSound self.now }
+        ensures near { IsNear result }
+    {
+        self.judge.place_of(self.floor)
     }
 
     /// The highest of the floor and the places at which tasks have the crane at a tick.
@@ -131,7 +142,7 @@ impl<'a> Sweep<'a> {
         requires { at ≤ MOST_END }
         ensures { IsHighest self.now at (length self.now.inst.tasks) 0 result }
     {
-        let mut place = self.judge.place_of(self.floor);
+        let mut place = self.floor_place();
         for task in 0..self.tasks() {
             if let Some(hold) = self.task(task) {
                 place = place.max(hold.place - hold.at.saturating_sub(at) as i64);

@@ -17,4 +17,4 @@ loop-number-preserved c =
     highest_of_berth it c.args.at _ v _ y _ c.loop-number.invariant (omega arith) e (omega (arith, ints, hold.near, hold.bounded)) f m.value m.self_bound m.other_bound
 
 pub returns-clause-place : goal.returns-clause-place
-returns-clause-place c = at_of_highest c.args.self.now c.args.at _ _ _ c.loop-number.invariant ? (omega arith) (omega arith)
+returns-clause-place c = at_of_highest c.args.self.now c.args.at _ _ _ c.loop-number.invariant c.berths-number-end.ensures.sound (omega arith) (omega arith)

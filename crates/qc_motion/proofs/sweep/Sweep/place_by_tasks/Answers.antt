@@ -8,13 +8,9 @@ use Rattle.qc_motion.proofs.sweep.Sweep.place_by_tasks.Goals as goal
 
 pub loop-task-init : goal.loop-task-init
 loop-task-init c =
-    let i = c.self.inside in
-    let it : Swept = record { inst = i.judge.inst; sched = i.judge.sched; crane = i.crane; floor = i.floor } in
-    let x = to_z w64 (of_z w64 c.place_of-place.result) in
-    let read : to_z w32 (of_z w32 i.floor) ≡ i.floor = omega (arith, ints, c.self.invariant.1) in
-    let kept : x ≡ c.place_of-place.result = omega (arith, ints) in
-    subst (λ (s : Swept). IsHighest s c.args.at 0 0 x) c.self.view_is
-    (highest_of_floor it c.args.at x c.self.invariant.0 (kept ∙ c.place_of-place.ensures.place ∙ ap (scaled it.inst 1) read) (omega (arith, ints), omega (arith, ints)))
+    let f = c.floor_place-place.ensures in
+    let kept : to_z w64 (of_z w64 c.floor_place-place.result) ≡ c.floor_place-place.result = omega (arith, ints) in
+    highest_of_floor c.args.self.now c.args.at _ f.sound (kept ∙ f.place) (omega (arith, ints), omega (arith, ints))
 
 pub loop-task-preserved : goal.loop-task-preserved
 loop-task-preserved c =
