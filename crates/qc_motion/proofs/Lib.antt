@@ -4,3 +4,7 @@ pub mod PlaceLemmas
 pub mod SweepLemmas
 pub mod Bests
 pub mod Terms
+pub mod Moments
+pub mod Rises
+pub mod Falls
+pub mod Rests
