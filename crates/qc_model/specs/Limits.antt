@@ -1,8 +1,8 @@
 -- Limits that hold of every instance, whether its hatches stand a crane bay apart or its places are
 -- given in decimetres.
-use Rattle.std.specs.Prelude.{◌≤◌, length}
+use Rattle.std.specs.Prelude.{◌≤◌, ℤ, pos, negsuc, length}
 use Rattle.qc_model.specs.declared.limits.TheConstants.{MOST_CRANES, MOST_GAP_BY_PLACES, MOST_PLACE, MOST_TRAVEL}
-use Rattle.qc_model.specs.Instance.{InstanceView, HasBerths, IsOnRail}
+use Rattle.qc_model.specs.Instance.{InstanceView, HasBerths, IsFrom, IsOnRail}
 
 pub record HasLimits (inst : InstanceView) : Type 0 where
   pub bays : (1 ≤ inst.bays) × (inst.bays ≤ MOST_PLACE)
@@ -10,3 +10,7 @@ pub record HasLimits (inst : InstanceView) : Type 0 where
   pub gap : (1 ≤ inst.gap) × (inst.gap ≤ MOST_GAP_BY_PLACES)
   pub cranes : length inst.cranes ≤ MOST_CRANES
   pub berths : HasBerths inst IsOnRail
+
+-- a place on the rail, or no farther from one than all cranes side by side need
+abbrev pub IsNearRail : ℤ → Type 0
+IsNearRail x = IsFrom (negsuc 32999) (pos 33000) x

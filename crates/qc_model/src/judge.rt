@@ -1,22 +1,24 @@
-ghost use Rattle.std.specs.Prelude.{◌≡◌, ◌≤◌, ◌<◌, ◌↔◌, IsTrue, length, pos, ◌≤ℤ◌};
+ghost use Rattle.std.specs.Prelude.{◌≡◌, ◌≤◌, ◌<◌, ◌↔◌, IsTrue, length, pos, negsuc, ◌≤ℤ◌};
 ghost use Rattle.qc_model.specs.declared.limits.TheConstants.{MOST_DISTANCE, MOST_END, MOST_READY};
-ghost use Rattle.qc_model.specs.Instance.{bay_of, crane, IsApart, IsBefore, IsOnRail, Valid};
+ghost use Rattle.qc_model.specs.Instance.{bay_of, crane, IsApart, IsBefore, IsFrom, IsOnRail, Valid};
+ghost use Rattle.qc_model.specs.Motion.{bay_ahead, bay_behind, scaled};
+ghost use Rattle.qc_model.specs.Limits.{IsNearRail};
 ghost use Rattle.qc_model.specs.Rules.{crane_of, start_of, end_of};
 ghost use Rattle.qc_model.specs.Ticks.{distance, travel_between};
 
 use crate::seen::{Post, seen_bay, seen_number, seen_post};
-use crate::ticks::{bays_between, distance, travel_over};
+use crate::ticks::{bays_between, distance, gap_over, travel_over};
 use crate::{Direction, Instance, Schedule};
 use qc_num::{Bay, Tick};
 use std::marker::Model;
 
 /// A task as it is done: by which crane, where and when.
 #[derive(Clone, Copy)]
-pub(crate) struct Work {
-    pub(crate) crane: u16,
-    pub(crate) bay: Bay,
-    pub(crate) start: Tick,
-    pub(crate) end: Tick,
+pub struct Work {
+    pub crane: u16,
+    pub bay: Bay,
+    pub start: Tick,
+    pub end: Tick,
     ghost on_rail: { IsOnRail bay },
     ghost bounded: { end ≤ MOST_END },
 }
@@ -24,7 +26,7 @@ pub(crate) struct Work {
 /// A schedule that is judged with a direction: seen as the instance and the schedule themselves, or
 /// from the other end of the ship. Tasks keep their numbers.
 #[derive(Drop)]
-pub(crate) struct Judge<'a> {
+pub struct Judge<'a> {
     inst: &'a Instance,
     sched: &'a Schedule,
     way: Direction,
@@ -52,7 +54,8 @@ impl<'a> Judge<'a> {
     ghost use Rattle.qc_model.specs.Judge.{IsJudgeable};
     ghost use Rattle.qc_model.specs.Seen.{seen, seen_schedule};
 
-    pub(crate) fn new(inst: &'a Instance, sched: &'a Schedule, way: Direction) -> Judge<'a>
+    /// The schedule with that direction.
+    pub fn new(inst: &'a Instance, sched: &'a Schedule, way: Direction) -> Judge<'a>
         requires { IsJudgeable inst.now sched.now }
         ensures view { result ≡ record {
           inst = seen inst.now way;
@@ -69,21 +72,21 @@ impl<'a> Judge<'a> {
     }
 
     /// How many tasks there are.
-    pub(crate) fn tasks(&self) -> u16
+    pub fn tasks(&self) -> u16
         ensures { result ≡ length self.now.inst.tasks }
     {
         self.tasks
     }
 
     /// How many cranes there are.
-    pub(crate) fn cranes(&self) -> u16
+    pub fn cranes(&self) -> u16
         ensures { result ≡ length self.now.inst.cranes }
     {
         self.inst.cranes().len() as u16
     }
 
     /// How a task is done.
-    pub(crate) fn work(&self, task: u16) -> Work
+    pub fn work(&self, task: u16) -> Work
         requires { task < length self.now.inst.tasks }
         ensures crane { result.crane ≡ crane_of self.now.sched task }
         ensures range { result.crane < length self.now.inst.cranes }
@@ -102,7 +105,7 @@ impl<'a> Judge<'a> {
     }
 
     /// A crane by its number.
-    pub(crate) fn post(&self, number: u16) -> Post
+    pub fn post(&self, number: u16) -> Post
         requires { number < length self.now.inst.cranes }
         ensures ready { result.ready ≡ (crane self.now.inst number).ready }
         ensures bay { result.bay ≡ (crane self.now.inst number).bay }
@@ -135,6 +138,37 @@ impl<'a> Judge<'a> {
         ensures bound { result ≤ MOST_DISTANCE }
     {
         distance(self.inst, v, x, w, y)
+    }
+
+    /// How high crane `k` must at least stand while a crane `v` of no higher number stands at a bay.
+    pub fn bay_ahead(&self, v: u16, bay: Bay, k: u16) -> Bay
+        requires order { v ≤ k }
+        requires range { k < length self.now.inst.cranes }
+        requires on_rail { IsOnRail bay }
+        ensures bay { result ≡ bay_ahead self.now.inst v bay k }
+        ensures near { IsNearRail result }
+    {
+        bay + gap_over(self.inst, k - v)
+    }
+
+    /// How high crane `k` may at most stand while a crane `w` of no lower number stands at a bay.
+    pub fn bay_behind(&self, w: u16, bay: Bay, k: u16) -> Bay
+        requires order { k ≤ w }
+        requires range { w < length self.now.inst.cranes }
+        requires on_rail { IsOnRail bay }
+        ensures bay { result ≡ bay_behind self.now.inst w bay k }
+        ensures near { IsNearRail result }
+    {
+        bay - gap_over(self.inst, w - k)
+    }
+
+    /// A bay as a place: times the ticks of travel per bay.
+    pub fn place_of(&self, bay: Bay) -> i64
+        requires { IsNearRail bay }
+        ensures place { result ≡ scaled self.now.inst 1 bay }
+        ensures near { IsFrom (negsuc 399999999) (pos 400000000) result }
+    {
+        self.inst.travel() as i64 * i64::from(bay)
     }
 
     /// Whether one task must end before another starts.

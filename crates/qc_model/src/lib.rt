@@ -4,6 +4,7 @@
 mod crane;
 mod decision;
 mod direction;
+mod end;
 mod instance;
 mod judge;
 mod keeps;
@@ -21,7 +22,9 @@ mod ticks;
 pub use crane::Crane;
 pub use decision::Decision;
 pub use direction::Direction;
+pub use end::ends;
 pub use instance::Instance;
+pub use judge::{Judge, Work};
 pub use limits::{
     MOST_APART, MOST_BAYS, MOST_CRANES, MOST_DISTANCE, MOST_END, MOST_GAP, MOST_GAP_BY_PLACES,
     MOST_HATCHES, MOST_PLACE, MOST_READY, MOST_START, MOST_TASKS, MOST_TRAVEL,
@@ -32,5 +35,6 @@ pub use name::Name;
 pub use pair::Pair;
 pub use rules::{Break, Rule, direction_of, first_break, is_judgeable};
 pub use schedule::{Schedule, Slot};
+pub use seen::{Post, seen_number};
 pub use task::{Phase, Task, TaskText};
 pub use ticks::{bays_between, bays_up, distance, travel_over};

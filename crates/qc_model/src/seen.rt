@@ -17,7 +17,7 @@ pub(crate) fn seen_bay(inst: &Instance, way: Direction, bay: Bay) -> Bay
 }
 
 /// The number of a crane as it is seen with a direction, and back again.
-pub(crate) fn seen_number(inst: &Instance, way: Direction, crane: u16) -> u16
+pub fn seen_number(inst: &Instance, way: Direction, crane: u16) -> u16
     requires { crane < length inst.now.cranes }
     ensures number { result ≡ seen_number inst.now way crane }
     ensures range { result < length inst.now.cranes }
@@ -31,11 +31,11 @@ pub(crate) fn seen_number(inst: &Instance, way: Direction, crane: u16) -> u16
 /// What the rules ask of a crane: from when on it is ready, where it stands until then, and from
 /// which bay to which it reaches.
 #[derive(Clone, Copy)]
-pub(crate) struct Post {
-    pub(crate) ready: Tick,
-    pub(crate) bay: Bay,
-    pub(crate) from: Bay,
-    pub(crate) to: Bay,
+pub struct Post {
+    pub ready: Tick,
+    pub bay: Bay,
+    pub from: Bay,
+    pub to: Bay,
 }
 
 /// A crane as it is seen with a direction.

@@ -35,7 +35,7 @@ pub fn travel_over(inst: &Instance, bays: Tick) -> Tick
 }
 
 /// How many bays two cranes are apart at least whose numbers differ by so much.
-fn gap_over(inst: &Instance, cranes: u16) -> Bay
+pub(crate) fn gap_over(inst: &Instance, cranes: u16) -> Bay
     requires { cranes < length inst.now.cranes }
     ensures bays { result ≡ pos (inst.now.gap * cranes) }
     ensures bound { result ≤ℤ pos 16000 }

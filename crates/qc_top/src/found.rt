@@ -1,27 +1,14 @@
 //! What is told of a search.
-ghost use Rattle.std.specs.Prelude.{◌≡◌, IfSome};
+ghost use Rattle.std.specs.Prelude.{IfSome};
 ghost use Rattle.qc_model.specs.Judge.{IsJudgeable};
-ghost use Rattle.qc_model.specs.Rules.{ends};
 ghost use Rattle.qc_tree.specs.Trees.{NoneEarlier};
 ghost use Rattle.qc_search.specs.Run.{IsTight};
 ghost use Rattle.qc_top.specs.Found.{Tells};
 
 use crate::answer::{Answer, Planned};
-use qc_model::{Instance, Schedule, direction_of};
-use qc_num::{Bound, Tick};
+use qc_model::{Instance, direction_of, ends};
+use qc_num::Bound;
 use qc_search::Done;
-
-/// When the last task ends, in ticks; 0 where there is no task.
-fn end_of(inst: &Instance, sched: &Schedule) -> Tick
-    requires { IsJudgeable inst.now sched.now }
-    ensures { result ≡ ends inst.now sched.now }
-{
-    let mut end = 0;
-    for (task, slot) in inst.tasks().iter().zip(sched.slots()) {
-        end = end.max(slot.start + task.ticks);
-    }
-    end
-}
 
 /// The answer that tells what a search came to.
 pub(crate) fn answer_of(inst: &Instance, done: &Done) -> Answer
@@ -41,7 +28,7 @@ pub(crate) fn answer_of(inst: &Instance, done: &Done) -> Answer
         unreachable!()
     };
     Answer::Planned(Planned {
-        end: end_of(inst, sched),
+        end: ends(inst, sched),
         bound,
         branched,
         direction,

@@ -1,0 +1,10 @@
+pub mod Extrema
+pub mod FloorLemmas
+pub mod PlaceLemmas
+pub mod SweepLemmas
+pub mod Bests
+pub mod Terms
+pub mod Moments
+pub mod Rises
+pub mod Falls
+pub mod Rests

@@ -1,0 +1,100 @@
+-- A crane goes on as it goes for as long as a rise, a rest and a fall last.
+use Rattle.std.proofs.Common.{◌≡◌, ℕ, ◌+◌, ◌-◌, ◌<◌, ◌≤◌, ℤ, pos, ◌+ℤ◌, ◌-ℤ◌, ◌≤ℤ◌, ◌<ℤ◌, ◌⊎◌, min, length, inl, inr, refl, sym, ap, subst, arith}
+use Rattle.std.proofs.lemmas.Bool.{cases_lt}
+use Rattle.std.proofs.lemmas.Int.{by_lt_z, ints}
+use Rattle.std.specs.declared.cmp.Ordering.{Ordering}
+use Rattle.std.specs.declared.cmp.Ordering.TheVariants.{Less, Equal, Greater}
+use Rattle.qc_model.specs.Rules.{start_of}
+use Rattle.qc_model.proofs.Bays.{bays}
+use Rattle.qc_motion.specs.Sweep.{HoldsAt, IsAt, IsBelow, IsBerthAt, IsFelt, IsFirst, IsHeld, IsHigher, IsLast, IsOnRise, IsRun, IsSound, Swept, berth_hold, descent, floor_place, moved, passing, ready_of, stopping, task_hold}
+use Rattle.qc_motion.proofs.Moments.{IsMoment, moment_of}
+use Rattle.qc_motion.proofs.Terms.{Given, at_of, berth_at, berth_falls, berth_le, floor_le, given_of, task_at, task_le, task_slow}
+use Rattle.qc_motion.proofs.Terms.Given.{by_berth, by_floor, by_task}
+
+module _ (it : Swept) (s : IsSound it) (m : ℕ) (p : ℤ) (a : IsAt it m p) where
+  -- no crane is faster than a place a tick
+  pub no_faster_up : (q : ℤ) → IsAt it (m + 1) q → q ≤ℤ (p +ℤ pos 1)
+  no_faster_up q b = go (given_of it s (m + 1) q b.is)
+    where
+      go : Given it (m + 1) q → q ≤ℤ (p +ℤ pos 1)
+      go (by_task i felt e) = omega (arith, ints, e, task_le it s m p a i felt)
+      go (by_berth v order e) = omega (arith, ints, e, berth_le it s m p a v order)
+      go (by_floor e) = omega (arith, ints, e, floor_le it s m p a)
+
+  pub no_faster_down : (q : ℤ) → IsAt it (m + 1) q → (p -ℤ pos 1) ≤ℤ q
+  no_faster_down q b = go (given_of it s m p a.is)
+    where
+      go : Given it m p → (p -ℤ pos 1) ≤ℤ q
+      go (by_task i felt e) = omega (arith, ints, e, task_le it s (m + 1) q b i felt)
+      go (by_berth v order e) = omega (arith, ints, e, berth_le it s (m + 1) q b v order)
+      go (by_floor e) = omega (arith, ints, e, floor_le it s (m + 1) q b)
+
+  -- ---- a rise
+
+  -- how long the crane goes up
+  record Rises (e : ℕ) : Type 0 where
+    task : ℕ
+    felt : IsFelt it task
+    rise : (task_hold it task +ℤ pos m) ≡ (p +ℤ pos (start_of it.sched task))
+    starts : start_of it.sched task ≡ e
+    later : m < e
+
+  module _ (e : ℕ) (last : IsLast (IsOnRise it m p) (start_of it.sched) (length it.inst.tasks) m e) where
+    rises_of : (q : ℤ) → IsAt it (m + 1) q → p <ℤ q → Rises e
+    rises_of q b up = found (go (given_of it s (m + 1) q b.is)) last.found
+      where
+        go : Given it (m + 1) q → m < e
+        go (by_task i felt g) =
+            let h = task_le it s m p a i felt in
+            let t = no_faster_up q b in
+            let on : IsOnRise it m p i = (felt, omega (arith, ints, g, h, t, up)) in
+            let l = last.last i felt.0 on in
+            omega (arith, ints, g, h, l, up)
+        go (by_berth v order g) = absurd (omega (arith, ints, g, berth_le it s m p a v order, up))
+        go (by_floor g) = absurd (omega (arith, ints, g, floor_le it s m p a, up))
+
+        found : m < e → (e ≡ m) ⊎ ((i : ℕ) × (i < length it.inst.tasks) × IsOnRise it m p i × (start_of it.sched i ≡ e)) → Rises e
+        found l (inl g) = absurd (omega arith)
+        found l (inr t) = record { task = t.0; felt = t.2.0; rise = t.2.1; starts = t.3; later = l }
+
+    rise_along : Rises e → (x : ℕ) → m + x ≤ e → IsAt it (m + x) (p +ℤ pos x)
+    rise_along r x low =
+        at_of it s (m + x) (p +ℤ pos x) (by_task r.task r.felt (omega (arith, ints, r.rise, r.starts)))
+        (λ i felt. omega (arith, ints, task_le it s m p a i felt))
+        (λ v order. omega (arith, ints, berth_le it s m p a v order))
+        (omega (arith, ints, floor_le it s m p a))
+
+    rise_stops : Rises e → ¬ IsAt it (e + 1) (p +ℤ pos (e + 1 - m))
+    rise_stops r b = go (given_of it s (e + 1) _ b.is)
+      where
+        before : IsAt it e (p +ℤ pos (e - m))
+        before = let same : m + (e - m) ≡ e = let l = r.later in omega arith in
+            subst (λ (t : ℕ). IsAt it t (p +ℤ pos (e - m))) same (rise_along r (e - m) (omega arith))
+
+        go : Given it (e + 1) (p +ℤ pos (e + 1 - m)) → ⊥
+        go (by_task i felt g) =
+            let h = task_le it s e _ before i felt in
+            let l = r.later in
+            elim (cases_lt e (start_of it.sched i)) [
+              | inl far ↦
+                  let on : IsOnRise it m p i = (felt, omega (arith, ints, g, far, l)) in
+                  let most = last.last i felt.0 on in omega arith
+              | inr near ↦ absurd (omega (arith, ints, g, h, near, l))
+            ]
+        go (by_berth v order g) =
+            let h = berth_le it s e _ before v order in let l = r.later in absurd (omega (arith, ints, g, h, l))
+        go (by_floor g) = let h = floor_le it s e _ before in let l = r.later in absurd (omega (arith, ints, g, h, l))
+
+    pub rise_is : (q : ℤ) (end n : ℕ) → IsAt it (m + 1) q → p <ℤ q → m < end → n ≡ min e end → IsRun it m p end n
+    rise_is q end n b up early is =
+        let r = rises_of q b up in
+        let l = r.later in
+        record {
+          way = Greater;
+          onward = omega arith;
+          within = omega arith;
+          along = λ x low. rise_along r x (omega arith);
+          stops = λ inside. subst (λ (t : ℕ). ¬ IsAt it (t + 1) (p +ℤ pos (t + 1 - m))) (omega arith) (rise_stops r);
+          risen = λ same inside. (r.task, r.felt.0, let t = r.starts in omega arith);
+          fallen = λ same. absurd (cc);
+        }

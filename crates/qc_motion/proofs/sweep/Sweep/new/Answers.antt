@@ -1,0 +1,14 @@
+use Rattle.std.proofs.Common.{◌≡◌, to_z, of_z, w32, subst, arith}
+use Rattle.std.proofs.lemmas.Int.{ints}
+use Rattle.qc_motion.proofs.SweepLemmas.{sound_of}
+use Rattle.qc_motion.proofs.sweep.Sweep.new.Goals as goal
+
+pub invariant_of-result : goal.invariant_of-result
+invariant_of-result c =
+    let e : to_z w32 (of_z w32 c.floor_of-floor.result) ≡ c.floor_of-floor.result = omega (arith, ints, c.floor_of-floor.ensures.near) in
+    rw e (sound_of _ _ c.args.way _ _ _ c.new-judge.ensures.valid c.requires.goes c.new-judge.ensures.view c.seen_number-crane.ensures.range c.floor_of-floor.ensures.floor, c.floor_of-floor.ensures.near)
+
+pub returns-clause-sound : goal.returns-clause-sound
+returns-clause-sound c =
+    let e : to_z w32 (of_z w32 c.floor_of-floor.result) ≡ c.floor_of-floor.result = omega (arith, ints, c.floor_of-floor.ensures.near) in
+    rw e (sound_of _ _ c.args.way _ _ _ c.new-judge.ensures.valid c.requires.goes c.new-judge.ensures.view c.seen_number-crane.ensures.range c.floor_of-floor.ensures.floor)

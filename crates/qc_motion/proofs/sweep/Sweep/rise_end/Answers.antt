@@ -1,0 +1,25 @@
+use Rattle.std.proofs.Common.{◌≡◌, ℕ, ◌+◌, ◌<◌, ◌≤◌, ◌≤ℤ◌, ◌-ℤ◌, pos, to_z, of_z, w64, max, min, ap, subst, ◌∙◌, sym, refl, arith}
+use Rattle.std.proofs.lemmas.Int.{ints}
+use Rattle.qc_model.specs.Rules.{crane_of, start_of}
+use Rattle.qc_model.proofs.Bays.{bays}
+use Rattle.qc_motion.specs.Sweep.{HoldsAt, IsBelow, IsBerthAt, IsFelt, IsFirst, IsHigher, IsLast, IsOnRise, berth_hold, descent, floor_place, passing, ready_of, stopping, task_hold}
+use Rattle.qc_motion.proofs.Bests.{first_kept, first_next, first_none, last_kept, last_next}
+use Rattle.qc_motion.proofs.Terms.{berth_le, floor_le, task_le}
+use Rattle.qc_motion.proofs.sweep.Sweep.rise_end.Goals.{then-hold-at, else-hold-at}
+use Rattle.qc_motion.proofs.sweep.Sweep.rise_end.Goals as goal
+
+pub loop-task-preserved : goal.loop-task-preserved
+loop-task-preserved c =
+    let it = c.args.self.now in
+    let n = c.loop-task.task in
+    let P : ℕ → Type 0 = IsOnRise it c.args.at (to_z w64 (of_z w64 c.args.place)) in
+    let h = c.in-Some.ensures in
+    let hold = c.in-Some.hold in
+    elim c.if-hold-at.branch [
+      | then-hold-at w ↦
+          let here : P n = (h.0, omega (arith, ints, h.1, h.2, hold.near, hold.bounded)) in
+          let e : c.if-hold-at.end ≡ max c.loop-task.end (start_of it.sched n) = omega (arith, h.2) in
+          last_next P (start_of it.sched) n c.args.at _ _ c.loop-task.invariant here e
+      | else-hold-at w ↦
+          rw w.end-is (last_kept P (start_of it.sched) n c.args.at _ c.loop-task.invariant (λ p. w.if-hold-at.false (omega (arith, ints, h.1, h.2, p.1, hold.near, hold.bounded))))
+    ]

@@ -1,0 +1,4 @@
+pub mod Waypoints
+pub mod Tracks
+pub mod Room
+pub mod Sweep

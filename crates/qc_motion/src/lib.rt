@@ -1,0 +1,9 @@
+//! Where the cranes of a one-way schedule stand: the ticks at which they start, stop and turn.
+#![tactic(auto)]
+
+mod floor;
+mod runs;
+mod sweep;
+mod track;
+
+pub use track::{Track, Waypoint};

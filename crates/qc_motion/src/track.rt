@@ -1,0 +1,50 @@
+ghost use Rattle.std.specs.Prelude.{◌≡◌, [], IfOk};
+
+use qc_num::{OutOfMemory, Tick};
+use std::alloc::Global;
+use std::marker::Model;
+
+/// Where a crane stands at a tick.
+#[derive(Clone, Copy, Debug, PartialEq, Eq)]
+pub struct Waypoint {
+    pub at: Tick,
+    /// The bay times the ticks of travel per bay. It may lie below 0.
+    pub place: i64,
+}
+
+/// The waypoints of a crane in order of time. All memory is taken by `new`.
+#[derive(Drop)]
+pub struct Track {
+    pub(crate) points: Vec<Waypoint>,
+    pub(crate) tasks: u16,
+}
+
+impl Model for Track {
+    ghost use Rattle.qc_motion.specs.Tracks.{TrackView};
+
+    ghost Value = { TrackView };
+
+    ghost use Rattle.qc_motion.specs.Room.{HasRoom};
+
+    ghost view = { λ track. record { points = track.points.items; tasks = track.tasks } };
+
+    ghost invariant = { HasRoom };
+}
+
+impl Track {
+    /// No waypoint, and room for those of every crane of a schedule of that many tasks.
+    pub fn new(alloc: Global, tasks: u16) -> Result<Track, OutOfMemory>
+        ensures { IfOk result (λ track. track ≡ record { points = []; tasks = tasks }) }
+    {
+        let room = 2 * usize::from(tasks) + 19;
+        let points = Vec::with_capacity(alloc, room).map_err(OutOfMemory::from)?;
+        Ok(Track { points, tasks })
+    }
+
+    /// The waypoints.
+    pub fn points(&self) -> &[Waypoint]
+        ensures { result.now ≡ self.now.points }
+    {
+        self.points.as_slice()
+    }
+}
