@@ -8,3 +8,4 @@ pub mod ArcLemmas
 pub mod Counts
 pub mod Growth
 pub mod LevelLemmas
+pub mod NotingLemmas

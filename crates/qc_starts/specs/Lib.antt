@@ -3,7 +3,9 @@ pub mod Asked
 pub mod Fields
 pub mod Found
 pub mod Network
+pub mod Noting
 pub mod NodeArcs
 pub mod Rounds
 pub mod Seen
+pub mod Values
 pub mod Ways

@@ -9,6 +9,7 @@ mod complete;
 mod least;
 mod made;
 mod network;
+mod noted;
 mod rounds;
 mod starts;
 mod walk;

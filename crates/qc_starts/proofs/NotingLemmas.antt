@@ -1,0 +1,88 @@
+-- A note of a cell that isn't marked, and a write of one that is.
+use Rattle.std.proofs.Common.{◌≡◌, ◌≢◌, ℕ, zero, suc, ◌+◌, ◌<◌, ◌≤◌, Bool, true, false, inl, inr, List, [], ◌∷◌, ◌++◌, length, cond, refl, sym, ap, subst, ◌∙◌, append_assoc, length-append, arith}
+use Rattle.std.proofs.lemmas.Bool.{cases_eq, false≢true}
+use Rattle.std.proofs.lemmas.List.{get_or-set_same, get_or-set_other}
+use Rattle.std.proofs.lemmas.List.Sums.{count_by-le-length, sum_by-set}
+use Rattle.std.proofs.Math.ListN.{length-set}
+use Rattle.std.specs.Prelude.{slice_index, slice_index_or, slice_set}
+use Rattle.qc_trail.specs.declared.trail.Note.{Note}
+use Rattle.qc_trail.specs.Trails.{Notes, written_back}
+use Rattle.qc_starts.specs.declared.noted.Noted.{Noted}
+use Rattle.qc_starts.proofs.Counts.{one_of}
+use Rattle.qc_starts.specs.Noting.{HasNotes, IsNoting, marks}
+
+pub written_back-append : (one two : List Note) (cells : List ℕ)
+    → written_back (one ++ two) cells ≡ written_back one (written_back two cells)
+written_back-append [] two cells = refl
+written_back-append (note ∷ one) two cells =
+    ap (λ (xs : List ℕ). slice_set xs note.place note.old) (written_back-append one two cells)
+
+pub marks_more : (noted : List Bool) (p : ℕ) → p < length noted → slice_index_or noted p true ≡ false
+    → marks (slice_set noted p true) ≡ marks noted + 1
+marks_more noted p low free =
+    let more = sum_by-set one_of noted p true true low in
+    let none = ap one_of free in
+    omega (arith, more, none)
+
+pub marks_below : (noted : List Bool) (p : ℕ) → p < length noted → slice_index_or noted p true ≡ false
+    → marks noted < length noted
+marks_below noted p low free =
+    omega (arith, marks_more noted p low free, count_by-le-length (λ b. b) (slice_set noted p true), length-set noted p true)
+
+pub set_keeps : (before : List Note) (olds : List ℕ) (v : Noted) (p value : ℕ)
+    → slice_index_or v.noted.items p true ≡ true
+    → IsNoting before olds v → IsNoting before olds (record v { cells = slice_set v.cells p value })
+set_keeps before olds v p value marked is = record {
+  since = is.since;
+  notes = is.notes;
+  count = is.count;
+  size = length-set v.cells p value ∙ is.size;
+  same = λ q low free. elim (cases_eq q p) [
+    | inl same ↦ absurd (false≢true (sym free ∙ ap (λ (k : ℕ). slice_index_or v.noted.items k true) same ∙ marked))
+    | inr other ↦ get_or-set_other v.cells p q value 0 other ∙ is.same q low free
+  ];
+  back = is.back;
+}
+
+pub note_keeps : (before : List Note) (olds : List ℕ) (v w : Noted) (p : ℕ)
+    → p < length v.cells → length v.noted.items ≡ length v.cells → slice_index_or v.noted.items p true ≡ false
+    → w.cells ≡ v.cells
+    → w.trail.notes ≡ v.trail.notes ++ record { place = p; old = slice_index v.cells p } ∷ []
+    → w.noted.items ≡ slice_set v.noted.items p true
+    → IsNoting before olds v → IsNoting before olds w
+note_keeps before olds v w p low size free cells notes noted is = record {
+  since = is.since ++ note ∷ [];
+  notes = notes ∙ ap (λ (xs : List Note). xs ++ note ∷ []) is.notes ∙ append_assoc before is.since (note ∷ []);
+  count = omega (arith, length-append is.since (note ∷ []), is.count, ap marks noted,
+      marks_more v.noted.items p (omega arith) free);
+  size = ap (length {A = ℕ}) cells ∙ is.size;
+  same = λ q under still. ap (λ (xs : List ℕ). slice_index xs q) cells ∙ is.same q under (before_it q still);
+  back = λ others count agree.
+      let put = slice_set others p (slice_index v.cells p) in
+      written_back-append is.since (note ∷ []) others
+      ∙ is.back put (length-set others p (slice_index v.cells p) ∙ count) (λ q under still. elim (cases_eq q p) [
+        | inl same ↦
+            let here = get_or-set_same others p (slice_index v.cells p) 0 (omega (arith, is.size)) in
+            ap (slice_index put) same ∙ here ∙ is.same p (omega (arith, is.size)) free ∙ ap (slice_index olds) (sym same)
+        | inr other ↦
+            get_or-set_other others p q (slice_index v.cells p) 0 other ∙ agree q under (after_it q other still)
+      ]);
+}
+  where
+    note : Note
+    note = record { place = p; old = slice_index v.cells p }
+
+    after_it : (q : ℕ) → q ≢ p → slice_index_or v.noted.items q true ≡ false
+        → slice_index_or w.noted.items q true ≡ false
+    after_it q other still =
+        ap (λ (xs : List Bool). slice_index_or xs q true) noted
+        ∙ get_or-set_other v.noted.items p q true true other ∙ still
+
+    before_it : (q : ℕ) → slice_index_or w.noted.items q true ≡ false → slice_index_or v.noted.items q true ≡ false
+    before_it q still = elim (cases_eq q p) [
+      | inl same ↦
+          ap (λ (k : ℕ). slice_index_or v.noted.items k true) same ∙ free
+      | inr other ↦
+          sym (get_or-set_other v.noted.items p q true true other)
+          ∙ sym (ap (λ (xs : List Bool). slice_index_or xs q true) noted) ∙ still
+    ]
