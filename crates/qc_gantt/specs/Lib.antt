@@ -3,3 +3,4 @@ pub mod Faults
 pub mod Names
 pub mod Plan
 pub mod PlanText
+pub mod GanttText

@@ -3,11 +3,13 @@
 
 mod entry;
 mod fault;
+mod gantt;
 mod names;
 mod reader;
 mod slots;
 mod writer;
 
 pub use fault::{PlanError, PlanFault, PlanKind};
+pub use gantt::write_gantt;
 pub use reader::read_plan;
 pub use writer::write_plan;
