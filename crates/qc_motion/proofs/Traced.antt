@@ -11,7 +11,7 @@ use Rattle.qc_model.specs.declared.direction.Direction.TheVariants.{Up, Down}
 use Rattle.qc_model.specs.declared.schedule.Slot.{Slot}
 use Rattle.qc_model.specs.Instance.{InstanceView, no_crane}
 use Rattle.qc_model.specs.Motion.{IsPlace, seen_place}
-use Rattle.qc_model.specs.Rules.{no_slot, start_of}
+use Rattle.qc_model.specs.Rules.{ends, no_slot, start_of}
 use Rattle.qc_model.proofs.Places.{place_exists}
 use Rattle.qc_motion.specs.declared.track.Waypoint.{Waypoint}
 use Rattle.qc_motion.specs.Sweep.{IsAt, IsRun, IsSound, Swept, moved, ready_of}
@@ -19,6 +19,7 @@ use Rattle.qc_motion.specs.Waypoints.{IsTurn, no_waypoint, waypoint}
 use Rattle.qc_motion.proofs.Extrema.{greatest_unique}
 use Rattle.qc_motion.proofs.Later.{later, later_falls, later_le, later_less}
 use Rattle.qc_motion.proofs.Legs.{IsLeg, Sees, at_of_place, place_of_at, place_once, seen_moved, seen_twice, seen_way}
+use Rattle.qc_motion.proofs.Named.{IsWhole}
 use Rattle.qc_motion.proofs.Rises.{no_faster_down}
 use Rattle.qc_motion.proofs.Terms.{berth_at, berth_le}
 
@@ -248,3 +249,16 @@ module _ (inst : InstanceView) (sched : List Slot) (way : Direction) (k end : �
                   | inr late ↦ inr (omega (arith, r.within))
                 ])
           ]
+
+-- traced to the end, they are whole
+pub traced_whole : (inst : InstanceView) (sched : List Slot) (way : Direction) (k end : ℕ) (it : Swept) (sees : Sees inst sched way k it)
+    → (points : List Waypoint) (m : ℕ) (p : ℤ) → IsTraced inst sched way k end it points m p → end ≤ m → end ≡ ends inst sched
+    → IsWhole inst sched way k points
+traced_whole inst sched way k end it sees points m p h late is = record {
+  some = h.some;
+  first = h.first;
+  last = omega (arith, ap (λ (w : Waypoint). w.at) h.last, h.low);
+  there = subst (λ (w : Waypoint). IsPlace inst sched way k w.at 1 w.place) (sym h.last) (place_of_at inst sched way k it sees m p h.there);
+  legs = h.legs;
+  turns = λ i low l. subst (λ (e : ℕ). IsTurn inst sched way k (waypoint points i).at ⊎ ((waypoint points i).at ≡ e)) is (h.turns i low l);
+}
