@@ -21,3 +21,4 @@ pub mod PlaceTerms
 pub mod Moves
 pub mod WholeTicks
 pub mod SafeLemmas
+pub mod Bounded

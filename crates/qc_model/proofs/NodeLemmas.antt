@@ -7,16 +7,13 @@ use Rattle.std.specs.Prelude.{filter, int_lt, nat_lt, slice_index}
 use Rattle.std.specs.List.{list_any, range_with_len}
 use Rattle.qc_model.specs.declared.decision.Decision.{Decision}
 use Rattle.qc_model.specs.declared.decision.Decision.TheVariants.{Assign, Order}
-use Rattle.qc_model.specs.declared.limits.TheConstants.{MOST_END}
 use Rattle.qc_model.specs.declared.pair.Pair.{Pair}
-use Rattle.qc_model.specs.Judge.{IsJudgeable}
-use Rattle.qc_model.proofs.OnRail.{ticks_bounded}
 use Rattle.qc_model.specs.declared.schedule.Slot.{Slot}
 use Rattle.qc_model.specs.declared.task.Task.{Task}
-use Rattle.qc_model.specs.Instance.{InstanceView, IsBefore, Valid, bay_of, no_task, pair_of}
+use Rattle.qc_model.specs.Instance.{InstanceView, IsBefore, bay_of, no_task, pair_of}
 use Rattle.qc_model.specs.Nodes.{Agrees, Fits, IsInReach, Meets, assigned, berth_wait, crane_ticks, forced, free, greater, greatest, head, head1, head_by, is_ordered, is_sooner, reaches, sooner_ticks}
 use Rattle.qc_model.specs.OneWay.{GoesUp}
-use Rattle.qc_model.specs.Rules.{Feasible, KeepsReach, crane_of, end_of, ends, last_end, start_of, starts}
+use Rattle.qc_model.specs.Rules.{Feasible, KeepsReach, crane_of, end_of, last_end, start_of, starts}
 use Rattle.qc_model.specs.Ticks.{arrival, berth_distance, distance, lead, task_distance}
 use Rattle.qc_model.proofs.Extremes.{greatest_le, least_le, least_rises}
 use Rattle.qc_model.proofs.PairOrder.{same_pair}
@@ -115,23 +112,6 @@ ends_by (t ∷ ts) [] j e low = absurd (omega arith)
 ends_by (t ∷ ts) (s ∷ ss) zero e low = omega arith
 ends_by (t ∷ ts) (s ∷ ss) (suc j) e low =
     let rest = ends_by ts ss j (omega arith) (omega arith) in omega arith
-
--- where each task ends by m, all do
-pub last_end_most : (tasks : List Task) (begins : List ℕ) (m : ℕ) → length begins ≡ length tasks
-    → ((j : ℕ) → j < length tasks → slice_index begins j + (get_or tasks j no_task).ticks ≤ m)
-    → last_end tasks begins ≤ m
-last_end_most [] begins m e all = omega arith
-last_end_most (t ∷ ts) [] m e all = omega arith
-last_end_most (t ∷ ts) (s ∷ ss) m e all =
-    let rest = last_end_most ts ss m (omega arith) (λ j low. all (suc j) (omega arith)) in
-    omega (arith, all 0 (omega arith), rest)
-
--- a schedule that can be judged ends by then
-pub ends_soon : (inst : InstanceView) (sched : List Slot) → Valid inst → IsJudgeable inst sched
-    → ends inst sched ≤ MOST_END
-ends_soon inst sched v judged =
-    last_end_most inst.tasks (starts sched) MOST_END (length-map sched (λ (s : Slot). s.start) ∙ judged.all_tasks)
-    (λ j low. omega (arith, start_at sched j, judged.start_range j low, ticks_bounded inst v j low))
 
 -- ---- an upward schedule that agrees with a node meets it
 

@@ -14,3 +14,7 @@ pub record HasLimits (inst : InstanceView) : Type 0 where
 -- a place on the rail, or no farther from one than all cranes side by side need
 abbrev pub IsNearRail : ℤ → Type 0
 IsNearRail x = IsFrom (negsuc 32999) (pos 33000) x
+
+-- a place that a crane may have, in bays times travel
+abbrev pub IsPlaceNear : ℤ → Type 0
+IsPlaceNear x = IsFrom (negsuc 399999999) (pos 400000000) x

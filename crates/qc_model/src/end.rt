@@ -9,8 +9,8 @@ use qc_num::Tick;
 /// When the last task ends, in ticks; 0 where there is no task.
 pub fn ends(inst: &Instance, sched: &Schedule) -> Tick
     requires { IsJudgeable inst.now sched.now }
-    ensures end { result ≡ ends inst.now sched.now }
-    ensures soon { result ≤ MOST_END }
+    ensures ends { result ≡ ends inst.now sched.now }
+    ensures bound { result ≤ MOST_END }
 {
     let mut end = 0;
     for (task, slot) in inst.tasks().iter().zip(sched.slots()) {

@@ -1,13 +1,13 @@
-ghost use Rattle.std.specs.Prelude.{◌≡◌, ◌≤◌, ◌<◌, ◌↔◌, IsTrue, length, pos, negsuc, ◌≤ℤ◌};
+ghost use Rattle.std.specs.Prelude.{◌≡◌, ◌≤◌, ◌<◌, ◌↔◌, IsTrue, length, pos, ◌≤ℤ◌};
 ghost use Rattle.qc_model.specs.declared.limits.TheConstants.{MOST_DISTANCE, MOST_END, MOST_READY};
-ghost use Rattle.qc_model.specs.Instance.{bay_of, crane, IsApart, IsBefore, IsFrom, IsOnRail, Valid};
+ghost use Rattle.qc_model.specs.Instance.{bay_of, crane, IsApart, IsBefore, IsOnRail, Valid};
 ghost use Rattle.qc_model.specs.Motion.{bay_ahead, bay_behind, scaled};
-ghost use Rattle.qc_model.specs.Limits.{IsNearRail};
+ghost use Rattle.qc_model.specs.Limits.{IsNearRail, IsPlaceNear};
 ghost use Rattle.qc_model.specs.Rules.{crane_of, start_of, end_of};
 ghost use Rattle.qc_model.specs.Ticks.{distance, travel_between};
 
 use crate::seen::{Post, seen_bay, seen_number, seen_post};
-use crate::ticks::{bays_between, distance, gap_over, travel_over};
+use crate::ticks::{bays_between, distance, gap_over, place_of, travel_over};
 use crate::{Direction, Instance, Schedule};
 use qc_num::{Bay, Tick};
 use std::marker::Model;
@@ -166,9 +166,9 @@ impl<'a> Judge<'a> {
     pub fn place_of(&self, bay: Bay) -> i64
         requires { IsNearRail bay }
         ensures place { result ≡ scaled self.now.inst 1 bay }
-        ensures near { IsFrom (negsuc 399999999) (pos 400000000) result }
+        ensures near { IsPlaceNear result }
     {
-        self.inst.travel() as i64 * i64::from(bay)
+        place_of(self.inst, bay)
     }
 
     /// Whether one task must end before another starts.

@@ -35,6 +35,6 @@ pub use name::Name;
 pub use pair::Pair;
 pub use rules::{Break, Rule, direction_of, first_break, is_judgeable};
 pub use schedule::{Schedule, Slot};
-pub use seen::{Post, seen_number};
+pub use seen::{Post, seen_number, seen_place};
 pub use task::{Phase, Task, TaskText};
 pub use ticks::{bays_between, bays_up, distance, travel_over};

@@ -1,7 +1,10 @@
 ghost use Rattle.std.specs.Prelude.{◌≡◌, ◌<◌, length, pos};
 ghost use Rattle.qc_model.specs.Instance.{IsOnRail};
+ghost use Rattle.qc_model.specs.Limits.{IsPlaceNear};
+ghost use Rattle.qc_model.specs.Motion.{seen_place};
 ghost use Rattle.qc_model.specs.Seen.{seen_bay, seen_crane, seen_number};
 
+use crate::ticks::place_of;
 use crate::{Crane, Direction, Instance};
 use qc_num::{Bay, Tick};
 
@@ -13,6 +16,17 @@ pub(crate) fn seen_bay(inst: &Instance, way: Direction, bay: Bay) -> Bay
     match way {
         Direction::Up => bay,
         Direction::Down => inst.bays() + 1 - bay,
+    }
+}
+
+/// A place of a crane, in bays times travel, as it is seen with a direction, and back again.
+pub fn seen_place(inst: &Instance, way: Direction, place: i64) -> i64
+    requires { IsPlaceNear place }
+    ensures { result ≡ seen_place inst.now way 1 place }
+{
+    match way {
+        Direction::Up => place,
+        Direction::Down => place_of(inst, inst.bays() + 1) - place,
     }
 }
 

@@ -2,6 +2,8 @@ ghost use Rattle.std.specs.Prelude.{◌≡◌, ◌*◌, ◌<◌, ◌≤◌, pos,
 ghost use Rattle.qc_model.specs.declared.limits.TheConstants.{MOST_BAYS, MOST_CRANES, MOST_DISTANCE};
 ghost use Rattle.qc_model.specs.Bays.{bays_up, bays_between};
 ghost use Rattle.qc_model.specs.Instance.{IsOnRail};
+ghost use Rattle.qc_model.specs.Limits.{IsNearRail, IsPlaceNear};
+ghost use Rattle.qc_model.specs.Motion.{scaled};
 ghost use Rattle.qc_model.specs.Ticks.{distance};
 
 use crate::Instance;
@@ -32,6 +34,15 @@ pub fn travel_over(inst: &Instance, bays: Tick) -> Tick
     ensures bound { result ≤ MOST_DISTANCE }
 {
     inst.travel() * bays
+}
+
+/// A bay as a place: times the ticks of travel per bay.
+pub fn place_of(inst: &Instance, bay: Bay) -> i64
+    requires { IsNearRail bay }
+    ensures place { result ≡ scaled inst.now 1 bay }
+    ensures near { IsPlaceNear result }
+{
+    inst.travel() as i64 * i64::from(bay)
 }
 
 /// How many bays two cranes are apart at least whose numbers differ by so much.

@@ -8,3 +8,8 @@ pub mod Moments
 pub mod Rises
 pub mod Falls
 pub mod Rests
+pub mod Later
+pub mod Legs
+pub mod Traced
+pub mod Linear
+pub mod Named

@@ -5,5 +5,7 @@ mod floor;
 mod runs;
 mod sweep;
 mod track;
+mod trace;
 
+pub use trace::waypoints;
 pub use track::{Track, Waypoint};

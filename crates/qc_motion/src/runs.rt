@@ -1,7 +1,7 @@
 ghost use Rattle.std.specs.Prelude.{◌≡◌, ◌+◌, ◌≤◌, ◌<◌, ◌↔◌, length, IsTrue};
 ghost use Rattle.qc_model.specs.declared.limits.TheConstants.{MOST_END};
 ghost use Rattle.qc_model.specs.Rules.{start_of};
-ghost use Rattle.qc_motion.specs.Sweep.{HoldsAt, IsAt, IsBelow, IsBerthAt, IsFirst, IsHeld, IsHigher, IsLast, IsNear, IsOnRise, descent, floor_place, passing, ready_of, stopping};
+ghost use Rattle.qc_motion.specs.Sweep.{HoldsAt, IsAt, IsBelow, IsBerthAt, IsFirst, IsHeld, IsHigher, IsLast, IsNear, IsOnRise, IsRun, IsSound, descent, floor_place, passing, ready_of, stopping};
 
 use crate::sweep::Sweep;
 use qc_num::Tick;
@@ -108,5 +108,39 @@ impl Sweep<'_> {
             }
         }
         end
+    }
+
+    /// The last tick of a rest at a place: until a task raises the crane, or the last berth that holds it is left.
+    fn rest_end(&self, at: Tick, place: i64, end: Tick) -> Tick
+        requires sound { IsSound self.now }
+        requires at { at < end }
+        requires end { end ≤ MOST_END }
+        requires near { IsNear place }
+        requires place { IsAt self.now at place }
+        requires next { IsAt self.now (at + 1) place }
+        ensures { IsRun self.now at place end result }
+    {
+        let first = self.first_above(at, place, end);
+        if self.is_held(at, place) {
+            first
+        } else {
+            first.min(self.last_berth(at, place))
+        }
+    }
+
+    /// The tick up to which the crane goes one way from a tick on, and at which it turns; at most `end`.
+    pub(crate) fn run_end(&self, at: Tick, place: i64, end: Tick) -> Tick
+        requires sound { IsSound self.now }
+        requires at { at < end }
+        requires end { end ≤ MOST_END }
+        requires near { IsNear place }
+        requires place { IsAt self.now at place }
+        ensures { IsRun self.now at place end result }
+    {
+        match self.place(at + 1).cmp(&place) {
+            Ordering::Greater => self.rise_end(at, place).min(end),
+            Ordering::Equal => self.rest_end(at, place, end),
+            Ordering::Less => self.fall_end(at, place).min(end),
+        }
     }
 }

@@ -1,6 +1,6 @@
 ghost use Rattle.std.specs.Prelude.{◌≡◌, ◌+◌, ◌-◌, ◌≤◌, ◌<◌, ◌≤ℤ◌, ℕ, length, MatchOption};
 ghost use Rattle.qc_model.specs.declared.limits.TheConstants.{MOST_END};
-ghost use Rattle.qc_model.specs.Instance.{crane as crane_at};
+ghost use Rattle.qc_model.specs.Instance.{Valid, crane as crane_at};
 ghost use Rattle.qc_model.specs.Judge.{IsJudgeable, Goes};
 ghost use Rattle.qc_model.specs.Motion.{LowPlace, scaled, task_place};
 ghost use Rattle.qc_model.specs.Rules.{crane_of, start_of};
@@ -68,6 +68,7 @@ impl<'a> Sweep<'a> {
         ensures sched { result.sched ≡ seen_schedule inst.now sched.now way }
         ensures crane { result.crane ≡ seen_number inst.now way crane }
         ensures sound { IsSound result }
+        ensures valid { Valid inst.now }
     {
         let judge = Judge::new(inst, sched, way);
         let crane = seen_number(inst, way, crane);

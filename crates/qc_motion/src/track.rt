@@ -1,4 +1,4 @@
-ghost use Rattle.std.specs.Prelude.{◌≡◌, [], IfOk};
+ghost use Rattle.std.specs.Prelude.{◌≡◌, ◌+◌, ◌*◌, ◌<◌, [], ◌∷◌, ◌++◌, length, IfOk};
 
 use qc_num::{OutOfMemory, Tick};
 use std::alloc::Global;
@@ -15,8 +15,8 @@ pub struct Waypoint {
 /// The waypoints of a crane in order of time. All memory is taken by `new`.
 #[derive(Drop)]
 pub struct Track {
-    pub(crate) points: Vec<Waypoint>,
-    pub(crate) tasks: u16,
+    points: Vec<Waypoint>,
+    tasks: u16,
 }
 
 impl Model for Track {
@@ -46,5 +46,20 @@ impl Track {
         ensures { result.now ≡ self.now.points }
     {
         self.points.as_slice()
+    }
+
+    /// Takes all waypoints away.
+    pub(crate) fn clear(&mut self)
+        ensures { self.new ≡ record self.old { points = [] } }
+    {
+        self.points.clear();
+    }
+
+    /// One waypoint more.
+    pub(crate) fn push(&mut self, point: Waypoint)
+        requires { length self.old.points < 2 * self.old.tasks + 19 }
+        ensures { self.new ≡ record self.old { points = self.old.points ++ point ∷ [] } }
+    {
+        self.points.push_reserved(point);
     }
 }

@@ -2,10 +2,10 @@ use Rattle.std.proofs.Common.{rules, arith, length, ap}
 use Rattle.std.proofs.lemmas.Slice.Zip.{zip_turn}
 use Rattle.qc_model.specs.declared.task.Task.{Task}
 use Rattle.qc_model.specs.declared.schedule.Slot.{Slot}
+use Rattle.qc_model.proofs.Bounded.{ends_bounded}
 use Rattle.qc_model.proofs.OnRail.{ticks_bounded}
 use Rattle.qc_model.specs.Instance.{no_task}
 use Rattle.qc_model.specs.Rules.{no_slot}
-use Rattle.qc_model.proofs.NodeLemmas.{ends_soon}
 use Rattle.qc_model.proofs.end.ends.Goals as goal
 
 pub overflow_add-slot : goal.overflow_add-slot
@@ -16,6 +16,6 @@ overflow_add-slot c =
     let i = length c.loop-task.yielded in
     omega (arith, ap (λ (s : Slot). s.start) (turn.3 no_slot), ap (λ (t : Task). t.ticks) (turn.2 no_task), c.requires.start_range i turn.0, ticks_bounded c.args.inst.now c.tasks.ensures.valid i turn.0)
 
-pub returns-clause-soon : goal.returns-clause-soon
-returns-clause-soon c =
-    omega (arith, c.loop-task.invariant, ends_soon c.args.inst.now c.args.sched.now c.tasks.ensures.valid c.requires)
+pub returns-clause-bound : goal.returns-clause-bound
+returns-clause-bound c =
+    omega (arith, c.loop-task.invariant, ends_bounded c.args.inst.now c.args.sched.now c.tasks.ensures.valid c.requires)

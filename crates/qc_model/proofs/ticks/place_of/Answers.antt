@@ -3,16 +3,13 @@ use Rattle.std.proofs.lemmas.Int.{ints, to_z-of_z, unsigned_abs-mul}
 use Rattle.std.proofs.lemmas.Nat.{mul-le}
 use Rattle.std.specs.Int.RustNames.{unsigned_abs}
 use Rattle.qc_model.specs.Instance.{InstanceView, Valid, IsFrom}
-use Rattle.qc_model.specs.Limits.{IsNearRail}
+use Rattle.qc_model.specs.Limits.{IsNearRail, IsPlaceNear}
 use Rattle.qc_model.specs.Motion.{scaled}
 use Rattle.qc_model.specs.declared.direction.Direction.{Direction}
 use Rattle.qc_model.specs.Seen.{seen}
 use Rattle.qc_model.proofs.LimitsOf.{limits_of}
 use Rattle.qc_model.proofs.SeenLemmas.{seen-travel}
-use Rattle.qc_model.proofs.judge.Judge.place_of.Goals as goal
-
-abbrev IsPlaceNear : ℤ → Type 0
-IsPlaceNear = IsFrom (negsuc 399999999) (pos 400000000)
+use Rattle.qc_model.proofs.ticks.place_of.Goals as goal
 
 bounds : (z : ℤ) → unsigned_abs z ≤ 330000000 → IsPlaceNear z
 bounds (pos n) h = (omega (arith, ints), omega (arith, ints))
@@ -39,11 +36,6 @@ product_is t b x h e r =
 travel_bound : (inst : InstanceView) → Valid inst → (t : ℕ) → t ≡ inst.travel → t ≤ 10000
 travel_bound inst v t e = omega (arith, (limits_of inst v).travel)
 
-is_scaled : (inst : InstanceView) (way : Direction) (view : InstanceView) (t : ℕ) (x : ℤ) → seen inst way ≡ view → t ≡ inst.travel → (pos t *ℤ x) ≡ scaled view 1 x
-is_scaled inst way view t x e h =
-    let same : t ≡ 1 * view.travel = omega (arith, h, seen-travel inst way, ap (λ i. i.travel) e) in
-    ap (λ n. pos n *ℤ x) same
-
 pub overflow_cast-result : goal.overflow_cast-result
 overflow_cast-result c =
     let b = travel_bound _ c.travel.ensures.valid _ c.travel.ensures.travel in
@@ -56,9 +48,10 @@ overflow_mul-result c =
 
 pub returns-clause-place : goal.returns-clause-place
 returns-clause-place c =
+    let same : c.travel.result ≡ 1 * c.args.inst.now.travel = omega (arith, c.travel.ensures.travel) in
     let b = travel_bound _ c.travel.ensures.valid _ c.travel.ensures.travel in
     rw (product_is _ _ _ b c.from.ensures c.requires, to_z-of_z w64 _ (fits _ (near _ _ b c.requires)))
-    (is_scaled _ c.self.inside.way _ _ _ (ap (λ j. j.inst) c.self.view_is) c.travel.ensures.travel)
+    (ap (λ n. pos n *ℤ c.args.bay) same)
 
 pub returns-clause-near : goal.returns-clause-near
 returns-clause-near c =
