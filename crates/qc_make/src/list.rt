@@ -1,9 +1,11 @@
 // The stowage list that is made from a number.
-ghost use Rattle.std.specs.Prelude.{◌≡◌, ◌+◌, ◌*◌, ◌<◌, ◌≤◌, ◌++◌, length, map, IfOk, OnOk};
+ghost use Rattle.std.specs.Prelude.{◌≡◌, ℕ, ◌+◌, ◌*◌, ◌<◌, ◌≤◌, ◌++◌, length, map, IfOk, OnOk, Ok};
 ghost use Rattle.std.specs.List.{range_with_len};
 ghost use Rattle.qc_model.specs.Tasks.{phase_rank};
 ghost use Rattle.qc_make.specs.Draws.{drawn, state_after, next_state};
-ghost use Rattle.qc_make.specs.MadeList.{hatch_rows, list_text, lowest_tier, made_row, move_of, move_text, row_line, row_lines};
+ghost use Rattle.qc_stow.specs.Stow.{moves_in};
+ghost use Rattle.qc_make.specs.MadeShip.{made_ship};
+ghost use Rattle.qc_make.specs.MadeList.{hatch_rows, list_text, lowest_tier, made_row, made_rows, move_of, move_text, row_line, row_lines};
 
 use crate::draws::{drawn, next_state};
 use qc_cell::Cell;
@@ -88,6 +90,9 @@ fn push_hatch(text: &mut Vec<u8>, hatch: u16, state: u32) -> Result<u32, OutOfMe
 pub fn list_text(alloc: Global, number: u32, hatches: u16) -> Result<Bytes, OutOfMemory>
     requires { hatches ≤ MOST_HATCHES }
     ensures text { IfOk result (λ bytes. bytes ≡ list_text number hatches) }
+    ensures moves { IfOk result (λ bytes. (cranes : ℕ)
+        → moves_in (made_ship hatches cranes) bytes ≡ Ok (made_rows number hatches)) }
+    ensures short { IfOk result (λ bytes. length bytes ≤ 172820) }
 {
     let mut text = Vec::from_slice(alloc, b"id,move,cell,length\n")?;
     let mut state = number;
