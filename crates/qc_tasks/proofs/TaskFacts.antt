@@ -100,7 +100,7 @@ follows_hatch g h t u behind it iu = record {
   place = inr (rw (it.hatch_is, iu.hatch_is) behind.0, omega (arith, ints, it.bay_is, iu.bay_is, behind.1));
 }
 
-phases_rise : EachPair (λ p q. phase_rank p < phase_rank q) phases
+pub phases_rise : EachPair (λ p q. phase_rank p < phase_rank q) phases
 phases_rise = ((omega arith, (omega arith, (omega arith, tt))), ((omega arith, (omega arith, tt)), ((omega arith, tt), (tt, tt))))
 
 module _ (ship : ShipView) (is : IsShip ship) (rows : List Row) where

@@ -1,0 +1,5 @@
+pub mod Draws
+pub mod MadeShip
+pub mod MadeList
+pub mod OneWayWork
+pub mod Tables

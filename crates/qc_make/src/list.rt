@@ -1,0 +1,103 @@
+// The stowage list that is made from a number.
+ghost use Rattle.std.specs.Prelude.{◌≡◌, ℕ, ◌+◌, ◌*◌, ◌<◌, ◌≤◌, ◌++◌, length, map, IfOk, OnOk, Ok};
+ghost use Rattle.std.specs.List.{range_with_len};
+ghost use Rattle.qc_model.specs.Tasks.{phase_rank};
+ghost use Rattle.qc_make.specs.Draws.{drawn, state_after, next_state};
+ghost use Rattle.qc_stow.specs.Stow.{moves_in};
+ghost use Rattle.qc_make.specs.MadeShip.{made_ship};
+ghost use Rattle.qc_make.specs.MadeList.{hatch_rows, list_text, lowest_tier, made_row, made_rows, move_of, move_text, row_line, row_lines};
+
+use crate::draws::{drawn, next_state};
+use qc_cell::Cell;
+use qc_model::{MOST_HATCHES, Phase};
+use qc_num::{Bytes, OutOfMemory, Text};
+use std::alloc::Global;
+
+const PHASES: [Phase; 4] = [Phase::DeckOut, Phase::HoldOut, Phase::HoldIn, Phase::DeckIn];
+
+fn move_text(phase: Phase) -> &'static [u8; 1]
+    ensures { result.now ≡ move_text (move_of phase) }
+{
+    match phase {
+        Phase::DeckOut | Phase::HoldOut => b"D",
+        Phase::HoldIn | Phase::DeckIn => b"L",
+    }
+}
+
+fn lowest_tier(phase: Phase) -> u8
+    ensures tier { result ≡ lowest_tier phase }
+    ensures most { result ≤ 82 }
+{
+    match phase {
+        Phase::DeckOut | Phase::DeckIn => 82,
+        Phase::HoldOut | Phase::HoldIn => 2,
+    }
+}
+
+// The line of row i of a hatch in a phase.
+fn row_line(hatch: u16, phase: Phase, i: u8) -> Text<64>
+    requires hatch { (2 ≤ hatch) × (hatch < 1000) }
+    requires i { i < 30 }
+    ensures { result ≡ row_line (made_row hatch phase i) }
+{
+    let cell = Cell {
+        bay: hatch,
+        row: i % 10,
+        tier: lowest_tier(phase) + 2 * (i / 10),
+    };
+    let mut line = Text::new();
+    line.push_number(u64::from(hatch));
+    line.push(b"-");
+    line.push(phase.text());
+    line.push(b"-");
+    line.push_number(u64::from(i));
+    line.push(b",");
+    line.push(move_text(phase));
+    line.push(b",");
+    line.push(cell.write().as_bytes());
+    line.push(b",40\n");
+    line
+}
+
+// Puts the lines of a hatch's rows in a phase behind a text.
+fn push_phase(text: &mut Vec<u8>, hatch: u16, phase: Phase, count: u8) -> Result<(), OutOfMemory>
+    requires hatch { (2 ≤ hatch) × (hatch < 1000) }
+    requires count { count ≤ 30 }
+    ensures { OnOk result (text.new.items
+        ≡ text.old.items ++ row_lines (map (made_row hatch phase) (range_with_len 0 count))) }
+{
+    for i in 0..count {
+        text.extend_from_slice(row_line(hatch, phase, i).as_bytes())?;
+    }
+    Ok(())
+}
+
+// Puts the lines of a hatch's rows behind a text, and answers the state after its draws.
+fn push_hatch(text: &mut Vec<u8>, hatch: u16, state: u32) -> Result<u32, OutOfMemory>
+    requires { (2 ≤ hatch) × (hatch < 1000) }
+    ensures text { OnOk result (text.new.items ≡ text.old.items ++ row_lines (hatch_rows state hatch)) }
+    ensures state { IfOk result (λ after. after ≡ state_after state 4) }
+{
+    let mut after = state;
+    for phase in PHASES {
+        after = next_state(after);
+        push_phase(text, hatch, phase, drawn(after))?;
+    }
+    Ok(after)
+}
+
+/// The stowage list of a number and so many hatches.
+pub fn list_text(alloc: Global, number: u32, hatches: u16) -> Result<Bytes, OutOfMemory>
+    requires { hatches ≤ MOST_HATCHES }
+    ensures text { IfOk result (λ bytes. bytes ≡ list_text number hatches) }
+    ensures moves { IfOk result (λ bytes. (cranes : ℕ)
+        → moves_in (made_ship hatches cranes) bytes ≡ Ok (made_rows number hatches)) }
+    ensures short { IfOk result (λ bytes. length bytes ≤ 172820) }
+{
+    let mut text = Vec::from_slice(alloc, b"id,move,cell,length\n")?;
+    let mut state = number;
+    for k in 0..hatches {
+        state = push_hatch(&mut text, 4 * k + 2, state)?;
+    }
+    Ok(Bytes::of(text))
+}
