@@ -1,7 +1,7 @@
 -- Readings, read backwards: what a reading that came through says of its steps.
-use Rattle.std.proofs.Common.{◌≡◌, Bool, true, false, cond, refl}
+use Rattle.std.proofs.Common.{◌≡◌, ◌+◌, ◌++◌, ◌∷◌, List, [], length, length-append, Bool, true, false, cond, refl, ap, subst, arith}
 use Rattle.std.specs.Prelude.{Result, Ok, Err, ⊤, IsOk}
-use Rattle.qc_num.specs.Reading.{◌>>=◌, require, with_fault}
+use Rattle.qc_num.specs.Reading.{◌>>=◌, each, require, with_fault}
 
 -- a reading came through where its first step did, and the rest of it with that step's value
 pub bind_ok : {A B E : Type 0} (r : Result A E) (next : A → Result B E) (b : B) → (r >>= next) ≡ Ok b → (a : A) × (r ≡ Ok a) × (next a ≡ Ok b)
@@ -33,3 +33,21 @@ passed_not false r b fault e = (refl, e)
 pub with_fault_ok : {A E F : Type 0} (f : E → F) (r : Result A E) (a : A) → with_fault f r ≡ Ok a → r ≡ Ok a
 with_fault_ok f (Ok x) a e = let same : x ≡ a = same_ok e in cc
 with_fault_ok f (Err fault) a e = cc
+
+-- ---- values judged with those before them
+module _ {A B E : Type 0} (judge : List B → A → Result B E) where
+  -- what holds of the values so far holds of all of them
+  pub each-keeps : (P : List B → Type 0)
+      → ((before : List B) (x : A) (b : B) → P before → judge before x ≡ Ok b → P (before ++ b ∷ []))
+      → (before : List B) (xs : List A) (out : List B) → P before → each judge before xs ≡ Ok out → P out
+  each-keeps P keeps before [] out here e = subst P (same_ok e) here
+  each-keeps P keeps before (x ∷ xs) out here e =
+      let (b, judged, rest) = bind_ok (judge before x) (λ b. each judge (before ++ b ∷ []) xs) out e in
+      each-keeps P keeps (before ++ b ∷ []) xs out (keeps before x b here judged) rest
+
+  pub length-each : (before : List B) (xs : List A) (out : List B)
+      → each judge before xs ≡ Ok out → length out ≡ length before + length xs
+  length-each before [] out e = grind (arith, ap length (same_ok e))
+  length-each before (x ∷ xs) out e =
+      let (b, judged, rest) = bind_ok (judge before x) (λ b. each judge (before ++ b ∷ []) xs) out e in
+      omega (arith, length-each (before ++ b ∷ []) xs out rest, length-append before (b ∷ []))

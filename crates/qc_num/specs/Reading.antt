@@ -1,5 +1,5 @@
 -- Readings: steps of which the first fault counts.
-use Rattle.std.specs.Prelude.{Bool, true, false, Result, Ok, Err, ⊤}
+use Rattle.std.specs.Prelude.{List, [], ◌∷◌, ◌++◌, Bool, true, false, Result, Ok, Err, ⊤}
 
 -- a step, and then those that need its value; the first fault counts
 infixl 10 ◌>>=◌
@@ -16,3 +16,10 @@ require false fault = Err fault
 abbrev pub with_fault : {A E F : Type 0} → (E → F) → Result A E → Result A F
 with_fault f (Ok a) = Ok a
 with_fault f (Err fault) = Err (f fault)
+
+-- each value in order, judged with those that came of the ones before it
+abbrev pub each : {A B E : Type 0} → (List B → A → Result B E) → List B → List A → Result (List B) E
+each judge before [] = Ok before
+each judge before (x ∷ xs) = do
+  b ← judge before x
+  each judge (before ++ b ∷ []) xs

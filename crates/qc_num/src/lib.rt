@@ -3,6 +3,7 @@
 
 mod bound;
 mod bytes;
+mod digits;
 mod memory;
 mod path;
 mod steps;
@@ -10,6 +11,7 @@ mod text;
 
 pub use bound::Bound;
 pub use bytes::Bytes;
+pub use digits::plain_number;
 pub use memory::OutOfMemory;
 pub use path::Path;
 pub use steps::Steps;

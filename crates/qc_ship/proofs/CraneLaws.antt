@@ -9,9 +9,9 @@ use Rattle.std.proofs.lemmas.List.Elements.{All-push, Contains-get_or}
 use Rattle.std.proofs.lemmas.List.Folds.{list_any-from_Any}
 use Rattle.std.proofs.lemmas.List.Quantifiers.{all_pairs_push}
 use Rattle.std.proofs.lemmas.Slice.Eq.{bytes_eq-Decides}
-use Rattle.qc_num.specs.Reading.{◌>>=◌}
+use Rattle.qc_num.specs.Reading.{◌>>=◌, each}
 use Rattle.qc_num.proofs.Lists.{Contains-map}
-use Rattle.qc_num.proofs.ReadingLemmas.{bind_ok, same_ok, passed, passed_not}
+use Rattle.qc_num.proofs.ReadingLemmas.{bind_ok, each-keeps, length-each, passed, passed_not, same_ok}
 use Rattle.toml.specs.Data.{Data, Members, get_member}
 use Rattle.qc_model.specs.declared.crane.Crane.{Crane}
 use Rattle.qc_model.specs.declared.limits.TheConstants.{MOST_CRANES, MOST_READY}
@@ -20,9 +20,9 @@ use Rattle.qc_ship.specs.declared.fault.Key.TheVariants as key
 use Rattle.qc_ship.specs.declared.fault.ShipKind.TheVariants as kind
 use Rattle.qc_ship.specs.Keys.{key_text, fault}
 use Rattle.qc_ship.specs.Ship.{least_start, greatest_start}
-use Rattle.qc_ship.specs.ShipValues.{Reading, required, integer_in, number_in, number_or, array_in, each, last, next_number}
+use Rattle.qc_ship.specs.ShipValues.{Reading, required, integer_in, number_in, number_or, array_in, last, next_number}
 use Rattle.qc_ship.specs.ShipFile.{table_in, name_at, bay_at, hatch_place, crane_at, keeps_gap, crane_in, cranes_at}
-use Rattle.qc_ship.proofs.ShipLaws.{each-keeps, length-each, chain-push, integer_in-bounds, number_in-bounds, array_in-count}
+use Rattle.qc_ship.proofs.ShipLaws.{chain-push, integer_in-bounds, number_in-bounds, array_in-count}
 use Rattle.qc_ship.proofs.HatchLaws.{Places, either_way, test_at_last}
 
 pub number_or-bounds : (default : ℕ) (k : Key) (number low high : ℕ) (ms : Members) (n : ℕ)

@@ -8,8 +8,8 @@ use Rattle.std.proofs.lemmas.Bool.{cases_Bool}
 use Rattle.std.proofs.lemmas.Bool.Decides.{nat_tests}
 use Rattle.std.proofs.lemmas.List.Elements.{All-push}
 use Rattle.std.proofs.lemmas.List.FromFn.{get_or-range_with_len, length-range_with_len}
-use Rattle.qc_num.specs.Reading.{◌>>=◌}
-use Rattle.qc_num.proofs.ReadingLemmas.{bind_ok, same_ok, passed, passed_not}
+use Rattle.qc_num.specs.Reading.{◌>>=◌, each}
+use Rattle.qc_num.proofs.ReadingLemmas.{bind_ok, each-keeps, length-each, passed, passed_not, same_ok}
 use Rattle.toml.specs.Data.{Data, Members, get_member}
 use Rattle.qc_model.specs.declared.limits.TheConstants.{MOST_HATCHES, MOST_PLACE}
 use Rattle.qc_ship.specs.declared.limits.TheConstants.{GREATEST_HATCH, MOST_HATCH_PAIRS}
@@ -19,9 +19,9 @@ use Rattle.qc_ship.specs.declared.fault.ShipKind.TheVariants as kind
 use Rattle.qc_ship.specs.Keys.{key_text, fault}
 use Rattle.qc_ship.specs.declared.ship.HatchPair.{HatchPair}
 use Rattle.qc_ship.specs.Ship.{lowest_bay, highest_bay, HasHatches}
-use Rattle.qc_ship.specs.ShipValues.{Reading, required, array_in, each, last, next_number}
+use Rattle.qc_ship.specs.ShipValues.{Reading, required, array_in, last, next_number}
 use Rattle.qc_ship.specs.ShipFile.{hatch_in, place_in, hatches_at, places_in, places_at, hatch_of, two_integers, pair_in, pairs_in, apart_at}
-use Rattle.qc_ship.proofs.ShipLaws.{each-keeps, length-each, chain-push, number_in-bounds, array_in-count}
+use Rattle.qc_ship.proofs.ShipLaws.{chain-push, number_in-bounds, array_in-count}
 
 same_some : {A : Type 0} (a b : A) → Some a ≡ Some b → a ≡ b
 same_some a b e = cc

@@ -1,5 +1,5 @@
 -- What the checks of a ship file leave: the ship keeps the limits of its type.
-use Rattle.std.proofs.Common.{length-append, map, ◌≡◌, ℕ, ◌+◌, ◌-◌, ◌<◌, ◌≤◌, ℤ, pos, negsuc, ◌≤ℤ◌, cond, List, [], ◌∷◌, ◌++◌, length, get_or, Some, Ok, Err, sym, subst, ap, ◌∙◌, inl, inr, arith}
+use Rattle.std.proofs.Common.{map, ◌≡◌, ℕ, ◌+◌, ◌-◌, ◌<◌, ◌≤◌, ℤ, pos, negsuc, ◌≤ℤ◌, cond, List, [], ◌∷◌, ◌++◌, length, get_or, Some, Ok, Err, sym, subst, ◌∙◌, inl, inr, arith}
 use Rattle.std.specs.Prelude.{AllPairs, nat_le, ◌&&◌, unsigned_abs, ok_or, option_map}
 use Rattle.std.specs.List.{range_with_len}
 use Rattle.std.proofs.lemmas.Bool.{cases_lt}
@@ -9,28 +9,12 @@ use Rattle.std.proofs.lemmas.List.FromFn.{get_or-range_with_len, length-range_wi
 use Rattle.std.proofs.lemmas.Grind.{same_number_lists}
 use Rattle.std.proofs.lemmas.List.Quantifiers.{all_pairs_push}
 use Rattle.std.proofs.lemmas.Option.{slice_get-get_or}
-use Rattle.qc_num.proofs.ReadingLemmas.{bind_ok, same_ok, passed}
+use Rattle.qc_num.proofs.ReadingLemmas.{bind_ok, passed, same_ok}
 use Rattle.toml.specs.Data.{Data, string, integer, float, boolean, datetime, array, table, as_array}
 use Rattle.qc_ship.specs.declared.fault.Key.{Key}
 use Rattle.qc_ship.specs.declared.fault.ShipKind.TheVariants.{WrongKind, Range}
 use Rattle.qc_ship.specs.Keys.{fault}
-use Rattle.qc_ship.specs.ShipValues.{Reading, elements, integer_in, number_in, array_in, each, last}
-
--- what holds of the values so far holds of all of them
-pub each-keeps : {B : Type 0} (judge : List B → Data → Reading B) (P : List B → Type 0)
-    → ((before : List B) (d : Data) (b : B) → P before → judge before d ≡ Ok b → P (before ++ b ∷ []))
-    → (before : List B) (ds : List Data) (out : List B) → P before → each judge before ds ≡ Ok out → P out
-each-keeps judge P keeps before [] out here e = subst P (same_ok e) here
-each-keeps judge P keeps before (d ∷ ds) out here e =
-    let (b, judged, rest) = bind_ok (judge before d) (λ b. each judge (before ++ b ∷ []) ds) out e in
-    each-keeps judge P keeps (before ++ b ∷ []) ds out (keeps before d b here judged) rest
-
-pub length-each : {B : Type 0} (judge : List B → Data → Reading B) (before : List B) (ds : List Data) (out : List B)
-    → each judge before ds ≡ Ok out → length out ≡ length before + length ds
-length-each judge before [] out e = grind (arith, ap length (same_ok e))
-length-each judge before (d ∷ ds) out e =
-    let (b, judged, rest) = bind_ok (judge before d) (λ b. each judge (before ++ b ∷ []) ds) out e in
-    omega (arith, length-each judge (before ++ b ∷ []) ds out rest, length-append before (b ∷ []))
+use Rattle.qc_ship.specs.ShipValues.{elements, integer_in, number_in, array_in, last}
 
 -- a relation of neighbours that carries over holds of each value and each later one
 pub chain-push : {B : Type 0} (R : B → B → Type 0) → ((x y z : B) → R x y → R y z → R x z) → (before : List B) (b : B)

@@ -6,14 +6,14 @@ use Rattle.std.specs.Option.{option_map_or}
 use Rattle.std.specs.Str.{is_utf8}
 use Rattle.toml.specs.Data.{Data, integer, array, table, no_items, item, Members, get_member}
 use Rattle.toml.specs.Parse.{parse_document}
-use Rattle.qc_num.specs.Reading.{◌>>=◌}
+use Rattle.qc_num.specs.Reading.{◌>>=◌, each}
 use Rattle.qc_model.specs.Names.{is_name}
 use Rattle.qc_model.specs.declared.crane.Crane.{Crane}
 use Rattle.qc_model.specs.declared.limits.TheConstants.{MOST_CRANES, MOST_GAP_BY_PLACES, MOST_HATCHES, MOST_PLACE, MOST_READY}
 use Rattle.qc_ship.specs.declared.limits.TheConstants.{GREATEST_HATCH, MOST_HATCH_PAIRS, MOST_MARGIN, MOST_MOVE_TICKS}
 use Rattle.qc_ship.specs.Keys.{key_text, fault}
 use Rattle.qc_ship.specs.Ship.{ShipView, lowest_bay, highest_bay, most_travel, least_start, greatest_start}
-use Rattle.qc_ship.specs.ShipValues.{Reading, required, integer_in, number_in, number_at, number_or, array_in, text_in, each, next_number, last}
+use Rattle.qc_ship.specs.ShipValues.{Reading, required, integer_in, number_in, number_at, number_or, array_in, text_in, next_number, last}
 use Rattle.qc_ship.specs.declared.ship.Times.{Times}
 use Rattle.qc_ship.specs.declared.ship.HatchPair.{HatchPair}
 use Rattle.qc_ship.specs.declared.fault.Key.TheVariants as key

@@ -1,5 +1,5 @@
 -- Values of a TOML table, each with its fault.
-use Rattle.std.specs.Prelude.{◌≡◌, ℕ, ◌+◌, ◌-◌, ℤ, pos, List, [], ◌∷◌, ◌++◌, length, slice_get, ◌&&◌, nat_le, int_le, unsigned_abs, if◌then◌else◌, Option, Result, Ok, Err, ok_or, option_map}
+use Rattle.std.specs.Prelude.{◌≡◌, ℕ, ◌+◌, ◌-◌, ℤ, pos, List, [], ◌∷◌, length, slice_get, ◌&&◌, nat_le, int_le, unsigned_abs, if◌then◌else◌, Option, Result, Ok, Err, ok_or, option_map}
 use Rattle.std.specs.Option.{option_map_or}
 use Rattle.qc_num.specs.Reading.{◌>>=◌}
 use Rattle.toml.specs.Data.{Data, integer, string, Items, no_items, item, Members, get_member, as_array}
@@ -63,13 +63,6 @@ array_in key low high d = do
 abbrev pub text_in : Key → ℕ → Data → Reading (List ℕ)
 text_in key number (string s) = Ok s
 text_in key number _ = Err (fault WrongKind key number)
-
--- each value in order, judged with those before it; the first fault wins
-abbrev pub each : {B : Type 0} → (List B → Data → Reading B) → List B → List Data → Reading (List B)
-each judge before [] = Ok before
-each judge before (d ∷ ds) = do
-  b ← judge before d
-  each judge (before ++ b ∷ []) ds
 
 -- the number of the value after these, counted from 1
 abbrev pub next_number : {B : Type 0} → List B → ℕ

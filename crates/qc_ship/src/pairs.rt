@@ -1,6 +1,7 @@
 ghost use Rattle.std.specs.Prelude.{◌≡◌, ◌<◌, ◌≤◌, [], length, map, option_map};
 ghost use Rattle.toml.specs.View.{view};
-ghost use Rattle.qc_ship.specs.ShipValues.{IsReading, each};
+ghost use Rattle.qc_ship.specs.ShipValues.{IsReading};
+ghost use Rattle.qc_num.specs.Reading.{each};
 ghost use Rattle.qc_ship.specs.ShipFile.{two_integers, hatch_of, pair_in};
 
 use crate::values::{fault, items_of};

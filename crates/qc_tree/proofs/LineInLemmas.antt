@@ -20,7 +20,7 @@ use Rattle.qc_tree.specs.declared.line.Line.TheVariants.{Title, Title2, Up, Down
 use Rattle.qc_tree.specs.Lines.{AreTasks, IsLine, IsTask, IsTextOf, IsValue, Reads, bound_field, fields, line_list, line_text}
 use Rattle.qc_tree.specs.LineIn.{Listed, alone, are_tasks, candidate, in_range, is_task, is_value, is_word, is_written, line_in, words}
 use Rattle.qc_tree.specs.Trees.{whole_line}
-use Rattle.qc_tree.proofs.Digits.{decimal_digits, own}
+use Rattle.qc_num.proofs.DigitLemmas.{decimal_digits, own}
 use Rattle.qc_tree.proofs.OneSpelling.{never_digits}
 
 -- ---- the ranges, as tests and as facts

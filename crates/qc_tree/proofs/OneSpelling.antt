@@ -11,7 +11,8 @@ use Rattle.qc_tree.specs.declared.line.BadLine.{BadLine}
 use Rattle.qc_tree.specs.Lines.{AreTasks, IsLine, Reads, line_list, IsTask, IsTextOf, IsValue, bound_field, fields, line_text}
 use Rattle.qc_tree.specs.declared.line.Line.{Line}
 use Rattle.qc_tree.specs.declared.line.Line.TheVariants.{Title, Title2, Up, Down, Assign, Order, Chain, Ring, Reach, Work, End}
-use Rattle.qc_tree.proofs.Digits.{decimal_digits, fits, one_field, one_split}
+use Rattle.qc_num.proofs.DigitLemmas.{decimal_digits, fits}
+use Rattle.qc_tree.proofs.Digits.{one_field, one_split}
 
 -- behind a number stand further fields or nothing
 pub ends_fields : (xs : List ℕ) → EndsDigits (fields xs)

@@ -1,5 +1,5 @@
 -- What the steps of a reading say: numbers at the front of a text, and lines without numbers.
-use Rattle.std.specs.Prelude.{◌≡◌, ◌≢◌, ℕ, ◌≤◌, ◌<◌, ◌^◌, ◌⊎◌, List, [], ◌∷◌, ◌++◌, length, get_or, All, false, decimal}
+use Rattle.std.specs.Prelude.{◌≡◌, ℕ, ◌<◌, ◌^◌, List, [], ◌∷◌, ◌++◌, All, false, decimal}
 use Rattle.qc_tree.specs.Lines.{line_text}
 use Rattle.qc_tree.specs.declared.line.Line.TheVariants.{Title, Title2, Up, Down, Reach}
 use Rattle.std.specs.Char.{is_ascii_digit}
@@ -8,12 +8,6 @@ use Rattle.std.specs.Char.{is_ascii_digit}
 abbrev pub EndsDigits : List ℕ → Type 0
 EndsDigits [] = Unit {0}
 EndsDigits (c ∷ cs) = is_ascii_digit c ≡ false
-
--- some digits, at most so many, without a leading zero
-pub record IsPlain (digits : List ℕ) (most : ℕ) : Type 0 where
-  pub some : 0 < length digits
-  pub few : length digits ≤ most
-  pub leads : (length digits ≡ 1) ⊎ (get_or digits 0 0 ≢ 48)
 
 -- the text is a space, this number of at most so many digits, and then this rest
 pub record IsField (text : List ℕ) (most n : ℕ) (rest : List ℕ) : Type 0 where

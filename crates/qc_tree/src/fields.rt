@@ -1,11 +1,12 @@
 // Numbers in plain decimal, each after one space.
 
-ghost use Rattle.std.specs.Prelude.{◌≡◌, ◌<◌, ◌≤◌, ◌^◌, ◌↔◌, ◌++◌, ◌∷◌, [], ℕ, length, true, not, position, IsTrue, MatchOption};
+ghost use Rattle.std.specs.Prelude.{◌≡◌, ◌<◌, ◌≤◌, ◌++◌, [], ℕ, true, not, position, MatchOption};
 ghost use Rattle.std.specs.Char.{is_ascii_digit};
 ghost use Rattle.std.specs.List.{list_all};
-ghost use Rattle.std.specs.Str.Parse.{digits_value};
-ghost use Rattle.qc_tree.specs.Fields.{IsField, NoField, IsPlain, EndsDigits};
+ghost use Rattle.qc_tree.specs.Fields.{IsField, NoField, EndsDigits};
 ghost use Rattle.qc_tree.specs.Lines.{fields};
+
+use qc_num::plain_number;
 
 // The number of at most so many digits that the text begins with, after one space, and what stands
 // behind it.
@@ -20,10 +21,8 @@ pub(crate) fn read_field(text: &[u8], most: usize) -> Option<(u64, &[u8])>
         return None;
     }
     let (digits, rest) = split_digits(behind);
-    if !is_plain(digits, most) {
-        return None;
-    }
-    Some((number(digits), rest))
+    let number = plain_number(digits, most)?;
+    Some((number, rest))
 }
 
 // The same where nothing stands behind it.
@@ -51,24 +50,4 @@ fn first_other(text: &[u8]) -> Option<usize>
     ensures { result ≡ position (λ b. not (is_ascii_digit b)) text.now }
 {
     text.iter().position(|b| !b.is_ascii_digit())
-}
-
-// Whether the digits are the plain decimal of a number of at most so many.
-fn is_plain(digits: &[u8], most: usize) -> bool
-    ensures { IsTrue result ↔ IsPlain digits.now most }
-{
-    !digits.is_empty() && digits.len() <= most && (digits.len() == 1 || digits[0] != b'0')
-}
-
-// The number that at most 19 digits write.
-fn number(digits: &[u8]) -> u64
-    requires few { length digits.now ≤ 19 }
-    requires digits { IsTrue (list_all is_ascii_digit digits.now) }
-    ensures value { result ≡ digits_value 10 digits.now }
-{
-    let mut number = 0;
-    for digit in digits {
-        number = number * 10 + u64::from(*digit - b'0');
-    }
-    number
 }

@@ -1,6 +1,6 @@
 use Rattle.std.proofs.Common.{◌≡◌, [], map, drop, vec_len}
 use Rattle.toml.specs.View.{view}
-use Rattle.qc_ship.specs.ShipValues.{each}
+use Rattle.qc_num.specs.Reading.{each}
 use Rattle.qc_ship.specs.ShipFile.{place_in}
 use Rattle.qc_ship.proofs.hatches.read_places.Given as goal
 

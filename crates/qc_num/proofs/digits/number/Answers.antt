@@ -1,6 +1,6 @@
 use Rattle.std.proofs.Common.{arith}
-use Rattle.qc_tree.proofs.Digits.{so_far_fits, value_more}
-use Rattle.qc_tree.proofs.fields.number.Goals as goal
+use Rattle.qc_num.proofs.DigitLemmas.{so_far_fits, value_more}
+use Rattle.qc_num.proofs.digits.number.Goals as goal
 
 pub overflow_mul-number : goal.overflow_mul-number
 overflow_mul-number c =
