@@ -1,0 +1,44 @@
+-- What a command line asks for, with the names of its files.
+use Rattle.std.specs.Prelude.{ℕ, List, Option, None, Some, option_map}
+use Rattle.qc_words.specs.declared.asked.Input.{Input}
+use Rattle.qc_words.specs.declared.asked.Input.TheVariants as input
+use Rattle.qc_words.specs.declared.asked.Request.{Request}
+use Rattle.qc_words.specs.declared.asked.Request.TheVariants as request
+
+pub data Asked : Type 0 where
+  -- a plan and its tree, for a ship file and a stowage list, with at most so many branchings
+  plan : (ship stow plan tree : List ℕ) (nodes : ℕ) → Asked
+  -- what a tree shows for a ship file and a stowage list, and of a plan where one is named
+  check : (ship stow : List ℕ) (plan : Option (List ℕ)) (tree : List ℕ) → Asked
+  -- the tasks of a ship file and a stowage list
+  tasks : (ship stow : List ℕ) → Asked
+  -- the motion of a plan for a ship file and a stowage list
+  show : (ship stow plan : List ℕ) → Asked
+  -- a ship and a list made from a number, planned and checked
+  make : (number hatches cranes : ℕ) → Asked
+  -- words that are no command
+  usage : Asked
+
+-- what a request of the program asks for
+abbrev pub asked_for : Request → Asked
+asked_for (request.Plan ship stow plan_name tree nodes) = plan ship.now stow.now plan_name.now tree.now nodes
+asked_for (request.Check ship stow plan_name tree) = check ship.now stow.now (option_map (λ name. name.now) plan_name) tree.now
+asked_for (request.Tasks ship stow) = tasks ship.now stow.now
+asked_for (request.Show ship stow plan_name) = show ship.now stow.now plan_name.now
+asked_for (request.Make number hatches cranes) = make number hatches cranes
+asked_for request.Usage = usage
+
+-- the name of a file that is read on this request, by what the file is for
+abbrev pub name_of : Input → Asked → Option (List ℕ)
+name_of input.Ship (plan s w p t n) = Some s
+name_of input.Stow (plan s w p t n) = Some w
+name_of input.Ship (check s w p t) = Some s
+name_of input.Stow (check s w p t) = Some w
+name_of input.Plan (check s w p t) = p
+name_of input.Tree (check s w p t) = Some t
+name_of input.Ship (tasks s w) = Some s
+name_of input.Stow (tasks s w) = Some w
+name_of input.Ship (show s w p) = Some s
+name_of input.Stow (show s w p) = Some w
+name_of input.Plan (show s w p) = Some p
+name_of _ _ = None
