@@ -12,7 +12,7 @@ use qc_num::{Bound, Tick};
 use qc_search::Done;
 
 /// When the last task ends, in ticks; 0 where there is no task.
-fn end_of(inst: &Instance, sched: &Schedule) -> Tick
+pub(crate) fn end_of(inst: &Instance, sched: &Schedule) -> Tick
     requires { IsJudgeable inst.now sched.now }
     ensures { result ≡ ends inst.now sched.now }
 {
