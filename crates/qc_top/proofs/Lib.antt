@@ -2,4 +2,7 @@ pub mod StepLemmas
 pub mod ServeLemmas
 pub mod RunLemmas
 pub mod WordLemmas
+pub mod DueLemmas
 pub mod FoundLemmas
+pub mod JudgedLemmas
+pub mod StatusLemmas

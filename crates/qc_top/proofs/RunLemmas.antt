@@ -1,11 +1,12 @@
 -- What follows from a run's account of itself.
 use Rattle.std.proofs.Common.{◌≡◌, ◌≢◌, ◌≤◌, ℕ, subst₂, List, [], ◌∷◌, Option, None, Some, Result, Ok, Err, refl, sym, ap, ◌∙◌, subst, inl, inr, ◌⊎◌}
-use Rattle.std.specs.Prelude.{IfSome, IsSomeAnd, option_and_then, true, false}
+use Rattle.std.specs.Prelude.{IfSome, IsSomeAnd, codes, option_and_then, true, false}
 use Rattle.std.specs.FinMap.{get, insert}
 use Rattle.std.specs.Io.KnownBytes.{append_known}
 use Rattle.qc_num.specs.declared.bound.Bound.TheVariants.{Least, Never}
 use Rattle.qc_num.proofs.ReadingLemmas.{bind_ok}
 use Rattle.qc_io.specs.Outside.{Files, Stand, Rose, ReadCause}
+use Rattle.qc_model.specs.declared.schedule.Slot.{Slot}
 use Rattle.qc_model.specs.Instance.{InstanceView}
 use Rattle.qc_top.specs.declared.answer.Input.{Input}
 use Rattle.qc_top.specs.declared.answer.Input.TheVariants as input
@@ -17,22 +18,30 @@ use Rattle.qc_top.specs.declared.answer.Answer.{Answer}
 use Rattle.qc_top.specs.declared.answer.Answer.TheVariants as answer
 use Rattle.qc_top.specs.declared.status.Status.{Status}
 use Rattle.qc_top.specs.declared.status.Status.TheVariants as status
-use Rattle.qc_top.specs.Asked.{Asked, plan, check, tasks, unbuilt, usage, name_of, IsPlan, nodes_of}
+use Rattle.qc_top.specs.Asked.{Asked, plan, check, check_plan, tasks, unbuilt, usage, name_of, IsPlan, nodes_of}
 use Rattle.qc_top.specs.Words.{Asks}
-use Rattle.qc_top.specs.Due.{Work, Reads, print, search, reads_in, without, instance_due, due}
+use Rattle.qc_top.specs.Due.{Work, Reads, print, search, judge, reads_in, instance_due, tree_due, due}
 use Rattle.qc_top.specs.Answers.{status_of, report_text, refusal_status, ending_of}
 use Rattle.qc_top.specs.Account.{ComesTo, Stops, IsSearched, IsStopped, IsWriting, Named, written, texts_of, IsCutShort, Serves, Printed, IsRun}
 use Rattle.qc_top.proofs.FoundLemmas.{plan_ends, search_end, no_refusal, ends_in_time, ends_late, kind_told, word_told, kind_none, is_best, none_goes}
+use Rattle.qc_top.proofs.DueLemmas.{comes_due, stop_is}
+use Rattle.qc_top.proofs.JudgedLemmas.{bad_plan_told, best_told, broken_told, early_due, judged_due, no_plan_tree, only_judge, weaker_told}
 use Rattle.qc_top.proofs.ServeLemmas.{met_best}
+use Rattle.qc_top.proofs.StatusLemmas.{compared_ends, no_refusal_compared, not_other}
 use Rattle.qc_search.specs.declared.done.Kind.TheVariants as kind
 use Rattle.qc_search.specs.Run.{branching_limit}
 use Rattle.qc_top.specs.Shown.{IsBoundShown, IsNoneShown, TellsTree}
-use Rattle.qc_top.specs.Promises.{IsBudgetTold, IsOptimalTold, IsUnplannedTold, IsInfeasibleTold, IsSearchEnd, EndsAsDue, AreTasksTold, IsEndTold, IsNoneTold, IsRefusal, IsRefusalTold, IsCutTold, IsStopTold, EndsWith, NoneFailed, Promises}
+use Rattle.qc_top.specs.Promises.{IsBudgetTold, IsOptimalTold, IsUnplannedTold, IsInfeasibleTold, IsSearchEnd, EndsAsDue, AreTasksTold, IsEndTold, IsNoneTold, IsBadPlanTold, IsBestTold, IsBrokenTold, IsWeakerTold, EndsJudged, IsRefusal, IsRefusalTold, IsCutTold, IsStopTold, EndsWith, NoneFailed, Promises}
 
 -- the text of what is to be printed
 abbrev text_of : Result Work Refusal → List ℕ
 text_of (Ok (print ending)) = ending.text
 text_of _ = []
+
+searched_due : (asked : Asked) (held : Files) (files : Option Files) → files ≡ Some held → (a : Answer) (now : Option Files) → IfSome files (λ held. IsSearched asked held a now)
+    → (inst : InstanceView) × (nodes : ℕ) × (due asked (reads_in held asked) ≡ Ok (search inst nodes))
+searched_due asked held None told a now h = absurd (cc told)
+searched_due asked held (Some files) told a now h = let same : files ≡ held = cc in (h.inst, h.nodes, rw (← same) h.due)
 
 -- the instance and the branchings of a search that is due
 abbrev inst_in : InstanceView → Result Work Refusal → InstanceView
@@ -43,44 +52,12 @@ abbrev nodes_in : Result Work Refusal → ℕ
 nodes_in (Ok (search inst nodes)) = nodes
 nodes_in _ = 0
 
--- the statuses of refusals are none of the others
-abbrev pub IsOther : Status → Type 0
-IsOther status.Optimal = ⊥
-IsOther status.Done = ⊥
-IsOther status.WriteFault = ⊥
-IsOther status.OutOfMemory = ⊥
-IsOther status.Infeasible = ⊥
-IsOther status.BudgetPlan = ⊥
-IsOther status.BudgetNone = ⊥
-IsOther _ = Unit {0}
-
-other : (why : Refusal) → IsOther (refusal_status why)
-other refusal.Usage = tt
-other (refusal.ReadFault file) = tt
-other (refusal.TooLarge file) = tt
-other (refusal.BadShip fault) = tt
-other (refusal.BadStow fault) = tt
-other (refusal.BadTree fault) = tt
-other refusal.Unbuilt = tt
-
-not_other : (why : Refusal) (s : Status) → refusal_status why ≡ s → IsOther s
-not_other why s e = subst IsOther e (other why)
-
--- what comes of told files is due of them
-comes_due : (asked : Asked) (held : Files) (files : Option Files) → files ≡ Some held → (r : Result Work Refusal) → ComesTo (due asked) asked files r → due asked (reads_in held asked) ≡ r
-comes_due asked held None told r h = absurd (cc told)
-comes_due asked held (Some files) told r h = let same : files ≡ held = cc in rw (← same) h
-
-searched_due : (asked : Asked) (held : Files) (files : Option Files) → files ≡ Some held → (a : Answer) (now : Option Files) → IfSome files (λ held. IsSearched asked held a now)
-    → (inst : InstanceView) × (nodes : ℕ) × (due asked (reads_in held asked) ≡ Ok (search inst nodes))
-searched_due asked held None told a now h = absurd (cc told)
-searched_due asked held (Some files) told a now h = let same : files ≡ held = cc in (h.inst, h.nodes, rw (← same) h.due)
-
 -- the search that is due has as many branchings as were asked for
 planned_nodes : (asked : Asked) → IsPlan asked → (reads : Reads) (inst : InstanceView) (nodes : ℕ) → due asked reads ≡ Ok (search inst nodes) → nodes ≡ nodes_of asked
 planned_nodes (plan s w p t n) is reads inst nodes e =
     let (i, at, same) = bind_ok (instance_due reads) (λ i. Ok (search i n)) (search inst nodes) e in sym (ap nodes_in same)
 planned_nodes (check s w t) is reads inst nodes e = absurd is
+planned_nodes (check_plan s w p t) is reads inst nodes e = absurd is
 planned_nodes (tasks s w) is reads inst nodes e = absurd is
 planned_nodes unbuilt is reads inst nodes e = absurd is
 planned_nodes usage is reads inst nodes e = absurd is
@@ -94,29 +71,6 @@ undecided asked held a now h budget inst nodes due_is enough =
     (subst₂ (λ (i : InstanceView) (n : ℕ). branching_limit i ≤ n) (sym (ap (inst_in inst) same)) (sym (ap nodes_in same)) enough)
     budget
 
-some_and : {A : Type 0} {P : A → Type 0} (o : Option A) → IsSomeAnd o P → (a : A) × (o ≡ Some a) × P a
-some_and None h = absurd h
-some_and (Some a) h = (a, refl, h)
-
--- without a file that isn't held all is as with it
-without_missing : (file : Input) (held : Files) (asked : Asked) (name : List ℕ) → name_of file asked ≡ Some name → get held name ≡ None → without file (reads_in held asked) ≡ reads_in held asked
-without_missing input.Ship held asked name named missing = let reads = reads_in held asked in ap (λ (o : Option (List ℕ)). record reads { ship = o }) (sym (ap (option_and_then (get held)) named ∙ missing))
-without_missing input.Stow held asked name named missing = let reads = reads_in held asked in ap (λ (o : Option (List ℕ)). record reads { stow = o }) (sym (ap (option_and_then (get held)) named ∙ missing))
-without_missing input.Plan held asked name named missing = let reads = reads_in held asked in ap (λ (o : Option (List ℕ)). record reads { plan = o }) (sym (ap (option_and_then (get held)) named ∙ missing))
-without_missing input.Tree held asked name named missing = let reads = reads_in held asked in ap (λ (o : Option (List ℕ)). record reads { tree = o }) (sym (ap (option_and_then (get held)) named ∙ missing))
-
--- a file that couldn't be read though no call failed is due as unread
-unread_due : (asked : Asked) (held : Files) (files : Option Files) → files ≡ Some held → (file : Input) (rb ra : ℕ) → ¬ Rose rb ra → IsSomeAnd (name_of file asked) (ReadCause rb ra files)
-    → IfSome files (λ held. due asked (without file (reads_in held asked)) ≡ Err (refusal.ReadFault file)) → due asked (reads_in held asked) ≡ Err (refusal.ReadFault file)
-unread_due asked held None told file rb ra none cause turn = absurd (cc told)
-unread_due asked held (Some files) told file rb ra none cause turn =
-    let same : files ≡ held = cc in
-    let (name, named, why) = some_and (name_of file asked) cause in
-    elim why [
-      | inl rose ↦ absurd (none rose)
-      | inr missing ↦ rw (← same) (rw (without_missing file files asked name named missing) at turn)
-    ]
-
 module _ (words : List (List ℕ)) (before after : Stand) (pb pa : Printed) (ended : Status) (run : IsRun words before after pb pa ended) (tells : TellsTree run.asked before.files run.answer) where
   -- the words ask for one thing
   asked_is : (asked : Asked) → Asks words asked → Serves asked before after run.answer
@@ -126,6 +80,7 @@ module _ (words : List (List ℕ)) (before after : Stand) (pb pa : Printed) (end
   plan_is : (asked : Asked) (a : Answer) → IsPlan asked → Serves asked before after a → IsWriting asked before after a
   plan_is (plan s w p t n) a is serves = serves
   plan_is (check s w t) a is serves = absurd is
+  plan_is (check_plan s w p t) a is serves = absurd is
   plan_is (tasks s w) a is serves = absurd is
   plan_is unbuilt a is serves = absurd is
   plan_is usage a is serves = absurd is
@@ -155,6 +110,8 @@ module _ (words : List (List ℕ)) (before after : Stand) (pb pa : Printed) (end
     optimal_told answer.WriteFault serves e report = absurd (cc e)
     optimal_told (answer.Tasks inst) serves e report = absurd serves
     optimal_told (answer.Checked bound) serves e report = absurd serves
+    optimal_told (answer.Broken broken) serves e report = absurd serves
+    optimal_told (answer.Compared compared) serves e report = absurd serves
 
     budget_told : (a : Answer) → IsPlan asked → IsWriting asked before after a → status_of a ≡ status.BudgetPlan → pa.bytes ≡ append_known pb.bytes (report_text a)
         → IfSome before.files (λ held. IsBudgetTold asked held after.files pb pa)
@@ -182,6 +139,8 @@ module _ (words : List (List ℕ)) (before after : Stand) (pb pa : Printed) (end
     budget_told answer.WriteFault is serves e report = absurd (cc e)
     budget_told (answer.Tasks inst) is serves e report = absurd serves
     budget_told (answer.Checked bound) is serves e report = absurd serves
+    budget_told (answer.Broken broken) is serves e report = absurd serves
+    budget_told (answer.Compared compared) is serves e report = absurd serves
 
     unplanned_told : (a : Answer) → IsPlan asked → IsWriting asked before after a → status_of a ≡ status.BudgetNone → pa.bytes ≡ append_known pb.bytes (report_text a)
         → IfSome before.files (λ held. IsUnplannedTold asked held after.files pb pa)
@@ -205,6 +164,8 @@ module _ (words : List (List ℕ)) (before after : Stand) (pb pa : Printed) (end
     unplanned_told answer.WriteFault is serves e report = absurd (cc e)
     unplanned_told (answer.Tasks inst) is serves e report = absurd serves
     unplanned_told (answer.Checked bound) is serves e report = absurd serves
+    unplanned_told (answer.Broken broken) is serves e report = absurd serves
+    unplanned_told (answer.Compared compared) is serves e report = absurd serves
 
     infeasible_told : (a : Answer) → IsWriting asked before after a → status_of a ≡ status.Infeasible → pa.bytes ≡ append_known pb.bytes (report_text a)
         → IfSome before.files (λ held. IsInfeasibleTold asked held after.files pb pa)
@@ -225,6 +186,8 @@ module _ (words : List (List ℕ)) (before after : Stand) (pb pa : Printed) (end
     infeasible_told answer.WriteFault serves e report = absurd (cc e)
     infeasible_told (answer.Tasks inst) serves e report = absurd serves
     infeasible_told (answer.Checked bound) serves e report = absurd serves
+    infeasible_told (answer.Broken broken) serves e report = absurd serves
+    infeasible_told (answer.Compared compared) serves e report = absurd serves
 
   plan_optimal : (asked : Asked) → Asks words asked → IsPlan asked → ended ≡ status.Optimal
       → IfSome before.files (λ held. IsOptimalTold asked held after.files pb pa)
@@ -288,6 +251,8 @@ module _ (words : List (List ℕ)) (before after : Stand) (pb pa : Printed) (end
   tasks_told ship stow (answer.Stopped (stop.Refused why)) serves e report = absurd (not_other why status.Done e)
   tasks_told ship stow (answer.Stopped stop.OutOfMemory) serves e report = absurd (cc e)
   tasks_told ship stow answer.WriteFault serves e report = absurd (cc e)
+  tasks_told ship stow (answer.Broken broken) serves e report = absurd serves.ending
+  tasks_told ship stow (answer.Compared compared) serves e report = absurd serves.ending
 
   tasks_done : (ship stow : List ℕ) → Asks words (tasks ship stow) → ended ≡ status.Done
       → IfSome before.files (λ held. AreTasksTold (tasks ship stow) held pb pa)
@@ -314,6 +279,8 @@ module _ (words : List (List ℕ)) (before after : Stand) (pb pa : Printed) (end
   end_told ship stow tree (answer.Planned made) shown e report = absurd shown
   end_told ship stow tree (answer.Unplanned bound branched) shown e report = absurd shown
   end_told ship stow tree (answer.Infeasible branched) shown e report = absurd shown
+  end_told ship stow tree (answer.Broken broken) shown e report = absurd shown
+  end_told ship stow tree (answer.Compared compared) shown e report = absurd shown
 
   check_done : (ship stow tree : List ℕ) → Asks words (check ship stow tree) → ended ≡ status.Done
       → IfSome before.files (λ held. IsEndTold (check ship stow tree) held pb pa)
@@ -336,6 +303,8 @@ module _ (words : List (List ℕ)) (before after : Stand) (pb pa : Printed) (end
   none_told ship stow tree (answer.Planned made) shown e report = absurd shown
   none_told ship stow tree (answer.Unplanned bound branched) shown e report = absurd shown
   none_told ship stow tree (answer.Infeasible branched) shown e report = absurd shown
+  none_told ship stow tree (answer.Broken broken) shown e report = absurd shown
+  none_told ship stow tree (answer.Compared compared) shown e report = absurd shown
 
   check_infeasible : (ship stow tree : List ℕ) → Asks words (check ship stow tree) → ended ≡ status.Infeasible
       → IfSome before.files (λ held. IsNoneTold (check ship stow tree) held pb pa)
@@ -352,6 +321,7 @@ module _ (words : List (List ℕ)) (before after : Stand) (pb pa : Printed) (end
   no_tree_told ship stow tree (answer.Stopped (stop.Refused (refusal.TooLarge file))) none e = absurd (cc e)
   no_tree_told ship stow tree (answer.Stopped (stop.Refused (refusal.BadShip fault))) none e = absurd (cc e)
   no_tree_told ship stow tree (answer.Stopped (stop.Refused (refusal.BadStow fault))) none e = absurd (cc e)
+  no_tree_told ship stow tree (answer.Stopped (stop.Refused (refusal.BadPlan fault))) none e = absurd (cc e)
   no_tree_told ship stow tree (answer.Stopped (stop.Refused refusal.Unbuilt)) none e = absurd (cc e)
   no_tree_told ship stow tree (answer.Stopped stop.OutOfMemory) none e = absurd (cc e)
   no_tree_told ship stow tree (answer.Checked (Least end)) none e = absurd (cc e)
@@ -361,12 +331,58 @@ module _ (words : List (List ℕ)) (before after : Stand) (pb pa : Printed) (end
   no_tree_told ship stow tree (answer.Planned made) none e = absurd none
   no_tree_told ship stow tree (answer.Unplanned bound branched) none e = absurd none
   no_tree_told ship stow tree (answer.Infeasible branched) none e = absurd none
+  no_tree_told ship stow tree (answer.Broken broken) none e = absurd none
+  no_tree_told ship stow tree (answer.Compared compared) none e = absurd none
 
   check_bad_tree : (ship stow tree : List ℕ) → Asks words (check ship stow tree) → ended ≡ status.BadTree → IfSome before.files (λ held. IsNoneShown (check ship stow tree) held)
   check_bad_tree ship stow tree asks e = elim run.reports [
     | inl whole ↦ no_tree_told ship stow tree run.answer (tree_is (check ship stow tree) asks) (sym whole.status ∙ e)
     | inr cut ↦ absurd (cc (cut.status, e))
   ]
+
+  -- a check of a plan
+  module _ (s w p t : List ℕ) (asks : Asks words (check_plan s w p t)) where
+    check_optimal : ended ≡ status.Optimal → IfSome before.files (λ held. IsBestTold (check_plan s w p t) held pb pa)
+    check_optimal e = elim run.reports [
+      | inl whole ↦ best_told s w p t before after pb pa run.answer (asked_is (check_plan s w p t) asks) (tree_is (check_plan s w p t) asks) (sym whole.status ∙ e) whole.printed
+      | inr cut ↦ absurd (cc (cut.status, e))
+    ]
+
+    check_weaker : ended ≡ status.Weaker → IfSome before.files (λ held. IsWeakerTold (check_plan s w p t) held pb pa)
+    check_weaker e = elim run.reports [
+      | inl whole ↦ weaker_told s w p t before after pb pa run.answer (asked_is (check_plan s w p t) asks) (tree_is (check_plan s w p t) asks) (sym whole.status ∙ e) whole.printed
+      | inr cut ↦ absurd (cc (cut.status, e))
+    ]
+
+    check_broken : ended ≡ status.Broken → IfSome before.files (λ held. IsBrokenTold (check_plan s w p t) held pb pa)
+    check_broken e = elim run.reports [
+      | inl whole ↦ broken_told s w p t before after pb pa run.answer (asked_is (check_plan s w p t) asks) (sym whole.status ∙ e) whole.printed
+      | inr cut ↦ absurd (cc (cut.status, e))
+    ]
+
+    check_bad_plan : ended ≡ status.BadPlan → IfSome before.files (λ held. IsBadPlanTold (check_plan s w p t) held pb pa)
+    check_bad_plan e = elim run.reports [
+      | inl whole ↦ bad_plan_told s w p t before after pb pa run.answer (asked_is (check_plan s w p t) asks) (sym whole.status ∙ e) whole.printed
+      | inr cut ↦ absurd (cc (cut.status, e))
+    ]
+
+    check_plan_bad_tree : ended ≡ status.BadTree → IfSome before.files (λ held. IsNoneShown (check_plan s w p t) held)
+    check_plan_bad_tree e = elim run.reports [
+      | inl whole ↦ no_plan_tree s w p t before after pb pa run.answer (tree_is (check_plan s w p t) asks) (sym whole.status ∙ e)
+      | inr cut ↦ absurd (cc (cut.status, e))
+    ]
+
+    check_complete : NoneFailed before after pb pa → (files : Option Files) → before.files ≡ files
+        → IfSome files (λ held. (inst : InstanceView) (sched : List Slot)
+        → due (check_plan s w p t) (reads_in held (check_plan s w p t)) ≡ Ok (judge inst sched)
+        → EndsJudged inst sched (tree_due inst (reads_in held (check_plan s w p t))) ended ⊎ (ended ≡ status.OutOfMemory))
+    check_complete none None told = tt
+    check_complete none (Some held) told = λ inst sched is. elim run.reports [
+      | inl whole ↦
+          subst (λ st. EndsJudged inst sched (tree_due inst (reads_in held (check_plan s w p t))) st ⊎ (st ≡ status.OutOfMemory)) (sym whole.status)
+          (judged_due s w p t before after pb pa none.reading held told inst sched is run.answer (asked_is (check_plan s w p t) asks))
+      | inr cut ↦ absurd (none.printing cut.rose)
+    ]
 
   -- the refusal whose status is told
   refusal_told : (asked : Asked) (a : Answer) → Serves asked before after a → IsRefusal (status_of a) → ended ≡ status_of a → pa.bytes ≡ append_known pb.bytes (report_text a)
@@ -380,6 +396,8 @@ module _ (words : List (List ℕ)) (before after : Stand) (pb pa : Printed) (end
   refusal_told asked (answer.Planned made) serves is e report = absurd (no_refusal made is)
   refusal_told asked (answer.Unplanned bound branched) serves is e report = absurd is
   refusal_told asked (answer.Infeasible branched) serves is e report = absurd is
+  refusal_told asked (answer.Broken broken) serves is e report = absurd is
+  refusal_told asked (answer.Compared compared) serves is e report = absurd (no_refusal_compared compared is)
 
   refused : (asked : Asked) → Asks words asked → IsRefusal ended → IsRefusalTold asked before after pb pa ended
   refused asked asks is = elim run.reports [
@@ -392,6 +410,7 @@ module _ (words : List (List ℕ)) (before after : Stand) (pb pa : Printed) (end
     by : (asked : Asked) → Serves asked before after run.answer → ¬ IsPlan asked → after.files ≡ before.files
     by (plan s w p t n) serves never = absurd (never tt)
     by (check s w t) serves never = serves.files
+    by (check_plan s w p t) serves never = serves.files
     by (tasks s w) serves never = serves.files
     by unbuilt serves never = ap (λ (s : Stand). s.files) serves.1
     by usage serves never = ap (λ (s : Stand). s.files) serves.1
@@ -404,7 +423,10 @@ module _ (words : List (List ℕ)) (before after : Stand) (pb pa : Printed) (end
   plan_stays (plan s w p t n) is answer.WriteFault serves one two = absurd (two refl)
   plan_stays (plan s w p t n) is (answer.Tasks inst) serves one two = absurd serves
   plan_stays (plan s w p t n) is (answer.Checked bound) serves one two = absurd serves
+  plan_stays (plan s w p t n) is (answer.Broken broken) serves one two = absurd serves
+  plan_stays (plan s w p t n) is (answer.Compared compared) serves one two = absurd serves
   plan_stays (check s w t) is a serves one two = absurd is
+  plan_stays (check_plan s w p t) is a serves one two = absurd is
   plan_stays (tasks s w) is a serves one two = absurd is
   plan_stays unbuilt is a serves one two = absurd is
   plan_stays usage is a serves one two = absurd is
@@ -449,6 +471,8 @@ module _ (words : List (List ℕ)) (before after : Stand) (pb pa : Printed) (end
   left s w p t n (answer.Infeasible branched) serves = whole s w p t n (answer.Infeasible branched) before.files serves.2
   left s w p t n (answer.Tasks inst) serves = absurd serves
   left s w p t n (answer.Checked bound) serves = absurd serves
+  left s w p t n (answer.Broken broken) serves = absurd serves
+  left s w p t n (answer.Compared compared) serves = absurd serves
 
   plan_stopped : (asked : Asked) → Asks words asked → IsPlan asked → ended ≡ status.WriteFault
       → IfSome before.files (λ held. (after.files ≡ Some held) ⊎ IsStopped asked held after.files)
@@ -456,6 +480,7 @@ module _ (words : List (List ℕ)) (before after : Stand) (pb pa : Printed) (end
     by : (asked : Asked) → IsPlan asked → Serves asked before after run.answer → IfSome before.files (λ held. (after.files ≡ Some held) ⊎ IsStopped asked held after.files)
     by (plan s w p t n) is serves = left s w p t n run.answer serves
     by (check s w t) is serves = absurd is
+    by (check_plan s w p t) is serves = absurd is
     by (tasks s w) is serves = absurd is
     by unbuilt is serves = absurd is
     by usage is serves = absurd is
@@ -468,10 +493,13 @@ module _ (words : List (List ℕ)) (before after : Stand) (pb pa : Printed) (end
   write_answer asked (answer.Unplanned bound branched) serves e = absurd (cc e)
   write_answer asked (answer.Infeasible branched) serves e = absurd (cc e)
   write_answer asked (answer.Tasks inst) serves e = absurd (cc e)
+  write_answer asked (answer.Broken broken) serves e = absurd (cc e)
+  write_answer asked (answer.Compared compared) serves e = absurd (compared_ends compared status.WriteFault e)
   write_answer asked (answer.Checked (Least end)) serves e = absurd (cc e)
   write_answer asked (answer.Checked Never) serves e = absurd (cc e)
   write_answer (plan s w p t n) answer.WriteFault serves e = (tt, serves.0, refl)
   write_answer (check s w t) answer.WriteFault serves e = absurd serves.ending
+  write_answer (check_plan s w p t) answer.WriteFault serves e = absurd serves.ending
   write_answer (tasks s w) answer.WriteFault serves e = absurd serves.ending
   write_answer unbuilt answer.WriteFault serves e = absurd (cc serves.0)
   write_answer usage answer.WriteFault serves e = absurd (cc serves.0)
@@ -496,6 +524,7 @@ module _ (words : List (List ℕ)) (before after : Stand) (pb pa : Printed) (end
   usage_asked asked (answer.Stopped (stop.Refused (refusal.TooLarge file))) serves e = absurd (cc e)
   usage_asked asked (answer.Stopped (stop.Refused (refusal.BadShip fault))) serves e = absurd (cc e)
   usage_asked asked (answer.Stopped (stop.Refused (refusal.BadStow fault))) serves e = absurd (cc e)
+  usage_asked asked (answer.Stopped (stop.Refused (refusal.BadPlan fault))) serves e = absurd (cc e)
   usage_asked asked (answer.Stopped (stop.Refused (refusal.BadTree fault))) serves e = absurd (cc e)
   usage_asked asked (answer.Stopped (stop.Refused refusal.Unbuilt)) serves e = absurd (cc e)
   usage_asked asked (answer.Stopped stop.OutOfMemory) serves e = absurd (cc e)
@@ -503,11 +532,14 @@ module _ (words : List (List ℕ)) (before after : Stand) (pb pa : Printed) (end
   usage_asked asked (answer.Unplanned bound branched) serves e = absurd (cc e)
   usage_asked asked (answer.Infeasible branched) serves e = absurd (cc e)
   usage_asked asked (answer.Tasks inst) serves e = absurd (cc e)
+  usage_asked asked (answer.Broken broken) serves e = absurd (cc e)
+  usage_asked asked (answer.Compared compared) serves e = absurd (compared_ends compared status.Usage e)
   usage_asked asked (answer.Checked (Least end)) serves e = absurd (cc e)
   usage_asked asked (answer.Checked Never) serves e = absurd (cc e)
   usage_asked asked answer.WriteFault serves e = absurd (cc e)
   usage_asked (plan s w p t n) (answer.Stopped (stop.Refused refusal.Usage)) serves e = absurd serves.0
   usage_asked (check s w t) (answer.Stopped (stop.Refused refusal.Usage)) serves e = absurd serves.ending
+  usage_asked (check_plan s w p t) (answer.Stopped (stop.Refused refusal.Usage)) serves e = elim serves.ending [ inl early ↦ absurd early | inr late ↦ absurd late.tree ]
   usage_asked (tasks s w) (answer.Stopped (stop.Refused refusal.Usage)) serves e = absurd serves.ending
   usage_asked unbuilt (answer.Stopped (stop.Refused refusal.Usage)) serves e = absurd (cc serves.0)
   usage_asked usage (answer.Stopped (stop.Refused refusal.Usage)) serves e = refl
@@ -538,13 +570,15 @@ module _ (words : List (List ℕ)) (before after : Stand) (pb pa : Printed) (end
     stop_due : (asked : Asked) (held : Files) → before.files ≡ Some held → (why : Stop) → Stops (due asked) asked before after why
         → EndsAsDue (due asked (reads_in held asked)) (status_of (answer.Stopped why)) ⊎ (status_of (answer.Stopped why) ≡ status.OutOfMemory)
     stop_due asked held told stop.OutOfMemory h = inr refl
-    stop_due asked held told (stop.Refused refusal.Usage) h = absurd h
-    stop_due asked held told (stop.Refused (refusal.ReadFault file)) h = inl (as_due _ _ _ (unread_due asked held before.files told file _ _ none.reading h.cause h.turn) refl)
-    stop_due asked held told (stop.Refused (refusal.TooLarge file)) h = inl (as_due _ _ _ (comes_due asked held before.files told (Err (refusal.TooLarge file)) h.1) refl)
-    stop_due asked held told (stop.Refused (refusal.BadShip fault)) h = inl (as_due _ _ _ (comes_due asked held before.files told (Err (refusal.BadShip fault)) h.1) refl)
-    stop_due asked held told (stop.Refused (refusal.BadStow fault)) h = inl (as_due _ _ _ (comes_due asked held before.files told (Err (refusal.BadStow fault)) h.1) refl)
-    stop_due asked held told (stop.Refused (refusal.BadTree fault)) h = inl (as_due _ _ _ (comes_due asked held before.files told (Err (refusal.BadTree fault)) h.1) refl)
-    stop_due asked held told (stop.Refused refusal.Unbuilt) h = inl (as_due _ _ _ (comes_due asked held before.files told (Err refusal.Unbuilt) h.1) refl)
+    stop_due asked held told (stop.Refused why) h = inl (as_due _ _ _ (stop_is (due asked) asked before after held told none.reading why h) refl)
+
+    -- a check of a plan, up to the judging of its schedule
+    judged_plan : (s w p t : List ℕ) (held : Files) → before.files ≡ Some held → (a : Answer) → Serves (check_plan s w p t) before after a → (d : Result Work Refusal)
+        → due (check_plan s w p t) (reads_in held (check_plan s w p t)) ≡ d → EndsAsDue d (status_of a) ⊎ (status_of a ≡ status.OutOfMemory)
+    judged_plan s w p t held told a serves (Ok (judge inst sched)) is = inl tt
+    judged_plan s w p t held told a serves (Ok (print ending)) is = absurd (only_judge (reads_in held (check_plan s w p t)) (print ending) is)
+    judged_plan s w p t held told a serves (Ok (search inst nodes)) is = absurd (only_judge (reads_in held (check_plan s w p t)) (search inst nodes) is)
+    judged_plan s w p t held told a serves (Err why) is = early_due s w p t before after pb pa none.reading held told why is a serves
 
     answer_due : (asked : Asked) (held : Files) → before.files ≡ Some held → (a : Answer) → Serves asked before after a
         → EndsAsDue (due asked (reads_in held asked)) (status_of a) ⊎ (status_of a ≡ status.OutOfMemory)
@@ -558,20 +592,27 @@ module _ (words : List (List ℕ)) (before after : Stand) (pb pa : Printed) (end
     answer_due (plan s w p t n) held told answer.WriteFault serves = absurd (none.writing serves.0)
     answer_due (plan s w p t n) held told (answer.Tasks inst) serves = absurd serves
     answer_due (plan s w p t n) held told (answer.Checked bound) serves = absurd serves
+    answer_due (plan s w p t n) held told (answer.Broken broken) serves = absurd serves
+    answer_due (plan s w p t n) held told (answer.Compared compared) serves = absurd serves
     answer_due (check s w t) held told (answer.Stopped why) serves = stop_due (check s w t) held told why serves.ending
     answer_due (check s w t) held told answer.WriteFault serves = absurd serves.ending
-    answer_due (check s w t) held told (answer.Tasks inst) serves = inl (as_due _ _ _ (comes_due (check s w t) held before.files told (Ok (print (ending_of (answer.Tasks inst)))) serves.ending.1) refl)
-    answer_due (check s w t) held told (answer.Checked bound) serves = inl (as_due _ _ _ (comes_due (check s w t) held before.files told (Ok (print (ending_of (answer.Checked bound)))) serves.ending.1) refl)
+    answer_due (check s w t) held told (answer.Tasks inst) serves = inl (as_due _ _ _ (comes_due (due (check s w t)) (check s w t) held before.files told (Ok (print (ending_of (answer.Tasks inst)))) serves.ending.1) refl)
+    answer_due (check s w t) held told (answer.Checked bound) serves = inl (as_due _ _ _ (comes_due (due (check s w t)) (check s w t) held before.files told (Ok (print (ending_of (answer.Checked bound)))) serves.ending.1) refl)
     answer_due (check s w t) held told (answer.Planned made) serves = absurd serves.ending
     answer_due (check s w t) held told (answer.Unplanned bound branched) serves = absurd serves.ending
     answer_due (check s w t) held told (answer.Infeasible branched) serves = absurd serves.ending
+    answer_due (check s w t) held told (answer.Broken broken) serves = absurd serves.ending
+    answer_due (check s w t) held told (answer.Compared compared) serves = absurd serves.ending
+    answer_due (check_plan s w p t) held told a serves = judged_plan s w p t held told a serves (due (check_plan s w p t) (reads_in held (check_plan s w p t))) refl
     answer_due (tasks s w) held told (answer.Stopped why) serves = stop_due (tasks s w) held told why serves.ending
     answer_due (tasks s w) held told answer.WriteFault serves = absurd serves.ending
-    answer_due (tasks s w) held told (answer.Tasks inst) serves = inl (as_due _ _ _ (comes_due (tasks s w) held before.files told (Ok (print (ending_of (answer.Tasks inst)))) serves.ending.1) refl)
-    answer_due (tasks s w) held told (answer.Checked bound) serves = inl (as_due _ _ _ (comes_due (tasks s w) held before.files told (Ok (print (ending_of (answer.Checked bound)))) serves.ending.1) refl)
+    answer_due (tasks s w) held told (answer.Tasks inst) serves = inl (as_due _ _ _ (comes_due (due (tasks s w)) (tasks s w) held before.files told (Ok (print (ending_of (answer.Tasks inst)))) serves.ending.1) refl)
+    answer_due (tasks s w) held told (answer.Checked bound) serves = inl (as_due _ _ _ (comes_due (due (tasks s w)) (tasks s w) held before.files told (Ok (print (ending_of (answer.Checked bound)))) serves.ending.1) refl)
     answer_due (tasks s w) held told (answer.Planned made) serves = absurd serves.ending
     answer_due (tasks s w) held told (answer.Unplanned bound branched) serves = absurd serves.ending
     answer_due (tasks s w) held told (answer.Infeasible branched) serves = absurd serves.ending
+    answer_due (tasks s w) held told (answer.Broken broken) serves = absurd serves.ending
+    answer_due (tasks s w) held told (answer.Compared compared) serves = absurd serves.ending
     answer_due unbuilt held told a serves = inl (ap status_of serves.0)
     answer_due usage held told a serves = inl (ap status_of serves.0)
 
@@ -594,6 +635,12 @@ module _ (words : List (List ℕ)) (before after : Stand) (pb pa : Printed) (end
     check_done = check_done;
     check_infeasible = check_infeasible;
     check_bad_tree = check_bad_tree;
+    check_optimal = check_optimal;
+    check_weaker = check_weaker;
+    check_broken = check_broken;
+    check_bad_plan = check_bad_plan;
+    check_plan_bad_tree = check_plan_bad_tree;
+    check_complete = λ s w p t asks none. check_complete s w p t asks none before.files refl;
     refused = refused;
     files_stay = files_stay;
     plan_leaves = plan_leaves;

@@ -16,7 +16,7 @@ use Rattle.qc_search.specs.Run.{IsSearched as Searched}
 use Rattle.qc_num.specs.declared.bound.Bound.TheVariants.{Never}
 use Rattle.qc_top.specs.declared.answer.Answer.{Answer}
 use Rattle.qc_top.specs.declared.answer.Answer.TheVariants as answer
-use Rattle.qc_top.specs.Asked.{Asked, plan, check, tasks, unbuilt, usage, IsPlanTo}
+use Rattle.qc_top.specs.Asked.{Asked, plan, check, check_plan, tasks, unbuilt, usage, IsPlanTo}
 use Rattle.qc_top.specs.Due.{search, due, instance_due}
 use Rattle.qc_top.specs.Found.{IsFound, Tells}
 use Rattle.qc_top.specs.Account.{ComesTo, Named, written, plan_texts, texts_of, IsCutShort, IsStored, IsTreeCut, IsSearched, IsStopped, IsWriting}
@@ -162,6 +162,7 @@ module _ (asked : Asked) (p t : List ℕ) (nodes : ℕ) (to : IsPlanTo asked p t
     by : (asked : Asked) → IsPlanTo asked p t nodes → texts_of asked inst tree best ≡ (t, tree_text inst tree) ∷ plan_texts p inst best
     by (plan s w q u n) to = ap (λ name. (name, tree_text inst tree) ∷ plan_texts q inst best) to.1 ∙ ap (λ name. (t, tree_text inst tree) ∷ plan_texts name inst best) to.0
     by (check s w u) to = absurd to
+    by (check_plan s w q u) to = absurd to
     by (tasks s w) to = absurd to
     by unbuilt to = absurd to
     by usage to = absurd to
@@ -229,6 +230,8 @@ writes_told asked before after inst done (answer.Stopped why) told faults reads 
 writes_told asked before after inst done answer.WriteFault told faults reads searched = absurd told
 writes_told asked before after inst done (answer.Tasks listed) told faults reads searched = absurd told
 writes_told asked before after inst done (answer.Checked bound) told faults reads searched = absurd told
+writes_told asked before after inst done (answer.Broken broken) told faults reads searched = absurd told
+writes_told asked before after inst done (answer.Compared compared) told faults reads searched = absurd told
 writes_told asked before after inst done (answer.Planned found) told faults reads searched = (faults, reads, searched)
 writes_told asked before after inst done (answer.Unplanned bound branched) told faults reads searched = (faults, reads, searched)
 writes_told asked before after inst done (answer.Infeasible branched) told faults reads searched = (faults, reads, searched)
@@ -240,6 +243,7 @@ pub search_due :
 search_due asked p t nodes to None inst h = tt
 search_due (plan s w q u n) p t nodes to (Some held) inst h = rw h (ap (λ m. Ok (search inst m)) to.2)
 search_due (check s w u) p t nodes to (Some held) inst h = absurd to
+search_due (check_plan s w q u) p t nodes to (Some held) inst h = absurd to
 search_due (tasks s w) p t nodes to (Some held) inst h = absurd to
 search_due unbuilt p t nodes to (Some held) inst h = absurd to
 search_due usage p t nodes to (Some held) inst h = absurd to

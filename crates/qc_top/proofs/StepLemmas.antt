@@ -5,6 +5,7 @@ use Rattle.std.proofs.lemmas.Bool.{cond_both}
 use Rattle.std.specs.FinMap.{get}
 use Rattle.qc_num.specs.Reading.{◌>>=◌, with_fault}
 use Rattle.qc_io.specs.Outside.{Files, Stand, IsMissing, file_at}
+use Rattle.qc_gantt.specs.Plan.{plan_in}
 use Rattle.qc_model.specs.Instance.{InstanceView}
 use Rattle.qc_tree.specs.Trees.{Tree, IsTree, tree_text}
 use Rattle.qc_replay.specs.declared.fault.TreeFault.{TreeFault}
@@ -19,7 +20,7 @@ use Rattle.qc_top.specs.declared.answer.Refusal.TheVariants as refusal
 use Rattle.qc_top.specs.declared.answer.Stop.{Stop}
 use Rattle.qc_top.specs.declared.answer.Stop.TheVariants as stop
 use Rattle.qc_top.specs.Asked.{Asked, name_of}
-use Rattle.qc_top.specs.Due.{Reads, file_limit, input_due, instance_due, moves_due, reads_in, ship_due, tree_due, within_limit}
+use Rattle.qc_top.specs.Due.{Reads, file_limit, input_due, instance_due, job_due, moves_due, reads_in, schedule_due, ship_due, tree_due, within_limit}
 use Rattle.qc_top.specs.Account.{ComesTo, IsStep, Stops}
 use Rattle.qc_top.specs.Shown.{IsNoTree}
 
@@ -73,7 +74,7 @@ no_tree inst asked name named (Some held) is_held none =
 
 -- ---- no fault of a tree comes of the other two files
 
-abbrev IsEarly : Refusal → Type 0
+abbrev pub IsEarly : Refusal → Type 0
 IsEarly (refusal.BadTree fault) = ⊥
 IsEarly why = Unit {0}
 
@@ -91,7 +92,7 @@ then_early : {A B : Type 0} (r : Result A Refusal) (next : A → Result B Refusa
 then_early (Ok a) next first second = second a
 then_early (Err e) next first second = first
 
-instance_early : (reads : Reads) → IfErr (instance_due reads) IsEarly
+pub instance_early : (reads : Reads) → IfErr (instance_due reads) IsEarly
 instance_early reads =
     then_early (ship_due reads) (λ ship. moves_due ship reads >>= λ rows. Ok (instance_of ship rows))
     (then_early (input_due input.Ship reads) (λ bytes. with_fault refusal.BadShip (ship_file bytes)) (input_early input.Ship reads.ship)
@@ -101,13 +102,22 @@ instance_early reads =
     (λ bytes. fault_early refusal.BadStow (λ _. tt) (moves_in ship bytes)))
     (λ rows. tt))
 
+pub job_early : (reads : Reads) → IfErr (job_due reads) IsEarly
+job_early reads =
+    then_early (instance_due reads) (λ inst. schedule_due inst reads >>= λ sched. Ok (record { inst = inst; sched = sched })) (instance_early reads)
+    (λ inst. then_early (schedule_due inst reads) (λ sched. Ok (record { inst = inst; sched = sched }))
+    (then_early (input_due input.Plan reads) (λ bytes. with_fault refusal.BadPlan (plan_in inst bytes)) (input_early input.Plan reads.plan)
+    (λ bytes. fault_early refusal.BadPlan (λ _. tt) (plan_in inst bytes)))
+    (λ sched. tt))
+
 pub no_fault_yet :
-    (asked : Asked) (before after : Stand) (result : Result InstanceView Stop) → IfErr result (Stops instance_due asked before after)
+    {A : Type 0} (step : Reads → Result A Refusal) → ((reads : Reads) → IfErr (step reads) IsEarly)
+    → (asked : Asked) (before after : Stand) (result : Result A Stop) → IfErr result (Stops step asked before after)
     → (fault : TreeFault) → result ≡ Err (stop.Refused (refusal.BadTree fault)) → (P : Files → Type 0) → IfSome before.files P
-no_fault_yet asked before after result stops fault is P =
-    told before.files (subst (λ (r : Result InstanceView Stop). IfErr r (Stops instance_due asked before after)) is stops).1
+no_fault_yet {A = A} step early asked before after result stops fault is P =
+    told before.files (subst (λ (r : Result A Stop). IfErr r (Stops step asked before after)) is stops).1
   where
-    told : (files : Option Files) → ComesTo instance_due asked files (Err (refusal.BadTree fault)) → IfSome files P
+    told : (files : Option Files) → ComesTo step asked files (Err (refusal.BadTree fault)) → IfSome files P
     told None due = tt
     told (Some held) due =
-        absurd (subst (λ (r : Result InstanceView Refusal). IfErr r IsEarly) due (instance_early (reads_in held asked)))
+        absurd (subst (λ (r : Result A Refusal). IfErr r IsEarly) due (early (reads_in held asked)))

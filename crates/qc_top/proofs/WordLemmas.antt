@@ -8,7 +8,7 @@ use Rattle.std.proofs.lemmas.Slice.Eq.{bytes_eq-Decides}
 use Rattle.std.proofs.lemmas.Fmt.{decimal_is_IsNumeral, parse-decimal}
 use Rattle.std.proofs.lemmas.Bool.Decides.{Decides-and, Decides-like, same_from_decides, nat_tests}
 use Rattle.qc_tree.specs.declared.line.TheConstants.{MOST_BRANCHINGS}
-use Rattle.qc_top.specs.Asked.{Asked, HasFewNodes, plan, check, tasks, unbuilt, usage}
+use Rattle.qc_top.specs.Asked.{Asked, HasFewNodes, plan, check, check_plan, tasks, unbuilt, usage}
 use Rattle.qc_top.specs.Words.{are_plan_files, asked_by, check_asked, check_of, is_file_word, is_number_to, make_asked, nodes_in, plan_asked, plan_with, show_asked, tasks_asked}
 
 -- the word is the decimal text of a number up to the greatest
@@ -119,7 +119,7 @@ check_few (s ∷ w ∷ []) = tt
 check_few (s ∷ w ∷ p ∷ []) = tt
 check_few (s ∷ w ∷ p ∷ t ∷ []) =
     of_cond (is_file_word s && is_file_word w && (is_file_word p || bytes_eq p (codes "-")) && is_file_word t) (check_of s w p t) usage
-    (of_cond (bytes_eq p (codes "-")) (check s w t) unbuilt tt tt) tt
+    (of_cond (bytes_eq p (codes "-")) (check s w t) (check_plan s w p t) tt tt) tt
 check_few (s ∷ w ∷ p ∷ t ∷ x ∷ more) = tt
 
 tasks_few : (args : List (List ℕ)) → HasFewNodes (tasks_asked args)

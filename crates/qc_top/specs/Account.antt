@@ -5,6 +5,8 @@ use Rattle.std.specs.Io.KnownBytes.{append_known}
 use Rattle.qc_io.specs.Outside.{Files, Rose, ReadCause, GrewByPart, Stand}
 use Rattle.qc_model.specs.declared.schedule.Slot.{Slot}
 use Rattle.qc_model.specs.Instance.{InstanceView}
+use Rattle.qc_model.specs.OneWay.{GoesOneWay}
+use Rattle.qc_replay.specs.declared.fault.Replayed.{Replayed}
 use Rattle.qc_search.specs.Run.{DoneView, IsMetBest, SearchView}
 use Rattle.qc_tree.specs.Trees.{IsTree, Tree, tree_text}
 use Rattle.qc_top.specs.declared.answer.Input.{Input}
@@ -14,14 +16,17 @@ use Rattle.qc_top.specs.declared.answer.Stop.{Stop}
 use Rattle.qc_top.specs.declared.answer.Stop.TheVariants as stop
 use Rattle.qc_top.specs.declared.answer.Answer.{Answer}
 use Rattle.qc_top.specs.declared.answer.Answer.TheVariants as answer
+use Rattle.qc_top.specs.declared.answer.Broken.{Broken}
+use Rattle.qc_top.specs.declared.answer.Compared.{Compared}
 use Rattle.qc_top.specs.declared.status.Status.{Status}
 use Rattle.qc_top.specs.declared.status.Status.TheVariants as status
-use Rattle.qc_top.specs.Asked.{Asked, plan, unbuilt, usage, name_of}
+use Rattle.qc_top.specs.Asked.{Asked, plan, check_plan, unbuilt, usage, name_of}
 use Rattle.qc_top.specs.Words.{Asks}
-use Rattle.qc_top.specs.Due.{Reads, print, search, reads_in, without, due}
+use Rattle.qc_top.specs.Due.{Reads, print, search, judge, reads_in, without, due, tree_due}
 use Rattle.qc_top.specs.Answers.{ending_of, report_text, status_of}
 use Rattle.qc_gantt.specs.PlanText.{plan_text}
 use Rattle.qc_top.specs.Found.{IsFound, Tells}
+use Rattle.qc_top.specs.Held.{TellsBreak, TellsHeld}
 
 -- where the shelf tells its files, a step over them comes to this
 abbrev pub ComesTo :
@@ -65,6 +70,8 @@ pub record IsStep {A : Type 0} (step : Reads → Result A Refusal) (asked : Aske
 abbrev pub ComesThrough : Asked → Stand → Stand → Answer → Type 0
 ComesThrough asked before after (answer.Stopped why) = Stops (due asked) asked before after why
 ComesThrough asked before after answer.WriteFault = ⊥
+ComesThrough asked before after (answer.Broken told) = ⊥
+ComesThrough asked before after (answer.Compared told) = ⊥
 ComesThrough asked before after (answer.Planned told) = ⊥
 ComesThrough asked before after (answer.Unplanned bound branched) = ⊥
 ComesThrough asked before after (answer.Infeasible branched) = ⊥
@@ -150,15 +157,58 @@ IsWriting asked before after answer.WriteFault =
     × IfSome before.files (λ held. IsStopped asked held after.files)
 IsWriting asked before after (answer.Tasks inst) = ⊥
 IsWriting asked before after (answer.Checked bound) = ⊥
+IsWriting asked before after (answer.Broken told) = ⊥
+IsWriting asked before after (answer.Compared told) = ⊥
 IsWriting asked before after a =
     (after.faults ≡ before.faults) × (after.read_faults ≡ before.read_faults)
     × IfSome before.files (λ held. IsSearched asked held a after.files)
+
+-- the schedule of the plan goes one way, and its tree's file was refused
+pub record IsStoppedAtTree (asked : Asked) (before after : Stand) (why : Stop) : Type 0 where
+  pub inst : InstanceView
+  pub sched : List Slot
+  pub due : ComesTo (due asked) asked before.files (Ok (judge inst sched))
+  pub goes : GoesOneWay inst sched
+  pub tree : Stops (tree_due inst) asked before after why
+
+-- the schedule of the plan breaks a rule
+pub record IsBroken (asked : Asked) (files : Option Files) (told : Broken) : Type 0 where
+  pub inst : InstanceView
+  pub sched : List Slot
+  pub due : ComesTo (due asked) asked files (Ok (judge inst sched))
+  pub tells : TellsBreak inst sched told
+
+-- the schedule of the plan goes one way, and the tree's file is one of a tree
+pub record IsCompared (asked : Asked) (files : Option Files) (told : Compared) : Type 0 where
+  pub inst : InstanceView
+  pub sched : List Slot
+  pub due : ComesTo (due asked) asked files (Ok (judge inst sched))
+  pub read : Replayed
+  pub tree : ComesTo (tree_due inst) asked files (Ok read)
+  pub tells : TellsHeld inst sched read.bound told
+
+-- a check of a plan: a refusal comes before the schedule is judged, or of the tree's file where it goes one way
+abbrev pub ComesOf : Asked → Stand → Stand → Answer → Type 0
+ComesOf asked before after (answer.Stopped why) =
+    Stops (due asked) asked before after why ⊎ IsStoppedAtTree asked before after why
+ComesOf asked before after (answer.Broken told) =
+    (after.read_faults ≡ before.read_faults) × IsBroken asked before.files told
+ComesOf asked before after (answer.Compared told) =
+    (after.read_faults ≡ before.read_faults) × IsCompared asked before.files told
+ComesOf asked before after _ = ⊥
+
+-- what a check of a plan says of the shelf
+pub record IsJudging (asked : Asked) (before after : Stand) (a : Answer) : Type 0 where
+  pub ending : ComesOf asked before after a
+  pub files : after.files ≡ before.files
+  pub faults : after.faults ≡ before.faults
 
 -- what a request says of its answer and of the shelf
 abbrev pub Serves : Asked → Stand → Stand → Answer → Type 0
 Serves usage before after a = (a ≡ answer.Stopped (stop.Refused refusal.Usage)) × (after ≡ before)
 Serves unbuilt before after a = (a ≡ answer.Stopped (stop.Refused refusal.Unbuilt)) × (after ≡ before)
 Serves (plan s w p t n) before after a = IsWriting (plan s w p t n) before after a
+Serves (check_plan s w p t) before after a = IsJudging (check_plan s w p t) before after a
 Serves asked before after a = IsReading asked before after a
 
 -- what is seen of the sink: its bytes, where it tells them, and its count of faults

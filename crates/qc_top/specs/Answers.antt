@@ -2,6 +2,11 @@
 use Rattle.std.specs.Prelude.{ℕ, nat_le, if◌then◌else◌, List, [], ◌∷◌, ◌++◌, codes, decimal}
 use Rattle.qc_model.specs.declared.direction.Direction.{Direction}
 use Rattle.qc_model.specs.declared.direction.Direction.TheVariants.{Up, Down}
+use Rattle.qc_gantt.specs.Faults.{kind_text as plan_kind_text}
+use Rattle.qc_gantt.specs.declared.fault.PlanFault.{PlanFault}
+use Rattle.qc_model.specs.declared.rules.Rule.{Rule}
+use Rattle.qc_model.specs.declared.rules.Rule.TheVariants as rule
+use Rattle.qc_model.specs.Judge.{rule_text}
 use Rattle.qc_replay.specs.Faults.{kind_text as tree_text}
 use Rattle.qc_replay.specs.declared.fault.TreeFault.{TreeFault}
 use Rattle.qc_ship.specs.declared.fault.ShipKind.{ShipKind}
@@ -18,6 +23,8 @@ use Rattle.qc_top.specs.declared.answer.Refusal.TheVariants as refusal
 use Rattle.qc_top.specs.declared.answer.Stop.{Stop}
 use Rattle.qc_top.specs.declared.answer.Stop.TheVariants as stop
 use Rattle.qc_top.specs.declared.answer.Planned.{Planned}
+use Rattle.qc_top.specs.declared.answer.Broken.{Broken}
+use Rattle.qc_top.specs.declared.answer.Compared.{Compared}
 use Rattle.qc_top.specs.declared.answer.Answer.{Answer}
 use Rattle.qc_top.specs.declared.answer.Answer.TheVariants as answer
 use Rattle.qc_top.specs.declared.status.Status.{Status}
@@ -73,6 +80,11 @@ abbrev pub bad_stow_text : StowFault → List ℕ
 bad_stow_text fault =
     codes "BadStow " ++ stow_text fault.kind ++ codes " " ++ decimal fault.number ++ codes "\n"
 
+-- the line of a fault in the plan's file with its record
+abbrev pub bad_plan_text : PlanFault → List ℕ
+bad_plan_text fault =
+    codes "BadPlan " ++ plan_kind_text fault.kind ++ codes " " ++ decimal fault.number ++ codes "\n"
+
 -- the line of a fault in the tree's file with its line there
 abbrev pub bad_tree_text : TreeFault → List ℕ
 bad_tree_text fault =
@@ -105,6 +117,36 @@ unplanned_text bound branched =
 abbrev pub infeasible_text : ℕ → List ℕ
 infeasible_text branched = codes "Infeasible\nbranched " ++ decimal branched ++ codes "\n"
 
+-- the names of the task or of the two tasks at which a rule is broken
+abbrev pub tasks_named : Rule → List ℕ → List ℕ → List ℕ
+tasks_named rule.Reach first second = first
+tasks_named rule.Ready first second = first
+tasks_named rule.Travel first second = first ++ codes " " ++ second
+tasks_named rule.Before first second = first ++ codes " " ++ second
+tasks_named rule.Apart first second = first ++ codes " " ++ second
+tasks_named rule.Margin first second = first ++ codes " " ++ second
+tasks_named rule.Berth first second = first
+tasks_named rule.OneWay first second = first ++ codes " " ++ second
+
+-- what is printed for a plan that breaks a rule
+abbrev pub broken_text : Broken → List ℕ
+broken_text told =
+    codes "Broken " ++ rule_text told.rule ++ codes " " ++ tasks_named told.rule told.first told.second
+    ++ codes "\n"
+
+-- a plan that holds is a best one where its end is at most the tree's value
+abbrev pub compared_status : Compared → Status
+compared_status told = if nat_le told.end told.bound then status.Optimal else status.Weaker
+
+abbrev pub compared_word : Compared → List ℕ
+compared_word told = if nat_le told.end told.bound then codes "Optimal" else codes "Weaker"
+
+-- what is printed for a plan that holds
+abbrev pub compared_text : Compared → List ℕ
+compared_text told =
+    compared_word told ++ codes "\nend " ++ decimal told.end ++ codes "\nbound " ++ decimal told.bound
+    ++ codes "\n"
+
 -- what is printed for a refusal
 abbrev pub refusal_text : Refusal → List ℕ
 refusal_text refusal.Usage = usage_text
@@ -112,6 +154,7 @@ refusal_text (refusal.ReadFault file) = codes "ReadFault " ++ line (input_text f
 refusal_text (refusal.TooLarge file) = codes "TooLarge " ++ line (input_text file)
 refusal_text (refusal.BadShip fault) = bad_ship_text fault.kind fault
 refusal_text (refusal.BadStow fault) = bad_stow_text fault
+refusal_text (refusal.BadPlan fault) = bad_plan_text fault
 refusal_text (refusal.BadTree fault) = bad_tree_text fault
 refusal_text refusal.Unbuilt = codes "Unbuilt\n"
 
@@ -121,6 +164,7 @@ refusal_status (refusal.ReadFault file) = status.ReadFault
 refusal_status (refusal.TooLarge file) = status.TooLarge
 refusal_status (refusal.BadShip fault) = status.BadShip
 refusal_status (refusal.BadStow fault) = status.BadStow
+refusal_status (refusal.BadPlan fault) = status.BadPlan
 refusal_status (refusal.BadTree fault) = status.BadTree
 refusal_status refusal.Unbuilt = status.Unbuilt
 
@@ -139,6 +183,8 @@ report_text (answer.Stopped why) = stop_text why
 report_text answer.WriteFault = codes "WriteFault\n"
 report_text (answer.Tasks inst) = tasks_text inst
 report_text (answer.Checked bound) = (bound_ending bound).text
+report_text (answer.Broken told) = broken_text told
+report_text (answer.Compared told) = compared_text told
 report_text (answer.Planned told) = planned_text told
 report_text (answer.Unplanned bound branched) = unplanned_text bound branched
 report_text (answer.Infeasible branched) = infeasible_text branched
@@ -148,6 +194,8 @@ status_of (answer.Stopped why) = stop_status why
 status_of answer.WriteFault = status.WriteFault
 status_of (answer.Tasks inst) = status.Done
 status_of (answer.Checked bound) = (bound_ending bound).status
+status_of (answer.Broken told) = status.Broken
+status_of (answer.Compared told) = compared_status told
 status_of (answer.Planned told) = planned_status told
 status_of (answer.Unplanned bound branched) = status.BudgetNone
 status_of (answer.Infeasible branched) = status.Infeasible

@@ -11,6 +11,8 @@ pub data Asked : Type 0 where
   plan : (ship stow plan tree : List ℕ) (nodes : ℕ) → Asked
   -- what a tree shows for a ship file and a stowage list, without a plan
   check : (ship stow tree : List ℕ) → Asked
+  -- whether a plan holds, and what a tree shows of its end, for a ship file and a stowage list
+  check_plan : (ship stow plan tree : List ℕ) → Asked
   -- the tasks of a ship file and a stowage list
   tasks : (ship stow : List ℕ) → Asked
   -- a form of a command that isn't built yet
@@ -22,6 +24,7 @@ pub data Asked : Type 0 where
 abbrev pub asked_for : Request → Asked
 asked_for (request.Plan ship stow plan_name tree nodes) = plan ship.now stow.now plan_name.now tree.now nodes
 asked_for (request.Check ship stow tree) = check ship.now stow.now tree.now
+asked_for (request.CheckPlan ship stow plan_name tree) = check_plan ship.now stow.now plan_name.now tree.now
 asked_for (request.Tasks ship stow) = tasks ship.now stow.now
 asked_for request.Unbuilt = unbuilt
 asked_for request.Usage = usage
@@ -33,6 +36,10 @@ name_of input.Stow (plan s w p t n) = Some w
 name_of input.Ship (check s w t) = Some s
 name_of input.Stow (check s w t) = Some w
 name_of input.Tree (check s w t) = Some t
+name_of input.Ship (check_plan s w p t) = Some s
+name_of input.Stow (check_plan s w p t) = Some w
+name_of input.Plan (check_plan s w p t) = Some p
+name_of input.Tree (check_plan s w p t) = Some t
 name_of input.Ship (tasks s w) = Some s
 name_of input.Stow (tasks s w) = Some w
 name_of _ _ = None
@@ -51,6 +58,11 @@ nodes_of _ = 0
 abbrev pub IsCheck : Asked → Type 0
 IsCheck (check s w t) = Unit {0}
 IsCheck _ = ⊥
+
+-- a plan is asked about
+abbrev pub IsCheckPlan : Asked → Type 0
+IsCheckPlan (check_plan s w p t) = Unit {0}
+IsCheckPlan _ = ⊥
 
 -- the tasks are asked for
 abbrev pub IsTasks : Asked → Type 0

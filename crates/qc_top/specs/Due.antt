@@ -5,6 +5,8 @@ use Rattle.qc_num.specs.declared.bound.Bound.{Bound}
 use Rattle.qc_num.specs.declared.bound.Bound.TheVariants.{Least, Never}
 use Rattle.qc_num.specs.Reading.{◌>>=◌, with_fault}
 use Rattle.qc_io.specs.Outside.{Files}
+use Rattle.qc_gantt.specs.Plan.{plan_in}
+use Rattle.qc_model.specs.declared.schedule.Slot.{Slot}
 use Rattle.qc_model.specs.Instance.{InstanceView}
 use Rattle.qc_replay.specs.declared.fault.Replayed.{Replayed}
 use Rattle.qc_replay.specs.Walk.{tree_in}
@@ -18,9 +20,10 @@ use Rattle.qc_top.specs.declared.answer.Input.{Input}
 use Rattle.qc_top.specs.declared.answer.Input.TheVariants as input
 use Rattle.qc_top.specs.declared.answer.Refusal.{Refusal}
 use Rattle.qc_top.specs.declared.answer.Refusal.TheVariants as refusal
+use Rattle.qc_top.specs.declared.reading.Job.{Job}
 use Rattle.qc_top.specs.declared.status.Status.{Status}
 use Rattle.qc_top.specs.declared.status.Status.TheVariants as status
-use Rattle.qc_top.specs.Asked.{Asked, plan, check, tasks, unbuilt, usage, name_of}
+use Rattle.qc_top.specs.Asked.{Asked, plan, check, check_plan, tasks, unbuilt, usage, name_of}
 
 -- the bytes of the files that are read, by what they are for; none where the file isn't held or isn't read
 pub record Reads : Type 0 where
@@ -56,11 +59,12 @@ pub record Ending : Type 0 where
   pub status : Status
   pub text : List ℕ
 
--- what is to be done: a report is to be printed, or an instance is to be searched with at most so many branchings
--- and what comes of it written
+-- what is to be done: a report is to be printed; an instance is to be searched with at most so many branchings and
+-- what comes of it written; or a schedule is to be judged and, if it holds, its end compared with a tree's value
 pub data Work : Type 0 where
   print : (ending : Ending) → Work
   search : (inst : InstanceView) (nodes : ℕ) → Work
+  judge : (inst : InstanceView) (sched : List Slot) → Work
 
 -- the greatest length of a file that is read whole, in bytes
 abbrev pub file_limit : ℕ
@@ -93,6 +97,25 @@ instance_due reads = do
   ship ← ship_due reads
   rows ← moves_due ship reads
   Ok (instance_of ship rows)
+
+-- the schedule of the plan's file, or the first refusal of that file
+abbrev pub schedule_due : InstanceView → Reads → Result (List Slot) Refusal
+schedule_due inst reads = do
+  bytes ← input_due input.Plan reads
+  with_fault refusal.BadPlan (plan_in inst bytes)
+
+-- the instance and the schedule of the files, or the first refusal: the plan's file comes last
+abbrev pub job_due : Reads → Result Job Refusal
+job_due reads = do
+  inst ← instance_due reads
+  sched ← schedule_due inst reads
+  Ok (record { inst = inst; sched = sched })
+
+-- that schedule is to be judged
+abbrev pub judge_due : Reads → Result Work Refusal
+judge_due reads = do
+  job ← job_due reads
+  Ok (judge job.inst job.sched)
 
 -- the tasks of the instance are to be printed
 abbrev pub tasks_due : Reads → Result Work Refusal
@@ -133,6 +156,7 @@ plan_due nodes reads = do
 abbrev pub due : Asked → Reads → Result Work Refusal
 due (plan s w p t n) reads = plan_due n reads
 due (check s w t) reads = check_due reads
+due (check_plan s w p t) reads = judge_due reads
 due (tasks s w) reads = tasks_due reads
 due unbuilt reads = Err refusal.Unbuilt
 due usage reads = Err refusal.Usage

@@ -4,5 +4,6 @@ pub mod Due
 pub mod Answers
 pub mod Shown
 pub mod Found
+pub mod Held
 pub mod Account
 pub mod Promises

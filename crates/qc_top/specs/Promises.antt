@@ -1,5 +1,5 @@
 -- What follows from a run's account, said by itself for whoever reads one status.
-use Rattle.std.specs.Prelude.{◌≡◌, ◌≢◌, ℕ, ◌≤◌, ◌⊎◌, List, ◌++◌, Option, codes, decimal, Some, Result, Ok, Err, IfSome}
+use Rattle.std.specs.Prelude.{◌≡◌, ◌≢◌, ℕ, ◌≤◌, ◌<◌, ◌⊎◌, List, ◌++◌, Option, codes, decimal, Some, Result, Ok, Err, IfSome}
 use Rattle.std.specs.Io.KnownBytes.{append_known}
 use Rattle.qc_num.specs.declared.bound.Bound.TheVariants.{Least, Never}
 use Rattle.qc_io.specs.Outside.{Files, Rose, GrewByPart, Stand}
@@ -11,18 +11,25 @@ use Rattle.qc_search.specs.declared.done.Kind.{Kind}
 use Rattle.qc_search.specs.declared.done.Kind.TheVariants as kind
 use Rattle.qc_search.specs.Run.{branching_limit}
 use Rattle.qc_tasks.specs.TasksText.{tasks_text}
+use Rattle.qc_gantt.specs.declared.fault.PlanFault.{PlanFault}
+use Rattle.qc_num.specs.declared.bound.Bound.{Bound}
+use Rattle.qc_replay.specs.declared.fault.Replayed.{Replayed}
+use Rattle.qc_top.specs.declared.answer.Broken.{Broken}
+use Rattle.qc_top.specs.declared.answer.Compared.{Compared}
 use Rattle.qc_top.specs.declared.answer.Refusal.{Refusal}
+use Rattle.qc_top.specs.declared.answer.Refusal.TheVariants as refusal
 use Rattle.qc_top.specs.declared.answer.Stop.TheVariants as stop
 use Rattle.qc_top.specs.declared.answer.Planned.{Planned}
 use Rattle.qc_top.specs.declared.answer.Answer.{Answer}
 use Rattle.qc_top.specs.declared.answer.Answer.TheVariants as answer
 use Rattle.qc_top.specs.declared.status.Status.{Status}
 use Rattle.qc_top.specs.declared.status.Status.TheVariants as status
-use Rattle.qc_top.specs.Asked.{Asked, check, tasks, unbuilt, usage, IsPlan, nodes_of}
+use Rattle.qc_top.specs.Asked.{Asked, check, check_plan, tasks, unbuilt, usage, IsPlan, nodes_of}
 use Rattle.qc_top.specs.Words.{Asks}
-use Rattle.qc_top.specs.Due.{Work, print, search, reads_in, instance_due, due}
-use Rattle.qc_top.specs.Answers.{infeasible_text, planned_text, planned_word, refusal_text, report_text, refusal_status, unplanned_text}
-use Rattle.qc_top.specs.Shown.{IsBoundShown, IsNoneShown}
+use Rattle.qc_top.specs.Due.{Work, print, search, judge, reads_in, instance_due, tree_due, due}
+use Rattle.qc_top.specs.Answers.{bad_plan_text, broken_text, compared_status, compared_text, compared_word, infeasible_text, planned_text, planned_word, refusal_text, report_text, refusal_status, unplanned_text}
+use Rattle.qc_top.specs.Held.{TellsBreak}
+use Rattle.qc_top.specs.Shown.{IsBoundShown, IsNoneShown, IsTreeShown}
 use Rattle.qc_top.specs.Account.{IsSearched, IsStopped, Serves, Printed}
 
 -- the schedule goes one way, and no schedule that goes one way ends earlier
@@ -85,6 +92,45 @@ pub record IsNoneTold (asked : Asked) (held : Files) (before after : Printed) : 
   pub shown : IsBoundShown asked held Never
   pub report : after.bytes ≡ append_known before.bytes (codes "Infeasible\n")
 
+-- the plan that was checked goes one way, the tree's file is the text of a tree of the instance, and the plan's end
+-- and the tree's value were printed
+pub record IsComparedTold (asked : Asked) (held : Files) (before after : Printed) (first : List ℕ) : Type 0 where
+  pub inst : InstanceView
+  pub sched : List Slot
+  pub due : due asked (reads_in held asked) ≡ Ok (judge inst sched)
+  pub goes : GoesOneWay inst sched
+  pub told : Compared
+  pub end : told.end ≡ ends inst sched
+  pub shown : IsTreeShown inst (reads_in held asked).tree (Least told.bound)
+  pub report : after.bytes ≡ append_known before.bytes (compared_text told)
+  pub word : compared_word told ≡ first
+
+-- and the tree's value is at least the plan's end, so no schedule that goes one way ends earlier
+pub record IsBestTold (asked : Asked) (held : Files) (before after : Printed) : Type 0 where
+  pub plan : IsComparedTold asked held before after (codes "Optimal")
+  pub enough : plan.told.end ≤ plan.told.bound
+  pub best : IsBest plan.inst plan.sched
+
+-- and the tree's value is less than the plan's end
+pub record IsWeakerTold (asked : Asked) (held : Files) (before after : Printed) : Type 0 where
+  pub plan : IsComparedTold asked held before after (codes "Weaker")
+  pub weaker : plan.told.bound < plan.told.end
+
+-- the plan that was checked goes neither way, and the first rule that it breaks was printed
+pub record IsBrokenTold (asked : Asked) (held : Files) (before after : Printed) : Type 0 where
+  pub inst : InstanceView
+  pub sched : List Slot
+  pub due : due asked (reads_in held asked) ≡ Ok (judge inst sched)
+  pub told : Broken
+  pub tells : TellsBreak inst sched told
+  pub report : after.bytes ≡ append_known before.bytes (broken_text told)
+
+-- the plan's file has a fault, which was printed
+pub record IsBadPlanTold (asked : Asked) (held : Files) (before after : Printed) : Type 0 where
+  pub fault : PlanFault
+  pub due : due asked (reads_in held asked) ≡ Err (refusal.BadPlan fault)
+  pub report : after.bytes ≡ append_known before.bytes (bad_plan_text fault)
+
 -- the status is that of a refusal
 abbrev pub IsRefusal : Status → Type 0
 IsRefusal status.Usage = Unit {0}
@@ -92,6 +138,7 @@ IsRefusal status.ReadFault = Unit {0}
 IsRefusal status.TooLarge = Unit {0}
 IsRefusal status.BadShip = Unit {0}
 IsRefusal status.BadStow = Unit {0}
+IsRefusal status.BadPlan = Unit {0}
 IsRefusal status.BadTree = Unit {0}
 IsRefusal status.Unbuilt = Unit {0}
 IsRefusal _ = ⊥
@@ -118,11 +165,27 @@ IsSearchEnd status.BudgetPlan = Unit {0}
 IsSearchEnd status.BudgetNone = Unit {0}
 IsSearchEnd _ = ⊥
 
--- the work that is due ends so where nothing fails
+-- the work that is due ends so where nothing fails; of a plan that is to be judged a promise of its own says it
 abbrev pub EndsAsDue : Result Work Refusal → Status → Type 0
 EndsAsDue (Ok (print ending)) ended = ended ≡ ending.status
 EndsAsDue (Ok (search inst nodes)) ended = IsSearchEnd ended
+EndsAsDue (Ok (judge inst sched)) ended = Unit {0}
 EndsAsDue (Err why) ended = ended ≡ refusal_status why
+
+-- a plan that goes one way ends so, by what its tree's file comes to
+abbrev pub held_status : ℕ → Bound → Status
+held_status end (Least bound) = compared_status (record { end = end; bound = bound })
+held_status end Never = status.Optimal
+
+abbrev pub EndsHeld : ℕ → Result Replayed Refusal → Status → Type 0
+EndsHeld end (Ok read) ended = ended ≡ held_status end read.bound
+EndsHeld end (Err why) ended = ended ≡ refusal_status why
+
+-- a plan that is to be judged ends so where nothing fails
+pub record EndsJudged (inst : InstanceView) (sched : List Slot) (tree : Result Replayed Refusal) (ended : Status)
+    : Type 0 where
+  pub neither : ¬ GoesOneWay inst sched → ended ≡ status.Broken
+  pub one_way : GoesOneWay inst sched → EndsHeld (ends inst sched) tree ended
 
 -- the sink failed itself, so that it got a front part of the report of the answer
 pub record IsCutTold (asked : Asked) (before after : Stand) (printed_before printed_after : Printed)
@@ -181,6 +244,31 @@ pub record Promises (words : List (List ℕ)) (before after : Stand) (printed_be
   pub check_bad_tree :
       (ship stow tree : List ℕ) → Asks words (check ship stow tree) → ended ≡ status.BadTree
       → IfSome before.files (λ held. IsNoneShown (check ship stow tree) held)
+  -- Optimal, Weaker, Broken, BadPlan and BadTree of a check of a plan
+  pub check_optimal :
+      (ship stow plan tree : List ℕ) → Asks words (check_plan ship stow plan tree) → ended ≡ status.Optimal
+      → IfSome before.files (λ held. IsBestTold (check_plan ship stow plan tree) held printed_before printed_after)
+  pub check_weaker :
+      (ship stow plan tree : List ℕ) → Asks words (check_plan ship stow plan tree) → ended ≡ status.Weaker
+      → IfSome before.files (λ held. IsWeakerTold (check_plan ship stow plan tree) held printed_before printed_after)
+  pub check_broken :
+      (ship stow plan tree : List ℕ) → Asks words (check_plan ship stow plan tree) → ended ≡ status.Broken
+      → IfSome before.files (λ held. IsBrokenTold (check_plan ship stow plan tree) held printed_before printed_after)
+  pub check_bad_plan :
+      (ship stow plan tree : List ℕ) → Asks words (check_plan ship stow plan tree) → ended ≡ status.BadPlan
+      → IfSome before.files (λ held. IsBadPlanTold (check_plan ship stow plan tree) held printed_before printed_after)
+  pub check_plan_bad_tree :
+      (ship stow plan tree : List ℕ) → Asks words (check_plan ship stow plan tree) → ended ≡ status.BadTree
+      → IfSome before.files (λ held. IsNoneShown (check_plan ship stow plan tree) held)
+  -- what a plan and its tree come to where no call failed: Broken exactly where it goes neither way, and else
+  -- what its tree's file comes to
+  pub check_complete :
+      (ship stow plan tree : List ℕ) → Asks words (check_plan ship stow plan tree)
+      → NoneFailed before after printed_before printed_after
+      → IfSome before.files (λ held. (inst : InstanceView) (sched : List Slot)
+      → due (check_plan ship stow plan tree) (reads_in held (check_plan ship stow plan tree)) ≡ Ok (judge inst sched)
+      → EndsJudged inst sched (tree_due inst (reads_in held (check_plan ship stow plan tree))) ended
+      ⊎ (ended ≡ status.OutOfMemory))
   -- each refusal
   pub refused :
       (asked : Asked) → Asks words asked → IsRefusal ended

@@ -4,7 +4,7 @@ use Rattle.std.specs.declared.alloc.Global.{Global}
 use Rattle.std.specs.Str.{bytes_eq}
 use Rattle.std.specs.Str.Parse.{digits_value}
 use Rattle.qc_tree.specs.declared.line.TheConstants.{MOST_BRANCHINGS}
-use Rattle.qc_top.specs.Asked.{Asked, plan, check, tasks, unbuilt, usage}
+use Rattle.qc_top.specs.Asked.{Asked, plan, check, check_plan, tasks, unbuilt, usage}
 
 -- the bytes of each word
 abbrev pub texts : List (String Global) → List (List ℕ)
@@ -46,7 +46,7 @@ plan_asked _ = usage
 
 -- with '-' in place of a plan the tree alone is asked about
 abbrev pub check_of : (ship stow plan tree : List ℕ) → Asked
-check_of s w p t = if bytes_eq p (codes "-") then check s w t else unbuilt
+check_of s w p t = if bytes_eq p (codes "-") then check s w t else check_plan s w p t
 
 abbrev pub check_asked : List (List ℕ) → Asked
 check_asked (s ∷ w ∷ p ∷ t ∷ []) =

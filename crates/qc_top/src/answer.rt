@@ -6,10 +6,12 @@ ghost use Rattle.qc_top.specs.Answers.{input_text, line, planned_word, direction
 ghost use Rattle.qc_top.specs.Due.{bound_ending};
 ghost use Rattle.qc_top.specs.Account.{Reports, printed_of};
 
-use crate::faults::{put_ship_fault, put_stow_fault, put_tree_fault};
+use crate::faults::{put_plan_fault, put_ship_fault, put_stow_fault, put_tree_fault};
+use crate::judged::{compared_status, put_broken, put_compared};
 use crate::status::Status;
+use qc_gantt::PlanFault;
 use qc_io::{Sink, WriteFault, put_all};
-use qc_model::{Direction, Instance};
+use qc_model::{Direction, Instance, Rule, TaskText};
 use qc_num::{Bound, OutOfMemory, Text, Tick};
 use qc_replay::TreeFault;
 use qc_ship::ShipFault;
@@ -36,6 +38,7 @@ pub enum Refusal {
     TooLarge(Input),
     BadShip(ShipFault),
     BadStow(StowFault),
+    BadPlan(PlanFault),
     BadTree(TreeFault),
     /// A form of input that isn't built yet.
     Unbuilt,
@@ -72,6 +75,25 @@ pub struct Planned {
     pub direction: Direction,
 }
 
+/// What is told of a plan that breaks a rule.
+#[derive(Drop)]
+pub struct Broken {
+    pub rule: Rule,
+    /// The name of the task, or of the lower one of the two.
+    pub first: TaskText,
+    /// The name of the higher task; the same name where the rule speaks of one task.
+    pub second: TaskText,
+}
+
+/// What is told of a plan that holds.
+#[derive(Clone, Copy, Debug, PartialEq, Eq)]
+pub struct Compared {
+    /// When the plan's last task ends, in ticks.
+    pub end: Tick,
+    /// No schedule that goes one way ends before this tick, as the tree shows.
+    pub bound: Tick,
+}
+
 /// What a run comes to before it is reported.
 #[derive(Drop)]
 pub enum Answer {
@@ -83,6 +105,10 @@ pub enum Answer {
     /// What the tree shows is to be printed: an end in ticks that no one-way schedule beats, or that there is
     /// none.
     Checked { bound: Bound },
+    /// The plan breaks a rule.
+    Broken(Broken),
+    /// The plan holds; its end and the tree's value are to be printed.
+    Compared(Compared),
     /// The search's tree and the plan of the best schedule that it met are written.
     Planned(Planned),
     /// The search's tree is written. It met no schedule, and none that goes one way ends before `bound`, in ticks.
@@ -132,6 +158,7 @@ fn refusal_status(why: Refusal) -> Status
         Refusal::TooLarge(_) => Status::TooLarge,
         Refusal::BadShip(_) => Status::BadShip,
         Refusal::BadStow(_) => Status::BadStow,
+        Refusal::BadPlan(_) => Status::BadPlan,
         Refusal::BadTree(_) => Status::BadTree,
         Refusal::Unbuilt => Status::Unbuilt,
     }
@@ -166,6 +193,8 @@ fn status_of(answer: &Answer) -> Status
         Answer::WriteFault => Status::WriteFault,
         Answer::Tasks { .. } => Status::Done,
         Answer::Checked { bound } => bound_status(*bound),
+        Answer::Broken(_) => Status::Broken,
+        Answer::Compared(told) => compared_status(*told),
         Answer::Planned(told) => planned_status(*told),
         Answer::Unplanned { .. } => Status::BudgetNone,
         Answer::Infeasible { .. } => Status::Infeasible,
@@ -181,6 +210,7 @@ fn put_refusal<K: Sink>(why: Refusal, out: &mut K) -> Result<(), WriteFault>
         Refusal::TooLarge(file) => put_all(out, large_line(file)),
         Refusal::BadShip(fault) => put_ship_fault(fault, out),
         Refusal::BadStow(fault) => put_stow_fault(fault, out),
+        Refusal::BadPlan(fault) => put_plan_fault(fault, out),
         Refusal::BadTree(fault) => put_tree_fault(fault, out),
         Refusal::Unbuilt => put_all(out, b"Unbuilt\n"),
     }
@@ -271,6 +301,8 @@ fn put_report<K: Sink>(answer: &Answer, out: &mut K) -> Result<(), WriteFault>
         Answer::WriteFault => put_all(out, b"WriteFault\n"),
         Answer::Tasks { inst } => write_tasks(inst, out),
         Answer::Checked { bound } => put_bound(*bound, out),
+        Answer::Broken(told) => put_broken(told, out),
+        Answer::Compared(told) => put_compared(*told, out),
         Answer::Planned(told) => put_planned(*told, out),
         Answer::Unplanned { bound, branched } => put_unplanned(*bound, *branched, out),
         Answer::Infeasible { branched } => put_infeasible(*branched, out),

@@ -1,7 +1,8 @@
-//! The reports of faults in a ship file, in a stowage list and in a tree's file.
+//! The reports of faults in a ship file, in a stowage list, in a plan's file and in a tree's file.
 ghost use Rattle.qc_io.specs.Writes.{Writes};
-ghost use Rattle.qc_top.specs.Answers.{bad_ship_text, place_line, bad_stow_text, bad_tree_text};
+ghost use Rattle.qc_top.specs.Answers.{bad_ship_text, place_line, bad_plan_text, bad_stow_text, bad_tree_text};
 
+use qc_gantt::PlanFault;
 use qc_io::{Sink, WriteFault, put_all};
 use qc_num::Text;
 use qc_replay::TreeFault;
@@ -37,6 +38,18 @@ pub(crate) fn put_stow_fault<K: Sink>(fault: StowFault, out: &mut K) -> Result<(
     ensures { Writes K.written K.beside K.faults out.old out.new (bad_stow_text fault) result }
 {
     let mut line: Text<64> = Text::of(b"BadStow ");
+    line.push(fault.kind.text().as_bytes());
+    line.push(b" ");
+    line.push_number(u64::from(fault.number));
+    line.push(b"\n");
+    put_all(out, line.as_bytes())
+}
+
+/// Writes the report of a fault in the plan's file.
+pub(crate) fn put_plan_fault<K: Sink>(fault: PlanFault, out: &mut K) -> Result<(), WriteFault>
+    ensures { Writes K.written K.beside K.faults out.old out.new (bad_plan_text fault) result }
+{
+    let mut line: Text<64> = Text::of(b"BadPlan ");
     line.push(fault.kind.text().as_bytes());
     line.push(b" ");
     line.push_number(u64::from(fault.number));

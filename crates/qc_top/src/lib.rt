@@ -4,7 +4,9 @@
 mod answer;
 mod check;
 mod faults;
+mod compare;
 mod found;
+mod judged;
 mod plan;
 mod program;
 mod reading;
@@ -12,7 +14,7 @@ mod status;
 mod tasks;
 mod words;
 
-pub use answer::{Answer, Input, Planned, Refusal, Stop};
+pub use answer::{Answer, Broken, Compared, Input, Planned, Refusal, Stop};
 pub use program::run;
 pub use status::Status;
 pub use words::Request;

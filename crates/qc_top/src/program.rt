@@ -9,6 +9,7 @@ ghost use Rattle.qc_top.specs.Promises.{Promises};
 
 use crate::answer::{Answer, Refusal, Stop, report};
 use crate::check::check;
+use crate::compare::check_plan;
 use crate::plan::plan;
 use crate::status::Status;
 use crate::tasks::list_tasks;
@@ -33,6 +34,7 @@ fn serve<S: Shelf>(alloc: Global, request: &Request<'_>, shelf: &mut S) -> Answe
             ..
         } => plan(alloc, request, (*name, *tree), *nodes, shelf),
         Request::Check { .. } => check(alloc, request, shelf),
+        Request::CheckPlan { .. } => check_plan(alloc, request, shelf),
         Request::Tasks { .. } => list_tasks(alloc, request, shelf),
         Request::Unbuilt => Answer::Stopped(Stop::Refused(Refusal::Unbuilt)),
         Request::Usage => Answer::Stopped(Stop::Refused(Refusal::Usage)),

@@ -1,20 +1,23 @@
 //! The files that a command reads.
 ghost use Rattle.std.specs.Prelude.{◌≡◌, Err, IfOk, IfSome, Some, All, IsSome};
 ghost use Rattle.qc_io.specs.Outside.{stand_of};
+ghost use Rattle.qc_model.specs.Judge.{IsJudgeable};
 ghost use Rattle.qc_ship.specs.Ship.{place_of_bay};
+ghost use Rattle.qc_tree.specs.Trees.{NoneEarlier};
 ghost use Rattle.qc_replay.specs.declared.fault.TreeFault.{TreeFault};
 ghost use Rattle.qc_top.specs.declared.answer.Input.TheVariants as input;
 ghost use Rattle.qc_top.specs.declared.answer.Refusal.TheVariants as refusal;
 ghost use Rattle.qc_top.specs.declared.answer.Stop.TheVariants as stop;
 ghost use Rattle.qc_top.specs.Asked.{asked_for, name_of};
-ghost use Rattle.qc_top.specs.Due.{input_due, ship_due, moves_due, instance_due, tree_due, reads_in};
+ghost use Rattle.qc_top.specs.Due.{input_due, ship_due, moves_due, instance_due, schedule_due, job_due, tree_due, reads_in};
 ghost use Rattle.qc_top.specs.Account.{IsStep};
 ghost use Rattle.qc_top.specs.Shown.{IsTreeShown, IsNoTree};
 
 use crate::answer::{Input, Refusal, Stop};
 use crate::words::Request;
+use qc_gantt::{PlanError, read_plan};
 use qc_io::{ReadAll, Shelf, read_all};
-use qc_model::Instance;
+use qc_model::{Instance, Schedule};
 use qc_num::{Bytes, OutOfMemory};
 use qc_replay::{ReplayError, Replayed, replay};
 use qc_ship::{Ship, ShipError, read_ship};
@@ -22,7 +25,7 @@ use qc_stow::{Moves, StowError, read_stow};
 use qc_tasks::tasks_of;
 use std::alloc::Global;
 
-/// The greatest length of a ship file and of a stowage list, in bytes.
+/// The greatest length of a ship file, of a stowage list and of a plan's file, in bytes.
 const FILE_LIMIT: usize = 8_388_608;
 
 /// The bytes of a file that the request reads.
@@ -105,6 +108,53 @@ pub(crate) fn read_instance<S: Shelf>(
     Ok(tasks_of(alloc, &ship, &moves)?)
 }
 
+/// An instance and a schedule for it.
+#[derive(Drop)]
+pub(crate) struct Job {
+    pub(crate) inst: Instance,
+    pub(crate) sched: Schedule,
+}
+
+/// The schedule of the plan's file.
+fn read_schedule<S: Shelf>(
+    alloc: Global,
+    request: &Request<'_>,
+    inst: &Instance,
+    shelf: &mut S,
+) -> Result<Schedule, Stop>
+    requires { IsSome (name_of input.Plan (asked_for request.now)) }
+    ensures step { IsStep (schedule_due inst.now) (asked_for request.now)
+        (stand_of S.files S.Sink.faults S.read_faults shelf.old)
+        (stand_of S.files S.Sink.faults S.read_faults shelf.new) result }
+    ensures judgeable { IfOk result (λ sched. IsJudgeable inst.now sched) }
+{
+    let bytes = read_input(alloc, request, Input::Plan, shelf)?;
+    match read_plan(alloc, bytes.as_slice(), inst) {
+        Ok(sched) => Ok(sched),
+        Err(PlanError::Fault(fault)) => Err(Stop::Refused(Refusal::BadPlan(fault))),
+        Err(PlanError::OutOfMemory) => Err(Stop::OutOfMemory),
+    }
+}
+
+/// The instance of the ship file and the stowage list, and the schedule of the plan's file.
+pub(crate) fn read_job<S: Shelf>(
+    alloc: Global,
+    request: &Request<'_>,
+    shelf: &mut S,
+) -> Result<Job, Stop>
+    requires ship { IsSome (name_of input.Ship (asked_for request.now)) }
+    requires stow { IsSome (name_of input.Stow (asked_for request.now)) }
+    requires plan { IsSome (name_of input.Plan (asked_for request.now)) }
+    ensures step { IsStep job_due (asked_for request.now)
+        (stand_of S.files S.Sink.faults S.read_faults shelf.old)
+        (stand_of S.files S.Sink.faults S.read_faults shelf.new) result }
+    ensures judgeable { IfOk result (λ job. IsJudgeable job.inst job.sched) }
+{
+    let inst = read_instance(alloc, request, shelf)?;
+    let sched = read_schedule(alloc, request, &inst, shelf)?;
+    Ok(Job { inst, sched })
+}
+
 /// What the tree of the tree's file shows for the instance.
 pub(crate) fn read_tree<S: Shelf>(
     alloc: Global,
@@ -118,6 +168,7 @@ pub(crate) fn read_tree<S: Shelf>(
         (stand_of S.files S.Sink.faults S.read_faults shelf.new) result }
     ensures shown { IfOk result (λ read. IfSome (S.files shelf.old) (λ held.
         IsTreeShown inst.now (reads_in held (asked_for request.now)).tree read.bound)) }
+    ensures none_earlier { IfOk result (λ read. NoneEarlier inst.now read.bound) }
     ensures none { (fault : TreeFault) → result ≡ Err (stop.Refused (refusal.BadTree fault))
         → IfSome (S.files shelf.old) (λ held.
         IsNoTree inst.now (reads_in held (asked_for request.now)).tree) }

@@ -27,6 +27,13 @@ pub enum Request<'a> {
         stow: &'a str,
         tree: &'a str,
     },
+    /// Whether a plan holds, and what a tree shows of its end.
+    CheckPlan {
+        ship: &'a str,
+        stow: &'a str,
+        plan: &'a str,
+        tree: &'a str,
+    },
     /// The tasks.
     Tasks {
         ship: &'a str,
@@ -48,15 +55,18 @@ impl<'a> Request<'a> {
                 Input::Ship,
                 Request::Plan { ship, .. }
                 | Request::Check { ship, .. }
+                | Request::CheckPlan { ship, .. }
                 | Request::Tasks { ship, .. },
             ) => Some(ship),
             (
                 Input::Stow,
                 Request::Plan { stow, .. }
                 | Request::Check { stow, .. }
+                | Request::CheckPlan { stow, .. }
                 | Request::Tasks { stow, .. },
             ) => Some(stow),
-            (Input::Tree, Request::Check { tree, .. }) => Some(tree),
+            (Input::Plan, Request::CheckPlan { plan, .. }) => Some(plan),
+            (Input::Tree, Request::Check { tree, .. } | Request::CheckPlan { tree, .. }) => Some(tree),
             _ => None,
         }
     }
@@ -156,13 +166,18 @@ fn plan_asked(args: &[String]) -> Request<'_>
 }
 
 /// With `-` in place of a plan the tree alone is asked about.
-fn check_of<'a>(ship: &'a str, stow: &'a str, plan: &str, tree: &'a str) -> Request<'a>
+fn check_of<'a>(ship: &'a str, stow: &'a str, plan: &'a str, tree: &'a str) -> Request<'a>
     ensures { asked_for result ≡ check_of ship.now stow.now plan.now tree.now }
 {
     if plan == "-" {
         Request::Check { ship, stow, tree }
     } else {
-        Request::Unbuilt
+        Request::CheckPlan {
+            ship,
+            stow,
+            plan,
+            tree,
+        }
     }
 }
 
