@@ -5,3 +5,5 @@ pub mod RowBack
 pub mod ListBack
 pub mod TableFacts
 pub mod ShipBack
+pub mod Sweep
+pub mod OneWayShip

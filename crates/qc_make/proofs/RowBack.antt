@@ -91,8 +91,7 @@ id_parts hatch p i = simp append_assoc
 same_id : (g h : ℕ) (p q : Phase) (i j : ℕ) → g < 1000 → h < 1000 → i < 30 → j < 30 → (made_row g p i).id ≡ (made_row h q j).id → (g ≡ h) × (phase_rank p ≡ phase_rank q) × (i ≡ j)
 same_id g h p q i j gl hl il jl same =
     let wide : 1000 ≤ 2 ^ 64 = lit≤ tt in
-    let split = dash_split (decimal g) (decimal h) _ _ (digits g (omega arith)) (digits h (omega arith)) (sym (id_parts g p i) ∙ same ∙ id_parts h q j) in
-    (
+    let split = dash_split (decimal g) (decimal h) _ _ (digits g (omega arith)) (digits h (omega arith)) (sym (id_parts g p i) ∙ same ∙ id_parts h q j) in (
       decimal_injective g h (omega arith) (omega arith) split.0,
       sym (rank_back p (45 ∷ decimal i)) ∙ ap rank_in split.1 ∙ rank_back q (45 ∷ decimal j),
       decimal_injective i j (omega arith) (omega arith) (sym (two_bytes p (decimal i)) ∙ ap (drop 3) split.1 ∙ two_bytes q (decimal j)),

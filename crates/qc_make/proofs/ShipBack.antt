@@ -12,8 +12,9 @@ use Rattle.toml.specs.View.{items_of}
 use Rattle.qc_num.specs.Reading.{◌>>=◌}
 use Rattle.qc_model.specs.declared.crane.Crane.{Crane}
 use Rattle.qc_ship.specs.declared.fault.Key.TheVariants as key
-use Rattle.qc_ship.specs.Ship.{highest_bay, lowest_bay}
+use Rattle.qc_ship.specs.Ship.{IsShip, highest_bay, lowest_bay}
 use Rattle.qc_ship.specs.ShipFile.{apart_at, crane_in, cranes_at, gives_places, hatch_in, hatches_at, places_at, ship_of, times_at}
+use Rattle.qc_ship.proofs.TimesLaws.{IsShip-from_parts}
 use Rattle.qc_ship.specs.ShipValues.{Reading, array_in, each, elements, last}
 use Rattle.qc_make.specs.MadeShip.{hatch_number, made_crane, made_ship}
 use Rattle.qc_make.specs.Tables.{crane_table, crane_values, hatch_values, number_value, ship_table}
@@ -99,6 +100,15 @@ module _ (hatches cranes : ℕ) (some : 1 ≤ hatches) (few : hatches ≤ 60) (s
       rw (array_of key.Crane 1 8 (crane_values cranes) (omega (arith, size)) (omega (arith, size)))
       (each_made (crane_in false 2 (range_with_len 1 hatches)) (λ k. table (crane_table k)) (read_crane (range_with_len 1 hatches)) cranes (λ k lt. crane_read (range_with_len 1 hatches) k (omega arith))
       ∙ ap (λ (cs : List Crane). Ok cs) (same_cranes (range_with_len 0 cranes)))
+
+  -- so the made ship is a ship
+  pub is_ship : IsShip (made_ship hatches cranes)
+  unfolding times_at
+  is_ship =
+      let size = length-map-range_with_len hatch_number 0 hatches in
+      let ms = ship_table hatches cranes in
+      IsShip-from_parts ms (map hatch_number (range_with_len 0 hatches)) (range_with_len 1 hatches) (record { gap = 2; travel = 60; deck_move = 120; hold_move = 110; cover = 240; ordered = false }) [] (map (made_crane hatches) (range_with_len 0 cranes))
+      hatches_read (rw size refl) refl refl cranes_read
 
   pub ship_read : ship_of (ship_table hatches cranes) ≡ Ok (made_ship hatches cranes)
   unfolding ship_of times_at

@@ -86,7 +86,9 @@ fn push_hatch(text: &mut Vec<u8>, hatch: u16, state: u32) -> Result<u32, OutOfMe
     Ok(after)
 }
 
-/// The stowage list of a number and so many hatches.
+/// The stowage list of a number for a ship of so many hatches. For each hatch and phase the number
+/// draws 0 to 30 moves, ten side by side, and those behind on top. The list has no fault on a ship
+/// of so many hatches, whatever its cranes are, and at most 172,820 bytes.
 pub fn list_text(alloc: Global, number: u32, hatches: u16) -> Result<Bytes, OutOfMemory>
     requires { hatches ≤ MOST_HATCHES }
     ensures text { IfOk result (λ bytes. bytes ≡ list_text number hatches) }

@@ -1,8 +1,11 @@
 // The ship file that is made.
-ghost use Rattle.std.specs.Prelude.{◌≡◌, ◌<◌, ◌≤◌, map, IfOk, OnOk, Ok, Some};
+ghost use Rattle.std.specs.Prelude.{◌≡◌, ◌<◌, ◌≤◌, List, map, IfOk, OnOk, Ok, Some};
 ghost use Rattle.toml.specs.Parse.{parse_document};
 ghost use Rattle.toml.specs.View.{table_view, view};
 ghost use Rattle.qc_ship.specs.ShipFile.{ship_file};
+ghost use Rattle.qc_stow.specs.declared.row.Row.{Row};
+ghost use Rattle.qc_tasks.specs.InstanceOf.{instance_of};
+ghost use Rattle.qc_make.specs.OneWayWork.{HasOneWay};
 ghost use Rattle.qc_make.specs.MadeShip.{made_ship};
 ghost use Rattle.qc_make.specs.Tables.{crane_table, crane_values, hatch_values, number_value, ship_table, with_member};
 
@@ -27,12 +30,7 @@ fn put(alloc: Global, table: &mut Table, key: &str, value: Value) -> Result<(), 
     Ok(())
 }
 
-fn put_number(
-    alloc: Global,
-    table: &mut Table,
-    key: &str,
-    number: u16,
-) -> Result<(), OutOfMemory>
+fn put_number(alloc: Global, table: &mut Table, key: &str, number: u16) -> Result<(), OutOfMemory>
     ensures { OnOk result (table_view table.new
         ≡ with_member key.now (number_value number) (table_view table.old)) }
 {
@@ -57,7 +55,12 @@ fn crane_table(alloc: Global, k: u16) -> Result<Table, OutOfMemory>
 {
     let number = k + 1;
     let mut table = Table::new(alloc);
-    put(alloc, &mut table, "name", Value::String(format!(in alloc; "C{number}")?))?;
+    put(
+        alloc,
+        &mut table,
+        "name",
+        Value::String(format!(in alloc; "C{number}")?),
+    )?;
     put_number(alloc, &mut table, "bay", 2 * k + 1)?;
     Ok(table)
 }
@@ -91,12 +94,16 @@ fn ship_table(alloc: Global, hatches: u16, cranes: u16) -> Result<Table, OutOfMe
     Ok(table)
 }
 
-/// The ship.
+/// A ship file for so many hatches and cranes: hatches 2, 6, 10 and so on, a margin of 1, 60 ticks
+/// of travel per bay, 120 a move on deck, 110 in the hold and 240 for a cover, and cranes C1, C2 and
+/// so on at bays 1, 3 and so on. The first crane can do all tasks upward, whatever the moves are.
 pub fn ship_text(alloc: Global, hatches: u16, cranes: u16) -> Result<Bytes, OutOfMemory>
     requires hatches { (1 ≤ hatches) × (hatches ≤ MOST_HATCHES) }
     requires cranes { (1 ≤ cranes) × (cranes ≤ MOST_CRANES) }
     ensures table { IfOk result (λ bytes. parse_document bytes ≡ Some (ship_table hatches cranes)) }
     ensures ship { IfOk result (λ bytes. ship_file bytes ≡ Ok (made_ship hatches cranes)) }
+    ensures one_way { IfOk result (λ _. (rows : List Row)
+        → HasOneWay (instance_of (made_ship hatches cranes) rows)) }
 {
     let table = ship_table(alloc, hatches, cranes)?;
     match toml::table_to_string(alloc, &table) {

@@ -6,6 +6,7 @@ use Rattle.std.specs.Str.{is_utf8}
 use Rattle.toml.specs.Parse.{parse_document}
 use Rattle.qc_make.specs.Tables.{ship_table}
 use Rattle.qc_make.proofs.TableFacts.{table_flat}
+use Rattle.qc_make.proofs.OneWayShip.{one_way}
 use Rattle.qc_make.proofs.ShipBack.{ship_read}
 use Rattle.qc_make.proofs.ship.ship_text.Goals as goal
 
@@ -22,3 +23,6 @@ returns-in-Ok-clause-ship c =
     let valid : is_utf8 (string_bytes c.in-Ok.text) ≡ true = ∥∥₁_elim utf8 (hlevel props) (is_utf8-from_IsUtf8 (string_bytes c.in-Ok.text)) in
     let text : is_utf8 c.of.result ≡ true = rw (c.of.ensures, c.into_bytes.ensures.value) valid in
     rw (text, returns-in-Ok-clause-table c, read) refl
+
+pub returns-in-Ok-clause-one_way : goal.returns-in-Ok-clause-one_way
+returns-in-Ok-clause-one_way c = one_way c.args.hatches c.args.cranes c.requires.hatches.0 c.requires.hatches.1 c.requires.cranes.0 c.requires.cranes.1
