@@ -1,5 +1,5 @@
 -- The first crane of the made ship can do all tasks upward.
-use Rattle.std.proofs.Common.{◌≡◌, ◌≢◌, ◌⊎◌, ◌<◌, ◌≤◌, ◌+◌, ◌-◌, ◌*◌, ◌&&◌, ◌||◌, ◌==◌, ℕ, ℤ, pos, ◌≤ℤ◌, Bool, true, false, List, [], ◌∷◌, length, get_or, map, refl, sym, ap, inl, inr, ◌∙◌, arith, AllPairs, Contains}
+use Rattle.std.proofs.Common.{◌≡◌, ◌≢◌, ◌<◌, ◌≤◌, ◌-◌, ◌==◌, ℕ, pos, ◌≤ℤ◌, true, false, List, [], length, get_or, map, sym, ap, inl, inr, ◌∙◌, arith}
 use Rattle.std.specs.Prelude.{nat_lt}
 use Rattle.std.specs.List.{range_with_len}
 use Rattle.std.proofs.Math.Bool.{or-false}
@@ -8,10 +8,8 @@ use Rattle.std.proofs.lemmas.Bool.Decides.{Decides-eqb, Decides-ltb, nat_tests}
 use Rattle.std.proofs.lemmas.List.Elements.{All-from_recursion}
 use Rattle.std.proofs.lemmas.List.FromFn.{get_or-map-range_with_len, get_or-range_with_len, length-map-range_with_len, length-range_with_len}
 use Rattle.qc_model.specs.declared.task.Task.{Task}
-use Rattle.qc_model.specs.Bays.{bays_up, bays_between}
-use Rattle.qc_model.specs.Instance.{InstanceView, IsApart, IsBefore, IsFrom, bay_of, crane, no_crane, no_task}
+use Rattle.qc_model.specs.Instance.{IsFrom, no_crane, no_task}
 use Rattle.qc_model.specs.Tasks.{phase_rank}
-use Rattle.qc_model.specs.Ticks.{arrival, berth_clear}
 use Rattle.qc_model.proofs.Bays.{bays}
 use Rattle.qc_ship.specs.Ship.{ShipView, IsShip, greatest_place}
 use Rattle.qc_stow.specs.declared.row.Row.{Row}

@@ -1,23 +1,21 @@
 -- The table of the made ship reads as that ship.
-use Rattle.std.proofs.Common.{◌≡◌, ◌<◌, ◌≤◌, ◌+◌, ◌-◌, ◌*◌, ◌%◌, ◌==◌, ◌&&◌, ℕ, zero, suc, pos, List, [], ◌∷◌, ◌++◌, length, get_or, map, Bool, true, false, Option, None, Some, Ok, codes, refl, sym, ap, subst, ◌∙◌, arith}
-use Rattle.std.specs.Prelude.{decimal, nat_le, nat_lt, int_le, slice_get, slice_index}
+use Rattle.std.proofs.Common.{◌≡◌, ◌<◌, ◌≤◌, ◌+◌, ◌-◌, ◌*◌, ◌%◌, ◌==◌, ℕ, zero, suc, pos, List, [], ◌∷◌, length, get_or, map, true, false, Some, Ok, refl, ap, ◌∙◌, arith}
+use Rattle.std.specs.Prelude.{decimal, nat_le, nat_lt, slice_index}
 use Rattle.std.specs.Fmt.{digits}
 use Rattle.std.specs.List.{range_with_len}
 use Rattle.std.proofs.lemmas.Bool.Decides.{nat_tests}
-use Rattle.std.proofs.lemmas.Int.{ints}
 use Rattle.std.proofs.lemmas.List.FromFn.{get_or-map-range_with_len, get_or-range_with_len, length-map-range_with_len, length-range_with_len, map-range_with_len_more}
 use Rattle.std.proofs.lemmas.Option.{slice_get-get_or}
-use Rattle.toml.specs.Data.{Data, Members, array, table}
+use Rattle.toml.specs.Data.{Data, array, table}
 use Rattle.toml.specs.View.{items_of}
-use Rattle.qc_num.specs.Reading.{◌>>=◌}
 use Rattle.qc_model.specs.declared.crane.Crane.{Crane}
 use Rattle.qc_ship.specs.declared.fault.Key.TheVariants as key
 use Rattle.qc_ship.specs.Ship.{IsShip, highest_bay, lowest_bay}
-use Rattle.qc_ship.specs.ShipFile.{apart_at, crane_in, cranes_at, gives_places, hatch_in, hatches_at, places_at, ship_of, times_at}
+use Rattle.qc_ship.specs.ShipFile.{crane_in, cranes_at, hatch_in, hatches_at, ship_of, times_at}
 use Rattle.qc_ship.proofs.TimesLaws.{IsShip-from_parts}
 use Rattle.qc_ship.specs.ShipValues.{Reading, array_in, each, elements, last}
 use Rattle.qc_make.specs.MadeShip.{hatch_number, made_crane, made_ship}
-use Rattle.qc_make.specs.Tables.{crane_table, crane_values, hatch_values, number_value, ship_table}
+use Rattle.qc_make.specs.MadeTable.{crane_table, crane_values, hatch_values, number_value, ship_table}
 
 -- the elements of items, and the array of so many values
 elements_of : (ds : List Data) → elements (items_of ds) ≡ ds

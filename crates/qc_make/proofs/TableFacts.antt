@@ -1,5 +1,5 @@
 -- What a table shows after a change, and how deep it is.
-use Rattle.std.proofs.Common.{◌≡◌, ◌≤◌, ◌+◌, ℕ, zero, suc, List, [], ◌∷◌, ◌++◌, map, max, Ordering, Less, Equal, Greater, Global, String, string_bytes, refl, sym, ap, ◌∙◌, arith}
+use Rattle.std.proofs.Common.{◌≡◌, ◌≤◌, ◌+◌, ℕ, List, [], ◌∷◌, ◌++◌, map, Ordering, Less, Equal, Greater, Global, String, string_bytes, refl, sym, ◌∙◌, arith}
 use Rattle.std.specs.BTreeMap.{insert_entry}
 use Rattle.std.specs.List.{range_with_len}
 use Rattle.std.specs.Ordering.{match_ordering}
@@ -11,7 +11,7 @@ use Rattle.toml.specs.View.{items_of, members_view, view}
 use Rattle.toml.specs.declared.value.Value.{Value}
 use Rattle.toml.proofs.Views.{Entry}
 use Rattle.qc_make.specs.MadeShip.{hatch_number}
-use Rattle.qc_make.specs.Tables.{crane_table, number_value, ship_table, with_member}
+use Rattle.qc_make.specs.MadeTable.{crane_table, number_value, ship_table, with_member}
 
 -- a value put at a key
 members_by : (o : Ordering) (a b c : List Entry) → members_view (match_ordering o a b c) ≡ match_ordering o (members_view a) (members_view b) (members_view c)

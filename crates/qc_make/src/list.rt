@@ -1,9 +1,8 @@
 // The stowage list that is made from a number.
-ghost use Rattle.std.specs.Prelude.{◌≡◌, ℕ, ◌+◌, ◌*◌, ◌<◌, ◌≤◌, ◌++◌, length, map, IfOk, OnOk, Ok};
+ghost use Rattle.std.specs.Prelude.{◌≡◌, ℕ, ◌<◌, ◌≤◌, ◌++◌, length, map, IfOk, OnOk, Ok};
 ghost use Rattle.std.specs.List.{range_with_len};
-ghost use Rattle.qc_model.specs.Tasks.{phase_rank};
-ghost use Rattle.qc_make.specs.Draws.{drawn, state_after, next_state};
 ghost use Rattle.qc_stow.specs.Stow.{moves_in};
+ghost use Rattle.qc_make.specs.Draws.{state_after};
 ghost use Rattle.qc_make.specs.MadeShip.{made_ship};
 ghost use Rattle.qc_make.specs.MadeList.{hatch_rows, list_text, lowest_tier, made_row, made_rows, move_of, move_text, row_line, row_lines};
 

@@ -7,7 +7,7 @@ ghost use Rattle.qc_stow.specs.declared.row.Row.{Row};
 ghost use Rattle.qc_tasks.specs.InstanceOf.{instance_of};
 ghost use Rattle.qc_make.specs.OneWayWork.{HasOneWay};
 ghost use Rattle.qc_make.specs.MadeShip.{made_ship};
-ghost use Rattle.qc_make.specs.Tables.{crane_table, crane_values, hatch_values, number_value, ship_table, with_member};
+ghost use Rattle.qc_make.specs.MadeTable.{crane_table, crane_values, hatch_values, number_value, ship_table, with_member};
 
 use qc_model::{MOST_CRANES, MOST_HATCHES};
 use qc_num::{Bytes, OutOfMemory};

@@ -1,4 +1,4 @@
-use Rattle.std.proofs.Common.{◌≡◌, ◌+◌, ◌*◌, ◌++◌, ℕ, List, arith, refl, sym, ap, ◌∙◌, codes}
+use Rattle.std.proofs.Common.{◌≡◌, ◌+◌, ◌*◌, ◌++◌, ℕ, List, arith, refl, ap, ◌∙◌, codes}
 use Rattle.qc_make.specs.Draws.{state_after}
 use Rattle.qc_make.specs.MadeList.{hatch_rows, list_text, row_lines}
 use Rattle.qc_make.proofs.ListBack.{list_back, list_short}

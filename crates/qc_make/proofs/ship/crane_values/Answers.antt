@@ -2,7 +2,7 @@ use Rattle.std.proofs.Common.{ap, ◌∙◌, map}
 use Rattle.toml.specs.Data.{table}
 use Rattle.toml.specs.View.{view}
 use Rattle.toml.proofs.Views.{view-Table}
-use Rattle.qc_make.specs.Tables.{crane_table}
+use Rattle.qc_make.specs.MadeTable.{crane_table}
 use Rattle.qc_make.proofs.TableFacts.{values_more}
 use Rattle.qc_make.proofs.ship.crane_values.Goals as goal
 

@@ -1,6 +1,6 @@
 use Rattle.std.proofs.Common.{◌≡◌, map}
 use Rattle.toml.specs.View.{view}
-use Rattle.qc_make.specs.Tables.{hatch_values}
+use Rattle.qc_make.specs.MadeTable.{hatch_values}
 use Rattle.qc_make.proofs.ship.hatch_values.Given as goal
 
 abbrev pub invariant-loop-k : goal.invariant-loop-k

@@ -1,10 +1,8 @@
-use Rattle.std.proofs.Common.{◌≡◌, true, Some, Ok, IsUtf8, string_bytes, refl}
+use Rattle.std.proofs.Common.{◌≡◌, true, IsUtf8, string_bytes, refl}
 use Rattle.std.proofs.Props.{props}
 use mathlib.Core.Logic.{∥∥₁_elim}
 use Rattle.std.proofs.lemmas.Str.{is_utf8-from_IsUtf8}
 use Rattle.std.specs.Str.{is_utf8}
-use Rattle.toml.specs.Parse.{parse_document}
-use Rattle.qc_make.specs.Tables.{ship_table}
 use Rattle.qc_make.proofs.TableFacts.{table_flat}
 use Rattle.qc_make.proofs.OneWayShip.{one_way}
 use Rattle.qc_make.proofs.ShipBack.{ship_read}
