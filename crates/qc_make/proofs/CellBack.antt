@@ -1,12 +1,10 @@
-use Rattle.std.proofs.Common.{◌≡◌, ◌<◌, ◌≤◌, ◌+◌, ◌*◌, ◌/◌, ◌%◌, ◌==◌, ℕ, List, [], ◌∷◌, ◌++◌, length, take, drop, Bool, true, false, refl, sym, ap, inl, inr, ◌∙◌, rules, arith, cond, Ok}
-use Rattle.std.specs.Prelude.{nat_lt, nat_le, ◌&&◌}
+use Rattle.std.proofs.Common.{◌≡◌, ◌<◌, ◌+◌, ◌*◌, ◌/◌, ◌%◌, ◌==◌, ℕ, [], ◌∷◌, true, false, refl, inl, inr, ◌∙◌, arith, Ok}
+use Rattle.std.specs.Prelude.{nat_lt}
 use Rattle.std.specs.Char.{digit_value, is_ascii_digit}
-use Rattle.std.specs.List.{list_all}
-use Rattle.std.specs.Str.Parse.{digits_value}
 use Rattle.std.proofs.lemmas.Bool.{cases_Bool}
 use Rattle.std.proofs.lemmas.Bool.Decides.{nat_tests}
 use Rattle.std.proofs.lemmas.Grind.{common_steps}
-use Rattle.qc_cell.specs.Cells.{CellView, IsCell, cell_in, cell_text, cell_of, two_digits}
+use Rattle.qc_cell.specs.Cells.{CellView, IsCell, cell_in, cell_text, cell_of}
 
 module _ (c : CellView) (is : IsCell c) where
   short : nat_lt c.bay 100 ≡ true → cell_in (cell_text c) ≡ Ok c

@@ -3,3 +3,7 @@ pub mod CellBack
 pub mod Records
 pub mod RowBack
 pub mod ListBack
+pub mod TableFacts
+pub mod ShipBack
+pub mod Sweep
+pub mod OneWayShip

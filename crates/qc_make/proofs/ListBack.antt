@@ -1,7 +1,7 @@
 -- A made list is read back as its rows.
-use Rattle.std.proofs.Common.{◌≡◌, ◌<◌, ◌≤◌, ◌+◌, ◌*◌, ◌%◌, ◌&&◌, ℕ, zero, suc, List, [], ◌∷◌, ◌++◌, length, get_or, map, Bool, true, false, codes, take, refl, sym, ap, ◌∙◌, arith, Ok, append_assoc, append-nil, length-append, inl, inr}
-use Rattle.std.specs.Prelude.{is_some, Option, None, Some, option_map, position, pos, nat_lt}
-use Rattle.std.specs.List.{flat_map, list_any, range_with_len, position_or_len, AllByRecursion as Each}
+use Rattle.std.proofs.Common.{◌≡◌, ◌<◌, ◌≤◌, ◌+◌, ◌*◌, ◌%◌, ◌&&◌, ℕ, List, [], ◌∷◌, ◌++◌, length, get_or, map, Bool, true, false, codes, take, refl, sym, ap, ◌∙◌, arith, Ok, append_assoc, append-nil, length-append, inl, inr}
+use Rattle.std.specs.Prelude.{is_some, Option, None, Some, option_map, position, pos}
+use Rattle.std.specs.List.{range_with_len, position_or_len, AllByRecursion as Each}
 use Rattle.std.specs.Str.{bytes_eq}
 use Rattle.std.proofs.lemmas.Bool.{cases_lt, false≢true, lt-ltb}
 use Rattle.std.proofs.lemmas.Bool.Decides.{nat_tests}
@@ -11,9 +11,8 @@ use Rattle.std.proofs.lemmas.List.Elements.{All-from_recursion}
 use Rattle.std.proofs.lemmas.List.FromFn.{get_or-map-range_with_len, length-map-range_with_len, length-range_with_len}
 use Rattle.std.proofs.lemmas.List.Folds.{list_any_none}
 use Rattle.std.proofs.lemmas.List.Sums.{fails_before_first, sum_by-le}
-use Rattle.csv.specs.Reading.{default_config, records, records_from, strip_bom}
+use Rattle.csv.specs.Reading.{default_config, records, strip_bom}
 use Rattle.csv.specs.Writing.{default_writer, fields_text, is_blank, read_back, row_text}
-use Rattle.csv.specs.declared.parser.State.TheVariants as st
 use Rattle.csv.proofs.RoundTrip.{rows_text}
 use Rattle.qc_cell.specs.Cells.{overlap}
 use Rattle.qc_records.specs.Records.{records_of}

@@ -1,30 +1,28 @@
 -- A made row is read back, and no two made rows have one id or overlapping cells.
-use Rattle.std.proofs.Common.{◌≡◌, ◌<◌, ◌≤◌, ◌^◌, ◌+◌, ◌-◌, ◌*◌, ◌/◌, ◌%◌, ◌==◌, ◌&&◌, ◌||◌, ℕ, suc, zero, List, [], ◌∷◌, ◌++◌, length, take, drop, get_or, map, Bool, true, false, cond, codes, refl, sym, ap, inl, inr, ◌∙◌, arith, Ok, lit≤, append_assoc, length-append}
-use Rattle.std.specs.Prelude.{◌⊎◌, decimal, nat_le, nat_lt, is_some, position}
+use Rattle.std.proofs.Common.{◌≡◌, ◌<◌, ◌≤◌, ◌^◌, ◌+◌, ◌-◌, ◌*◌, ◌/◌, ◌%◌, ◌==◌, ◌&&◌, ◌||◌, ℕ, List, [], ◌∷◌, ◌++◌, length, drop, get_or, Bool, true, false, cond, codes, refl, sym, ap, inl, inr, ◌∙◌, arith, Ok, lit≤, append_assoc, length-append}
+use Rattle.std.specs.Prelude.{◌⊎◌, decimal, nat_le, is_some}
 use Rattle.std.specs.Char.{is_ascii_digit}
-use Rattle.std.specs.List.{list_all, list_any, range_with_len, position_or_len}
+use Rattle.std.specs.List.{list_all, list_any}
 use Rattle.std.specs.Str.{bytes_eq}
-use Rattle.std.proofs.lemmas.Bool.{and_parts, and_from, cases_Bool, cases_lt, false≢true, false_from_ne_true, lt-ltb, ne_eqb, or_cases}
+use Rattle.std.proofs.lemmas.Bool.{and_parts, cases_Bool, false≢true, false_from_ne_true, ne_eqb, or_cases}
 use Rattle.std.proofs.lemmas.Bool.Decides.{Decides-eqb, nat_tests}
-use Rattle.std.proofs.lemmas.Fmt.{decimal_by_steps, decimal_injective, decimal_nonempty, length-decimal-le}
-use Rattle.std.proofs.lemmas.List.FromFn.{get_or-map-range_with_len, length-map-range_with_len}
+use Rattle.std.proofs.lemmas.Fmt.{decimal_by_steps, decimal_injective, length-decimal-le}
 use Rattle.std.proofs.lemmas.List.Folds.{list_all-append}
-use Rattle.std.proofs.lemmas.List.Sums.{fails_before_first}
 use Rattle.std.proofs.lemmas.Slice.Eq.{bytes_eq-Decides}
-use Rattle.qc_cell.specs.Cells.{CellView, IsCell, cell_in, cell_text, is_on_deck, overlap}
+use Rattle.qc_cell.specs.Cells.{CellView, IsCell, cell_in, cell_text, overlap}
 use Rattle.qc_model.specs.Tasks.{phase_rank, phase_text}
 use Rattle.qc_model.specs.declared.task.Phase.{Phase}
 use Rattle.qc_model.specs.declared.task.Phase.TheVariants.{DeckOut, HoldOut, HoldIn, DeckIn}
-use Rattle.qc_ship.specs.Ship.{ShipView, place_of_bay, takes}
+use Rattle.qc_ship.specs.Ship.{ShipView, place_of_bay}
 use Rattle.qc_stow.specs.Fields.{is_id, is_id_byte}
 use Rattle.qc_stow.specs.Moves.{same_move}
 use Rattle.qc_stow.specs.Stow.{row_on}
-use Rattle.qc_stow.specs.Rows.{move_in, row_in}
+use Rattle.qc_stow.specs.Rows.{move_in}
 use Rattle.qc_stow.specs.declared.row.Move.{Move}
 use Rattle.qc_stow.specs.declared.row.Move.TheVariants.{Discharge, Load}
 use Rattle.qc_stow.specs.declared.row.Row.{Row}
 use Rattle.qc_tasks.specs.InstanceOf.{phase_with}
-use Rattle.qc_make.specs.MadeShip.{hatch_number, made_ship}
+use Rattle.qc_make.specs.MadeShip.{hatch_number}
 use Rattle.qc_make.specs.MadeList.{made_row, row_line, lowest_tier, move_of, move_text}
 use Rattle.csv.specs.Writing.{default_writer, needs_byte, row_text}
 use Rattle.qc_make.proofs.CellBack.{cell_back}
@@ -91,8 +89,7 @@ id_parts hatch p i = simp append_assoc
 same_id : (g h : ℕ) (p q : Phase) (i j : ℕ) → g < 1000 → h < 1000 → i < 30 → j < 30 → (made_row g p i).id ≡ (made_row h q j).id → (g ≡ h) × (phase_rank p ≡ phase_rank q) × (i ≡ j)
 same_id g h p q i j gl hl il jl same =
     let wide : 1000 ≤ 2 ^ 64 = lit≤ tt in
-    let split = dash_split (decimal g) (decimal h) _ _ (digits g (omega arith)) (digits h (omega arith)) (sym (id_parts g p i) ∙ same ∙ id_parts h q j) in
-    (
+    let split = dash_split (decimal g) (decimal h) _ _ (digits g (omega arith)) (digits h (omega arith)) (sym (id_parts g p i) ∙ same ∙ id_parts h q j) in (
       decimal_injective g h (omega arith) (omega arith) split.0,
       sym (rank_back p (45 ∷ decimal i)) ∙ ap rank_in split.1 ∙ rank_back q (45 ∷ decimal j),
       decimal_injective i j (omega arith) (omega arith) (sym (two_bytes p (decimal i)) ∙ ap (drop 3) split.1 ∙ two_bytes q (decimal j)),

@@ -2,4 +2,4 @@ pub mod Draws
 pub mod MadeShip
 pub mod MadeList
 pub mod OneWayWork
-pub mod Tables
+pub mod MadeTable

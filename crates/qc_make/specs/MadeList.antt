@@ -1,7 +1,7 @@
 -- The stowage list that is made from a number.
 use Rattle.std.specs.Prelude.{ℕ, ◌+◌, ◌*◌, ◌/◌, ◌%◌, List, ◌++◌, map, codes, decimal}
 use Rattle.std.specs.List.{flat_map, range_with_len}
-use Rattle.qc_cell.specs.Cells.{CellView, cell_text}
+use Rattle.qc_cell.specs.Cells.{cell_text}
 use Rattle.qc_model.specs.Tasks.{phase_rank, phase_text}
 use Rattle.qc_model.specs.declared.task.Phase.{Phase}
 use Rattle.qc_model.specs.declared.task.Phase.TheVariants.{DeckOut, HoldOut, HoldIn, DeckIn}
@@ -48,6 +48,7 @@ abbrev pub made_rows : ℕ → ℕ → List Row
 made_rows number hatches = flat_map (λ k. hatch_rows (state_after number (4 * k)) (hatch_number k))
     (range_with_len 0 hatches)
 
+-- how a row says which way its container goes
 abbrev pub move_text : Move → List ℕ
 move_text Discharge = codes "D"
 move_text Load = codes "L"

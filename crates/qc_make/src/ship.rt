@@ -1,16 +1,113 @@
 // The ship file that is made.
-ghost use Rattle.std.specs.Prelude.{◌≡◌, ◌≤◌, IfOk, Ok};
+ghost use Rattle.std.specs.Prelude.{◌≡◌, ◌<◌, ◌≤◌, List, map, IfOk, OnOk, Ok, Some};
+ghost use Rattle.toml.specs.Parse.{parse_document};
+ghost use Rattle.toml.specs.View.{table_view, view};
 ghost use Rattle.qc_ship.specs.ShipFile.{ship_file};
+ghost use Rattle.qc_stow.specs.declared.row.Row.{Row};
+ghost use Rattle.qc_tasks.specs.InstanceOf.{instance_of};
+ghost use Rattle.qc_make.specs.OneWayWork.{HasOneWay};
 ghost use Rattle.qc_make.specs.MadeShip.{made_ship};
+ghost use Rattle.qc_make.specs.MadeTable.{crane_table, crane_values, hatch_values, number_value, ship_table, with_member};
 
 use qc_model::{MOST_CRANES, MOST_HATCHES};
 use qc_num::{Bytes, OutOfMemory};
 use std::alloc::Global;
+use toml::{Table, Value};
 
-/// The ship.
+fn number_value(number: u16) -> Value
+    ensures { view result ≡ number_value number }
+{
+    Value::Integer(i64::from(number))
+}
+
+// Puts a value at a key.
+fn put(alloc: Global, table: &mut Table, key: &str, value: Value) -> Result<(), OutOfMemory>
+    ensures { OnOk result (table_view table.new
+        ≡ with_member key.now (view value) (table_view table.old)) }
+{
+    let key = String::from_str(alloc, key)?;
+    table.insert(key, value)?;
+    Ok(())
+}
+
+fn put_number(alloc: Global, table: &mut Table, key: &str, number: u16) -> Result<(), OutOfMemory>
+    ensures { OnOk result (table_view table.new
+        ≡ with_member key.now (number_value number) (table_view table.old)) }
+{
+    put(alloc, table, key, number_value(number))
+}
+
+fn hatch_values(alloc: Global, hatches: u16) -> Result<Vec<Value>, OutOfMemory>
+    requires { hatches ≤ MOST_HATCHES }
+    ensures { IfOk result (λ v. map view v.items ≡ hatch_values hatches) }
+{
+    let mut values = Vec::new(alloc);
+    for k in 0..hatches {
+        values.push(number_value(4 * k + 2))?;
+    }
+    Ok(values)
+}
+
+// The table of crane k, from 0.
+fn crane_table(alloc: Global, k: u16) -> Result<Table, OutOfMemory>
+    requires { k < MOST_CRANES }
+    ensures { IfOk result (λ t. table_view t ≡ crane_table k) }
+{
+    let number = k + 1;
+    let mut table = Table::new(alloc);
+    put(
+        alloc,
+        &mut table,
+        "name",
+        Value::String(format!(in alloc; "C{number}")?),
+    )?;
+    put_number(alloc, &mut table, "bay", 2 * k + 1)?;
+    Ok(table)
+}
+
+fn crane_values(alloc: Global, cranes: u16) -> Result<Vec<Value>, OutOfMemory>
+    requires { cranes ≤ MOST_CRANES }
+    ensures { IfOk result (λ v. map view v.items ≡ crane_values cranes) }
+{
+    let mut values = Vec::new(alloc);
+    for k in 0..cranes {
+        values.push(Value::Table(crane_table(alloc, k)?))?;
+    }
+    Ok(values)
+}
+
+fn ship_table(alloc: Global, hatches: u16, cranes: u16) -> Result<Table, OutOfMemory>
+    requires hatches { hatches ≤ MOST_HATCHES }
+    requires cranes { cranes ≤ MOST_CRANES }
+    ensures { IfOk result (λ t. table_view t ≡ ship_table hatches cranes) }
+{
+    let hatches = Value::Array(hatch_values(alloc, hatches)?);
+    let cranes = Value::Array(crane_values(alloc, cranes)?);
+    let mut table = Table::new(alloc);
+    put(alloc, &mut table, "hatches", hatches)?;
+    put_number(alloc, &mut table, "margin", 1)?;
+    put_number(alloc, &mut table, "travel", 60)?;
+    put_number(alloc, &mut table, "deck_move", 120)?;
+    put_number(alloc, &mut table, "hold_move", 110)?;
+    put_number(alloc, &mut table, "cover", 240)?;
+    put(alloc, &mut table, "crane", cranes)?;
+    Ok(table)
+}
+
+/// A ship file for so many hatches and cranes: hatches 2, 6, 10 and so on, a margin of 1, 60 ticks
+/// of travel per bay, 120 a move on deck, 110 in the hold and 240 for a cover, and cranes C1, C2 and
+/// so on at bays 1, 3 and so on. The first crane can do all tasks upward, whatever the moves are.
 pub fn ship_text(alloc: Global, hatches: u16, cranes: u16) -> Result<Bytes, OutOfMemory>
     requires hatches { (1 ≤ hatches) × (hatches ≤ MOST_HATCHES) }
     requires cranes { (1 ≤ cranes) × (cranes ≤ MOST_CRANES) }
+    ensures table { IfOk result (λ bytes. parse_document bytes ≡ Some (ship_table hatches cranes)) }
+    ensures ship { IfOk result (λ bytes. ship_file bytes ≡ Ok (made_ship hatches cranes)) }
+    ensures one_way { IfOk result (λ _. (rows : List Row)
+        → HasOneWay (instance_of (made_ship hatches cranes) rows)) }
 {
-    Err(OutOfMemory)
+    let table = ship_table(alloc, hatches, cranes)?;
+    match toml::table_to_string(alloc, &table) {
+        Ok(text) => Ok(Bytes::of(text.into_bytes())),
+        Err(_) => Err(OutOfMemory),
+    }
 }

@@ -101,7 +101,7 @@ module _ (ship : ShipView) (is : IsShip ship) (rows : List Row) where
         ((omega (arith, ints, start), omega (arith, ints, start)), (omega (arith, ints, start, low, high), omega (arith, ints, start, low, high)));
   }
 
-  tasks_within : Each (λ (t : Task). IsFrom (pos 1) (pos (greatest_place ship)) t.bay) (tasks_of ship rows)
+  pub tasks_within : Each (λ (t : Task). IsFrom (pos 1) (pos (greatest_place ship)) t.bay) (tasks_of ship rows)
   tasks_within =
       each_flat_map (λ (t : Task). IsFrom (pos 1) (pos (greatest_place ship)) t.bay) (λ h. flat_map (tasks_at ship rows h.0 h.1) phases) (zip ship.hatches ship.places)
       (each_weaker (λ (h : ℕ × ℕ). Unit {0} × ((1 ≤ h.1) × (h.1 ≤ greatest_place ship))) (λ h. Each (λ (t : Task). IsFrom (pos 1) (pos (greatest_place ship)) t.bay) (flat_map (tasks_at ship rows h.0 h.1) phases)) (zip ship.hatches ship.places)
@@ -116,7 +116,7 @@ module _ (ship : ShipView) (is : IsShip ship) (rows : List Row) where
       (each_from (λ h. Each (λ (t : Task). 1 ≤ t.ticks) (flat_map (tasks_at ship rows h.0 h.1) phases)) (zip ship.hatches ship.places)
       (λ h. each_weaker (IsTaskAt h) (λ (t : Task). 1 ≤ t.ticks) (flat_map (tasks_at ship rows h.0 h.1) phases) (λ t it. it.ticks) (hatch_are ship is rows h)))
 
-  follow : AllPairs Follows (tasks_of ship rows)
+  pub follow : AllPairs Follows (tasks_of ship rows)
   follow = pairs_by_index Follows (tasks_of ship rows) (all_follow ship is rows)
 
   same_bay : (t u : Task) → Follows t u → (t.bay ≡ u.bay) ↔ (t.hatch ≡ u.hatch)

@@ -1,4 +1,4 @@
-use Rattle.std.proofs.Common.{◌≡◌, ◌+◌, ◌*◌, ◌++◌, ℕ, List, arith, refl, sym, ap, ◌∙◌, codes}
+use Rattle.std.proofs.Common.{◌≡◌, ◌+◌, ◌*◌, ◌++◌, ℕ, List, arith, refl, ap, ◌∙◌, codes}
 use Rattle.qc_make.specs.Draws.{state_after}
 use Rattle.qc_make.specs.MadeList.{hatch_rows, list_text, row_lines}
 use Rattle.qc_make.proofs.ListBack.{list_back, list_short}
@@ -14,8 +14,7 @@ loop-k-preserved c =
     let number = c.args.number in
     let k = c.loop-k.k in
     let drew = c.loop-k.invariant.1 in
-    let four : 4 * k + 4 ≡ 4 * (k + 1) = omega arith in
-    (
+    let four : 4 * k + 4 ≡ 4 * (k + 1) = omega arith in (
       c.in_ok-state.ensures.text
           ∙ ap (λ (t : List ℕ). t ++ row_lines (hatch_rows c.loop-k.state (4 * k + 2))) c.loop-k.invariant.0
           ∙ hatch_more number k c.loop-k.state (4 * k + 2) (codes "id,move,cell,length\n") drew refl,

@@ -1,4 +1,4 @@
-use Rattle.std.proofs.Common.{◌≡◌, ◌*◌, ◌++◌, codes}
+use Rattle.std.proofs.Common.{◌≡◌, ◌*◌}
 use Rattle.qc_make.specs.Draws.{state_after}
 use Rattle.qc_make.specs.MadeList.{list_text}
 use Rattle.qc_make.proofs.list.list_text.Given as goal

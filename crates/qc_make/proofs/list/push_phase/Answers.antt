@@ -1,5 +1,5 @@
 use Rattle.std.proofs.Common.{◌++◌, ap, ◌∙◌}
-use Rattle.qc_make.specs.MadeList.{made_row, row_line}
+use Rattle.qc_make.specs.MadeList.{made_row}
 use Rattle.qc_make.proofs.Lines.{lines_more}
 use Rattle.qc_make.proofs.list.push_phase.Goals as goal
 
