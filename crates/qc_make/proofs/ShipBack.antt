@@ -13,7 +13,8 @@ use Rattle.qc_ship.specs.declared.fault.Key.TheVariants as key
 use Rattle.qc_ship.specs.Ship.{IsShip, highest_bay, lowest_bay}
 use Rattle.qc_ship.specs.ShipFile.{crane_in, cranes_at, hatch_in, hatches_at, ship_of, times_at}
 use Rattle.qc_ship.proofs.TimesLaws.{IsShip-from_parts}
-use Rattle.qc_ship.specs.ShipValues.{Reading, array_in, each, elements, last}
+use Rattle.qc_num.specs.Reading.{each}
+use Rattle.qc_ship.specs.ShipValues.{Reading, array_in, elements, last}
 use Rattle.qc_make.specs.MadeShip.{hatch_number, made_crane, made_ship}
 use Rattle.qc_make.specs.MadeTable.{crane_table, crane_values, hatch_values, number_value, ship_table}
 
