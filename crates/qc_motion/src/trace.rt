@@ -9,13 +9,7 @@ use qc_model::{Direction, Instance, Schedule, ends, seen_place};
 /// The waypoints of a crane in a schedule that goes this way: where it stands at tick 0, at the end of
 /// the schedule, and at each tick between at which it starts, stops or turns. They take no memory. Each
 /// step leads from one of them to the next.
-pub fn waypoints(
-    inst: &Instance,
-    sched: &Schedule,
-    way: Direction,
-    crane: u16,
-    track: &mut Track,
-)
+pub fn waypoints(inst: &Instance, sched: &Schedule, way: Direction, crane: u16, track: &mut Track)
     requires judgeable { IsJudgeable inst.now sched.now }
     requires goes { Goes inst.now sched.now way }
     requires range { crane < length inst.now.cranes }

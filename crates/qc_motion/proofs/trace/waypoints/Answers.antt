@@ -1,10 +1,10 @@
 use Rattle.std.proofs.Common.{◌≡◌, ℕ, ℤ, List, [], ◌∷◌, ◌++◌, length, to_z, of_z, w64, refl, sym, ap, subst, ◌∙◌, arith}
-use Rattle.std.proofs.lemmas.Int.{ints, to_z-of_z}
+use Rattle.std.proofs.lemmas.Int.{ints}
 use Rattle.qc_model.specs.Instance.{InstanceView}
 use Rattle.qc_model.specs.Motion.{seen_place}
 use Rattle.qc_model.proofs.SeenLemmas.{seen-task_count}
 use Rattle.qc_motion.specs.declared.track.Waypoint.{Waypoint}
-use Rattle.qc_motion.specs.Sweep.{IsAt, IsRun}
+use Rattle.qc_motion.specs.Sweep.{IsAt}
 use Rattle.qc_motion.specs.Tracks.{TrackView}
 use Rattle.qc_motion.proofs.Legs.{Sees}
 use Rattle.qc_motion.proofs.Linear.{moves_between}
@@ -31,8 +31,7 @@ loop-at-init c =
     let sees : Sees inst sched c.args.way c.args.crane it = record { inst_is = n.inst; sched_is = n.sched; crane_is = n.crane } in
     let t = traced_first inst sched c.args.way c.args.crane c.ends-end.result it n.sound sees c.requires.range x (subst (IsAt it 0) (sym read) c.place-place.ensures.place) in
     let wrote : to_z w64 (of_z w64 c.seen_place.result) ≡ seen_place inst c.args.way 1 x = let e = c.seen_place.ensures in omega (arith, ints, e) in
-    let e = pushed _ _ [] 0 _ _ c.push.ensures (ap (λ (t : TrackView). t.points) c.clear.ensures) wrote in
-    (
+    let e = pushed _ _ [] 0 _ _ c.push.ensures (ap (λ (t : TrackView). t.points) c.clear.ensures) wrote in (
       subst (λ (ps : List Waypoint). IsTraced inst sched c.args.way c.args.crane c.ends-end.result it ps 0 x) (sym e) t,
       (omega (arith, ints, near), omega (arith, ints, near)),
       ap (λ (t : TrackView). t.tasks) c.push.ensures ∙ ap (λ (t : TrackView). t.tasks) c.clear.ensures,
@@ -59,8 +58,7 @@ loop-at-preserved c =
     let sees : Sees inst sched c.args.way c.args.crane it = record { inst_is = n.inst; sched_is = n.sched; crane_is = n.crane } in
     let t = traced_next inst sched c.args.way c.args.crane c.ends-end.result it n.sound sees c.requires.range c.loop-at.track.points _ _ h.0 c.loop-at-test.true _ c.run_end-at.ensures x (subst (IsAt it c.run_end-at.result) (sym read) c.place-place-in-loop-at.ensures.place) in
     let wrote : to_z w64 (of_z w64 c.seen_place-in-loop-at.result) ≡ seen_place inst c.args.way 1 x = let e = c.seen_place-in-loop-at.ensures in omega (arith, ints, e) in
-    let e = pushed _ _ c.loop-at.track.points c.run_end-at.result _ _ c.push-in-loop-at.ensures refl wrote in
-    (
+    let e = pushed _ _ c.loop-at.track.points c.run_end-at.result _ _ c.push-in-loop-at.ensures refl wrote in (
       subst (λ (ps : List Waypoint). IsTraced inst sched c.args.way c.args.crane c.ends-end.result it ps c.run_end-at.result x) (sym e) t,
       (omega (arith, ints, near), omega (arith, ints, near)),
       ap (λ (t : TrackView). t.tasks) c.push-in-loop-at.ensures ∙ h.2,
