@@ -3,10 +3,9 @@ use Rattle.std.proofs.Common.{◌≡◌, ℕ, ◌+◌, ◌-◌, ◌<◌, ◌≤�
 use Rattle.std.proofs.lemmas.Bool.{cases_lt}
 use Rattle.std.proofs.lemmas.Int.{by_lt_z, ints}
 use Rattle.std.specs.declared.cmp.Ordering.TheVariants.{Less}
-use Rattle.qc_model.specs.Bays.{bays_up}
 use Rattle.qc_model.proofs.Bays.{bays}
 use Rattle.qc_motion.specs.Sweep.{IsAt, IsBelow, IsFelt, IsFirst, IsRun, IsSound, Swept, berth_hold, descent, floor_place, ready_of, stopping}
-use Rattle.qc_motion.proofs.Moments.{IsMoment, moment_of}
+use Rattle.qc_motion.proofs.Moments.{moment_of}
 use Rattle.qc_motion.proofs.Rises.{no_faster_down}
 use Rattle.qc_motion.proofs.Terms.{Given, at_of, berth_at, berth_le, floor_le, given_of, task_at, task_le}
 use Rattle.qc_motion.proofs.Terms.Given.{by_berth, by_floor, by_task}

@@ -1,6 +1,5 @@
 -- What a sweep sees of a crane, said of the instance and the schedule themselves.
-use Rattle.std.proofs.Common.{◌≡◌, ◌≢◌, ℕ, ◌+◌, ◌-◌, ◌<◌, ◌≤◌, ℤ, pos, ◌+ℤ◌, ◌-ℤ◌, ◌⊎◌, inl, inr, List, length, refl, sym, ap, subst, ◌∙◌, arith}
-use Rattle.std.proofs.lemmas.Bool.{cases_lt}
+use Rattle.std.proofs.Common.{◌≡◌, ℕ, ◌+◌, ◌-◌, ◌<◌, ◌≤◌, ℤ, pos, ◌+ℤ◌, ◌-ℤ◌, List, refl, sym, subst, arith}
 use Rattle.std.proofs.lemmas.Int.{ints}
 use Rattle.std.specs.declared.cmp.Ordering.{Ordering}
 use Rattle.std.specs.declared.cmp.Ordering.TheVariants.{Less, Equal, Greater}
@@ -12,7 +11,6 @@ use Rattle.qc_model.specs.Motion.{IsGreatest, IsPlace, LowPlace, scaled, seen_pl
 use Rattle.qc_model.specs.Seen.{seen, seen_number, seen_schedule}
 use Rattle.qc_motion.specs.declared.track.Waypoint.{Waypoint}
 use Rattle.qc_motion.specs.Sweep.{IsAt, Swept, moved}
-use Rattle.qc_motion.specs.Waypoints.{IsTurn}
 use Rattle.qc_motion.proofs.Extrema.{greatest_unique}
 
 -- the sweep is of crane k as it is seen

@@ -1,5 +1,5 @@
 -- Between two waypoints a crane goes evenly, fractions of a tick included.
-use Rattle.std.proofs.Common.{◌≡◌, ℕ, ◌+◌, ◌-◌, ◌*◌, ◌/◌, ◌%◌, ◌<◌, ◌≤◌, ℤ, pos, ◌+ℤ◌, ◌-ℤ◌, ◌*ℤ◌, ◌⊎◌, inl, inr, List, length, refl, sym, ap, subst, ◌∙◌, mul-le-mul_left, arith}
+use Rattle.std.proofs.Common.{◌≡◌, ℕ, ◌+◌, ◌-◌, ◌*◌, ◌/◌, ◌%◌, ◌<◌, ◌≤◌, ℤ, pos, ◌+ℤ◌, ◌-ℤ◌, ◌*ℤ◌, inl, inr, List, length, refl, sym, ap, subst, ◌∙◌, mul-le-mul_left, arith}
 use Rattle.std.proofs.lemmas.Bool.{cases_lt}
 use Rattle.std.proofs.lemmas.Int.{ints}
 use Rattle.std.specs.declared.cmp.Ordering.{Ordering}
@@ -9,13 +9,12 @@ use Rattle.qc_model.specs.declared.schedule.Slot.{Slot}
 use Rattle.qc_model.specs.Instance.{InstanceView, Valid}
 use Rattle.qc_model.specs.Judge.{Goes}
 use Rattle.qc_model.specs.Motion.{IsPlace}
-use Rattle.qc_model.specs.Rules.{ends}
 use Rattle.qc_model.proofs.Places.{place_exists}
 use Rattle.qc_model.proofs.Scaled.{scaled_sum}
 use Rattle.qc_model.proofs.WholeTicks.{linear_within}
 use Rattle.qc_motion.specs.declared.track.Waypoint.{Waypoint}
 use Rattle.qc_motion.specs.Sweep.{moved}
-use Rattle.qc_motion.specs.Waypoints.{IsBetween, IsOnLine, MovesBetween, waypoint}
+use Rattle.qc_motion.specs.Waypoints.{IsOnLine, MovesBetween, waypoint}
 use Rattle.qc_motion.proofs.Legs.{IsLeg, place_once}
 use Rattle.qc_motion.proofs.Named.{IsWhole, place_at}
 

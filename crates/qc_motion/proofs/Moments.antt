@@ -15,14 +15,17 @@ raised : (a b c y z : ℤ) → y ≡ (a +ℤ c) → z ≡ (b +ℤ c) → a ≤�
 raised a b c y z e g h = omega (arith, ints)
 
 pub moment_of : (it : Swept) → IsSound it → (f : ℕ) × IsMoment it f
-moment_of it s = (tick.0, record {
-  tasks = λ m i low felt.
-      raised _ _ (lift it.inst 1 it.crane) _ _ (task_place-lifted it.inst it.sched 1 i it.crane m felt.1) lowest
-      (tick.1.tasks m (omega arith) i felt.0 felt.1);
-  berths = λ m v high order.
-      raised _ _ (lift it.inst 1 it.crane) _ _ (berth_place-lifted it.inst it.sched 1 v it.crane m order) lowest
-      (tick.1.berths m (omega arith) v order);
-})
+moment_of it s = (
+  tick.0,
+  record {
+    tasks = λ m i low felt.
+        raised _ _ (lift it.inst 1 it.crane) _ _ (task_place-lifted it.inst it.sched 1 i it.crane m felt.1) lowest
+        (tick.1.tasks m (omega arith) i felt.0 felt.1);
+    berths = λ m v high order.
+        raised _ _ (lift it.inst 1 it.crane) _ _ (berth_place-lifted it.inst it.sched 1 v it.crane m order) lowest
+        (tick.1.berths m (omega arith) v order);
+  },
+)
   where
     f : HasFloor it.inst it.sched 1 it.crane (floor_level it.inst 1 it.crane it.floor)
     f = has_floor it.inst it.sched 1 it.crane it.floor s.floor

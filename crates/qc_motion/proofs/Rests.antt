@@ -1,14 +1,13 @@
 -- A crane rests until a task comes to raise it, or until the last berth that holds it there is left.
-use Rattle.std.proofs.Common.{◌≡◌, ℕ, ◌+◌, ◌-◌, ◌<◌, ◌≤◌, ℤ, pos, ◌+ℤ◌, ◌-ℤ◌, ◌≤ℤ◌, ◌<ℤ◌, ◌⊎◌, min, length, inl, inr, refl, subst, sym, ap, arith}
+use Rattle.std.proofs.Common.{◌≡◌, ℕ, ◌+◌, ◌<◌, ◌≤◌, ℤ, pos, ◌+ℤ◌, ◌<ℤ◌, ◌⊎◌, min, length, inl, inr, subst, sym, arith}
 use Rattle.std.proofs.lemmas.Bool.{cases_lt}
 use Rattle.std.proofs.lemmas.Int.{by_lt_z, ints}
 use Rattle.std.specs.declared.cmp.Ordering.TheVariants.{Equal}
-use Rattle.qc_model.specs.Bays.{bays_up}
 use Rattle.qc_model.specs.Rules.{start_of}
 use Rattle.qc_model.proofs.Bays.{bays}
-use Rattle.qc_motion.specs.Sweep.{HoldsAt, IsAt, IsBerthAt, IsFelt, IsFirst, IsHeld, IsHigher, IsLast, IsRun, IsSound, Swept, berth_hold, floor_place, passing, ready_of, task_hold}
-use Rattle.qc_motion.proofs.Moments.{IsMoment, moment_of}
-use Rattle.qc_motion.proofs.Terms.{Given, at_of, berth_at, berth_le, floor_le, given_of, task_at, task_le}
+use Rattle.qc_motion.specs.Sweep.{IsAt, IsBerthAt, IsFirst, IsHeld, IsHigher, IsLast, IsRun, IsSound, Swept, berth_hold, floor_place, passing, ready_of, task_hold}
+use Rattle.qc_motion.proofs.Moments.{moment_of}
+use Rattle.qc_motion.proofs.Terms.{Given, at_of, berth_le, floor_le, given_of, task_le}
 use Rattle.qc_motion.proofs.Terms.Given.{by_berth, by_floor, by_task}
 
 module _ (it : Swept) (s : IsSound it) (m : ℕ) (p : ℤ) (a : IsAt it m p) (b : IsAt it (m + 1) p) (end f : ℕ) (early : m < end)

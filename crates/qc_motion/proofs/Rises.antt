@@ -1,14 +1,11 @@
 -- A crane goes on as it goes for as long as a rise, a rest and a fall last.
-use Rattle.std.proofs.Common.{◌≡◌, ℕ, ◌+◌, ◌-◌, ◌<◌, ◌≤◌, ℤ, pos, ◌+ℤ◌, ◌-ℤ◌, ◌≤ℤ◌, ◌<ℤ◌, ◌⊎◌, min, length, inl, inr, refl, sym, ap, subst, arith}
+use Rattle.std.proofs.Common.{◌≡◌, ℕ, ◌+◌, ◌-◌, ◌<◌, ◌≤◌, ℤ, pos, ◌+ℤ◌, ◌-ℤ◌, ◌≤ℤ◌, ◌<ℤ◌, ◌⊎◌, min, length, inl, inr, subst, arith}
 use Rattle.std.proofs.lemmas.Bool.{cases_lt}
-use Rattle.std.proofs.lemmas.Int.{by_lt_z, ints}
-use Rattle.std.specs.declared.cmp.Ordering.{Ordering}
-use Rattle.std.specs.declared.cmp.Ordering.TheVariants.{Less, Equal, Greater}
+use Rattle.std.proofs.lemmas.Int.{ints}
+use Rattle.std.specs.declared.cmp.Ordering.TheVariants.{Greater}
 use Rattle.qc_model.specs.Rules.{start_of}
-use Rattle.qc_model.proofs.Bays.{bays}
-use Rattle.qc_motion.specs.Sweep.{HoldsAt, IsAt, IsBelow, IsBerthAt, IsFelt, IsFirst, IsHeld, IsHigher, IsLast, IsOnRise, IsRun, IsSound, Swept, berth_hold, descent, floor_place, moved, passing, ready_of, stopping, task_hold}
-use Rattle.qc_motion.proofs.Moments.{IsMoment, moment_of}
-use Rattle.qc_motion.proofs.Terms.{Given, at_of, berth_at, berth_falls, berth_le, floor_le, given_of, task_at, task_le, task_slow}
+use Rattle.qc_motion.specs.Sweep.{IsAt, IsFelt, IsLast, IsOnRise, IsRun, IsSound, Swept, task_hold}
+use Rattle.qc_motion.proofs.Terms.{Given, at_of, berth_le, floor_le, given_of, task_le}
 use Rattle.qc_motion.proofs.Terms.Given.{by_berth, by_floor, by_task}
 
 module _ (it : Swept) (s : IsSound it) (m : ℕ) (p : ℤ) (a : IsAt it m p) where

@@ -1,12 +1,10 @@
 -- What the place of a crane at a tick says of the tasks and berths that hold it, and how fast it changes.
-use Rattle.std.proofs.Common.{◌≡◌, ℕ, ◌+◌, ◌*◌, ◌-◌, ◌<◌, ◌≤◌, ℤ, pos, ◌+ℤ◌, ◌-ℤ◌, ◌≤ℤ◌, ◌⊎◌, inl, inr, refl, sym, ap, subst, arith}
+use Rattle.std.proofs.Common.{◌≡◌, ℕ, ◌+◌, ◌≤◌, ℤ, pos, ◌+ℤ◌, ◌≤ℤ◌, refl, sym, ap, subst, arith}
 use Rattle.std.proofs.lemmas.Int.{ints}
-use Rattle.qc_model.specs.Instance.{crane}
 use Rattle.qc_model.specs.Motion.{LowPlace, berth_place, scaled, task_place}
 use Rattle.qc_model.specs.Motion.LowPlace.{of_berth, of_floor, of_task}
-use Rattle.qc_model.specs.Rules.{start_of}
-use Rattle.qc_motion.specs.Sweep.{IsAt, IsFelt, IsSound, Swept, berth_hold, floor_place, task_hold}
-use Rattle.qc_motion.proofs.Extrema.{greatest_unique, least_unique}
+use Rattle.qc_motion.specs.Sweep.{IsAt, IsFelt, IsSound, Swept, floor_place}
+use Rattle.qc_motion.proofs.Extrema.{least_unique}
 
 -- where a task has the crane at a tick
 abbrev pub task_at : Swept → ℕ → ℕ → ℤ

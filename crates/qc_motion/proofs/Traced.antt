@@ -1,5 +1,5 @@
 -- The waypoints up to a tick, one run at a time.
-use Rattle.std.proofs.Common.{◌≡◌, ◌≢◌, ℕ, ◌+◌, ◌-◌, ◌*◌, ◌<◌, ◌≤◌, ℤ, pos, ◌+ℤ◌, ◌-ℤ◌, ◌⊎◌, inl, inr, List, [], ◌∷◌, ◌++◌, length, refl, sym, ap, subst, ◌∙◌, arith}
+use Rattle.std.proofs.Common.{◌≡◌, ℕ, ◌+◌, ◌-◌, ◌*◌, ◌<◌, ◌≤◌, ℤ, pos, ◌-ℤ◌, ◌⊎◌, inl, inr, List, [], ◌∷◌, ◌++◌, length, refl, sym, ap, subst, ◌∙◌, arith}
 use Rattle.std.proofs.lemmas.Bool.{cases_lt}
 use Rattle.std.proofs.lemmas.Int.{ints}
 use Rattle.std.proofs.lemmas.List.{get_or_append_left, get_or_push, length-append}
@@ -11,7 +11,7 @@ use Rattle.qc_model.specs.declared.direction.Direction.TheVariants.{Up, Down}
 use Rattle.qc_model.specs.declared.schedule.Slot.{Slot}
 use Rattle.qc_model.specs.Instance.{InstanceView, no_crane}
 use Rattle.qc_model.specs.Motion.{IsPlace, seen_place}
-use Rattle.qc_model.specs.Rules.{ends, no_slot, start_of}
+use Rattle.qc_model.specs.Rules.{ends, no_slot}
 use Rattle.qc_model.proofs.Places.{place_exists}
 use Rattle.qc_motion.specs.declared.track.Waypoint.{Waypoint}
 use Rattle.qc_motion.specs.Sweep.{IsAt, IsRun, IsSound, Swept, moved, ready_of}

@@ -4,8 +4,8 @@
 mod floor;
 mod runs;
 mod sweep;
-mod track;
 mod trace;
+mod track;
 
 pub use trace::waypoints;
 pub use track::{Track, Waypoint};

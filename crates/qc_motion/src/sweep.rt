@@ -1,6 +1,7 @@
 ghost use Rattle.std.specs.Prelude.{◌≡◌, ◌+◌, ◌-◌, ◌≤◌, ◌<◌, ◌≤ℤ◌, ℕ, length, MatchOption};
 ghost use Rattle.qc_model.specs.declared.limits.TheConstants.{MOST_END};
-ghost use Rattle.qc_model.specs.Instance.{Valid, crane as crane_at};
+ghost use Rattle.qc_model.specs.Instance.{IsOnRail, Valid, crane as crane_at};
+ghost use Rattle.qc_model.specs.Motion.{bay_ahead, scaled};
 ghost use Rattle.qc_model.specs.Judge.{IsJudgeable, Goes};
 ghost use Rattle.qc_model.specs.Motion.{LowPlace, scaled, task_place};
 ghost use Rattle.qc_model.specs.Rules.{crane_of, start_of};
@@ -80,6 +81,16 @@ impl<'a> Sweep<'a> {
         }
     }
 
+    /// The place at which a lower crane, or itself, has the crane while that is at a bay.
+    fn place_ahead(&self, number: u16, bay: Bay) -> i64
+        requires order { number ≤ self.now.crane }
+        requires on_rail { IsOnRail bay }
+        ensures place { result ≡ scaled self.now.inst 1 (bay_ahead self.now.inst number bay self.now.crane) }
+        ensures near { IsNear result }
+    {
+        self.judge.place_of(self.judge.bay_ahead(number, bay, self.crane))
+    }
+
     /// Where a task has the crane, and from its start on; `None` where it is a higher crane's.
     pub(crate) fn task(&self, task: u16) -> Option<Hold>
         requires { task < length self.now.inst.tasks }
@@ -92,9 +103,8 @@ impl<'a> Sweep<'a> {
         if self.crane < work.crane {
             return None;
         }
-        let bay = self.judge.bay_ahead(work.crane, work.bay, self.crane);
         Some(Hold {
-            place: self.judge.place_of(bay),
+            place: self.place_ahead(work.crane, work.bay),
             at: work.start,
         })
     }
@@ -106,9 +116,8 @@ impl<'a> Sweep<'a> {
         ensures at { result.at ≡ (crane_at self.now.inst number).ready }
     {
         let post = self.judge.post(number);
-        let bay = self.judge.bay_ahead(number, post.bay, self.crane);
         Hold {
-            place: self.judge.place_of(bay),
+            place: self.place_ahead(number, post.bay),
             at: post.ready,
         }
     }

@@ -1,7 +1,6 @@
 use Rattle.std.proofs.Common.{◌≡◌, ◌+◌, pos, ◌+ℤ◌, to_z, of_z, w32, ap, arith}
 use Rattle.std.proofs.lemmas.Int.{ints}
-use Rattle.qc_model.specs.declared.direction.Direction.{Direction}
-use Rattle.qc_model.specs.Motion.{scaled, seen_place}
+use Rattle.qc_model.specs.Motion.{scaled}
 use Rattle.qc_model.proofs.LimitsOf.{limits_of}
 use Rattle.qc_model.proofs.seen.seen_place.Goals as goal
 
@@ -17,6 +16,6 @@ returns-in-Down c =
     let inst = c.args.inst.now in
     let l = limits_of _ c.bays.ensures.valid in
     let same : to_z w32 (of_z w32 (to_z w32 (of_z w32 c.bays.result) +ℤ pos 1)) ≡ pos (inst.bays + 1) =
-        omega (arith, ints, l.bays) in
+    omega (arith, ints, l.bays) in
     let whole = ap (scaled inst 1) same in
     rw c.in-Down.is (omega (arith, ints, whole, c.requires))

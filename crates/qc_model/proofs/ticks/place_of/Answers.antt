@@ -2,13 +2,9 @@ use Rattle.std.proofs.Common.{◌≡◌, ℕ, ◌*◌, ◌≤◌, ℤ, pos, negs
 use Rattle.std.proofs.lemmas.Int.{ints, to_z-of_z, unsigned_abs-mul}
 use Rattle.std.proofs.lemmas.Nat.{mul-le}
 use Rattle.std.specs.Int.RustNames.{unsigned_abs}
-use Rattle.qc_model.specs.Instance.{InstanceView, Valid, IsFrom}
+use Rattle.qc_model.specs.Instance.{InstanceView, Valid}
 use Rattle.qc_model.specs.Limits.{IsNearRail, IsPlaceNear}
-use Rattle.qc_model.specs.Motion.{scaled}
-use Rattle.qc_model.specs.declared.direction.Direction.{Direction}
-use Rattle.qc_model.specs.Seen.{seen}
 use Rattle.qc_model.proofs.LimitsOf.{limits_of}
-use Rattle.qc_model.proofs.SeenLemmas.{seen-travel}
 use Rattle.qc_model.proofs.ticks.place_of.Goals as goal
 
 bounds : (z : ℤ) → unsigned_abs z ≤ 330000000 → IsPlaceNear z

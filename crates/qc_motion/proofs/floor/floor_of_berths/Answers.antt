@@ -1,4 +1,4 @@
-use Rattle.std.proofs.Common.{◌≡◌, ℕ, ◌+◌, ◌*◌, ◌-◌, ◌<◌, ◌≤◌, ◌≤ℤ◌, pos, ◌-ℤ◌, FitsSigned, to_z, of_z, w32, sym, subst, inl, inr, negsuc, rules, arith}
+use Rattle.std.proofs.Common.{◌≡◌, ℕ, ◌≤ℤ◌, pos, FitsSigned, to_z, of_z, w32, sym, subst, inl, inr, negsuc, rules, arith}
 use Rattle.std.proofs.lemmas.Int.{ints}
 use Rattle.std.proofs.lemmas.Bool.{cases_lt}
 use Rattle.qc_model.specs.Instance.{crane as crane_at}
@@ -11,8 +11,7 @@ pub loop-higher-init : goal.loop-higher-init
 loop-higher-init c =
     let inst = c.args.judge.now.inst in
     let k = c.args.crane in
-    let e : to_z w32 (of_z w32 c.bay_behind-floor.result) ≡ bay_behind inst k (crane_at inst k).bay k = omega (arith, ints) in
-    (
+    let e : to_z w32 (of_z w32 c.bay_behind-floor.result) ≡ bay_behind inst k (crane_at inst k).bay k = omega (arith, ints) in (
       subst (FloorBay inst c.args.judge.now.sched k) (sym e) (of_berth k c.requires (omega arith)),
       λ w low high. absurd (omega arith),
       (omega (arith, ints), omega (arith, ints)),
@@ -26,8 +25,7 @@ loop-higher-preserved c =
     let m = c.min-floor.ensures in
     let n = c.loop-higher.higher in
     let e : to_z w32 (of_z w32 c.bay_behind.result) ≡ bay_behind inst n (crane_at inst n).bay k = omega (arith, ints) in
-    let f : FitsSigned w32 c.min-floor.result = search rules in
-    (
+    let f : FitsSigned w32 c.min-floor.result = search rules in (
       of_min (FloorBay inst c.args.judge.now.sched k) w32 _ _ _ _ f m.value e h.0 (of_berth n (omega arith) (omega arith)),
       λ w low high. elim (cases_lt w n) [
         | inl l ↦ omega (arith, ints, h.1 w l high, m.self_bound)

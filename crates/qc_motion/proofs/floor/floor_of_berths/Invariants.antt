@@ -1,4 +1,4 @@
-use Rattle.std.proofs.Common.{◌<◌, ◌≤◌, ◌≤ℤ◌, ℕ, length}
+use Rattle.std.proofs.Common.{◌<◌, ◌≤◌, ◌≤ℤ◌, ℕ}
 use Rattle.qc_model.specs.Instance.{crane as crane_at}
 use Rattle.qc_model.specs.Limits.{IsNearRail}
 use Rattle.qc_model.specs.Motion.{FloorBay, bay_behind}

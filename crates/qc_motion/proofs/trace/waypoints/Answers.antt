@@ -1,10 +1,10 @@
 use Rattle.std.proofs.Common.{◌≡◌, ℕ, ℤ, List, [], ◌∷◌, ◌++◌, length, to_z, of_z, w64, refl, sym, ap, subst, ◌∙◌, arith}
-use Rattle.std.proofs.lemmas.Int.{ints, to_z-of_z}
+use Rattle.std.proofs.lemmas.Int.{ints}
 use Rattle.qc_model.specs.Instance.{InstanceView}
 use Rattle.qc_model.specs.Motion.{seen_place}
 use Rattle.qc_model.proofs.SeenLemmas.{seen-task_count}
 use Rattle.qc_motion.specs.declared.track.Waypoint.{Waypoint}
-use Rattle.qc_motion.specs.Sweep.{IsAt, IsRun}
+use Rattle.qc_motion.specs.Sweep.{IsAt}
 use Rattle.qc_motion.specs.Tracks.{TrackView}
 use Rattle.qc_motion.proofs.Legs.{Sees}
 use Rattle.qc_motion.proofs.Linear.{moves_between}
@@ -13,11 +13,11 @@ use Rattle.qc_motion.proofs.Traced.{IsTraced, spot, traced_first, traced_next, t
 use Rattle.qc_motion.proofs.trace.waypoints.Goals as goal
 
 -- the track with one more waypoint
-pushed : (old new : TrackView) (ps : List Waypoint) (m : ℕ) (z y : ℤ) → new ≡ record old { points = old.points ++ spot m z ∷ [] }
-    → old.points ≡ ps → z ≡ y → new.points ≡ ps ++ spot m y ∷ []
-pushed old new ps m z y e f g =
-    ap (λ (t : TrackView). t.points) e ∙ ap (λ (qs : List Waypoint). qs ++ spot m z ∷ []) f
-    ∙ ap (λ (x : ℤ). ps ++ spot m x ∷ []) g
+pushed : (old new : TrackView) (ps : List Waypoint) (w v : Waypoint) → new ≡ record old { points = old.points ++ w ∷ [] }
+    → old.points ≡ ps → w ≡ v → new.points ≡ ps ++ v ∷ []
+pushed old new ps w v e f g =
+    ap (λ (t : TrackView). t.points) e ∙ ap (λ (qs : List Waypoint). qs ++ w ∷ []) f
+    ∙ ap (λ (x : Waypoint). ps ++ x ∷ []) g
 
 pub loop-at-init : goal.loop-at-init
 loop-at-init c =
@@ -30,9 +30,7 @@ loop-at-init c =
     let read : x ≡ c.place-place.result = omega (arith, ints, near) in
     let sees : Sees inst sched c.args.way c.args.crane it = record { inst_is = n.inst; sched_is = n.sched; crane_is = n.crane } in
     let t = traced_first inst sched c.args.way c.args.crane c.ends-end.result it n.sound sees c.requires.range x (subst (IsAt it 0) (sym read) c.place-place.ensures.place) in
-    let wrote : to_z w64 (of_z w64 c.seen_place.result) ≡ seen_place inst c.args.way 1 x = let e = c.seen_place.ensures in omega (arith, ints, e) in
-    let e = pushed _ _ [] 0 _ _ c.push.ensures (ap (λ (t : TrackView). t.points) c.clear.ensures) wrote in
-    (
+    let e = pushed _ _ [] _ _ c.push.ensures (ap (λ (t : TrackView). t.points) c.clear.ensures) c.waypoint.ensures in (
       subst (λ (ps : List Waypoint). IsTraced inst sched c.args.way c.args.crane c.ends-end.result it ps 0 x) (sym e) t,
       (omega (arith, ints, near), omega (arith, ints, near)),
       ap (λ (t : TrackView). t.tasks) c.push.ensures ∙ ap (λ (t : TrackView). t.tasks) c.clear.ensures,
@@ -58,9 +56,7 @@ loop-at-preserved c =
     let read : x ≡ c.place-place-in-loop-at.result = omega (arith, ints, near) in
     let sees : Sees inst sched c.args.way c.args.crane it = record { inst_is = n.inst; sched_is = n.sched; crane_is = n.crane } in
     let t = traced_next inst sched c.args.way c.args.crane c.ends-end.result it n.sound sees c.requires.range c.loop-at.track.points _ _ h.0 c.loop-at-test.true _ c.run_end-at.ensures x (subst (IsAt it c.run_end-at.result) (sym read) c.place-place-in-loop-at.ensures.place) in
-    let wrote : to_z w64 (of_z w64 c.seen_place-in-loop-at.result) ≡ seen_place inst c.args.way 1 x = let e = c.seen_place-in-loop-at.ensures in omega (arith, ints, e) in
-    let e = pushed _ _ c.loop-at.track.points c.run_end-at.result _ _ c.push-in-loop-at.ensures refl wrote in
-    (
+    let e = pushed _ _ c.loop-at.track.points _ _ c.push-in-loop-at.ensures refl c.waypoint-in-loop-at.ensures in (
       subst (λ (ps : List Waypoint). IsTraced inst sched c.args.way c.args.crane c.ends-end.result it ps c.run_end-at.result x) (sym e) t,
       (omega (arith, ints, near), omega (arith, ints, near)),
       ap (λ (t : TrackView). t.tasks) c.push-in-loop-at.ensures ∙ h.2,

@@ -1,4 +1,4 @@
-use Rattle.std.proofs.Common.{◌≡◌, ◌-◌, ◌≤◌, length}
+use Rattle.std.proofs.Common.{◌≡◌, ◌-◌}
 use Rattle.qc_motion.specs.Sweep.{IsNear}
 use Rattle.qc_motion.proofs.Traced.{IsTraced}
 use Rattle.qc_motion.proofs.trace.waypoints.Given as goal

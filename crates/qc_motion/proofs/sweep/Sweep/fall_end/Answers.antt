@@ -1,11 +1,10 @@
-use Rattle.std.proofs.Common.{◌≡◌, ℕ, ℤ, ◌+◌, ◌<◌, ◌≤◌, ◌≤ℤ◌, ◌-ℤ◌, pos, to_z, of_z, w64, max, min, ap, subst, ◌∙◌, sym, refl, arith}
+use Rattle.std.proofs.Common.{◌≡◌, ℕ, ℤ, ◌+◌, to_z, of_z, w64, min, subst, arith}
 use Rattle.std.proofs.lemmas.Int.{ints}
-use Rattle.qc_model.specs.Rules.{crane_of, start_of}
 use Rattle.qc_model.specs.Bays.{bays_up}
 use Rattle.qc_model.proofs.Bays.{bays}
-use Rattle.qc_motion.specs.Sweep.{HoldsAt, IsBelow, IsBerthAt, IsFelt, IsFirst, IsHigher, IsLast, IsOnRise, berth_hold, descent, floor_place, passing, ready_of, stopping, task_hold}
-use Rattle.qc_motion.proofs.Bests.{first_kept, first_next, first_none, last_kept, last_next}
-use Rattle.qc_motion.proofs.Terms.{berth_le, floor_le, task_le}
+use Rattle.qc_motion.specs.Sweep.{IsBelow, IsFirst, berth_hold, descent, floor_place, stopping}
+use Rattle.qc_motion.proofs.Bests.{first_kept, first_next, first_none}
+use Rattle.qc_motion.proofs.Terms.{berth_le, floor_le}
 use Rattle.qc_motion.proofs.sweep.Sweep.fall_end.Goals.{then-place-at, else-place-at}
 use Rattle.qc_motion.proofs.sweep.Sweep.fall_end.Goals as goal
 
@@ -32,9 +31,9 @@ loop-number-preserved c =
       | then-place-at w ↦
           let here : P n = (omega arith, omega (arith, ints, hold.near, hold.bounded, w.if-place-at.true)) in
           let e : c.if-place-at.end ≡ min c.loop-number.end (stopping it m p n) =
-              let below = berth_le it c.floor_place.ensures.sound m c.args.place c.requires.place n (omega arith) in
-              let u : w.abs_diff-then-place-at.result ≡ bays_up (berth_hold it n) p = omega (arith, bays, below, hold.near, hold.bounded, c.requires.near, w.if-place-at.true) in
-              omega (arith, u) in
+          let below = berth_le it c.floor_place.ensures.sound m c.args.place c.requires.place n (omega arith) in
+          let u : w.abs_diff-then-place-at.result ≡ bays_up (berth_hold it n) p = omega (arith, bays, below, hold.near, hold.bounded, c.requires.near, w.if-place-at.true) in
+          omega (arith, u) in
           first_next P (stopping it m p) n (descent m p (floor_place it)) _ _ c.loop-number.invariant here e
       | else-place-at w ↦
           rw w.end-is (first_kept P (stopping it m p) n (descent m p (floor_place it)) _ c.loop-number.invariant (λ q. absurd (omega (arith, ints, w.if-place-at.false, q.1, hold.near, hold.bounded))))

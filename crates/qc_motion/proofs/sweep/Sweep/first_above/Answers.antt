@@ -1,11 +1,10 @@
-use Rattle.std.proofs.Common.{◌≡◌, ℕ, ◌+◌, ◌<◌, ◌≤◌, ◌≤ℤ◌, ◌-ℤ◌, pos, to_z, of_z, w64, max, min, ap, subst, ◌∙◌, sym, refl, arith}
+use Rattle.std.proofs.Common.{◌≡◌, ℕ, to_z, of_z, w64, min, arith}
 use Rattle.std.proofs.lemmas.Int.{ints}
-use Rattle.qc_model.specs.Rules.{crane_of, start_of}
 use Rattle.qc_model.specs.Bays.{bays_up}
 use Rattle.qc_model.proofs.Bays.{bays}
-use Rattle.qc_motion.specs.Sweep.{HoldsAt, IsBelow, IsBerthAt, IsFelt, IsFirst, IsHigher, IsLast, IsOnRise, berth_hold, descent, floor_place, passing, ready_of, stopping, task_hold}
-use Rattle.qc_motion.proofs.Bests.{first_kept, first_next, first_none, last_kept, last_next}
-use Rattle.qc_motion.proofs.Terms.{berth_le, floor_le, task_le}
+use Rattle.qc_motion.specs.Sweep.{IsHigher, passing, task_hold}
+use Rattle.qc_motion.proofs.Bests.{first_kept, first_next}
+use Rattle.qc_motion.proofs.Terms.{task_le}
 use Rattle.qc_motion.proofs.sweep.Sweep.first_above.Goals.{then-place-hold, else-place-hold}
 use Rattle.qc_motion.proofs.sweep.Sweep.first_above.Goals as goal
 
@@ -28,8 +27,8 @@ loop-task-preserved c =
       | then-place-hold w ↦
           let here : P n = (h.0, omega (arith, ints, h.1, hold.near)) in
           let e : c.if-place-hold.first ≡ min c.loop-task.first (passing it p n) =
-              let u : w.abs_diff.result ≡ bays_up p (task_hold it n) = omega (arith, bays, h.1, hold.near, w.if-place-hold.true) in
-              omega (arith, u, h.2) in
+          let u : w.abs_diff.result ≡ bays_up p (task_hold it n) = omega (arith, bays, h.1, hold.near, w.if-place-hold.true) in
+          omega (arith, u, h.2) in
           first_next P (passing it p) n c.args.end _ _ c.loop-task.invariant here e
       | else-place-hold w ↦
           rw w.first-is (first_kept P (passing it p) n c.args.end _ c.loop-task.invariant (λ q. absurd (omega (arith, ints, w.if-place-hold.false, h.1, q.1, hold.near))))

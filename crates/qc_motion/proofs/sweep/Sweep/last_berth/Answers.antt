@@ -1,10 +1,7 @@
-use Rattle.std.proofs.Common.{◌≡◌, ℕ, ◌+◌, ◌<◌, ◌≤◌, ◌≤ℤ◌, ◌-ℤ◌, pos, to_z, of_z, w64, max, min, ap, subst, ◌∙◌, sym, refl, arith}
+use Rattle.std.proofs.Common.{◌≡◌, ℕ, ◌+◌, to_z, of_z, w64, max, arith}
 use Rattle.std.proofs.lemmas.Int.{ints}
-use Rattle.qc_model.specs.Rules.{crane_of, start_of}
-use Rattle.qc_model.proofs.Bays.{bays}
-use Rattle.qc_motion.specs.Sweep.{HoldsAt, IsBelow, IsBerthAt, IsFelt, IsFirst, IsHigher, IsLast, IsOnRise, berth_hold, descent, floor_place, passing, ready_of, stopping, task_hold}
-use Rattle.qc_motion.proofs.Bests.{first_kept, first_next, first_none, last_kept, last_next}
-use Rattle.qc_motion.proofs.Terms.{berth_le, floor_le, task_le}
+use Rattle.qc_motion.specs.Sweep.{IsBerthAt, ready_of}
+use Rattle.qc_motion.proofs.Bests.{last_kept, last_next}
 use Rattle.qc_motion.proofs.sweep.Sweep.last_berth.Goals.{then-hold-place, else-hold-place}
 use Rattle.qc_motion.proofs.sweep.Sweep.last_berth.Goals as goal
 

@@ -1,4 +1,4 @@
-use Rattle.std.proofs.Common.{◌≡◌, to_z, of_z, w32, subst, arith}
+use Rattle.std.proofs.Common.{◌≡◌, to_z, of_z, w32, arith}
 use Rattle.std.proofs.lemmas.Int.{ints}
 use Rattle.qc_motion.proofs.SweepLemmas.{sound_of}
 use Rattle.qc_motion.proofs.sweep.Sweep.new.Goals as goal

@@ -1,7 +1,6 @@
-use Rattle.std.proofs.Common.{◌≡◌, ◌+◌, ◌-ℤ◌, length, FitsSigned, to_z, of_z, w64, ap, subst, rules, arith}
+use Rattle.std.proofs.Common.{◌≡◌, ◌-ℤ◌, FitsSigned, to_z, of_z, w64, rules, arith}
 use Rattle.std.proofs.lemmas.Int.{ints}
 use Rattle.qc_model.specs.Motion.{berth_place}
-use Rattle.qc_motion.specs.Sweep.{IsHighest, IsSound, Swept}
 use Rattle.qc_motion.proofs.PlaceLemmas.{at_of_highest, highest_of_berth}
 use Rattle.qc_motion.proofs.sweep.Sweep.place.Goals as goal
 

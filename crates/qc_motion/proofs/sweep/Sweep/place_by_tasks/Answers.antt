@@ -1,7 +1,6 @@
-use Rattle.std.proofs.Common.{◌≡◌, ◌≤ℤ◌, ◌-ℤ◌, pos, FitsSigned, to_z, of_z, w32, w64, ap, subst, ◌∙◌, rules, arith}
+use Rattle.std.proofs.Common.{◌≡◌, ◌-ℤ◌, FitsSigned, to_z, of_z, w64, ◌∙◌, rules, arith}
 use Rattle.std.proofs.lemmas.Int.{ints}
-use Rattle.qc_model.specs.Motion.{scaled, task_place}
-use Rattle.qc_motion.specs.Sweep.{IsHighest, Swept}
+use Rattle.qc_model.specs.Motion.{task_place}
 use Rattle.qc_motion.proofs.PlaceLemmas.{highest_of_floor, highest_kept, highest_of_task}
 use Rattle.qc_motion.proofs.sweep.Sweep.place_by_tasks.Goals.{in-Some, in_default}
 use Rattle.qc_motion.proofs.sweep.Sweep.place_by_tasks.Goals as goal

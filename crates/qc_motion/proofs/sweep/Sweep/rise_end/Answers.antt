@@ -1,10 +1,8 @@
-use Rattle.std.proofs.Common.{◌≡◌, ℕ, ◌+◌, ◌<◌, ◌≤◌, ◌≤ℤ◌, ◌-ℤ◌, pos, to_z, of_z, w64, max, min, ap, subst, ◌∙◌, sym, refl, arith}
+use Rattle.std.proofs.Common.{◌≡◌, ℕ, to_z, of_z, w64, max, arith}
 use Rattle.std.proofs.lemmas.Int.{ints}
-use Rattle.qc_model.specs.Rules.{crane_of, start_of}
-use Rattle.qc_model.proofs.Bays.{bays}
-use Rattle.qc_motion.specs.Sweep.{HoldsAt, IsBelow, IsBerthAt, IsFelt, IsFirst, IsHigher, IsLast, IsOnRise, berth_hold, descent, floor_place, passing, ready_of, stopping, task_hold}
-use Rattle.qc_motion.proofs.Bests.{first_kept, first_next, first_none, last_kept, last_next}
-use Rattle.qc_motion.proofs.Terms.{berth_le, floor_le, task_le}
+use Rattle.qc_model.specs.Rules.{start_of}
+use Rattle.qc_motion.specs.Sweep.{IsOnRise}
+use Rattle.qc_motion.proofs.Bests.{last_kept, last_next}
 use Rattle.qc_motion.proofs.sweep.Sweep.rise_end.Goals.{then-hold-at, else-hold-at}
 use Rattle.qc_motion.proofs.sweep.Sweep.rise_end.Goals as goal
 
