@@ -4,3 +4,4 @@ pub mod Names
 pub mod Plan
 pub mod PlanText
 pub mod GanttText
+pub mod TracksText

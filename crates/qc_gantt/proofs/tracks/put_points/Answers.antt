@@ -1,0 +1,11 @@
+use Rattle.std.proofs.Common.{refl, ap, ◌∙◌, arith}
+use Rattle.qc_io.proofs.WritesLemmas.{items_cut}
+use Rattle.qc_motion.specs.Waypoints.{no_waypoint}
+use Rattle.qc_gantt.specs.TracksText.{waypoint_text}
+use Rattle.qc_gantt.proofs.tracks.put_points.Goals as goal
+
+pub returns-in_err-put_all : goal.returns-in_err-put_all
+returns-in_err-put_all g c =
+    items_cut g.K.Sink.written g.K.Sink.beside g.K.Sink.faults waypoint_text c.args.points.now c.loop-point.point-index no_waypoint
+    c.args.sink.now c.loop-point.sink c.put_all.new.sink c.as_bytes.result.now _ c.from_residual.result c.from_residual.ensures.0
+    (omega arith) (c.as_bytes.ensures.bytes ∙ c.waypoint_text.ensures ∙ ap waypoint_text refl) c.loop-point.invariant c.in_err-put_all.ensures.writes

@@ -1,0 +1,10 @@
+use Rattle.std.proofs.Common.{take, Ok}
+use Rattle.std.specs.List.{flat_map}
+use Rattle.qc_io.specs.Writes.{Writes}
+use Rattle.qc_gantt.specs.TracksText.{waypoint_text}
+use Rattle.qc_gantt.proofs.tracks.put_points.Given as goal
+
+abbrev pub invariant-loop-point : goal.invariant-loop-point
+invariant-loop-point g l =
+    Writes g.K.Sink.written g.K.Sink.beside g.K.Sink.faults l.initial.sink l.sink
+    (flat_map waypoint_text (take l.point-index l.points)) (Ok tt)

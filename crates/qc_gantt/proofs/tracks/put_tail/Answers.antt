@@ -1,0 +1,10 @@
+use Rattle.std.specs.Prelude.{codes}
+use Rattle.std.specs.List.{flat_map}
+use Rattle.qc_io.proofs.WritesLemmas.{writes_then}
+use Rattle.qc_gantt.specs.TracksText.{waypoint_text}
+use Rattle.qc_gantt.proofs.tracks.put_tail.Goals as goal
+
+pub returns : goal.returns
+returns g c =
+    writes_then g.K.Sink.written g.K.Sink.beside g.K.Sink.faults c.args.sink.now c.put_points.new.sink c.put_all.new.sink
+    (flat_map waypoint_text c.args.points.now) (codes "\n") c.put_all.result c.in_ok-put_points.ensures c.put_all.ensures.writes
