@@ -1,7 +1,7 @@
 -- The words of a command line, and what they ask for.
 use Rattle.std.specs.Prelude.{◌≡◌, ◌⊎◌, ℕ, ◌≤◌, Bool, false, not, ◌&&◌, ◌||◌, ◌==◌, nat_le, if◌then◌else◌, IsTrue, List, [], ◌∷◌, map, Option, None, Some, option_and_then, codes, decimal, string_bytes, String}
 use Rattle.std.specs.declared.alloc.Global.{Global}
-use Rattle.std.specs.List.{list_all, list_any}
+use Rattle.std.specs.List.{list_all}
 use Rattle.std.specs.Option.{option_map_or}
 use Rattle.std.specs.Str.{bytes_eq}
 use Rattle.clap.specs.Words.{Row, first_of}
@@ -10,7 +10,9 @@ use Rattle.qc_num.specs.Digits.{number_in}
 use Rattle.qc_tree.specs.declared.line.TheConstants.{MOST_BRANCHINGS}
 use Rattle.qc_words.specs.declared.words.TheConstants.{MOST_NUMBER, USUAL_BRANCHINGS}
 use Rattle.qc_words.specs.Asked.{Asked, plan, check, tasks, show, make, usage}
-use Rattle.qc_words.specs.Commands.{read_by, plan_command, check_command, tasks_command, show_command, make_command}
+use Rattle.qc_words.specs.Commands.{command_of, named, read_by}
+use Rattle.qc_words.specs.declared.commands.CommandName.{CommandName}
+use Rattle.qc_words.specs.declared.commands.CommandName.TheVariants as name
 
 -- the bytes of each word
 abbrev pub texts : List (String Global) → List (List ℕ)
@@ -84,46 +86,28 @@ abbrev pub make_of : (number hatches cranes : Option ℕ) → Asked
 make_of (Some n) (Some h) (Some c) = make n h c
 make_of _ _ _ = usage
 
--- what each command asks for by the values that were read
-abbrev pub plan_asked : List Row → Asked
-plan_asked rows = plan_of (first_of (codes "ship") rows) (first_of (codes "stow") rows) (first_of (codes "plan") rows)
-    (first_of (codes "tree") rows) (nodes_in (first_of (codes "nodes") rows))
-
-abbrev pub check_asked : List Row → Asked
-check_asked rows = check_of (first_of (codes "ship") rows) (first_of (codes "stow") rows) (first_of (codes "plan") rows)
-    (first_of (codes "tree") rows)
-
-abbrev pub tasks_asked : List Row → Asked
-tasks_asked rows = tasks_of (first_of (codes "ship") rows) (first_of (codes "stow") rows)
-
-abbrev pub show_asked : List Row → Asked
-show_asked rows = show_of (first_of (codes "ship") rows) (first_of (codes "stow") rows) (first_of (codes "plan") rows)
-
 abbrev pub number_asked : (least most : ℕ) → List ℕ → List Row → Option ℕ
 number_asked least most name rows = option_and_then (number_between least most) (first_of name rows)
 
-abbrev pub make_asked : List Row → Asked
-make_asked rows = make_of (number_asked 0 MOST_NUMBER (codes "number") rows)
+-- what a command asks for by the values that were read
+abbrev pub asked_in : CommandName → List Row → Asked
+asked_in name.Plan rows = plan_of (first_of (codes "ship") rows) (first_of (codes "stow") rows)
+    (first_of (codes "plan") rows) (first_of (codes "tree") rows) (nodes_in (first_of (codes "nodes") rows))
+asked_in name.Check rows = check_of (first_of (codes "ship") rows) (first_of (codes "stow") rows)
+    (first_of (codes "plan") rows) (first_of (codes "tree") rows)
+asked_in name.Tasks rows = tasks_of (first_of (codes "ship") rows) (first_of (codes "stow") rows)
+asked_in name.Show rows = show_of (first_of (codes "ship") rows) (first_of (codes "stow") rows)
+    (first_of (codes "plan") rows)
+asked_in name.Make rows = make_of (number_asked 0 MOST_NUMBER (codes "number") rows)
     (number_asked 1 MOST_HATCHES (codes "hatches") rows) (number_asked 1 MOST_CRANES (codes "cranes") rows)
 
 -- what the words ask for: Usage where no command begins them, where `clap` refuses them, where a
 -- number isn't one in plain decimal and in range, and where a plan's names aren't different
 abbrev pub asked_by : List (List ℕ) → Asked
-asked_by [] = usage
-asked_by (name ∷ args) =
-    if bytes_eq name (codes "plan") then option_map_or plan_asked (read_by plan_command (name ∷ args)) usage
-    else (if bytes_eq name (codes "check") then option_map_or check_asked (read_by check_command (name ∷ args)) usage
-    else (if bytes_eq name (codes "tasks") then option_map_or tasks_asked (read_by tasks_command (name ∷ args)) usage
-    else (if bytes_eq name (codes "show") then option_map_or show_asked (read_by show_command (name ∷ args)) usage
-    else (if bytes_eq name (codes "make") then option_map_or make_asked (read_by make_command (name ∷ args)) usage
-    else usage))))
+asked_by words = option_map_or
+    (λ name. option_map_or (asked_in name) (read_by (command_of name) words) usage)
+    (named words) usage
 
 -- the words ask for this
 abbrev pub Asks : List (List ℕ) → Asked → Type 0
 Asks words asked = asked_by words ≡ asked
-
--- the first word is a command's name
-abbrev pub has_command : List (List ℕ) → Bool
-has_command [] = false
-has_command (name ∷ args) = list_any (bytes_eq name)
-    (codes "plan" ∷ codes "check" ∷ codes "tasks" ∷ codes "show" ∷ codes "make" ∷ [])

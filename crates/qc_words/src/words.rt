@@ -1,12 +1,13 @@
-ghost use Rattle.std.specs.Prelude.{◌≡◌, ◌<◌, ◌^◌, IfOk, IsTrue, false, option_map, option_and_then};
+ghost use Rattle.std.specs.Prelude.{◌≡◌, ◌<◌, ◌^◌, IfOk, IsTrue, option_map, option_and_then};
 ghost use Rattle.std.specs.Option.{option_map_or};
 ghost use Rattle.clap.specs.Words.{app_of, found_of, rows_of, first_of, is_simple_and_free};
 ghost use Rattle.qc_words.specs.Asked.{Asked, asked_for, usage};
-ghost use Rattle.qc_words.specs.Commands.{read_by, plan_command, check_command, tasks_command, show_command, make_command};
-ghost use Rattle.qc_words.specs.Words.{Canonical, texts, asked_by, has_command, number_between, nodes_in, are_different, plan_of, check_of, tasks_of, show_of, make_of, plan_asked, check_asked, tasks_asked, show_asked, make_asked, number_asked, plan_name};
+ghost use Rattle.qc_words.specs.Commands.{command_of, named, read_by};
+ghost use Rattle.qc_words.specs.declared.commands.CommandName.TheVariants as name;
+ghost use Rattle.qc_words.specs.Words.{Canonical, texts, number_between, nodes_in, are_different, plan_of, check_of, tasks_of, show_of, make_of, asked_in, number_asked, plan_name, Asks};
 
 use crate::asked::Request;
-use crate::commands;
+use crate::commands::{CommandName, command_of, named};
 use clap::error::ErrorKind;
 use clap::{ArgMatches, Command};
 use qc_model::{MOST_CRANES, MOST_HATCHES};
@@ -80,17 +81,17 @@ fn are_different(s: &str, w: &str, p: &str, t: &str) -> bool
     !(s == w || s == p || s == t || w == p || w == t || p == t)
 }
 
-fn plan_from<'a>(matches: &ArgMatches<'a>) -> Request<'a>
-    ensures { asked_for result ≡ plan_asked (rows_of (found_of matches.now)) }
+fn plan_of<'a>(
+    ship: Option<&'a str>,
+    stow: Option<&'a str>,
+    plan: Option<&'a str>,
+    tree: Option<&'a str>,
+    nodes: Option<u32>,
+) -> Request<'a>
+    ensures { asked_for result ≡ plan_of (option_map (λ s. s.now) ship.entry) (option_map (λ s. s.now) stow.entry)
+        (option_map (λ s. s.now) plan.entry) (option_map (λ s. s.now) tree.entry) nodes }
 {
-    let nodes = nodes_in(value_of(matches, "nodes"));
-    match (
-        value_of(matches, "ship"),
-        value_of(matches, "stow"),
-        value_of(matches, "plan"),
-        value_of(matches, "tree"),
-        nodes,
-    ) {
+    match (ship, stow, plan, tree, nodes) {
         (Some(ship), Some(stow), Some(plan), Some(tree), Some(nodes)) => {
             if are_different(ship, stow, plan, tree) {
                 Request::Plan {
@@ -108,11 +109,119 @@ fn plan_from<'a>(matches: &ArgMatches<'a>) -> Request<'a>
     }
 }
 
-/// What the words of a command line, without the program's name, ask for.
-pub fn request_of(alloc: Global, words: &[String]) -> Result<Request<'_>, OutOfMemory>
-    ensures asked { IfOk result (λ request. asked_for request ≡ asked_by (texts words.now)) }
-    ensures canonical { (asked : Asked) → Canonical (texts words.now) asked → IfOk result (λ request. asked_for request ≡ asked) }
-    ensures no_command { has_command (texts words.now) ≡ false → result ≡ Ok Request.Usage }
+fn plan_asked<'a>(matches: &ArgMatches<'a>) -> Request<'a>
+    ensures { asked_for result ≡ asked_in name.Plan (rows_of (found_of matches.now)) }
 {
-    Err(OutOfMemory)
+    plan_of(
+        value_of(matches, "ship"),
+        value_of(matches, "stow"),
+        value_of(matches, "plan"),
+        value_of(matches, "tree"),
+        nodes_in(value_of(matches, "nodes")),
+    )
+}
+
+/// The plan that `check` is asked about: none for `-`.
+fn plan_name(word: &str) -> Option<&str>
+    ensures { option_map (λ name. name.now) result ≡ plan_name word.now }
+{
+    if word == "-" { None } else { Some(word) }
+}
+
+fn check_asked<'a>(matches: &ArgMatches<'a>) -> Request<'a>
+    ensures { asked_for result ≡ asked_in name.Check (rows_of (found_of matches.now)) }
+{
+    match (
+        value_of(matches, "ship"),
+        value_of(matches, "stow"),
+        value_of(matches, "plan"),
+        value_of(matches, "tree"),
+    ) {
+        (Some(ship), Some(stow), Some(plan), Some(tree)) => Request::Check {
+            ship,
+            stow,
+            plan: plan_name(plan),
+            tree,
+        },
+        _ => Request::Usage,
+    }
+}
+
+fn tasks_asked<'a>(matches: &ArgMatches<'a>) -> Request<'a>
+    ensures { asked_for result ≡ asked_in name.Tasks (rows_of (found_of matches.now)) }
+{
+    match (value_of(matches, "ship"), value_of(matches, "stow")) {
+        (Some(ship), Some(stow)) => Request::Tasks { ship, stow },
+        _ => Request::Usage,
+    }
+}
+
+fn show_asked<'a>(matches: &ArgMatches<'a>) -> Request<'a>
+    ensures { asked_for result ≡ asked_in name.Show (rows_of (found_of matches.now)) }
+{
+    match (
+        value_of(matches, "ship"),
+        value_of(matches, "stow"),
+        value_of(matches, "plan"),
+    ) {
+        (Some(ship), Some(stow), Some(plan)) => Request::Show { ship, stow, plan },
+        _ => Request::Usage,
+    }
+}
+
+fn make_asked<'a>(matches: &ArgMatches<'a>) -> Request<'a>
+    ensures { asked_for result ≡ asked_in name.Make (rows_of (found_of matches.now)) }
+{
+    match (
+        number_of(matches, "number", 0, MOST_NUMBER),
+        number_of(matches, "hatches", 1, u32::from(MOST_HATCHES)),
+        number_of(matches, "cranes", 1, u32::from(MOST_CRANES)),
+    ) {
+        (Some(number), Some(hatches), Some(cranes)) => Request::Make {
+            number,
+            hatches: hatches as u16,
+            cranes: cranes as u16,
+        },
+        _ => Request::Usage,
+    }
+}
+
+/// What a command asks for by the values that were read.
+fn asked_in<'a>(name: CommandName, matches: &ArgMatches<'a>) -> Request<'a>
+    ensures { asked_for result ≡ asked_in name (rows_of (found_of matches.now)) }
+{
+    match name {
+        CommandName::Plan => plan_asked(matches),
+        CommandName::Check => check_asked(matches),
+        CommandName::Tasks => tasks_asked(matches),
+        CommandName::Show => show_asked(matches),
+        CommandName::Make => make_asked(matches),
+    }
+}
+
+fn request_by(
+    alloc: Global,
+    name: CommandName,
+    words: &[String],
+) -> Result<Request<'_>, OutOfMemory>
+    ensures { IfOk result (λ request. asked_for request ≡ option_map_or (asked_in name) (read_by (command_of name) (texts words.now)) usage) }
+{
+    match read(command_of(alloc, name)?, words)? {
+        Some(matches) => Ok(asked_in(name, &matches)),
+        None => Ok(Request::Usage),
+    }
+}
+
+/// What the words of a command line, without the program's name, ask for: a request of the command
+/// that begins them, or `Request::Usage`. No memory is taken where no command begins them.
+pub fn request_of(alloc: Global, words: &[String]) -> Result<Request<'_>, OutOfMemory>
+    ensures asked { IfOk result (λ request. Asks (texts words.now) (asked_for request)) }
+    ensures canonical { (asked : Asked) → Canonical (texts words.now) asked
+        → IfOk result (λ request. asked_for request ≡ asked) }
+    ensures no_command { named (texts words.now) ≡ None → result ≡ Ok Request.Usage }
+{
+    match named(words) {
+        Some(name) => request_by(alloc, name, words),
+        None => Ok(Request::Usage),
+    }
 }
