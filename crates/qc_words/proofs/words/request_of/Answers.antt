@@ -1,5 +1,16 @@
-use Rattle.qc_words.proofs.WordWalk.{lone_dash}
+use Rattle.std.proofs.Common.{◌≡◌, ◌∙◌, ap, sym}
+use Rattle.std.proofs.lemmas.Result.{IfOk-weaker}
+use Rattle.std.specs.Option.{option_map_or}
+use Rattle.qc_words.specs.Asked.{usage}
+use Rattle.qc_words.specs.Commands.{command_of, read_by}
+use Rattle.qc_words.specs.Words.{asked_by, asked_in, texts}
+use Rattle.qc_words.proofs.PlainWords.{canonical_asked}
 use Rattle.qc_words.proofs.words.request_of.Goals as goal
 
 pub returns-in-Some-clause-canonical : goal.returns-in-Some-clause-canonical
-returns-in-Some-clause-canonical c = ?
+returns-in-Some-clause-canonical c asked plain =
+    let words = texts c.args.words.now in
+    let by_name =
+    ap (λ o. option_map_or (λ name. option_map_or (asked_in name) (read_by (command_of name) words) usage) o usage)
+    (sym c.in-Some.is ∙ c.named.ensures) in
+    IfOk-weaker c.request_by.result _ _ (λ request e. e ∙ by_name ∙ canonical_asked words asked plain) c.request_by.ensures
