@@ -1,11 +1,11 @@
 -- Words in their plain form ask for what they say.
-use Rattle.std.proofs.Common.{◌≡◌, ◌∙◌, ◌⊎◌, inl, inr, ℕ, ◌<◌, ◌≤◌, ◌^◌, lit<, lit≤, ap, ap₂, sym, refl, cond, true, false, not, nat_le, ◌&&◌, ◌==◌, List, [], ◌∷◌, Option, None, Some, codes, arith}
+use Rattle.std.proofs.Common.{◌≡◌, ◌∙◌, inl, inr, ℕ, ◌<◌, ◌≤◌, ◌^◌, lit<, lit≤, ap, ap₂, sym, refl, cond, true, nat_le, ◌&&◌, ◌==◌, List, [], ◌∷◌, None, Some, codes, arith}
 use Rattle.std.proofs.lemmas.Bool.{cases_Bool}
 use Rattle.std.proofs.lemmas.Bool.Decides.{nat_tests}
 use Rattle.std.specs.Char.{is_ascii_digit}
 use Rattle.std.specs.List.{list_all}
 use Rattle.std.specs.Option.{option_map_or}
-use Rattle.std.specs.Prelude.{IsTrue, decimal, option_and_then}
+use Rattle.std.specs.Prelude.{decimal, option_and_then}
 use Rattle.clap.proofs.WalkLemmas.{both}
 use Rattle.clap.specs.Faults.{defaults_fault}
 use Rattle.clap.specs.Simple.{built}
@@ -15,14 +15,14 @@ use Rattle.clap.specs.declared.builder.value_parser.Reading.TheVariants.{AsWritt
 use Rattle.clap.specs.declared.parser.matches.ValueSource.TheVariants.{CommandLine}
 use Rattle.qc_model.specs.declared.limits.TheConstants.{MOST_CRANES, MOST_HATCHES}
 use Rattle.qc_tree.specs.declared.line.TheConstants.{MOST_BRANCHINGS}
-use Rattle.qc_words.specs.declared.words.TheConstants.{MOST_NUMBER, USUAL_BRANCHINGS}
-use Rattle.qc_num.specs.Digits.{number_in}
+use Rattle.qc_words.specs.declared.asked.TheConstants.{MOST_NUMBER}
+use Rattle.qc_words.specs.declared.words.TheConstants.{USUAL_BRANCHINGS}
 use Rattle.qc_num.proofs.DigitLemmas.{decimal_digits, fits, number_in-decimal}
 use Rattle.qc_words.specs.declared.commands.CommandName.{CommandName}
 use Rattle.qc_words.specs.declared.commands.CommandName.TheVariants as name
 use Rattle.qc_words.specs.Asked.{Asked, plan, check, tasks, show, make, usage}
-use Rattle.qc_words.specs.Commands.{command_of, read_by}
-use Rattle.qc_words.specs.Words.{AreFileWords, Canonical, are_different, asked_by, asked_in, is_file_word, make_of, number_between, plan_name, plan_of}
+use Rattle.qc_words.specs.Commands.{command_of}
+use Rattle.qc_words.specs.Words.{Canonical, asked_by, asked_in, is_file_word, make_of, number_between, plan_name, plan_of}
 use Rattle.qc_words.proofs.WordWalk.{Goes, IsOperand, at, goes_nowhere, goes_on, goes_past, lone_dash, other_first, read_along}
 
 file_operand : (word : Text) → is_file_word word ≡ true → IsOperand word
@@ -121,7 +121,7 @@ plan_goes s w p t words end is iw ip it more =
     (goes_past c (held (row (codes "ship") s ∷ row (codes "stow") w ∷ []) (codes "plan") p) idle 4 t words end it refl more)))
 
 plan_asked : (s w p t : Text) → IsOperand s → IsOperand w → IsOperand p → IsOperand t
-    → asked_by (codes "plan" ∷ s ∷ w ∷ p ∷ t ∷ []) ≡ plan_of (Some s) (Some w) (Some p) (Some t) (Some USUAL_BRANCHINGS)
+    → asked_by (codes "plan" ∷ s ∷ w ∷ p ∷ t ∷ []) ≡ plan_of s w p t (Some USUAL_BRANCHINGS)
 unfolding defaults_fault
 plan_asked s w p t is iw ip it =
     let c = shape name.Plan in
@@ -132,7 +132,7 @@ plan_asked s w p t is iw ip it =
 
 nodes_asked : (s w p t n : Text) → IsOperand s → IsOperand w → IsOperand p → IsOperand t → IsOperand n
     → asked_by (codes "plan" ∷ s ∷ w ∷ p ∷ t ∷ codes "--nodes" ∷ n ∷ [])
-    ≡ plan_of (Some s) (Some w) (Some p) (Some t) (number_between 0 MOST_BRANCHINGS n)
+    ≡ plan_of s w p t (number_between 0 MOST_BRANCHINGS n)
 unfolding defaults_fault walked
 nodes_asked s w p t n is iw ip it number =
     let c = shape name.Plan in
@@ -156,7 +156,7 @@ named_plan (b ∷ bs) e = elim (cases_Bool (b == 45)) [
 
 pub canonical_asked : (words : List Text) (asked : Asked) → Canonical words asked → asked_by words ≡ asked
 canonical_asked words (plan s w p t n) h =
-    let fs = both (is_file_word s) _ h.0 in
+    let fs = both (is_file_word s) _ h.0.0 in
     let fw = both (is_file_word w) _ fs.1 in
     let fp = both (is_file_word p) _ fw.1 in
     let ft = both (is_file_word t) _ fp.1 in
@@ -164,41 +164,41 @@ canonical_asked words (plan s w p t n) h =
     let iw = file_operand w fw.0 in
     let ip = file_operand p fp.0 in
     let it = file_operand t ft.0 in
-    let small : n < 10 ^ 10 = omega (arith, h.2) in
-    let as_plan : plan_of (Some s) (Some w) (Some p) (Some t) (Some n) ≡ plan s w p t n = ap (λ b. cond b (plan s w p t n) usage) h.1 in
-    elim h.3 [
+    let small : n < 10 ^ 10 = omega (arith, h.1.1) in
+    let as_plan : plan_of s w p t (Some n) ≡ plan s w p t n = ap (λ b. cond b (plan s w p t n) usage) h.1.0 in
+    elim h.0.1 [
       | inl plain ↦ ap asked_by plain.0 ∙ plan_asked s w p t is iw ip it
-          ∙ ap (λ k. plan_of (Some s) (Some w) (Some p) (Some t) (Some k)) (sym plain.1) ∙ as_plan
+          ∙ ap (λ k. plan_of s w p t (Some k)) (sym plain.1) ∙ as_plan
       | inr said ↦ ap asked_by said ∙ nodes_asked s w p t (decimal n) is iw ip it (number_operand n small)
-          ∙ ap (λ o. plan_of (Some s) (Some w) (Some p) (Some t) o) (number_asked_for 0 MOST_BRANCHINGS n (omega arith) h.2 small) ∙ as_plan
+          ∙ ap (λ o. plan_of s w p t o) (number_asked_for 0 MOST_BRANCHINGS n (omega arith) h.1.1 small) ∙ as_plan
     ]
 canonical_asked words (check s w None t) h =
-    let fs = both (is_file_word s) _ h.0 in
+    let fs = both (is_file_word s) _ h.0.0 in
     let fw = both (is_file_word w) _ fs.1 in
     let ft = both (is_file_word t) _ fw.1 in
-    ap asked_by h.1 ∙ check_asked s w (45 ∷ []) t (file_operand s fs.0) (file_operand w fw.0) lone_dash (file_operand t ft.0)
+    ap asked_by h.0.1 ∙ check_asked s w (45 ∷ []) t (file_operand s fs.0) (file_operand w fw.0) lone_dash (file_operand t ft.0)
 canonical_asked words (check s w (Some p) t) h =
-    let fs = both (is_file_word s) _ h.0 in
+    let fs = both (is_file_word s) _ h.0.0 in
     let fw = both (is_file_word w) _ fs.1 in
     let fp = both (is_file_word p) _ fw.1 in
     let ft = both (is_file_word t) _ fp.1 in
-    ap asked_by h.1 ∙ check_asked s w p t (file_operand s fs.0) (file_operand w fw.0) (file_operand p fp.0) (file_operand t ft.0)
+    ap asked_by h.0.1 ∙ check_asked s w p t (file_operand s fs.0) (file_operand w fw.0) (file_operand p fp.0) (file_operand t ft.0)
     ∙ ap (λ o. check s w o t) (named_plan p fp.0)
 canonical_asked words (tasks s w) h =
-    let fs = both (is_file_word s) _ h.0 in
+    let fs = both (is_file_word s) _ h.0.0 in
     let fw = both (is_file_word w) _ fs.1 in
-    ap asked_by h.1 ∙ tasks_asked s w (file_operand s fs.0) (file_operand w fw.0)
+    ap asked_by h.0.1 ∙ tasks_asked s w (file_operand s fs.0) (file_operand w fw.0)
 canonical_asked words (show s w p) h =
-    let fs = both (is_file_word s) _ h.0 in
+    let fs = both (is_file_word s) _ h.0.0 in
     let fw = both (is_file_word w) _ fs.1 in
     let fp = both (is_file_word p) _ fw.1 in
-    ap asked_by h.1 ∙ show_asked s w p (file_operand s fs.0) (file_operand w fw.0) (file_operand p fp.0)
+    ap asked_by h.0.1 ∙ show_asked s w p (file_operand s fs.0) (file_operand w fw.0) (file_operand p fp.0)
 canonical_asked words (make n hs k) h =
-    let small : n < 10 ^ 10 = omega (arith, h.0) in
-    let few : hs < 10 ^ 10 = omega (arith, h.2) in
-    let fewer : k < 10 ^ 10 = omega (arith, h.4) in
-    ap asked_by h.5 ∙ make_asked (decimal n) (decimal hs) (decimal k) (number_operand n small) (number_operand hs few) (number_operand k fewer)
-    ∙ ap₂ (λ o q. make_of o q (number_between 1 MOST_CRANES (decimal k))) (number_asked_for 0 MOST_NUMBER n (omega arith) h.0 small)
-    (number_asked_for 1 MOST_HATCHES hs h.1 h.2 few)
-    ∙ ap (λ o. make_of (Some n) (Some hs) o) (number_asked_for 1 MOST_CRANES k h.3 h.4 fewer)
-canonical_asked words usage h = absurd h
+    let small : n < 10 ^ 10 = omega (arith, h.1.0) in
+    let few : hs < 10 ^ 10 = omega (arith, h.1.2) in
+    let fewer : k < 10 ^ 10 = omega (arith, h.1.4) in
+    ap asked_by h.0 ∙ make_asked (decimal n) (decimal hs) (decimal k) (number_operand n small) (number_operand hs few) (number_operand k fewer)
+    ∙ ap₂ (λ o q. make_of o q (number_between 1 MOST_CRANES (decimal k))) (number_asked_for 0 MOST_NUMBER n (omega arith) h.1.0 small)
+    (number_asked_for 1 MOST_HATCHES hs h.1.1 h.1.2 few)
+    ∙ ap (λ o. make_of (Some n) (Some hs) o) (number_asked_for 1 MOST_CRANES k h.1.3 h.1.4 fewer)
+canonical_asked words usage h = absurd h.0

@@ -1,5 +1,5 @@
 -- How `clap` goes over words that are no flags, in a command without subcommands.
-use Rattle.std.proofs.Common.{◌≡◌, ◌∙◌, ℕ, ap, ap₂, sym, refl, cond, Bool, true, false, List, [], ◌∷◌, Option, None, Some, ◌==◌, subst, is_some}
+use Rattle.std.proofs.Common.{◌≡◌, ◌∙◌, ℕ, ap, ap₂, sym, refl, cond, false, List, [], ◌∷◌, None, Some, ◌==◌, subst, is_some}
 use Rattle.std.specs.List.{fold}
 use Rattle.std.specs.Option.{option_map_or}
 use Rattle.std.specs.Str.{bytes_eq}
@@ -7,8 +7,8 @@ use Rattle.clap.specs.Faults.{built_fault, bundle_fault, check_fault, defaults_f
 use Rattle.clap.specs.Kinds.{or_else}
 use Rattle.clap.specs.Lexer.{long_of, short_of}
 use Rattle.clap.specs.Simple.{argument_words, built, entered, names_of}
-use Rattle.clap.specs.Walk.{Held, Names, Step, Waiting, Walk, after_step, finished, idle, long_or_other, nothing_held, option, plain_word, positional, rows_after, settled, short_or_plain, subcommand_met, subcommand_or_other, trailing, walk_from, walked, word_met}
-use Rattle.clap.specs.Words.{App, Kinds, Row, Rule, Shape, Text, fault_of, matches_of}
+use Rattle.clap.specs.Walk.{Held, Step, Waiting, Walk, after_step, finished, idle, long_or_other, nothing_held, option, plain_word, positional, rows_after, settled, short_or_plain, subcommand_met, subcommand_or_other, trailing, walk_from, walked, word_met}
+use Rattle.clap.specs.Words.{App, Kinds, Shape, Text, fault_of, matches_of}
 use Rattle.qc_words.specs.Commands.{read_by}
 use Rattle.qc_words.proofs.ReadLemmas.{read_some}
 

@@ -1,12 +1,12 @@
-ghost use Rattle.std.specs.Prelude.{◌≡◌, ◌<◌, ◌^◌, IfOk, IsTrue, option_map, option_and_then};
+ghost use Rattle.std.specs.Prelude.{◌≡◌, IfOk, IsTrue, option_map};
 ghost use Rattle.std.specs.Option.{option_map_or};
 ghost use Rattle.clap.specs.Words.{app_of, found_of, rows_of, first_of, is_simple_and_free};
-ghost use Rattle.qc_words.specs.Asked.{Asked, asked_for, usage};
+ghost use Rattle.qc_words.specs.Asked.{Asked, asked_for, usage, KeepsLimits, are_different};
 ghost use Rattle.qc_words.specs.Commands.{command_of, named, read_by};
 ghost use Rattle.qc_words.specs.declared.commands.CommandName.TheVariants as name;
-ghost use Rattle.qc_words.specs.Words.{Canonical, texts, number_between, nodes_in, are_different, plan_of, check_of, tasks_of, show_of, make_of, asked_in, number_asked, plan_name, Asks};
+ghost use Rattle.qc_words.specs.Words.{Asks, Canonical, asked_in, make_of, nodes_in, number_between, plan_name, plan_of, texts, value_of};
 
-use crate::asked::Request;
+use crate::asked::{MOST_NUMBER, Request};
 use crate::commands::{CommandName, command_of, named};
 use clap::error::ErrorKind;
 use clap::{ArgMatches, Command};
@@ -18,16 +18,14 @@ use std::alloc::Global;
 /// How many branchings a plan has at most where the words don't say it.
 pub const USUAL_BRANCHINGS: u32 = 20_000;
 
-/// The greatest number that a ship and a list are made from.
-pub const MOST_NUMBER: u32 = 2_147_483_647;
-
 /// What the command reads from the words, or nothing where it refuses them.
 fn read<'a>(
     command: Command<'a>,
     words: &'a [String],
 ) -> Result<Option<ArgMatches<'a>>, OutOfMemory>
     requires { IsTrue (is_simple_and_free (app_of command)) }
-    ensures { IfOk result (λ read. option_map (λ matches. rows_of (found_of matches)) read ≡ read_by (app_of command.entry) (texts words.now)) }
+    ensures { IfOk result (λ read. option_map (λ matches. rows_of (found_of matches)) read
+        ≡ read_by (app_of command.entry) (texts words.now)) }
 {
     match command.try_get_matches_from(words) {
         Ok(matches) => Ok(Some(matches)),
@@ -41,11 +39,20 @@ fn read<'a>(
     }
 }
 
-/// The first value of a name.
-fn value_of<'a>(matches: &ArgMatches<'a>, name: &str) -> Option<&'a str>
+fn text_of<'a>(matches: &ArgMatches<'a>, name: &str) -> Option<&'a str>
     ensures { option_map (λ text. text.now) result ≡ first_of name.now (rows_of (found_of matches.now)) }
 {
     matches.get_str(name)
+}
+
+/// The value of an operand. Each is required, so `clap` has one where it takes the words.
+fn value_of<'a>(matches: &ArgMatches<'a>, name: &str) -> &'a str
+    ensures { result.now ≡ value_of name.now (rows_of (found_of matches.now)) }
+{
+    match text_of(matches, name) {
+        Some(text) => text,
+        None => "",
+    }
 }
 
 /// The number that the text is in plain decimal, where it is in range.
@@ -58,12 +65,6 @@ fn number_between(text: &str, least: u32, most: u32) -> Option<u32>
     } else {
         None
     }
-}
-
-fn number_of(matches: &ArgMatches<'_>, name: &str, least: u32, most: u32) -> Option<u32>
-    ensures { result ≡ number_asked least most name.now (rows_of (found_of matches.now)) }
-{
-    number_between(value_of(matches, name)?, least, most)
 }
 
 fn nodes_in(text: Option<&str>) -> Option<u32>
@@ -82,17 +83,16 @@ fn are_different(s: &str, w: &str, p: &str, t: &str) -> bool
 }
 
 fn plan_of<'a>(
-    ship: Option<&'a str>,
-    stow: Option<&'a str>,
-    plan: Option<&'a str>,
-    tree: Option<&'a str>,
+    ship: &'a str,
+    stow: &'a str,
+    plan: &'a str,
+    tree: &'a str,
     nodes: Option<u32>,
 ) -> Request<'a>
-    ensures { asked_for result ≡ plan_of (option_map (λ s. s.now) ship.entry) (option_map (λ s. s.now) stow.entry)
-        (option_map (λ s. s.now) plan.entry) (option_map (λ s. s.now) tree.entry) nodes }
+    ensures { asked_for result ≡ plan_of ship.now stow.now plan.now tree.now nodes }
 {
-    match (ship, stow, plan, tree, nodes) {
-        (Some(ship), Some(stow), Some(plan), Some(tree), Some(nodes)) => {
+    match nodes {
+        Some(nodes) => {
             if are_different(ship, stow, plan, tree) {
                 Request::Plan {
                     ship,
@@ -105,20 +105,8 @@ fn plan_of<'a>(
                 Request::Usage
             }
         }
-        _ => Request::Usage,
+        None => Request::Usage,
     }
-}
-
-fn plan_asked<'a>(matches: &ArgMatches<'a>) -> Request<'a>
-    ensures { asked_for result ≡ asked_in name.Plan (rows_of (found_of matches.now)) }
-{
-    plan_of(
-        value_of(matches, "ship"),
-        value_of(matches, "stow"),
-        value_of(matches, "plan"),
-        value_of(matches, "tree"),
-        nodes_in(value_of(matches, "nodes")),
-    )
 }
 
 /// The plan that `check` is asked about: none for `-`.
@@ -128,54 +116,13 @@ fn plan_name(word: &str) -> Option<&str>
     if word == "-" { None } else { Some(word) }
 }
 
-fn check_asked<'a>(matches: &ArgMatches<'a>) -> Request<'a>
-    ensures { asked_for result ≡ asked_in name.Check (rows_of (found_of matches.now)) }
-{
-    match (
-        value_of(matches, "ship"),
-        value_of(matches, "stow"),
-        value_of(matches, "plan"),
-        value_of(matches, "tree"),
-    ) {
-        (Some(ship), Some(stow), Some(plan), Some(tree)) => Request::Check {
-            ship,
-            stow,
-            plan: plan_name(plan),
-            tree,
-        },
-        _ => Request::Usage,
-    }
-}
-
-fn tasks_asked<'a>(matches: &ArgMatches<'a>) -> Request<'a>
-    ensures { asked_for result ≡ asked_in name.Tasks (rows_of (found_of matches.now)) }
-{
-    match (value_of(matches, "ship"), value_of(matches, "stow")) {
-        (Some(ship), Some(stow)) => Request::Tasks { ship, stow },
-        _ => Request::Usage,
-    }
-}
-
-fn show_asked<'a>(matches: &ArgMatches<'a>) -> Request<'a>
-    ensures { asked_for result ≡ asked_in name.Show (rows_of (found_of matches.now)) }
-{
-    match (
-        value_of(matches, "ship"),
-        value_of(matches, "stow"),
-        value_of(matches, "plan"),
-    ) {
-        (Some(ship), Some(stow), Some(plan)) => Request::Show { ship, stow, plan },
-        _ => Request::Usage,
-    }
-}
-
-fn make_asked<'a>(matches: &ArgMatches<'a>) -> Request<'a>
+fn make_from<'a>(matches: &ArgMatches<'a>) -> Request<'a>
     ensures { asked_for result ≡ asked_in name.Make (rows_of (found_of matches.now)) }
 {
     match (
-        number_of(matches, "number", 0, MOST_NUMBER),
-        number_of(matches, "hatches", 1, u32::from(MOST_HATCHES)),
-        number_of(matches, "cranes", 1, u32::from(MOST_CRANES)),
+        number_between(value_of(matches, "number"), 0, MOST_NUMBER),
+        number_between(value_of(matches, "hatches"), 1, u32::from(MOST_HATCHES)),
+        number_between(value_of(matches, "cranes"), 1, u32::from(MOST_CRANES)),
     ) {
         (Some(number), Some(hatches), Some(cranes)) => Request::Make {
             number,
@@ -191,11 +138,29 @@ fn asked_in<'a>(name: CommandName, matches: &ArgMatches<'a>) -> Request<'a>
     ensures { asked_for result ≡ asked_in name (rows_of (found_of matches.now)) }
 {
     match name {
-        CommandName::Plan => plan_asked(matches),
-        CommandName::Check => check_asked(matches),
-        CommandName::Tasks => tasks_asked(matches),
-        CommandName::Show => show_asked(matches),
-        CommandName::Make => make_asked(matches),
+        CommandName::Plan => plan_of(
+            value_of(matches, "ship"),
+            value_of(matches, "stow"),
+            value_of(matches, "plan"),
+            value_of(matches, "tree"),
+            nodes_in(text_of(matches, "nodes")),
+        ),
+        CommandName::Check => Request::Check {
+            ship: value_of(matches, "ship"),
+            stow: value_of(matches, "stow"),
+            plan: plan_name(value_of(matches, "plan")),
+            tree: value_of(matches, "tree"),
+        },
+        CommandName::Tasks => Request::Tasks {
+            ship: value_of(matches, "ship"),
+            stow: value_of(matches, "stow"),
+        },
+        CommandName::Show => Request::Show {
+            ship: value_of(matches, "ship"),
+            stow: value_of(matches, "stow"),
+            plan: value_of(matches, "plan"),
+        },
+        CommandName::Make => make_from(matches),
     }
 }
 
@@ -204,7 +169,8 @@ fn request_by(
     name: CommandName,
     words: &[String],
 ) -> Result<Request<'_>, OutOfMemory>
-    ensures { IfOk result (λ request. asked_for request ≡ option_map_or (asked_in name) (read_by (command_of name) (texts words.now)) usage) }
+    ensures { IfOk result (λ request. asked_for request
+        ≡ option_map_or (asked_in name) (read_by (command_of name) (texts words.now)) usage) }
 {
     match read(command_of(alloc, name)?, words)? {
         Some(matches) => Ok(asked_in(name, &matches)),
@@ -218,6 +184,7 @@ pub fn request_of(alloc: Global, words: &[String]) -> Result<Request<'_>, OutOfM
     ensures asked { IfOk result (λ request. Asks (texts words.now) (asked_for request)) }
     ensures canonical { (asked : Asked) → Canonical (texts words.now) asked
         → IfOk result (λ request. asked_for request ≡ asked) }
+    ensures limits { IfOk result (λ request. KeepsLimits (asked_for request)) }
     ensures no_command { named (texts words.now) ≡ None → result ≡ Ok Request.Usage }
 {
     match named(words) {

@@ -1,4 +1,3 @@
-use Rattle.std.proofs.Common.{rules}
 use Rattle.clap.specs.Words.{app_of, found_of, rows_of}
 use Rattle.clap.proofs.WalkLemmas.{both}
 use Rattle.qc_words.specs.Words.{texts}

@@ -1,5 +1,5 @@
-use Rattle.std.proofs.Common.{◌≡◌, ◌∙◌, ap, IsTrue, true, refl}
-use Rattle.clap.specs.Words.{App, app_of, found_of, rows_of, is_simple_and_free}
+use Rattle.std.proofs.Common.{◌∙◌, ap, IsTrue, refl}
+use Rattle.clap.specs.Words.{app_of, found_of, rows_of, is_simple_and_free}
 use Rattle.qc_words.specs.declared.commands.CommandName.{CommandName}
 use Rattle.qc_words.specs.declared.commands.CommandName.TheVariants as name
 use Rattle.qc_words.specs.Commands.{command_of}
