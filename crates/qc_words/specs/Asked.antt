@@ -25,8 +25,10 @@ pub data Asked : Type 0 where
 
 -- what a request of the program asks for
 abbrev pub asked_for : Request → Asked
-asked_for (request.Plan ship stow plan_name tree nodes) = plan ship.now stow.now plan_name.now tree.now nodes
-asked_for (request.Check ship stow plan_name tree) = check ship.now stow.now (option_map (λ name. name.now) plan_name) tree.now
+asked_for (request.Plan ship stow plan_name tree nodes) =
+    plan ship.now stow.now plan_name.now tree.now nodes
+asked_for (request.Check ship stow plan_name tree) =
+    check ship.now stow.now (option_map (λ name. name.now) plan_name) tree.now
 asked_for (request.Tasks ship stow) = tasks ship.now stow.now
 asked_for (request.Show ship stow plan_name) = show ship.now stow.now plan_name.now
 asked_for (request.Make number hatches cranes) = make number hatches cranes
@@ -50,11 +52,13 @@ name_of _ _ = None
 -- no two of a plan's four names are equal
 abbrev pub are_different : (ship stow plan tree : List ℕ) → Bool
 are_different s w p t =
-    not (bytes_eq s w || bytes_eq s p || bytes_eq s t || bytes_eq w p || bytes_eq w t || bytes_eq p t)
+    not (bytes_eq s w || bytes_eq s p || bytes_eq s t
+    || bytes_eq w p || bytes_eq w t || bytes_eq p t)
 
 -- a plan's names are different, and each number that is asked for is in its range
 abbrev pub KeepsLimits : Asked → Type 0
 KeepsLimits (plan s w p t nodes) = IsTrue (are_different s w p t) × (nodes ≤ MOST_BRANCHINGS)
 KeepsLimits (make number hatches cranes) =
-    (number ≤ MOST_NUMBER) × (1 ≤ hatches) × (hatches ≤ MOST_HATCHES) × (1 ≤ cranes) × (cranes ≤ MOST_CRANES)
+    (number ≤ MOST_NUMBER) × (1 ≤ hatches) × (hatches ≤ MOST_HATCHES)
+    × (1 ≤ cranes) × (cranes ≤ MOST_CRANES)
 KeepsLimits _ = Unit {0}

@@ -17,6 +17,7 @@ command_name word =
     else (if bytes_eq word (codes "make") then Some name.Make
     else None))))
 
+-- and that of a command line
 abbrev pub named : List (List ℕ) → Option CommandName
 named words = option_and_then command_name (slice_get words 0)
 
@@ -26,18 +27,22 @@ operand name = record (new_rule name) { required = true }
 
 -- a command with these operands in order
 abbrev pub command_with : List ℕ → List (List ℕ) → App
-command_with name operands = record (new_app name) { top = record (new_shape name) { rules = map operand operands } }
+command_with name operands =
+    record (new_app name) { top = record (new_shape name) { rules = map operand operands } }
 
 -- the operands of each command, and of a plan the option `--nodes`
 abbrev pub command_of : CommandName → App
 command_of name.Plan = with_rule
     (command_with (codes "plan") (codes "ship" ∷ codes "stow" ∷ codes "plan" ∷ codes "tree" ∷ []))
     (record (new_rule (codes "nodes")) { long = Some (codes "nodes") })
-command_of name.Check = command_with (codes "check") (codes "ship" ∷ codes "stow" ∷ codes "plan" ∷ codes "tree" ∷ [])
+command_of name.Check =
+    command_with (codes "check") (codes "ship" ∷ codes "stow" ∷ codes "plan" ∷ codes "tree" ∷ [])
 command_of name.Tasks = command_with (codes "tasks") (codes "ship" ∷ codes "stow" ∷ [])
 command_of name.Show = command_with (codes "show") (codes "ship" ∷ codes "stow" ∷ codes "plan" ∷ [])
-command_of name.Make = command_with (codes "make") (codes "number" ∷ codes "hatches" ∷ codes "cranes" ∷ [])
+command_of name.Make =
+    command_with (codes "make") (codes "number" ∷ codes "hatches" ∷ codes "cranes" ∷ [])
 
 -- what the command reads from the words, or nothing where it refuses them
 abbrev pub read_by : App → List (List ℕ) → Option (List Row)
-read_by command words = if is_empty (fault_of command words) then Some (matches_of command words) else None
+read_by command words =
+    if is_empty (fault_of command words) then Some (matches_of command words) else None

@@ -26,6 +26,7 @@ abbrev pub is_file_word : List ℕ → Bool
 is_file_word [] = false
 is_file_word (b ∷ bs) = not (b == 45)
 
+-- each of the words may name a file
 abbrev pub AreFileWords : List (List ℕ) → Type 0
 AreFileWords names = IsTrue (list_all is_file_word names)
 
@@ -40,7 +41,8 @@ Spell words (check s w None t) =
 Spell words (check s w (Some p) t) =
     AreFileWords (s ∷ w ∷ p ∷ t ∷ []) × (words ≡ codes "check" ∷ s ∷ w ∷ p ∷ t ∷ [])
 Spell words (tasks s w) = AreFileWords (s ∷ w ∷ []) × (words ≡ codes "tasks" ∷ s ∷ w ∷ [])
-Spell words (show s w p) = AreFileWords (s ∷ w ∷ p ∷ []) × (words ≡ codes "show" ∷ s ∷ w ∷ p ∷ [])
+Spell words (show s w p) =
+    AreFileWords (s ∷ w ∷ p ∷ []) × (words ≡ codes "show" ∷ s ∷ w ∷ p ∷ [])
 Spell words (make number hatches cranes) =
     words ≡ codes "make" ∷ decimal number ∷ decimal hatches ∷ decimal cranes ∷ []
 Spell words usage = ⊥
@@ -54,7 +56,8 @@ Canonical words asked = Spell words asked × KeepsLimits asked
 -- the number that the text is in plain decimal, where it is in range
 abbrev pub number_between : (least most : ℕ) → List ℕ → Option ℕ
 number_between least most text =
-    option_and_then (λ n. if nat_le least n && nat_le n most then Some n else None) (number_in 10 text)
+    option_and_then (λ n. if nat_le least n && nat_le n most then Some n else None)
+    (number_in 10 text)
 
 -- the value that was read for an operand, of which `clap` has one
 abbrev pub value_of : List ℕ → List Row → List ℕ
@@ -65,6 +68,7 @@ abbrev pub nodes_in : Option (List ℕ) → Option ℕ
 nodes_in None = Some USUAL_BRANCHINGS
 nodes_in (Some text) = number_between 0 MOST_BRANCHINGS text
 
+-- a plan with so many branchings, where its names are different
 abbrev pub plan_of : (ship stow plan tree : List ℕ) → Option ℕ → Asked
 plan_of s w p t None = usage
 plan_of s w p t (Some n) = if are_different s w p t then plan s w p t n else usage
@@ -73,6 +77,7 @@ plan_of s w p t (Some n) = if are_different s w p t then plan s w p t n else usa
 abbrev pub plan_name : List ℕ → Option (List ℕ)
 plan_name word = if bytes_eq word (codes "-") then None else Some word
 
+-- what is made by three numbers that are in range
 abbrev pub make_of : (number hatches cranes : Option ℕ) → Asked
 make_of (Some n) (Some h) (Some c) = make n h c
 make_of _ _ _ = usage
@@ -84,10 +89,13 @@ asked_in name.Plan rows =
     (value_of (codes "tree") rows) (nodes_in (first_of (codes "nodes") rows))
 asked_in name.Check rows = check (value_of (codes "ship") rows) (value_of (codes "stow") rows)
     (plan_name (value_of (codes "plan") rows)) (value_of (codes "tree") rows)
-asked_in name.Tasks rows = tasks (value_of (codes "ship") rows) (value_of (codes "stow") rows)
+asked_in name.Tasks rows =
+    tasks (value_of (codes "ship") rows) (value_of (codes "stow") rows)
 asked_in name.Show rows =
-    show (value_of (codes "ship") rows) (value_of (codes "stow") rows) (value_of (codes "plan") rows)
-asked_in name.Make rows = make_of (number_between 0 MOST_NUMBER (value_of (codes "number") rows))
+    show (value_of (codes "ship") rows) (value_of (codes "stow") rows)
+    (value_of (codes "plan") rows)
+asked_in name.Make rows = make_of
+    (number_between 0 MOST_NUMBER (value_of (codes "number") rows))
     (number_between 1 MOST_HATCHES (value_of (codes "hatches") rows))
     (number_between 1 MOST_CRANES (value_of (codes "cranes") rows))
 

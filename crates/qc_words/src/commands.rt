@@ -44,7 +44,8 @@ fn command_with<'a>(
     name: &'a str,
     operands: &[&'a str],
 ) -> Result<Command<'a>, AllocError>
-    ensures { IfOk result (λ command. app_of command ≡ command_with name.entry.now (map (λ operand. operand.now) operands.now)) }
+    ensures { IfOk result (λ command. app_of command
+        ≡ command_with name.entry.now (map (λ operand. operand.now) operands.now)) }
 {
     let mut command = Command::new(alloc, name);
     for operand in operands {

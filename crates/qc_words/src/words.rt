@@ -40,7 +40,8 @@ fn read<'a>(
 }
 
 fn text_of<'a>(matches: &ArgMatches<'a>, name: &str) -> Option<&'a str>
-    ensures { option_map (λ text. text.now) result ≡ first_of name.now (rows_of (found_of matches.now)) }
+    ensures { option_map (λ text. text.now) result
+        ≡ first_of name.now (rows_of (found_of matches.now)) }
 {
     matches.get_str(name)
 }
@@ -187,8 +188,8 @@ pub fn request_of(alloc: Global, words: &[String]) -> Result<Request<'_>, OutOfM
     ensures limits { IfOk result (λ request. KeepsLimits (asked_for request)) }
     ensures no_command { named (texts words.now) ≡ None → result ≡ Ok Request.Usage }
 {
-    match named(words) {
-        Some(name) => request_by(alloc, name, words),
-        None => Ok(Request::Usage),
-    }
+    let Some(name) = named(words) else {
+        return Ok(Request::Usage);
+    };
+    request_by(alloc, name, words)
 }
