@@ -180,7 +180,8 @@ fn request_by(
 }
 
 /// What the words of a command line, without the program's name, ask for: a request of the command
-/// that begins them, or `Request::Usage`. No memory is taken where no command begins them.
+/// that begins them, or `Request::Usage`. No memory is taken where no command begins them, so
+/// `OutOfMemory` comes only behind a command's name.
 pub fn request_of(alloc: Global, words: &[String]) -> Result<Request<'_>, OutOfMemory>
     ensures asked { IfOk result (λ request. Asks (texts words.now) (asked_for request)) }
     ensures canonical { (asked : Asked) → Canonical (texts words.now) asked
