@@ -1,9 +1,13 @@
 -- What a command line asks for, with the names of its files.
-use Rattle.std.specs.Prelude.{ℕ, List, Option, None, Some, option_map}
+use Rattle.std.specs.Prelude.{ℕ, ◌≤◌, Bool, not, ◌||◌, IsTrue, List, Option, None, Some, option_map}
+use Rattle.std.specs.Str.{bytes_eq}
+use Rattle.qc_model.specs.declared.limits.TheConstants.{MOST_CRANES, MOST_HATCHES}
+use Rattle.qc_tree.specs.declared.line.TheConstants.{MOST_BRANCHINGS}
 use Rattle.qc_words.specs.declared.asked.Input.{Input}
 use Rattle.qc_words.specs.declared.asked.Input.TheVariants as input
 use Rattle.qc_words.specs.declared.asked.Request.{Request}
 use Rattle.qc_words.specs.declared.asked.Request.TheVariants as request
+use Rattle.qc_words.specs.declared.asked.TheConstants.{MOST_NUMBER}
 
 pub data Asked : Type 0 where
   -- a plan and its tree, for a ship file and a stowage list, with at most so many branchings
@@ -21,8 +25,10 @@ pub data Asked : Type 0 where
 
 -- what a request of the program asks for
 abbrev pub asked_for : Request → Asked
-asked_for (request.Plan ship stow plan_name tree nodes) = plan ship.now stow.now plan_name.now tree.now nodes
-asked_for (request.Check ship stow plan_name tree) = check ship.now stow.now (option_map (λ name. name.now) plan_name) tree.now
+asked_for (request.Plan ship stow plan_name tree nodes) =
+    plan ship.now stow.now plan_name.now tree.now nodes
+asked_for (request.Check ship stow plan_name tree) =
+    check ship.now stow.now (option_map (λ name. name.now) plan_name) tree.now
 asked_for (request.Tasks ship stow) = tasks ship.now stow.now
 asked_for (request.Show ship stow plan_name) = show ship.now stow.now plan_name.now
 asked_for (request.Make number hatches cranes) = make number hatches cranes
@@ -42,3 +48,17 @@ name_of input.Ship (show s w p) = Some s
 name_of input.Stow (show s w p) = Some w
 name_of input.Plan (show s w p) = Some p
 name_of _ _ = None
+
+-- no two of a plan's four names are equal
+abbrev pub are_different : (ship stow plan tree : List ℕ) → Bool
+are_different s w p t =
+    not (bytes_eq s w || bytes_eq s p || bytes_eq s t
+    || bytes_eq w p || bytes_eq w t || bytes_eq p t)
+
+-- a plan's names are different, and each number that is asked for is in its range
+abbrev pub KeepsLimits : Asked → Type 0
+KeepsLimits (plan s w p t nodes) = IsTrue (are_different s w p t) × (nodes ≤ MOST_BRANCHINGS)
+KeepsLimits (make number hatches cranes) =
+    (number ≤ MOST_NUMBER) × (1 ≤ hatches) × (hatches ≤ MOST_HATCHES)
+    × (1 ≤ cranes) × (cranes ≤ MOST_CRANES)
+KeepsLimits _ = Unit {0}

@@ -1,16 +1,19 @@
 -- The words of a command line, and what they ask for.
-use Rattle.std.specs.Prelude.{◌≡◌, ◌⊎◌, ℕ, ◌≤◌, Bool, false, not, ◌&&◌, ◌||◌, ◌==◌, nat_le, if◌then◌else◌, IsTrue, List, [], ◌∷◌, map, Option, None, Some, option_and_then, codes, decimal, string_bytes, String}
+use Rattle.std.specs.Prelude.{◌≡◌, ◌⊎◌, ℕ, Bool, false, not, ◌&&◌, ◌==◌, nat_le, if◌then◌else◌, IsTrue, List, [], ◌∷◌, map, Option, None, Some, option_and_then, unwrap_or, codes, decimal, string_bytes, String}
 use Rattle.std.specs.declared.alloc.Global.{Global}
-use Rattle.std.specs.List.{list_all, list_any}
+use Rattle.std.specs.List.{list_all}
 use Rattle.std.specs.Option.{option_map_or}
 use Rattle.std.specs.Str.{bytes_eq}
 use Rattle.clap.specs.Words.{Row, first_of}
 use Rattle.qc_model.specs.declared.limits.TheConstants.{MOST_CRANES, MOST_HATCHES}
 use Rattle.qc_num.specs.Digits.{number_in}
 use Rattle.qc_tree.specs.declared.line.TheConstants.{MOST_BRANCHINGS}
-use Rattle.qc_words.specs.declared.words.TheConstants.{MOST_NUMBER, USUAL_BRANCHINGS}
-use Rattle.qc_words.specs.Asked.{Asked, plan, check, tasks, show, make, usage}
-use Rattle.qc_words.specs.Commands.{read_by, plan_command, check_command, tasks_command, show_command, make_command}
+use Rattle.qc_words.specs.declared.asked.TheConstants.{MOST_NUMBER}
+use Rattle.qc_words.specs.declared.words.TheConstants.{USUAL_BRANCHINGS}
+use Rattle.qc_words.specs.Asked.{Asked, plan, check, tasks, show, make, usage, KeepsLimits, are_different}
+use Rattle.qc_words.specs.Commands.{command_of, named, read_by}
+use Rattle.qc_words.specs.declared.commands.CommandName.{CommandName}
+use Rattle.qc_words.specs.declared.commands.CommandName.TheVariants as name
 
 -- the bytes of each word
 abbrev pub texts : List (String Global) → List (List ℕ)
@@ -23,107 +26,86 @@ abbrev pub is_file_word : List ℕ → Bool
 is_file_word [] = false
 is_file_word (b ∷ bs) = not (b == 45)
 
+-- each of the words may name a file
 abbrev pub AreFileWords : List (List ℕ) → Type 0
 AreFileWords names = IsTrue (list_all is_file_word names)
 
--- no two of a plan's four names are equal
-abbrev pub are_different : (ship stow plan tree : List ℕ) → Bool
-are_different s w p t =
-    not (bytes_eq s w || bytes_eq s p || bytes_eq s t || bytes_eq w p || bytes_eq w t || bytes_eq p t)
-
--- the words are a command's name and its operands in order, and ask for this; `-` stands for no
+-- the words are a command's name and its operands in order, which say this; `-` stands for no
 -- plan, and 20,000 branchings needn't be said
-abbrev pub Canonical : List (List ℕ) → Asked → Type 0
-Canonical words (plan s w p t n) =
-    AreFileWords (s ∷ w ∷ p ∷ t ∷ []) × IsTrue (are_different s w p t) × (n ≤ MOST_BRANCHINGS)
+abbrev pub Spell : List (List ℕ) → Asked → Type 0
+Spell words (plan s w p t n) = AreFileWords (s ∷ w ∷ p ∷ t ∷ [])
     × (((words ≡ codes "plan" ∷ s ∷ w ∷ p ∷ t ∷ []) × (n ≡ USUAL_BRANCHINGS))
     ⊎ (words ≡ codes "plan" ∷ s ∷ w ∷ p ∷ t ∷ codes "--nodes" ∷ decimal n ∷ []))
-Canonical words (check s w None t) =
+Spell words (check s w None t) =
     AreFileWords (s ∷ w ∷ t ∷ []) × (words ≡ codes "check" ∷ s ∷ w ∷ codes "-" ∷ t ∷ [])
-Canonical words (check s w (Some p) t) =
+Spell words (check s w (Some p) t) =
     AreFileWords (s ∷ w ∷ p ∷ t ∷ []) × (words ≡ codes "check" ∷ s ∷ w ∷ p ∷ t ∷ [])
-Canonical words (tasks s w) = AreFileWords (s ∷ w ∷ []) × (words ≡ codes "tasks" ∷ s ∷ w ∷ [])
-Canonical words (show s w p) = AreFileWords (s ∷ w ∷ p ∷ []) × (words ≡ codes "show" ∷ s ∷ w ∷ p ∷ [])
-Canonical words (make number hatches cranes) =
-    (number ≤ MOST_NUMBER) × (1 ≤ hatches) × (hatches ≤ MOST_HATCHES) × (1 ≤ cranes) × (cranes ≤ MOST_CRANES)
-    × (words ≡ codes "make" ∷ decimal number ∷ decimal hatches ∷ decimal cranes ∷ [])
-Canonical words usage = ⊥
+Spell words (tasks s w) = AreFileWords (s ∷ w ∷ []) × (words ≡ codes "tasks" ∷ s ∷ w ∷ [])
+Spell words (show s w p) =
+    AreFileWords (s ∷ w ∷ p ∷ []) × (words ≡ codes "show" ∷ s ∷ w ∷ p ∷ [])
+Spell words (make number hatches cranes) =
+    words ≡ codes "make" ∷ decimal number ∷ decimal hatches ∷ decimal cranes ∷ []
+Spell words usage = ⊥
+
+-- the words say this in the plain form, and it keeps the limits
+abbrev pub Canonical : List (List ℕ) → Asked → Type 0
+Canonical words asked = Spell words asked × KeepsLimits asked
 
 -- ---- all words
 
 -- the number that the text is in plain decimal, where it is in range
 abbrev pub number_between : (least most : ℕ) → List ℕ → Option ℕ
 number_between least most text =
-    option_and_then (λ n. if nat_le least n && nat_le n most then Some n else None) (number_in 10 text)
+    option_and_then (λ n. if nat_le least n && nat_le n most then Some n else None)
+    (number_in 10 text)
 
--- how many branchings the value of `--nodes` gives, or its absence
+-- the value that was read for an operand, of which `clap` has one
+abbrev pub value_of : List ℕ → List Row → List ℕ
+value_of name rows = unwrap_or (first_of name rows) []
+
+-- how many branchings `--nodes` gives, and where it isn't there
 abbrev pub nodes_in : Option (List ℕ) → Option ℕ
-nodes_in text = option_map_or (number_between 0 MOST_BRANCHINGS) text (Some USUAL_BRANCHINGS)
+nodes_in None = Some USUAL_BRANCHINGS
+nodes_in (Some text) = number_between 0 MOST_BRANCHINGS text
 
-abbrev pub plan_of : (ship stow plan tree : Option (List ℕ)) → Option ℕ → Asked
-plan_of (Some s) (Some w) (Some p) (Some t) (Some n) = if are_different s w p t then plan s w p t n else usage
-plan_of _ _ _ _ _ = usage
+-- a plan with so many branchings, where its names are different
+abbrev pub plan_of : (ship stow plan tree : List ℕ) → Option ℕ → Asked
+plan_of s w p t None = usage
+plan_of s w p t (Some n) = if are_different s w p t then plan s w p t n else usage
 
 -- the plan that `check` is asked about: none for `-`
 abbrev pub plan_name : List ℕ → Option (List ℕ)
 plan_name word = if bytes_eq word (codes "-") then None else Some word
 
-abbrev pub check_of : (ship stow plan tree : Option (List ℕ)) → Asked
-check_of (Some s) (Some w) (Some p) (Some t) = check s w (plan_name p) t
-check_of _ _ _ _ = usage
-
-abbrev pub tasks_of : (ship stow : Option (List ℕ)) → Asked
-tasks_of (Some s) (Some w) = tasks s w
-tasks_of _ _ = usage
-
-abbrev pub show_of : (ship stow plan : Option (List ℕ)) → Asked
-show_of (Some s) (Some w) (Some p) = show s w p
-show_of _ _ _ = usage
-
+-- what is made by three numbers that are in range
 abbrev pub make_of : (number hatches cranes : Option ℕ) → Asked
 make_of (Some n) (Some h) (Some c) = make n h c
 make_of _ _ _ = usage
 
--- what each command asks for by the values that were read
-abbrev pub plan_asked : List Row → Asked
-plan_asked rows = plan_of (first_of (codes "ship") rows) (first_of (codes "stow") rows) (first_of (codes "plan") rows)
-    (first_of (codes "tree") rows) (nodes_in (first_of (codes "nodes") rows))
-
-abbrev pub check_asked : List Row → Asked
-check_asked rows = check_of (first_of (codes "ship") rows) (first_of (codes "stow") rows) (first_of (codes "plan") rows)
-    (first_of (codes "tree") rows)
-
-abbrev pub tasks_asked : List Row → Asked
-tasks_asked rows = tasks_of (first_of (codes "ship") rows) (first_of (codes "stow") rows)
-
-abbrev pub show_asked : List Row → Asked
-show_asked rows = show_of (first_of (codes "ship") rows) (first_of (codes "stow") rows) (first_of (codes "plan") rows)
-
-abbrev pub number_asked : (least most : ℕ) → List ℕ → List Row → Option ℕ
-number_asked least most name rows = option_and_then (number_between least most) (first_of name rows)
-
-abbrev pub make_asked : List Row → Asked
-make_asked rows = make_of (number_asked 0 MOST_NUMBER (codes "number") rows)
-    (number_asked 1 MOST_HATCHES (codes "hatches") rows) (number_asked 1 MOST_CRANES (codes "cranes") rows)
+-- what a command asks for by the values that were read
+abbrev pub asked_in : CommandName → List Row → Asked
+asked_in name.Plan rows =
+    plan_of (value_of (codes "ship") rows) (value_of (codes "stow") rows) (value_of (codes "plan") rows)
+    (value_of (codes "tree") rows) (nodes_in (first_of (codes "nodes") rows))
+asked_in name.Check rows = check (value_of (codes "ship") rows) (value_of (codes "stow") rows)
+    (plan_name (value_of (codes "plan") rows)) (value_of (codes "tree") rows)
+asked_in name.Tasks rows =
+    tasks (value_of (codes "ship") rows) (value_of (codes "stow") rows)
+asked_in name.Show rows =
+    show (value_of (codes "ship") rows) (value_of (codes "stow") rows)
+    (value_of (codes "plan") rows)
+asked_in name.Make rows = make_of
+    (number_between 0 MOST_NUMBER (value_of (codes "number") rows))
+    (number_between 1 MOST_HATCHES (value_of (codes "hatches") rows))
+    (number_between 1 MOST_CRANES (value_of (codes "cranes") rows))
 
 -- what the words ask for: Usage where no command begins them, where `clap` refuses them, where a
 -- number isn't one in plain decimal and in range, and where a plan's names aren't different
 abbrev pub asked_by : List (List ℕ) → Asked
-asked_by [] = usage
-asked_by (name ∷ args) =
-    if bytes_eq name (codes "plan") then option_map_or plan_asked (read_by plan_command (name ∷ args)) usage
-    else (if bytes_eq name (codes "check") then option_map_or check_asked (read_by check_command (name ∷ args)) usage
-    else (if bytes_eq name (codes "tasks") then option_map_or tasks_asked (read_by tasks_command (name ∷ args)) usage
-    else (if bytes_eq name (codes "show") then option_map_or show_asked (read_by show_command (name ∷ args)) usage
-    else (if bytes_eq name (codes "make") then option_map_or make_asked (read_by make_command (name ∷ args)) usage
-    else usage))))
+asked_by words = option_map_or
+    (λ name. option_map_or (asked_in name) (read_by (command_of name) words) usage)
+    (named words) usage
 
 -- the words ask for this
 abbrev pub Asks : List (List ℕ) → Asked → Type 0
 Asks words asked = asked_by words ≡ asked
-
--- the first word is a command's name
-abbrev pub has_command : List (List ℕ) → Bool
-has_command [] = false
-has_command (name ∷ args) = list_any (bytes_eq name)
-    (codes "plan" ∷ codes "check" ∷ codes "tasks" ∷ codes "show" ∷ codes "make" ∷ [])

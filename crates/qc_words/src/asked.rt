@@ -1,6 +1,9 @@
 ghost use Rattle.std.specs.Prelude.{◌≡◌, option_map};
 ghost use Rattle.qc_words.specs.Asked.{asked_for, name_of};
 
+/// The greatest number that a ship and a list are made from.
+pub const MOST_NUMBER: u32 = 2_147_483_647;
+
 /// A file that a command reads, by what it is for.
 #[derive(Clone, Copy, Debug, PartialEq, Eq)]
 pub enum Input {

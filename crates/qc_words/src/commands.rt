@@ -1,11 +1,42 @@
 // The five commands, as `clap` is told them.
 
 ghost use Rattle.std.specs.Prelude.{◌≡◌, IfOk, map};
+ghost use Rattle.qc_words.specs.Words.{texts};
 ghost use Rattle.clap.specs.Words.{app_of};
-ghost use Rattle.qc_words.specs.Commands.{command_with, plan_command, check_command, tasks_command, show_command, make_command};
+ghost use Rattle.qc_words.specs.Commands.{command_name, named, command_with, command_of};
 
 use clap::{Arg, Command};
 use std::alloc::{AllocError, Global};
+
+/// The command that words begin with.
+#[derive(Clone, Copy, Debug, PartialEq, Eq)]
+pub enum CommandName {
+    Plan,
+    Check,
+    Tasks,
+    Show,
+    Make,
+}
+
+fn command_name(word: &str) -> Option<CommandName>
+    ensures { result ≡ command_name word.now }
+{
+    match word {
+        "plan" => Some(CommandName::Plan),
+        "check" => Some(CommandName::Check),
+        "tasks" => Some(CommandName::Tasks),
+        "show" => Some(CommandName::Show),
+        "make" => Some(CommandName::Make),
+        _ => None,
+    }
+}
+
+/// The command that the first word names.
+pub fn named(words: &[String]) -> Option<CommandName>
+    ensures { result ≡ named (texts words.now) }
+{
+    command_name(words.first()?.as_str())
+}
 
 /// A command with these operands in order.
 fn command_with<'a>(
@@ -13,7 +44,8 @@ fn command_with<'a>(
     name: &'a str,
     operands: &[&'a str],
 ) -> Result<Command<'a>, AllocError>
-    ensures { IfOk result (λ command. app_of command ≡ command_with name.entry.now (map (λ operand. operand.now) operands.now)) }
+    ensures { IfOk result (λ command. app_of command
+        ≡ command_with name.entry.now (map (λ operand. operand.now) operands.now)) }
 {
     let mut command = Command::new(alloc, name);
     for operand in operands {
@@ -22,33 +54,18 @@ fn command_with<'a>(
     Ok(command)
 }
 
-pub fn plan_command(alloc: Global) -> Result<Command<'static>, AllocError>
-    ensures { IfOk result (λ command. app_of command ≡ plan_command) }
+/// The command as `clap` is told it.
+pub fn command_of<'a>(alloc: Global, name: CommandName) -> Result<Command<'a>, AllocError>
+    ensures { IfOk result (λ command. app_of command ≡ command_of name) }
 {
-    let nodes = Arg::new(alloc, "nodes").long("nodes");
-    command_with(alloc, "plan", &["ship", "stow", "plan", "tree"])?.arg(nodes)
-}
-
-pub fn check_command(alloc: Global) -> Result<Command<'static>, AllocError>
-    ensures { IfOk result (λ command. app_of command ≡ check_command) }
-{
-    command_with(alloc, "check", &["ship", "stow", "plan", "tree"])
-}
-
-pub fn tasks_command(alloc: Global) -> Result<Command<'static>, AllocError>
-    ensures { IfOk result (λ command. app_of command ≡ tasks_command) }
-{
-    command_with(alloc, "tasks", &["ship", "stow"])
-}
-
-pub fn show_command(alloc: Global) -> Result<Command<'static>, AllocError>
-    ensures { IfOk result (λ command. app_of command ≡ show_command) }
-{
-    command_with(alloc, "show", &["ship", "stow", "plan"])
-}
-
-pub fn make_command(alloc: Global) -> Result<Command<'static>, AllocError>
-    ensures { IfOk result (λ command. app_of command ≡ make_command) }
-{
-    command_with(alloc, "make", &["number", "hatches", "cranes"])
+    match name {
+        CommandName::Plan => {
+            let nodes = Arg::new(alloc, "nodes").long("nodes");
+            command_with(alloc, "plan", &["ship", "stow", "plan", "tree"])?.arg(nodes)
+        }
+        CommandName::Check => command_with(alloc, "check", &["ship", "stow", "plan", "tree"]),
+        CommandName::Tasks => command_with(alloc, "tasks", &["ship", "stow"]),
+        CommandName::Show => command_with(alloc, "show", &["ship", "stow", "plan"]),
+        CommandName::Make => command_with(alloc, "make", &["number", "hatches", "cranes"]),
+    }
 }

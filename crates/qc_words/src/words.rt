@@ -1,12 +1,13 @@
-ghost use Rattle.std.specs.Prelude.{◌≡◌, ◌<◌, ◌^◌, IfOk, IsTrue, false, option_map, option_and_then};
+ghost use Rattle.std.specs.Prelude.{◌≡◌, IfOk, IsTrue, option_map};
 ghost use Rattle.std.specs.Option.{option_map_or};
 ghost use Rattle.clap.specs.Words.{app_of, found_of, rows_of, first_of, is_simple_and_free};
-ghost use Rattle.qc_words.specs.Asked.{Asked, asked_for, usage};
-ghost use Rattle.qc_words.specs.Commands.{read_by, plan_command, check_command, tasks_command, show_command, make_command};
-ghost use Rattle.qc_words.specs.Words.{Canonical, texts, asked_by, has_command, number_between, nodes_in, are_different, plan_of, check_of, tasks_of, show_of, make_of, plan_asked, check_asked, tasks_asked, show_asked, make_asked, number_asked, plan_name};
+ghost use Rattle.qc_words.specs.Asked.{Asked, asked_for, usage, KeepsLimits, are_different};
+ghost use Rattle.qc_words.specs.Commands.{command_of, named, read_by};
+ghost use Rattle.qc_words.specs.declared.commands.CommandName.TheVariants as name;
+ghost use Rattle.qc_words.specs.Words.{Asks, Canonical, asked_in, make_of, nodes_in, number_between, plan_name, plan_of, texts, value_of};
 
-use crate::asked::Request;
-use crate::commands;
+use crate::asked::{MOST_NUMBER, Request};
+use crate::commands::{CommandName, command_of, named};
 use clap::error::ErrorKind;
 use clap::{ArgMatches, Command};
 use qc_model::{MOST_CRANES, MOST_HATCHES};
@@ -17,16 +18,14 @@ use std::alloc::Global;
 /// How many branchings a plan has at most where the words don't say it.
 pub const USUAL_BRANCHINGS: u32 = 20_000;
 
-/// The greatest number that a ship and a list are made from.
-pub const MOST_NUMBER: u32 = 2_147_483_647;
-
 /// What the command reads from the words, or nothing where it refuses them.
 fn read<'a>(
     command: Command<'a>,
     words: &'a [String],
 ) -> Result<Option<ArgMatches<'a>>, OutOfMemory>
     requires { IsTrue (is_simple_and_free (app_of command)) }
-    ensures { IfOk result (λ read. option_map (λ matches. rows_of (found_of matches)) read ≡ read_by (app_of command.entry) (texts words.now)) }
+    ensures { IfOk result (λ read. option_map (λ matches. rows_of (found_of matches)) read
+        ≡ read_by (app_of command.entry) (texts words.now)) }
 {
     match command.try_get_matches_from(words) {
         Ok(matches) => Ok(Some(matches)),
@@ -40,11 +39,21 @@ fn read<'a>(
     }
 }
 
-/// The first value of a name.
-fn value_of<'a>(matches: &ArgMatches<'a>, name: &str) -> Option<&'a str>
-    ensures { option_map (λ text. text.now) result ≡ first_of name.now (rows_of (found_of matches.now)) }
+fn text_of<'a>(matches: &ArgMatches<'a>, name: &str) -> Option<&'a str>
+    ensures { option_map (λ text. text.now) result
+        ≡ first_of name.now (rows_of (found_of matches.now)) }
 {
     matches.get_str(name)
+}
+
+/// The value of an operand. Each is required, so `clap` has one where it takes the words.
+fn value_of<'a>(matches: &ArgMatches<'a>, name: &str) -> &'a str
+    ensures { result.now ≡ value_of name.now (rows_of (found_of matches.now)) }
+{
+    match text_of(matches, name) {
+        Some(text) => text,
+        None => "",
+    }
 }
 
 /// The number that the text is in plain decimal, where it is in range.
@@ -57,12 +66,6 @@ fn number_between(text: &str, least: u32, most: u32) -> Option<u32>
     } else {
         None
     }
-}
-
-fn number_of(matches: &ArgMatches<'_>, name: &str, least: u32, most: u32) -> Option<u32>
-    ensures { result ≡ number_asked least most name.now (rows_of (found_of matches.now)) }
-{
-    number_between(value_of(matches, name)?, least, most)
 }
 
 fn nodes_in(text: Option<&str>) -> Option<u32>
@@ -80,18 +83,17 @@ fn are_different(s: &str, w: &str, p: &str, t: &str) -> bool
     !(s == w || s == p || s == t || w == p || w == t || p == t)
 }
 
-fn plan_from<'a>(matches: &ArgMatches<'a>) -> Request<'a>
-    ensures { asked_for result ≡ plan_asked (rows_of (found_of matches.now)) }
+fn plan_of<'a>(
+    ship: &'a str,
+    stow: &'a str,
+    plan: &'a str,
+    tree: &'a str,
+    nodes: Option<u32>,
+) -> Request<'a>
+    ensures { asked_for result ≡ plan_of ship.now stow.now plan.now tree.now nodes }
 {
-    let nodes = nodes_in(value_of(matches, "nodes"));
-    match (
-        value_of(matches, "ship"),
-        value_of(matches, "stow"),
-        value_of(matches, "plan"),
-        value_of(matches, "tree"),
-        nodes,
-    ) {
-        (Some(ship), Some(stow), Some(plan), Some(tree), Some(nodes)) => {
+    match nodes {
+        Some(nodes) => {
             if are_different(ship, stow, plan, tree) {
                 Request::Plan {
                     ship,
@@ -104,15 +106,91 @@ fn plan_from<'a>(matches: &ArgMatches<'a>) -> Request<'a>
                 Request::Usage
             }
         }
+        None => Request::Usage,
+    }
+}
+
+/// The plan that `check` is asked about: none for `-`.
+fn plan_name(word: &str) -> Option<&str>
+    ensures { option_map (λ name. name.now) result ≡ plan_name word.now }
+{
+    if word == "-" { None } else { Some(word) }
+}
+
+fn make_from<'a>(matches: &ArgMatches<'a>) -> Request<'a>
+    ensures { asked_for result ≡ asked_in name.Make (rows_of (found_of matches.now)) }
+{
+    match (
+        number_between(value_of(matches, "number"), 0, MOST_NUMBER),
+        number_between(value_of(matches, "hatches"), 1, u32::from(MOST_HATCHES)),
+        number_between(value_of(matches, "cranes"), 1, u32::from(MOST_CRANES)),
+    ) {
+        (Some(number), Some(hatches), Some(cranes)) => Request::Make {
+            number,
+            hatches: hatches as u16,
+            cranes: cranes as u16,
+        },
         _ => Request::Usage,
     }
 }
 
-/// What the words of a command line, without the program's name, ask for.
-pub fn request_of(alloc: Global, words: &[String]) -> Result<Request<'_>, OutOfMemory>
-    ensures asked { IfOk result (λ request. asked_for request ≡ asked_by (texts words.now)) }
-    ensures canonical { (asked : Asked) → Canonical (texts words.now) asked → IfOk result (λ request. asked_for request ≡ asked) }
-    ensures no_command { has_command (texts words.now) ≡ false → result ≡ Ok Request.Usage }
+/// What a command asks for by the values that were read.
+fn asked_in<'a>(name: CommandName, matches: &ArgMatches<'a>) -> Request<'a>
+    ensures { asked_for result ≡ asked_in name (rows_of (found_of matches.now)) }
 {
-    Err(OutOfMemory)
+    match name {
+        CommandName::Plan => plan_of(
+            value_of(matches, "ship"),
+            value_of(matches, "stow"),
+            value_of(matches, "plan"),
+            value_of(matches, "tree"),
+            nodes_in(text_of(matches, "nodes")),
+        ),
+        CommandName::Check => Request::Check {
+            ship: value_of(matches, "ship"),
+            stow: value_of(matches, "stow"),
+            plan: plan_name(value_of(matches, "plan")),
+            tree: value_of(matches, "tree"),
+        },
+        CommandName::Tasks => Request::Tasks {
+            ship: value_of(matches, "ship"),
+            stow: value_of(matches, "stow"),
+        },
+        CommandName::Show => Request::Show {
+            ship: value_of(matches, "ship"),
+            stow: value_of(matches, "stow"),
+            plan: value_of(matches, "plan"),
+        },
+        CommandName::Make => make_from(matches),
+    }
+}
+
+fn request_by(
+    alloc: Global,
+    name: CommandName,
+    words: &[String],
+) -> Result<Request<'_>, OutOfMemory>
+    ensures { IfOk result (λ request. asked_for request
+        ≡ option_map_or (asked_in name) (read_by (command_of name) (texts words.now)) usage) }
+{
+    match read(command_of(alloc, name)?, words)? {
+        Some(matches) => Ok(asked_in(name, &matches)),
+        None => Ok(Request::Usage),
+    }
+}
+
+/// What the words of a command line, without the program's name, ask for: a request of the command
+/// that begins them, or `Request::Usage`. No memory is taken where no command begins them, so
+/// `OutOfMemory` comes only behind a command's name.
+pub fn request_of(alloc: Global, words: &[String]) -> Result<Request<'_>, OutOfMemory>
+    ensures asked { IfOk result (λ request. Asks (texts words.now) (asked_for request)) }
+    ensures canonical { (asked : Asked) → Canonical (texts words.now) asked
+        → IfOk result (λ request. asked_for request ≡ asked) }
+    ensures limits { IfOk result (λ request. KeepsLimits (asked_for request)) }
+    ensures no_command { named (texts words.now) ≡ None → result ≡ Ok Request.Usage }
+{
+    let Some(name) = named(words) else {
+        return Ok(Request::Usage);
+    };
+    request_by(alloc, name, words)
 }

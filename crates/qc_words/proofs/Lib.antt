@@ -1,0 +1,4 @@
+pub mod ReadLemmas
+pub mod WordWalk
+pub mod PlainWords
+pub mod LimitLemmas

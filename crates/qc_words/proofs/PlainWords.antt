@@ -1,0 +1,204 @@
+-- Words in their plain form ask for what they say.
+use Rattle.std.proofs.Common.{◌≡◌, ◌∙◌, inl, inr, ℕ, ◌<◌, ◌≤◌, ◌^◌, lit<, lit≤, ap, ap₂, sym, refl, cond, true, nat_le, ◌&&◌, ◌==◌, List, [], ◌∷◌, None, Some, codes, arith}
+use Rattle.std.proofs.lemmas.Bool.{cases_Bool}
+use Rattle.std.proofs.lemmas.Bool.Decides.{nat_tests}
+use Rattle.std.specs.Char.{is_ascii_digit}
+use Rattle.std.specs.List.{list_all}
+use Rattle.std.specs.Option.{option_map_or}
+use Rattle.std.specs.Prelude.{decimal, option_and_then}
+use Rattle.clap.proofs.WalkLemmas.{both}
+use Rattle.clap.specs.Faults.{defaults_fault}
+use Rattle.clap.specs.Simple.{built}
+use Rattle.clap.specs.Walk.{Held, Walk, idle, nothing_held, option, walk_from, walked}
+use Rattle.clap.specs.Words.{Row, Shape, Text}
+use Rattle.clap.specs.declared.builder.value_parser.Reading.TheVariants.{AsWritten}
+use Rattle.clap.specs.declared.parser.matches.ValueSource.TheVariants.{CommandLine}
+use Rattle.qc_model.specs.declared.limits.TheConstants.{MOST_CRANES, MOST_HATCHES}
+use Rattle.qc_tree.specs.declared.line.TheConstants.{MOST_BRANCHINGS}
+use Rattle.qc_words.specs.declared.asked.TheConstants.{MOST_NUMBER}
+use Rattle.qc_words.specs.declared.words.TheConstants.{USUAL_BRANCHINGS}
+use Rattle.qc_num.proofs.DigitLemmas.{decimal_digits, fits, number_in-decimal}
+use Rattle.qc_words.specs.declared.commands.CommandName.{CommandName}
+use Rattle.qc_words.specs.declared.commands.CommandName.TheVariants as name
+use Rattle.qc_words.specs.Asked.{Asked, plan, check, tasks, show, make, usage}
+use Rattle.qc_words.specs.Commands.{command_of}
+use Rattle.qc_words.specs.Words.{Canonical, asked_by, asked_in, is_file_word, make_of, number_between, plan_name, plan_of}
+use Rattle.qc_words.proofs.WordWalk.{Goes, IsOperand, at, goes_nowhere, goes_on, goes_past, lone_dash, other_first, read_along}
+
+file_operand : (word : Text) → is_file_word word ≡ true → IsOperand word
+file_operand [] e = cc
+file_operand (b ∷ bs) e = elim (cases_Bool (b == 45)) [
+  | inl dash ↦ cc (rw dash at e)
+  | inr other ↦ other_first b bs other
+]
+
+digits_operand : (word : Text) → list_all is_ascii_digit word ≡ true → IsOperand word
+digits_operand [] e = record { dashes = refl; long = refl; short = refl }
+digits_operand (b ∷ bs) e =
+    let digit = (both (is_ascii_digit b) _ e).0 in
+    other_first b bs (grind (arith, nat_tests, digit))
+
+number_operand : (n : ℕ) → n < 10 ^ 10 → IsOperand (decimal n)
+number_operand n small = digits_operand (decimal n) (decimal_digits n (fits 10 n (lit≤ tt) small))
+
+number_asked_for : (least most n : ℕ) → least ≤ n → n ≤ most → n < 10 ^ 10 → number_between least most (decimal n) ≡ Some n
+number_asked_for least most n above below small =
+    let low : nat_le least n ≡ true = grind (arith, nat_tests, above) in
+    let high : nat_le n most ≡ true = grind (arith, nat_tests, below) in
+    ap (option_and_then (λ k. cond (nat_le least k && nat_le k most) (Some k) None)) (number_in-decimal 10 n (lit< tt) (lit≤ tt) small)
+    ∙ rw (low, high) refl
+
+abbrev shape : CommandName → Shape
+shape n = (built (command_of n)).top
+
+abbrev row : Text → Text → Row
+row id value = record { id = id; values = value ∷ []; count = None; source = Some CommandLine; reading = AsWritten }
+
+abbrev held : List Row → Text → Text → Held
+held rows id value = record { rows = rows; pending = Some (id, value ∷ []); skip = 0 }
+
+tasks_asked : (s w : Text) → IsOperand s → IsOperand w → asked_by (codes "tasks" ∷ s ∷ w ∷ []) ≡ tasks s w
+unfolding defaults_fault
+tasks_asked s w is iw =
+    let c = shape name.Tasks in
+    let after = held (row (codes "ship") s ∷ []) (codes "stow") w in
+    ap (λ o. option_map_or (asked_in name.Tasks) o usage)
+    (read_along c (command_of name.Tasks) (codes "tasks") (s ∷ w ∷ []) after 3 refl refl
+    (goes_past c nothing_held idle 1 s (w ∷ []) _ is refl
+    (goes_past c (held [] (codes "ship") s) idle 2 w [] _ iw refl
+    (goes_nowhere c (at after idle 3)))) refl)
+
+show_asked : (s w p : Text) → IsOperand s → IsOperand w → IsOperand p → asked_by (codes "show" ∷ s ∷ w ∷ p ∷ []) ≡ show s w p
+unfolding defaults_fault
+show_asked s w p is iw ip =
+    let c = shape name.Show in
+    let rows = row (codes "ship") s ∷ row (codes "stow") w ∷ [] in
+    let after = held rows (codes "plan") p in
+    ap (λ o. option_map_or (asked_in name.Show) o usage)
+    (read_along c (command_of name.Show) (codes "show") (s ∷ w ∷ p ∷ []) after 4 refl refl
+    (goes_past c nothing_held idle 1 s (w ∷ p ∷ []) _ is refl
+    (goes_past c (held [] (codes "ship") s) idle 2 w (p ∷ []) _ iw refl
+    (goes_past c (held (row (codes "ship") s ∷ []) (codes "stow") w) idle 3 p [] _ ip refl
+    (goes_nowhere c (at after idle 4))))) refl)
+
+check_asked : (s w p t : Text) → IsOperand s → IsOperand w → IsOperand p → IsOperand t
+    → asked_by (codes "check" ∷ s ∷ w ∷ p ∷ t ∷ []) ≡ check s w (plan_name p) t
+unfolding defaults_fault
+check_asked s w p t is iw ip it =
+    let c = shape name.Check in
+    let rows = row (codes "ship") s ∷ row (codes "stow") w ∷ row (codes "plan") p ∷ [] in
+    let after = held rows (codes "tree") t in
+    ap (λ o. option_map_or (asked_in name.Check) o usage)
+    (read_along c (command_of name.Check) (codes "check") (s ∷ w ∷ p ∷ t ∷ []) after 5 refl refl
+    (goes_past c nothing_held idle 1 s (w ∷ p ∷ t ∷ []) _ is refl
+    (goes_past c (held [] (codes "ship") s) idle 2 w (p ∷ t ∷ []) _ iw refl
+    (goes_past c (held (row (codes "ship") s ∷ []) (codes "stow") w) idle 3 p (t ∷ []) _ ip refl
+    (goes_past c (held (row (codes "ship") s ∷ row (codes "stow") w ∷ []) (codes "plan") p) idle 4 t [] _ it refl
+    (goes_nowhere c (at after idle 5)))))) refl)
+
+make_asked : (n h k : Text) → IsOperand n → IsOperand h → IsOperand k → asked_by (codes "make" ∷ n ∷ h ∷ k ∷ [])
+    ≡ make_of (number_between 0 MOST_NUMBER n) (number_between 1 MOST_HATCHES h) (number_between 1 MOST_CRANES k)
+unfolding defaults_fault
+make_asked n h k is ih ik =
+    let c = shape name.Make in
+    let rows = row (codes "number") n ∷ row (codes "hatches") h ∷ [] in
+    let after = held rows (codes "cranes") k in
+    ap (λ o. option_map_or (asked_in name.Make) o usage)
+    (read_along c (command_of name.Make) (codes "make") (n ∷ h ∷ k ∷ []) after 4 refl refl
+    (goes_past c nothing_held idle 1 n (h ∷ k ∷ []) _ is refl
+    (goes_past c (held [] (codes "number") n) idle 2 h (k ∷ []) _ ih refl
+    (goes_past c (held (row (codes "number") n ∷ []) (codes "hatches") h) idle 3 k [] _ ik refl
+    (goes_nowhere c (at after idle 4))))) refl)
+
+plan_goes : (s w p t : Text) (words : List Text) (end : Walk) → IsOperand s → IsOperand w → IsOperand p → IsOperand t
+    → Goes (shape name.Plan) (at (held (row (codes "ship") s ∷ row (codes "stow") w ∷ row (codes "plan") p ∷ []) (codes "tree") t) idle 5) words end
+    → Goes (shape name.Plan) (walk_from nothing_held) (s ∷ w ∷ p ∷ t ∷ words) end
+plan_goes s w p t words end is iw ip it more =
+    let c = shape name.Plan in
+    goes_past c nothing_held idle 1 s (w ∷ p ∷ t ∷ words) end is refl
+    (goes_past c (held [] (codes "ship") s) idle 2 w (p ∷ t ∷ words) end iw refl
+    (goes_past c (held (row (codes "ship") s ∷ []) (codes "stow") w) idle 3 p (t ∷ words) end ip refl
+    (goes_past c (held (row (codes "ship") s ∷ row (codes "stow") w ∷ []) (codes "plan") p) idle 4 t words end it refl more)))
+
+plan_asked : (s w p t : Text) → IsOperand s → IsOperand w → IsOperand p → IsOperand t
+    → asked_by (codes "plan" ∷ s ∷ w ∷ p ∷ t ∷ []) ≡ plan_of s w p t (Some USUAL_BRANCHINGS)
+unfolding defaults_fault
+plan_asked s w p t is iw ip it =
+    let c = shape name.Plan in
+    let after = held (row (codes "ship") s ∷ row (codes "stow") w ∷ row (codes "plan") p ∷ []) (codes "tree") t in
+    ap (λ o. option_map_or (asked_in name.Plan) o usage)
+    (read_along c (command_of name.Plan) (codes "plan") (s ∷ w ∷ p ∷ t ∷ []) after 5 refl refl
+    (plan_goes s w p t [] _ is iw ip it (goes_nowhere c (at after idle 5))) refl)
+
+nodes_asked : (s w p t n : Text) → IsOperand s → IsOperand w → IsOperand p → IsOperand t → IsOperand n
+    → asked_by (codes "plan" ∷ s ∷ w ∷ p ∷ t ∷ codes "--nodes" ∷ n ∷ [])
+    ≡ plan_of s w p t (number_between 0 MOST_BRANCHINGS n)
+unfolding defaults_fault walked
+nodes_asked s w p t n is iw ip it number =
+    let c = shape name.Plan in
+    let before = held (row (codes "ship") s ∷ row (codes "stow") w ∷ row (codes "plan") p ∷ []) (codes "tree") t in
+    let rows = row (codes "ship") s ∷ row (codes "stow") w ∷ row (codes "plan") p ∷ row (codes "tree") t ∷ [] in
+    let waiting : Held = record { rows = rows; pending = Some (codes "nodes", []); skip = 0 } in
+    let after = held rows (codes "nodes") n in
+    ap (λ o. option_map_or (asked_in name.Plan) o usage)
+    (read_along c (command_of name.Plan) (codes "plan") (s ∷ w ∷ p ∷ t ∷ codes "--nodes" ∷ n ∷ []) after 5 refl refl
+    (plan_goes s w p t (codes "--nodes" ∷ n ∷ []) _ is iw ip it
+    (goes_on c (at before idle 5) (codes "--nodes") (n ∷ []) _ refl
+    (goes_past c waiting (option (codes "nodes")) 5 n [] _ number refl
+    (goes_nowhere c (at after idle 5))))) refl)
+
+named_plan : (p : Text) → is_file_word p ≡ true → plan_name p ≡ Some p
+named_plan [] e = cc
+named_plan (b ∷ bs) e = elim (cases_Bool (b == 45)) [
+  | inl dash ↦ cc (rw dash at e)
+  | inr other ↦ rw other refl
+]
+
+pub canonical_asked : (words : List Text) (asked : Asked) → Canonical words asked → asked_by words ≡ asked
+canonical_asked words (plan s w p t n) h =
+    let fs = both (is_file_word s) _ h.0.0 in
+    let fw = both (is_file_word w) _ fs.1 in
+    let fp = both (is_file_word p) _ fw.1 in
+    let ft = both (is_file_word t) _ fp.1 in
+    let is = file_operand s fs.0 in
+    let iw = file_operand w fw.0 in
+    let ip = file_operand p fp.0 in
+    let it = file_operand t ft.0 in
+    let small : n < 10 ^ 10 = omega (arith, h.1.1) in
+    let as_plan : plan_of s w p t (Some n) ≡ plan s w p t n = ap (λ b. cond b (plan s w p t n) usage) h.1.0 in
+    elim h.0.1 [
+      | inl plain ↦ ap asked_by plain.0 ∙ plan_asked s w p t is iw ip it
+          ∙ ap (λ k. plan_of s w p t (Some k)) (sym plain.1) ∙ as_plan
+      | inr said ↦ ap asked_by said ∙ nodes_asked s w p t (decimal n) is iw ip it (number_operand n small)
+          ∙ ap (λ o. plan_of s w p t o) (number_asked_for 0 MOST_BRANCHINGS n (omega arith) h.1.1 small) ∙ as_plan
+    ]
+canonical_asked words (check s w None t) h =
+    let fs = both (is_file_word s) _ h.0.0 in
+    let fw = both (is_file_word w) _ fs.1 in
+    let ft = both (is_file_word t) _ fw.1 in
+    ap asked_by h.0.1 ∙ check_asked s w (45 ∷ []) t (file_operand s fs.0) (file_operand w fw.0) lone_dash (file_operand t ft.0)
+canonical_asked words (check s w (Some p) t) h =
+    let fs = both (is_file_word s) _ h.0.0 in
+    let fw = both (is_file_word w) _ fs.1 in
+    let fp = both (is_file_word p) _ fw.1 in
+    let ft = both (is_file_word t) _ fp.1 in
+    ap asked_by h.0.1 ∙ check_asked s w p t (file_operand s fs.0) (file_operand w fw.0) (file_operand p fp.0) (file_operand t ft.0)
+    ∙ ap (λ o. check s w o t) (named_plan p fp.0)
+canonical_asked words (tasks s w) h =
+    let fs = both (is_file_word s) _ h.0.0 in
+    let fw = both (is_file_word w) _ fs.1 in
+    ap asked_by h.0.1 ∙ tasks_asked s w (file_operand s fs.0) (file_operand w fw.0)
+canonical_asked words (show s w p) h =
+    let fs = both (is_file_word s) _ h.0.0 in
+    let fw = both (is_file_word w) _ fs.1 in
+    let fp = both (is_file_word p) _ fw.1 in
+    ap asked_by h.0.1 ∙ show_asked s w p (file_operand s fs.0) (file_operand w fw.0) (file_operand p fp.0)
+canonical_asked words (make n hs k) h =
+    let small : n < 10 ^ 10 = omega (arith, h.1.0) in
+    let few : hs < 10 ^ 10 = omega (arith, h.1.2) in
+    let fewer : k < 10 ^ 10 = omega (arith, h.1.4) in
+    ap asked_by h.0 ∙ make_asked (decimal n) (decimal hs) (decimal k) (number_operand n small) (number_operand hs few) (number_operand k fewer)
+    ∙ ap₂ (λ o q. make_of o q (number_between 1 MOST_CRANES (decimal k))) (number_asked_for 0 MOST_NUMBER n (omega arith) h.1.0 small)
+    (number_asked_for 1 MOST_HATCHES hs h.1.1 h.1.2 few)
+    ∙ ap (λ o. make_of (Some n) (Some hs) o) (number_asked_for 1 MOST_CRANES k h.1.3 h.1.4 fewer)
+canonical_asked words usage h = absurd h.0

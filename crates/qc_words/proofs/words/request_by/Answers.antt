@@ -1,0 +1,24 @@
+use Rattle.std.proofs.Common.{◌∙◌, ap, IsTrue, refl}
+use Rattle.clap.specs.Words.{app_of, found_of, rows_of, is_simple_and_free}
+use Rattle.qc_words.specs.declared.commands.CommandName.{CommandName}
+use Rattle.qc_words.specs.declared.commands.CommandName.TheVariants as name
+use Rattle.qc_words.specs.Commands.{command_of}
+use Rattle.qc_words.specs.Words.{asked_in, texts}
+use Rattle.qc_words.proofs.ReadLemmas.{asks_what_is_read}
+use Rattle.qc_words.proofs.words.request_by.Goals as goal
+
+each_is_simple : (n : CommandName) → IsTrue (is_simple_and_free (command_of n))
+each_is_simple name.Plan = refl
+each_is_simple name.Check = refl
+each_is_simple name.Tasks = refl
+each_is_simple name.Show = refl
+each_is_simple name.Make = refl
+
+pub read-requires : goal.read-requires
+read-requires c = ap is_simple_and_free c.in_ok-command_of.ensures ∙ each_is_simple c.args.name
+
+pub returns-in-Some : goal.returns-in-Some
+returns-in-Some c =
+    asks_what_is_read (asked_in c.args.name) (app_of c.in_ok-command_of.field-0) (command_of c.args.name)
+    (texts c.args.words.now) (rows_of (found_of c.in-Some.matches)) _ c.asked_in.ensures
+    (rw c.in-Some.is at c.in_ok-matches.ensures) c.in_ok-command_of.ensures
