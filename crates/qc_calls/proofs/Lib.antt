@@ -1,4 +1,2 @@
-mod OneAnswer
-pub mod Answered
 pub mod SameLemmas
 pub mod FilesLemmas

@@ -24,11 +24,6 @@ pub const TWO: &str = ship!(
     "{name = 'C1', bay = 1}, {name = 'C2', bay = 3}"
 );
 
-pub const NO_MARGIN: &str = ship!(
-    "margin = 0",
-    "{name = 'C1', bay = 1}, {name = 'C2', bay = 3}"
-);
-
 pub const APART: &str = ship!(
     "margin = 1\napart = [[2, 14]]",
     "{name = 'C1', bay = 1}, {name = 'C2', bay = 3}"
@@ -52,8 +47,6 @@ macro_rules! list {
 
 // The tasks 2-DD and 6-DD of 20 ticks.
 pub const AT_2_AND_6: &str = list!("A,D,020082" "B,D,020084" "C,D,060082" "D,D,060084");
-// The tasks 2-DD, 6-DD and 10-DD of 10 ticks.
-pub const AT_2_6_10: &str = list!("A,D,020082" "B,D,060082" "C,D,100082");
 // The tasks 2-DD of 20 and 14-DD of 30 ticks.
 pub const AT_2_AND_14: &str =
     list!("A,D,020082" "B,D,020084" "C,D,140082" "D,D,140084" "E,D,140086");

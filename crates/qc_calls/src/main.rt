@@ -1,22 +1,18 @@
 //! Runs tables of inner calls and prints one line a row: whether it answers as it must.
 //!
-//! `schedules.rt` has schedules and what their judge must answer, `calls.rt` calls on decisions and on
-//! the mirror, `starts.rt` calls on least starts, and `closed.rt` calls on the leaves that close nodes.
+//! `calls.rt` has calls on decisions and on the mirror, `starts.rt` calls on least starts, and `closed.rt`
+//! calls on the leaves that close nodes.
 //! A line is `ok NAME` or `FAILED NAME: ` with what is otherwise; the status is 1 where a row failed.
 #![tactic(auto)]
 
-mod answer;
 mod answers;
 mod calls;
 mod closed;
 mod files;
 mod instance;
-mod judge;
 mod row;
 mod run;
 mod same;
-mod schedules;
-mod slots;
 mod starts;
 mod starts_answers;
 mod starts_run;
@@ -25,10 +21,8 @@ mod verdict;
 use anyhow::Result;
 use calls::CALLS;
 use closed::CLOSED;
-use judge::verdict_on_schedule;
-use row::{CallRow, ScheduleRow, StartsRow};
+use row::{CallRow, StartsRow};
 use run::verdict_on_calls;
-use schedules::SCHEDULES;
 use starts::STARTS;
 use starts_run::verdict_on_starts;
 use std::process::ExitCode;
@@ -38,16 +32,6 @@ use verdict::{Verdict, is_held, line};
 fn show<R: Print + AllocGlobal>(rt: &R, name: &str, verdict: &Verdict) -> Result<bool> {
     rt.println(line(rt.alloc(), name, verdict)?)?;
     Ok(is_held(verdict))
-}
-
-// Prints a line for each schedule; whether all held.
-fn judge_schedules<R: Print + AllocGlobal>(rt: &R, rows: &[ScheduleRow]) -> Result<bool> {
-    let mut all_held = !rows.is_empty();
-    for row in rows {
-        let verdict = verdict_on_schedule(rt.alloc(), row)?;
-        all_held = show(rt, row.name, &verdict)? && all_held;
-    }
-    Ok(all_held)
 }
 
 // Prints a line for each row of calls; whether all held.
@@ -71,11 +55,10 @@ fn run_starts<R: Print + AllocGlobal>(rt: &R, rows: &[StartsRow]) -> Result<bool
 }
 
 fn main(rt: HostRuntime) -> Result<ExitCode> {
-    let schedules_hold = judge_schedules(&rt, SCHEDULES)?;
     let calls_hold = run_calls(&rt, CALLS)?;
     let starts_hold = run_starts(&rt, STARTS)?;
     let closed_hold = run_starts(&rt, CLOSED)?;
-    if schedules_hold && calls_hold && starts_hold && closed_hold {
+    if calls_hold && starts_hold && closed_hold {
         Ok(ExitCode::SUCCESS)
     } else {
         Ok(ExitCode::FAILURE)

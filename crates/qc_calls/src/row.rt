@@ -1,22 +1,7 @@
 use qc_bounds::LeafKind;
-use qc_model::{Decision, Slot};
+use qc_model::Decision;
 use qc_num::{Bay, Bound, Tick};
 use qc_starts::Step;
-
-/// A schedule and what the judge must answer.
-#[derive(Clone, Copy, Debug)]
-pub struct ScheduleRow {
-    /// What the row shows.
-    pub name: &'static str,
-    /// The ship file.
-    pub ship: &'static str,
-    /// The stowage list.
-    pub list: &'static str,
-    /// A slot for each task, in the order of the tasks.
-    pub slots: &'static [Slot],
-    /// The answer as it is printed: `Up`, `Down`, or the rule and the task or tasks that break it.
-    pub answer: &'static str,
-}
 
 /// Calls on an instance and on decisions for it, one after the other.
 #[derive(Clone, Copy, Debug)]

@@ -1,5 +1,5 @@
 -- What stopped is due where no call failed.
-use Rattle.std.proofs.Common.{◌≡◌, ℕ, List, Option, None, Some, Result, Ok, Err, refl, sym, ap, inl, inr, ◌∙◌}
+use Rattle.std.proofs.Common.{◌≡◌, ℕ, List, Option, None, Some, Result, Err, refl, sym, ap, inl, inr, ◌∙◌}
 use Rattle.std.specs.Prelude.{IfSome, IsSomeAnd, option_and_then}
 use Rattle.std.specs.FinMap.{get}
 use Rattle.qc_io.specs.Outside.{Files, Stand, Rose, ReadCause}

@@ -1,11 +1,10 @@
 -- What a check of a plan comes to, and what is told of it.
-use Rattle.std.proofs.Common.{◌≡◌, ◌<◌, ◌≤◌, ◌⊎◌, ℕ, Bool, List, Option, None, Some, Result, Ok, Err, arith, refl, sym, ap, subst, inl, inr, ◌∙◌}
-use Rattle.std.specs.Prelude.{IfErr, IfSome, codes, nat_le, ok_or, true, false, if◌then◌else◌}
+use Rattle.std.proofs.Common.{◌≡◌, ◌≤◌, ◌⊎◌, ℕ, Bool, List, Option, None, Some, Result, Ok, Err, arith, refl, sym, ap, subst, inl, inr, ◌∙◌}
+use Rattle.std.specs.Prelude.{IfErr, IfSome, codes, nat_le, ok_or, if◌then◌else◌}
 use Rattle.std.specs.Io.KnownBytes.{append_known}
 use Rattle.std.proofs.lemmas.Bool.{leb-false, leb-true}
 use Rattle.qc_num.specs.declared.bound.Bound.{Bound}
-use Rattle.qc_num.specs.declared.bound.Bound.TheVariants.{Least, Never}
-use Rattle.qc_num.specs.Bounds.{IsAtMost}
+use Rattle.qc_num.specs.declared.bound.Bound.TheVariants.{Least}
 use Rattle.qc_num.specs.Reading.{◌>>=◌, with_fault}
 use Rattle.qc_num.proofs.ReadingLemmas.{bind_ok, same_ok}
 use Rattle.qc_io.specs.Outside.{Files, Stand, Rose}
@@ -24,16 +23,15 @@ use Rattle.qc_top.specs.declared.answer.Stop.TheVariants as stop
 use Rattle.qc_top.specs.declared.answer.Answer.{Answer}
 use Rattle.qc_top.specs.declared.answer.Answer.TheVariants as answer
 use Rattle.qc_top.specs.declared.reading.Job.{Job}
-use Rattle.qc_top.specs.declared.status.Status.{Status}
 use Rattle.qc_top.specs.declared.status.Status.TheVariants as status
 use Rattle.qc_top.specs.Asked.{Asked, plan, check, check_plan, tasks, unbuilt, usage, IsCheckPlan}
-use Rattle.qc_top.specs.Due.{Reads, Work, print, search, judge, reads_in, instance_due, schedule_due, job_due, judge_due, tree_due, due}
+use Rattle.qc_top.specs.Due.{Reads, Work, judge, reads_in, instance_due, schedule_due, job_due, judge_due, tree_due, due}
 use Rattle.qc_top.specs.Answers.{bad_plan_text, compared_status, compared_text, compared_word, refusal_status, report_text, status_of}
 use Rattle.qc_top.specs.Account.{ComesTo, Stops, IsBroken, IsCompared, IsJudging, IsStoppedAtTree, Printed}
 use Rattle.qc_top.specs.declared.answer.Compared.{Compared}
 use Rattle.qc_gantt.specs.declared.fault.PlanFault.{PlanFault}
 use Rattle.qc_top.specs.Shown.{IsBoundShown, IsNoTree, IsNoneShown, IsTreeShown, TellsTree}
-use Rattle.qc_top.specs.Promises.{EndsHeld, EndsJudged, IsBadPlanTold, IsBest, IsBestTold, IsBrokenTold, IsComparedTold, IsWeakerTold, held_status}
+use Rattle.qc_top.specs.Promises.{EndsJudged, IsBadPlanTold, IsBestTold, IsBrokenTold, IsComparedTold, IsWeakerTold}
 use Rattle.qc_top.proofs.DueLemmas.{comes_due, stop_is}
 use Rattle.qc_top.proofs.StatusLemmas.{compared_ends, in_time, not_other, too_late}
 

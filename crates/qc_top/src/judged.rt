@@ -40,7 +40,7 @@ pub(crate) fn put_broken<K: Sink>(told: &Broken, out: &mut K) -> Result<(), Writ
 pub(crate) fn compared_status(told: Compared) -> Status
     ensures { result ≡ compared_status told }
 {
-    if told.end <= told.bound {
+    if told.bound >= told.end {
         Status::Optimal
     } else {
         Status::Weaker

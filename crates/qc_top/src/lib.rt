@@ -3,8 +3,8 @@
 
 mod answer;
 mod check;
-mod faults;
 mod compare;
+mod faults;
 mod found;
 mod judged;
 mod plan;

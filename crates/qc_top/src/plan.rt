@@ -11,7 +11,6 @@ ghost use Rattle.qc_top.specs.Account.{ComesTo, IsStored, IsTreeCut, written, pl
 
 use crate::answer::{Answer, Stop};
 use crate::found::answer_of;
-
 use crate::reading::read_instance;
 use crate::words::Request;
 use qc_gantt::write_plan;

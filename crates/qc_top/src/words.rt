@@ -66,7 +66,9 @@ impl<'a> Request<'a> {
                 | Request::Tasks { stow, .. },
             ) => Some(stow),
             (Input::Plan, Request::CheckPlan { plan, .. }) => Some(plan),
-            (Input::Tree, Request::Check { tree, .. } | Request::CheckPlan { tree, .. }) => Some(tree),
+            (Input::Tree, Request::Check { tree, .. } | Request::CheckPlan { tree, .. }) => Some(
+                tree,
+            ),
             _ => None,
         }
     }
