@@ -15,9 +15,13 @@ use std::marker::Model;
 /// A task as it is done: by which crane, where and when.
 #[derive(Clone, Copy)]
 pub struct Work {
+    /// The number of its crane.
     pub crane: u16,
+    /// Its crane bay.
     pub bay: Bay,
+    /// When it starts, in ticks.
     pub start: Tick,
+    /// When it ends, in ticks.
     pub end: Tick,
     ghost on_rail: { IsOnRail bay },
     ghost bounded: { end ≤ MOST_END },

@@ -42,13 +42,16 @@ pub fn seen_number(inst: &Instance, way: Direction, crane: u16) -> u16
     }
 }
 
-/// What the rules ask of a crane: from when on it is ready, where it stands until then, and from
-/// which bay to which it reaches.
+/// What the rules ask of a crane, as it is seen with a direction.
 #[derive(Clone, Copy)]
 pub struct Post {
+    /// From when on it is ready, in ticks.
     pub ready: Tick,
+    /// Where it stands until then.
     pub bay: Bay,
+    /// The lowest bay of its reach.
     pub from: Bay,
+    /// The highest bay of its reach.
     pub to: Bay,
 }
 

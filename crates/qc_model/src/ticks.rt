@@ -37,7 +37,7 @@ pub fn travel_over(inst: &Instance, bays: Tick) -> Tick
 }
 
 /// A bay as a place: times the ticks of travel per bay.
-pub fn place_of(inst: &Instance, bay: Bay) -> i64
+pub(crate) fn place_of(inst: &Instance, bay: Bay) -> i64
     requires { IsNearRail bay }
     ensures place { result ≡ scaled inst.now 1 bay }
     ensures near { IsPlaceNear result }

@@ -17,7 +17,8 @@ module _ (P : ℕ → Type 0) (f : ℕ → ℕ) where
     found = wider h.found;
   }
     where
-      wider : (e ≡ low) ⊎ ((i : ℕ) × (i < n) × P i × (f i ≡ e)) → (e ≡ low) ⊎ ((i : ℕ) × (i < n + 1) × P i × (f i ≡ e))
+      wider : (e ≡ low) ⊎ ((i : ℕ) × (i < n) × P i × (f i ≡ e))
+          → (e ≡ low) ⊎ ((i : ℕ) × (i < n + 1) × P i × (f i ≡ e))
       wider (inl s) = inl s
       wider (inr t) = inr (t.0, omega arith, t.2, t.3)
 
@@ -34,7 +35,8 @@ module _ (P : ℕ → Type 0) (f : ℕ → ℕ) where
     ];
   }
     where
-      wider : (e ≡ low) ⊎ ((i : ℕ) × (i < n) × P i × (f i ≡ e)) → e ≡ r → (r ≡ low) ⊎ ((i : ℕ) × (i < n + 1) × P i × (f i ≡ r))
+      wider : (e ≡ low) ⊎ ((i : ℕ) × (i < n) × P i × (f i ≡ e)) → e ≡ r
+          → (r ≡ low) ⊎ ((i : ℕ) × (i < n + 1) × P i × (f i ≡ r))
       wider (inl s) q = inl (omega arith)
       wider (inr t) q = inr (t.0, omega arith, t.2, t.3 ∙ q)
 
@@ -51,7 +53,8 @@ module _ (P : ℕ → Type 0) (f : ℕ → ℕ) where
     found = wider h.found;
   }
     where
-      wider : (e ≡ high) ⊎ ((i : ℕ) × (i < n) × P i × (f i ≡ e)) → (e ≡ high) ⊎ ((i : ℕ) × (i < n + 1) × P i × (f i ≡ e))
+      wider : (e ≡ high) ⊎ ((i : ℕ) × (i < n) × P i × (f i ≡ e))
+          → (e ≡ high) ⊎ ((i : ℕ) × (i < n + 1) × P i × (f i ≡ e))
       wider (inl s) = inl s
       wider (inr t) = inr (t.0, omega arith, t.2, t.3)
 
@@ -68,6 +71,7 @@ module _ (P : ℕ → Type 0) (f : ℕ → ℕ) where
     ];
   }
     where
-      wider : (e ≡ high) ⊎ ((i : ℕ) × (i < n) × P i × (f i ≡ e)) → e ≡ r → (r ≡ high) ⊎ ((i : ℕ) × (i < n + 1) × P i × (f i ≡ r))
+      wider : (e ≡ high) ⊎ ((i : ℕ) × (i < n) × P i × (f i ≡ e)) → e ≡ r
+          → (r ≡ high) ⊎ ((i : ℕ) × (i < n + 1) × P i × (f i ≡ r))
       wider (inl s) q = inl (omega arith)
       wider (inr t) q = inr (t.0, omega arith, t.2, t.3 ∙ q)

@@ -10,7 +10,8 @@ use Rattle.qc_motion.proofs.Rises.{no_faster_down}
 use Rattle.qc_motion.proofs.Terms.{Given, at_of, berth_at, berth_le, floor_le, given_of, task_at, task_le}
 use Rattle.qc_motion.proofs.Terms.Given.{by_berth, by_floor, by_task}
 
-module _ (it : Swept) (s : IsSound it) (m : ℕ) (p q : ℤ) (a : IsAt it m p) (b : IsAt it (m + 1) q) (down : q <ℤ p) where
+module _ (it : Swept) (s : IsSound it) (m : ℕ) (p q : ℤ) (a : IsAt it m p) (b : IsAt it (m + 1) q)
+    (down : q <ℤ p) where
   -- the berth that has the crane at p, and no longer stands
   record Leaves : Type 0 where
     berth : ℕ
@@ -38,14 +39,17 @@ module _ (it : Swept) (s : IsSound it) (m : ℕ) (p q : ℤ) (a : IsAt it m p) (
       let h = berth_le it s (m + 1) q b v below.0 in
       (omega (arith, ints, g, below.1), omega (arith, ints, g, h, below.1, by_one))
 
-  module _ (e : ℕ) (first : IsFirst (IsBelow it m p) (stopping it m p) (it.crane + 1) (descent m p (floor_place it)) e) where
+  module _ (e : ℕ) (first : IsFirst (IsBelow it m p) (stopping it m p) (it.crane + 1)
+      (descent m p (floor_place it)) e) where
     floor_far : floor_place it <ℤ p
     floor_far = let h = floor_le it s (m + 1) q b in omega (arith, ints, h, down)
 
     falls_on : m < e
     falls_on = go first.found
       where
-        go : (e ≡ descent m p (floor_place it)) ⊎ ((v : ℕ) × (v < it.crane + 1) × IsBelow it m p v × (stopping it m p v ≡ e)) → m < e
+        go : (e ≡ descent m p (floor_place it)) ⊎
+            ((v : ℕ) × (v < it.crane + 1) × IsBelow it m p v × (stopping it m p v ≡ e))
+            → m < e
         go (inl g) = let h = floor_far in omega (arith, bays)
         go (inr t) = let h = (stands t.0 t.2).1 in omega (arith, bays, t.3, h)
 
@@ -91,7 +95,9 @@ module _ (it : Swept) (s : IsSound it) (m : ℕ) (p q : ℤ) (a : IsAt it m p) (
     fall_stops : ¬ IsAt it (e + 1) (p -ℤ pos (e + 1 - m))
     fall_stops c = go first.found
       where
-        go : (e ≡ descent m p (floor_place it)) ⊎ ((v : ℕ) × (v < it.crane + 1) × IsBelow it m p v × (stopping it m p v ≡ e)) → ⊥
+        go : (e ≡ descent m p (floor_place it)) ⊎
+            ((v : ℕ) × (v < it.crane + 1) × IsBelow it m p v × (stopping it m p v ≡ e))
+            → ⊥
         go (inl g) = let h = floor_le it s (e + 1) _ c in let f = floor_far in absurd (omega (arith, bays, g, h, f))
         go (inr t) =
             let h = berth_le it s (e + 1) _ c t.0 t.2.0 in

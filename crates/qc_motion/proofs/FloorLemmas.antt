@@ -39,7 +39,8 @@ module _ (inst : InstanceView) (sched : List Slot) (k n : ℕ) where
     tasks = λ j lj hj. elim (cases_lt j n) [
       | inl l ↦ omega (arith, ints, h.tasks j l hj)
       | inr l ↦ let same : n ≡ j = omega arith in
-          subst (λ (i : ℕ). to_z w32 (of_z w32 r) ≤ℤ bay_behind inst (crane_of sched i) (bay_of inst i) k) same (omega (arith, ints))
+          subst (λ (i : ℕ). to_z w32 (of_z w32 r) ≤ℤ bay_behind inst (crane_of sched i) (bay_of inst i) k) same
+          (omega (arith, ints))
     ];
     near = of_min IsNearRail w32 x y y r f m (λ _. y) h.near near;
   }

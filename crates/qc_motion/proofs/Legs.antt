@@ -20,7 +20,8 @@ pub record Sees (inst : InstanceView) (sched : List Slot) (way : Direction) (k :
   pub crane_is : it.crane ≡ seen_number inst way k
 
 -- a place seen twice is the place
-pub seen_twice : (inst : InstanceView) (way : Direction) (p : ℤ) → seen_place inst way 1 (seen_place inst way 1 p) ≡ p
+pub seen_twice : (inst : InstanceView) (way : Direction) (p : ℤ) → seen_place inst way 1
+    (seen_place inst way 1 p) ≡ p
 seen_twice inst Up p = refl
 seen_twice inst Down p = twice (scaled inst 1 (pos (inst.bays + 1))) p
   where
@@ -66,7 +67,8 @@ module _ (inst : InstanceView) (sched : List Slot) (way : Direction) (k : ℕ) w
   module _ (it : Swept) (s : Sees inst sched way k it) where
     pub place_of_at : (m : ℕ) (p : ℤ) → IsAt it m p → IsPlace inst sched way k m 1 (seen_place inst way 1 p)
     place_of_at m p a =
-        subst (λ (i : InstanceView). IsGreatest (LowPlace i (seen_schedule inst sched way) (seen_number inst way k) m 1) back) s.inst_is
+        subst (λ (i : InstanceView). IsGreatest
+        (LowPlace i (seen_schedule inst sched way) (seen_number inst way k) m 1) back) s.inst_is
         (subst (λ (t : List Slot). IsGreatest (LowPlace it.inst t (seen_number inst way k) m 1) back) s.sched_is
         (subst (λ (n : ℕ). IsGreatest (LowPlace it.inst it.sched n m 1) back) s.crane_is
         (subst (λ (y : ℤ). IsAt it m y) (sym (seen_twice inst way p)) a)))
@@ -77,8 +79,10 @@ module _ (inst : InstanceView) (sched : List Slot) (way : Direction) (k : ℕ) w
     pub at_of_place : (m : ℕ) (p : ℤ) → IsPlace inst sched way k m 1 p → IsAt it m (seen_place inst way 1 p)
     at_of_place m p a =
         subst (λ (n : ℕ). IsGreatest (LowPlace it.inst it.sched n m 1) there) (sym s.crane_is)
-        (subst (λ (t : List Slot). IsGreatest (LowPlace it.inst t (seen_number inst way k) m 1) there) (sym s.sched_is)
-        (subst (λ (i : InstanceView). IsGreatest (LowPlace i (seen_schedule inst sched way) (seen_number inst way k) m 1) there) (sym s.inst_is) a))
+        (subst (λ (t : List Slot). IsGreatest (LowPlace it.inst t (seen_number inst way k) m 1) there)
+        (sym s.sched_is)
+        (subst (λ (i : InstanceView). IsGreatest
+        (LowPlace i (seen_schedule inst sched way) (seen_number inst way k) m 1) there) (sym s.inst_is) a))
       where
         there : ℤ
         there = seen_place inst way 1 p

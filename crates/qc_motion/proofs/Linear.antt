@@ -80,9 +80,11 @@ parts_of d low high m some order from to = elim (cases_lt m (d * high)) [
   }
 ]
 
-module _ (inst : InstanceView) (sched : List Slot) (way : Direction) (k : ℕ) (valid : Valid inst) (goes : Goes inst sched way)
+module _ (inst : InstanceView) (sched : List Slot) (way : Direction) (k : ℕ) (valid : Valid inst)
+    (goes : Goes inst sched way)
     (low : k < length inst.cranes) (points : List Waypoint) (h : IsWhole inst sched way k points) where
-  leg_line : (u v : Waypoint) → IsLeg inst sched way k u v → (m d : ℕ) (p : ℤ) → 1 ≤ d → IsPlace inst sched way k m d p
+  leg_line : (u v : Waypoint) → IsLeg inst sched way k u v → (m d : ℕ) (p : ℤ) → 1 ≤ d
+      → IsPlace inst sched way k m d p
       → d * u.at ≤ m → m ≤ d * v.at → IsOnLine u v m d p
   leg_line u v leg m d p some place from to =
       let t = parts_of d u.at v.at m some leg.rising from to in
@@ -90,24 +92,39 @@ module _ (inst : InstanceView) (sched : List Slot) (way : Direction) (k : ℕ) (
       let r = t.parts in
       let tick_is : u.at + x ≡ t.tick = omega (arith, t.after) in
       let next_is : u.at + (x + 1) ≡ t.tick + 1 = omega (arith, t.after) in
-      let here = subst (λ (n : ℕ). IsPlace inst sched way k n 1 (moved leg.way_on u.place x)) tick_is (leg.along x (omega (arith, t.after, t.before))) in
-      let next = subst (λ (n : ℕ). IsPlace inst sched way k n 1 (moved leg.way_on u.place (x + 1))) next_is (leg.along (x + 1) (omega (arith, t.after, t.before))) in
+      let here =
+      subst (λ (n : ℕ). IsPlace inst sched way k n 1 (moved leg.way_on u.place x)) tick_is
+      (leg.along x (omega (arith, t.after, t.before))) in
+      let next =
+      subst (λ (n : ℕ). IsPlace inst sched way k n 1 (moved leg.way_on u.place (x + 1))) next_is
+      (leg.along (x + 1) (omega (arith, t.after, t.before))) in
       let there = linear_within inst sched way valid goes k t.tick d r _ _ low t.few here next in
       let y : ℕ = m - d * u.at in
       let y_is : y ≡ d * x + r = omega (arith, t.is, ap (λ n. d * n) tick_is) in
-      let z = (pos d *ℤ moved leg.way_on u.place x) +ℤ (pos r *ℤ (moved leg.way_on u.place (x + 1) -ℤ moved leg.way_on u.place x)) in
-      let same = place_once inst sched way k m d p z place (subst (λ (n : ℕ). IsPlace inst sched way k n d z) (sym t.is) there) in
-      on_line leg.way_on (v.at - u.at) y (pos d *ℤ u.place) u.place v.place p leg.ends_at (same ∙ part_way leg.way_on d r x y u.place y_is)
+      let z =
+      (pos d *ℤ moved leg.way_on u.place x) +ℤ
+      (pos r *ℤ (moved leg.way_on u.place (x + 1) -ℤ moved leg.way_on u.place x)) in
+      let same =
+      place_once inst sched way k m d p z place
+      (subst (λ (n : ℕ). IsPlace inst sched way k n d z) (sym t.is) there) in
+      on_line leg.way_on (v.at - u.at) y (pos d *ℤ u.place) u.place v.place p leg.ends_at
+      (same ∙ part_way leg.way_on d r x y u.place y_is)
 
   -- a crane of a schedule that ends at once stands still
-  stands : length points ≡ 1 → (m d : ℕ) (p : ℤ) → IsPlace inst sched way k m d p → m ≡ 0 → p ≡ (pos d *ℤ (waypoint points 0).place)
+  stands : length points ≡ 1 → (m d : ℕ) (p : ℤ) → IsPlace inst sched way k m d p → m ≡ 0
+      → p ≡ (pos d *ℤ (waypoint points 0).place)
   stands only m d p place none =
-      let start = subst (λ (n : ℕ). IsPlace inst sched way k n 1 (waypoint points 0).place) h.first (place_at inst sched way k points h 0 h.some) in
+      let start =
+      subst (λ (n : ℕ). IsPlace inst sched way k n 1 (waypoint points 0).place) h.first
+      (place_at inst sched way k points h 0 h.some) in
       let next = place_exists inst sched way k 1 1 low in
-      let there = linear_within inst sched way valid goes k 0 d 0 (waypoint points 0).place next.0 low (omega arith) start next.1 in
+      let there =
+      linear_within inst sched way valid goes k 0 d 0 (waypoint points 0).place next.0 low
+      (omega arith) start next.1 in
       let z = (pos d *ℤ (waypoint points 0).place) +ℤ (pos 0 *ℤ (next.0 -ℤ (waypoint points 0).place)) in
       let tick : d * 0 + 0 ≡ m = omega arith in
-      let same = place_once inst sched way k m d p z place (subst (λ (n : ℕ). IsPlace inst sched way k n d z) tick there) in
+      let same =
+      place_once inst sched way k m d p z place (subst (λ (n : ℕ). IsPlace inst sched way k n d z) tick there) in
       omega (arith, ints, same)
 
   pub moves_between : MovesBetween inst sched way k points

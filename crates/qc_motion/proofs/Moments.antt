@@ -30,7 +30,8 @@ moment_of it s = (
     f : HasFloor it.inst it.sched 1 it.crane (floor_level it.inst 1 it.crane it.floor)
     f = has_floor it.inst it.sched 1 it.crane it.floor s.floor
 
-    tick : (t : ℕ) × HasMoment it.inst it.sched 1 (levels_of it.inst it.sched s.goes s.valid 1) it.crane it.floor f t
+    tick : (t : ℕ) × HasMoment it.inst it.sched 1
+        (levels_of it.inst it.sched s.goes s.valid 1) it.crane it.floor f t
     tick = floor_moment it.inst it.sched 1 (levels_of it.inst it.sched s.goes s.valid 1) it.crane it.floor f f.from
 
     lowest : floor_place it ≡ (floor_level it.inst 1 it.crane it.floor +ℤ lift it.inst 1 it.crane)

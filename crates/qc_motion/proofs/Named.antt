@@ -22,7 +22,8 @@ moved_none Less p = omega (arith, ints)
 moved_none Equal p = refl
 moved_none Greater p = omega (arith, ints)
 
-even : (o : Ordering) (p : ℤ) (x : ℕ) → (moved o p (x + 2) -ℤ moved o p (x + 1)) ≡ (moved o p (x + 1) -ℤ moved o p x)
+even : (o : Ordering) (p : ℤ) (x : ℕ) → (moved o p (x + 2) -ℤ moved o p (x + 1)) ≡
+    (moved o p (x + 1) -ℤ moved o p x)
 even Less p x = omega (arith, ints)
 even Equal p x = omega (arith, ints)
 even Greater p x = omega (arith, ints)
@@ -41,8 +42,10 @@ module _ (inst : InstanceView) (sched : List Slot) (way : Direction) (k : ℕ) (
     pub some : 0 < length points
     pub first : (waypoint points 0).at ≡ 0
     pub last : (waypoint points (length points - 1)).at ≡ ends inst sched
-    pub there : IsPlace inst sched way k (waypoint points (length points - 1)).at 1 (waypoint points (length points - 1)).place
-    pub legs : (i : ℕ) → i + 1 < length points → IsLeg inst sched way k (waypoint points i) (waypoint points (i + 1))
+    pub there : IsPlace inst sched way k (waypoint points (length points - 1)).at 1
+        (waypoint points (length points - 1)).place
+    pub legs : (i : ℕ) → i + 1 < length points → IsLeg inst sched way k (waypoint points i)
+        (waypoint points (i + 1))
     pub turns : (i : ℕ) → 0 < i → i < length points
         → IsTurn inst sched way k (waypoint points i).at ⊎ ((waypoint points i).at ≡ ends inst sched)
 
@@ -70,7 +73,12 @@ module _ (inst : InstanceView) (sched : List Slot) (way : Direction) (k : ℕ) (
         omega (arith, one, other, later i j low l)
 
     contains : (m i : ℕ) → i < length points → at i ≡ m → Contains (map (λ (w : Waypoint). w.at) points) m
-    contains m i l e = (i, omega (arith, length-map points (λ (w : Waypoint). w.at)), get_or-map (λ (w : Waypoint). w.at) points i no_waypoint m l ∙ e)
+    contains m i l e = (
+      i,
+      omega (arith, length-map points (λ (w : Waypoint). w.at)),
+      get_or-map
+          (λ (w : Waypoint). w.at) points i no_waypoint m l ∙ e,
+    )
 
     named : (m : ℕ) → Contains (map (λ (w : Waypoint). w.at) points) m → IsNamed inst sched way k m
     named m c =
@@ -83,13 +91,19 @@ module _ (inst : InstanceView) (sched : List Slot) (way : Direction) (k : ℕ) (
         ]
       where
         go : (i : ℕ) → i < length points → 0 < i → at i ≡ m
-            → IsTurn inst sched way k (waypoint points i).at ⊎ ((waypoint points i).at ≡ ends inst sched) → IsNamed inst sched way k m
+            → IsTurn inst sched way k (waypoint points i).at ⊎ ((waypoint points i).at ≡ ends inst sched)
+            → IsNamed inst sched way k m
         go i l low e (inr end) = inr (inl (sym e ∙ end))
         go i l low e (inl turn) = elim (cases_lt i (length points - 1)) [
           | inl before ↦
               let first = later 0 i low l in
               let last = later i (length points - 1) before (omega (arith, h.some)) in
-              inr (inr (omega (arith, first, e), omega (arith, last, e, h.last), subst (IsTurn inst sched way k) e turn))
+              inr (inr (
+                omega (arith, first, e),
+                omega (arith, last, e, h.last),
+                subst
+                    (IsTurn inst sched way k) e turn,
+              ))
           | inr after ↦
               let same : i ≡ length points - 1 = omega arith in
               inr (inl (sym e ∙ ap at same ∙ h.last))
@@ -101,9 +115,18 @@ module _ (inst : InstanceView) (sched : List Slot) (way : Direction) (k : ℕ) (
         let g = h.legs i l in
         let u = waypoint points i in
         let x : ℕ = m - 1 - u.at in
-        let before = place_once inst sched way k (m - 1) 1 _ _ t.before_is (subst (λ (n : ℕ). IsPlace inst sched way k n 1 (moved g.way_on u.place x)) (omega arith) (g.along x (omega arith))) in
-        let here = place_once inst sched way k m 1 _ _ t.there_is (subst (λ (n : ℕ). IsPlace inst sched way k n 1 (moved g.way_on u.place (x + 1))) (omega arith) (g.along (x + 1) (omega arith))) in
-        let after = place_once inst sched way k (m + 1) 1 _ _ t.after_is (subst (λ (n : ℕ). IsPlace inst sched way k n 1 (moved g.way_on u.place (x + 2))) (omega arith) (g.along (x + 2) (omega arith))) in
+        let before =
+        place_once inst sched way k (m - 1) 1 _ _ t.before_is
+        (subst (λ (n : ℕ). IsPlace inst sched way k n 1 (moved g.way_on u.place x)) (omega arith)
+        (g.along x (omega arith))) in
+        let here =
+        place_once inst sched way k m 1 _ _ t.there_is
+        (subst (λ (n : ℕ). IsPlace inst sched way k n 1 (moved g.way_on u.place (x + 1))) (omega arith)
+        (g.along (x + 1) (omega arith))) in
+        let after =
+        place_once inst sched way k (m + 1) 1 _ _ t.after_is
+        (subst (λ (n : ℕ). IsPlace inst sched way k n 1 (moved g.way_on u.place (x + 2))) (omega arith)
+        (g.along (x + 2) (omega arith))) in
         t.differs (omega (arith, ints, before, here, after, even g.way_on u.place x))
 
     found : (m : ℕ) → IsNamed inst sched way k m → Contains (map (λ (w : Waypoint). w.at) points) m
@@ -116,16 +139,19 @@ module _ (inst : InstanceView) (sched : List Slot) (way : Direction) (k : ℕ) (
           | inr l ↦ contains m b.0 (omega (arith, b.1)) (omega (arith, b.2))
         ]
 
-    pub place_at : (i : ℕ) → i < length points → IsPlace inst sched way k (waypoint points i).at 1 (waypoint points i).place
+    pub place_at : (i : ℕ) → i < length points
+        → IsPlace inst sched way k (waypoint points i).at 1 (waypoint points i).place
     place_at i l = elim (cases_lt (i + 1) (length points)) [
       | inl g ↦
           let leg = h.legs i g in
           let u = waypoint points i in
           subst (λ (p : ℤ). IsPlace inst sched way k u.at 1 p) (moved_none leg.way_on u.place)
-          (subst (λ (n : ℕ). IsPlace inst sched way k n 1 (moved leg.way_on u.place 0)) (omega arith) (leg.along 0 (omega (arith, leg.rising))))
+          (subst (λ (n : ℕ). IsPlace inst sched way k n 1 (moved leg.way_on u.place 0)) (omega arith)
+          (leg.along 0 (omega (arith, leg.rising))))
       | inr g ↦
           let same : length points - 1 ≡ i = omega arith in
-          subst (λ (n : ℕ). IsPlace inst sched way k (waypoint points n).at 1 (waypoint points n).place) same h.there
+          subst (λ (n : ℕ). IsPlace inst sched way k (waypoint points n).at 1
+          (waypoint points n).place) same h.there
     ]
 
     pub are_waypoints : AreWaypoints inst sched way k points

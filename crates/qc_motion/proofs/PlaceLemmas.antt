@@ -3,14 +3,15 @@ use Rattle.std.proofs.Common.{◌≡◌, ℕ, ◌+◌, ◌<◌, ◌≤◌, ℤ, 
 use Rattle.std.proofs.lemmas.Bool.{cases_lt}
 use Rattle.std.proofs.lemmas.Int.{ints}
 use Rattle.std.specs.Int.{int_max}
+use Rattle.qc_model.specs.Limits.{IsPlaceNear}
 use Rattle.qc_model.specs.Motion.{LowPlace, berth_place, scaled, task_place}
 use Rattle.qc_model.specs.Motion.LowPlace.{of_berth, of_floor, of_task}
 use Rattle.qc_model.specs.Rules.{crane_of}
-use Rattle.qc_motion.specs.Sweep.{IsAt, IsFelt, IsHighest, IsNear, IsSound, Swept, floor_place}
+use Rattle.qc_motion.specs.Sweep.{IsAt, IsFelt, IsHighest, IsSound, Swept, floor_place}
 use Rattle.qc_motion.proofs.Extrema.{least_unique, of_max}
 
 module _ (it : Swept) (m : ℕ) where
-  pub highest_of_floor : (x : ℤ) → IsSound it → x ≡ floor_place it → IsNear x → IsHighest it m 0 0 x
+  pub highest_of_floor : (x : ℤ) → IsSound it → x ≡ floor_place it → IsPlaceNear x → IsHighest it m 0 0 x
   highest_of_floor x s e near = record {
     is = subst (LowPlace it.inst it.sched it.crane m 1) (sym e) (of_floor it.floor s.floor);
     floor = omega (arith, ints);
@@ -19,7 +20,8 @@ module _ (it : Swept) (m : ℕ) where
     near = near;
   }
 
-  pub highest_kept : (n : ℕ) (x : ℤ) → IsHighest it m n 0 x → it.crane < crane_of it.sched n → IsHighest it m (n + 1) 0 x
+  pub highest_kept : (n : ℕ) (x : ℤ) → IsHighest it m n 0 x → it.crane < crane_of it.sched n
+      → IsHighest it m (n + 1) 0 x
   highest_kept n x h higher = record {
     is = h.is;
     floor = h.floor;
@@ -40,7 +42,8 @@ module _ (it : Swept) (m : ℕ) where
     tasks = λ i low here. elim (cases_lt i n) [
       | inl l ↦ omega (arith, ints, h.tasks i l here)
       | inr l ↦ let same : n ≡ i = omega arith in
-          subst (λ (j : ℕ). task_place it.inst it.sched j it.crane m 1 ≤ℤ to_z w64 (of_z w64 r)) same (omega (arith, ints))
+          subst (λ (j : ℕ). task_place it.inst it.sched j it.crane m 1 ≤ℤ to_z w64 (of_z w64 r)) same
+          (omega (arith, ints))
     ];
     berths = λ w low. absurd (omega arith);
     near = (omega (arith, ints, h.near.0), of_max (λ z. z ≤ℤ pos 400000000) w64 x y y r f is refl h.near.1 near);
@@ -62,7 +65,9 @@ module _ (it : Swept) (m : ℕ) where
   }
 
   -- the highest of all is the place
-  pub at_of_highest : (n v : ℕ) (x : ℤ) → IsHighest it m n v x → IsSound it → length it.inst.tasks ≤ n → it.crane < v → IsAt it m x
+  pub at_of_highest : (n v : ℕ) (x : ℤ) → IsHighest it m n v x → IsSound it → length it.inst.tasks ≤ n
+      → it.crane < v
+      → IsAt it m x
   at_of_highest n v x h s tasks berths = record { is = h.is; most = below }
     where
       below : (y : ℤ) → LowPlace it.inst it.sched it.crane m 1 y → y ≤ℤ x

@@ -10,10 +10,12 @@ use Rattle.qc_motion.proofs.Moments.{moment_of}
 use Rattle.qc_motion.proofs.Terms.{Given, at_of, berth_le, floor_le, given_of, task_le}
 use Rattle.qc_motion.proofs.Terms.Given.{by_berth, by_floor, by_task}
 
-module _ (it : Swept) (s : IsSound it) (m : ℕ) (p : ℤ) (a : IsAt it m p) (b : IsAt it (m + 1) p) (end f : ℕ) (early : m < end)
+module _ (it : Swept) (s : IsSound it) (m : ℕ) (p : ℤ) (a : IsAt it m p) (b : IsAt it (m + 1) p) (end f : ℕ)
+    (early : m < end)
     (first : IsFirst (IsHigher it p) (passing it p) (length it.inst.tasks) end f) where
   -- a task that comes to raise the crane has it at p no sooner than at the next tick
-  passes : (i : ℕ) → IsHigher it p i → (m + 1 ≤ passing it p i) × ((pos (passing it p i) +ℤ task_hold it i) ≡ (p +ℤ pos (start_of it.sched i)))
+  passes : (i : ℕ) → IsHigher it p i
+      → (m + 1 ≤ passing it p i) × ((pos (passing it p i) +ℤ task_hold it i) ≡ (p +ℤ pos (start_of it.sched i)))
   passes i higher =
       let h = task_le it s (m + 1) p b i higher.0 in
       (omega (arith, bays, h, higher.1), omega (arith, bays, h, higher.1))
@@ -80,7 +82,8 @@ module _ (it : Swept) (s : IsSound it) (m : ℕ) (p : ℤ) (a : IsAt it m p) (b 
       go t low (inr h) = by_task h.0 h.1.0 (omega (arith, ints, h.1.1, h.1.2))
 
   -- where only berths hold it
-  module _ (free : ¬ IsHeld it m p) (l : ℕ) (last : IsLast (IsBerthAt it p) (ready_of it) (it.crane + 1) (m + 1) l) where
+  module _ (free : ¬ IsHeld it m p) (l : ℕ)
+      (last : IsLast (IsBerthAt it p) (ready_of it) (it.crane + 1) (m + 1) l) where
     above_floor : floor_place it <ℤ p
     above_floor = by_lt_z (floor_place it) p (λ h. h) (λ h.
         let g = floor_le it s m p a in
@@ -134,7 +137,8 @@ module _ (it : Swept) (s : IsSound it) (m : ℕ) (p : ℤ) (a : IsAt it m p) (b 
               | inl before ↦
                   let t = tick.1.tasks (l + 1) i (omega arith) felt in absurd (omega (arith, ints, g, t, h))
               | inr after ↦
-                  let t = tick.1.berths l w.berth after w.order in absurd (omega (arith, ints, t, w.holds, w.until, h))
+                  let t =
+                  tick.1.berths l w.berth after w.order in absurd (omega (arith, ints, t, w.holds, w.until, h))
             ]
         go (by_berth v order g) = elim (cases_lt l (ready_of it v)) [
           | inl stands ↦
@@ -158,6 +162,7 @@ module _ (it : Swept) (s : IsSound it) (m : ℕ) (p : ℤ) (a : IsAt it m p) (b 
         given : (t : ℕ) → m + 2 ≤ t → t ≤ n → Given it t p
         given t low high = go last.found
           where
-            go : (l ≡ m + 1) ⊎ ((u : ℕ) × (u < it.crane + 1) × IsBerthAt it p u × (ready_of it u ≡ l)) → Given it t p
+            go : (l ≡ m + 1) ⊎ ((u : ℕ) × (u < it.crane + 1) × IsBerthAt it p u × (ready_of it u ≡ l))
+                → Given it t p
             go (inl g) = absurd (omega arith)
             go (inr u) = by_berth u.0 u.2.0 (omega (arith, ints, u.2.1, u.3))

@@ -50,7 +50,9 @@ module _ (it : Swept) (s : IsSound it) (m : ℕ) (p : ℤ) (a : IsAt it m p) whe
         go (by_berth v order g) = absurd (omega (arith, ints, g, berth_le it s m p a v order, up))
         go (by_floor g) = absurd (omega (arith, ints, g, floor_le it s m p a, up))
 
-        found : m < e → (e ≡ m) ⊎ ((i : ℕ) × (i < length it.inst.tasks) × IsOnRise it m p i × (start_of it.sched i ≡ e)) → Rises e
+        found : m < e
+            → (e ≡ m) ⊎ ((i : ℕ) × (i < length it.inst.tasks) × IsOnRise it m p i × (start_of it.sched i ≡ e))
+            → Rises e
         found l (inl g) = absurd (omega arith)
         found l (inr t) = record { task = t.0; felt = t.2.0; rise = t.2.1; starts = t.3; later = l }
 
@@ -80,7 +82,8 @@ module _ (it : Swept) (s : IsSound it) (m : ℕ) (p : ℤ) (a : IsAt it m p) whe
             ]
         go (by_berth v order g) =
             let h = berth_le it s e _ before v order in let l = r.later in absurd (omega (arith, ints, g, h, l))
-        go (by_floor g) = let h = floor_le it s e _ before in let l = r.later in absurd (omega (arith, ints, g, h, l))
+        go (by_floor g) = let h = floor_le it s e _ before in let l = r.later in absurd
+            (omega (arith, ints, g, h, l))
 
     pub rise_is : (q : ℤ) (end n : ℕ) → IsAt it (m + 1) q → p <ℤ q → m < end → n ≡ min e end → IsRun it m p end n
     rise_is q end n b up early is =
@@ -91,7 +94,8 @@ module _ (it : Swept) (s : IsSound it) (m : ℕ) (p : ℤ) (a : IsAt it m p) whe
           onward = omega arith;
           within = omega arith;
           along = λ x low. rise_along r x (omega arith);
-          stops = λ inside. subst (λ (t : ℕ). ¬ IsAt it (t + 1) (p +ℤ pos (t + 1 - m))) (omega arith) (rise_stops r);
+          stops = λ inside. subst (λ (t : ℕ). ¬ IsAt it (t + 1) (p +ℤ pos (t + 1 - m))) (omega arith)
+              (rise_stops r);
           risen = λ same inside. (r.task, r.felt.0, let t = r.starts in omega arith);
           fallen = λ same. absurd (cc);
         }

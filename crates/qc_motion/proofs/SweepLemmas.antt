@@ -13,7 +13,8 @@ use Rattle.qc_model.proofs.MirrorLemmas.{seen_valid}
 use Rattle.qc_model.proofs.SeenLemmas.{seen-crane_count}
 use Rattle.qc_motion.specs.Sweep.{IsSound}
 
-goes_up : (inst : InstanceView) (sched : List Slot) (way : Direction) → Goes inst sched way → GoesUp (seen inst way) (seen_schedule inst sched way)
+goes_up : (inst : InstanceView) (sched : List Slot) (way : Direction) → Goes inst sched way
+    → GoesUp (seen inst way) (seen_schedule inst sched way)
 goes_up inst sched Up g = g
 goes_up inst sched Down g = g.mirrored
 

@@ -41,7 +41,8 @@ seen_straight inst Down x y z e = omega (arith, ints)
 module _ (inst : InstanceView) (sched : List Slot) (way : Direction) (k end : ℕ) (it : Swept) where
   -- the tasks that start later than a tick, and the berths that still stand at it
   abbrev pub left : ℕ → ℕ
-  left m = 2 * later (λ (slot : Slot). slot.start) m it.sched + 2 * later (λ (c : Crane). c.ready + 1) m it.inst.cranes
+  left m = 2 * later (λ (slot : Slot). slot.start) m it.sched + 2 * later
+      (λ (c : Crane). c.ready + 1) m it.inst.cranes
 
   pub record IsTraced (points : List Waypoint) (m : ℕ) (p : ℤ) : Type 0 where
     pub some : 0 < length points
@@ -49,7 +50,8 @@ module _ (inst : InstanceView) (sched : List Slot) (way : Direction) (k end : �
     pub last : waypoint points (length points - 1) ≡ spot m (seen_place inst way 1 p)
     pub there : IsAt it m p
     pub low : m ≤ end
-    pub legs : (i : ℕ) → i + 1 < length points → IsLeg inst sched way k (waypoint points i) (waypoint points (i + 1))
+    pub legs : (i : ℕ) → i + 1 < length points → IsLeg inst sched way k (waypoint points i)
+        (waypoint points (i + 1))
     pub turns : (i : ℕ) → 0 < i → i < length points
         → IsTurn inst sched way k (waypoint points i).at ⊎ ((waypoint points i).at ≡ end)
     -- each turn was bought by a task that has started or a berth that was left
@@ -72,7 +74,14 @@ module _ (inst : InstanceView) (sched : List Slot) (way : Direction) (k end : �
     }
       where
         few : 1 + left 0 ≤ 2 * length it.inst.tasks + 17
-        few = omega (arith, later_le (λ (slot : Slot). slot.start) 0 it.sched, later_le (λ (c : Crane). c.ready + 1) 0 it.inst.cranes, s.goes.feasible.all_tasks, s.valid.cranes.count)
+        few = omega (
+          arith,
+          later_le (λ (slot : Slot). slot.start) 0 it.sched,
+          later_le
+              (λ (c : Crane). c.ready + 1) 0 it.inst.cranes,
+          s.goes.feasible.all_tasks,
+          s.valid.cranes.count,
+        )
 
     module _ (points : List Waypoint) (m : ℕ) (p : ℤ) (h : IsTraced points m p) (early : m < end)
         (n : ℕ) (r : IsRun it m p end n) (q : ℤ) (b : IsAt it n q) where
@@ -81,9 +90,11 @@ module _ (inst : InstanceView) (sched : List Slot) (way : Direction) (k end : �
       moved_to =
           let l = r.onward in
           let same : m + (n - m) ≡ n = omega arith in
-          greatest_unique _ q (moved r.way p (n - m)) b (subst (λ (t : ℕ). IsAt it t (moved r.way p (n - m))) same (r.along (n - m) (omega arith)))
+          greatest_unique _ q (moved r.way p (n - m)) b
+          (subst (λ (t : ℕ). IsAt it t (moved r.way p (n - m))) same (r.along (n - m) (omega arith)))
 
-      along : (x : ℕ) → m + x ≤ n → IsPlace inst sched way k (m + x) 1 (moved (seen_way way r.way) (seen_place inst way 1 p) x)
+      along : (x : ℕ) → m + x ≤ n
+          → IsPlace inst sched way k (m + x) 1 (moved (seen_way way r.way) (seen_place inst way 1 p) x)
       along x l =
           subst (λ (y : ℤ). IsPlace inst sched way k (m + x) 1 y) (seen_moved inst way r.way p x)
           (place_of_at inst sched way k it sees (m + x) (moved r.way p x) (r.along x l))
@@ -102,10 +113,13 @@ module _ (inst : InstanceView) (sched : List Slot) (way : Direction) (k end : �
         before = moved o there (n - 1 - m);
         there = moved o there (n - m);
         after = next.0;
-        before_is = subst (λ (t : ℕ). IsPlace inst sched way k t 1 (moved o there (n - 1 - m))) back (along (n - 1 - m) (omega (arith, r.onward)));
-        there_is = subst (λ (t : ℕ). IsPlace inst sched way k t 1 (moved o there (n - m))) here (along (n - m) (omega (arith, r.onward)));
+        before_is = subst (λ (t : ℕ). IsPlace inst sched way k t 1 (moved o there (n - 1 - m))) back
+            (along (n - 1 - m) (omega (arith, r.onward)));
+        there_is = subst (λ (t : ℕ). IsPlace inst sched way k t 1 (moved o there (n - m))) here
+            (along (n - m) (omega (arith, r.onward)));
         after_is = next.1;
-        differs = λ e. r.stops inside (subst (λ (y : ℤ). IsAt it (n + 1) y) (as_seen e) (at_of_place inst sched way k it sees (n + 1) next.0 next.1));
+        differs = λ e. r.stops inside (subst (λ (y : ℤ). IsAt it (n + 1) y) (as_seen e)
+            (at_of_place inst sched way k it sees (n + 1) next.0 next.1));
       }
         where
           o : Ordering
@@ -157,12 +171,16 @@ module _ (inst : InstanceView) (sched : List Slot) (way : Direction) (k end : �
               let f = no_faster_down it s (m - 1) x before p here in
               let even : ((p -ℤ pos 1) -ℤ p) ≡ (p -ℤ x) = omega (arith, ints, g, f, has, l) in
               let on = seen_straight inst way (p -ℤ pos 1) p x even in
-              let there_is = place_once inst sched way k m 1 _ _ t.there_is (place_of_at inst sched way k it sees m p h.there) in
-              let after_is = place_once inst sched way k (m + 1) 1 _ _ t.after_is (place_of_at inst sched way k it sees (m + 1) (p -ℤ pos 1) next) in
+              let there_is =
+              place_once inst sched way k m 1 _ _ t.there_is (place_of_at inst sched way k it sees m p h.there) in
+              let after_is =
+              place_once inst sched way k (m + 1) 1 _ _ t.after_is
+              (place_of_at inst sched way k it sees (m + 1) (p -ℤ pos 1) next) in
               let before_is = seen_twice inst way t.before in
               t.differs (omega (arith, ints, on, there_is, after_is, before_is))
 
-          turned : IsTurn inst sched way k (waypoint points (length points - 1)).at ⊎ ((waypoint points (length points - 1)).at ≡ end)
+          turned : IsTurn inst sched way k (waypoint points (length points - 1)).at ⊎
+              ((waypoint points (length points - 1)).at ≡ end)
               → ready_of it v ≡ m
           turned (inl t) = elim (cases_lt (ready_of it v) m) [
             | inl l ↦ absurd (sooner (subst (IsTurn inst sched way k) at_m t) l)
@@ -176,23 +194,31 @@ module _ (inst : InstanceView) (sched : List Slot) (way : Direction) (k end : �
           × (IsAt it (n + 1) q → length points + 1 + left n ≤ 2 * length it.inst.tasks + 17)
       spent Greater e inside =
           let t = r.risen e inside in
-          let task = later_less (λ (slot : Slot). slot.start) m n it.sched t.0 no_slot (omega (arith, r.onward)) (omega (arith, t.1, s.goes.feasible.all_tasks)) (omega (arith, t.2, r.onward)) (omega (arith, t.2)) in
+          let task =
+          later_less (λ (slot : Slot). slot.start) m n it.sched t.0 no_slot (omega (arith, r.onward))
+          (omega (arith, t.1, s.goes.feasible.all_tasks)) (omega (arith, t.2, r.onward)) (omega (arith, t.2)) in
           let berth = later_falls (λ (c : Crane). c.ready + 1) m n it.inst.cranes (omega (arith, r.onward)) in
           let room = h.room early in
           (omega (arith, task, berth, room), λ _. omega (arith, task, berth, room))
       spent Equal e inside =
           let task = later_falls (λ (slot : Slot). slot.start) m n it.sched (omega (arith, r.onward)) in
           let berth = later_falls (λ (c : Crane). c.ready + 1) m n it.inst.cranes (omega (arith, r.onward)) in
-          let still : IsAt it (m + 1) p = subst (λ (w : Ordering). IsAt it (m + 1) (moved w p 1)) e (r.along 1 (omega (arith, r.onward))) in
+          let still : IsAt it (m + 1) p =
+          subst (λ (w : Ordering). IsAt it (m + 1) (moved w p 1)) e (r.along 1 (omega (arith, r.onward))) in
           let rest = h.rest early still in
-          let same : q ≡ moved r.way p (n + 1 - m) = moved_to ∙ ap (λ (w : Ordering). moved w p (n - m)) e ∙ sym (ap (λ (w : Ordering). moved w p (n + 1 - m)) e) in
+          let same : q ≡ moved r.way p (n + 1 - m) =
+          moved_to ∙ ap (λ (w : Ordering). moved w p (n - m)) e ∙ sym
+          (ap (λ (w : Ordering). moved w p (n + 1 - m)) e) in
           (omega (arith, task, berth, rest), λ on. absurd (r.stops inside (subst (IsAt it (n + 1)) same on)))
       spent Less e inside =
           let f = r.fallen e in
-          let next : IsAt it (m + 1) (p -ℤ pos 1) = subst (λ (w : Ordering). IsAt it (m + 1) (moved w p 1)) e (r.along 1 (omega (arith, r.onward))) in
+          let next : IsAt it (m + 1) (p -ℤ pos 1) =
+          subst (λ (w : Ordering). IsAt it (m + 1) (moved w p 1)) e (r.along 1 (omega (arith, r.onward))) in
           let now = falls_now f.0 f.1 f.2 f.3 next in
           let task = later_falls (λ (slot : Slot). slot.start) m n it.sched (omega (arith, r.onward)) in
-          let berth = later_less (λ (c : Crane). c.ready + 1) m n it.inst.cranes f.0 no_crane (omega (arith, r.onward)) (omega (arith, f.1, s.range)) (omega (arith, now)) (omega (arith, now, r.onward)) in
+          let berth =
+          later_less (λ (c : Crane). c.ready + 1) m n it.inst.cranes f.0 no_crane (omega (arith, r.onward))
+          (omega (arith, f.1, s.range)) (omega (arith, now)) (omega (arith, now, r.onward)) in
           let room = h.room early in
           (omega (arith, task, berth, room), λ _. omega (arith, task, berth, room))
 
@@ -227,7 +253,8 @@ module _ (inst : InstanceView) (sched : List Slot) (way : Direction) (k end : �
           legs : (i : ℕ) → i + 1 < length more → IsLeg inst sched way k (waypoint more i) (waypoint more (i + 1))
           legs i l = elim (cases_lt (i + 1) (length points)) [
             | inl g ↦
-                subst (λ (u : Waypoint). IsLeg inst sched way k u (waypoint more (i + 1))) (sym (old i (omega arith)))
+                subst (λ (u : Waypoint). IsLeg inst sched way k u (waypoint more (i + 1)))
+                (sym (old i (omega arith)))
                 (subst (IsLeg inst sched way k (waypoint points i)) (sym (old (i + 1) g)) (h.legs i g))
             | inr g ↦
                 let place : i + 1 ≡ length points = omega (arith, longer) in
@@ -238,27 +265,34 @@ module _ (inst : InstanceView) (sched : List Slot) (way : Direction) (k end : �
                 (subst (IsLeg inst sched way k (spot m (seen_place inst way 1 p))) (sym to) leg)
           ]
 
-          turns : (i : ℕ) → 0 < i → i < length more → IsTurn inst sched way k (waypoint more i).at ⊎ ((waypoint more i).at ≡ end)
+          turns : (i : ℕ) → 0 < i → i < length more
+              → IsTurn inst sched way k (waypoint more i).at ⊎ ((waypoint more i).at ≡ end)
           turns i low_i l = elim (cases_lt i (length points)) [
-            | inl g ↦ subst (λ (u : Waypoint). IsTurn inst sched way k u.at ⊎ (u.at ≡ end)) (sym (old i g)) (h.turns i low_i g)
+            | inl g ↦ subst (λ (u : Waypoint). IsTurn inst sched way k u.at ⊎ (u.at ≡ end)) (sym (old i g))
+                (h.turns i low_i g)
             | inr g ↦
                 let place : i ≡ length points = omega (arith, longer) in
                 let to = ap (waypoint more) place ∙ new in
-                subst (λ (u : Waypoint). IsTurn inst sched way k u.at ⊎ (u.at ≡ end)) (sym to) (elim (cases_lt n end) [
+                subst (λ (u : Waypoint). IsTurn inst sched way k u.at ⊎ (u.at ≡ end)) (sym to)
+                (elim (cases_lt n end) [
                   | inl inside ↦ inl (turn inside)
                   | inr late ↦ inr (omega (arith, r.within))
                 ])
           ]
 
 -- traced to the end, they are whole
-pub traced_whole : (inst : InstanceView) (sched : List Slot) (way : Direction) (k end : ℕ) (it : Swept) (sees : Sees inst sched way k it)
-    → (points : List Waypoint) (m : ℕ) (p : ℤ) → IsTraced inst sched way k end it points m p → end ≤ m → end ≡ ends inst sched
+pub traced_whole : (inst : InstanceView) (sched : List Slot) (way : Direction) (k end : ℕ) (it : Swept)
+    (sees : Sees inst sched way k it)
+    → (points : List Waypoint) (m : ℕ) (p : ℤ) → IsTraced inst sched way k end it points m p → end ≤ m
+    → end ≡ ends inst sched
     → IsWhole inst sched way k points
 traced_whole inst sched way k end it sees points m p h late is = record {
   some = h.some;
   first = h.first;
   last = omega (arith, ap (λ (w : Waypoint). w.at) h.last, h.low);
-  there = subst (λ (w : Waypoint). IsPlace inst sched way k w.at 1 w.place) (sym h.last) (place_of_at inst sched way k it sees m p h.there);
+  there = subst (λ (w : Waypoint). IsPlace inst sched way k w.at 1 w.place) (sym h.last)
+      (place_of_at inst sched way k it sees m p h.there);
   legs = h.legs;
-  turns = λ i low l. subst (λ (e : ℕ). IsTurn inst sched way k (waypoint points i).at ⊎ ((waypoint points i).at ≡ e)) is (h.turns i low l);
+  turns = λ i low l. subst (λ (e : ℕ). IsTurn inst sched way k (waypoint points i).at ⊎
+      ((waypoint points i).at ≡ e)) is (h.turns i low l);
 }

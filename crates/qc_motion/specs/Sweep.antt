@@ -1,11 +1,12 @@
 -- How a sweep over the motion of one crane sees it: from the end of the ship from which the schedule goes up, at
 -- whole ticks.
-use Rattle.std.specs.Prelude.{◌≡◌, ℕ, ◌+◌, ◌-◌, ◌<◌, ◌≤◌, ℤ, pos, negsuc, ◌+ℤ◌, ◌-ℤ◌, ◌<ℤ◌, ◌≤ℤ◌, ◌⊎◌, List, length}
+use Rattle.std.specs.Prelude.{◌≡◌, ℕ, ◌+◌, ◌-◌, ◌<◌, ◌≤◌, ℤ, pos, ◌+ℤ◌, ◌-ℤ◌, ◌<ℤ◌, ◌≤ℤ◌, ◌⊎◌, List, length}
 use Rattle.std.specs.declared.cmp.Ordering.{Ordering}
 use Rattle.std.specs.declared.cmp.Ordering.TheVariants.{Less, Equal, Greater}
 use Rattle.qc_model.specs.declared.schedule.Slot.{Slot}
 use Rattle.qc_model.specs.Bays.{bays_up}
-use Rattle.qc_model.specs.Instance.{InstanceView, Valid, IsFrom, bay_of, crane}
+use Rattle.qc_model.specs.Instance.{InstanceView, Valid, bay_of, crane}
+use Rattle.qc_model.specs.Limits.{IsPlaceNear}
 use Rattle.qc_model.specs.Motion.{IsFloor, IsGreatest, LowPlace, bay_ahead, berth_place, scaled, task_place}
 use Rattle.qc_model.specs.OneWay.{GoesUp}
 use Rattle.qc_model.specs.Rules.{crane_of, start_of}
@@ -16,10 +17,6 @@ pub record Swept : Type 0 where
   pub sched : List Slot
   pub crane : ℕ
   pub floor : ℤ
-
--- no place of a crane lies farther off
-abbrev pub IsNear : ℤ → Type 0
-IsNear = IsFrom (negsuc 399999999) (pos 400000000)
 
 pub record IsSound (it : Swept) : Type 0 where
   pub valid : Valid it.inst
@@ -52,7 +49,7 @@ pub record IsHighest (it : Swept) (m n v : ℕ) (x : ℤ) : Type 0 where
   pub floor : floor_place it ≤ℤ x
   pub tasks : (i : ℕ) → i < n → IsFelt it i → task_place it.inst it.sched i it.crane m 1 ≤ℤ x
   pub berths : (w : ℕ) → w < v → berth_place it.inst w it.crane m 1 ≤ℤ x
-  pub near : IsNear x
+  pub near : IsPlaceNear x
 
 -- a place after so many ticks of motion one way
 abbrev pub moved : Ordering → ℤ → ℕ → ℤ

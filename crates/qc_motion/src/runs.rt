@@ -1,18 +1,20 @@
 ghost use Rattle.std.specs.Prelude.{◌≡◌, ◌+◌, ◌≤◌, ◌<◌, ◌↔◌, length, IsTrue};
 ghost use Rattle.qc_model.specs.declared.limits.TheConstants.{MOST_END};
 ghost use Rattle.qc_model.specs.Rules.{start_of};
-ghost use Rattle.qc_motion.specs.Sweep.{HoldsAt, IsAt, IsBelow, IsBerthAt, IsFirst, IsHeld, IsHigher, IsLast, IsNear, IsOnRise, IsRun, IsSound, descent, floor_place, passing, ready_of, stopping};
+ghost use Rattle.qc_model.specs.Limits.{IsPlaceNear};
+ghost use Rattle.qc_motion.specs.Sweep.{HoldsAt, IsAt, IsBelow, IsBerthAt, IsFirst, IsHeld, IsHigher, IsLast};
+ghost use Rattle.qc_motion.specs.Sweep.{IsOnRise, IsRun, IsSound, descent, floor_place, passing, ready_of, stopping};
 
 use crate::sweep::Sweep;
 use qc_num::Tick;
 use std::cmp::Ordering;
 
-// How long a crane goes on as it goes. No step of these is a tick.
+// How long a crane goes on as it goes: each loop is over tasks or berths, and none over ticks.
 impl Sweep<'_> {
     /// The last tick of a rise from a place: the last start of the tasks to which the crane comes just in time.
     fn rise_end(&self, at: Tick, place: i64) -> Tick
         requires at { at ≤ MOST_END }
-        requires near { IsNear place }
+        requires near { IsPlaceNear place }
         ensures { IsLast (IsOnRise self.now at place) (start_of self.now.sched)
             (length self.now.inst.tasks) at result }
     {
@@ -31,7 +33,7 @@ impl Sweep<'_> {
     /// The first tick at which a task comes to have the crane at a place and then higher; at most `end`.
     fn first_above(&self, at: Tick, place: i64, end: Tick) -> Tick
         requires at { at ≤ MOST_END }
-        requires near { IsNear place }
+        requires near { IsPlaceNear place }
         requires place { IsAt self.now at place }
         ensures { IsFirst (IsHigher self.now place) (passing self.now place)
             (length self.now.inst.tasks) end result }
@@ -95,7 +97,7 @@ impl Sweep<'_> {
     /// The last tick of a fall from a place: at the floor, or at a berth that still stands.
     fn fall_end(&self, at: Tick, place: i64) -> Tick
         requires at { at ≤ MOST_END }
-        requires near { IsNear place }
+        requires near { IsPlaceNear place }
         requires place { IsAt self.now at place }
         ensures { IsFirst (IsBelow self.now at place) (stopping self.now at place)
             (self.now.crane + 1) (descent at place (floor_place self.now)) result }
@@ -115,7 +117,7 @@ impl Sweep<'_> {
         requires sound { IsSound self.now }
         requires at { at < end }
         requires end { end ≤ MOST_END }
-        requires near { IsNear place }
+        requires near { IsPlaceNear place }
         requires place { IsAt self.now at place }
         requires next { IsAt self.now (at + 1) place }
         ensures { IsRun self.now at place end result }
@@ -133,7 +135,7 @@ impl Sweep<'_> {
         requires sound { IsSound self.now }
         requires at { at < end }
         requires end { end ≤ MOST_END }
-        requires near { IsNear place }
+        requires near { IsPlaceNear place }
         requires place { IsAt self.now at place }
         ensures { IsRun self.now at place end result }
     {

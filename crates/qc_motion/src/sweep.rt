@@ -1,12 +1,12 @@
 ghost use Rattle.std.specs.Prelude.{◌≡◌, ◌+◌, ◌-◌, ◌≤◌, ◌<◌, ◌≤ℤ◌, ℕ, length, MatchOption};
 ghost use Rattle.qc_model.specs.declared.limits.TheConstants.{MOST_END};
 ghost use Rattle.qc_model.specs.Instance.{IsOnRail, Valid, crane as crane_at};
+ghost use Rattle.qc_model.specs.Limits.{IsPlaceNear};
 ghost use Rattle.qc_model.specs.Motion.{bay_ahead, scaled};
 ghost use Rattle.qc_model.specs.Judge.{IsJudgeable, Goes};
 ghost use Rattle.qc_model.specs.Motion.{LowPlace, scaled, task_place};
 ghost use Rattle.qc_model.specs.Rules.{crane_of, start_of};
 ghost use Rattle.qc_model.specs.Seen.{seen, seen_schedule, seen_number};
-ghost use Rattle.qc_motion.specs.Sweep.{IsNear};
 
 use crate::floor::floor_of;
 use qc_model::{Direction, Instance, Judge, Schedule, seen_number};
@@ -18,7 +18,7 @@ use std::marker::Model;
 pub(crate) struct Hold {
     pub(crate) place: i64,
     pub(crate) at: Tick,
-    ghost near: { IsNear place },
+    ghost near: { IsPlaceNear place },
     ghost bounded: { at ≤ MOST_END },
 }
 
@@ -86,9 +86,10 @@ impl<'a> Sweep<'a> {
         requires order { number ≤ self.now.crane }
         requires on_rail { IsOnRail bay }
         ensures place { result ≡ scaled self.now.inst 1 (bay_ahead self.now.inst number bay self.now.crane) }
-        ensures near { IsNear result }
+        ensures near { IsPlaceNear result }
     {
-        self.judge.place_of(self.judge.bay_ahead(number, bay, self.crane))
+        self.judge
+            .place_of(self.judge.bay_ahead(number, bay, self.crane))
     }
 
     /// Where a task has the crane, and from its start on; `None` where it is a higher crane's.
@@ -142,7 +143,7 @@ impl<'a> Sweep<'a> {
     pub(crate) fn floor_place(&self) -> i64
         ensures place { result ≡ floor_place self.now }
         ensures sound { IsSound self.now }
-        ensures near { IsNear result }
+        ensures near { IsPlaceNear result }
     {
         self.judge.place_of(self.floor)
     }
@@ -165,7 +166,7 @@ impl<'a> Sweep<'a> {
     pub(crate) fn place(&self, at: Tick) -> i64
         requires { at ≤ MOST_END }
         ensures place { IsAt self.now at result }
-        ensures near { IsNear result }
+        ensures near { IsPlaceNear result }
     {
         let mut place = self.place_by_tasks(at);
         for number in 0..self.berths() {

@@ -1,7 +1,7 @@
 ghost use Rattle.std.specs.Prelude.{◌≡◌, ◌≤◌, ◌<◌, length};
 ghost use Rattle.qc_model.specs.Judge.{Goes, IsJudgeable};
+ghost use Rattle.qc_model.specs.Limits.{IsPlaceNear};
 ghost use Rattle.qc_model.specs.Motion.{seen_place};
-ghost use Rattle.qc_motion.specs.Sweep.{IsNear};
 ghost use Rattle.qc_motion.specs.Waypoints.{AreWaypoints, MovesBetween};
 
 use crate::sweep::Sweep;
@@ -11,7 +11,7 @@ use qc_num::Tick;
 
 /// A waypoint from a place as it is seen with a direction.
 fn waypoint(inst: &Instance, way: Direction, at: Tick, place: i64) -> Waypoint
-    requires { IsNear place }
+    requires { IsPlaceNear place }
     ensures { result ≡ record { at = at; place = seen_place inst.now way 1 place } }
 {
     Waypoint {

@@ -16,10 +16,17 @@ loop-task-preserved c =
           let n = c.loop-task.task in
           let f : FitsSigned w32 w.min-floor.result = search rules in
           let g : c.work-work.result.crane ≡ crane_of sched n = c.work-work.ensures.crane in
-          let e : to_z w32 (of_z w32 w.bay_behind.result) ≡ bay_behind inst (crane_of sched n) (bay_of inst n) c.args.crane =
+          let e : to_z w32 (of_z w32 w.bay_behind.result) ≡ bay_behind inst (crane_of sched n)
+          (bay_of inst n) c.args.crane =
           omega (arith, ints, ap (λ v. inst.gap * (v - c.args.crane)) g) in
-          rw w.floor-is (lowest_next inst sched c.args.crane n _ _ _ c.loop-task.invariant (omega arith) (omega arith) e (omega (arith, ints), omega (arith, ints)) f w.min-floor.ensures.value w.min-floor.ensures.self_bound w.min-floor.ensures.other_bound)
-      | else-crane-work w ↦ rw w.floor-is (lowest_kept _ _ _ _ _ c.loop-task.invariant (omega (arith, w.if-crane-work.false)))
+          rw w.floor-is (lowest_next inst sched c.args.crane n _ _ _ c.loop-task.invariant (omega arith)
+          (omega arith) e (
+            omega (arith, ints),
+            omega
+                (arith, ints),
+          ) f w.min-floor.ensures.value w.min-floor.ensures.self_bound w.min-floor.ensures.other_bound)
+      | else-crane-work w ↦ rw w.floor-is
+          (lowest_kept _ _ _ _ _ c.loop-task.invariant (omega (arith, w.if-crane-work.false)))
     ]
 
 pub returns-clause-floor : goal.returns-clause-floor

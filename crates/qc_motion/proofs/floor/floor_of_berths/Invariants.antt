@@ -6,5 +6,6 @@ use Rattle.qc_motion.proofs.floor.floor_of_berths.Given as goal
 
 abbrev pub invariant-loop-higher : goal.invariant-loop-higher
 invariant-loop-higher l = FloorBay l.judge.inst l.judge.sched l.crane l.floor
-    × ((w : ℕ) → w < l.higher → l.crane ≤ w → l.floor ≤ℤ bay_behind l.judge.inst w (crane_at l.judge.inst w).bay l.crane)
+    × ((w : ℕ) → w < l.higher → l.crane ≤ w → l.floor ≤ℤ bay_behind l.judge.inst w
+    (crane_at l.judge.inst w).bay l.crane)
     × IsNearRail l.floor

@@ -32,11 +32,13 @@ loop-number-preserved c =
           let here : P n = (omega arith, omega (arith, ints, hold.near, hold.bounded, w.if-place-at.true)) in
           let e : c.if-place-at.end ≡ min c.loop-number.end (stopping it m p n) =
           let below = berth_le it c.floor_place.ensures.sound m c.args.place c.requires.place n (omega arith) in
-          let u : w.abs_diff-then-place-at.result ≡ bays_up (berth_hold it n) p = omega (arith, bays, below, hold.near, hold.bounded, c.requires.near, w.if-place-at.true) in
+          let u : w.abs_diff-then-place-at.result ≡ bays_up (berth_hold it n) p =
+          omega (arith, bays, below, hold.near, hold.bounded, c.requires.near, w.if-place-at.true) in
           omega (arith, u) in
           first_next P (stopping it m p) n (descent m p (floor_place it)) _ _ c.loop-number.invariant here e
       | else-place-at w ↦
-          rw w.end-is (first_kept P (stopping it m p) n (descent m p (floor_place it)) _ c.loop-number.invariant (λ q. absurd (omega (arith, ints, w.if-place-at.false, q.1, hold.near, hold.bounded))))
+          rw w.end-is (first_kept P (stopping it m p) n (descent m p (floor_place it)) _ c.loop-number.invariant
+          (λ q. absurd (omega (arith, ints, w.if-place-at.false, q.1, hold.near, hold.bounded))))
     ]
 
 pub returns : goal.returns
@@ -45,5 +47,7 @@ returns c =
     let m = c.args.at in
     let e : to_z w64 (of_z w64 c.args.place) ≡ c.args.place = omega (arith, ints) in
     let all : c.loop-number.number ≡ it.crane + 1 = omega arith in
-    subst (λ (n : ℕ). IsFirst (IsBelow it m c.args.place) (stopping it m c.args.place) n (descent m c.args.place (floor_place it)) c.loop-number.end) all
-    (subst (λ (p : ℤ). IsFirst (IsBelow it m p) (stopping it m p) c.loop-number.number (descent m p (floor_place it)) c.loop-number.end) e c.loop-number.invariant)
+    subst (λ (n : ℕ). IsFirst (IsBelow it m c.args.place) (stopping it m c.args.place) n
+    (descent m c.args.place (floor_place it)) c.loop-number.end) all
+    (subst (λ (p : ℤ). IsFirst (IsBelow it m p) (stopping it m p) c.loop-number.number
+    (descent m p (floor_place it)) c.loop-number.end) e c.loop-number.invariant)

@@ -12,7 +12,8 @@ pub overflow_sub-hold : goal.overflow_sub-hold
 overflow_sub-hold c =
     let h = c.in-Some.ensures in
     let hold = c.in-Some.hold in
-    let below = task_le c.args.self.now c.tasks-task-end.ensures.sound c.args.at c.args.place c.requires.place c.loop-task.task h.0 in
+    let below =
+    task_le c.args.self.now c.tasks-task-end.ensures.sound c.args.at c.args.place c.requires.place c.loop-task.task h.0 in
     omega (arith, ints, below, h.1, h.2, hold.near)
 
 pub loop-task-preserved : goal.loop-task-preserved
@@ -27,11 +28,13 @@ loop-task-preserved c =
       | then-place-hold w ↦
           let here : P n = (h.0, omega (arith, ints, h.1, hold.near)) in
           let e : c.if-place-hold.first ≡ min c.loop-task.first (passing it p n) =
-          let u : w.abs_diff.result ≡ bays_up p (task_hold it n) = omega (arith, bays, h.1, hold.near, w.if-place-hold.true) in
+          let u : w.abs_diff.result ≡ bays_up p (task_hold it n) =
+          omega (arith, bays, h.1, hold.near, w.if-place-hold.true) in
           omega (arith, u, h.2) in
           first_next P (passing it p) n c.args.end _ _ c.loop-task.invariant here e
       | else-place-hold w ↦
-          rw w.first-is (first_kept P (passing it p) n c.args.end _ c.loop-task.invariant (λ q. absurd (omega (arith, ints, w.if-place-hold.false, h.1, q.1, hold.near))))
+          rw w.first-is (first_kept P (passing it p) n c.args.end _ c.loop-task.invariant
+          (λ q. absurd (omega (arith, ints, w.if-place-hold.false, h.1, q.1, hold.near))))
     ]
 
 pub loop-task-preserved-in_default : goal.loop-task-preserved-in_default
@@ -39,4 +42,5 @@ loop-task-preserved-in_default c =
     let it = c.args.self.now in
     let p = to_z w64 (of_z w64 c.args.place) in
     let n = c.loop-task.task in
-    first_kept (IsHigher it p) (passing it p) n c.args.end _ c.loop-task.invariant (λ q. absurd (omega (arith, c.in_default.ensures, q.0.1)))
+    first_kept (IsHigher it p) (passing it p) n c.args.end _ c.loop-task.invariant
+    (λ q. absurd (omega (arith, c.in_default.ensures, q.0.1)))

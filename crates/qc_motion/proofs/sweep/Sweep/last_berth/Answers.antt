@@ -17,5 +17,6 @@ loop-number-preserved c =
           let e : c.if-hold-place.last ≡ max c.loop-number.last (ready_of it n) = omega arith in
           last_next P (ready_of it) n (c.args.at + 1) _ _ c.loop-number.invariant here e
       | else-hold-place w ↦
-          rw w.last-is (last_kept P (ready_of it) n (c.args.at + 1) _ c.loop-number.invariant (λ p. w.if-hold-place.false (omega (arith, ints, p.1, hold.near))))
+          rw w.last-is (last_kept P (ready_of it) n (c.args.at + 1) _ c.loop-number.invariant
+          (λ p. w.if-hold-place.false (omega (arith, ints, p.1, hold.near))))
     ]

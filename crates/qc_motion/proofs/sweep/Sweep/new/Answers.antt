@@ -5,10 +5,17 @@ use Rattle.qc_motion.proofs.sweep.Sweep.new.Goals as goal
 
 pub invariant_of-result : goal.invariant_of-result
 invariant_of-result c =
-    let e : to_z w32 (of_z w32 c.floor_of-floor.result) ≡ c.floor_of-floor.result = omega (arith, ints, c.floor_of-floor.ensures.near) in
-    rw e (sound_of _ _ c.args.way _ _ _ c.new-judge.ensures.valid c.requires.goes c.new-judge.ensures.view c.seen_number-crane.ensures.range c.floor_of-floor.ensures.floor, c.floor_of-floor.ensures.near)
+    let j = c.new-judge.ensures in
+    let f = c.floor_of-floor.ensures in
+    let k = c.seen_number-crane.ensures.range in
+    let e : to_z w32 (of_z w32 c.floor_of-floor.result) ≡ c.floor_of-floor.result = omega (arith, ints, f.near) in
+    let s = sound_of _ _ c.args.way _ _ _ j.valid c.requires.goes j.view k f.floor in
+    rw e (s, f.near)
 
 pub returns-clause-sound : goal.returns-clause-sound
 returns-clause-sound c =
-    let e : to_z w32 (of_z w32 c.floor_of-floor.result) ≡ c.floor_of-floor.result = omega (arith, ints, c.floor_of-floor.ensures.near) in
-    rw e (sound_of _ _ c.args.way _ _ _ c.new-judge.ensures.valid c.requires.goes c.new-judge.ensures.view c.seen_number-crane.ensures.range c.floor_of-floor.ensures.floor)
+    let j = c.new-judge.ensures in
+    let f = c.floor_of-floor.ensures in
+    let k = c.seen_number-crane.ensures.range in
+    let e : to_z w32 (of_z w32 c.floor_of-floor.result) ≡ c.floor_of-floor.result = omega (arith, ints, f.near) in
+    rw e (sound_of _ _ c.args.way _ _ _ j.valid c.requires.goes j.view k f.floor)

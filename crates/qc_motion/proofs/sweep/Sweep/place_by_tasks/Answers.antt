@@ -20,9 +20,11 @@ loop-task-preserved c =
           let h = w.in-Some.ensures in
           let hold = w.in-Some.hold in
           let y = to_z w64 (of_z w64 (to_z w64 (of_z w64 hold.place) -ℤ to_z w64 w.saturating_sub.result)) in
-          let e : y ≡ task_place it.inst it.sched n it.crane c.args.at 1 = omega (arith, ints, h.1, h.2, hold.near, hold.bounded, c.requires) in
+          let e : y ≡ task_place it.inst it.sched n it.crane c.args.at 1 =
+          omega (arith, ints, h.1, h.2, hold.near, hold.bounded, c.requires) in
           let f : FitsSigned w64 w.max-place.result = search rules in
           let m = w.max-place.ensures in
-          rw w.place-is (highest_of_task it c.args.at n _ y _ c.loop-task.invariant h.0 e (omega (arith, ints, h.1, h.2, hold.near, hold.bounded)) f m.value m.self_bound m.other_bound)
+          rw w.place-is (highest_of_task it c.args.at n _ y _ c.loop-task.invariant h.0 e
+          (omega (arith, ints, h.1, h.2, hold.near, hold.bounded)) f m.value m.self_bound m.other_bound)
       | in_default w ↦ rw w.place-is (highest_kept it c.args.at n _ c.loop-task.invariant w.in_default.ensures)
     ]

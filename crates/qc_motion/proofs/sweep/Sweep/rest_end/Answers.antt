@@ -12,7 +12,8 @@ returns-then-is_held c =
     let r = c.requires in
     let e : to_z w64 (of_z w64 c.args.place) ≡ c.args.place = omega (arith, ints) in
     subst (λ (p : ℤ). IsRun it m p c.args.end c.first_above-first.result) e
-    (held_is it r.sound m _ (subst (IsAt it m) (sym e) r.place) (subst (IsAt it (m + 1)) (sym e) r.next) c.args.end _ r.at
+    (held_is it r.sound m _ (subst (IsAt it m) (sym e) r.place)
+    (subst (IsAt it (m + 1)) (sym e) r.next) c.args.end _ r.at
     c.first_above-first.ensures (c.is_held.ensures.0 c.if-is_held.true))
 
 pub returns-else-is_held : goal.returns-else-is_held
@@ -22,6 +23,8 @@ returns-else-is_held c =
     let r = c.requires in
     let e : to_z w64 (of_z w64 c.args.place) ≡ c.args.place = omega (arith, ints) in
     subst (λ (p : ℤ). IsRun it m p c.args.end c.min.result) e
-    (berths_is it r.sound m _ (subst (IsAt it m) (sym e) r.place) (subst (IsAt it (m + 1)) (sym e) r.next) c.args.end _ r.at
-    c.first_above-first.ensures (λ held. true≢false (sym (c.is_held.ensures.1 held) ∙ c.if-is_held.false)) _ c.last_berth.ensures _
+    (berths_is it r.sound m _ (subst (IsAt it m) (sym e) r.place)
+    (subst (IsAt it (m + 1)) (sym e) r.next) c.args.end _ r.at
+    c.first_above-first.ensures (λ held. true≢false
+    (sym (c.is_held.ensures.1 held) ∙ c.if-is_held.false)) _ c.last_berth.ensures _
     c.min.ensures)

@@ -19,5 +19,6 @@ loop-task-preserved c =
           let e : c.if-hold-at.end ≡ max c.loop-task.end (start_of it.sched n) = omega (arith, h.2) in
           last_next P (start_of it.sched) n c.args.at _ _ c.loop-task.invariant here e
       | else-hold-at w ↦
-          rw w.end-is (last_kept P (start_of it.sched) n c.args.at _ c.loop-task.invariant (λ p. w.if-hold-at.false (omega (arith, ints, h.1, h.2, p.1, hold.near, hold.bounded))))
+          rw w.end-is (last_kept P (start_of it.sched) n c.args.at _ c.loop-task.invariant
+          (λ p. w.if-hold-at.false (omega (arith, ints, h.1, h.2, p.1, hold.near, hold.bounded))))
     ]
