@@ -1,6 +1,6 @@
 -- What follows from a run's account of itself.
 use Rattle.std.proofs.Common.{◌≡◌, ◌≢◌, ◌≤◌, ℕ, subst₂, List, [], ◌∷◌, Option, None, Some, Result, Ok, Err, refl, sym, ap, ◌∙◌, subst, inl, inr, ◌⊎◌}
-use Rattle.std.specs.Prelude.{IfSome, codes, true, false}
+use Rattle.std.specs.Prelude.{IfSome, true, false}
 use Rattle.std.specs.FinMap.{insert}
 use Rattle.std.specs.Io.KnownBytes.{append_known}
 use Rattle.qc_num.specs.declared.bound.Bound.TheVariants.{Least, Never}
@@ -20,6 +20,7 @@ use Rattle.qc_top.specs.Asked.{Asked, plan, check, check_plan, tasks, unbuilt, u
 use Rattle.qc_top.specs.Words.{Asks}
 use Rattle.qc_top.specs.Due.{Work, Reads, print, search, judge, reads_in, instance_due, tree_due, due}
 use Rattle.qc_top.specs.Answers.{status_of, report_text, ending_of}
+use Rattle.qc_top.specs.Reports.{IsPrinted}
 use Rattle.qc_top.specs.Account.{ComesTo, Stops, IsSearched, IsStopped, IsWriting, Named, written, texts_of, IsCutShort, Serves, Printed, IsRun}
 use Rattle.qc_top.proofs.FoundLemmas.{plan_ends, search_end, no_refusal, ends_in_time, ends_late, kind_told, word_told, kind_none, is_best, none_goes}
 use Rattle.qc_top.proofs.DueLemmas.{comes_due, stop_is}
@@ -84,7 +85,7 @@ module _ (words : List (List ℕ)) (before after : Stand) (pb pa : Printed) (end
   plan_is usage a is serves = absurd is
 
   module _ (asked : Asked) where
-    optimal_told : (a : Answer) → IsWriting asked before after a → status_of a ≡ status.Optimal → pa.bytes ≡ append_known pb.bytes (report_text a)
+    optimal_told : (a : Answer) → IsWriting asked before after a → status_of a ≡ status.Optimal → IsPrinted a pb.bytes pa.bytes
         → IfSome before.files (λ held. IsOptimalTold asked held after.files pb pa)
     optimal_told (answer.Planned told) serves e report = by before.files serves.2 where
       by : (files : Option Files) → IfSome files (λ held. IsSearched asked held (answer.Planned told) after.files) → IfSome files (λ held. IsOptimalTold asked held after.files pb pa)
@@ -111,7 +112,7 @@ module _ (words : List (List ℕ)) (before after : Stand) (pb pa : Printed) (end
     optimal_told (answer.Broken broken) serves e report = absurd serves
     optimal_told (answer.Compared compared) serves e report = absurd serves
 
-    budget_told : (a : Answer) → IsPlan asked → IsWriting asked before after a → status_of a ≡ status.BudgetPlan → pa.bytes ≡ append_known pb.bytes (report_text a)
+    budget_told : (a : Answer) → IsPlan asked → IsWriting asked before after a → status_of a ≡ status.BudgetPlan → IsPrinted a pb.bytes pa.bytes
         → IfSome before.files (λ held. IsBudgetTold asked held after.files pb pa)
     budget_told (answer.Planned told) is serves e report = by before.files serves.2 where
       by : (files : Option Files) → IfSome files (λ held. IsSearched asked held (answer.Planned told) after.files)
@@ -140,7 +141,7 @@ module _ (words : List (List ℕ)) (before after : Stand) (pb pa : Printed) (end
     budget_told (answer.Broken broken) is serves e report = absurd serves
     budget_told (answer.Compared compared) is serves e report = absurd serves
 
-    unplanned_told : (a : Answer) → IsPlan asked → IsWriting asked before after a → status_of a ≡ status.BudgetNone → pa.bytes ≡ append_known pb.bytes (report_text a)
+    unplanned_told : (a : Answer) → IsPlan asked → IsWriting asked before after a → status_of a ≡ status.BudgetNone → IsPrinted a pb.bytes pa.bytes
         → IfSome before.files (λ held. IsUnplannedTold asked held after.files pb pa)
     unplanned_told (answer.Unplanned bound branched) is serves e report = by before.files serves.2 where
       by : (files : Option Files) → IfSome files (λ held. IsSearched asked held (answer.Unplanned bound branched) after.files) → IfSome files (λ held. IsUnplannedTold asked held after.files pb pa)
@@ -165,7 +166,7 @@ module _ (words : List (List ℕ)) (before after : Stand) (pb pa : Printed) (end
     unplanned_told (answer.Broken broken) is serves e report = absurd serves
     unplanned_told (answer.Compared compared) is serves e report = absurd serves
 
-    infeasible_told : (a : Answer) → IsWriting asked before after a → status_of a ≡ status.Infeasible → pa.bytes ≡ append_known pb.bytes (report_text a)
+    infeasible_told : (a : Answer) → IsWriting asked before after a → status_of a ≡ status.Infeasible → IsPrinted a pb.bytes pa.bytes
         → IfSome before.files (λ held. IsInfeasibleTold asked held after.files pb pa)
     infeasible_told (answer.Infeasible branched) serves e report = by before.files serves.2 where
       by : (files : Option Files) → IfSome files (λ held. IsSearched asked held (answer.Infeasible branched) after.files) → IfSome files (λ held. IsInfeasibleTold asked held after.files pb pa)
@@ -239,7 +240,7 @@ module _ (words : List (List ℕ)) (before after : Stand) (pb pa : Printed) (end
       let texts = ap text_of same in
       record { inst = found; due = at; report = report ∙ ap (append_known pb.bytes) (sym texts) }
 
-  tasks_told : (ship stow : List ℕ) (a : Answer) → Serves (tasks ship stow) before after a → status_of a ≡ status.Done → pa.bytes ≡ append_known pb.bytes (report_text a)
+  tasks_told : (ship stow : List ℕ) (a : Answer) → Serves (tasks ship stow) before after a → status_of a ≡ status.Done → IsPrinted a pb.bytes pa.bytes
       → IfSome before.files (λ held. AreTasksTold (tasks ship stow) held pb pa)
   tasks_told ship stow (answer.Tasks inst) serves e report = tasks_printed ship stow (answer.Tasks inst) before.files serves.ending.1 report
   tasks_told ship stow (answer.Checked bound) serves e report = tasks_printed ship stow (answer.Checked bound) before.files serves.ending.1 report
@@ -263,7 +264,7 @@ module _ (words : List (List ℕ)) (before after : Stand) (pb pa : Printed) (end
   tree_is : (asked : Asked) → Asks words asked → TellsTree asked before.files run.answer
   tree_is asked asks = subst (λ a. TellsTree a before.files run.answer) (sym run.asks ∙ asks) tells
 
-  end_told : (ship stow tree : List ℕ) (a : Answer) → TellsTree (check ship stow tree) before.files a → status_of a ≡ status.Done → pa.bytes ≡ append_known pb.bytes (report_text a)
+  end_told : (ship stow tree : List ℕ) (a : Answer) → TellsTree (check ship stow tree) before.files a → status_of a ≡ status.Done → IsPrinted a pb.bytes pa.bytes
       → IfSome before.files (λ held. IsEndTold (check ship stow tree) held pb pa)
   end_told ship stow tree (answer.Checked (Least end)) shown e report = told before.files shown where
     told : (files : Option Files) → IfSome files (λ held. IsBoundShown (check ship stow tree) held (Least end)) → IfSome files (λ held. IsEndTold (check ship stow tree) held pb pa)
@@ -287,7 +288,7 @@ module _ (words : List (List ℕ)) (before after : Stand) (pb pa : Printed) (end
     | inr cut ↦ absurd (cc (cut.status, e))
   ]
 
-  none_told : (ship stow tree : List ℕ) (a : Answer) → TellsTree (check ship stow tree) before.files a → status_of a ≡ status.Infeasible → pa.bytes ≡ append_known pb.bytes (report_text a)
+  none_told : (ship stow tree : List ℕ) (a : Answer) → TellsTree (check ship stow tree) before.files a → status_of a ≡ status.Infeasible → IsPrinted a pb.bytes pa.bytes
       → IfSome before.files (λ held. IsNoneTold (check ship stow tree) held pb pa)
   none_told ship stow tree (answer.Checked Never) shown e report = told before.files shown where
     told : (files : Option Files) → IfSome files (λ held. IsBoundShown (check ship stow tree) held Never) → IfSome files (λ held. IsNoneTold (check ship stow tree) held pb pa)
@@ -383,7 +384,7 @@ module _ (words : List (List ℕ)) (before after : Stand) (pb pa : Printed) (end
     ]
 
   -- the refusal whose status is told
-  refusal_told : (asked : Asked) (a : Answer) → Serves asked before after a → IsRefusal (status_of a) → ended ≡ status_of a → pa.bytes ≡ append_known pb.bytes (report_text a)
+  refusal_told : (asked : Asked) (a : Answer) → Serves asked before after a → IsRefusal (status_of a) → ended ≡ status_of a → IsPrinted a pb.bytes pa.bytes
       → IsRefusalTold asked before after pb pa ended
   refusal_told asked (answer.Stopped (stop.Refused why)) serves is e report = record { why = why; status = e; cause = serves; report = report }
   refusal_told asked (answer.Stopped stop.OutOfMemory) serves is e report = absurd is
@@ -511,7 +512,7 @@ module _ (words : List (List ℕ)) (before after : Stand) (pb pa : Printed) (end
           rose = rose;
           serves = subst (Serves asked before after) same (asked_is asked asks);
           faults = whole.faults;
-          report = whole.printed ∙ ap (λ a. append_known pb.bytes (report_text a)) same;
+          report = subst (λ (a : Answer). IsPrinted a pb.bytes pa.bytes) same whole.printed;
         })
     | inr cut ↦ inl (record { rose = cut.rose; answer = run.answer; serves = asked_is asked asks; report = cut.printed })
   ]

@@ -3,6 +3,7 @@ ghost use Rattle.std.specs.Prelude.{◌≡◌, ◌≤◌};
 ghost use Rattle.qc_io.specs.Outside.{stand_of};
 ghost use Rattle.qc_top.specs.Asked.{asked_for, HasFewNodes};
 ghost use Rattle.qc_top.specs.Words.{texts};
+ghost use Rattle.qc_top.specs.Reports.{CanBeTold};
 ghost use Rattle.qc_top.specs.Account.{Serves, IsRun, printed_of};
 ghost use Rattle.qc_top.specs.Shown.{TellsTree};
 ghost use Rattle.qc_top.specs.Promises.{Promises};
@@ -23,6 +24,7 @@ fn serve<S: Shelf>(alloc: Global, request: &Request<'_>, shelf: &mut S) -> Answe
         (stand_of S.files S.Sink.faults S.read_faults shelf.old)
         (stand_of S.files S.Sink.faults S.read_faults shelf.new) result }
     ensures tells { TellsTree (asked_for request.now) (S.files shelf.old) result }
+    ensures ready { CanBeTold result }
     ensures faults_never_fall { S.Sink.faults shelf.old ≤ S.Sink.faults shelf.new }
     ensures read_faults_never_fall { S.read_faults shelf.old ≤ S.read_faults shelf.new }
 {
@@ -64,5 +66,5 @@ pub fn run<S: Shelf, K: Sink>(alloc: Global, words: &[String], shelf: &mut S, ou
 {
     let request = asked_by(words);
     let answer = serve(alloc, &request, shelf);
-    report(&answer, out)
+    report(answer, out)
 }
