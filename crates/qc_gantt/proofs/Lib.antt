@@ -1,3 +1,4 @@
 pub mod EntryLemmas
 pub mod NameLemmas
 pub mod PlanLemmas
+pub mod RereadLemmas
