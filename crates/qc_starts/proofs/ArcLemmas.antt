@@ -16,7 +16,8 @@ use Rattle.qc_model.specs.Nodes.{Fits, IsSettled, assigned, crane_ticks, forced,
 use Rattle.qc_model.proofs.CompleteNodes.{forced_ticks}
 use Rattle.qc_model.proofs.NodeLemmas.{before_found}
 use Rattle.qc_starts.specs.Arcs.{AreArcs, AreOpening, IsArc, IsOver, added, arc_between, joins, leads, most_arcs, newest_length, with_added}
-use Rattle.qc_starts.proofs.Counts.{IsBetween, arcs_few, count_cons, one_of}
+use Rattle.qc_starts.proofs.Counts.{IsBetween, arcs_few, count_cons}
+use Rattle.qc_starts.specs.Spread.{one_of}
 use Rattle.qc_starts.proofs.Growth.{assigned_same, excess_by, forced_grows, greater_more, greater_same, one_way, open_from, open_to, ordered_here_is, ordered_same, ticks_none, unsettled_from, unsettled_to}
 use Rattle.qc_starts.proofs.SelfLemmas.{self_free}
 

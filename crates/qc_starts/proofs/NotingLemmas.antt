@@ -8,7 +8,7 @@ use Rattle.std.specs.Prelude.{slice_index, slice_index_or, slice_set}
 use Rattle.qc_trail.specs.declared.trail.Note.{Note}
 use Rattle.qc_trail.specs.Trails.{Notes, written_back}
 use Rattle.qc_starts.specs.declared.noted.Noted.{Noted}
-use Rattle.qc_starts.proofs.Counts.{one_of}
+use Rattle.qc_starts.specs.Spread.{one_of}
 use Rattle.qc_starts.specs.Noting.{HasNotes, IsNoting, marks}
 
 pub written_back-append : (one two : List Note) (cells : List ℕ)

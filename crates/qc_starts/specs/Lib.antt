@@ -1,11 +1,9 @@
 pub mod Arcs
-pub mod Asked
-pub mod Fields
 pub mod Found
 pub mod Network
 pub mod Noting
 pub mod NodeArcs
-pub mod Rounds
 pub mod Seen
+pub mod Spread
 pub mod Values
 pub mod Ways

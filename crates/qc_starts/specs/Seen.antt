@@ -8,8 +8,8 @@ use Rattle.qc_model.specs.Leaves.{chain, leaf_value, ring, with_berths}
 use Rattle.qc_model.specs.Nodes.{AreLeast, HasStarts, IsNodeEnd, IsSettled, assigned, forced, reaches}
 use Rattle.qc_num.specs.declared.bound.Bound.TheVariants.{Least, Never}
 use Rattle.qc_starts.specs.Arcs.{newest_length}
-use Rattle.qc_starts.specs.declared.least.Step.{Step}
-use Rattle.qc_starts.specs.declared.least.Step.TheVariants.{Raised, Cycle}
+use Rattle.qc_starts.specs.declared.step.Step.{Step}
+use Rattle.qc_starts.specs.declared.step.Step.TheVariants.{Raised, Cycle}
 
 -- the instance, and the decisions, newest first
 pub record StartsNode : Type 0 where

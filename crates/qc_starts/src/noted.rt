@@ -2,7 +2,7 @@
 
 ghost use Rattle.std.specs.Prelude.{◌≡◌, ℕ, ◌+◌, ◌*◌, ◌<◌, ◌≤◌, ◌^◌, [], IfOk, IfSome, List, false, true, length, replicate, slice_index, slice_index_or, slice_set};
 ghost use Rattle.qc_trail.specs.declared.trail.Note.{Note};
-ghost use Rattle.qc_starts.specs.Noting.{HasNotes, IsNoting};
+ghost use Rattle.qc_starts.specs.Noting.{HasNotes, IsNoting, Wrote};
 ghost use Rattle.qc_starts.specs.Values.{code_of, raised, raiser_at, start_at};
 
 use qc_num::{OutOfMemory, Steps, Tick};
@@ -128,11 +128,7 @@ impl Noted {
         requires count { length self.old.cells ≡ 2 * count }
         requires notes { HasNotes self.old }
         ensures cells { self.new.cells ≡ raised count self.old.cells task start raiser }
-        ensures notes { HasNotes self.new }
-        ensures cap { self.new.trail.cap ≡ self.old.trail.cap }
-        ensures noting { (before : List Note) (olds : List ℕ)
-            → IsNoting before olds self.old → IsNoting before olds self.new }
-        ensures counted { length self.new.trail.notes + steps.old ≤ length self.old.trail.notes + steps.new }
+        ensures wrote { Wrote self.old self.new steps.old steps.new }
     {
         self.write(task as u32, start, steps);
         self.write(count as u32 + task as u32, code_of(raiser), steps);
