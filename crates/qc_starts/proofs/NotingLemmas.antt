@@ -9,7 +9,7 @@ use Rattle.qc_trail.specs.declared.trail.Note.{Note}
 use Rattle.qc_trail.specs.Trails.{Notes, written_back}
 use Rattle.qc_starts.specs.declared.noted.Noted.{Noted}
 use Rattle.qc_starts.specs.Spread.{one_of}
-use Rattle.qc_starts.specs.Noting.{HasNotes, IsNoting, marks}
+use Rattle.qc_starts.specs.Noting.{HasNotes, IsNoting, Wrote, marks}
 
 pub written_back-append : (one two : List Note) (cells : List ℕ)
     → written_back (one ++ two) cells ≡ written_back one (written_back two cells)
@@ -86,3 +86,19 @@ note_keeps before olds v w p low size free cells notes noted is = record {
           sym (get_or-set_other v.noted.items p q true true other)
           ∙ sym (ap (λ (xs : List Bool). slice_index_or xs q true) noted) ∙ still
     ]
+
+pub wrote_then : (a b c : Noted) (x y z : ℕ) → Wrote a b x y → Wrote b c y z → Wrote a c x z
+wrote_then a b c x y z one two = record {
+  notes = two.notes;
+  cap = two.cap ∙ one.cap;
+  noting = λ earlier olds is. two.noting earlier olds (one.noting earlier olds is);
+  counted = omega (arith, one.counted, two.counted);
+}
+
+pub wrote_none : (a : Noted) (x : ℕ) → HasNotes a → Wrote a a x x
+wrote_none a x notes = record {
+  notes = notes;
+  cap = refl;
+  noting = λ earlier olds is. is;
+  counted = omega arith;
+}

@@ -1,10 +1,10 @@
 -- Starts that are raised behind a root: what a raise keeps, and what is left at the end.
-use Rattle.std.proofs.Common.{◌≡◌, ◌≢◌, ℕ, zero, suc, ◌+◌, ◌-◌, ◌*◌, ◌^◌, ◌<◌, ◌≤◌, ◌⊎◌, inl, inr, Bool, true, false, eqb, cond, List, [], ◌∷◌, length, Option, None, Some, refl, sym, ap, subst, subst₂, ◌∙◌, arith}
-use Rattle.std.proofs.lemmas.Bool.{and_parts, cases_Bool, cases_eq, cases_lt, cond-false, cond-true, cond_both, eqb-true, ltb-false, ltb-true, ne_eqb, false≢true}
+use Rattle.std.proofs.Common.{◌≡◌, ◌≢◌, ℕ, zero, suc, ◌+◌, ◌-◌, ◌*◌, ◌^◌, ◌<◌, ◌≤◌, ◌⊎◌, inl, inr, Bool, true, false, ◌&&◌, eqb, cond, List, [], ◌∷◌, length, Option, None, Some, refl, sym, ap, subst, subst₂, ◌∙◌, arith}
+use Rattle.std.proofs.lemmas.Bool.{and_parts, cases_Bool, cases_eq, cases_lt, cond-false, cond-true, cond_both, eq-eqb, eqb-true, ltb-false, ltb-true, ne_eqb, false≢true}
 use Rattle.std.proofs.lemmas.List.{get_or-set_other, get_or-set_same}
 use Rattle.std.proofs.lemmas.Option.{same_Some}
 use Rattle.std.proofs.Math.ListN.{get_or-eq_default, length-set}
-use Rattle.std.specs.Prelude.{slice_index, slice_index_or, slice_set}
+use Rattle.std.specs.Prelude.{filter, slice_index, slice_index_or, slice_set}
 use Rattle.std.specs.List.{AllByRecursion}
 use Rattle.qc_arena.specs.declared.edge.Edge.{Edge}
 use Rattle.qc_model.specs.declared.decision.Decision.{Decision}
@@ -12,7 +12,7 @@ use Rattle.qc_model.specs.Instance.{InstanceView, Valid}
 use Rattle.qc_model.specs.Nodes.{Fits, Meets, forced, head}
 use Rattle.qc_starts.specs.Arcs.{AreArcs, AreLow, IsArc, leads, newest_length}
 use Rattle.qc_starts.specs.NodeArcs.{NodeArcs}
-use Rattle.qc_starts.specs.Spread.{IsBackAtRoot, IsIn, IsLifted, IsMet, IsRaisedBy, IsRaising, IsRooting, IsSpreading, is_late, is_pending, left, left_of, one_of, total}
+use Rattle.qc_starts.specs.Spread.{IsBackAtRoot, IsIn, IsLifted, IsMet, IsRaisedBy, IsRaising, IsRooting, IsSpreading, from_task, is_late, is_pending, left, left_of, one_of, total}
 use Rattle.qc_starts.specs.Values.{AreAtMost, AreRest, IsReason, code_of, raised, raiser_at, raiser_of, start_at}
 use Rattle.qc_starts.proofs.Counts.{total-le, total-lt}
 use Rattle.qc_starts.proofs.SelfLemmas.{self_free}
@@ -432,3 +432,129 @@ module _ (net : NodeArcs) (root : ℕ) (olds cells : List ℕ) (pending : List B
             (omega (arith, ap one_of gone, ap one_of chosen))
         | inr off ↦ omega (arith, ap one_of (kept j off))
       ]) low (omega (arith, ap one_of gone, ap one_of chosen))
+
+-- ---- the arcs from a task, one after another
+
+pub in_filter : (p : Edge → Bool) (xs : List Edge) (arc : Edge) → IsIn xs arc → p arc ≡ true → IsIn (filter p xs) arc
+in_filter p [] arc in_ t = in_
+in_filter p (x ∷ xs) arc (inl same) t =
+    cond_both (p x) (x ∷ filter p xs) (filter p xs) (λ ys. IsIn ys arc)
+    (λ _. inl same) (λ fails. absurd (false≢true (sym fails ∙ ap p same ∙ t)))
+in_filter p (x ∷ xs) arc (inr in_) t =
+    cond_both (p x) (x ∷ filter p xs) (filter p xs) (λ ys. IsIn ys arc)
+    (λ _. inr (in_filter p xs arc in_ t)) (λ _. in_filter p xs arc in_ t)
+
+pub filter_in : (p : Edge → Bool) (xs : List Edge) (arc : Edge) → IsIn (filter p xs) arc
+    → IsIn xs arc × (p arc ≡ true)
+filter_in p [] arc in_ = absurd in_
+filter_in p (x ∷ xs) arc in_ = go (cases_Bool (p x)) (filter_in p xs arc)
+  where
+    go : (p x ≡ true) ⊎ (p x ≡ false) → (IsIn (filter p xs) arc → IsIn xs arc × (p arc ≡ true))
+        → IsIn (x ∷ xs) arc × (p arc ≡ true)
+    go (inl holds) more =
+        elim (subst (λ (ys : List Edge). IsIn ys arc) (cond-true (p x) (x ∷ filter p xs) (filter p xs) holds) in_) [
+          | inl same ↦ (inl same, ap p (sym same) ∙ holds)
+          | inr rest ↦ let found = more rest in (inr found.0, found.1)
+        ]
+    go (inr fails) more =
+        let found = more (subst (λ (ys : List Edge). IsIn ys arc) (cond-false (p x) (x ∷ filter p xs) (filter p xs) fails) in_) in
+        (inr found.0, found.1)
+
+-- what holds while the arcs from a task are looked at
+pub record IsLooking
+    (net : NodeArcs) (root task : ℕ) (olds cells : List ℕ) (pending : List Bool) (rest : List Edge) (before : ℕ)
+    : Type 0 where
+  pub spreading : IsSpreading net root olds cells pending rest
+  pub lifted : IsLifted root olds cells task
+  pub inside : (arc : Edge) → IsIn rest arc → IsIn net.arcs arc × (arc.from ≡ task)
+  pub less : left (length net.inst.tasks) root olds cells pending ≤ before
+
+pub looking_begins : (net : NodeArcs) (root task : ℕ) (olds cells : List ℕ) (pending : List Bool) (arcs : List Edge)
+    → arcs ≡ from_task task net.arcs
+    → IsSpreading net root olds cells pending (from_task task net.arcs) → IsLifted root olds cells task
+    → IsLooking net root task olds cells pending arcs (left (length net.inst.tasks) root olds cells pending)
+looking_begins net root task olds cells pending arcs are is lifted = record {
+  spreading = subst (IsSpreading net root olds cells pending) (sym are) is;
+  lifted = lifted;
+  inside = λ arc in_.
+      let found = filter_in (λ arc. eqb arc.from task) net.arcs arc (subst (λ (xs : List Edge). IsIn xs arc) are in_) in
+      (found.0, eqb-true arc.from task found.1);
+  less = omega arith;
+}
+
+module _ (net : NodeArcs) (root task : ℕ) (olds cells : List ℕ) (pending : List Bool) (rest : List Edge)
+    (before : ℕ) (arc : Edge) (valid : Valid net.inst) (fits : Fits net.inst net.decisions)
+    (are : AreArcs net.inst net.decisions net.arcs) (short : AreLow net.arcs)
+    (is : IsLooking net root task olds cells pending (arc ∷ rest) before) where
+  among : IsIn net.arcs arc
+  among = (is.inside arc (inl refl)).0
+
+  pub looking_asks : IsArc net.inst net.decisions arc
+  looking_asks = arc_of (IsArc net.inst net.decisions) net.arcs are.each arc among
+
+  lifted_from : IsLifted root olds cells arc.from
+  lifted_from = subst (IsLifted root olds cells) (sym (is.inside arc (inl refl)).1) is.lifted
+
+  -- the sum fits
+  pub looking_fits : start_at cells arc.from + arc.len ≤ 18446744073709551615
+  looking_fits =
+      let short_one = arc_of (λ arc. arc.len ≤ 2147483648) net.arcs short arc among in
+      let raising = is.spreading.raising in
+      elim (cases_eq arc.from root) [
+        | inl same ↦ omega (arith, ap (start_at cells) same, is.spreading.top, short_one)
+        | inr off ↦ omega (arith, raising.bound arc.from looking_asks.from off, raising.soon arc.from looking_asks.from,
+            is.spreading.top, short_one)
+      ]
+
+  pub looking_back : (is_late cells arc && eqb arc.to root) ≡ true
+      → IsBackAtRoot net root olds
+      (cond (is_late cells arc)
+      (raised (length net.inst.tasks) cells arc.to (start_at cells arc.from + arc.len) (Some arc.from)) cells)
+  looking_back both =
+      let parts = and_parts (is_late cells arc) (eqb arc.to root) both in
+      let later = raised (length net.inst.tasks) cells arc.to (start_at cells arc.from + arc.len) (Some arc.from) in
+      subst (IsBackAtRoot net root olds) (sym (cond-true (is_late cells arc) later cells parts.0))
+      (spread_back net root olds cells pending rest arc valid fits are short among parts.0 lifted_from is.spreading
+      (eqb-true arc.to root parts.1))
+
+  pub looking_next : (late : Bool) → is_late cells arc ≡ late → (late && eqb arc.to root) ≡ false
+      → IsLooking net root task olds
+      (cond late (raised (length net.inst.tasks) cells arc.to (start_at cells arc.from + arc.len) (Some arc.from)) cells)
+      (cond late (slice_set pending arc.to true) pending) rest before
+  looking_next false early other = record {
+    spreading = spread_on net root olds cells pending rest arc early is.spreading;
+    lifted = is.lifted;
+    inside = λ one in_. is.inside one (inr in_);
+    less = is.less;
+  }
+  looking_next true late other = record {
+    spreading = spread_raise net root olds cells pending rest arc valid fits are short among late lifted_from is.spreading
+        (off other);
+    lifted = subst (IsLifted root olds _) (is.inside arc (inl refl)).1
+        (more_lifted net root olds cells pending rest arc valid fits are short among late lifted_from is.spreading
+        arc.from looking_asks.from lifted_from);
+    inside = λ one in_. is.inside one (inr in_);
+    less = omega (arith, is.less, left_less net root olds cells pending rest arc valid fits are short among late lifted_from
+        is.spreading (off other));
+  }
+    where
+      off : eqb arc.to root ≡ false → arc.to ≢ root
+      off e same = absurd (false≢true (sym e ∙ eq-eqb arc.to root same))
+
+  module _ (after : List ℕ) (marks : List Bool) (k : ℕ) (same : k ≡ length net.inst.tasks)
+      (starts : after ≡ cond (is_late cells arc)
+        (raised k cells arc.to (start_at cells arc.from + arc.len) (Some arc.from)) cells) where
+    starts_are : after ≡ cond (is_late cells arc)
+        (raised (length net.inst.tasks) cells arc.to (start_at cells arc.from + arc.len) (Some arc.from)) cells
+    starts_are = subst (λ (m : ℕ). after ≡ cond (is_late cells arc)
+        (raised m cells arc.to (start_at cells arc.from + arc.len) (Some arc.from)) cells) same starts
+
+    pub looking_home : (is_late cells arc && eqb arc.to root) ≡ true → IsBackAtRoot net root olds after
+    looking_home both = subst (IsBackAtRoot net root olds) (sym starts_are) (looking_back both)
+
+    pub looking_step : marks ≡ cond (is_late cells arc) (slice_set pending arc.to true) pending
+        → (is_late cells arc && eqb arc.to root) ≡ false
+        → IsLooking net root task olds after marks rest before
+    looking_step are_marks other =
+        subst₂ (λ (xs : List ℕ) (ms : List Bool). IsLooking net root task olds xs ms rest before)
+        (sym starts_are) (sym are_marks) (looking_next (is_late cells arc) refl other)

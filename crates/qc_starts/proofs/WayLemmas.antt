@@ -1,10 +1,11 @@
 -- Ways back: they grow by a task that isn't on them, are no longer than there are tasks, and close.
-use Rattle.std.proofs.Common.{◌≡◌, ◌≢◌, ℕ, zero, suc, ◌+◌, ◌<◌, ◌≤◌, true, false, inl, inr, List, [], ◌∷◌, take, length, Option, None, Some, is_some, refl, sym, ap, subst, ◌∙◌, add-one, eqb, arith}
-use Rattle.std.proofs.lemmas.Bool.{or_cases, eqb-true, ne_eqb, false≢true}
+use Rattle.std.proofs.Common.{◌≡◌, ◌≢◌, ℕ, zero, suc, ◌+◌, ◌-◌, ◌<◌, ◌≤◌, true, false, inl, inr, List, [], ◌∷◌, take, length, Option, None, Some, is_some, refl, sym, ap, subst, ◌∙◌, add-one, eqb, arith}
+use Rattle.std.proofs.lemmas.Bool.{cases_eq, cond-false, or_cases, eqb-true, ne_eqb, false≢true}
 use Rattle.std.proofs.lemmas.Map.Steps.{length-le_from_distinct_below}
 use Rattle.std.proofs.lemmas.Option.{same_Some}
 use Rattle.std.specs.Prelude.{slice_index}
 use Rattle.std.specs.List.{AllByRecursion, IsDistinct, list_any}
+use Rattle.qc_starts.specs.Found.{why_in}
 use Rattle.qc_starts.specs.Ways.{AreBacked, IsBackTo, IsLinked, IsPlace, IsRing, IsRising, IsWalked, IsWay, Why, last_of}
 
 any_inside : (n : ℕ) (xs : List ℕ) → AllByRecursion (λ j. j < n) xs → (q : ℕ)
@@ -164,3 +165,20 @@ ring_found why late (i ∷ js) place walked =
       },
       walked.2 ∙ ap Some (sym (last_of_take i js place walked.1)),
     )
+
+pub place_low : (why : Why) (last : ℕ) (path : List ℕ) (place : ℕ) → IsWalked why last path (Some place)
+    → place < why.count
+place_low why last [] place walked = absurd walked
+place_low why last (i ∷ js) place walked = omega (arith, walked.1, way_length why last i js walked.0)
+
+-- ---- cells
+
+pub code_small : (count : ℕ) (cells : List ℕ) (j : ℕ) → AreBacked (why_in count cells) → count ≤ 240 → j < count
+    → slice_index cells (count + j) ≤ 65536
+code_small count cells j backed few low = elim (cases_eq (slice_index cells (count + j)) 0) [
+  | inl none ↦ omega arith
+  | inr some ↦
+      let code = slice_index cells (count + j) in
+      let is = cond-false (eqb code 0) None (Some (code - 1)) (ne_eqb code 0 some) in
+      omega (arith, backed j (code - 1) low is)
+]

@@ -1,10 +1,12 @@
 -- Starts while they are raised behind a task, the root, that starts later than before or has new steps behind it.
-use Rattle.std.specs.Prelude.{◌≡◌, ◌≢◌, ℕ, zero, suc, ◌+◌, ◌-◌, ◌*◌, ◌^◌, ◌<◌, ◌≤◌, ◌⊎◌, Bool, true, false, cond, nat_lt, List, [], ◌∷◌, length, Some, slice_index, slice_index_or}
+use Rattle.std.specs.Prelude.{◌≡◌, ◌≢◌, ℕ, zero, suc, ◌+◌, ◌-◌, ◌*◌, ◌^◌, ◌<◌, ◌≤◌, ◌⊎◌, Bool, true, false, cond, nat_lt, ◌==◌, List, [], ◌∷◌, filter, length, Option, None, Some, slice_index, slice_index_or}
 use Rattle.qc_arena.specs.declared.edge.Edge.{Edge}
 use Rattle.qc_model.specs.declared.limits.TheConstants.{MOST_START}
 use Rattle.qc_model.specs.Nodes.{head}
+use Rattle.qc_starts.specs.declared.step.Step.{Step}
+use Rattle.qc_starts.specs.declared.step.Step.TheVariants.{Raised, Cycle}
 use Rattle.qc_starts.specs.NodeArcs.{NodeArcs}
-use Rattle.qc_starts.specs.Values.{AreAtMost, IsReason, raiser_at, start_at}
+use Rattle.qc_starts.specs.Values.{AreAtMost, AreRest, IsReason, raiser_at, start_at}
 
 -- the arc is one of these
 abbrev pub IsIn : List Edge → Edge → Type 0
@@ -96,3 +98,44 @@ left_of root olds cells pending j =
 
 abbrev pub left : ℕ → ℕ → List ℕ → List ℕ → List Bool → ℕ
 left count root olds cells pending = total (left_of root olds cells pending) count
+
+-- of the arcs those from a task, and those into a task
+abbrev pub from_task : ℕ → List Edge → List Edge
+from_task task arcs = filter (λ arc. arc.from == task) arcs
+
+abbrev pub into_task : ℕ → List Edge → List Edge
+into_task task arcs = filter (λ arc. arc.to == task) arcs
+
+-- of the tasks that are still to be looked at one, if there is any
+abbrev pub IsPick : List Bool → ℕ → Option ℕ → Type 0
+IsPick pending count None = (j : ℕ) → j < count → is_pending pending j ≡ false
+IsPick pending count (Some j) = (j < length pending) × (is_pending pending j ≡ true)
+
+-- whether a raise came back to the root, or all arcs from the task are met and less is left to be done
+abbrev pub IsLooked : NodeArcs → ℕ → List ℕ → List ℕ → List Bool → ℕ → Bool → Type 0
+IsLooked net root olds cells pending before true = IsBackAtRoot net root olds cells
+IsLooked net root olds cells pending before false =
+    IsSpreading net root olds cells pending []
+    × (left (length net.inst.tasks) root olds cells pending ≤ before)
+
+-- what raising came to
+abbrev pub IsSettledTo : NodeArcs → ℕ → List ℕ → List ℕ → Step → Type 0
+IsSettledTo net root olds cells Raised = AreRest net.inst net.decisions cells
+IsSettledTo net root olds cells Cycle = IsBackAtRoot net root olds cells
+
+abbrev pub IsSpread : NodeArcs → ℕ → List ℕ → List ℕ → Bool → Type 0
+IsSpread net root olds cells true = IsBackAtRoot net root olds cells
+IsSpread net root olds cells false = AreRest net.inst net.decisions cells
+
+-- the root alone is still to be looked at
+pub record IsOnly (pending : List Bool) (count root : ℕ) : Type 0 where
+  pub size : length pending ≡ count
+  pub first : is_pending pending root ≡ true
+  pub others : (j : ℕ) → j ≢ root → is_pending pending j ≡ false
+
+-- the root starts no earlier than its head, and the arcs into it are met but for those to come
+pub record IsInto (net : NodeArcs) (root : ℕ) (olds cells : List ℕ) (rest : List Edge) : Type 0 where
+  pub rooting : IsRooting net root olds cells
+  pub above : head net.inst net.decisions root ≤ start_at cells root
+  pub low : head net.inst net.decisions root ≤ 2 ^ 31
+  pub met : (arc : Edge) → IsIn net.arcs arc → arc.to ≡ root → IsMet cells arc ⊎ IsIn rest arc

@@ -111,6 +111,8 @@ impl Network {
         ensures arcs { reverse result.now.arcs ≡ self.now.arcs }
         ensures nodes { result.now.nodes ≡ length self.now.inst.tasks }
         ensures low { AreLow self.now.arcs }
+        ensures fits { Fits self.now.inst self.now.decisions }
+        ensures valid { Valid self.now.inst }
         ensures all { AreArcs self.now.inst self.now.decisions self.now.arcs }
     {
         &self.arena
