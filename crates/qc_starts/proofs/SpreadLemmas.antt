@@ -11,10 +11,11 @@ use Rattle.qc_model.specs.declared.decision.Decision.{Decision}
 use Rattle.qc_model.specs.Instance.{InstanceView, Valid}
 use Rattle.qc_model.specs.Nodes.{Fits, Meets, forced, head}
 use Rattle.qc_starts.specs.Arcs.{AreArcs, AreLow, IsArc, leads, newest_length}
-use Rattle.qc_starts.specs.NodeArcs.{NodeArcs}
-use Rattle.qc_starts.specs.Spread.{IsBackAtRoot, IsIn, IsLifted, IsMet, IsRaisedBy, IsRaising, IsRooting, IsSpreading, from_task, is_late, is_pending, left, left_of, one_of, total}
+use Rattle.qc_starts.specs.NodeArcs.{IsSound, NodeArcs}
+use Rattle.qc_starts.specs.Spread.{IsBackAtRoot, IsIn, IsInto, IsLifted, IsMet, IsOnly, IsRaisedBy, IsRaising, IsRooting, IsSpreading, from_task, into_task, is_late, is_pending, left, left_of, one_of, total}
 use Rattle.qc_starts.specs.Values.{AreAtMost, AreRest, IsReason, code_of, raised, raiser_at, raiser_of, start_at}
 use Rattle.qc_starts.proofs.Counts.{total-le, total-lt}
+use Rattle.qc_starts.proofs.RestLemmas.{soon_of}
 use Rattle.qc_starts.proofs.SelfLemmas.{self_free}
 
 -- ---- arcs
@@ -558,3 +559,229 @@ module _ (net : NodeArcs) (root task : ℕ) (olds cells : List ℕ) (pending : L
     looking_step are_marks other =
         subst₂ (λ (xs : List ℕ) (ms : List Bool). IsLooking net root task olds xs ms rest before)
         (sym starts_are) (sym are_marks) (looking_next (is_late cells arc) refl other)
+
+-- ---- the arcs into the root, one after another
+
+-- what holds while they are looked at
+pub record IsEntering
+    (net : NodeArcs) (root : ℕ) (olds cells : List ℕ) (pending : List Bool) (rest : List Edge) : Type 0 where
+  pub into : IsInto net root olds cells rest
+  pub only : IsOnly pending (length net.inst.tasks) root
+  pub inside : (arc : Edge) → IsIn rest arc → IsIn net.arcs arc × (arc.to ≡ root)
+
+pub entering_begins : (net : NodeArcs) (root : ℕ) (olds cells : List ℕ) (pending : List Bool) (arcs : List Edge)
+    → arcs ≡ into_task root net.arcs → IsInto net root olds cells (into_task root net.arcs)
+    → IsOnly pending (length net.inst.tasks) root → IsEntering net root olds cells pending arcs
+entering_begins net root olds cells pending arcs are into only = record {
+  into = subst (IsInto net root olds cells) (sym are) into;
+  only = only;
+  inside = λ arc in_.
+      let found = filter_in (λ arc. eqb arc.to root) net.arcs arc (subst (λ (xs : List Edge). IsIn xs arc) are in_) in
+      (found.0, eqb-true arc.to root found.1);
+}
+
+pub entering_ends : (net : NodeArcs) (root : ℕ) (olds cells : List ℕ) (pending : List Bool) → IsSound net
+    → IsEntering net root olds cells pending [] → IsSpreading net root olds cells pending []
+entering_ends net root olds cells pending sound is =
+    spread_begins net root olds cells is.into.rooting is.into.above is.into.low
+    (λ arc in_ same. elim (is.into.met arc in_ same) [ inl met ↦ met | inr never ↦ absurd never ])
+    sound.all pending is.only.size is.only.first is.only.others
+
+module _ (net : NodeArcs) (root : ℕ) (olds cells : List ℕ) (pending : List Bool) (rest : List Edge) (arc : Edge)
+    (sound : IsSound net) (is : IsEntering net root olds cells pending (arc ∷ rest)) where
+  entering_in : IsIn net.arcs arc
+  entering_in = (is.inside arc (inl refl)).0
+
+  to_root : arc.to ≡ root
+  to_root = (is.inside arc (inl refl)).1
+
+  pub entering_asks : IsArc net.inst net.decisions arc
+  entering_asks = arc_of (IsArc net.inst net.decisions) net.arcs sound.all.each arc entering_in
+
+  from_other : (one : Edge) → IsIn net.arcs one → one.to ≡ root → one.from ≢ root
+  from_other one in_ same loop =
+      let asks = arc_of (IsArc net.inst net.decisions) net.arcs sound.all.each one in_ in
+      let self : forced net.inst net.decisions root root ≡ Some asks.ticks =
+      subst₂ (λ (i j : ℕ). forced net.inst net.decisions i j ≡ Some asks.ticks) loop same asks.is in
+      let clash : None ≡ Some asks.ticks = sym (self_free net.inst net.decisions sound.valid sound.fits root) ∙ self in
+      absurd (cc)
+
+  pub entering_fits : start_at cells arc.from + arc.len ≤ 18446744073709551615
+  entering_fits =
+      let short = arc_of (λ arc. arc.len ≤ 2147483648) net.arcs sound.low arc entering_in in
+      let off = from_other arc entering_in to_root in
+      omega (arith, is.into.rooting.still arc.from entering_asks.from off,
+      is.into.rooting.raising.soon arc.from entering_asks.from, short)
+
+  entering_next : (late : Bool) → is_late cells arc ≡ late
+      → IsEntering net root olds
+      (cond late (raised (length net.inst.tasks) cells arc.to (start_at cells arc.from + arc.len) (Some arc.from)) cells)
+      (cond late (slice_set pending arc.to true) pending) rest
+  entering_next false early = record {
+    into = record {
+      rooting = is.into.rooting;
+      above = is.into.above;
+      low = is.into.low;
+      met = λ one in_ same. elim (is.into.met one in_ same) [
+        | inl met ↦ inl met
+        | inr left_over ↦ elim left_over [
+          | inl this ↦ inl (subst (IsMet cells) this (ltb-false (start_at cells arc.to) (start_at cells arc.from + arc.len) early))
+          | inr more ↦ inr more
+        ]
+      ];
+    };
+    only = is.only;
+    inside = λ one in_. is.inside one (inr in_);
+  }
+  entering_next true late =
+      let s = start_at cells arc.from + arc.len in
+      let rooted = rooting_arc net root olds cells is.into.rooting sound.valid sound.fits sound.all sound.low arc
+          entering_in to_root late in
+      let r = arc_raise net root olds cells sound.valid sound.fits sound.all sound.low arc entering_in late
+          is.into.rooting.raising (λ other. absurd (other to_root)) in
+      let here = start_here net root olds cells arc.to s (Some arc.from) is.into.rooting.raising r in
+      let same_start = start_other net root olds cells arc.to s (Some arc.from) is.into.rooting.raising r in
+      let news = raised (length net.inst.tasks) cells arc.to s (Some arc.from) in
+      let root_is : start_at news root ≡ s = ap (start_at news) (sym to_root) ∙ here in
+      let old_root = ap (start_at cells) to_root in
+      record {
+        into = record {
+          rooting = subst (λ (x : ℕ). IsRooting net root olds (raised (length net.inst.tasks) cells x s (Some arc.from)))
+              (sym to_root) rooted;
+          above = omega (arith, is.into.above, root_is, r.late, old_root);
+          low = is.into.low;
+          met = λ one in_ same.
+              let asks = arc_of (IsArc net.inst net.decisions) net.arcs sound.all.each one in_ in
+              let off = from_other one in_ same in
+              let from = same_start one.from asks.from (λ e. off (e ∙ to_root)) in
+              let to = ap (start_at news) same in
+              let old_to = ap (start_at cells) same in
+              elim (is.into.met one in_ same) [
+                | inl met ↦ inl (omega (arith, from, to, old_to, root_is, met, r.late, old_root))
+                | inr left_over ↦ elim left_over [
+                  | inl this ↦
+                      let off_this = from_other arc entering_in to_root in
+                      let from_this = same_start arc.from entering_asks.from (λ e. off_this (e ∙ to_root)) in
+                      let now : IsMet news arc = omega (arith, here, from_this) in
+                      inl (subst (IsMet news) this now)
+                  | inr more ↦ inr more
+                ]
+              ];
+        };
+        only = record {
+          size = length-set pending arc.to true ∙ is.only.size;
+          first =
+              ap (is_pending (slice_set pending arc.to true)) (sym to_root)
+              ∙ get_or-set_same pending arc.to true false (omega (arith, is.only.size, entering_asks.to));
+          others = λ j other.
+              get_or-set_other pending arc.to j true false (λ e. other (e ∙ to_root)) ∙ is.only.others j other;
+        };
+        inside = λ one in_. is.inside one (inr in_);
+      }
+
+  pub entering_step : (after : List ℕ) (marks : List Bool) (k : ℕ) → k ≡ length net.inst.tasks
+      → after ≡ cond (is_late cells arc)
+        (raised k cells arc.to (start_at cells arc.from + arc.len) (Some arc.from)) cells
+      → marks ≡ cond (is_late cells arc) (slice_set pending arc.to true) pending
+      → IsEntering net root olds after marks rest
+  entering_step after marks k same starts are_marks =
+      let starts_are = subst (λ (m : ℕ). after ≡ cond (is_late cells arc)
+          (raised m cells arc.to (start_at cells arc.from + arc.len) (Some arc.from)) cells) same starts in
+      subst₂ (λ (xs : List ℕ) (ms : List Bool). IsEntering net root olds xs ms rest)
+      (sym starts_are) (sym are_marks) (entering_next (is_late cells arc) refl)
+
+-- ---- the root's head
+
+module _ (net : NodeArcs) (root : ℕ) (olds cells : List ℕ) (rooting : IsRooting net root olds cells) (h : ℕ)
+    (is : h ≡ head net.inst net.decisions root) (low : h ≤ 2147483648) where
+  all_into : (arc : Edge) → IsIn net.arcs arc → arc.to ≡ root → IsIn (into_task root net.arcs) arc
+  all_into arc in_ same = in_filter (λ arc. eqb arc.to root) net.arcs arc in_ (eq-eqb arc.to root same)
+
+  pub head_early : h ≤ start_at cells root → IsInto net root olds cells (into_task root net.arcs)
+  head_early early = record {
+    rooting = rooting;
+    above = omega arith;
+    low = omega arith;
+    met = λ arc in_ same. inr (all_into arc in_ same);
+  }
+
+  pub head_late : start_at cells root < h
+      → IsInto net root olds (raised (length net.inst.tasks) cells root h None) (into_task root net.arcs)
+  head_late late =
+      let rooted = rooting_head net root olds cells rooting (omega arith) (omega arith) in
+      subst (λ (s : ℕ). IsInto net root olds (raised (length net.inst.tasks) cells root s None) (into_task root net.arcs)) (sym is)
+      (record {
+        rooting = rooted;
+        above = omega (arith, rooted_start rooted);
+        low = omega arith;
+        met = λ arc in_ same. inr (all_into arc in_ same);
+      })
+    where
+      rooted_start : IsRooting net root olds
+          (raised (length net.inst.tasks) cells root (head net.inst net.decisions root) None)
+          → start_at (raised (length net.inst.tasks) cells root (head net.inst net.decisions root) None) root
+          ≡ head net.inst net.decisions root
+      rooted_start _ =
+          start_here net root olds cells root (head net.inst net.decisions root) None rooting.raising (record {
+            task = rooting.raising.inside;
+            late = omega arith;
+            reason = omega arith;
+            least = λ others meets. meets.heads root rooting.raising.inside;
+            bound = λ other. absurd (other refl);
+            by = λ other. absurd (other refl);
+          })
+
+-- ---- the end
+
+pub spread_ends : (net : NodeArcs) (root : ℕ) (olds cells : List ℕ) (pending : List Bool) → IsSound net
+    → ((j : ℕ) → j < length pending → is_pending pending j ≡ false)
+    → IsSpreading net root olds cells pending [] → AreRest net.inst net.decisions cells
+spread_ends net root olds cells pending sound none is = record {
+  count = is.raising.count;
+  heads = heads;
+  steps = steps;
+  reasons = is.raising.reasons;
+  least = is.raising.least;
+  low = low;
+  soon = λ j under.
+      let soon = soon_of net.inst net.decisions cells sound.valid is.raising.count heads steps is.raising.reasons short low j under in
+      omega (arith, soon);
+}
+  where
+    all_done : (j : ℕ) → is_pending pending j ≡ false
+    all_done j = elim (cases_lt j (length pending)) [
+      | inl l ↦ none j l
+      | inr l ↦ get_or-eq_default pending false l
+    ]
+
+    heads : (j : ℕ) → j < length net.inst.tasks → head net.inst net.decisions j ≤ start_at cells j
+    heads j under = elim (cases_eq j root) [
+      | inl same ↦ subst (λ (x : ℕ). head net.inst net.decisions x ≤ start_at cells x) (sym same) is.above
+      | inr other ↦ is.raising.heads j under other
+    ]
+
+    low : (j : ℕ) → j < length net.inst.tasks → head net.inst net.decisions j ≤ 2147483648
+    low j under = elim (cases_eq j root) [
+      | inl same ↦ subst (λ (x : ℕ). head net.inst net.decisions x ≤ 2147483648) (sym same) is.low
+      | inr other ↦ is.raising.low j under other
+    ]
+
+    steps : (i j len : ℕ) → i < length net.inst.tasks → j < length net.inst.tasks
+        → forced net.inst net.decisions i j ≡ Some len → start_at cells i + len ≤ start_at cells j
+    steps i j len first second asks =
+        let found = newest_in i j len net.arcs (sound.all.newest i j first second ∙ asks) in
+        elim (is.met found.0 found.1 (all_done found.0.from)) [
+          | inl met ↦ omega (arith, met, found.4, ap (start_at cells) found.2, ap (start_at cells) found.3)
+          | inr never ↦ absurd never
+        ]
+
+    short : (i j len : ℕ) → i < length net.inst.tasks → j < length net.inst.tasks
+        → forced net.inst net.decisions i j ≡ Some len → len ≤ 2147483648
+    short i j len first second asks =
+        let found = newest_in i j len net.arcs (sound.all.newest i j first second ∙ asks) in
+        omega (arith, arc_of (λ arc. arc.len ≤ 2147483648) net.arcs sound.low found.0 found.1, found.4)
+
+-- all arcs from a task are looked at
+pub look_from : (task : ℕ) (arcs : List Edge) (arc : Edge) → IsIn arcs arc → arc.from ≡ task
+    → IsIn (from_task task arcs) arc
+look_from task arcs arc in_ same = in_filter (λ arc. eqb arc.from task) arcs arc in_ (eq-eqb arc.from task same)

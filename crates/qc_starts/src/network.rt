@@ -4,7 +4,7 @@ ghost use Rattle.std.specs.Prelude.{◌≡◌, ◌-◌, ◌<◌, ◌≤◌, [], 
 ghost use Rattle.qc_model.specs.Instance.{Valid};
 ghost use Rattle.qc_model.specs.Nodes.{Fits};
 ghost use Rattle.qc_dist.specs.Node.{IsOpen};
-ghost use Rattle.qc_starts.specs.Arcs.{AreArcs, AreLow};
+ghost use Rattle.qc_starts.specs.NodeArcs.{IsSound};
 
 use crate::arcs::{decide, open_arena};
 use qc_arena::ArcArena;
@@ -71,6 +71,7 @@ impl Network {
         requires open { IsOpen inst.now self.old.decisions decision }
         ensures inst { self.new.inst ≡ self.old.inst }
         ensures decisions { self.new.decisions ≡ decision ∷ self.old.decisions }
+        ensures sound { IsSound self.new }
     {
         let mark = self.arena.len();
         decide(&mut self.decisions, inst, decision, &mut self.arena);
@@ -110,10 +111,7 @@ impl Network {
     pub(crate) fn arena(&self) -> &ArcArena
         ensures arcs { reverse result.now.arcs ≡ self.now.arcs }
         ensures nodes { result.now.nodes ≡ length self.now.inst.tasks }
-        ensures low { AreLow self.now.arcs }
-        ensures fits { Fits self.now.inst self.now.decisions }
-        ensures valid { Valid self.now.inst }
-        ensures all { AreArcs self.now.inst self.now.decisions self.now.arcs }
+        ensures sound { IsSound self.now }
     {
         &self.arena
     }

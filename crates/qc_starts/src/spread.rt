@@ -1,6 +1,7 @@
 // Starts that are raised behind a task, along the arcs, until none is too low.
 
 ghost use Rattle.std.specs.Prelude.{◌≡◌, ℕ, ◌+◌, ◌*◌, ◌^◌, ◌<◌, ◌≤◌, ◌&&◌, ◌==◌, true, false, [], if◌then◌else◌, IfOk, IfSome, IsTrue, MatchOption, None, Some, length, slice_set};
+ghost use Rattle.qc_starts.specs.NodeArcs.{IsSound};
 ghost use Rattle.qc_starts.specs.Noting.{HasNotes, Wrote};
 ghost use Rattle.qc_starts.specs.Spread.{IsInto, IsLifted, IsLooked, IsOnly, IsPick, IsRooting, IsSettledTo, IsSpread, IsSpreading, from_task, into_task, is_late, left};
 ghost use Rattle.qc_starts.specs.Values.{raised, start_at};
@@ -123,6 +124,7 @@ impl Spread {
 
     /// Raises starts behind the root until none is too low; whether a raise came back to it.
     fn raise_behind<L: Ledger>(&mut self, network: &Network, root: u16, steps: &mut Steps<L>) -> bool
+        requires sound { IsSound network.now }
         requires spreading { IsSpreading network.now root self.old.olds.items self.old.values.cells
             self.old.pending.items [] }
         requires size { length self.old.olds.items ≡ length network.now.inst.tasks }
@@ -187,6 +189,7 @@ impl Spread {
         root: u16,
         steps: &mut Steps<L>,
     ) -> Step
+        requires sound { IsSound network.now }
         requires same { network.now.inst ≡ inst.now }
         requires rooting { IsRooting network.now root self.old.olds.items self.old.values.cells }
         requires size { length self.old.olds.items ≡ length network.now.inst.tasks }

@@ -30,8 +30,8 @@ raise_by-requires-clause-from g c =
         c.loop-arc.self.values.cells c.loop-arc.self.pending.items rest before) c.in-Some.ensures.steps
         c.loop-arc.invariant.looking in
     let asks = looking_asks net c.args.root c.args.task c.args.self.now.olds.items c.loop-arc.self.values.cells
-        c.loop-arc.self.pending.items c.next.new.self before c.in-Some.arc c.arena.ensures.valid c.arena.ensures.fits
-        c.arena.ensures.all c.arena.ensures.low is in
+        c.loop-arc.self.pending.items c.next.new.self before c.in-Some.arc c.arena.ensures.sound.valid c.arena.ensures.sound.fits
+        c.arena.ensures.sound.all c.arena.ensures.sound.low is in
     omega (arith, asks.from, is.spreading.size)
 
 pub raise_by-requires-clause-to : goal.raise_by-requires-clause-to
@@ -43,13 +43,13 @@ raise_by-requires-clause-to g c =
         c.loop-arc.self.values.cells c.loop-arc.self.pending.items rest before) c.in-Some.ensures.steps
         c.loop-arc.invariant.looking in
     let asks = looking_asks net c.args.root c.args.task c.args.self.now.olds.items c.loop-arc.self.values.cells
-        c.loop-arc.self.pending.items c.next.new.self before c.in-Some.arc c.arena.ensures.valid c.arena.ensures.fits
-        c.arena.ensures.all c.arena.ensures.low is in
+        c.loop-arc.self.pending.items c.next.new.self before c.in-Some.arc c.arena.ensures.sound.valid c.arena.ensures.sound.fits
+        c.arena.ensures.sound.all c.arena.ensures.sound.low is in
     omega (arith, asks.to, is.spreading.size)
 
 pub raise_by-requires-clause-few : goal.raise_by-requires-clause-few
 raise_by-requires-clause-few g c =
-    omega (arith, c.loop-arc.invariant.looking.spreading.size, c.arena.ensures.valid.tasks.count)
+    omega (arith, c.loop-arc.invariant.looking.spreading.size, c.arena.ensures.sound.valid.tasks.count)
 
 pub raise_by-requires-clause-count : goal.raise_by-requires-clause-count
 raise_by-requires-clause-count g c =
@@ -64,8 +64,8 @@ raise_by-requires-clause-fits g c =
         c.loop-arc.self.values.cells c.loop-arc.self.pending.items rest before) c.in-Some.ensures.steps
         c.loop-arc.invariant.looking in
     let fits = looking_fits net c.args.root c.args.task c.args.self.now.olds.items c.loop-arc.self.values.cells
-        c.loop-arc.self.pending.items c.next.new.self before c.in-Some.arc c.arena.ensures.valid c.arena.ensures.fits
-        c.arena.ensures.all c.arena.ensures.low is in
+        c.loop-arc.self.pending.items c.next.new.self before c.in-Some.arc c.arena.ensures.sound.valid c.arena.ensures.sound.fits
+        c.arena.ensures.sound.all c.arena.ensures.sound.low is in
     omega (arith, fits)
 
 pub returns-then-raise_by-clause-wrote : goal.returns-then-raise_by-clause-wrote
@@ -84,8 +84,8 @@ returns-then-raise_by-clause-looked g c =
         c.loop-arc.invariant.looking in
     let olds_are = c.raise_by.ensures.olds ∙ c.loop-arc.invariant.olds in
     let back = looking_home net c.args.root c.args.task olds c.loop-arc.self.values.cells
-        c.loop-arc.self.pending.items c.next.new.self before c.in-Some.arc c.arena.ensures.valid c.arena.ensures.fits
-        c.arena.ensures.all c.arena.ensures.low is c.raise_by.new.self.values.cells c.raise_by.new.self.pending.items
+        c.loop-arc.self.pending.items c.next.new.self before c.in-Some.arc c.arena.ensures.sound.valid c.arena.ensures.sound.fits
+        c.arena.ensures.sound.all c.arena.ensures.sound.low is c.raise_by.new.self.values.cells c.raise_by.new.self.pending.items
         (length c.loop-arc.self.pending.items) is.spreading.size c.raise_by.ensures.cells
         (sym c.raise_by.ensures.back ∙ c.if-raise_by.true) in
     subst (λ (xs : List ℕ). IsBackAtRoot net c.args.root xs c.raise_by.new.self.values.cells) (sym olds_are) back
@@ -103,8 +103,8 @@ loop-arc-preserved g c =
       can = tt;
       finite = tt;
       looking = looking_step net c.args.root c.args.task olds c.loop-arc.self.values.cells
-          c.loop-arc.self.pending.items c.next.new.self before c.in-Some.arc c.arena.ensures.valid c.arena.ensures.fits
-          c.arena.ensures.all c.arena.ensures.low is c.raise_by.new.self.values.cells c.raise_by.new.self.pending.items
+          c.loop-arc.self.pending.items c.next.new.self before c.in-Some.arc c.arena.ensures.sound.valid c.arena.ensures.sound.fits
+          c.arena.ensures.sound.all c.arena.ensures.sound.low is c.raise_by.new.self.values.cells c.raise_by.new.self.pending.items
           (length c.loop-arc.self.pending.items) is.spreading.size c.raise_by.ensures.cells c.raise_by.ensures.pending
           (sym c.raise_by.ensures.back ∙ c.if-raise_by.false);
       olds = c.raise_by.ensures.olds ∙ c.loop-arc.invariant.olds;
