@@ -416,7 +416,7 @@ opening_ends inst arcs few is = record {
 }
 
 module _ (inst : InstanceView) (valid : Valid inst) where
-  before_true : (i j n : ℕ) → forced inst [] i j ≡ Some n → is_before inst i j ≡ true
+  pub before_true : (i j n : ℕ) → forced inst [] i j ≡ Some n → is_before inst i j ≡ true
   before_true i j n is = elim (cases_Bool (is_before inst i j)) [
     | inl holds ↦ holds
     | inr fails ↦

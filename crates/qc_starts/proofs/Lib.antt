@@ -8,3 +8,5 @@ pub mod LevelLemmas
 pub mod NotingLemmas
 pub mod SpreadLemmas
 pub mod DecidedLemmas
+pub mod PlaceLemmas
+pub mod RaisedLemmas

@@ -24,6 +24,13 @@ marks_more noted p low free =
     let none = ap one_of free in
     omega (arith, more, none)
 
+pub marks_less : (noted : List Bool) (p : ℕ) → p < length noted → slice_index_or noted p false ≡ true
+    → marks (slice_set noted p false) + 1 ≡ marks noted
+marks_less noted p low full =
+    let less = sum_by-set one_of noted p false false low in
+    let one = ap one_of full in
+    omega (arith, less, one)
+
 pub marks_below : (noted : List Bool) (p : ℕ) → p < length noted → slice_index_or noted p true ≡ false
     → marks noted < length noted
 marks_below noted p low free =

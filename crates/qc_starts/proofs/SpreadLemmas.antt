@@ -15,6 +15,7 @@ use Rattle.qc_starts.specs.NodeArcs.{IsSound, NodeArcs}
 use Rattle.qc_starts.specs.Spread.{IsBackAtRoot, IsIn, IsInto, IsLifted, IsMet, IsOnly, IsRaisedBy, IsRaising, IsRooting, IsSpreading, from_task, into_task, is_late, is_pending, left, left_of, one_of, total}
 use Rattle.qc_starts.specs.Values.{AreAtMost, AreRest, IsReason, code_of, raised, raiser_at, raiser_of, start_at}
 use Rattle.qc_starts.proofs.Counts.{total-le, total-lt}
+use Rattle.qc_starts.proofs.RaisedLemmas.{raised_count, raised_here, raised_other, reason_of_here, reason_of_other}
 use Rattle.qc_starts.proofs.RestLemmas.{soon_of}
 use Rattle.qc_starts.proofs.SelfLemmas.{self_free}
 
@@ -40,12 +41,6 @@ newest_in i j len (arc ∷ arcs) is = elim (cases_Bool (leads i j arc)) [
 
 -- ---- a raise
 
-raiser_code : (why : Option ℕ) → raiser_of (code_of why) ≡ why
-raiser_code None = refl
-raiser_code (Some i) =
-    let differ = λ (e : i + 1 ≡ 0). absurd (omega arith) in
-    cond-false (eqb (i + 1) 0) None (Some (i + 1 - 1)) (ne_eqb (i + 1) 0 differ) ∙ ap Some (omega arith)
-
 -- why a task may be raised to this start
 abbrev pub IsReasonFor : NodeArcs → List ℕ → ℕ → ℕ → Option ℕ → Type 0
 IsReasonFor net cells z s None = s ≤ head net.inst net.decisions z
@@ -69,33 +64,17 @@ module _ (net : NodeArcs) (root : ℕ) (olds cells : List ℕ) (z s : ℕ) (why 
   abbrev news : List ℕ
   news = raised n cells z s why
 
-  abbrev half : List ℕ
-  half = slice_set cells z s
-
-  count_kept : length news ≡ length cells
-  count_kept = length-set half (n + z) (code_of why) ∙ length-set cells z s
-
   pub start_here : start_at news z ≡ s
-  start_here =
-      let away : z ≢ n + z = λ e. absurd (omega (arith, r.task)) in
-      get_or-set_other half (n + z) z (code_of why) 0 away
-      ∙ get_or-set_same cells z s 0 (omega (arith, r.task, is.count))
+  start_here = raised_here n cells z s why r.task is.count
 
   pub start_other : (j : ℕ) → j < n → j ≢ z → start_at news j ≡ start_at cells j
-  start_other j low other =
-      let away : j ≢ n + z = λ e. absurd (omega arith) in
-      get_or-set_other half (n + z) j (code_of why) 0 away ∙ get_or-set_other cells z j s 0 other
+  start_other = raised_other n cells z s why r.task is.count
 
   pub raiser_here : raiser_at n news z ≡ why
-  raiser_here =
-      let under : n + z < length half = omega (arith, length-set cells z s, is.count, r.task) in
-      ap raiser_of (get_or-set_same half (n + z) (code_of why) 0 under) ∙ raiser_code why
+  raiser_here = reason_of_here n cells z s why r.task is.count
 
   raiser_other : (j : ℕ) → j < n → j ≢ z → raiser_at n news j ≡ raiser_at n cells j
-  raiser_other j low other =
-      let away : n + j ≢ n + z = λ e. other (omega arith) in
-      let off : n + j ≢ z = λ e. absurd (omega (arith, r.task)) in
-      ap raiser_of (get_or-set_other half (n + z) (n + j) (code_of why) 0 away ∙ get_or-set_other cells z (n + j) s 0 off)
+  raiser_other = reason_of_other n cells z s why r.task is.count
 
   pub starts_up : (j : ℕ) → j < n → start_at cells j ≤ start_at news j
   starts_up j low = elim (cases_eq j z) [
@@ -127,7 +106,7 @@ module _ (net : NodeArcs) (root : ℕ) (olds cells : List ℕ) (z s : ℕ) (why 
 
   pub raise_keeps : IsRaising net root olds news
   raise_keeps = record {
-    count = count_kept ∙ is.count;
+    count = raised_count n cells z s why r.task is.count ∙ is.count;
     inside = is.inside;
     heads = λ j low other. omega (arith, is.heads j low other, starts_up j low);
     low = is.low;

@@ -3,6 +3,7 @@ pub mod Found
 pub mod Network
 pub mod Noting
 pub mod NodeArcs
+pub mod Place
 pub mod Seen
 pub mod Spread
 pub mod Values

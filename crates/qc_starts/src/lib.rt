@@ -6,6 +6,7 @@ mod complete;
 mod latest;
 mod network;
 mod noted;
+mod place;
 mod spread;
 mod step;
 mod tasks;

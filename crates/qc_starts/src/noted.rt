@@ -35,7 +35,7 @@ pub(crate) struct Noted {
     pub(crate) cells: Cells,
     pub(crate) trail: Trail,
     /// Whether the newest decision has noted the cell.
-    noted: Vec<bool>,
+    pub(crate) noted: Vec<bool>,
 }
 
 impl Noted {
@@ -132,5 +132,24 @@ impl Noted {
     {
         self.write(task as u32, start, steps);
         self.write(count as u32 + task as u32, code_of(raiser), steps);
+    }
+
+    /// Writes when a task of so many starts, and the task that raised it, without a note.
+    pub(crate) fn fill<L: Ledger>(
+        &mut self,
+        count: u16,
+        task: u16,
+        start: Tick,
+        raiser: Option<u16>,
+        steps: &mut Steps<L>,
+    )
+        requires task { task < count }
+        requires count { length self.old.cells ≡ 2 * count }
+        ensures cells { self.new.cells ≡ raised count self.old.cells task start raiser }
+        ensures trail { self.new.trail ≡ self.old.trail }
+        ensures noted { self.new.noted.items ≡ self.old.noted.items }
+    {
+        self.cells.set(task as u32, start, steps);
+        self.cells.set(count as u32 + task as u32, code_of(raiser), steps);
     }
 }

@@ -21,9 +21,9 @@ use std::sync::ledger::Ledger;
 pub(crate) struct Spread {
     pub(crate) values: Noted,
     /// When each task started before the newest decision.
-    olds: Vec<Tick>,
+    pub(crate) olds: Vec<Tick>,
     /// Whether the arcs from a task are still to be looked at.
-    pending: Vec<bool>,
+    pub(crate) pending: Vec<bool>,
 }
 
 /// Copies the first values.
