@@ -10,3 +10,4 @@ pub mod SpreadLemmas
 pub mod DecidedLemmas
 pub mod PlaceLemmas
 pub mod RaisedLemmas
+pub mod KeptLemmas

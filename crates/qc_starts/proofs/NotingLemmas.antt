@@ -1,9 +1,9 @@
 -- A note of a cell that isn't marked, and a write of one that is.
-use Rattle.std.proofs.Common.{◌≡◌, ◌≢◌, ℕ, zero, suc, ◌+◌, ◌<◌, ◌≤◌, Bool, true, false, inl, inr, List, [], ◌∷◌, ◌++◌, length, cond, refl, sym, ap, subst, ◌∙◌, append_assoc, length-append, arith}
-use Rattle.std.proofs.lemmas.Bool.{cases_eq, false≢true}
-use Rattle.std.proofs.lemmas.List.{get_or-set_same, get_or-set_other}
-use Rattle.std.proofs.lemmas.List.Sums.{count_by-le-length, sum_by-set}
-use Rattle.std.proofs.Math.ListN.{length-set}
+use Rattle.std.proofs.Common.{◌≡◌, ◌≢◌, ℕ, zero, suc, ◌+◌, ◌<◌, ◌≤◌, Bool, true, false, inl, inr, List, [], ◌∷◌, ◌++◌, length, cond, refl, sym, ap, subst, ◌∙◌, append_assoc, ext_get_or, length-append, arith}
+use Rattle.std.proofs.lemmas.Bool.{cases_eq, cases_lt, false≢true}
+use Rattle.std.proofs.lemmas.List.{append-nil, get_or_default, get_or-set_same, get_or-set_other}
+use Rattle.std.proofs.lemmas.List.Sums.{count_by-le-length, sum_by-cons, sum_by-set}
+use Rattle.std.proofs.Math.ListN.{get_or-eq_default, length-set}
 use Rattle.std.specs.Prelude.{slice_index, slice_index_or, slice_set}
 use Rattle.qc_trail.specs.declared.trail.Note.{Note}
 use Rattle.qc_trail.specs.Trails.{Notes, written_back}
@@ -108,4 +108,32 @@ wrote_none a x notes = record {
   cap = refl;
   noting = λ earlier olds is. is;
   counted = omega arith;
+}
+
+pub marks_none : (noted : List Bool) → ((k : ℕ) → k < length noted → slice_index_or noted k true ≡ false)
+    → marks noted ≡ 0
+marks_none [] none = refl
+marks_none (b ∷ bs) none =
+    let rest = marks_none bs (λ k low. none (suc k) (omega arith)) in
+    let here = ap one_of (none 0 (omega arith)) in
+    omega (arith, rest, here, sum_by-cons one_of b bs)
+
+pub all_clear : (marks : List Bool) → ((k : ℕ) → k < length marks → slice_index_or marks k true ≡ false)
+    → (j : ℕ) → slice_index_or marks j false ≡ false
+all_clear marks none j = elim (cases_lt j (length marks)) [
+  | inl l ↦ get_or_default marks j false true l ∙ none j l
+  | inr l ↦ get_or-eq_default marks false l
+]
+
+-- a decision begins with no note
+pub noting_begins : (v : Noted) → marks v.noted.items ≡ 0 → length v.noted.items ≡ length v.cells
+    → ((k : ℕ) → k < length v.noted.items → slice_index_or v.noted.items k true ≡ false)
+    → IsNoting v.trail.notes v.cells v
+noting_begins v none size clear = record {
+  since = [];
+  notes = sym (append-nil v.trail.notes);
+  count = sym none;
+  size = refl;
+  same = λ p low free. refl;
+  back = λ others count agree. ext_get_or 0 others v.cells count (λ p low. agree p (omega arith) (clear p (omega arith)));
 }

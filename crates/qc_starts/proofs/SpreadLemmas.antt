@@ -764,3 +764,8 @@ spread_ends net root olds cells pending sound none is = record {
 pub look_from : (task : ℕ) (arcs : List Edge) (arc : Edge) → IsIn arcs arc → arc.from ≡ task
     → IsIn (from_task task arcs) arc
 look_from task arcs arc in_ same = in_filter (λ arc. eqb arc.from task) arcs arc in_ (eq-eqb arc.from task same)
+
+pub set_size : (after before : List Bool) (late : Bool) (p : ℕ)
+    → after ≡ cond late (slice_set before p true) before → length after ≡ length before
+set_size after before true p is = ap (length {A = Bool}) is ∙ length-set before p true
+set_size after before false p is = ap (length {A = Bool}) is

@@ -1,9 +1,12 @@
 pub mod Arcs
+pub mod Fields
 pub mod Found
 pub mod Network
 pub mod Noting
 pub mod NodeArcs
+pub mod Opened
 pub mod Place
+pub mod Roots
 pub mod Seen
 pub mod Spread
 pub mod Values

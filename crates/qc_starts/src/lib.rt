@@ -8,8 +8,10 @@ mod network;
 mod noted;
 mod place;
 mod spread;
+mod starts;
 mod step;
 mod tasks;
 mod walk;
 
+pub use starts::Starts;
 pub use step::Step;

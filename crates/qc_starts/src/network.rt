@@ -54,6 +54,7 @@ impl Network {
     pub(crate) fn open(alloc: Global, inst: &Instance) -> Result<Network, OutOfMemory>
         ensures inst { IfOk result (λ network. network.inst ≡ inst.now) }
         ensures decisions { IfOk result (λ network. network.decisions ≡ []) }
+        ensures sound { IfOk result IsSound }
     {
         let decisions = Decisions::new(alloc, inst)?;
         let arena = open_arena(alloc, inst, &decisions)?;
@@ -83,6 +84,7 @@ impl Network {
         requires { 0 < length self.old.decisions }
         ensures inst { self.new.inst ≡ self.old.inst }
         ensures decisions { self.new.decisions ≡ drop 1 self.old.decisions }
+        ensures sound { IsSound self.new }
     {
         let _ = self.decisions.undo();
         let Some(mark) = self.marks.pop() else {

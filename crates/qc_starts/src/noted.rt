@@ -1,7 +1,8 @@
 // Cells that are written with a note of what they held, once for each decision.
 
-ghost use Rattle.std.specs.Prelude.{◌≡◌, ℕ, ◌+◌, ◌*◌, ◌<◌, ◌≤◌, ◌^◌, [], IfOk, IfSome, List, false, true, length, replicate, slice_index, slice_index_or, slice_set};
+ghost use Rattle.std.specs.Prelude.{◌≡◌, ℕ, ◌+◌, ◌-◌, ◌*◌, ◌<◌, ◌≤◌, ◌^◌, [], All, drop, take, IfOk, IfSome, List, false, true, length, replicate, slice_index, slice_index_or, slice_set};
 ghost use Rattle.qc_trail.specs.declared.trail.Note.{Note};
+ghost use Rattle.qc_trail.specs.Trails.{written_back};
 ghost use Rattle.qc_starts.specs.Noting.{HasNotes, IsNoting, Wrote};
 ghost use Rattle.qc_starts.specs.Values.{code_of, raised, raiser_at, start_at};
 
@@ -151,5 +152,17 @@ impl Noted {
     {
         self.cells.set(task as u32, start, steps);
         self.cells.set(count as u32 + task as u32, code_of(raiser), steps);
+    }
+
+    /// Writes back what was noted past the mark.
+    pub(crate) fn back<L: Ledger>(&mut self, mark: u32, steps: &mut Steps<L>)
+        requires mark { mark ≤ length self.old.trail.notes }
+        requires places { All (λ note. note.place < length self.old.cells) self.old.trail.notes }
+        ensures trail { self.new.trail ≡ record self.old.trail { notes = take mark self.old.trail.notes } }
+        ensures cells { self.new.cells ≡ written_back (drop mark self.old.trail.notes) self.old.cells }
+        ensures noted { self.new.noted.items ≡ self.old.noted.items }
+        ensures counted { steps.new ≡ steps.old + (length self.old.trail.notes - mark) }
+    {
+        self.trail.back(mark, &mut self.cells, steps);
     }
 }

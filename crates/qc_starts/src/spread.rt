@@ -1,8 +1,9 @@
 // Starts that are raised behind a task, along the arcs, until none is too low.
 
-ghost use Rattle.std.specs.Prelude.{◌≡◌, ℕ, ◌+◌, ◌*◌, ◌^◌, ◌<◌, ◌≤◌, ◌&&◌, ◌==◌, true, false, [], if◌then◌else◌, IfOk, IfSome, IsTrue, MatchOption, None, Some, length, slice_set};
+ghost use Rattle.std.specs.Prelude.{◌≡◌, ℕ, ◌+◌, ◌*◌, ◌^◌, ◌<◌, ◌≤◌, ◌&&◌, ◌==◌, true, false, [], if◌then◌else◌, IfOk, IfSome, IsTrue, MatchOption, None, Some, length, slice_index_or, slice_set};
 ghost use Rattle.qc_starts.specs.NodeArcs.{IsSound};
 ghost use Rattle.qc_starts.specs.Noting.{HasNotes, Wrote};
+ghost use Rattle.qc_starts.specs.Opened.{HasBegun, IsOpened};
 ghost use Rattle.qc_starts.specs.Spread.{IsInto, IsLifted, IsLooked, IsOnly, IsPick, IsRooting, IsSettledTo, IsSpread, IsSpreading, from_task, into_task, is_late, left};
 ghost use Rattle.qc_starts.specs.Values.{raised, start_at};
 
@@ -38,6 +39,55 @@ fn copy_starts(values: &Noted, olds: &mut [Tick])
 }
 
 impl Spread {
+    /// Room for so many tasks and decisions. All tasks are still to be looked at.
+    pub(crate) fn open(alloc: Global, count: u16, decisions: u32) -> Result<Spread, OutOfMemory>
+        requires { 2 * count * decisions < 2 ^ 32 }
+        ensures { IfOk result (λ spread. IsOpened spread count decisions) }
+    {
+        Ok(Spread {
+            values: Noted::open(alloc, 2 * count as u32, decisions)?,
+            olds: vec![in alloc; 0u64; count as usize]?,
+            pending: vec![in alloc; true; count as usize]?,
+        })
+    }
+
+    /// Begins a decision behind which starts are raised from the root on.
+    pub(crate) fn begin(&mut self, root: u16)
+        requires root { root < length self.old.pending.items }
+        requires olds { length self.old.olds.items ≤ length self.old.values.cells }
+        requires few { length self.old.olds.items < 2 ^ 16 }
+        ensures begun { HasBegun self.old self.new root }
+    {
+        self.values.begin();
+        self.keep_starts();
+        self.clear_pending();
+        self.pending[root as usize] = true;
+    }
+
+    /// Copies the starts.
+    fn keep_starts(&mut self)
+        requires olds { length self.old.olds.items ≤ length self.old.values.cells }
+        requires few { length self.old.olds.items < 2 ^ 16 }
+        ensures values { self.new.values ≡ self.old.values }
+        ensures pending { self.new.pending.items ≡ self.old.pending.items }
+        ensures size { length self.new.olds.items ≡ length self.old.olds.items }
+        ensures olds { (j : ℕ) → j < length self.new.olds.items
+            → start_at self.new.olds.items j ≡ start_at self.old.values.cells j }
+    {
+        copy_starts(&self.values, &mut self.olds);
+    }
+
+    /// No task is to be looked at.
+    fn clear_pending(&mut self)
+        ensures values { self.new.values ≡ self.old.values }
+        ensures olds { self.new.olds.items ≡ self.old.olds.items }
+        ensures size { length self.new.pending.items ≡ length self.old.pending.items }
+        ensures clear { (k : ℕ) → k < length self.new.pending.items
+            → slice_index_or self.new.pending.items k true ≡ false }
+    {
+        clear(&mut self.pending);
+    }
+
     /// Raises the second task of an arc if it starts too early; whether this is the root.
     fn raise_by<L: Ledger>(&mut self, arc: Edge, root: u16, steps: &mut Steps<L>) -> bool
         requires from { arc.from < length self.old.pending.items }
@@ -108,6 +158,7 @@ impl Spread {
             self.old.pending.items (from_task task network.now.arcs) }
         requires lifted { IsLifted root self.old.olds.items self.old.values.cells task }
         requires notes { HasNotes self.old.values }
+        ensures size { length self.new.pending.items ≡ length self.old.pending.items }
         ensures olds { self.new.olds.items ≡ self.old.olds.items }
         ensures wrote { Wrote self.old.values self.new.values steps.old steps.new }
         ensures looked { IsLooked network.now root self.new.olds.items self.new.values.cells
@@ -129,6 +180,7 @@ impl Spread {
             self.old.pending.items [] }
         requires size { length self.old.olds.items ≡ length network.now.inst.tasks }
         requires notes { HasNotes self.old.values }
+        ensures size { length self.new.pending.items ≡ length self.old.pending.items }
         ensures olds { self.new.olds.items ≡ self.old.olds.items }
         ensures wrote { Wrote self.old.values self.new.values steps.old steps.new }
         ensures spread { IsSpread network.now root self.new.olds.items self.new.values.cells result }
@@ -171,6 +223,7 @@ impl Spread {
             (into_task root network.now.arcs) }
         requires only { IsOnly self.old.pending.items (length network.now.inst.tasks) root }
         requires notes { HasNotes self.old.values }
+        ensures size { length self.new.pending.items ≡ length self.old.pending.items }
         ensures olds { self.new.olds.items ≡ self.old.olds.items }
         ensures wrote { Wrote self.old.values self.new.values steps.old steps.new }
         ensures spreading { IsSpreading network.now root self.new.olds.items self.new.values.cells
@@ -195,6 +248,7 @@ impl Spread {
         requires size { length self.old.olds.items ≡ length network.now.inst.tasks }
         requires only { IsOnly self.old.pending.items (length network.now.inst.tasks) root }
         requires notes { HasNotes self.old.values }
+        ensures size { length self.new.pending.items ≡ length self.old.pending.items }
         ensures olds { self.new.olds.items ≡ self.old.olds.items }
         ensures wrote { Wrote self.old.values self.new.values steps.old steps.new }
         ensures settled { IsSettledTo network.now root self.new.olds.items self.new.values.cells result }

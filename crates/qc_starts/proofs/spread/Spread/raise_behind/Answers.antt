@@ -1,4 +1,5 @@
 use Rattle.std.proofs.Common.{◌≡◌, ℕ, ◌<◌, ◌≤◌, [], Bool, false, List, length, ap, sym, subst, subst₂, ◌∙◌, arith}
+use Rattle.std.proofs.Math.ListN.{length-set}
 use Rattle.std.specs.Prelude.{slice_set}
 use Rattle.qc_starts.specs.Spread.{IsLooked, IsPick, IsSpreading, from_task, left}
 use Rattle.qc_starts.proofs.NotingLemmas.{wrote_then}
@@ -55,6 +56,8 @@ loop-task-preserved g c =
     record {
       spreading = subst (λ (xs : List ℕ). IsSpreading net c.args.root xs
           c.raise_from.new.self.values.cells c.raise_from.new.self.pending.items []) olds_are looked.0;
+      size = c.raise_from.ensures.size
+          ∙ length-set c.loop-task.self.pending.items c.in-Some.task false ∙ c.loop-task.invariant.size;
       olds = olds_are;
       wrote = wrote_then c.args.self.now.values c.loop-task.self.values c.raise_from.new.self.values
           c.args.steps.now c.loop-task.steps c.raise_from.new.steps c.loop-task.invariant.wrote c.raise_from.ensures.wrote;

@@ -6,6 +6,7 @@ use Rattle.qc_starts.proofs.spread.Spread.raise_behind.Given as goal
 abbrev pub invariant-loop-task : goal.invariant-loop-task
 invariant-loop-task g l = record {
   spreading : IsSpreading l.network l.root l.fn.self.olds.items l.self.values.cells l.self.pending.items [];
+  size : length l.self.pending.items ≡ length l.fn.self.pending.items;
   olds : l.self.olds.items ≡ l.fn.self.olds.items;
   wrote : Wrote l.fn.self.values l.self.values l.fn.steps l.steps;
 }

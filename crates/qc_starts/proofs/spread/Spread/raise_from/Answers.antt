@@ -4,7 +4,7 @@ use Rattle.qc_arena.specs.declared.edge.Edge.{Edge}
 use Rattle.qc_starts.specs.Spread.{IsBackAtRoot, IsIn, from_task, is_late, left}
 use Rattle.qc_starts.specs.Values.{raised, start_at}
 use Rattle.qc_starts.proofs.NotingLemmas.{wrote_none, wrote_then}
-use Rattle.qc_starts.proofs.SpreadLemmas.{IsLooking, looking_asks, looking_begins, looking_fits, looking_home, looking_step}
+use Rattle.qc_starts.proofs.SpreadLemmas.{IsLooking, set_size, looking_asks, looking_begins, looking_fits, looking_home, looking_step}
 use Rattle.qc_starts.proofs.spread.Spread.raise_from.Goals as goal
 
 pub loop-arc-init : goal.loop-arc-init
@@ -17,6 +17,7 @@ loop-arc-init g c =
           c.args.self.now.values.cells c.args.self.now.pending.items c.into_iter-arc-iterator.result
           (c.into_iter-arc-iterator.ensures.into_iter_gives ∙ c.out-arc-items.ensures ∙ are)
           c.requires.spreading c.requires.lifted;
+      size = refl;
       olds = refl;
       wrote = wrote_none c.args.self.now.values c.args.steps.now c.requires.notes;
     }
@@ -107,7 +108,16 @@ loop-arc-preserved g c =
           c.arena.ensures.sound.all c.arena.ensures.sound.low is c.raise_by.new.self.values.cells c.raise_by.new.self.pending.items
           (length c.loop-arc.self.pending.items) is.spreading.size c.raise_by.ensures.cells c.raise_by.ensures.pending
           (sym c.raise_by.ensures.back ∙ c.if-raise_by.false);
+      size = set_size c.raise_by.new.self.pending.items c.loop-arc.self.pending.items
+          (is_late c.loop-arc.self.values.cells c.in-Some.arc) c.in-Some.arc.to c.raise_by.ensures.pending
+          ∙ c.loop-arc.invariant.size;
       olds = c.raise_by.ensures.olds ∙ c.loop-arc.invariant.olds;
       wrote = wrote_then c.args.self.now.values c.loop-arc.self.values c.raise_by.new.self.values
           c.args.steps.now c.loop-arc.steps c.raise_by.new.steps c.loop-arc.invariant.wrote c.raise_by.ensures.wrote;
     }
+
+pub returns-then-raise_by-clause-size : goal.returns-then-raise_by-clause-size
+returns-then-raise_by-clause-size g c =
+    set_size c.raise_by.new.self.pending.items c.loop-arc.self.pending.items
+    (is_late c.loop-arc.self.values.cells c.in-Some.arc) c.in-Some.arc.to c.raise_by.ensures.pending
+    ∙ c.loop-arc.invariant.size

@@ -10,6 +10,7 @@ invariant-loop-arc g l = record {
   finite : (goal.iterator-loop-arc g).is_finite l.arc-iterator;
   looking : IsLooking l.network l.root l.task l.fn.self.olds.items l.self.values.cells l.self.pending.items l.arc-iterator
       (left (length l.network.inst.tasks) l.root l.fn.self.olds.items l.fn.self.values.cells l.fn.self.pending.items);
+  size : length l.self.pending.items ≡ length l.fn.self.pending.items;
   olds : l.self.olds.items ≡ l.fn.self.olds.items;
   wrote : Wrote l.fn.self.values l.self.values l.fn.steps l.steps;
 }

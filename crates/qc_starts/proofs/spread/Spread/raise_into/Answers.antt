@@ -1,8 +1,8 @@
 use Rattle.std.proofs.Common.{◌≡◌, ℕ, ◌∷◌, [], List, length, refl, ap, sym, subst, ◌∙◌, arith}
 use Rattle.qc_arena.specs.declared.edge.Edge.{Edge}
-use Rattle.qc_starts.specs.Spread.{IsSpreading, into_task}
+use Rattle.qc_starts.specs.Spread.{IsSpreading, into_task, is_late}
 use Rattle.qc_starts.proofs.NotingLemmas.{wrote_none, wrote_then}
-use Rattle.qc_starts.proofs.SpreadLemmas.{IsEntering, entering_asks, entering_begins, entering_ends, entering_fits, entering_step}
+use Rattle.qc_starts.proofs.SpreadLemmas.{IsEntering, set_size, entering_asks, entering_begins, entering_ends, entering_fits, entering_step}
 use Rattle.qc_starts.proofs.spread.Spread.raise_into.Goals as goal
 
 pub loop-arc-init : goal.loop-arc-init
@@ -15,6 +15,7 @@ loop-arc-init g c =
           c.args.self.now.values.cells c.args.self.now.pending.items c.into_iter-arc-iterator.result
           (c.into_iter-arc-iterator.ensures.into_iter_gives ∙ c.into_of-arc-items.ensures ∙ are)
           c.requires.into c.requires.only;
+      size = refl;
       olds = refl;
       wrote = wrote_none c.args.self.now.values c.args.steps.now c.requires.notes;
     }
@@ -74,6 +75,9 @@ loop-arc-preserved g c =
           c.loop-arc.self.pending.items c.next.new.self c.in-Some.arc c.arena.ensures.sound is
           c.raise_by.new.self.values.cells c.raise_by.new.self.pending.items
           (length c.loop-arc.self.pending.items) is.only.size c.raise_by.ensures.cells c.raise_by.ensures.pending;
+      size = set_size c.raise_by.new.self.pending.items c.loop-arc.self.pending.items
+          (is_late c.loop-arc.self.values.cells c.in-Some.arc) c.in-Some.arc.to c.raise_by.ensures.pending
+          ∙ c.loop-arc.invariant.size;
       olds = c.raise_by.ensures.olds ∙ c.loop-arc.invariant.olds;
       wrote = wrote_then c.args.self.now.values c.loop-arc.self.values c.raise_by.new.self.values
           c.args.steps.now c.loop-arc.steps c.raise_by.new.steps c.loop-arc.invariant.wrote c.raise_by.ensures.wrote;

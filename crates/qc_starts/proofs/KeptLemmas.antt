@@ -1,0 +1,264 @@
+-- What is kept for a node answers what is asked of it.
+use Rattle.std.proofs.Common.{◌≡◌, ◌≢◌, ℕ, zero, suc, ◌+◌, ◌-◌, ◌*◌, ◌<◌, ◌≤◌, ◌⊎◌, inl, inr, Bool, true, false, List, [], ◌∷◌, ◌++◌, All, length, drop, take, reverse, Option, None, Some, refl, sym, ap, subst, subst₂, ◌∙◌, length-append, arith}
+use Rattle.std.proofs.lemmas.Bool.{cases_eq, cases_lt}
+use Rattle.std.proofs.lemmas.List.{length-take-le}
+use Rattle.std.proofs.lemmas.List.Sums.{sum_by-cons}
+use Rattle.std.proofs.lemmas.Option.{same_Some}
+use Rattle.std.specs.Prelude.{slice_index, sum}
+use Rattle.qc_arena.specs.declared.edge.Edge.{Edge}
+use Rattle.qc_dist.specs.Node.{IsOpen}
+use Rattle.qc_model.specs.declared.decision.Decision.{Decision}
+use Rattle.qc_model.specs.declared.decision.Decision.TheVariants.{Assign, Order}
+use Rattle.qc_model.specs.Instance.{InstanceView, IsApart, Valid}
+use Rattle.qc_model.specs.Nodes.{HasStarts, IsInReach, Meets, forced, head}
+use Rattle.qc_starts.specs.Arcs.{IsArc}
+use Rattle.qc_starts.specs.Fields.{AreNested, IsStateOf, counts_of}
+use Rattle.qc_starts.specs.Found.{end_in, why_in}
+use Rattle.qc_starts.specs.declared.step.Step.{Step}
+use Rattle.qc_starts.specs.declared.step.Step.TheVariants.{Raised, Cycle}
+use Rattle.qc_starts.specs.NodeArcs.{IsSound, NodeArcs}
+use Rattle.qc_starts.specs.Roots.{root_of}
+use Rattle.qc_starts.specs.Seen.{HoldsStarts, IsReached, IsStep, first_of}
+use Rattle.qc_starts.specs.Spread.{IsBackAtRoot, IsIn, IsLifted, IsRaising, IsRooting, IsSettledTo}
+use Rattle.qc_starts.specs.Values.{AreRest, IsReason, raiser_at, start_at}
+use Rattle.qc_starts.specs.Ways.{AreBacked, IsEndless, IsRising, Why}
+use Rattle.qc_starts.proofs.Growth.{assigned_same, forced_grows, head_grows, head_same, meets_before, ordered_same}
+use Rattle.qc_starts.proofs.NotingLemmas.{written_back-append}
+use Rattle.qc_starts.proofs.RestLemmas.{backed_of, chain_shows, has_starts, link, rising_of, soon_of, start_of}
+use Rattle.qc_starts.proofs.SpreadLemmas.{arc_of, newest_in}
+use Rattle.qc_starts.proofs.WayLemmas.{IsClosed, no_end}
+use Rattle.qc_trail.specs.declared.trail.Note.{Note}
+use Rattle.qc_trail.specs.Trails.{written_back}
+
+-- ---- a raise that came back
+
+module _ (net : NodeArcs) (root : ℕ) (olds cells : List ℕ) (is : IsBackAtRoot net root olds cells) where
+  abbrev InRing : ℕ → Type 0
+  InRing j = (j < length net.inst.tasks) × IsLifted root olds cells j
+
+  back_by : (j : ℕ) → InRing j → (i : ℕ) × (raiser_at (length net.inst.tasks) cells j ≡ Some i) × InRing i
+  back_by j has = elim (cases_eq j root) [
+    | inl same ↦ (
+        is.back.by,
+        ap (raiser_at (length net.inst.tasks) cells) same ∙ is.back.is,
+        (is.back.task, is.back.lifted),
+      )
+    | inr other ↦ elim has.1 [
+      | inl same ↦ absurd (other same)
+      | inr less ↦
+          let by = is.raising.lifted j has.0 other less in
+          (by.by, by.is, (by.task, by.lifted))
+    ]
+  ]
+
+  pub closed_of : IsClosed (why_in (length net.inst.tasks) cells) InRing
+  closed_of = record { back = back_by }
+
+  pub endless_of : IsEndless (why_in (length net.inst.tasks) cells) root
+  endless_of = λ path walked.
+      no_end (why_in (length net.inst.tasks) cells) InRing closed_of root path (is.raising.inside, inl refl) walked
+
+  descent : IsSound net → (starts : List ℕ) → Meets net.inst net.decisions starts → (fuel j : ℕ) → InRing j
+      → slice_index starts j < fuel → ⊥
+  descent sound starts meets zero j has less = omega arith
+  descent sound starts meets (suc fuel) j has less =
+      let by = back_by j has in
+      let step = link net.inst net.decisions cells sound.valid is.raising.reasons by.0 j has.0 by.1 in
+      let kept = meets.steps by.0 j step.len step.task has.0 step.step in
+      descent sound starts meets fuel by.0 by.2 (omega (arith, kept, step.some))
+
+  pub none_meet : IsSound net → HasStarts net.inst net.decisions → ⊥
+  none_meet sound has =
+      descent sound has.starts has.meets (slice_index has.starts root + 1) root (is.raising.inside, inl refl) (omega arith)
+
+pub step_of : (net : NodeArcs) (cells : List ℕ) (root : ℕ) (step : Step) → IsSound net → IsStateOf net cells root step
+    → IsStep net.inst net.decisions step
+step_of net cells root Raised sound state = has_starts net.inst net.decisions cells state
+step_of net cells root Cycle sound state = λ has. none_meet net root state.0 cells state.1 sound has
+
+pub settled_step : (net : NodeArcs) (root : ℕ) (olds cells : List ℕ) (step : Step) → IsSound net
+    → IsSettledTo net root olds cells step → IsStateOf net cells root step
+settled_step net root olds cells Raised sound settled = settled
+settled_step net root olds cells Cycle sound settled = (olds, settled)
+
+pub rest_of : (net : NodeArcs) (cells : List ℕ) (root : ℕ) (step : Step) → IsSound net → IsStateOf net cells root step
+    → HasStarts net.inst net.decisions → AreRest net.inst net.decisions cells
+rest_of net cells root Raised sound state has = state
+rest_of net cells root Cycle sound state has = absurd (none_meet net root state.0 cells state.1 sound has)
+
+pub back_of : (net : NodeArcs) (cells : List ℕ) (root : ℕ) (step : Step) → IsSound net → IsStateOf net cells root step
+    → (¬ HasStarts net.inst net.decisions) → (olds : List ℕ) × IsBackAtRoot net root olds cells
+back_of net cells root Raised sound state none = absurd (none (has_starts net.inst net.decisions cells state))
+back_of net cells root Cycle sound state none = state
+
+pub holds_of : (inst : InstanceView) (ds : List Decision) (cells : List ℕ) → AreRest inst ds cells
+    → HoldsStarts inst ds cells
+holds_of inst ds cells rest = start_of inst ds cells rest
+
+-- ---- starts at rest, with the arcs of their node
+
+module _ (net : NodeArcs) (cells : List ℕ) (sound : IsSound net) (rest : AreRest net.inst net.decisions cells) where
+  short : (i j len : ℕ) → i < length net.inst.tasks → j < length net.inst.tasks
+      → forced net.inst net.decisions i j ≡ Some len → len ≤ 2147483648
+  short i j len first second asks =
+      let found = newest_in i j len net.arcs (sound.all.newest i j first second ∙ asks) in
+      omega (arith, arc_of (λ arc. arc.len ≤ 2147483648) net.arcs sound.low found.0 found.1, found.4)
+
+  pub rest_rises : IsRising (why_in (length net.inst.tasks) cells)
+  rest_rises =
+      rising_of net.inst net.decisions cells sound.valid rest.count rest.heads rest.steps rest.reasons short rest.low
+
+  pub rest_backed : AreBacked (why_in (length net.inst.tasks) cells)
+  rest_backed = backed_of net.inst net.decisions cells sound.valid rest.reasons
+
+  pub rest_ends : (j : ℕ) → j < length net.inst.tasks → end_in net.inst cells j ≤ 999999999999
+  rest_ends j low =
+      soon_of net.inst net.decisions cells sound.valid rest.count rest.heads rest.steps rest.reasons short rest.low j low
+
+-- ---- a decision begins
+
+module _ (net : NodeArcs) (d : Decision) (ds : List Decision) (olds cells : List ℕ) (sound : IsSound net)
+    (is : net.decisions ≡ (d ∷ ds)) (able : IsOpen net.inst ds d) (reach : IsReached net.inst d)
+    (rest : AreRest net.inst ds cells)
+    (same : (j : ℕ) → j < length net.inst.tasks → start_at olds j ≡ start_at cells j) where
+  root_inside : (e : Decision) → IsOpen net.inst ds e → root_of e < length net.inst.tasks
+  root_inside (Assign t k) open_ = open_.0
+  root_inside (Order g h) open_ = elim open_.0 [
+    | inl a ↦ let r = sound.valid.apart.range g h a in r.1
+    | inr a ↦ let r = sound.valid.apart.range h g a in omega (arith, r.0, r.1)
+  ]
+
+  head_kept : (e : Decision) (j : ℕ) → j ≢ root_of e → head net.inst (e ∷ ds) j ≡ head net.inst ds j
+  head_kept (Assign t k) j other = head_same net.inst ds t k j other
+  head_kept (Order g h) j other = refl
+
+  forced_kept : (e : Decision) (i j : ℕ) → i ≢ root_of e → j ≢ root_of e
+      → forced net.inst (e ∷ ds) i j ≡ forced net.inst ds i j
+  forced_kept (Assign t k) i j first second = assigned_same net.inst ds t k i j first second
+  forced_kept (Order g h) i j first second = ordered_same net.inst ds g h i j (λ e f. second (sym f))
+
+  root_in : root_of d < length net.inst.tasks
+  root_in = root_inside d able
+
+  new_head : (j : ℕ) → j ≢ root_of d → head net.inst net.decisions j ≡ head net.inst ds j
+  new_head j other = ap (λ (xs : List Decision). head net.inst xs j) is ∙ head_kept d j other
+
+  reason_grows : (j : ℕ) (o : Option ℕ) → IsReason net.inst ds cells j o → IsReason net.inst net.decisions cells j o
+  reason_grows j None w =
+      let more = head_grows net.inst ds d able reach j in
+      omega (arith, w, more, ap (λ (xs : List Decision). head net.inst xs j) is)
+  reason_grows j (Some i) w =
+      let more = forced_grows net.inst ds d able i j w.1 w.2 in
+      (w.0, more.0, ap (λ (xs : List Decision). forced net.inst xs i j) is ∙ more.1, omega (arith, w.3, more.2))
+
+  pub rooting_begins : IsRooting net (root_of d) olds cells
+  rooting_begins = record {
+    raising = record {
+      count = rest.count;
+      inside = root_in;
+      heads = λ j low other. omega (arith, new_head j other, rest.heads j low);
+      low = λ j low other. omega (arith, new_head j other, rest.low j low);
+      reasons = λ j low. reason_grows j (raiser_at (length net.inst.tasks) cells j) (rest.reasons j low);
+      least = λ others meets.
+          let before = meets_before net.inst ds d able reach others (subst (λ (xs : List Decision). Meets net.inst xs others) is meets) in
+          rest.least others before;
+      rise = λ j low. omega (arith, same j low);
+      lifted = λ j low other less. absurd (omega (arith, same j low));
+      soon = λ j low. omega (arith, same j low, rest.soon j low);
+      bound = λ j low other. omega (arith, same j low);
+      settled = λ arc in_ first second.
+          let asks = arc_of (IsArc net.inst net.decisions) net.arcs sound.all.each arc in_ in
+          let old = sym (forced_kept d arc.from arc.to first second)
+              ∙ sym (ap (λ (xs : List Decision). forced net.inst xs arc.from arc.to) is) ∙ asks.is in
+          let kept = rest.steps arc.from arc.to asks.ticks asks.from asks.to old in
+          omega (arith, same arc.from asks.from, same arc.to asks.to, kept, asks.within);
+    };
+    still = λ j low other. sym (same j low);
+    top = omega (arith, rest.soon (root_of d) root_in);
+  }
+
+-- ---- notes of decisions
+
+pub nested_count : (inst : InstanceView) (ds : List Decision) (marks : List ℕ) (notes : List Note) (cells : List ℕ)
+    → AreNested inst ds marks notes cells → length marks ≡ length ds
+nested_count inst [] [] notes cells are = refl
+nested_count inst [] (m ∷ ms) notes cells are = absurd are
+nested_count inst (d ∷ ds) [] notes cells are = absurd are
+nested_count inst (d ∷ ds) (m ∷ ms) notes cells are =
+    omega (arith, nested_count inst ds ms (take m notes) (written_back (drop m notes) cells) are.3)
+
+pub counts_count : (marks : List ℕ) (count : ℕ) → length (counts_of marks count) ≡ length marks
+counts_count [] count = refl
+counts_count (m ∷ ms) count = omega (arith, counts_count ms m)
+
+drop_push : {A : Type 0} (xs ys : List A) → drop (length xs) (xs ++ ys) ≡ ys
+drop_push [] ys = refl
+drop_push (x ∷ xs) ys = drop_push xs ys
+
+take_push : {A : Type 0} (xs ys : List A) → take (length xs) (xs ++ ys) ≡ xs
+take_push [] ys = refl
+take_push {A = A} (x ∷ xs) ys = ap (λ (zs : List A). x ∷ zs) (take_push xs ys)
+
+pub nested_more : (inst : InstanceView) (d : Decision) (ds : List Decision) (marks : List ℕ) (notes since : List Note)
+    (old new : List ℕ) → AreNested inst ds marks notes old → AreRest inst ds old
+    → length notes ≤ 2 * length inst.tasks * length ds → written_back since new ≡ old
+    → AreNested inst (d ∷ ds) (length notes ∷ marks) (notes ++ since) new
+nested_more inst d ds marks notes since old new are rest few back =
+    let past = drop_push notes since in
+    let cells = ap (λ (xs : List Note). written_back xs new) past ∙ back in (
+      omega (arith, length-append notes since),
+      few,
+      subst (AreRest inst ds) (sym cells) rest,
+      subst₂ (AreNested inst ds marks) (sym (take_push notes since)) (sym cells) are,
+    )
+
+-- the node without its newest decision
+pub record IsBackNode (inst : InstanceView) (ds : List Decision) (marks : List ℕ) (notes : List Note) (cells : List ℕ)
+    : Type 0 where
+  pub few : length notes ≤ 2 * length inst.tasks * length ds
+  pub rest : AreRest inst ds cells
+  pub nested : AreNested inst ds marks notes cells
+
+pub nested_less : (inst : InstanceView) (ds : List Decision) (mark : ℕ) (marks : List ℕ) (notes : List Note)
+    (cells : List ℕ) → AreNested inst ds (mark ∷ marks) notes cells
+    → (mark ≤ length notes) × IsBackNode inst (drop 1 ds) marks (take mark notes) (written_back (drop mark notes) cells)
+nested_less inst [] mark marks notes cells are = absurd are
+nested_less inst (d ∷ ds) mark marks notes cells are = (are.0, record {
+  few = omega (arith, length-take-le mark notes are.0, are.1);
+  rest = are.2;
+  nested = are.3;
+})
+
+pub sum_counts : (inst : InstanceView) (ds : List Decision) (marks : List ℕ) (notes : List Note) (cells : List ℕ)
+    → AreNested inst ds marks notes cells → sum (counts_of marks (length notes)) ≡ length notes
+sum_counts inst [] [] notes cells are = sym are
+sum_counts inst [] (m ∷ ms) notes cells are = absurd are
+sum_counts inst (d ∷ ds) [] notes cells are = absurd are
+sum_counts inst (d ∷ ds) (m ∷ ms) notes cells are =
+    let size = length-take-le m notes are.0 in
+    let rest = sum_counts inst ds ms (take m notes) (written_back (drop m notes) cells) are.3 in
+    let same = ap (λ (k : ℕ). sum (counts_of ms k)) size in
+    omega (arith, rest, same, size, are.0, sum_by-cons (λ (x : ℕ). x) (length notes - m) (counts_of ms m))
+
+pub in_reach_more : (inst : InstanceView) (d : Decision) (ds : List Decision) → IsReached inst d → IsInReach inst ds
+    → IsInReach inst (d ∷ ds)
+in_reach_more inst (Assign j k) ds reach all = (reach, all)
+in_reach_more inst (Order i j) ds reach all = all
+
+pub in_reach_less : (inst : InstanceView) (ds : List Decision) → IsInReach inst ds → IsInReach inst (drop 1 ds)
+in_reach_less inst [] all = all
+in_reach_less inst (Assign j k ∷ ds) all = all.1
+in_reach_less inst (Order i j ∷ ds) all = all
+
+pub rooting_of : (net : NodeArcs) (inst : InstanceView) (d : Decision) (ds : List Decision) (root : ℕ)
+    (olds before cells : List ℕ) → IsSound net → net.inst ≡ inst → net.decisions ≡ (d ∷ ds) → IsOpen inst ds d
+    → IsReached inst d → AreRest inst ds before → root ≡ root_of d → cells ≡ before
+    → length olds ≡ length inst.tasks → ((j : ℕ) → j < length olds → start_at olds j ≡ start_at before j)
+    → IsRooting net root olds cells
+rooting_of net inst d ds root olds before cells sound same is able reach rest root_is cells_are size starts =
+    subst₂ (λ (r : ℕ) (xs : List ℕ). IsRooting net r olds xs) (sym root_is) (sym cells_are)
+    (rooting_begins net d ds olds before sound is
+    (subst (λ (i : InstanceView). IsOpen i ds d) (sym same) able)
+    (subst (λ (i : InstanceView). IsReached i d) (sym same) reach)
+    (subst (λ (i : InstanceView). AreRest i ds before) (sym same) rest)
+    (λ j low. starts j (omega (arith, size, ap (λ (i : InstanceView). length i.tasks) same))))
