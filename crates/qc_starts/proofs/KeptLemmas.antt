@@ -10,21 +10,24 @@ use Rattle.qc_dist.specs.Node.{IsOpen}
 use Rattle.qc_model.specs.declared.decision.Decision.{Decision}
 use Rattle.qc_model.specs.declared.decision.Decision.TheVariants.{Assign, Order}
 use Rattle.qc_model.specs.Instance.{InstanceView, IsApart, Valid}
-use Rattle.qc_model.specs.Nodes.{HasStarts, IsInReach, Meets, forced, head}
+use Rattle.qc_model.specs.Leaves.{chain, leaf_value, with_berths}
+use Rattle.qc_num.specs.declared.bound.Bound.TheVariants.{Least}
+use Rattle.qc_model.specs.Nodes.{HasStarts, IsInReach, IsNodeEnd, Meets, forced, head}
 use Rattle.qc_starts.specs.Arcs.{IsArc}
-use Rattle.qc_starts.specs.Fields.{AreNested, IsStateOf, counts_of}
-use Rattle.qc_starts.specs.Found.{end_in, why_in}
+use Rattle.qc_starts.specs.Fields.{AreNested, IsKept, IsStateOf, counts_of, node_of}
+use Rattle.qc_starts.specs.declared.starts.Starts.TheInside.{Inside}
+use Rattle.qc_starts.specs.Found.{HasLastEnd, IsLatest, end_by, end_in, why_in}
 use Rattle.qc_starts.specs.declared.step.Step.{Step}
 use Rattle.qc_starts.specs.declared.step.Step.TheVariants.{Raised, Cycle}
 use Rattle.qc_starts.specs.NodeArcs.{IsSound, NodeArcs}
 use Rattle.qc_starts.specs.Roots.{root_of}
-use Rattle.qc_starts.specs.Seen.{HoldsStarts, IsReached, IsStep, first_of}
+use Rattle.qc_starts.specs.Seen.{HoldsStarts, IsCycle, IsNodeStart, IsReached, IsStep, IsWhy, StartsNode, first_of}
 use Rattle.qc_starts.specs.Spread.{IsBackAtRoot, IsIn, IsLifted, IsRaising, IsRooting, IsSettledTo}
 use Rattle.qc_starts.specs.Values.{AreRest, IsReason, raiser_at, start_at}
-use Rattle.qc_starts.specs.Ways.{AreBacked, IsEndless, IsRising, Why}
+use Rattle.qc_starts.specs.Ways.{AreBacked, IsBackTo, IsEndless, IsRing, IsRising, Why}
 use Rattle.qc_starts.proofs.Growth.{assigned_same, forced_grows, head_grows, head_same, meets_before, ordered_same}
 use Rattle.qc_starts.proofs.NotingLemmas.{written_back-append}
-use Rattle.qc_starts.proofs.RestLemmas.{backed_of, chain_shows, has_starts, link, rising_of, soon_of, start_of}
+use Rattle.qc_starts.proofs.RestLemmas.{backed_of, chain_shows, end_of, has_starts, link, ring_of, rising_of, soon_of, start_of}
 use Rattle.qc_starts.proofs.SpreadLemmas.{arc_of, newest_in}
 use Rattle.qc_starts.proofs.WayLemmas.{IsClosed, no_end}
 use Rattle.qc_trail.specs.declared.trail.Note.{Note}
@@ -114,6 +117,19 @@ module _ (net : NodeArcs) (cells : List ℕ) (sound : IsSound net) (rest : AreRe
   pub rest_ends : (j : ℕ) → j < length net.inst.tasks → end_in net.inst cells j ≤ 999999999999
   rest_ends j low =
       soon_of net.inst net.decisions cells sound.valid rest.count rest.heads rest.steps rest.reasons short rest.low j low
+
+  pub rest_shows : (last : ℕ) (path : List ℕ) → IsBackTo (why_in (length net.inst.tasks) cells) last path
+      → (leaf_value with_berths net.inst net.decisions (chain path) ≡ Some (Least (end_in net.inst cells last)))
+      × (length path ≤ length net.inst.tasks) × (end_in net.inst cells last ≤ 999999999999)
+  rest_shows last path back =
+      chain_shows net.inst net.decisions cells sound.valid rest.count rest.heads rest.steps rest.reasons short rest.low
+      last path back
+
+pub state_reasons : (net : NodeArcs) (cells : List ℕ) (root : ℕ) (step : Step) → IsStateOf net cells root step
+    → (j : ℕ) → j < length net.inst.tasks
+    → IsReason net.inst net.decisions cells j (raiser_at (length net.inst.tasks) cells j)
+state_reasons net cells root Raised state = state.reasons
+state_reasons net cells root Cycle state = state.1.raising.reasons
 
 -- ---- a decision begins
 
@@ -262,3 +278,155 @@ rooting_of net inst d ds root olds before cells sound same is able reach rest ro
     (subst (λ (i : InstanceView). IsReached i d) (sym same) reach)
     (subst (λ (i : InstanceView). AreRest i ds before) (sym same) rest)
     (λ j low. starts j (omega (arith, size, ap (λ (i : InstanceView). length i.tasks) same))))
+
+-- ---- the fields of a node
+
+as_net : Inside → StartsNode
+as_net f = record {
+  inst = f.network.inst;
+  decisions = f.network.decisions;
+  noted = counts_of (reverse f.marks.items) (length f.spread.values.trail.notes);
+  cells = f.spread.values.cells;
+}
+
+module _ (f : Inside) (node : StartsNode) (is : IsKept f) (view : node_of f ≡ node) where
+  seen : as_net f ≡ node
+  unfolding as_net
+  seen = ap (λ (i : InstanceView). record {
+    inst = i;
+    decisions = f.network.decisions;
+    noted = counts_of (reverse f.marks.items) (length f.spread.values.trail.notes);
+    cells = f.spread.values.cells;
+  }) is.same ∙ view
+
+  seen_back : (P : InstanceView → List Decision → Type 0) → P node.inst node.decisions → P f.network.inst f.network.decisions
+  unfolding as_net
+  seen_back P holds = subst (λ (n : StartsNode). P n.inst n.decisions) (sym seen) holds
+
+  seen_on : (P : InstanceView → List Decision → Type 0) → P f.network.inst f.network.decisions → P node.inst node.decisions
+  unfolding as_net
+  seen_on P holds = subst (λ (n : StartsNode). P n.inst n.decisions) seen holds
+
+  pub tasks_are : length f.inst.tasks ≡ length node.inst.tasks
+  tasks_are = ap (λ (n : StartsNode). length n.inst.tasks) view
+
+  pub net_tasks : length f.network.inst.tasks ≡ length f.inst.tasks
+  net_tasks = ap (λ (i : InstanceView). length i.tasks) is.same
+
+  net_rest : HasStarts node.inst node.decisions → AreRest f.network.inst f.network.decisions f.spread.values.cells
+  net_rest starts = rest_of f.network f.spread.values.cells f.root f.step is.sound is.state (seen_back HasStarts starts)
+
+  pub rest_kept : HasStarts node.inst node.decisions → AreRest node.inst node.decisions f.spread.values.cells
+  rest_kept starts = seen_on (λ i ds. AreRest i ds f.spread.values.cells) (net_rest starts)
+
+  pub soon_kept : HasStarts node.inst node.decisions → (j : ℕ) → j < length f.inst.tasks
+      → start_at f.spread.values.cells j ≤ 999999999999
+  soon_kept starts j low = omega (arith, (net_rest starts).soon j (omega (arith, net_tasks)))
+
+  pub start_kept : HasStarts node.inst node.decisions → (j : ℕ) → j < length node.inst.tasks
+      → IsNodeStart node.inst node.decisions j (start_at f.spread.values.cells j)
+  start_kept starts j low = start_of node.inst node.decisions f.spread.values.cells (rest_kept starts) j low
+
+  pub step_kept : IsStep node.inst node.decisions f.step
+  step_kept = seen_on (λ i ds. IsStep i ds f.step) (step_of f.network f.spread.values.cells f.root f.step is.sound is.state)
+
+  pub holds_kept : HasStarts node.inst node.decisions → HoldsStarts node.inst node.decisions node.cells
+  holds_kept starts =
+      subst (HoldsStarts node.inst node.decisions) (ap (λ (n : StartsNode). n.cells) view)
+      (holds_of node.inst node.decisions f.spread.values.cells (rest_kept starts))
+
+  -- the task that ends last
+
+  latest_low : (last : Option ℕ) → IsLatest f.inst f.spread.values.cells (length f.inst.tasks) last
+      → IsLatest node.inst f.spread.values.cells (length node.inst.tasks) last
+  latest_low last latest =
+      subst (λ (n : StartsNode). IsLatest n.inst f.spread.values.cells (length n.inst.tasks) last) view latest
+
+  pub end_kept : HasStarts node.inst node.decisions → (end : ℕ) → HasLastEnd f.inst f.spread.values.cells end
+      → IsNodeEnd node.inst node.decisions end
+  end_kept starts end has =
+      end_of node.inst node.decisions f.spread.values.cells (rest_kept starts) has.last end (latest_low has.last has.latest)
+      (subst (λ (n : StartsNode). end ≡ end_by n.inst f.spread.values.cells has.last) view has.is)
+
+  end_low : HasStarts node.inst node.decisions → (last : Option ℕ) → IsLatest f.inst f.spread.values.cells (length f.inst.tasks) last
+      → end_by f.inst f.spread.values.cells last ≤ 999999999999
+  end_low starts None latest = omega arith
+  end_low starts (Some j) latest =
+      let ends = rest_ends f.network f.spread.values.cells is.sound (net_rest starts) j (omega (arith, net_tasks, latest.0)) in
+      omega (arith, ends, ap (λ (i : InstanceView). end_in i f.spread.values.cells j) is.same)
+
+  pub end_soon : HasStarts node.inst node.decisions → (end : ℕ) → HasLastEnd f.inst f.spread.values.cells end
+      → end ≤ 999999999999
+  end_soon starts end has = omega (arith, has.is, end_low starts has.last has.latest)
+
+  -- ways back
+
+  abbrev count : ℕ
+  count = length f.inst.tasks
+
+  why_moves : (P : Why → Type 0) → P (why_in (length f.network.inst.tasks) f.spread.values.cells)
+      → (k : ℕ) → k ≡ count → P (why_in k f.spread.values.cells)
+  why_moves P holds k same =
+      subst (λ (n : ℕ). P (why_in n f.spread.values.cells)) (net_tasks ∙ sym same) holds
+
+  why_back : (P : Why → Type 0) → (k : ℕ) → k ≡ count → P (why_in k f.spread.values.cells)
+      → P (why_in (length f.network.inst.tasks) f.spread.values.cells)
+  why_back P k same holds =
+      subst (λ (n : ℕ). P (why_in n f.spread.values.cells)) (same ∙ sym net_tasks) holds
+
+  pub rises_kept : HasStarts node.inst node.decisions → (k : ℕ) → k ≡ count → IsRising (why_in k f.spread.values.cells)
+  rises_kept starts k same =
+      why_moves IsRising (rest_rises f.network f.spread.values.cells is.sound (net_rest starts)) k same
+
+  pub backed_kept : (k : ℕ) → k ≡ count → AreBacked (why_in k f.spread.values.cells)
+  backed_kept k same =
+      why_moves AreBacked (backed_of f.network.inst f.network.decisions f.spread.values.cells is.sound.valid
+      (state_reasons f.network f.spread.values.cells f.root f.step is.state)) k same
+
+  pub why_kept : HasStarts node.inst node.decisions → (last : ℕ) → (k : ℕ) → k ≡ count
+      → IsLatest f.inst f.spread.values.cells count (Some last) → (path : List ℕ)
+      → IsBackTo (why_in k f.spread.values.cells) last path
+      → IsWhy node.inst node.decisions path × (length path ≤ length node.inst.tasks)
+  why_kept starts last k same latest path back =
+      let net = f.network in
+      let cells = f.spread.values.cells in
+      let rest = net_rest starts in
+      let shown = rest_shows net cells is.sound rest last path (why_back (λ why. IsBackTo why last path) k same back) in
+      let near = subst (λ (i : InstanceView). IsLatest i cells (length i.tasks) (Some last)) (sym is.same) latest in
+      let end = end_of net.inst net.decisions cells rest (Some last) (end_in net.inst cells last) near refl in
+      let why : IsWhy net.inst net.decisions path = record { end = end_in net.inst cells last; ends = end; chain = shown.0 } in (
+        seen_on (λ i ds. IsWhy i ds path) why,
+        omega (arith, shown.1, net_tasks, tasks_are),
+      )
+
+  pub why_none : HasStarts node.inst node.decisions → IsLatest f.inst f.spread.values.cells count None
+      → IsWhy node.inst node.decisions []
+  why_none starts latest =
+      let near = subst (λ (i : InstanceView). IsLatest i f.spread.values.cells (length i.tasks) None) (sym is.same) latest in
+      let end = end_of f.network.inst f.network.decisions f.spread.values.cells (net_rest starts) None 0 near refl in
+      let why : IsWhy f.network.inst f.network.decisions [] = record { end = 0; ends = end; chain = refl } in
+      seen_on (λ i ds. IsWhy i ds []) why
+
+  -- a ring
+
+  ring_back : (¬ HasStarts node.inst node.decisions) → (olds : List ℕ) × IsBackAtRoot f.network f.root olds f.spread.values.cells
+  ring_back none =
+      back_of f.network f.spread.values.cells f.root f.step is.sound is.state (λ has. none (seen_on HasStarts has))
+
+  pub root_kept : (¬ HasStarts node.inst node.decisions) → f.root < count
+  root_kept none = omega (arith, (ring_back none).1.raising.inside, net_tasks)
+
+  pub endless_kept : (¬ HasStarts node.inst node.decisions) → (k : ℕ) → k ≡ count
+      → IsEndless (why_in k f.spread.values.cells) f.root
+  endless_kept none k same =
+      let back = ring_back none in
+      why_moves (λ why. IsEndless why f.root) (endless_of f.network f.root back.0 f.spread.values.cells back.1) k same
+
+  pub ring_kept : (k : ℕ) → k ≡ count → (path : List ℕ) → IsRing (why_in k f.spread.values.cells) path
+      → IsCycle node.inst node.decisions path × (length path ≤ length node.inst.tasks)
+  ring_kept k same path ring =
+      let net = f.network in
+      let found = ring_of net.inst net.decisions f.spread.values.cells is.sound.valid
+          (state_reasons net f.spread.values.cells f.root f.step is.state) is.sound.fits path
+          (why_back (λ why. IsRing why path) k same ring) in
+      (seen_on (λ i ds. IsCycle i ds path) found.0, omega (arith, found.1, net_tasks, tasks_are))
