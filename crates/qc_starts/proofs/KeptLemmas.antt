@@ -299,7 +299,7 @@ module _ (f : Inside) (node : StartsNode) (is : IsKept f) (view : node_of f ≡ 
     cells = f.spread.values.cells;
   }) is.same ∙ view
 
-  seen_back : (P : InstanceView → List Decision → Type 0) → P node.inst node.decisions → P f.network.inst f.network.decisions
+  pub seen_back : (P : InstanceView → List Decision → Type 0) → P node.inst node.decisions → P f.network.inst f.network.decisions
   unfolding as_net
   seen_back P holds = subst (λ (n : StartsNode). P n.inst n.decisions) (sym seen) holds
 
@@ -430,3 +430,11 @@ module _ (f : Inside) (node : StartsNode) (is : IsKept f) (view : node_of f ≡ 
           (state_reasons net f.spread.values.cells f.root f.step is.state) is.sound.fits path
           (why_back (λ why. IsRing why path) k same ring) in
       (seen_on (λ i ds. IsCycle i ds path) found.0, omega (arith, found.1, net_tasks, tasks_are))
+
+  pub noted_count : length node.noted ≡ length node.decisions
+  noted_count =
+      let marks = reverse f.marks.items in
+      let here : length (counts_of marks (length f.spread.values.trail.notes)) ≡ length f.network.decisions =
+      counts_count marks (length f.spread.values.trail.notes)
+      ∙ nested_count f.inst f.network.decisions marks f.spread.values.trail.notes f.spread.values.cells is.nested in
+      subst (λ (n : StartsNode). length n.noted ≡ length n.decisions) view here

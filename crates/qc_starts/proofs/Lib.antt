@@ -11,3 +11,4 @@ pub mod DecidedLemmas
 pub mod PlaceLemmas
 pub mod RaisedLemmas
 pub mod KeptLemmas
+pub mod DecideLemmas

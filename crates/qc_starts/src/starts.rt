@@ -191,6 +191,14 @@ impl Starts {
         }
     }
 
+    /// The number of decisions, and of counts of notes.
+    fn made(&self) -> u32
+        ensures count { result ≡ length self.now.decisions }
+        ensures noted { length self.now.noted ≡ length self.now.decisions }
+    {
+        self.network.made()
+    }
+
     /// The number of decisions.
     pub fn mark(&self) -> u32
         ensures { result ≡ length self.now.decisions }
@@ -229,7 +237,7 @@ impl Starts {
         ensures noted { self.new.noted ≡ first_of mark self.old.noted }
         ensures counted { steps.new + sum self.new.noted ≡ steps.old + sum self.old.noted }
     {
-        for _ in mark..self.mark() {
+        for _ in mark..self.made() {
             self.take_back(steps);
         }
     }

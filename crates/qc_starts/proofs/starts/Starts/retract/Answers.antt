@@ -18,3 +18,9 @@ loop-preserved g c =
       noted = c.take_back.ensures.noted ∙ ap (drop 1) is.noted ∙ drop_next back counts ∙ ap (λ (k : ℕ). drop k counts) next;
       counted = omega (arith, c.take_back.ensures.counted, is.counted);
     }
+
+pub returns-clause-noted : goal.returns-clause-noted
+returns-clause-noted g c =
+    let over : c.loop.counter - c.args.mark ≡ length c.args.self.now.noted - c.args.mark =
+    omega (arith, c.made.ensures.noted, c.made.ensures.count) in
+    c.loop.invariant.noted ∙ ap (λ (k : ℕ). drop k c.args.self.now.noted) over
