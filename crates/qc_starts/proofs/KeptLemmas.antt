@@ -1,7 +1,7 @@
 -- What is kept for a node answers what is asked of it.
 use Rattle.std.proofs.Common.{◌≡◌, ◌≢◌, ℕ, zero, suc, ◌+◌, ◌-◌, ◌*◌, ◌<◌, ◌≤◌, ◌⊎◌, inl, inr, Bool, true, false, List, [], ◌∷◌, ◌++◌, All, length, drop, take, reverse, Option, None, Some, refl, sym, ap, subst, subst₂, ◌∙◌, length-append, arith}
 use Rattle.std.proofs.lemmas.Bool.{cases_eq, cases_lt}
-use Rattle.std.proofs.lemmas.List.{length-take-le}
+use Rattle.std.proofs.lemmas.List.{length-take-le, take-append-drop}
 use Rattle.std.proofs.lemmas.List.Sums.{sum_by-cons}
 use Rattle.std.proofs.lemmas.Option.{same_Some}
 use Rattle.std.specs.Prelude.{slice_index, sum}
@@ -21,7 +21,7 @@ use Rattle.qc_starts.specs.declared.step.Step.{Step}
 use Rattle.qc_starts.specs.declared.step.Step.TheVariants.{Raised, Cycle}
 use Rattle.qc_starts.specs.NodeArcs.{IsSound, NodeArcs}
 use Rattle.qc_starts.specs.Roots.{root_of}
-use Rattle.qc_starts.specs.Seen.{HoldsStarts, IsCycle, IsNodeStart, IsReached, IsStep, IsWhy, StartsNode, first_of}
+use Rattle.qc_starts.specs.Seen.{AreNotes, HoldsStarts, IsCycle, IsNodeStart, IsReached, IsStep, IsWhy, StartsNode, first_of}
 use Rattle.qc_starts.specs.Spread.{IsBackAtRoot, IsIn, IsLifted, IsRaising, IsRooting, IsSettledTo}
 use Rattle.qc_starts.specs.Values.{AreRest, IsReason, raiser_at, start_at}
 use Rattle.qc_starts.specs.Ways.{AreBacked, IsBackTo, IsEndless, IsRing, IsRising, Why}
@@ -279,6 +279,62 @@ rooting_of net inst d ds root olds before cells sound same is able reach rest ro
     (subst (λ (i : InstanceView). AreRest i ds before) (sym same) rest)
     (λ j low. starts j (omega (arith, size, ap (λ (i : InstanceView). length i.tasks) same))))
 
+first_here : {A : Type 0} (m k : ℕ) (x : A) (xs : List A) → length xs ≡ k → m ≡ k → first_of m (x ∷ xs) ≡ xs
+first_here m k x xs size same =
+    let e : length (x ∷ xs) - m ≡ 1 = omega arith in ap (λ (n : ℕ). drop n (x ∷ xs)) e
+
+first_later : {A : Type 0} (m : ℕ) (x : A) (xs : List A) → m ≤ length xs → first_of m (x ∷ xs) ≡ first_of m xs
+first_later m x xs low =
+    let e : length (x ∷ xs) - m ≡ suc (length xs - m) = omega arith in ap (λ (n : ℕ). drop n (x ∷ xs)) e
+
+sum_drop : (n : ℕ) (xs : List ℕ) → sum (drop n xs) ≤ sum xs
+sum_drop zero xs = omega arith
+sum_drop (suc n) [] = omega arith
+sum_drop (suc n) (x ∷ xs) = omega (arith, sum_drop n xs, sum_by-cons (λ (y : ℕ). y) x xs)
+
+split_at : {A : Type 0} (a b : ℕ) (xs : List A) → a ≤ b → drop a xs ≡ drop a (take b xs) ++ drop b xs
+split_at zero b xs low = sym (take-append-drop b xs)
+split_at (suc a) zero xs low = absurd (omega arith)
+split_at (suc a) (suc b) [] low = refl
+split_at (suc a) (suc b) (x ∷ xs) low = split_at a b xs (omega arith)
+
+-- writing back the notes of the later decisions leaves the least starts of the first ones
+nested_back : (inst : InstanceView) (ds : List Decision) (marks : List ℕ) (notes : List Note) (cells : List ℕ)
+    → AreNested inst ds marks notes cells → (m : ℕ) → m < length ds
+    → HoldsStarts inst (first_of m ds) (written_back (drop (sum (first_of m (counts_of marks (length notes)))) notes) cells)
+nested_back inst [] marks notes cells are m low = absurd (omega arith)
+nested_back inst (d ∷ ds) [] notes cells are m low = absurd are
+nested_back inst (d ∷ ds) (k ∷ ks) notes cells are m low =
+    let size = length-take-le k notes are.0 in
+    let older = nested_count inst ds ks (take k notes) (written_back (drop k notes) cells) are.3 in
+    let counts = counts_of ks k in
+    let many : length counts ≡ length ds = counts_count ks k ∙ older in
+    let total : sum counts ≡ k = ap (λ (n : ℕ). sum (counts_of ks n)) (sym size)
+        ∙ sum_counts inst ds ks (take k notes) (written_back (drop k notes) cells) are.3 ∙ size in
+    elim (cases_eq m (length ds)) [
+      | inl same ↦
+          let here = first_here m (length ds) (length notes - k) counts many same in
+          let sums : sum (first_of m ((length notes - k) ∷ counts)) ≡ k = ap sum here ∙ total in
+          subst₂ (λ (xs : List Decision) (s : ℕ). HoldsStarts inst xs (written_back (drop s notes) cells))
+          (sym (first_here m (length ds) d ds refl same)) (sym sums)
+          (holds_of inst ds (written_back (drop k notes) cells) are.2)
+      | inr other ↦
+          let under : m < length ds = omega arith in
+          let rest = nested_back inst ds ks (take k notes) (written_back (drop k notes) cells) are.3 m under in
+          let shift = ap (λ (n : ℕ). sum (first_of m (counts_of ks n))) size in
+          let s = sum (first_of m counts) in
+          let small : s ≤ k = omega (arith, sum_drop (length counts - m) counts, total) in
+          let joined : written_back (drop s (take k notes)) (written_back (drop k notes) cells) ≡ written_back (drop s notes) cells =
+          sym (written_back-append (drop s (take k notes)) (drop k notes) cells)
+          ∙ ap (λ (ns : List Note). written_back ns cells) (sym (split_at s k notes small)) in
+          let moved = subst (λ (n : ℕ). HoldsStarts inst (first_of m ds)
+              (written_back (drop n (take k notes)) (written_back (drop k notes) cells))) shift rest in
+          let there = subst (HoldsStarts inst (first_of m ds)) joined moved in
+          let later = ap sum (first_later m (length notes - k) counts (omega (arith, many))) in
+          subst₂ (λ (xs : List Decision) (n : ℕ). HoldsStarts inst xs (written_back (drop n notes) cells))
+          (sym (first_later m d ds (omega arith))) (sym later) there
+    ]
+
 -- ---- the fields of a node
 
 as_net : Inside → StartsNode
@@ -315,6 +371,9 @@ module _ (f : Inside) (node : StartsNode) (is : IsKept f) (view : node_of f ≡ 
 
   net_rest : HasStarts node.inst node.decisions → AreRest f.network.inst f.network.decisions f.spread.values.cells
   net_rest starts = rest_of f.network f.spread.values.cells f.root f.step is.sound is.state (seen_back HasStarts starts)
+
+  pub home_rest : HasStarts node.inst node.decisions → AreRest f.inst f.network.decisions f.spread.values.cells
+  home_rest starts = subst (λ (i : InstanceView). AreRest i f.network.decisions f.spread.values.cells) is.same (net_rest starts)
 
   pub rest_kept : HasStarts node.inst node.decisions → AreRest node.inst node.decisions f.spread.values.cells
   rest_kept starts = seen_on (λ i ds. AreRest i ds f.spread.values.cells) (net_rest starts)
@@ -438,3 +497,17 @@ module _ (f : Inside) (node : StartsNode) (is : IsKept f) (view : node_of f ≡ 
       counts_count marks (length f.spread.values.trail.notes)
       ∙ nested_count f.inst f.network.decisions marks f.spread.values.trail.notes f.spread.values.cells is.nested in
       subst (λ (n : StartsNode). length n.noted ≡ length n.decisions) view here
+
+  pub notes_kept : AreNotes node f.spread.values.trail
+  notes_kept =
+      let marks = reverse f.marks.items in
+      let notes = f.spread.values.trail.notes in
+      let cells = f.spread.values.cells in
+      let each : length (counts_of marks (length notes)) ≡ length f.network.decisions =
+      counts_count marks (length notes) ∙ nested_count f.inst f.network.decisions marks notes cells is.nested in
+      let here : AreNotes (node_of f) f.spread.values.trail = record {
+        each = each;
+        count = sym (sum_counts f.inst f.network.decisions marks notes cells is.nested);
+        back = nested_back f.inst f.network.decisions marks notes cells is.nested;
+      } in
+      subst (λ (n : StartsNode). AreNotes n f.spread.values.trail) view here

@@ -22,5 +22,5 @@ loop-preserved g c =
 pub returns-clause-noted : goal.returns-clause-noted
 returns-clause-noted g c =
     let over : c.loop.counter - c.args.mark ≡ length c.args.self.now.noted - c.args.mark =
-    omega (arith, c.made.ensures.noted, c.made.ensures.count) in
+    omega (arith, c.made-end.ensures.noted, c.made-end.ensures.count) in
     c.loop.invariant.noted ∙ ap (λ (k : ℕ). drop k c.args.self.now.noted) over
