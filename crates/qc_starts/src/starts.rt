@@ -98,6 +98,7 @@ impl Starts {
     pub fn open(alloc: Global, inst: &Instance) -> Result<Starts, OutOfMemory>
         ensures inst { IfOk result (λ node. node.inst ≡ inst.now) }
         ensures decisions { IfOk result (λ node. node.decisions ≡ []) }
+        ensures noted { IfOk result (λ node. node.noted ≡ []) }
     {
         let network = Network::open(alloc, inst)?;
         let spread = open_spread::<Brand>(alloc, inst, &network, Blank::new(1))?;
@@ -127,6 +128,7 @@ impl Starts {
         ensures decisions { self.new.decisions ≡ decision ∷ self.old.decisions }
         ensures step { IsStep inst.now self.new.decisions result }
         ensures noted { IsNoted self.old self.new result steps.old steps.new }
+        ensures steps { steps.old ≤ steps.new }
     {
         let mark = self.spread.values.trail.mark();
         self.network.add(inst, decision);
@@ -155,6 +157,7 @@ impl Starts {
         ensures decisions { self.new.decisions ≡ Assign task crane ∷ self.old.decisions }
         ensures step { IsStep inst.now self.new.decisions result }
         ensures noted { IsNoted self.old self.new result steps.old steps.new }
+        ensures steps { steps.old ≤ steps.new }
     {
         self.decide(inst, Decision::Assign(task, crane), steps)
     }
@@ -175,6 +178,7 @@ impl Starts {
         ensures decisions { self.new.decisions ≡ Order i j ∷ self.old.decisions }
         ensures step { IsStep inst.now self.new.decisions result }
         ensures noted { IsNoted self.old self.new result steps.old steps.new }
+        ensures steps { steps.old ≤ steps.new }
     {
         self.decide(inst, Decision::Order(i, j), steps)
     }
@@ -220,6 +224,7 @@ impl Starts {
         ensures decisions { self.new.decisions ≡ drop 1 self.old.decisions }
         ensures noted { self.new.noted ≡ drop 1 self.old.noted }
         ensures counted { steps.new + sum self.new.noted ≡ steps.old + sum self.old.noted }
+        ensures steps { steps.old ≤ steps.new }
     {
         let Some(mark) = self.marks.pop() else {
             unreachable!();
@@ -236,6 +241,7 @@ impl Starts {
         ensures decisions { self.new.decisions ≡ first_of mark self.old.decisions }
         ensures noted { self.new.noted ≡ first_of mark self.old.noted }
         ensures counted { steps.new + sum self.new.noted ≡ steps.old + sum self.old.noted }
+        ensures steps { steps.old ≤ steps.new }
     {
         for _ in mark..self.made() {
             self.take_back(steps);

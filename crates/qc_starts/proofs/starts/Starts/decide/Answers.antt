@@ -119,3 +119,8 @@ returns-clause-noted g c =
     c.push_reserved.ensures.items c.mark-mark.ensures (omega (arith, c.push_reserved.ensures.capacity))
     c.settle-self-inside.ensures.wrote c.settle-self-inside.ensures.olds c.settle-self-inside.ensures.size
     c.settle-self-inside.ensures.settled)
+
+pub returns-clause-steps : goal.returns-clause-steps
+returns-clause-steps g c =
+    let noted = returns-clause-noted g c in
+    omega (arith, noted.steps)

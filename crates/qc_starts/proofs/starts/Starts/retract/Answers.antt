@@ -16,6 +16,7 @@ loop-preserved g c =
       count = omega (arith, count);
       dropped = c.take_back.ensures.decisions ∙ ap (drop 1) is.dropped ∙ drop_next back all ∙ ap (λ (k : ℕ). drop k all) next;
       noted = c.take_back.ensures.noted ∙ ap (drop 1) is.noted ∙ drop_next back counts ∙ ap (λ (k : ℕ). drop k counts) next;
+      steps = omega (arith, c.take_back.ensures.steps, is.steps);
       counted = omega (arith, c.take_back.ensures.counted, is.counted);
     }
 

@@ -1,4 +1,4 @@
-use Rattle.std.proofs.Common.{◌≡◌, ◌+◌, ◌-◌, drop, length, sum}
+use Rattle.std.proofs.Common.{◌≡◌, ◌+◌, ◌-◌, ◌≤◌, drop, length, sum}
 use Rattle.qc_starts.proofs.starts.Starts.retract.Given as goal
 
 abbrev pub invariant-loop : goal.invariant-loop
@@ -7,5 +7,6 @@ invariant-loop g l = record {
   count : length l.self.decisions + l.counter ≡ length l.fn.self.decisions + l.mark;
   dropped : l.self.decisions ≡ drop (l.counter - l.mark) l.fn.self.decisions;
   noted : l.self.noted ≡ drop (l.counter - l.mark) l.fn.self.noted;
+  steps : l.fn.steps ≤ l.steps;
   counted : l.steps + sum l.self.noted ≡ l.fn.steps + sum l.fn.self.noted;
 }
