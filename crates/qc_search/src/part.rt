@@ -7,7 +7,7 @@ ghost use Rattle.qc_model.specs.declared.direction.Direction.{Direction};
 ghost use Rattle.qc_model.specs.declared.limits.TheConstants.{MOST_TASKS};
 ghost use Rattle.qc_model.specs.Instance.{Valid};
 ghost use Rattle.qc_num.specs.Paths.{HasRoom};
-ghost use Rattle.qc_starts.specs.Seen.{IsReached};
+ghost use Rattle.qc_starts.specs.Seen.{IsReached, IsRoot};
 ghost use Rattle.qc_search.specs.Course.{Stopped, Went, due_at};
 ghost use Rattle.qc_search.specs.Walk.{IsChild, WereMade, from_child, from_node};
 
@@ -115,7 +115,7 @@ pub(crate) fn search_part<K: Sink, L: Ledger>(
     sink: &mut K,
     steps: &mut Steps<L>,
 ) -> Result<(), WriteFault>
-    requires root { starts.old ≡ record { inst = inst.now; decisions = [] } }
+    requires root { IsRoot inst.now starts.old }
     requires valid { Valid inst.now }
     requires count { length course.old.best ≡ length inst.now.tasks }
     requires room { HasRoom MOST_TASKS course.old.path }

@@ -8,6 +8,7 @@ ghost use Rattle.qc_num.specs.Paths.{HasRoom};
 ghost use Rattle.qc_tree.specs.declared.line.TheConstants.{MOST_BRANCHINGS};
 ghost use Rattle.qc_tree.specs.declared.line.Line.TheVariants.{End};
 ghost use Rattle.qc_tree.specs.Trees.{whole_line};
+ghost use Rattle.qc_starts.specs.Seen.{IsRoot};
 ghost use Rattle.qc_search.specs.Course.{IsCourse, IsSoon, StoppedPart, StoppedTree, WentPart, WentTree, part_line};
 
 use crate::course::Course;
@@ -40,7 +41,7 @@ fn put_part<K: Sink, L: Ledger>(
     sink: &mut K,
     steps: &mut Steps<L>,
 ) -> Result<(), WriteFault>
-    requires root { starts.old ≡ record { inst = inst.now; decisions = [] } }
+    requires root { IsRoot inst.now starts.old }
     requires valid { Valid inst.now }
     requires count { length course.old.best ≡ length inst.now.tasks }
     requires room { HasRoom MOST_TASKS course.old.path }
@@ -81,8 +82,8 @@ pub(crate) fn write_tree<K: Sink, L: Ledger>(
 ) -> Result<(), WriteFault>
     requires valid { Valid inst.now }
     requires turned { turned.now ≡ mirror inst.now }
-    requires up { up.old ≡ record { inst = inst.now; decisions = [] } }
-    requires down { down.old ≡ record { inst = turned.now; decisions = [] } }
+    requires up { IsRoot inst.now up.old }
+    requires down { IsRoot turned.now down.old }
     requires count { length course.old.best ≡ length inst.now.tasks }
     requires room { HasRoom MOST_TASKS course.old.path }
     requires begun { IsCourse inst.now course.old [] }

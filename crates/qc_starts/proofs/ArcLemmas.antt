@@ -16,7 +16,8 @@ use Rattle.qc_model.specs.Nodes.{Fits, IsSettled, assigned, crane_ticks, forced,
 use Rattle.qc_model.proofs.CompleteNodes.{forced_ticks}
 use Rattle.qc_model.proofs.NodeLemmas.{before_found}
 use Rattle.qc_starts.specs.Arcs.{AreArcs, AreOpening, IsArc, IsOver, added, arc_between, joins, leads, most_arcs, newest_length, with_added}
-use Rattle.qc_starts.proofs.Counts.{IsBetween, arcs_few, count_cons, one_of}
+use Rattle.qc_starts.proofs.Counts.{IsBetween, arcs_few, count_cons}
+use Rattle.qc_starts.specs.Spread.{one_of}
 use Rattle.qc_starts.proofs.Growth.{assigned_same, excess_by, forced_grows, greater_more, greater_same, one_way, open_from, open_to, ordered_here_is, ordered_same, ticks_none, unsettled_from, unsettled_to}
 use Rattle.qc_starts.proofs.SelfLemmas.{self_free}
 
@@ -415,7 +416,7 @@ opening_ends inst arcs few is = record {
 }
 
 module _ (inst : InstanceView) (valid : Valid inst) where
-  before_true : (i j n : ℕ) → forced inst [] i j ≡ Some n → is_before inst i j ≡ true
+  pub before_true : (i j n : ℕ) → forced inst [] i j ≡ Some n → is_before inst i j ≡ true
   before_true i j n is = elim (cases_Bool (is_before inst i j)) [
     | inl holds ↦ holds
     | inr fails ↦

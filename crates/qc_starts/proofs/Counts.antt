@@ -7,11 +7,7 @@ use Rattle.std.specs.Prelude.{count_by}
 use Rattle.std.specs.List.{AllByRecursion}
 use Rattle.qc_arena.specs.declared.edge.Edge.{Edge}
 use Rattle.qc_starts.specs.Arcs.{joins, leads}
-
--- the sum of what a function gives for all numbers below this one
-abbrev pub total : (ℕ → ℕ) → ℕ → ℕ
-total f zero = 0
-total f (suc n) = total f n + f n
+use Rattle.qc_starts.specs.Spread.{one_of, total}
 
 pub total-le : (f g : ℕ → ℕ) (n : ℕ) → ((j : ℕ) → j < n → f j ≤ g j) → total f n ≤ total g n
 total-le f g zero each = omega arith
@@ -45,10 +41,6 @@ total-none (suc n) = omega (arith, total-none n)
 total-plus : (f g h : ℕ → ℕ) (n : ℕ) → ((c : ℕ) → h c ≡ f c + g c) → total h n ≡ total f n + total g n
 total-plus f g h zero each = refl
 total-plus f g h (suc n) each = omega (arith, total-plus f g h n each, each n)
-
--- of a number's class there is one
-abbrev pub one_of : Bool → ℕ
-one_of b = cond b 1 0
 
 pub count_cons : (p : Edge → Bool) (arc : Edge) (arcs : List Edge)
     → count_by p (arc ∷ arcs) ≡ one_of (p arc) + count_by p arcs

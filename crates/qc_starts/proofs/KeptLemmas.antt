@@ -1,108 +1,513 @@
 -- What is kept for a node answers what is asked of it.
-use Rattle.std.proofs.Common.{◌≡◌, ℕ, zero, suc, ◌+◌, ◌<◌, ◌≤◌, List, [], ◌∷◌, length, get_or, drop, Option, None, Some, MatchOption, sym, ap, subst, ◌∙◌, arith}
-use Rattle.std.proofs.lemmas.List.{get_or_default}
-use Rattle.qc_dist.proofs.Room.{fits_room}
+use Rattle.std.proofs.Common.{◌≡◌, ◌≢◌, ℕ, zero, suc, ◌+◌, ◌-◌, ◌*◌, ◌<◌, ◌≤◌, ◌⊎◌, inl, inr, Bool, true, false, List, [], ◌∷◌, ◌++◌, All, length, drop, take, reverse, Option, None, Some, refl, sym, ap, subst, subst₂, ◌∙◌, length-append, arith}
+use Rattle.std.proofs.lemmas.Bool.{cases_eq, cases_lt}
+use Rattle.std.proofs.lemmas.List.{length-take-le, take-append-drop}
+use Rattle.std.proofs.lemmas.List.Sums.{sum_by-cons}
+use Rattle.std.proofs.lemmas.Option.{same_Some}
+use Rattle.std.specs.Prelude.{slice_index, sum}
+use Rattle.qc_arena.specs.declared.edge.Edge.{Edge}
+use Rattle.qc_dist.specs.Node.{IsOpen}
 use Rattle.qc_model.specs.declared.decision.Decision.{Decision}
 use Rattle.qc_model.specs.declared.decision.Decision.TheVariants.{Assign, Order}
-use Rattle.qc_model.specs.declared.pair.Pair.{Pair}
-use Rattle.qc_model.specs.Instance.{InstanceView, IsApart, Valid, pair_of}
-use Rattle.qc_model.specs.Nodes.{Fits, HasStarts, IsInReach, IsNodeEnd, IsSettled}
-use Rattle.qc_model.proofs.NodeLemmas.{ends_by}
-use Rattle.qc_starts.specs.declared.cells.Cell.{Cell}
-use Rattle.qc_starts.specs.declared.least.Step.{Step}
-use Rattle.qc_starts.specs.declared.least.Step.TheVariants.{Raised, Cycle}
-use Rattle.qc_starts.specs.declared.least.Table.{Table}
+use Rattle.qc_model.specs.Instance.{InstanceView, IsApart, Valid}
+use Rattle.qc_model.specs.Leaves.{chain, leaf_value, with_berths}
+use Rattle.qc_num.specs.declared.bound.Bound.TheVariants.{Least}
+use Rattle.qc_model.specs.Nodes.{HasStarts, IsInReach, IsNodeEnd, Meets, forced, head}
+use Rattle.qc_starts.specs.Arcs.{IsArc}
+use Rattle.qc_starts.specs.Fields.{AreNested, IsKept, IsStateOf, counts_of, node_of}
 use Rattle.qc_starts.specs.declared.starts.Starts.TheInside.{Inside}
-use Rattle.qc_starts.specs.Fields.{IsKept, node_of}
-use Rattle.qc_starts.specs.Found.{HasLeast, HasRing, IsFound, starts_in}
-use Rattle.qc_starts.specs.Rounds.{cell, no_cell}
-use Rattle.qc_starts.specs.Seen.{IsNodeStart, IsStep, IsWhy, StartsNode}
-use Rattle.qc_starts.proofs.FoundLemmas.{start_in}
+use Rattle.qc_starts.specs.Found.{HasLastEnd, IsLatest, end_by, end_in, why_in}
+use Rattle.qc_starts.specs.declared.step.Step.{Step}
+use Rattle.qc_starts.specs.declared.step.Step.TheVariants.{Raised, Cycle}
+use Rattle.qc_starts.specs.NodeArcs.{IsSound, NodeArcs}
+use Rattle.qc_starts.specs.Roots.{root_of}
+use Rattle.qc_starts.specs.Seen.{AreNotes, HoldsStarts, IsCycle, IsNodeStart, IsReached, IsStep, IsWhy, StartsNode, first_of}
+use Rattle.qc_starts.specs.Spread.{IsBackAtRoot, IsIn, IsLifted, IsRaising, IsRooting, IsSettledTo}
+use Rattle.qc_starts.specs.Values.{AreRest, IsReason, raiser_at, start_at}
+use Rattle.qc_starts.specs.Ways.{AreBacked, IsBackTo, IsEndless, IsRing, IsRising, Why}
+use Rattle.qc_starts.proofs.Growth.{assigned_same, forced_grows, head_grows, head_same, meets_before, ordered_same}
+use Rattle.qc_starts.proofs.NotingLemmas.{written_back-append}
+use Rattle.qc_starts.proofs.RestLemmas.{backed_of, chain_shows, end_of, has_starts, link, ring_of, rising_of, soon_of, start_of}
+use Rattle.qc_starts.proofs.SpreadLemmas.{arc_of, newest_in}
+use Rattle.qc_starts.proofs.WayLemmas.{IsClosed, no_end}
+use Rattle.qc_trail.specs.declared.trail.Note.{Note}
+use Rattle.qc_trail.specs.Trails.{written_back}
 
--- ---- what is found
+-- ---- a raise that came back
 
-pub step_of : (inst : InstanceView) (ds : List Decision) (table : Table) (step : Step)
-    → IsFound inst ds table step → IsStep inst ds step
-step_of inst ds table Raised found = record { starts = starts_in table.cells.items; meets = found.least.meets }
-step_of inst ds table Cycle found = found.none
+module _ (net : NodeArcs) (root : ℕ) (olds cells : List ℕ) (is : IsBackAtRoot net root olds cells) where
+  abbrev InRing : ℕ → Type 0
+  InRing j = (j < length net.inst.tasks) × IsLifted root olds cells j
 
-least_found : (inst : InstanceView) (ds : List Decision) (table : Table) (step : Step)
-    → IsFound inst ds table step → HasStarts inst ds
-    → HasLeast inst ds table.cells.items table.path.items table.ends
-least_found inst ds table Raised found starts = found
-least_found inst ds table Cycle found starts = absurd (found.none starts)
+  back_by : (j : ℕ) → InRing j → (i : ℕ) × (raiser_at (length net.inst.tasks) cells j ≡ Some i) × InRing i
+  back_by j has = elim (cases_eq j root) [
+    | inl same ↦ (
+        is.back.by,
+        ap (raiser_at (length net.inst.tasks) cells) same ∙ is.back.is,
+        (is.back.task, is.back.lifted),
+      )
+    | inr other ↦ elim has.1 [
+      | inl same ↦ absurd (other same)
+      | inr less ↦
+          let by = is.raising.lifted j has.0 other less in
+          (by.by, by.is, (by.task, by.lifted))
+    ]
+  ]
 
-ring_found : (inst : InstanceView) (ds : List Decision) (table : Table) (step : Step)
-    → IsFound inst ds table step → (¬ HasStarts inst ds)
-    → HasRing inst ds table.path.items
-ring_found inst ds table Raised found none = absurd (none (step_of inst ds table Raised found))
-ring_found inst ds table Cycle found none = found
+  pub closed_of : IsClosed (why_in (length net.inst.tasks) cells) InRing
+  closed_of = record { back = back_by }
 
-pub least_kept : (f : Inside) (node : StartsNode) → IsKept f → node_of f ≡ node
-    → HasStarts node.inst node.decisions
-    → HasLeast node.inst node.decisions f.table.cells.items f.table.path.items f.table.ends
-least_kept f node kept view starts =
-    let here = subst (λ (n : StartsNode). HasStarts n.inst n.decisions) (sym view) starts in
-    subst (λ (n : StartsNode). HasLeast n.inst n.decisions f.table.cells.items f.table.path.items f.table.ends) view
-    (least_found f.inst f.network.decisions f.table f.step kept.found here)
+  pub endless_of : IsEndless (why_in (length net.inst.tasks) cells) root
+  endless_of = λ path walked.
+      no_end (why_in (length net.inst.tasks) cells) InRing closed_of root path (is.raising.inside, inl refl) walked
 
-pub ring_kept : (f : Inside) (node : StartsNode) → IsKept f → node_of f ≡ node
-    → (¬ HasStarts node.inst node.decisions)
-    → HasRing node.inst node.decisions f.table.path.items
-ring_kept f node kept view none =
-    let here = subst (λ (n : StartsNode). ¬ HasStarts n.inst n.decisions) (sym view) none in
-    subst (λ (n : StartsNode). HasRing n.inst n.decisions f.table.path.items) view
-    (ring_found f.inst f.network.decisions f.table f.step kept.found here)
+  descent : IsSound net → (starts : List ℕ) → Meets net.inst net.decisions starts → (fuel j : ℕ) → InRing j
+      → slice_index starts j < fuel → ⊥
+  descent sound starts meets zero j has less = omega arith
+  descent sound starts meets (suc fuel) j has less =
+      let by = back_by j has in
+      let step = link net.inst net.decisions cells sound.valid is.raising.reasons by.0 j has.0 by.1 in
+      let kept = meets.steps by.0 j step.len step.task has.0 step.step in
+      descent sound starts meets fuel by.0 by.2 (omega (arith, kept, step.some))
 
-pub end_of : (inst : InstanceView) (ds : List Decision) (cells : List Cell) (path : List ℕ) (end : ℕ)
-    → HasLeast inst ds cells path end → IsNodeEnd inst ds end
-end_of inst ds cells path end has = record { starts = starts_in cells; least = has.least; ends = has.ends }
+  pub none_meet : IsSound net → HasStarts net.inst net.decisions → ⊥
+  none_meet sound has =
+      descent sound has.starts has.meets (slice_index has.starts root + 1) root (is.raising.inside, inl refl) (omega arith)
 
-pub why_of : (inst : InstanceView) (ds : List Decision) (cells : List Cell) (path : List ℕ) (end : ℕ)
-    → HasLeast inst ds cells path end → IsWhy inst ds path
-why_of inst ds cells path end has = record { end = end; ends = end_of inst ds cells path end has; chain = has.chain }
+pub step_of : (net : NodeArcs) (cells : List ℕ) (root : ℕ) (step : Step) → IsSound net → IsStateOf net cells root step
+    → IsStep net.inst net.decisions step
+step_of net cells root Raised sound state = has_starts net.inst net.decisions cells state
+step_of net cells root Cycle sound state = λ has. none_meet net root state.0 cells state.1 sound has
 
-same_cell : (cells : List Cell) (j : ℕ) (c : Cell) → j < length cells → c ≡ get_or cells j c
-    → c ≡ cell cells j
-same_cell cells j c low is = is ∙ get_or_default cells j c no_cell low
+pub settled_step : (net : NodeArcs) (root : ℕ) (olds cells : List ℕ) (step : Step) → IsSound net
+    → IsSettledTo net root olds cells step → IsStateOf net cells root step
+settled_step net root olds cells Raised sound settled = settled
+settled_step net root olds cells Cycle sound settled = (olds, settled)
 
-pub start_of : (inst : InstanceView) (ds : List Decision) (cells : List Cell) (path : List ℕ) (end j : ℕ) (c : Cell)
-    → HasLeast inst ds cells path end
-    → j < length cells → c ≡ get_or cells j c → IsNodeStart inst ds j c.start
-start_of inst ds cells path end j c has low is =
-    let at = ap (λ (d : Cell). d.start) (same_cell cells j c low is) in
-    record { starts = starts_in cells; least = has.least; is = at ∙ sym (start_in cells j) }
+pub rest_of : (net : NodeArcs) (cells : List ℕ) (root : ℕ) (step : Step) → IsSound net → IsStateOf net cells root step
+    → HasStarts net.inst net.decisions → AreRest net.inst net.decisions cells
+rest_of net cells root Raised sound state has = state
+rest_of net cells root Cycle sound state has = absurd (none_meet net root state.0 cells state.1 sound has)
 
-pub start_soon : (inst : InstanceView) (ds : List Decision) (cells : List Cell) (path : List ℕ) (end j : ℕ) (c : Cell)
-    → HasLeast inst ds cells path end
-    → j < length inst.tasks → j < length cells → c ≡ get_or cells j c → c.start ≤ 999999999999
-start_soon inst ds cells path end j c has task low is =
-    let by = ends_by inst.tasks (starts_in cells) j has.least.meets.all_tasks task in
-    omega (arith, by, start_in cells j, ap (λ (d : Cell). d.start) (same_cell cells j c low is), has.ends, has.soon)
+pub back_of : (net : NodeArcs) (cells : List ℕ) (root : ℕ) (step : Step) → IsSound net → IsStateOf net cells root step
+    → (¬ HasStarts net.inst net.decisions) → (olds : List ℕ) × IsBackAtRoot net root olds cells
+back_of net cells root Raised sound state none = absurd (none (has_starts net.inst net.decisions cells state))
+back_of net cells root Cycle sound state none = state
 
--- ---- decisions
+pub holds_of : (inst : InstanceView) (ds : List Decision) (cells : List ℕ) → AreRest inst ds cells
+    → HoldsStarts inst ds cells
+holds_of inst ds cells rest = start_of inst ds cells rest
 
--- decisions are few enough to be counted
-pub few_made : (inst : InstanceView) (ds : List Decision) → Valid inst → Fits inst ds → length ds < 65536
-few_made inst ds v fits = omega (arith, fits_room inst ds fits, v.tasks.count, v.apart.count)
+-- ---- starts at rest, with the arcs of their node
 
--- the first decisions are in reach as all are
-pub first_in_reach : (inst : InstanceView) (ds : List Decision) (k : ℕ) → IsInReach inst ds → IsInReach inst (drop k ds)
-first_in_reach inst ds zero reach = reach
-first_in_reach inst [] (suc k) reach = tt
-first_in_reach inst (Assign j v ∷ ds) (suc k) reach = first_in_reach inst ds k reach.1
-first_in_reach inst (Order i j ∷ ds) (suc k) reach = first_in_reach inst ds k reach
+module _ (net : NodeArcs) (cells : List ℕ) (sound : IsSound net) (rest : AreRest net.inst net.decisions cells) where
+  short : (i j len : ℕ) → i < length net.inst.tasks → j < length net.inst.tasks
+      → forced net.inst net.decisions i j ≡ Some len → len ≤ 2147483648
+  short i j len first second asks =
+      let found = newest_in i j len net.arcs (sound.all.newest i j first second ∙ asks) in
+      omega (arith, arc_of (λ arc. arc.len ≤ 2147483648) net.arcs sound.low found.0 found.1, found.4)
 
--- ---- apart pairs
+  pub rest_rises : IsRising (why_in (length net.inst.tasks) cells)
+  rest_rises =
+      rising_of net.inst net.decisions cells sound.valid rest.count rest.heads rest.steps rest.reasons short rest.low
 
-pub apart_at : (inst : InstanceView) (k : ℕ) (p : Pair) → k < length inst.apart
-    → IsApart inst (get_or inst.apart k p).first (get_or inst.apart k p).second
-apart_at inst k p low = (k, low, get_or_default inst.apart k _ p low)
+  pub rest_backed : AreBacked (why_in (length net.inst.tasks) cells)
+  rest_backed = backed_of net.inst net.decisions cells sound.valid rest.reasons
 
-abbrev pub IsSettledPair : InstanceView → List Decision → Pair → Type 0
-IsSettledPair inst ds pair = IsSettled inst ds pair.first pair.second
+  pub rest_ends : (j : ℕ) → j < length net.inst.tasks → end_in net.inst cells j ≤ 999999999999
+  rest_ends j low =
+      soon_of net.inst net.decisions cells sound.valid rest.count rest.heads rest.steps rest.reasons short rest.low j low
 
-pub settled_at : (inst : InstanceView) (ds : List Decision) (i j : ℕ) (a : IsApart inst i j)
-    → IsSettledPair inst ds (get_or inst.apart a.0 (pair_of 0 0)) → IsSettled inst ds i j
-settled_at inst ds i j a settled =
-    subst (IsSettledPair inst ds) (get_or_default inst.apart a.0 (pair_of 0 0) (pair_of i j) a.1 ∙ a.2) settled
+  pub rest_shows : (last : ℕ) (path : List ℕ) → IsBackTo (why_in (length net.inst.tasks) cells) last path
+      → (leaf_value with_berths net.inst net.decisions (chain path) ≡ Some (Least (end_in net.inst cells last)))
+      × (length path ≤ length net.inst.tasks) × (end_in net.inst cells last ≤ 999999999999)
+  rest_shows last path back =
+      chain_shows net.inst net.decisions cells sound.valid rest.count rest.heads rest.steps rest.reasons short rest.low
+      last path back
+
+pub state_reasons : (net : NodeArcs) (cells : List ℕ) (root : ℕ) (step : Step) → IsStateOf net cells root step
+    → (j : ℕ) → j < length net.inst.tasks
+    → IsReason net.inst net.decisions cells j (raiser_at (length net.inst.tasks) cells j)
+state_reasons net cells root Raised state = state.reasons
+state_reasons net cells root Cycle state = state.1.raising.reasons
+
+-- ---- a decision begins
+
+module _ (net : NodeArcs) (d : Decision) (ds : List Decision) (olds cells : List ℕ) (sound : IsSound net)
+    (is : net.decisions ≡ (d ∷ ds)) (able : IsOpen net.inst ds d) (reach : IsReached net.inst d)
+    (rest : AreRest net.inst ds cells)
+    (same : (j : ℕ) → j < length net.inst.tasks → start_at olds j ≡ start_at cells j) where
+  root_inside : (e : Decision) → IsOpen net.inst ds e → root_of e < length net.inst.tasks
+  root_inside (Assign t k) open_ = open_.0
+  root_inside (Order g h) open_ = elim open_.0 [
+    | inl a ↦ let r = sound.valid.apart.range g h a in r.1
+    | inr a ↦ let r = sound.valid.apart.range h g a in omega (arith, r.0, r.1)
+  ]
+
+  head_kept : (e : Decision) (j : ℕ) → j ≢ root_of e → head net.inst (e ∷ ds) j ≡ head net.inst ds j
+  head_kept (Assign t k) j other = head_same net.inst ds t k j other
+  head_kept (Order g h) j other = refl
+
+  forced_kept : (e : Decision) (i j : ℕ) → i ≢ root_of e → j ≢ root_of e
+      → forced net.inst (e ∷ ds) i j ≡ forced net.inst ds i j
+  forced_kept (Assign t k) i j first second = assigned_same net.inst ds t k i j first second
+  forced_kept (Order g h) i j first second = ordered_same net.inst ds g h i j (λ e f. second (sym f))
+
+  root_in : root_of d < length net.inst.tasks
+  root_in = root_inside d able
+
+  new_head : (j : ℕ) → j ≢ root_of d → head net.inst net.decisions j ≡ head net.inst ds j
+  new_head j other = ap (λ (xs : List Decision). head net.inst xs j) is ∙ head_kept d j other
+
+  reason_grows : (j : ℕ) (o : Option ℕ) → IsReason net.inst ds cells j o → IsReason net.inst net.decisions cells j o
+  reason_grows j None w =
+      let more = head_grows net.inst ds d able reach j in
+      omega (arith, w, more, ap (λ (xs : List Decision). head net.inst xs j) is)
+  reason_grows j (Some i) w =
+      let more = forced_grows net.inst ds d able i j w.1 w.2 in
+      (w.0, more.0, ap (λ (xs : List Decision). forced net.inst xs i j) is ∙ more.1, omega (arith, w.3, more.2))
+
+  pub rooting_begins : IsRooting net (root_of d) olds cells
+  rooting_begins = record {
+    raising = record {
+      count = rest.count;
+      inside = root_in;
+      heads = λ j low other. omega (arith, new_head j other, rest.heads j low);
+      low = λ j low other. omega (arith, new_head j other, rest.low j low);
+      reasons = λ j low. reason_grows j (raiser_at (length net.inst.tasks) cells j) (rest.reasons j low);
+      least = λ others meets.
+          let before = meets_before net.inst ds d able reach others (subst (λ (xs : List Decision). Meets net.inst xs others) is meets) in
+          rest.least others before;
+      rise = λ j low. omega (arith, same j low);
+      lifted = λ j low other less. absurd (omega (arith, same j low));
+      soon = λ j low. omega (arith, same j low, rest.soon j low);
+      bound = λ j low other. omega (arith, same j low);
+      settled = λ arc in_ first second.
+          let asks = arc_of (IsArc net.inst net.decisions) net.arcs sound.all.each arc in_ in
+          let old = sym (forced_kept d arc.from arc.to first second)
+              ∙ sym (ap (λ (xs : List Decision). forced net.inst xs arc.from arc.to) is) ∙ asks.is in
+          let kept = rest.steps arc.from arc.to asks.ticks asks.from asks.to old in
+          omega (arith, same arc.from asks.from, same arc.to asks.to, kept, asks.within);
+    };
+    still = λ j low other. sym (same j low);
+    top = omega (arith, rest.soon (root_of d) root_in);
+  }
+
+-- ---- notes of decisions
+
+pub nested_count : (inst : InstanceView) (ds : List Decision) (marks : List ℕ) (notes : List Note) (cells : List ℕ)
+    → AreNested inst ds marks notes cells → length marks ≡ length ds
+nested_count inst [] [] notes cells are = refl
+nested_count inst [] (m ∷ ms) notes cells are = absurd are
+nested_count inst (d ∷ ds) [] notes cells are = absurd are
+nested_count inst (d ∷ ds) (m ∷ ms) notes cells are =
+    omega (arith, nested_count inst ds ms (take m notes) (written_back (drop m notes) cells) are.3)
+
+pub counts_count : (marks : List ℕ) (count : ℕ) → length (counts_of marks count) ≡ length marks
+counts_count [] count = refl
+counts_count (m ∷ ms) count = omega (arith, counts_count ms m)
+
+drop_push : {A : Type 0} (xs ys : List A) → drop (length xs) (xs ++ ys) ≡ ys
+drop_push [] ys = refl
+drop_push (x ∷ xs) ys = drop_push xs ys
+
+take_push : {A : Type 0} (xs ys : List A) → take (length xs) (xs ++ ys) ≡ xs
+take_push [] ys = refl
+take_push {A = A} (x ∷ xs) ys = ap (λ (zs : List A). x ∷ zs) (take_push xs ys)
+
+pub nested_more : (inst : InstanceView) (d : Decision) (ds : List Decision) (marks : List ℕ) (notes since : List Note)
+    (old new : List ℕ) → AreNested inst ds marks notes old → AreRest inst ds old
+    → length notes ≤ 2 * length inst.tasks * length ds → written_back since new ≡ old
+    → AreNested inst (d ∷ ds) (length notes ∷ marks) (notes ++ since) new
+nested_more inst d ds marks notes since old new are rest few back =
+    let past = drop_push notes since in
+    let cells = ap (λ (xs : List Note). written_back xs new) past ∙ back in (
+      omega (arith, length-append notes since),
+      few,
+      subst (AreRest inst ds) (sym cells) rest,
+      subst₂ (AreNested inst ds marks) (sym (take_push notes since)) (sym cells) are,
+    )
+
+-- the node without its newest decision
+pub record IsBackNode (inst : InstanceView) (ds : List Decision) (marks : List ℕ) (notes : List Note) (cells : List ℕ)
+    : Type 0 where
+  pub few : length notes ≤ 2 * length inst.tasks * length ds
+  pub rest : AreRest inst ds cells
+  pub nested : AreNested inst ds marks notes cells
+
+pub nested_less : (inst : InstanceView) (ds : List Decision) (mark : ℕ) (marks : List ℕ) (notes : List Note)
+    (cells : List ℕ) → AreNested inst ds (mark ∷ marks) notes cells
+    → (mark ≤ length notes) × IsBackNode inst (drop 1 ds) marks (take mark notes) (written_back (drop mark notes) cells)
+nested_less inst [] mark marks notes cells are = absurd are
+nested_less inst (d ∷ ds) mark marks notes cells are = (are.0, record {
+  few = omega (arith, length-take-le mark notes are.0, are.1);
+  rest = are.2;
+  nested = are.3;
+})
+
+pub sum_counts : (inst : InstanceView) (ds : List Decision) (marks : List ℕ) (notes : List Note) (cells : List ℕ)
+    → AreNested inst ds marks notes cells → sum (counts_of marks (length notes)) ≡ length notes
+sum_counts inst [] [] notes cells are = sym are
+sum_counts inst [] (m ∷ ms) notes cells are = absurd are
+sum_counts inst (d ∷ ds) [] notes cells are = absurd are
+sum_counts inst (d ∷ ds) (m ∷ ms) notes cells are =
+    let size = length-take-le m notes are.0 in
+    let rest = sum_counts inst ds ms (take m notes) (written_back (drop m notes) cells) are.3 in
+    let same = ap (λ (k : ℕ). sum (counts_of ms k)) size in
+    omega (arith, rest, same, size, are.0, sum_by-cons (λ (x : ℕ). x) (length notes - m) (counts_of ms m))
+
+pub in_reach_more : (inst : InstanceView) (d : Decision) (ds : List Decision) → IsReached inst d → IsInReach inst ds
+    → IsInReach inst (d ∷ ds)
+in_reach_more inst (Assign j k) ds reach all = (reach, all)
+in_reach_more inst (Order i j) ds reach all = all
+
+pub in_reach_less : (inst : InstanceView) (ds : List Decision) → IsInReach inst ds → IsInReach inst (drop 1 ds)
+in_reach_less inst [] all = all
+in_reach_less inst (Assign j k ∷ ds) all = all.1
+in_reach_less inst (Order i j ∷ ds) all = all
+
+pub rooting_of : (net : NodeArcs) (inst : InstanceView) (d : Decision) (ds : List Decision) (root : ℕ)
+    (olds before cells : List ℕ) → IsSound net → net.inst ≡ inst → net.decisions ≡ (d ∷ ds) → IsOpen inst ds d
+    → IsReached inst d → AreRest inst ds before → root ≡ root_of d → cells ≡ before
+    → length olds ≡ length inst.tasks → ((j : ℕ) → j < length olds → start_at olds j ≡ start_at before j)
+    → IsRooting net root olds cells
+rooting_of net inst d ds root olds before cells sound same is able reach rest root_is cells_are size starts =
+    subst₂ (λ (r : ℕ) (xs : List ℕ). IsRooting net r olds xs) (sym root_is) (sym cells_are)
+    (rooting_begins net d ds olds before sound is
+    (subst (λ (i : InstanceView). IsOpen i ds d) (sym same) able)
+    (subst (λ (i : InstanceView). IsReached i d) (sym same) reach)
+    (subst (λ (i : InstanceView). AreRest i ds before) (sym same) rest)
+    (λ j low. starts j (omega (arith, size, ap (λ (i : InstanceView). length i.tasks) same))))
+
+first_here : {A : Type 0} (m k : ℕ) (x : A) (xs : List A) → length xs ≡ k → m ≡ k → first_of m (x ∷ xs) ≡ xs
+first_here m k x xs size same =
+    let e : length (x ∷ xs) - m ≡ 1 = omega arith in ap (λ (n : ℕ). drop n (x ∷ xs)) e
+
+first_later : {A : Type 0} (m : ℕ) (x : A) (xs : List A) → m ≤ length xs → first_of m (x ∷ xs) ≡ first_of m xs
+first_later m x xs low =
+    let e : length (x ∷ xs) - m ≡ suc (length xs - m) = omega arith in ap (λ (n : ℕ). drop n (x ∷ xs)) e
+
+sum_drop : (n : ℕ) (xs : List ℕ) → sum (drop n xs) ≤ sum xs
+sum_drop zero xs = omega arith
+sum_drop (suc n) [] = omega arith
+sum_drop (suc n) (x ∷ xs) = omega (arith, sum_drop n xs, sum_by-cons (λ (y : ℕ). y) x xs)
+
+split_at : {A : Type 0} (a b : ℕ) (xs : List A) → a ≤ b → drop a xs ≡ drop a (take b xs) ++ drop b xs
+split_at zero b xs low = sym (take-append-drop b xs)
+split_at (suc a) zero xs low = absurd (omega arith)
+split_at (suc a) (suc b) [] low = refl
+split_at (suc a) (suc b) (x ∷ xs) low = split_at a b xs (omega arith)
+
+-- writing back the notes of the later decisions leaves the least starts of the first ones
+nested_back : (inst : InstanceView) (ds : List Decision) (marks : List ℕ) (notes : List Note) (cells : List ℕ)
+    → AreNested inst ds marks notes cells → (m : ℕ) → m < length ds
+    → HoldsStarts inst (first_of m ds) (written_back (drop (sum (first_of m (counts_of marks (length notes)))) notes) cells)
+nested_back inst [] marks notes cells are m low = absurd (omega arith)
+nested_back inst (d ∷ ds) [] notes cells are m low = absurd are
+nested_back inst (d ∷ ds) (k ∷ ks) notes cells are m low =
+    let size = length-take-le k notes are.0 in
+    let older = nested_count inst ds ks (take k notes) (written_back (drop k notes) cells) are.3 in
+    let counts = counts_of ks k in
+    let many : length counts ≡ length ds = counts_count ks k ∙ older in
+    let total : sum counts ≡ k = ap (λ (n : ℕ). sum (counts_of ks n)) (sym size)
+        ∙ sum_counts inst ds ks (take k notes) (written_back (drop k notes) cells) are.3 ∙ size in
+    elim (cases_eq m (length ds)) [
+      | inl same ↦
+          let here = first_here m (length ds) (length notes - k) counts many same in
+          let sums : sum (first_of m ((length notes - k) ∷ counts)) ≡ k = ap sum here ∙ total in
+          subst₂ (λ (xs : List Decision) (s : ℕ). HoldsStarts inst xs (written_back (drop s notes) cells))
+          (sym (first_here m (length ds) d ds refl same)) (sym sums)
+          (holds_of inst ds (written_back (drop k notes) cells) are.2)
+      | inr other ↦
+          let under : m < length ds = omega arith in
+          let rest = nested_back inst ds ks (take k notes) (written_back (drop k notes) cells) are.3 m under in
+          let shift = ap (λ (n : ℕ). sum (first_of m (counts_of ks n))) size in
+          let s = sum (first_of m counts) in
+          let small : s ≤ k = omega (arith, sum_drop (length counts - m) counts, total) in
+          let joined : written_back (drop s (take k notes)) (written_back (drop k notes) cells) ≡ written_back (drop s notes) cells =
+          sym (written_back-append (drop s (take k notes)) (drop k notes) cells)
+          ∙ ap (λ (ns : List Note). written_back ns cells) (sym (split_at s k notes small)) in
+          let moved = subst (λ (n : ℕ). HoldsStarts inst (first_of m ds)
+              (written_back (drop n (take k notes)) (written_back (drop k notes) cells))) shift rest in
+          let there = subst (HoldsStarts inst (first_of m ds)) joined moved in
+          let later = ap sum (first_later m (length notes - k) counts (omega (arith, many))) in
+          subst₂ (λ (xs : List Decision) (n : ℕ). HoldsStarts inst xs (written_back (drop n notes) cells))
+          (sym (first_later m d ds (omega arith))) (sym later) there
+    ]
+
+-- ---- the fields of a node
+
+as_net : Inside → StartsNode
+as_net f = record {
+  inst = f.network.inst;
+  decisions = f.network.decisions;
+  noted = counts_of (reverse f.marks.items) (length f.spread.values.trail.notes);
+  cells = f.spread.values.cells;
+}
+
+module _ (f : Inside) (node : StartsNode) (is : IsKept f) (view : node_of f ≡ node) where
+  seen : as_net f ≡ node
+  unfolding as_net
+  seen = ap (λ (i : InstanceView). record {
+    inst = i;
+    decisions = f.network.decisions;
+    noted = counts_of (reverse f.marks.items) (length f.spread.values.trail.notes);
+    cells = f.spread.values.cells;
+  }) is.same ∙ view
+
+  pub seen_back : (P : InstanceView → List Decision → Type 0) → P node.inst node.decisions → P f.network.inst f.network.decisions
+  unfolding as_net
+  seen_back P holds = subst (λ (n : StartsNode). P n.inst n.decisions) (sym seen) holds
+
+  seen_on : (P : InstanceView → List Decision → Type 0) → P f.network.inst f.network.decisions → P node.inst node.decisions
+  unfolding as_net
+  seen_on P holds = subst (λ (n : StartsNode). P n.inst n.decisions) seen holds
+
+  pub tasks_are : length f.inst.tasks ≡ length node.inst.tasks
+  tasks_are = ap (λ (n : StartsNode). length n.inst.tasks) view
+
+  pub net_tasks : length f.network.inst.tasks ≡ length f.inst.tasks
+  net_tasks = ap (λ (i : InstanceView). length i.tasks) is.same
+
+  net_rest : HasStarts node.inst node.decisions → AreRest f.network.inst f.network.decisions f.spread.values.cells
+  net_rest starts = rest_of f.network f.spread.values.cells f.root f.step is.sound is.state (seen_back HasStarts starts)
+
+  pub home_rest : HasStarts node.inst node.decisions → AreRest f.inst f.network.decisions f.spread.values.cells
+  home_rest starts = subst (λ (i : InstanceView). AreRest i f.network.decisions f.spread.values.cells) is.same (net_rest starts)
+
+  pub rest_kept : HasStarts node.inst node.decisions → AreRest node.inst node.decisions f.spread.values.cells
+  rest_kept starts = seen_on (λ i ds. AreRest i ds f.spread.values.cells) (net_rest starts)
+
+  pub soon_kept : HasStarts node.inst node.decisions → (j : ℕ) → j < length f.inst.tasks
+      → start_at f.spread.values.cells j ≤ 999999999999
+  soon_kept starts j low = omega (arith, (net_rest starts).soon j (omega (arith, net_tasks)))
+
+  pub start_kept : HasStarts node.inst node.decisions → (j : ℕ) → j < length node.inst.tasks
+      → IsNodeStart node.inst node.decisions j (start_at f.spread.values.cells j)
+  start_kept starts j low = start_of node.inst node.decisions f.spread.values.cells (rest_kept starts) j low
+
+  pub step_kept : IsStep node.inst node.decisions f.step
+  step_kept = seen_on (λ i ds. IsStep i ds f.step) (step_of f.network f.spread.values.cells f.root f.step is.sound is.state)
+
+  pub holds_kept : HasStarts node.inst node.decisions → HoldsStarts node.inst node.decisions node.cells
+  holds_kept starts =
+      subst (HoldsStarts node.inst node.decisions) (ap (λ (n : StartsNode). n.cells) view)
+      (holds_of node.inst node.decisions f.spread.values.cells (rest_kept starts))
+
+  -- the task that ends last
+
+  latest_low : (last : Option ℕ) → IsLatest f.inst f.spread.values.cells (length f.inst.tasks) last
+      → IsLatest node.inst f.spread.values.cells (length node.inst.tasks) last
+  latest_low last latest =
+      subst (λ (n : StartsNode). IsLatest n.inst f.spread.values.cells (length n.inst.tasks) last) view latest
+
+  pub end_kept : HasStarts node.inst node.decisions → (end : ℕ) → HasLastEnd f.inst f.spread.values.cells end
+      → IsNodeEnd node.inst node.decisions end
+  end_kept starts end has =
+      end_of node.inst node.decisions f.spread.values.cells (rest_kept starts) has.last end (latest_low has.last has.latest)
+      (subst (λ (n : StartsNode). end ≡ end_by n.inst f.spread.values.cells has.last) view has.is)
+
+  end_low : HasStarts node.inst node.decisions → (last : Option ℕ) → IsLatest f.inst f.spread.values.cells (length f.inst.tasks) last
+      → end_by f.inst f.spread.values.cells last ≤ 999999999999
+  end_low starts None latest = omega arith
+  end_low starts (Some j) latest =
+      let ends = rest_ends f.network f.spread.values.cells is.sound (net_rest starts) j (omega (arith, net_tasks, latest.0)) in
+      omega (arith, ends, ap (λ (i : InstanceView). end_in i f.spread.values.cells j) is.same)
+
+  pub end_soon : HasStarts node.inst node.decisions → (end : ℕ) → HasLastEnd f.inst f.spread.values.cells end
+      → end ≤ 999999999999
+  end_soon starts end has = omega (arith, has.is, end_low starts has.last has.latest)
+
+  -- ways back
+
+  abbrev count : ℕ
+  count = length f.inst.tasks
+
+  why_moves : (P : Why → Type 0) → P (why_in (length f.network.inst.tasks) f.spread.values.cells)
+      → (k : ℕ) → k ≡ count → P (why_in k f.spread.values.cells)
+  why_moves P holds k same =
+      subst (λ (n : ℕ). P (why_in n f.spread.values.cells)) (net_tasks ∙ sym same) holds
+
+  why_back : (P : Why → Type 0) → (k : ℕ) → k ≡ count → P (why_in k f.spread.values.cells)
+      → P (why_in (length f.network.inst.tasks) f.spread.values.cells)
+  why_back P k same holds =
+      subst (λ (n : ℕ). P (why_in n f.spread.values.cells)) (same ∙ sym net_tasks) holds
+
+  pub rises_kept : HasStarts node.inst node.decisions → (k : ℕ) → k ≡ count → IsRising (why_in k f.spread.values.cells)
+  rises_kept starts k same =
+      why_moves IsRising (rest_rises f.network f.spread.values.cells is.sound (net_rest starts)) k same
+
+  pub backed_kept : (k : ℕ) → k ≡ count → AreBacked (why_in k f.spread.values.cells)
+  backed_kept k same =
+      why_moves AreBacked (backed_of f.network.inst f.network.decisions f.spread.values.cells is.sound.valid
+      (state_reasons f.network f.spread.values.cells f.root f.step is.state)) k same
+
+  pub why_kept : HasStarts node.inst node.decisions → (last : ℕ) → (k : ℕ) → k ≡ count
+      → IsLatest f.inst f.spread.values.cells count (Some last) → (path : List ℕ)
+      → IsBackTo (why_in k f.spread.values.cells) last path
+      → IsWhy node.inst node.decisions path × (length path ≤ length node.inst.tasks)
+  why_kept starts last k same latest path back =
+      let net = f.network in
+      let cells = f.spread.values.cells in
+      let rest = net_rest starts in
+      let shown = rest_shows net cells is.sound rest last path (why_back (λ why. IsBackTo why last path) k same back) in
+      let near = subst (λ (i : InstanceView). IsLatest i cells (length i.tasks) (Some last)) (sym is.same) latest in
+      let end = end_of net.inst net.decisions cells rest (Some last) (end_in net.inst cells last) near refl in
+      let why : IsWhy net.inst net.decisions path = record { end = end_in net.inst cells last; ends = end; chain = shown.0 } in (
+        seen_on (λ i ds. IsWhy i ds path) why,
+        omega (arith, shown.1, net_tasks, tasks_are),
+      )
+
+  pub why_none : HasStarts node.inst node.decisions → IsLatest f.inst f.spread.values.cells count None
+      → IsWhy node.inst node.decisions []
+  why_none starts latest =
+      let near = subst (λ (i : InstanceView). IsLatest i f.spread.values.cells (length i.tasks) None) (sym is.same) latest in
+      let end = end_of f.network.inst f.network.decisions f.spread.values.cells (net_rest starts) None 0 near refl in
+      let why : IsWhy f.network.inst f.network.decisions [] = record { end = 0; ends = end; chain = refl } in
+      seen_on (λ i ds. IsWhy i ds []) why
+
+  -- a ring
+
+  ring_back : (¬ HasStarts node.inst node.decisions) → (olds : List ℕ) × IsBackAtRoot f.network f.root olds f.spread.values.cells
+  ring_back none =
+      back_of f.network f.spread.values.cells f.root f.step is.sound is.state (λ has. none (seen_on HasStarts has))
+
+  pub root_kept : (¬ HasStarts node.inst node.decisions) → f.root < count
+  root_kept none = omega (arith, (ring_back none).1.raising.inside, net_tasks)
+
+  pub endless_kept : (¬ HasStarts node.inst node.decisions) → (k : ℕ) → k ≡ count
+      → IsEndless (why_in k f.spread.values.cells) f.root
+  endless_kept none k same =
+      let back = ring_back none in
+      why_moves (λ why. IsEndless why f.root) (endless_of f.network f.root back.0 f.spread.values.cells back.1) k same
+
+  pub ring_kept : (k : ℕ) → k ≡ count → (path : List ℕ) → IsRing (why_in k f.spread.values.cells) path
+      → IsCycle node.inst node.decisions path × (length path ≤ length node.inst.tasks)
+  ring_kept k same path ring =
+      let net = f.network in
+      let found = ring_of net.inst net.decisions f.spread.values.cells is.sound.valid
+          (state_reasons net f.spread.values.cells f.root f.step is.state) is.sound.fits path
+          (why_back (λ why. IsRing why path) k same ring) in
+      (seen_on (λ i ds. IsCycle i ds path) found.0, omega (arith, found.1, net_tasks, tasks_are))
+
+  pub noted_count : length node.noted ≡ length node.decisions
+  noted_count =
+      let marks = reverse f.marks.items in
+      let here : length (counts_of marks (length f.spread.values.trail.notes)) ≡ length f.network.decisions =
+      counts_count marks (length f.spread.values.trail.notes)
+      ∙ nested_count f.inst f.network.decisions marks f.spread.values.trail.notes f.spread.values.cells is.nested in
+      subst (λ (n : StartsNode). length n.noted ≡ length n.decisions) view here
+
+  pub notes_kept : AreNotes node f.spread.values.trail
+  notes_kept =
+      let marks = reverse f.marks.items in
+      let notes = f.spread.values.trail.notes in
+      let cells = f.spread.values.cells in
+      let each : length (counts_of marks (length notes)) ≡ length f.network.decisions =
+      counts_count marks (length notes) ∙ nested_count f.inst f.network.decisions marks notes cells is.nested in
+      let here : AreNotes (node_of f) f.spread.values.trail = record {
+        each = each;
+        count = sym (sum_counts f.inst f.network.decisions marks notes cells is.nested);
+        back = nested_back f.inst f.network.decisions marks notes cells is.nested;
+      } in
+      subst (λ (n : StartsNode). AreNotes n f.spread.values.trail) view here

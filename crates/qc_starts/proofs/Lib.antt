@@ -1,7 +1,4 @@
-pub mod AskedLemmas
-pub mod FoundLemmas
-pub mod KeptLemmas
-pub mod RoundLemmas
+pub mod RestLemmas
 pub mod SelfLemmas
 pub mod WayLemmas
 pub mod ArcLemmas
@@ -9,3 +6,9 @@ pub mod Counts
 pub mod Growth
 pub mod LevelLemmas
 pub mod NotingLemmas
+pub mod SpreadLemmas
+pub mod DecidedLemmas
+pub mod PlaceLemmas
+pub mod RaisedLemmas
+pub mod KeptLemmas
+pub mod DecideLemmas

@@ -1,15 +1,15 @@
 -- A note of a cell that isn't marked, and a write of one that is.
-use Rattle.std.proofs.Common.{◌≡◌, ◌≢◌, ℕ, zero, suc, ◌+◌, ◌<◌, ◌≤◌, Bool, true, false, inl, inr, List, [], ◌∷◌, ◌++◌, length, cond, refl, sym, ap, subst, ◌∙◌, append_assoc, length-append, arith}
-use Rattle.std.proofs.lemmas.Bool.{cases_eq, false≢true}
-use Rattle.std.proofs.lemmas.List.{get_or-set_same, get_or-set_other}
-use Rattle.std.proofs.lemmas.List.Sums.{count_by-le-length, sum_by-set}
-use Rattle.std.proofs.Math.ListN.{length-set}
+use Rattle.std.proofs.Common.{◌≡◌, ◌≢◌, ℕ, zero, suc, ◌+◌, ◌<◌, ◌≤◌, Bool, true, false, inl, inr, List, [], ◌∷◌, ◌++◌, length, cond, refl, sym, ap, subst, ◌∙◌, append_assoc, ext_get_or, length-append, arith}
+use Rattle.std.proofs.lemmas.Bool.{cases_eq, cases_lt, false≢true}
+use Rattle.std.proofs.lemmas.List.{append-nil, get_or_default, get_or-set_same, get_or-set_other}
+use Rattle.std.proofs.lemmas.List.Sums.{count_by-le-length, sum_by-cons, sum_by-set}
+use Rattle.std.proofs.Math.ListN.{get_or-eq_default, length-set}
 use Rattle.std.specs.Prelude.{slice_index, slice_index_or, slice_set}
 use Rattle.qc_trail.specs.declared.trail.Note.{Note}
 use Rattle.qc_trail.specs.Trails.{Notes, written_back}
 use Rattle.qc_starts.specs.declared.noted.Noted.{Noted}
-use Rattle.qc_starts.proofs.Counts.{one_of}
-use Rattle.qc_starts.specs.Noting.{HasNotes, IsNoting, marks}
+use Rattle.qc_starts.specs.Spread.{one_of}
+use Rattle.qc_starts.specs.Noting.{HasNotes, IsNoting, Wrote, marks}
 
 pub written_back-append : (one two : List Note) (cells : List ℕ)
     → written_back (one ++ two) cells ≡ written_back one (written_back two cells)
@@ -23,6 +23,13 @@ marks_more noted p low free =
     let more = sum_by-set one_of noted p true true low in
     let none = ap one_of free in
     omega (arith, more, none)
+
+pub marks_less : (noted : List Bool) (p : ℕ) → p < length noted → slice_index_or noted p false ≡ true
+    → marks (slice_set noted p false) + 1 ≡ marks noted
+marks_less noted p low full =
+    let less = sum_by-set one_of noted p false false low in
+    let one = ap one_of full in
+    omega (arith, less, one)
 
 pub marks_below : (noted : List Bool) (p : ℕ) → p < length noted → slice_index_or noted p true ≡ false
     → marks noted < length noted
@@ -86,3 +93,47 @@ note_keeps before olds v w p low size free cells notes noted is = record {
           sym (get_or-set_other v.noted.items p q true true other)
           ∙ sym (ap (λ (xs : List Bool). slice_index_or xs q true) noted) ∙ still
     ]
+
+pub wrote_then : (a b c : Noted) (x y z : ℕ) → Wrote a b x y → Wrote b c y z → Wrote a c x z
+wrote_then a b c x y z one two = record {
+  notes = two.notes;
+  cap = two.cap ∙ one.cap;
+  noting = λ earlier olds is. two.noting earlier olds (one.noting earlier olds is);
+  counted = omega (arith, one.counted, two.counted);
+}
+
+pub wrote_none : (a : Noted) (x : ℕ) → HasNotes a → Wrote a a x x
+wrote_none a x notes = record {
+  notes = notes;
+  cap = refl;
+  noting = λ earlier olds is. is;
+  counted = omega arith;
+}
+
+pub marks_none : (noted : List Bool) → ((k : ℕ) → k < length noted → slice_index_or noted k true ≡ false)
+    → marks noted ≡ 0
+marks_none [] none = refl
+marks_none (b ∷ bs) none =
+    let rest = marks_none bs (λ k low. none (suc k) (omega arith)) in
+    let here = ap one_of (none 0 (omega arith)) in
+    omega (arith, rest, here, sum_by-cons one_of b bs)
+
+pub all_clear : (marks : List Bool) → ((k : ℕ) → k < length marks → slice_index_or marks k true ≡ false)
+    → (j : ℕ) → slice_index_or marks j false ≡ false
+all_clear marks none j = elim (cases_lt j (length marks)) [
+  | inl l ↦ get_or_default marks j false true l ∙ none j l
+  | inr l ↦ get_or-eq_default marks false l
+]
+
+-- a decision begins with no note
+pub noting_begins : (v : Noted) → marks v.noted.items ≡ 0 → length v.noted.items ≡ length v.cells
+    → ((k : ℕ) → k < length v.noted.items → slice_index_or v.noted.items k true ≡ false)
+    → IsNoting v.trail.notes v.cells v
+noting_begins v none size clear = record {
+  since = [];
+  notes = sym (append-nil v.trail.notes);
+  count = sym none;
+  size = refl;
+  same = λ p low free. refl;
+  back = λ others count agree. ext_get_or 0 others v.cells count (λ p low. agree p (omega arith) (clear p (omega arith)));
+}

@@ -1,12 +1,12 @@
 -- Ways back: they grow by a task that isn't on them, are no longer than there are tasks, and close.
-use Rattle.std.proofs.Common.{◌≡◌, ◌≢◌, ℕ, zero, suc, ◌+◌, ◌<◌, ◌≤◌, true, false, inl, inr, List, [], ◌∷◌, take, length, Option, None, Some, is_some, refl, sym, ap, subst, ◌∙◌, add-one, eqb, arith}
-use Rattle.std.proofs.lemmas.Bool.{or_cases, eqb-true, ne_eqb, false≢true}
+use Rattle.std.proofs.Common.{◌≡◌, ◌≢◌, ℕ, zero, suc, ◌+◌, ◌-◌, ◌<◌, ◌≤◌, true, false, inl, inr, List, [], ◌∷◌, take, length, Option, None, Some, is_some, refl, sym, ap, subst, ◌∙◌, add-one, eqb, arith}
+use Rattle.std.proofs.lemmas.Bool.{cases_eq, cond-false, or_cases, eqb-true, ne_eqb, false≢true}
 use Rattle.std.proofs.lemmas.Map.Steps.{length-le_from_distinct_below}
+use Rattle.std.proofs.lemmas.Option.{same_Some}
 use Rattle.std.specs.Prelude.{slice_index}
 use Rattle.std.specs.List.{AllByRecursion, IsDistinct, list_any}
-use Rattle.qc_starts.specs.declared.cells.Cell.{Cell}
-use Rattle.qc_starts.specs.Rounds.{cell}
-use Rattle.qc_starts.specs.Ways.{AreBacked, IsBacked, IsBackTo, IsLinked, IsPlace, IsRing, IsRising, IsWalked, IsWay, last_of, raiser}
+use Rattle.qc_starts.specs.Found.{why_in}
+use Rattle.qc_starts.specs.Ways.{AreBacked, IsBackTo, IsLinked, IsPlace, IsRing, IsRising, IsWalked, IsWay, Why, last_of}
 
 any_inside : (n : ℕ) (xs : List ℕ) → AllByRecursion (λ j. j < n) xs → (q : ℕ)
     → list_any (eqb q) xs ≡ true → q < n
@@ -17,11 +17,11 @@ any_inside n (x ∷ xs) all q t = elim (or_cases (eqb q x) (list_any (eqb q) xs)
 ]
 
 -- a way is no longer than there are tasks
-pub way_length : (cells : List Cell) (last i : ℕ) (js : List ℕ) → IsWay cells last i js
-    → length (i ∷ js) ≤ length cells
-way_length cells last i js way =
-    length-le_from_distinct_below (i ∷ js) (length cells) way.distinct
-    (any_inside (length cells) (i ∷ js) way.inside)
+pub way_length : (why : Why) (last i : ℕ) (js : List ℕ) → IsWay why last i js
+    → length (i ∷ js) ≤ why.count
+way_length why last i js way =
+    length-le_from_distinct_below (i ∷ js) why.count way.distinct
+    (any_inside why.count (i ∷ js) way.inside)
 
 apart : (task : ℕ) (path : List ℕ) → ((k : ℕ) → k < length path → slice_index path k ≢ task)
     → AllByRecursion (λ other. eqb task other ≡ false) path
@@ -29,83 +29,108 @@ apart task [] h = tt
 apart task (x ∷ xs) h =
     (ne_eqb task x (λ e. h 0 (omega arith) (sym e)), apart task xs (λ k low. h (suc k) (omega arith)))
 
-pub way_begins : (cells : List Cell) (last : ℕ) → last < length cells → IsWay cells last last []
+pub way_begins : (why : Why) (last : ℕ) → last < why.count → IsWay why last last []
 unfolding IsDistinct
-way_begins cells last low = record { linked = tt; ends = refl; distinct = (tt, tt); inside = (low, tt) }
+way_begins why last low = record { linked = tt; ends = refl; distinct = (tt, tt); inside = (low, tt) }
 
 -- one task more
-pub way_more : (cells : List Cell) (last i h : ℕ) (js : List ℕ) → IsWay cells last i js
-    → raiser cells i ≡ Some h → h < length cells
-    → IsPlace (i ∷ js) h None → IsWay cells last h (i ∷ js)
+pub way_more : (why : Why) (last i h : ℕ) (js : List ℕ) → IsWay why last i js
+    → why.of i ≡ Some h → h < why.count
+    → IsPlace (i ∷ js) h None → IsWay why last h (i ∷ js)
 unfolding IsDistinct
-way_more cells last i h js way back low away = record {
+way_more why last i h js way back low away = record {
   linked = (back, way.linked);
   ends = way.ends;
   distinct = (apart h (i ∷ js) away, way.distinct);
   inside = (low, way.inside);
 }
 
-pub raiser_inside : (cells : List Cell) (j i : ℕ) → AreBacked cells → j < length cells
-    → raiser cells j ≡ Some i → i < length cells
-raiser_inside cells j i backed low e = (subst (IsBacked cells j) e (backed j low)).0
-
 -- along a way starts rise
-starts_rise : (cells : List Cell) (i : ℕ) (js : List ℕ) → IsRising cells → IsLinked cells i js
-    → AllByRecursion (λ j. j < length cells) js
-    → (k : ℕ) → k < length (i ∷ js) → (cell cells i).start ≤ (cell cells (slice_index (i ∷ js) k)).start
-starts_rise cells i js rising linked all zero low = omega arith
-starts_rise cells i [] rising linked all (suc k) low = absurd (omega arith)
-starts_rise cells i (j ∷ js) rising linked all (suc k) low =
-    omega (arith, rising i j all.0 linked.0, starts_rise cells j js rising linked.1 all.1 k (omega arith))
+starts_rise : (why : Why) (i : ℕ) (js : List ℕ) → IsRising why → IsLinked why i js
+    → AllByRecursion (λ j. j < why.count) js
+    → (k : ℕ) → k < length (i ∷ js) → why.start i ≤ why.start (slice_index (i ∷ js) k)
+starts_rise why i js rising linked all zero low = omega arith
+starts_rise why i [] rising linked all (suc k) low = absurd (omega arith)
+starts_rise why i (j ∷ js) rising linked all (suc k) low =
+    omega (arith, rising i j all.0 linked.0, starts_rise why j js rising linked.1 all.1 k (omega arith))
 
 -- where starts rise, no way closes
-no_ring : (cells : List Cell) (last : ℕ) (path : List ℕ) (place : ℕ) → IsRising cells
-    → IsWalked cells last path (Some place) → ⊥
-no_ring cells last [] place rising walked = walked
-no_ring cells last (i ∷ js) place rising walked =
+no_ring : (why : Why) (last : ℕ) (path : List ℕ) (place : ℕ) → IsRising why
+    → IsWalked why last path (Some place) → ⊥
+no_ring why last [] place rising walked = walked
+no_ring why last (i ∷ js) place rising walked =
     let way = walked.0 in
-    let up = starts_rise cells i js rising way.linked way.inside.1 place walked.1 in
+    let up = starts_rise why i js rising way.linked way.inside.1 place walked.1 in
     let down = rising (slice_index (i ∷ js) place) i way.inside.0 walked.2 in
     omega (arith, up, down)
 
-pub no_ring_some : (cells : List Cell) (last : ℕ) (path : List ℕ) (o : Option ℕ) → IsRising cells
-    → IsWalked cells last path o → is_some o ≡ true → ⊥
-no_ring_some cells last path None rising walked some = false≢true some
-no_ring_some cells last path (Some place) rising walked some = no_ring cells last path place rising walked
+pub no_ring_some : (why : Why) (last : ℕ) (path : List ℕ) (o : Option ℕ) → IsRising why
+    → IsWalked why last path o → is_some o ≡ true → ⊥
+no_ring_some why last path None rising walked some = false≢true some
+no_ring_some why last path (Some place) rising walked some = no_ring why last path place rising walked
 
-pub chain_found : (cells : List Cell) (last : ℕ) (path : List ℕ) (o : Option ℕ)
-    → IsWalked cells last path o → is_some o ≡ false → IsBackTo cells last path
-chain_found cells last [] o walked none = walked
-chain_found cells last (i ∷ js) None walked none = walked
-chain_found cells last (i ∷ js) (Some place) walked none = absurd (false≢true (sym none))
+pub chain_found : (why : Why) (last : ℕ) (path : List ℕ) (o : Option ℕ)
+    → IsWalked why last path o → is_some o ≡ false → IsBackTo why last path
+chain_found why last [] o walked none = walked
+chain_found why last (i ∷ js) None walked none = walked
+chain_found why last (i ∷ js) (Some place) walked none = absurd (false≢true (sym none))
 
--- a round back for each task of a way at most
-rounds_fall : (cells : List Cell) (i : ℕ) (js : List ℕ) → AreBacked cells → IsLinked cells i js
-    → AllByRecursion (λ j. j < length cells) js
-    → (cell cells (last_of i js)).round ≤ (cell cells i).round + length js
-rounds_fall cells i [] backed linked all = omega arith
-rounds_fall cells i (j ∷ js) backed linked all =
-    let one = subst (IsBacked cells j) linked.0 (backed j all.0) in
-    omega (arith, one.1, rounds_fall cells j js backed linked.1 all.1)
+-- ---- reasons that never end
 
--- a task that was raised in a later round than there are tasks has a ring behind it
-pub no_end : (cells : List Cell) (late : ℕ) (path : List ℕ) → AreBacked cells
-    → length cells < (cell cells late).round → IsWalked cells late path None → ⊥
-no_end cells late [] backed round walked = walked
-no_end cells late (i ∷ js) backed round walked =
-    let way = walked.0 in
-    let none = subst (IsBacked cells i) walked.1 (backed i way.inside.0) in
-    let fall = rounds_fall cells i js backed way.linked way.inside.1 in
-    let ends = ap (λ (j : ℕ). (cell cells j).round) way.ends in
-    omega (arith, none, fall, ends, way_length cells late i js way)
+-- some tasks are each raised by one of them
+pub record IsClosed (why : Why) (P : ℕ → Type 0) : Type 0 where
+  pub back : (j : ℕ) → P j → (i : ℕ) × (why.of j ≡ Some i) × P i
+
+first_in : (why : Why) (P : ℕ → Type 0) → IsClosed why P → (i : ℕ) (js : List ℕ) → IsLinked why i js
+    → P (last_of i js) → P i
+first_in why P closed i [] linked has = has
+first_in why P closed i (j ∷ js) linked has =
+    let by = closed.back j (first_in why P closed j js linked.1 has) in
+    subst P (same_Some by.0 i (sym by.1 ∙ linked.0)) by.2
+
+-- a way back from one of them comes to no task that nothing raised
+pub no_end : (why : Why) (P : ℕ → Type 0) → IsClosed why P → (last : ℕ) (path : List ℕ) → P last
+    → IsWalked why last path None → ⊥
+no_end why P closed last [] has walked = walked
+no_end why P closed last (i ∷ js) has walked =
+    let first = first_in why P closed i js walked.0.linked (subst P (sym walked.0.ends) has) in
+    let by = closed.back i first in
+    let clash : None ≡ Some by.0 = sym walked.1 ∙ by.1 in
+    absurd (cc)
+
+-- ---- where starts rise, a way back ends
+
+chain_more : (why : Why) → AreBacked why → IsRising why → (fuel last i : ℕ) (js : List ℕ)
+    → IsWay why last i js → why.count ≤ fuel + length js → (path : List ℕ) × IsBackTo why last path
+chain_more why backed rising zero last i js way room =
+    absurd (omega (arith, way_length why last i js way))
+chain_more why backed rising (suc fuel) last i js way room =
+    go (why.of i) refl (λ h up. chain_more why backed rising fuel last h (i ∷ js) up (omega arith))
+  where
+    go : (o : Option ℕ) → why.of i ≡ o
+        → ((h : ℕ) → IsWay why last h (i ∷ js) → (path : List ℕ) × IsBackTo why last path)
+        → (path : List ℕ) × IsBackTo why last path
+    go None none more = (i ∷ js, (way, none))
+    go (Some h) back more =
+        let less = rising h i way.inside.0 back in
+        let away = λ (k : ℕ) (low : k < length (i ∷ js)) (same : slice_index (i ∷ js) k ≡ h).
+            let up = starts_rise why i js rising way.linked way.inside.1 k low in
+            let e = ap why.start same in
+            absurd (omega (arith, up, less, e)) in
+        more h (way_more why last i h js way back (backed i h way.inside.0 back) away)
+
+pub chain_exists : (why : Why) → AreBacked why → IsRising why → (last : ℕ) → last < why.count
+    → (path : List ℕ) × IsBackTo why last path
+chain_exists why backed rising last low =
+    chain_more why backed rising why.count last last [] (way_begins why last low) (omega arith)
 
 -- ---- the first tasks of a way
 
-linked_take : (cells : List Cell) (i : ℕ) (js : List ℕ) (k : ℕ) → IsLinked cells i js
-    → IsLinked cells i (take k js)
-linked_take cells i js zero linked = tt
-linked_take cells i [] (suc k) linked = tt
-linked_take cells i (j ∷ js) (suc k) linked = (linked.0, linked_take cells j js k linked.1)
+linked_take : (why : Why) (i : ℕ) (js : List ℕ) (k : ℕ) → IsLinked why i js
+    → IsLinked why i (take k js)
+linked_take why i js zero linked = tt
+linked_take why i [] (suc k) linked = tt
+linked_take why i (j ∷ js) (suc k) linked = (linked.0, linked_take why j js k linked.1)
 
 all_take : (P : ℕ → Type 0) (xs : List ℕ) (k : ℕ) → AllByRecursion P xs → AllByRecursion P (take k xs)
 all_take P xs zero all = tt
@@ -126,17 +151,34 @@ last_of_take i [] (suc k) low = absurd (omega arith)
 last_of_take i (j ∷ js) (suc k) low = last_of_take j js k (omega arith)
 
 -- the ring that a way ends in
-pub ring_found : (cells : List Cell) (late : ℕ) (path : List ℕ) (place : ℕ)
-    → IsWalked cells late path (Some place) → IsRing cells (take (place + 1) path)
-ring_found cells late [] place walked = absurd walked
-ring_found cells late (i ∷ js) place walked =
+pub ring_found : (why : Why) (late : ℕ) (path : List ℕ) (place : ℕ)
+    → IsWalked why late path (Some place) → IsRing why (take (place + 1) path)
+ring_found why late [] place walked = absurd walked
+ring_found why late (i ∷ js) place walked =
     let way = walked.0 in
     rw (add-one place) (
       record {
-        linked = linked_take cells i js place way.linked;
+        linked = linked_take why i js place way.linked;
         ends = refl;
         distinct = distinct_take (i ∷ js) (suc place) way.distinct;
-        inside = all_take (λ j. j < length cells) (i ∷ js) (suc place) way.inside;
+        inside = all_take (λ j. j < why.count) (i ∷ js) (suc place) way.inside;
       },
       walked.2 ∙ ap Some (sym (last_of_take i js place walked.1)),
     )
+
+pub place_low : (why : Why) (last : ℕ) (path : List ℕ) (place : ℕ) → IsWalked why last path (Some place)
+    → place < why.count
+place_low why last [] place walked = absurd walked
+place_low why last (i ∷ js) place walked = omega (arith, walked.1, way_length why last i js walked.0)
+
+-- ---- cells
+
+pub code_small : (count : ℕ) (cells : List ℕ) (j : ℕ) → AreBacked (why_in count cells) → count ≤ 240 → j < count
+    → slice_index cells (count + j) ≤ 65536
+code_small count cells j backed few low = elim (cases_eq (slice_index cells (count + j)) 0) [
+  | inl none ↦ omega arith
+  | inr some ↦
+      let code = slice_index cells (count + j) in
+      let is = cond-false (eqb code 0) None (Some (code - 1)) (ne_eqb code 0 some) in
+      omega (arith, backed j (code - 1) low is)
+]

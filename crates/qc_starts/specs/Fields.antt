@@ -1,25 +1,55 @@
 -- The fields of the least starts of a node, as clauses see them and as they are kept.
-use Rattle.std.specs.Prelude.{◌≡◌}
-use Rattle.qc_model.specs.Instance.{InstanceView, Valid}
-use Rattle.qc_model.specs.Nodes.{Fits, IsInReach}
-use Rattle.qc_starts.specs.declared.least.Step.{Step}
-use Rattle.qc_starts.specs.declared.least.Table.{Table}
+use Rattle.std.specs.Prelude.{◌≡◌, ℕ, ◌+◌, ◌-◌, ◌*◌, ◌≤◌, List, [], ◌∷◌, drop, length, reverse, take, vec_capacity}
+use Rattle.qc_model.specs.declared.decision.Decision.{Decision}
+use Rattle.qc_model.specs.Instance.{InstanceView}
+use Rattle.qc_model.specs.Nodes.{IsInReach}
 use Rattle.qc_starts.specs.declared.starts.Starts.TheInside.{Inside}
-use Rattle.qc_starts.specs.Found.{HasRoom, IsFound}
-use Rattle.qc_starts.specs.NodeArcs.{NodeArcs}
+use Rattle.qc_starts.specs.declared.step.Step.{Step}
+use Rattle.qc_starts.specs.declared.step.Step.TheVariants.{Raised, Cycle}
+use Rattle.qc_starts.specs.NodeArcs.{IsSound, NodeArcs}
+use Rattle.qc_starts.specs.Opened.{AreSized}
 use Rattle.qc_starts.specs.Seen.{StartsNode}
+use Rattle.qc_starts.specs.Spread.{IsBackAtRoot}
+use Rattle.qc_starts.specs.Values.{AreRest}
+use Rattle.qc_trail.specs.declared.trail.Note.{Note}
+use Rattle.qc_trail.specs.Trails.{written_back}
 
--- what is kept is for the node of the decisions
-pub record AreKept (inst : InstanceView) (node : NodeArcs) (table : Table) (step : Step) : Type 0 where
-  pub valid : Valid inst
-  pub same : node.inst ≡ inst
-  pub fits : Fits inst node.decisions
-  pub in_reach : IsInReach inst node.decisions
-  pub room : HasRoom inst table
-  pub found : IsFound inst node.decisions table step
+-- how many notes there are between one mark, newest first, and the next
+abbrev pub counts_of : List ℕ → ℕ → List ℕ
+counts_of [] count = []
+counts_of (mark ∷ marks) count = (count - mark) ∷ counts_of marks mark
+
+-- for each decision, newest first, how many notes there were before it: writing back those that follow leaves the
+-- least starts of the node without it
+abbrev pub AreNested : InstanceView → List Decision → List ℕ → List Note → List ℕ → Type 0
+AreNested inst [] [] notes cells = length notes ≡ 0
+AreNested inst [] (mark ∷ marks) notes cells = ⊥
+AreNested inst (d ∷ ds) [] notes cells = ⊥
+AreNested inst (d ∷ ds) (mark ∷ marks) notes cells =
+    (mark ≤ length notes) × (mark ≤ 2 * length inst.tasks * length ds)
+    × AreRest inst ds (written_back (drop mark notes) cells)
+    × AreNested inst ds marks (take mark notes) (written_back (drop mark notes) cells)
+
+-- the cells hold the least starts of the node, or a raise came back to the root
+abbrev pub IsStateOf : NodeArcs → List ℕ → ℕ → Step → Type 0
+IsStateOf net cells root Raised = AreRest net.inst net.decisions cells
+IsStateOf net cells root Cycle = (olds : List ℕ) × IsBackAtRoot net root olds cells
 
 abbrev pub node_of : Inside → StartsNode
-node_of f = record { inst = f.inst; decisions = f.network.decisions }
+node_of f = record {
+  inst = f.inst;
+  decisions = f.network.decisions;
+  noted = counts_of (reverse f.marks.items) (length f.spread.values.trail.notes);
+  cells = f.spread.values.cells;
+}
 
-abbrev pub IsKept : Inside → Type 0
-IsKept f = AreKept f.inst f.network f.table f.step
+pub record IsKept (f : Inside) : Type 0 where
+  pub sound : IsSound f.network
+  pub same : f.network.inst ≡ f.inst
+  pub in_reach : IsInReach f.inst f.network.decisions
+  pub sized : AreSized f.inst f.spread
+  pub few : length f.spread.values.trail.notes ≤ 2 * length f.inst.tasks * length f.network.decisions
+  pub nested :
+      AreNested f.inst f.network.decisions (reverse f.marks.items) f.spread.values.trail.notes f.spread.values.cells
+  pub room : length f.inst.tasks + length f.inst.apart ≤ vec_capacity f.marks
+  pub state : IsStateOf f.network f.spread.values.cells f.root f.step

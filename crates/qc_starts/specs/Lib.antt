@@ -1,11 +1,13 @@
 pub mod Arcs
-pub mod Asked
 pub mod Fields
 pub mod Found
 pub mod Network
 pub mod Noting
 pub mod NodeArcs
-pub mod Rounds
+pub mod Opened
+pub mod Place
+pub mod Roots
 pub mod Seen
+pub mod Spread
 pub mod Values
 pub mod Ways

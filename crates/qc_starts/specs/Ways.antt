@@ -1,25 +1,20 @@
 -- Ways back from a task by what raised each.
-use Rattle.std.specs.Prelude.{◌≡◌, ◌≢◌, ℕ, ◌+◌, ◌<◌, ◌≤◌, nat_eq, List, [], ◌∷◌, length, Option, None, Some, option_map, slice_index}
+use Rattle.std.specs.Prelude.{◌≡◌, ◌≢◌, ℕ, ◌+◌, ◌<◌, ◌≤◌, nat_eq, List, [], ◌∷◌, length, Option, None, Some, slice_index}
 use Rattle.std.specs.List.{AllByRecursion, IsDistinct}
-use Rattle.qc_starts.specs.declared.cells.Cell.{Cell}
-use Rattle.qc_starts.specs.declared.cells.Edge.{Edge}
-use Rattle.qc_starts.specs.Rounds.{cell}
 
--- the task after which this one starts
-abbrev pub raiser : List Cell → ℕ → Option ℕ
-raiser cells j = option_map (λ (edge : Edge). edge.from) (cell cells j).why
+-- so many tasks, when each starts, and the task that raised it
+pub record Why : Type 0 where
+  pub count : ℕ
+  pub start : ℕ → ℕ
+  pub of : ℕ → Option ℕ
 
--- a task was raised in no round, or after another task that was raised a round before or later
-abbrev pub IsBacked : List Cell → ℕ → Option ℕ → Type 0
-IsBacked cells j None = (cell cells j).round ≡ 0
-IsBacked cells j (Some i) = (i < length cells) × ((cell cells j).round ≤ (cell cells i).round + 1)
-
-abbrev pub AreBacked : List Cell → Type 0
-AreBacked cells = (j : ℕ) → j < length cells → IsBacked cells j (raiser cells j)
+-- tasks are raised by tasks
+abbrev pub AreBacked : Why → Type 0
+AreBacked why = (j i : ℕ) → j < why.count → why.of j ≡ Some i → i < why.count
 
 -- a task starts after the one that raised it
-abbrev pub IsRising : List Cell → Type 0
-IsRising cells = (i j : ℕ) → j < length cells → raiser cells j ≡ Some i → (cell cells i).start < (cell cells j).start
+abbrev pub IsRising : Why → Type 0
+IsRising why = (i j : ℕ) → j < why.count → why.of j ≡ Some i → why.start i < why.start j
 
 -- where the task stands in the path
 abbrev pub IsPlace : List ℕ → ℕ → Option ℕ → Type 0
@@ -27,9 +22,9 @@ IsPlace path task None = (k : ℕ) → k < length path → slice_index path k �
 IsPlace path task (Some place) = (place < length path) × (slice_index path place ≡ task)
 
 -- each task was raised by the one before it, the first of them by task i
-abbrev pub IsLinked : List Cell → ℕ → List ℕ → Type 0
-IsLinked cells i [] = Unit {0}
-IsLinked cells i (j ∷ js) = (raiser cells j ≡ Some i) × IsLinked cells j js
+abbrev pub IsLinked : Why → ℕ → List ℕ → Type 0
+IsLinked why i [] = Unit {0}
+IsLinked why i (j ∷ js) = (why.of j ≡ Some i) × IsLinked why j js
 
 -- the last of these tasks, of which task i is the first
 abbrev pub last_of : ℕ → List ℕ → ℕ
@@ -37,25 +32,29 @@ last_of i [] = i
 last_of i (j ∷ js) = last_of j js
 
 -- task i and those behind it, each raised by the one before it
-pub record IsWay (cells : List Cell) (last i : ℕ) (js : List ℕ) : Type 0 where
-  pub linked : IsLinked cells i js
+pub record IsWay (why : Why) (last i : ℕ) (js : List ℕ) : Type 0 where
+  pub linked : IsLinked why i js
   pub ends : last_of i js ≡ last
   pub distinct : IsDistinct nat_eq (i ∷ js)
-  pub inside : AllByRecursion (λ j. j < length cells) (i ∷ js)
+  pub inside : AllByRecursion (λ j. j < why.count) (i ∷ js)
 
 -- the way to a task, and where the task stands that raised the first, if any did
-abbrev pub IsWalked : List Cell → ℕ → List ℕ → Option ℕ → Type 0
-IsWalked cells last [] place = ⊥
-IsWalked cells last (i ∷ js) None = IsWay cells last i js × (raiser cells i ≡ None)
-IsWalked cells last (i ∷ js) (Some place) =
-    IsWay cells last i js × (place < length (i ∷ js)) × (raiser cells i ≡ Some (slice_index (i ∷ js) place))
+abbrev pub IsWalked : Why → ℕ → List ℕ → Option ℕ → Type 0
+IsWalked why last [] place = ⊥
+IsWalked why last (i ∷ js) None = IsWay why last i js × (why.of i ≡ None)
+IsWalked why last (i ∷ js) (Some place) =
+    IsWay why last i js × (place < length (i ∷ js)) × (why.of i ≡ Some (slice_index (i ∷ js) place))
 
 -- the way to a task from one that nothing raised
-abbrev pub IsBackTo : List Cell → ℕ → List ℕ → Type 0
-IsBackTo cells last [] = ⊥
-IsBackTo cells last (i ∷ js) = IsWay cells last i js × (raiser cells i ≡ None)
+abbrev pub IsBackTo : Why → ℕ → List ℕ → Type 0
+IsBackTo why last [] = ⊥
+IsBackTo why last (i ∷ js) = IsWay why last i js × (why.of i ≡ None)
 
 -- each task was raised by the one before it, and the first by the last
-abbrev pub IsRing : List Cell → List ℕ → Type 0
-IsRing cells [] = ⊥
-IsRing cells (i ∷ js) = IsWay cells (last_of i js) i js × (raiser cells i ≡ Some (last_of i js))
+abbrev pub IsRing : Why → List ℕ → Type 0
+IsRing why [] = ⊥
+IsRing why (i ∷ js) = IsWay why (last_of i js) i js × (why.of i ≡ Some (last_of i js))
+
+-- no way back from this task comes to one that nothing raised
+abbrev pub IsEndless : Why → ℕ → Type 0
+IsEndless why root = (path : List ℕ) → ¬ IsWalked why root path None

@@ -8,7 +8,7 @@ ghost use Rattle.qc_model.specs.Instance.{Valid};
 ghost use Rattle.qc_model.specs.Nodes.{Fits, forced};
 ghost use Rattle.qc_starts.specs.Arcs.{AreArcs, AreLow, AreOpening, IsOver, IsRoomy, added, with_added};
 
-use crate::asked::task_count;
+use crate::tasks::task_count;
 use qc_arena::ArcArena;
 use qc_dist::Decisions;
 use qc_model::{Decision, Instance};

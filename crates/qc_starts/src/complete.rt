@@ -4,7 +4,7 @@ ghost use Rattle.std.specs.Prelude.{◌≡◌, ◌↔◌, IsTrue};
 ghost use Rattle.qc_model.specs.Nodes.{IsComplete};
 ghost use Rattle.qc_starts.specs.Seen.{AreAssigned, AreSettled};
 
-use crate::asked::task_count;
+use crate::tasks::task_count;
 use qc_dist::Decisions;
 use qc_model::Instance;
 

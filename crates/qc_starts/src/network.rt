@@ -4,7 +4,7 @@ ghost use Rattle.std.specs.Prelude.{◌≡◌, ◌-◌, ◌<◌, ◌≤◌, [], 
 ghost use Rattle.qc_model.specs.Instance.{Valid};
 ghost use Rattle.qc_model.specs.Nodes.{Fits};
 ghost use Rattle.qc_dist.specs.Node.{IsOpen};
-ghost use Rattle.qc_starts.specs.Arcs.{AreArcs, AreLow};
+ghost use Rattle.qc_starts.specs.NodeArcs.{IsSound};
 
 use crate::arcs::{decide, open_arena};
 use qc_arena::ArcArena;
@@ -54,6 +54,7 @@ impl Network {
     pub(crate) fn open(alloc: Global, inst: &Instance) -> Result<Network, OutOfMemory>
         ensures inst { IfOk result (λ network. network.inst ≡ inst.now) }
         ensures decisions { IfOk result (λ network. network.decisions ≡ []) }
+        ensures sound { IfOk result IsSound }
     {
         let decisions = Decisions::new(alloc, inst)?;
         let arena = open_arena(alloc, inst, &decisions)?;
@@ -71,6 +72,7 @@ impl Network {
         requires open { IsOpen inst.now self.old.decisions decision }
         ensures inst { self.new.inst ≡ self.old.inst }
         ensures decisions { self.new.decisions ≡ decision ∷ self.old.decisions }
+        ensures sound { IsSound self.new }
     {
         let mark = self.arena.len();
         decide(&mut self.decisions, inst, decision, &mut self.arena);
@@ -82,6 +84,7 @@ impl Network {
         requires { 0 < length self.old.decisions }
         ensures inst { self.new.inst ≡ self.old.inst }
         ensures decisions { self.new.decisions ≡ drop 1 self.old.decisions }
+        ensures sound { IsSound self.new }
     {
         let _ = self.decisions.undo();
         let Some(mark) = self.marks.pop() else {
@@ -110,8 +113,7 @@ impl Network {
     pub(crate) fn arena(&self) -> &ArcArena
         ensures arcs { reverse result.now.arcs ≡ self.now.arcs }
         ensures nodes { result.now.nodes ≡ length self.now.inst.tasks }
-        ensures low { AreLow self.now.arcs }
-        ensures all { AreArcs self.now.inst self.now.decisions self.now.arcs }
+        ensures sound { IsSound self.now }
     {
         &self.arena
     }

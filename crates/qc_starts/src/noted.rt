@@ -1,8 +1,9 @@
 // Cells that are written with a note of what they held, once for each decision.
 
-ghost use Rattle.std.specs.Prelude.{◌≡◌, ℕ, ◌+◌, ◌*◌, ◌<◌, ◌≤◌, ◌^◌, [], IfOk, IfSome, List, false, true, length, replicate, slice_index, slice_index_or, slice_set};
+ghost use Rattle.std.specs.Prelude.{◌≡◌, ℕ, ◌+◌, ◌-◌, ◌*◌, ◌<◌, ◌≤◌, ◌^◌, [], All, drop, take, IfOk, IfSome, List, false, true, length, replicate, slice_index, slice_index_or, slice_set};
 ghost use Rattle.qc_trail.specs.declared.trail.Note.{Note};
-ghost use Rattle.qc_starts.specs.Noting.{HasNotes, IsNoting};
+ghost use Rattle.qc_trail.specs.Trails.{written_back};
+ghost use Rattle.qc_starts.specs.Noting.{HasNotes, IsNoting, Wrote};
 ghost use Rattle.qc_starts.specs.Values.{code_of, raised, raiser_at, start_at};
 
 use qc_num::{OutOfMemory, Steps, Tick};
@@ -35,7 +36,7 @@ pub(crate) struct Noted {
     pub(crate) cells: Cells,
     pub(crate) trail: Trail,
     /// Whether the newest decision has noted the cell.
-    noted: Vec<bool>,
+    pub(crate) noted: Vec<bool>,
 }
 
 impl Noted {
@@ -128,13 +129,40 @@ impl Noted {
         requires count { length self.old.cells ≡ 2 * count }
         requires notes { HasNotes self.old }
         ensures cells { self.new.cells ≡ raised count self.old.cells task start raiser }
-        ensures notes { HasNotes self.new }
-        ensures cap { self.new.trail.cap ≡ self.old.trail.cap }
-        ensures noting { (before : List Note) (olds : List ℕ)
-            → IsNoting before olds self.old → IsNoting before olds self.new }
-        ensures counted { length self.new.trail.notes + steps.old ≤ length self.old.trail.notes + steps.new }
+        ensures wrote { Wrote self.old self.new steps.old steps.new }
     {
         self.write(task as u32, start, steps);
         self.write(count as u32 + task as u32, code_of(raiser), steps);
+    }
+
+    /// Writes when a task of so many starts, and the task that raised it, without a note.
+    pub(crate) fn fill<L: Ledger>(
+        &mut self,
+        count: u16,
+        task: u16,
+        start: Tick,
+        raiser: Option<u16>,
+        steps: &mut Steps<L>,
+    )
+        requires task { task < count }
+        requires count { length self.old.cells ≡ 2 * count }
+        ensures cells { self.new.cells ≡ raised count self.old.cells task start raiser }
+        ensures trail { self.new.trail ≡ self.old.trail }
+        ensures noted { self.new.noted.items ≡ self.old.noted.items }
+    {
+        self.cells.set(task as u32, start, steps);
+        self.cells.set(count as u32 + task as u32, code_of(raiser), steps);
+    }
+
+    /// Writes back what was noted past the mark.
+    pub(crate) fn back<L: Ledger>(&mut self, mark: u32, steps: &mut Steps<L>)
+        requires mark { mark ≤ length self.old.trail.notes }
+        requires places { All (λ note. note.place < length self.old.cells) self.old.trail.notes }
+        ensures trail { self.new.trail ≡ record self.old.trail { notes = take mark self.old.trail.notes } }
+        ensures cells { self.new.cells ≡ written_back (drop mark self.old.trail.notes) self.old.cells }
+        ensures noted { self.new.noted.items ≡ self.old.noted.items }
+        ensures counted { steps.new ≡ steps.old + (length self.old.trail.notes - mark) }
+    {
+        self.trail.back(mark, &mut self.cells, steps);
     }
 }

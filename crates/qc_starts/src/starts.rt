@@ -1,4 +1,4 @@
-ghost use Rattle.std.specs.Prelude.{◌≡◌, ◌↔◌, ◌+◌, ◌*◌, ◌<◌, ◌≤◌, ◌⊎◌, None, [], ◌∷◌, IfOk, IfSome, IsTrue, length, nat_lt};
+ghost use Rattle.std.specs.Prelude.{◌≡◌, ◌↔◌, ◌+◌, ◌*◌, ◌<◌, ◌≤◌, ◌⊎◌, None, [], ◌∷◌, IfOk, IfSome, IsTrue, drop, length, nat_lt, sum};
 ghost use Rattle.qc_model.specs.declared.decision.Decision.TheVariants.{Assign, Order};
 ghost use Rattle.qc_model.specs.declared.limits.TheConstants.{MOST_DISTANCE, MOST_READY, MOST_START, MOST_TASKS, MOST_WORK};
 ghost use Rattle.qc_model.specs.Instance.{IsApart};
@@ -6,29 +6,51 @@ ghost use Rattle.qc_model.specs.Leaves.{done_at, tasks_on};
 ghost use Rattle.qc_model.specs.Nodes.{Fits, HasStarts, IsComplete, IsInReach, IsNodeEnd, IsSettled, assigned, reaches};
 ghost use Rattle.qc_num.specs.Paths.{HasRoom};
 ghost use Rattle.qc_dist.specs.Kept.{unassigned_ticks};
-ghost use Rattle.qc_starts.specs.Seen.{HasNone, HoldsForced, IsCycle, IsNodeStart, IsWhy, first_of};
+ghost use Rattle.qc_starts.specs.Opened.{AreSized};
+ghost use Rattle.qc_starts.specs.NodeArcs.{IsSound};
+ghost use Rattle.qc_starts.specs.Roots.{root_of};
+ghost use Rattle.qc_starts.specs.Seen.{AreNotes, HasNone, HoldsForced, HoldsStarts, IsCycle, IsNodeStart, IsWhy, first_of};
+ghost use Rattle.qc_starts.specs.Values.{AreRest};
 
 use crate::complete::is_complete;
-use crate::least::{Step, Table};
-use crate::made::{copy_path, undo_to};
+use crate::latest::{last_end, latest};
 use crate::network::Network;
+use crate::spread::Spread;
+use crate::step::Step;
+use crate::tasks::task_count;
+use crate::walk::{chain_to, ring_behind};
 use qc_arena::ArcArena;
 use qc_model::{Decision, Instance, copy};
 use qc_num::{OutOfMemory, Path, Steps, Tick};
+use qc_trail::{Cells, Trail};
 use std::alloc::Global;
-use std::marker::Model;
-use std::sync::ledger::Ledger;
+use std::marker::{Brand, Model};
+use std::sync::ledger::{Blank, Ledger};
+
+/// The task behind which a decision raises starts.
+fn root_of(decision: Decision) -> u16
+    ensures { result ≡ root_of decision }
+{
+    match decision {
+        Decision::Assign(task, _) => task,
+        Decision::Order(_, second) => second,
+    }
+}
 
 /// The least starts of a node of the search: of an instance, of which it keeps a copy, and a list of
-/// decisions. Where no starts meet the node it is stuck, until decisions are taken back. All memory
-/// is taken by `open`.
+/// decisions. Where no starts meet the node it is stuck, until decisions are taken back. A decision
+/// costs what it changes, and so does taking it back. All memory is taken by `open`.
 #[derive(Drop)]
 pub struct Starts {
     inst: Instance,
     network: Network,
-    table: Table,
+    spread: Spread,
+    /// How many notes there were before each decision.
+    marks: Vec<u32>,
     /// What was found for the decisions.
     step: Step,
+    /// The task behind which the newest decision raised starts.
+    root: u16,
 }
 
 impl Model for Starts {
@@ -43,38 +65,77 @@ impl Model for Starts {
     ghost invariant = { IsKept };
 }
 
+/// The starts before any decision.
+fn open_spread<L: Ledger>(
+    alloc: Global,
+    inst: &Instance,
+    network: &Network,
+    blank: Blank,
+) -> Result<Spread, OutOfMemory>
+    requires name { blank.name ≡ L.name }
+    requires parts { blank.parts ≡ L.parts }
+    requires some { 0 < L.parts }
+    requires same { network.now.inst ≡ inst.now }
+    requires sound { IsSound network.now }
+    requires none { network.now.decisions ≡ [] }
+    ensures rest { IfOk result (λ spread. AreRest inst.now [] spread.values.cells) }
+    ensures sized { IfOk result (AreSized inst.now) }
+    ensures notes { IfOk result (λ spread. spread.values.trail.notes ≡ []) }
+{
+    let mut steps = Steps::<L>::new(blank);
+    let count = task_count(inst);
+    let room = count as u32 + inst.apart().len() as u32;
+    let mut spread = Spread::open(alloc, count, room)?;
+    spread.place_all(network, inst, &mut steps);
+    Ok(spread)
+}
+
 impl Starts {
     ghost use Rattle.qc_dist.specs.Node.{IsOpen, newest};
-    ghost use Rattle.qc_starts.specs.Seen.{IsReached, IsStep};
+    ghost use Rattle.qc_starts.specs.Seen.{IsNoted, IsReached, IsStep};
 
     /// No decision for the instance.
     pub fn open(alloc: Global, inst: &Instance) -> Result<Starts, OutOfMemory>
         ensures inst { IfOk result (λ node. node.inst ≡ inst.now) }
         ensures decisions { IfOk result (λ node. node.decisions ≡ []) }
+        ensures noted { IfOk result (λ node. node.noted ≡ []) }
     {
         let network = Network::open(alloc, inst)?;
-        let mut table = Table::open(alloc, inst)?;
-        let inst = copy(alloc, inst)?;
-        let step = table.settle(network.decisions(), &inst);
+        let spread = open_spread::<Brand>(alloc, inst, &network, Blank::new(1))?;
+        let room = inst.tasks().len() + inst.apart().len();
         Ok(Starts {
-            inst,
+            inst: copy(alloc, inst)?,
             network,
-            table,
-            step,
+            spread,
+            marks: Vec::with_capacity(alloc, room)?,
+            step: Step::Raised,
+            root: 0,
         })
     }
 
     /// Decides one thing more.
-    fn decide(&mut self, inst: &Instance, decision: Decision) -> Step
+    fn decide<L: Ledger>(
+        &mut self,
+        inst: &Instance,
+        decision: Decision,
+        steps: &mut Steps<L>,
+    ) -> Step
         requires same { self.old.inst ≡ inst.now }
+        requires starts { HasStarts inst.now self.old.decisions }
         requires open { IsOpen inst.now self.old.decisions decision }
         requires reach { IsReached inst.now decision }
         ensures inst { self.new.inst ≡ self.old.inst }
         ensures decisions { self.new.decisions ≡ decision ∷ self.old.decisions }
         ensures step { IsStep inst.now self.new.decisions result }
+        ensures noted { IsNoted self.old self.new result steps.old steps.new }
+        ensures steps { steps.old ≤ steps.new }
     {
+        let mark = self.spread.values.trail.mark();
         self.network.add(inst, decision);
-        self.step = self.table.settle(self.network.decisions(), inst);
+        self.marks.push_reserved(mark);
+        self.root = root_of(decision);
+        self.spread.begin(self.root);
+        self.step = self.spread.settle(&self.network, inst, self.root, steps);
         self.step
     }
 
@@ -95,10 +156,10 @@ impl Starts {
         ensures inst { self.new.inst ≡ self.old.inst }
         ensures decisions { self.new.decisions ≡ Assign task crane ∷ self.old.decisions }
         ensures step { IsStep inst.now self.new.decisions result }
+        ensures noted { IsNoted self.old self.new result steps.old steps.new }
         ensures steps { steps.old ≤ steps.new }
     {
-        steps.tick();
-        self.decide(inst, Decision::Assign(task, crane))
+        self.decide(inst, Decision::Assign(task, crane), steps)
     }
 
     /// Puts one of two apart tasks first. `Cycle` exactly where no starts meet the node any more.
@@ -116,10 +177,10 @@ impl Starts {
         ensures inst { self.new.inst ≡ self.old.inst }
         ensures decisions { self.new.decisions ≡ Order i j ∷ self.old.decisions }
         ensures step { IsStep inst.now self.new.decisions result }
+        ensures noted { IsNoted self.old self.new result steps.old steps.new }
         ensures steps { steps.old ≤ steps.new }
     {
-        steps.tick();
-        self.decide(inst, Decision::Order(i, j))
+        self.decide(inst, Decision::Order(i, j), steps)
     }
 
     /// Whether no starts meet the node.
@@ -132,6 +193,14 @@ impl Starts {
             Step::Raised => false,
             Step::Cycle => true,
         }
+    }
+
+    /// The number of decisions, and of counts of notes.
+    fn made(&self) -> u32
+        ensures count { result ≡ length self.now.decisions }
+        ensures noted { length self.now.noted ≡ length self.now.decisions }
+    {
+        self.network.made()
     }
 
     /// The number of decisions.
@@ -148,16 +217,35 @@ impl Starts {
         self.network.decisions().newest()
     }
 
+    /// Takes back the newest decision.
+    fn take_back<L: Ledger>(&mut self, steps: &mut Steps<L>)
+        requires { 0 < length self.old.decisions }
+        ensures inst { self.new.inst ≡ self.old.inst }
+        ensures decisions { self.new.decisions ≡ drop 1 self.old.decisions }
+        ensures noted { self.new.noted ≡ drop 1 self.old.noted }
+        ensures counted { steps.new + sum self.new.noted ≡ steps.old + sum self.old.noted }
+        ensures steps { steps.old ≤ steps.new }
+    {
+        let Some(mark) = self.marks.pop() else {
+            unreachable!();
+        };
+        self.network.undo();
+        self.spread.values.back(mark, steps);
+        self.step = Step::Raised;
+    }
+
     /// Takes back all decisions but the first `mark`.
     pub fn retract<L: Ledger>(&mut self, mark: u32, steps: &mut Steps<L>)
         requires { mark ≤ length self.old.decisions }
         ensures inst { self.new.inst ≡ self.old.inst }
         ensures decisions { self.new.decisions ≡ first_of mark self.old.decisions }
+        ensures noted { self.new.noted ≡ first_of mark self.old.noted }
+        ensures counted { steps.new + sum self.new.noted ≡ steps.old + sum self.old.noted }
         ensures steps { steps.old ≤ steps.new }
     {
-        steps.tick();
-        undo_to(&mut self.network, mark);
-        self.step = self.table.settle(self.network.decisions(), &self.inst);
+        for _ in mark..self.made() {
+            self.take_back(steps);
+        }
     }
 
     /// When a task starts at the least.
@@ -167,7 +255,7 @@ impl Starts {
         ensures start { IsNodeStart self.now.inst self.now.decisions j result }
         ensures bound { result ≤ MOST_START }
     {
-        self.table.cells[j as usize].start
+        self.spread.values.start(j)
     }
 
     /// When the last task ends, if all start at the least; 0 where there is no task.
@@ -176,7 +264,7 @@ impl Starts {
         ensures end { IsNodeEnd self.now.inst self.now.decisions result }
         ensures bound { result ≤ MOST_START }
     {
-        self.table.ends
+        last_end(&self.inst, &self.spread.values)
     }
 
     /// The crane of a task; `None` exactly where it has none.
@@ -238,6 +326,23 @@ impl Starts {
         self.network.arena()
     }
 
+    /// The cells: for each task, by its number, when it starts at the least where the node isn't stuck,
+    /// and behind them for each task the one that raised it.
+    pub fn cells(&self) -> &Cells
+        ensures cells { result.now ≡ self.now.cells }
+        ensures starts { HasStarts self.now.inst self.now.decisions
+            → HoldsStarts self.now.inst self.now.decisions self.now.cells }
+    {
+        &self.spread.values.cells
+    }
+
+    /// The notes: for each decision of what the cells held that it wrote, in order.
+    pub fn notes(&self) -> &Trail
+        ensures { AreNotes self.now result.now }
+    {
+        &self.spread.values.trail
+    }
+
     /// Writes a chain of tasks, each forced after the one before it, that ends when the node does;
     /// an empty one where there is no task.
     pub fn why_path(&self, path: &mut Path)
@@ -247,7 +352,10 @@ impl Starts {
         ensures count { length path.new.items ≤ length self.now.inst.tasks }
         ensures room { path.new.capacity ≡ path.old.capacity }
     {
-        copy_path(&self.table.path, path);
+        match latest(&self.inst, &self.spread.values) {
+            None => path.clear(),
+            Some(last) => chain_to(&self.spread.values, task_count(&self.inst), last, path),
+        }
     }
 
     /// Writes a ring of tasks, each forced after the one before it, and the first after the last.
@@ -258,6 +366,6 @@ impl Starts {
         ensures count { length path.new.items ≤ length self.now.inst.tasks }
         ensures room { path.new.capacity ≡ path.old.capacity }
     {
-        copy_path(&self.table.path, path);
+        ring_behind(&self.spread.values, task_count(&self.inst), self.root, path);
     }
 }

@@ -1,10 +1,13 @@
 // The way back from a task by what raised each, to a task that nothing raised or around a ring.
 
-ghost use Rattle.std.specs.Prelude.{◌≡◌, ◌<◌, ◌≤◌, ◌∷◌, length, vec_capacity, vec_len};
-ghost use Rattle.qc_starts.specs.Rounds.{cell};
-ghost use Rattle.qc_starts.specs.Ways.{AreBacked, IsBackTo, IsPlace, IsRing, IsRising, IsWalked};
+ghost use Rattle.std.specs.Prelude.{◌≡◌, ◌*◌, ◌+◌, ◌<◌, ◌≤◌, ◌∷◌, length};
+ghost use Rattle.qc_num.specs.Paths.{HasRoom};
+ghost use Rattle.qc_model.specs.declared.limits.TheConstants.{MOST_TASKS};
+ghost use Rattle.qc_starts.specs.Found.{why_in};
+ghost use Rattle.qc_starts.specs.Ways.{AreBacked, IsBackTo, IsEndless, IsPlace, IsRing, IsRising, IsWalked};
 
-use crate::cells::Cell;
+use crate::noted::Noted;
+use qc_num::Path;
 
 /// Where a task stands in a path.
 fn place_of(path: &[u16], task: u16) -> Option<usize>
@@ -19,61 +22,67 @@ fn place_of(path: &[u16], task: u16) -> Option<usize>
 }
 
 /// Puts a task before a path that has room.
-fn prepend(path: &mut Vec<u16>, task: u16)
-    requires { vec_len path.old < vec_capacity path.old }
+fn prepend(path: &mut Path, task: u16)
+    requires { length path.old.items < path.old.capacity }
     ensures items { path.new.items ≡ task ∷ path.old.items }
-    ensures room { vec_capacity path.old ≤ vec_capacity path.new }
+    ensures room { path.new.capacity ≡ path.old.capacity }
 {
     let _ = path.insert(0, task);
 }
 
 /// The way back from a task until nothing raised the first, or the task that raised it is on the
 /// way already: the place of that task.
-fn walk_back(cells: &[Cell], last: u16, path: &mut Vec<u16>) -> Option<usize>
-    requires backed { AreBacked cells.now }
-    requires task { last < length cells.now }
-    requires room { length cells.now ≤ vec_capacity path.old }
-    ensures way { IsWalked cells.now last path.new.items result }
-    ensures room { vec_capacity path.old ≤ vec_capacity path.new }
+fn walk_back(values: &Noted, count: u16, last: u16, path: &mut Path) -> Option<usize>
+    requires cells { length values.now.cells ≡ 2 * count }
+    requires few { count ≤ MOST_TASKS }
+    requires backed { AreBacked (why_in count values.now.cells) }
+    requires task { last < count }
+    requires room { count ≤ path.old.capacity }
+    ensures way { IsWalked (why_in count values.now.cells) last path.new.items result }
+    ensures room { path.new.capacity ≡ path.old.capacity }
 {
     path.clear();
     let mut task = last;
-    loop {
+    'walk: loop {
         prepend(path, task);
-        let Some(edge) = cells[task as usize].why else {
+        let Some(raiser) = values.raiser(count, task) else {
             return None;
         };
-        if let Some(place) = place_of(path, edge.from) {
+        if let Some(place) = place_of(path.as_slice(), raiser) {
             return Some(place);
         }
-        task = edge.from;
+        task = raiser;
     }
 }
 
 /// The way to a task from one that nothing raised, where each task starts after the one before it.
-pub(crate) fn chain_to(cells: &[Cell], last: u16, path: &mut Vec<u16>)
-    requires backed { AreBacked cells.now }
-    requires rising { IsRising cells.now }
-    requires task { last < length cells.now }
-    requires room { length cells.now ≤ vec_capacity path.old }
-    ensures chain { IsBackTo cells.now last path.new.items }
-    ensures room { vec_capacity path.old ≤ vec_capacity path.new }
+pub(crate) fn chain_to(values: &Noted, count: u16, last: u16, path: &mut Path)
+    requires cells { length values.now.cells ≡ 2 * count }
+    requires few { count ≤ MOST_TASKS }
+    requires backed { AreBacked (why_in count values.now.cells) }
+    requires rising { IsRising (why_in count values.now.cells) }
+    requires task { last < count }
+    requires room { count ≤ path.old.capacity }
+    ensures chain { IsBackTo (why_in count values.now.cells) last path.new.items }
+    ensures room { path.new.capacity ≡ path.old.capacity }
 {
-    if walk_back(cells, last, path).is_some() {
+    if walk_back(values, count, last, path).is_some() {
         unreachable!();
     }
 }
 
-/// A ring, on the way back from a task that was raised in a later round than there are tasks.
-pub(crate) fn ring_behind(cells: &[Cell], late: u16, path: &mut Vec<u16>)
-    requires backed { AreBacked cells.now }
-    requires task { late < length cells.now }
-    requires round { length cells.now < (cell cells.now late).round }
-    requires room { length cells.now ≤ vec_capacity path.old }
-    ensures ring { IsRing cells.now path.new.items }
-    ensures room { vec_capacity path.old ≤ vec_capacity path.new }
+/// A ring, on the way back from a task where each task on it was raised by another.
+pub(crate) fn ring_behind(values: &Noted, count: u16, root: u16, path: &mut Path)
+    requires cells { length values.now.cells ≡ 2 * count }
+    requires few { count ≤ MOST_TASKS }
+    requires backed { AreBacked (why_in count values.now.cells) }
+    requires task { root < count }
+    requires endless { IsEndless (why_in count values.now.cells) root }
+    requires room { count ≤ path.old.capacity }
+    ensures ring { IsRing (why_in count values.now.cells) path.new.items }
+    ensures room { path.new.capacity ≡ path.old.capacity }
 {
-    match walk_back(cells, late, path) {
+    match walk_back(values, count, root, path) {
         Some(place) => path.truncate(place + 1),
         None => unreachable!(),
     }

@@ -11,9 +11,9 @@ use Rattle.qc_search.proofs.part.search_part.Goals as goal
 pub loop-child-init : goal.loop-child-init
 loop-child-init g c =
     let inst = c.args.inst.now in
-    let none = sym (ap (λ (s : StartsNode). s.decisions) c.requires.root) in
+    let none = sym c.requires.root.none in
     record {
-      same = ap (λ (s : StartsNode). s.inst) c.requires.root;
+      same = c.requires.root.inst_is;
       made = subst (WereMade inst) none tt;
       count = c.requires.count;
       room = c.requires.room;

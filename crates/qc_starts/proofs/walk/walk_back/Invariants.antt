@@ -1,12 +1,13 @@
-use Rattle.std.proofs.Common.{◌≤◌, ◌-◌, length, vec_capacity, vec_len}
+use Rattle.std.proofs.Common.{◌≡◌, ◌-◌, length}
+use Rattle.qc_starts.specs.Found.{why_in}
 use Rattle.qc_starts.specs.Ways.{IsWay}
 use Rattle.qc_starts.proofs.walk.walk_back.Given as goal
 
-abbrev pub invariant-loop-task : goal.invariant-loop-task
-invariant-loop-task l = record {
-  way : IsWay l.cells l.fn.last l.task l.path.items;
-  room : vec_capacity l.fn.path ≤ vec_capacity l.path;
+abbrev pub invariant-walk : goal.invariant-walk
+invariant-walk l = record {
+  way : IsWay (why_in l.count l.values.cells) l.fn.last l.task l.path.items;
+  room : l.path.capacity ≡ l.fn.path.capacity;
 }
 
-abbrev pub decreases-loop-task : goal.decreases-loop-task
-decreases-loop-task l = length l.cells - vec_len l.path
+abbrev pub decreases-walk : goal.decreases-walk
+decreases-walk l = l.count - length l.path.items

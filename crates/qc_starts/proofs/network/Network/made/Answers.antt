@@ -1,7 +1,7 @@
 use Rattle.std.proofs.Common.{length, sym, ap, ◌∙◌, arith}
 use Rattle.std.proofs.lemmas.List.{length-reverse}
 use Rattle.qc_starts.specs.NodeArcs.{NodeArcs}
-use Rattle.qc_starts.proofs.KeptLemmas.{few_made}
+use Rattle.qc_starts.proofs.DecidedLemmas.{few_made}
 use Rattle.qc_starts.proofs.LevelLemmas.{levels_count}
 use Rattle.qc_starts.proofs.network.Network.made.Goals as goal
 

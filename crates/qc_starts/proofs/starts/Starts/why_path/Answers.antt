@@ -1,10 +1,21 @@
-use Rattle.std.proofs.Common.{sym, subst, ◌∙◌}
-use Rattle.qc_starts.specs.Seen.{IsWhy}
-use Rattle.qc_starts.proofs.KeptLemmas.{least_kept, why_of}
+use Rattle.qc_starts.proofs.KeptLemmas.{backed_kept, rises_kept, soon_kept, why_kept}
 use Rattle.qc_starts.proofs.starts.Starts.why_path.Goals as goal
 
-pub returns-clause-why : goal.returns-clause-why
-returns-clause-why c =
-    let has = least_kept c.self.inside _ c.self.invariant c.self.view_is c.requires.starts in
-    let same = c.copy_path.ensures.tasks ∙ c.deref.ensures.value in
-    subst (IsWhy c.args.self.now.inst c.args.self.now.decisions) (sym same) (why_of _ _ _ _ _ has)
+pub latest-requires-clause-soon : goal.latest-requires-clause-soon
+latest-requires-clause-soon c = soon_kept c.self.inside _ c.self.invariant c.self.view_is c.requires.starts
+
+pub chain_to-requires-clause-backed : goal.chain_to-requires-clause-backed
+chain_to-requires-clause-backed c = backed_kept c.self.inside _ c.self.invariant c.self.view_is c.task_count.result c.task_count.ensures.count
+
+pub chain_to-requires-clause-rising : goal.chain_to-requires-clause-rising
+chain_to-requires-clause-rising c = rises_kept c.self.inside _ c.self.invariant c.self.view_is c.requires.starts c.task_count.result c.task_count.ensures.count
+
+pub returns-in-Some-clause-why : goal.returns-in-Some-clause-why
+returns-in-Some-clause-why c =
+    (why_kept c.self.inside _ c.self.invariant c.self.view_is c.requires.starts c.in-Some.last c.task_count.result c.task_count.ensures.count
+    c.in-Some.ensures c.chain_to.new.path.items c.chain_to.ensures.chain).0
+
+pub returns-in-Some-clause-count : goal.returns-in-Some-clause-count
+returns-in-Some-clause-count c =
+    (why_kept c.self.inside _ c.self.invariant c.self.view_is c.requires.starts c.in-Some.last c.task_count.result c.task_count.ensures.count
+    c.in-Some.ensures c.chain_to.new.path.items c.chain_to.ensures.chain).1

@@ -1,0 +1,12 @@
+use Rattle.std.proofs.Common.{◌≡◌, ◌+◌, ◌-◌, ◌≤◌, drop, length, sum}
+use Rattle.qc_starts.proofs.starts.Starts.retract.Given as goal
+
+abbrev pub invariant-loop : goal.invariant-loop
+invariant-loop g l = record {
+  inst : l.self.inst ≡ l.fn.self.inst;
+  count : length l.self.decisions + l.counter ≡ length l.fn.self.decisions + l.mark;
+  dropped : l.self.decisions ≡ drop (l.counter - l.mark) l.fn.self.decisions;
+  noted : l.self.noted ≡ drop (l.counter - l.mark) l.fn.self.noted;
+  steps : l.fn.steps ≤ l.steps;
+  counted : l.steps + sum l.self.noted ≡ l.fn.steps + sum l.fn.self.noted;
+}

@@ -1,0 +1,113 @@
+// Starts before any decision: each task is placed once all that it waits for are.
+
+ghost use Rattle.std.specs.Prelude.{◌≡◌, ◌+◌, ◌^◌, ◌<◌, [], true, Some, if◌then◌else◌, length, nat_lt};
+ghost use Rattle.qc_starts.specs.NodeArcs.{IsSound};
+ghost use Rattle.qc_starts.specs.Noting.{marks};
+ghost use Rattle.qc_starts.specs.Place.{ArePlaced, IsReady, IsReadyPick};
+ghost use Rattle.qc_starts.specs.Spread.{is_pending};
+ghost use Rattle.qc_starts.specs.Values.{AreRest, start_at};
+
+use crate::network::Network;
+use crate::spread::Spread;
+use crate::tasks::task_count;
+use qc_arena::Edge;
+use qc_model::Instance;
+use qc_num::{Steps, Tick};
+use std::sync::ledger::Ledger;
+
+impl Spread {
+    /// Whether all tasks that a task waits for are placed.
+    fn is_ready(&self, network: &Network, task: u16) -> bool
+        requires { length self.now.pending.items ≡ length network.now.inst.tasks }
+        ensures { IsReady network.now self.now.pending.items task result }
+    {
+        for arc in network.arena().into_of(task) {
+            if self.pending[arc.from as usize] {
+                return false;
+            }
+        }
+        true
+    }
+
+    /// A task that isn't placed and is ready to be.
+    fn ready(&self, network: &Network, inst: &Instance) -> Option<u16>
+        requires same { network.now.inst ≡ inst.now }
+        requires size { length self.now.pending.items ≡ length network.now.inst.tasks }
+        ensures { IsReadyPick network.now self.now.pending.items (length network.now.inst.tasks) result }
+    {
+        for task in 0..task_count(inst) {
+            if self.pending[task as usize] && self.is_ready(network, task) {
+                return Some(task);
+            }
+        }
+        None
+    }
+
+    /// Puts a start off until an arc allows it; the arc then counts as its reason.
+    fn wait_for(&self, arc: Edge, start: &mut Tick, raiser: &mut Option<u16>)
+        requires from { arc.from < length self.now.values.cells }
+        requires fits { start_at self.now.values.cells arc.from + arc.len < 2 ^ 64 }
+        ensures start { start.new ≡ (if nat_lt start.old (start_at self.now.values.cells arc.from + arc.len)
+            then start_at self.now.values.cells arc.from + arc.len
+            else start.old) }
+        ensures raiser { raiser.new ≡ (if nat_lt start.old (start_at self.now.values.cells arc.from + arc.len)
+            then Some arc.from
+            else raiser.old) }
+    {
+        let after = self.values.start(arc.from) + arc.len;
+        if *start < after {
+            *start = after;
+            *raiser = Some(arc.from);
+        }
+    }
+
+    /// Places a task as early as its head and the arcs into it allow.
+    fn place<L: Ledger>(
+        &mut self,
+        network: &Network,
+        inst: &Instance,
+        task: u16,
+        steps: &mut Steps<L>,
+    )
+        requires same { network.now.inst ≡ inst.now }
+        requires task { task < length network.now.inst.tasks }
+        requires pending { is_pending self.old.pending.items task ≡ true }
+        requires ready { IsReady network.now self.old.pending.items task true }
+        requires placed { ArePlaced network.now self.old.values.cells self.old.pending.items }
+        ensures placed { ArePlaced network.now self.new.values.cells self.new.pending.items }
+        ensures fewer { marks self.new.pending.items < marks self.old.pending.items }
+        ensures trail { self.new.values.trail ≡ self.old.values.trail }
+        ensures noted { self.new.values.noted.items ≡ self.old.values.noted.items }
+        ensures olds { self.new.olds.items ≡ self.old.olds.items }
+    {
+        let mut start = network.decisions().lead(inst, task);
+        let mut raiser = None;
+        for arc in network.arena().into_of(task) {
+            self.wait_for(arc, &mut start, &mut raiser);
+        }
+        self.values.fill(task_count(inst), task, start, raiser, steps);
+        self.pending[task as usize] = false;
+    }
+
+    /// Places all tasks.
+    pub(crate) fn place_all<L: Ledger>(
+        &mut self,
+        network: &Network,
+        inst: &Instance,
+        steps: &mut Steps<L>,
+    )
+        requires same { network.now.inst ≡ inst.now }
+        requires sound { IsSound network.now }
+        requires none { network.now.decisions ≡ [] }
+        requires placed { ArePlaced network.now self.old.values.cells self.old.pending.items }
+        ensures rest { AreRest network.now.inst network.now.decisions self.new.values.cells }
+        ensures trail { self.new.values.trail ≡ self.old.values.trail }
+        ensures noted { self.new.values.noted.items ≡ self.old.values.noted.items }
+        ensures olds { self.new.olds.items ≡ self.old.olds.items }
+        ensures size { length self.new.pending.items ≡ length self.old.pending.items }
+    {
+        while let Some(task) = self.ready(network, inst) {
+            self.place(network, inst, task, steps);
+        }
+    }
+}

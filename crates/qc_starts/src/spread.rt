@@ -1,0 +1,264 @@
+// Starts that are raised behind a task, along the arcs, until none is too low.
+
+ghost use Rattle.std.specs.Prelude.{◌≡◌, ℕ, ◌+◌, ◌*◌, ◌^◌, ◌<◌, ◌≤◌, ◌&&◌, ◌==◌, true, false, [], if◌then◌else◌, IfOk, IfSome, IsTrue, MatchOption, None, Some, length, slice_index_or, slice_set};
+ghost use Rattle.qc_starts.specs.NodeArcs.{IsSound};
+ghost use Rattle.qc_starts.specs.Noting.{HasNotes, Wrote};
+ghost use Rattle.qc_starts.specs.Opened.{HasBegun, IsOpened};
+ghost use Rattle.qc_starts.specs.Spread.{IsInto, IsLifted, IsLooked, IsOnly, IsPick, IsRooting, IsSettledTo, IsSpread, IsSpreading, from_task, into_task, is_late, left};
+ghost use Rattle.qc_starts.specs.Values.{raised, start_at};
+
+use crate::network::Network;
+use crate::noted::{Noted, clear};
+use crate::step::Step;
+use crate::tasks::task_count;
+use qc_arena::Edge;
+use qc_model::Instance;
+use qc_num::{OutOfMemory, Steps, Tick};
+use std::alloc::Global;
+use std::sync::ledger::Ledger;
+
+/// The starts of tasks and what raised each, and what is kept while they are raised.
+#[derive(Drop)]
+pub(crate) struct Spread {
+    pub(crate) values: Noted,
+    /// When each task started before the newest decision.
+    pub(crate) olds: Vec<Tick>,
+    /// Whether the arcs from a task are still to be looked at.
+    pub(crate) pending: Vec<bool>,
+}
+
+/// Copies the first values.
+fn copy_starts(values: &Noted, olds: &mut [Tick])
+    requires count { length olds.old ≤ length values.now.cells }
+    requires few { length olds.old < 2 ^ 16 }
+    ensures { (j : ℕ) → j < length olds.new → start_at olds.new j ≡ start_at values.now.cells j }
+{
+    for (task, old) in olds.iter_mut().enumerate() {
+        *old = values.start(task as u16);
+    }
+}
+
+impl Spread {
+    /// Room for so many tasks and decisions. All tasks are still to be looked at.
+    pub(crate) fn open(alloc: Global, count: u16, decisions: u32) -> Result<Spread, OutOfMemory>
+        requires { 2 * count * decisions < 2 ^ 32 }
+        ensures { IfOk result (λ spread. IsOpened spread count decisions) }
+    {
+        Ok(Spread {
+            values: Noted::open(alloc, 2 * count as u32, decisions)?,
+            olds: vec![in alloc; 0u64; count as usize]?,
+            pending: vec![in alloc; true; count as usize]?,
+        })
+    }
+
+    /// Begins a decision behind which starts are raised from the root on.
+    pub(crate) fn begin(&mut self, root: u16)
+        requires root { root < length self.old.pending.items }
+        requires olds { length self.old.olds.items ≤ length self.old.values.cells }
+        requires few { length self.old.olds.items < 2 ^ 16 }
+        ensures begun { HasBegun self.old self.new root }
+    {
+        self.values.begin();
+        self.keep_starts();
+        self.clear_pending();
+        self.pending[root as usize] = true;
+    }
+
+    /// Copies the starts.
+    fn keep_starts(&mut self)
+        requires olds { length self.old.olds.items ≤ length self.old.values.cells }
+        requires few { length self.old.olds.items < 2 ^ 16 }
+        ensures values { self.new.values ≡ self.old.values }
+        ensures pending { self.new.pending.items ≡ self.old.pending.items }
+        ensures size { length self.new.olds.items ≡ length self.old.olds.items }
+        ensures olds { (j : ℕ) → j < length self.new.olds.items
+            → start_at self.new.olds.items j ≡ start_at self.old.values.cells j }
+    {
+        copy_starts(&self.values, &mut self.olds);
+    }
+
+    /// No task is to be looked at.
+    fn clear_pending(&mut self)
+        ensures values { self.new.values ≡ self.old.values }
+        ensures olds { self.new.olds.items ≡ self.old.olds.items }
+        ensures size { length self.new.pending.items ≡ length self.old.pending.items }
+        ensures clear { (k : ℕ) → k < length self.new.pending.items
+            → slice_index_or self.new.pending.items k true ≡ false }
+    {
+        clear(&mut self.pending);
+    }
+
+    /// Raises the second task of an arc if it starts too early; whether this is the root.
+    fn raise_by<L: Ledger>(&mut self, arc: Edge, root: u16, steps: &mut Steps<L>) -> bool
+        requires from { arc.from < length self.old.pending.items }
+        requires to { arc.to < length self.old.pending.items }
+        requires few { length self.old.pending.items < 2 ^ 16 }
+        requires count { length self.old.values.cells ≡ 2 * length self.old.pending.items }
+        requires fits { start_at self.old.values.cells arc.from + arc.len < 2 ^ 64 }
+        requires notes { HasNotes self.old.values }
+        ensures cells { self.new.values.cells ≡ (if is_late self.old.values.cells arc
+            then raised (length self.old.pending.items) self.old.values.cells arc.to
+                (start_at self.old.values.cells arc.from + arc.len) (Some arc.from)
+            else self.old.values.cells) }
+        ensures pending { self.new.pending.items ≡ (if is_late self.old.values.cells arc
+            then slice_set self.old.pending.items arc.to true
+            else self.old.pending.items) }
+        ensures olds { self.new.olds.items ≡ self.old.olds.items }
+        ensures wrote { Wrote self.old.values self.new.values steps.old steps.new }
+        ensures back { result ≡ (is_late self.old.values.cells arc && (arc.to == root)) }
+    {
+        let start = self.values.start(arc.from) + arc.len;
+        if self.values.start(arc.to) >= start {
+            return false;
+        }
+        let count = self.pending.len() as u16;
+        self.values.raise(count, arc.to, start, Some(arc.from), steps);
+        self.pending[arc.to as usize] = true;
+        arc.to == root
+    }
+
+    /// Whether a task started earlier than another, if there is another.
+    fn is_earlier(&self, first: Option<u16>, task: u16) -> bool
+        requires task { task < length self.now.olds.items }
+        requires first { IfSome first (λ other. other < length self.now.olds.items) }
+        ensures { first ≡ None → IsTrue result }
+    {
+        match first {
+            None => true,
+            Some(other) => self.olds[task as usize] < self.olds[other as usize],
+        }
+    }
+
+    /// Of the tasks that are still to be looked at the one that started earliest.
+    fn earliest(&self) -> Option<u16>
+        requires size { length self.now.olds.items ≡ length self.now.pending.items }
+        requires few { length self.now.pending.items < 2 ^ 16 }
+        ensures { IsPick self.now.pending.items (length self.now.pending.items) result }
+    {
+        let mut first = None;
+        for task in 0..self.pending.len() as u16 {
+            if self.pending[task as usize] && self.is_earlier(first, task) {
+                first = Some(task);
+            }
+        }
+        first
+    }
+
+    /// Looks at the arcs from a task, and raises what starts too early; whether it came back to the
+    /// root.
+    fn raise_from<L: Ledger>(
+        &mut self,
+        network: &Network,
+        root: u16,
+        task: u16,
+        steps: &mut Steps<L>,
+    ) -> bool
+        requires task { task < length network.now.inst.tasks }
+        requires spreading { IsSpreading network.now root self.old.olds.items self.old.values.cells
+            self.old.pending.items (from_task task network.now.arcs) }
+        requires lifted { IsLifted root self.old.olds.items self.old.values.cells task }
+        requires notes { HasNotes self.old.values }
+        ensures size { length self.new.pending.items ≡ length self.old.pending.items }
+        ensures olds { self.new.olds.items ≡ self.old.olds.items }
+        ensures wrote { Wrote self.old.values self.new.values steps.old steps.new }
+        ensures looked { IsLooked network.now root self.new.olds.items self.new.values.cells
+            self.new.pending.items (left (length network.now.inst.tasks) root self.old.olds.items
+                self.old.values.cells self.old.pending.items) result }
+    {
+        for arc in network.arena().out(task) {
+            if self.raise_by(arc, root, steps) {
+                return true;
+            }
+        }
+        false
+    }
+
+    /// Raises starts behind the root until none is too low; whether a raise came back to it.
+    fn raise_behind<L: Ledger>(&mut self, network: &Network, root: u16, steps: &mut Steps<L>) -> bool
+        requires sound { IsSound network.now }
+        requires spreading { IsSpreading network.now root self.old.olds.items self.old.values.cells
+            self.old.pending.items [] }
+        requires size { length self.old.olds.items ≡ length network.now.inst.tasks }
+        requires notes { HasNotes self.old.values }
+        ensures size { length self.new.pending.items ≡ length self.old.pending.items }
+        ensures olds { self.new.olds.items ≡ self.old.olds.items }
+        ensures wrote { Wrote self.old.values self.new.values steps.old steps.new }
+        ensures spread { IsSpread network.now root self.new.olds.items self.new.values.cells result }
+    {
+        while let Some(task) = self.earliest() {
+            self.pending[task as usize] = false;
+            if self.raise_from(network, root, task, steps) {
+                return true;
+            }
+        }
+        false
+    }
+
+    /// Raises the root to its head.
+    fn raise_head<L: Ledger>(
+        &mut self,
+        network: &Network,
+        inst: &Instance,
+        root: u16,
+        steps: &mut Steps<L>,
+    )
+        requires same { network.now.inst ≡ inst.now }
+        requires rooting { IsRooting network.now root self.old.olds.items self.old.values.cells }
+        requires notes { HasNotes self.old.values }
+        ensures olds { self.new.olds.items ≡ self.old.olds.items }
+        ensures pending { self.new.pending.items ≡ self.old.pending.items }
+        ensures wrote { Wrote self.old.values self.new.values steps.old steps.new }
+        ensures into { IsInto network.now root self.new.olds.items self.new.values.cells
+            (into_task root network.now.arcs) }
+    {
+        let head = network.decisions().lead(inst, root);
+        if self.values.start(root) < head {
+            self.values.raise(task_count(inst), root, head, None, steps);
+        }
+    }
+
+    /// Raises the root along the arcs into it.
+    fn raise_into<L: Ledger>(&mut self, network: &Network, root: u16, steps: &mut Steps<L>)
+        requires into { IsInto network.now root self.old.olds.items self.old.values.cells
+            (into_task root network.now.arcs) }
+        requires only { IsOnly self.old.pending.items (length network.now.inst.tasks) root }
+        requires notes { HasNotes self.old.values }
+        ensures size { length self.new.pending.items ≡ length self.old.pending.items }
+        ensures olds { self.new.olds.items ≡ self.old.olds.items }
+        ensures wrote { Wrote self.old.values self.new.values steps.old steps.new }
+        ensures spreading { IsSpreading network.now root self.new.olds.items self.new.values.cells
+            self.new.pending.items [] }
+    {
+        for arc in network.arena().into_of(root) {
+            let _ = self.raise_by(arc, root, steps);
+        }
+    }
+
+    /// Raises the root and all starts behind it.
+    pub(crate) fn settle<L: Ledger>(
+        &mut self,
+        network: &Network,
+        inst: &Instance,
+        root: u16,
+        steps: &mut Steps<L>,
+    ) -> Step
+        requires sound { IsSound network.now }
+        requires same { network.now.inst ≡ inst.now }
+        requires rooting { IsRooting network.now root self.old.olds.items self.old.values.cells }
+        requires size { length self.old.olds.items ≡ length network.now.inst.tasks }
+        requires only { IsOnly self.old.pending.items (length network.now.inst.tasks) root }
+        requires notes { HasNotes self.old.values }
+        ensures size { length self.new.pending.items ≡ length self.old.pending.items }
+        ensures olds { self.new.olds.items ≡ self.old.olds.items }
+        ensures wrote { Wrote self.old.values self.new.values steps.old steps.new }
+        ensures settled { IsSettledTo network.now root self.new.olds.items self.new.values.cells result }
+    {
+        self.raise_head(network, inst, root, steps);
+        self.raise_into(network, root, steps);
+        if self.raise_behind(network, root, steps) {
+            Step::Cycle
+        } else {
+            Step::Raised
+        }
+    }
+}
