@@ -43,7 +43,7 @@ range_marks p noted a zero fits each = omega arith
 range_marks p [] a (suc m) fits each = absurd (omega arith)
 range_marks p (b ∷ bs) a (suc m) fits each =
     let next = λ (k : ℕ) (low : k < m) (t : p (a + 1 + k) ≡ true).
-        each (suc k) (omega arith) (ap p (omega arith) ∙ t) in
+    each (suc k) (omega arith) (ap p (omega arith) ∙ t) in
     let rest = range_marks p bs (a + 1) m (omega arith) next in
     let one : one_of (p a) ≤ one_of b = elim (cases_Bool (p a)) [
       | inl holds ↦ let mark = each 0 (omega arith) (ap p (omega arith) ∙ holds) in omega (arith, ap one_of holds, ap one_of mark)
@@ -81,8 +81,16 @@ module _ (f : Inside) (node : StartsNode) (is : IsKept f) (view : node_of f ≡ 
   pub begun_notes : HasNotes mid.values
   begun_notes = record {
     size = begun.noted ∙ is.sized.noted ∙ sym is.sized.cells ∙ ap (length {A = ℕ}) (sym begun.cells);
-    room = omega (arith, ap (λ (t : Notes). length t.notes) begun.trail, ap (λ (t : Notes). t.cap) begun.trail,
-        begun.noted, is.sized.noted, is.sized.cap, is.few, room_for);
+    room = omega (
+      arith,
+      ap (λ (t : Notes). length t.notes) begun.trail,
+      ap (λ (t : Notes). t.cap) begun.trail,
+      begun.noted,
+      is.sized.noted,
+      is.sized.cap,
+      is.few,
+      room_for,
+    );
     places = subst₂ (λ (t : Notes) (xs : List ℕ). All (λ note. note.place < length xs) t.notes) (sym begun.trail) (sym begun.cells)
         is.sized.places;
   }
@@ -165,19 +173,19 @@ module _ (f : Inside) (node : StartsNode) (is : IsKept f) (view : node_of f ≡ 
     raised_few Raised done olds news e one two =
         let after = subst (λ (i : InstanceView). AreRest i g.network.decisions g.spread.values.cells) (inst_is ∙ is.same) done in
         let few = range_marks (λ j. nat_lt (slice_index olds j) (slice_index news j)) g.spread.values.noted.items 0
-            (length f.inst.tasks) (omega (arith, wrote.notes.size, cells_count))
-            (λ k low later. elim (cases_Bool (slice_index_or g.spread.values.noted.items k true)) [
-              | inl on ↦ on
-              | inr off ↦
-                  let at : 0 + k ≡ k = omega arith in
-                  let less = ltb-true (slice_index olds k) (slice_index news k)
-                      (ap (λ (j : ℕ). nat_lt (slice_index olds j) (slice_index news j)) (sym at) ∙ later) in
-                  let old = same_least f.inst f.network.decisions f.spread.values.cells olds home_rest one k low in
-                  let new = same_least f.inst g.network.decisions g.spread.values.cells news after two k low in
-                  let held = noting.same k (omega (arith, noting.size, cells_count)) off
-                      ∙ ap (λ (xs : List ℕ). slice_index xs k) begun.cells in
-                  absurd (omega (arith, less, old, new, held))
-            ]) in
+        (length f.inst.tasks) (omega (arith, wrote.notes.size, cells_count))
+        (λ k low later. elim (cases_Bool (slice_index_or g.spread.values.noted.items k true)) [
+          | inl on ↦ on
+          | inr off ↦
+              let at : 0 + k ≡ k = omega arith in
+              let less = ltb-true (slice_index olds k) (slice_index news k)
+              (ap (λ (j : ℕ). nat_lt (slice_index olds j) (slice_index news j)) (sym at) ∙ later) in
+              let old = same_least f.inst f.network.decisions f.spread.values.cells olds home_rest one k low in
+              let new = same_least f.inst g.network.decisions g.spread.values.cells news after two k low in
+              let held = noting.same k (omega (arith, noting.size, cells_count)) off
+              ∙ ap (λ (xs : List ℕ). slice_index xs k) begun.cells in
+              absurd (omega (arith, less, old, new, held))
+        ]) in
         omega (arith, few, noting.count)
 
     pub noted_decided : IsNoted (node_of f) (node_of g) g.step before after

@@ -60,8 +60,13 @@ pub note_keeps : (before : List Note) (olds : List ℕ) (v w : Noted) (p : ℕ)
 note_keeps before olds v w p low size free cells notes noted is = record {
   since = is.since ++ note ∷ [];
   notes = notes ∙ ap (λ (xs : List Note). xs ++ note ∷ []) is.notes ∙ append_assoc before is.since (note ∷ []);
-  count = omega (arith, length-append is.since (note ∷ []), is.count, ap marks noted,
-      marks_more v.noted.items p (omega arith) free);
+  count = omega (
+    arith,
+    length-append is.since (note ∷ []),
+    is.count,
+    ap marks noted,
+    marks_more v.noted.items p (omega arith) free,
+  );
   size = ap (length {A = ℕ}) cells ∙ is.size;
   same = λ q under still. ap (λ (xs : List ℕ). slice_index xs q) cells ∙ is.same q under (before_it q still);
   back = λ others count agree.

@@ -174,16 +174,16 @@ module _ (net : NodeArcs) (cells : List ℕ) (pending : List Bool) (j s : ℕ) (
     size = length-set pending j false ∙ placed.size;
     each = λ k under done. elim (cases_eq k j) [
       | inl same ↦ subst (IsPlace net news marked) (sym same) (record {
-          above = omega (arith, is.above, here);
-          low = is.low;
-          reason = subst (IsReason net.inst net.decisions news j) (sym (reason_of_here n cells j s why low placed.count))
-              (reason_new why is.reason);
-          least = λ others meets. omega (arith, here, is.least others meets);
-          steps = λ i len i_low asks.
-              let by = waits i len i_low asks in
-              (still i by.0, omega (arith, here, by.1, other i i_low (apart i by.0)));
-          bound = omega (arith, here, is.bound, fewer);
-        })
+        above = omega (arith, is.above, here);
+        low = is.low;
+        reason = subst (IsReason net.inst net.decisions news j) (sym (reason_of_here n cells j s why low placed.count))
+            (reason_new why is.reason);
+        least = λ others meets. omega (arith, here, is.least others meets);
+        steps = λ i len i_low asks.
+            let by = waits i len i_low asks in
+            (still i by.0, omega (arith, here, by.1, other i i_low (apart i by.0)));
+        bound = omega (arith, here, is.bound, fewer);
+      })
       | inr off ↦
           let place = placed.each k under (sym (get_or-set_other pending j k false false off) ∙ done) in
           record {
@@ -289,7 +289,7 @@ place_ends net cells pending sound none stuck placed = record {
         let asks = arc_of (IsArc net.inst net.decisions) net.arcs sound.all.each found.0 found.1 in
         let is = subst (λ (ds : List Decision). forced net.inst ds found.0.from found.0.to ≡ Some asks.ticks) none asks.is in
         let before = before_found found.0.from found.0.to net.inst.before
-            (before_true net.inst sound.valid found.0.from found.0.to asks.ticks is) in
+        (before_true net.inst sound.valid found.0.from found.0.to asks.ticks is) in
         (found.0.from, (asks.from, found.3), asks.from, subst (IsBefore net.inst found.0.from) found.2 before)
 
     each : (j : ℕ) → j < length net.inst.tasks → IsPlace net cells pending j

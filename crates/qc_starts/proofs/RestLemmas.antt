@@ -140,7 +140,7 @@ module _ (inst : InstanceView) (ds : List Decision) (cells : List ℕ) (valid : 
       let long = and_from (are_tasks inst (i ∷ js)) (leb 2 (length (i ∷ js))) tasks (le-leb 2 (length (i ∷ js)) is.1) in
       let all = are_tasks inst (i ∷ js) && leb 2 (length (i ∷ js)) && is_ring inst ds (i ∷ js) in (
         cond-true all (Some Never) None
-        (and_from (are_tasks inst (i ∷ js) && leb 2 (length (i ∷ js))) (is_ring inst ds (i ∷ js)) long is.0),
+            (and_from (are_tasks inst (i ∷ js) && leb 2 (length (i ∷ js))) (is_ring inst ds (i ∷ js)) long is.0),
         way_length why (last_of i js) i js found.0,
       )
 
@@ -150,10 +150,10 @@ module _ (inst : InstanceView) (ds : List Decision) (cells : List ℕ) (valid : 
     (count : length cells ≡ 2 * length inst.tasks)
     (heads : (j : ℕ) → j < length inst.tasks → head inst ds j ≤ start_at cells j)
     (steps : (i j len : ℕ) → i < length inst.tasks → j < length inst.tasks → forced inst ds i j ≡ Some len
-      → start_at cells i + len ≤ start_at cells j)
+    → start_at cells i + len ≤ start_at cells j)
     (reasons : (j : ℕ) → j < length inst.tasks → IsReason inst ds cells j (raiser_at (length inst.tasks) cells j))
     (low : (i j len : ℕ) → i < length inst.tasks → j < length inst.tasks → forced inst ds i j ≡ Some len
-      → len ≤ 2147483648)
+    → len ≤ 2147483648)
     (low_heads : (j : ℕ) → j < length inst.tasks → head inst ds j ≤ 2147483648) where
   abbrev ways : Why
   ways = why_in (length inst.tasks) cells
@@ -201,7 +201,7 @@ module _ (inst : InstanceView) (ds : List Decision) (cells : List ℕ) (valid : 
       let all = chain_end with_berths inst ds (i ∷ js) in
       let few = way_length ways last i js way in (
         cond-true (are_tasks inst (i ∷ js)) (option_map Least all) None (way_tasks inst ds cells valid reasons last i js way)
-        ∙ ap (option_map Least) (ap (option_map (λ n. head inst ds i + n)) ticks.1 ∙ ap Some shown),
+            ∙ ap (option_map Least) (ap (option_map (λ n. head inst ds i + n)) ticks.1 ∙ ap Some shown),
         few,
         omega (arith, shown, ticks.3, low_heads i way.inside.0, few, valid.tasks.count),
       )

@@ -41,9 +41,9 @@ wait_for-requires-clause-from g c =
     let cells = c.args.self.now.values.cells in
     let pending = c.args.self.now.pending.items in
     let is = subst (IsPlacing net cells pending c.args.task c.loop-arc.start c.loop-arc.raiser) c.in-Some.ensures.steps
-        c.loop-arc.invariant.placing in
+    c.loop-arc.invariant.placing in
     let asks = place_asks net cells pending c.args.task c.loop-arc.start c.loop-arc.raiser c.next.new.self c.in-Some.arc
-        c.arena.ensures.sound c.requires.placed c.requires.ready is in
+    c.arena.ensures.sound c.requires.placed c.requires.ready is in
     omega (arith, asks.from, c.requires.placed.count)
 
 pub wait_for-requires-clause-fits : goal.wait_for-requires-clause-fits
@@ -52,9 +52,9 @@ wait_for-requires-clause-fits g c =
     let cells = c.args.self.now.values.cells in
     let pending = c.args.self.now.pending.items in
     let is = subst (IsPlacing net cells pending c.args.task c.loop-arc.start c.loop-arc.raiser) c.in-Some.ensures.steps
-        c.loop-arc.invariant.placing in
+    c.loop-arc.invariant.placing in
     let fits = place_fits net cells pending c.args.task c.loop-arc.start c.loop-arc.raiser c.next.new.self c.in-Some.arc
-        c.arena.ensures.sound c.requires.placed c.requires.ready is in
+    c.arena.ensures.sound c.requires.placed c.requires.ready is in
     omega (arith, fits)
 
 pub loop-arc-preserved : goal.loop-arc-preserved
@@ -63,7 +63,7 @@ loop-arc-preserved g c =
     let cells = c.args.self.now.values.cells in
     let pending = c.args.self.now.pending.items in
     let is = subst (IsPlacing net cells pending c.args.task c.loop-arc.start c.loop-arc.raiser) c.in-Some.ensures.steps
-        c.loop-arc.invariant.placing in
+    c.loop-arc.invariant.placing in
     record {
       can = tt;
       finite = tt;
@@ -78,10 +78,10 @@ returns-clause-placed g c =
     let cells = c.args.self.now.values.cells in
     let pending = c.args.self.now.pending.items in
     let is = subst (IsPlacing net cells pending c.args.task c.loop-arc.start c.loop-arc.raiser) c.in-None.ensures.steps.0
-        c.loop-arc.invariant.placing in
+    c.loop-arc.invariant.placing in
     let count = c.task_count.ensures.count ∙ sym (ap (λ (i : InstanceView). length i.tasks) c.requires.same) in
     let starts = c.fill.ensures.cells
-        ∙ ap (λ (n : ℕ). raised n cells c.args.task c.loop-arc.start c.loop-arc.raiser) count in
+    ∙ ap (λ (n : ℕ). raised n cells c.args.task c.loop-arc.start c.loop-arc.raiser) count in
     subst (λ (xs : List ℕ). ArePlaced net xs (slice_set pending c.args.task false)) (sym starts)
     (place_done net cells pending c.args.task c.loop-arc.start c.loop-arc.raiser c.arena.ensures.sound c.requires.task
     c.requires.pending c.requires.ready c.requires.placed is)
