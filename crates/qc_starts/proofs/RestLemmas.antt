@@ -1,5 +1,5 @@
 -- What reasons show: a ring, or the least starts of a node and a chain to its end.
-use Rattle.std.proofs.Common.{◌≡◌, ◌≢◌, ℕ, zero, suc, ◌+◌, ◌*◌, ◌<◌, ◌≤◌, true, ◌&&◌, List, [], ◌∷◌, ◌++◌, length, take, slice_index_or, Option, None, Some, IfSome, is_some, refl, sym, ap, ap₂, subst, subst₂, ◌∙◌, leb, arith}
+use Rattle.std.proofs.Common.{◌≡◌, ℕ, suc, ◌+◌, ◌*◌, ◌<◌, ◌≤◌, true, ◌&&◌, List, [], ◌∷◌, ◌++◌, length, slice_index_or, Option, None, Some, IfSome, is_some, refl, sym, ap, ap₂, subst, ◌∙◌, leb, arith}
 use Rattle.std.proofs.lemmas.Bool.{and_from, cond-true, le-leb, lt-ltb}
 use Rattle.std.proofs.lemmas.List.{get_or-take, length-take-le}
 use Rattle.std.proofs.lemmas.Option.{same_Some}
@@ -9,16 +9,16 @@ use Rattle.qc_model.specs.declared.decision.Decision.{Decision}
 use Rattle.qc_model.specs.declared.limits.TheConstants.{MOST_TASKS}
 use Rattle.qc_model.specs.declared.task.Task.{Task}
 use Rattle.qc_model.specs.Instance.{InstanceView, Valid, no_task, ticks_of}
-use Rattle.qc_model.specs.Leaves.{are_tasks, chain, chain_end, chain_ticks, is_ring, leaf_value, ring, with_berths}
-use Rattle.qc_model.specs.Nodes.{AreLeast, Fits, HasStarts, IsNodeEnd, Meets, forced, head}
+use Rattle.qc_model.specs.Leaves.{are_tasks, chain, chain_end, chain_ticks, is_ring, leaf_value, with_berths}
+use Rattle.qc_model.specs.Nodes.{AreLeast, Fits, HasStarts, IsNodeEnd, forced, head}
 use Rattle.qc_model.specs.Rules.{last_end}
 use Rattle.qc_model.proofs.CompleteNodes.{forced_ticks}
 use Rattle.qc_model.proofs.NodeLemmas.{ends_by}
 use Rattle.qc_model.proofs.OnRail.{ticks_bounded}
 use Rattle.qc_num.specs.declared.bound.Bound.TheVariants.{Least, Never}
 use Rattle.qc_starts.specs.Found.{IsLatest, end_by, end_in, starts_in, why_in}
-use Rattle.qc_starts.specs.Seen.{IsCycle, IsNodeStart, IsWhy}
-use Rattle.qc_starts.specs.Values.{AreAtMost, AreRest, IsReason, raiser_at, start_at}
+use Rattle.qc_starts.specs.Seen.{IsCycle, IsNodeStart}
+use Rattle.qc_starts.specs.Values.{AreRest, IsReason, raiser_at, start_at}
 use Rattle.qc_starts.specs.Ways.{AreBacked, IsBackTo, IsLinked, IsRing, IsRising, IsWay, Why, last_of}
 use Rattle.qc_starts.proofs.SelfLemmas.{self_free}
 use Rattle.qc_starts.proofs.WayLemmas.{chain_exists, way_length}

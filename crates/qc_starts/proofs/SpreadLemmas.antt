@@ -1,19 +1,18 @@
 -- Starts that are raised behind a root: what a raise keeps, and what is left at the end.
-use Rattle.std.proofs.Common.{◌≡◌, ◌≢◌, ℕ, zero, suc, ◌+◌, ◌-◌, ◌*◌, ◌^◌, ◌<◌, ◌≤◌, ◌⊎◌, inl, inr, Bool, true, false, ◌&&◌, eqb, cond, List, [], ◌∷◌, length, Option, None, Some, refl, sym, ap, subst, subst₂, ◌∙◌, arith}
-use Rattle.std.proofs.lemmas.Bool.{and_parts, cases_Bool, cases_eq, cases_lt, cond-false, cond-true, cond_both, eq-eqb, eqb-true, ltb-false, ltb-true, ne_eqb, false≢true}
+use Rattle.std.proofs.Common.{◌≡◌, ◌≢◌, ℕ, ◌+◌, ◌<◌, ◌≤◌, ◌⊎◌, inl, inr, Bool, true, false, ◌&&◌, eqb, cond, List, [], ◌∷◌, length, Option, None, Some, refl, sym, ap, subst, subst₂, ◌∙◌, arith}
+use Rattle.std.proofs.lemmas.Bool.{and_parts, cases_Bool, cases_eq, cases_lt, cond-false, cond-true, cond_both, eq-eqb, eqb-true, ltb-false, ltb-true, false≢true}
 use Rattle.std.proofs.lemmas.List.{get_or-set_other, get_or-set_same}
 use Rattle.std.proofs.lemmas.Option.{same_Some}
 use Rattle.std.proofs.Math.ListN.{get_or-eq_default, length-set}
-use Rattle.std.specs.Prelude.{filter, slice_index, slice_index_or, slice_set}
+use Rattle.std.specs.Prelude.{filter, slice_index, slice_set}
 use Rattle.std.specs.List.{AllByRecursion}
 use Rattle.qc_arena.specs.declared.edge.Edge.{Edge}
-use Rattle.qc_model.specs.declared.decision.Decision.{Decision}
-use Rattle.qc_model.specs.Instance.{InstanceView, Valid}
+use Rattle.qc_model.specs.Instance.{Valid}
 use Rattle.qc_model.specs.Nodes.{Fits, Meets, forced, head}
 use Rattle.qc_starts.specs.Arcs.{AreArcs, AreLow, IsArc, leads, newest_length}
 use Rattle.qc_starts.specs.NodeArcs.{IsSound, NodeArcs}
-use Rattle.qc_starts.specs.Spread.{IsBackAtRoot, IsIn, IsInto, IsLifted, IsMet, IsOnly, IsRaisedBy, IsRaising, IsRooting, IsSpreading, from_task, into_task, is_late, is_pending, left, left_of, one_of, total}
-use Rattle.qc_starts.specs.Values.{AreAtMost, AreRest, IsReason, code_of, raised, raiser_at, raiser_of, start_at}
+use Rattle.qc_starts.specs.Spread.{IsBackAtRoot, IsIn, IsInto, IsLifted, IsMet, IsOnly, IsRaisedBy, IsRaising, IsRooting, IsSpreading, from_task, into_task, is_late, is_pending, left, left_of, one_of}
+use Rattle.qc_starts.specs.Values.{AreRest, IsReason, raised, raiser_at, start_at}
 use Rattle.qc_starts.proofs.Counts.{total-le, total-lt}
 use Rattle.qc_starts.proofs.RaisedLemmas.{raised_count, raised_here, raised_other, reason_of_here, reason_of_other}
 use Rattle.qc_starts.proofs.RestLemmas.{soon_of}

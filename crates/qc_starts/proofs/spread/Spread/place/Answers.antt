@@ -1,10 +1,9 @@
-use Rattle.std.proofs.Common.{◌≡◌, ℕ, ◌*◌, ◌+◌, ◌≤◌, ◌∷◌, [], inl, inr, false, List, length, None, Option, ap, sym, subst, refl, ◌∙◌, arith}
+use Rattle.std.proofs.Common.{◌≡◌, ℕ, inr, false, List, length, ap, sym, subst, ◌∙◌, arith}
 use Rattle.std.proofs.lemmas.List.Sums.{count_by-le-length}
 use Rattle.std.specs.Prelude.{slice_set}
 use Rattle.qc_dist.specs.Node.{Node}
 use Rattle.qc_model.specs.Instance.{InstanceView}
 use Rattle.qc_model.specs.Nodes.{head}
-use Rattle.qc_starts.specs.Noting.{marks}
 use Rattle.qc_starts.specs.Place.{ArePlaced, IsPlacing}
 use Rattle.qc_starts.specs.Spread.{into_task}
 use Rattle.qc_starts.specs.Values.{raised}

@@ -1,8 +1,6 @@
-use Rattle.std.proofs.Common.{◌≡◌, ℕ, ◌+◌, ◌∷◌, Bool, true, cond, List, length, Some, refl, ap, sym, subst, subst₂, ◌∙◌, arith}
-use Rattle.std.specs.Prelude.{slice_set}
+use Rattle.std.proofs.Common.{ℕ, List, length, refl, ap, sym, subst, ◌∙◌, arith}
 use Rattle.qc_arena.specs.declared.edge.Edge.{Edge}
-use Rattle.qc_starts.specs.Spread.{IsBackAtRoot, IsIn, from_task, is_late, left}
-use Rattle.qc_starts.specs.Values.{raised, start_at}
+use Rattle.qc_starts.specs.Spread.{IsBackAtRoot, from_task, is_late, left}
 use Rattle.qc_starts.proofs.NotingLemmas.{wrote_none, wrote_then}
 use Rattle.qc_starts.proofs.SpreadLemmas.{IsLooking, set_size, looking_asks, looking_begins, looking_fits, looking_home, looking_step}
 use Rattle.qc_starts.proofs.spread.Spread.raise_from.Goals as goal

@@ -1,4 +1,4 @@
-use Rattle.std.proofs.Common.{◌≡◌, ℕ, ◌+◌, ◌-◌, ◌<◌, drop, length, length-drop, suc, sum, ap, sym, ◌∙◌, arith}
+use Rattle.std.proofs.Common.{◌≡◌, ℕ, ◌+◌, ◌-◌, drop, length, length-drop, suc, ap, ◌∙◌, arith}
 use Rattle.qc_model.specs.declared.decision.Decision.{Decision}
 use Rattle.qc_starts.proofs.LevelLemmas.{drop_next}
 use Rattle.qc_starts.proofs.starts.Starts.retract.Goals as goal
