@@ -9,7 +9,7 @@ use Rattle.qc_model.specs.OneWay.{GoesOneWay}
 use Rattle.qc_replay.specs.declared.fault.Replayed.{Replayed}
 use Rattle.qc_search.specs.Run.{DoneView, IsMetBest, SearchView}
 use Rattle.qc_tree.specs.Trees.{IsTree, Tree, tree_text}
-use Rattle.qc_top.specs.declared.answer.Input.{Input}
+use Rattle.qc_words.specs.declared.asked.Input.{Input}
 use Rattle.qc_top.specs.declared.answer.Refusal.{Refusal}
 use Rattle.qc_top.specs.declared.answer.Refusal.TheVariants as refusal
 use Rattle.qc_top.specs.declared.answer.Stop.{Stop}
@@ -20,8 +20,8 @@ use Rattle.qc_top.specs.declared.answer.Broken.{Broken}
 use Rattle.qc_top.specs.declared.answer.Compared.{Compared}
 use Rattle.qc_top.specs.declared.status.Status.{Status}
 use Rattle.qc_top.specs.declared.status.Status.TheVariants as status
-use Rattle.qc_top.specs.Asked.{Asked, plan, check_plan, unbuilt, usage, name_of}
-use Rattle.qc_top.specs.Words.{Asks}
+use Rattle.qc_words.specs.Asked.{Asked, plan, check, show, make, usage, name_of}
+use Rattle.qc_words.specs.Words.{Asks}
 use Rattle.qc_top.specs.Due.{Reads, print, search, judge, reads_in, without, due, tree_due}
 use Rattle.qc_top.specs.Answers.{ending_of, report_text, status_of}
 use Rattle.qc_gantt.specs.PlanText.{plan_text}
@@ -206,9 +206,10 @@ pub record IsJudging (asked : Asked) (before after : Stand) (a : Answer) : Type 
 -- what a request says of its answer and of the shelf
 abbrev pub Serves : Asked → Stand → Stand → Answer → Type 0
 Serves usage before after a = (a ≡ answer.Stopped (stop.Refused refusal.Usage)) × (after ≡ before)
-Serves unbuilt before after a = (a ≡ answer.Stopped (stop.Refused refusal.Unbuilt)) × (after ≡ before)
+Serves (show s w p) before after a = (a ≡ answer.Stopped (stop.Refused refusal.Unbuilt)) × (after ≡ before)
+Serves (make n h c) before after a = (a ≡ answer.Stopped (stop.Refused refusal.Unbuilt)) × (after ≡ before)
 Serves (plan s w p t n) before after a = IsWriting (plan s w p t n) before after a
-Serves (check_plan s w p t) before after a = IsJudging (check_plan s w p t) before after a
+Serves (check s w (Some p) t) before after a = IsJudging (check s w (Some p) t) before after a
 Serves asked before after a = IsReading asked before after a
 
 -- what is seen of the sink: its bytes, where it tells them, and its count of faults

@@ -1,10 +1,10 @@
 -- What a command line asks for, with the names of its files.
 use Rattle.std.specs.Prelude.{◌≡◌, ℕ, ◌≤◌, List, Option, None, Some}
 use Rattle.qc_tree.specs.declared.line.TheConstants.{MOST_BRANCHINGS}
-use Rattle.qc_top.specs.declared.answer.Input.{Input}
-use Rattle.qc_top.specs.declared.answer.Input.TheVariants as input
-use Rattle.qc_top.specs.declared.words.Request.{Request}
-use Rattle.qc_top.specs.declared.words.Request.TheVariants as request
+use Rattle.qc_words.specs.declared.asked.Input.{Input}
+use Rattle.qc_words.specs.declared.asked.Input.TheVariants as input
+use Rattle.qc_words.specs.declared.asked.Request.{Request}
+use Rattle.qc_words.specs.declared.asked.Request.TheVariants as request
 
 pub data Asked : Type 0 where
   -- a plan and its tree, for a ship file and a stowage list, with at most so many branchings

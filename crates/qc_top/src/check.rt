@@ -4,14 +4,15 @@ ghost use Rattle.qc_io.specs.Outside.{stand_of};
 ghost use Rattle.qc_replay.specs.declared.fault.TreeFault.{TreeFault};
 ghost use Rattle.qc_top.specs.declared.answer.Refusal.TheVariants as refusal;
 ghost use Rattle.qc_top.specs.declared.answer.Stop.TheVariants as stop;
-ghost use Rattle.qc_top.specs.Asked.{asked_for, IsCheck};
+ghost use Rattle.qc_words.specs.Asked.{asked_for};
+ghost use Rattle.qc_top.specs.Asked.{IsCheck};
 ghost use Rattle.qc_top.specs.Due.{shown_due};
 ghost use Rattle.qc_top.specs.Account.{IsStep, IsReading};
 ghost use Rattle.qc_top.specs.Shown.{IsBoundShown, IsNoneShown, TellsTree};
 
 use crate::answer::{Answer, Stop};
 use crate::reading::{read_instance, read_tree};
-use crate::words::Request;
+use qc_words::Request;
 use qc_io::Shelf;
 use qc_replay::Replayed;
 use std::alloc::Global;

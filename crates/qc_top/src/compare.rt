@@ -7,7 +7,8 @@ ghost use Rattle.qc_model.specs.Judge.{IsJudgeable};
 ghost use Rattle.qc_model.specs.OneWay.{GoesOneWay};
 ghost use Rattle.qc_model.specs.Tasks.{task_text};
 ghost use Rattle.qc_tree.specs.Trees.{NoneEarlier};
-ghost use Rattle.qc_top.specs.Asked.{asked_for, IsCheckPlan};
+ghost use Rattle.qc_words.specs.Asked.{asked_for};
+ghost use Rattle.qc_top.specs.Asked.{IsCheckPlan};
 ghost use Rattle.qc_top.specs.Due.{job_due};
 ghost use Rattle.qc_top.specs.Account.{ComesTo, IsJudging};
 ghost use Rattle.qc_top.specs.Held.{TellsHeld};
@@ -15,7 +16,7 @@ ghost use Rattle.qc_top.specs.Shown.{TellsTree};
 
 use crate::answer::{Answer, Broken, Compared};
 use crate::reading::{Job, read_job, read_tree};
-use crate::words::Request;
+use qc_words::Request;
 use qc_io::Shelf;
 use qc_model::{Break, Instance, direction_of, ends};
 use qc_num::Bound;

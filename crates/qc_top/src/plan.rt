@@ -4,7 +4,8 @@ ghost use Rattle.qc_io.specs.Outside.{Rose, stand_of};
 ghost use Rattle.qc_model.specs.Judge.{IsJudgeable};
 ghost use Rattle.qc_search.specs.Run.{IsSound};
 ghost use Rattle.qc_tree.specs.declared.line.TheConstants.{MOST_BRANCHINGS};
-ghost use Rattle.qc_top.specs.Asked.{asked_for, IsPlanTo};
+ghost use Rattle.qc_words.specs.Asked.{asked_for};
+ghost use Rattle.qc_top.specs.Asked.{IsPlanTo};
 ghost use Rattle.qc_gantt.specs.PlanText.{plan_text};
 ghost use Rattle.qc_top.specs.Due.{due, search as searched};
 ghost use Rattle.qc_top.specs.Account.{ComesTo, IsStored, IsTreeCut, written, plan_texts, IsCutShort, IsWriting};
@@ -12,7 +13,7 @@ ghost use Rattle.qc_top.specs.Account.{ComesTo, IsStored, IsTreeCut, written, pl
 use crate::answer::{Answer, Stop};
 use crate::found::answer_of;
 use crate::reading::read_instance;
-use crate::words::Request;
+use qc_words::Request;
 use qc_gantt::write_plan;
 use qc_io::{Shelf, WriteFault};
 use qc_model::{Instance, Schedule};

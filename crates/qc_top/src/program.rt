@@ -1,8 +1,9 @@
 //! One run of the program: from words to a status.
 ghost use Rattle.std.specs.Prelude.{◌≡◌, ◌≤◌};
 ghost use Rattle.qc_io.specs.Outside.{stand_of};
-ghost use Rattle.qc_top.specs.Asked.{asked_for, HasFewNodes};
-ghost use Rattle.qc_top.specs.Words.{texts};
+ghost use Rattle.qc_words.specs.Asked.{asked_for};
+ghost use Rattle.qc_top.specs.Asked.{HasFewNodes};
+ghost use Rattle.qc_words.specs.Words.{texts};
 ghost use Rattle.qc_top.specs.Account.{Serves, IsRun, printed_of};
 ghost use Rattle.qc_top.specs.Shown.{TellsTree};
 ghost use Rattle.qc_top.specs.Promises.{Promises};

@@ -1,12 +1,13 @@
 //! The command that prints the tasks.
 ghost use Rattle.std.specs.Prelude.{◌≤◌};
 ghost use Rattle.qc_io.specs.Outside.{stand_of};
-ghost use Rattle.qc_top.specs.Asked.{asked_for, IsTasks};
+ghost use Rattle.qc_words.specs.Asked.{asked_for};
+ghost use Rattle.qc_top.specs.Asked.{IsTasks};
 ghost use Rattle.qc_top.specs.Account.{IsReading};
 
 use crate::answer::Answer;
 use crate::reading::read_instance;
-use crate::words::Request;
+use qc_words::Request;
 use qc_io::Shelf;
 use std::alloc::Global;
 

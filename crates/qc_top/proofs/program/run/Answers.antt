@@ -1,7 +1,8 @@
 use Rattle.std.proofs.Common.{subst, sym}
 use Rattle.qc_io.specs.Outside.{stand_of}
-use Rattle.qc_top.specs.Words.{texts}
-use Rattle.qc_top.specs.Asked.{asked_for, HasFewNodes}
+use Rattle.qc_words.specs.Words.{texts}
+use Rattle.qc_words.specs.Asked.{asked_for}
+use Rattle.qc_top.specs.Asked.{HasFewNodes}
 use Rattle.qc_top.proofs.WordLemmas.{few_nodes}
 use Rattle.qc_top.specs.Account.{IsRun, printed_of}
 use Rattle.qc_top.proofs.RunLemmas.{promises}

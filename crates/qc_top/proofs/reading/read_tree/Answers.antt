@@ -1,5 +1,5 @@
 use Rattle.std.proofs.Common.{Err, ap, sym}
-use Rattle.qc_top.specs.Asked.{asked_for}
+use Rattle.qc_words.specs.Asked.{asked_for}
 use Rattle.qc_top.proofs.StepLemmas.{no_tree, tree_fault}
 use Rattle.qc_top.proofs.reading.read_tree.Goals as goal
 
