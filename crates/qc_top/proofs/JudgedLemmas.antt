@@ -75,7 +75,7 @@ comes_judge (plan s w p t n) is files job h = absurd is
 comes_judge (check s w None t) is files job h = absurd is
 comes_judge (tasks s w) is files job h = absurd is
 comes_judge (show s w p) is files job h = absurd is
-comes_judge (make n h c) is files job h = absurd is
+comes_judge (make n hs cs) is files job h = absurd is
 comes_judge usage is files job h = absurd is
 
 -- what a tree's file shows is shown for the instance that is due

@@ -17,11 +17,13 @@ use Rattle.qc_top.specs.declared.answer.Answer.TheVariants as answer
 use Rattle.qc_top.specs.declared.status.Status.{Status}
 use Rattle.qc_top.specs.declared.status.Status.TheVariants as status
 use Rattle.qc_words.specs.Asked.{Asked, plan, check, tasks, show, make, usage}
-use Rattle.qc_top.specs.Asked.{IsPlan, nodes_of}
+use Rattle.qc_words.specs.Commands.{named}
 use Rattle.qc_words.specs.Words.{Asks}
+use Rattle.qc_words.proofs.PlainWords.{canonical_asked}
+use Rattle.qc_top.specs.Asked.{IsPlan, IsUnbuilt, nodes_of}
 use Rattle.qc_top.specs.Due.{Work, Reads, print, search, judge, reads_in, instance_due, tree_due, due}
 use Rattle.qc_top.specs.Answers.{status_of, report_text, ending_of}
-use Rattle.qc_top.specs.Account.{ComesTo, Stops, IsSearched, IsStopped, IsWriting, Named, written, texts_of, IsCutShort, Serves, Printed, IsRun}
+use Rattle.qc_top.specs.Account.{ComesTo, Stops, IsSearched, IsStopped, IsWriting, Named, written, texts_of, IsCutShort, IsTurnedAway, Serves, Printed, IsRun}
 use Rattle.qc_top.proofs.FoundLemmas.{plan_ends, search_end, no_refusal, ends_in_time, ends_late, kind_told, word_told, kind_none, is_best, none_goes}
 use Rattle.qc_top.proofs.DueLemmas.{comes_due, stop_is}
 use Rattle.qc_top.proofs.JudgedLemmas.{bad_plan_told, best_told, broken_told, early_due, judged_due, no_plan_tree, only_judge, weaker_told}
@@ -70,6 +72,43 @@ undecided asked held a now h budget inst nodes due_is enough =
     h.found.sound.decides
     (subst₂ (λ (i : InstanceView) (n : ℕ). branching_limit i ≤ n) (sym (ap (inst_in inst) same)) (sym (ap nodes_in same)) enough)
     budget
+
+-- a request that is turned away comes to nothing else
+abbrev IsStop : Answer → Type 0
+IsStop (answer.Stopped why) = Unit {0}
+IsStop _ = ⊥
+
+turned_away : (before after : Stand) (why : Refusal) (a : Answer) → IsTurnedAway why before after a → IsStop a
+turned_away before after why a away = elim away.0 [ inl is ↦ subst IsStop (sym is) tt | inr is ↦ subst IsStop (sym is) tt ]
+
+unbuilt_away : (before after : Stand) (asked : Asked) → IsUnbuilt asked → (a : Answer) → Serves asked before after a
+    → (a ≡ answer.Stopped (stop.Refused refusal.Unbuilt)) ⊎ (a ≡ answer.Stopped stop.OutOfMemory)
+unbuilt_away before after (show s w p) is a serves = serves.0
+unbuilt_away before after (make n h c) is a serves = serves.0
+unbuilt_away before after (plan s w p t n) is a serves = absurd is
+unbuilt_away before after (check s w None t) is a serves = absurd is
+unbuilt_away before after (check s w (Some p) t) is a serves = absurd is
+unbuilt_away before after (tasks s w) is a serves = absurd is
+unbuilt_away before after usage is a serves = absurd is
+
+-- a request for whose words memory is wanting is served so, and nothing is told of its tree
+pub wanting_serves : (asked : Asked) (stand : Stand) → Serves asked stand stand (answer.Stopped stop.OutOfMemory)
+wanting_serves (plan s w p t n) stand = (refl, refl, refl)
+wanting_serves (check s w None t) stand = record { ending = refl; files = refl; faults = refl }
+wanting_serves (check s w (Some p) t) stand = record { ending = inl refl; files = refl; faults = refl }
+wanting_serves (tasks s w) stand = record { ending = refl; files = refl; faults = refl }
+wanting_serves (show s w p) stand = (inr refl, refl)
+wanting_serves (make n h c) stand = (inr refl, refl)
+wanting_serves usage stand = (inr refl, refl)
+
+pub wanting_tells : (asked : Asked) (files : Option Files) → TellsTree asked files (answer.Stopped stop.OutOfMemory)
+wanting_tells (plan s w p t n) files = tt
+wanting_tells (check s w None t) files = tt
+wanting_tells (check s w (Some p) t) files = tt
+wanting_tells (tasks s w) files = tt
+wanting_tells (show s w p) files = tt
+wanting_tells (make n h c) files = tt
+wanting_tells usage files = tt
 
 module _ (words : List (List ℕ)) (before after : Stand) (pb pa : Printed) (ended : Status) (run : IsRun words before after pb pa ended) (tells : TellsTree run.asked before.files run.answer) where
   -- the words ask for one thing
@@ -505,9 +544,9 @@ module _ (words : List (List ℕ)) (before after : Stand) (pb pa : Printed) (end
   write_answer (check s w None t) answer.WriteFault serves e = absurd serves.ending
   write_answer (check s w (Some p) t) answer.WriteFault serves e = absurd serves.ending
   write_answer (tasks s w) answer.WriteFault serves e = absurd serves.ending
-  write_answer (show s w p) answer.WriteFault serves e = absurd (cc serves.0)
-  write_answer (make n h c) answer.WriteFault serves e = absurd (cc serves.0)
-  write_answer usage answer.WriteFault serves e = absurd (cc serves.0)
+  write_answer (show s w p) answer.WriteFault serves e = absurd (turned_away before after refusal.Unbuilt answer.WriteFault serves)
+  write_answer (make n h c) answer.WriteFault serves e = absurd (turned_away before after refusal.Unbuilt answer.WriteFault serves)
+  write_answer usage answer.WriteFault serves e = absurd (turned_away before after refusal.Usage answer.WriteFault serves)
 
   write_fault : (asked : Asked) → Asks words asked → ended ≡ status.WriteFault → IsCutTold asked before after pb pa ⊎ IsStopTold asked before after pb pa
   write_fault asked asks e = elim run.reports [
@@ -546,8 +585,8 @@ module _ (words : List (List ℕ)) (before after : Stand) (pb pa : Printed) (end
   usage_asked (check s w None t) (answer.Stopped (stop.Refused refusal.Usage)) serves e = absurd serves.ending
   usage_asked (check s w (Some p) t) (answer.Stopped (stop.Refused refusal.Usage)) serves e = elim serves.ending [ inl early ↦ absurd early | inr late ↦ absurd late.tree ]
   usage_asked (tasks s w) (answer.Stopped (stop.Refused refusal.Usage)) serves e = absurd serves.ending
-  usage_asked (show s w p) (answer.Stopped (stop.Refused refusal.Usage)) serves e = absurd (cc serves.0)
-  usage_asked (make n h c) (answer.Stopped (stop.Refused refusal.Usage)) serves e = absurd (cc serves.0)
+  usage_asked (show s w p) (answer.Stopped (stop.Refused refusal.Usage)) serves e = elim serves.0 [ inl is ↦ absurd (cc is) | inr is ↦ absurd (cc is) ]
+  usage_asked (make n h c) (answer.Stopped (stop.Refused refusal.Usage)) serves e = elim serves.0 [ inl is ↦ absurd (cc is) | inr is ↦ absurd (cc is) ]
   usage_asked usage (answer.Stopped (stop.Refused refusal.Usage)) serves e = refl
 
   usage_words : ended ≡ status.Usage → Asks words usage
@@ -556,18 +595,39 @@ module _ (words : List (List ℕ)) (before after : Stand) (pb pa : Printed) (end
     | inr cut ↦ absurd (cc (cut.status, e))
   ]
 
-  not_built : Asks words (show s w p) → EndsWith status.Unbuilt pb pa ended
-  not_built : Asks words (make n h c) → EndsWith status.Unbuilt pb pa ended
-  not_built asks = elim run.reports [
-    | inl whole ↦ inl (whole.status ∙ ap status_of (asked_is (show s w p) asks).0)
-    | inl whole ↦ inl (whole.status ∙ ap status_of (asked_is (make n h c) asks).0)
+  not_built : (asked : Asked) → Asks words asked → IsUnbuilt asked → EndsWith status.Unbuilt pb pa ended ⊎ (ended ≡ status.OutOfMemory)
+  not_built asked asks is = elim run.reports [
+    | inl whole ↦ elim (unbuilt_away before after asked is run.answer (asked_is asked asks)) [
+      | inl refused ↦ inl (inl (whole.status ∙ ap status_of refused))
+      | inr wanting ↦ inr (whole.status ∙ ap status_of wanting)
+    ]
+    | inr cut ↦ inl (inr (cut.status, cut.rose))
+  ]
+
+  no_command : named words ≡ None → EndsWith status.Usage pb pa ended
+  no_command none = elim run.reports [
+    | inl whole ↦ inl (whole.status ∙ ap status_of (run.unnamed none))
     | inr cut ↦ inr (cut.status, cut.rose)
   ]
 
-  no_command : Asks words usage → EndsWith status.Usage pb pa ended
-  no_command asks = elim run.reports [
-    | inl whole ↦ inl (whole.status ∙ ap status_of (asked_is usage asks).0)
-    | inr cut ↦ inr (cut.status, cut.rose)
+  -- only want of memory ends with its status
+  memory_report : (a : Answer) → status_of a ≡ status.OutOfMemory → report_text a ≡ codes "OutOfMemory\n"
+  memory_report (answer.Stopped stop.OutOfMemory) e = refl
+  memory_report (answer.Stopped (stop.Refused why)) e = absurd (not_other why status.OutOfMemory e)
+  memory_report answer.WriteFault e = absurd (cc e)
+  memory_report (answer.Tasks inst) e = absurd (cc e)
+  memory_report (answer.Checked (Least end)) e = absurd (cc e)
+  memory_report (answer.Checked Never) e = absurd (cc e)
+  memory_report (answer.Broken broken) e = absurd (cc e)
+  memory_report (answer.Compared compared) e = absurd (compared_ends compared status.OutOfMemory e)
+  memory_report (answer.Planned made) e = absurd (plan_ends made status.OutOfMemory e)
+  memory_report (answer.Unplanned bound branched) e = absurd (cc e)
+  memory_report (answer.Infeasible branched) e = absurd (cc e)
+
+  out_of_memory : ended ≡ status.OutOfMemory → pa.bytes ≡ append_known pb.bytes (codes "OutOfMemory\n")
+  out_of_memory e = elim run.reports [
+    | inl whole ↦ whole.printed ∙ ap (append_known pb.bytes) (memory_report run.answer (sym whole.status ∙ e))
+    | inr cut ↦ absurd (cc (cut.status, e))
   ]
 
   -- what is due of the files comes where no call failed
@@ -587,6 +647,9 @@ module _ (words : List (List ℕ)) (before after : Stand) (pb pa : Printed) (end
     judged_plan s w p t held told a serves (Ok (print ending)) is = absurd (only_judge (reads_in held (check s w (Some p) t)) (print ending) is)
     judged_plan s w p t held told a serves (Ok (search inst nodes)) is = absurd (only_judge (reads_in held (check s w (Some p) t)) (search inst nodes) is)
     judged_plan s w p t held told a serves (Err why) is = early_due s w p t before after pb pa none.reading held told why is a serves
+
+    away_due : (why : Refusal) (a : Answer) → IsTurnedAway why before after a → EndsAsDue (Err why) (status_of a) ⊎ (status_of a ≡ status.OutOfMemory)
+    away_due why a away = elim away.0 [ inl is ↦ inl (ap status_of is) | inr is ↦ inr (ap status_of is) ]
 
     answer_due : (asked : Asked) (held : Files) → before.files ≡ Some held → (a : Answer) → Serves asked before after a
         → EndsAsDue (due asked (reads_in held asked)) (status_of a) ⊎ (status_of a ≡ status.OutOfMemory)
@@ -621,9 +684,9 @@ module _ (words : List (List ℕ)) (before after : Stand) (pb pa : Printed) (end
     answer_due (tasks s w) held told (answer.Infeasible branched) serves = absurd serves.ending
     answer_due (tasks s w) held told (answer.Broken broken) serves = absurd serves.ending
     answer_due (tasks s w) held told (answer.Compared compared) serves = absurd serves.ending
-    answer_due (show s w p) held told a serves = inl (ap status_of serves.0)
-    answer_due (make n h c) held told a serves = inl (ap status_of serves.0)
-    answer_due usage held told a serves = inl (ap status_of serves.0)
+    answer_due (show s w p) held told a serves = away_due refusal.Unbuilt a serves
+    answer_due (make n h c) held told a serves = away_due refusal.Unbuilt a serves
+    answer_due usage held told a serves = away_due refusal.Usage a serves
 
     complete_at : (asked : Asked) → Asks words asked → (files : Option Files) → before.files ≡ files
         → IfSome files (λ held. EndsAsDue (due asked (reads_in held asked)) ended ⊎ (ended ≡ status.OutOfMemory))
@@ -655,8 +718,10 @@ module _ (words : List (List ℕ)) (before after : Stand) (pb pa : Printed) (end
     plan_leaves = plan_leaves;
     plan_stopped = plan_stopped;
     write_fault = write_fault;
+    plain_words = canonical_asked words;
     usage_words = usage_words;
     no_command = no_command;
     not_built = not_built;
+    out_of_memory = out_of_memory;
     complete = λ asked asks none. complete_at none asked asks before.files refl;
   }

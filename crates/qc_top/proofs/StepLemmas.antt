@@ -35,6 +35,7 @@ module _ {A B : Type 0} (step : Reads → Result A Refusal) (next : A → Reads 
   step_same before after x y first same = record {
     ok = (first.ok.0, comes_then before.files x (Ok y) first.ok.1 (everywhere before.files));
     err = tt;
+    may = tt;
     files = first.files;
     faults = first.faults;
     read_faults = first.read_faults;

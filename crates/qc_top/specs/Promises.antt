@@ -1,5 +1,5 @@
 -- What follows from a run's account, said by itself for whoever reads one status.
-use Rattle.std.specs.Prelude.{◌≡◌, ◌≢◌, ℕ, ◌≤◌, ◌<◌, ◌⊎◌, List, ◌++◌, Option, codes, decimal, Some, Result, Ok, Err, IfSome}
+use Rattle.std.specs.Prelude.{◌≡◌, ◌≢◌, ℕ, ◌≤◌, ◌<◌, ◌⊎◌, List, ◌++◌, Option, codes, decimal, None, Some, Result, Ok, Err, IfSome}
 use Rattle.std.specs.Io.KnownBytes.{append_known}
 use Rattle.qc_num.specs.declared.bound.Bound.TheVariants.{Least, Never}
 use Rattle.qc_io.specs.Outside.{Files, Rose, GrewByPart, Stand}
@@ -24,9 +24,10 @@ use Rattle.qc_top.specs.declared.answer.Answer.{Answer}
 use Rattle.qc_top.specs.declared.answer.Answer.TheVariants as answer
 use Rattle.qc_top.specs.declared.status.Status.{Status}
 use Rattle.qc_top.specs.declared.status.Status.TheVariants as status
-use Rattle.qc_words.specs.Asked.{Asked, check, tasks, show, make, usage}
-use Rattle.qc_top.specs.Asked.{IsPlan, nodes_of}
-use Rattle.qc_words.specs.Words.{Asks}
+use Rattle.qc_words.specs.Asked.{Asked, check, tasks, usage}
+use Rattle.qc_words.specs.Commands.{named}
+use Rattle.qc_words.specs.Words.{Asks, Canonical}
+use Rattle.qc_top.specs.Asked.{IsPlan, IsUnbuilt, nodes_of}
 use Rattle.qc_top.specs.Due.{Work, print, search, judge, reads_in, instance_due, tree_due, due}
 use Rattle.qc_top.specs.Answers.{bad_plan_text, broken_text, compared_status, compared_text, compared_word, infeasible_text, planned_text, planned_word, refusal_text, report_text, refusal_status, unplanned_text}
 use Rattle.qc_top.specs.Held.{TellsBreak}
@@ -288,11 +289,18 @@ pub record Promises (words : List (List ℕ)) (before after : Stand) (printed_be
       (asked : Asked) → Asks words asked → ended ≡ status.WriteFault
       → IsCutTold asked before after printed_before printed_after
       ⊎ IsStopTold asked before after printed_before printed_after
-  -- Usage comes on words that are no command, and on no others; Unbuilt always comes on a form that isn't built
+  -- words in the plain form ask for what they spell, so they never are words of no command
+  pub plain_words : (asked : Asked) → Canonical words asked → Asks words asked
+  -- Usage comes only on words that ask for nothing, and always where no command begins them
   pub usage_words : ended ≡ status.Usage → Asks words usage
-  pub no_command : Asks words usage → EndsWith status.Usage printed_before printed_after ended
-  pub not_built : Asks words (show s w p) → EndsWith status.Unbuilt printed_before printed_after ended
-  pub not_built : Asks words (make n h c) → EndsWith status.Unbuilt printed_before printed_after ended
+  pub no_command : named words ≡ None → EndsWith status.Usage printed_before printed_after ended
+  -- Unbuilt comes on a command that isn't built, or want of memory does
+  pub not_built :
+      (asked : Asked) → Asks words asked → IsUnbuilt asked
+      → EndsWith status.Unbuilt printed_before printed_after ended ⊎ (ended ≡ status.OutOfMemory)
+  -- want of memory is told by its line alone
+  pub out_of_memory :
+      ended ≡ status.OutOfMemory → printed_after.bytes ≡ append_known printed_before.bytes (codes "OutOfMemory\n")
   -- what is due of the files comes where no call failed, or want of memory does
   pub complete :
       (asked : Asked) → Asks words asked → NoneFailed before after printed_before printed_after
