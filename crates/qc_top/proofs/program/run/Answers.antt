@@ -1,4 +1,4 @@
-use Rattle.std.proofs.Common.{◌≡◌, ◌∙◌, None, refl, sym}
+use Rattle.std.proofs.Common.{◌≡◌, ◌∙◌, refl, sym}
 use Rattle.qc_words.specs.declared.asked.Request.TheVariants as request
 use Rattle.qc_words.specs.Asked.{asked_for}
 use Rattle.qc_words.specs.Words.{asked_by, texts}
