@@ -3,3 +3,4 @@ pub mod GanttLemmas
 pub mod NameLemmas
 pub mod PlanLemmas
 pub mod TrackLemmas
+pub mod RereadLemmas

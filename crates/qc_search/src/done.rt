@@ -68,4 +68,11 @@ impl Done {
     {
         self.best.as_ref()
     }
+
+    /// The same, given away.
+    pub fn into_best(self) -> Option<Schedule>
+        ensures { result ≡ self.best }
+    {
+        self.best
+    }
 }

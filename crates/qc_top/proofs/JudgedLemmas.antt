@@ -27,7 +27,8 @@ use Rattle.qc_top.specs.declared.status.Status.TheVariants as status
 use Rattle.qc_words.specs.Asked.{Asked, plan, check, tasks, show, make, usage}
 use Rattle.qc_top.specs.Asked.{IsCheckPlan}
 use Rattle.qc_top.specs.Due.{Reads, Work, judge, reads_in, instance_due, schedule_due, job_due, judge_due, tree_due, due}
-use Rattle.qc_top.specs.Answers.{bad_plan_text, compared_status, compared_text, compared_word, refusal_status, report_text, status_of}
+use Rattle.qc_top.specs.Answers.{bad_plan_text, compared_status, compared_text, compared_word, refusal_status, status_of}
+use Rattle.qc_top.specs.Reports.{IsPrinted}
 use Rattle.qc_top.specs.Account.{ComesTo, Stops, IsBroken, IsCompared, IsJudging, IsStoppedAtTree, Printed}
 use Rattle.qc_top.specs.declared.answer.Compared.{Compared}
 use Rattle.qc_gantt.specs.declared.fault.PlanFault.{PlanFault}
@@ -153,7 +154,7 @@ module _ (s w p t : List ℕ) (before after : Stand) (pb pa : Printed) where
         word = word;
       }
 
-  pub best_told : (a : Answer) → IsJudging asked before after a → TellsTree asked before.files a → status_of a ≡ status.Optimal → pa.bytes ≡ append_known pb.bytes (report_text a)
+  pub best_told : (a : Answer) → IsJudging asked before after a → TellsTree asked before.files a → status_of a ≡ status.Optimal → IsPrinted a pb.bytes pa.bytes
       → IfSome before.files (λ held. IsBestTold asked held pb pa)
   best_told (answer.Compared told) judging shown e report = by before.files judging.ending.1 shown
     where
@@ -181,7 +182,7 @@ module _ (s w p t : List ℕ) (before after : Stand) (pb pa : Printed) where
   best_told (answer.Unplanned bound branched) judging shown e report = absurd judging.ending
   best_told (answer.Infeasible branched) judging shown e report = absurd judging.ending
 
-  pub weaker_told : (a : Answer) → IsJudging asked before after a → TellsTree asked before.files a → status_of a ≡ status.Weaker → pa.bytes ≡ append_known pb.bytes (report_text a)
+  pub weaker_told : (a : Answer) → IsJudging asked before after a → TellsTree asked before.files a → status_of a ≡ status.Weaker → IsPrinted a pb.bytes pa.bytes
       → IfSome before.files (λ held. IsWeakerTold asked held pb pa)
   weaker_told (answer.Compared told) judging shown e report = by before.files judging.ending.1 shown
     where
@@ -203,7 +204,7 @@ module _ (s w p t : List ℕ) (before after : Stand) (pb pa : Printed) where
   weaker_told (answer.Unplanned bound branched) judging shown e report = absurd judging.ending
   weaker_told (answer.Infeasible branched) judging shown e report = absurd judging.ending
 
-  pub broken_told : (a : Answer) → IsJudging asked before after a → status_of a ≡ status.Broken → pa.bytes ≡ append_known pb.bytes (report_text a)
+  pub broken_told : (a : Answer) → IsJudging asked before after a → status_of a ≡ status.Broken → IsPrinted a pb.bytes pa.bytes
       → IfSome before.files (λ held. IsBrokenTold asked held pb pa)
   broken_told (answer.Broken told) judging e report = by before.files judging.ending.1
     where
@@ -227,7 +228,7 @@ module _ (s w p t : List ℕ) (before after : Stand) (pb pa : Printed) where
   bad_plan_due fault (Some held) (inr late) report =
       absurd (subst (λ (r : Result Replayed Refusal). IfErr r IsOfTree) late.1 (tree_refusal late.0 (reads_in held asked).tree))
 
-  pub bad_plan_told : (a : Answer) → IsJudging asked before after a → status_of a ≡ status.BadPlan → pa.bytes ≡ append_known pb.bytes (report_text a)
+  pub bad_plan_told : (a : Answer) → IsJudging asked before after a → status_of a ≡ status.BadPlan → IsPrinted a pb.bytes pa.bytes
       → IfSome before.files (λ held. IsBadPlanTold asked held pb pa)
   bad_plan_told (answer.Stopped (stop.Refused (refusal.BadPlan fault))) judging e report = elim judging.ending [
     | inl early ↦ bad_plan_due fault before.files (inl early.1) report

@@ -1,5 +1,6 @@
 pub mod StepLemmas
 pub mod ServeLemmas
+pub mod ReportLemmas
 pub mod RunLemmas
 pub mod DueLemmas
 pub mod FoundLemmas

@@ -23,6 +23,7 @@ use Rattle.qc_words.proofs.PlainWords.{canonical_asked}
 use Rattle.qc_top.specs.Asked.{IsPlan, IsUnbuilt, nodes_of}
 use Rattle.qc_top.specs.Due.{Work, Reads, print, search, judge, reads_in, instance_due, tree_due, due}
 use Rattle.qc_top.specs.Answers.{status_of, report_text, ending_of}
+use Rattle.qc_top.specs.Reports.{IsPrinted}
 use Rattle.qc_top.specs.Account.{ComesTo, Stops, IsSearched, IsStopped, IsWriting, Named, written, texts_of, IsCutShort, IsTurnedAway, Serves, Printed, IsRun}
 use Rattle.qc_top.proofs.FoundLemmas.{plan_ends, search_end, no_refusal, ends_in_time, ends_late, kind_told, word_told, kind_none, is_best, none_goes}
 use Rattle.qc_top.proofs.DueLemmas.{comes_due, stop_is}
@@ -126,7 +127,7 @@ module _ (words : List (List ℕ)) (before after : Stand) (pb pa : Printed) (end
   plan_is usage a is serves = absurd is
 
   module _ (asked : Asked) where
-    optimal_told : (a : Answer) → IsWriting asked before after a → status_of a ≡ status.Optimal → pa.bytes ≡ append_known pb.bytes (report_text a)
+    optimal_told : (a : Answer) → IsWriting asked before after a → status_of a ≡ status.Optimal → IsPrinted a pb.bytes pa.bytes
         → IfSome before.files (λ held. IsOptimalTold asked held after.files pb pa)
     optimal_told (answer.Planned told) serves e report = by before.files serves.2 where
       by : (files : Option Files) → IfSome files (λ held. IsSearched asked held (answer.Planned told) after.files) → IfSome files (λ held. IsOptimalTold asked held after.files pb pa)
@@ -153,7 +154,7 @@ module _ (words : List (List ℕ)) (before after : Stand) (pb pa : Printed) (end
     optimal_told (answer.Broken broken) serves e report = absurd serves
     optimal_told (answer.Compared compared) serves e report = absurd serves
 
-    budget_told : (a : Answer) → IsPlan asked → IsWriting asked before after a → status_of a ≡ status.BudgetPlan → pa.bytes ≡ append_known pb.bytes (report_text a)
+    budget_told : (a : Answer) → IsPlan asked → IsWriting asked before after a → status_of a ≡ status.BudgetPlan → IsPrinted a pb.bytes pa.bytes
         → IfSome before.files (λ held. IsBudgetTold asked held after.files pb pa)
     budget_told (answer.Planned told) is serves e report = by before.files serves.2 where
       by : (files : Option Files) → IfSome files (λ held. IsSearched asked held (answer.Planned told) after.files)
@@ -182,7 +183,7 @@ module _ (words : List (List ℕ)) (before after : Stand) (pb pa : Printed) (end
     budget_told (answer.Broken broken) is serves e report = absurd serves
     budget_told (answer.Compared compared) is serves e report = absurd serves
 
-    unplanned_told : (a : Answer) → IsPlan asked → IsWriting asked before after a → status_of a ≡ status.BudgetNone → pa.bytes ≡ append_known pb.bytes (report_text a)
+    unplanned_told : (a : Answer) → IsPlan asked → IsWriting asked before after a → status_of a ≡ status.BudgetNone → IsPrinted a pb.bytes pa.bytes
         → IfSome before.files (λ held. IsUnplannedTold asked held after.files pb pa)
     unplanned_told (answer.Unplanned bound branched) is serves e report = by before.files serves.2 where
       by : (files : Option Files) → IfSome files (λ held. IsSearched asked held (answer.Unplanned bound branched) after.files) → IfSome files (λ held. IsUnplannedTold asked held after.files pb pa)
@@ -207,7 +208,7 @@ module _ (words : List (List ℕ)) (before after : Stand) (pb pa : Printed) (end
     unplanned_told (answer.Broken broken) is serves e report = absurd serves
     unplanned_told (answer.Compared compared) is serves e report = absurd serves
 
-    infeasible_told : (a : Answer) → IsWriting asked before after a → status_of a ≡ status.Infeasible → pa.bytes ≡ append_known pb.bytes (report_text a)
+    infeasible_told : (a : Answer) → IsWriting asked before after a → status_of a ≡ status.Infeasible → IsPrinted a pb.bytes pa.bytes
         → IfSome before.files (λ held. IsInfeasibleTold asked held after.files pb pa)
     infeasible_told (answer.Infeasible branched) serves e report = by before.files serves.2 where
       by : (files : Option Files) → IfSome files (λ held. IsSearched asked held (answer.Infeasible branched) after.files) → IfSome files (λ held. IsInfeasibleTold asked held after.files pb pa)
@@ -281,7 +282,7 @@ module _ (words : List (List ℕ)) (before after : Stand) (pb pa : Printed) (end
       let texts = ap text_of same in
       record { inst = found; due = at; report = report ∙ ap (append_known pb.bytes) (sym texts) }
 
-  tasks_told : (ship stow : List ℕ) (a : Answer) → Serves (tasks ship stow) before after a → status_of a ≡ status.Done → pa.bytes ≡ append_known pb.bytes (report_text a)
+  tasks_told : (ship stow : List ℕ) (a : Answer) → Serves (tasks ship stow) before after a → status_of a ≡ status.Done → IsPrinted a pb.bytes pa.bytes
       → IfSome before.files (λ held. AreTasksTold (tasks ship stow) held pb pa)
   tasks_told ship stow (answer.Tasks inst) serves e report = tasks_printed ship stow (answer.Tasks inst) before.files serves.ending.1 report
   tasks_told ship stow (answer.Checked bound) serves e report = tasks_printed ship stow (answer.Checked bound) before.files serves.ending.1 report
@@ -305,7 +306,7 @@ module _ (words : List (List ℕ)) (before after : Stand) (pb pa : Printed) (end
   tree_is : (asked : Asked) → Asks words asked → TellsTree asked before.files run.answer
   tree_is asked asks = subst (λ a. TellsTree a before.files run.answer) (sym run.asks ∙ asks) tells
 
-  end_told : (ship stow tree : List ℕ) (a : Answer) → TellsTree (check ship stow None tree) before.files a → status_of a ≡ status.Done → pa.bytes ≡ append_known pb.bytes (report_text a)
+  end_told : (ship stow tree : List ℕ) (a : Answer) → TellsTree (check ship stow None tree) before.files a → status_of a ≡ status.Done → IsPrinted a pb.bytes pa.bytes
       → IfSome before.files (λ held. IsEndTold (check ship stow None tree) held pb pa)
   end_told ship stow tree (answer.Checked (Least end)) shown e report = told before.files shown where
     told : (files : Option Files) → IfSome files (λ held. IsBoundShown (check ship stow None tree) held (Least end)) → IfSome files (λ held. IsEndTold (check ship stow None tree) held pb pa)
@@ -329,7 +330,7 @@ module _ (words : List (List ℕ)) (before after : Stand) (pb pa : Printed) (end
     | inr cut ↦ absurd (cc (cut.status, e))
   ]
 
-  none_told : (ship stow tree : List ℕ) (a : Answer) → TellsTree (check ship stow None tree) before.files a → status_of a ≡ status.Infeasible → pa.bytes ≡ append_known pb.bytes (report_text a)
+  none_told : (ship stow tree : List ℕ) (a : Answer) → TellsTree (check ship stow None tree) before.files a → status_of a ≡ status.Infeasible → IsPrinted a pb.bytes pa.bytes
       → IfSome before.files (λ held. IsNoneTold (check ship stow None tree) held pb pa)
   none_told ship stow tree (answer.Checked Never) shown e report = told before.files shown where
     told : (files : Option Files) → IfSome files (λ held. IsBoundShown (check ship stow None tree) held Never) → IfSome files (λ held. IsNoneTold (check ship stow None tree) held pb pa)
@@ -425,7 +426,7 @@ module _ (words : List (List ℕ)) (before after : Stand) (pb pa : Printed) (end
     ]
 
   -- the refusal whose status is told
-  refusal_told : (asked : Asked) (a : Answer) → Serves asked before after a → IsRefusal (status_of a) → ended ≡ status_of a → pa.bytes ≡ append_known pb.bytes (report_text a)
+  refusal_told : (asked : Asked) (a : Answer) → Serves asked before after a → IsRefusal (status_of a) → ended ≡ status_of a → IsPrinted a pb.bytes pa.bytes
       → IsRefusalTold asked before after pb pa ended
   refusal_told asked (answer.Stopped (stop.Refused why)) serves is e report = record { why = why; status = e; cause = serves; report = report }
   refusal_told asked (answer.Stopped stop.OutOfMemory) serves is e report = absurd is
@@ -557,7 +558,7 @@ module _ (words : List (List ℕ)) (before after : Stand) (pb pa : Printed) (end
           rose = rose;
           serves = subst (Serves asked before after) same (asked_is asked asks);
           faults = whole.faults;
-          report = whole.printed ∙ ap (λ a. append_known pb.bytes (report_text a)) same;
+          report = subst (λ (a : Answer). IsPrinted a pb.bytes pa.bytes) same whole.printed;
         })
     | inr cut ↦ inl (record { rose = cut.rose; answer = run.answer; serves = asked_is asked asks; report = cut.printed })
   ]
@@ -611,22 +612,22 @@ module _ (words : List (List ℕ)) (before after : Stand) (pb pa : Printed) (end
   ]
 
   -- only want of memory ends with its status
-  memory_report : (a : Answer) → status_of a ≡ status.OutOfMemory → report_text a ≡ codes "OutOfMemory\n"
-  memory_report (answer.Stopped stop.OutOfMemory) e = refl
-  memory_report (answer.Stopped (stop.Refused why)) e = absurd (not_other why status.OutOfMemory e)
-  memory_report answer.WriteFault e = absurd (cc e)
-  memory_report (answer.Tasks inst) e = absurd (cc e)
-  memory_report (answer.Checked (Least end)) e = absurd (cc e)
-  memory_report (answer.Checked Never) e = absurd (cc e)
-  memory_report (answer.Broken broken) e = absurd (cc e)
-  memory_report (answer.Compared compared) e = absurd (compared_ends compared status.OutOfMemory e)
-  memory_report (answer.Planned made) e = absurd (plan_ends made status.OutOfMemory e)
-  memory_report (answer.Unplanned bound branched) e = absurd (cc e)
-  memory_report (answer.Infeasible branched) e = absurd (cc e)
+  memory_report : (a : Answer) → status_of a ≡ status.OutOfMemory → IsPrinted a pb.bytes pa.bytes → pa.bytes ≡ append_known pb.bytes (codes "OutOfMemory\n")
+  memory_report (answer.Stopped stop.OutOfMemory) e report = report
+  memory_report (answer.Stopped (stop.Refused why)) e report = absurd (not_other why status.OutOfMemory e)
+  memory_report answer.WriteFault e report = absurd (cc e)
+  memory_report (answer.Tasks inst) e report = absurd (cc e)
+  memory_report (answer.Checked (Least end)) e report = absurd (cc e)
+  memory_report (answer.Checked Never) e report = absurd (cc e)
+  memory_report (answer.Broken broken) e report = absurd (cc e)
+  memory_report (answer.Compared compared) e report = absurd (compared_ends compared status.OutOfMemory e)
+  memory_report (answer.Planned made) e report = absurd (plan_ends made status.OutOfMemory e)
+  memory_report (answer.Unplanned bound branched) e report = absurd (cc e)
+  memory_report (answer.Infeasible branched) e report = absurd (cc e)
 
   out_of_memory : ended ≡ status.OutOfMemory → pa.bytes ≡ append_known pb.bytes (codes "OutOfMemory\n")
   out_of_memory e = elim run.reports [
-    | inl whole ↦ whole.printed ∙ ap (append_known pb.bytes) (memory_report run.answer (sym whole.status ∙ e))
+    | inl whole ↦ memory_report run.answer (sym whole.status ∙ e) whole.printed
     | inr cut ↦ absurd (cc (cut.status, e))
   ]
 

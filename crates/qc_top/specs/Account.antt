@@ -1,8 +1,7 @@
 -- The account of a run: what its answer says of the words, of the shelf and of the sink.
 use Rattle.std.specs.Prelude.{◌≡◌, ℕ, ◌≤◌, ◌⊎◌, List, [], ◌∷◌, take, Option, None, Some, Result, Ok, Err, IfOk, IfErr, IfSome, IsSomeAnd}
 use Rattle.std.specs.FinMap.{insert}
-use Rattle.std.specs.Io.KnownBytes.{append_known}
-use Rattle.qc_io.specs.Outside.{Files, Rose, ReadCause, GrewByPart, Stand}
+use Rattle.qc_io.specs.Outside.{Files, Rose, ReadCause, Stand}
 use Rattle.qc_model.specs.declared.schedule.Slot.{Slot}
 use Rattle.qc_model.specs.Instance.{InstanceView}
 use Rattle.qc_model.specs.OneWay.{GoesOneWay}
@@ -25,9 +24,10 @@ use Rattle.qc_words.specs.Commands.{named}
 use Rattle.qc_words.specs.Words.{Asks}
 use Rattle.qc_top.specs.May.{MayAnswer, MayStop}
 use Rattle.qc_top.specs.Due.{Reads, print, search, judge, reads_in, without, due, tree_due}
-use Rattle.qc_top.specs.Answers.{ending_of, report_text, status_of}
+use Rattle.qc_top.specs.Answers.{ending_of, status_of}
 use Rattle.qc_gantt.specs.PlanText.{plan_text}
 use Rattle.qc_top.specs.Found.{IsFound, Tells}
+use Rattle.qc_top.specs.Reports.{IsPrintCut, IsPrinted}
 use Rattle.qc_top.specs.Held.{TellsBreak, TellsHeld}
 
 -- where the shelf tells its files, a step over them comes to this
@@ -230,13 +230,13 @@ printed_of written faults sink = record { bytes = written sink; faults = faults 
 
 -- the report of the answer went out whole
 pub record IsReported (a : Answer) (before after : Printed) (ended : Status) : Type 0 where
-  pub printed : after.bytes ≡ append_known before.bytes (report_text a)
+  pub printed : IsPrinted a before.bytes after.bytes
   pub faults : after.faults ≡ before.faults
   pub status : ended ≡ status_of a
 
 -- the sink failed on the way, so that a front part of the report went out
 pub record IsCut (a : Answer) (before after : Printed) (ended : Status) : Type 0 where
-  pub printed : GrewByPart before.bytes after.bytes (report_text a)
+  pub printed : IsPrintCut a before.bytes after.bytes
   pub rose : Rose before.faults after.faults
   pub status : ended ≡ status.WriteFault
 

@@ -177,7 +177,7 @@ abbrev pub stop_status : Stop → Status
 stop_status (stop.Refused why) = refusal_status why
 stop_status stop.OutOfMemory = status.OutOfMemory
 
--- what is printed for an answer
+-- what is printed for an answer; of a plan that was found the crane lines follow it
 abbrev pub report_text : Answer → List ℕ
 report_text (answer.Stopped why) = stop_text why
 report_text answer.WriteFault = codes "WriteFault\n"

@@ -4,6 +4,7 @@ use Rattle.qc_num.specs.declared.bound.Bound.TheVariants.{Least, Never}
 use Rattle.qc_model.specs.declared.schedule.Slot.{Slot}
 use Rattle.qc_model.specs.Instance.{InstanceView}
 use Rattle.qc_model.specs.Judge.{IsDirection}
+use Rattle.qc_model.specs.Motion.{IsSafe}
 use Rattle.qc_model.specs.Rules.{ends}
 use Rattle.qc_tree.specs.Trees.{Tree, tree_branchings, tree_value}
 use Rattle.qc_search.specs.Run.{DoneView, IsRun, IsSound}
@@ -19,14 +20,18 @@ pub record IsFound (inst : InstanceView) (nodes : ℕ) (tree : Tree) (done : Don
   pub branched : done.branched ≡ tree_branchings inst tree
   pub sound : IsSound (record { inst = inst; nodes = nodes }) done
 
--- the end of the schedule that was met, the bound, the number of branchings and the schedule's direction are told
+-- the schedule that was met is told, its end, the bound, the number of branchings and the schedule's direction; in
+-- that direction its motion is safe
 pub record TellsPlan (inst : InstanceView) (done : DoneView) (told : Planned) : Type 0 where
   pub sched : List Slot
   pub best : done.best ≡ Some sched
+  pub inst_told : told.inst ≡ inst
+  pub sched_told : told.sched ≡ sched
   pub end : told.end ≡ ends inst sched
   pub bound : done.bound ≡ Least told.bound
   pub branched : told.branched ≡ done.branched
   pub direction : IsDirection inst sched told.direction
+  pub safe : IsSafe inst sched told.direction
 
 -- what an answer tells of a search
 abbrev pub Tells : InstanceView → DoneView → Answer → Type 0

@@ -2,6 +2,7 @@ pub mod Asked
 pub mod May
 pub mod Due
 pub mod Answers
+pub mod Reports
 pub mod Shown
 pub mod Found
 pub mod Held

@@ -2,7 +2,7 @@
 use Rattle.std.specs.Prelude.{◌≡◌, ◌≢◌, ℕ, ◌≤◌, ◌<◌, ◌⊎◌, List, ◌++◌, Option, codes, decimal, None, Some, Result, Ok, Err, IfSome}
 use Rattle.std.specs.Io.KnownBytes.{append_known}
 use Rattle.qc_num.specs.declared.bound.Bound.TheVariants.{Least, Never}
-use Rattle.qc_io.specs.Outside.{Files, Rose, GrewByPart, Stand}
+use Rattle.qc_io.specs.Outside.{Files, Rose, Stand}
 use Rattle.qc_model.specs.declared.schedule.Slot.{Slot}
 use Rattle.qc_model.specs.Instance.{InstanceView}
 use Rattle.qc_model.specs.OneWay.{GoesOneWay}
@@ -29,8 +29,9 @@ use Rattle.qc_words.specs.Commands.{named}
 use Rattle.qc_words.specs.Words.{Asks, Canonical}
 use Rattle.qc_top.specs.Asked.{IsPlan, IsUnbuilt, nodes_of}
 use Rattle.qc_top.specs.Due.{Work, print, search, judge, reads_in, instance_due, tree_due, due}
-use Rattle.qc_top.specs.Answers.{bad_plan_text, broken_text, compared_status, compared_text, compared_word, infeasible_text, planned_text, planned_word, refusal_text, report_text, refusal_status, unplanned_text}
+use Rattle.qc_top.specs.Answers.{bad_plan_text, broken_text, compared_status, compared_text, compared_word, infeasible_text, planned_word, refusal_text, refusal_status, unplanned_text}
 use Rattle.qc_top.specs.Held.{TellsBreak}
+use Rattle.qc_top.specs.Reports.{IsPlanPrinted, IsPrintCut}
 use Rattle.qc_top.specs.Shown.{IsBoundShown, IsNoneShown, IsTreeShown}
 use Rattle.qc_top.specs.Account.{IsSearched, IsStopped, Serves, Printed}
 
@@ -40,13 +41,13 @@ pub record IsBest (inst : InstanceView) (sched : List Slot) : Type 0 where
   pub least : (other : List Slot) → GoesOneWay inst other → ends inst sched ≤ ends inst other
 
 -- the search that is due met a schedule: its tree and the plan of that schedule are written, all other files are as
--- they were, and both are told
+-- they were, and both are told, with the motion of every crane, which is safe
 pub record IsPlanTold (asked : Asked) (held : Files) (now : Option Files) (before after : Printed) (wanted : Kind)
     (first : List ℕ) : Type 0 where
   pub told : Planned
   pub searched : IsSearched asked held (answer.Planned told) now
   pub kind : searched.done.kind ≡ wanted
-  pub report : after.bytes ≡ append_known before.bytes (planned_text told)
+  pub report : IsPlanPrinted told before.bytes after.bytes
   pub word : planned_word told ≡ first
 
 -- the same, and all branchings that were asked for are spent
@@ -195,7 +196,7 @@ pub record IsCutTold (asked : Asked) (before after : Stand) (printed_before prin
   pub rose : Rose printed_before.faults printed_after.faults
   pub answer : Answer
   pub serves : Serves asked before after answer
-  pub report : GrewByPart printed_before.bytes printed_after.bytes (report_text answer)
+  pub report : IsPrintCut answer printed_before.bytes printed_after.bytes
 
 -- the shelf failed while a plan was written, and the sink got the line of that
 pub record IsStopTold (asked : Asked) (before after : Stand) (printed_before printed_after : Printed)

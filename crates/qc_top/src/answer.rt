@@ -2,16 +2,18 @@
 ghost use Rattle.std.specs.Prelude.{◌≡◌, ◌≤◌, ◌++◌, codes, length};
 ghost use Rattle.qc_io.specs.Outside.{Rose};
 ghost use Rattle.qc_io.specs.Writes.{Writes};
-ghost use Rattle.qc_top.specs.Answers.{input_text, line, planned_word, direction_text, planned_text, unplanned_text, infeasible_text, refusal_text, report_text, planned_status, refusal_status, status_of};
+ghost use Rattle.qc_top.specs.Answers.{input_text, line, planned_word, direction_text, planned_text, unplanned_text, infeasible_text, refusal_text, planned_status, refusal_status, status_of};
 ghost use Rattle.qc_top.specs.Due.{bound_ending};
+ghost use Rattle.qc_top.specs.Reports.{CanBeTold, IsReady, WritesPlanned, WritesReport};
 ghost use Rattle.qc_top.specs.Account.{Reports, printed_of};
 
 use crate::faults::{put_plan_fault, put_ship_fault, put_stow_fault, put_tree_fault};
 use crate::judged::{compared_status, put_broken, put_compared};
 use crate::status::Status;
-use qc_gantt::PlanFault;
+use qc_gantt::{PlanFault, write_tracks};
 use qc_io::{Sink, WriteFault, put_all};
-use qc_model::{Direction, Instance, Rule, TaskText};
+use qc_model::{Direction, Instance, Rule, Schedule, TaskText};
+use qc_motion::Track;
 use qc_num::{Bound, OutOfMemory, Text, Tick};
 use qc_replay::TreeFault;
 use qc_ship::ShipFault;
@@ -55,8 +57,13 @@ impl From<OutOfMemory> for Stop {
 }
 
 /// What is told of a search that met a schedule.
-#[derive(Clone, Copy, Debug, PartialEq, Eq)]
+#[derive(Drop)]
 pub struct Planned {
+    pub inst: Instance,
+    /// The schedule, as it stands in the plan's file.
+    pub sched: Schedule,
+    /// Where the waypoints of one crane after the other are put.
+    pub track: Track,
     /// When the plan's last task ends, in ticks.
     pub end: Tick,
     /// No schedule that goes one way ends before this tick.
@@ -165,8 +172,8 @@ fn bound_status(bound: Bound) -> Status
     }
 }
 
-fn planned_status(told: Planned) -> Status
-    ensures { result ≡ planned_status told }
+fn planned_status(told: &Planned) -> Status
+    ensures { result ≡ planned_status told.now }
 {
     if told.end <= told.bound {
         Status::Optimal
@@ -187,7 +194,7 @@ fn status_of(answer: &Answer) -> Status
         Answer::Checked { bound } => bound_status(*bound),
         Answer::Broken(_) => Status::Broken,
         Answer::Compared(told) => compared_status(*told),
-        Answer::Planned(told) => planned_status(*told),
+        Answer::Planned(told) => planned_status(told),
         Answer::Unplanned { .. } => Status::BudgetNone,
         Answer::Infeasible { .. } => Status::Infeasible,
     }
@@ -208,8 +215,8 @@ fn put_refusal<K: Sink>(why: Refusal, out: &mut K) -> Result<(), WriteFault>
     }
 }
 
-fn planned_word(told: Planned) -> &'static [u8]
-    ensures text { result.now ≡ planned_word told }
+fn planned_word(told: &Planned) -> &'static [u8]
+    ensures text { result.now ≡ planned_word told.now }
     ensures short { length result.now ≤ 7 }
 {
     if told.end <= told.bound {
@@ -229,9 +236,9 @@ fn direction_text(direction: Direction) -> &'static [u8]
     }
 }
 
-/// Writes what is told of a search that met a schedule.
-fn put_planned<K: Sink>(told: Planned, out: &mut K) -> Result<(), WriteFault>
-    ensures { Writes K.written K.beside K.faults out.old out.new (planned_text told) result }
+/// Writes the summary of a search that met a schedule.
+fn put_planned<K: Sink>(told: &Planned, out: &mut K) -> Result<(), WriteFault>
+    ensures { Writes K.written K.beside K.faults out.old out.new (planned_text told.now) result }
 {
     let mut text: Text<128> = Text::new();
     text.push(planned_word(told));
@@ -245,6 +252,22 @@ fn put_planned<K: Sink>(told: Planned, out: &mut K) -> Result<(), WriteFault>
     text.push(direction_text(told.direction));
     text.push(b"\n");
     put_all(out, text.as_bytes())
+}
+
+/// Writes the summary of a search that met a schedule, and the motion of each crane.
+fn put_moved<K: Sink>(told: Planned, out: &mut K) -> Result<(), WriteFault>
+    requires { IsReady told }
+    ensures { WritesPlanned K.written K.beside K.faults out.old out.new told result }
+{
+    put_planned(&told, out)?;
+    let Planned {
+        inst,
+        sched,
+        mut track,
+        direction,
+        ..
+    } = told;
+    write_tracks(&inst, &sched, direction, &mut track, out)
 }
 
 /// Writes what is told of a search that spent its branchings and met no schedule.
@@ -284,32 +307,35 @@ fn put_bound<K: Sink>(bound: Bound, out: &mut K) -> Result<(), WriteFault>
     }
 }
 
-fn put_report<K: Sink>(answer: &Answer, out: &mut K) -> Result<(), WriteFault>
-    ensures { Writes K.written K.beside K.faults out.old out.new (report_text answer.now) result }
+fn put_report<K: Sink>(answer: Answer, out: &mut K) -> Result<(), WriteFault>
+    requires { CanBeTold answer }
+    ensures { WritesReport K.written K.beside K.faults out.old out.new answer result }
 {
     match answer {
-        Answer::Stopped(Stop::Refused(why)) => put_refusal(*why, out),
+        Answer::Stopped(Stop::Refused(why)) => put_refusal(why, out),
         Answer::Stopped(Stop::OutOfMemory) => put_all(out, b"OutOfMemory\n"),
         Answer::WriteFault => put_all(out, b"WriteFault\n"),
-        Answer::Tasks { inst } => write_tasks(inst, out),
-        Answer::Checked { bound } => put_bound(*bound, out),
-        Answer::Broken(told) => put_broken(told, out),
-        Answer::Compared(told) => put_compared(*told, out),
-        Answer::Planned(told) => put_planned(*told, out),
-        Answer::Unplanned { bound, branched } => put_unplanned(*bound, *branched, out),
-        Answer::Infeasible { branched } => put_infeasible(*branched, out),
+        Answer::Tasks { inst } => write_tasks(&inst, out),
+        Answer::Checked { bound } => put_bound(bound, out),
+        Answer::Broken(told) => put_broken(&told, out),
+        Answer::Compared(told) => put_compared(told, out),
+        Answer::Planned(told) => put_moved(told, out),
+        Answer::Unplanned { bound, branched } => put_unplanned(bound, branched, out),
+        Answer::Infeasible { branched } => put_infeasible(branched, out),
     }
 }
 
 /// Prints the report of an answer. Where the sink fails on the way the status is `WriteFault`.
-pub(crate) fn report<K: Sink>(answer: &Answer, out: &mut K) -> Status
-    ensures reports { Reports answer.now
+pub(crate) fn report<K: Sink>(answer: Answer, out: &mut K) -> Status
+    requires { CanBeTold answer }
+    ensures reports { Reports answer
         (printed_of K.written K.faults out.old) (printed_of K.written K.faults out.new) result }
     ensures beside_stays { K.beside out.new ≡ K.beside out.old }
     ensures faults_never_fall { K.faults out.old ≤ K.faults out.new }
 {
+    let status = status_of(&answer);
     match put_report(answer, out) {
-        Ok(()) => status_of(answer),
+        Ok(()) => status,
         Err(WriteFault) => Status::WriteFault,
     }
 }

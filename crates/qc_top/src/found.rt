@@ -1,36 +1,43 @@
 //! What is told of a search.
-ghost use Rattle.std.specs.Prelude.{IfSome};
+ghost use Rattle.std.specs.Prelude.{◌≤◌, IfSome, length};
 ghost use Rattle.qc_model.specs.Judge.{IsJudgeable};
 ghost use Rattle.qc_tree.specs.Trees.{NoneEarlier};
 ghost use Rattle.qc_search.specs.Run.{IsTight};
 ghost use Rattle.qc_top.specs.Found.{Tells};
+ghost use Rattle.qc_top.specs.Reports.{CanBeTold};
 
 use crate::answer::{Answer, Planned};
 use qc_model::{Instance, direction_of, ends};
+use qc_motion::Track;
 use qc_num::Bound;
 use qc_search::Done;
 
-/// The answer that tells what a search came to.
-pub(crate) fn answer_of(inst: &Instance, done: &Done) -> Answer
-    requires none_earlier { NoneEarlier inst.now done.now.bound }
-    requires judgeable { IfSome done.now.best (IsJudgeable inst.now) }
-    requires tight { IfSome done.now.best (IsTight inst.now) }
-    ensures { Tells inst.now done.now result }
+/// The answer that tells what a search came to; the track is for its motion.
+pub(crate) fn answer_of(inst: Instance, done: Done, track: Track) -> Answer
+    requires none_earlier { NoneEarlier inst done.bound }
+    requires judgeable { IfSome done.best (IsJudgeable inst) }
+    requires tight { IfSome done.best (IsTight inst) }
+    requires room { length inst.tasks ≤ track.tasks }
+    ensures tells { Tells inst done result }
+    ensures ready { CanBeTold result }
 {
     let branched = u64::from(done.branched());
     let Bound::Least(bound) = done.bound() else {
         return Answer::Infeasible { branched };
     };
-    let Some(sched) = done.best() else {
+    let Some(sched) = done.into_best() else {
         return Answer::Unplanned { bound, branched };
     };
-    let Ok(direction) = direction_of(inst, sched) else {
+    let Ok(direction) = direction_of(&inst, &sched) else {
         unreachable!()
     };
     Answer::Planned(Planned {
-        end: ends(inst, sched),
+        end: ends(&inst, &sched),
         bound,
         branched,
         direction,
+        inst,
+        sched,
+        track,
     })
 }

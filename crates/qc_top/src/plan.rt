@@ -1,5 +1,5 @@
 //! The command that plans.
-ghost use Rattle.std.specs.Prelude.{◌≡◌, ◌≤◌, ◌<◌, [], ◌∷◌, IfOk, IfSome, OnOk, OnErr};
+ghost use Rattle.std.specs.Prelude.{◌≡◌, ◌≤◌, ◌<◌, [], ◌∷◌, length, IfOk, IfSome, OnOk, OnErr};
 ghost use Rattle.qc_io.specs.Outside.{Rose, stand_of};
 ghost use Rattle.qc_model.specs.Judge.{IsJudgeable};
 ghost use Rattle.qc_search.specs.Run.{IsSound};
@@ -8,6 +8,7 @@ ghost use Rattle.qc_words.specs.Asked.{asked_for};
 ghost use Rattle.qc_top.specs.Asked.{IsPlanTo};
 ghost use Rattle.qc_gantt.specs.PlanText.{plan_text};
 ghost use Rattle.qc_top.specs.Due.{due, search as searched};
+ghost use Rattle.qc_top.specs.Reports.{CanBeTold};
 ghost use Rattle.qc_top.specs.Account.{ComesTo, IsStored, IsTreeCut, written, plan_texts, IsCutShort, IsWriting};
 ghost use Rattle.qc_top.specs.May.{MayAnswer};
 
@@ -17,6 +18,7 @@ use crate::reading::read_instance;
 use qc_gantt::write_plan;
 use qc_io::{Shelf, WriteFault};
 use qc_model::{Instance, Schedule};
+use qc_motion::Track;
 use qc_num::{OutOfMemory, Steps};
 use qc_search::{Done, Search};
 use qc_words::Request;
@@ -101,16 +103,18 @@ fn store_best<S: Shelf>(
 /// told of it.
 fn plan_instance<S: Shelf, L: Ledger>(
     request: &Request<'_>,
-    inst: &Instance,
+    inst: Instance,
     search: Search,
+    track: Track,
     names: (&str, &str),
     blank: Blank,
     shelf: &mut S,
 ) -> Answer
     requires plan { IsPlanTo (asked_for request.now) names.0.now names.1.now search.nodes }
-    requires same { search.inst ≡ inst.now }
+    requires same { search.inst ≡ inst }
+    requires room { length inst.tasks ≤ track.tasks }
     requires due { ComesTo (due (asked_for request.now)) (asked_for request.now)
-        (S.files shelf.old) (Ok (searched inst.now search.nodes)) }
+        (S.files shelf.old) (Ok (searched inst search.nodes)) }
     requires name { blank.name ≡ L.name }
     requires parts { blank.parts ≡ L.parts }
     requires some { 0 < L.parts }
@@ -118,16 +122,28 @@ fn plan_instance<S: Shelf, L: Ledger>(
         (stand_of S.files S.Sink.faults S.read_faults shelf.old)
         (stand_of S.files S.Sink.faults S.read_faults shelf.new) result }
     ensures may { MayAnswer (asked_for request.now) result }
+    ensures ready { CanBeTold result }
     ensures faults_never_fall { S.Sink.faults shelf.old ≤ S.Sink.faults shelf.new }
     ensures read_faults_never_fall { S.read_faults shelf.old ≤ S.read_faults shelf.new }
 {
     let Ok(done) = store_tree::<S, L>(search, names.1, blank, shelf) else {
         return Answer::WriteFault;
     };
-    match store_best(inst, &done, names.0, shelf) {
-        Ok(()) => answer_of(inst, &done),
+    match store_best(&inst, &done, names.0, shelf) {
+        Ok(()) => answer_of(inst, done, track),
         Err(WriteFault) => Answer::WriteFault,
     }
+}
+
+/// Opens the search, and makes the track for what it finds: all memory is taken before anything is written.
+fn open(alloc: Global, inst: &Instance, nodes: u32) -> Result<(Search, Track), OutOfMemory>
+    requires { nodes ≤ MOST_BRANCHINGS }
+    ensures search { IfOk result (λ opened. opened.0 ≡ record { inst = inst.now; nodes = nodes }) }
+    ensures room { IfOk result (λ opened. opened.1.tasks ≡ length inst.now.tasks) }
+{
+    let track = Track::new(alloc, inst.tasks().len() as u16)?;
+    let search = Search::open(alloc, inst, nodes)?;
+    Ok((search, track))
 }
 
 /// Reads the ship file and the stowage list, searches their instance, and writes the tree and the plan.
@@ -144,6 +160,7 @@ pub(crate) fn plan<S: Shelf>(
         (stand_of S.files S.Sink.faults S.read_faults shelf.old)
         (stand_of S.files S.Sink.faults S.read_faults shelf.new) result }
     ensures may { MayAnswer (asked_for request.now) result }
+    ensures ready { CanBeTold result }
     ensures faults_never_fall { S.Sink.faults shelf.old ≤ S.Sink.faults shelf.new }
     ensures read_faults_never_fall { S.read_faults shelf.old ≤ S.read_faults shelf.new }
 {
@@ -151,11 +168,12 @@ pub(crate) fn plan<S: Shelf>(
         Ok(inst) => inst,
         Err(stop) => return Answer::Stopped(stop),
     };
-    match Search::open(alloc, &inst, nodes) {
-        Ok(search) => plan_instance::<S, Brand>(
+    match open(alloc, &inst, nodes) {
+        Ok((search, track)) => plan_instance::<S, Brand>(
             request,
-            &inst,
+            inst,
             search,
+            track,
             names,
             Blank::new(1),
             shelf,

@@ -3,6 +3,7 @@ ghost use Rattle.std.specs.Prelude.{◌≡◌, ◌≤◌};
 ghost use Rattle.qc_io.specs.Outside.{stand_of};
 ghost use Rattle.qc_words.specs.Asked.{asked_for, KeepsLimits};
 ghost use Rattle.qc_words.specs.Words.{texts};
+ghost use Rattle.qc_top.specs.Reports.{CanBeTold};
 ghost use Rattle.qc_top.specs.Account.{Serves, IsRun, printed_of};
 ghost use Rattle.qc_top.specs.Shown.{TellsTree};
 ghost use Rattle.qc_top.specs.Promises.{Promises};
@@ -27,6 +28,7 @@ fn serve<S: Shelf>(alloc: Global, request: &Request<'_>, shelf: &mut S) -> Answe
     ensures tells { TellsTree (asked_for request.now) (S.files shelf.old) result }
     ensures may { MayAnswer (asked_for request.now) result }
     ensures no_command { request.now ≡ Request.Usage → result ≡ Answer.Stopped (Stop.Refused Refusal.Usage) }
+    ensures ready { CanBeTold result }
     ensures faults_never_fall { S.Sink.faults shelf.old ≤ S.Sink.faults shelf.new }
     ensures read_faults_never_fall { S.read_faults shelf.old ≤ S.read_faults shelf.new }
 {
@@ -71,8 +73,8 @@ pub fn run<S: Shelf, K: Sink>(alloc: Global, words: &[String], shelf: &mut S, ou
     match request_of(alloc, words) {
         Ok(request) => {
             let answer = serve(alloc, &request, shelf);
-            report(&answer, out)
+            report(answer, out)
         }
-        Err(OutOfMemory) => report(&Answer::Stopped(Stop::OutOfMemory), out),
+        Err(OutOfMemory) => report(Answer::Stopped(Stop::OutOfMemory), out),
     }
 }

@@ -1,4 +1,6 @@
-use Rattle.std.proofs.Common.{◌<◌, ◌≡◌, ◌∷◌, [], length, take, Ok, subst, sym, ap, ◌∙◌, rules, arith, length-append, get_or, List, ℕ}
+use Rattle.qc_model.specs.Names.{is_name}
+use Rattle.std.proofs.lemmas.Bool.{cases_lt}
+use Rattle.std.proofs.Common.{IsTrue, inl, inr, ◌^◌, ◌<◌, ◌≡◌, ◌∷◌, [], length, take, Ok, subst, sym, ap, ◌∙◌, rules, arith, length-append, get_or, List, ℕ}
 use Rattle.std.specs.List.{flat_map, zip}
 use Rattle.std.proofs.lemmas.Slice.Zip.{zip_turn, zip_end, get_or-zip, length-zip}
 use Rattle.std.proofs.lemmas.List.{take_all}
@@ -7,8 +9,8 @@ use Rattle.qc_io.proofs.WritesLemmas.{items_more, items_cut}
 use Rattle.qc_model.specs.declared.task.Task.{Task}
 use Rattle.qc_model.specs.declared.schedule.Slot.{Slot}
 use Rattle.qc_model.proofs.OnRail.{ticks_bounded}
-use Rattle.qc_model.specs.Instance.{InstanceView, no_task}
-use Rattle.qc_model.specs.Rules.{no_slot}
+use Rattle.qc_model.specs.Instance.{InstanceView, crane, no_task, task}
+use Rattle.qc_model.specs.Rules.{crane_of, no_slot}
 use Rattle.qc_gantt.specs.PlanText.{plan_line}
 use Rattle.qc_gantt.proofs.writer.put_lines.Goals as goal
 
@@ -26,17 +28,35 @@ loop-task-preserved g c =
     let tasks = c.args.inst.now.tasks in
     let slots = c.args.sched.now in
     let turn = zip_turn tasks slots c.loop-task.yielded _ c.loop-task.task-iterator c.next.new.self c.next.result (search rules) (search rules) c.loop-task.yielded_by (c.in-Some.task, c.in-Some.slot) c.in-Some.is c.next.ensures.steps in
-    subst (λ n. Writes g.K.Sink.written g.K.Sink.beside g.K.Sink.faults c.args.sink.now c.put_line.new.sink
-    (flat_map (λ line. plan_line c.args.inst.now line.0 line.1) (take n (zip tasks slots))) (Ok tt))
-    (sym (length-append c.loop-task.yielded ((c.in-Some.task, c.in-Some.slot) ∷ [])))
-    (items_more g.K.Sink.written g.K.Sink.beside g.K.Sink.faults (λ line. plan_line c.args.inst.now line.0 line.1) (zip tasks slots)
-    (length c.loop-task.yielded) (c.in-Some.task.now, c.in-Some.slot.now) c.args.sink.now c.loop-task.sink c.put_line.new.sink _
-    (omega (arith, length-zip tasks slots, turn.0, turn.1))
-    (line_at c.args.inst.now tasks slots (length c.loop-task.yielded) c.in-Some.task.now c.in-Some.slot.now turn.0 turn.1 (turn.2 _) (turn.3 _))
-    c.loop-task.invariant c.in_ok-put_line.ensures)
+    let n = length c.loop-task.yielded in
+    let more = length-append c.loop-task.yielded ((c.in-Some.task, c.in-Some.slot) ∷ []) in
+    let slot = c.in-Some.slot.now in
+    record {
+      writes = subst (λ n. Writes g.K.Sink.written g.K.Sink.beside g.K.Sink.faults c.args.sink.now c.put_line.new.sink
+          (flat_map (λ line. plan_line c.args.inst.now line.0 line.1) (take n (zip tasks slots))) (Ok tt))
+          (sym (length-append c.loop-task.yielded ((c.in-Some.task, c.in-Some.slot) ∷ [])))
+          (items_more g.K.Sink.written g.K.Sink.beside g.K.Sink.faults (λ line. plan_line c.args.inst.now line.0 line.1) (zip tasks slots)
+          (length c.loop-task.yielded) (c.in-Some.task.now, c.in-Some.slot.now) c.args.sink.now c.loop-task.sink c.put_line.new.sink _
+          (omega (arith, length-zip tasks slots, turn.0, turn.1))
+          (line_at c.args.inst.now tasks slots (length c.loop-task.yielded) c.in-Some.task.now c.in-Some.slot.now turn.0 turn.1 (turn.2 _) (turn.3 _))
+          c.loop-task.invariant.writes c.in_ok-put_line.ensures.writes);
+      hatches = λ j jl. elim (cases_lt j n) [
+        | inl before ↦ c.loop-task.invariant.hatches j before
+        | inr after ↦
+            let same : n ≡ j = omega (arith, more) in
+            subst (λ k. (task c.args.inst.now k).hatch < 2 ^ 16) same (subst (λ (t : Task). t.hatch < 2 ^ 16) (turn.2 no_task) c.in_ok-put_line.ensures.hatch)
+      ];
+      names = λ j jl. elim (cases_lt j n) [
+        | inl before ↦ c.loop-task.invariant.names j before
+        | inr after ↦
+            let same : n ≡ j = omega (arith, more) in
+            subst (λ k. IsTrue (is_name (crane c.args.inst.now (crane_of slots k)).name)) same
+            (subst (λ (s : Slot). IsTrue (is_name (crane c.args.inst.now s.crane).name)) (turn.3 no_slot) c.in_ok-put_line.ensures.name)
+      ];
+    }
 
-pub returns-in_err-put_line : goal.returns-in_err-put_line
-returns-in_err-put_line g c =
+pub returns-in_err-put_line-clause-writes : goal.returns-in_err-put_line-clause-writes
+returns-in_err-put_line-clause-writes g c =
     let tasks = c.args.inst.now.tasks in
     let slots = c.args.sched.now in
     let turn = zip_turn tasks slots c.loop-task.yielded _ c.loop-task.task-iterator c.next.new.self c.next.result (search rules) (search rules) c.loop-task.yielded_by (c.in-Some.task, c.in-Some.slot) c.in-Some.is c.next.ensures.steps in
@@ -45,16 +65,16 @@ returns-in_err-put_line g c =
     _ c.from_residual.result (search rules)
     (omega (arith, length-zip tasks slots, turn.0, turn.1))
     (line_at c.args.inst.now tasks slots (length c.loop-task.yielded) c.in-Some.task.now c.in-Some.slot.now turn.0 turn.1 (turn.2 _) (turn.3 _))
-    c.loop-task.invariant c.in_err-put_line.ensures
+    c.loop-task.invariant.writes c.in_err-put_line.ensures.writes
 
-pub returns : goal.returns
-returns g c =
+pub returns-clause-writes : goal.returns-clause-writes
+returns-clause-writes g c =
     let tasks = c.args.inst.now.tasks in
     let slots = c.args.sched.now in
     let many = zip_end tasks slots c.loop-task.yielded _ c.loop-task.task-iterator c.next.new.self c.next.result (search rules) (search rules) c.loop-task.yielded_by c.in-None.is c.next.ensures.steps in
     subst (λ ls. Writes g.K.Sink.written g.K.Sink.beside g.K.Sink.faults c.args.sink.now c.loop-task.sink
     (flat_map (λ line. plan_line c.args.inst.now line.0 line.1) ls) (Ok tt))
-    (take_all (length c.loop-task.yielded) (zip tasks slots) (omega (arith, length-zip tasks slots, many))) c.loop-task.invariant
+    (take_all (length c.loop-task.yielded) (zip tasks slots) (omega (arith, length-zip tasks slots, many))) c.loop-task.invariant.writes
 
 pub put_line-requires-clause-end : goal.put_line-requires-clause-end
 put_line-requires-clause-end g c =
@@ -63,3 +83,17 @@ put_line-requires-clause-end g c =
     let turn = zip_turn tasks slots c.loop-task.yielded _ c.loop-task.task-iterator c.next.new.self c.next.result (search rules) (search rules) c.loop-task.yielded_by (c.in-Some.task, c.in-Some.slot) c.in-Some.is c.next.ensures.steps in
     let i = length c.loop-task.yielded in
     omega (arith, ap (λ (s : Slot). s.start) (turn.3 no_slot), ap (λ (t : Task). t.ticks) (turn.2 no_task), c.requires.start_range i turn.0, ticks_bounded c.args.inst.now c.tasks.ensures.valid i turn.0)
+
+pub returns-clause-hatches : goal.returns-clause-hatches
+returns-clause-hatches g c = λ j jl.
+    let tasks = c.args.inst.now.tasks in
+    let slots = c.args.sched.now in
+    let many = zip_end tasks slots c.loop-task.yielded _ c.loop-task.task-iterator c.next.new.self c.next.result (search rules) (search rules) c.loop-task.yielded_by c.in-None.is c.next.ensures.steps in
+    c.loop-task.invariant.hatches j (omega (arith, many, c.requires.all_tasks))
+
+pub returns-clause-names : goal.returns-clause-names
+returns-clause-names g c = λ j jl.
+    let tasks = c.args.inst.now.tasks in
+    let slots = c.args.sched.now in
+    let many = zip_end tasks slots c.loop-task.yielded _ c.loop-task.task-iterator c.next.new.self c.next.result (search rules) (search rules) c.loop-task.yielded_by c.in-None.is c.next.ensures.steps in
+    c.loop-task.invariant.names j (omega (arith, many, c.requires.all_tasks))

@@ -4,5 +4,5 @@ use Rattle.qc_top.proofs.answer.put_planned.Goals as goal
 
 pub returns : goal.returns
 returns g c =
-    let text : c.as_bytes.result.now ≡ planned_text c.args.told = search rules in
+    let text : c.as_bytes.result.now ≡ planned_text c.args.told.now = search rules in
     rw text at c.put_all.ensures.writes

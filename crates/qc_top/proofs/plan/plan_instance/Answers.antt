@@ -16,15 +16,15 @@ returns-in_default-clause-serves g c = (
 pub returns-in-Ok-store_best-clause-serves : goal.returns-in-Ok-store_best-clause-serves
 returns-in-Ok-store_best-clause-serves g c =
     let stand = stand_of g.S.Shelf.files g.S.Sink.faults g.S.Shelf.read_faults in
-    writes_told (asked_for c.args.request.now) (stand c.args.shelf.now) (stand c.store_best.new.shelf) c.args.inst.now c.in-Ok.done c.answer_of.result c.answer_of.ensures
+    writes_told (asked_for c.args.request.now) (stand c.args.shelf.now) (stand c.store_best.new.shelf) c.args.inst c.in-Ok.done c.answer_of.result c.answer_of.ensures.tells
     (c.in-Ok-store_best.ensures.ok_faults ∙ c.in-Ok.ensures.ok_faults) (c.store_best.ensures.read_faults ∙ c.store_tree.ensures.read_faults)
     (plan_searched (asked_for c.args.request.now) _ _ c.args.search.nodes c.requires.plan c.args.search.inst _
     (g.S.Shelf.files c.store_tree.new.shelf) (g.S.Shelf.files c.store_best.new.shelf)
     (rw c.requires.same c.requires.due) c.in-Ok.done c.answer_of.result c.in-Ok.ensures.ok
-    (rw c.requires.same c.in-Ok-store_best.ensures.ok) (rw c.requires.same c.answer_of.ensures))
+    (rw c.requires.same c.in-Ok-store_best.ensures.ok) (rw c.requires.same c.answer_of.ensures.tells))
 
-pub returns-clause-serves : goal.returns-clause-serves
-returns-clause-serves g c = (
+pub returns-in-Err-clause-serves : goal.returns-in-Err-clause-serves
+returns-in-Err-clause-serves g c = (
   rw c.in-Ok.ensures.ok_faults at c.in-Err.ensures.err_rose,
   c.store_best.ensures.read_faults ∙ c.store_tree.ensures.read_faults,
   plan_cut (asked_for c.args.request.now) _ _ c.args.search.nodes c.requires.plan c.args.search.inst _

@@ -11,7 +11,7 @@ returns-clause-ok g c =
     let made : g.S.Shelf.made c.create.new.self ≡ Some c.args.name.now = search rules in
     store_ok g.S.Shelf.files g.S.Shelf.made g.S.Shelf.rest g.S.Shelf.reading g.S.Shelf.read_faults g.S.Sink.written g.S.Sink.beside
     shelf.written_is shelf.beside_is c.args.shelf.now c.create.new.self c.write_plan.new.sink c.args.name.now created made g.S.Sink.faults
-    (plan_text c.args.inst.now c.args.sched.now) c.write_plan.result c.write_plan.ensures
+    (plan_text c.args.inst.now c.args.sched.now) c.write_plan.result c.write_plan.ensures.writes
 
 pub returns-clause-err : goal.returns-clause-err
 returns-clause-err g c =
@@ -20,4 +20,4 @@ returns-clause-err g c =
     let made : g.S.Shelf.made c.create.new.self ≡ Some c.args.name.now = search rules in
     store_err g.S.Shelf.files g.S.Shelf.made g.S.Shelf.rest g.S.Shelf.reading g.S.Shelf.read_faults g.S.Sink.written g.S.Sink.beside
     shelf.written_is shelf.beside_is c.args.shelf.now c.create.new.self c.write_plan.new.sink c.args.name.now created made g.S.Sink.faults
-    (plan_text c.args.inst.now c.args.sched.now) c.write_plan.result c.write_plan.ensures
+    (plan_text c.args.inst.now c.args.sched.now) c.write_plan.result c.write_plan.ensures.writes
