@@ -3,12 +3,12 @@ use Rattle.std.proofs.Common.{◌≡◌, ℕ, List, Option, None, Some, Result, 
 use Rattle.std.specs.Prelude.{IfSome, IsSomeAnd, option_and_then}
 use Rattle.std.specs.FinMap.{get}
 use Rattle.qc_io.specs.Outside.{Files, Stand, Rose, ReadCause}
-use Rattle.qc_top.specs.declared.answer.Input.{Input}
-use Rattle.qc_top.specs.declared.answer.Input.TheVariants as input
+use Rattle.qc_words.specs.declared.asked.Input.{Input}
+use Rattle.qc_words.specs.declared.asked.Input.TheVariants as input
 use Rattle.qc_top.specs.declared.answer.Refusal.{Refusal}
 use Rattle.qc_top.specs.declared.answer.Refusal.TheVariants as refusal
 use Rattle.qc_top.specs.declared.answer.Stop.TheVariants as stop
-use Rattle.qc_top.specs.Asked.{Asked, name_of}
+use Rattle.qc_words.specs.Asked.{Asked, name_of}
 use Rattle.qc_top.specs.Due.{Reads, reads_in, without}
 use Rattle.qc_top.specs.Account.{ComesTo, Stops}
 

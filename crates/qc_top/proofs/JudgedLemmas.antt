@@ -15,7 +15,7 @@ use Rattle.qc_model.specs.Rules.{ends}
 use Rattle.qc_replay.specs.declared.fault.Replayed.{Replayed}
 use Rattle.qc_replay.specs.declared.fault.TreeFault.{TreeFault}
 use Rattle.qc_replay.specs.Walk.{tree_in}
-use Rattle.qc_top.specs.declared.answer.Input.TheVariants as input
+use Rattle.qc_words.specs.declared.asked.Input.TheVariants as input
 use Rattle.qc_top.specs.declared.answer.Refusal.{Refusal}
 use Rattle.qc_top.specs.declared.answer.Refusal.TheVariants as refusal
 use Rattle.qc_top.specs.declared.answer.Stop.{Stop}
@@ -24,7 +24,8 @@ use Rattle.qc_top.specs.declared.answer.Answer.{Answer}
 use Rattle.qc_top.specs.declared.answer.Answer.TheVariants as answer
 use Rattle.qc_top.specs.declared.reading.Job.{Job}
 use Rattle.qc_top.specs.declared.status.Status.TheVariants as status
-use Rattle.qc_top.specs.Asked.{Asked, plan, check, check_plan, tasks, unbuilt, usage, IsCheckPlan}
+use Rattle.qc_words.specs.Asked.{Asked, plan, check, tasks, show, make, usage}
+use Rattle.qc_top.specs.Asked.{IsCheckPlan}
 use Rattle.qc_top.specs.Due.{Reads, Work, judge, reads_in, instance_due, schedule_due, job_due, judge_due, tree_due, due}
 use Rattle.qc_top.specs.Answers.{bad_plan_text, compared_status, compared_text, compared_word, refusal_status, status_of}
 use Rattle.qc_top.specs.Reports.{IsPrinted}
@@ -69,12 +70,13 @@ one_job inst other sched slots e = (some_same (ap inst_of (same_ok e)), some_sam
 
 pub comes_judge : (asked : Asked) → IsCheckPlan asked → (files : Option Files) (job : Job) → ComesTo job_due asked files (Ok job)
     → ComesTo (due asked) asked files (Ok (judge job.inst job.sched))
-comes_judge (check_plan s w p t) is None job h = tt
-comes_judge (check_plan s w p t) is (Some held) job h = rw h refl
+comes_judge (check s w (Some p) t) is None job h = tt
+comes_judge (check s w (Some p) t) is (Some held) job h = rw h refl
 comes_judge (plan s w p t n) is files job h = absurd is
-comes_judge (check s w t) is files job h = absurd is
+comes_judge (check s w None t) is files job h = absurd is
 comes_judge (tasks s w) is files job h = absurd is
-comes_judge unbuilt is files job h = absurd is
+comes_judge (show s w p) is files job h = absurd is
+comes_judge (make n hs cs) is files job h = absurd is
 comes_judge usage is files job h = absurd is
 
 -- what a tree's file shows is shown for the instance that is due
@@ -91,29 +93,31 @@ shown_none asked (Some held) job h none = record { inst = job.inst; due = job_in
 -- what an answer tells of the tree's file
 pub tells_held : (asked : Asked) → IsCheckPlan asked → (files : Option Files) (job : Job) (bound : Bound) (told : Compared) → ComesTo job_due asked files (Ok job) → bound ≡ Least told.bound
     → IfSome files (λ held. IsTreeShown job.inst (reads_in held asked).tree bound) → TellsTree asked files (answer.Compared told)
-tells_held (check_plan s w p t) is files job bound told due same shown =
-    shown_bound (check_plan s w p t) files job (Least told.bound) due (subst (λ (b : Bound). IfSome files (λ held. IsTreeShown job.inst (reads_in held (check_plan s w p t)).tree b)) same shown)
+tells_held (check s w (Some p) t) is files job bound told due same shown =
+    shown_bound (check s w (Some p) t) files job (Least told.bound) due (subst (λ (b : Bound). IfSome files (λ held. IsTreeShown job.inst (reads_in held (check s w (Some p) t)).tree b)) same shown)
 tells_held (plan s w p t n) is files job bound told due same shown = absurd is
-tells_held (check s w t) is files job bound told due same shown = absurd is
+tells_held (check s w None t) is files job bound told due same shown = absurd is
 tells_held (tasks s w) is files job bound told due same shown = absurd is
-tells_held unbuilt is files job bound told due same shown = absurd is
+tells_held (show s w p) is files job bound told due same shown = absurd is
+tells_held (make n h c) is files job bound told due same shown = absurd is
 tells_held usage is files job bound told due same shown = absurd is
 
 pub tells_stop : (asked : Asked) → IsCheckPlan asked → (files : Option Files) (why : Stop)
     → ((fault : TreeFault) → why ≡ stop.Refused (refusal.BadTree fault) → IfSome files (λ held. IsNoneShown asked held)) → TellsTree asked files (answer.Stopped why)
-tells_stop (check_plan s w p t) is files stop.OutOfMemory none = tt
-tells_stop (check_plan s w p t) is files (stop.Refused (refusal.BadTree fault)) none = none fault refl
-tells_stop (check_plan s w p t) is files (stop.Refused refusal.Usage) none = tt
-tells_stop (check_plan s w p t) is files (stop.Refused (refusal.ReadFault file)) none = tt
-tells_stop (check_plan s w p t) is files (stop.Refused (refusal.TooLarge file)) none = tt
-tells_stop (check_plan s w p t) is files (stop.Refused (refusal.BadShip fault)) none = tt
-tells_stop (check_plan s w p t) is files (stop.Refused (refusal.BadStow fault)) none = tt
-tells_stop (check_plan s w p t) is files (stop.Refused (refusal.BadPlan fault)) none = tt
-tells_stop (check_plan s w p t) is files (stop.Refused refusal.Unbuilt) none = tt
+tells_stop (check s w (Some p) t) is files stop.OutOfMemory none = tt
+tells_stop (check s w (Some p) t) is files (stop.Refused (refusal.BadTree fault)) none = none fault refl
+tells_stop (check s w (Some p) t) is files (stop.Refused refusal.Usage) none = tt
+tells_stop (check s w (Some p) t) is files (stop.Refused (refusal.ReadFault file)) none = tt
+tells_stop (check s w (Some p) t) is files (stop.Refused (refusal.TooLarge file)) none = tt
+tells_stop (check s w (Some p) t) is files (stop.Refused (refusal.BadShip fault)) none = tt
+tells_stop (check s w (Some p) t) is files (stop.Refused (refusal.BadStow fault)) none = tt
+tells_stop (check s w (Some p) t) is files (stop.Refused (refusal.BadPlan fault)) none = tt
+tells_stop (check s w (Some p) t) is files (stop.Refused refusal.Unbuilt) none = tt
 tells_stop (plan s w p t n) is files why none = absurd is
-tells_stop (check s w t) is files why none = absurd is
+tells_stop (check s w None t) is files why none = absurd is
 tells_stop (tasks s w) is files why none = absurd is
-tells_stop unbuilt is files why none = absurd is
+tells_stop (show s w p) is files why none = absurd is
+tells_stop (make n h c) is files why none = absurd is
 tells_stop usage is files why none = absurd is
 
 -- ---- a tree's file is refused for itself alone
@@ -132,7 +136,7 @@ tree_refusal inst (Some bytes) = by (tree_in inst bytes)
 
 module _ (s w p t : List ℕ) (before after : Stand) (pb pa : Printed) where
   abbrev asked : Asked
-  asked = check_plan s w p t
+  asked = check s w (Some p) t
 
   abbrev told_plan : (held : Files) (told : Compared) (first : List ℕ) → IsCompared asked (Some held) told → IsBoundShown asked held (Least told.bound)
       → pa.bytes ≡ append_known pb.bytes (compared_text told) → compared_word told ≡ first → IsComparedTold asked held pb pa first

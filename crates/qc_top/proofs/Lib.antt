@@ -2,7 +2,6 @@ pub mod StepLemmas
 pub mod ServeLemmas
 pub mod ReportLemmas
 pub mod RunLemmas
-pub mod WordLemmas
 pub mod DueLemmas
 pub mod FoundLemmas
 pub mod JudgedLemmas

@@ -1,6 +1,6 @@
 -- What follows from a run's account of itself.
 use Rattle.std.proofs.Common.{◌≡◌, ◌≢◌, ◌≤◌, ℕ, subst₂, List, [], ◌∷◌, Option, None, Some, Result, Ok, Err, refl, sym, ap, ◌∙◌, subst, inl, inr, ◌⊎◌}
-use Rattle.std.specs.Prelude.{IfSome, true, false}
+use Rattle.std.specs.Prelude.{IfSome, codes, true, false}
 use Rattle.std.specs.FinMap.{insert}
 use Rattle.std.specs.Io.KnownBytes.{append_known}
 use Rattle.qc_num.specs.declared.bound.Bound.TheVariants.{Least, Never}
@@ -16,12 +16,15 @@ use Rattle.qc_top.specs.declared.answer.Answer.{Answer}
 use Rattle.qc_top.specs.declared.answer.Answer.TheVariants as answer
 use Rattle.qc_top.specs.declared.status.Status.{Status}
 use Rattle.qc_top.specs.declared.status.Status.TheVariants as status
-use Rattle.qc_top.specs.Asked.{Asked, plan, check, check_plan, tasks, unbuilt, usage, IsPlan, nodes_of}
-use Rattle.qc_top.specs.Words.{Asks}
+use Rattle.qc_words.specs.Asked.{Asked, plan, check, tasks, show, make, usage}
+use Rattle.qc_words.specs.Commands.{named}
+use Rattle.qc_words.specs.Words.{Asks}
+use Rattle.qc_words.proofs.PlainWords.{canonical_asked}
+use Rattle.qc_top.specs.Asked.{IsPlan, IsUnbuilt, nodes_of}
 use Rattle.qc_top.specs.Due.{Work, Reads, print, search, judge, reads_in, instance_due, tree_due, due}
 use Rattle.qc_top.specs.Answers.{status_of, report_text, ending_of}
 use Rattle.qc_top.specs.Reports.{IsPrinted}
-use Rattle.qc_top.specs.Account.{ComesTo, Stops, IsSearched, IsStopped, IsWriting, Named, written, texts_of, IsCutShort, Serves, Printed, IsRun}
+use Rattle.qc_top.specs.Account.{ComesTo, Stops, IsSearched, IsStopped, IsWriting, Named, written, texts_of, IsCutShort, IsTurnedAway, Serves, Printed, IsRun}
 use Rattle.qc_top.proofs.FoundLemmas.{plan_ends, search_end, no_refusal, ends_in_time, ends_late, kind_told, word_told, kind_none, is_best, none_goes}
 use Rattle.qc_top.proofs.DueLemmas.{comes_due, stop_is}
 use Rattle.qc_top.proofs.JudgedLemmas.{bad_plan_told, best_told, broken_told, early_due, judged_due, no_plan_tree, only_judge, weaker_told}
@@ -55,10 +58,11 @@ nodes_in _ = 0
 planned_nodes : (asked : Asked) → IsPlan asked → (reads : Reads) (inst : InstanceView) (nodes : ℕ) → due asked reads ≡ Ok (search inst nodes) → nodes ≡ nodes_of asked
 planned_nodes (plan s w p t n) is reads inst nodes e =
     let (i, at, same) = bind_ok (instance_due reads) (λ i. Ok (search i n)) (search inst nodes) e in sym (ap nodes_in same)
-planned_nodes (check s w t) is reads inst nodes e = absurd is
-planned_nodes (check_plan s w p t) is reads inst nodes e = absurd is
+planned_nodes (check s w None t) is reads inst nodes e = absurd is
+planned_nodes (check s w (Some p) t) is reads inst nodes e = absurd is
 planned_nodes (tasks s w) is reads inst nodes e = absurd is
-planned_nodes unbuilt is reads inst nodes e = absurd is
+planned_nodes (show s w p) is reads inst nodes e = absurd is
+planned_nodes (make n h c) is reads inst nodes e = absurd is
 planned_nodes usage is reads inst nodes e = absurd is
 
 -- a search that ended with Budget hadn't as many branchings as decide
@@ -70,6 +74,43 @@ undecided asked held a now h budget inst nodes due_is enough =
     (subst₂ (λ (i : InstanceView) (n : ℕ). branching_limit i ≤ n) (sym (ap (inst_in inst) same)) (sym (ap nodes_in same)) enough)
     budget
 
+-- a request that is turned away comes to nothing else
+abbrev IsStop : Answer → Type 0
+IsStop (answer.Stopped why) = Unit {0}
+IsStop _ = ⊥
+
+turned_away : (before after : Stand) (why : Refusal) (a : Answer) → IsTurnedAway why before after a → IsStop a
+turned_away before after why a away = elim away.0 [ inl is ↦ subst IsStop (sym is) tt | inr is ↦ subst IsStop (sym is) tt ]
+
+unbuilt_away : (before after : Stand) (asked : Asked) → IsUnbuilt asked → (a : Answer) → Serves asked before after a
+    → (a ≡ answer.Stopped (stop.Refused refusal.Unbuilt)) ⊎ (a ≡ answer.Stopped stop.OutOfMemory)
+unbuilt_away before after (show s w p) is a serves = serves.0
+unbuilt_away before after (make n h c) is a serves = serves.0
+unbuilt_away before after (plan s w p t n) is a serves = absurd is
+unbuilt_away before after (check s w None t) is a serves = absurd is
+unbuilt_away before after (check s w (Some p) t) is a serves = absurd is
+unbuilt_away before after (tasks s w) is a serves = absurd is
+unbuilt_away before after usage is a serves = absurd is
+
+-- a request for whose words memory is wanting is served so, and nothing is told of its tree
+pub wanting_serves : (asked : Asked) (stand : Stand) → Serves asked stand stand (answer.Stopped stop.OutOfMemory)
+wanting_serves (plan s w p t n) stand = (refl, refl, refl)
+wanting_serves (check s w None t) stand = record { ending = refl; files = refl; faults = refl }
+wanting_serves (check s w (Some p) t) stand = record { ending = inl refl; files = refl; faults = refl }
+wanting_serves (tasks s w) stand = record { ending = refl; files = refl; faults = refl }
+wanting_serves (show s w p) stand = (inr refl, refl)
+wanting_serves (make n h c) stand = (inr refl, refl)
+wanting_serves usage stand = (inr refl, refl)
+
+pub wanting_tells : (asked : Asked) (files : Option Files) → TellsTree asked files (answer.Stopped stop.OutOfMemory)
+wanting_tells (plan s w p t n) files = tt
+wanting_tells (check s w None t) files = tt
+wanting_tells (check s w (Some p) t) files = tt
+wanting_tells (tasks s w) files = tt
+wanting_tells (show s w p) files = tt
+wanting_tells (make n h c) files = tt
+wanting_tells usage files = tt
+
 module _ (words : List (List ℕ)) (before after : Stand) (pb pa : Printed) (ended : Status) (run : IsRun words before after pb pa ended) (tells : TellsTree run.asked before.files run.answer) where
   -- the words ask for one thing
   asked_is : (asked : Asked) → Asks words asked → Serves asked before after run.answer
@@ -78,10 +119,11 @@ module _ (words : List (List ℕ)) (before after : Stand) (pb pa : Printed) (end
   -- what an answer to a plan tells
   plan_is : (asked : Asked) (a : Answer) → IsPlan asked → Serves asked before after a → IsWriting asked before after a
   plan_is (plan s w p t n) a is serves = serves
-  plan_is (check s w t) a is serves = absurd is
-  plan_is (check_plan s w p t) a is serves = absurd is
+  plan_is (check s w None t) a is serves = absurd is
+  plan_is (check s w (Some p) t) a is serves = absurd is
   plan_is (tasks s w) a is serves = absurd is
-  plan_is unbuilt a is serves = absurd is
+  plan_is (show s w p) a is serves = absurd is
+  plan_is (make n h c) a is serves = absurd is
   plan_is usage a is serves = absurd is
 
   module _ (asked : Asked) where
@@ -264,10 +306,10 @@ module _ (words : List (List ℕ)) (before after : Stand) (pb pa : Printed) (end
   tree_is : (asked : Asked) → Asks words asked → TellsTree asked before.files run.answer
   tree_is asked asks = subst (λ a. TellsTree a before.files run.answer) (sym run.asks ∙ asks) tells
 
-  end_told : (ship stow tree : List ℕ) (a : Answer) → TellsTree (check ship stow tree) before.files a → status_of a ≡ status.Done → IsPrinted a pb.bytes pa.bytes
-      → IfSome before.files (λ held. IsEndTold (check ship stow tree) held pb pa)
+  end_told : (ship stow tree : List ℕ) (a : Answer) → TellsTree (check ship stow None tree) before.files a → status_of a ≡ status.Done → IsPrinted a pb.bytes pa.bytes
+      → IfSome before.files (λ held. IsEndTold (check ship stow None tree) held pb pa)
   end_told ship stow tree (answer.Checked (Least end)) shown e report = told before.files shown where
-    told : (files : Option Files) → IfSome files (λ held. IsBoundShown (check ship stow tree) held (Least end)) → IfSome files (λ held. IsEndTold (check ship stow tree) held pb pa)
+    told : (files : Option Files) → IfSome files (λ held. IsBoundShown (check ship stow None tree) held (Least end)) → IfSome files (λ held. IsEndTold (check ship stow None tree) held pb pa)
     told None h = tt
     told (Some held) h = record { end = end; shown = h; report = report }
   end_told ship stow tree (answer.Checked Never) shown e report = absurd (cc e)
@@ -281,17 +323,17 @@ module _ (words : List (List ℕ)) (before after : Stand) (pb pa : Printed) (end
   end_told ship stow tree (answer.Broken broken) shown e report = absurd shown
   end_told ship stow tree (answer.Compared compared) shown e report = absurd shown
 
-  check_done : (ship stow tree : List ℕ) → Asks words (check ship stow tree) → ended ≡ status.Done
-      → IfSome before.files (λ held. IsEndTold (check ship stow tree) held pb pa)
+  check_done : (ship stow tree : List ℕ) → Asks words (check ship stow None tree) → ended ≡ status.Done
+      → IfSome before.files (λ held. IsEndTold (check ship stow None tree) held pb pa)
   check_done ship stow tree asks e = elim run.reports [
-    | inl whole ↦ end_told ship stow tree run.answer (tree_is (check ship stow tree) asks) (sym whole.status ∙ e) whole.printed
+    | inl whole ↦ end_told ship stow tree run.answer (tree_is (check ship stow None tree) asks) (sym whole.status ∙ e) whole.printed
     | inr cut ↦ absurd (cc (cut.status, e))
   ]
 
-  none_told : (ship stow tree : List ℕ) (a : Answer) → TellsTree (check ship stow tree) before.files a → status_of a ≡ status.Infeasible → IsPrinted a pb.bytes pa.bytes
-      → IfSome before.files (λ held. IsNoneTold (check ship stow tree) held pb pa)
+  none_told : (ship stow tree : List ℕ) (a : Answer) → TellsTree (check ship stow None tree) before.files a → status_of a ≡ status.Infeasible → IsPrinted a pb.bytes pa.bytes
+      → IfSome before.files (λ held. IsNoneTold (check ship stow None tree) held pb pa)
   none_told ship stow tree (answer.Checked Never) shown e report = told before.files shown where
-    told : (files : Option Files) → IfSome files (λ held. IsBoundShown (check ship stow tree) held Never) → IfSome files (λ held. IsNoneTold (check ship stow tree) held pb pa)
+    told : (files : Option Files) → IfSome files (λ held. IsBoundShown (check ship stow None tree) held Never) → IfSome files (λ held. IsNoneTold (check ship stow None tree) held pb pa)
     told None h = tt
     told (Some held) h = record { shown = h; report = report }
   none_told ship stow tree (answer.Checked (Least end)) shown e report = absurd (cc e)
@@ -305,15 +347,15 @@ module _ (words : List (List ℕ)) (before after : Stand) (pb pa : Printed) (end
   none_told ship stow tree (answer.Broken broken) shown e report = absurd shown
   none_told ship stow tree (answer.Compared compared) shown e report = absurd shown
 
-  check_infeasible : (ship stow tree : List ℕ) → Asks words (check ship stow tree) → ended ≡ status.Infeasible
-      → IfSome before.files (λ held. IsNoneTold (check ship stow tree) held pb pa)
+  check_infeasible : (ship stow tree : List ℕ) → Asks words (check ship stow None tree) → ended ≡ status.Infeasible
+      → IfSome before.files (λ held. IsNoneTold (check ship stow None tree) held pb pa)
   check_infeasible ship stow tree asks e = elim run.reports [
-    | inl whole ↦ none_told ship stow tree run.answer (tree_is (check ship stow tree) asks) (sym whole.status ∙ e) whole.printed
+    | inl whole ↦ none_told ship stow tree run.answer (tree_is (check ship stow None tree) asks) (sym whole.status ∙ e) whole.printed
     | inr cut ↦ absurd (cc (cut.status, e))
   ]
 
-  no_tree_told : (ship stow tree : List ℕ) (a : Answer) → TellsTree (check ship stow tree) before.files a → status_of a ≡ status.BadTree
-      → IfSome before.files (λ held. IsNoneShown (check ship stow tree) held)
+  no_tree_told : (ship stow tree : List ℕ) (a : Answer) → TellsTree (check ship stow None tree) before.files a → status_of a ≡ status.BadTree
+      → IfSome before.files (λ held. IsNoneShown (check ship stow None tree) held)
   no_tree_told ship stow tree (answer.Stopped (stop.Refused (refusal.BadTree fault))) none e = none
   no_tree_told ship stow tree (answer.Stopped (stop.Refused refusal.Usage)) none e = absurd (cc e)
   no_tree_told ship stow tree (answer.Stopped (stop.Refused (refusal.ReadFault file))) none e = absurd (cc e)
@@ -333,53 +375,53 @@ module _ (words : List (List ℕ)) (before after : Stand) (pb pa : Printed) (end
   no_tree_told ship stow tree (answer.Broken broken) none e = absurd none
   no_tree_told ship stow tree (answer.Compared compared) none e = absurd none
 
-  check_bad_tree : (ship stow tree : List ℕ) → Asks words (check ship stow tree) → ended ≡ status.BadTree → IfSome before.files (λ held. IsNoneShown (check ship stow tree) held)
+  check_bad_tree : (ship stow tree : List ℕ) → Asks words (check ship stow None tree) → ended ≡ status.BadTree → IfSome before.files (λ held. IsNoneShown (check ship stow None tree) held)
   check_bad_tree ship stow tree asks e = elim run.reports [
-    | inl whole ↦ no_tree_told ship stow tree run.answer (tree_is (check ship stow tree) asks) (sym whole.status ∙ e)
+    | inl whole ↦ no_tree_told ship stow tree run.answer (tree_is (check ship stow None tree) asks) (sym whole.status ∙ e)
     | inr cut ↦ absurd (cc (cut.status, e))
   ]
 
   -- a check of a plan
-  module _ (s w p t : List ℕ) (asks : Asks words (check_plan s w p t)) where
-    check_optimal : ended ≡ status.Optimal → IfSome before.files (λ held. IsBestTold (check_plan s w p t) held pb pa)
+  module _ (s w p t : List ℕ) (asks : Asks words (check s w (Some p) t)) where
+    check_optimal : ended ≡ status.Optimal → IfSome before.files (λ held. IsBestTold (check s w (Some p) t) held pb pa)
     check_optimal e = elim run.reports [
-      | inl whole ↦ best_told s w p t before after pb pa run.answer (asked_is (check_plan s w p t) asks) (tree_is (check_plan s w p t) asks) (sym whole.status ∙ e) whole.printed
+      | inl whole ↦ best_told s w p t before after pb pa run.answer (asked_is (check s w (Some p) t) asks) (tree_is (check s w (Some p) t) asks) (sym whole.status ∙ e) whole.printed
       | inr cut ↦ absurd (cc (cut.status, e))
     ]
 
-    check_weaker : ended ≡ status.Weaker → IfSome before.files (λ held. IsWeakerTold (check_plan s w p t) held pb pa)
+    check_weaker : ended ≡ status.Weaker → IfSome before.files (λ held. IsWeakerTold (check s w (Some p) t) held pb pa)
     check_weaker e = elim run.reports [
-      | inl whole ↦ weaker_told s w p t before after pb pa run.answer (asked_is (check_plan s w p t) asks) (tree_is (check_plan s w p t) asks) (sym whole.status ∙ e) whole.printed
+      | inl whole ↦ weaker_told s w p t before after pb pa run.answer (asked_is (check s w (Some p) t) asks) (tree_is (check s w (Some p) t) asks) (sym whole.status ∙ e) whole.printed
       | inr cut ↦ absurd (cc (cut.status, e))
     ]
 
-    check_broken : ended ≡ status.Broken → IfSome before.files (λ held. IsBrokenTold (check_plan s w p t) held pb pa)
+    check_broken : ended ≡ status.Broken → IfSome before.files (λ held. IsBrokenTold (check s w (Some p) t) held pb pa)
     check_broken e = elim run.reports [
-      | inl whole ↦ broken_told s w p t before after pb pa run.answer (asked_is (check_plan s w p t) asks) (sym whole.status ∙ e) whole.printed
+      | inl whole ↦ broken_told s w p t before after pb pa run.answer (asked_is (check s w (Some p) t) asks) (sym whole.status ∙ e) whole.printed
       | inr cut ↦ absurd (cc (cut.status, e))
     ]
 
-    check_bad_plan : ended ≡ status.BadPlan → IfSome before.files (λ held. IsBadPlanTold (check_plan s w p t) held pb pa)
+    check_bad_plan : ended ≡ status.BadPlan → IfSome before.files (λ held. IsBadPlanTold (check s w (Some p) t) held pb pa)
     check_bad_plan e = elim run.reports [
-      | inl whole ↦ bad_plan_told s w p t before after pb pa run.answer (asked_is (check_plan s w p t) asks) (sym whole.status ∙ e) whole.printed
+      | inl whole ↦ bad_plan_told s w p t before after pb pa run.answer (asked_is (check s w (Some p) t) asks) (sym whole.status ∙ e) whole.printed
       | inr cut ↦ absurd (cc (cut.status, e))
     ]
 
-    check_plan_bad_tree : ended ≡ status.BadTree → IfSome before.files (λ held. IsNoneShown (check_plan s w p t) held)
+    check_plan_bad_tree : ended ≡ status.BadTree → IfSome before.files (λ held. IsNoneShown (check s w (Some p) t) held)
     check_plan_bad_tree e = elim run.reports [
-      | inl whole ↦ no_plan_tree s w p t before after pb pa run.answer (tree_is (check_plan s w p t) asks) (sym whole.status ∙ e)
+      | inl whole ↦ no_plan_tree s w p t before after pb pa run.answer (tree_is (check s w (Some p) t) asks) (sym whole.status ∙ e)
       | inr cut ↦ absurd (cc (cut.status, e))
     ]
 
     check_complete : NoneFailed before after pb pa → (files : Option Files) → before.files ≡ files
         → IfSome files (λ held. (inst : InstanceView) (sched : List Slot)
-        → due (check_plan s w p t) (reads_in held (check_plan s w p t)) ≡ Ok (judge inst sched)
-        → EndsJudged inst sched (tree_due inst (reads_in held (check_plan s w p t))) ended ⊎ (ended ≡ status.OutOfMemory))
+        → due (check s w (Some p) t) (reads_in held (check s w (Some p) t)) ≡ Ok (judge inst sched)
+        → EndsJudged inst sched (tree_due inst (reads_in held (check s w (Some p) t))) ended ⊎ (ended ≡ status.OutOfMemory))
     check_complete none None told = tt
     check_complete none (Some held) told = λ inst sched is. elim run.reports [
       | inl whole ↦
-          subst (λ st. EndsJudged inst sched (tree_due inst (reads_in held (check_plan s w p t))) st ⊎ (st ≡ status.OutOfMemory)) (sym whole.status)
-          (judged_due s w p t before after pb pa none.reading held told inst sched is run.answer (asked_is (check_plan s w p t) asks))
+          subst (λ st. EndsJudged inst sched (tree_due inst (reads_in held (check s w (Some p) t))) st ⊎ (st ≡ status.OutOfMemory)) (sym whole.status)
+          (judged_due s w p t before after pb pa none.reading held told inst sched is run.answer (asked_is (check s w (Some p) t) asks))
       | inr cut ↦ absurd (none.printing cut.rose)
     ]
 
@@ -408,10 +450,11 @@ module _ (words : List (List ℕ)) (before after : Stand) (pb pa : Printed) (end
   files_stay asked asks never = by asked (asked_is asked asks) never where
     by : (asked : Asked) → Serves asked before after run.answer → ¬ IsPlan asked → after.files ≡ before.files
     by (plan s w p t n) serves never = absurd (never tt)
-    by (check s w t) serves never = serves.files
-    by (check_plan s w p t) serves never = serves.files
+    by (check s w None t) serves never = serves.files
+    by (check s w (Some p) t) serves never = serves.files
     by (tasks s w) serves never = serves.files
-    by unbuilt serves never = ap (λ (s : Stand). s.files) serves.1
+    by (show s w p) serves never = ap (λ (s : Stand). s.files) serves.1
+    by (make n h c) serves never = ap (λ (s : Stand). s.files) serves.1
     by usage serves never = ap (λ (s : Stand). s.files) serves.1
 
   plan_stays : (asked : Asked) → IsPlan asked → (a : Answer) → Serves asked before after a → ¬ IsSearchEnd (status_of a) → status_of a ≢ status.WriteFault → after.files ≡ before.files
@@ -424,10 +467,11 @@ module _ (words : List (List ℕ)) (before after : Stand) (pb pa : Printed) (end
   plan_stays (plan s w p t n) is (answer.Checked bound) serves one two = absurd serves
   plan_stays (plan s w p t n) is (answer.Broken broken) serves one two = absurd serves
   plan_stays (plan s w p t n) is (answer.Compared compared) serves one two = absurd serves
-  plan_stays (check s w t) is a serves one two = absurd is
-  plan_stays (check_plan s w p t) is a serves one two = absurd is
+  plan_stays (check s w None t) is a serves one two = absurd is
+  plan_stays (check s w (Some p) t) is a serves one two = absurd is
   plan_stays (tasks s w) is a serves one two = absurd is
-  plan_stays unbuilt is a serves one two = absurd is
+  plan_stays (show s w p) is a serves one two = absurd is
+  plan_stays (make n h c) is a serves one two = absurd is
   plan_stays usage is a serves one two = absurd is
 
   plan_leaves : (asked : Asked) → Asks words asked → IsPlan asked → ¬ IsSearchEnd ended → ended ≢ status.WriteFault → after.files ≡ before.files
@@ -478,10 +522,11 @@ module _ (words : List (List ℕ)) (before after : Stand) (pb pa : Printed) (end
   plan_stopped asked asks is e = by asked is (asked_is asked asks) where
     by : (asked : Asked) → IsPlan asked → Serves asked before after run.answer → IfSome before.files (λ held. (after.files ≡ Some held) ⊎ IsStopped asked held after.files)
     by (plan s w p t n) is serves = left s w p t n run.answer serves
-    by (check s w t) is serves = absurd is
-    by (check_plan s w p t) is serves = absurd is
+    by (check s w None t) is serves = absurd is
+    by (check s w (Some p) t) is serves = absurd is
     by (tasks s w) is serves = absurd is
-    by unbuilt is serves = absurd is
+    by (show s w p) is serves = absurd is
+    by (make n h c) is serves = absurd is
     by usage is serves = absurd is
 
   -- a write fault that isn't the sink's is one of the shelf, on the way of a plan
@@ -497,11 +542,12 @@ module _ (words : List (List ℕ)) (before after : Stand) (pb pa : Printed) (end
   write_answer asked (answer.Checked (Least end)) serves e = absurd (cc e)
   write_answer asked (answer.Checked Never) serves e = absurd (cc e)
   write_answer (plan s w p t n) answer.WriteFault serves e = (tt, serves.0, refl)
-  write_answer (check s w t) answer.WriteFault serves e = absurd serves.ending
-  write_answer (check_plan s w p t) answer.WriteFault serves e = absurd serves.ending
+  write_answer (check s w None t) answer.WriteFault serves e = absurd serves.ending
+  write_answer (check s w (Some p) t) answer.WriteFault serves e = absurd serves.ending
   write_answer (tasks s w) answer.WriteFault serves e = absurd serves.ending
-  write_answer unbuilt answer.WriteFault serves e = absurd (cc serves.0)
-  write_answer usage answer.WriteFault serves e = absurd (cc serves.0)
+  write_answer (show s w p) answer.WriteFault serves e = absurd (turned_away before after refusal.Unbuilt answer.WriteFault serves)
+  write_answer (make n h c) answer.WriteFault serves e = absurd (turned_away before after refusal.Unbuilt answer.WriteFault serves)
+  write_answer usage answer.WriteFault serves e = absurd (turned_away before after refusal.Usage answer.WriteFault serves)
 
   write_fault : (asked : Asked) → Asks words asked → ended ≡ status.WriteFault → IsCutTold asked before after pb pa ⊎ IsStopTold asked before after pb pa
   write_fault asked asks e = elim run.reports [
@@ -537,10 +583,11 @@ module _ (words : List (List ℕ)) (before after : Stand) (pb pa : Printed) (end
   usage_asked asked (answer.Checked Never) serves e = absurd (cc e)
   usage_asked asked answer.WriteFault serves e = absurd (cc e)
   usage_asked (plan s w p t n) (answer.Stopped (stop.Refused refusal.Usage)) serves e = absurd serves.0
-  usage_asked (check s w t) (answer.Stopped (stop.Refused refusal.Usage)) serves e = absurd serves.ending
-  usage_asked (check_plan s w p t) (answer.Stopped (stop.Refused refusal.Usage)) serves e = elim serves.ending [ inl early ↦ absurd early | inr late ↦ absurd late.tree ]
+  usage_asked (check s w None t) (answer.Stopped (stop.Refused refusal.Usage)) serves e = absurd serves.ending
+  usage_asked (check s w (Some p) t) (answer.Stopped (stop.Refused refusal.Usage)) serves e = elim serves.ending [ inl early ↦ absurd early | inr late ↦ absurd late.tree ]
   usage_asked (tasks s w) (answer.Stopped (stop.Refused refusal.Usage)) serves e = absurd serves.ending
-  usage_asked unbuilt (answer.Stopped (stop.Refused refusal.Usage)) serves e = absurd (cc serves.0)
+  usage_asked (show s w p) (answer.Stopped (stop.Refused refusal.Usage)) serves e = elim serves.0 [ inl is ↦ absurd (cc is) | inr is ↦ absurd (cc is) ]
+  usage_asked (make n h c) (answer.Stopped (stop.Refused refusal.Usage)) serves e = elim serves.0 [ inl is ↦ absurd (cc is) | inr is ↦ absurd (cc is) ]
   usage_asked usage (answer.Stopped (stop.Refused refusal.Usage)) serves e = refl
 
   usage_words : ended ≡ status.Usage → Asks words usage
@@ -549,16 +596,39 @@ module _ (words : List (List ℕ)) (before after : Stand) (pb pa : Printed) (end
     | inr cut ↦ absurd (cc (cut.status, e))
   ]
 
-  not_built : Asks words unbuilt → EndsWith status.Unbuilt pb pa ended
-  not_built asks = elim run.reports [
-    | inl whole ↦ inl (whole.status ∙ ap status_of (asked_is unbuilt asks).0)
+  not_built : (asked : Asked) → Asks words asked → IsUnbuilt asked → EndsWith status.Unbuilt pb pa ended ⊎ (ended ≡ status.OutOfMemory)
+  not_built asked asks is = elim run.reports [
+    | inl whole ↦ elim (unbuilt_away before after asked is run.answer (asked_is asked asks)) [
+      | inl refused ↦ inl (inl (whole.status ∙ ap status_of refused))
+      | inr wanting ↦ inr (whole.status ∙ ap status_of wanting)
+    ]
+    | inr cut ↦ inl (inr (cut.status, cut.rose))
+  ]
+
+  no_command : named words ≡ None → EndsWith status.Usage pb pa ended
+  no_command none = elim run.reports [
+    | inl whole ↦ inl (whole.status ∙ ap status_of (run.unnamed none))
     | inr cut ↦ inr (cut.status, cut.rose)
   ]
 
-  no_command : Asks words usage → EndsWith status.Usage pb pa ended
-  no_command asks = elim run.reports [
-    | inl whole ↦ inl (whole.status ∙ ap status_of (asked_is usage asks).0)
-    | inr cut ↦ inr (cut.status, cut.rose)
+  -- only want of memory ends with its status
+  memory_report : (a : Answer) → status_of a ≡ status.OutOfMemory → IsPrinted a pb.bytes pa.bytes → pa.bytes ≡ append_known pb.bytes (codes "OutOfMemory\n")
+  memory_report (answer.Stopped stop.OutOfMemory) e report = report
+  memory_report (answer.Stopped (stop.Refused why)) e report = absurd (not_other why status.OutOfMemory e)
+  memory_report answer.WriteFault e report = absurd (cc e)
+  memory_report (answer.Tasks inst) e report = absurd (cc e)
+  memory_report (answer.Checked (Least end)) e report = absurd (cc e)
+  memory_report (answer.Checked Never) e report = absurd (cc e)
+  memory_report (answer.Broken broken) e report = absurd (cc e)
+  memory_report (answer.Compared compared) e report = absurd (compared_ends compared status.OutOfMemory e)
+  memory_report (answer.Planned made) e report = absurd (plan_ends made status.OutOfMemory e)
+  memory_report (answer.Unplanned bound branched) e report = absurd (cc e)
+  memory_report (answer.Infeasible branched) e report = absurd (cc e)
+
+  out_of_memory : ended ≡ status.OutOfMemory → pa.bytes ≡ append_known pb.bytes (codes "OutOfMemory\n")
+  out_of_memory e = elim run.reports [
+    | inl whole ↦ memory_report run.answer (sym whole.status ∙ e) whole.printed
+    | inr cut ↦ absurd (cc (cut.status, e))
   ]
 
   -- what is due of the files comes where no call failed
@@ -572,12 +642,15 @@ module _ (words : List (List ℕ)) (before after : Stand) (pb pa : Printed) (end
     stop_due asked held told (stop.Refused why) h = inl (as_due _ _ _ (stop_is (due asked) asked before after held told none.reading why h) refl)
 
     -- a check of a plan, up to the judging of its schedule
-    judged_plan : (s w p t : List ℕ) (held : Files) → before.files ≡ Some held → (a : Answer) → Serves (check_plan s w p t) before after a → (d : Result Work Refusal)
-        → due (check_plan s w p t) (reads_in held (check_plan s w p t)) ≡ d → EndsAsDue d (status_of a) ⊎ (status_of a ≡ status.OutOfMemory)
+    judged_plan : (s w p t : List ℕ) (held : Files) → before.files ≡ Some held → (a : Answer) → Serves (check s w (Some p) t) before after a → (d : Result Work Refusal)
+        → due (check s w (Some p) t) (reads_in held (check s w (Some p) t)) ≡ d → EndsAsDue d (status_of a) ⊎ (status_of a ≡ status.OutOfMemory)
     judged_plan s w p t held told a serves (Ok (judge inst sched)) is = inl tt
-    judged_plan s w p t held told a serves (Ok (print ending)) is = absurd (only_judge (reads_in held (check_plan s w p t)) (print ending) is)
-    judged_plan s w p t held told a serves (Ok (search inst nodes)) is = absurd (only_judge (reads_in held (check_plan s w p t)) (search inst nodes) is)
+    judged_plan s w p t held told a serves (Ok (print ending)) is = absurd (only_judge (reads_in held (check s w (Some p) t)) (print ending) is)
+    judged_plan s w p t held told a serves (Ok (search inst nodes)) is = absurd (only_judge (reads_in held (check s w (Some p) t)) (search inst nodes) is)
     judged_plan s w p t held told a serves (Err why) is = early_due s w p t before after pb pa none.reading held told why is a serves
+
+    away_due : (why : Refusal) (a : Answer) → IsTurnedAway why before after a → EndsAsDue (Err why) (status_of a) ⊎ (status_of a ≡ status.OutOfMemory)
+    away_due why a away = elim away.0 [ inl is ↦ inl (ap status_of is) | inr is ↦ inr (ap status_of is) ]
 
     answer_due : (asked : Asked) (held : Files) → before.files ≡ Some held → (a : Answer) → Serves asked before after a
         → EndsAsDue (due asked (reads_in held asked)) (status_of a) ⊎ (status_of a ≡ status.OutOfMemory)
@@ -593,16 +666,16 @@ module _ (words : List (List ℕ)) (before after : Stand) (pb pa : Printed) (end
     answer_due (plan s w p t n) held told (answer.Checked bound) serves = absurd serves
     answer_due (plan s w p t n) held told (answer.Broken broken) serves = absurd serves
     answer_due (plan s w p t n) held told (answer.Compared compared) serves = absurd serves
-    answer_due (check s w t) held told (answer.Stopped why) serves = stop_due (check s w t) held told why serves.ending
-    answer_due (check s w t) held told answer.WriteFault serves = absurd serves.ending
-    answer_due (check s w t) held told (answer.Tasks inst) serves = inl (as_due _ _ _ (comes_due (due (check s w t)) (check s w t) held before.files told (Ok (print (ending_of (answer.Tasks inst)))) serves.ending.1) refl)
-    answer_due (check s w t) held told (answer.Checked bound) serves = inl (as_due _ _ _ (comes_due (due (check s w t)) (check s w t) held before.files told (Ok (print (ending_of (answer.Checked bound)))) serves.ending.1) refl)
-    answer_due (check s w t) held told (answer.Planned made) serves = absurd serves.ending
-    answer_due (check s w t) held told (answer.Unplanned bound branched) serves = absurd serves.ending
-    answer_due (check s w t) held told (answer.Infeasible branched) serves = absurd serves.ending
-    answer_due (check s w t) held told (answer.Broken broken) serves = absurd serves.ending
-    answer_due (check s w t) held told (answer.Compared compared) serves = absurd serves.ending
-    answer_due (check_plan s w p t) held told a serves = judged_plan s w p t held told a serves (due (check_plan s w p t) (reads_in held (check_plan s w p t))) refl
+    answer_due (check s w None t) held told (answer.Stopped why) serves = stop_due (check s w None t) held told why serves.ending
+    answer_due (check s w None t) held told answer.WriteFault serves = absurd serves.ending
+    answer_due (check s w None t) held told (answer.Tasks inst) serves = inl (as_due _ _ _ (comes_due (due (check s w None t)) (check s w None t) held before.files told (Ok (print (ending_of (answer.Tasks inst)))) serves.ending.1) refl)
+    answer_due (check s w None t) held told (answer.Checked bound) serves = inl (as_due _ _ _ (comes_due (due (check s w None t)) (check s w None t) held before.files told (Ok (print (ending_of (answer.Checked bound)))) serves.ending.1) refl)
+    answer_due (check s w None t) held told (answer.Planned made) serves = absurd serves.ending
+    answer_due (check s w None t) held told (answer.Unplanned bound branched) serves = absurd serves.ending
+    answer_due (check s w None t) held told (answer.Infeasible branched) serves = absurd serves.ending
+    answer_due (check s w None t) held told (answer.Broken broken) serves = absurd serves.ending
+    answer_due (check s w None t) held told (answer.Compared compared) serves = absurd serves.ending
+    answer_due (check s w (Some p) t) held told a serves = judged_plan s w p t held told a serves (due (check s w (Some p) t) (reads_in held (check s w (Some p) t))) refl
     answer_due (tasks s w) held told (answer.Stopped why) serves = stop_due (tasks s w) held told why serves.ending
     answer_due (tasks s w) held told answer.WriteFault serves = absurd serves.ending
     answer_due (tasks s w) held told (answer.Tasks inst) serves = inl (as_due _ _ _ (comes_due (due (tasks s w)) (tasks s w) held before.files told (Ok (print (ending_of (answer.Tasks inst)))) serves.ending.1) refl)
@@ -612,8 +685,9 @@ module _ (words : List (List ℕ)) (before after : Stand) (pb pa : Printed) (end
     answer_due (tasks s w) held told (answer.Infeasible branched) serves = absurd serves.ending
     answer_due (tasks s w) held told (answer.Broken broken) serves = absurd serves.ending
     answer_due (tasks s w) held told (answer.Compared compared) serves = absurd serves.ending
-    answer_due unbuilt held told a serves = inl (ap status_of serves.0)
-    answer_due usage held told a serves = inl (ap status_of serves.0)
+    answer_due (show s w p) held told a serves = away_due refusal.Unbuilt a serves
+    answer_due (make n h c) held told a serves = away_due refusal.Unbuilt a serves
+    answer_due usage held told a serves = away_due refusal.Usage a serves
 
     complete_at : (asked : Asked) → Asks words asked → (files : Option Files) → before.files ≡ files
         → IfSome files (λ held. EndsAsDue (due asked (reads_in held asked)) ended ⊎ (ended ≡ status.OutOfMemory))
@@ -645,8 +719,10 @@ module _ (words : List (List ℕ)) (before after : Stand) (pb pa : Printed) (end
     plan_leaves = plan_leaves;
     plan_stopped = plan_stopped;
     write_fault = write_fault;
+    plain_words = canonical_asked words;
     usage_words = usage_words;
     no_command = no_command;
     not_built = not_built;
+    out_of_memory = out_of_memory;
     complete = λ asked asks none. complete_at none asked asks before.files refl;
   }

@@ -16,7 +16,8 @@ use Rattle.qc_search.specs.Run.{IsSearched as Searched}
 use Rattle.qc_num.specs.declared.bound.Bound.TheVariants.{Never}
 use Rattle.qc_top.specs.declared.answer.Answer.{Answer}
 use Rattle.qc_top.specs.declared.answer.Answer.TheVariants as answer
-use Rattle.qc_top.specs.Asked.{Asked, plan, check, check_plan, tasks, unbuilt, usage, IsPlanTo}
+use Rattle.qc_words.specs.Asked.{Asked, plan, check, tasks, show, make, usage}
+use Rattle.qc_top.specs.Asked.{IsPlanTo}
 use Rattle.qc_top.specs.Due.{search, due, instance_due}
 use Rattle.qc_top.specs.Found.{IsFound, Tells}
 use Rattle.qc_top.specs.Account.{ComesTo, Named, written, plan_texts, texts_of, IsCutShort, IsStored, IsTreeCut, IsSearched, IsStopped, IsWriting}
@@ -161,10 +162,11 @@ module _ (asked : Asked) (p t : List ℕ) (nodes : ℕ) (to : IsPlanTo asked p t
   texts_are tree best = by asked to where
     by : (asked : Asked) → IsPlanTo asked p t nodes → texts_of asked inst tree best ≡ (t, tree_text inst tree) ∷ plan_texts p inst best
     by (plan s w q u n) to = ap (λ name. (name, tree_text inst tree) ∷ plan_texts q inst best) to.1 ∙ ap (λ name. (t, tree_text inst tree) ∷ plan_texts name inst best) to.0
-    by (check s w u) to = absurd to
-    by (check_plan s w q u) to = absurd to
+    by (check s w None u) to = absurd to
+    by (check s w (Some q) u) to = absurd to
     by (tasks s w) to = absurd to
-    by unbuilt to = absurd to
+    by (show s w p) to = absurd to
+    by (make n h c) to = absurd to
     by usage to = absurd to
 
   pub plan_searched :
@@ -242,8 +244,9 @@ pub search_due :
     → ComesTo instance_due asked files (Ok inst) → ComesTo (due asked) asked files (Ok (search inst nodes))
 search_due asked p t nodes to None inst h = tt
 search_due (plan s w q u n) p t nodes to (Some held) inst h = rw h (ap (λ m. Ok (search inst m)) to.2)
-search_due (check s w u) p t nodes to (Some held) inst h = absurd to
-search_due (check_plan s w q u) p t nodes to (Some held) inst h = absurd to
+search_due (check s w None u) p t nodes to (Some held) inst h = absurd to
+search_due (check s w (Some q) u) p t nodes to (Some held) inst h = absurd to
 search_due (tasks s w) p t nodes to (Some held) inst h = absurd to
-search_due unbuilt p t nodes to (Some held) inst h = absurd to
+search_due (show s w q) p t nodes to (Some held) inst h = absurd to
+search_due (make n hs cs) p t nodes to (Some held) inst h = absurd to
 search_due usage p t nodes to (Some held) inst h = absurd to

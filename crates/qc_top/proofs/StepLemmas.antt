@@ -13,13 +13,13 @@ use Rattle.qc_replay.specs.Walk.{tree_in}
 use Rattle.qc_ship.specs.ShipFile.{ship_file}
 use Rattle.qc_stow.specs.Stow.{moves_in}
 use Rattle.qc_tasks.specs.InstanceOf.{instance_of}
-use Rattle.qc_top.specs.declared.answer.Input.{Input}
-use Rattle.qc_top.specs.declared.answer.Input.TheVariants as input
+use Rattle.qc_words.specs.declared.asked.Input.{Input}
+use Rattle.qc_words.specs.declared.asked.Input.TheVariants as input
 use Rattle.qc_top.specs.declared.answer.Refusal.{Refusal}
 use Rattle.qc_top.specs.declared.answer.Refusal.TheVariants as refusal
 use Rattle.qc_top.specs.declared.answer.Stop.{Stop}
 use Rattle.qc_top.specs.declared.answer.Stop.TheVariants as stop
-use Rattle.qc_top.specs.Asked.{Asked, name_of}
+use Rattle.qc_words.specs.Asked.{Asked, name_of}
 use Rattle.qc_top.specs.Due.{Reads, file_limit, input_due, instance_due, job_due, moves_due, reads_in, schedule_due, ship_due, tree_due, within_limit}
 use Rattle.qc_top.specs.Account.{ComesTo, IsStep, Stops}
 use Rattle.qc_top.specs.Shown.{IsNoTree}
@@ -35,6 +35,7 @@ module _ {A B : Type 0} (step : Reads → Result A Refusal) (next : A → Reads 
   step_same before after x y first same = record {
     ok = (first.ok.0, comes_then before.files x (Ok y) first.ok.1 (everywhere before.files));
     err = tt;
+    may = tt;
     files = first.files;
     faults = first.faults;
     read_faults = first.read_faults;

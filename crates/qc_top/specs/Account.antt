@@ -8,7 +8,7 @@ use Rattle.qc_model.specs.OneWay.{GoesOneWay}
 use Rattle.qc_replay.specs.declared.fault.Replayed.{Replayed}
 use Rattle.qc_search.specs.Run.{DoneView, IsMetBest, SearchView}
 use Rattle.qc_tree.specs.Trees.{IsTree, Tree, tree_text}
-use Rattle.qc_top.specs.declared.answer.Input.{Input}
+use Rattle.qc_words.specs.declared.asked.Input.{Input}
 use Rattle.qc_top.specs.declared.answer.Refusal.{Refusal}
 use Rattle.qc_top.specs.declared.answer.Refusal.TheVariants as refusal
 use Rattle.qc_top.specs.declared.answer.Stop.{Stop}
@@ -19,8 +19,10 @@ use Rattle.qc_top.specs.declared.answer.Broken.{Broken}
 use Rattle.qc_top.specs.declared.answer.Compared.{Compared}
 use Rattle.qc_top.specs.declared.status.Status.{Status}
 use Rattle.qc_top.specs.declared.status.Status.TheVariants as status
-use Rattle.qc_top.specs.Asked.{Asked, plan, check_plan, unbuilt, usage, name_of}
-use Rattle.qc_top.specs.Words.{Asks}
+use Rattle.qc_words.specs.Asked.{Asked, plan, check, show, make, usage, name_of}
+use Rattle.qc_words.specs.Commands.{named}
+use Rattle.qc_words.specs.Words.{Asks}
+use Rattle.qc_top.specs.May.{MayAnswer, MayStop}
 use Rattle.qc_top.specs.Due.{Reads, print, search, judge, reads_in, without, due, tree_due}
 use Rattle.qc_top.specs.Answers.{ending_of, status_of}
 use Rattle.qc_gantt.specs.PlanText.{plan_text}
@@ -62,6 +64,7 @@ pub record IsStep {A : Type 0} (step : Reads → Result A Refusal) (asked : Aske
   pub ok :
       IfOk result (λ x. (after.read_faults ≡ before.read_faults) × ComesTo step asked before.files (Ok x))
   pub err : IfErr result (Stops step asked before after)
+  pub may : IfErr result (MayStop asked)
   pub files : after.files ≡ before.files
   pub faults : after.faults ≡ before.faults
   pub read_faults : before.read_faults ≤ after.read_faults
@@ -203,12 +206,18 @@ pub record IsJudging (asked : Asked) (before after : Stand) (a : Answer) : Type 
   pub files : after.files ≡ before.files
   pub faults : after.faults ≡ before.faults
 
+-- a request is refused so, or memory is wanting for its words, and the shelf isn't touched
+abbrev pub IsTurnedAway : Refusal → Stand → Stand → Answer → Type 0
+IsTurnedAway why before after a =
+    ((a ≡ answer.Stopped (stop.Refused why)) ⊎ (a ≡ answer.Stopped stop.OutOfMemory)) × (after ≡ before)
+
 -- what a request says of its answer and of the shelf
 abbrev pub Serves : Asked → Stand → Stand → Answer → Type 0
-Serves usage before after a = (a ≡ answer.Stopped (stop.Refused refusal.Usage)) × (after ≡ before)
-Serves unbuilt before after a = (a ≡ answer.Stopped (stop.Refused refusal.Unbuilt)) × (after ≡ before)
+Serves usage before after a = IsTurnedAway refusal.Usage before after a
+Serves (show s w p) before after a = IsTurnedAway refusal.Unbuilt before after a
+Serves (make n h c) before after a = IsTurnedAway refusal.Unbuilt before after a
 Serves (plan s w p t n) before after a = IsWriting (plan s w p t n) before after a
-Serves (check_plan s w p t) before after a = IsJudging (check_plan s w p t) before after a
+Serves (check s w (Some p) t) before after a = IsJudging (check s w (Some p) t) before after a
 Serves asked before after a = IsReading asked before after a
 
 -- what is seen of the sink: its bytes, where it tells them, and its count of faults
@@ -234,11 +243,18 @@ pub record IsCut (a : Answer) (before after : Printed) (ended : Status) : Type 0
 abbrev pub Reports : Answer → Printed → Printed → Status → Type 0
 Reports a before after ended = IsReported a before after ended ⊎ IsCut a before after ended
 
--- a run: the words ask for something, which comes to an answer, and that is reported
+-- the words are refused as no command
+abbrev pub IsUsage : Answer → Type 0
+IsUsage a = a ≡ answer.Stopped (stop.Refused refusal.Usage)
+
+-- a run: the words ask for something, which comes to an answer, and that is reported; where
+-- no command begins them no memory is taken
 pub record IsRun (words : List (List ℕ)) (before after : Stand) (printed_before printed_after : Printed)
     (ended : Status) : Type 0 where
   pub asked : Asked
   pub asks : Asks words asked
   pub answer : Answer
   pub serves : Serves asked before after answer
+  pub may : MayAnswer asked answer
+  pub unnamed : named words ≡ None → IsUsage answer
   pub reports : Reports answer printed_before printed_after ended

@@ -16,8 +16,8 @@ use Rattle.qc_ship.specs.Keys.{key_text, kind_text}
 use Rattle.qc_stow.specs.Faults.{kind_text as stow_text}
 use Rattle.qc_stow.specs.declared.fault.StowFault.{StowFault}
 use Rattle.qc_tasks.specs.TasksText.{tasks_text}
-use Rattle.qc_top.specs.declared.answer.Input.{Input}
-use Rattle.qc_top.specs.declared.answer.Input.TheVariants as input
+use Rattle.qc_words.specs.declared.asked.Input.{Input}
+use Rattle.qc_words.specs.declared.asked.Input.TheVariants as input
 use Rattle.qc_top.specs.declared.answer.Refusal.{Refusal}
 use Rattle.qc_top.specs.declared.answer.Refusal.TheVariants as refusal
 use Rattle.qc_top.specs.declared.answer.Stop.{Stop}

@@ -16,14 +16,14 @@ use Rattle.qc_stow.specs.declared.row.Row.{Row}
 use Rattle.qc_stow.specs.Stow.{moves_in}
 use Rattle.qc_tasks.specs.InstanceOf.{instance_of}
 use Rattle.qc_tasks.specs.TasksText.{tasks_text}
-use Rattle.qc_top.specs.declared.answer.Input.{Input}
-use Rattle.qc_top.specs.declared.answer.Input.TheVariants as input
+use Rattle.qc_words.specs.declared.asked.Input.{Input}
+use Rattle.qc_words.specs.declared.asked.Input.TheVariants as input
 use Rattle.qc_top.specs.declared.answer.Refusal.{Refusal}
 use Rattle.qc_top.specs.declared.answer.Refusal.TheVariants as refusal
 use Rattle.qc_top.specs.declared.reading.Job.{Job}
 use Rattle.qc_top.specs.declared.status.Status.{Status}
 use Rattle.qc_top.specs.declared.status.Status.TheVariants as status
-use Rattle.qc_top.specs.Asked.{Asked, plan, check, check_plan, tasks, unbuilt, usage, name_of}
+use Rattle.qc_words.specs.Asked.{Asked, plan, check, tasks, show, make, usage, name_of}
 
 -- the bytes of the files that are read, by what they are for; none where the file isn't held or isn't read
 pub record Reads : Type 0 where
@@ -155,8 +155,9 @@ plan_due nodes reads = do
 -- what a request leads to
 abbrev pub due : Asked → Reads → Result Work Refusal
 due (plan s w p t n) reads = plan_due n reads
-due (check s w t) reads = check_due reads
-due (check_plan s w p t) reads = judge_due reads
+due (check s w None t) reads = check_due reads
+due (check s w (Some p) t) reads = judge_due reads
 due (tasks s w) reads = tasks_due reads
-due unbuilt reads = Err refusal.Unbuilt
+due (show s w p) reads = Err refusal.Unbuilt
+due (make n h c) reads = Err refusal.Unbuilt
 due usage reads = Err refusal.Usage

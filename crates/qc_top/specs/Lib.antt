@@ -1,5 +1,5 @@
 pub mod Asked
-pub mod Words
+pub mod May
 pub mod Due
 pub mod Answers
 pub mod Reports

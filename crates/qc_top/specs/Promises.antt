@@ -1,5 +1,5 @@
 -- What follows from a run's account, said by itself for whoever reads one status.
-use Rattle.std.specs.Prelude.{◌≡◌, ◌≢◌, ℕ, ◌≤◌, ◌<◌, ◌⊎◌, List, ◌++◌, Option, codes, decimal, Some, Result, Ok, Err, IfSome}
+use Rattle.std.specs.Prelude.{◌≡◌, ◌≢◌, ℕ, ◌≤◌, ◌<◌, ◌⊎◌, List, ◌++◌, Option, codes, decimal, None, Some, Result, Ok, Err, IfSome}
 use Rattle.std.specs.Io.KnownBytes.{append_known}
 use Rattle.qc_num.specs.declared.bound.Bound.TheVariants.{Least, Never}
 use Rattle.qc_io.specs.Outside.{Files, Rose, Stand}
@@ -24,8 +24,10 @@ use Rattle.qc_top.specs.declared.answer.Answer.{Answer}
 use Rattle.qc_top.specs.declared.answer.Answer.TheVariants as answer
 use Rattle.qc_top.specs.declared.status.Status.{Status}
 use Rattle.qc_top.specs.declared.status.Status.TheVariants as status
-use Rattle.qc_top.specs.Asked.{Asked, check, check_plan, tasks, unbuilt, usage, IsPlan, nodes_of}
-use Rattle.qc_top.specs.Words.{Asks}
+use Rattle.qc_words.specs.Asked.{Asked, check, tasks, usage}
+use Rattle.qc_words.specs.Commands.{named}
+use Rattle.qc_words.specs.Words.{Asks, Canonical}
+use Rattle.qc_top.specs.Asked.{IsPlan, IsUnbuilt, nodes_of}
 use Rattle.qc_top.specs.Due.{Work, print, search, judge, reads_in, instance_due, tree_due, due}
 use Rattle.qc_top.specs.Answers.{bad_plan_text, broken_text, compared_status, compared_text, compared_word, infeasible_text, planned_word, refusal_text, refusal_status, unplanned_text}
 use Rattle.qc_top.specs.Held.{TellsBreak}
@@ -237,38 +239,38 @@ pub record Promises (words : List (List ℕ)) (before after : Stand) (printed_be
       → IfSome before.files (λ held. AreTasksTold (tasks ship stow) held printed_before printed_after)
   -- Done, Infeasible and BadTree of a check of a tree alone
   pub check_done :
-      (ship stow tree : List ℕ) → Asks words (check ship stow tree) → ended ≡ status.Done
-      → IfSome before.files (λ held. IsEndTold (check ship stow tree) held printed_before printed_after)
+      (ship stow tree : List ℕ) → Asks words (check ship stow None tree) → ended ≡ status.Done
+      → IfSome before.files (λ held. IsEndTold (check ship stow None tree) held printed_before printed_after)
   pub check_infeasible :
-      (ship stow tree : List ℕ) → Asks words (check ship stow tree) → ended ≡ status.Infeasible
-      → IfSome before.files (λ held. IsNoneTold (check ship stow tree) held printed_before printed_after)
+      (ship stow tree : List ℕ) → Asks words (check ship stow None tree) → ended ≡ status.Infeasible
+      → IfSome before.files (λ held. IsNoneTold (check ship stow None tree) held printed_before printed_after)
   pub check_bad_tree :
-      (ship stow tree : List ℕ) → Asks words (check ship stow tree) → ended ≡ status.BadTree
-      → IfSome before.files (λ held. IsNoneShown (check ship stow tree) held)
+      (ship stow tree : List ℕ) → Asks words (check ship stow None tree) → ended ≡ status.BadTree
+      → IfSome before.files (λ held. IsNoneShown (check ship stow None tree) held)
   -- Optimal, Weaker, Broken, BadPlan and BadTree of a check of a plan
   pub check_optimal :
-      (ship stow plan tree : List ℕ) → Asks words (check_plan ship stow plan tree) → ended ≡ status.Optimal
-      → IfSome before.files (λ held. IsBestTold (check_plan ship stow plan tree) held printed_before printed_after)
+      (ship stow plan tree : List ℕ) → Asks words (check ship stow (Some plan) tree) → ended ≡ status.Optimal
+      → IfSome before.files (λ held. IsBestTold (check ship stow (Some plan) tree) held printed_before printed_after)
   pub check_weaker :
-      (ship stow plan tree : List ℕ) → Asks words (check_plan ship stow plan tree) → ended ≡ status.Weaker
-      → IfSome before.files (λ held. IsWeakerTold (check_plan ship stow plan tree) held printed_before printed_after)
+      (ship stow plan tree : List ℕ) → Asks words (check ship stow (Some plan) tree) → ended ≡ status.Weaker
+      → IfSome before.files (λ held. IsWeakerTold (check ship stow (Some plan) tree) held printed_before printed_after)
   pub check_broken :
-      (ship stow plan tree : List ℕ) → Asks words (check_plan ship stow plan tree) → ended ≡ status.Broken
-      → IfSome before.files (λ held. IsBrokenTold (check_plan ship stow plan tree) held printed_before printed_after)
+      (ship stow plan tree : List ℕ) → Asks words (check ship stow (Some plan) tree) → ended ≡ status.Broken
+      → IfSome before.files (λ held. IsBrokenTold (check ship stow (Some plan) tree) held printed_before printed_after)
   pub check_bad_plan :
-      (ship stow plan tree : List ℕ) → Asks words (check_plan ship stow plan tree) → ended ≡ status.BadPlan
-      → IfSome before.files (λ held. IsBadPlanTold (check_plan ship stow plan tree) held printed_before printed_after)
+      (ship stow plan tree : List ℕ) → Asks words (check ship stow (Some plan) tree) → ended ≡ status.BadPlan
+      → IfSome before.files (λ held. IsBadPlanTold (check ship stow (Some plan) tree) held printed_before printed_after)
   pub check_plan_bad_tree :
-      (ship stow plan tree : List ℕ) → Asks words (check_plan ship stow plan tree) → ended ≡ status.BadTree
-      → IfSome before.files (λ held. IsNoneShown (check_plan ship stow plan tree) held)
+      (ship stow plan tree : List ℕ) → Asks words (check ship stow (Some plan) tree) → ended ≡ status.BadTree
+      → IfSome before.files (λ held. IsNoneShown (check ship stow (Some plan) tree) held)
   -- what a plan and its tree come to where no call failed: Broken exactly where it goes neither way, and else
   -- what its tree's file comes to
   pub check_complete :
-      (ship stow plan tree : List ℕ) → Asks words (check_plan ship stow plan tree)
+      (ship stow plan tree : List ℕ) → Asks words (check ship stow (Some plan) tree)
       → NoneFailed before after printed_before printed_after
       → IfSome before.files (λ held. (inst : InstanceView) (sched : List Slot)
-      → due (check_plan ship stow plan tree) (reads_in held (check_plan ship stow plan tree)) ≡ Ok (judge inst sched)
-      → EndsJudged inst sched (tree_due inst (reads_in held (check_plan ship stow plan tree))) ended
+      → due (check ship stow (Some plan) tree) (reads_in held (check ship stow (Some plan) tree)) ≡ Ok (judge inst sched)
+      → EndsJudged inst sched (tree_due inst (reads_in held (check ship stow (Some plan) tree))) ended
       ⊎ (ended ≡ status.OutOfMemory))
   -- each refusal
   pub refused :
@@ -288,10 +290,18 @@ pub record Promises (words : List (List ℕ)) (before after : Stand) (printed_be
       (asked : Asked) → Asks words asked → ended ≡ status.WriteFault
       → IsCutTold asked before after printed_before printed_after
       ⊎ IsStopTold asked before after printed_before printed_after
-  -- Usage comes on words that are no command, and on no others; Unbuilt always comes on a form that isn't built
+  -- words in the plain form ask for what they spell, so they never are words of no command
+  pub plain_words : (asked : Asked) → Canonical words asked → Asks words asked
+  -- Usage comes only on words that ask for nothing, and always where no command begins them
   pub usage_words : ended ≡ status.Usage → Asks words usage
-  pub no_command : Asks words usage → EndsWith status.Usage printed_before printed_after ended
-  pub not_built : Asks words unbuilt → EndsWith status.Unbuilt printed_before printed_after ended
+  pub no_command : named words ≡ None → EndsWith status.Usage printed_before printed_after ended
+  -- Unbuilt comes on a command that isn't built, or want of memory does
+  pub not_built :
+      (asked : Asked) → Asks words asked → IsUnbuilt asked
+      → EndsWith status.Unbuilt printed_before printed_after ended ⊎ (ended ≡ status.OutOfMemory)
+  -- want of memory is told by its line alone
+  pub out_of_memory :
+      ended ≡ status.OutOfMemory → printed_after.bytes ≡ append_known printed_before.bytes (codes "OutOfMemory\n")
   -- what is due of the files comes where no call failed, or want of memory does
   pub complete :
       (asked : Asked) → Asks words asked → NoneFailed before after printed_before printed_after

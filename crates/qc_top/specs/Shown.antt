@@ -1,5 +1,5 @@
 -- What a tree's file shows for the instance of a run.
-use Rattle.std.specs.Prelude.{◌≡◌, ◌≢◌, ℕ, List, Option, Some, Ok, IfSome, IsSomeAnd}
+use Rattle.std.specs.Prelude.{◌≡◌, ◌≢◌, ℕ, List, Option, None, Some, Ok, IfSome, IsSomeAnd}
 use Rattle.qc_num.specs.declared.bound.Bound.{Bound}
 use Rattle.qc_num.specs.declared.bound.Bound.TheVariants.{Least}
 use Rattle.qc_io.specs.Outside.{Files}
@@ -9,7 +9,7 @@ use Rattle.qc_top.specs.declared.answer.Refusal.TheVariants as refusal
 use Rattle.qc_top.specs.declared.answer.Stop.TheVariants as stop
 use Rattle.qc_top.specs.declared.answer.Answer.{Answer}
 use Rattle.qc_top.specs.declared.answer.Answer.TheVariants as answer
-use Rattle.qc_top.specs.Asked.{Asked, check, check_plan}
+use Rattle.qc_words.specs.Asked.{Asked, check}
 use Rattle.qc_top.specs.Due.{reads_in, instance_due}
 
 -- the file is the text of a tree of the instance with this value, which no schedule that goes one way beats; where
@@ -39,17 +39,17 @@ pub record IsNoneShown (asked : Asked) (held : Files) : Type 0 where
 
 -- what an answer to a check tells of the tree's file; other requests tell nothing of it
 abbrev pub TellsTree : Asked → Option Files → Answer → Type 0
-TellsTree (check s w t) files (answer.Checked bound) =
-    IfSome files (λ held. IsBoundShown (check s w t) held bound)
-TellsTree (check s w t) files (answer.Stopped (stop.Refused (refusal.BadTree fault))) =
-    IfSome files (λ held. IsNoneShown (check s w t) held)
-TellsTree (check s w t) files (answer.Stopped why) = Unit {0}
-TellsTree (check s w t) files _ = ⊥
-TellsTree (check_plan s w p t) files (answer.Compared told) =
-    IfSome files (λ held. IsBoundShown (check_plan s w p t) held (Least told.bound))
-TellsTree (check_plan s w p t) files (answer.Stopped (stop.Refused (refusal.BadTree fault))) =
-    IfSome files (λ held. IsNoneShown (check_plan s w p t) held)
-TellsTree (check_plan s w p t) files (answer.Stopped why) = Unit {0}
-TellsTree (check_plan s w p t) files (answer.Broken told) = Unit {0}
-TellsTree (check_plan s w p t) files _ = ⊥
+TellsTree (check s w None t) files (answer.Checked bound) =
+    IfSome files (λ held. IsBoundShown (check s w None t) held bound)
+TellsTree (check s w None t) files (answer.Stopped (stop.Refused (refusal.BadTree fault))) =
+    IfSome files (λ held. IsNoneShown (check s w None t) held)
+TellsTree (check s w None t) files (answer.Stopped why) = Unit {0}
+TellsTree (check s w None t) files _ = ⊥
+TellsTree (check s w (Some p) t) files (answer.Compared told) =
+    IfSome files (λ held. IsBoundShown (check s w (Some p) t) held (Least told.bound))
+TellsTree (check s w (Some p) t) files (answer.Stopped (stop.Refused (refusal.BadTree fault))) =
+    IfSome files (λ held. IsNoneShown (check s w (Some p) t) held)
+TellsTree (check s w (Some p) t) files (answer.Stopped why) = Unit {0}
+TellsTree (check s w (Some p) t) files (answer.Broken told) = Unit {0}
+TellsTree (check s w (Some p) t) files _ = ⊥
 TellsTree _ files _ = Unit {0}

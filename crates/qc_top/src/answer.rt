@@ -19,15 +19,7 @@ use qc_replay::TreeFault;
 use qc_ship::ShipFault;
 use qc_stow::StowFault;
 use qc_tasks::write_tasks;
-
-/// A file that a command reads, by what it is for.
-#[derive(Clone, Copy, Debug, PartialEq, Eq)]
-pub enum Input {
-    Ship,
-    Stow,
-    Plan,
-    Tree,
-}
+use qc_words::Input;
 
 /// Why a request isn't served.
 #[derive(Clone, Copy, Debug)]

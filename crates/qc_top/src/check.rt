@@ -4,16 +4,18 @@ ghost use Rattle.qc_io.specs.Outside.{stand_of};
 ghost use Rattle.qc_replay.specs.declared.fault.TreeFault.{TreeFault};
 ghost use Rattle.qc_top.specs.declared.answer.Refusal.TheVariants as refusal;
 ghost use Rattle.qc_top.specs.declared.answer.Stop.TheVariants as stop;
-ghost use Rattle.qc_top.specs.Asked.{asked_for, IsCheck};
+ghost use Rattle.qc_words.specs.Asked.{asked_for};
+ghost use Rattle.qc_top.specs.Asked.{IsCheck};
 ghost use Rattle.qc_top.specs.Due.{shown_due};
 ghost use Rattle.qc_top.specs.Account.{IsStep, IsReading};
 ghost use Rattle.qc_top.specs.Shown.{IsBoundShown, IsNoneShown, TellsTree};
+ghost use Rattle.qc_top.specs.May.{MayAnswer};
 
 use crate::answer::{Answer, Stop};
 use crate::reading::{read_instance, read_tree};
-use crate::words::Request;
 use qc_io::Shelf;
 use qc_replay::Replayed;
+use qc_words::Request;
 use std::alloc::Global;
 
 /// What the tree shows for the instance of the ship file and the stowage list.
@@ -42,6 +44,7 @@ pub(crate) fn check<S: Shelf>(alloc: Global, request: &Request<'_>, shelf: &mut 
         (stand_of S.files S.Sink.faults S.read_faults shelf.old)
         (stand_of S.files S.Sink.faults S.read_faults shelf.new) result }
     ensures tells { TellsTree (asked_for request.now) (S.files shelf.old) result }
+    ensures may { MayAnswer (asked_for request.now) result }
     ensures faults_never_fall { S.Sink.faults shelf.old ≤ S.Sink.faults shelf.new }
     ensures read_faults_never_fall { S.read_faults shelf.old ≤ S.read_faults shelf.new }
 {

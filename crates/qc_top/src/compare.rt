@@ -7,18 +7,20 @@ ghost use Rattle.qc_model.specs.Judge.{IsJudgeable};
 ghost use Rattle.qc_model.specs.OneWay.{GoesOneWay};
 ghost use Rattle.qc_model.specs.Tasks.{task_text};
 ghost use Rattle.qc_tree.specs.Trees.{NoneEarlier};
-ghost use Rattle.qc_top.specs.Asked.{asked_for, IsCheckPlan};
+ghost use Rattle.qc_words.specs.Asked.{asked_for};
+ghost use Rattle.qc_top.specs.Asked.{IsCheckPlan};
 ghost use Rattle.qc_top.specs.Due.{job_due};
 ghost use Rattle.qc_top.specs.Account.{ComesTo, IsJudging};
 ghost use Rattle.qc_top.specs.Held.{TellsHeld};
 ghost use Rattle.qc_top.specs.Shown.{TellsTree};
+ghost use Rattle.qc_top.specs.May.{MayAnswer};
 
 use crate::answer::{Answer, Broken, Compared};
 use crate::reading::{Job, read_job, read_tree};
-use crate::words::Request;
 use qc_io::Shelf;
 use qc_model::{Break, Instance, direction_of, ends};
 use qc_num::Bound;
+use qc_words::Request;
 use std::alloc::Global;
 
 /// What is told of a break.
@@ -63,6 +65,7 @@ fn compare<S: Shelf>(alloc: Global, request: &Request<'_>, job: &Job, shelf: &mu
         (stand_of S.files S.Sink.faults S.read_faults shelf.old)
         (stand_of S.files S.Sink.faults S.read_faults shelf.new) result }
     ensures tells { TellsTree (asked_for request.now) (S.files shelf.old) result }
+    ensures may { MayAnswer (asked_for request.now) result }
     ensures faults_never_fall { S.Sink.faults shelf.old ≤ S.Sink.faults shelf.new }
     ensures read_faults_never_fall { S.read_faults shelf.old ≤ S.read_faults shelf.new }
 {
@@ -80,6 +83,7 @@ pub(crate) fn check_plan<S: Shelf>(alloc: Global, request: &Request<'_>, shelf: 
         (stand_of S.files S.Sink.faults S.read_faults shelf.old)
         (stand_of S.files S.Sink.faults S.read_faults shelf.new) result }
     ensures tells { TellsTree (asked_for request.now) (S.files shelf.old) result }
+    ensures may { MayAnswer (asked_for request.now) result }
     ensures faults_never_fall { S.Sink.faults shelf.old ≤ S.Sink.faults shelf.new }
     ensures read_faults_never_fall { S.read_faults shelf.old ≤ S.read_faults shelf.new }
 {

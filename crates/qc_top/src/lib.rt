@@ -12,9 +12,7 @@ mod program;
 mod reading;
 mod status;
 mod tasks;
-mod words;
 
-pub use answer::{Answer, Broken, Compared, Input, Planned, Refusal, Stop};
+pub use answer::{Answer, Broken, Compared, Planned, Refusal, Stop};
 pub use program::run;
 pub use status::Status;
-pub use words::Request;

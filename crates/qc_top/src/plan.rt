@@ -4,22 +4,24 @@ ghost use Rattle.qc_io.specs.Outside.{Rose, stand_of};
 ghost use Rattle.qc_model.specs.Judge.{IsJudgeable};
 ghost use Rattle.qc_search.specs.Run.{IsSound};
 ghost use Rattle.qc_tree.specs.declared.line.TheConstants.{MOST_BRANCHINGS};
-ghost use Rattle.qc_top.specs.Asked.{asked_for, IsPlanTo};
+ghost use Rattle.qc_words.specs.Asked.{asked_for};
+ghost use Rattle.qc_top.specs.Asked.{IsPlanTo};
 ghost use Rattle.qc_gantt.specs.PlanText.{plan_text};
 ghost use Rattle.qc_top.specs.Due.{due, search as searched};
 ghost use Rattle.qc_top.specs.Reports.{CanBeTold};
 ghost use Rattle.qc_top.specs.Account.{ComesTo, IsStored, IsTreeCut, written, plan_texts, IsCutShort, IsWriting};
+ghost use Rattle.qc_top.specs.May.{MayAnswer};
 
 use crate::answer::{Answer, Stop};
 use crate::found::answer_of;
 use crate::reading::read_instance;
-use crate::words::Request;
 use qc_gantt::write_plan;
 use qc_io::{Shelf, WriteFault};
 use qc_model::{Instance, Schedule};
 use qc_motion::Track;
 use qc_num::{OutOfMemory, Steps};
 use qc_search::{Done, Search};
+use qc_words::Request;
 use std::alloc::Global;
 use std::marker::Brand;
 use std::sync::ledger::{Blank, Ledger};
@@ -119,6 +121,7 @@ fn plan_instance<S: Shelf, L: Ledger>(
     ensures serves { IsWriting (asked_for request.now)
         (stand_of S.files S.Sink.faults S.read_faults shelf.old)
         (stand_of S.files S.Sink.faults S.read_faults shelf.new) result }
+    ensures may { MayAnswer (asked_for request.now) result }
     ensures ready { CanBeTold result }
     ensures faults_never_fall { S.Sink.faults shelf.old ≤ S.Sink.faults shelf.new }
     ensures read_faults_never_fall { S.read_faults shelf.old ≤ S.read_faults shelf.new }
@@ -156,6 +159,7 @@ pub(crate) fn plan<S: Shelf>(
     ensures serves { IsWriting (asked_for request.now)
         (stand_of S.files S.Sink.faults S.read_faults shelf.old)
         (stand_of S.files S.Sink.faults S.read_faults shelf.new) result }
+    ensures may { MayAnswer (asked_for request.now) result }
     ensures ready { CanBeTold result }
     ensures faults_never_fall { S.Sink.faults shelf.old ≤ S.Sink.faults shelf.new }
     ensures read_faults_never_fall { S.read_faults shelf.old ≤ S.read_faults shelf.new }

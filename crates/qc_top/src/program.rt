@@ -1,12 +1,13 @@
 //! One run of the program: from words to a status.
 ghost use Rattle.std.specs.Prelude.{◌≡◌, ◌≤◌};
 ghost use Rattle.qc_io.specs.Outside.{stand_of};
-ghost use Rattle.qc_top.specs.Asked.{asked_for, HasFewNodes};
-ghost use Rattle.qc_top.specs.Words.{texts};
+ghost use Rattle.qc_words.specs.Asked.{asked_for, KeepsLimits};
+ghost use Rattle.qc_words.specs.Words.{texts};
 ghost use Rattle.qc_top.specs.Reports.{CanBeTold};
 ghost use Rattle.qc_top.specs.Account.{Serves, IsRun, printed_of};
 ghost use Rattle.qc_top.specs.Shown.{TellsTree};
 ghost use Rattle.qc_top.specs.Promises.{Promises};
+ghost use Rattle.qc_top.specs.May.{MayAnswer};
 
 use crate::answer::{Answer, Refusal, Stop, report};
 use crate::check::check;
@@ -14,16 +15,19 @@ use crate::compare::check_plan;
 use crate::plan::plan;
 use crate::status::Status;
 use crate::tasks::list_tasks;
-use crate::words::{Request, asked_by};
 use qc_io::{Shelf, Sink};
+use qc_num::OutOfMemory;
+use qc_words::{Request, request_of};
 use std::alloc::Global;
 
 fn serve<S: Shelf>(alloc: Global, request: &Request<'_>, shelf: &mut S) -> Answer
-    requires { HasFewNodes (asked_for request.now) }
+    requires { KeepsLimits (asked_for request.now) }
     ensures serves { Serves (asked_for request.now)
         (stand_of S.files S.Sink.faults S.read_faults shelf.old)
         (stand_of S.files S.Sink.faults S.read_faults shelf.new) result }
     ensures tells { TellsTree (asked_for request.now) (S.files shelf.old) result }
+    ensures may { MayAnswer (asked_for request.now) result }
+    ensures no_command { request.now ≡ Request.Usage → result ≡ Answer.Stopped (Stop.Refused Refusal.Usage) }
     ensures ready { CanBeTold result }
     ensures faults_never_fall { S.Sink.faults shelf.old ≤ S.Sink.faults shelf.new }
     ensures read_faults_never_fall { S.read_faults shelf.old ≤ S.read_faults shelf.new }
@@ -35,10 +39,12 @@ fn serve<S: Shelf>(alloc: Global, request: &Request<'_>, shelf: &mut S) -> Answe
             nodes,
             ..
         } => plan(alloc, request, (*name, *tree), *nodes, shelf),
-        Request::Check { .. } => check(alloc, request, shelf),
-        Request::CheckPlan { .. } => check_plan(alloc, request, shelf),
+        Request::Check { plan: None, .. } => check(alloc, request, shelf),
+        Request::Check { plan: Some(_), .. } => check_plan(alloc, request, shelf),
         Request::Tasks { .. } => list_tasks(alloc, request, shelf),
-        Request::Unbuilt => Answer::Stopped(Stop::Refused(Refusal::Unbuilt)),
+        Request::Show { .. } | Request::Make { .. } => {
+            Answer::Stopped(Stop::Refused(Refusal::Unbuilt))
+        }
         Request::Usage => Answer::Stopped(Stop::Refused(Refusal::Usage)),
     }
 }
@@ -64,7 +70,11 @@ pub fn run<S: Shelf, K: Sink>(alloc: Global, words: &[String], shelf: &mut S, ou
     ensures read_faults_never_fall { S.read_faults shelf.old ≤ S.read_faults shelf.new }
     ensures print_faults_never_fall { K.Sink.faults out.old ≤ K.Sink.faults out.new }
 {
-    let request = asked_by(words);
-    let answer = serve(alloc, &request, shelf);
-    report(answer, out)
+    match request_of(alloc, words) {
+        Ok(request) => {
+            let answer = serve(alloc, &request, shelf);
+            report(answer, out)
+        }
+        Err(OutOfMemory) => report(Answer::Stopped(Stop::OutOfMemory), out),
+    }
 }

@@ -5,16 +5,16 @@ ghost use Rattle.qc_model.specs.Judge.{IsJudgeable};
 ghost use Rattle.qc_ship.specs.Ship.{place_of_bay};
 ghost use Rattle.qc_tree.specs.Trees.{NoneEarlier};
 ghost use Rattle.qc_replay.specs.declared.fault.TreeFault.{TreeFault};
-ghost use Rattle.qc_top.specs.declared.answer.Input.TheVariants as input;
+ghost use Rattle.qc_words.specs.declared.asked.Input.TheVariants as input;
 ghost use Rattle.qc_top.specs.declared.answer.Refusal.TheVariants as refusal;
 ghost use Rattle.qc_top.specs.declared.answer.Stop.TheVariants as stop;
-ghost use Rattle.qc_top.specs.Asked.{asked_for, name_of};
+ghost use Rattle.qc_words.specs.Asked.{asked_for, name_of};
+ghost use Rattle.qc_top.specs.Asked.{IsWhole};
 ghost use Rattle.qc_top.specs.Due.{input_due, ship_due, moves_due, instance_due, schedule_due, job_due, tree_due, reads_in};
 ghost use Rattle.qc_top.specs.Account.{IsStep};
 ghost use Rattle.qc_top.specs.Shown.{IsTreeShown, IsNoTree};
 
-use crate::answer::{Input, Refusal, Stop};
-use crate::words::Request;
+use crate::answer::{Refusal, Stop};
 use qc_gantt::{PlanError, read_plan};
 use qc_io::{ReadAll, Shelf, read_all};
 use qc_model::{Instance, Schedule};
@@ -23,6 +23,7 @@ use qc_replay::{ReplayError, Replayed, replay};
 use qc_ship::{Ship, ShipError, read_ship};
 use qc_stow::{Moves, StowError, read_stow};
 use qc_tasks::tasks_of;
+use qc_words::{Input, Request};
 use std::alloc::Global;
 
 /// The greatest length of a ship file, of a stowage list and of a plan's file, in bytes.
@@ -35,7 +36,8 @@ fn read_input<S: Shelf>(
     file: Input,
     shelf: &mut S,
 ) -> Result<Bytes, Stop>
-    requires { IsSome (name_of file (asked_for request.now)) }
+    requires named { IsSome (name_of file (asked_for request.now)) }
+    requires whole { IsWhole (asked_for request.now) file }
     ensures { IsStep (input_due file) (asked_for request.now)
         (stand_of S.files S.Sink.faults S.read_faults shelf.old)
         (stand_of S.files S.Sink.faults S.read_faults shelf.new) result }

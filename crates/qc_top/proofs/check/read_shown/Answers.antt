@@ -1,6 +1,6 @@
 use Rattle.std.proofs.Common.{ap, sym, Err}
 use Rattle.qc_io.specs.Outside.{stand_of}
-use Rattle.qc_top.specs.Asked.{asked_for}
+use Rattle.qc_words.specs.Asked.{asked_for}
 use Rattle.qc_top.specs.Due.{instance_due}
 use Rattle.qc_top.specs.Shown.{IsNoneShown}
 use Rattle.qc_top.proofs.StepLemmas.{instance_early, no_fault_yet}

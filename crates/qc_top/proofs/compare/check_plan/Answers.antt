@@ -1,6 +1,6 @@
 use Rattle.std.proofs.Common.{Err, ap}
 use Rattle.qc_io.specs.Outside.{stand_of}
-use Rattle.qc_top.specs.Asked.{asked_for}
+use Rattle.qc_words.specs.Asked.{asked_for}
 use Rattle.qc_top.specs.Due.{job_due}
 use Rattle.qc_top.specs.Shown.{IsNoneShown}
 use Rattle.qc_top.proofs.JudgedLemmas.{tells_stop}

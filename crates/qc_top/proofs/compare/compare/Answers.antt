@@ -1,5 +1,5 @@
 use Rattle.std.proofs.Common.{Err, ap}
-use Rattle.qc_top.specs.Asked.{asked_for}
+use Rattle.qc_words.specs.Asked.{asked_for}
 use Rattle.qc_top.proofs.JudgedLemmas.{shown_none, tells_held, tells_stop}
 use Rattle.qc_top.proofs.compare.compare.Goals as goal
 

@@ -1,6 +1,6 @@
 use Rattle.std.proofs.Common.{◌∙◌}
 use Rattle.qc_io.specs.Outside.{stand_of}
-use Rattle.qc_top.specs.Asked.{asked_for}
+use Rattle.qc_words.specs.Asked.{asked_for}
 use Rattle.qc_top.proofs.ServeLemmas.{plan_searched, plan_cut, plan_tree_cut, writes_told}
 use Rattle.qc_top.proofs.plan.plan_instance.Goals as goal
 

@@ -2,7 +2,7 @@ use Rattle.std.proofs.Common.{ap, sym, ◌∙◌}
 use Rattle.qc_num.specs.Reading.{with_fault}
 use Rattle.qc_stow.specs.Stow.{moves_in}
 use Rattle.qc_top.specs.declared.answer.Refusal.TheVariants as refusal
-use Rattle.qc_top.specs.declared.answer.Input.TheVariants as input
+use Rattle.qc_words.specs.declared.asked.Input.TheVariants as input
 use Rattle.qc_top.specs.Due.{input_due}
 use Rattle.qc_top.proofs.StepLemmas.{step_same}
 use Rattle.qc_top.proofs.reading.read_moves.Goals as goal

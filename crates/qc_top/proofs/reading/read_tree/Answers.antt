@@ -1,5 +1,5 @@
 use Rattle.std.proofs.Common.{Err, ap, sym}
-use Rattle.qc_top.specs.Asked.{asked_for}
+use Rattle.qc_words.specs.Asked.{asked_for}
 use Rattle.qc_top.proofs.StepLemmas.{no_tree, tree_fault}
 use Rattle.qc_top.proofs.reading.read_tree.Goals as goal
 
@@ -15,6 +15,7 @@ returns-in-Err-Tree-clause-step g c =
             (λ missing. absurd (cc (c.in-Err-Tree.ensures.missing missing (λ e. cc))))
             (c.in-Err-Tree.ensures.fault fault (ap Err c.in-Err-Tree.field-0-is)),
       );
+      may = c.requires;
       files = c.replay.ensures.files_stay;
       faults = c.replay.ensures.faults_stay;
       read_faults = c.replay.ensures.read_faults_never_fall;
