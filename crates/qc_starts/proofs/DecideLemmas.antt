@@ -1,10 +1,12 @@
 -- What a decision leaves is kept, and its notes are counted.
-use Rattle.std.proofs.Common.{◌≡◌, ℕ, zero, suc, ◌+◌, ◌-◌, ◌*◌, ◌<◌, ◌≤◌, inl, inr, Bool, true, List, [], ◌∷◌, ◌++◌, All, length, reverse, sym, ap, subst, subst₂, ◌∙◌, length-append, vec_capacity, arith}
-use Rattle.std.proofs.lemmas.Bool.{cases_Bool, ltb-true}
+use Rattle.std.proofs.Common.{◌≡◌, ℕ, zero, suc, ◌+◌, ◌-◌, ◌*◌, ◌<◌, ◌≤◌, inl, inr, Bool, true, false, List, [], ◌∷◌, ◌++◌, All, length, drop, take, reverse, refl, sym, ap, subst, subst₂, ◌∙◌, length-append, vec_capacity, arith}
+use Rattle.std.proofs.lemmas.Bool.{cases_Bool, false≢true, ltb-true}
+use Rattle.std.proofs.lemmas.List.{get_or_default}
 use Rattle.std.proofs.lemmas.List.Sums.{count_by-le-length, sum_by-cons}
 use Rattle.std.proofs.Math.Nat.{mul-le-mul_left}
-use Rattle.std.specs.Prelude.{count_by, nat_lt, slice_index, slice_index_or}
+use Rattle.std.specs.Prelude.{count_by, nat_lt, slice_index, slice_index_or, sum}
 use Rattle.std.specs.List.{range_with_len}
+use Rattle.qc_dist.specs.Node.{IsOpen}
 use Rattle.qc_dist.proofs.Room.{fits_room}
 use Rattle.qc_model.specs.declared.decision.Decision.{Decision}
 use Rattle.qc_model.specs.Instance.{InstanceView}
@@ -18,10 +20,10 @@ use Rattle.qc_starts.specs.Found.{starts_in}
 use Rattle.qc_starts.specs.NodeArcs.{IsSound, NodeArcs}
 use Rattle.qc_starts.specs.Noting.{HasNotes, IsNoting, Wrote, marks}
 use Rattle.qc_starts.specs.Opened.{AreSized, HasBegun}
-use Rattle.qc_starts.specs.Seen.{IsNoted, IsReached, StartsNode, count_raised}
+use Rattle.qc_starts.specs.Seen.{IsNoted, IsReached, StartsNode, count_raised, first_of, taken_back}
 use Rattle.qc_starts.specs.Spread.{IsSettledTo, one_of}
 use Rattle.qc_starts.specs.Values.{AreRest, start_at}
-use Rattle.qc_starts.proofs.KeptLemmas.{in_reach_more, nested_more, rest_of, seen_back, settled_step}
+use Rattle.qc_starts.proofs.KeptLemmas.{counts_count, drop_push, first_here, in_reach_more, nested_count, nested_more, rest_of, sum_counts, take_push, seen_back, settled_step}
 use Rattle.qc_starts.proofs.LevelLemmas.{reverse_push}
 use Rattle.qc_starts.proofs.NotingLemmas.{noting_begins}
 use Rattle.qc_starts.proofs.RestLemmas.{least_of, start_in}
@@ -41,7 +43,7 @@ range_marks p noted a zero fits each = omega arith
 range_marks p [] a (suc m) fits each = absurd (omega arith)
 range_marks p (b ∷ bs) a (suc m) fits each =
     let next = λ (k : ℕ) (low : k < m) (t : p (a + 1 + k) ≡ true).
-    each (suc k) (omega arith) (ap p (omega arith) ∙ t) in
+        each (suc k) (omega arith) (ap p (omega arith) ∙ t) in
     let rest = range_marks p bs (a + 1) m (omega arith) next in
     let one : one_of (p a) ≤ one_of b = elim (cases_Bool (p a)) [
       | inl holds ↦ let mark = each 0 (omega arith) (ap p (omega arith) ∙ holds) in omega (arith, ap one_of holds, ap one_of mark)
@@ -57,6 +59,15 @@ same_least inst ds cells others rest least j low =
     let one = least.least (starts_in inst cells) mine.meets j low in
     let two = rest.least others least.meets j low in
     omega (arith, one, two, start_in inst cells j low)
+
+same_node : (a b : StartsNode) → a.inst ≡ b.inst → a.decisions ≡ b.decisions → a.noted ≡ b.noted → a.cells ≡ b.cells
+    → a.notes ≡ b.notes → a ≡ b
+same_node a b inst decisions noted cells notes =
+    ap (λ (i : InstanceView). record { inst = i; decisions = a.decisions; noted = a.noted; cells = a.cells; notes = a.notes }) inst
+    ∙ ap (λ (xs : List Decision). record { inst = b.inst; decisions = xs; noted = a.noted; cells = a.cells; notes = a.notes }) decisions
+    ∙ ap (λ (xs : List ℕ). record { inst = b.inst; decisions = b.decisions; noted = xs; cells = a.cells; notes = a.notes }) noted
+    ∙ ap (λ (xs : List ℕ). record { inst = b.inst; decisions = b.decisions; noted = b.noted; cells = xs; notes = a.notes }) cells
+    ∙ ap (λ (ns : List Note). record { inst = b.inst; decisions = b.decisions; noted = b.noted; cells = b.cells; notes = ns }) notes
 
 module _ (f : Inside) (node : StartsNode) (is : IsKept f) (view : node_of f ≡ node) (g : Inside) (mid : Spread)
     (d : Decision) (mark before after : ℕ)
@@ -79,16 +90,8 @@ module _ (f : Inside) (node : StartsNode) (is : IsKept f) (view : node_of f ≡ 
   pub begun_notes : HasNotes mid.values
   begun_notes = record {
     size = begun.noted ∙ is.sized.noted ∙ sym is.sized.cells ∙ ap (length {A = ℕ}) (sym begun.cells);
-    room = omega (
-      arith,
-      ap (λ (t : Notes). length t.notes) begun.trail,
-      ap (λ (t : Notes). t.cap) begun.trail,
-      begun.noted,
-      is.sized.noted,
-      is.sized.cap,
-      is.few,
-      room_for,
-    );
+    room = omega (arith, ap (λ (t : Notes). length t.notes) begun.trail, ap (λ (t : Notes). t.cap) begun.trail,
+        begun.noted, is.sized.noted, is.sized.cap, is.few, room_for);
     places = subst₂ (λ (t : Notes) (xs : List ℕ). All (λ note. note.place < length xs) t.notes) (sym begun.trail) (sym begun.cells)
         is.sized.places;
   }
@@ -171,33 +174,55 @@ module _ (f : Inside) (node : StartsNode) (is : IsKept f) (view : node_of f ≡ 
     raised_few Raised done olds news e one two =
         let after = subst (λ (i : InstanceView). AreRest i g.network.decisions g.spread.values.cells) (inst_is ∙ is.same) done in
         let few = range_marks (λ j. nat_lt (slice_index olds j) (slice_index news j)) g.spread.values.noted.items 0
-        (length f.inst.tasks) (omega (arith, wrote.notes.size, cells_count))
-        (λ k low later. elim (cases_Bool (slice_index_or g.spread.values.noted.items k true)) [
-          | inl on ↦ on
-          | inr off ↦
-              let at : 0 + k ≡ k = omega arith in
-              let less = ltb-true (slice_index olds k) (slice_index news k)
-              (ap (λ (j : ℕ). nat_lt (slice_index olds j) (slice_index news j)) (sym at) ∙ later) in
-              let old = same_least f.inst f.network.decisions f.spread.values.cells olds home_rest one k low in
-              let new = same_least f.inst g.network.decisions g.spread.values.cells news after two k low in
-              let held = noting.same k (omega (arith, noting.size, cells_count)) off
-              ∙ ap (λ (xs : List ℕ). slice_index xs k) begun.cells in
-              absurd (omega (arith, less, old, new, held))
-        ]) in
+            (length f.inst.tasks) (omega (arith, wrote.notes.size, cells_count))
+            (λ k low later. elim (cases_Bool (slice_index_or g.spread.values.noted.items k true)) [
+              | inl on ↦ on
+              | inr off ↦
+                  let at : 0 + k ≡ k = omega arith in
+                  let less = ltb-true (slice_index olds k) (slice_index news k)
+                      (ap (λ (j : ℕ). nat_lt (slice_index olds j) (slice_index news j)) (sym at) ∙ later) in
+                  let old = same_least f.inst f.network.decisions f.spread.values.cells olds home_rest one k low in
+                  let new = same_least f.inst g.network.decisions g.spread.values.cells news after two k low in
+                  let held = noting.same k (omega (arith, noting.size, cells_count)) off
+                      ∙ ap (λ (xs : List ℕ). slice_index xs k) begun.cells in
+                  absurd (omega (arith, less, old, new, held))
+            ]) in
         omega (arith, few, noting.count)
+
+    counts_are : (node_of g).noted ≡ length noting.since ∷ (node_of f).noted
+    counts_are =
+        let total = ap (length {A = Note}) notes_are ∙ length-append f.spread.values.trail.notes noting.since in
+        let count : length g.spread.values.trail.notes - mark ≡ length noting.since = omega (arith, total, mark_is) in
+        ap (λ (ms : List ℕ). counts_of ms (length g.spread.values.trail.notes)) marks_reversed
+        ∙ ap (λ (k : ℕ). k ∷ counts_of (reverse f.marks.items) mark) count
+        ∙ ap (λ (m : ℕ). length noting.since ∷ counts_of (reverse f.marks.items) m) mark_is
 
     pub noted_decided : IsNoted (node_of f) (node_of g) g.step before after
     noted_decided = record {
       count = length noting.since;
-      is =
-          let total = ap (length {A = Note}) notes_are ∙ length-append f.spread.values.trail.notes noting.since in
-          let count : length g.spread.values.trail.notes - mark ≡ length noting.since = omega (arith, total, mark_is) in
-          ap (λ (ms : List ℕ). counts_of ms (length g.spread.values.trail.notes)) marks_reversed
-          ∙ ap (λ (k : ℕ). k ∷ counts_of (reverse f.marks.items) mark) count
-          ∙ ap (λ (m : ℕ). length noting.since ∷ counts_of (reverse f.marks.items) m) mark_is;
+      is = counts_are;
       few = since_few;
       raised = raised_few g.step settled;
       steps =
           let total = ap (length {A = Note}) notes_are ∙ length-append f.spread.values.trail.notes noting.since in
           omega (arith, total, wrote.counted, ap (λ (t : Notes). length t.notes) begun.trail);
     }
+
+    -- taking it back leaves the node that it was
+    pub back_decided : taken_back (length f.network.decisions) (node_of g) ≡ node_of f
+    back_decided =
+        let ds = f.network.decisions in
+        let kept_notes = f.spread.values.trail.notes in
+        let each = counts_count (reverse f.marks.items) (length kept_notes)
+            ∙ nested_count f.inst ds (reverse f.marks.items) kept_notes f.spread.values.cells is.nested in
+        let total = sum_counts f.inst ds (reverse f.marks.items) kept_notes f.spread.values.cells is.nested in
+        let decisions = ap (first_of (length ds)) ds_is ∙ first_here (length ds) (length ds) d ds refl refl in
+        let noted = ap (first_of (length ds)) counts_are
+            ∙ first_here (length ds) (length ds) (length noting.since) (node_of f).noted each refl in
+        let sums : length kept_notes ≡ sum (first_of (length ds) (node_of g).noted) = sym (ap sum noted ∙ total) in
+        let past = ap (λ (k : ℕ). drop k (node_of g).notes) (sym sums) ∙ ap (drop (length kept_notes)) notes_are
+            ∙ drop_push kept_notes noting.since in
+        let front = ap (λ (k : ℕ). take k (node_of g).notes) (sym sums) ∙ ap (take (length kept_notes)) notes_are
+            ∙ take_push kept_notes noting.since in
+        let cells = ap (λ (ns : List Note). written_back ns (node_of g).cells) past ∙ back in
+        same_node (taken_back (length ds) (node_of g)) (node_of f) home decisions noted cells front

@@ -1,16 +1,19 @@
 -- What is kept for a node answers what is asked of it.
-use Rattle.std.proofs.Common.{◌≡◌, ◌≢◌, ℕ, zero, suc, ◌+◌, ◌-◌, ◌*◌, ◌<◌, ◌≤◌, inl, inr, List, [], ◌∷◌, ◌++◌, length, drop, take, reverse, Option, None, Some, refl, sym, ap, subst, subst₂, ◌∙◌, length-append, arith}
-use Rattle.std.proofs.lemmas.Bool.{cases_eq}
-use Rattle.std.proofs.lemmas.List.{length-take-le, take-append-drop}
+use Rattle.std.proofs.Common.{◌≡◌, ◌≢◌, ℕ, zero, suc, ◌+◌, ◌-◌, ◌*◌, ◌<◌, ◌≤◌, ◌⊎◌, inl, inr, Bool, true, false, List, [], ◌∷◌, ◌++◌, All, length, get_or, drop, take, reverse, Option, None, Some, refl, sym, ap, subst, subst₂, ◌∙◌, length-append, arith}
+use Rattle.std.proofs.lemmas.Bool.{cases_eq, cases_lt}
+use Rattle.std.proofs.lemmas.List.{get_or_default, length-take-le, take-append-drop}
 use Rattle.std.proofs.lemmas.List.Sums.{sum_by-cons}
+use Rattle.std.proofs.lemmas.Option.{same_Some}
 use Rattle.std.specs.Prelude.{slice_index, sum}
+use Rattle.qc_arena.specs.declared.edge.Edge.{Edge}
 use Rattle.qc_dist.specs.Node.{IsOpen}
 use Rattle.qc_model.specs.declared.decision.Decision.{Decision}
 use Rattle.qc_model.specs.declared.decision.Decision.TheVariants.{Assign, Order}
-use Rattle.qc_model.specs.Instance.{InstanceView}
+use Rattle.qc_model.specs.Instance.{InstanceView, IsApart, Valid, pair_of}
+use Rattle.qc_model.specs.declared.pair.Pair.{Pair}
 use Rattle.qc_model.specs.Leaves.{chain, leaf_value, with_berths}
 use Rattle.qc_num.specs.declared.bound.Bound.TheVariants.{Least}
-use Rattle.qc_model.specs.Nodes.{HasStarts, IsInReach, IsNodeEnd, Meets, forced, head}
+use Rattle.qc_model.specs.Nodes.{HasStarts, IsInReach, IsNodeEnd, IsSettled, Meets, forced, head}
 use Rattle.qc_starts.specs.Arcs.{IsArc}
 use Rattle.qc_starts.specs.Fields.{AreNested, IsKept, IsStateOf, counts_of, node_of}
 use Rattle.qc_starts.specs.declared.starts.Starts.TheInside.{Inside}
@@ -19,8 +22,8 @@ use Rattle.qc_starts.specs.declared.step.Step.{Step}
 use Rattle.qc_starts.specs.declared.step.Step.TheVariants.{Raised, Cycle}
 use Rattle.qc_starts.specs.NodeArcs.{IsSound, NodeArcs}
 use Rattle.qc_starts.specs.Roots.{root_of}
-use Rattle.qc_starts.specs.Seen.{AreNotes, HoldsStarts, IsCycle, IsNodeStart, IsReached, IsStep, IsWhy, StartsNode, first_of}
-use Rattle.qc_starts.specs.Spread.{IsBackAtRoot, IsLifted, IsRooting, IsSettledTo}
+use Rattle.qc_starts.specs.Seen.{AreNotes, HoldsStarts, IsCycle, IsNodeStart, IsReached, IsStep, IsWhy, StartsNode, first_of, taken_back}
+use Rattle.qc_starts.specs.Spread.{IsBackAtRoot, IsIn, IsLifted, IsRaising, IsRooting, IsSettledTo}
 use Rattle.qc_starts.specs.Values.{AreRest, IsReason, raiser_at, start_at}
 use Rattle.qc_starts.specs.Ways.{AreBacked, IsBackTo, IsEndless, IsRing, IsRising, Why}
 use Rattle.qc_starts.proofs.Growth.{assigned_same, forced_grows, head_grows, head_same, meets_before, ordered_same}
@@ -40,10 +43,10 @@ module _ (net : NodeArcs) (root : ℕ) (olds cells : List ℕ) (is : IsBackAtRoo
   back_by : (j : ℕ) → InRing j → (i : ℕ) × (raiser_at (length net.inst.tasks) cells j ≡ Some i) × InRing i
   back_by j has = elim (cases_eq j root) [
     | inl same ↦ (
-      is.back.by,
-      ap (raiser_at (length net.inst.tasks) cells) same ∙ is.back.is,
-      (is.back.task, is.back.lifted),
-    )
+        is.back.by,
+        ap (raiser_at (length net.inst.tasks) cells) same ∙ is.back.is,
+        (is.back.task, is.back.lifted),
+      )
     | inr other ↦ elim has.1 [
       | inl same ↦ absurd (other same)
       | inr less ↦
@@ -183,7 +186,7 @@ module _ (net : NodeArcs) (d : Decision) (ds : List Decision) (olds cells : List
       settled = λ arc in_ first second.
           let asks = arc_of (IsArc net.inst net.decisions) net.arcs sound.all.each arc in_ in
           let old = sym (forced_kept d arc.from arc.to first second)
-          ∙ sym (ap (λ (xs : List Decision). forced net.inst xs arc.from arc.to) is) ∙ asks.is in
+              ∙ sym (ap (λ (xs : List Decision). forced net.inst xs arc.from arc.to) is) ∙ asks.is in
           let kept = rest.steps arc.from arc.to asks.ticks asks.from asks.to old in
           omega (arith, same arc.from asks.from, same arc.to asks.to, kept, asks.within);
     };
@@ -205,11 +208,11 @@ pub counts_count : (marks : List ℕ) (count : ℕ) → length (counts_of marks 
 counts_count [] count = refl
 counts_count (m ∷ ms) count = omega (arith, counts_count ms m)
 
-drop_push : {A : Type 0} (xs ys : List A) → drop (length xs) (xs ++ ys) ≡ ys
+pub drop_push : {A : Type 0} (xs ys : List A) → drop (length xs) (xs ++ ys) ≡ ys
 drop_push [] ys = refl
 drop_push (x ∷ xs) ys = drop_push xs ys
 
-take_push : {A : Type 0} (xs ys : List A) → take (length xs) (xs ++ ys) ≡ xs
+pub take_push : {A : Type 0} (xs ys : List A) → take (length xs) (xs ++ ys) ≡ xs
 take_push [] ys = refl
 take_push {A = A} (x ∷ xs) ys = ap (λ (zs : List A). x ∷ zs) (take_push xs ys)
 
@@ -237,14 +240,11 @@ pub nested_less : (inst : InstanceView) (ds : List Decision) (mark : ℕ) (marks
     (cells : List ℕ) → AreNested inst ds (mark ∷ marks) notes cells
     → (mark ≤ length notes) × IsBackNode inst (drop 1 ds) marks (take mark notes) (written_back (drop mark notes) cells)
 nested_less inst [] mark marks notes cells are = absurd are
-nested_less inst (d ∷ ds) mark marks notes cells are = (
-  are.0,
-  record {
-    few = omega (arith, length-take-le mark notes are.0, are.1);
-    rest = are.2;
-    nested = are.3;
-  },
-)
+nested_less inst (d ∷ ds) mark marks notes cells are = (are.0, record {
+  few = omega (arith, length-take-le mark notes are.0, are.1);
+  rest = are.2;
+  nested = are.3;
+})
 
 pub sum_counts : (inst : InstanceView) (ds : List Decision) (marks : List ℕ) (notes : List Note) (cells : List ℕ)
     → AreNested inst ds marks notes cells → sum (counts_of marks (length notes)) ≡ length notes
@@ -280,7 +280,7 @@ rooting_of net inst d ds root olds before cells sound same is able reach rest ro
     (subst (λ (i : InstanceView). AreRest i ds before) (sym same) rest)
     (λ j low. starts j (omega (arith, size, ap (λ (i : InstanceView). length i.tasks) same))))
 
-first_here : {A : Type 0} (m k : ℕ) (x : A) (xs : List A) → length xs ≡ k → m ≡ k → first_of m (x ∷ xs) ≡ xs
+pub first_here : {A : Type 0} (m k : ℕ) (x : A) (xs : List A) → length xs ≡ k → m ≡ k → first_of m (x ∷ xs) ≡ xs
 first_here m k x xs size same =
     let e : length (x ∷ xs) - m ≡ 1 = omega arith in ap (λ (n : ℕ). drop n (x ∷ xs)) e
 
@@ -311,7 +311,7 @@ nested_back inst (d ∷ ds) (k ∷ ks) notes cells are m low =
     let counts = counts_of ks k in
     let many : length counts ≡ length ds = counts_count ks k ∙ older in
     let total : sum counts ≡ k = ap (λ (n : ℕ). sum (counts_of ks n)) (sym size)
-    ∙ sum_counts inst ds ks (take k notes) (written_back (drop k notes) cells) are.3 ∙ size in
+        ∙ sum_counts inst ds ks (take k notes) (written_back (drop k notes) cells) are.3 ∙ size in
     elim (cases_eq m (length ds)) [
       | inl same ↦
           let here = first_here m (length ds) (length notes - k) counts many same in
@@ -329,7 +329,7 @@ nested_back inst (d ∷ ds) (k ∷ ks) notes cells are m low =
           sym (written_back-append (drop s (take k notes)) (drop k notes) cells)
           ∙ ap (λ (ns : List Note). written_back ns cells) (sym (split_at s k notes small)) in
           let moved = subst (λ (n : ℕ). HoldsStarts inst (first_of m ds)
-          (written_back (drop n (take k notes)) (written_back (drop k notes) cells))) shift rest in
+              (written_back (drop n (take k notes)) (written_back (drop k notes) cells))) shift rest in
           let there = subst (HoldsStarts inst (first_of m ds)) joined moved in
           let later = ap sum (first_later m (length notes - k) counts (omega (arith, many))) in
           subst₂ (λ (xs : List Decision) (n : ℕ). HoldsStarts inst xs (written_back (drop n notes) cells))
@@ -344,6 +344,7 @@ as_net f = record {
   decisions = f.network.decisions;
   noted = counts_of (reverse f.marks.items) (length f.spread.values.trail.notes);
   cells = f.spread.values.cells;
+  notes = f.spread.values.trail.notes;
 }
 
 module _ (f : Inside) (node : StartsNode) (is : IsKept f) (view : node_of f ≡ node) where
@@ -354,6 +355,7 @@ module _ (f : Inside) (node : StartsNode) (is : IsKept f) (view : node_of f ≡ 
     decisions = f.network.decisions;
     noted = counts_of (reverse f.marks.items) (length f.spread.values.trail.notes);
     cells = f.spread.values.cells;
+    notes = f.spread.values.trail.notes;
   }) is.same ∙ view
 
   pub seen_back : (P : InstanceView → List Decision → Type 0) → P node.inst node.decisions → P f.network.inst f.network.decisions
@@ -487,8 +489,8 @@ module _ (f : Inside) (node : StartsNode) (is : IsKept f) (view : node_of f ≡ 
   ring_kept k same path ring =
       let net = f.network in
       let found = ring_of net.inst net.decisions f.spread.values.cells is.sound.valid
-      (state_reasons net f.spread.values.cells f.root f.step is.state) is.sound.fits path
-      (why_back (λ why. IsRing why path) k same ring) in
+          (state_reasons net f.spread.values.cells f.root f.step is.state) is.sound.fits path
+          (why_back (λ why. IsRing why path) k same ring) in
       (seen_on (λ i ds. IsCycle i ds path) found.0, omega (arith, found.1, net_tasks, tasks_are))
 
   pub noted_count : length node.noted ≡ length node.decisions
@@ -499,16 +501,80 @@ module _ (f : Inside) (node : StartsNode) (is : IsKept f) (view : node_of f ≡ 
       ∙ nested_count f.inst f.network.decisions marks f.spread.values.trail.notes f.spread.values.cells is.nested in
       subst (λ (n : StartsNode). length n.noted ≡ length n.decisions) view here
 
-  pub notes_kept : AreNotes node f.spread.values.trail
+  pub notes_kept : AreNotes node
   notes_kept =
       let marks = reverse f.marks.items in
       let notes = f.spread.values.trail.notes in
       let cells = f.spread.values.cells in
       let each : length (counts_of marks (length notes)) ≡ length f.network.decisions =
       counts_count marks (length notes) ∙ nested_count f.inst f.network.decisions marks notes cells is.nested in
-      let here : AreNotes (node_of f) f.spread.values.trail = record {
+      let here : AreNotes (node_of f) = record {
         each = each;
         count = sym (sum_counts f.inst f.network.decisions marks notes cells is.nested);
         back = nested_back f.inst f.network.decisions marks notes cells is.nested;
       } in
-      subst (λ (n : StartsNode). AreNotes n f.spread.values.trail) view here
+      subst AreNotes view here
+
+-- some notes are written back, and then more
+pub back_on : (a b : ℕ) (notes : List Note) (cells : List ℕ) → a ≤ b
+    → written_back (drop a (take b notes)) (written_back (drop b notes) cells) ≡ written_back (drop a notes) cells
+back_on a b notes cells low =
+    sym (written_back-append (drop a (take b notes)) (drop b notes) cells)
+    ∙ ap (λ (ns : List Note). written_back ns cells) (sym (split_at a b notes low))
+
+pub take_whole : {A : Type 0} (xs : List A) → take (length xs) xs ≡ xs
+take_whole [] = refl
+take_whole {A = A} (x ∷ xs) = ap (λ (ys : List A). x ∷ ys) (take_whole xs)
+
+pub drop_whole : {A : Type 0} (xs : List A) → drop (length xs) xs ≡ []
+drop_whole [] = refl
+drop_whole (x ∷ xs) = drop_whole xs
+
+pub drop_none : {A : Type 0} (m : ℕ) (xs : List A) → drop (m - m) xs ≡ xs
+drop_none m xs = let e : m - m ≡ 0 = omega arith in ap (λ (k : ℕ). drop k xs) e
+
+take_less : {A : Type 0} (a b : ℕ) (xs : List A) → a ≤ b → take a (take b xs) ≡ take a xs
+take_less zero b xs low = refl
+take_less (suc a) zero xs low = absurd (omega arith)
+take_less (suc a) (suc b) [] low = refl
+take_less {A = A} (suc a) (suc b) (x ∷ xs) low = ap (λ (ys : List A). x ∷ ys) (take_less a b xs (omega arith))
+
+pub cells_on : (mid less all : List Note) (between cells : List ℕ) → length less ≤ length mid
+    → mid ≡ take (length mid) all → between ≡ written_back (drop (length mid) all) cells
+    → written_back (drop (length less) mid) between ≡ written_back (drop (length less) all) cells
+cells_on mid less all between cells fewer mid_is between_is =
+    subst₂ (λ (ns : List Note) (xs : List ℕ). written_back (drop (length less) ns) xs ≡ written_back (drop (length less) all) cells)
+    (sym mid_is) (sym between_is) (back_on (length less) (length mid) all cells fewer)
+
+pub notes_on : (mid less all : List Note) → length less ≤ length mid → mid ≡ take (length mid) all
+    → take (length less) mid ≡ take (length less) all
+notes_on mid less all fewer mid_is =
+    ap (take (length less)) mid_is ∙ take_less (length less) (length mid) all fewer
+
+pub node_is : (mark : ℕ) (old new : StartsNode) → new.inst ≡ old.inst → new.decisions ≡ first_of mark old.decisions
+    → new.noted ≡ first_of mark old.noted → sum new.noted ≡ length new.notes
+    → new.cells ≡ written_back (drop (length new.notes) old.notes) old.cells
+    → new.notes ≡ take (length new.notes) old.notes → new ≡ taken_back mark old
+node_is mark old new inst decisions noted sound cells notes =
+    let kept : length new.notes ≡ sum (first_of mark old.noted) = sym sound ∙ ap sum noted in
+    let cells_are = cells ∙ ap (λ (k : ℕ). written_back (drop k old.notes) old.cells) kept in
+    let notes_are = notes ∙ ap (λ (k : ℕ). take k old.notes) kept in
+    ap (λ (i : InstanceView). record { inst = i; decisions = new.decisions; noted = new.noted; cells = new.cells; notes = new.notes }) inst
+    ∙ ap (λ (xs : List Decision). record { inst = old.inst; decisions = xs; noted = new.noted; cells = new.cells; notes = new.notes }) decisions
+    ∙ ap (λ (xs : List ℕ). record { inst = old.inst; decisions = first_of mark old.decisions; noted = xs; cells = new.cells; notes = new.notes }) noted
+    ∙ ap (λ (xs : List ℕ). record { inst = old.inst; decisions = first_of mark old.decisions; noted = first_of mark old.noted; cells = xs; notes = new.notes }) cells_are
+    ∙ ap (λ (ns : List Note). record { inst = old.inst; decisions = first_of mark old.decisions; noted = first_of mark old.noted; cells = written_back (drop (sum (first_of mark old.noted)) old.notes) old.cells; notes = ns }) notes_are
+
+-- ---- apart pairs
+
+pub apart_at : (inst : InstanceView) (k : ℕ) (p : Pair) → k < length inst.apart
+    → IsApart inst (get_or inst.apart k p).first (get_or inst.apart k p).second
+apart_at inst k p low = (k, low, get_or_default inst.apart k _ p low)
+
+abbrev pub IsSettledPair : InstanceView → List Decision → Pair → Type 0
+IsSettledPair inst ds pair = IsSettled inst ds pair.first pair.second
+
+pub settled_at : (inst : InstanceView) (ds : List Decision) (i j : ℕ) (a : IsApart inst i j)
+    → IsSettledPair inst ds (get_or inst.apart a.0 (pair_of 0 0)) → IsSettled inst ds i j
+settled_at inst ds i j a settled =
+    subst (IsSettledPair inst ds) (get_or_default inst.apart a.0 (pair_of 0 0) (pair_of i j) a.1 ∙ a.2) settled

@@ -41,6 +41,7 @@ node_of f = record {
   decisions = f.network.decisions;
   noted = counts_of (reverse f.marks.items) (length f.spread.values.trail.notes);
   cells = f.spread.values.cells;
+  notes = f.spread.values.trail.notes;
 }
 
 pub record IsKept (f : Inside) : Type 0 where

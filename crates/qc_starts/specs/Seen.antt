@@ -1,5 +1,5 @@
 -- What contracts see of the least starts of a node, and what is answered of it.
-use Rattle.std.specs.Prelude.{◌≡◌, ℕ, ◌+◌, ◌-◌, ◌*◌, ◌<◌, ◌≤◌, Bool, true, false, List, [], ◌∷◌, count_by, drop, length, nat_lt, sum, reverse, slice_index, IsSome, IsTrue, Some}
+use Rattle.std.specs.Prelude.{◌≡◌, ℕ, ◌+◌, ◌-◌, ◌*◌, ◌<◌, ◌≤◌, Bool, true, false, List, [], ◌∷◌, count_by, drop, length, nat_lt, sum, take, reverse, slice_index, IsSome, IsTrue, Some}
 use Rattle.qc_arena.specs.Arcs.{Arcs}
 use Rattle.qc_model.specs.declared.decision.Decision.{Decision}
 use Rattle.qc_model.specs.declared.decision.Decision.TheVariants.{Assign, Order}
@@ -7,17 +7,19 @@ use Rattle.qc_model.specs.Instance.{InstanceView, IsApart}
 use Rattle.qc_model.specs.Leaves.{chain, leaf_value, ring, task_numbers, with_berths}
 use Rattle.qc_model.specs.Nodes.{AreLeast, HasStarts, IsNodeEnd, IsSettled, assigned, forced, reaches}
 use Rattle.qc_num.specs.declared.bound.Bound.TheVariants.{Least, Never}
-use Rattle.qc_trail.specs.Trails.{Notes, written_back}
+use Rattle.qc_trail.specs.declared.trail.Note.{Note}
+use Rattle.qc_trail.specs.Trails.{written_back}
 use Rattle.qc_starts.specs.Arcs.{newest_length}
 use Rattle.qc_starts.specs.declared.step.Step.{Step}
 use Rattle.qc_starts.specs.declared.step.Step.TheVariants.{Raised, Cycle}
 
--- the instance, the decisions and how many cells were noted for each, both newest first, and the cells
+-- the instance, the decisions and how many cells were noted for each, both newest first, the cells, and the notes
 pub record StartsNode : Type 0 where
   pub inst : InstanceView
   pub decisions : List Decision
   pub noted : List ℕ
   pub cells : List ℕ
+  pub notes : List Note
 
 -- the node without decisions
 pub record IsRoot (inst : InstanceView) (node : StartsNode) : Type 0 where
@@ -27,6 +29,16 @@ pub record IsRoot (inst : InstanceView) (node : StartsNode) : Type 0 where
 -- the first of these, of a list that is newest first
 abbrev pub first_of : {A : Type 0} → ℕ → List A → List A
 first_of mark xs = drop (length xs - mark) xs
+
+-- the node after the decisions past the mark are taken back: what was noted for them is written back
+abbrev pub taken_back : ℕ → StartsNode → StartsNode
+taken_back mark node = record {
+  inst = node.inst;
+  decisions = first_of mark node.decisions;
+  noted = first_of mark node.noted;
+  cells = written_back (drop (sum (first_of mark node.noted)) node.notes) node.cells;
+  notes = take (sum (first_of mark node.noted)) node.notes;
+}
 
 -- a decision on a crane is for one that reaches the task
 abbrev pub IsReached : InstanceView → Decision → Type 0
@@ -78,13 +90,13 @@ HoldsStarts inst ds cells = (j : ℕ) → j < length inst.tasks → IsNodeStart 
 
 -- there is a note for each cell that was noted for a decision, and writing back those of the decisions after the first
 -- so many leaves the least starts of these
-pub record AreNotes (node : StartsNode) (trail : Notes) : Type 0 where
+pub record AreNotes (node : StartsNode) : Type 0 where
   pub each : length node.noted ≡ length node.decisions
-  pub count : length trail.notes ≡ sum node.noted
+  pub count : length node.notes ≡ sum node.noted
   pub back :
       (m : ℕ) → m < length node.decisions
       → HoldsStarts node.inst (first_of m node.decisions)
-      (written_back (drop (sum (first_of m node.noted)) trail.notes) node.cells)
+      (taken_back m node).cells
 
 -- of how many tasks the start is later
 abbrev pub count_raised : InstanceView → List ℕ → List ℕ → ℕ

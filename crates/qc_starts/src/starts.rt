@@ -1,4 +1,4 @@
-ghost use Rattle.std.specs.Prelude.{◌≡◌, ◌↔◌, ◌+◌, ◌*◌, ◌<◌, ◌≤◌, ◌⊎◌, None, [], ◌∷◌, IfOk, IfSome, IsTrue, drop, length, nat_lt, sum};
+ghost use Rattle.std.specs.Prelude.{◌≡◌, ◌↔◌, ◌+◌, ◌*◌, ◌<◌, ◌≤◌, ◌⊎◌, None, [], ◌∷◌, IfOk, IfSome, IsTrue, drop, length, nat_lt, sum, take};
 ghost use Rattle.qc_model.specs.declared.decision.Decision.TheVariants.{Assign, Order};
 ghost use Rattle.qc_model.specs.declared.limits.TheConstants.{MOST_DISTANCE, MOST_READY, MOST_START, MOST_TASKS, MOST_WORK};
 ghost use Rattle.qc_model.specs.Instance.{IsApart};
@@ -9,7 +9,8 @@ ghost use Rattle.qc_dist.specs.Kept.{unassigned_ticks};
 ghost use Rattle.qc_starts.specs.Opened.{AreSized};
 ghost use Rattle.qc_starts.specs.NodeArcs.{IsSound};
 ghost use Rattle.qc_starts.specs.Roots.{root_of};
-ghost use Rattle.qc_starts.specs.Seen.{AreNotes, HasNone, HoldsForced, HoldsStarts, IsCycle, IsNodeStart, IsWhy, first_of};
+ghost use Rattle.qc_starts.specs.Seen.{AreNotes, HasNone, HoldsForced, HoldsStarts, IsCycle, IsNodeStart, IsWhy, first_of, taken_back};
+ghost use Rattle.qc_trail.specs.Trails.{written_back};
 ghost use Rattle.qc_starts.specs.Values.{AreRest};
 
 use crate::complete::is_complete;
@@ -128,6 +129,7 @@ impl Starts {
         ensures decisions { self.new.decisions ≡ decision ∷ self.old.decisions }
         ensures step { IsStep inst.now self.new.decisions result }
         ensures noted { IsNoted self.old self.new result steps.old steps.new }
+        ensures back { taken_back (length self.old.decisions) self.new ≡ self.old }
         ensures steps { steps.old ≤ steps.new }
     {
         let mark = self.spread.values.trail.mark();
@@ -157,6 +159,7 @@ impl Starts {
         ensures decisions { self.new.decisions ≡ Assign task crane ∷ self.old.decisions }
         ensures step { IsStep inst.now self.new.decisions result }
         ensures noted { IsNoted self.old self.new result steps.old steps.new }
+        ensures back { taken_back (length self.old.decisions) self.new ≡ self.old }
         ensures steps { steps.old ≤ steps.new }
     {
         self.decide(inst, Decision::Assign(task, crane), steps)
@@ -178,6 +181,7 @@ impl Starts {
         ensures decisions { self.new.decisions ≡ Order i j ∷ self.old.decisions }
         ensures step { IsStep inst.now self.new.decisions result }
         ensures noted { IsNoted self.old self.new result steps.old steps.new }
+        ensures back { taken_back (length self.old.decisions) self.new ≡ self.old }
         ensures steps { steps.old ≤ steps.new }
     {
         self.decide(inst, Decision::Order(i, j), steps)
@@ -199,6 +203,7 @@ impl Starts {
     fn made(&self) -> u32
         ensures count { result ≡ length self.now.decisions }
         ensures noted { length self.now.noted ≡ length self.now.decisions }
+        ensures sound { sum self.now.noted ≡ length self.now.notes }
     {
         self.network.made()
     }
@@ -223,6 +228,11 @@ impl Starts {
         ensures inst { self.new.inst ≡ self.old.inst }
         ensures decisions { self.new.decisions ≡ drop 1 self.old.decisions }
         ensures noted { self.new.noted ≡ drop 1 self.old.noted }
+        ensures sound { sum self.new.noted ≡ length self.new.notes }
+        ensures cells { self.new.cells
+            ≡ written_back (drop (length self.new.notes) self.old.notes) self.old.cells }
+        ensures notes { self.new.notes ≡ take (length self.new.notes) self.old.notes }
+        ensures fewer { length self.new.notes ≤ length self.old.notes }
         ensures counted { steps.new + sum self.new.noted ≡ steps.old + sum self.old.noted }
         ensures steps { steps.old ≤ steps.new }
     {
@@ -239,7 +249,7 @@ impl Starts {
         requires { mark ≤ length self.old.decisions }
         ensures inst { self.new.inst ≡ self.old.inst }
         ensures decisions { self.new.decisions ≡ first_of mark self.old.decisions }
-        ensures noted { self.new.noted ≡ first_of mark self.old.noted }
+        ensures back { self.new ≡ taken_back mark self.old }
         ensures counted { steps.new + sum self.new.noted ≡ steps.old + sum self.old.noted }
         ensures steps { steps.old ≤ steps.new }
     {
@@ -338,7 +348,8 @@ impl Starts {
 
     /// The notes: for each decision of what the cells held that it wrote, in order.
     pub fn notes(&self) -> &Trail
-        ensures { AreNotes self.now result.now }
+        ensures notes { result.now.notes ≡ self.now.notes }
+        ensures are { AreNotes self.now }
     {
         &self.spread.values.trail
     }

@@ -2,7 +2,7 @@ use Rattle.std.proofs.Common.{ℕ, ◌<◌, inl, inr, List, length, get_or, refl
 use Rattle.std.proofs.lemmas.Bool.{cases_eq}
 use Rattle.qc_model.specs.declared.pair.Pair.{Pair}
 use Rattle.qc_model.specs.Instance.{pair_of}
-use Rattle.qc_starts.proofs.DecidedLemmas.{IsSettledPair, apart_at, settled_at}
+use Rattle.qc_starts.proofs.KeptLemmas.{IsSettledPair, apart_at, settled_at}
 use Rattle.qc_starts.proofs.complete.are_settled.Goals as goal
 
 pub settled-requires-clause-first : goal.settled-requires-clause-first

@@ -1,6 +1,6 @@
 use Rattle.std.proofs.Common.{ℕ, ◌<◌, slice_index_or}
 use Rattle.qc_model.specs.Instance.{pair_of}
-use Rattle.qc_starts.proofs.DecidedLemmas.{IsSettledPair}
+use Rattle.qc_starts.proofs.KeptLemmas.{IsSettledPair}
 use Rattle.qc_starts.proofs.complete.are_settled.Given as goal
 
 abbrev pub invariant-loop-pair : goal.invariant-loop-pair

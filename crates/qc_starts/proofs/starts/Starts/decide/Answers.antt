@@ -1,4 +1,4 @@
-use Rattle.std.proofs.Common.{◌+◌, length, refl, sym, ap, subst, ◌∙◌, arith}
+use Rattle.std.proofs.Common.{◌≡◌, ◌+◌, List, length, refl, sym, ap, subst, ◌∙◌, arith}
 use Rattle.std.proofs.lemmas.List.{length-reverse}
 use Rattle.qc_dist.specs.Node.{IsOpen}
 use Rattle.qc_dist.proofs.Room.{fits_room}
@@ -7,8 +7,8 @@ use Rattle.qc_model.specs.Instance.{InstanceView}
 use Rattle.qc_model.specs.Nodes.{HasStarts}
 use Rattle.qc_starts.specs.Fields.{node_of}
 use Rattle.qc_starts.specs.Opened.{HasBegun}
-use Rattle.qc_starts.specs.Seen.{IsNoted, IsReached, IsStep, StartsNode}
-use Rattle.qc_starts.proofs.DecideLemmas.{begun_notes, kept_decided, noted_decided}
+use Rattle.qc_starts.specs.Seen.{IsNoted, IsReached, IsStep, StartsNode, taken_back}
+use Rattle.qc_starts.proofs.DecideLemmas.{back_decided, begun_notes, kept_decided, noted_decided}
 use Rattle.qc_starts.proofs.KeptLemmas.{home_rest, nested_count, rooting_of, settled_step, step_of}
 use Rattle.qc_starts.proofs.starts.Starts.decide.Goals as goal
 
@@ -31,7 +31,7 @@ settle-self-inside-requires-clause-rooting g c =
     let home = ap (λ (n : StartsNode). n.inst) c.self.view_is ∙ c.requires.same in
     let reach = subst (λ (i : InstanceView). IsReached i c.args.decision) (sym home) c.requires.reach in
     let open_ = subst (λ (n : StartsNode). IsOpen n.inst n.decisions c.args.decision) (sym c.self.view_is)
-    (subst (λ (i : InstanceView). IsOpen i c.args.self.now.decisions c.args.decision) (sym c.requires.same) c.requires.open) in
+        (subst (λ (i : InstanceView). IsOpen i c.args.self.now.decisions c.args.decision) (sym c.requires.same) c.requires.open) in
     rooting_of c.add.new.self f.inst c.args.decision f.network.decisions c.root_of-self-inside.result
     c.begin.new.self.olds.items f.spread.values.cells c.begin.new.self.values.cells c.add.ensures.sound
     (c.add.ensures.inst ∙ is.same) c.add.ensures.decisions open_ reach
@@ -83,10 +83,10 @@ returns-clause-step g c =
     let reach = subst (λ (i : InstanceView). IsReached i c.args.decision) (sym home) c.requires.reach in
     let net = c.add.new.self in
     let step = step_of net c.settle-self-inside.new.self.values.cells c.root_of-self-inside.result
-    c.settle-self-inside.result c.add.ensures.sound
-    (settled_step net c.root_of-self-inside.result c.settle-self-inside.new.self.olds.items
-    c.settle-self-inside.new.self.values.cells c.settle-self-inside.result c.add.ensures.sound
-    c.settle-self-inside.ensures.settled) in
+        c.settle-self-inside.result c.add.ensures.sound
+        (settled_step net c.root_of-self-inside.result c.settle-self-inside.new.self.olds.items
+        c.settle-self-inside.new.self.values.cells c.settle-self-inside.result c.add.ensures.sound
+        c.settle-self-inside.ensures.settled) in
     subst (λ (i : InstanceView). IsStep i net.decisions c.settle-self-inside.result) (c.add.ensures.inst ∙ is.same ∙ home) step
 
 pub returns-clause-noted : goal.returns-clause-noted
@@ -119,6 +119,36 @@ returns-clause-noted g c =
     c.push_reserved.ensures.items c.mark-mark.ensures (omega (arith, c.push_reserved.ensures.capacity))
     c.settle-self-inside.ensures.wrote c.settle-self-inside.ensures.olds c.settle-self-inside.ensures.size
     c.settle-self-inside.ensures.settled)
+
+pub returns-clause-back : goal.returns-clause-back
+returns-clause-back g c =
+    let f = c.self.inside in
+    let is = c.self.invariant in
+    let begun = subst (HasBegun f.spread c.begin.new.self) refl c.begin.ensures.begun in
+    let starts = subst (λ (i : InstanceView). HasStarts i c.args.self.now.decisions) (sym c.requires.same) c.requires.starts in
+    let home = ap (λ (n : StartsNode). n.inst) c.self.view_is ∙ c.requires.same in
+    let reach = subst (λ (i : InstanceView). IsReached i c.args.decision) (sym home) c.requires.reach in
+    let back = back_decided f c.args.self.now is c.self.view_is (record {
+      inst = f.inst;
+      network = c.add.new.self;
+      spread = c.settle-self-inside.new.self;
+      marks = c.push_reserved.new.self;
+      step = c.settle-self-inside.result;
+      root = c.root_of-self-inside.result;
+    }) c.begin.new.self c.args.decision c.mark-mark.result c.args.steps.now
+    c.settle-self-inside.new.steps refl c.add.ensures.inst c.add.ensures.decisions c.add.ensures.sound begun starts reach
+    c.push_reserved.ensures.items c.mark-mark.ensures (omega (arith, c.push_reserved.ensures.capacity))
+    c.settle-self-inside.ensures.wrote c.settle-self-inside.ensures.olds c.settle-self-inside.ensures.size
+    c.settle-self-inside.ensures.settled in
+    let after = node_of (record {
+      inst = f.inst;
+      network = c.add.new.self;
+      spread = c.settle-self-inside.new.self;
+      marks = c.push_reserved.new.self;
+      step = c.settle-self-inside.result;
+      root = c.root_of-self-inside.result;
+    }) in
+    subst (λ (n : StartsNode). taken_back (length n.decisions) after ≡ n) c.self.view_is back
 
 pub returns-clause-steps : goal.returns-clause-steps
 returns-clause-steps g c =

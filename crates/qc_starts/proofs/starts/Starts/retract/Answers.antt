@@ -1,5 +1,8 @@
-use Rattle.std.proofs.Common.{◌≡◌, ℕ, ◌+◌, ◌-◌, drop, length, length-drop, suc, ap, ◌∙◌, arith}
+use Rattle.std.proofs.Common.{◌≡◌, ℕ, List, ◌+◌, ◌-◌, ◌<◌, drop, length, length-drop, suc, sum, refl, ap, sym, ◌∙◌, arith}
 use Rattle.qc_model.specs.declared.decision.Decision.{Decision}
+use Rattle.qc_starts.proofs.KeptLemmas.{cells_on, drop_none, drop_whole, node_is, notes_on, take_whole}
+use Rattle.qc_trail.specs.declared.trail.Note.{Note}
+use Rattle.qc_trail.specs.Trails.{written_back}
 use Rattle.qc_starts.proofs.LevelLemmas.{drop_next}
 use Rattle.qc_starts.proofs.starts.Starts.retract.Goals as goal
 
@@ -16,12 +19,36 @@ loop-preserved g c =
       count = omega (arith, count);
       dropped = c.take_back.ensures.decisions ∙ ap (drop 1) is.dropped ∙ drop_next back all ∙ ap (λ (k : ℕ). drop k all) next;
       noted = c.take_back.ensures.noted ∙ ap (drop 1) is.noted ∙ drop_next back counts ∙ ap (λ (k : ℕ). drop k counts) next;
+      sound = c.take_back.ensures.sound;
+      few = omega (arith, c.take_back.ensures.fewer, is.few);
+      cells = c.take_back.ensures.cells ∙ cells_on c.loop.self.notes c.take_back.new.self.notes c.args.self.now.notes
+          c.loop.self.cells c.args.self.now.cells c.take_back.ensures.fewer is.notes is.cells;
+      notes = c.take_back.ensures.notes ∙ notes_on c.loop.self.notes c.take_back.new.self.notes c.args.self.now.notes
+          c.take_back.ensures.fewer is.notes;
       steps = omega (arith, c.take_back.ensures.steps, is.steps);
       counted = omega (arith, c.take_back.ensures.counted, is.counted);
     }
 
-pub returns-clause-noted : goal.returns-clause-noted
-returns-clause-noted g c =
+pub loop-init : goal.loop-init
+loop-init g c = record {
+  inst = refl;
+  count = omega (arith, c.made-end.ensures.count);
+  dropped = sym (drop_none c.args.mark c.args.self.now.decisions);
+  noted = sym (drop_none c.args.mark c.args.self.now.noted);
+  sound = c.made-end.ensures.sound;
+  few = omega arith;
+  cells = sym (ap (λ (ns : List Note). written_back ns c.args.self.now.cells) (drop_whole c.args.self.now.notes));
+  notes = sym (take_whole c.args.self.now.notes);
+  steps = omega arith;
+  counted = refl;
+}
+
+pub returns-clause-back : goal.returns-clause-back
+returns-clause-back g c =
+    let is = c.loop.invariant in
     let over : c.loop.counter - c.args.mark ≡ length c.args.self.now.noted - c.args.mark =
     omega (arith, c.made-end.ensures.noted, c.made-end.ensures.count) in
-    c.loop.invariant.noted ∙ ap (λ (k : ℕ). drop k c.args.self.now.noted) over
+    let far : c.loop.counter - c.args.mark ≡ length c.args.self.now.decisions - c.args.mark = omega arith in
+    node_is c.args.mark c.args.self.now c.loop.self is.inst
+    (is.dropped ∙ ap (λ (k : ℕ). drop k c.args.self.now.decisions) far)
+    (is.noted ∙ ap (λ (k : ℕ). drop k c.args.self.now.noted) over) is.sound is.cells is.notes
