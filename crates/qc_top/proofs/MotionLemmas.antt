@@ -4,7 +4,6 @@ use Rattle.std.specs.Prelude.{IfSome}
 use Rattle.qc_io.specs.Outside.{Files, Stand, Rose}
 use Rattle.qc_model.specs.declared.schedule.Slot.{Slot}
 use Rattle.qc_model.specs.Instance.{InstanceView}
-use Rattle.qc_model.specs.OneWay.{GoesOneWay}
 use Rattle.qc_top.specs.declared.answer.Refusal.{Refusal}
 use Rattle.qc_top.specs.declared.answer.Refusal.TheVariants as refusal
 use Rattle.qc_top.specs.declared.answer.Stop.TheVariants as stop
