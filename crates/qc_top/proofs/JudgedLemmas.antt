@@ -52,7 +52,7 @@ sched_of : Work → Option (List Slot)
 sched_of (judge inst sched) = Some sched
 sched_of _ = None
 
-err_same : {A E : Type 0} {a b : E} → ◌≡◌ {A = Result A E} (Err a) (Err b) → a ≡ b
+pub err_same : {A E : Type 0} {a b : E} → ◌≡◌ {A = Result A E} (Err a) (Err b) → a ≡ b
 err_same e = cc
 
 some_same : {A : Type 0} {a b : A} → ◌≡◌ {A = Option A} (Some a) (Some b) → a ≡ b
@@ -64,20 +64,9 @@ judge_inst reads inst sched e =
     let (job, first, made) = bind_ok (job_due reads) (λ job. Ok (judge job.inst job.sched)) (judge inst sched) e in
     job_inst reads job first ∙ ap Ok (some_same (ap inst_of (same_ok made)))
 
-one_job : (inst other : InstanceView) (sched slots : List Slot) → ◌≡◌ {A = Result Work Refusal} (Ok (judge inst sched)) (Ok (judge other slots)) → (inst ≡ other) × (sched ≡ slots)
+pub one_job : (inst other : InstanceView) (sched slots : List Slot) → ◌≡◌ {A = Result Work Refusal} (Ok (judge inst sched)) (Ok (judge other slots)) → (inst ≡ other) × (sched ≡ slots)
 unfolding inst_of sched_of
 one_job inst other sched slots e = (some_same (ap inst_of (same_ok e)), some_same (ap sched_of (same_ok e)))
-
-pub comes_judge : (asked : Asked) → IsCheckPlan asked → (files : Option Files) (job : Job) → ComesTo job_due asked files (Ok job)
-    → ComesTo (due asked) asked files (Ok (judge job.inst job.sched))
-comes_judge (check s w (Some p) t) is None job h = tt
-comes_judge (check s w (Some p) t) is (Some held) job h = rw h refl
-comes_judge (plan s w p t n) is files job h = absurd is
-comes_judge (check s w None t) is files job h = absurd is
-comes_judge (tasks s w) is files job h = absurd is
-comes_judge (show s w p) is files job h = absurd is
-comes_judge (make n hs cs) is files job h = absurd is
-comes_judge usage is files job h = absurd is
 
 -- what a tree's file shows is shown for the instance that is due
 pub shown_bound : (asked : Asked) (files : Option Files) (job : Job) (bound : Bound) → ComesTo job_due asked files (Ok job)
@@ -177,6 +166,7 @@ module _ (s w p t : List ℕ) (before after : Stand) (pb pa : Printed) where
   best_told (answer.Broken told) judging shown e report = absurd (cc e)
   best_told answer.WriteFault judging shown e report = absurd judging.ending
   best_told (answer.Tasks inst) judging shown e report = absurd judging.ending
+  best_told (answer.Shown moved) judging shown e report = absurd judging.ending
   best_told (answer.Checked bound) judging shown e report = absurd judging.ending
   best_told (answer.Planned told) judging shown e report = absurd judging.ending
   best_told (answer.Unplanned bound branched) judging shown e report = absurd judging.ending
@@ -199,6 +189,7 @@ module _ (s w p t : List ℕ) (before after : Stand) (pb pa : Printed) where
   weaker_told (answer.Broken told) judging shown e report = absurd (cc e)
   weaker_told answer.WriteFault judging shown e report = absurd judging.ending
   weaker_told (answer.Tasks inst) judging shown e report = absurd judging.ending
+  weaker_told (answer.Shown moved) judging shown e report = absurd judging.ending
   weaker_told (answer.Checked bound) judging shown e report = absurd judging.ending
   weaker_told (answer.Planned told) judging shown e report = absurd judging.ending
   weaker_told (answer.Unplanned bound branched) judging shown e report = absurd judging.ending
@@ -216,6 +207,7 @@ module _ (s w p t : List ℕ) (before after : Stand) (pb pa : Printed) where
   broken_told (answer.Stopped stop.OutOfMemory) judging e report = absurd (cc e)
   broken_told answer.WriteFault judging e report = absurd judging.ending
   broken_told (answer.Tasks inst) judging e report = absurd judging.ending
+  broken_told (answer.Shown moved) judging e report = absurd judging.ending
   broken_told (answer.Checked bound) judging e report = absurd judging.ending
   broken_told (answer.Planned told) judging e report = absurd judging.ending
   broken_told (answer.Unplanned bound branched) judging e report = absurd judging.ending
@@ -246,6 +238,7 @@ module _ (s w p t : List ℕ) (before after : Stand) (pb pa : Printed) where
   bad_plan_told (answer.Compared told) judging e report = absurd (compared_ends told status.BadPlan e)
   bad_plan_told answer.WriteFault judging e report = absurd judging.ending
   bad_plan_told (answer.Tasks inst) judging e report = absurd judging.ending
+  bad_plan_told (answer.Shown moved) judging e report = absurd judging.ending
   bad_plan_told (answer.Checked bound) judging e report = absurd judging.ending
   bad_plan_told (answer.Planned told) judging e report = absurd judging.ending
   bad_plan_told (answer.Unplanned bound branched) judging e report = absurd judging.ending
@@ -265,6 +258,7 @@ module _ (s w p t : List ℕ) (before after : Stand) (pb pa : Printed) where
   no_plan_tree (answer.Compared told) none e = absurd (compared_ends told status.BadTree e)
   no_plan_tree answer.WriteFault none e = absurd none
   no_plan_tree (answer.Tasks inst) none e = absurd none
+  no_plan_tree (answer.Shown moved) none e = absurd none
   no_plan_tree (answer.Checked bound) none e = absurd none
   no_plan_tree (answer.Planned told) none e = absurd none
   no_plan_tree (answer.Unplanned bound branched) none e = absurd none
@@ -310,6 +304,7 @@ module _ (s w p t : List ℕ) (before after : Stand) (pb pa : Printed) where
     judged_due (answer.Compared told) judging = inl (held_ends told judging.ending.1)
     judged_due answer.WriteFault judging = absurd judging.ending
     judged_due (answer.Tasks listed) judging = absurd judging.ending
+    judged_due (answer.Shown moved) judging = absurd judging.ending
     judged_due (answer.Checked bound) judging = absurd judging.ending
     judged_due (answer.Planned found) judging = absurd judging.ending
     judged_due (answer.Unplanned bound branched) judging = absurd judging.ending
@@ -331,6 +326,7 @@ module _ (s w p t : List ℕ) (before after : Stand) (pb pa : Printed) where
       let job = judging.ending.1 in absurd (cc (comes_due (due asked) asked held before.files told (Ok (judge job.inst job.sched)) job.due, is))
   early_due none held told why is answer.WriteFault judging = absurd judging.ending
   early_due none held told why is (answer.Tasks listed) judging = absurd judging.ending
+  early_due none held told why is (answer.Shown moved) judging = absurd judging.ending
   early_due none held told why is (answer.Checked bound) judging = absurd judging.ending
   early_due none held told why is (answer.Planned found) judging = absurd judging.ending
   early_due none held told why is (answer.Unplanned bound branched) judging = absurd judging.ending

@@ -5,4 +5,5 @@ pub mod RunLemmas
 pub mod DueLemmas
 pub mod FoundLemmas
 pub mod JudgedLemmas
+pub mod MotionLemmas
 pub mod StatusLemmas

@@ -28,12 +28,13 @@ use Rattle.qc_top.specs.Account.{ComesTo, Stops, IsSearched, IsStopped, IsWritin
 use Rattle.qc_top.proofs.FoundLemmas.{plan_ends, search_end, no_refusal, ends_in_time, ends_late, kind_told, word_told, kind_none, is_best, none_goes}
 use Rattle.qc_top.proofs.DueLemmas.{comes_due, stop_is}
 use Rattle.qc_top.proofs.JudgedLemmas.{bad_plan_told, best_told, broken_told, early_due, judged_due, no_plan_tree, only_judge, weaker_told}
+use Rattle.qc_top.proofs.MotionLemmas.{early_shown, motion_told, shown_bad_plan, shown_broken, shown_due}
 use Rattle.qc_top.proofs.ServeLemmas.{met_best}
 use Rattle.qc_top.proofs.StatusLemmas.{compared_ends, no_refusal_compared, not_other}
 use Rattle.qc_search.specs.declared.done.Kind.TheVariants as kind
 use Rattle.qc_search.specs.Run.{branching_limit}
 use Rattle.qc_top.specs.Shown.{IsBoundShown, IsNoneShown, TellsTree}
-use Rattle.qc_top.specs.Promises.{IsBudgetTold, IsOptimalTold, IsUnplannedTold, IsInfeasibleTold, IsSearchEnd, EndsAsDue, AreTasksTold, IsEndTold, IsNoneTold, IsBadPlanTold, IsBestTold, IsBrokenTold, IsWeakerTold, EndsJudged, IsRefusal, IsRefusalTold, IsCutTold, IsStopTold, EndsWith, NoneFailed, Promises}
+use Rattle.qc_top.specs.Promises.{IsBudgetTold, IsOptimalTold, IsUnplannedTold, IsInfeasibleTold, IsSearchEnd, EndsAsDue, AreTasksTold, IsEndTold, IsNoneTold, IsBadPlanTold, IsBestTold, IsBrokenTold, IsWeakerTold, IsMotionTold, EndsJudged, EndsShown, IsRefusal, IsRefusalTold, IsCutTold, IsStopTold, EndsWith, NoneFailed, Promises}
 
 -- the text of what is to be printed
 abbrev text_of : Result Work Refusal → List ℕ
@@ -84,7 +85,7 @@ turned_away before after why a away = elim away.0 [ inl is ↦ subst IsStop (sym
 
 unbuilt_away : (before after : Stand) (asked : Asked) → IsUnbuilt asked → (a : Answer) → Serves asked before after a
     → (a ≡ answer.Stopped (stop.Refused refusal.Unbuilt)) ⊎ (a ≡ answer.Stopped stop.OutOfMemory)
-unbuilt_away before after (show s w p) is a serves = serves.0
+unbuilt_away before after (show s w p) is a serves = absurd is
 unbuilt_away before after (make n h c) is a serves = serves.0
 unbuilt_away before after (plan s w p t n) is a serves = absurd is
 unbuilt_away before after (check s w None t) is a serves = absurd is
@@ -98,7 +99,7 @@ wanting_serves (plan s w p t n) stand = (refl, refl, refl)
 wanting_serves (check s w None t) stand = record { ending = refl; files = refl; faults = refl }
 wanting_serves (check s w (Some p) t) stand = record { ending = inl refl; files = refl; faults = refl }
 wanting_serves (tasks s w) stand = record { ending = refl; files = refl; faults = refl }
-wanting_serves (show s w p) stand = (inr refl, refl)
+wanting_serves (show s w p) stand = record { ending = refl; files = refl; faults = refl }
 wanting_serves (make n h c) stand = (inr refl, refl)
 wanting_serves usage stand = (inr refl, refl)
 
@@ -153,6 +154,7 @@ module _ (words : List (List ℕ)) (before after : Stand) (pb pa : Printed) (end
     optimal_told (answer.Checked bound) serves e report = absurd serves
     optimal_told (answer.Broken broken) serves e report = absurd serves
     optimal_told (answer.Compared compared) serves e report = absurd serves
+    optimal_told (answer.Shown moved) serves e report = absurd serves
 
     budget_told : (a : Answer) → IsPlan asked → IsWriting asked before after a → status_of a ≡ status.BudgetPlan → IsPrinted a pb.bytes pa.bytes
         → IfSome before.files (λ held. IsBudgetTold asked held after.files pb pa)
@@ -182,6 +184,7 @@ module _ (words : List (List ℕ)) (before after : Stand) (pb pa : Printed) (end
     budget_told (answer.Checked bound) is serves e report = absurd serves
     budget_told (answer.Broken broken) is serves e report = absurd serves
     budget_told (answer.Compared compared) is serves e report = absurd serves
+    budget_told (answer.Shown moved) is serves e report = absurd serves
 
     unplanned_told : (a : Answer) → IsPlan asked → IsWriting asked before after a → status_of a ≡ status.BudgetNone → IsPrinted a pb.bytes pa.bytes
         → IfSome before.files (λ held. IsUnplannedTold asked held after.files pb pa)
@@ -207,6 +210,7 @@ module _ (words : List (List ℕ)) (before after : Stand) (pb pa : Printed) (end
     unplanned_told (answer.Checked bound) is serves e report = absurd serves
     unplanned_told (answer.Broken broken) is serves e report = absurd serves
     unplanned_told (answer.Compared compared) is serves e report = absurd serves
+    unplanned_told (answer.Shown moved) is serves e report = absurd serves
 
     infeasible_told : (a : Answer) → IsWriting asked before after a → status_of a ≡ status.Infeasible → IsPrinted a pb.bytes pa.bytes
         → IfSome before.files (λ held. IsInfeasibleTold asked held after.files pb pa)
@@ -229,6 +233,7 @@ module _ (words : List (List ℕ)) (before after : Stand) (pb pa : Printed) (end
     infeasible_told (answer.Checked bound) serves e report = absurd serves
     infeasible_told (answer.Broken broken) serves e report = absurd serves
     infeasible_told (answer.Compared compared) serves e report = absurd serves
+    infeasible_told (answer.Shown moved) serves e report = absurd serves
 
   plan_optimal : (asked : Asked) → Asks words asked → IsPlan asked → ended ≡ status.Optimal
       → IfSome before.files (λ held. IsOptimalTold asked held after.files pb pa)
@@ -294,6 +299,7 @@ module _ (words : List (List ℕ)) (before after : Stand) (pb pa : Printed) (end
   tasks_told ship stow answer.WriteFault serves e report = absurd (cc e)
   tasks_told ship stow (answer.Broken broken) serves e report = absurd serves.ending
   tasks_told ship stow (answer.Compared compared) serves e report = absurd serves.ending
+  tasks_told ship stow (answer.Shown moved) serves e report = absurd serves.ending
 
   tasks_done : (ship stow : List ℕ) → Asks words (tasks ship stow) → ended ≡ status.Done
       → IfSome before.files (λ held. AreTasksTold (tasks ship stow) held pb pa)
@@ -322,6 +328,7 @@ module _ (words : List (List ℕ)) (before after : Stand) (pb pa : Printed) (end
   end_told ship stow tree (answer.Infeasible branched) shown e report = absurd shown
   end_told ship stow tree (answer.Broken broken) shown e report = absurd shown
   end_told ship stow tree (answer.Compared compared) shown e report = absurd shown
+  end_told ship stow tree (answer.Shown moved) shown e report = absurd shown
 
   check_done : (ship stow tree : List ℕ) → Asks words (check ship stow None tree) → ended ≡ status.Done
       → IfSome before.files (λ held. IsEndTold (check ship stow None tree) held pb pa)
@@ -346,6 +353,7 @@ module _ (words : List (List ℕ)) (before after : Stand) (pb pa : Printed) (end
   none_told ship stow tree (answer.Infeasible branched) shown e report = absurd shown
   none_told ship stow tree (answer.Broken broken) shown e report = absurd shown
   none_told ship stow tree (answer.Compared compared) shown e report = absurd shown
+  none_told ship stow tree (answer.Shown moved) shown e report = absurd shown
 
   check_infeasible : (ship stow tree : List ℕ) → Asks words (check ship stow None tree) → ended ≡ status.Infeasible
       → IfSome before.files (λ held. IsNoneTold (check ship stow None tree) held pb pa)
@@ -374,6 +382,7 @@ module _ (words : List (List ℕ)) (before after : Stand) (pb pa : Printed) (end
   no_tree_told ship stow tree (answer.Infeasible branched) none e = absurd none
   no_tree_told ship stow tree (answer.Broken broken) none e = absurd none
   no_tree_told ship stow tree (answer.Compared compared) none e = absurd none
+  no_tree_told ship stow tree (answer.Shown moved) none e = absurd none
 
   check_bad_tree : (ship stow tree : List ℕ) → Asks words (check ship stow None tree) → ended ≡ status.BadTree → IfSome before.files (λ held. IsNoneShown (check ship stow None tree) held)
   check_bad_tree ship stow tree asks e = elim run.reports [
@@ -425,6 +434,37 @@ module _ (words : List (List ℕ)) (before after : Stand) (pb pa : Printed) (end
       | inr cut ↦ absurd (none.printing cut.rose)
     ]
 
+  -- a plan that is shown
+  module _ (s w p : List ℕ) (asks : Asks words (show s w p)) where
+    show_done : ended ≡ status.Done → IfSome before.files (λ held. IsMotionTold (show s w p) held pb pa)
+    show_done e = elim run.reports [
+      | inl whole ↦ motion_told s w p before after pb pa run.answer (asked_is (show s w p) asks) (sym whole.status ∙ e) whole.printed
+      | inr cut ↦ absurd (cc (cut.status, e))
+    ]
+
+    show_broken : ended ≡ status.Broken → IfSome before.files (λ held. IsBrokenTold (show s w p) held pb pa)
+    show_broken e = elim run.reports [
+      | inl whole ↦ shown_broken s w p before after pb pa run.answer (asked_is (show s w p) asks) (sym whole.status ∙ e) whole.printed
+      | inr cut ↦ absurd (cc (cut.status, e))
+    ]
+
+    show_bad_plan : ended ≡ status.BadPlan → IfSome before.files (λ held. IsBadPlanTold (show s w p) held pb pa)
+    show_bad_plan e = elim run.reports [
+      | inl whole ↦ shown_bad_plan s w p before after pb pa run.answer (asked_is (show s w p) asks) (sym whole.status ∙ e) whole.printed
+      | inr cut ↦ absurd (cc (cut.status, e))
+    ]
+
+    show_complete : NoneFailed before after pb pa → (files : Option Files) → before.files ≡ files
+        → IfSome files (λ held. (inst : InstanceView) (sched : List Slot)
+        → due (show s w p) (reads_in held (show s w p)) ≡ Ok (judge inst sched) → EndsShown inst sched ended ⊎ (ended ≡ status.OutOfMemory))
+    show_complete none None told = tt
+    show_complete none (Some held) told = λ inst sched is. elim run.reports [
+      | inl whole ↦
+          subst (λ st. EndsShown inst sched st ⊎ (st ≡ status.OutOfMemory)) (sym whole.status)
+          (shown_due s w p before after pb pa none.reading held told inst sched is run.answer (asked_is (show s w p) asks))
+      | inr cut ↦ absurd (none.printing cut.rose)
+    ]
+
   -- the refusal whose status is told
   refusal_told : (asked : Asked) (a : Answer) → Serves asked before after a → IsRefusal (status_of a) → ended ≡ status_of a → IsPrinted a pb.bytes pa.bytes
       → IsRefusalTold asked before after pb pa ended
@@ -438,6 +478,7 @@ module _ (words : List (List ℕ)) (before after : Stand) (pb pa : Printed) (end
   refusal_told asked (answer.Unplanned bound branched) serves is e report = absurd is
   refusal_told asked (answer.Infeasible branched) serves is e report = absurd is
   refusal_told asked (answer.Broken broken) serves is e report = absurd is
+  refusal_told asked (answer.Shown moved) serves is e report = absurd is
   refusal_told asked (answer.Compared compared) serves is e report = absurd (no_refusal_compared compared is)
 
   refused : (asked : Asked) → Asks words asked → IsRefusal ended → IsRefusalTold asked before after pb pa ended
@@ -453,7 +494,7 @@ module _ (words : List (List ℕ)) (before after : Stand) (pb pa : Printed) (end
     by (check s w None t) serves never = serves.files
     by (check s w (Some p) t) serves never = serves.files
     by (tasks s w) serves never = serves.files
-    by (show s w p) serves never = ap (λ (s : Stand). s.files) serves.1
+    by (show s w p) serves never = serves.files
     by (make n h c) serves never = ap (λ (s : Stand). s.files) serves.1
     by usage serves never = ap (λ (s : Stand). s.files) serves.1
 
@@ -467,6 +508,7 @@ module _ (words : List (List ℕ)) (before after : Stand) (pb pa : Printed) (end
   plan_stays (plan s w p t n) is (answer.Checked bound) serves one two = absurd serves
   plan_stays (plan s w p t n) is (answer.Broken broken) serves one two = absurd serves
   plan_stays (plan s w p t n) is (answer.Compared compared) serves one two = absurd serves
+  plan_stays (plan s w p t n) is (answer.Shown moved) serves one two = absurd serves
   plan_stays (check s w None t) is a serves one two = absurd is
   plan_stays (check s w (Some p) t) is a serves one two = absurd is
   plan_stays (tasks s w) is a serves one two = absurd is
@@ -516,6 +558,7 @@ module _ (words : List (List ℕ)) (before after : Stand) (pb pa : Printed) (end
   left s w p t n (answer.Checked bound) serves = absurd serves
   left s w p t n (answer.Broken broken) serves = absurd serves
   left s w p t n (answer.Compared compared) serves = absurd serves
+  left s w p t n (answer.Shown moved) serves = absurd serves
 
   plan_stopped : (asked : Asked) → Asks words asked → IsPlan asked → ended ≡ status.WriteFault
       → IfSome before.files (λ held. (after.files ≡ Some held) ⊎ IsStopped asked held after.files)
@@ -538,6 +581,7 @@ module _ (words : List (List ℕ)) (before after : Stand) (pb pa : Printed) (end
   write_answer asked (answer.Infeasible branched) serves e = absurd (cc e)
   write_answer asked (answer.Tasks inst) serves e = absurd (cc e)
   write_answer asked (answer.Broken broken) serves e = absurd (cc e)
+  write_answer asked (answer.Shown moved) serves e = absurd (cc e)
   write_answer asked (answer.Compared compared) serves e = absurd (compared_ends compared status.WriteFault e)
   write_answer asked (answer.Checked (Least end)) serves e = absurd (cc e)
   write_answer asked (answer.Checked Never) serves e = absurd (cc e)
@@ -545,7 +589,7 @@ module _ (words : List (List ℕ)) (before after : Stand) (pb pa : Printed) (end
   write_answer (check s w None t) answer.WriteFault serves e = absurd serves.ending
   write_answer (check s w (Some p) t) answer.WriteFault serves e = absurd serves.ending
   write_answer (tasks s w) answer.WriteFault serves e = absurd serves.ending
-  write_answer (show s w p) answer.WriteFault serves e = absurd (turned_away before after refusal.Unbuilt answer.WriteFault serves)
+  write_answer (show s w p) answer.WriteFault serves e = absurd serves.ending
   write_answer (make n h c) answer.WriteFault serves e = absurd (turned_away before after refusal.Unbuilt answer.WriteFault serves)
   write_answer usage answer.WriteFault serves e = absurd (turned_away before after refusal.Usage answer.WriteFault serves)
 
@@ -578,6 +622,7 @@ module _ (words : List (List ℕ)) (before after : Stand) (pb pa : Printed) (end
   usage_asked asked (answer.Infeasible branched) serves e = absurd (cc e)
   usage_asked asked (answer.Tasks inst) serves e = absurd (cc e)
   usage_asked asked (answer.Broken broken) serves e = absurd (cc e)
+  usage_asked asked (answer.Shown moved) serves e = absurd (cc e)
   usage_asked asked (answer.Compared compared) serves e = absurd (compared_ends compared status.Usage e)
   usage_asked asked (answer.Checked (Least end)) serves e = absurd (cc e)
   usage_asked asked (answer.Checked Never) serves e = absurd (cc e)
@@ -586,7 +631,7 @@ module _ (words : List (List ℕ)) (before after : Stand) (pb pa : Printed) (end
   usage_asked (check s w None t) (answer.Stopped (stop.Refused refusal.Usage)) serves e = absurd serves.ending
   usage_asked (check s w (Some p) t) (answer.Stopped (stop.Refused refusal.Usage)) serves e = elim serves.ending [ inl early ↦ absurd early | inr late ↦ absurd late.tree ]
   usage_asked (tasks s w) (answer.Stopped (stop.Refused refusal.Usage)) serves e = absurd serves.ending
-  usage_asked (show s w p) (answer.Stopped (stop.Refused refusal.Usage)) serves e = elim serves.0 [ inl is ↦ absurd (cc is) | inr is ↦ absurd (cc is) ]
+  usage_asked (show s w p) (answer.Stopped (stop.Refused refusal.Usage)) serves e = absurd serves.ending
   usage_asked (make n h c) (answer.Stopped (stop.Refused refusal.Usage)) serves e = elim serves.0 [ inl is ↦ absurd (cc is) | inr is ↦ absurd (cc is) ]
   usage_asked usage (answer.Stopped (stop.Refused refusal.Usage)) serves e = refl
 
@@ -620,6 +665,7 @@ module _ (words : List (List ℕ)) (before after : Stand) (pb pa : Printed) (end
   memory_report (answer.Checked (Least end)) e report = absurd (cc e)
   memory_report (answer.Checked Never) e report = absurd (cc e)
   memory_report (answer.Broken broken) e report = absurd (cc e)
+  memory_report (answer.Shown moved) e report = absurd (cc e)
   memory_report (answer.Compared compared) e report = absurd (compared_ends compared status.OutOfMemory e)
   memory_report (answer.Planned made) e report = absurd (plan_ends made status.OutOfMemory e)
   memory_report (answer.Unplanned bound branched) e report = absurd (cc e)
@@ -649,6 +695,14 @@ module _ (words : List (List ℕ)) (before after : Stand) (pb pa : Printed) (end
     judged_plan s w p t held told a serves (Ok (search inst nodes)) is = absurd (only_judge (reads_in held (check s w (Some p) t)) (search inst nodes) is)
     judged_plan s w p t held told a serves (Err why) is = early_due s w p t before after pb pa none.reading held told why is a serves
 
+    -- a plan that is shown, up to the judging of its schedule
+    shown_plan : (s w p : List ℕ) (held : Files) → before.files ≡ Some held → (a : Answer) → Serves (show s w p) before after a → (d : Result Work Refusal)
+        → due (show s w p) (reads_in held (show s w p)) ≡ d → EndsAsDue d (status_of a) ⊎ (status_of a ≡ status.OutOfMemory)
+    shown_plan s w p held told a serves (Ok (judge inst sched)) is = inl tt
+    shown_plan s w p held told a serves (Ok (print ending)) is = absurd (only_judge (reads_in held (show s w p)) (print ending) is)
+    shown_plan s w p held told a serves (Ok (search inst nodes)) is = absurd (only_judge (reads_in held (show s w p)) (search inst nodes) is)
+    shown_plan s w p held told a serves (Err why) is = early_shown s w p before after pb pa none.reading held told why is a serves
+
     away_due : (why : Refusal) (a : Answer) → IsTurnedAway why before after a → EndsAsDue (Err why) (status_of a) ⊎ (status_of a ≡ status.OutOfMemory)
     away_due why a away = elim away.0 [ inl is ↦ inl (ap status_of is) | inr is ↦ inr (ap status_of is) ]
 
@@ -666,6 +720,7 @@ module _ (words : List (List ℕ)) (before after : Stand) (pb pa : Printed) (end
     answer_due (plan s w p t n) held told (answer.Checked bound) serves = absurd serves
     answer_due (plan s w p t n) held told (answer.Broken broken) serves = absurd serves
     answer_due (plan s w p t n) held told (answer.Compared compared) serves = absurd serves
+    answer_due (plan s w p t n) held told (answer.Shown moved) serves = absurd serves
     answer_due (check s w None t) held told (answer.Stopped why) serves = stop_due (check s w None t) held told why serves.ending
     answer_due (check s w None t) held told answer.WriteFault serves = absurd serves.ending
     answer_due (check s w None t) held told (answer.Tasks inst) serves = inl (as_due _ _ _ (comes_due (due (check s w None t)) (check s w None t) held before.files told (Ok (print (ending_of (answer.Tasks inst)))) serves.ending.1) refl)
@@ -675,6 +730,7 @@ module _ (words : List (List ℕ)) (before after : Stand) (pb pa : Printed) (end
     answer_due (check s w None t) held told (answer.Infeasible branched) serves = absurd serves.ending
     answer_due (check s w None t) held told (answer.Broken broken) serves = absurd serves.ending
     answer_due (check s w None t) held told (answer.Compared compared) serves = absurd serves.ending
+    answer_due (check s w None t) held told (answer.Shown moved) serves = absurd serves.ending
     answer_due (check s w (Some p) t) held told a serves = judged_plan s w p t held told a serves (due (check s w (Some p) t) (reads_in held (check s w (Some p) t))) refl
     answer_due (tasks s w) held told (answer.Stopped why) serves = stop_due (tasks s w) held told why serves.ending
     answer_due (tasks s w) held told answer.WriteFault serves = absurd serves.ending
@@ -685,7 +741,8 @@ module _ (words : List (List ℕ)) (before after : Stand) (pb pa : Printed) (end
     answer_due (tasks s w) held told (answer.Infeasible branched) serves = absurd serves.ending
     answer_due (tasks s w) held told (answer.Broken broken) serves = absurd serves.ending
     answer_due (tasks s w) held told (answer.Compared compared) serves = absurd serves.ending
-    answer_due (show s w p) held told a serves = away_due refusal.Unbuilt a serves
+    answer_due (tasks s w) held told (answer.Shown moved) serves = absurd serves.ending
+    answer_due (show s w p) held told a serves = shown_plan s w p held told a serves (due (show s w p) (reads_in held (show s w p))) refl
     answer_due (make n h c) held told a serves = away_due refusal.Unbuilt a serves
     answer_due usage held told a serves = away_due refusal.Usage a serves
 
@@ -714,6 +771,10 @@ module _ (words : List (List ℕ)) (before after : Stand) (pb pa : Printed) (end
     check_bad_plan = check_bad_plan;
     check_plan_bad_tree = check_plan_bad_tree;
     check_complete = λ s w p t asks none. check_complete s w p t asks none before.files refl;
+    show_done = show_done;
+    show_broken = show_broken;
+    show_bad_plan = show_bad_plan;
+    show_complete = λ s w p asks none. show_complete s w p asks none before.files refl;
     refused = refused;
     files_stay = files_stay;
     plan_leaves = plan_leaves;

@@ -234,6 +234,7 @@ writes_told asked before after inst done (answer.Tasks listed) told faults reads
 writes_told asked before after inst done (answer.Checked bound) told faults reads searched = absurd told
 writes_told asked before after inst done (answer.Broken broken) told faults reads searched = absurd told
 writes_told asked before after inst done (answer.Compared compared) told faults reads searched = absurd told
+writes_told asked before after inst done (answer.Shown moved) told faults reads searched = absurd told
 writes_told asked before after inst done (answer.Planned found) told faults reads searched = (faults, reads, searched)
 writes_told asked before after inst done (answer.Unplanned bound branched) told faults reads searched = (faults, reads, searched)
 writes_told asked before after inst done (answer.Infeasible branched) told faults reads searched = (faults, reads, searched)

@@ -17,6 +17,7 @@ use Rattle.qc_top.specs.declared.answer.Answer.{Answer}
 use Rattle.qc_top.specs.declared.answer.Answer.TheVariants as answer
 use Rattle.qc_top.specs.declared.answer.Broken.{Broken}
 use Rattle.qc_top.specs.declared.answer.Compared.{Compared}
+use Rattle.qc_top.specs.declared.answer.Shown.{Shown}
 use Rattle.qc_top.specs.declared.status.Status.{Status}
 use Rattle.qc_top.specs.declared.status.Status.TheVariants as status
 use Rattle.qc_words.specs.Asked.{Asked, plan, check, show, make, usage, name_of}
@@ -28,7 +29,7 @@ use Rattle.qc_top.specs.Answers.{ending_of, status_of}
 use Rattle.qc_gantt.specs.PlanText.{plan_text}
 use Rattle.qc_top.specs.Found.{IsFound, Tells}
 use Rattle.qc_top.specs.Reports.{IsPrintCut, IsPrinted}
-use Rattle.qc_top.specs.Held.{TellsBreak, TellsHeld}
+use Rattle.qc_top.specs.Held.{TellsBreak, TellsHeld, TellsShown}
 
 -- where the shelf tells its files, a step over them comes to this
 abbrev pub ComesTo :
@@ -75,6 +76,7 @@ ComesThrough asked before after (answer.Stopped why) = Stops (due asked) asked b
 ComesThrough asked before after answer.WriteFault = ⊥
 ComesThrough asked before after (answer.Broken told) = ⊥
 ComesThrough asked before after (answer.Compared told) = ⊥
+ComesThrough asked before after (answer.Shown told) = ⊥
 ComesThrough asked before after (answer.Planned told) = ⊥
 ComesThrough asked before after (answer.Unplanned bound branched) = ⊥
 ComesThrough asked before after (answer.Infeasible branched) = ⊥
@@ -162,6 +164,7 @@ IsWriting asked before after (answer.Tasks inst) = ⊥
 IsWriting asked before after (answer.Checked bound) = ⊥
 IsWriting asked before after (answer.Broken told) = ⊥
 IsWriting asked before after (answer.Compared told) = ⊥
+IsWriting asked before after (answer.Shown told) = ⊥
 IsWriting asked before after a =
     (after.faults ≡ before.faults) × (after.read_faults ≡ before.read_faults)
     × IfSome before.files (λ held. IsSearched asked held a after.files)
@@ -206,6 +209,28 @@ pub record IsJudging (asked : Asked) (before after : Stand) (a : Answer) : Type 
   pub files : after.files ≡ before.files
   pub faults : after.faults ≡ before.faults
 
+-- the schedule of the plan goes one way, and its motion is told
+pub record IsMoved (asked : Asked) (files : Option Files) (told : Shown) : Type 0 where
+  pub inst : InstanceView
+  pub sched : List Slot
+  pub due : ComesTo (due asked) asked files (Ok (judge inst sched))
+  pub tells : TellsShown inst sched told
+
+-- a plan that is shown: a refusal comes before the schedule is judged
+abbrev pub ShowsOf : Asked → Stand → Stand → Answer → Type 0
+ShowsOf asked before after (answer.Stopped why) = Stops (due asked) asked before after why
+ShowsOf asked before after (answer.Broken told) =
+    (after.read_faults ≡ before.read_faults) × IsBroken asked before.files told
+ShowsOf asked before after (answer.Shown told) =
+    (after.read_faults ≡ before.read_faults) × IsMoved asked before.files told
+ShowsOf asked before after _ = ⊥
+
+-- what showing a plan says of the shelf
+pub record IsShowing (asked : Asked) (before after : Stand) (a : Answer) : Type 0 where
+  pub ending : ShowsOf asked before after a
+  pub files : after.files ≡ before.files
+  pub faults : after.faults ≡ before.faults
+
 -- a request is refused so, or memory is wanting for its words, and the shelf isn't touched
 abbrev pub IsTurnedAway : Refusal → Stand → Stand → Answer → Type 0
 IsTurnedAway why before after a =
@@ -214,8 +239,8 @@ IsTurnedAway why before after a =
 -- what a request says of its answer and of the shelf
 abbrev pub Serves : Asked → Stand → Stand → Answer → Type 0
 Serves usage before after a = IsTurnedAway refusal.Usage before after a
-Serves (show s w p) before after a = IsTurnedAway refusal.Unbuilt before after a
 Serves (make n h c) before after a = IsTurnedAway refusal.Unbuilt before after a
+Serves (show s w p) before after a = IsShowing (show s w p) before after a
 Serves (plan s w p t n) before after a = IsWriting (plan s w p t n) before after a
 Serves (check s w (Some p) t) before after a = IsJudging (check s w (Some p) t) before after a
 Serves asked before after a = IsReading asked before after a

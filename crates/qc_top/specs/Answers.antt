@@ -6,7 +6,10 @@ use Rattle.qc_gantt.specs.Faults.{kind_text as plan_kind_text}
 use Rattle.qc_gantt.specs.declared.fault.PlanFault.{PlanFault}
 use Rattle.qc_model.specs.declared.rules.Rule.{Rule}
 use Rattle.qc_model.specs.declared.rules.Rule.TheVariants as rule
+use Rattle.qc_model.specs.declared.schedule.Slot.{Slot}
+use Rattle.qc_model.specs.Instance.{InstanceView}
 use Rattle.qc_model.specs.Judge.{rule_text}
+use Rattle.qc_model.specs.Rules.{ends}
 use Rattle.qc_replay.specs.Faults.{kind_text as tree_text}
 use Rattle.qc_replay.specs.declared.fault.TreeFault.{TreeFault}
 use Rattle.qc_ship.specs.declared.fault.ShipKind.{ShipKind}
@@ -117,6 +120,13 @@ unplanned_text bound branched =
 abbrev pub infeasible_text : ℕ → List ℕ
 infeasible_text branched = codes "Infeasible\nbranched " ++ decimal branched ++ codes "\n"
 
+-- what is printed ahead of a plan's motion
+abbrev pub head_text : Direction → ℕ → List ℕ
+head_text way end = codes "direction " ++ direction_text way ++ codes "\nend " ++ decimal end ++ codes "\n"
+
+abbrev pub shown_head : InstanceView → List Slot → Direction → List ℕ
+shown_head inst sched way = head_text way (ends inst sched)
+
 -- the names of the task or of the two tasks at which a rule is broken
 abbrev pub tasks_named : Rule → List ℕ → List ℕ → List ℕ
 tasks_named rule.Reach first second = first
@@ -185,6 +195,7 @@ report_text (answer.Tasks inst) = tasks_text inst
 report_text (answer.Checked bound) = (bound_ending bound).text
 report_text (answer.Broken told) = broken_text told
 report_text (answer.Compared told) = compared_text told
+report_text (answer.Shown told) = shown_head told.inst told.sched told.direction
 report_text (answer.Planned told) = planned_text told
 report_text (answer.Unplanned bound branched) = unplanned_text bound branched
 report_text (answer.Infeasible branched) = infeasible_text branched
@@ -196,6 +207,7 @@ status_of (answer.Tasks inst) = status.Done
 status_of (answer.Checked bound) = (bound_ending bound).status
 status_of (answer.Broken told) = status.Broken
 status_of (answer.Compared told) = compared_status told
+status_of (answer.Shown told) = status.Done
 status_of (answer.Planned told) = planned_status told
 status_of (answer.Unplanned bound branched) = status.BudgetNone
 status_of (answer.Infeasible branched) = status.Infeasible

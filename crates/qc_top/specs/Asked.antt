@@ -29,9 +29,13 @@ abbrev pub IsTasks : Asked → Type 0
 IsTasks (tasks s w) = Unit {0}
 IsTasks _ = ⊥
 
+-- the motion of a plan is asked for
+abbrev pub IsShow : Asked → Type 0
+IsShow (show s w p) = Unit {0}
+IsShow _ = ⊥
+
 -- a command is asked for that isn't built yet
 abbrev pub IsUnbuilt : Asked → Type 0
-IsUnbuilt (show s w p) = Unit {0}
 IsUnbuilt (make n h c) = Unit {0}
 IsUnbuilt _ = ⊥
 

@@ -60,7 +60,7 @@ pub record Ending : Type 0 where
   pub text : List ℕ
 
 -- what is to be done: a report is to be printed; an instance is to be searched with at most so many branchings and
--- what comes of it written; or a schedule is to be judged and, if it holds, its end compared with a tree's value
+-- what comes of it written; or a schedule is to be judged and, if it holds, its end compared with a tree's value, or its motion told
 pub data Work : Type 0 where
   print : (ending : Ending) → Work
   search : (inst : InstanceView) (nodes : ℕ) → Work
@@ -158,6 +158,6 @@ due (plan s w p t n) reads = plan_due n reads
 due (check s w None t) reads = check_due reads
 due (check s w (Some p) t) reads = judge_due reads
 due (tasks s w) reads = tasks_due reads
-due (show s w p) reads = Err refusal.Unbuilt
+due (show s w p) reads = judge_due reads
 due (make n h c) reads = Err refusal.Unbuilt
 due usage reads = Err refusal.Usage

@@ -8,7 +8,7 @@ use Rattle.qc_top.specs.declared.answer.Stop.{Stop}
 use Rattle.qc_top.specs.declared.answer.Stop.TheVariants as stop
 use Rattle.qc_top.specs.declared.answer.Answer.{Answer}
 use Rattle.qc_top.specs.declared.answer.Answer.TheVariants as answer
-use Rattle.qc_top.specs.Asked.{IsCheck, IsCheckPlan, IsPlan, IsTasks, IsUnbuilt, IsWhole}
+use Rattle.qc_top.specs.Asked.{IsCheck, IsCheckPlan, IsPlan, IsShow, IsTasks, IsUnbuilt, IsWhole}
 
 -- a refusal of a file comes only of one that the request reads, and TooLarge of one that it reads whole
 abbrev pub MayRefuse : Asked → Refusal → Type 0
@@ -26,14 +26,15 @@ abbrev pub MayStop : Asked → Stop → Type 0
 MayStop asked (stop.Refused why) = MayRefuse asked why
 MayStop asked stop.OutOfMemory = Unit {0}
 
--- every other answer comes of one kind of request alone
+-- Broken comes of a request that reads a plan's file, and every other answer of one kind of request alone
 abbrev pub MayAnswer : Asked → Answer → Type 0
 MayAnswer asked (answer.Stopped why) = MayStop asked why
 MayAnswer asked answer.WriteFault = IsPlan asked
 MayAnswer asked (answer.Tasks inst) = IsTasks asked
 MayAnswer asked (answer.Checked bound) = IsCheck asked
-MayAnswer asked (answer.Broken told) = IsCheckPlan asked
+MayAnswer asked (answer.Broken told) = IsSome (name_of input.Plan asked)
 MayAnswer asked (answer.Compared told) = IsCheckPlan asked
+MayAnswer asked (answer.Shown told) = IsShow asked
 MayAnswer asked (answer.Planned told) = IsPlan asked
 MayAnswer asked (answer.Unplanned bound branched) = IsPlan asked
 MayAnswer asked (answer.Infeasible branched) = IsPlan asked

@@ -20,20 +20,21 @@ use Rattle.qc_top.specs.declared.answer.Refusal.{Refusal}
 use Rattle.qc_top.specs.declared.answer.Refusal.TheVariants as refusal
 use Rattle.qc_top.specs.declared.answer.Stop.TheVariants as stop
 use Rattle.qc_top.specs.declared.answer.Planned.{Planned}
+use Rattle.qc_top.specs.declared.answer.Shown.{Shown}
 use Rattle.qc_top.specs.declared.answer.Answer.{Answer}
 use Rattle.qc_top.specs.declared.answer.Answer.TheVariants as answer
 use Rattle.qc_top.specs.declared.status.Status.{Status}
 use Rattle.qc_top.specs.declared.status.Status.TheVariants as status
-use Rattle.qc_words.specs.Asked.{Asked, check, tasks, usage}
+use Rattle.qc_words.specs.Asked.{Asked, check, tasks, show, usage}
 use Rattle.qc_words.specs.Commands.{named}
 use Rattle.qc_words.specs.Words.{Asks, Canonical}
 use Rattle.qc_top.specs.Asked.{IsPlan, IsUnbuilt, nodes_of}
 use Rattle.qc_top.specs.Due.{Work, print, search, judge, reads_in, instance_due, tree_due, due}
 use Rattle.qc_top.specs.Answers.{bad_plan_text, broken_text, compared_status, compared_text, compared_word, infeasible_text, planned_word, refusal_text, refusal_status, unplanned_text}
 use Rattle.qc_top.specs.Held.{TellsBreak}
-use Rattle.qc_top.specs.Reports.{IsPlanPrinted, IsPrintCut}
+use Rattle.qc_top.specs.Reports.{IsPlanPrinted, IsPrintCut, IsShownPrinted}
 use Rattle.qc_top.specs.Shown.{IsBoundShown, IsNoneShown, IsTreeShown}
-use Rattle.qc_top.specs.Account.{IsSearched, IsStopped, Serves, Printed}
+use Rattle.qc_top.specs.Account.{IsMoved, IsSearched, IsStopped, Serves, Printed}
 
 -- the schedule goes one way, and no schedule that goes one way ends earlier
 pub record IsBest (inst : InstanceView) (sched : List Slot) : Type 0 where
@@ -134,6 +135,13 @@ pub record IsBadPlanTold (asked : Asked) (held : Files) (before after : Printed)
   pub due : due asked (reads_in held asked) ≡ Err (refusal.BadPlan fault)
   pub report : after.bytes ≡ append_known before.bytes (bad_plan_text fault)
 
+-- the plan that is shown goes one way, and its direction, its end, the motion of every crane, which is safe, and the
+-- Gantt text were printed
+pub record IsMotionTold (asked : Asked) (held : Files) (before after : Printed) : Type 0 where
+  pub told : Shown
+  pub moved : IsMoved asked (Some held) told
+  pub report : IsShownPrinted told before.bytes after.bytes
+
 -- the status is that of a refusal
 abbrev pub IsRefusal : Status → Type 0
 IsRefusal status.Usage = Unit {0}
@@ -189,6 +197,11 @@ pub record EndsJudged (inst : InstanceView) (sched : List Slot) (tree : Result R
     : Type 0 where
   pub neither : ¬ GoesOneWay inst sched → ended ≡ status.Broken
   pub one_way : GoesOneWay inst sched → EndsHeld (ends inst sched) tree ended
+
+-- a plan that is to be shown ends so where nothing fails
+pub record EndsShown (inst : InstanceView) (sched : List Slot) (ended : Status) : Type 0 where
+  pub neither : ¬ GoesOneWay inst sched → ended ≡ status.Broken
+  pub one_way : GoesOneWay inst sched → ended ≡ status.Done
 
 -- the sink failed itself, so that it got a front part of the report of the answer
 pub record IsCutTold (asked : Asked) (before after : Stand) (printed_before printed_after : Printed)
@@ -272,6 +285,23 @@ pub record Promises (words : List (List ℕ)) (before after : Stand) (printed_be
       → due (check ship stow (Some plan) tree) (reads_in held (check ship stow (Some plan) tree)) ≡ Ok (judge inst sched)
       → EndsJudged inst sched (tree_due inst (reads_in held (check ship stow (Some plan) tree))) ended
       ⊎ (ended ≡ status.OutOfMemory))
+  -- Done, Broken and BadPlan of a plan that is shown; where no call failed it is Broken exactly where the plan goes
+  -- neither way
+  pub show_done :
+      (ship stow plan : List ℕ) → Asks words (show ship stow plan) → ended ≡ status.Done
+      → IfSome before.files (λ held. IsMotionTold (show ship stow plan) held printed_before printed_after)
+  pub show_broken :
+      (ship stow plan : List ℕ) → Asks words (show ship stow plan) → ended ≡ status.Broken
+      → IfSome before.files (λ held. IsBrokenTold (show ship stow plan) held printed_before printed_after)
+  pub show_bad_plan :
+      (ship stow plan : List ℕ) → Asks words (show ship stow plan) → ended ≡ status.BadPlan
+      → IfSome before.files (λ held. IsBadPlanTold (show ship stow plan) held printed_before printed_after)
+  pub show_complete :
+      (ship stow plan : List ℕ) → Asks words (show ship stow plan)
+      → NoneFailed before after printed_before printed_after
+      → IfSome before.files (λ held. (inst : InstanceView) (sched : List Slot)
+      → due (show ship stow plan) (reads_in held (show ship stow plan)) ≡ Ok (judge inst sched)
+      → EndsShown inst sched ended ⊎ (ended ≡ status.OutOfMemory))
   -- each refusal
   pub refused :
       (asked : Asked) → Asks words asked → IsRefusal ended

@@ -4,11 +4,12 @@ ghost use Rattle.qc_io.specs.Outside.{Rose};
 ghost use Rattle.qc_io.specs.Writes.{Writes};
 ghost use Rattle.qc_top.specs.Answers.{input_text, line, planned_word, direction_text, planned_text, unplanned_text, infeasible_text, refusal_text, planned_status, refusal_status, status_of};
 ghost use Rattle.qc_top.specs.Due.{bound_ending};
-ghost use Rattle.qc_top.specs.Reports.{CanBeTold, IsReady, WritesPlanned, WritesReport};
+ghost use Rattle.qc_top.specs.Reports.{CanBeTold, IsReady, WritesMoved, WritesReport};
 ghost use Rattle.qc_top.specs.Account.{Reports, printed_of};
 
 use crate::faults::{put_plan_fault, put_ship_fault, put_stow_fault, put_tree_fault};
 use crate::judged::{compared_status, put_broken, put_compared};
+use crate::show::put_shown;
 use crate::status::Status;
 use qc_gantt::{PlanFault, write_tracks};
 use qc_io::{Sink, WriteFault, put_all};
@@ -74,6 +75,17 @@ pub struct Planned {
     pub direction: Direction,
 }
 
+/// A plan that holds, whose motion is to be told.
+#[derive(Drop)]
+pub struct Shown {
+    pub inst: Instance,
+    pub sched: Schedule,
+    /// Where the waypoints of one crane after the other are put.
+    pub track: Track,
+    /// The way in which the plan goes.
+    pub direction: Direction,
+}
+
 /// What is told of a plan that breaks a rule.
 #[derive(Drop)]
 pub struct Broken {
@@ -108,6 +120,8 @@ pub enum Answer {
     Broken(Broken),
     /// The plan holds; its end and the tree's value are to be printed.
     Compared(Compared),
+    /// The plan holds; its motion is to be printed.
+    Shown(Shown),
     /// The search's tree and the plan of the best schedule that it met are written.
     Planned(Planned),
     /// The search's tree is written. It met no schedule, and none that goes one way ends before `bound`, in ticks.
@@ -194,6 +208,7 @@ fn status_of(answer: &Answer) -> Status
         Answer::Checked { bound } => bound_status(*bound),
         Answer::Broken(_) => Status::Broken,
         Answer::Compared(told) => compared_status(*told),
+        Answer::Shown(_) => Status::Done,
         Answer::Planned(told) => planned_status(told),
         Answer::Unplanned { .. } => Status::BudgetNone,
         Answer::Infeasible { .. } => Status::Infeasible,
@@ -226,7 +241,7 @@ fn planned_word(told: &Planned) -> &'static [u8]
     }
 }
 
-fn direction_text(direction: Direction) -> &'static [u8]
+pub(crate) fn direction_text(direction: Direction) -> &'static [u8]
     ensures text { result.now ≡ direction_text direction }
     ensures short { length result.now ≤ 4 }
 {
@@ -257,7 +272,8 @@ fn put_planned<K: Sink>(told: &Planned, out: &mut K) -> Result<(), WriteFault>
 /// Writes the summary of a search that met a schedule, and the motion of each crane.
 fn put_moved<K: Sink>(told: Planned, out: &mut K) -> Result<(), WriteFault>
     requires { IsReady told }
-    ensures { WritesPlanned K.written K.beside K.faults out.old out.new told result }
+    ensures { WritesMoved K.written K.beside K.faults out.old out.new (planned_text told)
+        told.inst told.sched told.direction result }
 {
     put_planned(&told, out)?;
     let Planned {
@@ -319,6 +335,7 @@ fn put_report<K: Sink>(answer: Answer, out: &mut K) -> Result<(), WriteFault>
         Answer::Checked { bound } => put_bound(bound, out),
         Answer::Broken(told) => put_broken(&told, out),
         Answer::Compared(told) => put_compared(told, out),
+        Answer::Shown(told) => put_shown(told, out),
         Answer::Planned(told) => put_moved(told, out),
         Answer::Unplanned { bound, branched } => put_unplanned(bound, branched, out),
         Answer::Infeasible { branched } => put_infeasible(branched, out),

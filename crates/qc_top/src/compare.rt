@@ -24,7 +24,7 @@ use qc_words::Request;
 use std::alloc::Global;
 
 /// What is told of a break.
-fn broken_of(inst: &Instance, broken: Break) -> Broken
+pub(crate) fn broken_of(inst: &Instance, broken: Break) -> Broken
     requires first { broken.first < length inst.now.tasks }
     requires second { broken.second < length inst.now.tasks }
     ensures rule { result.rule ≡ broken.rule }

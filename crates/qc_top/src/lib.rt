@@ -10,9 +10,10 @@ mod judged;
 mod plan;
 mod program;
 mod reading;
+mod show;
 mod status;
 mod tasks;
 
-pub use answer::{Answer, Broken, Compared, Planned, Refusal, Stop};
+pub use answer::{Answer, Broken, Compared, Planned, Refusal, Shown, Stop};
 pub use program::run;
 pub use status::Status;

@@ -13,6 +13,7 @@ use crate::answer::{Answer, Refusal, Stop, report};
 use crate::check::check;
 use crate::compare::check_plan;
 use crate::plan::plan;
+use crate::show::show;
 use crate::status::Status;
 use crate::tasks::list_tasks;
 use qc_io::{Shelf, Sink};
@@ -42,9 +43,8 @@ fn serve<S: Shelf>(alloc: Global, request: &Request<'_>, shelf: &mut S) -> Answe
         Request::Check { plan: None, .. } => check(alloc, request, shelf),
         Request::Check { plan: Some(_), .. } => check_plan(alloc, request, shelf),
         Request::Tasks { .. } => list_tasks(alloc, request, shelf),
-        Request::Show { .. } | Request::Make { .. } => {
-            Answer::Stopped(Stop::Refused(Refusal::Unbuilt))
-        }
+        Request::Show { .. } => show(alloc, request, shelf),
+        Request::Make { .. } => Answer::Stopped(Stop::Refused(Refusal::Unbuilt)),
         Request::Usage => Answer::Stopped(Stop::Refused(Refusal::Usage)),
     }
 }
