@@ -1,24 +1,21 @@
 -- Arcs that are those of a node: what a push keeps, and that there are few.
-use Rattle.std.proofs.Common.{◌≡◌, ◌≢◌, ℕ, zero, suc, ◌+◌, ◌-◌, ◌*◌, ◌^◌, ◌<◌, ◌≤◌, Bool, true, false, ◌&&◌, ◌||◌, cond, eqb, inl, inr, ◌⊎◌, List, [], ◌∷◌, ◌++◌, length, Option, None, Some, IfSome, refl, sym, ap, ap₂, subst, subst₂, ◌∙◌, append_assoc, arith}
-use Rattle.std.proofs.lemmas.Bool.{and_from, and_parts, cases_Bool, cases_eq, cases_lt, cases_order, cond-false, cond-true, cond_both, eq-eqb, eqb-true, ne_eqb, or_cases, or_left, or_right, false≢true}
-use Rattle.std.proofs.lemmas.Option.{same_Some}
+use Rattle.std.proofs.Common.{◌≡◌, ◌≢◌, ℕ, zero, suc, ◌+◌, ◌-◌, ◌*◌, ◌<◌, ◌≤◌, Bool, true, false, ◌||◌, cond, eqb, inl, inr, ◌⊎◌, List, [], ◌∷◌, ◌++◌, length, Option, None, Some, IfSome, refl, sym, ap, ap₂, subst, subst₂, ◌∙◌, append_assoc, arith}
+use Rattle.std.proofs.lemmas.Bool.{cases_Bool, cases_eq, cases_lt, cases_order, cond-false, cond-true, cond_both}
 use Rattle.std.specs.Prelude.{count_by}
 use Rattle.std.specs.List.{AllByRecursion}
 use Rattle.qc_arena.specs.declared.edge.Edge.{Edge}
-use Rattle.qc_dist.specs.Added.{excess}
 use Rattle.qc_dist.specs.Node.{IsOpen}
-use Rattle.qc_dist.proofs.Assigned.{assigned_here, assigned_other}
 use Rattle.qc_dist.proofs.Tables.{pair_differs, pair_is}
 use Rattle.qc_model.specs.declared.decision.Decision.{Decision}
 use Rattle.qc_model.specs.declared.decision.Decision.TheVariants.{Assign, Order}
 use Rattle.qc_model.specs.Instance.{InstanceView, Valid, ticks_of}
-use Rattle.qc_model.specs.Nodes.{Fits, IsSettled, assigned, crane_ticks, forced, greater, is_before, sooner_ticks}
+use Rattle.qc_model.specs.Nodes.{Fits, assigned, crane_ticks, forced, greater, is_before, sooner_ticks}
 use Rattle.qc_model.proofs.CompleteNodes.{forced_ticks}
 use Rattle.qc_model.proofs.NodeLemmas.{before_found}
 use Rattle.qc_starts.specs.Arcs.{AreArcs, AreOpening, IsArc, IsOver, added, arc_between, joins, leads, most_arcs, newest_length, with_added}
 use Rattle.qc_starts.proofs.Counts.{IsBetween, arcs_few, count_cons}
 use Rattle.qc_starts.specs.Spread.{one_of}
-use Rattle.qc_starts.proofs.Growth.{assigned_same, excess_by, forced_grows, greater_more, greater_same, one_way, open_from, open_to, ordered_here_is, ordered_same, ticks_none, unsettled_from, unsettled_to}
+use Rattle.qc_starts.proofs.Growth.{assigned_same, excess_by, forced_grows, greater_more, greater_same, one_way, open_from, open_to, ordered_here_is, ordered_same, unsettled_from, unsettled_to}
 use Rattle.qc_starts.proofs.SelfLemmas.{self_free}
 
 none_some : (n : ℕ) → ◌≡◌ {A = Option ℕ} None (Some n) → ⊥

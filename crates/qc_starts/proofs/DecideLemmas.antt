@@ -1,12 +1,10 @@
 -- What a decision leaves is kept, and its notes are counted.
-use Rattle.std.proofs.Common.{◌≡◌, ℕ, zero, suc, ◌+◌, ◌-◌, ◌*◌, ◌<◌, ◌≤◌, inl, inr, Bool, true, false, List, [], ◌∷◌, ◌++◌, All, length, drop, take, reverse, refl, sym, ap, subst, subst₂, ◌∙◌, length-append, vec_capacity, arith}
-use Rattle.std.proofs.lemmas.Bool.{cases_Bool, false≢true, ltb-true}
-use Rattle.std.proofs.lemmas.List.{get_or_default}
+use Rattle.std.proofs.Common.{◌≡◌, ℕ, zero, suc, ◌+◌, ◌-◌, ◌*◌, ◌<◌, ◌≤◌, inl, inr, Bool, true, List, [], ◌∷◌, ◌++◌, All, length, drop, take, reverse, refl, sym, ap, subst, subst₂, ◌∙◌, length-append, vec_capacity, arith}
+use Rattle.std.proofs.lemmas.Bool.{cases_Bool, ltb-true}
 use Rattle.std.proofs.lemmas.List.Sums.{count_by-le-length, sum_by-cons}
 use Rattle.std.proofs.Math.Nat.{mul-le-mul_left}
 use Rattle.std.specs.Prelude.{count_by, nat_lt, slice_index, slice_index_or, sum}
 use Rattle.std.specs.List.{range_with_len}
-use Rattle.qc_dist.specs.Node.{IsOpen}
 use Rattle.qc_dist.proofs.Room.{fits_room}
 use Rattle.qc_model.specs.declared.decision.Decision.{Decision}
 use Rattle.qc_model.specs.Instance.{InstanceView}
@@ -43,7 +41,7 @@ range_marks p noted a zero fits each = omega arith
 range_marks p [] a (suc m) fits each = absurd (omega arith)
 range_marks p (b ∷ bs) a (suc m) fits each =
     let next = λ (k : ℕ) (low : k < m) (t : p (a + 1 + k) ≡ true).
-        each (suc k) (omega arith) (ap p (omega arith) ∙ t) in
+    each (suc k) (omega arith) (ap p (omega arith) ∙ t) in
     let rest = range_marks p bs (a + 1) m (omega arith) next in
     let one : one_of (p a) ≤ one_of b = elim (cases_Bool (p a)) [
       | inl holds ↦ let mark = each 0 (omega arith) (ap p (omega arith) ∙ holds) in omega (arith, ap one_of holds, ap one_of mark)
@@ -90,8 +88,16 @@ module _ (f : Inside) (node : StartsNode) (is : IsKept f) (view : node_of f ≡ 
   pub begun_notes : HasNotes mid.values
   begun_notes = record {
     size = begun.noted ∙ is.sized.noted ∙ sym is.sized.cells ∙ ap (length {A = ℕ}) (sym begun.cells);
-    room = omega (arith, ap (λ (t : Notes). length t.notes) begun.trail, ap (λ (t : Notes). t.cap) begun.trail,
-        begun.noted, is.sized.noted, is.sized.cap, is.few, room_for);
+    room = omega (
+      arith,
+      ap (λ (t : Notes). length t.notes) begun.trail,
+      ap (λ (t : Notes). t.cap) begun.trail,
+      begun.noted,
+      is.sized.noted,
+      is.sized.cap,
+      is.few,
+      room_for,
+    );
     places = subst₂ (λ (t : Notes) (xs : List ℕ). All (λ note. note.place < length xs) t.notes) (sym begun.trail) (sym begun.cells)
         is.sized.places;
   }
@@ -174,19 +180,19 @@ module _ (f : Inside) (node : StartsNode) (is : IsKept f) (view : node_of f ≡ 
     raised_few Raised done olds news e one two =
         let after = subst (λ (i : InstanceView). AreRest i g.network.decisions g.spread.values.cells) (inst_is ∙ is.same) done in
         let few = range_marks (λ j. nat_lt (slice_index olds j) (slice_index news j)) g.spread.values.noted.items 0
-            (length f.inst.tasks) (omega (arith, wrote.notes.size, cells_count))
-            (λ k low later. elim (cases_Bool (slice_index_or g.spread.values.noted.items k true)) [
-              | inl on ↦ on
-              | inr off ↦
-                  let at : 0 + k ≡ k = omega arith in
-                  let less = ltb-true (slice_index olds k) (slice_index news k)
-                      (ap (λ (j : ℕ). nat_lt (slice_index olds j) (slice_index news j)) (sym at) ∙ later) in
-                  let old = same_least f.inst f.network.decisions f.spread.values.cells olds home_rest one k low in
-                  let new = same_least f.inst g.network.decisions g.spread.values.cells news after two k low in
-                  let held = noting.same k (omega (arith, noting.size, cells_count)) off
-                      ∙ ap (λ (xs : List ℕ). slice_index xs k) begun.cells in
-                  absurd (omega (arith, less, old, new, held))
-            ]) in
+        (length f.inst.tasks) (omega (arith, wrote.notes.size, cells_count))
+        (λ k low later. elim (cases_Bool (slice_index_or g.spread.values.noted.items k true)) [
+          | inl on ↦ on
+          | inr off ↦
+              let at : 0 + k ≡ k = omega arith in
+              let less = ltb-true (slice_index olds k) (slice_index news k)
+              (ap (λ (j : ℕ). nat_lt (slice_index olds j) (slice_index news j)) (sym at) ∙ later) in
+              let old = same_least f.inst f.network.decisions f.spread.values.cells olds home_rest one k low in
+              let new = same_least f.inst g.network.decisions g.spread.values.cells news after two k low in
+              let held = noting.same k (omega (arith, noting.size, cells_count)) off
+              ∙ ap (λ (xs : List ℕ). slice_index xs k) begun.cells in
+              absurd (omega (arith, less, old, new, held))
+        ]) in
         omega (arith, few, noting.count)
 
     counts_are : (node_of g).noted ≡ length noting.since ∷ (node_of f).noted
@@ -214,15 +220,15 @@ module _ (f : Inside) (node : StartsNode) (is : IsKept f) (view : node_of f ≡ 
         let ds = f.network.decisions in
         let kept_notes = f.spread.values.trail.notes in
         let each = counts_count (reverse f.marks.items) (length kept_notes)
-            ∙ nested_count f.inst ds (reverse f.marks.items) kept_notes f.spread.values.cells is.nested in
+        ∙ nested_count f.inst ds (reverse f.marks.items) kept_notes f.spread.values.cells is.nested in
         let total = sum_counts f.inst ds (reverse f.marks.items) kept_notes f.spread.values.cells is.nested in
         let decisions = ap (first_of (length ds)) ds_is ∙ first_here (length ds) (length ds) d ds refl refl in
         let noted = ap (first_of (length ds)) counts_are
-            ∙ first_here (length ds) (length ds) (length noting.since) (node_of f).noted each refl in
+        ∙ first_here (length ds) (length ds) (length noting.since) (node_of f).noted each refl in
         let sums : length kept_notes ≡ sum (first_of (length ds) (node_of g).noted) = sym (ap sum noted ∙ total) in
         let past = ap (λ (k : ℕ). drop k (node_of g).notes) (sym sums) ∙ ap (drop (length kept_notes)) notes_are
-            ∙ drop_push kept_notes noting.since in
+        ∙ drop_push kept_notes noting.since in
         let front = ap (λ (k : ℕ). take k (node_of g).notes) (sym sums) ∙ ap (take (length kept_notes)) notes_are
-            ∙ take_push kept_notes noting.since in
+        ∙ take_push kept_notes noting.since in
         let cells = ap (λ (ns : List Note). written_back ns (node_of g).cells) past ∙ back in
         same_node (taken_back (length ds) (node_of g)) (node_of f) home decisions noted cells front

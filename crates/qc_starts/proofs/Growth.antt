@@ -1,9 +1,9 @@
 -- What a decision adds: nothing that is forced becomes less, and only what it names changes.
-use Rattle.std.proofs.Common.{◌≡◌, ◌≢◌, ℕ, zero, suc, ◌+◌, ◌<◌, ◌≤◌, Bool, true, false, ◌&&◌, ◌||◌, cond, eqb, ltb, inl, inr, ◌⊎◌, List, [], ◌∷◌, length, Option, None, Some, IfSome, IsSome, IsTrue, T, ℤ, ◌<ℤ◌, refl, sym, ap, ap₂, subst, ◌∙◌, arith}
-use Rattle.std.proofs.lemmas.Bool.{and_from, and_parts, cases_Bool, cases_eq, cond-false, cond-true, cond_both, eq-eqb, eqb-true, ltb-true, ltb-false, ne_eqb, or_right, false≢true}
+use Rattle.std.proofs.Common.{◌≡◌, ◌≢◌, ℕ, ◌<◌, ◌≤◌, Bool, true, false, ◌&&◌, ◌||◌, cond, eqb, ltb, inl, inr, List, ◌∷◌, length, Option, None, Some, IsSome, IsTrue, T, ℤ, ◌<ℤ◌, refl, sym, ap, ap₂, subst, ◌∙◌, arith}
+use Rattle.std.proofs.lemmas.Bool.{and_parts, cases_Bool, cases_eq, cond-false, cond-true, eq-eqb, ltb-true, ltb-false, ne_eqb, or_right}
 use Rattle.std.proofs.lemmas.Int.{ints}
 use Rattle.std.proofs.lemmas.Option.{same_Some}
-use Rattle.std.specs.Prelude.{int_lt, nat_lt, slice_index}
+use Rattle.std.specs.Prelude.{int_lt, nat_lt}
 use Rattle.qc_dist.specs.Added.{excess}
 use Rattle.qc_dist.specs.Node.{IsOpen}
 use Rattle.qc_dist.proofs.Assigned.{assigned_here, assigned_other, ordered_here, ordered_other}
@@ -11,7 +11,7 @@ use Rattle.qc_model.specs.declared.decision.Decision.{Decision}
 use Rattle.qc_model.specs.declared.decision.Decision.TheVariants.{Assign, Order}
 use Rattle.qc_model.specs.Instance.{InstanceView, bay_of, ticks_of}
 use Rattle.qc_model.specs.Nodes.{IsSettled, Meets, assigned, crane_ticks, forced, free, greater, head, head_by, is_before, is_ordered, is_sooner, reaches, sooner_ticks}
-use Rattle.qc_model.specs.Ticks.{climb, lead, task_distance}
+use Rattle.qc_model.specs.Ticks.{task_distance}
 use Rattle.qc_model.proofs.Extremes.{least_le}
 use Rattle.qc_starts.specs.Seen.{IsReached}
 

@@ -1,15 +1,13 @@
 -- What is kept for a node answers what is asked of it.
-use Rattle.std.proofs.Common.{◌≡◌, ◌≢◌, ℕ, zero, suc, ◌+◌, ◌-◌, ◌*◌, ◌<◌, ◌≤◌, ◌⊎◌, inl, inr, Bool, true, false, List, [], ◌∷◌, ◌++◌, All, length, get_or, drop, take, reverse, Option, None, Some, refl, sym, ap, subst, subst₂, ◌∙◌, length-append, arith}
-use Rattle.std.proofs.lemmas.Bool.{cases_eq, cases_lt}
+use Rattle.std.proofs.Common.{◌≡◌, ◌≢◌, ℕ, zero, suc, ◌+◌, ◌-◌, ◌*◌, ◌<◌, ◌≤◌, inl, inr, List, [], ◌∷◌, ◌++◌, length, get_or, drop, take, reverse, Option, None, Some, refl, sym, ap, subst, subst₂, ◌∙◌, length-append, arith}
+use Rattle.std.proofs.lemmas.Bool.{cases_eq}
 use Rattle.std.proofs.lemmas.List.{get_or_default, length-take-le, take-append-drop}
 use Rattle.std.proofs.lemmas.List.Sums.{sum_by-cons}
-use Rattle.std.proofs.lemmas.Option.{same_Some}
 use Rattle.std.specs.Prelude.{slice_index, sum}
-use Rattle.qc_arena.specs.declared.edge.Edge.{Edge}
 use Rattle.qc_dist.specs.Node.{IsOpen}
 use Rattle.qc_model.specs.declared.decision.Decision.{Decision}
 use Rattle.qc_model.specs.declared.decision.Decision.TheVariants.{Assign, Order}
-use Rattle.qc_model.specs.Instance.{InstanceView, IsApart, Valid, pair_of}
+use Rattle.qc_model.specs.Instance.{InstanceView, IsApart, pair_of}
 use Rattle.qc_model.specs.declared.pair.Pair.{Pair}
 use Rattle.qc_model.specs.Leaves.{chain, leaf_value, with_berths}
 use Rattle.qc_num.specs.declared.bound.Bound.TheVariants.{Least}
@@ -23,7 +21,7 @@ use Rattle.qc_starts.specs.declared.step.Step.TheVariants.{Raised, Cycle}
 use Rattle.qc_starts.specs.NodeArcs.{IsSound, NodeArcs}
 use Rattle.qc_starts.specs.Roots.{root_of}
 use Rattle.qc_starts.specs.Seen.{AreNotes, HoldsStarts, IsCycle, IsNodeStart, IsReached, IsStep, IsWhy, StartsNode, first_of, taken_back}
-use Rattle.qc_starts.specs.Spread.{IsBackAtRoot, IsIn, IsLifted, IsRaising, IsRooting, IsSettledTo}
+use Rattle.qc_starts.specs.Spread.{IsBackAtRoot, IsLifted, IsRooting, IsSettledTo}
 use Rattle.qc_starts.specs.Values.{AreRest, IsReason, raiser_at, start_at}
 use Rattle.qc_starts.specs.Ways.{AreBacked, IsBackTo, IsEndless, IsRing, IsRising, Why}
 use Rattle.qc_starts.proofs.Growth.{assigned_same, forced_grows, head_grows, head_same, meets_before, ordered_same}
@@ -43,10 +41,10 @@ module _ (net : NodeArcs) (root : ℕ) (olds cells : List ℕ) (is : IsBackAtRoo
   back_by : (j : ℕ) → InRing j → (i : ℕ) × (raiser_at (length net.inst.tasks) cells j ≡ Some i) × InRing i
   back_by j has = elim (cases_eq j root) [
     | inl same ↦ (
-        is.back.by,
-        ap (raiser_at (length net.inst.tasks) cells) same ∙ is.back.is,
-        (is.back.task, is.back.lifted),
-      )
+      is.back.by,
+      ap (raiser_at (length net.inst.tasks) cells) same ∙ is.back.is,
+      (is.back.task, is.back.lifted),
+    )
     | inr other ↦ elim has.1 [
       | inl same ↦ absurd (other same)
       | inr less ↦
@@ -186,7 +184,7 @@ module _ (net : NodeArcs) (d : Decision) (ds : List Decision) (olds cells : List
       settled = λ arc in_ first second.
           let asks = arc_of (IsArc net.inst net.decisions) net.arcs sound.all.each arc in_ in
           let old = sym (forced_kept d arc.from arc.to first second)
-              ∙ sym (ap (λ (xs : List Decision). forced net.inst xs arc.from arc.to) is) ∙ asks.is in
+          ∙ sym (ap (λ (xs : List Decision). forced net.inst xs arc.from arc.to) is) ∙ asks.is in
           let kept = rest.steps arc.from arc.to asks.ticks asks.from asks.to old in
           omega (arith, same arc.from asks.from, same arc.to asks.to, kept, asks.within);
     };
@@ -240,11 +238,14 @@ pub nested_less : (inst : InstanceView) (ds : List Decision) (mark : ℕ) (marks
     (cells : List ℕ) → AreNested inst ds (mark ∷ marks) notes cells
     → (mark ≤ length notes) × IsBackNode inst (drop 1 ds) marks (take mark notes) (written_back (drop mark notes) cells)
 nested_less inst [] mark marks notes cells are = absurd are
-nested_less inst (d ∷ ds) mark marks notes cells are = (are.0, record {
-  few = omega (arith, length-take-le mark notes are.0, are.1);
-  rest = are.2;
-  nested = are.3;
-})
+nested_less inst (d ∷ ds) mark marks notes cells are = (
+  are.0,
+  record {
+    few = omega (arith, length-take-le mark notes are.0, are.1);
+    rest = are.2;
+    nested = are.3;
+  },
+)
 
 pub sum_counts : (inst : InstanceView) (ds : List Decision) (marks : List ℕ) (notes : List Note) (cells : List ℕ)
     → AreNested inst ds marks notes cells → sum (counts_of marks (length notes)) ≡ length notes
@@ -311,7 +312,7 @@ nested_back inst (d ∷ ds) (k ∷ ks) notes cells are m low =
     let counts = counts_of ks k in
     let many : length counts ≡ length ds = counts_count ks k ∙ older in
     let total : sum counts ≡ k = ap (λ (n : ℕ). sum (counts_of ks n)) (sym size)
-        ∙ sum_counts inst ds ks (take k notes) (written_back (drop k notes) cells) are.3 ∙ size in
+    ∙ sum_counts inst ds ks (take k notes) (written_back (drop k notes) cells) are.3 ∙ size in
     elim (cases_eq m (length ds)) [
       | inl same ↦
           let here = first_here m (length ds) (length notes - k) counts many same in
@@ -329,7 +330,7 @@ nested_back inst (d ∷ ds) (k ∷ ks) notes cells are m low =
           sym (written_back-append (drop s (take k notes)) (drop k notes) cells)
           ∙ ap (λ (ns : List Note). written_back ns cells) (sym (split_at s k notes small)) in
           let moved = subst (λ (n : ℕ). HoldsStarts inst (first_of m ds)
-              (written_back (drop n (take k notes)) (written_back (drop k notes) cells))) shift rest in
+          (written_back (drop n (take k notes)) (written_back (drop k notes) cells))) shift rest in
           let there = subst (HoldsStarts inst (first_of m ds)) joined moved in
           let later = ap sum (first_later m (length notes - k) counts (omega (arith, many))) in
           subst₂ (λ (xs : List Decision) (n : ℕ). HoldsStarts inst xs (written_back (drop n notes) cells))
@@ -489,8 +490,8 @@ module _ (f : Inside) (node : StartsNode) (is : IsKept f) (view : node_of f ≡ 
   ring_kept k same path ring =
       let net = f.network in
       let found = ring_of net.inst net.decisions f.spread.values.cells is.sound.valid
-          (state_reasons net f.spread.values.cells f.root f.step is.state) is.sound.fits path
-          (why_back (λ why. IsRing why path) k same ring) in
+      (state_reasons net f.spread.values.cells f.root f.step is.state) is.sound.fits path
+      (why_back (λ why. IsRing why path) k same ring) in
       (seen_on (λ i ds. IsCycle i ds path) found.0, omega (arith, found.1, net_tasks, tasks_are))
 
   pub noted_count : length node.noted ≡ length node.decisions

@@ -1,12 +1,12 @@
 -- A note of a cell that isn't marked, and a write of one that is.
-use Rattle.std.proofs.Common.{◌≡◌, ◌≢◌, ℕ, zero, suc, ◌+◌, ◌<◌, ◌≤◌, Bool, true, false, inl, inr, List, [], ◌∷◌, ◌++◌, length, cond, refl, sym, ap, subst, ◌∙◌, append_assoc, ext_get_or, length-append, arith}
+use Rattle.std.proofs.Common.{◌≡◌, ◌≢◌, ℕ, suc, ◌+◌, ◌<◌, Bool, true, false, inl, inr, List, [], ◌∷◌, ◌++◌, length, refl, sym, ap, ◌∙◌, append_assoc, ext_get_or, length-append, arith}
 use Rattle.std.proofs.lemmas.Bool.{cases_eq, cases_lt, false≢true}
 use Rattle.std.proofs.lemmas.List.{append-nil, get_or_default, get_or-set_same, get_or-set_other}
 use Rattle.std.proofs.lemmas.List.Sums.{count_by-le-length, sum_by-cons, sum_by-set}
 use Rattle.std.proofs.Math.ListN.{get_or-eq_default, length-set}
 use Rattle.std.specs.Prelude.{slice_index, slice_index_or, slice_set}
 use Rattle.qc_trail.specs.declared.trail.Note.{Note}
-use Rattle.qc_trail.specs.Trails.{Notes, written_back}
+use Rattle.qc_trail.specs.Trails.{written_back}
 use Rattle.qc_starts.specs.declared.noted.Noted.{Noted}
 use Rattle.qc_starts.specs.Spread.{one_of}
 use Rattle.qc_starts.specs.Noting.{HasNotes, IsNoting, Wrote, marks}
@@ -60,8 +60,13 @@ pub note_keeps : (before : List Note) (olds : List ℕ) (v w : Noted) (p : ℕ)
 note_keeps before olds v w p low size free cells notes noted is = record {
   since = is.since ++ note ∷ [];
   notes = notes ∙ ap (λ (xs : List Note). xs ++ note ∷ []) is.notes ∙ append_assoc before is.since (note ∷ []);
-  count = omega (arith, length-append is.since (note ∷ []), is.count, ap marks noted,
-      marks_more v.noted.items p (omega arith) free);
+  count = omega (
+    arith,
+    length-append is.since (note ∷ []),
+    is.count,
+    ap marks noted,
+    marks_more v.noted.items p (omega arith) free,
+  );
   size = ap (length {A = ℕ}) cells ∙ is.size;
   same = λ q under still. ap (λ (xs : List ℕ). slice_index xs q) cells ∙ is.same q under (before_it q still);
   back = λ others count agree.

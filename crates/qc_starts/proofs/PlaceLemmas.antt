@@ -1,15 +1,15 @@
 -- Tasks that are placed one after another: what a task more keeps, and that all are placed at the end.
-use Rattle.std.proofs.Common.{◌≡◌, ◌≢◌, ℕ, zero, suc, ◌+◌, ◌*◌, ◌<◌, ◌≤◌, ◌⊎◌, inl, inr, Bool, true, false, ◌||◌, eqb, ltb, cond, List, [], ◌∷◌, length, Option, None, Some, refl, sym, ap, ap₂, subst, subst₂, ◌∙◌, arith}
-use Rattle.std.proofs.lemmas.Bool.{cases_Bool, cases_eq, cases_lt, eqb-true, eq-eqb, ltb-false, ltb-true, ne_eqb, or_cases, false≢true}
+use Rattle.std.proofs.Common.{◌≡◌, ◌≢◌, ℕ, zero, suc, ◌+◌, ◌<◌, ◌≤◌, ◌⊎◌, inl, inr, Bool, true, false, ◌||◌, eqb, ltb, cond, List, [], ◌∷◌, length, Option, None, Some, refl, sym, ap, subst, subst₂, ◌∙◌, arith}
+use Rattle.std.proofs.lemmas.Bool.{cases_Bool, cases_eq, eqb-true, eq-eqb, ltb-false, ltb-true, or_cases, false≢true}
 use Rattle.std.proofs.lemmas.List.{get_or-set_other, get_or-set_same}
 use Rattle.std.proofs.lemmas.Map.Steps.{length-le_from_distinct_below}
-use Rattle.std.proofs.Math.ListN.{get_or-eq_default, length-set}
+use Rattle.std.proofs.Math.ListN.{length-set}
 use Rattle.std.specs.Prelude.{slice_index, slice_set}
 use Rattle.std.specs.List.{AllByRecursion, IsDistinct, list_any}
 use Rattle.qc_arena.specs.declared.edge.Edge.{Edge}
 use Rattle.qc_model.specs.declared.decision.Decision.{Decision}
 use Rattle.qc_model.specs.Instance.{InstanceView, IsBefore, IsPath, Valid}
-use Rattle.qc_model.specs.Nodes.{Meets, forced, head}
+use Rattle.qc_model.specs.Nodes.{forced, head}
 use Rattle.qc_model.proofs.NodeLemmas.{before_found}
 use Rattle.qc_starts.specs.Arcs.{IsArc}
 use Rattle.qc_starts.specs.NodeArcs.{IsSound, NodeArcs}
@@ -174,16 +174,16 @@ module _ (net : NodeArcs) (cells : List ℕ) (pending : List Bool) (j s : ℕ) (
     size = length-set pending j false ∙ placed.size;
     each = λ k under done. elim (cases_eq k j) [
       | inl same ↦ subst (IsPlace net news marked) (sym same) (record {
-          above = omega (arith, is.above, here);
-          low = is.low;
-          reason = subst (IsReason net.inst net.decisions news j) (sym (reason_of_here n cells j s why low placed.count))
-              (reason_new why is.reason);
-          least = λ others meets. omega (arith, here, is.least others meets);
-          steps = λ i len i_low asks.
-              let by = waits i len i_low asks in
-              (still i by.0, omega (arith, here, by.1, other i i_low (apart i by.0)));
-          bound = omega (arith, here, is.bound, fewer);
-        })
+        above = omega (arith, is.above, here);
+        low = is.low;
+        reason = subst (IsReason net.inst net.decisions news j) (sym (reason_of_here n cells j s why low placed.count))
+            (reason_new why is.reason);
+        least = λ others meets. omega (arith, here, is.least others meets);
+        steps = λ i len i_low asks.
+            let by = waits i len i_low asks in
+            (still i by.0, omega (arith, here, by.1, other i i_low (apart i by.0)));
+        bound = omega (arith, here, is.bound, fewer);
+      })
       | inr off ↦
           let place = placed.each k under (sym (get_or-set_other pending j k false false off) ∙ done) in
           record {
@@ -289,7 +289,7 @@ place_ends net cells pending sound none stuck placed = record {
         let asks = arc_of (IsArc net.inst net.decisions) net.arcs sound.all.each found.0 found.1 in
         let is = subst (λ (ds : List Decision). forced net.inst ds found.0.from found.0.to ≡ Some asks.ticks) none asks.is in
         let before = before_found found.0.from found.0.to net.inst.before
-            (before_true net.inst sound.valid found.0.from found.0.to asks.ticks is) in
+        (before_true net.inst sound.valid found.0.from found.0.to asks.ticks is) in
         (found.0.from, (asks.from, found.3), asks.from, subst (IsBefore net.inst found.0.from) found.2 before)
 
     each : (j : ℕ) → j < length net.inst.tasks → IsPlace net cells pending j

@@ -1,5 +1,5 @@
 -- What reasons show: a ring, or the least starts of a node and a chain to its end.
-use Rattle.std.proofs.Common.{◌≡◌, ◌≢◌, ℕ, zero, suc, ◌+◌, ◌*◌, ◌<◌, ◌≤◌, true, ◌&&◌, List, [], ◌∷◌, ◌++◌, length, take, slice_index_or, Option, None, Some, IfSome, is_some, refl, sym, ap, ap₂, subst, subst₂, ◌∙◌, leb, arith}
+use Rattle.std.proofs.Common.{◌≡◌, ℕ, suc, ◌+◌, ◌*◌, ◌<◌, ◌≤◌, true, ◌&&◌, List, [], ◌∷◌, ◌++◌, length, slice_index_or, Option, None, Some, IfSome, is_some, refl, sym, ap, ap₂, subst, ◌∙◌, leb, arith}
 use Rattle.std.proofs.lemmas.Bool.{and_from, cond-true, le-leb, lt-ltb}
 use Rattle.std.proofs.lemmas.List.{get_or-take, length-take-le}
 use Rattle.std.proofs.lemmas.Option.{same_Some}
@@ -9,16 +9,16 @@ use Rattle.qc_model.specs.declared.decision.Decision.{Decision}
 use Rattle.qc_model.specs.declared.limits.TheConstants.{MOST_TASKS}
 use Rattle.qc_model.specs.declared.task.Task.{Task}
 use Rattle.qc_model.specs.Instance.{InstanceView, Valid, no_task, ticks_of}
-use Rattle.qc_model.specs.Leaves.{are_tasks, chain, chain_end, chain_ticks, is_ring, leaf_value, ring, with_berths}
-use Rattle.qc_model.specs.Nodes.{AreLeast, Fits, HasStarts, IsNodeEnd, Meets, forced, head}
+use Rattle.qc_model.specs.Leaves.{are_tasks, chain, chain_end, chain_ticks, is_ring, leaf_value, with_berths}
+use Rattle.qc_model.specs.Nodes.{AreLeast, Fits, HasStarts, IsNodeEnd, forced, head}
 use Rattle.qc_model.specs.Rules.{last_end}
 use Rattle.qc_model.proofs.CompleteNodes.{forced_ticks}
 use Rattle.qc_model.proofs.NodeLemmas.{ends_by}
 use Rattle.qc_model.proofs.OnRail.{ticks_bounded}
 use Rattle.qc_num.specs.declared.bound.Bound.TheVariants.{Least, Never}
 use Rattle.qc_starts.specs.Found.{IsLatest, end_by, end_in, starts_in, why_in}
-use Rattle.qc_starts.specs.Seen.{IsCycle, IsNodeStart, IsWhy}
-use Rattle.qc_starts.specs.Values.{AreAtMost, AreRest, IsReason, raiser_at, start_at}
+use Rattle.qc_starts.specs.Seen.{IsCycle, IsNodeStart}
+use Rattle.qc_starts.specs.Values.{AreRest, IsReason, raiser_at, start_at}
 use Rattle.qc_starts.specs.Ways.{AreBacked, IsBackTo, IsLinked, IsRing, IsRising, IsWay, Why, last_of}
 use Rattle.qc_starts.proofs.SelfLemmas.{self_free}
 use Rattle.qc_starts.proofs.WayLemmas.{chain_exists, way_length}
@@ -140,7 +140,7 @@ module _ (inst : InstanceView) (ds : List Decision) (cells : List ℕ) (valid : 
       let long = and_from (are_tasks inst (i ∷ js)) (leb 2 (length (i ∷ js))) tasks (le-leb 2 (length (i ∷ js)) is.1) in
       let all = are_tasks inst (i ∷ js) && leb 2 (length (i ∷ js)) && is_ring inst ds (i ∷ js) in (
         cond-true all (Some Never) None
-        (and_from (are_tasks inst (i ∷ js) && leb 2 (length (i ∷ js))) (is_ring inst ds (i ∷ js)) long is.0),
+            (and_from (are_tasks inst (i ∷ js) && leb 2 (length (i ∷ js))) (is_ring inst ds (i ∷ js)) long is.0),
         way_length why (last_of i js) i js found.0,
       )
 
@@ -150,10 +150,10 @@ module _ (inst : InstanceView) (ds : List Decision) (cells : List ℕ) (valid : 
     (count : length cells ≡ 2 * length inst.tasks)
     (heads : (j : ℕ) → j < length inst.tasks → head inst ds j ≤ start_at cells j)
     (steps : (i j len : ℕ) → i < length inst.tasks → j < length inst.tasks → forced inst ds i j ≡ Some len
-      → start_at cells i + len ≤ start_at cells j)
+    → start_at cells i + len ≤ start_at cells j)
     (reasons : (j : ℕ) → j < length inst.tasks → IsReason inst ds cells j (raiser_at (length inst.tasks) cells j))
     (low : (i j len : ℕ) → i < length inst.tasks → j < length inst.tasks → forced inst ds i j ≡ Some len
-      → len ≤ 2147483648)
+    → len ≤ 2147483648)
     (low_heads : (j : ℕ) → j < length inst.tasks → head inst ds j ≤ 2147483648) where
   abbrev ways : Why
   ways = why_in (length inst.tasks) cells
@@ -201,7 +201,7 @@ module _ (inst : InstanceView) (ds : List Decision) (cells : List ℕ) (valid : 
       let all = chain_end with_berths inst ds (i ∷ js) in
       let few = way_length ways last i js way in (
         cond-true (are_tasks inst (i ∷ js)) (option_map Least all) None (way_tasks inst ds cells valid reasons last i js way)
-        ∙ ap (option_map Least) (ap (option_map (λ n. head inst ds i + n)) ticks.1 ∙ ap Some shown),
+            ∙ ap (option_map Least) (ap (option_map (λ n. head inst ds i + n)) ticks.1 ∙ ap Some shown),
         few,
         omega (arith, shown, ticks.3, low_heads i way.inside.0, few, valid.tasks.count),
       )

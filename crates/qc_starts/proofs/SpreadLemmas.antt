@@ -1,19 +1,18 @@
 -- Starts that are raised behind a root: what a raise keeps, and what is left at the end.
-use Rattle.std.proofs.Common.{◌≡◌, ◌≢◌, ℕ, zero, suc, ◌+◌, ◌-◌, ◌*◌, ◌^◌, ◌<◌, ◌≤◌, ◌⊎◌, inl, inr, Bool, true, false, ◌&&◌, eqb, cond, List, [], ◌∷◌, length, Option, None, Some, refl, sym, ap, subst, subst₂, ◌∙◌, arith}
-use Rattle.std.proofs.lemmas.Bool.{and_parts, cases_Bool, cases_eq, cases_lt, cond-false, cond-true, cond_both, eq-eqb, eqb-true, ltb-false, ltb-true, ne_eqb, false≢true}
+use Rattle.std.proofs.Common.{◌≡◌, ◌≢◌, ℕ, ◌+◌, ◌<◌, ◌≤◌, ◌⊎◌, inl, inr, Bool, true, false, ◌&&◌, eqb, cond, List, [], ◌∷◌, length, Option, None, Some, refl, sym, ap, subst, subst₂, ◌∙◌, arith}
+use Rattle.std.proofs.lemmas.Bool.{and_parts, cases_Bool, cases_eq, cases_lt, cond-false, cond-true, cond_both, eq-eqb, eqb-true, ltb-false, ltb-true, false≢true}
 use Rattle.std.proofs.lemmas.List.{get_or-set_other, get_or-set_same}
 use Rattle.std.proofs.lemmas.Option.{same_Some}
 use Rattle.std.proofs.Math.ListN.{get_or-eq_default, length-set}
-use Rattle.std.specs.Prelude.{filter, slice_index, slice_index_or, slice_set}
+use Rattle.std.specs.Prelude.{filter, slice_index, slice_set}
 use Rattle.std.specs.List.{AllByRecursion}
 use Rattle.qc_arena.specs.declared.edge.Edge.{Edge}
-use Rattle.qc_model.specs.declared.decision.Decision.{Decision}
-use Rattle.qc_model.specs.Instance.{InstanceView, Valid}
+use Rattle.qc_model.specs.Instance.{Valid}
 use Rattle.qc_model.specs.Nodes.{Fits, Meets, forced, head}
 use Rattle.qc_starts.specs.Arcs.{AreArcs, AreLow, IsArc, leads, newest_length}
 use Rattle.qc_starts.specs.NodeArcs.{IsSound, NodeArcs}
-use Rattle.qc_starts.specs.Spread.{IsBackAtRoot, IsIn, IsInto, IsLifted, IsMet, IsOnly, IsRaisedBy, IsRaising, IsRooting, IsSpreading, from_task, into_task, is_late, is_pending, left, left_of, one_of, total}
-use Rattle.qc_starts.specs.Values.{AreAtMost, AreRest, IsReason, code_of, raised, raiser_at, raiser_of, start_at}
+use Rattle.qc_starts.specs.Spread.{IsBackAtRoot, IsIn, IsInto, IsLifted, IsMet, IsOnly, IsRaisedBy, IsRaising, IsRooting, IsSpreading, from_task, into_task, is_late, is_pending, left, left_of, one_of}
+use Rattle.qc_starts.specs.Values.{AreRest, IsReason, raised, raiser_at, start_at}
 use Rattle.qc_starts.proofs.Counts.{total-le, total-lt}
 use Rattle.qc_starts.proofs.RaisedLemmas.{raised_count, raised_here, raised_other, reason_of_here, reason_of_other}
 use Rattle.qc_starts.proofs.RestLemmas.{soon_of}
@@ -137,8 +136,14 @@ module _ (net : NodeArcs) (root : ℕ) (olds cells : List ℕ) (z s : ℕ) (why 
     soon = is.soon;
     bound = λ j low other. elim (cases_eq j z) [
       | inl same ↦
-          omega (arith, ap (start_at news) same, start_here, r.bound (λ e. other (same ∙ e)),
-          starts_up root is.inside, ap (start_at olds) same)
+          omega (
+            arith,
+            ap (start_at news) same,
+            start_here,
+            r.bound (λ e. other (same ∙ e)),
+            starts_up root is.inside,
+            ap (start_at olds) same,
+          )
       | inr off ↦ omega (arith, start_other j low off, is.bound j low other, starts_up root is.inside)
     ];
     settled = is.settled;
@@ -245,8 +250,12 @@ module _ (net : NodeArcs) (root : ℕ) (olds cells : List ℕ) (is : IsRooting n
           | inl same ↦ inl (into arc in_ same)
           | inr other ↦ elim (cases_eq arc.from root) [
             | inl same ↦ absurd (false≢true (sym done ∙ ap (is_pending pending) same ∙ first))
-            | inr off ↦ inl (omega (arith, is.still arc.from asks.from off, is.still arc.to asks.to other,
-                is.raising.settled arc in_ off other))
+            | inr off ↦ inl (omega (
+              arith,
+              is.still arc.from asks.from off,
+              is.still arc.to asks.to other,
+              is.raising.settled arc in_ off other,
+            ))
           ]
         ];
   }
@@ -335,8 +344,14 @@ module _ (net : NodeArcs) (root : ℕ) (olds cells : List ℕ) (pending : List B
         top = omega (arith, is.top, root_same);
         size = length-set pending arc.to true ∙ is.size;
         pended = λ j t. elim (cases_eq j arc.to) [
-          | inl same ↦ inr (omega (arith, ap (start_at later) same, here, ap (start_at olds) same, raise_is.late,
-              is.raising.rise arc.to raise_is.task))
+          | inl same ↦ inr (omega (
+            arith,
+            ap (start_at later) same,
+            here,
+            ap (start_at olds) same,
+            raise_is.late,
+            is.raising.rise arc.to raise_is.task,
+          ))
           | inr off ↦
               let before = sym (pend_other j off) ∙ t in
               more_lifted j (inside j before) (is.pended j before)
@@ -482,8 +497,13 @@ module _ (net : NodeArcs) (root task : ℕ) (olds cells : List ℕ) (pending : L
       let raising = is.spreading.raising in
       elim (cases_eq arc.from root) [
         | inl same ↦ omega (arith, ap (start_at cells) same, is.spreading.top, short_one)
-        | inr off ↦ omega (arith, raising.bound arc.from looking_asks.from off, raising.soon arc.from looking_asks.from,
-            is.spreading.top, short_one)
+        | inr off ↦ omega (
+          arith,
+          raising.bound arc.from looking_asks.from off,
+          raising.soon arc.from looking_asks.from,
+          is.spreading.top,
+          short_one,
+        )
       ]
 
   pub looking_back : (is_late cells arc && eqb arc.to root) ≡ true
@@ -514,8 +534,12 @@ module _ (net : NodeArcs) (root task : ℕ) (olds cells : List ℕ) (pending : L
         (more_lifted net root olds cells pending rest arc valid fits are short among late lifted_from is.spreading
         arc.from looking_asks.from lifted_from);
     inside = λ one in_. is.inside one (inr in_);
-    less = omega (arith, is.less, left_less net root olds cells pending rest arc valid fits are short among late lifted_from
-        is.spreading (off other));
+    less = omega (
+      arith,
+      is.less,
+      left_less net root olds cells pending rest arc valid fits are short among late lifted_from
+          is.spreading (off other),
+    );
   }
     where
       off : eqb arc.to root ≡ false → arc.to ≢ root
@@ -523,7 +547,7 @@ module _ (net : NodeArcs) (root task : ℕ) (olds cells : List ℕ) (pending : L
 
   module _ (after : List ℕ) (marks : List Bool) (k : ℕ) (same : k ≡ length net.inst.tasks)
       (starts : after ≡ cond (is_late cells arc)
-        (raised k cells arc.to (start_at cells arc.from + arc.len) (Some arc.from)) cells) where
+      (raised k cells arc.to (start_at cells arc.from + arc.len) (Some arc.from)) cells) where
     starts_are : after ≡ cond (is_late cells arc)
         (raised (length net.inst.tasks) cells arc.to (start_at cells arc.from + arc.len) (Some arc.from)) cells
     starts_are = subst (λ (m : ℕ). after ≡ cond (is_late cells arc)
@@ -589,8 +613,12 @@ module _ (net : NodeArcs) (root : ℕ) (olds cells : List ℕ) (pending : List B
   entering_fits =
       let short = arc_of (λ arc. arc.len ≤ 2147483648) net.arcs sound.low arc entering_in in
       let off = from_other arc entering_in to_root in
-      omega (arith, is.into.rooting.still arc.from entering_asks.from off,
-      is.into.rooting.raising.soon arc.from entering_asks.from, short)
+      omega (
+        arith,
+        is.into.rooting.still arc.from entering_asks.from off,
+        is.into.rooting.raising.soon arc.from entering_asks.from,
+        short,
+      )
 
   entering_next : (late : Bool) → is_late cells arc ≡ late
       → IsEntering net root olds
@@ -615,9 +643,9 @@ module _ (net : NodeArcs) (root : ℕ) (olds cells : List ℕ) (pending : List B
   entering_next true late =
       let s = start_at cells arc.from + arc.len in
       let rooted = rooting_arc net root olds cells is.into.rooting sound.valid sound.fits sound.all sound.low arc
-          entering_in to_root late in
+      entering_in to_root late in
       let r = arc_raise net root olds cells sound.valid sound.fits sound.all sound.low arc entering_in late
-          is.into.rooting.raising (λ other. absurd (other to_root)) in
+      is.into.rooting.raising (λ other. absurd (other to_root)) in
       let here = start_here net root olds cells arc.to s (Some arc.from) is.into.rooting.raising r in
       let same_start = start_other net root olds cells arc.to s (Some arc.from) is.into.rooting.raising r in
       let news = raised (length net.inst.tasks) cells arc.to s (Some arc.from) in
@@ -660,12 +688,12 @@ module _ (net : NodeArcs) (root : ℕ) (olds cells : List ℕ) (pending : List B
 
   pub entering_step : (after : List ℕ) (marks : List Bool) (k : ℕ) → k ≡ length net.inst.tasks
       → after ≡ cond (is_late cells arc)
-        (raised k cells arc.to (start_at cells arc.from + arc.len) (Some arc.from)) cells
+      (raised k cells arc.to (start_at cells arc.from + arc.len) (Some arc.from)) cells
       → marks ≡ cond (is_late cells arc) (slice_set pending arc.to true) pending
       → IsEntering net root olds after marks rest
   entering_step after marks k same starts are_marks =
       let starts_are = subst (λ (m : ℕ). after ≡ cond (is_late cells arc)
-          (raised m cells arc.to (start_at cells arc.from + arc.len) (Some arc.from)) cells) same starts in
+      (raised m cells arc.to (start_at cells arc.from + arc.len) (Some arc.from)) cells) same starts in
       subst₂ (λ (xs : List ℕ) (ms : List Bool). IsEntering net root olds xs ms rest)
       (sym starts_are) (sym are_marks) (entering_next (is_late cells arc) refl)
 

@@ -114,9 +114,9 @@ chain_more why backed rising (suc fuel) last i js way room =
     go (Some h) back more =
         let less = rising h i way.inside.0 back in
         let away = λ (k : ℕ) (low : k < length (i ∷ js)) (same : slice_index (i ∷ js) k ≡ h).
-            let up = starts_rise why i js rising way.linked way.inside.1 k low in
-            let e = ap why.start same in
-            absurd (omega (arith, up, less, e)) in
+        let up = starts_rise why i js rising way.linked way.inside.1 k low in
+        let e = ap why.start same in
+        absurd (omega (arith, up, less, e)) in
         more h (way_more why last i h js way back (backed i h way.inside.0 back) away)
 
 pub chain_exists : (why : Why) → AreBacked why → IsRising why → (last : ℕ) → last < why.count

@@ -1,8 +1,8 @@
 -- The task that ends last, and the way to it.
-use Rattle.std.specs.Prelude.{◌≡◌, ℕ, ◌+◌, ◌<◌, ◌≤◌, Bool, true, nat_lt, List, [], ◌∷◌, length, take, Option, None, Some}
+use Rattle.std.specs.Prelude.{◌≡◌, ℕ, ◌+◌, ◌<◌, ◌≤◌, Bool, true, nat_lt, List, length, take, Option, None, Some}
 use Rattle.qc_model.specs.Instance.{InstanceView, ticks_of}
 use Rattle.qc_starts.specs.Values.{raiser_at, start_at}
-use Rattle.qc_starts.specs.Ways.{IsBackTo, Why}
+use Rattle.qc_starts.specs.Ways.{Why}
 
 -- the starts that are kept, in the order of the tasks
 abbrev pub starts_in : InstanceView → List ℕ → List ℕ

@@ -26,7 +26,7 @@ pub record IsNoting (before : List Note) (olds : List ℕ) (v : Noted) : Type 0 
   pub back :
       (others : List ℕ) → length others ≡ length olds
       → ((p : ℕ) → p < length olds → slice_index_or v.noted.items p true ≡ false
-        → slice_index others p ≡ slice_index olds p)
+      → slice_index others p ≡ slice_index olds p)
       → written_back since others ≡ olds
 
 -- cells were written, each with a note if it had none, and the steps were counted

@@ -1,5 +1,5 @@
 -- Ways back from a task by what raised each.
-use Rattle.std.specs.Prelude.{◌≡◌, ◌≢◌, ℕ, ◌+◌, ◌<◌, ◌≤◌, nat_eq, List, [], ◌∷◌, length, Option, None, Some, slice_index}
+use Rattle.std.specs.Prelude.{◌≡◌, ◌≢◌, ℕ, ◌<◌, nat_eq, List, [], ◌∷◌, length, Option, None, Some, slice_index}
 use Rattle.std.specs.List.{AllByRecursion, IsDistinct}
 
 -- so many tasks, when each starts, and the task that raised it

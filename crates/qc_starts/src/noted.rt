@@ -79,7 +79,11 @@ impl Noted {
         ensures { result ≡ raiser_at count self.now.cells task }
     {
         let code = self.cells.get(count as u32 + task as u32);
-        if code == 0 { None } else { Some((code - 1) as u16) }
+        if code == 0 {
+            None
+        } else {
+            Some((code - 1) as u16)
+        }
     }
 
     /// Notes what a cell holds if the newest decision hasn't yet.
@@ -151,7 +155,8 @@ impl Noted {
         ensures noted { self.new.noted.items ≡ self.old.noted.items }
     {
         self.cells.set(task as u32, start, steps);
-        self.cells.set(count as u32 + task as u32, code_of(raiser), steps);
+        self.cells
+            .set(count as u32 + task as u32, code_of(raiser), steps);
     }
 
     /// Writes back what was noted past the mark.

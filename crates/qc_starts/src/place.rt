@@ -85,7 +85,8 @@ impl Spread {
         for arc in network.arena().into_of(task) {
             self.wait_for(arc, &mut start, &mut raiser);
         }
-        self.values.fill(task_count(inst), task, start, raiser, steps);
+        self.values
+            .fill(task_count(inst), task, start, raiser, steps);
         self.pending[task as usize] = false;
     }
 

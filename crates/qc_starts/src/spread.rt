@@ -98,7 +98,7 @@ impl Spread {
         requires notes { HasNotes self.old.values }
         ensures cells { self.new.values.cells ≡ (if is_late self.old.values.cells arc
             then raised (length self.old.pending.items) self.old.values.cells arc.to
-                (start_at self.old.values.cells arc.from + arc.len) (Some arc.from)
+            (start_at self.old.values.cells arc.from + arc.len) (Some arc.from)
             else self.old.values.cells) }
         ensures pending { self.new.pending.items ≡ (if is_late self.old.values.cells arc
             then slice_set self.old.pending.items arc.to true
@@ -112,7 +112,8 @@ impl Spread {
             return false;
         }
         let count = self.pending.len() as u16;
-        self.values.raise(count, arc.to, start, Some(arc.from), steps);
+        self.values
+            .raise(count, arc.to, start, Some(arc.from), steps);
         self.pending[arc.to as usize] = true;
         arc.to == root
     }
@@ -163,7 +164,7 @@ impl Spread {
         ensures wrote { Wrote self.old.values self.new.values steps.old steps.new }
         ensures looked { IsLooked network.now root self.new.olds.items self.new.values.cells
             self.new.pending.items (left (length network.now.inst.tasks) root self.old.olds.items
-                self.old.values.cells self.old.pending.items) result }
+            self.old.values.cells self.old.pending.items) result }
     {
         for arc in network.arena().out(task) {
             if self.raise_by(arc, root, steps) {
@@ -174,7 +175,12 @@ impl Spread {
     }
 
     /// Raises starts behind the root until none is too low; whether a raise came back to it.
-    fn raise_behind<L: Ledger>(&mut self, network: &Network, root: u16, steps: &mut Steps<L>) -> bool
+    fn raise_behind<L: Ledger>(
+        &mut self,
+        network: &Network,
+        root: u16,
+        steps: &mut Steps<L>,
+    ) -> bool
         requires sound { IsSound network.now }
         requires spreading { IsSpreading network.now root self.old.olds.items self.old.values.cells
             self.old.pending.items [] }

@@ -1,7 +1,6 @@
-use Rattle.std.proofs.Common.{◌≡◌, ◌≤◌, ◌*◌, ◌-◌, List, None, length, reverse, ap, sym, subst, ◌∙◌}
-use Rattle.qc_arena.specs.declared.edge.Edge.{Edge}
+use Rattle.std.proofs.Common.{◌≤◌, None, length, reverse, ap, sym, subst}
 use Rattle.qc_dist.specs.Node.{Node}
-use Rattle.qc_model.specs.Nodes.{Fits, forced}
+use Rattle.qc_model.specs.Nodes.{forced}
 use Rattle.qc_starts.specs.Arcs.{AreArcs, IsOver, with_added}
 use Rattle.qc_starts.proofs.ArcLemmas.{order_after, over_added, roomy}
 use Rattle.qc_starts.proofs.arcs.order.Goals as goal

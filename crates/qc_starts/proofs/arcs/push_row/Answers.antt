@@ -1,4 +1,4 @@
-use Rattle.std.proofs.Common.{◌≡◌, ◌≤◌, ◌+◌, ◌*◌, List, None, length, reverse, sym, subst, ◌∙◌, arith}
+use Rattle.std.proofs.Common.{◌≤◌, ◌+◌, ◌*◌, List, None, length, reverse, sym, subst, ◌∙◌, arith}
 use Rattle.qc_arena.specs.declared.edge.Edge.{Edge}
 use Rattle.qc_model.specs.Nodes.{forced}
 use Rattle.qc_starts.specs.Arcs.{AreOpening, with_added}

@@ -1,4 +1,4 @@
-use Rattle.std.proofs.Common.{length, sym, ap, ◌∙◌, arith}
+use Rattle.std.proofs.Common.{length, ap, arith}
 use Rattle.std.proofs.lemmas.List.{length-reverse}
 use Rattle.qc_starts.specs.NodeArcs.{NodeArcs}
 use Rattle.qc_starts.proofs.DecidedLemmas.{few_made}

@@ -1,4 +1,4 @@
-use Rattle.std.proofs.Common.{◌≡◌, ℕ, Bool, true, false, List, length, ap, sym, ◌∙◌, arith}
+use Rattle.std.proofs.Common.{ℕ, Bool, true, false, List, length, ap, ◌∙◌, arith}
 use Rattle.std.proofs.lemmas.List.{get_or-set_other, get_or-set_same}
 use Rattle.std.proofs.Math.ListN.{length-set}
 use Rattle.qc_starts.specs.declared.noted.Noted.{Noted}
@@ -15,20 +15,22 @@ returns c =
     let noted = ap (λ (v : Noted). v.noted.items) values in
     let size = c.clear_pending.ensures.size ∙ ap (length {A = Bool}) c.keep_starts.ensures.pending in
     let olds = c.clear_pending.ensures.olds in
-    record { begun = record {
-      cells = ap (λ (v : Noted). v.cells) values ∙ c.begin.ensures.cells;
-      trail = ap (λ (v : Noted). v.trail) values ∙ c.begin.ensures.trail;
-      noted = ap (length {A = Bool}) noted ∙ c.begin.ensures.count;
-      none = ap marks noted ∙ marks_none c.begin.new.self.noted.items c.begin.ensures.none;
-      clear = λ k low. ap (λ (xs : List Bool). slice_index_or xs k true) noted
-          ∙ c.begin.ensures.none k (omega (arith, ap (length {A = Bool}) noted));
-      size = ap (length {A = ℕ}) olds ∙ c.keep_starts.ensures.size;
-      olds = λ j low. ap (λ (xs : List ℕ). start_at xs j) olds
-          ∙ c.keep_starts.ensures.olds j (omega (arith, ap (length {A = ℕ}) olds))
-          ∙ ap (λ (xs : List ℕ). start_at xs j) c.begin.ensures.cells;
-      only = record {
-        size = length-set cleared c.args.root true ∙ size;
-        first = get_or-set_same cleared c.args.root true false (omega (arith, size, c.requires.root));
-        others = λ j other. get_or-set_other cleared c.args.root j true false other ∙ all_clear cleared c.clear_pending.ensures.clear j;
+    record {
+      begun = record {
+        cells = ap (λ (v : Noted). v.cells) values ∙ c.begin.ensures.cells;
+        trail = ap (λ (v : Noted). v.trail) values ∙ c.begin.ensures.trail;
+        noted = ap (length {A = Bool}) noted ∙ c.begin.ensures.count;
+        none = ap marks noted ∙ marks_none c.begin.new.self.noted.items c.begin.ensures.none;
+        clear = λ k low. ap (λ (xs : List Bool). slice_index_or xs k true) noted
+            ∙ c.begin.ensures.none k (omega (arith, ap (length {A = Bool}) noted));
+        size = ap (length {A = ℕ}) olds ∙ c.keep_starts.ensures.size;
+        olds = λ j low. ap (λ (xs : List ℕ). start_at xs j) olds
+            ∙ c.keep_starts.ensures.olds j (omega (arith, ap (length {A = ℕ}) olds))
+            ∙ ap (λ (xs : List ℕ). start_at xs j) c.begin.ensures.cells;
+        only = record {
+          size = length-set cleared c.args.root true ∙ size;
+          first = get_or-set_same cleared c.args.root true false (omega (arith, size, c.requires.root));
+          others = λ j other. get_or-set_other cleared c.args.root j true false other ∙ all_clear cleared c.clear_pending.ensures.clear j;
+        };
       };
-    }; }
+    }

@@ -1,4 +1,4 @@
-use Rattle.std.proofs.Common.{◌≡◌, ◌∷◌, ◌⊎◌, inl, inr, true, false, List, length, ap, sym, subst, refl, ◌∙◌, arith}
+use Rattle.std.proofs.Common.{◌≡◌, inl, inr, false, List, ap, sym, subst, refl, ◌∙◌, arith}
 use Rattle.std.proofs.lemmas.List.{get_or_default}
 use Rattle.qc_arena.specs.declared.edge.Edge.{Edge}
 use Rattle.qc_starts.specs.Arcs.{IsArc}
@@ -23,7 +23,7 @@ pub index-requires : goal.index-requires
 index-requires c =
     let net = c.args.network.now in
     let inside = c.loop-arc.invariant.inside c.in-Some.arc
-        (subst (λ (xs : List Edge). IsIn xs c.in-Some.arc) (sym c.in-Some.ensures.steps) (inl refl)) in
+    (subst (λ (xs : List Edge). IsIn xs c.in-Some.arc) (sym c.in-Some.ensures.steps) (inl refl)) in
     let asks = arc_of (IsArc net.inst net.decisions) net.arcs c.arena.ensures.sound.all.each c.in-Some.arc inside.0 in
     omega (arith, asks.from, c.requires)
 
@@ -31,10 +31,10 @@ pub returns-then-index : goal.returns-then-index
 returns-then-index c =
     let net = c.args.network.now in
     let inside = c.loop-arc.invariant.inside c.in-Some.arc
-        (subst (λ (xs : List Edge). IsIn xs c.in-Some.arc) (sym c.in-Some.ensures.steps) (inl refl)) in
+    (subst (λ (xs : List Edge). IsIn xs c.in-Some.arc) (sym c.in-Some.ensures.steps) (inl refl)) in
     let asks = arc_of (IsArc net.inst net.decisions) net.arcs c.arena.ensures.sound.all.each c.in-Some.arc inside.0 in
     let here = get_or_default c.args.self.now.pending.items c.in-Some.arc.from false c.index.result.now
-        (omega (arith, asks.from, c.requires)) ∙ sym c.index.ensures ∙ c.if-index.true in
+    (omega (arith, asks.from, c.requires)) ∙ sym c.index.ensures ∙ c.if-index.true in
     (c.in-Some.arc, inside.0, inside.1, here)
 
 pub loop-arc-preserved : goal.loop-arc-preserved
@@ -42,10 +42,10 @@ loop-arc-preserved c =
     let net = c.args.network.now in
     let pending = c.args.self.now.pending.items in
     let inside = c.loop-arc.invariant.inside c.in-Some.arc
-        (subst (λ (xs : List Edge). IsIn xs c.in-Some.arc) (sym c.in-Some.ensures.steps) (inl refl)) in
+    (subst (λ (xs : List Edge). IsIn xs c.in-Some.arc) (sym c.in-Some.ensures.steps) (inl refl)) in
     let asks = arc_of (IsArc net.inst net.decisions) net.arcs c.arena.ensures.sound.all.each c.in-Some.arc inside.0 in
     let here = get_or_default pending c.in-Some.arc.from false c.index.result.now
-        (omega (arith, asks.from, c.requires)) ∙ sym c.index.ensures ∙ c.if-index.false in
+    (omega (arith, asks.from, c.requires)) ∙ sym c.index.ensures ∙ c.if-index.false in
     record {
       can = tt;
       finite = tt;

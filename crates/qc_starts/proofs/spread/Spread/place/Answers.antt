@@ -1,10 +1,9 @@
-use Rattle.std.proofs.Common.{◌≡◌, ℕ, ◌*◌, ◌+◌, ◌≤◌, ◌∷◌, [], inl, inr, false, List, length, None, Option, ap, sym, subst, refl, ◌∙◌, arith}
+use Rattle.std.proofs.Common.{◌≡◌, ℕ, inr, false, List, length, ap, sym, subst, ◌∙◌, arith}
 use Rattle.std.proofs.lemmas.List.Sums.{count_by-le-length}
 use Rattle.std.specs.Prelude.{slice_set}
 use Rattle.qc_dist.specs.Node.{Node}
 use Rattle.qc_model.specs.Instance.{InstanceView}
 use Rattle.qc_model.specs.Nodes.{head}
-use Rattle.qc_starts.specs.Noting.{marks}
 use Rattle.qc_starts.specs.Place.{ArePlaced, IsPlacing}
 use Rattle.qc_starts.specs.Spread.{into_task}
 use Rattle.qc_starts.specs.Values.{raised}
@@ -41,9 +40,9 @@ wait_for-requires-clause-from g c =
     let cells = c.args.self.now.values.cells in
     let pending = c.args.self.now.pending.items in
     let is = subst (IsPlacing net cells pending c.args.task c.loop-arc.start c.loop-arc.raiser) c.in-Some.ensures.steps
-        c.loop-arc.invariant.placing in
+    c.loop-arc.invariant.placing in
     let asks = place_asks net cells pending c.args.task c.loop-arc.start c.loop-arc.raiser c.next.new.self c.in-Some.arc
-        c.arena.ensures.sound c.requires.placed c.requires.ready is in
+    c.arena.ensures.sound c.requires.placed c.requires.ready is in
     omega (arith, asks.from, c.requires.placed.count)
 
 pub wait_for-requires-clause-fits : goal.wait_for-requires-clause-fits
@@ -52,9 +51,9 @@ wait_for-requires-clause-fits g c =
     let cells = c.args.self.now.values.cells in
     let pending = c.args.self.now.pending.items in
     let is = subst (IsPlacing net cells pending c.args.task c.loop-arc.start c.loop-arc.raiser) c.in-Some.ensures.steps
-        c.loop-arc.invariant.placing in
+    c.loop-arc.invariant.placing in
     let fits = place_fits net cells pending c.args.task c.loop-arc.start c.loop-arc.raiser c.next.new.self c.in-Some.arc
-        c.arena.ensures.sound c.requires.placed c.requires.ready is in
+    c.arena.ensures.sound c.requires.placed c.requires.ready is in
     omega (arith, fits)
 
 pub loop-arc-preserved : goal.loop-arc-preserved
@@ -63,7 +62,7 @@ loop-arc-preserved g c =
     let cells = c.args.self.now.values.cells in
     let pending = c.args.self.now.pending.items in
     let is = subst (IsPlacing net cells pending c.args.task c.loop-arc.start c.loop-arc.raiser) c.in-Some.ensures.steps
-        c.loop-arc.invariant.placing in
+    c.loop-arc.invariant.placing in
     record {
       can = tt;
       finite = tt;
@@ -78,10 +77,10 @@ returns-clause-placed g c =
     let cells = c.args.self.now.values.cells in
     let pending = c.args.self.now.pending.items in
     let is = subst (IsPlacing net cells pending c.args.task c.loop-arc.start c.loop-arc.raiser) c.in-None.ensures.steps.0
-        c.loop-arc.invariant.placing in
+    c.loop-arc.invariant.placing in
     let count = c.task_count.ensures.count ∙ sym (ap (λ (i : InstanceView). length i.tasks) c.requires.same) in
     let starts = c.fill.ensures.cells
-        ∙ ap (λ (n : ℕ). raised n cells c.args.task c.loop-arc.start c.loop-arc.raiser) count in
+    ∙ ap (λ (n : ℕ). raised n cells c.args.task c.loop-arc.start c.loop-arc.raiser) count in
     subst (λ (xs : List ℕ). ArePlaced net xs (slice_set pending c.args.task false)) (sym starts)
     (place_done net cells pending c.args.task c.loop-arc.start c.loop-arc.raiser c.arena.ensures.sound c.requires.task
     c.requires.pending c.requires.ready c.requires.placed is)

@@ -1,4 +1,4 @@
-use Rattle.std.proofs.Common.{◌≡◌, ℕ, ◌<◌, ◌≤◌, [], Bool, false, List, length, ap, sym, subst, subst₂, ◌∙◌, arith}
+use Rattle.std.proofs.Common.{ℕ, [], false, List, length, ap, sym, subst, ◌∙◌, arith}
 use Rattle.std.proofs.Math.ListN.{length-set}
 use Rattle.std.specs.Prelude.{slice_set}
 use Rattle.qc_starts.specs.Spread.{IsLooked, IsPick, IsSpreading, from_task, left}
@@ -30,15 +30,15 @@ loop-task-smaller g c =
     let olds_are = c.raise_from.ensures.olds ∙ c.loop-task.invariant.olds in
     let mid = slice_set c.loop-task.self.pending.items c.in-Some.task false in
     let less = look_less net c.args.root olds c.loop-task.self.values.cells c.loop-task.self.pending.items
-        c.in-Some.task (omega (arith, c.in-Some.ensures.0, c.loop-task.invariant.spreading.size)) c.in-Some.ensures.1
-        c.loop-task.invariant.spreading in
+    c.in-Some.task (omega (arith, c.in-Some.ensures.0, c.loop-task.invariant.spreading.size)) c.in-Some.ensures.1
+    c.loop-task.invariant.spreading in
     let looked = subst (IsLooked net c.args.root c.raise_from.new.self.olds.items c.raise_from.new.self.values.cells
-        c.raise_from.new.self.pending.items (left (length net.inst.tasks) c.args.root c.loop-task.self.olds.items
-        c.loop-task.self.values.cells mid)) c.if-raise_from.false c.raise_from.ensures.looked in
+    c.raise_from.new.self.pending.items (left (length net.inst.tasks) c.args.root c.loop-task.self.olds.items
+    c.loop-task.self.values.cells mid)) c.if-raise_from.false c.raise_from.ensures.looked in
     let olds_then = ap (λ (xs : List ℕ). left (length net.inst.tasks) c.args.root xs
-        c.raise_from.new.self.values.cells c.raise_from.new.self.pending.items) olds_are in
+    c.raise_from.new.self.values.cells c.raise_from.new.self.pending.items) olds_are in
     let olds_mid = ap (λ (xs : List ℕ). left (length net.inst.tasks) c.args.root xs
-        c.loop-task.self.values.cells mid) c.loop-task.invariant.olds in
+    c.loop-task.self.values.cells mid) c.loop-task.invariant.olds in
     omega (arith, less, looked.1, olds_then, olds_mid)
 
 pub loop-task-preserved : goal.loop-task-preserved
@@ -48,11 +48,11 @@ loop-task-preserved g c =
     let olds_are = c.raise_from.ensures.olds ∙ c.loop-task.invariant.olds in
     let mid = slice_set c.loop-task.self.pending.items c.in-Some.task false in
     let less = look_less net c.args.root olds c.loop-task.self.values.cells c.loop-task.self.pending.items
-        c.in-Some.task (omega (arith, c.in-Some.ensures.0, c.loop-task.invariant.spreading.size)) c.in-Some.ensures.1
-        c.loop-task.invariant.spreading in
+    c.in-Some.task (omega (arith, c.in-Some.ensures.0, c.loop-task.invariant.spreading.size)) c.in-Some.ensures.1
+    c.loop-task.invariant.spreading in
     let looked = subst (IsLooked net c.args.root c.raise_from.new.self.olds.items c.raise_from.new.self.values.cells
-        c.raise_from.new.self.pending.items (left (length net.inst.tasks) c.args.root c.loop-task.self.olds.items
-        c.loop-task.self.values.cells mid)) c.if-raise_from.false c.raise_from.ensures.looked in
+    c.raise_from.new.self.pending.items (left (length net.inst.tasks) c.args.root c.loop-task.self.olds.items
+    c.loop-task.self.values.cells mid)) c.if-raise_from.false c.raise_from.ensures.looked in
     record {
       spreading = subst (λ (xs : List ℕ). IsSpreading net c.args.root xs
           c.raise_from.new.self.values.cells c.raise_from.new.self.pending.items []) olds_are looked.0;

@@ -1,8 +1,6 @@
-use Rattle.std.proofs.Common.{◌≡◌, ℕ, ◌+◌, ◌∷◌, Bool, true, cond, List, length, Some, refl, ap, sym, subst, subst₂, ◌∙◌, arith}
-use Rattle.std.specs.Prelude.{slice_set}
+use Rattle.std.proofs.Common.{ℕ, List, length, refl, ap, sym, subst, ◌∙◌, arith}
 use Rattle.qc_arena.specs.declared.edge.Edge.{Edge}
-use Rattle.qc_starts.specs.Spread.{IsBackAtRoot, IsIn, from_task, is_late, left}
-use Rattle.qc_starts.specs.Values.{raised, start_at}
+use Rattle.qc_starts.specs.Spread.{IsBackAtRoot, from_task, is_late, left}
 use Rattle.qc_starts.proofs.NotingLemmas.{wrote_none, wrote_then}
 use Rattle.qc_starts.proofs.SpreadLemmas.{IsLooking, set_size, looking_asks, looking_begins, looking_fits, looking_home, looking_step}
 use Rattle.qc_starts.proofs.spread.Spread.raise_from.Goals as goal
@@ -26,26 +24,26 @@ pub raise_by-requires-clause-from : goal.raise_by-requires-clause-from
 raise_by-requires-clause-from g c =
     let net = c.args.network.now in
     let before = left (length net.inst.tasks) c.args.root c.args.self.now.olds.items
-        c.args.self.now.values.cells c.args.self.now.pending.items in
+    c.args.self.now.values.cells c.args.self.now.pending.items in
     let is = subst (λ (rest : List Edge). IsLooking net c.args.root c.args.task c.args.self.now.olds.items
-        c.loop-arc.self.values.cells c.loop-arc.self.pending.items rest before) c.in-Some.ensures.steps
-        c.loop-arc.invariant.looking in
+    c.loop-arc.self.values.cells c.loop-arc.self.pending.items rest before) c.in-Some.ensures.steps
+    c.loop-arc.invariant.looking in
     let asks = looking_asks net c.args.root c.args.task c.args.self.now.olds.items c.loop-arc.self.values.cells
-        c.loop-arc.self.pending.items c.next.new.self before c.in-Some.arc c.arena.ensures.sound.valid c.arena.ensures.sound.fits
-        c.arena.ensures.sound.all c.arena.ensures.sound.low is in
+    c.loop-arc.self.pending.items c.next.new.self before c.in-Some.arc c.arena.ensures.sound.valid c.arena.ensures.sound.fits
+    c.arena.ensures.sound.all c.arena.ensures.sound.low is in
     omega (arith, asks.from, is.spreading.size)
 
 pub raise_by-requires-clause-to : goal.raise_by-requires-clause-to
 raise_by-requires-clause-to g c =
     let net = c.args.network.now in
     let before = left (length net.inst.tasks) c.args.root c.args.self.now.olds.items
-        c.args.self.now.values.cells c.args.self.now.pending.items in
+    c.args.self.now.values.cells c.args.self.now.pending.items in
     let is = subst (λ (rest : List Edge). IsLooking net c.args.root c.args.task c.args.self.now.olds.items
-        c.loop-arc.self.values.cells c.loop-arc.self.pending.items rest before) c.in-Some.ensures.steps
-        c.loop-arc.invariant.looking in
+    c.loop-arc.self.values.cells c.loop-arc.self.pending.items rest before) c.in-Some.ensures.steps
+    c.loop-arc.invariant.looking in
     let asks = looking_asks net c.args.root c.args.task c.args.self.now.olds.items c.loop-arc.self.values.cells
-        c.loop-arc.self.pending.items c.next.new.self before c.in-Some.arc c.arena.ensures.sound.valid c.arena.ensures.sound.fits
-        c.arena.ensures.sound.all c.arena.ensures.sound.low is in
+    c.loop-arc.self.pending.items c.next.new.self before c.in-Some.arc c.arena.ensures.sound.valid c.arena.ensures.sound.fits
+    c.arena.ensures.sound.all c.arena.ensures.sound.low is in
     omega (arith, asks.to, is.spreading.size)
 
 pub raise_by-requires-clause-few : goal.raise_by-requires-clause-few
@@ -60,13 +58,13 @@ pub raise_by-requires-clause-fits : goal.raise_by-requires-clause-fits
 raise_by-requires-clause-fits g c =
     let net = c.args.network.now in
     let before = left (length net.inst.tasks) c.args.root c.args.self.now.olds.items
-        c.args.self.now.values.cells c.args.self.now.pending.items in
+    c.args.self.now.values.cells c.args.self.now.pending.items in
     let is = subst (λ (rest : List Edge). IsLooking net c.args.root c.args.task c.args.self.now.olds.items
-        c.loop-arc.self.values.cells c.loop-arc.self.pending.items rest before) c.in-Some.ensures.steps
-        c.loop-arc.invariant.looking in
+    c.loop-arc.self.values.cells c.loop-arc.self.pending.items rest before) c.in-Some.ensures.steps
+    c.loop-arc.invariant.looking in
     let fits = looking_fits net c.args.root c.args.task c.args.self.now.olds.items c.loop-arc.self.values.cells
-        c.loop-arc.self.pending.items c.next.new.self before c.in-Some.arc c.arena.ensures.sound.valid c.arena.ensures.sound.fits
-        c.arena.ensures.sound.all c.arena.ensures.sound.low is in
+    c.loop-arc.self.pending.items c.next.new.self before c.in-Some.arc c.arena.ensures.sound.valid c.arena.ensures.sound.fits
+    c.arena.ensures.sound.all c.arena.ensures.sound.low is in
     omega (arith, fits)
 
 pub returns-then-raise_by-clause-wrote : goal.returns-then-raise_by-clause-wrote
@@ -79,16 +77,16 @@ returns-then-raise_by-clause-looked g c =
     let net = c.args.network.now in
     let olds = c.args.self.now.olds.items in
     let before = left (length net.inst.tasks) c.args.root olds
-        c.args.self.now.values.cells c.args.self.now.pending.items in
+    c.args.self.now.values.cells c.args.self.now.pending.items in
     let is = subst (λ (rest : List Edge). IsLooking net c.args.root c.args.task olds
-        c.loop-arc.self.values.cells c.loop-arc.self.pending.items rest before) c.in-Some.ensures.steps
-        c.loop-arc.invariant.looking in
+    c.loop-arc.self.values.cells c.loop-arc.self.pending.items rest before) c.in-Some.ensures.steps
+    c.loop-arc.invariant.looking in
     let olds_are = c.raise_by.ensures.olds ∙ c.loop-arc.invariant.olds in
     let back = looking_home net c.args.root c.args.task olds c.loop-arc.self.values.cells
-        c.loop-arc.self.pending.items c.next.new.self before c.in-Some.arc c.arena.ensures.sound.valid c.arena.ensures.sound.fits
-        c.arena.ensures.sound.all c.arena.ensures.sound.low is c.raise_by.new.self.values.cells c.raise_by.new.self.pending.items
-        (length c.loop-arc.self.pending.items) is.spreading.size c.raise_by.ensures.cells
-        (sym c.raise_by.ensures.back ∙ c.if-raise_by.true) in
+    c.loop-arc.self.pending.items c.next.new.self before c.in-Some.arc c.arena.ensures.sound.valid c.arena.ensures.sound.fits
+    c.arena.ensures.sound.all c.arena.ensures.sound.low is c.raise_by.new.self.values.cells c.raise_by.new.self.pending.items
+    (length c.loop-arc.self.pending.items) is.spreading.size c.raise_by.ensures.cells
+    (sym c.raise_by.ensures.back ∙ c.if-raise_by.true) in
     subst (λ (xs : List ℕ). IsBackAtRoot net c.args.root xs c.raise_by.new.self.values.cells) (sym olds_are) back
 
 pub loop-arc-preserved : goal.loop-arc-preserved
@@ -96,10 +94,10 @@ loop-arc-preserved g c =
     let net = c.args.network.now in
     let olds = c.args.self.now.olds.items in
     let before = left (length net.inst.tasks) c.args.root olds
-        c.args.self.now.values.cells c.args.self.now.pending.items in
+    c.args.self.now.values.cells c.args.self.now.pending.items in
     let is = subst (λ (rest : List Edge). IsLooking net c.args.root c.args.task olds
-        c.loop-arc.self.values.cells c.loop-arc.self.pending.items rest before) c.in-Some.ensures.steps
-        c.loop-arc.invariant.looking in
+    c.loop-arc.self.values.cells c.loop-arc.self.pending.items rest before) c.in-Some.ensures.steps
+    c.loop-arc.invariant.looking in
     record {
       can = tt;
       finite = tt;

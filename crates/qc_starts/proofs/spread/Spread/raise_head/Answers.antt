@@ -1,4 +1,4 @@
-use Rattle.std.proofs.Common.{◌≡◌, ℕ, List, None, length, ap, ap₂, sym, subst, ◌∙◌, arith}
+use Rattle.std.proofs.Common.{◌≡◌, ℕ, List, None, length, ap, sym, subst, ◌∙◌, arith}
 use Rattle.qc_dist.specs.Node.{Node}
 use Rattle.qc_model.specs.Instance.{InstanceView}
 use Rattle.qc_model.specs.Nodes.{head}
@@ -17,9 +17,9 @@ returns-then-start-head-clause-into g c =
     let count = c.task_count.ensures.count ∙ sym (ap (λ (i : InstanceView). length i.tasks) c.requires.same) in
     let late = c.if-start-head.true in
     let into = head_late net c.args.root c.args.self.now.olds.items c.args.self.now.values.cells c.requires.rooting
-        c.lead-head.result is (omega (arith, c.lead-head.ensures.bound)) (omega (arith, c.start.ensures, late)) in
+    c.lead-head.result is (omega (arith, c.lead-head.ensures.bound)) (omega (arith, c.start.ensures, late)) in
     let starts = c.raise.ensures.cells
-        ∙ ap (λ (n : ℕ). raised n c.args.self.now.values.cells c.args.root c.lead-head.result None) count in
+    ∙ ap (λ (n : ℕ). raised n c.args.self.now.values.cells c.args.root c.lead-head.result None) count in
     subst (λ (xs : List ℕ). IsInto net c.args.root c.args.self.now.olds.items xs (into_task c.args.root net.arcs))
     (sym starts) into
 

@@ -1,4 +1,4 @@
-use Rattle.std.proofs.Common.{◌≡◌, ℕ, ◌∷◌, [], List, length, refl, ap, sym, subst, ◌∙◌, arith}
+use Rattle.std.proofs.Common.{ℕ, [], List, length, refl, ap, sym, subst, ◌∙◌, arith}
 use Rattle.qc_arena.specs.declared.edge.Edge.{Edge}
 use Rattle.qc_starts.specs.Spread.{IsSpreading, into_task, is_late}
 use Rattle.qc_starts.proofs.NotingLemmas.{wrote_none, wrote_then}
@@ -25,9 +25,9 @@ raise_by-requires-clause-from g c =
     let net = c.args.network.now in
     let olds = c.args.self.now.olds.items in
     let is = subst (λ (rest : List Edge). IsEntering net c.args.root olds c.loop-arc.self.values.cells
-        c.loop-arc.self.pending.items rest) c.in-Some.ensures.steps c.loop-arc.invariant.entering in
+    c.loop-arc.self.pending.items rest) c.in-Some.ensures.steps c.loop-arc.invariant.entering in
     let asks = entering_asks net c.args.root olds c.loop-arc.self.values.cells
-        c.loop-arc.self.pending.items c.next.new.self c.in-Some.arc c.arena.ensures.sound is in
+    c.loop-arc.self.pending.items c.next.new.self c.in-Some.arc c.arena.ensures.sound is in
     omega (arith, asks.from, is.only.size)
 
 pub raise_by-requires-clause-to : goal.raise_by-requires-clause-to
@@ -35,9 +35,9 @@ raise_by-requires-clause-to g c =
     let net = c.args.network.now in
     let olds = c.args.self.now.olds.items in
     let is = subst (λ (rest : List Edge). IsEntering net c.args.root olds c.loop-arc.self.values.cells
-        c.loop-arc.self.pending.items rest) c.in-Some.ensures.steps c.loop-arc.invariant.entering in
+    c.loop-arc.self.pending.items rest) c.in-Some.ensures.steps c.loop-arc.invariant.entering in
     let asks = entering_asks net c.args.root olds c.loop-arc.self.values.cells
-        c.loop-arc.self.pending.items c.next.new.self c.in-Some.arc c.arena.ensures.sound is in
+    c.loop-arc.self.pending.items c.next.new.self c.in-Some.arc c.arena.ensures.sound is in
     omega (arith, asks.to, is.only.size)
 
 pub raise_by-requires-clause-few : goal.raise_by-requires-clause-few
@@ -46,17 +46,20 @@ raise_by-requires-clause-few g c =
 
 pub raise_by-requires-clause-count : goal.raise_by-requires-clause-count
 raise_by-requires-clause-count g c =
-    omega (arith, c.loop-arc.invariant.entering.only.size,
-    c.loop-arc.invariant.entering.into.rooting.raising.count)
+    omega (
+      arith,
+      c.loop-arc.invariant.entering.only.size,
+      c.loop-arc.invariant.entering.into.rooting.raising.count,
+    )
 
 pub raise_by-requires-clause-fits : goal.raise_by-requires-clause-fits
 raise_by-requires-clause-fits g c =
     let net = c.args.network.now in
     let olds = c.args.self.now.olds.items in
     let is = subst (λ (rest : List Edge). IsEntering net c.args.root olds c.loop-arc.self.values.cells
-        c.loop-arc.self.pending.items rest) c.in-Some.ensures.steps c.loop-arc.invariant.entering in
+    c.loop-arc.self.pending.items rest) c.in-Some.ensures.steps c.loop-arc.invariant.entering in
     let fits = entering_fits net c.args.root olds c.loop-arc.self.values.cells
-        c.loop-arc.self.pending.items c.next.new.self c.in-Some.arc c.arena.ensures.sound is in
+    c.loop-arc.self.pending.items c.next.new.self c.in-Some.arc c.arena.ensures.sound is in
     omega (arith, fits)
 
 pub raise_by-requires-clause-notes : goal.raise_by-requires-clause-notes
@@ -67,7 +70,7 @@ loop-arc-preserved g c =
     let net = c.args.network.now in
     let olds = c.args.self.now.olds.items in
     let is = subst (λ (rest : List Edge). IsEntering net c.args.root olds c.loop-arc.self.values.cells
-        c.loop-arc.self.pending.items rest) c.in-Some.ensures.steps c.loop-arc.invariant.entering in
+    c.loop-arc.self.pending.items rest) c.in-Some.ensures.steps c.loop-arc.invariant.entering in
     record {
       can = tt;
       finite = tt;
@@ -88,7 +91,7 @@ returns-clause-spreading g c =
     let net = c.args.network.now in
     let olds = c.args.self.now.olds.items in
     let is = subst (λ (rest : List Edge). IsEntering net c.args.root olds c.loop-arc.self.values.cells
-        c.loop-arc.self.pending.items rest) c.in-None.ensures.steps.0 c.loop-arc.invariant.entering in
+    c.loop-arc.self.pending.items rest) c.in-None.ensures.steps.0 c.loop-arc.invariant.entering in
     subst (λ (xs : List ℕ). IsSpreading net c.args.root xs c.loop-arc.self.values.cells c.loop-arc.self.pending.items [])
     (sym c.loop-arc.invariant.olds)
     (entering_ends net c.args.root olds c.loop-arc.self.values.cells c.loop-arc.self.pending.items c.arena.ensures.sound is)

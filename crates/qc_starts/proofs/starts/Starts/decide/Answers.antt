@@ -1,4 +1,4 @@
-use Rattle.std.proofs.Common.{◌≡◌, ◌+◌, List, length, refl, sym, ap, subst, ◌∙◌, arith}
+use Rattle.std.proofs.Common.{◌≡◌, ◌+◌, length, refl, sym, ap, subst, ◌∙◌, arith}
 use Rattle.std.proofs.lemmas.List.{length-reverse}
 use Rattle.qc_dist.specs.Node.{IsOpen}
 use Rattle.qc_dist.proofs.Room.{fits_room}
@@ -31,7 +31,7 @@ settle-self-inside-requires-clause-rooting g c =
     let home = ap (λ (n : StartsNode). n.inst) c.self.view_is ∙ c.requires.same in
     let reach = subst (λ (i : InstanceView). IsReached i c.args.decision) (sym home) c.requires.reach in
     let open_ = subst (λ (n : StartsNode). IsOpen n.inst n.decisions c.args.decision) (sym c.self.view_is)
-        (subst (λ (i : InstanceView). IsOpen i c.args.self.now.decisions c.args.decision) (sym c.requires.same) c.requires.open) in
+    (subst (λ (i : InstanceView). IsOpen i c.args.self.now.decisions c.args.decision) (sym c.requires.same) c.requires.open) in
     rooting_of c.add.new.self f.inst c.args.decision f.network.decisions c.root_of-self-inside.result
     c.begin.new.self.olds.items f.spread.values.cells c.begin.new.self.values.cells c.add.ensures.sound
     (c.add.ensures.inst ∙ is.same) c.add.ensures.decisions open_ reach
@@ -83,10 +83,10 @@ returns-clause-step g c =
     let reach = subst (λ (i : InstanceView). IsReached i c.args.decision) (sym home) c.requires.reach in
     let net = c.add.new.self in
     let step = step_of net c.settle-self-inside.new.self.values.cells c.root_of-self-inside.result
-        c.settle-self-inside.result c.add.ensures.sound
-        (settled_step net c.root_of-self-inside.result c.settle-self-inside.new.self.olds.items
-        c.settle-self-inside.new.self.values.cells c.settle-self-inside.result c.add.ensures.sound
-        c.settle-self-inside.ensures.settled) in
+    c.settle-self-inside.result c.add.ensures.sound
+    (settled_step net c.root_of-self-inside.result c.settle-self-inside.new.self.olds.items
+    c.settle-self-inside.new.self.values.cells c.settle-self-inside.result c.add.ensures.sound
+    c.settle-self-inside.ensures.settled) in
     subst (λ (i : InstanceView). IsStep i net.decisions c.settle-self-inside.result) (c.add.ensures.inst ∙ is.same ∙ home) step
 
 pub returns-clause-noted : goal.returns-clause-noted

@@ -1,5 +1,3 @@
-use Rattle.std.proofs.Common.{ap, sym}
-use Rattle.qc_starts.specs.Seen.{StartsNode}
 use Rattle.qc_starts.proofs.KeptLemmas.{notes_kept}
 use Rattle.qc_starts.proofs.starts.Starts.notes.Goals as goal
 

@@ -1,4 +1,4 @@
-use Rattle.std.proofs.Common.{◌≡◌, ℕ, List, ◌+◌, ◌-◌, ◌<◌, drop, length, length-drop, suc, sum, refl, ap, sym, ◌∙◌, arith}
+use Rattle.std.proofs.Common.{◌≡◌, ℕ, List, ◌+◌, ◌-◌, drop, length, length-drop, suc, refl, ap, sym, ◌∙◌, arith}
 use Rattle.qc_model.specs.declared.decision.Decision.{Decision}
 use Rattle.qc_starts.proofs.KeptLemmas.{cells_on, drop_none, drop_whole, node_is, notes_on, take_whole}
 use Rattle.qc_trail.specs.declared.trail.Note.{Note}

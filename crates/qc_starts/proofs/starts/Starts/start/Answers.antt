@@ -1,4 +1,4 @@
-use Rattle.std.proofs.Common.{◌<◌, length, sym, ap, subst, arith}
+use Rattle.std.proofs.Common.{◌<◌, length, sym, subst, arith}
 use Rattle.qc_starts.specs.Seen.{IsNodeStart, StartsNode}
 use Rattle.qc_starts.proofs.KeptLemmas.{soon_kept, start_kept}
 use Rattle.qc_starts.proofs.starts.Starts.start.Goals as goal
