@@ -31,13 +31,7 @@ fn excess(one: Option<Tick>, other: Option<Tick>) -> Option<Tick>
     match (one, other) {
         (_, None) => None,
         (None, Some(ticks)) => Some(ticks),
-        (Some(less), Some(ticks)) => {
-            if less < ticks {
-                Some(ticks)
-            } else {
-                None
-            }
-        }
+        (Some(less), Some(ticks)) => { if less < ticks { Some(ticks) } else { None } }
     }
 }
 
