@@ -31,3 +31,6 @@ returns-in-Err-clause-serves g c = (
       (g.S.Shelf.files c.store_tree.new.shelf) (g.S.Shelf.files c.store_best.new.shelf)
       (rw c.requires.same c.requires.due) c.in-Ok.done c.in-Ok.ensures.ok (rw c.requires.same c.in-Err.ensures.err),
 )
+
+pub answer_of-requires-clause-none_earlier : goal.answer_of-requires-clause-none_earlier
+answer_of-requires-clause-none_earlier g c = rw c.requires.same at c.in-Ok.ensures.sound.none_earlier
