@@ -66,11 +66,12 @@ fn lead_ticks(inst: &Instance, i: u16, v: u16, j: u16, w: u16) -> Option<Tick>
         else None) }
     ensures bound { IfSome result (λ ticks. ticks ≤ MOST_WORK + MOST_DISTANCE) }
 {
-    let clear = distance(inst, i, v, j, w);
-    if w < v && 0 < clear {
-        Some(task_at(inst, i).ticks + clear)
-    } else {
-        None
+    if v <= w {
+        return None;
+    }
+    match distance(inst, i, v, j, w) {
+        0 => None,
+        clear => Some(task_at(inst, i).ticks + clear),
     }
 }
 
@@ -137,10 +138,8 @@ impl Decisions {
             (crane_ticks inst.now i j (assigned self.now.decisions i) (assigned self.now.decisions j)) }
         ensures bound { IfSome result (λ ticks. ticks ≤ MOST_WORK + MOST_DISTANCE) }
     {
-        excess(
-            self.sooner_ticks(inst, i, j),
-            crane_ticks(inst, i, j, self.crane_of(i), self.crane_of(j)),
-        )
+        let more = crane_ticks(inst, i, j, self.crane_of(i), self.crane_of(j))?;
+        excess(self.sooner_ticks(inst, i, j), Some(more))
     }
 
     /// Whether one of two tasks is forced to start after the other.
