@@ -18,9 +18,6 @@ pub of_min : (P : ℤ → Type 0) (w : Width) (p x y r : ℤ) → FitsSigned w r
 of_min P w p x y r f e s hp hx =
     rw (to_z-of_z w r f, e, s) (cond_both (int_lt x p) x p P (λ _. hx) (λ _. hp))
 
-pub ≤ℤ_trans : (a b c : ℤ) → a ≤ℤ b → b ≤ℤ c → a ≤ℤ c
-≤ℤ_trans a b c h k = omega (arith, ints)
-
 -- of a kind of numbers there is one greatest and one least
 pub greatest_unique : (P : ℤ → Type 0) (x y : ℤ) → IsGreatest P x → IsGreatest P y → x ≡ y
 greatest_unique P x y g h = omega (arith, ints, g.most y h.is, h.most x g.is)

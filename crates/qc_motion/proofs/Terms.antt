@@ -52,10 +52,3 @@ module _ (it : Swept) (s : IsSound it) where
 
     pub floor_le : floor_place it ≤ℤ p
     floor_le = a.most _ (of_floor it.floor s.floor)
-
--- of two ticks
-pub task_slow : (it : Swept) (i m x : ℕ) → task_at it i (m + x) ≤ℤ (task_at it i m +ℤ pos x)
-task_slow it i m x = omega (arith, ints)
-
-pub berth_falls : (it : Swept) (v m x : ℕ) → berth_at it v (m + x) ≤ℤ berth_at it v m
-berth_falls it v m x = omega (arith, ints)

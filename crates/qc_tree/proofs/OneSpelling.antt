@@ -63,13 +63,6 @@ pub record SoFar (text items rest : List ℕ) : Type 0 where
   pub only : (tasks : List ℕ) → All IsTask tasks → text ≡ fields tasks
       → (more : List ℕ) × (tasks ≡ items ++ more) × (All IsTask more) × (rest ≡ fields more)
 
-pub so_far_first : (text items : List ℕ) → items ≡ [] → SoFar text items text
-so_far_first text items none = subst (λ t. SoFar text t text) (sym none) (record {
-  tasks = All-nil IsTask;
-  whole = refl;
-  only = λ tasks are same. (tasks, refl, are, same);
-})
-
 pub so_far_more : (text items rest now behind : List ℕ) (n : ℕ) → SoFar text items rest → IsField rest 4 n behind → now ≡ items ++ n ∷ [] → SoFar text now behind
 so_far_more text items rest now behind n far field more = subst (λ t. SoFar text t behind) (sym more) (record {
   tasks = All-append IsTask items (n ∷ []) far.tasks (All-cons IsTask n [] field.small (All-nil IsTask));
@@ -96,14 +89,6 @@ so_far_refused text items rest tasks far some none are same =
     let so = far.only tasks are same in
     let begun = begins rest so.0 so.2 so.3 some in
     none begun.0 begun.1 begun.2
-
-pub so_far_full :
-    (text items rest tasks : List ℕ) → SoFar text items rest → 0 < length rest → All IsTask tasks → text ≡ fields tasks
-    → length items < length tasks
-so_far_full text items rest tasks far some are same =
-    let so = far.only tasks are same in
-    let begun = begins rest so.0 so.2 so.3 some in
-    omega (arith, begun.3, ap length so.1, length-append items so.0)
 
 module _ (rest : List ℕ) (list : List ℕ) where
   pub assign_only : (line : Line) → IsTextOf (65 ∷ rest) line list → (i : ℕ) × (line ≡ Assign i) × (list ≡ []) × IsField rest 4 i []
@@ -134,22 +119,6 @@ module _ (rest : List ℕ) (list : List ℕ) where
       × (rest ≡ 110 ∷ 100 ∷ 32 ∷ (decimal b ++ bound_field x))
   end_only (End b x) h = (b, x, refl, h.list, h.in_range.0, h.in_range.1, ap (drop 1) h.same)
   end_only line h = absurd (omega (arith, ap (λ t. get_or t 0 0) h.same))
-
--- a text of another first byte is a line only where it is one without numbers
-pub no_line :
-    (text list : List ℕ) (line : Line) → IsNoWord text → get_or text 0 0 ≢ 65 → get_or text 0 0 ≢ 79 → get_or text 0 0 ≢ 80
-    → get_or text 0 0 ≢ 67 → get_or text 0 0 ≢ 87 → get_or text 0 0 ≢ 101 → IsTextOf text line list → ⊥
-no_line text list Title none a o p c w e h = none 0 Title (omega arith) h.same
-no_line text list Title2 none a o p c w e h = none 1 Title (omega arith) h.same
-no_line text list Up none a o p c w e h = none 2 Title (omega arith) h.same
-no_line text list Down none a o p c w e h = none 3 Title (omega arith) h.same
-no_line text list Reach none a o p c w e h = none 4 Title (omega arith) h.same
-no_line text list (Assign i) none a o p c w e h = a (ap (λ t. get_or t 0 0) h.same)
-no_line text list (Order i j) none a o p c w e h = o (ap (λ t. get_or t 0 0) h.same)
-no_line text list Chain none a o p c w e h = p (ap (λ t. get_or t 0 0) h.same)
-no_line text list Ring none a o p c w e h = c (ap (λ t. get_or t 0 0) h.same)
-no_line text list (Work v) none a o p c w e h = w (ap (λ t. get_or t 0 0) h.same)
-no_line text list (End b x) none a o p c w e h = e (ap (λ t. get_or t 0 0) h.same)
 
 -- one spelling of a tree's value
 pub one_bound : (x y : Bound) → IsValue x → IsValue y → bound_field x ≡ bound_field y → x ≡ y
