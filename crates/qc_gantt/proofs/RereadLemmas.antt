@@ -41,13 +41,7 @@ use Rattle.qc_model.specs.Names.{is_name, is_name_byte}
 use Rattle.qc_model.specs.Tasks.{phase_rank, phase_text, task_rank, task_text}
 use Rattle.qc_gantt.specs.Names.{crane_names, number_of, task_names}
 use Rattle.qc_gantt.specs.PlanText.{plan_line, plan_text}
-
--- bytes that pass a test call for no quotes where no such byte does
-none_special : (p : ℕ → Bool) → ((b : ℕ) → p b ≡ true → needs_byte default_writer b ≡ false) → (xs : List ℕ) → list_all p xs ≡ true → list_any (needs_byte default_writer) xs ≡ false
-none_special p plain [] all = refl
-none_special p plain (b ∷ xs) all =
-    let both = and_parts (p b) (list_all p xs) all in
-    rw (plain b both.0, none_special p plain xs both.1) refl
+use Rattle.qc_records.proofs.PlainRows.{four_fields, none_special}
 
 digit_plain : (b : ℕ) → is_ascii_digit b ≡ true → needs_byte default_writer b ≡ false
 digit_plain b d = grind (arith, nat_tests, d)
@@ -75,11 +69,6 @@ task_plain t small =
 
 abbrev pub line_fields : InstanceView → Task → Slot → List (List ℕ)
 line_fields inst t s = task_text t ∷ (crane inst s.crane).name ∷ decimal s.start ∷ decimal (s.start + t.ticks) ∷ []
-
-row_of_four : (a b c d : List ℕ) → list_any (needs_byte default_writer) a ≡ false → list_any (needs_byte default_writer) b ≡ false → list_any (needs_byte default_writer) c ≡ false
-    → list_any (needs_byte default_writer) d ≡ false → row_text default_writer (a ∷ b ∷ c ∷ d ∷ []) ≡ a ++ codes "," ++ b ++ codes "," ++ c ++ codes "," ++ d ++ codes "\n"
-unfolding fields_text is_blank
-row_of_four a b c d pa pb pc pd = rw (pa, pb, pc, pd) (simp append_assoc)
 
 -- two tasks with one name are of one hatch and one phase
 same_phase : (p q : Phase) → phase_text p ≡ phase_text q → phase_rank p ≡ phase_rank q
@@ -157,7 +146,7 @@ number_plain k small = none_special is_ascii_digit digit_plain (decimal k) (deci
 
 line_is : (inst : InstanceView) (t : Task) (s : Slot) → IsNamed inst t s → plan_line inst t s ≡ row_text default_writer (line_fields inst t s)
 line_is inst t s named =
-    sym (row_of_four (task_text t) (crane inst s.crane).name (decimal s.start) (decimal (s.start + t.ticks)) (task_plain t named.hatch)
+    sym (four_fields (task_text t) (crane inst s.crane).name (decimal s.start) (decimal (s.start + t.ticks)) (task_plain t named.hatch)
     (none_special is_name_byte name_plain (crane inst s.crane).name (name_bytes (crane inst s.crane).name named.name)) (number_plain s.start named.start) (number_plain (s.start + t.ticks) named.end))
 
 lines_reached : (inst : InstanceView) (ls : List (Task × Slot)) → All (λ l. IsNamed inst l.0 l.1) ls
@@ -181,7 +170,7 @@ text_records : (inst : InstanceView) (ls : List (Task × Slot)) → All (λ l. I
 unfolding Reached strip_bom next_record
 text_records inst ls all =
     let rest = flat_map (λ (x : Task × Slot). plan_line inst x.0 x.1) ls in
-    let titled : row_text default_writer header ≡ codes "task,crane,start,end\n" = row_of_four (codes "task") (codes "crane") (codes "start") (codes "end") refl refl refl refl in
+    let titled : row_text default_writer header ≡ codes "task,crane,start,end\n" = four_fields (codes "task") (codes "crane") (codes "start") (codes "end") refl refl refl refl in
     let whole : Reached default_config st.StartRecord (codes "task,crane,start,end\n" ++ rest) (header ∷ map (λ (l : Task × Slot). line_fields inst l.0 l.1) ls) st.StartRecord [] = (
       (header, st.StartRecord, rest),
       subst (λ (first : List ℕ). next_record default_config st.StartRecord [] [] (first ++ rest) ≡ Some (header, st.StartRecord, rest)) titled
