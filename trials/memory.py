@@ -1,0 +1,138 @@
+#!/usr/bin/env python3
+"""Refuses memory to the built program: one allocation after the other, and all from one on.
+
+    trials/memory.py PROGRAM [--nodes N]
+
+For each command below it first counts the allocations of a run, then runs it twice for each number n: once with the
+nth refused, once with the nth and all after it. Each run must come to one of
+
+- `OutOfMemory`, or nothing at all, with status 9 and every file as before the run;
+- the same status, report and files as without a refusal;
+- a fault of the file that was being opened: `ReadFault f` with every file as before, or `WriteFault` with the tree's
+  file whole or a front part of it, and the plan's file as before, empty or a front part.
+
+Printed is how often each came, how many allocations were made before the tree's file was created, and how many
+after that. Only Python's standard library and gcc are needed. It ends with 1 where a run came to anything else.
+"""
+import argparse
+import collections
+import os
+import subprocess
+import sys
+import tempfile
+
+HERE = os.path.dirname(os.path.abspath(__file__))
+ROOT = os.path.dirname(HERE)
+FOUR = (b"hatches = [2, 6, 10, 14]\nmargin = 1\ntravel = 1\ndeck_move = 10\nhold_move = 10\n"
+        b"\n[[crane]]\nname = \"C1\"\nbay = 1\n\n[[crane]]\nname = \"C2\"\nbay = 3\n")
+MOVES = b"id,move,cell,length\nA1,D,020082,40\nA2,D,020084,40\nB1,D,060082,40\nB2,D,060084,40\n"
+PLAN = b"task,crane,start,end\n2-DD,C1,0,20\n6-DD,C1,21,41\n"
+TREE = b"QCTREE 2\nup\nP 2\ndown\nP 2\nend 0 21\n"
+
+
+def read(*path):
+    with open(os.path.join(ROOT, *path), "rb") as file:
+        return file.read()
+
+
+def inputs(nodes):
+    """Name, words and files of each input."""
+    first = {"s": read("examples/first/ship.toml"), "m": read("examples/first/stow.csv")}
+    four = {"s": FOUR, "m": MOVES}
+    vessel = {"s": read("examples/vessel/ship.toml"), "m": read("examples/vessel/stow.csv")}
+    judged = dict(four, p=PLAN, t=TREE)
+    unreached = dict(four, s=FOUR.replace(b"bay = 3\n", b"bay = 3\nto = 1\n").replace(b"bay = 1\n", b"bay = 1\nto = 1\n"))
+    return [
+        ("plan, first example", ["plan", "s", "m", "p", "t"], first),
+        ("plan, four moves", ["plan", "s", "m", "p", "t"], four),
+        ("plan, Infeasible", ["plan", "s", "m", "p", "t"], unreached),
+        ("plan, no branching", ["plan", "s", "m", "p", "t", "--nodes", "0"], four),
+        ("plan over old files", ["plan", "s", "m", "p", "t"], judged),
+        ("check", ["check", "s", "m", "p", "t"], judged),
+        ("check of a tree alone", ["check", "s", "m", "-", "t"], judged),
+        ("tasks", ["tasks", "s", "m"], four),
+        ("show", ["show", "s", "m", "p"], judged),
+        ("unknown word", ["work", "s"], {}),
+        ("plan, vessel", ["plan", "s", "m", "p", "t", "--nodes", nodes], vessel),
+        ("tasks, vessel", ["tasks", "s", "m"], vessel),
+    ]
+
+
+class Runs:
+    def __init__(self, program, library, folder):
+        self.program, self.library, self.folder = program, library, folder
+        self.log = os.path.join(folder, "log")
+        self.room = os.path.join(folder, "room")
+        os.mkdir(self.room)
+
+    def run(self, words, files, **refused):
+        """Status, report and the files that are left."""
+        for name in os.listdir(self.room):
+            os.remove(f"{self.room}/{name}")
+        for name, data in files.items():
+            with open(f"{self.room}/{name}", "wb") as file:
+                file.write(data)
+        settings = {"LD_PRELOAD": self.library, **{name: str(value) for name, value in refused.items()}}
+        ran = subprocess.run([self.program] + words, cwd=self.room, env=settings, capture_output=True, timeout=100)
+        left = {}
+        for name in os.listdir(self.room):
+            with open(f"{self.room}/{name}", "rb") as file:
+                left[name] = file.read()
+        return ran.returncode, ran.stdout, left, ran.stderr
+
+    def count(self, words, files):
+        whole = self.run(words, files, REFUSE_LOG=self.log)
+        with open(self.log, encoding="ascii") as file:
+            return whole, [int(number) for number in file.read().split()]
+
+
+def verdict(ran, whole, files):
+    status, report, left, errors = ran
+    if errors:
+        return f"standard error {errors!r}"
+    if (status, report, left) == whole[:3]:
+        return "answered as without a refusal"
+    if status == 9 and report in (b"OutOfMemory\n", b"") and left == files:
+        return "OutOfMemory" if report else "status 9 without a report"
+    if status == 3 and report.startswith(b"ReadFault ") and left == files:
+        return report.decode().strip()
+    if status == 4 and report == b"WriteFault\n":
+        same = {name: data for name, data in left.items() if name not in "pt"}
+        tree, plan, whole_tree, whole_plan = left.get("t"), left.get("p"), whole[2].get("t"), whole[2].get("p")
+        tree_is_front = tree == files.get("t") or tree is not None and whole_tree.startswith(tree)
+        plan_is_front = plan == files.get("p") or plan is not None and tree == whole_tree and whole_plan.startswith(plan)
+        if same == {name: data for name, data in files.items() if name not in "pt"} and tree_is_front and plan_is_front:
+            return "WriteFault, tree " + ("whole" if tree == whole_tree else "not whole")
+    return f"WRONG: status {status}, report {report[:80]!r}, files {sorted(left)}"
+
+
+def main():
+    parser = argparse.ArgumentParser()
+    parser.add_argument("program")
+    parser.add_argument("--nodes", default="30")
+    args = parser.parse_args()
+    program, wrong, total = os.path.abspath(args.program), 0, collections.Counter()
+    with tempfile.TemporaryDirectory() as folder:
+        library = os.path.join(folder, "refuse.so")
+        subprocess.run(["gcc", "-O1", "-shared", "-fPIC", "-o", library, f"{HERE}/refuse.c", "-ldl"], check=True)
+        runs = Runs(program, library, folder)
+        for name, words, files in inputs(args.nodes):
+            whole, (calls, before_tree, before_plan) = runs.count(words, files)
+            seen = collections.Counter()
+            for number in range(1, calls + 1):
+                for how in ("REFUSE_AT", "REFUSE_FROM"):
+                    what = verdict(runs.run(words, files, **{how: number}), whole, files)
+                    seen[what] += 1
+                    wrong += what.startswith("WRONG") or what.startswith("standard error")
+            made = f", {before_tree} before the tree's file was made, {before_plan - before_tree} from then to the last file, " \
+                   f"{calls - before_plan} after it" if before_tree >= 0 else ""
+            print(f"{name}: status {whole[0]}, {calls} allocations{made}", flush=True)
+            for what, times in sorted(seen.items()):
+                print(f"    {times:6} {what}", flush=True)
+            total.update(seen)
+    print(f"{sum(total.values())} runs, {wrong} wrong")
+    return 1 if wrong else 0
+
+
+if __name__ == "__main__":
+    sys.exit(main())

@@ -1,0 +1,331 @@
+#!/usr/bin/env python3
+"""Runs the built program where the outside fails: full disks, folders in place of files, closed output and more.
+
+    trials/outside.py PROGRAM
+
+prints a line for each trial: `ok` or `WRONG`, what was tried, the status and what is left. Some trials mount a small
+tmpfs or become `nobody`, so it is run as root; without root they are skipped, and said so. It ends with 1 where
+anything else came than was wanted. The wanted answers are those of docs/FORMATS.md.
+"""
+import os
+import resource
+import shutil
+import signal
+import subprocess
+import sys
+import tempfile
+import threading
+import time
+
+ROOT = os.path.dirname(os.path.dirname(os.path.abspath(__file__)))
+PROGRAM = os.path.abspath(sys.argv[1])
+SHIP = open(f"{ROOT}/examples/first/ship.toml", "rb").read()
+STOW = open(f"{ROOT}/examples/first/stow.csv", "rb").read()
+VESSEL = open(f"{ROOT}/examples/vessel/ship.toml", "rb").read()
+VESSEL_STOW = open(f"{ROOT}/examples/vessel/stow.csv", "rb").read()
+PLANNED = ["plan", "s", "m", "p", "t"]
+IS_ROOT = os.getuid() == 0
+FAULT = b"WriteFault\n"
+wrong = 0
+
+
+def read(path):
+    try:
+        with open(path, "rb") as file:
+            return file.read()
+    except OSError:
+        return None
+
+
+class Room:
+    """A folder with the files of an example, and the whole tree and plan that come of them."""
+
+    def __init__(self, ship=SHIP, stow=STOW, words=()):
+        self.path = tempfile.mkdtemp(prefix="qc-trial-")
+        os.chmod(self.path, 0o755)
+        self.write("s", ship), self.write("m", stow)
+        self.run(PLANNED + list(words))
+        self.tree, self.plan = self.read("t"), self.read("p")
+        for name in ("t", "p"):
+            if self.read(name) is not None:
+                os.remove(self.at(name))
+
+    def at(self, name):
+        return os.path.join(self.path, name)
+
+    def write(self, name, data):
+        with open(self.at(name), "wb") as file:
+            file.write(data)
+
+    def read(self, name):
+        return read(self.at(name))
+
+    def run(self, words, before=None, how=None, **more):
+        more.setdefault("stdout", subprocess.PIPE)
+        return subprocess.run((how or []) + [PROGRAM] + words, cwd=self.path, stderr=subprocess.PIPE,
+                              stdin=subprocess.DEVNULL, preexec_fn=before, timeout=100, **more)
+
+
+def told(name, is_right, what):
+    global wrong
+    wrong += not is_right
+    print(f"{'ok   ' if is_right else 'WRONG'} {name}: {what}", flush=True)
+
+
+def expect(name, ran, status, report=None, **facts):
+    """Says whether status and report are as wanted, and each of the named facts holds."""
+    right = ran.returncode == status and not ran.stderr and (report is None or ran.stdout == report)
+    failed = [fact.replace("_", " ") for fact, holds in facts.items() if not holds]
+    first = (ran.stdout or b"").split(b"\n")[0].decode(errors="replace")
+    facts_told = "; ".join(fact.replace("_", " ") for fact in facts)
+    told(name, right and not failed, f"status {ran.returncode} {first}".strip() + (f"; {facts_told}" if not failed else f"; NOT {failed}")
+         + (f"; standard error {ran.stderr[:100]!r}" if ran.stderr else ""))
+
+
+class Disk:
+    """A tmpfs of some bytes on a folder of the room."""
+
+    def __init__(self, room, size, inodes=None):
+        self.path = room.at("disk")
+        os.mkdir(self.path)
+        options = f"size={size}" + (f",nr_inodes={inodes}" if inodes else "")
+        subprocess.run(["mount", "-t", "tmpfs", "-o", options, "tmpfs", self.path], check=True)
+
+    def __enter__(self):
+        return self.path
+
+    def __exit__(self, *_):
+        subprocess.run(["umount", self.path], check=True)
+
+
+def fill(path):
+    with open(f"{path}/filler", "wb", buffering=0) as file:
+        try:
+            while True:
+                file.write(b"x" * 4096)
+        except OSError:
+            pass
+
+
+def full_disks():
+    room = Room(VESSEL, VESSEL_STOW, ["--nodes", "3000"])
+    words = ["plan", "s", "m", "p", "disk/t", "--nodes", "3000"]
+    with Disk(room, "16k") as disk:
+        ran = room.run(words)
+        tree = read(f"{disk}/t")
+        expect("the disk of the tree is full after 16 kB, 3,000 branchings", ran, 4, FAULT,
+               tree_is_the_first_16_kB=tree is not None and len(tree) == 16384 and room.tree.startswith(tree),
+               no_plan=room.read("p") is None)
+        shutil.copy(f"{disk}/t", room.at("t"))
+    again = room.run(["check", "s", "m", "-", "t"])
+    lines = room.read("t").count(b"\n") + 1
+    expect("check of what is left of that tree", again, 7, b"BadTree Cut %d\n" % lines)
+    room = Room()
+    with Disk(room, "16k") as disk:
+        fill(disk)
+        ran = room.run(["plan", "s", "m", "p", "disk/t"])
+        expect("the disk of the tree has no room at all", ran, 4, FAULT, tree_is_empty=read(f"{disk}/t") == b"",
+               no_plan=room.read("p") is None)
+        ran = room.run(["plan", "s", "m", "disk/p", "t"])
+        expect("the disk of the plan has no room at all", ran, 4, FAULT, plan_is_empty=read(f"{disk}/p") == b"",
+               tree_is_whole=room.read("t") == room.tree)
+        with open(room.at("disk/out"), "wb") as out:
+            ran = room.run(["tasks", "s", "m"], stdout=out)
+        expect("the disk of the report has no room at all", ran, 4)
+    room = Room()
+    with Disk(room, "1m", inodes=1) as disk:
+        ran = room.run(["plan", "s", "m", "p", "disk/t"])
+        expect("the disk of the tree takes no further file", ran, 4, FAULT, no_tree=read(f"{disk}/t") is None,
+               no_plan=room.read("p") is None)
+    room = Room(VESSEL, VESSEL_STOW, ["--nodes", "3000"])
+    room.write("t", b"an older tree\n" * 9000), room.write("p", b"an older plan\n")
+    ran = room.run(["plan", "s", "m", "p", "t", "--nodes", "3000"],
+                   before=lambda: resource.setrlimit(resource.RLIMIT_FSIZE, (8192, 8192)))
+    tree = room.read("t")
+    told("the system allows files of 8,192 bytes, with the default action of SIGXFSZ",
+         ran.returncode == 4 or ran.returncode == -signal.SIGXFSZ and room.tree.startswith(tree)
+         and room.read("p") == b"an older plan\n",
+         f"{'ended by SIGXFSZ' if ran.returncode < 0 else f'status {ran.returncode}'}; {len(tree)} bytes of the tree; older plan kept")
+
+    def ignored():
+        signal.signal(signal.SIGXFSZ, signal.SIG_IGN)
+        resource.setrlimit(resource.RLIMIT_FSIZE, (8192, 8192))
+    room = Room(VESSEL, VESSEL_STOW, ["--nodes", "3000"])
+    ran = room.run(["plan", "s", "m", "p", "t", "--nodes", "3000"], before=ignored, restore_signals=False)
+    expect("the system allows files of 8,192 bytes, SIGXFSZ ignored", ran, 4, FAULT,
+           tree_is_the_first_8192_bytes=room.read("t") == room.tree[:8192], no_plan=room.read("p") is None)
+
+
+def no_rights():
+    def nobody(room, words):
+        return room.run(words, how=["setpriv", "--reuid=65534", "--regid=65534", "--clear-groups"])
+    room = Room()
+    ran = nobody(room, PLANNED)
+    expect("a folder that can't be written, as nobody", ran, 4, FAULT, no_tree=room.read("t") is None)
+    room.write("t", b"an older tree\n"), room.write("p", b"an older plan\n")
+    ran = nobody(room, PLANNED)
+    expect("an older tree that can't be written, as nobody", ran, 4, FAULT, older_tree_kept=room.read("t") == b"an older tree\n",
+           older_plan_kept=room.read("p") == b"an older plan\n")
+    os.chmod(room.at("t"), 0o666)
+    ran = nobody(room, PLANNED)
+    expect("an older plan that can't be written, as nobody", ran, 4, FAULT, tree_is_whole=room.read("t") == room.tree,
+           older_plan_kept=room.read("p") == b"an older plan\n")
+    for name, word, words in (("s", "ship", ["tasks", "s", "m"]), ("m", "stow", ["tasks", "s", "m"]),
+                              ("p", "plan", ["check", "s", "m", "p", "t"]), ("t", "tree", ["check", "s", "m", "p", "t"])):
+        room = Room()
+        room.write("p", room.plan), room.write("t", room.tree)
+        os.chmod(room.at(name), 0)
+        expect(f"a {word} file that can't be read, as nobody", nobody(room, words), 3, f"ReadFault {word}\n".encode())
+
+
+def kinds_of_files():
+    for name, word, words in (("s", "ship", ["tasks", "s", "m"]), ("m", "stow", ["tasks", "s", "m"]),
+                              ("p", "plan", ["show", "s", "m", "p"]), ("t", "tree", ["check", "s", "m", "-", "t"])):
+        for how in ("a folder in place of the", "no", "a link to nothing in place of the", "a link to itself in place of the"):
+            room = Room()
+            room.write("p", room.plan), room.write("t", room.tree)
+            os.remove(room.at(name))
+            if how.startswith("a folder"):
+                os.mkdir(room.at(name))
+            elif how.startswith("a link"):
+                os.symlink("nothing" if "nothing" in how else name, room.at(name))
+            expect(f"{how} {word} file", room.run(words), 3, f"ReadFault {word}\n".encode())
+    room = Room()
+    os.mkdir(room.at("t"))
+    expect("a folder in place of the tree that is to be written", room.run(PLANNED), 4, FAULT, no_plan=room.read("p") is None)
+    room = Room()
+    os.mkdir(room.at("p"))
+    expect("a folder in place of the plan that is to be written", room.run(PLANNED), 4, FAULT, tree_is_whole=room.read("t") == room.tree)
+    room = Room()
+    expect("a tree in a folder that isn't there", room.run(["plan", "s", "m", "p", "no/t"]), 4, FAULT, no_plan=room.read("p") is None)
+    room = Room()
+    for what, status, report in (("/dev/zero", 15, b"TooLarge ship\n"), ("/dev/urandom", 15, b"TooLarge ship\n"),
+                                 ("/dev/null", 5, b"BadShip Missing hatches 0\n"), ("/proc/self/mem", 3, b"ReadFault ship\n")):
+        expect(f"{what} as ship file", room.run(["tasks", what, "m"]), status, report)
+    expect("/dev/zero as tree", room.run(["check", "s", "m", "-", "/dev/zero"]), 7, b"BadTree LineTooLong 1\n")
+    expect("/dev/full as tree to be written", room.run(["plan", "s", "m", "p", "/dev/full"]), 4, FAULT, no_plan=room.read("p") is None)
+    expect("/dev/full as plan to be written", room.run(["plan", "s", "m", "/dev/full", "t"]), 4, FAULT,
+           tree_is_whole=room.read("t") == room.tree)
+    expect("/dev/null as tree to be written", room.run(["plan", "s", "m", "p", "/dev/null"]), 0, None,
+           plan_is_whole=room.read("p") == room.plan)
+
+
+def same_files():
+    def older(room):
+        room.write("t", b"an older tree\n")
+    for how, plan, make in (("./t", "./t", older), ("a link", "p", lambda room: (older(room), os.symlink("t", room.at("p")))),
+                            ("a second name", "p", lambda room: (older(room), os.link(room.at("t"), room.at("p"))))):
+        room = Room()
+        make(room)
+        expect(f"the plan is the tree, by {how}", room.run(["plan", "s", "m", plan, "t"]), 4, FAULT,
+               tree_is_whole=room.read("t") == room.tree)
+    for role, name in (("the ship file", "s"), ("the list", "m")):
+        room = Room()
+        before = room.read(name)
+        expect(f"the tree is {role}, by another path", room.run(["plan", "s", "m", "p", f"./{name}"]), 4, FAULT,
+               it_is_kept=room.read(name) == before, no_plan=room.read("p") is None)
+        room = Room()
+        expect(f"the plan is {role}, by another path", room.run(["plan", "s", "m", f"./{name}", "t"]), 4, FAULT,
+               it_is_kept=room.read(name) == before, tree_is_whole=room.read("t") == room.tree)
+    room = Room()
+    expect("the plan is the tree by the same name", room.run(["plan", "s", "m", "t", "t"]), 2, None, no_file=room.read("t") is None)
+
+
+def output():
+    judged = [("plan", PLANNED), ("check", ["check", "s", "m", "p", "t"]), ("tasks", ["tasks", "s", "m"]), ("show", ["show", "s", "m", "p"]),
+              ("usage", [])]
+    for name, words in judged:
+        for how in ("/dev/full", "a pipe that nobody reads", "closed"):
+            room = Room()
+            room.write("p", room.plan), room.write("t", room.tree)
+            older = {file: room.read(file) for file in "smpt"}
+            if how == "/dev/full":
+                with open("/dev/full", "wb") as out:
+                    ran = room.run(words, stdout=out)
+            elif how == "closed":
+                ran = room.run(words, before=lambda: os.close(1), stdout=None)
+            else:
+                reader, writer = os.pipe()
+                os.close(reader)
+                ran = room.run(words, stdout=writer)
+                os.close(writer)
+            expect(f"{name}, standard output is {how}", ran, 4, None,
+                   all_files_whole={file: room.read(file) for file in "smpt"} == older)
+    room = Room()
+    ran = room.run(PLANNED, before=lambda: (os.close(0), os.close(1), os.close(2)), stdout=None)
+    expect("plan, input, output and error closed", ran, 4, None, tree_is_whole=room.read("t") == room.tree,
+           plan_is_whole=room.read("p") == room.plan)
+    room = Room()
+    ran = room.run(PLANNED, before=lambda: resource.setrlimit(resource.RLIMIT_NOFILE, (4, 4)))
+    expect("the system allows no second open file", ran, 4, b"", no_tree=room.read("t") is None, no_plan=room.read("p") is None)
+
+
+def changes_meanwhile():
+    room = Room()
+    rows = b"".join(b"B%d,D,02%02d%02d,40\n" % (n, n // 14, 70 + n % 14 * 2) for n in range(1400))
+    whole = b"id,move,cell,length\n" + rows + b"\n" * (8388608 - 20 - len(rows))
+    seen = {}
+    for turn in range(60):
+        room.write("m", whole)
+
+        def shrink():
+            time.sleep(0.0004 * (turn % 20))
+            os.truncate(room.at("m"), (turn * 7919) % 30000)
+        thread = threading.Thread(target=shrink)
+        thread.start()
+        ran = room.run(["tasks", "s", "m"])
+        thread.join()
+        key = (ran.returncode, ran.stdout.split(b" ")[0])
+        seen[key] = seen.get(key, 0) + 1
+    right = all(key in ((0, b"task"), (6, b"BadStow"), (0, b"total")) for key in seen)
+    told("the list shrinks while it is read, 60 times", right, ", ".join(f"{n} times status {k[0]}" for k, n in sorted(seen.items())))
+    os.mkfifo(room.at("pipe"))
+    for part, status in ((SHIP, 0), (SHIP[: len(SHIP) // 2], 5), (b"", 5)):
+        def feed():
+            with open(room.at("pipe"), "wb", buffering=0) as pipe:
+                for at in range(0, len(part), 7):
+                    pipe.write(part[at:at + 7])
+        room.write("m", STOW)
+        thread = threading.Thread(target=feed)
+        thread.start()
+        ran = room.run(["tasks", "pipe", "m"])
+        thread.join()
+        expect(f"the ship file is a pipe that gives {len(part)} of {len(SHIP)} bytes, 7 at a time", ran, status)
+    cut, whole = 0, 0
+    for turn in range(20):
+        room = Room.__new__(Room)
+        room.path = tempfile.mkdtemp(prefix="qc-trial-")
+        room.write("s", VESSEL), room.write("m", VESSEL_STOW)
+        process = subprocess.Popen([PROGRAM] + PLANNED + ["--nodes", "100000"], cwd=room.path, stdout=subprocess.DEVNULL)
+        time.sleep(0.05 + 0.02 * turn)
+        process.kill()
+        process.wait()
+        tree = room.read("t")
+        if tree is None:
+            continue
+        ran = room.run(["check", "s", "m", "-", "t"])
+        cut += ran.returncode == 7 and ran.stdout == b"BadTree Cut %d\n" % (tree.count(b"\n") + 1) and room.read("p") is None
+        whole += 1
+    told("plan is killed while it searches, 20 times", cut == whole and whole > 0,
+         f"{whole} times a tree was there, {cut} times check says BadTree Cut at its last line, and there is no plan")
+
+
+def main():
+    if IS_ROOT:
+        full_disks()
+        no_rights()
+    else:
+        print("skipped: full disks and missing rights, which need root")
+    kinds_of_files()
+    same_files()
+    output()
+    changes_meanwhile()
+    for name in os.listdir(tempfile.gettempdir()):
+        if name.startswith("qc-trial-"):
+            shutil.rmtree(os.path.join(tempfile.gettempdir(), name), ignore_errors=True)
+    print(f"{wrong} wrong")
+    return 1 if wrong else 0
+
+
+if __name__ == "__main__":
+    sys.exit(main())
