@@ -37,7 +37,3 @@ module _ (inst : InstanceView) (ds : List Decision) (first : ℕ) (tasks : List 
 
   pub no_ring : NoWay → is_ring inst ds (first ∷ tasks) ≡ false
   no_ring none = ap is_some (none (first ∷ []))
-
-  pub ring_is : (last ticks : ℕ) → IsWay last ticks
-      → is_ring inst ds (first ∷ tasks) ≡ is_some (forced inst ds last first)
-  ring_is last ticks way = ap is_some (way (first ∷ [])) ∙ closes ticks (ticks_of inst first) (forced inst ds last first)

@@ -92,13 +92,6 @@ module _ (inst : InstanceView) (ds : List Decision) (heads : Heads) (list : List
 
 -- ---- numbers and tests
 
-pub number_range : (inst : InstanceView) (i : ℕ) → is_number inst i ≡ true
-    → (0 < i) × (i - 1 < length inst.tasks)
-number_range inst i is =
-    let parts = and_parts (nat_lt 0 i) (nat_le i (length inst.tasks)) is in
-    let some = ltb-true 0 i parts.0 in
-    (some, omega (arith, some, leb-true i (length inst.tasks) parts.1))
-
 abbrev is_pair : ℕ → ℕ → Pair → Bool
 is_pair i j pair = (pair.first == i) && (pair.second == j)
 
@@ -114,11 +107,6 @@ unsettled_test inst ds i j un =
     let one = false_from_ne_true (is_some (forced inst ds i j)) (λ h. un (inl h)) in
     let other = false_from_ne_true (is_some (forced inst ds j i)) (λ h. un (inr h)) in
     ap (λ b. not (b || is_some (forced inst ds j i))) one ∙ ap not other
-
-pub settled_test : (inst : InstanceView) (ds : List Decision) (i j : ℕ) → IsSettled inst ds i j
-    → not (is_settled inst ds i j) ≡ false
-settled_test inst ds i j (inl h) = ap not (or_left (is_some (forced inst ds i j)) (is_some (forced inst ds j i)) h)
-settled_test inst ds i j (inr h) = ap not (or_right (is_some (forced inst ds i j)) (is_some (forced inst ds j i)) h)
 
 pub none_of : (o : Option ℕ) → is_some o ≡ false → o ≡ None
 none_of None none = refl

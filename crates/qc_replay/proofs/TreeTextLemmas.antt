@@ -41,18 +41,9 @@ use Rattle.qc_replay.specs.declared.fault.TreeKind.TheVariants as kind
 use Rattle.qc_replay.specs.Walk.{Coming, Reading, at, at_text, branched_to, came, closed_by, end, down, from_file, is_apart, is_number, is_settled, most_bytes, next_of, node, numbered, start, texts_from, tree_in, up}
 use Rattle.qc_replay.specs.Walk as walk
 use Rattle.qc_replay.proofs.LeafBounds.{leaf_few}
+use Rattle.qc_num.proofs.BoundLemmas.{lesser_assoc, lesser_never}
 
 -- ---- bounds
-
-lesser_again : (x y z : Bound) → lesser (lesser x y) z ≡ lesser x (lesser y z)
-lesser_again Never y z = refl
-lesser_again (Least a) Never z = refl
-lesser_again (Least a) (Least b) Never = refl
-lesser_again (Least a) (Least b) (Least c) = ap Least (omega arith)
-
-lesser_never : (x : Bound) → lesser x Never ≡ x
-lesser_never Never = refl
-lesser_never (Least a) = refl
 
 is_bound_same : (x : Bound) → is_bound x x ≡ true
 is_bound_same Never = refl
@@ -379,7 +370,7 @@ module _ (inst : InstanceView) (v : Replayed) where
         (so_far more (branched + counts k + sum_by counts ks) (lesser after (least_bound (map shown ks)))) rest
         (ap (λ n. so_far more n (lesser bound (lesser (shown k) (least_bound (map shown ks))))) count
         ∙ ap (λ x. so_far more (branched + counts k + sum_by counts ks) x)
-        (sym (lesser_again bound (shown k) (least_bound (map shown ks)))))
+        (sym (lesser_assoc bound (shown k) (least_bound (map shown ks)))))
         leads)))
 
     -- for each crane, so for the list of them
@@ -472,7 +463,7 @@ module _ (inst : InstanceView) (v : Replayed) where
         (leads_as (so_far more (branched + (1 + (a + b))) (lesser bound (lesser x y)))
         (so_far more (branched + 1 + a + b) (lesser (lesser bound x) y)) rest
         (ap (λ n. so_far more n (lesser bound (lesser x y))) count ∙ ap
-        (λ z. so_far more (branched + 1 + a + b) z) (sym (lesser_again bound x y)))
+        (λ z. so_far more (branched + 1 + a + b) z) (sym (lesser_assoc bound x y)))
         leads))))
 
     -- the value of a part has at most 15 digits
