@@ -1,5 +1,5 @@
 -- What is told at the end of a search, and where it was cut.
-use Rattle.std.proofs.Common.{◌≡◌, ℕ, ◌<◌, ◌≤◌, List, [], ◌∷◌, ◌++◌, length, Option, refl, ap, sym, subst, ◌∙◌, arith}
+use Rattle.std.proofs.Common.{◌≡◌, ℕ, ◌<◌, ◌≤◌, List, [], length, Option, refl, ap, sym, subst, ◌∙◌, arith}
 use Rattle.std.specs.Io.KnownBytes.{append_known}
 use Rattle.qc_model.specs.declared.direction.Direction.TheVariants.{Up}
 use Rattle.qc_model.specs.Instance.{InstanceView, Valid}

@@ -23,7 +23,7 @@ use Rattle.qc_tree.specs.Trees.{leaf_text}
 use Rattle.qc_search.specs.declared.branch.Branch.{Branch}
 use Rattle.qc_search.specs.declared.course.Course.{Course}
 use Rattle.qc_search.specs.Earned.{TreeNode}
-use Rattle.qc_search.specs.Course.{Comes, IsAlong, IsCourse, IsKeptBest, IsPassed, IsSoon, IsTaken, Stopped, Went, leaf_of, value_by}
+use Rattle.qc_search.specs.Course.{Comes, IsAlong, IsCourse, IsPassed, IsSoon, IsTaken, Stopped, Went, leaf_of, value_by}
 use Rattle.qc_dist.specs.Children.{behind}
 use Rattle.qc_search.specs.Walk.{IsOpenBranch, WereMade, first_of, from_child, from_node, sign_of, sign_text}
 use Rattle.qc_search.proofs.ClosingSteps.{branch_comes, closed_comes, spent_comes}

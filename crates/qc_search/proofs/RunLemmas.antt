@@ -24,7 +24,7 @@ use Rattle.qc_tree.specs.Trees.{IsTree, Part, Tree, branchings, leaf, on_pair, o
 use Rattle.qc_search.specs.declared.course.Course.{Course}
 use Rattle.qc_search.specs.declared.done.Kind.TheVariants.{Budget, Optimal}
 use Rattle.qc_search.specs.Earned.{IsEarned, IsMetEnd, TreeNode, branchings_in, node_at, part_nodes, tree_nodes}
-use Rattle.qc_search.specs.Course.{AreEarned, Comes, IsCourse, IsKeptBest, shown_best, value_in, visit_nodes}
+use Rattle.qc_search.specs.Course.{AreEarned, Comes, IsCourse, shown_best, value_in, visit_nodes}
 use Rattle.qc_search.specs.Run.{IsMetBest, IsRun, outcome}
 use Rattle.qc_search.proofs.EarnedLemmas.{all_earned, branchings-append, earned_then, value-append}
 use Rattle.qc_search.proofs.ShownLemmas.{best_shown}

@@ -2,7 +2,7 @@
 use Rattle.std.proofs.Common.{Contains, ◌≡◌, ℕ, ◌<◌, ◌⊎◌, inl, inr, List, [], ◌∷◌, ◌++◌, Option, Some, IsSome, refl, ap, ap₂, sym, subst, ◌∙◌, arith}
 use Rattle.std.proofs.lemmas.List.Elements.{Contains-append_left, Contains-push}
 use Rattle.qc_num.specs.declared.bound.Bound.{Bound}
-use Rattle.qc_num.specs.declared.bound.Bound.TheVariants.{Least, Never}
+use Rattle.qc_num.specs.declared.bound.Bound.TheVariants.{Least}
 use Rattle.qc_num.specs.Bounds.{IsAtMost, lesser}
 use Rattle.qc_bounds.proofs.ClosedLemmas.{one_end}
 use Rattle.qc_model.specs.declared.decision.Decision.{Decision}
