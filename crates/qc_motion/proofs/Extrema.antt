@@ -1,5 +1,5 @@
 -- The lower and the higher of two whole numbers, as the code comes to them.
-use Rattle.std.proofs.Common.{◌≡◌, ℤ, ◌≤ℤ◌, FitsSigned, to_z, of_z, int_lt, arith}
+use Rattle.std.proofs.Common.{◌≡◌, ℤ, FitsSigned, to_z, of_z, int_lt, arith}
 use Rattle.std.proofs.lemmas.Bool.{cond_both}
 use Rattle.std.proofs.lemmas.Int.{ints, to_z-of_z}
 use Rattle.std.specs.Int.{int_max, int_min}

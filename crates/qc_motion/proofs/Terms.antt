@@ -1,5 +1,5 @@
 -- What the place of a crane at a tick says of the tasks and berths that hold it, and how fast it changes.
-use Rattle.std.proofs.Common.{◌≡◌, ℕ, ◌+◌, ◌≤◌, ℤ, pos, ◌+ℤ◌, ◌≤ℤ◌, refl, sym, ap, subst, arith}
+use Rattle.std.proofs.Common.{◌≡◌, ℕ, ◌≤◌, ℤ, ◌≤ℤ◌, refl, sym, ap, subst, arith}
 use Rattle.std.proofs.lemmas.Int.{ints}
 use Rattle.qc_model.specs.Motion.{LowPlace, berth_place, scaled, task_place}
 use Rattle.qc_model.specs.Motion.LowPlace.{of_berth, of_floor, of_task}

@@ -42,6 +42,7 @@ use Rattle.qc_replay.specs.Walk.{Coming, Reading, at, at_text, branched_to, came
 use Rattle.qc_replay.specs.Walk as walk
 use Rattle.qc_replay.proofs.LeafBounds.{leaf_few}
 use Rattle.qc_num.proofs.BoundLemmas.{lesser_assoc, lesser_never}
+use Rattle.qc_replay.proofs.NodeFacts.{apart_listed, unsettled_false}
 
 -- ---- bounds
 
@@ -308,20 +309,6 @@ module _ (inst : InstanceView) (v : Replayed) where
     abbrev pair_nodes : List Decision → ℕ → ℕ → List Coming
     pair_nodes ds i j = node d (decide.Order i j ∷ ds) ∷ node d (decide.Order j i ∷ ds) ∷ []
 
-    apart_is : (i j : ℕ) → IsApart (seen inst d) i j → is_apart (seen inst d) i j ≡ true
-    apart_is i j at_ =
-        let test = λ (p : Pair). (p.first == i) && (p.second == j) in
-        let itself = and_from (i == i) (j == j) (eq-eqb i i refl) (eq-eqb j j refl) in
-        list_any_at test (seen inst d).apart at_.0 (pair_of i j) at_.1
-        (subst (λ (p : Pair). test p ≡ true) (sym at_.2) itself)
-
-    settled_is : (ds : List Decision) (i j : ℕ) → (¬ IsSettled (seen inst d) ds i j)
-        → is_settled (seen inst d) ds i j ≡ false
-    settled_is ds i j unsettled =
-        or_from (is_some (forced (seen inst d) ds i j)) (is_some (forced (seen inst d) ds j i))
-        (false_from_ne_true (is_some (forced (seen inst d) ds i j)) (λ e. unsettled (inl e)))
-        (false_from_ne_true (is_some (forced (seen inst d) ds j i)) (λ e. unsettled (inr e)))
-
     pair_at :
         (ds : List Decision) (i j : ℕ) (more : List Coming) (branched : ℕ) (bound : Bound)
         → IsApart (seen inst d) i j → (¬ IsSettled (seen inst d) ds i j) → branched < MOST_BRANCHINGS
@@ -331,7 +318,7 @@ module _ (inst : InstanceView) (v : Replayed) where
         let range = (seen_valid inst valid d).apart.range i j apart in
         let first = number_of i (omega (arith, range.0, range.1)) in
         let second = number_of j range.1 in
-        rw (first, second, back_one i, back_one j, apart_is i j apart, settled_is ds i j unsettled)
+        rw (first, second, back_one i, back_one j, apart_listed (seen inst d) i j apart, unsettled_false (seen inst d) ds i j unsettled)
         (branched_is ds more (pair_nodes ds i j) branched bound few)
 
     -- children, one for each crane

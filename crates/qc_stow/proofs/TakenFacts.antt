@@ -98,8 +98,3 @@ cell-taken (first ∷ rows) row =
 -- one more row takes its id and its slots
 pub ids-more : (rows : List Row) (row : Row) → ids_of (rows ++ row ∷ []) ≡ ids_of rows ++ (row.kind, row.id) ∷ []
 ids-more rows row = map-append (λ (r : Row). (r.kind, r.id)) rows (row ∷ [])
-
-pub slots-more : (rows : List Row) (row : Row) → slots_taken (rows ++ row ∷ []) ≡ slots_taken rows ++ map (λ slot. (row.kind, slot)) (slots_of row.cell)
-slots-more rows row =
-    flat_map-append (λ (r : Row). map (λ (s : Slot). (r.kind, s)) (slots_of r.cell)) rows (row ∷ [])
-    ∙ ap (λ (last : List (Move × Slot)). slots_taken rows ++ last) (append-nil (map (λ (s : Slot). (row.kind, s)) (slots_of row.cell)))
