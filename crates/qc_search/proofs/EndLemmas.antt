@@ -21,7 +21,7 @@ use Rattle.qc_search.proofs.CountLemmas.{few_in_tree}
 use Rattle.qc_search.proofs.EarnedLemmas.{none_met}
 use Rattle.qc_search.proofs.ShownLemmas.{cranes_low, judgeable_is, tight_is}
 use Rattle.qc_search.proofs.RunLemmas.{bound_is, branched_is, course_done, run_is, searched, spent_is, text_is, tree_is}
-use Rattle.qc_search.proofs.TightLemmas.{best_end_is}
+use Rattle.qc_search.proofs.TightLemmas.{best_end_is, best_soon}
 
 module _ (home : InstanceView) (v : Valid home) (begun turned done : Course) (one two : List ℕ)
     (up : Comes home Up ([] ∷ []) [] begun turned one)
@@ -116,6 +116,7 @@ module _ {K B : Type 0} (written : K → Option (List ℕ)) (beside : K → B) (
     none_earlier = none_earlier home v begun w.between done w.one w.two w.up w.down first few;
     judgeable = judgeable_is home v done _ done_course;
     tight = tight_is home v done _ done_course;
+    soon = best_soon home done _ done_course _ (best_end_is home done _ done_course);
     kind = kind_is home v begun w.between done w.one w.two w.up w.down first few;
     spent = λ kind. spent kind ∙ same;
     decides = λ enough kind.
