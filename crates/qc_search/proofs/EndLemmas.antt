@@ -19,7 +19,7 @@ use Rattle.qc_search.proofs.CountLemmas.{few_in_tree}
 use Rattle.qc_search.proofs.EarnedLemmas.{none_met}
 use Rattle.qc_search.proofs.ShownLemmas.{cranes_low, judgeable_is, tight_is}
 use Rattle.qc_search.proofs.RunLemmas.{bound_is, branched_is, course_done, run_is, searched, spent_is, text_is, tree_is}
-use Rattle.qc_search.proofs.TightLemmas.{best_end_is}
+use Rattle.qc_search.proofs.TightLemmas.{best_end_is, best_soon}
 
 -- a course at its beginning
 pub begun_course : (home : InstanceView) (begun : Course) (nodes : ℕ) (best : List Slot) (path : SmallVec ℕ)
@@ -95,6 +95,7 @@ module _ {K B : Type 0} (written : K → Option (List ℕ)) (beside : K → B) (
     none_earlier = subst (NoneEarlier home) (sym bound_told) (tree_bound home v tree tree_there);
     judgeable = judgeable_is home v done _ done_course;
     tight = tight_is home v done _ done_course;
+    soon = best_soon home done _ done_course _ (best_end_is home done _ done_course);
     kind = ap (outcome done.bound) (sym (best_end_is home done _ done_course));
     spent = λ kind. spent kind ∙ same;
     decides = λ enough kind. omega (arith, enough, same, spent kind, branched_told, few_in_tree home tree tree_there);

@@ -1,9 +1,10 @@
 -- The end of a schedule that was met, whichever way it goes.
-use Rattle.std.proofs.Common.{◌≡◌, ℕ, ◌+◌, List, [], ◌∷◌, length, map, max, Option, None, Some, refl, ap, sym, ◌∙◌}
-use Rattle.std.specs.Prelude.{MatchOption}
+use Rattle.std.proofs.Common.{◌≡◌, ℕ, ◌+◌, ◌≤◌, List, [], ◌∷◌, length, map, max, Option, None, Some, refl, ap, sym, ◌∙◌}
+use Rattle.std.specs.Prelude.{IfSome, MatchOption}
 use Rattle.qc_num.specs.declared.bound.Bound.TheVariants.{Least, Never}
 use Rattle.qc_model.specs.declared.direction.Direction.{Direction}
 use Rattle.qc_model.specs.declared.direction.Direction.TheVariants.{Up, Down}
+use Rattle.qc_model.specs.declared.limits.TheConstants.{MOST_START}
 use Rattle.qc_model.specs.declared.schedule.Slot.{Slot}
 use Rattle.qc_model.specs.declared.task.Task.{Task}
 use Rattle.qc_model.specs.Instance.{InstanceView}
@@ -44,3 +45,8 @@ module _ (home : InstanceView) (done : Course) (nodes : List TreeNode) (course :
   pub best_end_is : best_end home (shown_best (length home.cranes) done.met done.way done.best) ≡ done.met
   best_end_is = end_of_best _ (best_shown home done nodes course (λ s. done.met ≡ Least (ends home s))
       (λ end e k. e ∙ ap Least (kept_end end k)))
+
+  -- and no task of it ends at a tick of more digits than a start has
+  pub best_soon : (best : Option (List Slot)) → best_end home best ≡ done.met → IfSome best (λ sched. ends home sched ≤ MOST_START)
+  best_soon None is = tt
+  best_soon (Some sched) is = (course.best (ends home sched) (sym is)).soon
