@@ -93,10 +93,12 @@ class Maker:
         bay = rng.choice((1, rng.randint(1, bays), rng.randint(1 - self.gap * self.cranes, bays)))
         bay = max(bay, -200)
         names = rng.sample(["C1", "C2", "C3", "C4", "STS-1", "a_b", "Z" * 12, "9"], self.cranes)
-        tables = []
+        tables, late = [], rng.choice(names) if rng.random() < 0.25 else None
         for name in names:
             keys = [f'name = "{name}"', f"bay = {bay}"]
-            if rng.random() < 0.5:
+            if name == late:
+                keys.append(f"ready = {rng.randint(60, 250)}")
+            elif late is None and rng.random() < 0.6:
                 keys.append(f"ready = {rng.randint(0, 1_000_000 if self.large else rng.choice((5, 30, 80)))}")
             first, last = sorted((rng.randint(1, count), rng.randint(1, count)))
             if rng.random() < 0.25:
@@ -383,8 +385,11 @@ class Case:
 
     def run(self, *words):
         done = subprocess.run([self.program, *words], cwd=self.folder, capture_output=True, timeout=300)
-        self.counts[f"{words[0]} {done.stdout.decode().split(chr(10))[0].split(' ')[0]} {done.returncode}"] += 1
-        return done.returncode, done.stdout.decode().splitlines()
+        lines = done.stdout.decode().splitlines()
+        first = lines[0].split() if lines else [""]
+        kind = " ".join(first[:2] if first[0] in ("Broken", "BadPlan", "BadTree", "direction") else first[:1])
+        self.counts[f"{words[0]}: {kind if words[0] != 'tasks' else ''} status {done.returncode}"] += 1
+        return done.returncode, lines
 
     def expect(self, what, seen, due):
         """Notes a difference, with all files as they stand."""
