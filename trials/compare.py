@@ -144,7 +144,7 @@ def changed_plans(inst, plan, rng):
     texts = [plan_text(inst, serial_plan(inst, rng))]
     if not slots:
         return texts
-    for _ in range(4):
+    for _ in range(3):
         new, (i, j) = list(slots), rng.choices(range(len(slots)), k=2)
         way = rng.choice(("shift", "shift", "shift", "cranes", "crane", "starts", "later"))
         if way == "shift":
@@ -198,7 +198,7 @@ def serial_plan(inst, rng):
 def changed_trees(inst, text, rng):
     """Bytes of trees: the given one with a change, with or without its last line mended, and random ones."""
     texts = []
-    for _ in range(3):
+    for _ in range(2):
         lines = text.decode().splitlines()
         at = rng.randrange(len(lines))
         words = lines[at].split()
@@ -320,7 +320,8 @@ class SearchJudge:
     def visit(self, node, kind, value):
         solvable = not node.is_out_of_reach() and node.starts is not None
         complete = node.is_complete()
-        closable = not solvable or complete or node.end >= self.met or node.work_bound >= self.met
+        met = self.met
+        closable = not solvable or complete or met < NEVER and (node.end >= met or node.work_holds(max(1, met)))
         if kind in "AO":
             self.expect(not closable, node, "branched on, and it can be closed")
             self.branched += 1
@@ -406,20 +407,20 @@ class Case:
         self.expect("tasks", self.run("tasks", "ship", "stow"), tasks_report(self.inst))
         for nodes in (0, 1, 5, self.rng.randint(2, 40), None):
             self.plan(nodes, least)
-            self.check("plan.csv" if self.read("plan.csv") else "-")
+            if nodes is None or self.rng.random() < 0.2:
+                self.check("plan.csv" if self.read("plan.csv") else "-")
         plan, tree = self.read("plan.csv"), self.read("tree.txt")
         slots = read_plan(self.inst, plan)[0] if plan else None
-        self.check("-")
         if plan:
             self.show()
-        for text in changed_plans(self.inst, slots, self.rng):
+        for text in changed_plans(self.inst, slots, self.rng) if self.rng.random() < 0.5 else ():
             self.write("plan.csv", text.encode())
             self.check("plan.csv")
-            if self.rng.random() < 0.3:
+            if self.rng.random() < 0.2:
                 self.show()
         if plan:
             self.write("plan.csv", plan)
-        for data in changed_trees(self.inst, tree, self.rng):
+        for data in changed_trees(self.inst, tree, self.rng) if self.rng.random() < 0.5 else ():
             self.write("tree.txt", data)
             self.check("plan.csv" if plan and self.rng.random() < 0.5 else "-")
         shutil.rmtree(self.folder)

@@ -20,7 +20,7 @@ import re
 import sys
 import tomllib
 from dataclasses import dataclass
-from functools import cached_property
+from functools import cache, cached_property
 
 PHASES = ("DD", "DH", "LH", "LD")
 LETTERS = {"DD": "D", "DH": "d", "LH": "l", "LD": "L"}
@@ -346,7 +346,7 @@ class Node:
     @cached_property
     def arcs(self):
         pairs = itertools.permutations(range(len(self.crane)), 2)
-        return [(i, j, self.forced(i, j)) for i, j in pairs if self.forced(i, j) is not None]
+        return [(i, j, ticks) for i, j in pairs if (ticks := self.forced(i, j)) is not None]
 
     def head(self, j, version=2):
         moment = self.inst.arrival if version == 1 else self.inst.free_from
@@ -565,6 +565,7 @@ class Motion:
         lowest += [data.bay - inst.gap * (w - crane) for w, data in enumerate(inst.cranes) if w >= crane]
         return min(lowest)
 
+    @cache
     def terms(self, crane):
         """What pushes the crane: (place, tick, slope before the tick, slope after it)."""
         inst = self.inst
@@ -576,15 +577,17 @@ class Motion:
 
     def place(self, crane, moment, parts=1):
         """`parts` times the place at the moment `moment / parts`."""
-        heights = []
+        best = -NEVER
         for place, tick, earlier, later in self.terms(crane):
             past = moment - parts * tick
-            heights.append(parts * place + (later if past > 0 else earlier) * past)
-        return max(heights)
+            height = parts * place + (later if past > 0 else earlier) * past
+            if height > best:
+                best = height
+        return best
 
     def turns(self, crane):
         """The ticks at which the slope may change: all, or where ends are late those near a meeting of two terms."""
-        if self.ends <= 600:
+        if self.ends <= 200:
             return range(1, self.ends)
         terms = self.terms(crane)
         lines = [(place - slope * tick, slope) for place, tick, *both in terms for slope in both]
@@ -594,14 +597,11 @@ class Motion:
         return sorted(tick for tick in ticks if 0 < tick < self.ends)
 
     def waypoints(self, crane):
-        ticks = [0]
-        for m in self.turns(crane):
-            here = self.place(crane, m)
-            if self.place(crane, m + 1) - here != here - self.place(crane, m - 1):
-                ticks.append(m)
+        place, ticks = cache(lambda m: self.place(crane, m)), [0]
+        ticks += [m for m in self.turns(crane) if place(m + 1) - place(m) != place(m) - place(m - 1)]
         if self.ends:
             ticks.append(self.ends)
-        return [(tick, self.place(crane, tick)) for tick in ticks]
+        return [(tick, place(tick)) for tick in ticks]
 
     def first_unsafe(self, parts):
         """What isn't safe at some moment `m / parts`, or None."""
