@@ -1,7 +1,7 @@
 #!/usr/bin/env python3
 """Gives the ships of bench.py to a general solver, and prints what it took beside `qc`, in processor time.
 
-    bench/general.py [SECONDS]      SECONDS at most for each ship and way, 300 where it isn't said
+    bench/general.py [SECONDS [KIND ..]]      SECONDS at most for each ship and way, 300 where it isn't said
 
 The solver is CBC (Debian's coinor-cbc), on a mixed-integer program for each of the two ways: which crane does a
 task, when it starts, and for each pair of tasks and cranes what one way forces between them. Only Python's
@@ -125,11 +125,12 @@ def ship_of(kind, numbers):
 
 def main(words):
     seconds = int(words[0]) if words else 300
+    kinds = words[1:] or list(bench.SHIPS)
     subprocess.run([os.path.join(bench.ROOT, "qc")], capture_output=True, check=False)
     print("| Ship | Tasks | Cranes | `qc` end | bound | seconds | CBC end | bound | seconds |")
     print("|---|---|---|---|---|---|---|---|---|")
-    for kind, (_, all_numbers) in bench.SHIPS.items():
-        for numbers in all_numbers:
+    for kind in kinds:
+        for numbers in bench.SHIPS[kind][1]:
             before = taken()
             tasks, cranes, _, told, _, _ = bench.plan(kind, numbers, 20000)
             took = taken() - before
