@@ -1,5 +1,5 @@
 -- What was written is read as the schedule that it was.
-use Rattle.std.proofs.Common.{◌≡◌, ◌≢◌, ℕ, ◌+◌, ◌<◌, ◌≤◌, ◌^◌, ◌++◌, ◌∷◌, ◌==◌, List, [], zero, suc, Bool, true, false, length, get_or, take, drop, map, All, ◌&&◌, nat_le, None, Some, Result, Ok, Err, refl, sym, ap, subst, inl, inr, ◌∙◌, arith, IsTrue}
+use Rattle.std.proofs.Common.{◌≡◌, ◌≢◌, ℕ, ◌+◌, ◌<◌, ◌≤◌, ◌^◌, ◌++◌, ◌∷◌, ◌==◌, List, [], zero, suc, Bool, true, false, cond, length, get_or, take, drop, map, All, ◌&&◌, nat_le, None, Some, Result, Ok, Err, refl, sym, ap, subst, inl, inr, ◌∙◌, arith, IsTrue}
 use Rattle.std.specs.Prelude.{OnOk, codes, decimal, nat_lt}
 use Rattle.std.specs.Char.{is_ascii_digit}
 use Rattle.std.specs.List.{flat_map, list_all, list_any, position_or_len, zip}
@@ -11,7 +11,7 @@ use Rattle.std.proofs.lemmas.Bool.Decides.{nat_tests}
 use Rattle.std.proofs.lemmas.Fmt.{decimal_injective}
 use Rattle.std.proofs.Math.Seq.{take-append_seam}
 use Rattle.std.proofs.lemmas.List.{append-nil, append_assoc, get_or-map, length-map, drop_at, length-append}
-use Rattle.csv.specs.Writing.{default_writer, fields_text, is_blank, needs_byte, row_text}
+use Rattle.csv.specs.Writing.{default_writer, needs_byte, row_text}
 use Rattle.qc_io.specs.declared.writing.WriteFault.{WriteFault}
 use Rattle.qc_num.proofs.DigitLemmas.{decimal_digits, number_in-decimal}
 use Rattle.qc_model.specs.declared.task.Task.{Task}
@@ -70,24 +70,19 @@ task_plain t small =
 abbrev pub line_fields : InstanceView → Task → Slot → List (List ℕ)
 line_fields inst t s = task_text t ∷ (crane inst s.crane).name ∷ decimal s.start ∷ decimal (s.start + t.ticks) ∷ []
 
--- two tasks with one name are of one hatch and one phase
+-- two tasks with one name are of one hatch and one phase; a phase is told by two bytes
+rank_in : List ℕ → ℕ
+rank_in t = cond (get_or t 0 0 == 68) (cond (get_or t 1 0 == 68) 0 1) (cond (get_or t 1 0 == 72) 2 3)
+
+rank_back : (p : Phase) → rank_in (phase_text p) ≡ phase_rank p
+unfolding rank_in
+rank_back DeckOut = refl
+rank_back HoldOut = refl
+rank_back HoldIn = refl
+rank_back DeckIn = refl
+
 same_phase : (p q : Phase) → phase_text p ≡ phase_text q → phase_rank p ≡ phase_rank q
-same_phase DeckOut DeckOut e = refl
-same_phase HoldOut HoldOut e = refl
-same_phase HoldIn HoldIn e = refl
-same_phase DeckIn DeckIn e = refl
-same_phase DeckOut HoldOut e = absurd (omega (arith, ap (λ t. get_or t 0 0) e, ap (λ t. get_or t 1 0) e))
-same_phase DeckOut HoldIn e = absurd (omega (arith, ap (λ t. get_or t 0 0) e, ap (λ t. get_or t 1 0) e))
-same_phase DeckOut DeckIn e = absurd (omega (arith, ap (λ t. get_or t 0 0) e, ap (λ t. get_or t 1 0) e))
-same_phase HoldOut DeckOut e = absurd (omega (arith, ap (λ t. get_or t 0 0) e, ap (λ t. get_or t 1 0) e))
-same_phase HoldOut HoldIn e = absurd (omega (arith, ap (λ t. get_or t 0 0) e, ap (λ t. get_or t 1 0) e))
-same_phase HoldOut DeckIn e = absurd (omega (arith, ap (λ t. get_or t 0 0) e, ap (λ t. get_or t 1 0) e))
-same_phase HoldIn DeckOut e = absurd (omega (arith, ap (λ t. get_or t 0 0) e, ap (λ t. get_or t 1 0) e))
-same_phase HoldIn HoldOut e = absurd (omega (arith, ap (λ t. get_or t 0 0) e, ap (λ t. get_or t 1 0) e))
-same_phase HoldIn DeckIn e = absurd (omega (arith, ap (λ t. get_or t 0 0) e, ap (λ t. get_or t 1 0) e))
-same_phase DeckIn DeckOut e = absurd (omega (arith, ap (λ t. get_or t 0 0) e, ap (λ t. get_or t 1 0) e))
-same_phase DeckIn HoldOut e = absurd (omega (arith, ap (λ t. get_or t 0 0) e, ap (λ t. get_or t 1 0) e))
-same_phase DeckIn HoldIn e = absurd (omega (arith, ap (λ t. get_or t 0 0) e, ap (λ t. get_or t 1 0) e))
+same_phase p q e = sym (rank_back p) ∙ ap rank_in e ∙ rank_back q
 
 phase_length : (p : Phase) → length (phase_text p) ≡ 2
 phase_length DeckOut = refl

@@ -5,7 +5,6 @@ use Rattle.std.specs.Prelude.{option_and_then, option_map, is_some}
 use Rattle.qc_model.specs.declared.decision.Decision.{Decision}
 use Rattle.qc_model.specs.Instance.{InstanceView, ticks_of}
 use Rattle.qc_model.specs.Leaves.{Version, chain_end, chain_ticks, head_in, is_ring}
-use Rattle.qc_model.specs.Nodes.{forced}
 
 -- a step back to the first task closes a ring
 closes : (ticks end : ℕ) (step : Option ℕ)

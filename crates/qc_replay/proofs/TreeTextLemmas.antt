@@ -1,12 +1,11 @@
 -- The text of every tree is read, and shows the tree's value.
-use Rattle.std.proofs.Common.{◌≡◌, ℕ, ◌+◌, ◌-◌, ◌*◌, ◌<◌, ◌≤◌, ◌^◌, Bool, true, false, ◌&&◌, ◌==◌, inl, inr, List, [], ◌∷◌, ◌++◌, length, map, get_or, All, Option, None, Some, IfSome, IsSome, refl, ap, sym, subst, ◌∙◌, arith}
-use Rattle.std.specs.Prelude.{Ok, decimal, is_some, nat_le, nat_lt, unwrap_or}
+use Rattle.std.proofs.Common.{◌≡◌, ℕ, ◌+◌, ◌-◌, ◌*◌, ◌<◌, ◌≤◌, ◌^◌, Bool, true, ◌&&◌, ◌==◌, inl, inr, List, [], ◌∷◌, ◌++◌, length, map, get_or, All, Option, None, Some, IfSome, IsSome, refl, ap, sym, subst, ◌∙◌, arith}
+use Rattle.std.specs.Prelude.{Ok, decimal, nat_le, nat_lt, unwrap_or}
 use Rattle.std.specs.List.{flat_map, list_all, range_with_len, slice_split, sum_by}
-use Rattle.std.proofs.lemmas.Bool.{and_from, and_parts, cond_both, eq-eqb, false_from_ne_true, le-leb, leb-true, lt-ltb, ltb-true, or_from}
+use Rattle.std.proofs.lemmas.Bool.{and_from, and_parts, cond_both, eq-eqb, le-leb, leb-true, lt-ltb, ltb-true}
 use Rattle.std.proofs.lemmas.Fmt.{length-decimal-le}
 use Rattle.std.proofs.lemmas.List.{append-nil, append_assoc, length-append, length-map}
 use Rattle.std.proofs.lemmas.List.Elements.{All-head, All-tail, All-nil, All-cons}
-use Rattle.std.proofs.lemmas.List.Folds.{list_any_at}
 use Rattle.std.proofs.lemmas.List.FromFn.{get_or-range_with_len, length-range_with_len}
 use Rattle.std.proofs.lemmas.List.Splits.{length-slice_split}
 use Rattle.std.proofs.lemmas.List.Sums.{sum_by-cons}
@@ -19,10 +18,9 @@ use Rattle.qc_model.specs.declared.decision.Decision.TheVariants as decide
 use Rattle.qc_model.specs.declared.direction.Direction.{Direction}
 use Rattle.qc_model.specs.declared.direction.Direction.TheVariants as way
 use Rattle.qc_model.specs.declared.limits.TheConstants.{MOST_TASKS}
-use Rattle.qc_model.specs.declared.pair.Pair.{Pair}
-use Rattle.qc_model.specs.Instance.{InstanceView, IsApart, Valid, pair_of}
+use Rattle.qc_model.specs.Instance.{InstanceView, IsApart, Valid}
 use Rattle.qc_model.specs.Leaves.{Leaf, Version, are_tasks, chain, crane_numbers, is_ring, leaf_value, reach, ring, with_berths, without_berths, work, work_holds}
-use Rattle.qc_model.specs.Nodes.{Fits, IsSettled, assigned, forced}
+use Rattle.qc_model.specs.Nodes.{Fits, IsSettled, assigned}
 use Rattle.qc_model.specs.OneWay.{mirror}
 use Rattle.qc_model.specs.Seen.{seen}
 use Rattle.qc_model.proofs.MirrorLemmas.{seen_valid}
@@ -32,13 +30,13 @@ use Rattle.qc_tree.specs.declared.line.TheConstants.{MOST_BRANCHINGS}
 use Rattle.qc_tree.specs.declared.line.Line.{Line}
 use Rattle.qc_tree.specs.declared.line.Line.TheVariants as line
 use Rattle.qc_tree.specs.Lines.{AreTasks, IsLine, IsTask, IsValue, bound_field, fields, line_list, line_text}
-use Rattle.qc_tree.specs.Trees.{IsPart, IsTree, Part, Tree, branchings, in_file, leaf, leaf_text, part_text, part_value, title, tree_branchings, tree_text, tree_value, whole_line}
+use Rattle.qc_tree.specs.Trees.{IsPart, IsTree, Part, Tree, branchings, in_file, leaf, part_text, part_value, title, tree_branchings, tree_text, tree_value, whole_line}
 use Rattle.qc_tree.specs.Trees as trees
 use Rattle.qc_tree.proofs.LineInLemmas.{line_in_of, split_line}
 use Rattle.qc_replay.specs.declared.fault.Replayed.{Replayed}
 use Rattle.qc_replay.specs.declared.fault.TreeKind.{TreeKind}
 use Rattle.qc_replay.specs.declared.fault.TreeKind.TheVariants as kind
-use Rattle.qc_replay.specs.Walk.{Coming, Reading, at, at_text, branched_to, came, closed_by, end, down, from_file, is_apart, is_number, is_settled, most_bytes, next_of, node, numbered, start, texts_from, tree_in, up}
+use Rattle.qc_replay.specs.Walk.{Coming, Reading, at, at_text, branched_to, came, closed_by, end, down, from_file, is_number, most_bytes, next_of, node, numbered, start, texts_from, tree_in, up}
 use Rattle.qc_replay.specs.Walk as walk
 use Rattle.qc_replay.proofs.LeafBounds.{leaf_few}
 use Rattle.qc_num.proofs.BoundLemmas.{lesser_assoc, lesser_never}

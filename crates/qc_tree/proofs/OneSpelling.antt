@@ -1,16 +1,15 @@
 -- What a text that begins like a line can be.
 use Rattle.std.proofs.Common.{◌≡◌, ℕ, ◌≤◌, ◌<◌, ◌^◌, List, [], ◌∷◌, ◌++◌, All, length, get_or, drop, refl, sym, ap, subst, ◌∙◌, arith}
-use Rattle.std.specs.Prelude.{decimal, codes, Result, Ok, Err}
+use Rattle.std.specs.Prelude.{decimal, codes}
 use Rattle.std.proofs.lemmas.Fmt.{decimal_nonempty}
 use Rattle.std.proofs.lemmas.List.{append_assoc, flat_map_more}
 use Rattle.std.proofs.lemmas.List.Elements.{All-append, All-cons, All-head, All-nil, All-tail}
 use Rattle.qc_num.specs.declared.bound.Bound.{Bound}
 use Rattle.qc_num.specs.declared.bound.Bound.TheVariants.{Least, Never}
 use Rattle.qc_tree.specs.Fields.{EndsDigits, IsField}
-use Rattle.qc_tree.specs.declared.line.BadLine.{BadLine}
-use Rattle.qc_tree.specs.Lines.{AreTasks, IsLine, Reads, line_list, IsTask, IsTextOf, IsValue, bound_field, fields, line_text}
+use Rattle.qc_tree.specs.Lines.{AreTasks, IsTask, IsTextOf, IsValue, bound_field, fields}
 use Rattle.qc_tree.specs.declared.line.Line.{Line}
-use Rattle.qc_tree.specs.declared.line.Line.TheVariants.{Title, Title2, Up, Down, Assign, Order, Chain, Ring, Reach, Work, End}
+use Rattle.qc_tree.specs.declared.line.Line.TheVariants.{Order, Ring, Work, End}
 use Rattle.qc_num.proofs.DigitLemmas.{decimal_digits, fits}
 use Rattle.qc_tree.proofs.Digits.{one_field, one_split}
 
