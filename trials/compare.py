@@ -10,6 +10,7 @@ files and the two answers are kept in a folder under KEPT. Prints counts and the
 there is any.
 """
 import argparse
+import itertools
 import random
 import shutil
 import subprocess
@@ -19,9 +20,9 @@ import time
 from collections import Counter
 from pathlib import Path
 
-from reference import (NEVER, PHASES, Node, TreeFault, TreeReader, check_report, crane_lines, direction_of, end_of,
-                       bound_text, instance_of, is_tight, least_end, motion_of, plan_text, read_plan, read_ship,
-                       show_report, tasks_report)
+from reference import (NEVER, PHASES, Node, TreeFault, TreeReader, arcs_up, bound_text, breaks_up, check_report,
+                       crane_lines, direction_of, end_of, instance_of, least_end, least_starts, motion_of, plan_text,
+                       read_plan, read_ship, show_report, tasks_report)
 
 
 # ---------------------------------------------------------------- random ships and lists
@@ -141,10 +142,14 @@ class Maker:
 def changed_plans(inst, plan, rng):
     """Texts of plans beside the given one, or of any plans where none is given."""
     slots = list(plan) if plan else [(rng.randrange(len(inst.cranes)), rng.randint(0, 60)) for _ in inst.tasks]
-    texts = [plan_text(inst, serial_plan(inst, rng))]
+    texts = [plan_text(inst, serial_plan(inst, rng, early)) for early in (0, 1)]
     if not slots:
         return texts
-    for _ in range(3):
+    new, (i, j) = serial_plan(inst, rng, 0), rng.choices(range(len(slots)), k=2)
+    after = end_of(inst, new) + inst.travel * 2 * (inst.bays + inst.gap * len(inst.cranes))
+    new[i], new[j] = (new[i][0], after), (new[j][0], after + rng.randint(0, 3))
+    texts.append(plan_text(inst, new))
+    for _ in range(2):
         new, (i, j) = list(slots), rng.choices(range(len(slots)), k=2)
         way = rng.choice(("shift", "shift", "shift", "cranes", "crane", "starts", "later"))
         if way == "shift":
@@ -176,15 +181,15 @@ def changed_plans(inst, plan, rng):
     return texts + ["\n".join(lines) + "\n"]
 
 
-def serial_plan(inst, rng):
-    """One task after the other in a random order, which seldom goes one way."""
+def serial_plan(inst, rng, early):
+    """One task after the other in a random order, which seldom goes one way; too early for other cranes' berths."""
     waiting, slots, now = list(range(len(inst.tasks))), {}, 0
     while waiting:
         free = [j for j in waiting if not any((i, j) in inst.before for i in waiting)] or waiting
         j = rng.choice(free if rng.random() < 0.95 else waiting)
         cranes = [k for k in range(len(inst.cranes)) if inst.reaches(k, j)] or [0]
         crane = rng.choice(cranes)
-        start = max(now, inst.free_from(j, crane))
+        start = max(now, inst.arrival(j, crane), inst.free_from(j, crane) - early)
         for i, (v, begin) in slots.items():
             far = inst.distance(i, v, j, crane) if v != crane else inst.travel * abs(
                 inst.tasks[i].bay - inst.tasks[j].bay)
@@ -270,7 +275,7 @@ def random_part(node, lines, rng):
         for child in children:
             random_part(child, lines, rng)
         return
-    ring = random_ring(node, rng)
+    ring = random_ring(node, rng) if node.starts is None else None
     if node.is_out_of_reach() and rng.random() < 0.9:
         lines.append("X")
     elif ring and rng.random() < 0.9:
@@ -299,7 +304,7 @@ def random_chain(node, rng):
 
 def random_ring(node, rng):
     """A ring of forced steps, or None where a few walks find none."""
-    for _ in range(4):
+    for _ in range(20):
         chain = random_chain(node, rng)
         for place, j in enumerate(chain):
             if j in chain[:place]:
@@ -360,6 +365,42 @@ class SearchJudge:
         if self.best and value >= self.met:
             return "Optimal", 0
         return "Budget", 11 if self.best else 12
+
+
+def is_tight(inst, plan):
+    """Whether no task could start earlier with the same cranes and orders, in a direction in which the plan goes."""
+    for seen, slots in ((inst, plan), (inst.mirror, inst.mirrored(plan))):
+        if next(breaks_up(seen, slots), None) is None:
+            arcs = arcs_up(seen, [crane for crane, _ in slots])
+            for i, j in seen.apart:
+                first, second = (i, j) if slots[i][1] + seen.tasks[i].ticks <= slots[j][1] else (j, i)
+                arcs.append((first, second, seen.tasks[first].ticks))
+            heads = [seen.free_table[j][crane] for j, (crane, _) in enumerate(slots)]
+            if least_starts(seen, heads, arcs) == [start for _, start in slots]:
+                return True
+    return False
+
+
+def first_unsafe(motion, parts):
+    """What isn't safe at some moment `m / parts`, or None."""
+    inst, last = motion.inst, None
+    for m in range(parts * motion.ends + 1):
+        at = [motion.place(k, m, parts) for k in range(len(inst.cranes))]
+        for v, w in itertools.combinations(range(len(at)), 2):
+            if at[w] - at[v] < parts * inst.travel * inst.gap * (w - v):
+                return f"cranes {v} and {w} at {m}/{parts}"
+        for crane, bay, start, end in motion.jobs:
+            if parts * start <= m <= parts * end and at[crane] != parts * inst.travel * bay:
+                return f"crane {crane} isn't at its task at {m}/{parts}"
+        for k, data in enumerate(inst.cranes):
+            first = min((start for v, _, start, _ in motion.jobs if v == k), default=NEVER)
+            if m <= parts * data.ready and at[k] != parts * inst.travel * data.bay:
+                return f"crane {k} isn't at its berth at {m}/{parts}"
+            least = 0 if m - 1 >= parts * first else -1
+            if last and not least <= at[k] - last[k] <= 1:
+                return f"crane {k} is too fast or turns at {m}/{parts}"
+        last = at
+    return None
 
 
 # ---------------------------------------------------------------- the comparison
@@ -478,7 +519,7 @@ class Case:
         self.expect(f"{name}: tight", is_tight(self.inst, slots), True)
         if end_of(self.inst, slots) <= 150 and self.rng.random() < 0.2:
             self.counts["motions judged at every third of a tick"] += 1
-            self.expect(f"{name}: safe", motion_of(self.inst, slots, way).first_unsafe(3), None)
+            self.expect(f"{name}: safe", first_unsafe(motion_of(self.inst, slots, way), 3), None)
         return [f"direction {way}"] + crane_lines(self.inst, slots, way)
 
     def check(self, plan):
