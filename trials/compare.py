@@ -36,8 +36,8 @@ class Maker:
         self.placed = rng.random() < 0.35   # places in decimetres
         self.hatches = self.some_hatches()
         count = len(self.hatches)
-        self.cranes = rng.choice((1, 1, 2, 2, 2, 3, 3, 4))
-        most = {1: 7, 2: 7, 3: 6, 4: 4}[self.cranes]
+        self.cranes = rng.choice((1, 1, 1, 2, 2, 2, 2, 3, 3, 3, 4, rng.randint(5, 8)))
+        most = (7, 7, 6, 4, 3, 3, 3, 3)[self.cranes - 1]
         self.tasks = min(rng.choice((0, 1, 2, 3, 3, 4, 4, 5, 5, 5, 6, 7)), most, 4 * count)
         step = 300 if self.large else 6
         self.places, place = [], rng.randint(1, step)
@@ -45,7 +45,7 @@ class Maker:
             self.places.append(place)
             place += rng.randint(1, step)
         if self.placed:
-            self.gap = min(2000, rng.choice((1, rng.randint(1, 2 * step), rng.randint(1, step), place)))
+            self.gap = min(1800, rng.choice((1, rng.randint(1, 2 * step), rng.randint(1, step), place)))
         else:
             self.gap = rng.choice((1, 1, 2, 2, 2, 3, 4, rng.randint(1, 21)))
 
@@ -92,8 +92,8 @@ class Maker:
         rng, count = self.rng, len(self.hatches)
         bays = self.places[-1] if self.placed else count
         bay = rng.choice((1, rng.randint(1, bays), rng.randint(1 - self.gap * self.cranes, bays)))
-        bay = max(bay, -200)
-        names = rng.sample(["C1", "C2", "C3", "C4", "STS-1", "a_b", "Z" * 12, "9"], self.cranes)
+        bay = max(bay, -10_000 if self.placed else -200)
+        names = rng.sample(["C1", "C2", "C3", "C4", "STS-1", "a_b", "Z" * 12, "9", "C"], self.cranes)
         tables, late = [], rng.choice(names) if rng.random() < 0.25 else None
         for name in names:
             keys = [f'name = "{name}"', f"bay = {bay}"]
@@ -110,7 +110,7 @@ class Maker:
                 keys.append("colour = 3")
             rng.shuffle(keys)
             tables.append(keys)
-            bay += self.gap + rng.choice((0, 0, 1, 2, self.gap))
+            bay += self.gap + rng.choice((0, 0, 1, 2, self.gap if self.cranes < 5 else 3))
         return tables
 
     def stowage(self):
@@ -126,7 +126,8 @@ class Maker:
                 bay = hatch + rng.choice((-1, 0, 0, 1)) if hatch % 2 == 0 else hatch
                 width = 3 if bay >= 100 or rng.random() < 0.1 else 2
                 (outs if kind == "D" else ins).append(len(rows))
-                rows.append([f"R{len(rows)}", kind, f"{bay:0{width}}{slot % 10:02}{tier:02}", "20" if bay % 2 else "40"])
+                cell = f"{bay:0{width}}{slot % 10:02}{tier:02}"
+                rows.append([f"R{len(rows)}", kind, cell, "20" if bay % 2 else "40"])
         for out, back in zip(rng.sample(outs, len(outs)), rng.sample(ins, len(ins))):
             if rng.random() < 0.4:
                 rows[back][0] = rows[out][0]
@@ -207,8 +208,8 @@ def changed_trees(inst, text, rng):
         lines = text.decode().splitlines()
         at = rng.randrange(len(lines))
         words = lines[at].split()
-        way = rng.choice(("number", "number", "number", "drop", "twice", "swap", "leaf", "title", "cut", "more", "space",
-                          "long"))
+        way = rng.choice(("number", "number", "number", "drop", "twice", "swap", "leaf", "title", "cut", "more",
+                          "space", "long"))
         if way == "number" and words[-1].isdigit() and words[0] != "QCTREE":
             which = rng.randrange(1, len(words))
             if words[which].isdigit():
@@ -281,8 +282,8 @@ def random_part(node, lines, rng):
     elif ring and rng.random() < 0.9:
         lines.append("C" + "".join(f" {j + 1}" for j in ring))
     elif node.work_bound and rng.random() < 0.5:
-        wrong = 1 if rng.random() < 0.03 else 0
-        lines.append(f"W {max(1, node.work_bound - rng.choice((0, 0, 0, 1, 5))) if not wrong else node.work_bound + 1}")
+        less = -1 if rng.random() < 0.03 else rng.choice((0, 0, 0, 1, 5))
+        lines.append(f"W {max(1, node.work_bound - less)}")
     else:
         lines.append("P" + "".join(f" {j + 1}" for j in random_chain(node, rng)))
 
