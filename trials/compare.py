@@ -264,7 +264,8 @@ def random_part(node, lines, rng):
     tasks = [j for j in range(count) if node.crane[j] is None]
     pairs = [pair for pair in inst.apart if not node.is_settled(*pair)]
     wild = rng.random() < 0.01
-    if (tasks or pairs) and len(lines) < 80 and rng.random() < 0.8 and (not node.is_out_of_reach() or wild):
+    below = not node.is_out_of_reach() or rng.random() < 0.1
+    if (tasks or pairs) and len(lines) < 80 and rng.random() < 0.8 and below:
         if pairs and (not tasks or rng.random() < 0.3):
             i, j = rng.choice(pairs)
             lines.append(f"O {i + 1} {j + 1}" if not wild else f"O {j + 1} {i + 1}")
@@ -277,7 +278,8 @@ def random_part(node, lines, rng):
             random_part(child, lines, rng)
         return
     ring = random_ring(node, rng) if node.starts is None else None
-    if node.is_out_of_reach() and rng.random() < 0.9:
+    strays = any(kind == "A" and not inst.reaches(crane, task) for kind, task, crane in node.decisions)
+    if rng.random() < (0.9 if node.is_out_of_reach() else 0.3 if strays else 0):
         lines.append("X")
     elif ring and rng.random() < 0.9:
         lines.append("C" + "".join(f" {j + 1}" for j in ring))
