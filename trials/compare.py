@@ -20,6 +20,8 @@ import time
 from collections import Counter
 from pathlib import Path
 
+sys.dont_write_bytecode = True  # no folder of compiled files beside the scripts
+
 from reference import (NEVER, PHASES, Node, TreeFault, TreeReader, arcs_up, bound_text, breaks_up, check_report,
                        crane_lines, direction_of, end_of, instance_of, least_end, least_starts, motion_of, plan_text,
                        read_plan, read_ship, show_report, tasks_report)
