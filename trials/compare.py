@@ -1,15 +1,16 @@
 #!/usr/bin/env python3
 """Compares the built program with the second opinion of reference.py on random small ships.
 
-    compare.py PROGRAM KEPT [--first SEED] [--count SHIPS] [--minutes M]
+    compare.py PROGRAM KEPT [--first SEED] [--count SHIPS] [--minutes M] [--wide]
 
 Each seed makes one ship and its list. `plan` runs with several numbers of branchings, `check`, `show` and `tasks` on
 what it wrote, then `check` and `show` on plans and trees that were changed, and on trees that were made here. Every
 report and every file is compared with what reference.py works out from the definitions. Of each difference the
 files and the two answers are kept in a folder under KEPT. Prints counts and the first differences; status 1 where
-there is any.
+there is any. With `--wide` the ships have 8 to 18 tasks, so that the trees are large, and the least end isn't known.
 """
 import argparse
+import itertools
 import random
 import shutil
 import subprocess
@@ -19,9 +20,11 @@ import time
 from collections import Counter
 from pathlib import Path
 
-from reference import (NEVER, PHASES, Node, TreeFault, TreeReader, check_report, crane_lines, direction_of, end_of,
-                       bound_text, instance_of, is_tight, least_end, motion_of, plan_text, read_plan, read_ship,
-                       show_report, tasks_report)
+sys.dont_write_bytecode = True  # no folder of compiled files beside the scripts
+
+from reference import (NEVER, PHASES, Node, TreeFault, TreeReader, arcs_up, bound_text, breaks_up, check_report,
+                       crane_lines, direction_of, end_of, instance_of, least_end, least_starts, motion_of, plan_text,
+                       read_plan, read_ship, show_report, tasks_report)
 
 
 # ---------------------------------------------------------------- random ships and lists
@@ -29,22 +32,24 @@ from reference import (NEVER, PHASES, Node, TreeFault, TreeReader, check_report,
 class Maker:
     """One random ship and its stowage list."""
 
-    def __init__(self, rng):
+    def __init__(self, rng, wide):
         self.rng = rng
         self.large = rng.random() < 0.1     # long times and wide places
         self.placed = rng.random() < 0.35   # places in decimetres
         self.hatches = self.some_hatches()
         count = len(self.hatches)
-        self.cranes = rng.choice((1, 1, 2, 2, 2, 3, 3, 4))
-        most = {1: 7, 2: 7, 3: 6, 4: 4}[self.cranes]
+        self.cranes = rng.choice((1, 1, 1, 2, 2, 2, 2, 3, 3, 3, 4, rng.randint(5, 8)))
+        most = (7, 7, 6, 4, 3, 3, 3, 3)[self.cranes - 1]
         self.tasks = min(rng.choice((0, 1, 2, 3, 3, 4, 4, 5, 5, 5, 6, 7)), most, 4 * count)
+        if wide:
+            self.cranes, self.tasks = rng.randint(2, 5), min(rng.randint(8, 18), 4 * count)
         step = 300 if self.large else 6
         self.places, place = [], rng.randint(1, step)
         for _ in self.hatches:
             self.places.append(place)
             place += rng.randint(1, step)
         if self.placed:
-            self.gap = min(2000, rng.choice((1, rng.randint(1, 2 * step), rng.randint(1, step), place)))
+            self.gap = min(1800, rng.choice((1, rng.randint(1, 2 * step), rng.randint(1, step), place)))
         else:
             self.gap = rng.choice((1, 1, 2, 2, 2, 3, 4, rng.randint(1, 21)))
 
@@ -91,8 +96,8 @@ class Maker:
         rng, count = self.rng, len(self.hatches)
         bays = self.places[-1] if self.placed else count
         bay = rng.choice((1, rng.randint(1, bays), rng.randint(1 - self.gap * self.cranes, bays)))
-        bay = max(bay, -200)
-        names = rng.sample(["C1", "C2", "C3", "C4", "STS-1", "a_b", "Z" * 12, "9"], self.cranes)
+        bay = max(bay, -10_000 if self.placed else -200)
+        names = rng.sample(["C1", "C2", "C3", "C4", "STS-1", "a_b", "Z" * 12, "9", "C"], self.cranes)
         tables, late = [], rng.choice(names) if rng.random() < 0.25 else None
         for name in names:
             keys = [f'name = "{name}"', f"bay = {bay}"]
@@ -109,7 +114,7 @@ class Maker:
                 keys.append("colour = 3")
             rng.shuffle(keys)
             tables.append(keys)
-            bay += self.gap + rng.choice((0, 0, 1, 2, self.gap))
+            bay += self.gap + rng.choice((0, 0, 1, 2, self.gap if self.cranes < 5 else 3))
         return tables
 
     def stowage(self):
@@ -125,7 +130,8 @@ class Maker:
                 bay = hatch + rng.choice((-1, 0, 0, 1)) if hatch % 2 == 0 else hatch
                 width = 3 if bay >= 100 or rng.random() < 0.1 else 2
                 (outs if kind == "D" else ins).append(len(rows))
-                rows.append([f"R{len(rows)}", kind, f"{bay:0{width}}{slot % 10:02}{tier:02}", "20" if bay % 2 else "40"])
+                cell = f"{bay:0{width}}{slot % 10:02}{tier:02}"
+                rows.append([f"R{len(rows)}", kind, cell, "20" if bay % 2 else "40"])
         for out, back in zip(rng.sample(outs, len(outs)), rng.sample(ins, len(ins))):
             if rng.random() < 0.4:
                 rows[back][0] = rows[out][0]
@@ -141,10 +147,14 @@ class Maker:
 def changed_plans(inst, plan, rng):
     """Texts of plans beside the given one, or of any plans where none is given."""
     slots = list(plan) if plan else [(rng.randrange(len(inst.cranes)), rng.randint(0, 60)) for _ in inst.tasks]
-    texts = [plan_text(inst, serial_plan(inst, rng))]
+    texts = [plan_text(inst, serial_plan(inst, rng, early)) for early in (0, 1)]
     if not slots:
         return texts
-    for _ in range(3):
+    new, (i, j) = serial_plan(inst, rng, 0), rng.choices(range(len(slots)), k=2)
+    after = end_of(inst, new) + inst.travel * 2 * (inst.bays + inst.gap * len(inst.cranes))
+    new[i], new[j] = (new[i][0], after), (new[j][0], after + rng.randint(0, 3))
+    texts.append(plan_text(inst, new))
+    for _ in range(2):
         new, (i, j) = list(slots), rng.choices(range(len(slots)), k=2)
         way = rng.choice(("shift", "shift", "shift", "cranes", "crane", "starts", "later"))
         if way == "shift":
@@ -176,15 +186,15 @@ def changed_plans(inst, plan, rng):
     return texts + ["\n".join(lines) + "\n"]
 
 
-def serial_plan(inst, rng):
-    """One task after the other in a random order, which seldom goes one way."""
+def serial_plan(inst, rng, early):
+    """One task after the other in a random order, which seldom goes one way; too early for other cranes' berths."""
     waiting, slots, now = list(range(len(inst.tasks))), {}, 0
     while waiting:
         free = [j for j in waiting if not any((i, j) in inst.before for i in waiting)] or waiting
         j = rng.choice(free if rng.random() < 0.95 else waiting)
         cranes = [k for k in range(len(inst.cranes)) if inst.reaches(k, j)] or [0]
         crane = rng.choice(cranes)
-        start = max(now, inst.free_from(j, crane))
+        start = max(now, inst.arrival(j, crane), inst.free_from(j, crane) - early)
         for i, (v, begin) in slots.items():
             far = inst.distance(i, v, j, crane) if v != crane else inst.travel * abs(
                 inst.tasks[i].bay - inst.tasks[j].bay)
@@ -202,8 +212,8 @@ def changed_trees(inst, text, rng):
         lines = text.decode().splitlines()
         at = rng.randrange(len(lines))
         words = lines[at].split()
-        way = rng.choice(("number", "number", "number", "drop", "twice", "swap", "leaf", "title", "cut", "more", "space",
-                          "long"))
+        way = rng.choice(("number", "number", "number", "drop", "twice", "swap", "leaf", "title", "cut", "more",
+                          "space", "long"))
         if way == "number" and words[-1].isdigit() and words[0] != "QCTREE":
             which = rng.randrange(1, len(words))
             if words[which].isdigit():
@@ -258,7 +268,8 @@ def random_part(node, lines, rng):
     tasks = [j for j in range(count) if node.crane[j] is None]
     pairs = [pair for pair in inst.apart if not node.is_settled(*pair)]
     wild = rng.random() < 0.01
-    if (tasks or pairs) and len(lines) < 80 and rng.random() < 0.8 and (not node.is_out_of_reach() or wild):
+    below = not node.is_out_of_reach() or rng.random() < 0.1
+    if (tasks or pairs) and len(lines) < 80 and rng.random() < 0.8 and below:
         if pairs and (not tasks or rng.random() < 0.3):
             i, j = rng.choice(pairs)
             lines.append(f"O {i + 1} {j + 1}" if not wild else f"O {j + 1} {i + 1}")
@@ -270,14 +281,15 @@ def random_part(node, lines, rng):
         for child in children:
             random_part(child, lines, rng)
         return
-    ring = random_ring(node, rng)
-    if node.is_out_of_reach() and rng.random() < 0.9:
+    ring = random_ring(node, rng) if node.starts is None else None
+    strays = any(kind == "A" and not inst.reaches(crane, task) for kind, task, crane in node.decisions)
+    if rng.random() < (0.9 if node.is_out_of_reach() else 0.3 if strays else 0):
         lines.append("X")
     elif ring and rng.random() < 0.9:
         lines.append("C" + "".join(f" {j + 1}" for j in ring))
     elif node.work_bound and rng.random() < 0.5:
-        wrong = 1 if rng.random() < 0.03 else 0
-        lines.append(f"W {max(1, node.work_bound - rng.choice((0, 0, 0, 1, 5))) if not wrong else node.work_bound + 1}")
+        less = -1 if rng.random() < 0.03 else rng.choice((0, 0, 0, 1, 5))
+        lines.append(f"W {max(1, node.work_bound - less)}")
     else:
         lines.append("P" + "".join(f" {j + 1}" for j in random_chain(node, rng)))
 
@@ -299,7 +311,7 @@ def random_chain(node, rng):
 
 def random_ring(node, rng):
     """A ring of forced steps, or None where a few walks find none."""
-    for _ in range(4):
+    for _ in range(20):
         chain = random_chain(node, rng)
         for place, j in enumerate(chain):
             if j in chain[:place]:
@@ -362,17 +374,53 @@ class SearchJudge:
         return "Budget", 11 if self.best else 12
 
 
+def is_tight(inst, plan):
+    """Whether no task could start earlier with the same cranes and orders, in a direction in which the plan goes."""
+    for seen, slots in ((inst, plan), (inst.mirror, inst.mirrored(plan))):
+        if next(breaks_up(seen, slots), None) is None:
+            arcs = arcs_up(seen, [crane for crane, _ in slots])
+            for i, j in seen.apart:
+                first, second = (i, j) if slots[i][1] + seen.tasks[i].ticks <= slots[j][1] else (j, i)
+                arcs.append((first, second, seen.tasks[first].ticks))
+            heads = [seen.free_table[j][crane] for j, (crane, _) in enumerate(slots)]
+            if least_starts(seen, heads, arcs) == [start for _, start in slots]:
+                return True
+    return False
+
+
+def first_unsafe(motion, parts):
+    """What isn't safe at some moment `m / parts`, or None."""
+    inst, last = motion.inst, None
+    for m in range(parts * motion.ends + 1):
+        at = [motion.place(k, m, parts) for k in range(len(inst.cranes))]
+        for v, w in itertools.combinations(range(len(at)), 2):
+            if at[w] - at[v] < parts * inst.travel * inst.gap * (w - v):
+                return f"cranes {v} and {w} at {m}/{parts}"
+        for crane, bay, start, end in motion.jobs:
+            if parts * start <= m <= parts * end and at[crane] != parts * inst.travel * bay:
+                return f"crane {crane} isn't at its task at {m}/{parts}"
+        for k, data in enumerate(inst.cranes):
+            first = min((start for v, _, start, _ in motion.jobs if v == k), default=NEVER)
+            if m <= parts * data.ready and at[k] != parts * inst.travel * data.bay:
+                return f"crane {k} isn't at its berth at {m}/{parts}"
+            least = 0 if m - 1 >= parts * first else -1
+            if last and not least <= at[k] - last[k] <= 1:
+                return f"crane {k} is too fast or turns at {m}/{parts}"
+        last = at
+    return None
+
+
 # ---------------------------------------------------------------- the comparison
 
 class Case:
     """One ship and list in a folder of their own, and what differs."""
 
-    def __init__(self, program, seed, kept, counts):
-        self.program, self.seed, self.kept, self.counts = program, seed, kept, counts
+    def __init__(self, program, seed, kept, counts, wide):
+        self.program, self.seed, self.kept, self.counts, self.wide = program, seed, kept, counts, wide
         self.rng = random.Random(seed)
         self.differences = []
         self.folder = Path(tempfile.mkdtemp(prefix="compare-"))
-        maker = Maker(self.rng)
+        maker = Maker(self.rng, wide)
         self.write("ship", maker.ship().encode())
         self.write("stow", maker.stowage().encode())
         self.inst = instance_of(read_ship(self.read("ship")), self.read("stow"))
@@ -402,12 +450,13 @@ class Case:
         (place / "difference").write_text(f"{what}\nprogram:   {seen}\nreference: {due}\n")
 
     def compare(self):
-        least = least_end(self.inst)
-        self.counts["ships without a one-way plan" if least == NEVER else "ships with a one-way plan"] += 1
+        least = None if self.wide else least_end(self.inst)
+        if not self.wide:
+            self.counts["ships without a one-way plan" if least == NEVER else "ships with a one-way plan"] += 1
         self.expect("tasks", self.run("tasks", "ship", "stow"), tasks_report(self.inst))
-        for nodes in (0, 1, 5, self.rng.randint(2, 40), None):
+        for nodes in (0, self.rng.randint(2, 60), 150) if self.wide else (0, 1, 5, self.rng.randint(2, 40), None):
             self.plan(nodes, least)
-            if nodes is None or self.rng.random() < 0.2:
+            if nodes in (150, None) or self.rng.random() < 0.2:
                 self.check("plan.csv" if self.read("plan.csv") else "-")
         plan, tree = self.read("plan.csv"), self.read("tree.txt")
         slots = read_plan(self.inst, plan)[0] if plan else None
@@ -452,11 +501,11 @@ class Case:
         if plan:
             lines += self.written(name, plan, judge)
         self.expect(f"{name}: report", seen, (status, lines))
-        self.expect(f"{name}: bound at most the least end", reader.value <= least, True)
-        if word in ("Optimal", "Infeasible"):
-            self.expect(f"{name}: least end", reader.value, least)
-        else:
+        if word == "Budget":
             self.expect(f"{name}: branchings spent", reader.branched, nodes)
+            self.expect(f"{name}: bound at most the least end", self.wide or reader.value <= least, True)
+        elif not self.wide:
+            self.expect(f"{name}: least end", reader.value, least)
         most = 2 * max(2, len(self.inst.cranes)) ** (len(self.inst.tasks) + len(self.inst.apart))
         if nodes >= most:
             self.counts["branchings enough for an answer"] += 1
@@ -478,7 +527,7 @@ class Case:
         self.expect(f"{name}: tight", is_tight(self.inst, slots), True)
         if end_of(self.inst, slots) <= 150 and self.rng.random() < 0.2:
             self.counts["motions judged at every third of a tick"] += 1
-            self.expect(f"{name}: safe", motion_of(self.inst, slots, way).first_unsafe(3), None)
+            self.expect(f"{name}: safe", first_unsafe(motion_of(self.inst, slots, way), 3), None)
         return [f"direction {way}"] + crane_lines(self.inst, slots, way)
 
     def check(self, plan):
@@ -499,6 +548,7 @@ def main():
     parser.add_argument("--first", type=int, default=1)
     parser.add_argument("--count", type=int, default=100)
     parser.add_argument("--minutes", type=float, default=1e9)
+    parser.add_argument("--wide", action="store_true")
     words = parser.parse_args()
     words.kept.mkdir(parents=True, exist_ok=True)
     counts, differing, last = Counter(), [], time.monotonic() + 60 * words.minutes
@@ -506,7 +556,7 @@ def main():
         if time.monotonic() > last:
             break
         counts["ships"] += 1
-        found = Case(words.program.resolve(), seed, words.kept, counts).compare()
+        found = Case(words.program.resolve(), seed, words.kept, counts, words.wide).compare()
         if found:
             differing.append((seed, found))
             print(f"seed {seed}: {found[:3]}", flush=True)

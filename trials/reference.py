@@ -103,6 +103,12 @@ class Instance:
         return max(moments)
 
 
+    @cached_property
+    def free_table(self):
+        """`free_from` of each task and crane."""
+        return [[self.free_from(j, k) for k in range(len(self.cranes))] for j in range(len(self.tasks))]
+
+
 @dataclass(frozen=True)
 class Ship:
     hatches: list
@@ -238,20 +244,6 @@ def end_of(inst, plan):
     return max((start + task.ticks for (_, start), task in zip(plan, inst.tasks)), default=0)
 
 
-def is_tight(inst, plan):
-    """Whether no task could start earlier with the same cranes and orders, in a direction in which the plan goes."""
-    for seen, slots in ((inst, plan), (inst.mirror, inst.mirrored(plan))):
-        if next(breaks_up(seen, slots), None) is None:
-            arcs = arcs_up(seen, [crane for crane, _ in slots])
-            for i, j in seen.apart:
-                first, second = (i, j) if slots[i][1] + seen.tasks[i].ticks <= slots[j][1] else (j, i)
-                arcs.append((first, second, seen.tasks[first].ticks))
-            heads = [seen.free_from(j, crane) for j, (crane, _) in enumerate(slots)]
-            if least_starts(seen, heads, arcs) == [start for _, start in slots]:
-                return True
-    return False
-
-
 # ---------------------------------------------------------------- least starts and the least end of all
 
 def least_starts(inst, heads, arcs, limit=NEVER):
@@ -279,8 +271,10 @@ def arcs_up(inst, cranes):
         ticks, stretch = inst.tasks[i].ticks, inst.tasks[j].bay - inst.tasks[i].bay
         if cranes[i] == cranes[j] and stretch > 0:
             arcs.append((i, j, ticks + inst.travel * stretch))
-        elif cranes[i] > cranes[j] and inst.distance(i, cranes[i], j, cranes[j]) > 0:
-            arcs.append((i, j, ticks + inst.distance(i, cranes[i], j, cranes[j])))
+        elif cranes[i] > cranes[j]:
+            distance = inst.distance(i, cranes[i], j, cranes[j])
+            if distance > 0:
+                arcs.append((i, j, ticks + distance))
     return arcs
 
 
@@ -306,8 +300,9 @@ def least_end(inst):
         choices = [[crane for crane in range(len(seen.cranes)) if seen.reaches(crane, j)]
                    for j in range(len(seen.tasks))]
         for cranes in itertools.product(*choices):
-            heads = [seen.free_from(j, crane) for j, crane in enumerate(cranes)]
-            best = best_orders(seen, heads, arcs_up(seen, cranes), best)
+            heads = [seen.free_table[j][crane] for j, crane in enumerate(cranes)]
+            if all(head + task.ticks < best for head, task in zip(heads, seen.tasks)):
+                best = best_orders(seen, heads, arcs_up(seen, cranes), best)
     return best
 
 
@@ -349,10 +344,11 @@ class Node:
         return [(i, j, ticks) for i, j in pairs if (ticks := self.forced(i, j)) is not None]
 
     def head(self, j, version=2):
-        moment = self.inst.arrival if version == 1 else self.inst.free_from
+        inst = self.inst
+        moments = inst.free_table[j] if version == 2 else [inst.arrival(j, k) for k in range(len(inst.cranes))]
         if self.crane[j] is not None:
-            return moment(j, self.crane[j])
-        return min((moment(j, k) for k in range(len(self.inst.cranes)) if self.inst.reaches(k, j)), default=0)
+            return moments[self.crane[j]]
+        return min((moment for k, moment in enumerate(moments) if inst.reaches(k, j)), default=0)
 
     def is_out_of_reach(self):
         """Whether the newest decision gives a task to a crane that doesn't reach it."""
@@ -602,27 +598,6 @@ class Motion:
         if self.ends:
             ticks.append(self.ends)
         return [(tick, place(tick)) for tick in ticks]
-
-    def first_unsafe(self, parts):
-        """What isn't safe at some moment `m / parts`, or None."""
-        inst, last = self.inst, None
-        for m in range(parts * self.ends + 1):
-            at = [self.place(k, m, parts) for k in range(len(inst.cranes))]
-            for v, w in itertools.combinations(range(len(at)), 2):
-                if at[w] - at[v] < parts * inst.travel * inst.gap * (w - v):
-                    return f"cranes {v} and {w} at {m}/{parts}"
-            for crane, bay, start, end in self.jobs:
-                if parts * start <= m <= parts * end and at[crane] != parts * inst.travel * bay:
-                    return f"crane {crane} isn't at its task at {m}/{parts}"
-            for k, data in enumerate(inst.cranes):
-                first = min((start for v, _, start, _ in self.jobs if v == k), default=NEVER)
-                if m <= parts * data.ready and at[k] != parts * inst.travel * data.bay:
-                    return f"crane {k} isn't at its berth at {m}/{parts}"
-                least = 0 if m - 1 >= parts * first else -1
-                if last and not least <= at[k] - last[k] <= 1:
-                    return f"crane {k} is too fast or turns at {m}/{parts}"
-            last = at
-        return None
 
 
 def motion_of(inst, plan, way):
