@@ -39,7 +39,7 @@ pub one_end : (inst : InstanceView) (ds : List Decision) (end other : ℕ) → I
     → IsNodeEnd inst ds other → end ≡ other
 one_end inst ds end other a b = omega (arith, end_le inst ds end other a b, end_le inst ds other end b a)
 
-never_out_of_reach : (inst : InstanceView) (ds : List Decision) → IsInReach inst ds → is_out_of_reach inst ds ≡ true → ⊥
+pub never_out_of_reach : (inst : InstanceView) (ds : List Decision) → IsInReach inst ds → is_out_of_reach inst ds ≡ true → ⊥
 never_out_of_reach inst [] reach out = false≢true out
 never_out_of_reach inst (Assign j k ∷ ds) reach out = false≢true (sym (ap not reach.0) ∙ out)
 never_out_of_reach inst (Order i j ∷ ds) reach out = false≢true out

@@ -1,6 +1,6 @@
 -- Cranes that are done before a tick and share more work evenly.
-use Rattle.std.proofs.Common.{◌≡◌, ℕ, ◌+◌, ◌-◌, ◌*◌, ◌<◌, ◌≤◌, Bool, cond, nat_lt, List, [], ◌∷◌, inl, inr, ap, ◌∙◌, arith, mul-le-mul_left}
-use Rattle.std.proofs.lemmas.Bool.{cases_lt, cond-false, cond-true, le-ltb, lt-ltb}
+use Rattle.std.proofs.Common.{◌≡◌, ℕ, ◌+◌, ◌-◌, ◌*◌, ◌<◌, ◌≤◌, Bool, cond, nat_lt, List, [], ◌∷◌, inl, inr, ap, ◌∙◌, true, false, arith, mul-le-mul_left}
+use Rattle.std.proofs.lemmas.Bool.{cases_lt, le-ltb, lt-ltb}
 use Rattle.std.proofs.lemmas.List.Sums.{sum_by-cons}
 use Rattle.std.specs.List.{count_by, sum_by}
 use Rattle.qc_dist.proofs.Ranges.{sum_more}
@@ -24,25 +24,13 @@ module _ (done : ℕ → ℕ) (tick : ℕ) where
     ticks : ticks (k ∷ ks) ≡ more + ticks ks
     left : left x (k ∷ ks) ≡ (x - done k) + left x ks
 
-  more_early : (x k : ℕ) (ks : List ℕ) → done k < tick → IsMore x k ks 1 (done k)
-  more_early x k ks low =
-      let is = lt-ltb (done k) tick low in
+  more : (x k : ℕ) (ks : List ℕ) (b : Bool) → is_early k ≡ b → IsMore x k ks (cond b 1 0) (cond b (done k) 0)
+  more x k ks b is =
       let n = sum_by-cons (λ j. cond (nat_lt (done j) tick) 1 0) k ks in
       let t = sum_by-cons (λ j. cond (nat_lt (done j) tick) (done j) 0) k ks in
       record {
-        count = ap (λ (c : ℕ). c * x) (n ∙ ap (λ (c : ℕ). c + count_by is_early ks) (cond-true (is_early k) 1 0 is));
-        ticks = t ∙ ap (λ (c : ℕ). c + ticks ks) (cond-true (is_early k) (done k) 0 is);
-        left = sum_by-cons (λ j. x - done j) k ks;
-      }
-
-  more_late : (x k : ℕ) (ks : List ℕ) → tick ≤ done k → IsMore x k ks 0 0
-  more_late x k ks high =
-      let is = le-ltb (done k) tick high in
-      let n = sum_by-cons (λ j. cond (nat_lt (done j) tick) 1 0) k ks in
-      let t = sum_by-cons (λ j. cond (nat_lt (done j) tick) (done j) 0) k ks in
-      record {
-        count = ap (λ (c : ℕ). c * x) (n ∙ ap (λ (c : ℕ). c + count_by is_early ks) (cond-false (is_early k) 1 0 is));
-        ticks = t ∙ ap (λ (c : ℕ). c + ticks ks) (cond-false (is_early k) (done k) 0 is);
+        count = ap (λ (c : ℕ). c * x) (n ∙ ap (λ (d : Bool). cond d 1 0 + count_by is_early ks) is);
+        ticks = t ∙ ap (λ (d : Bool). cond d (done k) 0 + ticks ks) is;
         left = sum_by-cons (λ j. x - done j) k ks;
       }
 
@@ -52,8 +40,8 @@ module _ (done : ℕ → ℕ) (tick : ℕ) where
   early_do x (k ∷ ks) =
       let rest = early_do x ks in
       elim (cases_lt (done k) tick) [
-        | inl low ↦ let m = more_early x k ks low in omega (arith, m.count, m.ticks, m.left)
-        | inr high ↦ let m = more_late x k ks high in omega (arith, m.count, m.ticks, m.left)
+        | inl low ↦ let m = more x k ks true (lt-ltb (done k) tick low) in omega (arith, m.count, m.ticks, m.left)
+        | inr high ↦ let m = more x k ks false (le-ltb (done k) tick high) in omega (arith, m.count, m.ticks, m.left)
       ]
 
   -- until the tick itself, or the one before it, they do just that
@@ -63,8 +51,8 @@ module _ (done : ℕ → ℕ) (tick : ℕ) where
   early_do_all x below near (k ∷ ks) =
       let rest = early_do_all x below near ks in
       elim (cases_lt (done k) tick) [
-        | inl low ↦ let m = more_early x k ks low in omega (arith, m.count, m.ticks, m.left)
-        | inr high ↦ let m = more_late x k ks high in omega (arith, m.count, m.ticks, m.left)
+        | inl low ↦ let m = more x k ks true (lt-ltb (done k) tick low) in omega (arith, m.count, m.ticks, m.left)
+        | inr high ↦ let m = more x k ks false (le-ltb (done k) tick high) in omega (arith, m.count, m.ticks, m.left)
       ]
 
   -- where some work fits until the tick, the tick is not the first and some crane is done before it
@@ -111,22 +99,10 @@ pub record Next (done : ℕ → ℕ) (tick n one more : ℕ) : Type 0 where
   pub cranes : early_cranes done tick (n + 1) ≡ early_cranes done tick n + one
   pub ticks : early_ticks done tick (n + 1) ≡ early_ticks done tick n + more
 
-pub next_early : (done : ℕ → ℕ) (tick n : ℕ) → done n < tick → Next done tick n 1 (done n)
-next_early done tick n low =
-    let is = lt-ltb (done n) tick low in
-    record {
-      cranes = sum_more (λ k. cond (nat_lt (done k) tick) 1 0) n
-          ∙ ap (λ (m : ℕ). early_cranes done tick n + m) (cond-true (nat_lt (done n) tick) 1 0 is);
-      ticks = sum_more (λ k. cond (nat_lt (done k) tick) (done k) 0) n
-          ∙ ap (λ (m : ℕ). early_ticks done tick n + m) (cond-true (nat_lt (done n) tick) (done n) 0 is);
-    }
-
-pub next_late : (done : ℕ → ℕ) (tick n : ℕ) → tick ≤ done n → Next done tick n 0 0
-next_late done tick n high =
-    let is = le-ltb (done n) tick high in
-    record {
-      cranes = sum_more (λ k. cond (nat_lt (done k) tick) 1 0) n
-          ∙ ap (λ (m : ℕ). early_cranes done tick n + m) (cond-false (nat_lt (done n) tick) 1 0 is);
-      ticks = sum_more (λ k. cond (nat_lt (done k) tick) (done k) 0) n
-          ∙ ap (λ (m : ℕ). early_ticks done tick n + m) (cond-false (nat_lt (done n) tick) (done n) 0 is);
-    }
+pub next_by : (done : ℕ → ℕ) (tick n : ℕ) (b : Bool) → nat_lt (done n) tick ≡ b
+    → Next done tick n (cond b 1 0) (cond b (done n) 0)
+next_by done tick n b is = record {
+  cranes = sum_more (λ k. cond (nat_lt (done k) tick) 1 0) n ∙ ap (λ (d : Bool). early_cranes done tick n + cond d 1 0) is;
+  ticks = sum_more (λ k. cond (nat_lt (done k) tick) (done k) 0) n
+      ∙ ap (λ (d : Bool). early_ticks done tick n + cond d (done n) 0) is;
+}

@@ -1,3 +1,4 @@
+use qc_arena::Edge;
 use qc_bounds::LeafKind;
 use qc_model::Decision;
 use qc_num::{Bay, Bound, Tick};
@@ -69,11 +70,15 @@ pub enum StartsCall {
     Stuck(bool),
     Mark(u32),
     Start(u16, Tick),
+    /// What the cell of the task holds.
+    Cell(u16, Tick),
     Ends(Tick),
     /// The crane of the task.
     HasCrane(u16, Option<u16>),
     Settles(u16, u16, bool),
     Complete(bool),
+    /// The arcs that leave the task, newest first.
+    Leaving(u16, &'static [Edge]),
     WhyPath(&'static [u16]),
     /// The number of tasks in the ring.
     Ring(usize),

@@ -3,9 +3,11 @@
 
 use crate::files::{APART, AT_2_AND_6, AT_2_AND_14, DECK_HOLD, DECK_HOLD_AND_14, ONE, TWO};
 use crate::row::StartsCall::{
-    Complete, Decide, Ends, HasCrane, Mark, Retract, Ring, Settles, Start, Stuck, WhyPath,
+    Cell, Complete, Decide, Ends, HasCrane, Leaving, Mark, Retract, Ring, Settles, Start, Stuck,
+    WhyPath,
 };
 use crate::row::StartsRow;
+use qc_arena::Edge;
 use qc_model::Decision::{Assign, Order};
 use qc_starts::Step::{Cycle, Raised};
 
@@ -17,6 +19,17 @@ macro_rules! row {
             ship: $ship,
             list: $list,
             calls: &[$($call),*],
+        }
+    };
+}
+
+// An arc from a task to another, and its ticks.
+macro_rules! arc {
+    ($from:literal, $to:literal, $len:literal) => {
+        Edge {
+            from: $from,
+            to: $to,
+            len: $len,
         }
     };
 }
@@ -41,10 +54,15 @@ pub const STARTS: &[StartsRow] = &[
             Start(1, 1),
             Ends(42),
             WhyPath(&[1, 0]),
+            Leaving(1, &[arc!(1, 0, 21)]),
+            Leaving(0, &[]),
+            Cell(0, 22),
             Complete(true),
             Mark(2),
             Retract(0),
             Mark(0),
+            Leaving(1, &[]),
+            Cell(0, 0),
             Start(0, 0),
             Start(1, 1),
             Ends(21),
@@ -76,6 +94,28 @@ pub const STARTS: &[StartsRow] = &[
         ONE,
         DECK_HOLD,
         [Start(0, 0), Start(1, 10), Ends(20), WhyPath(&[0, 1]),]
+    ),
+    // The deck takes 10 ticks. With the deck on the higher crane, which comes 2 bays from its berth, the
+    // hold waits for these and for the 2 bays that the margin asks for at one bay: from 2 + 12 on. That
+    // arc stands before the older one of the pair, and goes with its decision.
+    row!(
+        "newest-arc-first",
+        TWO,
+        DECK_HOLD,
+        [
+            Leaving(0, &[arc!(0, 1, 10)]),
+            Leaving(1, &[]),
+            Decide(Assign(0, 1), Raised),
+            Leaving(0, &[arc!(0, 1, 10)]),
+            Decide(Assign(1, 0), Raised),
+            Leaving(0, &[arc!(0, 1, 12), arc!(0, 1, 10)]),
+            Leaving(1, &[]),
+            Cell(0, 2),
+            Cell(1, 14),
+            Ends(24),
+            Retract(1),
+            Leaving(0, &[arc!(0, 1, 10)]),
+        ]
     ),
     // Upward the higher crane is first at one bay, and it has the hold, which waits for the deck.
     row!(

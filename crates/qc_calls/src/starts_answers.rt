@@ -5,10 +5,11 @@ ghost use Rattle.qc_model.specs.Nodes.{HasStarts};
 ghost use Rattle.qc_dist.specs.Node.{IsOpen};
 ghost use Rattle.qc_model.specs.Closing.{IsClosable};
 ghost use Rattle.qc_starts.specs.Seen.{IsReached, IsStep, IsWhy};
-ghost use Rattle.qc_calls.specs.StartsCalls.{CanBeMade, HasLeaf, HasRingOf, HasSpent, IsAnswered, after};
+ghost use Rattle.qc_calls.specs.StartsCalls.{CanBeMade, HandsOut, HasLeaf, HasRingOf, HasSpent, IsAnswered, after};
 
 use crate::answers::{are_apart, are_tasks, is_crane, is_task};
 use crate::row::StartsCall;
+use qc_arena::Edge;
 use qc_bounds::{LeafKind, close, spent, work_bound};
 use qc_dist::in_reach;
 use qc_model::{Decision, Instance};
@@ -44,10 +45,10 @@ pub fn can_be_made(starts: &Starts, inst: &Instance, call: StartsCall) -> bool
     match call {
         StartsCall::Decide(decision, _) => !starts.stuck() && is_open(starts, inst, decision),
         StartsCall::Retract(mark) => mark <= starts.mark(),
-        StartsCall::Start(j, _) => !starts.stuck() && is_task(inst, j),
+        StartsCall::Start(j, _) | StartsCall::Cell(j, _) => !starts.stuck() && is_task(inst, j),
         StartsCall::Ends(_) | StartsCall::WhyPath(_) => !starts.stuck(),
         StartsCall::Ring(_) => starts.stuck(),
-        StartsCall::HasCrane(j, _) => is_task(inst, j),
+        StartsCall::HasCrane(j, _) | StartsCall::Leaving(j, _) => is_task(inst, j),
         StartsCall::Settles(i, j, _) => are_tasks(inst, i, j),
         StartsCall::Stuck(_) | StartsCall::Mark(_) | StartsCall::Complete(_) => true,
         StartsCall::WorkBound(_) | StartsCall::Close(_, _) | StartsCall::Spent(_) => true,
@@ -73,6 +74,19 @@ fn decide<L: Ledger>(
         Decision::Assign(task, crane) => starts.assign(inst, task, crane, steps),
         Decision::Order(first, second) => starts.order(inst, first, second, steps),
     }
+}
+
+// Whether the arcs that leave the task are these.
+fn hands_out(starts: &Starts, task: u16, arcs: &[Edge]) -> bool
+    ensures { IsTrue result → HandsOut starts.now.inst starts.now.decisions task arcs.now }
+{
+    let mut walk = starts.arcs().out(task);
+    for arc in arcs {
+        if walk.next() != Some(*arc) {
+            return false;
+        }
+    }
+    walk.next().is_none()
 }
 
 // Whether the chain is of these tasks.
@@ -162,10 +176,12 @@ pub fn answers<L: Ledger>(
         StartsCall::Stuck(is) => Ok(starts.stuck() == is),
         StartsCall::Mark(mark) => Ok(starts.mark() == mark),
         StartsCall::Start(j, tick) => Ok(starts.start(j) == tick),
+        StartsCall::Cell(j, tick) => Ok(starts.cells().get(j as u32) == tick),
         StartsCall::Ends(tick) => Ok(starts.ends() == tick),
         StartsCall::HasCrane(j, crane) => Ok(starts.crane_of(j) == crane),
         StartsCall::Settles(i, j, is) => Ok(starts.settled(i, j) == is),
         StartsCall::Complete(is) => Ok(starts.complete() == is),
+        StartsCall::Leaving(j, arcs) => Ok(hands_out(starts, j, arcs)),
         StartsCall::WhyPath(tasks) => is_why(alloc, starts, inst, tasks),
         StartsCall::Ring(count) => is_ring_of(alloc, starts, inst, count),
         StartsCall::WorkBound(bound) => Ok(work_bound(inst, starts) == bound),

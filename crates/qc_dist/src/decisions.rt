@@ -1,7 +1,7 @@
 ghost use Rattle.std.specs.Prelude.{◌≡◌, ◌*◌, ◌<◌, ◌≤◌, ◌⊎◌, None, [], ◌∷◌, IfOk, IfSome, MatchOption, length};
 ghost use Rattle.qc_model.specs.declared.decision.Decision.TheVariants.{Assign, Order};
 ghost use Rattle.qc_model.specs.declared.limits.TheConstants.{MOST_TASKS, MOST_WORK};
-ghost use Rattle.qc_model.specs.Instance.{IsApart};
+ghost use Rattle.qc_model.specs.Instance.{IsApart, Valid};
 ghost use Rattle.qc_model.specs.Nodes.{Fits, IsSettled, assigned, is_sooner};
 ghost use Rattle.qc_dist.specs.Heads.{IsHeads};
 ghost use Rattle.qc_dist.specs.Kept.{crane_load, unassigned_ticks};
@@ -174,7 +174,8 @@ impl Decisions {
     /// When a task can start at the least.
     pub(crate) fn heads_of(&self, task: u16) -> &Heads
         requires { task < length self.now.inst.tasks }
-        ensures { IsHeads self.now.inst task result.now }
+        ensures heads { IsHeads self.now.inst task result.now }
+        ensures valid { Valid self.now.inst }
     {
         &self.heads[task as usize]
     }

@@ -1,14 +1,12 @@
-ghost use Rattle.std.specs.Prelude.{◌≡◌, ◌+◌, ◌<◌, ◌≤◌, ◌↔◌, ◌&&◌, nat_lt, int_lt, if◌then◌else◌, None, Some, IfSome, IsTrue, length};
+ghost use Rattle.std.specs.Prelude.{◌≡◌, ◌+◌, ◌<◌, ◌≤◌, ◌↔◌, Some, IfSome, IsTrue, length};
 ghost use Rattle.qc_model.specs.declared.limits.TheConstants.{MOST_DISTANCE, MOST_READY, MOST_WORK};
-ghost use Rattle.qc_model.specs.Instance.{bay_of};
 ghost use Rattle.qc_model.specs.Nodes.{IsSettled, assigned, crane_ticks, forced, greater, head, head1, sooner_ticks};
-ghost use Rattle.qc_model.specs.Ticks.{climb, lead, task_distance};
 ghost use Rattle.qc_dist.specs.Added.{excess};
 
 use crate::Decisions;
 use crate::parts::task_at;
-use crate::travel::{arrival, distance};
-use qc_model::{Instance, bays_up, travel_over};
+use crate::travel::arrival;
+use qc_model::Instance;
 use qc_num::Tick;
 
 /// The greater of two numbers that may be missing.
@@ -35,68 +33,6 @@ fn excess(one: Option<Tick>, other: Option<Tick>) -> Option<Tick>
     }
 }
 
-/// The ticks from the start of task `i` to that of task `j` where one crane does both and `j` lies
-/// higher.
-fn climb_ticks(inst: &Instance, i: u16, j: u16) -> Option<Tick>
-    requires first { i < length inst.now.tasks }
-    requires second { j < length inst.now.tasks }
-    ensures ticks { result ≡ (if int_lt (bay_of inst.now i) (bay_of inst.now j)
-        then Some (climb inst.now i j)
-        else None) }
-    ensures bound { IfSome result (λ ticks. ticks ≤ MOST_WORK + MOST_DISTANCE) }
-{
-    let first = task_at(inst, i);
-    let second = task_at(inst, j);
-    if first.bay < second.bay {
-        Some(first.ticks + travel_over(inst, bays_up(first.bay, second.bay)))
-    } else {
-        None
-    }
-}
-
-/// The ticks from the start of task `i` on crane `v` to that of task `j` on crane `w` where `w` is
-/// lower and gives way.
-fn lead_ticks(inst: &Instance, i: u16, v: u16, j: u16, w: u16) -> Option<Tick>
-    requires first_task { i < length inst.now.tasks }
-    requires first_crane { v < length inst.now.cranes }
-    requires second_task { j < length inst.now.tasks }
-    requires second_crane { w < length inst.now.cranes }
-    ensures ticks { result ≡ (if nat_lt w v && nat_lt 0 (task_distance inst.now i v j w)
-        then Some (lead inst.now i v j w)
-        else None) }
-    ensures bound { IfSome result (λ ticks. ticks ≤ MOST_WORK + MOST_DISTANCE) }
-{
-    if v <= w {
-        return None;
-    }
-    match distance(inst, i, v, j, w) {
-        0 => None,
-        clear => Some(task_at(inst, i).ticks + clear),
-    }
-}
-
-/// What the cranes of two tasks ask for, where both are assigned.
-fn crane_ticks(
-    inst: &Instance,
-    i: u16,
-    j: u16,
-    first: Option<u16>,
-    second: Option<u16>,
-) -> Option<Tick>
-    requires first_task { i < length inst.now.tasks }
-    requires second_task { j < length inst.now.tasks }
-    requires first_crane { IfSome first (λ crane. crane < length inst.now.cranes) }
-    requires second_crane { IfSome second (λ crane. crane < length inst.now.cranes) }
-    ensures ticks { result ≡ crane_ticks inst.now i j first second }
-    ensures bound { IfSome result (λ ticks. ticks ≤ MOST_WORK + MOST_DISTANCE) }
-{
-    match (first, second) {
-        (Some(v), Some(w)) if v == w => climb_ticks(inst, i, j),
-        (Some(v), Some(w)) => lead_ticks(inst, i, v, j, w),
-        _ => None,
-    }
-}
-
 impl Decisions {
     /// The ticks by which task `j` must start after the start of task `i` in every upward schedule
     /// that agrees with the decisions; `None` exactly where nothing is forced.
@@ -107,10 +43,44 @@ impl Decisions {
         ensures ticks { result ≡ forced inst.now self.now.decisions i j }
         ensures bound { IfSome result (λ ticks. ticks ≤ MOST_WORK + MOST_DISTANCE) }
     {
-        greater(
-            self.sooner_ticks(inst, i, j),
-            crane_ticks(inst, i, j, self.crane_of(i), self.crane_of(j)),
-        )
+        greater(self.sooner_ticks(inst, i, j), self.crane_ticks(inst, i, j))
+    }
+
+    /// What cranes ask for that do two tasks: one crane goes up from the one to the other, or the lower
+    /// of two cranes gives way.
+    fn pair_ticks(&self, inst: &Instance, i: u16, v: u16, j: u16, w: u16) -> Option<Tick>
+        requires same { self.now.inst ≡ inst.now }
+        requires first_task { i < length inst.now.tasks }
+        requires first_crane { v < length inst.now.cranes }
+        requires second_task { j < length inst.now.tasks }
+        requires second_crane { w < length inst.now.cranes }
+        ensures ticks { result ≡ crane_ticks inst.now i j (Some v) (Some w) }
+        ensures bound { IfSome result (λ ticks. ticks ≤ MOST_WORK + MOST_DISTANCE) }
+    {
+        if v < w {
+            return None;
+        }
+        let from = self.heads_of(i).along[v as usize];
+        let to = self.heads_of(j).along[w as usize];
+        if to <= from {
+            return None;
+        }
+        Some(task_at(inst, i).ticks + (to - from))
+    }
+
+    /// What the cranes of two tasks ask for, where both are assigned.
+    fn crane_ticks(&self, inst: &Instance, i: u16, j: u16) -> Option<Tick>
+        requires same { self.now.inst ≡ inst.now }
+        requires first { i < length inst.now.tasks }
+        requires second { j < length inst.now.tasks }
+        ensures ticks { result ≡ crane_ticks inst.now i j
+            (assigned self.now.decisions i) (assigned self.now.decisions j) }
+        ensures bound { IfSome result (λ ticks. ticks ≤ MOST_WORK + MOST_DISTANCE) }
+    {
+        match (self.crane_of(i), self.crane_of(j)) {
+            (Some(v), Some(w)) => self.pair_ticks(inst, i, v, j, w),
+            _ => None,
+        }
     }
 
     /// What the order of two tasks asks for, whatever their cranes.
@@ -138,7 +108,7 @@ impl Decisions {
             (crane_ticks inst.now i j (assigned self.now.decisions i) (assigned self.now.decisions j)) }
         ensures bound { IfSome result (λ ticks. ticks ≤ MOST_WORK + MOST_DISTANCE) }
     {
-        let more = crane_ticks(inst, i, j, self.crane_of(i), self.crane_of(j))?;
+        let more = self.crane_ticks(inst, i, j)?;
         excess(self.sooner_ticks(inst, i, j), Some(more))
     }
 

@@ -3,9 +3,10 @@ ghost use Rattle.qc_model.specs.declared.limits.TheConstants.{MOST_DISTANCE, MOS
 ghost use Rattle.qc_model.specs.Instance.{bay_of, ticks_of};
 ghost use Rattle.qc_model.specs.Nodes.{berth_wait, free, reaches};
 ghost use Rattle.qc_model.specs.Ticks.{arrival, task_distance, travel_between};
+ghost use Rattle.qc_dist.specs.Heads.{along};
 
 use crate::parts::{crane_count, post_at, task_at};
-use qc_model::{Instance, bays_between, travel_over};
+use qc_model::{Instance, MOST_CRANES, bays_between, bays_up, travel_over};
 use qc_num::Tick;
 
 /// The ticks by which task `i` on crane `v` and task `j` on crane `w` keep clear of each other
@@ -19,6 +20,19 @@ pub fn distance(inst: &Instance, i: u16, v: u16, j: u16, w: u16) -> Tick
     ensures bound { result ≤ MOST_DISTANCE }
 {
     qc_model::distance(inst, v, task_at(inst, i).bay, w, task_at(inst, j).bay)
+}
+
+/// How far along the rail task `j` lies for crane `w`, in ticks of travel: a crane counts its bays from a
+/// place that lies lower by a gap than that of the crane above it. So a crane must give way to a higher
+/// one by as much as its task lies farther, and to itself, upwards, by the way between two tasks.
+pub(crate) fn along(inst: &Instance, j: u16, w: u16) -> Tick
+    requires task { j < length inst.now.tasks }
+    requires crane { w < length inst.now.cranes }
+    ensures ticks { result ≡ along inst.now j w }
+    ensures bound { result ≤ MOST_DISTANCE }
+{
+    let gaps = bays_up(0, inst.gap()) * Tick::from(MOST_CRANES - w);
+    travel_over(inst, bays_up(0, task_at(inst, j).bay) + gaps)
 }
 
 /// When crane `k` can first be at task `j`, whatever stands between.

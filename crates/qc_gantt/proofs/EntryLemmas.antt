@@ -27,6 +27,7 @@ use Rattle.qc_gantt.specs.Plan.{next_entry, slots_given, slots_of}
 use Rattle.qc_gantt.specs.declared.entry.Entry.{Entry}
 use Rattle.qc_gantt.specs.declared.fault.PlanKind.{PlanKind}
 use Rattle.qc_gantt.specs.declared.fault.PlanKind.TheVariants as kind
+use Rattle.qc_gantt.proofs.NameLemmas.{none_there}
 
 -- ---- slots beside the entries that gave them
 or_none : {A : Type 0} (o : Option A) → option_or o None ≡ o
@@ -53,10 +54,6 @@ pub record Holds (n : ℕ) (slots : List (Option Slot)) (entries : List Entry) :
 pub holds_none : (n : ℕ) → Holds n (replicate n None) []
 holds_none n = record { all = length-replicate n None; given = λ j lt. get_or-replicate n j None None lt }
 
-none_is : {A : Type 0} (o : Option A) → is_some o ≡ false → o ≡ None
-none_is None e = refl
-none_is (Some a) e = cc
-
 pub holds_more : (n : ℕ) (slots : List (Option Slot)) (entries : List Entry) (e : Entry) → e.task < n → Holds n slots entries → is_some (get_or slots e.task None) ≡ false
     → Holds n (slice_set slots e.task (Some e.slot)) (entries ++ e ∷ [])
 holds_more n slots entries e lt holds free = record {
@@ -65,7 +62,7 @@ holds_more n slots entries e lt holds free = record {
     | inl same ↦
         let alike : e.task ≡ j = grind (arith, nat_tests, same) in
         let inside : e.task < length slots = rw holds.all lt in
-        let none : slot_given entries j ≡ None = subst (λ (k : ℕ). slot_given entries k ≡ None) alike (sym (holds.given e.task lt) ∙ none_is (get_or slots e.task None) free) in
+        let none : slot_given entries j ≡ None = subst (λ (k : ℕ). slot_given entries k ≡ None) alike (sym (holds.given e.task lt) ∙ none_there (get_or slots e.task None) free) in
         subst (λ (k : ℕ). get_or (slice_set slots e.task (Some e.slot)) k None ≡ Some e.slot) alike (get_or-set_same slots e.task (Some e.slot) None inside)
         ∙ sym (given_push entries e j ∙ rw (none, same) refl)
     | inr other ↦

@@ -1,5 +1,5 @@
 -- What was written is read as the schedule that it was.
-use Rattle.std.proofs.Common.{◌≡◌, ◌≢◌, ℕ, ◌+◌, ◌<◌, ◌≤◌, ◌^◌, ◌++◌, ◌∷◌, ◌==◌, List, [], zero, suc, Bool, true, false, length, get_or, take, drop, map, All, ◌&&◌, nat_le, None, Some, Result, Ok, Err, refl, sym, ap, subst, inl, inr, ◌∙◌, arith, IsTrue}
+use Rattle.std.proofs.Common.{◌≡◌, ◌≢◌, ℕ, ◌+◌, ◌<◌, ◌≤◌, ◌^◌, ◌++◌, ◌∷◌, ◌==◌, List, [], zero, suc, Bool, true, false, cond, length, get_or, take, drop, map, All, ◌&&◌, nat_le, None, Some, Result, Ok, Err, refl, sym, ap, subst, inl, inr, ◌∙◌, arith, IsTrue}
 use Rattle.std.specs.Prelude.{OnOk, codes, decimal, nat_lt}
 use Rattle.std.specs.Char.{is_ascii_digit}
 use Rattle.std.specs.List.{flat_map, list_all, list_any, position_or_len, zip}
@@ -11,7 +11,7 @@ use Rattle.std.proofs.lemmas.Bool.Decides.{nat_tests}
 use Rattle.std.proofs.lemmas.Fmt.{decimal_injective}
 use Rattle.std.proofs.Math.Seq.{take-append_seam}
 use Rattle.std.proofs.lemmas.List.{append-nil, append_assoc, get_or-map, length-map, drop_at, length-append}
-use Rattle.csv.specs.Writing.{default_writer, fields_text, is_blank, needs_byte, row_text}
+use Rattle.csv.specs.Writing.{default_writer, needs_byte, row_text}
 use Rattle.qc_io.specs.declared.writing.WriteFault.{WriteFault}
 use Rattle.qc_num.proofs.DigitLemmas.{decimal_digits, number_in-decimal}
 use Rattle.qc_model.specs.declared.task.Task.{Task}
@@ -41,13 +41,7 @@ use Rattle.qc_model.specs.Names.{is_name, is_name_byte}
 use Rattle.qc_model.specs.Tasks.{phase_rank, phase_text, task_rank, task_text}
 use Rattle.qc_gantt.specs.Names.{crane_names, number_of, task_names}
 use Rattle.qc_gantt.specs.PlanText.{plan_line, plan_text}
-
--- bytes that pass a test call for no quotes where no such byte does
-none_special : (p : ℕ → Bool) → ((b : ℕ) → p b ≡ true → needs_byte default_writer b ≡ false) → (xs : List ℕ) → list_all p xs ≡ true → list_any (needs_byte default_writer) xs ≡ false
-none_special p plain [] all = refl
-none_special p plain (b ∷ xs) all =
-    let both = and_parts (p b) (list_all p xs) all in
-    rw (plain b both.0, none_special p plain xs both.1) refl
+use Rattle.qc_records.proofs.PlainRows.{four_fields, none_special}
 
 digit_plain : (b : ℕ) → is_ascii_digit b ≡ true → needs_byte default_writer b ≡ false
 digit_plain b d = grind (arith, nat_tests, d)
@@ -76,29 +70,19 @@ task_plain t small =
 abbrev pub line_fields : InstanceView → Task → Slot → List (List ℕ)
 line_fields inst t s = task_text t ∷ (crane inst s.crane).name ∷ decimal s.start ∷ decimal (s.start + t.ticks) ∷ []
 
-row_of_four : (a b c d : List ℕ) → list_any (needs_byte default_writer) a ≡ false → list_any (needs_byte default_writer) b ≡ false → list_any (needs_byte default_writer) c ≡ false
-    → list_any (needs_byte default_writer) d ≡ false → row_text default_writer (a ∷ b ∷ c ∷ d ∷ []) ≡ a ++ codes "," ++ b ++ codes "," ++ c ++ codes "," ++ d ++ codes "\n"
-unfolding fields_text is_blank
-row_of_four a b c d pa pb pc pd = rw (pa, pb, pc, pd) (simp append_assoc)
+-- two tasks with one name are of one hatch and one phase; a phase is told by two bytes
+rank_in : List ℕ → ℕ
+rank_in t = cond (get_or t 0 0 == 68) (cond (get_or t 1 0 == 68) 0 1) (cond (get_or t 1 0 == 72) 2 3)
 
--- two tasks with one name are of one hatch and one phase
+rank_back : (p : Phase) → rank_in (phase_text p) ≡ phase_rank p
+unfolding rank_in
+rank_back DeckOut = refl
+rank_back HoldOut = refl
+rank_back HoldIn = refl
+rank_back DeckIn = refl
+
 same_phase : (p q : Phase) → phase_text p ≡ phase_text q → phase_rank p ≡ phase_rank q
-same_phase DeckOut DeckOut e = refl
-same_phase HoldOut HoldOut e = refl
-same_phase HoldIn HoldIn e = refl
-same_phase DeckIn DeckIn e = refl
-same_phase DeckOut HoldOut e = absurd (omega (arith, ap (λ t. get_or t 0 0) e, ap (λ t. get_or t 1 0) e))
-same_phase DeckOut HoldIn e = absurd (omega (arith, ap (λ t. get_or t 0 0) e, ap (λ t. get_or t 1 0) e))
-same_phase DeckOut DeckIn e = absurd (omega (arith, ap (λ t. get_or t 0 0) e, ap (λ t. get_or t 1 0) e))
-same_phase HoldOut DeckOut e = absurd (omega (arith, ap (λ t. get_or t 0 0) e, ap (λ t. get_or t 1 0) e))
-same_phase HoldOut HoldIn e = absurd (omega (arith, ap (λ t. get_or t 0 0) e, ap (λ t. get_or t 1 0) e))
-same_phase HoldOut DeckIn e = absurd (omega (arith, ap (λ t. get_or t 0 0) e, ap (λ t. get_or t 1 0) e))
-same_phase HoldIn DeckOut e = absurd (omega (arith, ap (λ t. get_or t 0 0) e, ap (λ t. get_or t 1 0) e))
-same_phase HoldIn HoldOut e = absurd (omega (arith, ap (λ t. get_or t 0 0) e, ap (λ t. get_or t 1 0) e))
-same_phase HoldIn DeckIn e = absurd (omega (arith, ap (λ t. get_or t 0 0) e, ap (λ t. get_or t 1 0) e))
-same_phase DeckIn DeckOut e = absurd (omega (arith, ap (λ t. get_or t 0 0) e, ap (λ t. get_or t 1 0) e))
-same_phase DeckIn HoldOut e = absurd (omega (arith, ap (λ t. get_or t 0 0) e, ap (λ t. get_or t 1 0) e))
-same_phase DeckIn HoldIn e = absurd (omega (arith, ap (λ t. get_or t 0 0) e, ap (λ t. get_or t 1 0) e))
+same_phase p q e = sym (rank_back p) ∙ ap rank_in e ∙ rank_back q
 
 phase_length : (p : Phase) → length (phase_text p) ≡ 2
 phase_length DeckOut = refl
@@ -157,7 +141,7 @@ number_plain k small = none_special is_ascii_digit digit_plain (decimal k) (deci
 
 line_is : (inst : InstanceView) (t : Task) (s : Slot) → IsNamed inst t s → plan_line inst t s ≡ row_text default_writer (line_fields inst t s)
 line_is inst t s named =
-    sym (row_of_four (task_text t) (crane inst s.crane).name (decimal s.start) (decimal (s.start + t.ticks)) (task_plain t named.hatch)
+    sym (four_fields (task_text t) (crane inst s.crane).name (decimal s.start) (decimal (s.start + t.ticks)) (task_plain t named.hatch)
     (none_special is_name_byte name_plain (crane inst s.crane).name (name_bytes (crane inst s.crane).name named.name)) (number_plain s.start named.start) (number_plain (s.start + t.ticks) named.end))
 
 lines_reached : (inst : InstanceView) (ls : List (Task × Slot)) → All (λ l. IsNamed inst l.0 l.1) ls
@@ -181,7 +165,7 @@ text_records : (inst : InstanceView) (ls : List (Task × Slot)) → All (λ l. I
 unfolding Reached strip_bom next_record
 text_records inst ls all =
     let rest = flat_map (λ (x : Task × Slot). plan_line inst x.0 x.1) ls in
-    let titled : row_text default_writer header ≡ codes "task,crane,start,end\n" = row_of_four (codes "task") (codes "crane") (codes "start") (codes "end") refl refl refl refl in
+    let titled : row_text default_writer header ≡ codes "task,crane,start,end\n" = four_fields (codes "task") (codes "crane") (codes "start") (codes "end") refl refl refl refl in
     let whole : Reached default_config st.StartRecord (codes "task,crane,start,end\n" ++ rest) (header ∷ map (λ (l : Task × Slot). line_fields inst l.0 l.1) ls) st.StartRecord [] = (
       (header, st.StartRecord, rest),
       subst (λ (first : List ℕ). next_record default_config st.StartRecord [] [] (first ++ rest) ≡ Some (header, st.StartRecord, rest)) titled

@@ -6,7 +6,7 @@ use Rattle.std.specs.List.{list_all, list_any}
 use Rattle.std.specs.Str.{bytes_eq}
 use Rattle.std.proofs.lemmas.Bool.{and_parts, cases_Bool, false≢true, false_from_ne_true, ne_eqb, or_cases}
 use Rattle.std.proofs.lemmas.Bool.Decides.{Decides-eqb, nat_tests}
-use Rattle.std.proofs.lemmas.Fmt.{decimal_by_steps, decimal_injective, length-decimal-le}
+use Rattle.std.proofs.lemmas.Fmt.{decimal_injective, length-decimal-le}
 use Rattle.std.proofs.lemmas.List.Folds.{list_all-append}
 use Rattle.std.proofs.lemmas.Slice.Eq.{bytes_eq-Decides}
 use Rattle.qc_cell.specs.Cells.{CellView, IsCell, cell_in, cell_text, overlap}
@@ -26,23 +26,13 @@ use Rattle.qc_make.specs.MadeShip.{hatch_number}
 use Rattle.qc_make.specs.MadeList.{made_row, row_line, lowest_tier, move_of, move_text}
 use Rattle.csv.specs.Writing.{default_writer, needs_byte, row_text}
 use Rattle.qc_make.proofs.CellBack.{cell_back}
-use Rattle.qc_make.proofs.Records.{four_fields, plain}
+use Rattle.qc_make.proofs.Records.{plain}
+use Rattle.qc_records.proofs.PlainRows.{four_fields}
+use Rattle.qc_num.proofs.DigitLemmas.{decimal_digits}
 
 -- the fields of a row's line
 abbrev pub fields_of_row : Row → List (List ℕ)
 fields_of_row row = row.id ∷ move_text row.kind ∷ cell_text row.cell ∷ codes "40" ∷ []
-
-digits : (n : ℕ) → n < 2 ^ 64 → list_all is_ascii_digit (decimal n) ≡ true
-digits n wide = decimal_by_steps (λ n ds. list_all is_ascii_digit ds ≡ true) one more n wide
-  where
-    digit : (d : ℕ) → d < 10 → is_ascii_digit (48 + d) ≡ true
-    digit d lt = grind (arith, nat_tests)
-
-    one : (n : ℕ) → n < 10 → list_all is_ascii_digit ((48 + n) ∷ []) ≡ true
-    one n lt = rw (digit n lt) refl
-
-    more : (n : ℕ) (ds : List ℕ) → 10 ≤ n → list_all is_ascii_digit ds ≡ true → list_all is_ascii_digit (ds ++ (48 + n % 10) ∷ []) ≡ true
-    more n ds ten all = list_all-append is_ascii_digit ds ((48 + n % 10) ∷ []) ∙ rw (all, digit (n % 10) (omega arith)) refl
 
 all_weaker : (p q : ℕ → Bool) → ((b : ℕ) → p b ≡ true → q b ≡ true) → (xs : List ℕ) → list_all p xs ≡ true → list_all q xs ≡ true
 all_weaker p q h [] e = refl
@@ -89,7 +79,7 @@ id_parts hatch p i = simp append_assoc
 same_id : (g h : ℕ) (p q : Phase) (i j : ℕ) → g < 1000 → h < 1000 → i < 30 → j < 30 → (made_row g p i).id ≡ (made_row h q j).id → (g ≡ h) × (phase_rank p ≡ phase_rank q) × (i ≡ j)
 same_id g h p q i j gl hl il jl same =
     let wide : 1000 ≤ 2 ^ 64 = lit≤ tt in
-    let split = dash_split (decimal g) (decimal h) _ _ (digits g (omega arith)) (digits h (omega arith)) (sym (id_parts g p i) ∙ same ∙ id_parts h q j) in (
+    let split = dash_split (decimal g) (decimal h) _ _ (decimal_digits g (omega arith)) (decimal_digits h (omega arith)) (sym (id_parts g p i) ∙ same ∙ id_parts h q j) in (
       decimal_injective g h (omega arith) (omega arith) split.0,
       sym (rank_back p (45 ∷ decimal i)) ∙ ap rank_in split.1 ∙ rank_back q (45 ∷ decimal j),
       decimal_injective i j (omega arith) (omega arith) (sym (two_bytes p (decimal i)) ∙ ap (drop 3) split.1 ∙ two_bytes q (decimal j)),
@@ -182,7 +172,7 @@ id_bytes hatch p i hl il =
     let wide : 1000 ≤ 2 ^ 64 = lit≤ tt in
     ap (list_all is_id_byte) (id_parts hatch p i)
     ∙ list_all-append is_id_byte (decimal hatch) (45 ∷ (phase_text p ++ 45 ∷ decimal i))
-    ∙ rw (id_digits (decimal hatch) (digits hatch (omega arith))) (by_phase p (id_digits (decimal i) (digits i (omega arith))))
+    ∙ rw (id_digits (decimal hatch) (decimal_digits hatch (omega arith))) (by_phase p (id_digits (decimal i) (decimal_digits i (omega arith))))
   where
     by_phase : (p : Phase) → list_all is_id_byte (decimal i) ≡ true → list_all is_id_byte (45 ∷ (phase_text p ++ 45 ∷ decimal i)) ≡ true
     by_phase DeckOut e = e

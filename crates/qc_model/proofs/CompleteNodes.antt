@@ -100,12 +100,12 @@ forced_ticks inst ds i j =
         (λ _. cond_both (nat_lt w v && nat_lt 0 (task_distance inst i v j w)) _ _ (IsLong inst i) (λ _. omega arith) (λ _. tt))
 
 -- what the greater of two steps keeps, the first keeps, and so does the second
-greater_first : (s t : ℕ) (a b : Option ℕ) → IsStep s t (greater a b) → IsStep s t a
+pub greater_first : (s t : ℕ) (a b : Option ℕ) → IsStep s t (greater a b) → IsStep s t a
 greater_first s t None b h = tt
 greater_first s t (Some m) None h = h
 greater_first s t (Some m) (Some n) h = omega arith
 
-greater_second : (s t : ℕ) (a b : Option ℕ) → IsStep s t (greater a b) → IsStep s t b
+pub greater_second : (s t : ℕ) (a b : Option ℕ) → IsStep s t (greater a b) → IsStep s t b
 greater_second s t None b h = h
 greater_second s t (Some m) None h = tt
 greater_second s t (Some m) (Some n) h = omega arith

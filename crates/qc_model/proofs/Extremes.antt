@@ -1,5 +1,5 @@
 -- The greatest and the least of numbers that a function gives.
-use Rattle.std.proofs.Common.{◌≡◌, ℕ, zero, suc, ◌+◌, ◌<◌, ◌≤◌, Bool, true, inl, inr, List, [], ◌∷◌, map, ap, sym, ◌∙◌, arith}
+use Rattle.std.proofs.Common.{◌≡◌, ℕ, zero, suc, ◌+◌, ◌<◌, ◌≤◌, Bool, true, inl, inr, List, [], ◌∷◌, length, map, ap, sym, ◌∙◌, arith}
 use Rattle.std.proofs.lemmas.Bool.{cond_both, cases_lt, false≢true}
 use Rattle.std.specs.Prelude.{filter}
 use Rattle.std.specs.List.{range_with_len}
@@ -29,35 +29,31 @@ least_first : (y : ℕ) (ys : List ℕ) → least (y ∷ ys) ≤ y
 least_first y [] = omega arith
 least_first y (z ∷ zs) = omega arith
 
+-- there are some, and the least is at most m
+abbrev Reaches : List ℕ → ℕ → Type 0
+Reaches ys m = (0 < length ys) × (least ys ≤ m)
+
+one_more : (x m : ℕ) (ys : List ℕ) → Reaches ys m → Reaches (x ∷ ys) m
+one_more x m [] h = absurd (omega (arith, h.0))
+one_more x m (y ∷ ys) h = (omega arith, omega (arith, h.1))
+
 -- of those that pass a test
 module _ (f : ℕ → ℕ) (p : ℕ → Bool) where
-  -- with one more in front
-  least_rest : (x k a n : ℕ) → a ≤ k → k < a + n → p k ≡ true
-      → least (x ∷ map f (filter p (range_with_len a n))) ≤ f k
-  least_rest x k a zero low high t = absurd (omega arith)
-  least_rest x k a (suc n) low high t =
+  reached : (k a n : ℕ) → a ≤ k → k < a + n → p k ≡ true
+      → Reaches (map f (filter p (range_with_len a n))) (f k)
+  reached k a zero low high t = absurd (omega arith)
+  reached k a (suc n) low high t =
       let rest = filter p (range_with_len (a + 1) n) in
-      cond_both (p a) (a ∷ rest) rest (λ ks. least (x ∷ map f ks) ≤ f k)
+      cond_both (p a) (a ∷ rest) rest (λ ks. Reaches (map f ks) (f k))
       (λ passes. elim (cases_lt a k) [
-        | inl l ↦ omega (arith, least_rest (f a) k (a + 1) n (omega arith) (omega arith) t)
-        | inr l ↦ let e : a ≡ k = omega arith in omega (arith, ap f e, least_first (f a) (map f rest))
+        | inl l ↦ one_more (f a) (f k) (map f rest) (reached k (a + 1) n (omega arith) (omega arith) t)
+        | inr l ↦ let e : a ≡ k = omega arith in (omega arith, omega (arith, ap f e, least_first (f a) (map f rest)))
       ])
       (λ fails. elim (cases_lt a k) [
-        | inl l ↦ least_rest x k (a + 1) n (omega arith) (omega arith) t
+        | inl l ↦ reached k (a + 1) n (omega arith) (omega arith) t
         | inr l ↦ let e : a ≡ k = omega arith in absurd (false≢true (sym fails ∙ ap p e ∙ t))
       ])
 
   pub least_le : (k a n : ℕ) → a ≤ k → k < a + n → p k ≡ true
       → least (map f (filter p (range_with_len a n))) ≤ f k
-  least_le k a zero low high t = absurd (omega arith)
-  least_le k a (suc n) low high t =
-      let rest = filter p (range_with_len (a + 1) n) in
-      cond_both (p a) (a ∷ rest) rest (λ ks. least (map f ks) ≤ f k)
-      (λ passes. elim (cases_lt a k) [
-        | inl l ↦ omega (arith, least_rest (f a) k (a + 1) n (omega arith) (omega arith) t)
-        | inr l ↦ let e : a ≡ k = omega arith in omega (arith, ap f e, least_first (f a) (map f rest))
-      ])
-      (λ fails. elim (cases_lt a k) [
-        | inl l ↦ least_le k (a + 1) n (omega arith) (omega arith) t
-        | inr l ↦ let e : a ≡ k = omega arith in absurd (false≢true (sym fails ∙ ap p e ∙ t))
-      ])
+  least_le k a n low high t = (reached k a n low high t).1

@@ -103,14 +103,6 @@ module _ (inst : InstanceView) (ds : List Decision) (begins : List ℕ) (m : Mee
       joined (Steps i j) (Leads j l) (Leads i l) (forced inst ds i j) (chain_ticks inst ds j (js ++ l ∷ []))
       (step_met i j low next.0) (chain_to_met j js l next.0 next.1 high) (λ x y p q. (omega arith, omega arith))
 
-  -- what a chain shows is at most the last end
-  pub chain_end_le : (version : Version) (tasks : List ℕ) (end : ℕ)
-      → chain_end version inst ds tasks ≡ Some end → are_tasks inst tasks ≡ true
-      → end ≤ last_end inst.tasks begins
-  chain_end_le version tasks end e all =
-      let met = chain_end_met version tasks (within inst tasks all) in
-      subst (λ (o : Option ℕ). IfSome o (λ n. n ≤ last_end inst.tasks begins)) e met
-
   -- and there is no ring
   pub no_ring_met : Valid inst → (tasks : List ℕ) → is_ring inst ds tasks ≡ true
       → are_tasks inst tasks ≡ true → ⊥

@@ -48,7 +48,7 @@ module _ (inst : InstanceView) (sched : List Slot) where
       (λ same. ap (crane_of sched) (sym (eqb-true i j same)) ∙ a.0)
       (λ other. assigned_is ds a.1 j)
 
-  ordered_is : (ds : List Decision) → Agrees inst ds sched
+  pub ordered_is : (ds : List Decision) → Agrees inst ds sched
       → (i j : ℕ) → is_ordered ds i j ≡ true → end_of inst sched i ≤ start_of sched j
   ordered_is [] a i j t = absurd (false≢true t)
   ordered_is (Assign g k ∷ ds) a i j t = ordered_is ds a.1 i j t

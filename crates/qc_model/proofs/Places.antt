@@ -148,20 +148,12 @@ up_exists inst sched k m d low = (found.0, record { is = found.1.is; most = most
         let same = floor_unique inst sched k floor.0 x floor.1 f in
         subst (λ (z : ℤ). scaled inst d z ≤ℤ found.0) same found.1.start
 
-greatest_unique : (P : ℤ → Type 0) (p q : ℤ) → IsGreatest P p → IsGreatest P q → p ≡ q
-greatest_unique P p q f g = omega (arith, ints, f.most q g.is, g.most p f.is)
-
 -- what stands for p seen from the other end, and back again
 abbrev turned : ℤ → ℤ → ℤ
 turned a p = a -ℤ p
 
 twice : (a p : ℤ) → turned a (turned a p) ≡ p
 twice a p = omega (arith, ints)
-
-pub place_unique : (inst : InstanceView) (sched : List Slot) (way : Direction) (k m d : ℕ) (p q : ℤ)
-    → IsPlace inst sched way k m d p → IsPlace inst sched way k m d q → p ≡ q
-place_unique inst sched Up k m d p q f g = greatest_unique _ p q f g
-place_unique inst sched Down k m d p q f g = let e = greatest_unique _ _ _ f g in omega (arith, ints)
 
 pub place_exists : (inst : InstanceView) (sched : List Slot) (way : Direction) (k m d : ℕ)
     → k < length inst.cranes → (p : ℤ) × IsPlace inst sched way k m d p

@@ -1,5 +1,5 @@
 -- What is seen of an instance and a schedule, part by part.
-use Rattle.std.proofs.Common.{◌≡◌, ℕ, ◌+◌, ◌-◌, ◌<◌, ℤ, List, [], ◌∷◌, length, get_or, map, max, refl, ap, ◌∙◌, arith}
+use Rattle.std.proofs.Common.{◌≡◌, ℕ, ◌+◌, ◌-◌, ◌<◌, List, [], ◌∷◌, length, get_or, map, max, refl, ap, ◌∙◌, arith}
 use Rattle.std.proofs.lemmas.List.{get_or-map, get_or-reverse, length-map}
 use Rattle.std.proofs.Math.ListN.{length-reverse}
 use Rattle.qc_model.specs.declared.direction.Direction.{Direction}
@@ -8,17 +8,8 @@ use Rattle.qc_model.specs.declared.schedule.Slot.{Slot}
 use Rattle.qc_model.specs.declared.task.Task.{Task}
 use Rattle.qc_model.specs.Instance.{InstanceView, no_task, no_crane, bay_of, ticks_of, crane}
 use Rattle.qc_model.specs.Rules.{no_slot, crane_of, ends, last_end, start_of, starts}
-use Rattle.qc_model.specs.Ticks.{distance, travel_between}
 use Rattle.qc_model.specs.OneWay.{mirror, mirror_task, mirror_crane, mirror_slot}
 use Rattle.qc_model.specs.Seen.{seen, seen_schedule, seen_bay, seen_crane, seen_number}
-
-pub seen-travel : (inst : InstanceView) (way : Direction) → (seen inst way).travel ≡ inst.travel
-seen-travel inst Up = refl
-seen-travel inst Down = refl
-
-pub seen-gap : (inst : InstanceView) (way : Direction) → (seen inst way).gap ≡ inst.gap
-seen-gap inst Up = refl
-seen-gap inst Down = refl
 
 pub seen-task_count : (inst : InstanceView) (way : Direction) → length (seen inst way).tasks ≡ length inst.tasks
 seen-task_count inst Up = refl
@@ -58,14 +49,6 @@ mirror-crane inst k h =
 pub seen-crane : (inst : InstanceView) (way : Direction) (k : ℕ) → k < length inst.cranes → crane (seen inst way) k ≡ seen_crane inst way (crane inst (seen_number inst way k))
 seen-crane inst Up k h = refl
 seen-crane inst Down k h = mirror-crane inst k h
-
-pub seen-distance : (inst : InstanceView) (way : Direction) (v : ℕ) (x : ℤ) (w : ℕ) (y : ℤ) → distance (seen inst way) v x w y ≡ distance inst v x w y
-seen-distance inst Up v x w y = refl
-seen-distance inst Down v x w y = refl
-
-pub seen-travel_between : (inst : InstanceView) (way : Direction) (x y : ℤ) → travel_between (seen inst way) x y ≡ travel_between inst x y
-seen-travel_between inst Up x y = refl
-seen-travel_between inst Down x y = refl
 
 pub seen-ends : (inst : InstanceView) (sched : List Slot) (way : Direction) → ends (seen inst way) (seen_schedule inst sched way) ≡ ends inst sched
 seen-ends inst sched Up = refl

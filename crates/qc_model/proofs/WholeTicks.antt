@@ -1,5 +1,5 @@
 -- In a one-way schedule places change their slopes at whole ticks alone: between two of them a place is linear.
-use Rattle.std.proofs.Common.{◌≡◌, ℕ, ◌+◌, ◌-◌, ◌*◌, ◌<◌, ◌≤◌, ℤ, pos, negsuc, ◌+ℤ◌, ◌-ℤ◌, ◌*ℤ◌, ◌≤ℤ◌, ◌⊎◌, inl, inr, List, length, subst, sym, refl, ap, ap₂, ◌∙◌, arith, mul-le-mul_left, mul-zero}
+use Rattle.std.proofs.Common.{◌≡◌, ℕ, ◌+◌, ◌-◌, ◌*◌, ◌<◌, ◌≤◌, ℤ, pos, negsuc, ◌+ℤ◌, ◌-ℤ◌, ◌*ℤ◌, ◌≤ℤ◌, inl, inr, List, length, subst, sym, refl, ap, ap₂, ◌∙◌, arith, mul-le-mul_left, mul-zero}
 use Rattle.std.proofs.lemmas.Bool.{cases_lt}
 use Rattle.std.proofs.lemmas.Int.{by_lt_z, ints}
 use borrow.Author.Differences.{down, product_is, up}
@@ -8,16 +8,16 @@ use Rattle.qc_model.specs.declared.direction.Direction.TheVariants.{Up, Down}
 use Rattle.qc_model.specs.declared.schedule.Slot.{Slot}
 use Rattle.qc_model.specs.Instance.{InstanceView, Valid, crane}
 use Rattle.qc_model.specs.Judge.{Goes}
-use Rattle.qc_model.specs.Motion.{IsFloor, IsGreatest, IsPlace, LowPlace, berth_place, scaled, task_place}
+use Rattle.qc_model.specs.Motion.{IsFloor, IsGreatest, IsPlace, LowPlace, scaled}
 use Rattle.qc_model.specs.OneWay.{GoesUp, mirror, mirror_schedule}
 use Rattle.qc_model.specs.Rules.{crane_of, start_of}
 use Rattle.qc_model.proofs.MirrorLemmas.{mirror_valid}
 use Rattle.qc_model.proofs.SeenLemmas.{seen-crane_count}
 use Rattle.qc_model.proofs.Scaled.{scaled_le, scaled_sum}
 use Rattle.qc_model.proofs.Levels.{HasLevels, berth_at, berth_level, levels_of, task_at, task_level}
-use Rattle.qc_model.proofs.Moves.{HasMoment, floor_moment, step}
+use Rattle.qc_model.proofs.Moves.{floor_moment, step}
 use Rattle.qc_model.proofs.Places.{floor_exists}
-use Rattle.qc_model.proofs.PlaceTerms.{HasFloor, IsTop, Term, berth_place-lifted, floor-lifted, floor_level, greatest_of, has_floor, level_at, lift, task_place-lifted, top_of}
+use Rattle.qc_model.proofs.PlaceTerms.{HasFloor, IsTop, Term, floor_level, greatest_of, has_floor, level_at, lift, top_of}
 use Rattle.qc_model.proofs.PlaceTerms.Term.{berth, floor, task}
 
 -- ---- numbers
@@ -228,34 +228,6 @@ module _ (inst : InstanceView) (sched : List Slot) (k : ℕ) (x : ℤ) where
               record { term = there.from; now = same; next = there.is })
               (λ higher. record { term = r.term; now = r.now; next = omega (arith, ints, most) })
         ]
-
--- ---- at each moment no task stands above the floor, or no berth does
-
-pub one_kind : (inst : InstanceView) (sched : List Slot) → Valid inst → GoesUp inst sched
-    → (k m d : ℕ) (x : ℤ) → IsFloor inst sched k x
-    → ((i : ℕ) → i < length inst.tasks → crane_of sched i ≤ k
-    → task_place inst sched i k m d ≤ℤ scaled inst d x)
-    ⊎ ((v : ℕ) → v ≤ k → berth_place inst v k m d ≤ℤ scaled inst d x)
-one_kind inst sched valid goes k m d x least = elim (cases_lt m (d * moment.0)) [
-  | inl before ↦ inl (λ i low below.
-      let is = task_place-lifted inst sched d i k m below in
-      raised _ _ (lift inst d k) _ _ is lowest (moment.1.tasks m (omega arith) i low below))
-  | inr after ↦ inr (λ v below.
-      let is = berth_place-lifted inst sched d v k m below in
-      raised _ _ (lift inst d k) _ _ is lowest (moment.1.berths m after v below))
-]
-  where
-    f : HasFloor inst sched d k (floor_level inst d k x)
-    f = has_floor inst sched d k x least
-
-    moment : (tick : ℕ) × HasMoment inst sched d (levels_of inst sched goes valid d) k x f tick
-    moment = floor_moment inst sched d (levels_of inst sched goes valid d) k x f f.from
-
-    lowest : scaled inst d x ≡ (floor_level inst d k x +ℤ lift inst d k)
-    lowest = floor-lifted inst sched d k x
-
-    raised : (a b c y z : ℤ) → y ≡ (a +ℤ c) → z ≡ (b +ℤ c) → a ≤ℤ b → y ≤ℤ z
-    raised a b c y z e g h = omega (arith, ints)
 
 -- ---- between two whole ticks a place is linear
 

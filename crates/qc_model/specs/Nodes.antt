@@ -141,11 +141,6 @@ pub record HasStarts (inst : InstanceView) (ds : List Decision) : Type 0 where
   pub starts : List ℕ
   pub meets : Meets inst ds starts
 
--- some starts meet the node, and its tasks are in reach
-pub record IsSolvable (inst : InstanceView) (ds : List Decision) : Type 0 where
-  pub in_reach : IsInReach inst ds
-  pub met : HasStarts inst ds
-
 -- every task is assigned and every apart pair settled
 pub record IsComplete (inst : InstanceView) (ds : List Decision) : Type 0 where
   pub tasks : (j : ℕ) → j < length inst.tasks → IsSome (assigned ds j)

@@ -1,5 +1,5 @@
 -- The lower and the higher of two whole numbers, as the code comes to them.
-use Rattle.std.proofs.Common.{◌≡◌, ℤ, ◌≤ℤ◌, FitsSigned, to_z, of_z, int_lt, arith}
+use Rattle.std.proofs.Common.{◌≡◌, ℤ, FitsSigned, to_z, of_z, int_lt, arith}
 use Rattle.std.proofs.lemmas.Bool.{cond_both}
 use Rattle.std.proofs.lemmas.Int.{ints, to_z-of_z}
 use Rattle.std.specs.Int.{int_max, int_min}
@@ -17,9 +17,6 @@ pub of_min : (P : ℤ → Type 0) (w : Width) (p x y r : ℤ) → FitsSigned w r
     → P (to_z w (of_z w r))
 of_min P w p x y r f e s hp hx =
     rw (to_z-of_z w r f, e, s) (cond_both (int_lt x p) x p P (λ _. hx) (λ _. hp))
-
-pub ≤ℤ_trans : (a b c : ℤ) → a ≤ℤ b → b ≤ℤ c → a ≤ℤ c
-≤ℤ_trans a b c h k = omega (arith, ints)
 
 -- of a kind of numbers there is one greatest and one least
 pub greatest_unique : (P : ℤ → Type 0) (x y : ℤ) → IsGreatest P x → IsGreatest P y → x ≡ y

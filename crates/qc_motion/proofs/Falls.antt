@@ -80,7 +80,7 @@ module _ (it : Swept) (s : IsSound it) (m : ℕ) (p q : ℤ) (a : IsAt it m p) (
     berths_low x v low order =
         by_lt_z (p +ℤ pos m) (berth_hold it v +ℤ pos (ready_of it v))
         (λ far.
-        let h = first.first v (omega arith) (order, far) in
+        let h = first.rest v (omega arith) (order, far) in
         let g = (stands v (order, far)).1 in
         let to : berth_hold it v ≤ℤ (p -ℤ pos x) = omega (arith, bays, h, g, low) in
         omega (arith, ints, to))

@@ -33,7 +33,7 @@ module _ (it : Swept) (s : IsSound it) (m : ℕ) (p : ℤ) (a : IsAt it m p) (b 
       at_of it s t p given
       (λ i felt. by_lt_z p (task_hold it i)
       (λ higher.
-      let h = first.first i felt.0 (felt, higher) in
+      let h = first.rest i felt.0 (felt, higher) in
       let g = (passes i (felt, higher)).1 in
       omega (arith, ints, h, g, high))
       (λ lower. omega (arith, ints, lower)))
@@ -103,7 +103,7 @@ module _ (it : Swept) (s : IsSound it) (m : ℕ) (p : ℤ) (a : IsAt it m p) (b 
         found : (v : ℕ) → IsBerthAt it p v → m + 1 ≤ ready_of it v
             → (l ≡ m + 1) ⊎ ((u : ℕ) × (u < it.crane + 1) × IsBerthAt it p u × (ready_of it u ≡ l)) → Waits
         found v here stands (inl g) =
-            let h = last.last v (omega (arith, here.0)) here in
+            let h = last.rest v (omega (arith, here.0)) here in
             record { berth = v; order = here.0; holds = here.1; until = omega arith }
         found v here stands (inr t) = record { berth = t.0; order = t.2.0; holds = t.2.1; until = t.3 }
 
@@ -111,7 +111,7 @@ module _ (it : Swept) (s : IsSound it) (m : ℕ) (p : ℤ) (a : IsAt it m p) (b 
         go (by_task i felt g) = elim (cases_lt (m + 1) (start_of it.sched i)) [
           | inl far ↦
               let higher : IsHigher it p i = (felt, omega (arith, ints, g, far)) in
-              let h = first.first i felt.0 higher in
+              let h = first.rest i felt.0 higher in
               let k = (passes i higher).1 in
               let o = last.bound in
               absurd (omega (arith, ints, g, far, h, k, o))
@@ -143,7 +143,7 @@ module _ (it : Swept) (s : IsSound it) (m : ℕ) (p : ℤ) (a : IsAt it m p) (b 
         go (by_berth v order g) = elim (cases_lt l (ready_of it v)) [
           | inl stands ↦
               let here : IsBerthAt it p v = (order, omega (arith, ints, g, stands)) in
-              let h = last.last v (omega arith) here in absurd (omega arith)
+              let h = last.rest v (omega arith) here in absurd (omega arith)
           | inr gone ↦
               let here = berth_le it s (m + 1) p b v order in
               let o = last.bound in absurd (omega (arith, ints, g, gone, here, o))

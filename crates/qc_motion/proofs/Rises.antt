@@ -45,7 +45,7 @@ module _ (it : Swept) (s : IsSound it) (m : ℕ) (p : ℤ) (a : IsAt it m p) whe
             let h = task_le it s m p a i felt in
             let t = no_faster_up q b in
             let on : IsOnRise it m p i = (felt, omega (arith, ints, g, h, t, up)) in
-            let l = last.last i felt.0 on in
+            let l = last.rest i felt.0 on in
             omega (arith, ints, g, h, l, up)
         go (by_berth v order g) = absurd (omega (arith, ints, g, berth_le it s m p a v order, up))
         go (by_floor g) = absurd (omega (arith, ints, g, floor_le it s m p a, up))
@@ -77,7 +77,7 @@ module _ (it : Swept) (s : IsSound it) (m : ℕ) (p : ℤ) (a : IsAt it m p) whe
             elim (cases_lt e (start_of it.sched i)) [
               | inl far ↦
                   let on : IsOnRise it m p i = (felt, omega (arith, ints, g, far, l)) in
-                  let most = last.last i felt.0 on in omega arith
+                  let most = last.rest i felt.0 on in omega arith
               | inr near ↦ absurd (omega (arith, ints, g, h, near, l))
             ]
         go (by_berth v order g) =

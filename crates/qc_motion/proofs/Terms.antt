@@ -1,5 +1,5 @@
 -- What the place of a crane at a tick says of the tasks and berths that hold it, and how fast it changes.
-use Rattle.std.proofs.Common.{◌≡◌, ℕ, ◌+◌, ◌≤◌, ℤ, pos, ◌+ℤ◌, ◌≤ℤ◌, refl, sym, ap, subst, arith}
+use Rattle.std.proofs.Common.{◌≡◌, ℕ, ◌≤◌, ℤ, ◌≤ℤ◌, refl, sym, ap, subst, arith}
 use Rattle.std.proofs.lemmas.Int.{ints}
 use Rattle.qc_model.specs.Motion.{LowPlace, berth_place, scaled, task_place}
 use Rattle.qc_model.specs.Motion.LowPlace.{of_berth, of_floor, of_task}
@@ -52,10 +52,3 @@ module _ (it : Swept) (s : IsSound it) where
 
     pub floor_le : floor_place it ≤ℤ p
     floor_le = a.most _ (of_floor it.floor s.floor)
-
--- of two ticks
-pub task_slow : (it : Swept) (i m x : ℕ) → task_at it i (m + x) ≤ℤ (task_at it i m +ℤ pos x)
-task_slow it i m x = omega (arith, ints)
-
-pub berth_falls : (it : Swept) (v m x : ℕ) → berth_at it v (m + x) ≤ℤ berth_at it v m
-berth_falls it v m x = omega (arith, ints)

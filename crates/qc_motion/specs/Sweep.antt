@@ -57,17 +57,18 @@ moved Less p x = p -ℤ pos x
 moved Equal p x = p
 moved Greater p x = p +ℤ pos x
 
--- of the numbers below n of a kind, the last tick that f gives, and low where none is later
-pub record IsLast (P : ℕ → Type 0) (f : ℕ → ℕ) (n low e : ℕ) : Type 0 where
-  pub bound : low ≤ e
-  pub last : (i : ℕ) → i < n → P i → f i ≤ e
-  pub found : (e ≡ low) ⊎ ((i : ℕ) × (i < n) × P i × (f i ≡ e))
+-- of the numbers below n of a kind, the tick farthest one way that f gives, and start where none is farther
+pub record IsFarthest (IsPast : ℕ → ℕ → Type 0) (P : ℕ → Type 0) (f : ℕ → ℕ) (n start e : ℕ) : Type 0 where
+  pub bound : IsPast start e
+  pub rest : (i : ℕ) → i < n → P i → IsPast (f i) e
+  pub found : (e ≡ start) ⊎ ((i : ℕ) × (i < n) × P i × (f i ≡ e))
 
--- of the numbers below n of a kind, the first tick that f gives, and high where none is sooner
-pub record IsFirst (P : ℕ → Type 0) (f : ℕ → ℕ) (n high e : ℕ) : Type 0 where
-  pub bound : e ≤ high
-  pub first : (i : ℕ) → i < n → P i → e ≤ f i
-  pub found : (e ≡ high) ⊎ ((i : ℕ) × (i < n) × P i × (f i ≡ e))
+-- the last such tick, and the first
+abbrev pub IsLast : (P : ℕ → Type 0) (f : ℕ → ℕ) (n low e : ℕ) → Type 0
+IsLast = IsFarthest (λ a b. a ≤ b)
+
+abbrev pub IsFirst : (P : ℕ → Type 0) (f : ℕ → ℕ) (n high e : ℕ) → Type 0
+IsFirst = IsFarthest (λ a b. b ≤ a)
 
 -- as the crane goes up from p at tick m, it comes to the hold of task i just as that starts
 abbrev pub IsOnRise : Swept → ℕ → ℤ → ℕ → Type 0

@@ -1,3 +1,4 @@
+pub mod BoundLemmas
 pub mod DigitLemmas
 pub mod Lists
 pub mod ReadingLemmas

@@ -1,17 +1,12 @@
 -- Readings, read backwards: what a reading that came through says of its steps.
 use Rattle.std.proofs.Common.{◌≡◌, ◌+◌, ◌++◌, ◌∷◌, List, [], length, length-append, Bool, true, false, cond, refl, ap, subst, arith}
-use Rattle.std.specs.Prelude.{Result, Ok, Err, ⊤, IsOk}
+use Rattle.std.specs.Prelude.{Result, Ok, Err, ⊤}
 use Rattle.qc_num.specs.Reading.{◌>>=◌, each, require, with_fault}
 
 -- a reading came through where its first step did, and the rest of it with that step's value
 pub bind_ok : {A B E : Type 0} (r : Result A E) (next : A → Result B E) (b : B) → (r >>= next) ≡ Ok b → (a : A) × (r ≡ Ok a) × (next a ≡ Ok b)
 bind_ok (Ok a) next b e = (a, refl, e)
 bind_ok (Err fault) next b e = cc
-
--- a reading that is through has a first step that is through
-pub bind_IsOk : {A B E : Type 0} (r : Result A E) (next : A → Result B E) → IsOk (r >>= next) → IsOk r
-bind_IsOk (Ok a) next h = refl
-bind_IsOk (Err fault) next h = absurd (cc h)
 
 pub same_ok : {A E : Type 0} {a b : A} → ◌≡◌ {A = Result A E} (Ok a) (Ok b) → a ≡ b
 same_ok e = cc

@@ -1,2 +1,3 @@
+pub mod PlainRows
 pub mod WholeReads
 pub mod FieldFacts

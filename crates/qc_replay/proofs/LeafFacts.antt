@@ -5,7 +5,6 @@ use Rattle.std.specs.Prelude.{option_and_then, option_map, is_some}
 use Rattle.qc_model.specs.declared.decision.Decision.{Decision}
 use Rattle.qc_model.specs.Instance.{InstanceView, ticks_of}
 use Rattle.qc_model.specs.Leaves.{Version, chain_end, chain_ticks, head_in, is_ring}
-use Rattle.qc_model.specs.Nodes.{forced}
 
 -- a step back to the first task closes a ring
 closes : (ticks end : ℕ) (step : Option ℕ)
@@ -37,7 +36,3 @@ module _ (inst : InstanceView) (ds : List Decision) (first : ℕ) (tasks : List 
 
   pub no_ring : NoWay → is_ring inst ds (first ∷ tasks) ≡ false
   no_ring none = ap is_some (none (first ∷ []))
-
-  pub ring_is : (last ticks : ℕ) → IsWay last ticks
-      → is_ring inst ds (first ∷ tasks) ≡ is_some (forced inst ds last first)
-  ring_is last ticks way = ap is_some (way (first ∷ [])) ∙ closes ticks (ticks_of inst first) (forced inst ds last first)

@@ -1,9 +1,9 @@
 -- What the lines of nodes come to.
-use Rattle.std.proofs.Common.{◌≡◌, ◌↔◌, ℕ, ◌==◌, ◌+◌, ◌-◌, ◌<◌, ◌≤◌, inl, inr, Bool, true, false, not, ◌&&◌, ◌||◌, nat_lt, List, [], ◌∷◌, ◌++◌, length, map, drop, Option, None, Some, is_some, Result, Ok, Err, refl, sym, ap, subst, ◌∙◌, append_assoc, arith}
+use Rattle.std.proofs.Common.{◌≡◌, ◌↔◌, ℕ, ◌==◌, ◌+◌, ◌-◌, ◌<◌, ◌≤◌, inl, inr, Bool, true, false, not, ◌&&◌, nat_lt, List, [], ◌∷◌, ◌++◌, length, map, drop, Option, None, Some, is_some, Result, Ok, Err, refl, sym, ap, subst, ◌∙◌, append_assoc, arith}
 use Rattle.std.proofs.lemmas.Simd.{map-map}
 use Rattle.std.specs.Prelude.{IsTrue, eqb, is_none, nat_le, ok_or, option_map, if◌then◌else◌}
 use Rattle.std.specs.List.{list_all}
-use Rattle.std.proofs.lemmas.Bool.{and_from, and_parts, cases_Bool, eq-eqb, false_from_ne_true, le-leb, leb-true, lt-ltb, ltb-true, or_left, or_right, true≢false}
+use Rattle.std.proofs.lemmas.Bool.{and_from, and_parts, cases_Bool, eq-eqb, false_from_ne_true, le-leb, leb-true, lt-ltb, ltb-true, or_from, true≢false}
 use Rattle.std.proofs.lemmas.List.Folds.{list_any_at}
 use Rattle.std.proofs.lemmas.List.{length-append, length-map, map-append}
 use Rattle.qc_num.specs.declared.bound.Bound.{Bound}
@@ -92,33 +92,21 @@ module _ (inst : InstanceView) (ds : List Decision) (heads : Heads) (list : List
 
 -- ---- numbers and tests
 
-pub number_range : (inst : InstanceView) (i : ℕ) → is_number inst i ≡ true
-    → (0 < i) × (i - 1 < length inst.tasks)
-number_range inst i is =
-    let parts = and_parts (nat_lt 0 i) (nat_le i (length inst.tasks)) is in
-    let some = ltb-true 0 i parts.0 in
-    (some, omega (arith, some, leb-true i (length inst.tasks) parts.1))
-
 abbrev is_pair : ℕ → ℕ → Pair → Bool
 is_pair i j pair = (pair.first == i) && (pair.second == j)
 
-apart_listed : (inst : InstanceView) (i j : ℕ) → IsApart inst i j → is_apart inst i j ≡ true
+pub apart_listed : (inst : InstanceView) (i j : ℕ) → IsApart inst i j → is_apart inst i j ≡ true
 apart_listed inst i j b =
     let itself = and_from (eqb i i) (eqb j j) (eq-eqb i i refl) (eq-eqb j j refl) in
     let found = subst (λ (p : Pair). is_pair i j p ≡ true) (sym b.2) itself in
     list_any_at (is_pair i j) inst.apart b.0 (pair_of i j) b.1 found
 
-pub unsettled_test : (inst : InstanceView) (ds : List Decision) (i j : ℕ) → (¬ IsSettled inst ds i j)
-    → not (is_settled inst ds i j) ≡ true
-unsettled_test inst ds i j un =
-    let one = false_from_ne_true (is_some (forced inst ds i j)) (λ h. un (inl h)) in
-    let other = false_from_ne_true (is_some (forced inst ds j i)) (λ h. un (inr h)) in
-    ap (λ b. not (b || is_some (forced inst ds j i))) one ∙ ap not other
-
-pub settled_test : (inst : InstanceView) (ds : List Decision) (i j : ℕ) → IsSettled inst ds i j
-    → not (is_settled inst ds i j) ≡ false
-settled_test inst ds i j (inl h) = ap not (or_left (is_some (forced inst ds i j)) (is_some (forced inst ds j i)) h)
-settled_test inst ds i j (inr h) = ap not (or_right (is_some (forced inst ds i j)) (is_some (forced inst ds j i)) h)
+pub unsettled_false : (inst : InstanceView) (ds : List Decision) (i j : ℕ) → (¬ IsSettled inst ds i j)
+    → is_settled inst ds i j ≡ false
+unsettled_false inst ds i j un =
+    or_from (is_some (forced inst ds i j)) (is_some (forced inst ds j i))
+    (false_from_ne_true (is_some (forced inst ds i j)) (λ e. un (inl e)))
+    (false_from_ne_true (is_some (forced inst ds j i)) (λ e. un (inr e)))
 
 pub none_of : (o : Option ℕ) → is_some o ≡ false → o ≡ None
 none_of None none = refl
@@ -253,7 +241,7 @@ module _ (heads : Heads) (inst : InstanceView) (before after : Standing) (same :
       pair_judged now un counted is way more =
           tested_pair way more
           ∙ ap (λ b. require b kind.Decided >>= λ _. branched_to (here way more) (map (node way) orders))
-          (unsettled_test inst before.decisions (i - 1) (j - 1) un)
+          (ap not (unsettled_false inst before.decisions (i - 1) (j - 1) un))
           ∙ branched_on way more now orders counted is
 
   -- fewer lines may come after a branching

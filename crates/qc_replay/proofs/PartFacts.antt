@@ -96,15 +96,6 @@ lines_after inst mid [] back r leads = ap (λ (result : Result Reading TreeKind)
 lines_after inst mid (seen ∷ front) back r leads =
     goes_on inst mid front back (with_line inst r seen) (lines_after inst mid front back) leads
 
--- no line leads on to where one stands
-pub led_nowhere : (inst : InstanceView) (n : ℕ) (r : Reading) (left : Option (List ℕ)) → Leads inst n r left n r left
-led_nowhere inst n r left = record { lines = []; reading = refl; taken = here left }
-  where
-    here : (b : Option (List ℕ)) → IfSome b (λ x. IsSomeAnd b (λ y. (x ≡ lines_text [] ++ y)
-        × (texts_from inst n r (texts x) ≡ texts_from inst n r (texts y))))
-    here None = tt
-    here (Some x) = (refl, refl)
-
 module _ (inst : InstanceView) (n m : ℕ) (r mid : Reading) (left rest : Option (List ℕ)) (first : Leads inst n r left m mid rest) where
   -- what is left has a fault
   pub fails_after : (fault : TreeFault) → Fails inst m mid rest fault → Fails inst n r left fault

@@ -34,6 +34,7 @@ use Rattle.qc_replay.specs.declared.fault.TreeKind.TheVariants as kind
 use Rattle.qc_replay.specs.Walk.{Coming, Reading, at, at_node, branched_to, came, closed_by, down, end, from_file, is_apart, is_number, is_settled, node, on_pair, on_task, replayed, start, title, up}
 use Rattle.qc_replay.specs.Read.{IsReached, lines_text, with_line, with_lines}
 use Rattle.qc_replay.specs.Shown.{IsShown}
+use Rattle.qc_num.proofs.BoundLemmas.{lesser_assoc, lesser_never}
 
 -- ---- steps that came through
 
@@ -59,16 +60,6 @@ same_bound (Least a) (Least b) t = ap Least (eqb-true a b t)
 same_bound (Least a) Never t = absurd (false≢true t)
 same_bound Never (Least b) t = absurd (false≢true t)
 same_bound Never Never t = refl
-
-lesser_never : (a : Bound) → lesser a Never ≡ a
-lesser_never (Least a) = refl
-lesser_never Never = refl
-
-lesser_assoc : (a b c : Bound) → lesser (lesser a b) c ≡ lesser a (lesser b c)
-lesser_assoc (Least a) (Least b) (Least c) = ap Least (omega arith)
-lesser_assoc (Least a) (Least b) Never = refl
-lesser_assoc (Least a) Never c = refl
-lesser_assoc Never b c = refl
 
 regroup : (a b c rest : List ℕ) → a ++ (b ++ (c ++ rest)) ≡ a ++ b ++ c ++ rest
 regroup a b c rest = simp append_assoc

@@ -52,45 +52,35 @@ module _ (whole inst : InstanceView) (way : Direction) (heads : Heads) (before :
 
 -- ---- the whole file
 
+-- what holds of a text and of what is left, where that is nothing
+at_bytes : (Q : List ℕ → List ℕ → Type 0) (P : List ℕ → Option (List ℕ) → Type 0) (f rest : Option (List ℕ))
+    → IfSome f (λ x. IsSomeAnd rest (Q x)) → IfSome rest (λ y. y ≡ [])
+    → ((x y : List ℕ) → Q x y → y ≡ [] → P x (Some y)) → IfSome f (λ x. P x rest)
+at_bytes Q P None rest h none k = tt
+at_bytes Q P (Some x) None h none k = absurd h
+at_bytes Q P (Some x) (Some y) h none k = k x y h none
+
 module _ (inst : InstanceView) (file : Option (List ℕ)) (read : Replayed) (through : IsReadThrough inst file read) where
+  abbrev IsLed : List ℕ → List ℕ → Type 0
+  IsLed x y = (x ≡ lines_text through.leads.lines ++ y)
+      × (texts_from inst 1 start (texts x) ≡ texts_from inst through.number through.last (texts y))
+
   pub read_in : IfSome file (λ bytes. tree_in inst bytes ≡ Ok read)
-  read_in = at_bytes file through.rest through.leads.taken through.all
-    where
-      at_bytes : (f rest : Option (List ℕ))
-          → IfSome f (λ x. IsSomeAnd rest (λ y. (x ≡ lines_text through.leads.lines ++ y)
-          × (texts_from inst 1 start (texts x) ≡ texts_from inst through.number through.last (texts y))))
-          → IfSome rest (λ y. y ≡ []) → IfSome f (λ x. tree_in inst x ≡ Ok read)
-      at_bytes None rest h none = tt
-      at_bytes (Some x) None h none = absurd h
-      at_bytes (Some x) (Some y) h none =
-          h.1 ∙ ap (λ z. texts_from inst through.number through.last (texts z)) none
-          ∙ at_end inst through.number through.last through.over ∙ ap Ok (sym through.same)
+  read_in = at_bytes IsLed (λ x _. tree_in inst x ≡ Ok read) file through.rest through.leads.taken through.all
+      (λ x y h none. h.1 ∙ ap (λ z. texts_from inst through.number through.last (texts z)) none
+      ∙ at_end inst through.number through.last through.over ∙ ap Ok (sym through.same))
 
   reached : IsReached inst through.last file through.rest
   reached = record {
     lines = through.leads.lines;
     reading = through.leads.reading;
-    taken = at_bytes file through.rest through.leads.taken;
+    taken = at_bytes IsLed (λ x o. IfSome o (λ y. x ≡ lines_text through.leads.lines ++ y)) file through.rest
+        through.leads.taken through.all (λ x y h none. h.0);
   }
-    where
-      at_bytes : (f rest : Option (List ℕ))
-          → IfSome f (λ x. IsSomeAnd rest (λ y. (x ≡ lines_text through.leads.lines ++ y)
-          × (texts_from inst 1 start (texts x) ≡ texts_from inst through.number through.last (texts y))))
-          → IfSome f (λ x. IfSome rest (λ y. x ≡ lines_text through.leads.lines ++ y))
-      at_bytes None rest h = tt
-      at_bytes (Some x) None h = tt
-      at_bytes (Some x) (Some y) h = h.0
 
   nothing_left : IfSome file (λ _. through.rest ≡ Some [])
-  nothing_left = at_bytes file through.rest through.leads.taken through.all
-    where
-      at_bytes : (f rest : Option (List ℕ))
-          → IfSome f (λ x. IsSomeAnd rest (λ y. (x ≡ lines_text through.leads.lines ++ y)
-          × (texts_from inst 1 start (texts x) ≡ texts_from inst through.number through.last (texts y))))
-          → IfSome rest (λ y. y ≡ []) → IfSome f (λ _. rest ≡ Some [])
-      at_bytes None rest h none = tt
-      at_bytes (Some x) None h none = absurd h
-      at_bytes (Some x) (Some y) h none = ap Some none
+  nothing_left = at_bytes IsLed (λ _ o. o ≡ Some []) file through.rest through.leads.taken through.all
+      (λ x y h none. ap Some none)
 
   pub shows : IsShown inst file read
   shows = subst (IsShown inst file) (sym through.same)

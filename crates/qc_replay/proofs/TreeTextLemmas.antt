@@ -1,12 +1,11 @@
 -- The text of every tree is read, and shows the tree's value.
-use Rattle.std.proofs.Common.{◌≡◌, ℕ, ◌+◌, ◌-◌, ◌*◌, ◌<◌, ◌≤◌, ◌^◌, Bool, true, false, ◌&&◌, ◌==◌, inl, inr, List, [], ◌∷◌, ◌++◌, length, map, get_or, All, Option, None, Some, IfSome, IsSome, refl, ap, sym, subst, ◌∙◌, arith}
-use Rattle.std.specs.Prelude.{Ok, decimal, is_some, nat_le, nat_lt, unwrap_or}
+use Rattle.std.proofs.Common.{◌≡◌, ℕ, ◌+◌, ◌-◌, ◌*◌, ◌<◌, ◌≤◌, ◌^◌, Bool, true, ◌&&◌, ◌==◌, inl, inr, List, [], ◌∷◌, ◌++◌, length, map, get_or, All, Option, None, Some, IfSome, IsSome, refl, ap, sym, subst, ◌∙◌, arith}
+use Rattle.std.specs.Prelude.{Ok, decimal, nat_le, nat_lt, unwrap_or}
 use Rattle.std.specs.List.{flat_map, list_all, range_with_len, slice_split, sum_by}
-use Rattle.std.proofs.lemmas.Bool.{and_from, and_parts, cond_both, eq-eqb, false_from_ne_true, le-leb, leb-true, lt-ltb, ltb-true, or_from}
+use Rattle.std.proofs.lemmas.Bool.{and_from, and_parts, cond_both, eq-eqb, le-leb, leb-true, lt-ltb, ltb-true}
 use Rattle.std.proofs.lemmas.Fmt.{length-decimal-le}
 use Rattle.std.proofs.lemmas.List.{append-nil, append_assoc, length-append, length-map}
 use Rattle.std.proofs.lemmas.List.Elements.{All-head, All-tail, All-nil, All-cons}
-use Rattle.std.proofs.lemmas.List.Folds.{list_any_at}
 use Rattle.std.proofs.lemmas.List.FromFn.{get_or-range_with_len, length-range_with_len}
 use Rattle.std.proofs.lemmas.List.Splits.{length-slice_split}
 use Rattle.std.proofs.lemmas.List.Sums.{sum_by-cons}
@@ -19,10 +18,9 @@ use Rattle.qc_model.specs.declared.decision.Decision.TheVariants as decide
 use Rattle.qc_model.specs.declared.direction.Direction.{Direction}
 use Rattle.qc_model.specs.declared.direction.Direction.TheVariants as way
 use Rattle.qc_model.specs.declared.limits.TheConstants.{MOST_TASKS}
-use Rattle.qc_model.specs.declared.pair.Pair.{Pair}
-use Rattle.qc_model.specs.Instance.{InstanceView, IsApart, Valid, pair_of}
+use Rattle.qc_model.specs.Instance.{InstanceView, IsApart, Valid}
 use Rattle.qc_model.specs.Leaves.{Leaf, Version, are_tasks, chain, crane_numbers, is_ring, leaf_value, reach, ring, with_berths, without_berths, work, work_holds}
-use Rattle.qc_model.specs.Nodes.{Fits, IsSettled, assigned, forced}
+use Rattle.qc_model.specs.Nodes.{Fits, IsSettled, assigned}
 use Rattle.qc_model.specs.OneWay.{mirror}
 use Rattle.qc_model.specs.Seen.{seen}
 use Rattle.qc_model.proofs.MirrorLemmas.{seen_valid}
@@ -32,27 +30,19 @@ use Rattle.qc_tree.specs.declared.line.TheConstants.{MOST_BRANCHINGS}
 use Rattle.qc_tree.specs.declared.line.Line.{Line}
 use Rattle.qc_tree.specs.declared.line.Line.TheVariants as line
 use Rattle.qc_tree.specs.Lines.{AreTasks, IsLine, IsTask, IsValue, bound_field, fields, line_list, line_text}
-use Rattle.qc_tree.specs.Trees.{IsPart, IsTree, Part, Tree, branchings, in_file, leaf, leaf_text, part_text, part_value, title, tree_branchings, tree_text, tree_value, whole_line}
+use Rattle.qc_tree.specs.Trees.{IsPart, IsTree, Part, Tree, branchings, in_file, leaf, part_text, part_value, title, tree_branchings, tree_text, tree_value, whole_line}
 use Rattle.qc_tree.specs.Trees as trees
 use Rattle.qc_tree.proofs.LineInLemmas.{line_in_of, split_line}
 use Rattle.qc_replay.specs.declared.fault.Replayed.{Replayed}
 use Rattle.qc_replay.specs.declared.fault.TreeKind.{TreeKind}
 use Rattle.qc_replay.specs.declared.fault.TreeKind.TheVariants as kind
-use Rattle.qc_replay.specs.Walk.{Coming, Reading, at, at_text, branched_to, came, closed_by, end, down, from_file, is_apart, is_number, is_settled, most_bytes, next_of, node, numbered, start, texts_from, tree_in, up}
+use Rattle.qc_replay.specs.Walk.{Coming, Reading, at, at_text, branched_to, came, closed_by, end, down, from_file, is_number, most_bytes, next_of, node, numbered, start, texts_from, tree_in, up}
 use Rattle.qc_replay.specs.Walk as walk
 use Rattle.qc_replay.proofs.LeafBounds.{leaf_few}
+use Rattle.qc_num.proofs.BoundLemmas.{lesser_assoc, lesser_never}
+use Rattle.qc_replay.proofs.NodeFacts.{apart_listed, unsettled_false}
 
 -- ---- bounds
-
-lesser_again : (x y z : Bound) → lesser (lesser x y) z ≡ lesser x (lesser y z)
-lesser_again Never y z = refl
-lesser_again (Least a) Never z = refl
-lesser_again (Least a) (Least b) Never = refl
-lesser_again (Least a) (Least b) (Least c) = ap Least (omega arith)
-
-lesser_never : (x : Bound) → lesser x Never ≡ x
-lesser_never Never = refl
-lesser_never (Least a) = refl
 
 is_bound_same : (x : Bound) → is_bound x x ≡ true
 is_bound_same Never = refl
@@ -317,20 +307,6 @@ module _ (inst : InstanceView) (v : Replayed) where
     abbrev pair_nodes : List Decision → ℕ → ℕ → List Coming
     pair_nodes ds i j = node d (decide.Order i j ∷ ds) ∷ node d (decide.Order j i ∷ ds) ∷ []
 
-    apart_is : (i j : ℕ) → IsApart (seen inst d) i j → is_apart (seen inst d) i j ≡ true
-    apart_is i j at_ =
-        let test = λ (p : Pair). (p.first == i) && (p.second == j) in
-        let itself = and_from (i == i) (j == j) (eq-eqb i i refl) (eq-eqb j j refl) in
-        list_any_at test (seen inst d).apart at_.0 (pair_of i j) at_.1
-        (subst (λ (p : Pair). test p ≡ true) (sym at_.2) itself)
-
-    settled_is : (ds : List Decision) (i j : ℕ) → (¬ IsSettled (seen inst d) ds i j)
-        → is_settled (seen inst d) ds i j ≡ false
-    settled_is ds i j unsettled =
-        or_from (is_some (forced (seen inst d) ds i j)) (is_some (forced (seen inst d) ds j i))
-        (false_from_ne_true (is_some (forced (seen inst d) ds i j)) (λ e. unsettled (inl e)))
-        (false_from_ne_true (is_some (forced (seen inst d) ds j i)) (λ e. unsettled (inr e)))
-
     pair_at :
         (ds : List Decision) (i j : ℕ) (more : List Coming) (branched : ℕ) (bound : Bound)
         → IsApart (seen inst d) i j → (¬ IsSettled (seen inst d) ds i j) → branched < MOST_BRANCHINGS
@@ -340,7 +316,7 @@ module _ (inst : InstanceView) (v : Replayed) where
         let range = (seen_valid inst valid d).apart.range i j apart in
         let first = number_of i (omega (arith, range.0, range.1)) in
         let second = number_of j range.1 in
-        rw (first, second, back_one i, back_one j, apart_is i j apart, settled_is ds i j unsettled)
+        rw (first, second, back_one i, back_one j, apart_listed (seen inst d) i j apart, unsettled_false (seen inst d) ds i j unsettled)
         (branched_is ds more (pair_nodes ds i j) branched bound few)
 
     -- children, one for each crane
@@ -379,7 +355,7 @@ module _ (inst : InstanceView) (v : Replayed) where
         (so_far more (branched + counts k + sum_by counts ks) (lesser after (least_bound (map shown ks)))) rest
         (ap (λ n. so_far more n (lesser bound (lesser (shown k) (least_bound (map shown ks))))) count
         ∙ ap (λ x. so_far more (branched + counts k + sum_by counts ks) x)
-        (sym (lesser_again bound (shown k) (least_bound (map shown ks)))))
+        (sym (lesser_assoc bound (shown k) (least_bound (map shown ks)))))
         leads)))
 
     -- for each crane, so for the list of them
@@ -472,7 +448,7 @@ module _ (inst : InstanceView) (v : Replayed) where
         (leads_as (so_far more (branched + (1 + (a + b))) (lesser bound (lesser x y)))
         (so_far more (branched + 1 + a + b) (lesser (lesser bound x) y)) rest
         (ap (λ n. so_far more n (lesser bound (lesser x y))) count ∙ ap
-        (λ z. so_far more (branched + 1 + a + b) z) (sym (lesser_again bound x y)))
+        (λ z. so_far more (branched + 1 + a + b) z) (sym (lesser_assoc bound x y)))
         leads))))
 
     -- the value of a part has at most 15 digits

@@ -1,6 +1,6 @@
 -- Which leaves are steps: out of reach, closed, given up; and branchings.
 use Rattle.std.proofs.Common.{◌≡◌, ℕ, ◌+◌, ◌<◌, ◌≤◌, ◌⊎◌, inl, inr, Bool, true, false, not, List, [], ◌∷◌, ◌++◌, Option, None, Some, IsSome, unwrap_or, refl, ap, sym, subst, ◌∙◌, arith}
-use Rattle.std.proofs.lemmas.Bool.{cond-true, false≢true}
+use Rattle.std.proofs.lemmas.Bool.{cond-true}
 use Rattle.std.specs.Prelude.{is_some}
 use Rattle.qc_num.specs.declared.bound.Bound.{Bound}
 use Rattle.qc_num.specs.declared.bound.Bound.TheVariants.{Least, Never}
@@ -8,7 +8,7 @@ use Rattle.qc_num.specs.Bounds.{IsAtMost, lesser}
 use Rattle.qc_bounds.specs.declared.leaves.LeafKind.{LeafKind}
 use Rattle.qc_bounds.specs.declared.leaves.LeafKind.TheVariants as kind
 use Rattle.qc_bounds.specs.Closed.{IsClosedBy, IsSpentBy}
-use Rattle.qc_bounds.proofs.ClosedLemmas.{one_end}
+use Rattle.qc_bounds.proofs.ClosedLemmas.{never_out_of_reach, one_end}
 use Rattle.qc_model.specs.declared.decision.Decision.{Decision}
 use Rattle.qc_model.specs.declared.decision.Decision.TheVariants.{Assign, Order}
 use Rattle.qc_model.specs.declared.direction.Direction.{Direction}
@@ -27,8 +27,9 @@ use Rattle.qc_search.specs.Earned.{IsChainTo, IsClosedAt, IsEarnedBehind, IsGive
 use Rattle.qc_search.specs.Course.{Comes, IsAlong, IsCourse, IsLeafBy, IsPassed, IsTaken, leaf_of, value_by, value_in}
 use Rattle.qc_search.specs.Walk.{Holds, IsOpenBranch, children, shown_by, sign_of, sign_text}
 use Rattle.qc_search.proofs.CourseLemmas.{comes_one}
-use Rattle.qc_search.proofs.EarnedLemmas.{at_most_never, at_most_through, branchings-append, met_passed, value_push}
+use Rattle.qc_search.proofs.EarnedLemmas.{at_most_never, branchings-append, met_passed, value_push}
 use Rattle.qc_search.proofs.StepLemmas.{kept_on, leaf_comes, met_before}
+use Rattle.qc_num.proofs.BoundLemmas.{at_most_through, lesser_never}
 
 -- ---- out of reach
 
@@ -44,10 +45,6 @@ out_of inst ds (Order i j) away = absurd (away tt)
 reached_in : (inst : InstanceView) (ds : List Decision) (d : Decision) → IsInReach inst (d ∷ ds) → IsReached inst d
 reached_in inst ds (Assign j k) h = h.0
 reached_in inst ds (Order i j) h = tt
-
-lesser_never : (a : Bound) → lesser a Never ≡ a
-lesser_never (Least a) = refl
-lesser_never Never = refl
 
 same_along : (inst : InstanceView) (course : Course) → IsAlong inst course course
 same_along inst course = record { nodes = refl; best = λ h. h; room = λ h. h; soon = λ h. h }
@@ -84,11 +81,6 @@ reach_comes inst way ds d more course away =
 
 -- ---- closed, and given up
 
-never_out : (inst : InstanceView) (ds : List Decision) → IsInReach inst ds → is_out_of_reach inst ds ≡ true → ⊥
-never_out inst [] within out = false≢true out
-never_out inst (Assign j k ∷ ds) within out = false≢true (sym (ap not within.0) ∙ out)
-never_out inst (Order i j ∷ ds) within out = false≢true out
-
 -- the leaf holds
 pub leaf_closes : (inst : InstanceView) (ds : List Decision) (u : Bound) (leaf : LeafKind) (tasks : List ℕ)
     → IsClosedBy inst ds u leaf tasks → IsLeafBy inst ds leaf tasks
@@ -118,7 +110,7 @@ chain_to inst ds tasks why = record { tasks = tasks; is = refl; value = why.chai
 closed_as : (inst : InstanceView) (ds : List Decision) (u : Bound) (leaf : LeafKind) (tasks : List ℕ)
     → IsInReach inst ds → IsClosedBy inst ds u leaf tasks → IsClosedAt inst ds u (leaf_of leaf tasks)
 closed_as inst ds u kind.Chain tasks within h = record {
-  out_of_reach = λ out. absurd (never_out inst ds within out);
+  out_of_reach = λ out. absurd (never_out_of_reach inst ds within out);
   no_starts = λ _ none. absurd (none (why_starts inst ds tasks h.0));
   complete = λ _ _ _. (h.0.end, h.0.ends, chain_to inst ds tasks h.0);
   late = λ _ _ more.
@@ -129,13 +121,13 @@ closed_as inst ds u kind.Chain tasks within h = record {
     due (inl all) more = absurd (more all)
     due (inr late) more = late
 closed_as inst ds u kind.Ring tasks within h = record {
-  out_of_reach = λ out. absurd (never_out inst ds within out);
+  out_of_reach = λ out. absurd (never_out_of_reach inst ds within out);
   no_starts = λ _ _. (tasks, refl);
   complete = λ _ starts. absurd (h.none starts);
   late = λ _ starts. absurd (h.none starts);
 }
 closed_as inst ds u (kind.Work end) tasks within h = record {
-  out_of_reach = λ out. absurd (never_out inst ds within out);
+  out_of_reach = λ out. absurd (never_out_of_reach inst ds within out);
   no_starts = λ _ none. absurd (none h.0.starts);
   complete = λ _ _ all. absurd (h.0.undecided all);
   late = λ _ _ _. record { end = end; value = h.0.shows; late = h.1 };

@@ -9,23 +9,12 @@ use Rattle.qc_model.specs.declared.pair.Pair.{Pair}
 use Rattle.qc_model.specs.declared.schedule.Slot.{Slot}
 use Rattle.qc_model.specs.Instance.{InstanceView, IsApart, Valid, pair_of, ticks_of}
 use Rattle.qc_model.specs.Leaves.{task_numbers}
-use Rattle.qc_model.specs.Nodes.{Agrees, AreLeast, Fits, IsComplete, IsInReach, Meets, assigned, crane_ticks, forced, free, greater, head_by, is_before, is_ordered, is_sooner, schedule_with, sooner_ticks}
+use Rattle.qc_model.specs.Nodes.{Agrees, AreLeast, Fits, IsComplete, IsInReach, Meets, assigned, crane_ticks, forced, free, head_by, is_before, is_ordered, is_sooner, schedule_with, sooner_ticks}
 use Rattle.qc_model.specs.OneWay.{GoesUp}
 use Rattle.qc_model.specs.Rules.{IsClear, crane_of, end_of, start_of, starts}
-use Rattle.qc_model.proofs.CompleteNodes.{agrees_with, goes_with, starts_with}
-use Rattle.qc_model.proofs.NodeLemmas.{IsStep, assigned_is, greater_keeps, if_some, meets_of}
+use Rattle.qc_model.proofs.CompleteNodes.{agrees_with, goes_with, greater_first, greater_second, starts_with}
+use Rattle.qc_model.proofs.NodeLemmas.{IsStep, assigned_is, greater_keeps, if_some, meets_of, ordered_is}
 use Rattle.qc_search.specs.Run.{decided_by, order_in}
-
--- what the greater of two steps keeps, both keep
-greater_first : (s t : ℕ) (a b : Option ℕ) → IsStep s t (greater a b) → IsStep s t a
-greater_first s t None b h = tt
-greater_first s t (Some m) None h = h
-greater_first s t (Some m) (Some n) h = omega arith
-
-greater_second : (s t : ℕ) (a b : Option ℕ) → IsStep s t (greater a b) → IsStep s t b
-greater_second s t None b h = h
-greater_second s t (Some m) None h = tt
-greater_second s t (Some m) (Some n) h = omega arith
 
 some_is : (o : Option ℕ) (k : ℕ) → IsSome o → IfSome o (λ v. k ≡ v) → o ≡ Some k
 some_is None k some is = absurd (false≢true some)
@@ -46,17 +35,6 @@ module _ (inst : InstanceView) (sched : List Slot) where
 
   abbrev orders : List Pair → List Decision
   orders pairs = map (order_in inst sched) pairs
-
-  ordered_kept : (ds : List Decision) → Agrees inst ds sched → (i j : ℕ) → is_ordered ds i j ≡ true
-      → end_of inst sched i ≤ start_of sched j
-  ordered_kept [] a i j t = absurd (false≢true t)
-  ordered_kept (Assign g k ∷ ds) a i j t = ordered_kept ds a.1 i j t
-  ordered_kept (Order g k ∷ ds) a i j t = elim (or_cases (eqb g i && eqb k j) (is_ordered ds i j) t) [
-    | inl e ↦
-        let p = and_parts (eqb g i) (eqb k j) e in
-        subst₂ (λ (x y : ℕ). end_of inst sched x ≤ start_of sched y) (eqb-true g i p.0) (eqb-true k j p.1) a.0
-    | inr e ↦ ordered_kept ds a.1 i j e
-  ]
 
   -- ---- the schedule agrees with what it decides
 
@@ -191,7 +169,7 @@ module _ (inst : InstanceView) (ds : List Decision) (begins : List ℕ) (v : Val
       by_case (inl e) = or_left (is_before inst i j) (is_ordered decided i j) e
       by_case (inr e) =
           or_right (is_before inst i j) (is_ordered decided i j)
-          (decided_order inst sched v i j (ordered_apart ds fits i j e) (ordered_kept inst sched ds agrees i j e))
+          (decided_order inst sched v i j (ordered_apart ds fits i j e) (ordered_is inst sched ds agrees i j e))
 
   -- starts that keep what the schedule decides keep the node
   pub node_met : (others : List ℕ) → Meets inst decided others → Meets inst ds others

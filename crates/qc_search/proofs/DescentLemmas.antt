@@ -25,11 +25,6 @@ module _ (inst : InstanceView) where
   next_due ds d None none is_open = ap (λ more. more ++ behind inst ds) (none ds is_open)
   next_due ds d (Some next) some is_open = ap (λ more. more ++ behind inst ds) (some ds is_open).1
 
-  -- the next child may be gone to where this one could
-  pub next_is_child : (ds : List Decision) (d next : Decision) → IsNextChild inst d (Some next) → IsChild inst ds d
-      → IsChild inst ds next
-  next_is_child ds d next is child = ((is ds child.0).0, child.1)
-
   -- the children of a branching, and the first of them
   pub branch_due : Valid inst → (ds : List Decision) (branch : Branch) → IsOpenBranch inst ds branch
       → children inst ds (sign_of branch) ++ behind inst ds ≡ from_child inst ds (Some (first_of branch))

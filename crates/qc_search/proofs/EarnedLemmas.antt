@@ -10,6 +10,7 @@ use Rattle.qc_num.specs.Bounds.{IsAtMost, lesser}
 use Rattle.qc_model.specs.Instance.{InstanceView}
 use Rattle.qc_search.specs.Earned.{IsEarnedBehind, IsMetEnd, IsSolvedBy, TreeNode, branchings_in}
 use Rattle.qc_search.specs.Course.{AreEarned, node_value, value_in}
+use Rattle.qc_num.proofs.BoundLemmas.{at_most_through, lesser_assoc, lesser_never, same_least}
 
 -- ---- lists
 
@@ -26,9 +27,6 @@ no_cons (y ∷ b) x a e = cc e
 -- an element with a fact
 pub any_of : {A : Type 0} (P : A → Type 0) (xs : List A) (x : A) → Contains xs x → P x → Any P xs
 any_of P xs x c p = (c.0, x, c.1, c.2, p)
-
-pub of_any : {A : Type 0} (P : A → Type 0) (xs : List A) → Any P xs → (x : A) × Contains xs x × P x
-of_any P xs a = (a.1, (a.0, a.2, a.3), a.4)
 
 pub any_before : {A : Type 0} (P : A → Type 0) (xs ys : List A) → Any P xs → Any P (xs ++ ys)
 any_before P xs ys a =
@@ -70,14 +68,6 @@ module _ (home : InstanceView) (most : ℕ) where
 
 -- ---- the least end that was met
 
-pub at_most_through : (a b c : Bound) → IsAtMost a b → IsAtMost b c → IsAtMost a c
-at_most_through (Least a) (Least b) (Least c) h k = omega arith
-at_most_through (Least a) (Least b) Never h k = tt
-at_most_through (Least a) Never (Least c) h k = absurd k
-at_most_through (Least a) Never Never h k = tt
-at_most_through Never (Least b) c h k = absurd h
-at_most_through Never Never c h k = k
-
 pub at_most_same : (a : Bound) → IsAtMost a a
 at_most_same (Least a) = omega arith
 at_most_same Never = tt
@@ -93,13 +83,6 @@ at_most_lesser (Least a) (Least b) Never h k = h
 at_most_lesser (Least a) Never c h k = k
 at_most_lesser Never (Least b) c h k = absurd h
 at_most_lesser Never Never c h k = k
-
-same_least : (a b : ℕ) → ◌≡◌ {A = Bound} (Least a) (Least b) → a ≡ b
-same_least a b e = ap number e
-  where
-    number : Bound → ℕ
-    number (Least n) = n
-    number Never = 0
 
 module _ (home : InstanceView) (before : List TreeNode) (u : Bound) (met : IsMetEnd home before u)
     (node : TreeNode) where
@@ -133,16 +116,6 @@ pub none_met : (home : InstanceView) → IsMetEnd home [] Never
 none_met home = record { reached = λ end e. absurd (cc e); least = λ end k d low. absurd (omega arith) }
 
 -- ---- what nodes come to
-
-lesser_assoc : (a b c : Bound) → lesser (lesser a b) c ≡ lesser a (lesser b c)
-lesser_assoc (Least a) (Least b) (Least c) = ap Least (omega arith)
-lesser_assoc (Least a) (Least b) Never = refl
-lesser_assoc (Least a) Never c = refl
-lesser_assoc Never b c = refl
-
-lesser_never : (a : Bound) → lesser a Never ≡ a
-lesser_never (Least a) = refl
-lesser_never Never = refl
 
 pub value-append : (home : InstanceView) (one two : List TreeNode)
     → value_in home (one ++ two) ≡ lesser (value_in home one) (value_in home two)

@@ -23,27 +23,14 @@ use Rattle.qc_tree.specs.Trees.{leaf_text}
 use Rattle.qc_search.specs.declared.branch.Branch.{Branch}
 use Rattle.qc_search.specs.declared.course.Course.{Course}
 use Rattle.qc_search.specs.Earned.{TreeNode}
-use Rattle.qc_search.specs.Course.{Comes, IsAlong, IsCourse, IsKeptBest, IsPassed, IsSoon, IsTaken, Stopped, Went, leaf_of, value_by}
+use Rattle.qc_search.specs.Course.{Comes, IsAlong, IsCourse, IsPassed, IsSoon, IsTaken, Stopped, Went, leaf_of, value_by}
 use Rattle.qc_dist.specs.Children.{behind}
 use Rattle.qc_search.specs.Walk.{IsOpenBranch, WereMade, first_of, from_child, from_node, sign_of, sign_text}
 use Rattle.qc_search.proofs.ClosingSteps.{branch_comes, closed_comes, spent_comes}
 use Rattle.qc_search.proofs.DescentLemmas.{branch_due}
+use Rattle.qc_search.proofs.StepLemmas.{kept_as}
 
 -- ---- a course with another path
-
-kept_by_path : (home : InstanceView) (course : Course) (path : SmallVec ℕ) (nodes : List TreeNode) (end : ℕ)
-    → IsKeptBest home course nodes end → IsKeptBest home (record course { path = path }) nodes end
-kept_by_path home course path nodes end k = record {
-  node = k.node;
-  stands = k.stands;
-  begins = k.begins;
-  fits = k.fits;
-  solved = k.solved;
-  ends = k.ends;
-  soon = k.soon;
-  way = k.way;
-  is = k.is;
-}
 
 course_by_path : (home : InstanceView) (course : Course) (path : SmallVec ℕ) (nodes : List TreeNode)
     → IsCourse home course nodes → IsCourse home (record course { path = path }) nodes
@@ -52,7 +39,7 @@ course_by_path home course path nodes c = record {
   branched = c.branched;
   bound = c.bound;
   met = c.met;
-  best = λ end e. kept_by_path home course path nodes end (c.best end e);
+  best = λ end e. kept_as home course _ nodes nodes end refl refl (λ n stands. stands) (c.best end e);
   late = c.late;
 }
 
@@ -165,9 +152,6 @@ module _ (inst : InstanceView) (way : Direction) (ds : List Decision) (leaf : Le
       (sym tasks)
       (closed_comes inst way ds (behind inst ds) leaf old new mid meets same.path within closable by along new_is
       same.bound same.branched same.nodes)
-
-  pub closed_branched : IsPassed inst ds old mid ⊎ IsTaken inst way ds old mid → new.branched ≡ old.branched
-  closed_branched meets = ap (λ (c : Course). c.branched) is ∙ (same_but inst way ds old mid meets).branched
 
 pub spent_put : (inst : InstanceView) (way : Direction) (ds : List Decision) (leaf : LeafKind) (old new : Course)
     → new ≡ record old { bound = lesser old.bound (value_by inst ds (Some (leaf_of leaf old.path.items))); path = new.path }

@@ -24,10 +24,12 @@ use Rattle.qc_tree.specs.Trees.{IsTree, Part, Tree, branchings, leaf, on_pair, o
 use Rattle.qc_search.specs.declared.course.Course.{Course}
 use Rattle.qc_search.specs.declared.done.Kind.TheVariants.{Budget, Optimal}
 use Rattle.qc_search.specs.Earned.{IsEarned, IsMetEnd, TreeNode, branchings_in, node_at, part_nodes, tree_nodes}
-use Rattle.qc_search.specs.Course.{AreEarned, Comes, IsCourse, IsKeptBest, shown_best, value_in, visit_nodes}
+use Rattle.qc_search.specs.Course.{AreEarned, Comes, IsCourse, shown_best, value_in, visit_nodes}
 use Rattle.qc_search.specs.Run.{IsMetBest, IsRun, outcome}
 use Rattle.qc_search.proofs.EarnedLemmas.{all_earned, branchings-append, earned_then, value-append}
+use Rattle.qc_search.proofs.ShownLemmas.{best_shown}
 use Rattle.qc_search.proofs.VisitLemmas.{IsWhole, whole}
+use Rattle.qc_num.proofs.BoundLemmas.{lesser_never}
 
 -- ---- what a part's nodes come to
 
@@ -55,10 +57,6 @@ nodes_counted cranes way ds (on_pair i j first second) =
     ap (λ n. 1 + n) (ap₂ (λ (x y : ℕ). x + y) (nodes_counted cranes way (decide.Order i j ∷ ds) first)
     (nodes_counted cranes way (decide.Order j i ∷ ds) second) ∙ sym (branchings-append a b))
     ∙ sym (one_more way ds (a ++ b))
-
-lesser_never : (a : Bound) → lesser a Never ≡ a
-lesser_never (Least a) = refl
-lesser_never Never = refl
 
 module _ (home : InstanceView) (way : Direction) where
   abbrev cranes : List ℕ
@@ -186,30 +184,16 @@ module _ (home : InstanceView) (begun turned done : Course) (one two : List ℕ)
       (ap₂ (λ (n : ℕ) (b : Bound). whole_line (line.End n b) []) branched_is bound_is)
 
   -- the best schedule as it is answered, and its end
-  kept_best : (sched : List Slot) (end : ℕ) → done.met ≡ Least end → (k : IsKeptBest home done (tree_nodes home searched) end)
-      → sched ≡ seen_schedule home done.best k.node.way → IsMetBest home searched sched
-  kept_best sched end met_is k is = record {
+  pub best_is : MatchOption (shown_best (length home.cranes) done.met done.way done.best) (done.met ≡ Never)
+      (IsMetBest home searched)
+  best_is = best_shown home done _ course_done (IsMetBest home searched) (λ end met_is k. record {
     node = k.node;
     stands = k.stands;
     begins = k.begins;
     solved = k.solved;
     earliest = subst (IsMetEnd home (tree_nodes home searched)) (met_is ∙ ap Least k.ends) course_done.met;
-    is = is ∙ ap (λ (s : List Slot). seen_schedule home s k.node.way) k.is;
-  }
-
-  best_by : (met : Bound) (way : Direction) → done.met ≡ met → done.way ≡ way
-      → MatchOption (shown_best (length home.cranes) met way done.best) (done.met ≡ Never) (IsMetBest home searched)
-  best_by Never way met_is way_is = met_is
-  best_by (Least end) Up met_is way_is =
-      let k = course_done.best end met_is in
-      kept_best done.best end met_is k (ap (seen_schedule home done.best) (sym (k.way ∙ way_is)))
-  best_by (Least end) Down met_is way_is =
-      let k = course_done.best end met_is in
-      kept_best (seen_schedule home done.best Down) end met_is k (ap (seen_schedule home done.best) (sym (k.way ∙ way_is)))
-
-  pub best_is : MatchOption (shown_best (length home.cranes) done.met done.way done.best) (done.met ≡ Never)
-      (IsMetBest home searched)
-  best_is = best_by done.met done.way refl refl
+    is = ap (λ (s : List Slot). seen_schedule home s k.node.way) k.is;
+  })
 
   -- under Budget all branchings are spent
   pub spent_is : outcome done.bound done.met ≡ Budget → done.branched ≡ begun.nodes

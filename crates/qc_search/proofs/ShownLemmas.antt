@@ -1,7 +1,7 @@
 -- The best schedule as it is answered: it can be judged, and is tight.
-use Rattle.std.proofs.Common.{◌≡◌, ℕ, ◌-◌, ◌<◌, ◌≤◌, All, List, length, get_or, map, refl, ap, sym, subst, ◌∙◌, ext_get_or, arith}
+use Rattle.std.proofs.Common.{◌≡◌, ℕ, ◌-◌, ◌<◌, ◌≤◌, All, List, length, get_or, map, Option, None, Some, refl, ap, sym, subst, ◌∙◌, ext_get_or, arith}
 use Rattle.std.proofs.lemmas.List.{get_or-map, get_or_default, length-map}
-use Rattle.std.specs.Prelude.{IfSome}
+use Rattle.std.specs.Prelude.{IfSome, MatchOption}
 use Rattle.qc_num.specs.declared.bound.Bound.{Bound}
 use Rattle.qc_num.specs.declared.bound.Bound.TheVariants.{Least, Never}
 use Rattle.qc_model.specs.declared.direction.Direction.{Direction}
@@ -46,6 +46,29 @@ turned_back cranes sched low =
         let same : cranes - 1 - (cranes - 1 - s.crane) ≡ s.crane = omega (arith, h) in
         ap (λ (k : ℕ). record s { crane = k }) same
 
+turned_as_met : (home : InstanceView) (way : Direction) (sched : List Slot)
+    → ((j : ℕ) → j < length sched → crane_of sched j < length home.cranes)
+    → seen_schedule home (seen_schedule home sched way) way ≡ sched
+turned_as_met home Up sched low = refl
+turned_as_met home Down sched low = turned_back (length home.cranes) sched low
+
+seen_low : (home : InstanceView) (way : Direction) (sched : List Slot) (j : ℕ) → j < length sched
+    → crane_of sched j < length home.cranes → crane_of (seen_schedule home sched way) j < length home.cranes
+seen_low home Up sched j at low = low
+seen_low home Down sched j at low = omega (arith, seen-crane_of home sched Down j at, low)
+
+seen_count : (home : InstanceView) (way : Direction) (sched : List Slot)
+    → length (seen_schedule home sched way) ≡ length sched
+seen_count home Up sched = refl
+seen_count home Down sched = length-map sched (flipped (length home.cranes))
+
+goes_as : (home : InstanceView) (way : Direction) (sched met : List Slot) → seen_schedule home sched way ≡ met
+    → ((j : ℕ) → j < length home.tasks → crane_of sched j < length home.cranes) → GoesUp (seen home way) met
+    → Goes home sched way
+goes_as home Up sched met same low goes = subst (GoesUp home) (sym same) goes
+goes_as home Down sched met same low goes =
+    record { crane_range = low; mirrored = subst (GoesUp (mirror home)) (sym same) goes }
+
 module _ (home : InstanceView) (v : Valid home) (done : Course) (nodes : List TreeNode) (end : ℕ)
     (k : IsKeptBest home done nodes end) where
   abbrev inst : InstanceView
@@ -88,86 +111,64 @@ module _ (home : InstanceView) (v : Valid home) (done : Course) (nodes : List Tr
       let here = kept_low j (omega (arith, kept_count, low)) in
       subst (λ (s : Slot). s.crane < length home.cranes) (get_or_default kept j no_slot d low) here)
 
-turned_as_met : (home : InstanceView) (way : Direction) (sched : List Slot)
-    → ((j : ℕ) → j < length sched → crane_of sched j < length home.cranes)
-    → seen_schedule home (seen_schedule home sched way) way ≡ sched
-turned_as_met home Up sched low = refl
-turned_as_met home Down sched low = turned_back (length home.cranes) sched low
-
-seen_low : (home : InstanceView) (way : Direction) (sched : List Slot) (j : ℕ) → j < length sched
-    → crane_of sched j < length home.cranes → crane_of (seen_schedule home sched way) j < length home.cranes
-seen_low home Up sched j at low = low
-seen_low home Down sched j at low = omega (arith, seen-crane_of home sched Down j at, low)
-
-seen_count : (home : InstanceView) (way : Direction) (sched : List Slot)
-    → length (seen_schedule home sched way) ≡ length sched
-seen_count home Up sched = refl
-seen_count home Down sched = length-map sched (flipped (length home.cranes))
-
-goes_as : (home : InstanceView) (way : Direction) (sched met : List Slot) → seen_schedule home sched way ≡ met
-    → ((j : ℕ) → j < length home.tasks → crane_of sched j < length home.cranes) → GoesUp (seen home way) met
-    → Goes home sched way
-goes_as home Up sched met same low goes = subst (GoesUp home) (sym same) goes
-goes_as home Down sched met same low goes =
-    record { crane_range = low; mirrored = subst (GoesUp (mirror home)) (sym same) goes }
-
-module _ (home : InstanceView) (v : Valid home) (done : Course) (nodes : List TreeNode) (end : ℕ)
-    (k : IsKeptBest home done nodes end) where
-  abbrev side : Direction
-  side = k.node.way
-
+  -- it as it is answered
   abbrev shown : List Slot
-  shown = seen_schedule home (schedule_with (seen home side) k.node.decisions k.begins) side
+  shown = seen_schedule home kept k.node.way
 
   shown_low : (j : ℕ) → j < length home.tasks → crane_of shown j < length home.cranes
-  shown_low j low =
-      seen_low home side (schedule_with (seen home side) k.node.decisions k.begins) j
-      (omega (arith, kept_count home v done nodes end k, low)) (kept_low home v done nodes end k j low)
+  shown_low j low = seen_low home k.node.way kept j (omega (arith, kept_count, low)) (kept_low j low)
 
-  shown_judgeable : IsJudgeable home shown
+  pub shown_judgeable : IsJudgeable home shown
   shown_judgeable = record {
-    all_tasks = seen_count home side (schedule_with (seen home side) k.node.decisions k.begins)
-        ∙ kept_count home v done nodes end k;
+    all_tasks = seen_count home k.node.way kept ∙ kept_count;
     crane_range = shown_low;
     start_range = λ j low.
-        let is = seen-start_of home (schedule_with (seen home side) k.node.decisions k.begins) side j
-        (omega (arith, kept_count home v done nodes end k, low)) in
-        omega (arith, is, kept_soon home v done nodes end k j low);
+        let is = seen-start_of home kept k.node.way j (omega (arith, kept_count, low)) in
+        omega (arith, is, kept_soon j low);
   }
 
-  shown_tight : IsTight home shown
+  pub shown_tight : IsTight home shown
   shown_tight =
-      let met = schedule_with (seen home side) k.node.decisions k.begins in
-      let same = turned_as_met home side met (λ j low.
-      kept_low home v done nodes end k j (omega (arith, kept_count home v done nodes end k, low))) in
+      let same = turned_as_met home k.node.way kept (λ j low. kept_low j (omega (arith, kept_count, low))) in
       record {
-        way = side;
-        goes = goes_as home side shown met same shown_low (kept_goes home v done nodes end k);
-        least = subst (λ (s : List Slot). AreLeast (seen home side) (decided_by (seen home side) s) (starts s)) (sym same)
-            (kept_least home v done nodes end k);
+        way = k.node.way;
+        goes = goes_as home k.node.way shown kept same shown_low kept_goes;
+        least = subst (λ (s : List Slot). AreLeast inst (decided_by inst s) (starts s)) (sym same) kept_least;
       }
+
+-- what is answered is nothing where no end was met, and else the schedule that is kept, as it is seen
+module _ (home : InstanceView) (done : Course) (nodes : List TreeNode) (course : IsCourse home done nodes)
+    (P : List Slot → Type 0)
+    (shown_is : (end : ℕ) → done.met ≡ Least end → (k : IsKeptBest home done nodes end)
+    → P (seen_schedule home done.best k.node.way)) where
+  by_met : (met : Bound) (way : Direction) → done.met ≡ met → done.way ≡ way
+      → MatchOption (shown_best (length home.cranes) met way done.best) (done.met ≡ Never) P
+  by_met Never way met_is way_is = met_is
+  by_met (Least end) Up met_is way_is =
+      let k = course.best end met_is in
+      subst P (ap (seen_schedule home done.best) (k.way ∙ way_is)) (shown_is end met_is k)
+  by_met (Least end) Down met_is way_is =
+      let k = course.best end met_is in
+      subst P (ap (seen_schedule home done.best) (k.way ∙ way_is)) (shown_is end met_is k)
+
+  pub best_shown : MatchOption (shown_best (length home.cranes) done.met done.way done.best) (done.met ≡ Never) P
+  best_shown = by_met done.met done.way refl refl
+
+some_shown : (N : Type 0) (P : List Slot → Type 0) (o : Option (List Slot)) → MatchOption o N P → IfSome o P
+some_shown N P None h = tt
+some_shown N P (Some s) h = h
 
 module _ (home : InstanceView) (v : Valid home) (done : Course) (nodes : List TreeNode)
     (course : IsCourse home done nodes) where
   pub cranes_low : (end : ℕ) → done.met ≡ Least end → All (λ (s : Slot). s.crane < length home.cranes) done.best
   cranes_low end e = kept_cranes home v done nodes end (course.best end e)
 
-  module _ (P : List Slot → Type 0)
-      (shown_is : (end : ℕ) (k : IsKeptBest home done nodes end)
-      → P (seen_schedule home (schedule_with (seen home k.node.way) k.node.decisions k.begins) k.node.way)) where
-    by_met : (met : Bound) (way : Direction) → done.met ≡ met → done.way ≡ way
-        → IfSome (shown_best (length home.cranes) met way done.best) P
-    by_met Never way met_is way_is = tt
-    by_met (Least end) Up met_is way_is =
-        let k = course.best end met_is in
-        subst P (ap (seen_schedule home _) (k.way ∙ way_is) ∙ sym k.is) (shown_is end k)
-    by_met (Least end) Down met_is way_is =
-        let k = course.best end met_is in
-        subst P (ap (seen_schedule home _) (k.way ∙ way_is) ∙ ap (λ (s : List Slot). seen_schedule home s Down) (sym k.is))
-        (shown_is end k)
-
   pub judgeable_is : IfSome (shown_best (length home.cranes) done.met done.way done.best) (IsJudgeable home)
-  judgeable_is = by_met (IsJudgeable home) (shown_judgeable home v done nodes) done.met done.way refl refl
+  judgeable_is = some_shown _ (IsJudgeable home) _ (best_shown home done nodes course (IsJudgeable home) (λ end e k.
+      subst (λ (s : List Slot). IsJudgeable home (seen_schedule home s k.node.way)) (sym k.is)
+      (shown_judgeable home v done nodes end k)))
 
   pub tight_is : IfSome (shown_best (length home.cranes) done.met done.way done.best) (IsTight home)
-  tight_is = by_met (IsTight home) (shown_tight home v done nodes) done.met done.way refl refl
+  tight_is = some_shown _ (IsTight home) _ (best_shown home done nodes course (IsTight home) (λ end e k.
+      subst (λ (s : List Slot). IsTight home (seen_schedule home s k.node.way)) (sym k.is)
+      (shown_tight home v done nodes end k)))

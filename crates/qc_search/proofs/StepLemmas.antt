@@ -1,8 +1,8 @@
 -- The steps of a search: leaves and branchings.
-use Rattle.std.proofs.Common.{◌≡◌, ℕ, ◌<◌, ◌⊎◌, inl, inr, List, [], ◌∷◌, ◌++◌, Option, Some, IsSome, refl, ap, ap₂, sym, subst, ◌∙◌, arith}
+use Rattle.std.proofs.Common.{Contains, ◌≡◌, ℕ, ◌<◌, ◌⊎◌, inl, inr, List, [], ◌∷◌, ◌++◌, Option, Some, IsSome, refl, ap, ap₂, sym, subst, ◌∙◌, arith}
 use Rattle.std.proofs.lemmas.List.Elements.{Contains-append_left, Contains-push}
 use Rattle.qc_num.specs.declared.bound.Bound.{Bound}
-use Rattle.qc_num.specs.declared.bound.Bound.TheVariants.{Least, Never}
+use Rattle.qc_num.specs.declared.bound.Bound.TheVariants.{Least}
 use Rattle.qc_num.specs.Bounds.{IsAtMost, lesser}
 use Rattle.qc_bounds.proofs.ClosedLemmas.{one_end}
 use Rattle.qc_model.specs.declared.decision.Decision.{Decision}
@@ -19,7 +19,8 @@ use Rattle.qc_search.specs.Earned.{IsClosedAt, IsEarnedBehind, IsGivenUp, IsMetE
 use Rattle.qc_search.specs.Course.{Comes, IsAlong, IsCourse, IsKeptBest, IsPassed, IsTaken, value_by}
 use Rattle.qc_search.specs.Walk.{ends}
 use Rattle.qc_search.proofs.CourseLemmas.{comes_one}
-use Rattle.qc_search.proofs.EarnedLemmas.{at_most_lesser, at_most_same, at_most_through, branchings-append, met_passed, met_taken, value_push}
+use Rattle.qc_search.proofs.EarnedLemmas.{at_most_lesser, at_most_same, branchings-append, met_passed, met_taken, value_push}
+use Rattle.qc_num.proofs.BoundLemmas.{at_most_through, same_least}
 
 -- ---- a leaf
 
@@ -39,13 +40,13 @@ pub record IsLeafStep
   pub best : new.best ≡ mid.best
   pub late : old.branched < old.nodes → IsAtMost new.met (value_by inst ds (Some shows))
 
--- a schedule that was kept is kept on
-pub kept_on : (home : InstanceView) (old new : Course) (before : List TreeNode) (node : TreeNode) (end : ℕ)
-    → new.way ≡ old.way → new.best ≡ old.best
-    → IsKeptBest home old before end → IsKeptBest home new (before ++ node ∷ []) end
-kept_on home old new before node end way best k = record {
+-- a schedule that was kept is kept by a course with the same way and schedule, among more nodes
+pub kept_as : (home : InstanceView) (old new : Course) (nodes more : List TreeNode) (end : ℕ)
+    → new.way ≡ old.way → new.best ≡ old.best → ((n : TreeNode) → Contains nodes n → Contains more n)
+    → IsKeptBest home old nodes end → IsKeptBest home new more end
+kept_as home old new nodes more end way best on k = record {
   node = k.node;
-  stands = Contains-append_left before (node ∷ []) k.node k.stands;
+  stands = on k.node k.stands;
   begins = k.begins;
   fits = k.fits;
   solved = k.solved;
@@ -55,12 +56,11 @@ kept_on home old new before node end way best k = record {
   is = best ∙ k.is;
 }
 
-same_least : (a b : ℕ) → ◌≡◌ {A = Bound} (Least a) (Least b) → a ≡ b
-same_least a b e = ap number e
-  where
-    number : Bound → ℕ
-    number (Least n) = n
-    number Never = 0
+pub kept_on : (home : InstanceView) (old new : Course) (before : List TreeNode) (node : TreeNode) (end : ℕ)
+    → new.way ≡ old.way → new.best ≡ old.best
+    → IsKeptBest home old before end → IsKeptBest home new (before ++ node ∷ []) end
+kept_on home old new before node end way best =
+    kept_as home old new before (before ++ node ∷ []) end way best (Contains-append_left before (node ∷ []))
 
 -- a later meeting is no later end
 pub met_before : (inst : InstanceView) (way : Direction) (ds : List Decision) (old mid : Course)
@@ -121,17 +121,7 @@ module _ (home : InstanceView) (way : Direction) (ds : List Decision) (shown : O
       → ((end : ℕ) → mid.met ≡ Least end → IsKeptBest home mid (before ++ here ∷ []) end)
       → (end : ℕ) → new.met ≡ Least end → IsKeptBest home new (before ++ here ∷ []) end
   kept_new mid new met way_is best kept end e =
-      let k = kept end (sym met ∙ e) in record {
-        node = k.node;
-        stands = k.stands;
-        begins = k.begins;
-        fits = k.fits;
-        solved = k.solved;
-        ends = k.ends;
-        soon = k.soon;
-        way = k.way ∙ sym way_is;
-        is = best ∙ k.is;
-      }
+      kept_as home mid new (before ++ here ∷ []) (before ++ here ∷ []) end way_is best (λ n c. c) (kept end (sym met ∙ e))
 
   leaf_earned : (shows : Leaf) → shown ≡ Some shows → (old new : Course)
       → IsCourse home old before → IsLeafStep (seen home way) way ds shows old new

@@ -30,19 +30,13 @@ use Rattle.qc_search.proofs.VisitLemmas.{all_given_up, given_up, leads_then, who
 
 module _ (t u a d b e : List ℕ) where
   pub grouped : t ++ (u ++ a) ++ (d ++ b) ++ e ≡ t ++ u ++ a ++ d ++ b ++ e
-  grouped =
-      ap (λ (x : List ℕ). x ++ (d ++ b) ++ e) (sym (append_assoc t u a))
-      ∙ ap (λ (x : List ℕ). x ++ e) (sym (append_assoc (t ++ u ++ a) d b))
+  grouped = simp append_assoc
 
   pub first_two : t ++ (u ++ a) ++ (d ++ (b ++ e)) ≡ t ++ u ++ a ++ d ++ b ++ e
-  first_two =
-      ap (λ (x : List ℕ). x ++ (d ++ (b ++ e))) (sym (append_assoc t u a))
-      ∙ sym (append_assoc (t ++ u ++ a) d (b ++ e)) ∙ sym (append_assoc (t ++ u ++ a ++ d) b e)
+  first_two = simp append_assoc
 
   pub first_one : t ++ (u ++ (a ++ (d ++ (b ++ e)))) ≡ t ++ u ++ a ++ d ++ b ++ e
-  first_one =
-      sym (append_assoc t u (a ++ (d ++ (b ++ e)))) ∙ sym (append_assoc (t ++ u) a (d ++ (b ++ e)))
-      ∙ sym (append_assoc (t ++ u ++ a) d (b ++ e)) ∙ sym (append_assoc (t ++ u ++ a ++ d) b e)
+  first_one = simp append_assoc
 
 -- ---- one part
 

@@ -7,6 +7,7 @@ use Rattle.qc_num.specs.declared.bound.Bound.TheVariants.{Least, Never}
 use Rattle.qc_model.specs.declared.decision.Decision.{Decision}
 use Rattle.qc_model.specs.declared.decision.Decision.TheVariants.{Assign, Order}
 use Rattle.qc_model.specs.declared.direction.Direction.{Direction}
+use Rattle.qc_model.specs.declared.limits.TheConstants.{MOST_START}
 use Rattle.qc_model.specs.declared.pair.Pair.{Pair}
 use Rattle.qc_model.specs.declared.schedule.Slot.{Slot}
 use Rattle.qc_model.specs.Instance.{InstanceView}
@@ -95,6 +96,8 @@ pub record IsSound (search : SearchView) (done : DoneView) : Type 0 where
   -- the best schedule can be judged, and no task of it could start earlier
   pub judgeable : IfSome done.best (IsJudgeable search.inst)
   pub tight : IfSome done.best (IsTight search.inst)
+  -- its tasks end at ticks of at most 12 digits
+  pub soon : IfSome done.best (λ sched. ends search.inst sched ≤ MOST_START)
   -- the outcome is that of the bound and of the best schedule's end
   pub kind : done.kind ≡ outcome done.bound (best_end search.inst done.best)
   -- under Budget exactly as many branchings are written as may be

@@ -47,38 +47,23 @@ impl Rating {
     }
 }
 
-/// Whether a task comes before another in bow order: by bay, and at one bay by number.
-fn is_ahead(inst: &Instance, one: u16, two: u16) -> bool
-    requires first { one < length inst.now.tasks }
-    requires second { two < length inst.now.tasks }
+/// Whether a task comes before another in bow order: by bay, and at one bay by number. So it is where
+/// one of them is none.
+fn is_ahead(inst: &Instance, one: Option<u16>, two: Option<u16>) -> bool
+    requires first { IfSome one (λ task. task < length inst.now.tasks) }
+    requires second { IfSome two (λ task. task < length inst.now.tasks) }
+    ensures none_before { one ≡ None → IsTrue result }
+    ensures none_behind { two ≡ None → IsTrue result }
 {
+    let Some(one) = one else {
+        return true;
+    };
+    let Some(two) = two else {
+        return true;
+    };
     let tasks = inst.tasks();
     let (here, there) = (tasks[one as usize].bay, tasks[two as usize].bay);
     here < there || here == there && one < two
-}
-
-/// Whether a task comes behind another, if there is another.
-fn is_behind(inst: &Instance, last: Option<u16>, task: u16) -> bool
-    requires last { IfSome last (λ other. other < length inst.now.tasks) }
-    requires task { task < length inst.now.tasks }
-    ensures { last ≡ None → IsTrue result }
-{
-    match last {
-        None => true,
-        Some(other) => is_ahead(inst, other, task),
-    }
-}
-
-/// Whether a task comes before another, if there is another.
-fn is_first(inst: &Instance, task: u16, found: Option<u16>) -> bool
-    requires task { task < length inst.now.tasks }
-    requires found { IfSome found (λ other. other < length inst.now.tasks) }
-    ensures { found ≡ None → IsTrue result }
-{
-    match found {
-        None => true,
-        Some(other) => is_ahead(inst, task, other),
-    }
 }
 
 /// The first unassigned task in bow order behind a task, or of all.
@@ -91,8 +76,8 @@ fn next_open(inst: &Instance, starts: &Starts, last: Option<u16>) -> Option<u16>
     let mut next = None;
     for task in 0..inst.tasks().len() as u16 {
         if starts.crane_of(task).is_none()
-            && is_behind(inst, last, task)
-            && is_first(inst, task, next)
+            && is_ahead(inst, last, Some(task))
+            && is_ahead(inst, Some(task), next)
         {
             next = Some(task);
         }

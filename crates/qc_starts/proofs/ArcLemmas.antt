@@ -1,9 +1,11 @@
 -- Arcs that are those of a node: what a push keeps, and that there are few.
 use Rattle.std.proofs.Common.{◌≡◌, ◌≢◌, ℕ, zero, suc, ◌+◌, ◌-◌, ◌*◌, ◌<◌, ◌≤◌, Bool, true, false, ◌||◌, cond, eqb, inl, inr, ◌⊎◌, List, [], ◌∷◌, ◌++◌, length, Option, None, Some, IfSome, refl, sym, ap, ap₂, subst, subst₂, ◌∙◌, append_assoc, arith}
-use Rattle.std.proofs.lemmas.Bool.{cases_Bool, cases_eq, cases_lt, cases_order, cond-false, cond-true, cond_both}
+use Rattle.std.proofs.lemmas.Bool.{and_parts, cases_Bool, cases_eq, cases_lt, cases_order, cond-false, cond-true, cond_both, eqb-true}
+use Rattle.std.proofs.lemmas.Option.{same_Some}
 use Rattle.std.specs.Prelude.{count_by}
 use Rattle.std.specs.List.{AllByRecursion}
 use Rattle.qc_arena.specs.declared.edge.Edge.{Edge}
+use Rattle.qc_dist.specs.Added.{excess}
 use Rattle.qc_dist.specs.Node.{IsOpen}
 use Rattle.qc_dist.proofs.Tables.{pair_differs, pair_is}
 use Rattle.qc_model.specs.declared.decision.Decision.{Decision}
@@ -14,12 +16,32 @@ use Rattle.qc_model.proofs.CompleteNodes.{forced_ticks}
 use Rattle.qc_model.proofs.NodeLemmas.{before_found}
 use Rattle.qc_starts.specs.Arcs.{AreArcs, AreOpening, IsArc, IsOver, added, arc_between, joins, leads, most_arcs, newest_length, with_added}
 use Rattle.qc_starts.proofs.Counts.{IsBetween, arcs_few, count_cons}
-use Rattle.qc_starts.specs.Spread.{one_of}
+use Rattle.qc_starts.specs.Spread.{IsIn, one_of}
 use Rattle.qc_starts.proofs.Growth.{assigned_same, excess_by, forced_grows, greater_more, greater_same, one_way, open_from, open_to, ordered_here_is, ordered_same, unsettled_from, unsettled_to}
 use Rattle.qc_starts.proofs.SelfLemmas.{self_free}
 
 none_some : (n : ℕ) → ◌≡◌ {A = Option ℕ} None (Some n) → ⊥
 none_some n e = cc
+
+-- ---- arcs of a list
+
+pub arc_of : (P : Edge → Type 0) (arcs : List Edge) → AllByRecursion P arcs → (arc : Edge) → IsIn arcs arc → P arc
+arc_of P [] all arc in_ = absurd in_
+arc_of P (x ∷ xs) all arc (inl same) = subst P same all.0
+arc_of P (x ∷ xs) all arc (inr in_) = arc_of P xs all.1 arc in_
+
+pub newest_in : (i j len : ℕ) (arcs : List Edge) → newest_length i j arcs ≡ Some len
+    → (arc : Edge) × IsIn arcs arc × (arc.from ≡ i) × (arc.to ≡ j) × (arc.len ≡ len)
+newest_in i j len [] is = absurd (cc)
+newest_in i j len (arc ∷ arcs) is = elim (cases_Bool (leads i j arc)) [
+  | inl here ↦
+      let parts = and_parts (eqb arc.from i) (eqb arc.to j) here in
+      let same = same_Some arc.len len (sym (cond-true (leads i j arc) (Some arc.len) (newest_length i j arcs) here) ∙ is) in
+      (arc, inl refl, eqb-true arc.from i parts.0, eqb-true arc.to j parts.1, same)
+  | inr away ↦
+      let rest = newest_in i j len arcs (sym (cond-false (leads i j arc) (Some arc.len) (newest_length i j arcs) away) ∙ is) in
+      (rest.0, inr rest.1, rest.2, rest.3, rest.4)
+]
 
 -- ---- arcs of a node
 
@@ -82,6 +104,25 @@ module _ (inst : InstanceView) (ds : List Decision) where
   arcs_fit valid fits arcs all few =
       arcs_few (length inst.tasks) arcs (between valid fits arcs all)
       (λ i j. omega (arith, few i j, most_two (assigned ds i) (assigned ds j)))
+
+-- ---- cranes add nothing where a task has none
+
+excess_none : (o : Option ℕ) → excess o None ≡ None
+excess_none None = refl
+excess_none (Some n) = refl
+
+none_first : (inst : InstanceView) (i j : ℕ) (o : Option ℕ) → crane_ticks inst i j o None ≡ None
+none_first inst i j None = refl
+none_first inst i j (Some v) = refl
+
+pub none_pushed : (inst : InstanceView) (ds : List Decision) (i j : ℕ) (arcs : List Edge) → assigned ds j ≡ None
+    → with_added i j (added inst ds i j) (added inst ds j i) arcs ≡ arcs
+none_pushed inst ds i j arcs none =
+    let from = ap (crane_ticks inst i j (assigned ds i)) none ∙ none_first inst i j (assigned ds i) in
+    let to = ap (λ (o : Option ℕ). crane_ticks inst j i o (assigned ds i)) none in
+    ap₂ (λ (a b : Option ℕ). with_added i j a b arcs)
+    (ap (excess (sooner_ticks inst ds i j)) from ∙ excess_none (sooner_ticks inst ds i j))
+    (ap (excess (sooner_ticks inst ds j i)) to ∙ excess_none (sooner_ticks inst ds j i))
 
 -- ---- the newest arc
 
@@ -395,22 +436,6 @@ pair_first i j g h low high few above below = elim (cases_order g i) [
     | inr l ↦ absurd (omega arith)
   ]
 ]
-
-pub opening_begins : (inst : InstanceView) → AreOpening inst [] 0
-opening_begins inst = record {
-  each = tt;
-  few = λ i j. omega arith;
-  newest = λ i j low high under. absurd (omega arith);
-  still = λ i j past. refl;
-}
-
-pub opening_ends : (inst : InstanceView) (arcs : List Edge) → length inst.tasks ≤ 240
-    → AreOpening inst arcs (240 * length inst.tasks) → AreArcs inst [] arcs
-opening_ends inst arcs few is = record {
-  newest = λ i j low high. is.newest i j low high (omega arith);
-  each = is.each;
-  few = is.few;
-}
 
 module _ (inst : InstanceView) (valid : Valid inst) where
   pub before_true : (i j n : ℕ) → forced inst [] i j ≡ Some n → is_before inst i j ≡ true

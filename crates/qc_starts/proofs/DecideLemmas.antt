@@ -2,6 +2,7 @@
 use Rattle.std.proofs.Common.{◌≡◌, ℕ, zero, suc, ◌+◌, ◌-◌, ◌*◌, ◌<◌, ◌≤◌, inl, inr, Bool, true, List, [], ◌∷◌, ◌++◌, All, length, drop, take, reverse, refl, sym, ap, subst, subst₂, ◌∙◌, length-append, vec_capacity, arith}
 use Rattle.std.proofs.lemmas.Bool.{cases_Bool, ltb-true}
 use Rattle.std.proofs.lemmas.List.Sums.{count_by-le-length, sum_by-cons}
+use Rattle.std.proofs.Math.Seq.{drop-append_seam, take-append_seam}
 use Rattle.std.proofs.Math.Nat.{mul-le-mul_left}
 use Rattle.std.specs.Prelude.{count_by, nat_lt, slice_index, slice_index_or, sum}
 use Rattle.std.specs.List.{range_with_len}
@@ -15,23 +16,18 @@ use Rattle.qc_starts.specs.declared.step.Step.{Step}
 use Rattle.qc_starts.specs.declared.step.Step.TheVariants.{Raised, Cycle}
 use Rattle.qc_starts.specs.Fields.{AreNested, IsKept, counts_of, node_of}
 use Rattle.qc_starts.specs.Found.{starts_in}
-use Rattle.qc_starts.specs.NodeArcs.{IsSound, NodeArcs}
+use Rattle.qc_starts.specs.NodeArcs.{IsSound}
 use Rattle.qc_starts.specs.Noting.{HasNotes, IsNoting, Wrote, marks}
 use Rattle.qc_starts.specs.Opened.{AreSized, HasBegun}
 use Rattle.qc_starts.specs.Seen.{IsNoted, IsReached, StartsNode, count_raised, first_of, taken_back}
 use Rattle.qc_starts.specs.Spread.{IsSettledTo, one_of}
 use Rattle.qc_starts.specs.Values.{AreRest, start_at}
-use Rattle.qc_starts.proofs.KeptLemmas.{counts_count, drop_push, first_here, in_reach_more, nested_count, nested_more, rest_of, sum_counts, take_push, seen_back, settled_step}
+use Rattle.qc_starts.proofs.KeptLemmas.{counts_count, first_here, in_reach_more, nested_count, nested_more, rest_of, same_node, seen_back, sum_counts, settled_step}
 use Rattle.qc_starts.proofs.LevelLemmas.{reverse_push}
 use Rattle.qc_starts.proofs.NotingLemmas.{noting_begins}
 use Rattle.qc_starts.proofs.RestLemmas.{least_of, start_in}
 use Rattle.qc_trail.specs.declared.trail.Note.{Note}
 use Rattle.qc_trail.specs.Trails.{Notes, written_back}
-
-settled_count : (net : NodeArcs) (root : ℕ) (olds cells : List ℕ) (step : Step)
-    → IsSettledTo net root olds cells step → length cells ≡ 2 * length net.inst.tasks
-settled_count net root olds cells Raised settled = settled.count
-settled_count net root olds cells Cycle settled = settled.raising.count
 
 -- numbers that pass a test are no more than marks, if each has its mark
 range_marks : (p : ℕ → Bool) (noted : List Bool) (a m : ℕ) → m ≤ length noted
@@ -57,15 +53,6 @@ same_least inst ds cells others rest least j low =
     let one = least.least (starts_in inst cells) mine.meets j low in
     let two = rest.least others least.meets j low in
     omega (arith, one, two, start_in inst cells j low)
-
-same_node : (a b : StartsNode) → a.inst ≡ b.inst → a.decisions ≡ b.decisions → a.noted ≡ b.noted → a.cells ≡ b.cells
-    → a.notes ≡ b.notes → a ≡ b
-same_node a b inst decisions noted cells notes =
-    ap (λ (i : InstanceView). record { inst = i; decisions = a.decisions; noted = a.noted; cells = a.cells; notes = a.notes }) inst
-    ∙ ap (λ (xs : List Decision). record { inst = b.inst; decisions = xs; noted = a.noted; cells = a.cells; notes = a.notes }) decisions
-    ∙ ap (λ (xs : List ℕ). record { inst = b.inst; decisions = b.decisions; noted = xs; cells = a.cells; notes = a.notes }) noted
-    ∙ ap (λ (xs : List ℕ). record { inst = b.inst; decisions = b.decisions; noted = b.noted; cells = xs; notes = a.notes }) cells
-    ∙ ap (λ (ns : List Note). record { inst = b.inst; decisions = b.decisions; noted = b.noted; cells = b.cells; notes = ns }) notes
 
 module _ (f : Inside) (node : StartsNode) (is : IsKept f) (view : node_of f ≡ node) (g : Inside) (mid : Spread)
     (d : Decision) (mark before after : ℕ)
@@ -148,7 +135,7 @@ module _ (f : Inside) (node : StartsNode) (is : IsKept f) (view : node_of f ≡ 
     tasks_home : length g.inst.tasks ≡ length f.inst.tasks
     tasks_home = ap (λ (i : InstanceView). length i.tasks) home
 
-    pub kept_decided : IsKept g
+    kept_decided : IsKept g
     kept_decided = record {
       sound = sound;
       same = inst_is ∙ is.same ∙ sym home;
@@ -203,7 +190,7 @@ module _ (f : Inside) (node : StartsNode) (is : IsKept f) (view : node_of f ≡ 
         ∙ ap (λ (k : ℕ). k ∷ counts_of (reverse f.marks.items) mark) count
         ∙ ap (λ (m : ℕ). length noting.since ∷ counts_of (reverse f.marks.items) m) mark_is
 
-    pub noted_decided : IsNoted (node_of f) (node_of g) g.step before after
+    noted_decided : IsNoted (node_of f) (node_of g) g.step before after
     noted_decided = record {
       count = length noting.since;
       is = counts_are;
@@ -215,7 +202,7 @@ module _ (f : Inside) (node : StartsNode) (is : IsKept f) (view : node_of f ≡ 
     }
 
     -- taking it back leaves the node that it was
-    pub back_decided : taken_back (length f.network.decisions) (node_of g) ≡ node_of f
+    back_decided : taken_back (length f.network.decisions) (node_of g) ≡ node_of f
     back_decided =
         let ds = f.network.decisions in
         let kept_notes = f.spread.values.trail.notes in
@@ -227,8 +214,12 @@ module _ (f : Inside) (node : StartsNode) (is : IsKept f) (view : node_of f ≡ 
         ∙ first_here (length ds) (length ds) (length noting.since) (node_of f).noted each refl in
         let sums : length kept_notes ≡ sum (first_of (length ds) (node_of g).noted) = sym (ap sum noted ∙ total) in
         let past = ap (λ (k : ℕ). drop k (node_of g).notes) (sym sums) ∙ ap (drop (length kept_notes)) notes_are
-        ∙ drop_push kept_notes noting.since in
+        ∙ drop-append_seam kept_notes noting.since in
         let front = ap (λ (k : ℕ). take k (node_of g).notes) (sym sums) ∙ ap (take (length kept_notes)) notes_are
-        ∙ take_push kept_notes noting.since in
+        ∙ take-append_seam kept_notes noting.since in
         let cells = ap (λ (ns : List Note). written_back ns (node_of g).cells) past ∙ back in
         same_node (taken_back (length ds) (node_of g)) (node_of f) home decisions noted cells front
+
+    pub decided : IsKept g × IsNoted (node_of f) (node_of g) g.step before after
+        × (taken_back (length f.network.decisions) (node_of g) ≡ node_of f)
+    decided = (kept_decided, noted_decided, back_decided)

@@ -3,6 +3,7 @@ use Rattle.std.proofs.Common.{◌≡◌, ◌≢◌, ℕ, zero, suc, ◌+◌, ◌
 use Rattle.std.proofs.lemmas.Bool.{cases_eq}
 use Rattle.std.proofs.lemmas.List.{get_or_default, length-take-le, take-append-drop}
 use Rattle.std.proofs.lemmas.List.Sums.{sum_by-cons}
+use Rattle.std.proofs.Math.Seq.{drop-append_seam, take-append_seam}
 use Rattle.std.specs.Prelude.{slice_index, sum}
 use Rattle.qc_dist.specs.Node.{IsOpen}
 use Rattle.qc_model.specs.declared.decision.Decision.{Decision}
@@ -26,8 +27,8 @@ use Rattle.qc_starts.specs.Values.{AreRest, IsReason, raiser_at, start_at}
 use Rattle.qc_starts.specs.Ways.{AreBacked, IsBackTo, IsEndless, IsRing, IsRising, Why}
 use Rattle.qc_starts.proofs.Growth.{assigned_same, forced_grows, head_grows, head_same, meets_before, ordered_same}
 use Rattle.qc_starts.proofs.NotingLemmas.{written_back-append}
-use Rattle.qc_starts.proofs.RestLemmas.{backed_of, chain_shows, end_of, has_starts, link, ring_of, rising_of, soon_of, start_of}
-use Rattle.qc_starts.proofs.SpreadLemmas.{arc_of, newest_in}
+use Rattle.qc_starts.proofs.RestLemmas.{backed_of, chain_shows, end_of, has_starts, link, ring_of, rising_of, soon_of, start_of, tight}
+use Rattle.qc_starts.proofs.ArcLemmas.{arc_of}
 use Rattle.qc_starts.proofs.WayLemmas.{IsClosed, no_end}
 use Rattle.qc_trail.specs.declared.trail.Note.{Note}
 use Rattle.qc_trail.specs.Trails.{written_back}
@@ -100,29 +101,16 @@ holds_of inst ds cells rest = start_of inst ds cells rest
 -- ---- starts at rest, with the arcs of their node
 
 module _ (net : NodeArcs) (cells : List ℕ) (sound : IsSound net) (rest : AreRest net.inst net.decisions cells) where
-  short : (i j len : ℕ) → i < length net.inst.tasks → j < length net.inst.tasks
-      → forced net.inst net.decisions i j ≡ Some len → len ≤ 2147483648
-  short i j len first second asks =
-      let found = newest_in i j len net.arcs (sound.all.newest i j first second ∙ asks) in
-      omega (arith, arc_of (λ arc. arc.len ≤ 2147483648) net.arcs sound.low found.0 found.1, found.4)
-
   pub rest_rises : IsRising (why_in (length net.inst.tasks) cells)
-  rest_rises =
-      rising_of net.inst net.decisions cells sound.valid rest.count rest.heads rest.steps rest.reasons short rest.low
-
-  pub rest_backed : AreBacked (why_in (length net.inst.tasks) cells)
-  rest_backed = backed_of net.inst net.decisions cells sound.valid rest.reasons
+  rest_rises = rising_of net cells sound (tight net.inst net.decisions cells rest)
 
   pub rest_ends : (j : ℕ) → j < length net.inst.tasks → end_in net.inst cells j ≤ 999999999999
-  rest_ends j low =
-      soon_of net.inst net.decisions cells sound.valid rest.count rest.heads rest.steps rest.reasons short rest.low j low
+  rest_ends = soon_of net cells sound (tight net.inst net.decisions cells rest)
 
   pub rest_shows : (last : ℕ) (path : List ℕ) → IsBackTo (why_in (length net.inst.tasks) cells) last path
       → (leaf_value with_berths net.inst net.decisions (chain path) ≡ Some (Least (end_in net.inst cells last)))
       × (length path ≤ length net.inst.tasks) × (end_in net.inst cells last ≤ 999999999999)
-  rest_shows last path back =
-      chain_shows net.inst net.decisions cells sound.valid rest.count rest.heads rest.steps rest.reasons short rest.low
-      last path back
+  rest_shows = chain_shows net cells sound (tight net.inst net.decisions cells rest)
 
 pub state_reasons : (net : NodeArcs) (cells : List ℕ) (root : ℕ) (step : Step) → IsStateOf net cells root step
     → (j : ℕ) → j < length net.inst.tasks
@@ -206,25 +194,17 @@ pub counts_count : (marks : List ℕ) (count : ℕ) → length (counts_of marks 
 counts_count [] count = refl
 counts_count (m ∷ ms) count = omega (arith, counts_count ms m)
 
-pub drop_push : {A : Type 0} (xs ys : List A) → drop (length xs) (xs ++ ys) ≡ ys
-drop_push [] ys = refl
-drop_push (x ∷ xs) ys = drop_push xs ys
-
-pub take_push : {A : Type 0} (xs ys : List A) → take (length xs) (xs ++ ys) ≡ xs
-take_push [] ys = refl
-take_push {A = A} (x ∷ xs) ys = ap (λ (zs : List A). x ∷ zs) (take_push xs ys)
-
 pub nested_more : (inst : InstanceView) (d : Decision) (ds : List Decision) (marks : List ℕ) (notes since : List Note)
     (old new : List ℕ) → AreNested inst ds marks notes old → AreRest inst ds old
     → length notes ≤ 2 * length inst.tasks * length ds → written_back since new ≡ old
     → AreNested inst (d ∷ ds) (length notes ∷ marks) (notes ++ since) new
 nested_more inst d ds marks notes since old new are rest few back =
-    let past = drop_push notes since in
+    let past = drop-append_seam notes since in
     let cells = ap (λ (xs : List Note). written_back xs new) past ∙ back in (
       omega (arith, length-append notes since),
       few,
       subst (AreRest inst ds) (sym cells) rest,
-      subst₂ (AreNested inst ds marks) (sym (take_push notes since)) (sym cells) are,
+      subst₂ (AreNested inst ds marks) (sym (take-append_seam notes since)) (sym cells) are,
     )
 
 -- the node without its newest decision
@@ -262,11 +242,6 @@ pub in_reach_more : (inst : InstanceView) (d : Decision) (ds : List Decision) �
     → IsInReach inst (d ∷ ds)
 in_reach_more inst (Assign j k) ds reach all = (reach, all)
 in_reach_more inst (Order i j) ds reach all = all
-
-pub in_reach_less : (inst : InstanceView) (ds : List Decision) → IsInReach inst ds → IsInReach inst (drop 1 ds)
-in_reach_less inst [] all = all
-in_reach_less inst (Assign j k ∷ ds) all = all.1
-in_reach_less inst (Order i j ∷ ds) all = all
 
 pub rooting_of : (net : NodeArcs) (inst : InstanceView) (d : Decision) (ds : List Decision) (root : ℕ)
     (olds before cells : List ℕ) → IsSound net → net.inst ≡ inst → net.decisions ≡ (d ∷ ds) → IsOpen inst ds d
@@ -462,14 +437,6 @@ module _ (f : Inside) (node : StartsNode) (is : IsKept f) (view : node_of f ≡ 
         omega (arith, shown.1, net_tasks, tasks_are),
       )
 
-  pub why_none : HasStarts node.inst node.decisions → IsLatest f.inst f.spread.values.cells count None
-      → IsWhy node.inst node.decisions []
-  why_none starts latest =
-      let near = subst (λ (i : InstanceView). IsLatest i f.spread.values.cells (length i.tasks) None) (sym is.same) latest in
-      let end = end_of f.network.inst f.network.decisions f.spread.values.cells (net_rest starts) None 0 near refl in
-      let why : IsWhy f.network.inst f.network.decisions [] = record { end = 0; ends = end; chain = refl } in
-      seen_on (λ i ds. IsWhy i ds []) why
-
   -- a ring
 
   ring_back : (¬ HasStarts node.inst node.decisions) → (olds : List ℕ) × IsBackAtRoot f.network f.root olds f.spread.values.cells
@@ -523,14 +490,6 @@ back_on a b notes cells low =
     sym (written_back-append (drop a (take b notes)) (drop b notes) cells)
     ∙ ap (λ (ns : List Note). written_back ns cells) (sym (split_at a b notes low))
 
-pub take_whole : {A : Type 0} (xs : List A) → take (length xs) xs ≡ xs
-take_whole [] = refl
-take_whole {A = A} (x ∷ xs) = ap (λ (ys : List A). x ∷ ys) (take_whole xs)
-
-pub drop_whole : {A : Type 0} (xs : List A) → drop (length xs) xs ≡ []
-drop_whole [] = refl
-drop_whole (x ∷ xs) = drop_whole xs
-
 pub drop_none : {A : Type 0} (m : ℕ) (xs : List A) → drop (m - m) xs ≡ xs
 drop_none m xs = let e : m - m ≡ 0 = omega arith in ap (λ (k : ℕ). drop k xs) e
 
@@ -552,6 +511,15 @@ pub notes_on : (mid less all : List Note) → length less ≤ length mid → mid
 notes_on mid less all fewer mid_is =
     ap (take (length less)) mid_is ∙ take_less (length less) (length mid) all fewer
 
+pub same_node : (a b : StartsNode) → a.inst ≡ b.inst → a.decisions ≡ b.decisions → a.noted ≡ b.noted → a.cells ≡ b.cells
+    → a.notes ≡ b.notes → a ≡ b
+same_node a b inst decisions noted cells notes =
+    ap (λ (i : InstanceView). record { inst = i; decisions = a.decisions; noted = a.noted; cells = a.cells; notes = a.notes }) inst
+    ∙ ap (λ (xs : List Decision). record { inst = b.inst; decisions = xs; noted = a.noted; cells = a.cells; notes = a.notes }) decisions
+    ∙ ap (λ (xs : List ℕ). record { inst = b.inst; decisions = b.decisions; noted = xs; cells = a.cells; notes = a.notes }) noted
+    ∙ ap (λ (xs : List ℕ). record { inst = b.inst; decisions = b.decisions; noted = b.noted; cells = xs; notes = a.notes }) cells
+    ∙ ap (λ (ns : List Note). record { inst = b.inst; decisions = b.decisions; noted = b.noted; cells = b.cells; notes = ns }) notes
+
 pub node_is : (mark : ℕ) (old new : StartsNode) → new.inst ≡ old.inst → new.decisions ≡ first_of mark old.decisions
     → new.noted ≡ first_of mark old.noted → sum new.noted ≡ length new.notes
     → new.cells ≡ written_back (drop (length new.notes) old.notes) old.cells
@@ -560,11 +528,7 @@ node_is mark old new inst decisions noted sound cells notes =
     let kept : length new.notes ≡ sum (first_of mark old.noted) = sym sound ∙ ap sum noted in
     let cells_are = cells ∙ ap (λ (k : ℕ). written_back (drop k old.notes) old.cells) kept in
     let notes_are = notes ∙ ap (λ (k : ℕ). take k old.notes) kept in
-    ap (λ (i : InstanceView). record { inst = i; decisions = new.decisions; noted = new.noted; cells = new.cells; notes = new.notes }) inst
-    ∙ ap (λ (xs : List Decision). record { inst = old.inst; decisions = xs; noted = new.noted; cells = new.cells; notes = new.notes }) decisions
-    ∙ ap (λ (xs : List ℕ). record { inst = old.inst; decisions = first_of mark old.decisions; noted = xs; cells = new.cells; notes = new.notes }) noted
-    ∙ ap (λ (xs : List ℕ). record { inst = old.inst; decisions = first_of mark old.decisions; noted = first_of mark old.noted; cells = xs; notes = new.notes }) cells_are
-    ∙ ap (λ (ns : List Note). record { inst = old.inst; decisions = first_of mark old.decisions; noted = first_of mark old.noted; cells = written_back (drop (sum (first_of mark old.noted)) old.notes) old.cells; notes = ns }) notes_are
+    same_node new (taken_back mark old) inst decisions noted cells_are notes_are
 
 -- ---- apart pairs
 

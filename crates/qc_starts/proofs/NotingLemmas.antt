@@ -1,6 +1,6 @@
 -- A note of a cell that isn't marked, and a write of one that is.
 use Rattle.std.proofs.Common.{◌≡◌, ◌≢◌, ℕ, suc, ◌+◌, ◌<◌, Bool, true, false, inl, inr, List, [], ◌∷◌, ◌++◌, length, refl, sym, ap, ◌∙◌, append_assoc, ext_get_or, length-append, arith}
-use Rattle.std.proofs.lemmas.Bool.{cases_eq, cases_lt, false≢true}
+use Rattle.std.proofs.lemmas.Bool.{cases_eq, cases_lt}
 use Rattle.std.proofs.lemmas.List.{append-nil, get_or_default, get_or-set_same, get_or-set_other}
 use Rattle.std.proofs.lemmas.List.Sums.{count_by-le-length, sum_by-cons, sum_by-set}
 use Rattle.std.proofs.Math.ListN.{get_or-eq_default, length-set}
@@ -35,21 +35,6 @@ pub marks_below : (noted : List Bool) (p : ℕ) → p < length noted → slice_i
     → marks noted < length noted
 marks_below noted p low free =
     omega (arith, marks_more noted p low free, count_by-le-length (λ b. b) (slice_set noted p true), length-set noted p true)
-
-pub set_keeps : (before : List Note) (olds : List ℕ) (v : Noted) (p value : ℕ)
-    → slice_index_or v.noted.items p true ≡ true
-    → IsNoting before olds v → IsNoting before olds (record v { cells = slice_set v.cells p value })
-set_keeps before olds v p value marked is = record {
-  since = is.since;
-  notes = is.notes;
-  count = is.count;
-  size = length-set v.cells p value ∙ is.size;
-  same = λ q low free. elim (cases_eq q p) [
-    | inl same ↦ absurd (false≢true (sym free ∙ ap (λ (k : ℕ). slice_index_or v.noted.items k true) same ∙ marked))
-    | inr other ↦ get_or-set_other v.cells p q value 0 other ∙ is.same q low free
-  ];
-  back = is.back;
-}
 
 pub note_keeps : (before : List Note) (olds : List ℕ) (v w : Noted) (p : ℕ)
     → p < length v.cells → length v.noted.items ≡ length v.cells → slice_index_or v.noted.items p true ≡ false

@@ -1,122 +1,47 @@
 -- Tasks that are placed one after another: what a task more keeps, and that all are placed at the end.
-use Rattle.std.proofs.Common.{◌≡◌, ◌≢◌, ℕ, zero, suc, ◌+◌, ◌<◌, ◌≤◌, ◌⊎◌, inl, inr, Bool, true, false, ◌||◌, eqb, ltb, cond, List, [], ◌∷◌, length, Option, None, Some, refl, sym, ap, subst, subst₂, ◌∙◌, arith}
-use Rattle.std.proofs.lemmas.Bool.{cases_Bool, cases_eq, eqb-true, eq-eqb, ltb-false, ltb-true, or_cases, false≢true}
+use Rattle.std.proofs.Common.{◌≡◌, ◌≢◌, ℕ, zero, suc, ◌+◌, ◌-◌, ◌*◌, ◌<◌, ◌≤◌, ◌⊎◌, inl, inr, Bool, true, false, ◌||◌, eqb, List, [], ◌∷◌, length, Option, None, Some, sym, ap, subst, ◌∙◌, arith}
+use Rattle.std.proofs.lemmas.Bool.{cases_Bool, cases_eq, eqb-true, or_cases, false≢true}
 use Rattle.std.proofs.lemmas.List.{get_or-set_other, get_or-set_same}
+use Rattle.std.proofs.lemmas.List.Sums.{count_by-le-length}
 use Rattle.std.proofs.lemmas.Map.Steps.{length-le_from_distinct_below}
 use Rattle.std.proofs.Math.ListN.{length-set}
-use Rattle.std.specs.Prelude.{slice_index, slice_set}
+use Rattle.std.specs.Prelude.{slice_set}
 use Rattle.std.specs.List.{AllByRecursion, IsDistinct, list_any}
 use Rattle.qc_arena.specs.declared.edge.Edge.{Edge}
 use Rattle.qc_model.specs.declared.decision.Decision.{Decision}
 use Rattle.qc_model.specs.Instance.{InstanceView, IsBefore, IsPath, Valid}
-use Rattle.qc_model.specs.Nodes.{forced, head}
+use Rattle.qc_model.specs.Nodes.{forced}
 use Rattle.qc_model.proofs.NodeLemmas.{before_found}
 use Rattle.qc_starts.specs.Arcs.{IsArc}
 use Rattle.qc_starts.specs.NodeArcs.{IsSound, NodeArcs}
 use Rattle.qc_starts.specs.Noting.{marks}
-use Rattle.qc_starts.specs.Place.{ArePlaced, IsPlace, IsPlacing, IsReady, IsReadyPick, IsReasonBy}
-use Rattle.qc_starts.specs.Spread.{IsIn, into_task, is_pending}
+use Rattle.qc_starts.specs.Place.{ArePlaced, IsPlace, IsReady, IsReadyPick, IsReasonBy, IsSoonest}
+use Rattle.qc_starts.specs.Spread.{IsIn, is_pending}
 use Rattle.qc_starts.specs.Values.{AreRest, IsReason, raised, raiser_at, start_at}
-use Rattle.qc_starts.proofs.ArcLemmas.{before_true}
+use Rattle.qc_starts.proofs.ArcLemmas.{arc_of, before_true, newest_in}
 use Rattle.qc_starts.proofs.NotingLemmas.{marks_less}
 use Rattle.qc_starts.proofs.RaisedLemmas.{raised_count, raised_here, raised_other, reason_of_here, reason_of_other}
-use Rattle.qc_starts.proofs.RestLemmas.{soon_of}
-use Rattle.qc_starts.proofs.SpreadLemmas.{arc_of, filter_in, in_filter, newest_in}
-
--- ---- whether a task is ready
-
-pub into_all : (net : NodeArcs) (j : ℕ) (arcs : List Edge) → arcs ≡ into_task j net.arcs
-    → (arc : Edge) → IsIn net.arcs arc → arc.to ≡ j → IsIn arcs arc
-into_all net j arcs are arc in_ same =
-    subst (λ (xs : List Edge). IsIn xs arc) (sym are)
-    (in_filter (λ arc. eqb arc.to j) net.arcs arc in_ (eq-eqb arc.to j same))
-
-pub into_inside : (net : NodeArcs) (j : ℕ) (arcs : List Edge) → arcs ≡ into_task j net.arcs
-    → (arc : Edge) → IsIn arcs arc → IsIn net.arcs arc × (arc.to ≡ j)
-into_inside net j arcs are arc in_ =
-    let found = filter_in (λ arc. eqb arc.to j) net.arcs arc (subst (λ (xs : List Edge). IsIn xs arc) are in_) in
-    (found.0, eqb-true arc.to j found.1)
-
--- ---- one more arc into a task that is placed
-
-module _ (net : NodeArcs) (cells : List ℕ) (pending : List Bool) (j s : ℕ) (why : Option ℕ) (rest : List Edge)
-    (arc : Edge) (sound : IsSound net) (placed : ArePlaced net cells pending) (ready : IsReady net pending j true)
-    (is : IsPlacing net cells pending j s why (arc ∷ rest)) where
-  place_in : IsIn net.arcs arc
-  place_in = (is.inside arc (inl refl)).0
-
-  pub place_asks : IsArc net.inst net.decisions arc
-  place_asks = arc_of (IsArc net.inst net.decisions) net.arcs sound.all.each arc place_in
-
-  place_short : arc.len ≤ 2147483648
-  place_short = arc_of (λ arc. arc.len ≤ 2147483648) net.arcs sound.low arc place_in
-
-  place_before : IsPlace net cells pending arc.from
-  place_before = placed.each arc.from place_asks.from (ready arc place_in (is.inside arc (inl refl)).1)
-
-  pub place_fits : start_at cells arc.from + arc.len ≤ 18446744073709551615
-  place_fits = omega (arith, place_before.bound, place_short, sound.valid.tasks.count)
-
-  abbrev after : ℕ
-  after = start_at cells arc.from + arc.len
-
-  to_j : arc.to ≡ j
-  to_j = (is.inside arc (inl refl)).1
-
-  pub place_next : (late : Bool) → ltb s after ≡ late
-      → IsPlacing net cells pending j (cond late after s) (cond late (Some arc.from) why) rest
-  place_next false early = record {
-    above = is.above;
-    low = is.low;
-    reason = is.reason;
-    least = is.least;
-    met = λ one in_ same. elim (is.met one in_ same) [
-      | inl met ↦ inl met
-      | inr left_over ↦ elim left_over [
-        | inl this ↦ inl (subst (λ (a : Edge). start_at cells a.from + a.len ≤ s) this (ltb-false s after early))
-        | inr more ↦ inr more
-      ]
-    ];
-    inside = λ one in_. is.inside one (inr in_);
-    bound = is.bound;
-  }
-  place_next true late =
-      let less = ltb-true s after late in
-      let step = subst (λ (k : ℕ). forced net.inst net.decisions arc.from k ≡ Some place_asks.ticks) to_j place_asks.is in
-      record {
-        above = omega (arith, is.above);
-        low = is.low;
-        reason = (place_asks.from, place_asks.ticks, step, omega (arith, place_asks.within));
-        least = λ others meets.
-            let from = place_before.least others meets in
-            let to = meets.steps arc.from arc.to place_asks.ticks place_asks.from place_asks.to place_asks.is in
-            omega (arith, from, to, place_asks.within, ap (slice_index others) to_j);
-        met = λ one in_ same. elim (is.met one in_ same) [
-          | inl met ↦ inl (omega arith)
-          | inr left_over ↦ elim left_over [
-            | inl this ↦ inl (subst (λ (a : Edge). start_at cells a.from + a.len ≤ after) this (omega arith))
-            | inr more ↦ inr more
-          ]
-        ];
-        inside = λ one in_. is.inside one (inr in_);
-        bound = omega (arith, place_before.bound, place_short);
-      }
-
-  pub place_step : (s_next : ℕ) (why_next : Option ℕ) → s_next ≡ cond (ltb s after) after s
-      → why_next ≡ cond (ltb s after) (Some arc.from) why
-      → IsPlacing net cells pending j s_next why_next rest
-  place_step s_next why_next starts whys =
-      subst₂ (λ (t : ℕ) (o : Option ℕ). IsPlacing net cells pending j t o rest) (sym starts) (sym whys)
-      (place_next (ltb s after) refl)
+use Rattle.qc_starts.proofs.RestLemmas.{rest_is}
 
 -- ---- a task is placed
+
+-- all that a ready task waits for is placed
+pub place_firm : (net : NodeArcs) (cells : List ℕ) (pending : List Bool) (j : ℕ) → IsSound net
+    → IsReady net pending j true → ArePlaced net cells pending
+    → (arc : Edge) → IsIn net.arcs arc → arc.to ≡ j → IsPlace net cells pending arc.from
+place_firm net cells pending j sound ready placed arc in_ same =
+    let asks = arc_of (IsArc net.inst net.decisions) net.arcs sound.all.each arc in_ in
+    placed.each arc.from asks.from (ready arc in_ same)
 
 module _ (net : NodeArcs) (cells : List ℕ) (pending : List Bool) (j s : ℕ) (why : Option ℕ) (sound : IsSound net)
     (low : j < length net.inst.tasks) (pends : is_pending pending j ≡ true)
     (ready : IsReady net pending j true) (placed : ArePlaced net cells pending)
-    (is : IsPlacing net cells pending j s why []) where
+    (is : IsSoonest net cells j s why []) where
   abbrev n : ℕ
   n = length net.inst.tasks
+
+  firm : (arc : Edge) → IsIn net.arcs arc → arc.to ≡ j → IsPlace net cells pending arc.from
+  firm = place_firm net cells pending j sound ready placed
 
   abbrev news : List ℕ
   news = raised n cells j s why
@@ -178,11 +103,15 @@ module _ (net : NodeArcs) (cells : List ℕ) (pending : List Bool) (j s : ℕ) (
         low = is.low;
         reason = subst (IsReason net.inst net.decisions news j) (sym (reason_of_here n cells j s why low placed.count))
             (reason_new why is.reason);
-        least = λ others meets. omega (arith, here, is.least others meets);
+        least = λ others meets.
+            omega (arith, here, is.least others meets (λ arc in_ same. (firm arc in_ same).least others meets));
         steps = λ i len i_low asks.
             let by = waits i len i_low asks in
             (still i by.0, omega (arith, here, by.1, other i i_low (apart i by.0)));
-        bound = omega (arith, here, is.bound, fewer);
+        bound =
+            let limit = 2147483648 * (n + 1) - 2147483648 * marks pending in
+            let by = is.bound limit (λ arc in_ same. omega (arith, (firm arc in_ same).bound)) in
+            omega (arith, here, by, fewer, count_by-le-length (λ b. b) pending, placed.size);
       })
       | inr off ↦
           let place = placed.each k under (sym (get_or-set_other pending j k false false off) ∙ done) in
@@ -200,9 +129,6 @@ module _ (net : NodeArcs) (cells : List ℕ) (pending : List Bool) (j s : ℕ) (
           }
     ];
   }
-
-  pub place_fewer : marks marked < marks pending
-  place_fewer = omega (arith, fewer)
 
 -- ---- at the end all are placed
 
@@ -269,17 +195,14 @@ module _ (inst : InstanceView) (valid : Valid inst) (P : ℕ → Type 0)
 pub place_ends : (net : NodeArcs) (cells : List ℕ) (pending : List Bool) → IsSound net → net.decisions ≡ []
     → IsReadyPick net pending (length net.inst.tasks) None → ArePlaced net cells pending
     → AreRest net.inst net.decisions cells
-place_ends net cells pending sound none stuck placed = record {
+place_ends net cells pending sound none stuck placed = rest_is net cells sound (record {
   count = placed.count;
-  heads = heads;
-  steps = steps;
-  reasons = reasons;
+  heads = λ j low. (each j low).above;
+  steps = λ i j len first second asks. ((each j second).steps i len first asks).1;
+  reasons = λ j low. (each j low).reason;
   least = λ others meets j low. (each j low).least others meets;
-  low = low_heads;
-  soon = λ j low.
-      let soon = soon_of net.inst net.decisions cells sound.valid placed.count heads steps reasons short low_heads j low in
-      omega (arith, soon);
-}
+  low = λ j low. (each j low).low;
+})
   where
     waits : (j : ℕ) → (j < length net.inst.tasks) × (is_pending pending j ≡ true)
         → (i : ℕ) × ((i < length net.inst.tasks) × (is_pending pending i ≡ true))
@@ -298,23 +221,3 @@ place_ends net cells pending sound none stuck placed = record {
           (λ k. (k < length net.inst.tasks) × (is_pending pending k ≡ true)) waits j low (low, on))
       | inr off ↦ placed.each j low off
     ]
-
-    heads : (j : ℕ) → j < length net.inst.tasks → head net.inst net.decisions j ≤ start_at cells j
-    heads j low = (each j low).above
-
-    low_heads : (j : ℕ) → j < length net.inst.tasks → head net.inst net.decisions j ≤ 2147483648
-    low_heads j low = (each j low).low
-
-    reasons : (j : ℕ) → j < length net.inst.tasks
-        → IsReason net.inst net.decisions cells j (raiser_at (length net.inst.tasks) cells j)
-    reasons j low = (each j low).reason
-
-    steps : (i j len : ℕ) → i < length net.inst.tasks → j < length net.inst.tasks
-        → forced net.inst net.decisions i j ≡ Some len → start_at cells i + len ≤ start_at cells j
-    steps i j len first second asks = ((each j second).steps i len first asks).1
-
-    short : (i j len : ℕ) → i < length net.inst.tasks → j < length net.inst.tasks
-        → forced net.inst net.decisions i j ≡ Some len → len ≤ 2147483648
-    short i j len first second asks =
-        let found = newest_in i j len net.arcs (sound.all.newest i j first second ∙ asks) in
-        omega (arith, arc_of (λ arc. arc.len ≤ 2147483648) net.arcs sound.low found.0 found.1, found.4)

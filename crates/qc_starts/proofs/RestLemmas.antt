@@ -17,9 +17,11 @@ use Rattle.qc_model.proofs.NodeLemmas.{ends_by}
 use Rattle.qc_model.proofs.OnRail.{ticks_bounded}
 use Rattle.qc_num.specs.declared.bound.Bound.TheVariants.{Least, Never}
 use Rattle.qc_starts.specs.Found.{IsLatest, end_by, end_in, starts_in, why_in}
+use Rattle.qc_starts.specs.NodeArcs.{IsSound, NodeArcs}
 use Rattle.qc_starts.specs.Seen.{IsCycle, IsNodeStart}
-use Rattle.qc_starts.specs.Values.{AreRest, IsReason, raiser_at, start_at}
+use Rattle.qc_starts.specs.Values.{AreAtMost, AreRest, IsReason, raiser_at, start_at}
 use Rattle.qc_starts.specs.Ways.{AreBacked, IsBackTo, IsLinked, IsRing, IsRising, IsWay, Why, last_of}
+use Rattle.qc_starts.proofs.ArcLemmas.{arc_of, newest_in}
 use Rattle.qc_starts.proofs.SelfLemmas.{self_free}
 use Rattle.qc_starts.proofs.WayLemmas.{chain_exists, way_length}
 
@@ -146,22 +148,50 @@ module _ (inst : InstanceView) (ds : List Decision) (cells : List ℕ) (valid : 
 
 -- ---- starts at rest
 
-module _ (inst : InstanceView) (ds : List Decision) (cells : List ℕ) (valid : Valid inst)
-    (count : length cells ≡ 2 * length inst.tasks)
-    (heads : (j : ℕ) → j < length inst.tasks → head inst ds j ≤ start_at cells j)
-    (steps : (i j len : ℕ) → i < length inst.tasks → j < length inst.tasks → forced inst ds i j ≡ Some len
-    → start_at cells i + len ≤ start_at cells j)
-    (reasons : (j : ℕ) → j < length inst.tasks → IsReason inst ds cells j (raiser_at (length inst.tasks) cells j))
-    (low : (i j len : ℕ) → i < length inst.tasks → j < length inst.tasks → forced inst ds i j ≡ Some len
-    → len ≤ 2147483648)
-    (low_heads : (j : ℕ) → j < length inst.tasks → head inst ds j ≤ 2147483648) where
+-- what holds of starts at rest, but for their bound
+pub record IsTight (inst : InstanceView) (ds : List Decision) (cells : List ℕ) : Type 0 where
+  pub count : length cells ≡ 2 * length inst.tasks
+  pub heads : (j : ℕ) → j < length inst.tasks → head inst ds j ≤ start_at cells j
+  pub steps :
+      (i j len : ℕ) → i < length inst.tasks → j < length inst.tasks → forced inst ds i j ≡ Some len
+      → start_at cells i + len ≤ start_at cells j
+  pub reasons : (j : ℕ) → j < length inst.tasks → IsReason inst ds cells j (raiser_at (length inst.tasks) cells j)
+  pub least : AreAtMost inst ds cells
+  pub low : (j : ℕ) → j < length inst.tasks → head inst ds j ≤ 2147483648
+
+pub tight : (inst : InstanceView) (ds : List Decision) (cells : List ℕ) → AreRest inst ds cells → IsTight inst ds cells
+tight inst ds cells is = record {
+  count = is.count;
+  heads = is.heads;
+  steps = is.steps;
+  reasons = is.reasons;
+  least = is.least;
+  low = is.low;
+}
+
+module _ (net : NodeArcs) (cells : List ℕ) (sound : IsSound net) (is : IsTight net.inst net.decisions cells) where
+  abbrev inst : InstanceView
+  inst = net.inst
+
+  abbrev ds : List Decision
+  ds = net.decisions
+
+  valid : Valid net.inst
+  valid = sound.valid
+
+  low : (i j len : ℕ) → i < length inst.tasks → j < length inst.tasks → forced inst ds i j ≡ Some len
+      → len ≤ 2147483648
+  low i j len first second asks =
+      let found = newest_in i j len net.arcs (sound.all.newest i j first second ∙ asks) in
+      omega (arith, arc_of (λ arc. arc.len ≤ 2147483648) net.arcs sound.low found.0 found.1, found.4)
+
   abbrev ways : Why
   ways = why_in (length inst.tasks) cells
 
   pub rising_of : IsRising ways
   rising_of = λ i j under back.
-      let by = link inst ds cells valid reasons i j under back in
-      omega (arith, by.some, steps i j by.len by.task under by.step)
+      let by = link inst ds cells valid is.reasons i j under back in
+      omega (arith, by.some, is.steps i j by.len by.task under by.step)
 
   -- a way's ticks lead from the start of its first task to the end of its last
   way_ticks : (i : ℕ) (js : List ℕ) → i < length inst.tasks → IsLinked ways i js
@@ -173,9 +203,9 @@ module _ (inst : InstanceView) (ds : List Decision) (cells : List ℕ) (valid : 
       let bound = ticks_bounded inst valid i under in
       (ticks_of inst i, refl, refl, omega (arith, bound))
   way_ticks i (j ∷ js) under linked all =
-      let by = link inst ds cells valid reasons i j all.0 linked.0 in
+      let by = link inst ds cells valid is.reasons i j all.0 linked.0 in
       let rest = way_ticks j js all.0 linked.1 all.1 in
-      let kept = steps i j by.len by.task all.0 by.step in (
+      let kept = is.steps i j by.len by.task all.0 by.step in (
         by.len + rest.0,
         chain_step inst ds i j by.len rest.0 js by.step rest.1,
         omega (arith, rest.2, by.below, kept),
@@ -184,8 +214,8 @@ module _ (inst : InstanceView) (ds : List Decision) (cells : List ℕ) (valid : 
 
   starts_at_head : (j : ℕ) → j < length inst.tasks → ways.of j ≡ None → start_at cells j ≡ head inst ds j
   starts_at_head j under none =
-      let most = head_by inst ds cells valid reasons j (raiser_at (length inst.tasks) cells j) (reasons j under) none in
-      omega (arith, most, heads j under)
+      let most = head_by inst ds cells valid is.reasons j (raiser_at (length inst.tasks) cells j) (is.reasons j under) none in
+      omega (arith, most, is.heads j under)
 
   -- the chain to a task shows its end
   pub chain_shows : (last : ℕ) (path : List ℕ) → IsBackTo ways last path
@@ -200,16 +230,27 @@ module _ (inst : InstanceView) (ds : List Decision) (cells : List ℕ) (valid : 
       let shown : head inst ds i + ticks.0 ≡ end_in inst cells last = omega (arith, first, ticks.2, ends) in
       let all = chain_end with_berths inst ds (i ∷ js) in
       let few = way_length ways last i js way in (
-        cond-true (are_tasks inst (i ∷ js)) (option_map Least all) None (way_tasks inst ds cells valid reasons last i js way)
+        cond-true (are_tasks inst (i ∷ js)) (option_map Least all) None (way_tasks inst ds cells valid is.reasons last i js way)
             ∙ ap (option_map Least) (ap (option_map (λ n. head inst ds i + n)) ticks.1 ∙ ap Some shown),
         few,
-        omega (arith, shown, ticks.3, low_heads i way.inside.0, few, valid.tasks.count),
+        omega (arith, shown, ticks.3, is.low i way.inside.0, few, valid.tasks.count),
       )
 
   pub soon_of : (j : ℕ) → j < length inst.tasks → end_in inst cells j ≤ 999999999999
   soon_of j under =
-      let path = chain_exists ways (backed_of inst ds cells valid reasons) rising_of j under in
+      let path = chain_exists ways (backed_of inst ds cells valid is.reasons) rising_of j under in
       (chain_shows j path.0 path.1).2
+
+  pub rest_is : AreRest net.inst net.decisions cells
+  rest_is = record {
+    count = is.count;
+    heads = is.heads;
+    steps = is.steps;
+    reasons = is.reasons;
+    least = is.least;
+    low = is.low;
+    soon = λ j under. omega (arith, soon_of j under);
+  }
 
 -- ---- what starts at rest answer
 

@@ -2,55 +2,27 @@
 use Rattle.std.proofs.Common.{◌≡◌, ◌≢◌, ℕ, ◌+◌, ◌<◌, ◌≤◌, ◌⊎◌, inl, inr, Bool, true, false, ◌&&◌, eqb, cond, List, [], ◌∷◌, length, Option, None, Some, refl, sym, ap, subst, subst₂, ◌∙◌, arith}
 use Rattle.std.proofs.lemmas.Bool.{and_parts, cases_Bool, cases_eq, cases_lt, cond-false, cond-true, cond_both, eq-eqb, eqb-true, ltb-false, ltb-true, false≢true}
 use Rattle.std.proofs.lemmas.List.{get_or-set_other, get_or-set_same}
-use Rattle.std.proofs.lemmas.Option.{same_Some}
 use Rattle.std.proofs.Math.ListN.{get_or-eq_default, length-set}
 use Rattle.std.specs.Prelude.{filter, slice_index, slice_set}
-use Rattle.std.specs.List.{AllByRecursion}
 use Rattle.qc_arena.specs.declared.edge.Edge.{Edge}
-use Rattle.qc_model.specs.Instance.{Valid}
-use Rattle.qc_model.specs.Nodes.{Fits, Meets, forced, head}
-use Rattle.qc_starts.specs.Arcs.{AreArcs, AreLow, IsArc, leads, newest_length}
+use Rattle.qc_model.specs.Nodes.{Meets, forced, head}
+use Rattle.qc_starts.specs.Arcs.{IsArc}
 use Rattle.qc_starts.specs.NodeArcs.{IsSound, NodeArcs}
-use Rattle.qc_starts.specs.Spread.{IsBackAtRoot, IsIn, IsInto, IsLifted, IsMet, IsOnly, IsRaisedBy, IsRaising, IsRooting, IsSpreading, from_task, into_task, is_late, is_pending, left, left_of, one_of}
+use Rattle.qc_starts.specs.Place.{IsReasonBy, IsSoonest}
+use Rattle.qc_starts.specs.Spread.{IsBackAtRoot, IsIn, IsLifted, IsMet, IsOnly, IsRaisedBy, IsRaising, IsRooting, IsSpreading, from_task, is_late, is_pending, left, left_of, one_of}
 use Rattle.qc_starts.specs.Values.{AreRest, IsReason, raised, raiser_at, start_at}
+use Rattle.qc_starts.proofs.ArcLemmas.{arc_of, newest_in}
 use Rattle.qc_starts.proofs.Counts.{total-le, total-lt}
 use Rattle.qc_starts.proofs.RaisedLemmas.{raised_count, raised_here, raised_other, reason_of_here, reason_of_other}
-use Rattle.qc_starts.proofs.RestLemmas.{soon_of}
+use Rattle.qc_starts.proofs.RestLemmas.{rest_is}
 use Rattle.qc_starts.proofs.SelfLemmas.{self_free}
 
--- ---- arcs
-
-pub arc_of : (P : Edge → Type 0) (arcs : List Edge) → AllByRecursion P arcs → (arc : Edge) → IsIn arcs arc → P arc
-arc_of P [] all arc in_ = absurd in_
-arc_of P (x ∷ xs) all arc (inl same) = subst P same all.0
-arc_of P (x ∷ xs) all arc (inr in_) = arc_of P xs all.1 arc in_
-
-pub newest_in : (i j len : ℕ) (arcs : List Edge) → newest_length i j arcs ≡ Some len
-    → (arc : Edge) × IsIn arcs arc × (arc.from ≡ i) × (arc.to ≡ j) × (arc.len ≡ len)
-newest_in i j len [] is = absurd (cc)
-newest_in i j len (arc ∷ arcs) is = elim (cases_Bool (leads i j arc)) [
-  | inl here ↦
-      let parts = and_parts (eqb arc.from i) (eqb arc.to j) here in
-      let same = same_Some arc.len len (sym (cond-true (leads i j arc) (Some arc.len) (newest_length i j arcs) here) ∙ is) in
-      (arc, inl refl, eqb-true arc.from i parts.0, eqb-true arc.to j parts.1, same)
-  | inr away ↦
-      let rest = newest_in i j len arcs (sym (cond-false (leads i j arc) (Some arc.len) (newest_length i j arcs) away) ∙ is) in
-      (rest.0, inr rest.1, rest.2, rest.3, rest.4)
-]
-
 -- ---- a raise
-
--- why a task may be raised to this start
-abbrev pub IsReasonFor : NodeArcs → List ℕ → ℕ → ℕ → Option ℕ → Type 0
-IsReasonFor net cells z s None = s ≤ head net.inst net.decisions z
-IsReasonFor net cells z s (Some i) =
-    (i < length net.inst.tasks) × (len : ℕ) × (forced net.inst net.decisions i z ≡ Some len)
-    × (s ≤ start_at cells i + len)
 
 pub record IsRaise (net : NodeArcs) (root : ℕ) (olds cells : List ℕ) (z s : ℕ) (why : Option ℕ) : Type 0 where
   pub task : z < length net.inst.tasks
   pub late : start_at cells z < s
-  pub reason : IsReasonFor net cells z s why
+  pub reason : IsReasonBy net cells z s why
   pub least : (others : List ℕ) → Meets net.inst net.decisions others → s ≤ slice_index others z
   pub bound : z ≢ root → s ≤ start_at olds z + (start_at cells root + 2147483648)
   pub by : z ≢ root → (i : ℕ) × (why ≡ Some i) × (i < length net.inst.tasks) × IsLifted root olds cells i
@@ -90,7 +62,7 @@ module _ (net : NodeArcs) (root : ℕ) (olds cells : List ℕ) (z s : ℕ) (why 
   reason_up j None same w = omega arith
   reason_up j (Some i) same w = (w.0, w.1, w.2, omega (arith, same, w.3, starts_up i w.0))
 
-  reason_here : (o : Option ℕ) → IsReasonFor net cells z s o → IsReason net.inst net.decisions news z o
+  reason_here : (o : Option ℕ) → IsReasonBy net cells z s o → IsReason net.inst net.decisions news z o
   reason_here None w = omega (arith, start_here)
   reason_here (Some i) w = (w.0, w.1, w.2, omega (arith, start_here, w.3, starts_up i w.0))
 
@@ -151,24 +123,24 @@ module _ (net : NodeArcs) (root : ℕ) (olds cells : List ℕ) (z s : ℕ) (why 
 
 -- ---- an arc that asks for a later start
 
-module _ (net : NodeArcs) (root : ℕ) (olds cells : List ℕ) (valid : Valid net.inst)
-    (fits : Fits net.inst net.decisions) (are : AreArcs net.inst net.decisions net.arcs) (short : AreLow net.arcs)
-    (arc : Edge) (in_ : IsIn net.arcs arc) (late : is_late cells arc ≡ true) (is : IsRaising net root olds cells) where
+pub ends_apart : (net : NodeArcs) → IsSound net → (arc : Edge) → IsIn net.arcs arc → arc.from ≢ arc.to
+ends_apart net sound arc in_ same =
+    let asks = arc_of (IsArc net.inst net.decisions) net.arcs sound.all.each arc in_ in
+    let loop : forced net.inst net.decisions arc.from arc.from ≡ Some asks.ticks =
+    subst (λ (j : ℕ). forced net.inst net.decisions arc.from j ≡ Some asks.ticks) (sym same) asks.is in
+    let clash : None ≡ Some asks.ticks = sym (self_free net.inst net.decisions sound.valid sound.fits arc.from) ∙ loop in
+    cc
+
+module _ (net : NodeArcs) (root : ℕ) (olds cells : List ℕ) (sound : IsSound net) (arc : Edge)
+    (in_ : IsIn net.arcs arc) (late : is_late cells arc ≡ true) (is : IsRaising net root olds cells) where
   abbrev asks : IsArc net.inst net.decisions arc
-  asks = arc_of (IsArc net.inst net.decisions) net.arcs are.each arc in_
+  asks = arc_of (IsArc net.inst net.decisions) net.arcs sound.all.each arc in_
 
   abbrev until : ℕ
   until = start_at cells arc.from + arc.len
 
   length_low : arc.len ≤ 2147483648
-  length_low = arc_of (λ arc. arc.len ≤ 2147483648) net.arcs short arc in_
-
-  pub ends_apart : arc.from ≢ arc.to
-  ends_apart same =
-      let loop : forced net.inst net.decisions arc.from arc.from ≡ Some asks.ticks =
-      subst (λ (j : ℕ). forced net.inst net.decisions arc.from j ≡ Some asks.ticks) (sym same) asks.is in
-      let clash : None ≡ Some asks.ticks = sym (self_free net.inst net.decisions valid fits arc.from) ∙ loop in
-      cc
+  length_low = arc_of (λ arc. arc.len ≤ 2147483648) net.arcs sound.low arc in_
 
   pub arc_raise : (arc.to ≢ root → IsLifted root olds cells arc.from) → IsRaise net root olds cells arc.to until (Some arc.from)
   arc_raise lifted = record {
@@ -197,59 +169,28 @@ module _ (net : NodeArcs) (root : ℕ) (olds cells : List ℕ) (is : IsRooting n
     top = omega (arith, start_here net root olds cells root s why is.raising r);
   }
 
-  pub rooting_head : start_at cells root < head net.inst net.decisions root
-      → head net.inst net.decisions root ≤ 2147483648
-      → IsRooting net root olds
-      (raised (length net.inst.tasks) cells root (head net.inst net.decisions root) None)
-  rooting_head late low =
-      rooting_by (head net.inst net.decisions root) None (record {
-        task = is.raising.inside;
-        late = late;
-        reason = omega arith;
-        least = λ others meets. meets.heads root is.raising.inside;
-        bound = λ other. absurd (other refl);
-        by = λ other. absurd (other refl);
-      }) (omega arith)
-
-  pub rooting_arc : Valid net.inst → Fits net.inst net.decisions → AreArcs net.inst net.decisions net.arcs
-      → AreLow net.arcs → (arc : Edge) → IsIn net.arcs arc → arc.to ≡ root → is_late cells arc ≡ true
-      → IsRooting net root olds
-      (raised (length net.inst.tasks) cells root (start_at cells arc.from + arc.len) (Some arc.from))
-  rooting_arc valid fits are short arc in_ same late =
-      let asks = arc_of (IsArc net.inst net.decisions) net.arcs are.each arc in_ in
-      let low = arc_of (λ arc. arc.len ≤ 2147483648) net.arcs short arc in_ in
-      let apart = ends_apart net root olds cells valid fits are short arc in_ late is.raising in
-      let off : arc.from ≢ root = λ e. apart (e ∙ sym same) in
-      let r = arc_raise net root olds cells valid fits are short arc in_ late is.raising (λ other. absurd (other same)) in
-      rooting_by (start_at cells arc.from + arc.len) (Some arc.from)
-      (subst (λ (x : ℕ). IsRaise net root olds cells x (start_at cells arc.from + arc.len) (Some arc.from)) same r)
-      (omega (arith, is.still arc.from asks.from off, is.raising.soon arc.from asks.from, low))
-
   -- the root is the first to be looked at
-  pub spread_begins : head net.inst net.decisions root ≤ start_at cells root
+  pub spread_begins : IsSound net → head net.inst net.decisions root ≤ start_at cells root
       → head net.inst net.decisions root ≤ 2147483648
       → ((arc : Edge) → IsIn net.arcs arc → arc.to ≡ root → IsMet cells arc)
-      → AreArcs net.inst net.decisions net.arcs
-      → (pending : List Bool) → length pending ≡ length net.inst.tasks
-      → is_pending pending root ≡ true
-      → ((j : ℕ) → j ≢ root → is_pending pending j ≡ false)
+      → (pending : List Bool) → IsOnly pending (length net.inst.tasks) root
       → IsSpreading net root olds cells pending []
-  spread_begins heads low into are pending size first others = record {
+  spread_begins sound heads low into pending only = record {
     raising = is.raising;
     above = heads;
     low = low;
     top = is.top;
-    size = size;
+    size = only.size;
     pended = λ j t. elim (cases_eq j root) [
       | inl same ↦ inl same
-      | inr other ↦ absurd (false≢true (sym (others j other) ∙ t))
+      | inr other ↦ absurd (false≢true (sym (only.others j other) ∙ t))
     ];
     met = λ arc in_ done.
-        let asks = arc_of (IsArc net.inst net.decisions) net.arcs are.each arc in_ in
+        let asks = arc_of (IsArc net.inst net.decisions) net.arcs sound.all.each arc in_ in
         elim (cases_eq arc.to root) [
           | inl same ↦ inl (into arc in_ same)
           | inr other ↦ elim (cases_eq arc.from root) [
-            | inl same ↦ absurd (false≢true (sym done ∙ ap (is_pending pending) same ∙ first))
+            | inl same ↦ absurd (false≢true (sym done ∙ ap (is_pending pending) same ∙ only.first))
             | inr off ↦ inl (omega (
               arith,
               is.still arc.from asks.from off,
@@ -259,6 +200,50 @@ module _ (net : NodeArcs) (root : ℕ) (olds cells : List ℕ) (is : IsRooting n
           ]
         ];
   }
+
+module _ (net : NodeArcs) (root : ℕ) (olds cells : List ℕ) (sound : IsSound net)
+    (is : IsRooting net root olds cells) (pending : List Bool) (only : IsOnly pending (length net.inst.tasks) root)
+    (s : ℕ) (why : Option ℕ) (soonest : IsSoonest net cells root s why []) where
+  from_task_of : (arc : Edge) → IsIn net.arcs arc → arc.to ≡ root → (arc.from < length net.inst.tasks) × (arc.from ≢ root)
+  from_task_of arc in_ same =
+      let asks = arc_of (IsArc net.inst net.decisions) net.arcs sound.all.each arc in_ in
+      (asks.from, λ loop. ends_apart net sound arc in_ (loop ∙ sym same))
+
+  -- the arcs into the root come from tasks that start as before
+  pub root_soon : (arc : Edge) → IsIn net.arcs arc → arc.to ≡ root → start_at cells arc.from ≤ 999999999999
+  root_soon arc in_ same =
+      let from = from_task_of arc in_ same in
+      omega (arith, is.still arc.from from.0 from.1, is.raising.soon arc.from from.0)
+
+  met_by : (arc : Edge) → IsIn net.arcs arc → arc.to ≡ root → start_at cells arc.from + arc.len ≤ s
+  met_by arc in_ same = elim (soonest.met arc in_ same) [ inl met ↦ met | inr never ↦ absurd never ]
+
+  pub root_stays : s ≤ start_at cells root → IsSpreading net root olds cells pending []
+  root_stays early =
+      spread_begins net root olds cells is sound (omega (arith, soonest.above)) soonest.low
+      (λ arc in_ same. omega (arith, met_by arc in_ same, ap (start_at cells) same)) pending only
+
+  pub root_rises : start_at cells root < s
+      → IsSpreading net root olds (raised (length net.inst.tasks) cells root s why) pending []
+  root_rises late =
+      let r : IsRaise net root olds cells root s why = record {
+        task = is.raising.inside;
+        late = late;
+        reason = soonest.reason;
+        least = λ others meets. soonest.least others meets
+            (λ arc in_ same. is.raising.least others meets arc.from (from_task_of arc in_ same).0);
+        bound = λ other. absurd (other refl);
+        by = λ other. absurd (other refl);
+      } in
+      let news = raised (length net.inst.tasks) cells root s why in
+      let rooted = rooting_by net root olds cells is s why r (omega (arith, soonest.bound 999999999999 root_soon)) in
+      let here = start_here net root olds cells root s why is.raising r in
+      spread_begins net root olds news rooted sound (omega (arith, here, soonest.above)) soonest.low
+      (λ arc in_ same.
+      let from = from_task_of arc in_ same in
+      let still = start_other net root olds cells root s why is.raising r arc.from from.0 from.1 in
+      omega (arith, here, still, met_by arc in_ same, ap (start_at news) same))
+      pending only
 
 -- ---- starts are raised behind the root
 
@@ -282,15 +267,13 @@ module _ (net : NodeArcs) (root : ℕ) (olds cells : List ℕ) (pending : List B
     ];
   }
 
-  module _ (valid : Valid net.inst) (fits : Fits net.inst net.decisions)
-      (are : AreArcs net.inst net.decisions net.arcs) (short : AreLow net.arcs) (in_ : IsIn net.arcs arc)
-      (late : is_late cells arc ≡ true) (lifted : IsLifted root olds cells arc.from)
+  module _ (sound : IsSound net) (in_ : IsIn net.arcs arc) (late : is_late cells arc ≡ true) (lifted : IsLifted root olds cells arc.from)
       (is : IsSpreading net root olds cells pending (arc ∷ rest)) where
     abbrev later : List ℕ
     later = raised (length net.inst.tasks) cells arc.to (start_at cells arc.from + arc.len) (Some arc.from)
 
     raise_is : IsRaise net root olds cells arc.to (start_at cells arc.from + arc.len) (Some arc.from)
-    raise_is = arc_raise net root olds cells valid fits are short arc in_ late is.raising (λ _. lifted)
+    raise_is = arc_raise net root olds cells sound arc in_ late is.raising (λ _. lifted)
 
     up : (j : ℕ) → j < length net.inst.tasks → start_at cells j ≤ start_at later j
     up = starts_up net root olds cells arc.to (start_at cells arc.from + arc.len) (Some arc.from) is.raising raise_is
@@ -357,14 +340,14 @@ module _ (net : NodeArcs) (root : ℕ) (olds cells : List ℕ) (pending : List B
               more_lifted j (inside j before) (is.pended j before)
         ];
         met = λ one among done.
-            let asks = arc_of (IsArc net.inst net.decisions) net.arcs are.each one among in
+            let asks = arc_of (IsArc net.inst net.decisions) net.arcs sound.all.each one among in
             elim (cases_eq one.from arc.to) [
               | inl same ↦ absurd (false≢true (sym done ∙ ap (is_pending after) same ∙ pend_here))
               | inr off ↦ elim (is.met one among (sym (pend_other one.from off) ∙ done)) [
                 | inl met ↦ inl (omega (arith, same_start one.from asks.from off, met, up one.to asks.to))
                 | inr left_over ↦ elim left_over [
                   | inl same ↦
-                      let apart = ends_apart net root olds cells valid fits are short arc in_ late is.raising in
+                      let apart = ends_apart net sound arc in_ in
                       let now : IsMet later arc = omega (arith, here, same_start arc.from raise_is.reason.0 apart) in
                       inl (subst (IsMet later) same now)
                   | inr more ↦ inr more
@@ -478,14 +461,12 @@ looking_begins net root task olds cells pending arcs are is lifted = record {
 }
 
 module _ (net : NodeArcs) (root task : ℕ) (olds cells : List ℕ) (pending : List Bool) (rest : List Edge)
-    (before : ℕ) (arc : Edge) (valid : Valid net.inst) (fits : Fits net.inst net.decisions)
-    (are : AreArcs net.inst net.decisions net.arcs) (short : AreLow net.arcs)
-    (is : IsLooking net root task olds cells pending (arc ∷ rest) before) where
+    (before : ℕ) (arc : Edge) (sound : IsSound net) (is : IsLooking net root task olds cells pending (arc ∷ rest) before) where
   among : IsIn net.arcs arc
   among = (is.inside arc (inl refl)).0
 
   pub looking_asks : IsArc net.inst net.decisions arc
-  looking_asks = arc_of (IsArc net.inst net.decisions) net.arcs are.each arc among
+  looking_asks = arc_of (IsArc net.inst net.decisions) net.arcs sound.all.each arc among
 
   lifted_from : IsLifted root olds cells arc.from
   lifted_from = subst (IsLifted root olds cells) (sym (is.inside arc (inl refl)).1) is.lifted
@@ -493,7 +474,7 @@ module _ (net : NodeArcs) (root task : ℕ) (olds cells : List ℕ) (pending : L
   -- the sum fits
   pub looking_fits : start_at cells arc.from + arc.len ≤ 18446744073709551615
   looking_fits =
-      let short_one = arc_of (λ arc. arc.len ≤ 2147483648) net.arcs short arc among in
+      let short_one = arc_of (λ arc. arc.len ≤ 2147483648) net.arcs sound.low arc among in
       let raising = is.spreading.raising in
       elim (cases_eq arc.from root) [
         | inl same ↦ omega (arith, ap (start_at cells) same, is.spreading.top, short_one)
@@ -514,7 +495,7 @@ module _ (net : NodeArcs) (root task : ℕ) (olds cells : List ℕ) (pending : L
       let parts = and_parts (is_late cells arc) (eqb arc.to root) both in
       let later = raised (length net.inst.tasks) cells arc.to (start_at cells arc.from + arc.len) (Some arc.from) in
       subst (IsBackAtRoot net root olds) (sym (cond-true (is_late cells arc) later cells parts.0))
-      (spread_back net root olds cells pending rest arc valid fits are short among parts.0 lifted_from is.spreading
+      (spread_back net root olds cells pending rest arc sound among parts.0 lifted_from is.spreading
       (eqb-true arc.to root parts.1))
 
   pub looking_next : (late : Bool) → is_late cells arc ≡ late → (late && eqb arc.to root) ≡ false
@@ -528,16 +509,16 @@ module _ (net : NodeArcs) (root task : ℕ) (olds cells : List ℕ) (pending : L
     less = is.less;
   }
   looking_next true late other = record {
-    spreading = spread_raise net root olds cells pending rest arc valid fits are short among late lifted_from is.spreading
+    spreading = spread_raise net root olds cells pending rest arc sound among late lifted_from is.spreading
         (off other);
     lifted = subst (IsLifted root olds _) (is.inside arc (inl refl)).1
-        (more_lifted net root olds cells pending rest arc valid fits are short among late lifted_from is.spreading
+        (more_lifted net root olds cells pending rest arc sound among late lifted_from is.spreading
         arc.from looking_asks.from lifted_from);
     inside = λ one in_. is.inside one (inr in_);
     less = omega (
       arith,
       is.less,
-      left_less net root olds cells pending rest arc valid fits are short among late lifted_from
+      left_less net root olds cells pending rest arc sound among late lifted_from
           is.spreading (off other),
     );
   }
@@ -563,230 +544,36 @@ module _ (net : NodeArcs) (root task : ℕ) (olds cells : List ℕ) (pending : L
         subst₂ (λ (xs : List ℕ) (ms : List Bool). IsLooking net root task olds xs ms rest before)
         (sym starts_are) (sym are_marks) (looking_next (is_late cells arc) refl other)
 
--- ---- the arcs into the root, one after another
-
--- what holds while they are looked at
-pub record IsEntering
-    (net : NodeArcs) (root : ℕ) (olds cells : List ℕ) (pending : List Bool) (rest : List Edge) : Type 0 where
-  pub into : IsInto net root olds cells rest
-  pub only : IsOnly pending (length net.inst.tasks) root
-  pub inside : (arc : Edge) → IsIn rest arc → IsIn net.arcs arc × (arc.to ≡ root)
-
-pub entering_begins : (net : NodeArcs) (root : ℕ) (olds cells : List ℕ) (pending : List Bool) (arcs : List Edge)
-    → arcs ≡ into_task root net.arcs → IsInto net root olds cells (into_task root net.arcs)
-    → IsOnly pending (length net.inst.tasks) root → IsEntering net root olds cells pending arcs
-entering_begins net root olds cells pending arcs are into only = record {
-  into = subst (IsInto net root olds cells) (sym are) into;
-  only = only;
-  inside = λ arc in_.
-      let found = filter_in (λ arc. eqb arc.to root) net.arcs arc (subst (λ (xs : List Edge). IsIn xs arc) are in_) in
-      (found.0, eqb-true arc.to root found.1);
-}
-
-pub entering_ends : (net : NodeArcs) (root : ℕ) (olds cells : List ℕ) (pending : List Bool) → IsSound net
-    → IsEntering net root olds cells pending [] → IsSpreading net root olds cells pending []
-entering_ends net root olds cells pending sound is =
-    spread_begins net root olds cells is.into.rooting is.into.above is.into.low
-    (λ arc in_ same. elim (is.into.met arc in_ same) [ inl met ↦ met | inr never ↦ absurd never ])
-    sound.all pending is.only.size is.only.first is.only.others
-
-module _ (net : NodeArcs) (root : ℕ) (olds cells : List ℕ) (pending : List Bool) (rest : List Edge) (arc : Edge)
-    (sound : IsSound net) (is : IsEntering net root olds cells pending (arc ∷ rest)) where
-  entering_in : IsIn net.arcs arc
-  entering_in = (is.inside arc (inl refl)).0
-
-  to_root : arc.to ≡ root
-  to_root = (is.inside arc (inl refl)).1
-
-  pub entering_asks : IsArc net.inst net.decisions arc
-  entering_asks = arc_of (IsArc net.inst net.decisions) net.arcs sound.all.each arc entering_in
-
-  from_other : (one : Edge) → IsIn net.arcs one → one.to ≡ root → one.from ≢ root
-  from_other one in_ same loop =
-      let asks = arc_of (IsArc net.inst net.decisions) net.arcs sound.all.each one in_ in
-      let self : forced net.inst net.decisions root root ≡ Some asks.ticks =
-      subst₂ (λ (i j : ℕ). forced net.inst net.decisions i j ≡ Some asks.ticks) loop same asks.is in
-      let clash : None ≡ Some asks.ticks = sym (self_free net.inst net.decisions sound.valid sound.fits root) ∙ self in
-      absurd (cc)
-
-  pub entering_fits : start_at cells arc.from + arc.len ≤ 18446744073709551615
-  entering_fits =
-      let short = arc_of (λ arc. arc.len ≤ 2147483648) net.arcs sound.low arc entering_in in
-      let off = from_other arc entering_in to_root in
-      omega (
-        arith,
-        is.into.rooting.still arc.from entering_asks.from off,
-        is.into.rooting.raising.soon arc.from entering_asks.from,
-        short,
-      )
-
-  entering_next : (late : Bool) → is_late cells arc ≡ late
-      → IsEntering net root olds
-      (cond late (raised (length net.inst.tasks) cells arc.to (start_at cells arc.from + arc.len) (Some arc.from)) cells)
-      (cond late (slice_set pending arc.to true) pending) rest
-  entering_next false early = record {
-    into = record {
-      rooting = is.into.rooting;
-      above = is.into.above;
-      low = is.into.low;
-      met = λ one in_ same. elim (is.into.met one in_ same) [
-        | inl met ↦ inl met
-        | inr left_over ↦ elim left_over [
-          | inl this ↦ inl (subst (IsMet cells) this (ltb-false (start_at cells arc.to) (start_at cells arc.from + arc.len) early))
-          | inr more ↦ inr more
-        ]
-      ];
-    };
-    only = is.only;
-    inside = λ one in_. is.inside one (inr in_);
-  }
-  entering_next true late =
-      let s = start_at cells arc.from + arc.len in
-      let rooted = rooting_arc net root olds cells is.into.rooting sound.valid sound.fits sound.all sound.low arc
-      entering_in to_root late in
-      let r = arc_raise net root olds cells sound.valid sound.fits sound.all sound.low arc entering_in late
-      is.into.rooting.raising (λ other. absurd (other to_root)) in
-      let here = start_here net root olds cells arc.to s (Some arc.from) is.into.rooting.raising r in
-      let same_start = start_other net root olds cells arc.to s (Some arc.from) is.into.rooting.raising r in
-      let news = raised (length net.inst.tasks) cells arc.to s (Some arc.from) in
-      let root_is : start_at news root ≡ s = ap (start_at news) (sym to_root) ∙ here in
-      let old_root = ap (start_at cells) to_root in
-      record {
-        into = record {
-          rooting = subst (λ (x : ℕ). IsRooting net root olds (raised (length net.inst.tasks) cells x s (Some arc.from)))
-              (sym to_root) rooted;
-          above = omega (arith, is.into.above, root_is, r.late, old_root);
-          low = is.into.low;
-          met = λ one in_ same.
-              let asks = arc_of (IsArc net.inst net.decisions) net.arcs sound.all.each one in_ in
-              let off = from_other one in_ same in
-              let from = same_start one.from asks.from (λ e. off (e ∙ to_root)) in
-              let to = ap (start_at news) same in
-              let old_to = ap (start_at cells) same in
-              elim (is.into.met one in_ same) [
-                | inl met ↦ inl (omega (arith, from, to, old_to, root_is, met, r.late, old_root))
-                | inr left_over ↦ elim left_over [
-                  | inl this ↦
-                      let off_this = from_other arc entering_in to_root in
-                      let from_this = same_start arc.from entering_asks.from (λ e. off_this (e ∙ to_root)) in
-                      let now : IsMet news arc = omega (arith, here, from_this) in
-                      inl (subst (IsMet news) this now)
-                  | inr more ↦ inr more
-                ]
-              ];
-        };
-        only = record {
-          size = length-set pending arc.to true ∙ is.only.size;
-          first =
-              ap (is_pending (slice_set pending arc.to true)) (sym to_root)
-              ∙ get_or-set_same pending arc.to true false (omega (arith, is.only.size, entering_asks.to));
-          others = λ j other.
-              get_or-set_other pending arc.to j true false (λ e. other (e ∙ to_root)) ∙ is.only.others j other;
-        };
-        inside = λ one in_. is.inside one (inr in_);
-      }
-
-  pub entering_step : (after : List ℕ) (marks : List Bool) (k : ℕ) → k ≡ length net.inst.tasks
-      → after ≡ cond (is_late cells arc)
-      (raised k cells arc.to (start_at cells arc.from + arc.len) (Some arc.from)) cells
-      → marks ≡ cond (is_late cells arc) (slice_set pending arc.to true) pending
-      → IsEntering net root olds after marks rest
-  entering_step after marks k same starts are_marks =
-      let starts_are = subst (λ (m : ℕ). after ≡ cond (is_late cells arc)
-      (raised m cells arc.to (start_at cells arc.from + arc.len) (Some arc.from)) cells) same starts in
-      subst₂ (λ (xs : List ℕ) (ms : List Bool). IsEntering net root olds xs ms rest)
-      (sym starts_are) (sym are_marks) (entering_next (is_late cells arc) refl)
-
--- ---- the root's head
-
-module _ (net : NodeArcs) (root : ℕ) (olds cells : List ℕ) (rooting : IsRooting net root olds cells) (h : ℕ)
-    (is : h ≡ head net.inst net.decisions root) (low : h ≤ 2147483648) where
-  all_into : (arc : Edge) → IsIn net.arcs arc → arc.to ≡ root → IsIn (into_task root net.arcs) arc
-  all_into arc in_ same = in_filter (λ arc. eqb arc.to root) net.arcs arc in_ (eq-eqb arc.to root same)
-
-  pub head_early : h ≤ start_at cells root → IsInto net root olds cells (into_task root net.arcs)
-  head_early early = record {
-    rooting = rooting;
-    above = omega arith;
-    low = omega arith;
-    met = λ arc in_ same. inr (all_into arc in_ same);
-  }
-
-  pub head_late : start_at cells root < h
-      → IsInto net root olds (raised (length net.inst.tasks) cells root h None) (into_task root net.arcs)
-  head_late late =
-      let rooted = rooting_head net root olds cells rooting (omega arith) (omega arith) in
-      subst (λ (s : ℕ). IsInto net root olds (raised (length net.inst.tasks) cells root s None) (into_task root net.arcs)) (sym is)
-      (record {
-        rooting = rooted;
-        above = omega (arith, rooted_start rooted);
-        low = omega arith;
-        met = λ arc in_ same. inr (all_into arc in_ same);
-      })
-    where
-      rooted_start : IsRooting net root olds
-          (raised (length net.inst.tasks) cells root (head net.inst net.decisions root) None)
-          → start_at (raised (length net.inst.tasks) cells root (head net.inst net.decisions root) None) root
-          ≡ head net.inst net.decisions root
-      rooted_start _ =
-          start_here net root olds cells root (head net.inst net.decisions root) None rooting.raising (record {
-            task = rooting.raising.inside;
-            late = omega arith;
-            reason = omega arith;
-            least = λ others meets. meets.heads root rooting.raising.inside;
-            bound = λ other. absurd (other refl);
-            by = λ other. absurd (other refl);
-          })
-
 -- ---- the end
 
 pub spread_ends : (net : NodeArcs) (root : ℕ) (olds cells : List ℕ) (pending : List Bool) → IsSound net
     → ((j : ℕ) → j < length pending → is_pending pending j ≡ false)
     → IsSpreading net root olds cells pending [] → AreRest net.inst net.decisions cells
-spread_ends net root olds cells pending sound none is = record {
+spread_ends net root olds cells pending sound none is = rest_is net cells sound (record {
   count = is.raising.count;
-  heads = heads;
-  steps = steps;
+  heads = λ j under. elim (cases_eq j root) [
+    | inl same ↦ subst (λ (x : ℕ). head net.inst net.decisions x ≤ start_at cells x) (sym same) is.above
+    | inr other ↦ is.raising.heads j under other
+  ];
+  steps = λ i j len first second asks.
+      let found = newest_in i j len net.arcs (sound.all.newest i j first second ∙ asks) in
+      elim (is.met found.0 found.1 (all_done found.0.from)) [
+        | inl met ↦ omega (arith, met, found.4, ap (start_at cells) found.2, ap (start_at cells) found.3)
+        | inr never ↦ absurd never
+      ];
   reasons = is.raising.reasons;
   least = is.raising.least;
-  low = low;
-  soon = λ j under.
-      let soon = soon_of net.inst net.decisions cells sound.valid is.raising.count heads steps is.raising.reasons short low j under in
-      omega (arith, soon);
-}
+  low = λ j under. elim (cases_eq j root) [
+    | inl same ↦ subst (λ (x : ℕ). head net.inst net.decisions x ≤ 2147483648) (sym same) is.low
+    | inr other ↦ is.raising.low j under other
+  ];
+})
   where
     all_done : (j : ℕ) → is_pending pending j ≡ false
     all_done j = elim (cases_lt j (length pending)) [
       | inl l ↦ none j l
       | inr l ↦ get_or-eq_default pending false l
     ]
-
-    heads : (j : ℕ) → j < length net.inst.tasks → head net.inst net.decisions j ≤ start_at cells j
-    heads j under = elim (cases_eq j root) [
-      | inl same ↦ subst (λ (x : ℕ). head net.inst net.decisions x ≤ start_at cells x) (sym same) is.above
-      | inr other ↦ is.raising.heads j under other
-    ]
-
-    low : (j : ℕ) → j < length net.inst.tasks → head net.inst net.decisions j ≤ 2147483648
-    low j under = elim (cases_eq j root) [
-      | inl same ↦ subst (λ (x : ℕ). head net.inst net.decisions x ≤ 2147483648) (sym same) is.low
-      | inr other ↦ is.raising.low j under other
-    ]
-
-    steps : (i j len : ℕ) → i < length net.inst.tasks → j < length net.inst.tasks
-        → forced net.inst net.decisions i j ≡ Some len → start_at cells i + len ≤ start_at cells j
-    steps i j len first second asks =
-        let found = newest_in i j len net.arcs (sound.all.newest i j first second ∙ asks) in
-        elim (is.met found.0 found.1 (all_done found.0.from)) [
-          | inl met ↦ omega (arith, met, found.4, ap (start_at cells) found.2, ap (start_at cells) found.3)
-          | inr never ↦ absurd never
-        ]
-
-    short : (i j len : ℕ) → i < length net.inst.tasks → j < length net.inst.tasks
-        → forced net.inst net.decisions i j ≡ Some len → len ≤ 2147483648
-    short i j len first second asks =
-        let found = newest_in i j len net.arcs (sound.all.newest i j first second ∙ asks) in
-        omega (arith, arc_of (λ arc. arc.len ≤ 2147483648) net.arcs sound.low found.0 found.1, found.4)
 
 -- all arcs from a task are looked at
 pub look_from : (task : ℕ) (arcs : List Edge) (arc : Edge) → IsIn arcs arc → arc.from ≡ task
@@ -795,5 +582,5 @@ look_from task arcs arc in_ same = in_filter (λ arc. eqb arc.from task) arcs ar
 
 pub set_size : (after before : List Bool) (late : Bool) (p : ℕ)
     → after ≡ cond late (slice_set before p true) before → length after ≡ length before
-set_size after before true p is = ap (length {A = Bool}) is ∙ length-set before p true
-set_size after before false p is = ap (length {A = Bool}) is
+set_size xs ys true p is = ap (length {A = Bool}) is ∙ length-set ys p true
+set_size xs ys false p is = ap (length {A = Bool}) is

@@ -1,6 +1,7 @@
 -- The task that ends last, and the way to it.
-use Rattle.std.specs.Prelude.{◌≡◌, ℕ, ◌+◌, ◌<◌, ◌≤◌, Bool, true, nat_lt, List, length, take, Option, None, Some}
+use Rattle.std.specs.Prelude.{◌≡◌, ℕ, ◌+◌, ◌<◌, ◌≤◌, List, length, take, Option, None, Some}
 use Rattle.qc_model.specs.Instance.{InstanceView, ticks_of}
+use Rattle.qc_starts.specs.declared.latest.Last.{Last}
 use Rattle.qc_starts.specs.Values.{raiser_at, start_at}
 use Rattle.qc_starts.specs.Ways.{Why}
 
@@ -16,10 +17,6 @@ why_in count cells = record { count = count; start = start_at cells; of = raiser
 abbrev pub end_in : InstanceView → List ℕ → ℕ → ℕ
 end_in inst cells j = start_at cells j + ticks_of inst j
 
-abbrev pub is_later : InstanceView → List ℕ → Option ℕ → ℕ → Bool
-is_later inst cells None j = true
-is_later inst cells (Some i) j = nat_lt (end_in inst cells i) (end_in inst cells j)
-
 -- of the first tasks none ends later than this one
 abbrev pub IsLatest : InstanceView → List ℕ → ℕ → Option ℕ → Type 0
 IsLatest inst cells count None = count ≡ 0
@@ -30,6 +27,11 @@ IsLatest inst cells count (Some j) =
 abbrev pub end_by : InstanceView → List ℕ → Option ℕ → ℕ
 end_by inst cells None = 0
 end_by inst cells (Some j) = end_in inst cells j
+
+-- of the first tasks one that ends last, and when
+pub record IsLast (inst : InstanceView) (cells : List ℕ) (count : ℕ) (last : Last) : Type 0 where
+  pub latest : IsLatest inst cells count last.task
+  pub end : last.end ≡ end_by inst cells last.task
 
 -- the end of the task that ends last
 pub record HasLastEnd (inst : InstanceView) (cells : List ℕ) (end : ℕ) : Type 0 where

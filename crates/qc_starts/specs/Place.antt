@@ -45,14 +45,17 @@ IsReasonBy net cells j s (Some i) =
     (i < length net.inst.tasks) × (len : ℕ) × (forced net.inst net.decisions i j ≡ Some len)
     × (s ≤ start_at cells i + len)
 
--- the start of a task that is to be placed, by its head and by the arcs into it that were looked at
-pub record IsPlacing
-    (net : NodeArcs) (cells : List ℕ) (pending : List Bool) (j s : ℕ) (why : Option ℕ) (rest : List Edge)
-    : Type 0 where
+-- the start of a task by its head and by the arcs into it that were looked at
+pub record IsSoonest (net : NodeArcs) (cells : List ℕ) (j s : ℕ) (why : Option ℕ) (rest : List Edge) : Type 0 where
   pub above : head net.inst net.decisions j ≤ s
   pub low : head net.inst net.decisions j ≤ 2 ^ 31
   pub reason : IsReasonBy net cells j s why
-  pub least : (others : List ℕ) → Meets net.inst net.decisions others → s ≤ slice_index others j
+  pub least :
+      (others : List ℕ) → Meets net.inst net.decisions others
+      → ((arc : Edge) → IsIn net.arcs arc → arc.to ≡ j → start_at cells arc.from ≤ slice_index others arc.from)
+      → s ≤ slice_index others j
   pub met : (arc : Edge) → IsIn net.arcs arc → arc.to ≡ j → (start_at cells arc.from + arc.len ≤ s) ⊎ IsIn rest arc
   pub inside : (arc : Edge) → IsIn rest arc → IsIn net.arcs arc × (arc.to ≡ j)
-  pub bound : s + 2 ^ 31 * marks pending ≤ 2 ^ 31 * (length net.inst.tasks + 2)
+  pub bound :
+      (limit : ℕ) → ((arc : Edge) → IsIn net.arcs arc → arc.to ≡ j → start_at cells arc.from ≤ limit)
+      → s ≤ limit + 2 ^ 31

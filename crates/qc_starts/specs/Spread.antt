@@ -132,10 +132,3 @@ pub record IsOnly (pending : List Bool) (count root : ℕ) : Type 0 where
   pub size : length pending ≡ count
   pub first : is_pending pending root ≡ true
   pub others : (j : ℕ) → j ≢ root → is_pending pending j ≡ false
-
--- the root starts no earlier than its head, and the arcs into it are met but for those to come
-pub record IsInto (net : NodeArcs) (root : ℕ) (olds cells : List ℕ) (rest : List Edge) : Type 0 where
-  pub rooting : IsRooting net root olds cells
-  pub above : head net.inst net.decisions root ≤ start_at cells root
-  pub low : head net.inst net.decisions root ≤ 2 ^ 31
-  pub met : (arc : Edge) → IsIn net.arcs arc → arc.to ≡ root → IsMet cells arc ⊎ IsIn rest arc

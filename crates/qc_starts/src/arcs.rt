@@ -35,7 +35,7 @@ fn push_forced(decisions: &Decisions, inst: &Instance, from: u16, to: u16, arena
 }
 
 /// Adds an arc for what the cranes of two tasks ask for, one way or the other.
-fn push_added(decisions: &Decisions, inst: &Instance, one: u16, other: u16, arena: &mut ArcArena)
+fn push_between(decisions: &Decisions, inst: &Instance, one: u16, other: u16, arena: &mut ArcArena)
     requires same { decisions.now.inst ≡ inst.now }
     requires one { one < length inst.now.tasks }
     requires other { other < length inst.now.tasks }
@@ -59,6 +59,30 @@ fn push_added(decisions: &Decisions, inst: &Instance, one: u16, other: u16, aren
                 arena.push(other, one, len);
             }
         }
+    }
+}
+
+/// Adds an arc for what the cranes of two tasks ask for, if the second has one.
+fn push_added(decisions: &Decisions, inst: &Instance, one: u16, other: u16, arena: &mut ArcArena)
+    requires same { decisions.now.inst ≡ inst.now }
+    requires one { one < length inst.now.tasks }
+    requires other { other < length inst.now.tasks }
+    requires nodes { arena.old.nodes ≡ length inst.now.tasks }
+    requires room { length (with_added one other
+        (added inst.now decisions.now.decisions one other)
+        (added inst.now decisions.now.decisions other one)
+        (reverse arena.old.arcs)) ≤ arena.old.cap }
+    ensures arcs { reverse arena.new.arcs ≡ with_added one other
+        (added inst.now decisions.now.decisions one other)
+        (added inst.now decisions.now.decisions other one)
+        (reverse arena.old.arcs) }
+    ensures low { AreLow (reverse arena.old.arcs) → AreLow (reverse arena.new.arcs) }
+    ensures nodes { arena.new.nodes ≡ arena.old.nodes }
+    ensures cap { arena.new.cap ≡ arena.old.cap }
+{
+    match decisions.crane_of(other) {
+        None => {}
+        Some(_) => push_between(decisions, inst, one, other, arena),
     }
 }
 

@@ -1,10 +1,11 @@
 // Starts before any decision: each task is placed once all that it waits for are.
 
-ghost use Rattle.std.specs.Prelude.{◌≡◌, ◌+◌, ◌^◌, ◌<◌, [], true, Some, if◌then◌else◌, length, nat_lt};
+ghost use Rattle.std.specs.Prelude.{◌≡◌, ◌+◌, ◌*◌, ◌^◌, ◌<◌, ◌≤◌, [], true, Some, if◌then◌else◌, length, nat_lt};
 ghost use Rattle.qc_starts.specs.NodeArcs.{IsSound};
 ghost use Rattle.qc_starts.specs.Noting.{marks};
-ghost use Rattle.qc_starts.specs.Place.{ArePlaced, IsReady, IsReadyPick};
-ghost use Rattle.qc_starts.specs.Spread.{is_pending};
+ghost use Rattle.qc_arena.specs.declared.edge.Edge.{Edge};
+ghost use Rattle.qc_starts.specs.Place.{ArePlaced, IsReady, IsReadyPick, IsSoonest};
+ghost use Rattle.qc_starts.specs.Spread.{IsIn, is_pending};
 ghost use Rattle.qc_starts.specs.Values.{AreRest, start_at};
 
 use crate::network::Network;
@@ -61,6 +62,29 @@ impl Spread {
         }
     }
 
+    /// When a task can start by its head and by the arcs into it, and the task behind it that asks for
+    /// this, if one does.
+    pub(crate) fn soonest(
+        &self,
+        network: &Network,
+        inst: &Instance,
+        task: u16,
+    ) -> (Tick, Option<u16>)
+        requires same { network.now.inst ≡ inst.now }
+        requires task { task < length network.now.inst.tasks }
+        requires count { length self.now.values.cells ≡ 2 * length network.now.inst.tasks }
+        requires soon { (arc : Edge) → IsIn network.now.arcs arc → arc.to ≡ task
+            → start_at self.now.values.cells arc.from ≤ 2 ^ 42 }
+        ensures { IsSoonest network.now self.now.values.cells task result.0 result.1 [] }
+    {
+        let mut start = network.decisions().lead(inst, task);
+        let mut raiser = None;
+        for arc in network.arena().into_of(task) {
+            self.wait_for(arc, &mut start, &mut raiser);
+        }
+        (start, raiser)
+    }
+
     /// Places a task as early as its head and the arcs into it allow.
     fn place<L: Ledger>(
         &mut self,
@@ -70,6 +94,7 @@ impl Spread {
         steps: &mut Steps<L>,
     )
         requires same { network.now.inst ≡ inst.now }
+        requires sound { IsSound network.now }
         requires task { task < length network.now.inst.tasks }
         requires pending { is_pending self.old.pending.items task ≡ true }
         requires ready { IsReady network.now self.old.pending.items task true }
@@ -80,11 +105,7 @@ impl Spread {
         ensures noted { self.new.values.noted.items ≡ self.old.values.noted.items }
         ensures olds { self.new.olds.items ≡ self.old.olds.items }
     {
-        let mut start = network.decisions().lead(inst, task);
-        let mut raiser = None;
-        for arc in network.arena().into_of(task) {
-            self.wait_for(arc, &mut start, &mut raiser);
-        }
+        let (start, raiser) = self.soonest(network, inst, task);
         self.values
             .fill(task_count(inst), task, start, raiser, steps);
         self.pending[task as usize] = false;

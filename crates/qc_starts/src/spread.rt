@@ -4,7 +4,7 @@ ghost use Rattle.std.specs.Prelude.{◌≡◌, ℕ, ◌+◌, ◌*◌, ◌^◌, �
 ghost use Rattle.qc_starts.specs.NodeArcs.{IsSound};
 ghost use Rattle.qc_starts.specs.Noting.{HasNotes, Wrote};
 ghost use Rattle.qc_starts.specs.Opened.{HasBegun, IsOpened};
-ghost use Rattle.qc_starts.specs.Spread.{IsInto, IsLifted, IsLooked, IsOnly, IsPick, IsRooting, IsSettledTo, IsSpread, IsSpreading, from_task, into_task, is_late, left};
+ghost use Rattle.qc_starts.specs.Spread.{IsLifted, IsLooked, IsOnly, IsPick, IsRooting, IsSettledTo, IsSpread, IsSpreading, from_task, is_late, left};
 ghost use Rattle.qc_starts.specs.Values.{raised, start_at};
 
 use crate::network::Network;
@@ -200,43 +200,29 @@ impl Spread {
         false
     }
 
-    /// Raises the root to its head.
-    fn raise_head<L: Ledger>(
+    /// Raises the root to its head, and along the arcs into it.
+    fn raise_root<L: Ledger>(
         &mut self,
         network: &Network,
         inst: &Instance,
         root: u16,
         steps: &mut Steps<L>,
     )
+        requires sound { IsSound network.now }
         requires same { network.now.inst ≡ inst.now }
         requires rooting { IsRooting network.now root self.old.olds.items self.old.values.cells }
+        requires only { IsOnly self.old.pending.items (length network.now.inst.tasks) root }
         requires notes { HasNotes self.old.values }
         ensures olds { self.new.olds.items ≡ self.old.olds.items }
         ensures pending { self.new.pending.items ≡ self.old.pending.items }
         ensures wrote { Wrote self.old.values self.new.values steps.old steps.new }
-        ensures into { IsInto network.now root self.new.olds.items self.new.values.cells
-            (into_task root network.now.arcs) }
-    {
-        let head = network.decisions().lead(inst, root);
-        if self.values.start(root) < head {
-            self.values.raise(task_count(inst), root, head, None, steps);
-        }
-    }
-
-    /// Raises the root along the arcs into it.
-    fn raise_into<L: Ledger>(&mut self, network: &Network, root: u16, steps: &mut Steps<L>)
-        requires into { IsInto network.now root self.old.olds.items self.old.values.cells
-            (into_task root network.now.arcs) }
-        requires only { IsOnly self.old.pending.items (length network.now.inst.tasks) root }
-        requires notes { HasNotes self.old.values }
-        ensures size { length self.new.pending.items ≡ length self.old.pending.items }
-        ensures olds { self.new.olds.items ≡ self.old.olds.items }
-        ensures wrote { Wrote self.old.values self.new.values steps.old steps.new }
         ensures spreading { IsSpreading network.now root self.new.olds.items self.new.values.cells
             self.new.pending.items [] }
     {
-        for arc in network.arena().into_of(root) {
-            let _ = self.raise_by(arc, root, steps);
+        let (start, raiser) = self.soonest(network, inst, root);
+        if self.values.start(root) < start {
+            self.values
+                .raise(task_count(inst), root, start, raiser, steps);
         }
     }
 
@@ -259,8 +245,7 @@ impl Spread {
         ensures wrote { Wrote self.old.values self.new.values steps.old steps.new }
         ensures settled { IsSettledTo network.now root self.new.olds.items self.new.values.cells result }
     {
-        self.raise_head(network, inst, root, steps);
-        self.raise_into(network, root, steps);
+        self.raise_root(network, inst, root, steps);
         if self.raise_behind(network, root, steps) {
             Step::Cycle
         } else {

@@ -340,6 +340,7 @@ impl Starts {
     /// and behind them for each task the one that raised it.
     pub fn cells(&self) -> &Cells
         ensures cells { result.now ≡ self.now.cells }
+        ensures count { length self.now.cells ≡ 2 * length self.now.inst.tasks }
         ensures starts { HasStarts self.now.inst self.now.decisions
             → HoldsStarts self.now.inst self.now.decisions self.now.cells }
     {

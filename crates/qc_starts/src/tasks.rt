@@ -20,6 +20,7 @@ pub(crate) fn task_count(inst: &Instance) -> u16
 pub(crate) fn task_ticks(inst: &Instance, task: u16) -> Tick
     requires { task < length inst.now.tasks }
     ensures ticks { result ≡ ticks_of inst.now task }
+    ensures some { 1 ≤ result }
     ensures bound { result ≤ MOST_WORK }
     ensures few { length inst.now.tasks ≤ MOST_TASKS }
 {

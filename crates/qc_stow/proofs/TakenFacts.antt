@@ -1,7 +1,6 @@
 -- What is taken, by the rows that took it.
-use Rattle.std.proofs.Common.{◌≡◌, ◌++◌, ◌∷◌, ◌&&◌, ◌||◌, ◌==◌, List, [], map, Bool, true, false, refl, ap, ◌∙◌}
-use Rattle.std.proofs.lemmas.Grind.{flat_map-append}
-use Rattle.std.proofs.lemmas.List.{append-nil, map-append}
+use Rattle.std.proofs.Common.{◌≡◌, ◌++◌, ◌∷◌, ◌&&◌, ◌||◌, ◌==◌, List, [], map, Bool, true, false, refl, ◌∙◌}
+use Rattle.std.proofs.lemmas.List.{map-append}
 use Rattle.std.proofs.lemmas.List.Folds.{list_any-append}
 use Rattle.std.specs.List.{list_any}
 use Rattle.std.specs.Str.{bytes_eq}
@@ -98,8 +97,3 @@ cell-taken (first ∷ rows) row =
 -- one more row takes its id and its slots
 pub ids-more : (rows : List Row) (row : Row) → ids_of (rows ++ row ∷ []) ≡ ids_of rows ++ (row.kind, row.id) ∷ []
 ids-more rows row = map-append (λ (r : Row). (r.kind, r.id)) rows (row ∷ [])
-
-pub slots-more : (rows : List Row) (row : Row) → slots_taken (rows ++ row ∷ []) ≡ slots_taken rows ++ map (λ slot. (row.kind, slot)) (slots_of row.cell)
-slots-more rows row =
-    flat_map-append (λ (r : Row). map (λ (s : Slot). (r.kind, s)) (slots_of r.cell)) rows (row ∷ [])
-    ∙ ap (λ (last : List (Move × Slot)). slots_taken rows ++ last) (append-nil (map (λ (s : Slot). (row.kind, s)) (slots_of row.cell)))

@@ -50,4 +50,3 @@ module _ {A : Type 0} (step : Reads → Result A Refusal) (asked : Asked) where
   stop_is before after held told none (refusal.BadStow fault) h = comes_due held before.files told (Err (refusal.BadStow fault)) h.1
   stop_is before after held told none (refusal.BadPlan fault) h = comes_due held before.files told (Err (refusal.BadPlan fault)) h.1
   stop_is before after held told none (refusal.BadTree fault) h = comes_due held before.files told (Err (refusal.BadTree fault)) h.1
-  stop_is before after held told none refusal.Unbuilt h = comes_due held before.files told (Err refusal.Unbuilt) h.1

@@ -91,7 +91,7 @@ kind_none inst done bound is best same =
     is ∙ ap (λ (v : Bound). outcome v (best_end inst done.best)) same ∙ ap (λ (o : Option (List Slot)). outcome bound (best_end inst o)) best
 
 -- what holds of a value that is there
-of_some : {A : Type 0} (P : A → Type 0) (o : Option A) (a : A) → o ≡ Some a → IfSome o P → P a
+pub of_some : {A : Type 0} (P : A → Type 0) (o : Option A) (a : A) → o ≡ Some a → IfSome o P → P a
 of_some P None a e h = absurd (cc e)
 of_some P (Some b) a e h = let same : b ≡ a = cc in subst P same h
 

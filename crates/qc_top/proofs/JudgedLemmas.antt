@@ -24,7 +24,7 @@ use Rattle.qc_top.specs.declared.answer.Answer.{Answer}
 use Rattle.qc_top.specs.declared.answer.Answer.TheVariants as answer
 use Rattle.qc_top.specs.declared.reading.Job.{Job}
 use Rattle.qc_top.specs.declared.status.Status.TheVariants as status
-use Rattle.qc_words.specs.Asked.{Asked, plan, check, tasks, show, make, usage}
+use Rattle.qc_words.specs.Asked.{Asked, check}
 use Rattle.qc_top.specs.Asked.{IsCheckPlan}
 use Rattle.qc_top.specs.Due.{Reads, Work, judge, reads_in, instance_due, schedule_due, job_due, judge_due, tree_due, due}
 use Rattle.qc_top.specs.Answers.{bad_plan_text, compared_status, compared_text, compared_word, refusal_status, status_of}
@@ -84,30 +84,13 @@ pub tells_held : (asked : Asked) → IsCheckPlan asked → (files : Option Files
     → IfSome files (λ held. IsTreeShown job.inst (reads_in held asked).tree bound) → TellsTree asked files (answer.Compared told)
 tells_held (check s w (Some p) t) is files job bound told due same shown =
     shown_bound (check s w (Some p) t) files job (Least told.bound) due (subst (λ (b : Bound). IfSome files (λ held. IsTreeShown job.inst (reads_in held (check s w (Some p) t)).tree b)) same shown)
-tells_held (plan s w p t n) is files job bound told due same shown = absurd is
-tells_held (check s w None t) is files job bound told due same shown = absurd is
-tells_held (tasks s w) is files job bound told due same shown = absurd is
-tells_held (show s w p) is files job bound told due same shown = absurd is
-tells_held (make n h c) is files job bound told due same shown = absurd is
-tells_held usage is files job bound told due same shown = absurd is
+tells_held other is files job bound told due same shown = absurd is
 
 pub tells_stop : (asked : Asked) → IsCheckPlan asked → (files : Option Files) (why : Stop)
     → ((fault : TreeFault) → why ≡ stop.Refused (refusal.BadTree fault) → IfSome files (λ held. IsNoneShown asked held)) → TellsTree asked files (answer.Stopped why)
-tells_stop (check s w (Some p) t) is files stop.OutOfMemory none = tt
 tells_stop (check s w (Some p) t) is files (stop.Refused (refusal.BadTree fault)) none = none fault refl
-tells_stop (check s w (Some p) t) is files (stop.Refused refusal.Usage) none = tt
-tells_stop (check s w (Some p) t) is files (stop.Refused (refusal.ReadFault file)) none = tt
-tells_stop (check s w (Some p) t) is files (stop.Refused (refusal.TooLarge file)) none = tt
-tells_stop (check s w (Some p) t) is files (stop.Refused (refusal.BadShip fault)) none = tt
-tells_stop (check s w (Some p) t) is files (stop.Refused (refusal.BadStow fault)) none = tt
-tells_stop (check s w (Some p) t) is files (stop.Refused (refusal.BadPlan fault)) none = tt
-tells_stop (check s w (Some p) t) is files (stop.Refused refusal.Unbuilt) none = tt
-tells_stop (plan s w p t n) is files why none = absurd is
-tells_stop (check s w None t) is files why none = absurd is
-tells_stop (tasks s w) is files why none = absurd is
-tells_stop (show s w p) is files why none = absurd is
-tells_stop (make n h c) is files why none = absurd is
-tells_stop usage is files why none = absurd is
+tells_stop (check s w (Some p) t) is files other none = tt
+tells_stop other is files why none = absurd is
 
 -- ---- a tree's file is refused for itself alone
 abbrev IsOfTree : Refusal → Type 0
@@ -164,13 +147,7 @@ module _ (s w p t : List ℕ) (before after : Stand) (pb pa : Printed) where
   best_told (answer.Stopped (stop.Refused why)) judging shown e report = absurd (not_other why status.Optimal e)
   best_told (answer.Stopped stop.OutOfMemory) judging shown e report = absurd (cc e)
   best_told (answer.Broken told) judging shown e report = absurd (cc e)
-  best_told answer.WriteFault judging shown e report = absurd judging.ending
-  best_told (answer.Tasks inst) judging shown e report = absurd judging.ending
-  best_told (answer.Shown moved) judging shown e report = absurd judging.ending
-  best_told (answer.Checked bound) judging shown e report = absurd judging.ending
-  best_told (answer.Planned told) judging shown e report = absurd judging.ending
-  best_told (answer.Unplanned bound branched) judging shown e report = absurd judging.ending
-  best_told (answer.Infeasible branched) judging shown e report = absurd judging.ending
+  best_told other judging shown e report = absurd judging.ending
 
   pub weaker_told : (a : Answer) → IsJudging asked before after a → TellsTree asked before.files a → status_of a ≡ status.Weaker → IsPrinted a pb.bytes pa.bytes
       → IfSome before.files (λ held. IsWeakerTold asked held pb pa)
@@ -187,13 +164,7 @@ module _ (s w p t : List ℕ) (before after : Stand) (pb pa : Printed) where
   weaker_told (answer.Stopped (stop.Refused why)) judging shown e report = absurd (not_other why status.Weaker e)
   weaker_told (answer.Stopped stop.OutOfMemory) judging shown e report = absurd (cc e)
   weaker_told (answer.Broken told) judging shown e report = absurd (cc e)
-  weaker_told answer.WriteFault judging shown e report = absurd judging.ending
-  weaker_told (answer.Tasks inst) judging shown e report = absurd judging.ending
-  weaker_told (answer.Shown moved) judging shown e report = absurd judging.ending
-  weaker_told (answer.Checked bound) judging shown e report = absurd judging.ending
-  weaker_told (answer.Planned told) judging shown e report = absurd judging.ending
-  weaker_told (answer.Unplanned bound branched) judging shown e report = absurd judging.ending
-  weaker_told (answer.Infeasible branched) judging shown e report = absurd judging.ending
+  weaker_told other judging shown e report = absurd judging.ending
 
   pub broken_told : (a : Answer) → IsJudging asked before after a → status_of a ≡ status.Broken → IsPrinted a pb.bytes pa.bytes
       → IfSome before.files (λ held. IsBrokenTold asked held pb pa)
@@ -205,13 +176,7 @@ module _ (s w p t : List ℕ) (before after : Stand) (pb pa : Printed) where
   broken_told (answer.Compared told) judging e report = absurd (compared_ends told status.Broken e)
   broken_told (answer.Stopped (stop.Refused why)) judging e report = absurd (not_other why status.Broken e)
   broken_told (answer.Stopped stop.OutOfMemory) judging e report = absurd (cc e)
-  broken_told answer.WriteFault judging e report = absurd judging.ending
-  broken_told (answer.Tasks inst) judging e report = absurd judging.ending
-  broken_told (answer.Shown moved) judging e report = absurd judging.ending
-  broken_told (answer.Checked bound) judging e report = absurd judging.ending
-  broken_told (answer.Planned told) judging e report = absurd judging.ending
-  broken_told (answer.Unplanned bound branched) judging e report = absurd judging.ending
-  broken_told (answer.Infeasible branched) judging e report = absurd judging.ending
+  broken_told other judging e report = absurd judging.ending
 
   bad_plan_due : (fault : PlanFault) (files : Option Files) → (ComesTo (due asked) asked files (Err (refusal.BadPlan fault)) ⊎ ((inst : InstanceView) × ComesTo (tree_due inst) asked files (Err (refusal.BadPlan fault))))
       → pa.bytes ≡ append_known pb.bytes (bad_plan_text fault) → IfSome files (λ held. IsBadPlanTold asked held pb pa)
@@ -226,43 +191,17 @@ module _ (s w p t : List ℕ) (before after : Stand) (pb pa : Printed) where
     | inl early ↦ bad_plan_due fault before.files (inl early.1) report
     | inr late ↦ bad_plan_due fault before.files (inr (late.inst, late.tree.1)) report
   ]
-  bad_plan_told (answer.Stopped (stop.Refused refusal.Usage)) judging e report = absurd (cc e)
-  bad_plan_told (answer.Stopped (stop.Refused (refusal.ReadFault file))) judging e report = absurd (cc e)
-  bad_plan_told (answer.Stopped (stop.Refused (refusal.TooLarge file))) judging e report = absurd (cc e)
-  bad_plan_told (answer.Stopped (stop.Refused (refusal.BadShip fault))) judging e report = absurd (cc e)
-  bad_plan_told (answer.Stopped (stop.Refused (refusal.BadStow fault))) judging e report = absurd (cc e)
-  bad_plan_told (answer.Stopped (stop.Refused (refusal.BadTree fault))) judging e report = absurd (cc e)
-  bad_plan_told (answer.Stopped (stop.Refused refusal.Unbuilt)) judging e report = absurd (cc e)
-  bad_plan_told (answer.Stopped stop.OutOfMemory) judging e report = absurd (cc e)
+  bad_plan_told (answer.Stopped other) judging e report = absurd (cc e)
   bad_plan_told (answer.Broken told) judging e report = absurd (cc e)
   bad_plan_told (answer.Compared told) judging e report = absurd (compared_ends told status.BadPlan e)
-  bad_plan_told answer.WriteFault judging e report = absurd judging.ending
-  bad_plan_told (answer.Tasks inst) judging e report = absurd judging.ending
-  bad_plan_told (answer.Shown moved) judging e report = absurd judging.ending
-  bad_plan_told (answer.Checked bound) judging e report = absurd judging.ending
-  bad_plan_told (answer.Planned told) judging e report = absurd judging.ending
-  bad_plan_told (answer.Unplanned bound branched) judging e report = absurd judging.ending
-  bad_plan_told (answer.Infeasible branched) judging e report = absurd judging.ending
+  bad_plan_told other judging e report = absurd judging.ending
 
   pub no_plan_tree : (a : Answer) → TellsTree asked before.files a → status_of a ≡ status.BadTree → IfSome before.files (λ held. IsNoneShown asked held)
   no_plan_tree (answer.Stopped (stop.Refused (refusal.BadTree fault))) none e = none
-  no_plan_tree (answer.Stopped (stop.Refused refusal.Usage)) none e = absurd (cc e)
-  no_plan_tree (answer.Stopped (stop.Refused (refusal.ReadFault file))) none e = absurd (cc e)
-  no_plan_tree (answer.Stopped (stop.Refused (refusal.TooLarge file))) none e = absurd (cc e)
-  no_plan_tree (answer.Stopped (stop.Refused (refusal.BadShip fault))) none e = absurd (cc e)
-  no_plan_tree (answer.Stopped (stop.Refused (refusal.BadStow fault))) none e = absurd (cc e)
-  no_plan_tree (answer.Stopped (stop.Refused (refusal.BadPlan fault))) none e = absurd (cc e)
-  no_plan_tree (answer.Stopped (stop.Refused refusal.Unbuilt)) none e = absurd (cc e)
-  no_plan_tree (answer.Stopped stop.OutOfMemory) none e = absurd (cc e)
+  no_plan_tree (answer.Stopped other) none e = absurd (cc e)
   no_plan_tree (answer.Broken told) none e = absurd (cc e)
   no_plan_tree (answer.Compared told) none e = absurd (compared_ends told status.BadTree e)
-  no_plan_tree answer.WriteFault none e = absurd none
-  no_plan_tree (answer.Tasks inst) none e = absurd none
-  no_plan_tree (answer.Shown moved) none e = absurd none
-  no_plan_tree (answer.Checked bound) none e = absurd none
-  no_plan_tree (answer.Planned told) none e = absurd none
-  no_plan_tree (answer.Unplanned bound branched) none e = absurd none
-  no_plan_tree (answer.Infeasible branched) none e = absurd none
+  no_plan_tree other none e = absurd none
 
   -- ---- what a plan comes to where no call failed
   module _ (none : ¬ Rose before.read_faults after.read_faults) (held : Files) (told : before.files ≡ Some held) (inst : InstanceView) (sched : List Slot)
@@ -302,13 +241,7 @@ module _ (s w p t : List ℕ) (before after : Stand) (pb pa : Printed) where
         let same = same_job broken.inst broken.sched broken.due in
         inl (record { neither = λ _. refl; one_way = λ goes. absurd (broken.tells.neither (rw (same.0, same.1) goes)) })
     judged_due (answer.Compared told) judging = inl (held_ends told judging.ending.1)
-    judged_due answer.WriteFault judging = absurd judging.ending
-    judged_due (answer.Tasks listed) judging = absurd judging.ending
-    judged_due (answer.Shown moved) judging = absurd judging.ending
-    judged_due (answer.Checked bound) judging = absurd judging.ending
-    judged_due (answer.Planned found) judging = absurd judging.ending
-    judged_due (answer.Unplanned bound branched) judging = absurd judging.ending
-    judged_due (answer.Infeasible branched) judging = absurd judging.ending
+    judged_due other judging = absurd judging.ending
 
   -- a refusal that is due before the schedule is judged
   pub early_due : ¬ Rose before.read_faults after.read_faults → (held : Files) → before.files ≡ Some held → (why : Refusal) → due asked (reads_in held asked) ≡ Err why
@@ -324,13 +257,7 @@ module _ (s w p t : List ℕ) (before after : Stand) (pb pa : Printed) where
       let job = judging.ending.1 in absurd (cc (comes_due (due asked) asked held before.files told (Ok (judge job.inst job.sched)) job.due, is))
   early_due none held told why is (answer.Compared compared) judging =
       let job = judging.ending.1 in absurd (cc (comes_due (due asked) asked held before.files told (Ok (judge job.inst job.sched)) job.due, is))
-  early_due none held told why is answer.WriteFault judging = absurd judging.ending
-  early_due none held told why is (answer.Tasks listed) judging = absurd judging.ending
-  early_due none held told why is (answer.Shown moved) judging = absurd judging.ending
-  early_due none held told why is (answer.Checked bound) judging = absurd judging.ending
-  early_due none held told why is (answer.Planned found) judging = absurd judging.ending
-  early_due none held told why is (answer.Unplanned bound branched) judging = absurd judging.ending
-  early_due none held told why is (answer.Infeasible branched) judging = absurd judging.ending
+  early_due none held told why is other judging = absurd judging.ending
 
 -- only a schedule to be judged is due of a check of a plan
 abbrev pub IsToJudge : Work → Type 0

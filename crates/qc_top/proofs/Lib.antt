@@ -5,5 +5,6 @@ pub mod RunLemmas
 pub mod DueLemmas
 pub mod FoundLemmas
 pub mod JudgedLemmas
+pub mod MadeLemmas
 pub mod MotionLemmas
 pub mod StatusLemmas

@@ -34,13 +34,7 @@ module _ (s w p : List ℕ) (before after : Stand) (pb pa : Printed) where
   motion_told (answer.Stopped (stop.Refused why)) showing e report = absurd (not_other why status.Done e)
   motion_told (answer.Stopped stop.OutOfMemory) showing e report = absurd (cc e)
   motion_told (answer.Broken told) showing e report = absurd (cc e)
-  motion_told (answer.Compared told) showing e report = absurd showing.ending
-  motion_told answer.WriteFault showing e report = absurd showing.ending
-  motion_told (answer.Tasks listed) showing e report = absurd showing.ending
-  motion_told (answer.Checked bound) showing e report = absurd showing.ending
-  motion_told (answer.Planned told) showing e report = absurd showing.ending
-  motion_told (answer.Unplanned bound branched) showing e report = absurd showing.ending
-  motion_told (answer.Infeasible branched) showing e report = absurd showing.ending
+  motion_told other showing e report = absurd showing.ending
 
   pub shown_broken : (a : Answer) → IsShowing asked before after a → status_of a ≡ status.Broken → IsPrinted a pb.bytes pa.bytes
       → IfSome before.files (λ held. IsBrokenTold asked held pb pa)
@@ -52,13 +46,7 @@ module _ (s w p : List ℕ) (before after : Stand) (pb pa : Printed) where
   shown_broken (answer.Stopped (stop.Refused why)) showing e report = absurd (not_other why status.Broken e)
   shown_broken (answer.Stopped stop.OutOfMemory) showing e report = absurd (cc e)
   shown_broken (answer.Shown told) showing e report = absurd (cc e)
-  shown_broken (answer.Compared told) showing e report = absurd showing.ending
-  shown_broken answer.WriteFault showing e report = absurd showing.ending
-  shown_broken (answer.Tasks listed) showing e report = absurd showing.ending
-  shown_broken (answer.Checked bound) showing e report = absurd showing.ending
-  shown_broken (answer.Planned told) showing e report = absurd showing.ending
-  shown_broken (answer.Unplanned bound branched) showing e report = absurd showing.ending
-  shown_broken (answer.Infeasible branched) showing e report = absurd showing.ending
+  shown_broken other showing e report = absurd showing.ending
 
   pub shown_bad_plan : (a : Answer) → IsShowing asked before after a → status_of a ≡ status.BadPlan → IsPrinted a pb.bytes pa.bytes
       → IfSome before.files (λ held. IsBadPlanTold asked held pb pa)
@@ -67,23 +55,10 @@ module _ (s w p : List ℕ) (before after : Stand) (pb pa : Printed) where
       by : (files : Option Files) → ComesTo (due asked) asked files (Err (refusal.BadPlan fault)) → IfSome files (λ held. IsBadPlanTold asked held pb pa)
       by None is = tt
       by (Some held) is = record { fault = fault; due = is; report = report }
-  shown_bad_plan (answer.Stopped (stop.Refused refusal.Usage)) showing e report = absurd (cc e)
-  shown_bad_plan (answer.Stopped (stop.Refused (refusal.ReadFault file))) showing e report = absurd (cc e)
-  shown_bad_plan (answer.Stopped (stop.Refused (refusal.TooLarge file))) showing e report = absurd (cc e)
-  shown_bad_plan (answer.Stopped (stop.Refused (refusal.BadShip fault))) showing e report = absurd (cc e)
-  shown_bad_plan (answer.Stopped (stop.Refused (refusal.BadStow fault))) showing e report = absurd (cc e)
-  shown_bad_plan (answer.Stopped (stop.Refused (refusal.BadTree fault))) showing e report = absurd (cc e)
-  shown_bad_plan (answer.Stopped (stop.Refused refusal.Unbuilt)) showing e report = absurd (cc e)
-  shown_bad_plan (answer.Stopped stop.OutOfMemory) showing e report = absurd (cc e)
+  shown_bad_plan (answer.Stopped other) showing e report = absurd (cc e)
   shown_bad_plan (answer.Broken told) showing e report = absurd (cc e)
   shown_bad_plan (answer.Shown told) showing e report = absurd (cc e)
-  shown_bad_plan (answer.Compared told) showing e report = absurd showing.ending
-  shown_bad_plan answer.WriteFault showing e report = absurd showing.ending
-  shown_bad_plan (answer.Tasks listed) showing e report = absurd showing.ending
-  shown_bad_plan (answer.Checked bound) showing e report = absurd showing.ending
-  shown_bad_plan (answer.Planned told) showing e report = absurd showing.ending
-  shown_bad_plan (answer.Unplanned bound branched) showing e report = absurd showing.ending
-  shown_bad_plan (answer.Infeasible branched) showing e report = absurd showing.ending
+  shown_bad_plan other showing e report = absurd showing.ending
 
   -- what showing a plan comes to where no call failed
   module _ (none : ¬ Rose before.read_faults after.read_faults) (held : Files) (told : before.files ≡ Some held) where
@@ -100,13 +75,7 @@ module _ (s w p : List ℕ) (before after : Stand) (pb pa : Printed) where
         let m = showing.ending.1 in
         let same = one_job m.inst inst m.sched sched (sym (comes_due (due asked) asked held before.files told (Ok (judge m.inst m.sched)) m.due) ∙ is) in
         inl (record { neither = λ neither. absurd (neither (rw (← same.0, ← same.1) m.tells.goes)); one_way = λ _. refl })
-    shown_due inst sched is (answer.Compared compared) showing = absurd showing.ending
-    shown_due inst sched is answer.WriteFault showing = absurd showing.ending
-    shown_due inst sched is (answer.Tasks listed) showing = absurd showing.ending
-    shown_due inst sched is (answer.Checked bound) showing = absurd showing.ending
-    shown_due inst sched is (answer.Planned found) showing = absurd showing.ending
-    shown_due inst sched is (answer.Unplanned bound branched) showing = absurd showing.ending
-    shown_due inst sched is (answer.Infeasible branched) showing = absurd showing.ending
+    shown_due inst sched is other showing = absurd showing.ending
 
     -- a refusal that is due before the schedule is judged
     pub early_shown : (why : Refusal) → due asked (reads_in held asked) ≡ Err why
@@ -119,10 +88,4 @@ module _ (s w p : List ℕ) (before after : Stand) (pb pa : Printed) where
         let b = showing.ending.1 in absurd (cc (comes_due (due asked) asked held before.files told (Ok (judge b.inst b.sched)) b.due, is))
     early_shown why is (answer.Shown shown) showing =
         let m = showing.ending.1 in absurd (cc (comes_due (due asked) asked held before.files told (Ok (judge m.inst m.sched)) m.due, is))
-    early_shown why is (answer.Compared compared) showing = absurd showing.ending
-    early_shown why is answer.WriteFault showing = absurd showing.ending
-    early_shown why is (answer.Tasks listed) showing = absurd showing.ending
-    early_shown why is (answer.Checked bound) showing = absurd showing.ending
-    early_shown why is (answer.Planned found) showing = absurd showing.ending
-    early_shown why is (answer.Unplanned bound branched) showing = absurd showing.ending
-    early_shown why is (answer.Infeasible branched) showing = absurd showing.ending
+    early_shown why is other showing = absurd showing.ending

@@ -20,21 +20,23 @@ use Rattle.qc_words.specs.Asked.{Asked, plan, check, tasks, show, make, usage}
 use Rattle.qc_words.specs.Commands.{named}
 use Rattle.qc_words.specs.Words.{Asks}
 use Rattle.qc_words.proofs.PlainWords.{canonical_asked}
-use Rattle.qc_top.specs.Asked.{IsPlan, IsUnbuilt, nodes_of}
-use Rattle.qc_top.specs.Due.{Work, Reads, print, search, judge, reads_in, instance_due, tree_due, due}
+use Rattle.qc_top.specs.Asked.{IsPlan, nodes_of}
+use Rattle.qc_top.specs.May.{MayAnswer}
+use Rattle.qc_top.specs.Due.{Work, Reads, print, search, judge, trial, reads_in, instance_due, tree_due, due}
 use Rattle.qc_top.specs.Answers.{status_of, report_text, ending_of}
 use Rattle.qc_top.specs.Reports.{IsPrinted}
 use Rattle.qc_top.specs.Account.{ComesTo, Stops, IsSearched, IsStopped, IsWriting, Named, written, texts_of, IsCutShort, IsTurnedAway, Serves, Printed, IsRun}
 use Rattle.qc_top.proofs.FoundLemmas.{plan_ends, search_end, no_refusal, ends_in_time, ends_late, kind_told, word_told, kind_none, is_best, none_goes}
 use Rattle.qc_top.proofs.DueLemmas.{comes_due, stop_is}
 use Rattle.qc_top.proofs.JudgedLemmas.{bad_plan_told, best_told, broken_told, early_due, judged_due, no_plan_tree, only_judge, weaker_told}
+use Rattle.qc_top.proofs.MadeLemmas.{making_ends, making_told}
 use Rattle.qc_top.proofs.MotionLemmas.{early_shown, motion_told, shown_bad_plan, shown_broken, shown_due}
 use Rattle.qc_top.proofs.ServeLemmas.{met_best}
 use Rattle.qc_top.proofs.StatusLemmas.{compared_ends, no_refusal_compared, not_other}
 use Rattle.qc_search.specs.declared.done.Kind.TheVariants as kind
 use Rattle.qc_search.specs.Run.{branching_limit}
 use Rattle.qc_top.specs.Shown.{IsBoundShown, IsNoneShown, TellsTree}
-use Rattle.qc_top.specs.Promises.{IsBudgetTold, IsOptimalTold, IsUnplannedTold, IsInfeasibleTold, IsSearchEnd, EndsAsDue, AreTasksTold, IsEndTold, IsNoneTold, IsBadPlanTold, IsBestTold, IsBrokenTold, IsWeakerTold, IsMotionTold, EndsJudged, EndsShown, IsRefusal, IsRefusalTold, IsCutTold, IsStopTold, EndsWith, NoneFailed, Promises}
+use Rattle.qc_top.specs.Promises.{IsBudgetTold, IsOptimalTold, IsUnplannedTold, IsInfeasibleTold, IsSearchEnd, EndsAsDue, AreTasksTold, IsEndTold, IsNoneTold, IsBadPlanTold, IsBestTold, IsBrokenTold, IsWeakerTold, IsMakingTold, IsMotionTold, EndsJudged, EndsShown, IsRefusal, IsRefusalTold, IsCutTold, IsStopTold, EndsWith, NoneFailed, Promises}
 
 -- the text of what is to be printed
 abbrev text_of : Result Work Refusal → List ℕ
@@ -59,12 +61,7 @@ nodes_in _ = 0
 planned_nodes : (asked : Asked) → IsPlan asked → (reads : Reads) (inst : InstanceView) (nodes : ℕ) → due asked reads ≡ Ok (search inst nodes) → nodes ≡ nodes_of asked
 planned_nodes (plan s w p t n) is reads inst nodes e =
     let (i, at, same) = bind_ok (instance_due reads) (λ i. Ok (search i n)) (search inst nodes) e in sym (ap nodes_in same)
-planned_nodes (check s w None t) is reads inst nodes e = absurd is
-planned_nodes (check s w (Some p) t) is reads inst nodes e = absurd is
-planned_nodes (tasks s w) is reads inst nodes e = absurd is
-planned_nodes (show s w p) is reads inst nodes e = absurd is
-planned_nodes (make n h c) is reads inst nodes e = absurd is
-planned_nodes usage is reads inst nodes e = absurd is
+planned_nodes other is reads inst nodes e = absurd is
 
 -- a search that ended with Budget hadn't as many branchings as decide
 undecided : (asked : Asked) (held : Files) (a : Answer) (now : Option Files) → (h : IsSearched asked held a now) → h.done.kind ≡ kind.Budget
@@ -75,24 +72,6 @@ undecided asked held a now h budget inst nodes due_is enough =
     (subst₂ (λ (i : InstanceView) (n : ℕ). branching_limit i ≤ n) (sym (ap (inst_in inst) same)) (sym (ap nodes_in same)) enough)
     budget
 
--- a request that is turned away comes to nothing else
-abbrev IsStop : Answer → Type 0
-IsStop (answer.Stopped why) = Unit {0}
-IsStop _ = ⊥
-
-turned_away : (before after : Stand) (why : Refusal) (a : Answer) → IsTurnedAway why before after a → IsStop a
-turned_away before after why a away = elim away.0 [ inl is ↦ subst IsStop (sym is) tt | inr is ↦ subst IsStop (sym is) tt ]
-
-unbuilt_away : (before after : Stand) (asked : Asked) → IsUnbuilt asked → (a : Answer) → Serves asked before after a
-    → (a ≡ answer.Stopped (stop.Refused refusal.Unbuilt)) ⊎ (a ≡ answer.Stopped stop.OutOfMemory)
-unbuilt_away before after (show s w p) is a serves = absurd is
-unbuilt_away before after (make n h c) is a serves = serves.0
-unbuilt_away before after (plan s w p t n) is a serves = absurd is
-unbuilt_away before after (check s w None t) is a serves = absurd is
-unbuilt_away before after (check s w (Some p) t) is a serves = absurd is
-unbuilt_away before after (tasks s w) is a serves = absurd is
-unbuilt_away before after usage is a serves = absurd is
-
 -- a request for whose words memory is wanting is served so, and nothing is told of its tree
 pub wanting_serves : (asked : Asked) (stand : Stand) → Serves asked stand stand (answer.Stopped stop.OutOfMemory)
 wanting_serves (plan s w p t n) stand = (refl, refl, refl)
@@ -100,7 +79,7 @@ wanting_serves (check s w None t) stand = record { ending = refl; files = refl; 
 wanting_serves (check s w (Some p) t) stand = record { ending = inl refl; files = refl; faults = refl }
 wanting_serves (tasks s w) stand = record { ending = refl; files = refl; faults = refl }
 wanting_serves (show s w p) stand = record { ending = refl; files = refl; faults = refl }
-wanting_serves (make n h c) stand = (inr refl, refl)
+wanting_serves (make n h c) stand = record { ending = tt; untouched = refl }
 wanting_serves usage stand = (inr refl, refl)
 
 pub wanting_tells : (asked : Asked) (files : Option Files) → TellsTree asked files (answer.Stopped stop.OutOfMemory)
@@ -117,15 +96,13 @@ module _ (words : List (List ℕ)) (before after : Stand) (pb pa : Printed) (end
   asked_is : (asked : Asked) → Asks words asked → Serves asked before after run.answer
   asked_is asked asks = subst (λ a. Serves a before after run.answer) (sym run.asks ∙ asks) run.serves
 
+  may_is : (asked : Asked) → Asks words asked → MayAnswer asked run.answer
+  may_is asked asks = subst (λ a. MayAnswer a run.answer) (sym run.asks ∙ asks) run.may
+
   -- what an answer to a plan tells
   plan_is : (asked : Asked) (a : Answer) → IsPlan asked → Serves asked before after a → IsWriting asked before after a
   plan_is (plan s w p t n) a is serves = serves
-  plan_is (check s w None t) a is serves = absurd is
-  plan_is (check s w (Some p) t) a is serves = absurd is
-  plan_is (tasks s w) a is serves = absurd is
-  plan_is (show s w p) a is serves = absurd is
-  plan_is (make n h c) a is serves = absurd is
-  plan_is usage a is serves = absurd is
+  plan_is other a is serves = absurd is
 
   module _ (asked : Asked) where
     optimal_told : (a : Answer) → IsWriting asked before after a → status_of a ≡ status.Optimal → IsPrinted a pb.bytes pa.bytes
@@ -150,11 +127,7 @@ module _ (words : List (List ℕ)) (before after : Stand) (pb pa : Printed) (end
     optimal_told (answer.Stopped (stop.Refused why)) serves e report = absurd (not_other why status.Optimal e)
     optimal_told (answer.Stopped stop.OutOfMemory) serves e report = absurd (cc e)
     optimal_told answer.WriteFault serves e report = absurd (cc e)
-    optimal_told (answer.Tasks inst) serves e report = absurd serves
-    optimal_told (answer.Checked bound) serves e report = absurd serves
-    optimal_told (answer.Broken broken) serves e report = absurd serves
-    optimal_told (answer.Compared compared) serves e report = absurd serves
-    optimal_told (answer.Shown moved) serves e report = absurd serves
+    optimal_told other serves e report = absurd serves
 
     budget_told : (a : Answer) → IsPlan asked → IsWriting asked before after a → status_of a ≡ status.BudgetPlan → IsPrinted a pb.bytes pa.bytes
         → IfSome before.files (λ held. IsBudgetTold asked held after.files pb pa)
@@ -180,11 +153,7 @@ module _ (words : List (List ℕ)) (before after : Stand) (pb pa : Printed) (end
     budget_told (answer.Stopped (stop.Refused why)) is serves e report = absurd (not_other why status.BudgetPlan e)
     budget_told (answer.Stopped stop.OutOfMemory) is serves e report = absurd (cc e)
     budget_told answer.WriteFault is serves e report = absurd (cc e)
-    budget_told (answer.Tasks inst) is serves e report = absurd serves
-    budget_told (answer.Checked bound) is serves e report = absurd serves
-    budget_told (answer.Broken broken) is serves e report = absurd serves
-    budget_told (answer.Compared compared) is serves e report = absurd serves
-    budget_told (answer.Shown moved) is serves e report = absurd serves
+    budget_told other is serves e report = absurd serves
 
     unplanned_told : (a : Answer) → IsPlan asked → IsWriting asked before after a → status_of a ≡ status.BudgetNone → IsPrinted a pb.bytes pa.bytes
         → IfSome before.files (λ held. IsUnplannedTold asked held after.files pb pa)
@@ -206,11 +175,7 @@ module _ (words : List (List ℕ)) (before after : Stand) (pb pa : Printed) (end
     unplanned_told (answer.Stopped (stop.Refused why)) is serves e report = absurd (not_other why status.BudgetNone e)
     unplanned_told (answer.Stopped stop.OutOfMemory) is serves e report = absurd (cc e)
     unplanned_told answer.WriteFault is serves e report = absurd (cc e)
-    unplanned_told (answer.Tasks inst) is serves e report = absurd serves
-    unplanned_told (answer.Checked bound) is serves e report = absurd serves
-    unplanned_told (answer.Broken broken) is serves e report = absurd serves
-    unplanned_told (answer.Compared compared) is serves e report = absurd serves
-    unplanned_told (answer.Shown moved) is serves e report = absurd serves
+    unplanned_told other is serves e report = absurd serves
 
     infeasible_told : (a : Answer) → IsWriting asked before after a → status_of a ≡ status.Infeasible → IsPrinted a pb.bytes pa.bytes
         → IfSome before.files (λ held. IsInfeasibleTold asked held after.files pb pa)
@@ -229,11 +194,7 @@ module _ (words : List (List ℕ)) (before after : Stand) (pb pa : Printed) (end
     infeasible_told (answer.Stopped (stop.Refused why)) serves e report = absurd (not_other why status.Infeasible e)
     infeasible_told (answer.Stopped stop.OutOfMemory) serves e report = absurd (cc e)
     infeasible_told answer.WriteFault serves e report = absurd (cc e)
-    infeasible_told (answer.Tasks inst) serves e report = absurd serves
-    infeasible_told (answer.Checked bound) serves e report = absurd serves
-    infeasible_told (answer.Broken broken) serves e report = absurd serves
-    infeasible_told (answer.Compared compared) serves e report = absurd serves
-    infeasible_told (answer.Shown moved) serves e report = absurd serves
+    infeasible_told other serves e report = absurd serves
 
   plan_optimal : (asked : Asked) → Asks words asked → IsPlan asked → ended ≡ status.Optimal
       → IfSome before.files (λ held. IsOptimalTold asked held after.files pb pa)
@@ -291,15 +252,10 @@ module _ (words : List (List ℕ)) (before after : Stand) (pb pa : Printed) (end
       → IfSome before.files (λ held. AreTasksTold (tasks ship stow) held pb pa)
   tasks_told ship stow (answer.Tasks inst) serves e report = tasks_printed ship stow (answer.Tasks inst) before.files serves.ending.1 report
   tasks_told ship stow (answer.Checked bound) serves e report = tasks_printed ship stow (answer.Checked bound) before.files serves.ending.1 report
-  tasks_told ship stow (answer.Planned made) serves e report = absurd serves.ending
-  tasks_told ship stow (answer.Unplanned bound branched) serves e report = absurd serves.ending
-  tasks_told ship stow (answer.Infeasible branched) serves e report = absurd serves.ending
   tasks_told ship stow (answer.Stopped (stop.Refused why)) serves e report = absurd (not_other why status.Done e)
   tasks_told ship stow (answer.Stopped stop.OutOfMemory) serves e report = absurd (cc e)
   tasks_told ship stow answer.WriteFault serves e report = absurd (cc e)
-  tasks_told ship stow (answer.Broken broken) serves e report = absurd serves.ending
-  tasks_told ship stow (answer.Compared compared) serves e report = absurd serves.ending
-  tasks_told ship stow (answer.Shown moved) serves e report = absurd serves.ending
+  tasks_told ship stow other serves e report = absurd serves.ending
 
   tasks_done : (ship stow : List ℕ) → Asks words (tasks ship stow) → ended ≡ status.Done
       → IfSome before.files (λ held. AreTasksTold (tasks ship stow) held pb pa)
@@ -321,14 +277,7 @@ module _ (words : List (List ℕ)) (before after : Stand) (pb pa : Printed) (end
   end_told ship stow tree (answer.Checked Never) shown e report = absurd (cc e)
   end_told ship stow tree (answer.Stopped (stop.Refused why)) shown e report = absurd (not_other why status.Done e)
   end_told ship stow tree (answer.Stopped stop.OutOfMemory) shown e report = absurd (cc e)
-  end_told ship stow tree answer.WriteFault shown e report = absurd shown
-  end_told ship stow tree (answer.Tasks inst) shown e report = absurd shown
-  end_told ship stow tree (answer.Planned made) shown e report = absurd shown
-  end_told ship stow tree (answer.Unplanned bound branched) shown e report = absurd shown
-  end_told ship stow tree (answer.Infeasible branched) shown e report = absurd shown
-  end_told ship stow tree (answer.Broken broken) shown e report = absurd shown
-  end_told ship stow tree (answer.Compared compared) shown e report = absurd shown
-  end_told ship stow tree (answer.Shown moved) shown e report = absurd shown
+  end_told ship stow tree other shown e report = absurd shown
 
   check_done : (ship stow tree : List ℕ) → Asks words (check ship stow None tree) → ended ≡ status.Done
       → IfSome before.files (λ held. IsEndTold (check ship stow None tree) held pb pa)
@@ -346,14 +295,7 @@ module _ (words : List (List ℕ)) (before after : Stand) (pb pa : Printed) (end
   none_told ship stow tree (answer.Checked (Least end)) shown e report = absurd (cc e)
   none_told ship stow tree (answer.Stopped (stop.Refused why)) shown e report = absurd (not_other why status.Infeasible e)
   none_told ship stow tree (answer.Stopped stop.OutOfMemory) shown e report = absurd (cc e)
-  none_told ship stow tree answer.WriteFault shown e report = absurd shown
-  none_told ship stow tree (answer.Tasks inst) shown e report = absurd shown
-  none_told ship stow tree (answer.Planned made) shown e report = absurd shown
-  none_told ship stow tree (answer.Unplanned bound branched) shown e report = absurd shown
-  none_told ship stow tree (answer.Infeasible branched) shown e report = absurd shown
-  none_told ship stow tree (answer.Broken broken) shown e report = absurd shown
-  none_told ship stow tree (answer.Compared compared) shown e report = absurd shown
-  none_told ship stow tree (answer.Shown moved) shown e report = absurd shown
+  none_told ship stow tree other shown e report = absurd shown
 
   check_infeasible : (ship stow tree : List ℕ) → Asks words (check ship stow None tree) → ended ≡ status.Infeasible
       → IfSome before.files (λ held. IsNoneTold (check ship stow None tree) held pb pa)
@@ -365,24 +307,10 @@ module _ (words : List (List ℕ)) (before after : Stand) (pb pa : Printed) (end
   no_tree_told : (ship stow tree : List ℕ) (a : Answer) → TellsTree (check ship stow None tree) before.files a → status_of a ≡ status.BadTree
       → IfSome before.files (λ held. IsNoneShown (check ship stow None tree) held)
   no_tree_told ship stow tree (answer.Stopped (stop.Refused (refusal.BadTree fault))) none e = none
-  no_tree_told ship stow tree (answer.Stopped (stop.Refused refusal.Usage)) none e = absurd (cc e)
-  no_tree_told ship stow tree (answer.Stopped (stop.Refused (refusal.ReadFault file))) none e = absurd (cc e)
-  no_tree_told ship stow tree (answer.Stopped (stop.Refused (refusal.TooLarge file))) none e = absurd (cc e)
-  no_tree_told ship stow tree (answer.Stopped (stop.Refused (refusal.BadShip fault))) none e = absurd (cc e)
-  no_tree_told ship stow tree (answer.Stopped (stop.Refused (refusal.BadStow fault))) none e = absurd (cc e)
-  no_tree_told ship stow tree (answer.Stopped (stop.Refused (refusal.BadPlan fault))) none e = absurd (cc e)
-  no_tree_told ship stow tree (answer.Stopped (stop.Refused refusal.Unbuilt)) none e = absurd (cc e)
-  no_tree_told ship stow tree (answer.Stopped stop.OutOfMemory) none e = absurd (cc e)
+  no_tree_told ship stow tree (answer.Stopped other) none e = absurd (cc e)
   no_tree_told ship stow tree (answer.Checked (Least end)) none e = absurd (cc e)
   no_tree_told ship stow tree (answer.Checked Never) none e = absurd (cc e)
-  no_tree_told ship stow tree answer.WriteFault none e = absurd none
-  no_tree_told ship stow tree (answer.Tasks inst) none e = absurd none
-  no_tree_told ship stow tree (answer.Planned made) none e = absurd none
-  no_tree_told ship stow tree (answer.Unplanned bound branched) none e = absurd none
-  no_tree_told ship stow tree (answer.Infeasible branched) none e = absurd none
-  no_tree_told ship stow tree (answer.Broken broken) none e = absurd none
-  no_tree_told ship stow tree (answer.Compared compared) none e = absurd none
-  no_tree_told ship stow tree (answer.Shown moved) none e = absurd none
+  no_tree_told ship stow tree other none e = absurd none
 
   check_bad_tree : (ship stow tree : List ℕ) → Asks words (check ship stow None tree) → ended ≡ status.BadTree → IfSome before.files (λ held. IsNoneShown (check ship stow None tree) held)
   check_bad_tree ship stow tree asks e = elim run.reports [
@@ -465,21 +393,31 @@ module _ (words : List (List ℕ)) (before after : Stand) (pb pa : Printed) (end
       | inr cut ↦ absurd (none.printing cut.rose)
     ]
 
+  -- a ship and a list that are made
+  module _ (n h c : ℕ) (asks : Asks words (make n h c)) where
+    make_done : ended ≡ status.Done → IsMakingTold n h c pb pa
+    make_done e = elim run.reports [
+      | inl whole ↦ making_told n h c before after pb pa run.answer (asked_is (make n h c) asks) (sym whole.status ∙ e) whole.printed
+      | inr cut ↦ absurd (cc (cut.status, e))
+    ]
+
+    make_complete : EndsWith status.Done pb pa ended ⊎ (ended ≡ status.OutOfMemory)
+    make_complete = elim run.reports [
+      | inl whole ↦ elim (making_ends n h c before after run.answer (asked_is (make n h c) asks)) [
+        | inl done ↦ inl (inl (whole.status ∙ done))
+        | inr wanting ↦ inr (whole.status ∙ wanting)
+      ]
+      | inr cut ↦ inl (inr (cut.status, cut.rose))
+    ]
+
   -- the refusal whose status is told
   refusal_told : (asked : Asked) (a : Answer) → Serves asked before after a → IsRefusal (status_of a) → ended ≡ status_of a → IsPrinted a pb.bytes pa.bytes
       → IsRefusalTold asked before after pb pa ended
   refusal_told asked (answer.Stopped (stop.Refused why)) serves is e report = record { why = why; status = e; cause = serves; report = report }
-  refusal_told asked (answer.Stopped stop.OutOfMemory) serves is e report = absurd is
-  refusal_told asked answer.WriteFault serves is e report = absurd is
-  refusal_told asked (answer.Tasks inst) serves is e report = absurd is
   refusal_told asked (answer.Checked (Least end)) serves is e report = absurd is
-  refusal_told asked (answer.Checked Never) serves is e report = absurd is
   refusal_told asked (answer.Planned made) serves is e report = absurd (no_refusal made is)
-  refusal_told asked (answer.Unplanned bound branched) serves is e report = absurd is
-  refusal_told asked (answer.Infeasible branched) serves is e report = absurd is
-  refusal_told asked (answer.Broken broken) serves is e report = absurd is
-  refusal_told asked (answer.Shown moved) serves is e report = absurd is
   refusal_told asked (answer.Compared compared) serves is e report = absurd (no_refusal_compared compared is)
+  refusal_told asked other serves is e report = absurd is
 
   refused : (asked : Asked) → Asks words asked → IsRefusal ended → IsRefusalTold asked before after pb pa ended
   refused asked asks is = elim run.reports [
@@ -495,7 +433,7 @@ module _ (words : List (List ℕ)) (before after : Stand) (pb pa : Printed) (end
     by (check s w (Some p) t) serves never = serves.files
     by (tasks s w) serves never = serves.files
     by (show s w p) serves never = serves.files
-    by (make n h c) serves never = ap (λ (s : Stand). s.files) serves.1
+    by (make n h c) serves never = ap (λ (s : Stand). s.files) serves.untouched
     by usage serves never = ap (λ (s : Stand). s.files) serves.1
 
   plan_stays : (asked : Asked) → IsPlan asked → (a : Answer) → Serves asked before after a → ¬ IsSearchEnd (status_of a) → status_of a ≢ status.WriteFault → after.files ≡ before.files
@@ -504,17 +442,8 @@ module _ (words : List (List ℕ)) (before after : Stand) (pb pa : Printed) (end
   plan_stays (plan s w p t n) is (answer.Unplanned bound branched) serves one two = absurd (one tt)
   plan_stays (plan s w p t n) is (answer.Infeasible branched) serves one two = absurd (one tt)
   plan_stays (plan s w p t n) is answer.WriteFault serves one two = absurd (two refl)
-  plan_stays (plan s w p t n) is (answer.Tasks inst) serves one two = absurd serves
-  plan_stays (plan s w p t n) is (answer.Checked bound) serves one two = absurd serves
-  plan_stays (plan s w p t n) is (answer.Broken broken) serves one two = absurd serves
-  plan_stays (plan s w p t n) is (answer.Compared compared) serves one two = absurd serves
-  plan_stays (plan s w p t n) is (answer.Shown moved) serves one two = absurd serves
-  plan_stays (check s w None t) is a serves one two = absurd is
-  plan_stays (check s w (Some p) t) is a serves one two = absurd is
-  plan_stays (tasks s w) is a serves one two = absurd is
-  plan_stays (show s w p) is a serves one two = absurd is
-  plan_stays (make n h c) is a serves one two = absurd is
-  plan_stays usage is a serves one two = absurd is
+  plan_stays (plan s w p t n) is other serves one two = absurd serves
+  plan_stays other is a serves one two = absurd is
 
   plan_leaves : (asked : Asked) → Asks words asked → IsPlan asked → ¬ IsSearchEnd ended → ended ≢ status.WriteFault → after.files ≡ before.files
   plan_leaves asked asks is one two = elim run.reports [
@@ -554,49 +483,29 @@ module _ (words : List (List ℕ)) (before after : Stand) (pb pa : Printed) (end
   left s w p t n (answer.Planned told) serves = whole s w p t n (answer.Planned told) before.files serves.2
   left s w p t n (answer.Unplanned bound branched) serves = whole s w p t n (answer.Unplanned bound branched) before.files serves.2
   left s w p t n (answer.Infeasible branched) serves = whole s w p t n (answer.Infeasible branched) before.files serves.2
-  left s w p t n (answer.Tasks inst) serves = absurd serves
-  left s w p t n (answer.Checked bound) serves = absurd serves
-  left s w p t n (answer.Broken broken) serves = absurd serves
-  left s w p t n (answer.Compared compared) serves = absurd serves
-  left s w p t n (answer.Shown moved) serves = absurd serves
+  left s w p t n other serves = absurd serves
 
   plan_stopped : (asked : Asked) → Asks words asked → IsPlan asked → ended ≡ status.WriteFault
       → IfSome before.files (λ held. (after.files ≡ Some held) ⊎ IsStopped asked held after.files)
   plan_stopped asked asks is e = by asked is (asked_is asked asks) where
     by : (asked : Asked) → IsPlan asked → Serves asked before after run.answer → IfSome before.files (λ held. (after.files ≡ Some held) ⊎ IsStopped asked held after.files)
     by (plan s w p t n) is serves = left s w p t n run.answer serves
-    by (check s w None t) is serves = absurd is
-    by (check s w (Some p) t) is serves = absurd is
-    by (tasks s w) is serves = absurd is
-    by (show s w p) is serves = absurd is
-    by (make n h c) is serves = absurd is
-    by usage is serves = absurd is
+    by other is serves = absurd is
 
   -- a write fault that isn't the sink's is one of the shelf, on the way of a plan
-  write_answer : (asked : Asked) (a : Answer) → Serves asked before after a → status_of a ≡ status.WriteFault → IsPlan asked × Rose before.faults after.faults × (a ≡ answer.WriteFault)
-  write_answer asked (answer.Stopped (stop.Refused why)) serves e = absurd (not_other why status.WriteFault e)
-  write_answer asked (answer.Stopped stop.OutOfMemory) serves e = absurd (cc e)
-  write_answer asked (answer.Planned made) serves e = absurd (plan_ends made status.WriteFault e)
-  write_answer asked (answer.Unplanned bound branched) serves e = absurd (cc e)
-  write_answer asked (answer.Infeasible branched) serves e = absurd (cc e)
-  write_answer asked (answer.Tasks inst) serves e = absurd (cc e)
-  write_answer asked (answer.Broken broken) serves e = absurd (cc e)
-  write_answer asked (answer.Shown moved) serves e = absurd (cc e)
-  write_answer asked (answer.Compared compared) serves e = absurd (compared_ends compared status.WriteFault e)
-  write_answer asked (answer.Checked (Least end)) serves e = absurd (cc e)
-  write_answer asked (answer.Checked Never) serves e = absurd (cc e)
-  write_answer (plan s w p t n) answer.WriteFault serves e = (tt, serves.0, refl)
-  write_answer (check s w None t) answer.WriteFault serves e = absurd serves.ending
-  write_answer (check s w (Some p) t) answer.WriteFault serves e = absurd serves.ending
-  write_answer (tasks s w) answer.WriteFault serves e = absurd serves.ending
-  write_answer (show s w p) answer.WriteFault serves e = absurd serves.ending
-  write_answer (make n h c) answer.WriteFault serves e = absurd (turned_away before after refusal.Unbuilt answer.WriteFault serves)
-  write_answer usage answer.WriteFault serves e = absurd (turned_away before after refusal.Usage answer.WriteFault serves)
+  write_answer : (asked : Asked) (a : Answer) → MayAnswer asked a → Serves asked before after a → status_of a ≡ status.WriteFault
+      → IsPlan asked × Rose before.faults after.faults × (a ≡ answer.WriteFault)
+  write_answer asked answer.WriteFault may serves e = (may, (plan_is asked answer.WriteFault may serves).0, refl)
+  write_answer asked (answer.Stopped (stop.Refused why)) may serves e = absurd (not_other why status.WriteFault e)
+  write_answer asked (answer.Planned made) may serves e = absurd (plan_ends made status.WriteFault e)
+  write_answer asked (answer.Compared compared) may serves e = absurd (compared_ends compared status.WriteFault e)
+  write_answer asked (answer.Checked (Least end)) may serves e = absurd (cc e)
+  write_answer asked other may serves e = absurd (cc e)
 
   write_fault : (asked : Asked) → Asks words asked → ended ≡ status.WriteFault → IsCutTold asked before after pb pa ⊎ IsStopTold asked before after pb pa
   write_fault asked asks e = elim run.reports [
     | inl whole ↦
-        let (is, rose, same) = write_answer asked run.answer (asked_is asked asks) (sym whole.status ∙ e) in
+        let (is, rose, same) = write_answer asked run.answer (may_is asked asks) (asked_is asked asks) (sym whole.status ∙ e) in
         inr (record {
           plan = is;
           rose = rose;
@@ -608,46 +517,17 @@ module _ (words : List (List ℕ)) (before after : Stand) (pb pa : Printed) (end
   ]
 
   -- only words that are no command are answered by Usage
-  usage_asked : (asked : Asked) (a : Answer) → Serves asked before after a → status_of a ≡ status.Usage → asked ≡ usage
-  usage_asked asked (answer.Stopped (stop.Refused (refusal.ReadFault file))) serves e = absurd (cc e)
-  usage_asked asked (answer.Stopped (stop.Refused (refusal.TooLarge file))) serves e = absurd (cc e)
-  usage_asked asked (answer.Stopped (stop.Refused (refusal.BadShip fault))) serves e = absurd (cc e)
-  usage_asked asked (answer.Stopped (stop.Refused (refusal.BadStow fault))) serves e = absurd (cc e)
-  usage_asked asked (answer.Stopped (stop.Refused (refusal.BadPlan fault))) serves e = absurd (cc e)
-  usage_asked asked (answer.Stopped (stop.Refused (refusal.BadTree fault))) serves e = absurd (cc e)
-  usage_asked asked (answer.Stopped (stop.Refused refusal.Unbuilt)) serves e = absurd (cc e)
-  usage_asked asked (answer.Stopped stop.OutOfMemory) serves e = absurd (cc e)
-  usage_asked asked (answer.Planned made) serves e = absurd (plan_ends made status.Usage e)
-  usage_asked asked (answer.Unplanned bound branched) serves e = absurd (cc e)
-  usage_asked asked (answer.Infeasible branched) serves e = absurd (cc e)
-  usage_asked asked (answer.Tasks inst) serves e = absurd (cc e)
-  usage_asked asked (answer.Broken broken) serves e = absurd (cc e)
-  usage_asked asked (answer.Shown moved) serves e = absurd (cc e)
-  usage_asked asked (answer.Compared compared) serves e = absurd (compared_ends compared status.Usage e)
-  usage_asked asked (answer.Checked (Least end)) serves e = absurd (cc e)
-  usage_asked asked (answer.Checked Never) serves e = absurd (cc e)
-  usage_asked asked answer.WriteFault serves e = absurd (cc e)
-  usage_asked (plan s w p t n) (answer.Stopped (stop.Refused refusal.Usage)) serves e = absurd serves.0
-  usage_asked (check s w None t) (answer.Stopped (stop.Refused refusal.Usage)) serves e = absurd serves.ending
-  usage_asked (check s w (Some p) t) (answer.Stopped (stop.Refused refusal.Usage)) serves e = elim serves.ending [ inl early ↦ absurd early | inr late ↦ absurd late.tree ]
-  usage_asked (tasks s w) (answer.Stopped (stop.Refused refusal.Usage)) serves e = absurd serves.ending
-  usage_asked (show s w p) (answer.Stopped (stop.Refused refusal.Usage)) serves e = absurd serves.ending
-  usage_asked (make n h c) (answer.Stopped (stop.Refused refusal.Usage)) serves e = elim serves.0 [ inl is ↦ absurd (cc is) | inr is ↦ absurd (cc is) ]
-  usage_asked usage (answer.Stopped (stop.Refused refusal.Usage)) serves e = refl
+  usage_asked : (a : Answer) → MayAnswer run.asked a → status_of a ≡ status.Usage → run.asked ≡ usage
+  usage_asked (answer.Stopped (stop.Refused refusal.Usage)) may e = may
+  usage_asked (answer.Planned made) may e = absurd (plan_ends made status.Usage e)
+  usage_asked (answer.Compared compared) may e = absurd (compared_ends compared status.Usage e)
+  usage_asked (answer.Checked (Least end)) may e = absurd (cc e)
+  usage_asked other may e = absurd (cc e)
 
   usage_words : ended ≡ status.Usage → Asks words usage
   usage_words e = elim run.reports [
-    | inl whole ↦ run.asks ∙ usage_asked run.asked run.answer run.serves (sym whole.status ∙ e)
+    | inl whole ↦ run.asks ∙ usage_asked run.answer run.may (sym whole.status ∙ e)
     | inr cut ↦ absurd (cc (cut.status, e))
-  ]
-
-  not_built : (asked : Asked) → Asks words asked → IsUnbuilt asked → EndsWith status.Unbuilt pb pa ended ⊎ (ended ≡ status.OutOfMemory)
-  not_built asked asks is = elim run.reports [
-    | inl whole ↦ elim (unbuilt_away before after asked is run.answer (asked_is asked asks)) [
-      | inl refused ↦ inl (inl (whole.status ∙ ap status_of refused))
-      | inr wanting ↦ inr (whole.status ∙ ap status_of wanting)
-    ]
-    | inr cut ↦ inl (inr (cut.status, cut.rose))
   ]
 
   no_command : named words ≡ None → EndsWith status.Usage pb pa ended
@@ -660,16 +540,10 @@ module _ (words : List (List ℕ)) (before after : Stand) (pb pa : Printed) (end
   memory_report : (a : Answer) → status_of a ≡ status.OutOfMemory → IsPrinted a pb.bytes pa.bytes → pa.bytes ≡ append_known pb.bytes (codes "OutOfMemory\n")
   memory_report (answer.Stopped stop.OutOfMemory) e report = report
   memory_report (answer.Stopped (stop.Refused why)) e report = absurd (not_other why status.OutOfMemory e)
-  memory_report answer.WriteFault e report = absurd (cc e)
-  memory_report (answer.Tasks inst) e report = absurd (cc e)
-  memory_report (answer.Checked (Least end)) e report = absurd (cc e)
-  memory_report (answer.Checked Never) e report = absurd (cc e)
-  memory_report (answer.Broken broken) e report = absurd (cc e)
-  memory_report (answer.Shown moved) e report = absurd (cc e)
-  memory_report (answer.Compared compared) e report = absurd (compared_ends compared status.OutOfMemory e)
   memory_report (answer.Planned made) e report = absurd (plan_ends made status.OutOfMemory e)
-  memory_report (answer.Unplanned bound branched) e report = absurd (cc e)
-  memory_report (answer.Infeasible branched) e report = absurd (cc e)
+  memory_report (answer.Compared compared) e report = absurd (compared_ends compared status.OutOfMemory e)
+  memory_report (answer.Checked (Least end)) e report = absurd (cc e)
+  memory_report other e report = absurd (cc e)
 
   out_of_memory : ended ≡ status.OutOfMemory → pa.bytes ≡ append_known pb.bytes (codes "OutOfMemory\n")
   out_of_memory e = elim run.reports [
@@ -693,6 +567,7 @@ module _ (words : List (List ℕ)) (before after : Stand) (pb pa : Printed) (end
     judged_plan s w p t held told a serves (Ok (judge inst sched)) is = inl tt
     judged_plan s w p t held told a serves (Ok (print ending)) is = absurd (only_judge (reads_in held (check s w (Some p) t)) (print ending) is)
     judged_plan s w p t held told a serves (Ok (search inst nodes)) is = absurd (only_judge (reads_in held (check s w (Some p) t)) (search inst nodes) is)
+    judged_plan s w p t held told a serves (Ok (trial n h c)) is = absurd (only_judge (reads_in held (check s w (Some p) t)) (trial n h c) is)
     judged_plan s w p t held told a serves (Err why) is = early_due s w p t before after pb pa none.reading held told why is a serves
 
     -- a plan that is shown, up to the judging of its schedule
@@ -701,10 +576,11 @@ module _ (words : List (List ℕ)) (before after : Stand) (pb pa : Printed) (end
     shown_plan s w p held told a serves (Ok (judge inst sched)) is = inl tt
     shown_plan s w p held told a serves (Ok (print ending)) is = absurd (only_judge (reads_in held (show s w p)) (print ending) is)
     shown_plan s w p held told a serves (Ok (search inst nodes)) is = absurd (only_judge (reads_in held (show s w p)) (search inst nodes) is)
+    shown_plan s w p held told a serves (Ok (trial n h c)) is = absurd (only_judge (reads_in held (show s w p)) (trial n h c) is)
     shown_plan s w p held told a serves (Err why) is = early_shown s w p before after pb pa none.reading held told why is a serves
 
-    away_due : (why : Refusal) (a : Answer) → IsTurnedAway why before after a → EndsAsDue (Err why) (status_of a) ⊎ (status_of a ≡ status.OutOfMemory)
-    away_due why a away = elim away.0 [ inl is ↦ inl (ap status_of is) | inr is ↦ inr (ap status_of is) ]
+    away_due : (a : Answer) → IsTurnedAway before after a → (status_of a ≡ status.Usage) ⊎ (status_of a ≡ status.OutOfMemory)
+    away_due a away = elim away.0 [ inl is ↦ inl (ap status_of is) | inr is ↦ inr (ap status_of is) ]
 
     answer_due : (asked : Asked) (held : Files) → before.files ≡ Some held → (a : Answer) → Serves asked before after a
         → EndsAsDue (due asked (reads_in held asked)) (status_of a) ⊎ (status_of a ≡ status.OutOfMemory)
@@ -716,35 +592,19 @@ module _ (words : List (List ℕ)) (before after : Stand) (pb pa : Printed) (end
     answer_due (plan s w p t n) held told (answer.Infeasible branched) serves =
         inl (as_due _ _ _ (searched_due (plan s w p t n) held before.files told (answer.Infeasible branched) after.files serves.2).2 tt)
     answer_due (plan s w p t n) held told answer.WriteFault serves = absurd (none.writing serves.0)
-    answer_due (plan s w p t n) held told (answer.Tasks inst) serves = absurd serves
-    answer_due (plan s w p t n) held told (answer.Checked bound) serves = absurd serves
-    answer_due (plan s w p t n) held told (answer.Broken broken) serves = absurd serves
-    answer_due (plan s w p t n) held told (answer.Compared compared) serves = absurd serves
-    answer_due (plan s w p t n) held told (answer.Shown moved) serves = absurd serves
+    answer_due (plan s w p t n) held told other serves = absurd serves
     answer_due (check s w None t) held told (answer.Stopped why) serves = stop_due (check s w None t) held told why serves.ending
-    answer_due (check s w None t) held told answer.WriteFault serves = absurd serves.ending
     answer_due (check s w None t) held told (answer.Tasks inst) serves = inl (as_due _ _ _ (comes_due (due (check s w None t)) (check s w None t) held before.files told (Ok (print (ending_of (answer.Tasks inst)))) serves.ending.1) refl)
     answer_due (check s w None t) held told (answer.Checked bound) serves = inl (as_due _ _ _ (comes_due (due (check s w None t)) (check s w None t) held before.files told (Ok (print (ending_of (answer.Checked bound)))) serves.ending.1) refl)
-    answer_due (check s w None t) held told (answer.Planned made) serves = absurd serves.ending
-    answer_due (check s w None t) held told (answer.Unplanned bound branched) serves = absurd serves.ending
-    answer_due (check s w None t) held told (answer.Infeasible branched) serves = absurd serves.ending
-    answer_due (check s w None t) held told (answer.Broken broken) serves = absurd serves.ending
-    answer_due (check s w None t) held told (answer.Compared compared) serves = absurd serves.ending
-    answer_due (check s w None t) held told (answer.Shown moved) serves = absurd serves.ending
+    answer_due (check s w None t) held told other serves = absurd serves.ending
     answer_due (check s w (Some p) t) held told a serves = judged_plan s w p t held told a serves (due (check s w (Some p) t) (reads_in held (check s w (Some p) t))) refl
     answer_due (tasks s w) held told (answer.Stopped why) serves = stop_due (tasks s w) held told why serves.ending
-    answer_due (tasks s w) held told answer.WriteFault serves = absurd serves.ending
     answer_due (tasks s w) held told (answer.Tasks inst) serves = inl (as_due _ _ _ (comes_due (due (tasks s w)) (tasks s w) held before.files told (Ok (print (ending_of (answer.Tasks inst)))) serves.ending.1) refl)
     answer_due (tasks s w) held told (answer.Checked bound) serves = inl (as_due _ _ _ (comes_due (due (tasks s w)) (tasks s w) held before.files told (Ok (print (ending_of (answer.Checked bound)))) serves.ending.1) refl)
-    answer_due (tasks s w) held told (answer.Planned made) serves = absurd serves.ending
-    answer_due (tasks s w) held told (answer.Unplanned bound branched) serves = absurd serves.ending
-    answer_due (tasks s w) held told (answer.Infeasible branched) serves = absurd serves.ending
-    answer_due (tasks s w) held told (answer.Broken broken) serves = absurd serves.ending
-    answer_due (tasks s w) held told (answer.Compared compared) serves = absurd serves.ending
-    answer_due (tasks s w) held told (answer.Shown moved) serves = absurd serves.ending
+    answer_due (tasks s w) held told other serves = absurd serves.ending
     answer_due (show s w p) held told a serves = shown_plan s w p held told a serves (due (show s w p) (reads_in held (show s w p))) refl
-    answer_due (make n h c) held told a serves = away_due refusal.Unbuilt a serves
-    answer_due usage held told a serves = away_due refusal.Usage a serves
+    answer_due (make n h c) held told a serves = making_ends n h c before after a serves
+    answer_due usage held told a serves = away_due a serves
 
     complete_at : (asked : Asked) → Asks words asked → (files : Option Files) → before.files ≡ files
         → IfSome files (λ held. EndsAsDue (due asked (reads_in held asked)) ended ⊎ (ended ≡ status.OutOfMemory))
@@ -775,6 +635,9 @@ module _ (words : List (List ℕ)) (before after : Stand) (pb pa : Printed) (end
     show_broken = show_broken;
     show_bad_plan = show_bad_plan;
     show_complete = λ s w p asks none. show_complete s w p asks none before.files refl;
+    make_done = make_done;
+    make_complete = make_complete;
+    make_leaves = λ n h c asks. (asked_is (make n h c) asks).untouched;
     refused = refused;
     files_stay = files_stay;
     plan_leaves = plan_leaves;
@@ -783,7 +646,6 @@ module _ (words : List (List ℕ)) (before after : Stand) (pb pa : Printed) (end
     plain_words = canonical_asked words;
     usage_words = usage_words;
     no_command = no_command;
-    not_built = not_built;
     out_of_memory = out_of_memory;
     complete = λ asked asks none. complete_at none asked asks before.files refl;
   }

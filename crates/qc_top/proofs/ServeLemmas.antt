@@ -16,10 +16,11 @@ use Rattle.qc_search.specs.Run.{IsSearched as Searched}
 use Rattle.qc_num.specs.declared.bound.Bound.TheVariants.{Never}
 use Rattle.qc_top.specs.declared.answer.Answer.{Answer}
 use Rattle.qc_top.specs.declared.answer.Answer.TheVariants as answer
-use Rattle.qc_words.specs.Asked.{Asked, plan, check, tasks, show, make, usage}
+use Rattle.qc_words.specs.Asked.{Asked, plan}
 use Rattle.qc_top.specs.Asked.{IsPlanTo}
 use Rattle.qc_top.specs.Due.{search, due, instance_due}
 use Rattle.qc_top.specs.Found.{IsFound, Tells}
+use Rattle.qc_top.specs.May.{MayAnswer}
 use Rattle.qc_top.specs.Account.{ComesTo, Named, written, plan_texts, texts_of, IsCutShort, IsStored, IsTreeCut, IsSearched, IsStopped, IsWriting}
 
 -- two shelves stand alike
@@ -162,12 +163,7 @@ module _ (asked : Asked) (p t : List ℕ) (nodes : ℕ) (to : IsPlanTo asked p t
   texts_are tree best = by asked to where
     by : (asked : Asked) → IsPlanTo asked p t nodes → texts_of asked inst tree best ≡ (t, tree_text inst tree) ∷ plan_texts p inst best
     by (plan s w q u n) to = ap (λ name. (name, tree_text inst tree) ∷ plan_texts q inst best) to.1 ∙ ap (λ name. (t, tree_text inst tree) ∷ plan_texts name inst best) to.0
-    by (check s w None u) to = absurd to
-    by (check s w (Some q) u) to = absurd to
-    by (tasks s w) to = absurd to
-    by (show s w p) to = absurd to
-    by (make n h c) to = absurd to
-    by usage to = absurd to
+    by other to = absurd to
 
   pub plan_searched :
       (done : DoneView) (a : Answer) → IfSome before (λ held. IsStored (record { inst = inst; nodes = nodes }) t held mid done)
@@ -228,16 +224,10 @@ pub writes_told :
     (asked : Asked) (before after : Stand) (inst : InstanceView) (done : DoneView) (a : Answer) → Tells inst done a
     → after.faults ≡ before.faults → after.read_faults ≡ before.read_faults → IfSome before.files (λ held. IsSearched asked held a after.files)
     → IsWriting asked before after a
-writes_told asked before after inst done (answer.Stopped why) told faults reads searched = absurd told
-writes_told asked before after inst done answer.WriteFault told faults reads searched = absurd told
-writes_told asked before after inst done (answer.Tasks listed) told faults reads searched = absurd told
-writes_told asked before after inst done (answer.Checked bound) told faults reads searched = absurd told
-writes_told asked before after inst done (answer.Broken broken) told faults reads searched = absurd told
-writes_told asked before after inst done (answer.Compared compared) told faults reads searched = absurd told
-writes_told asked before after inst done (answer.Shown moved) told faults reads searched = absurd told
 writes_told asked before after inst done (answer.Planned found) told faults reads searched = (faults, reads, searched)
 writes_told asked before after inst done (answer.Unplanned bound branched) told faults reads searched = (faults, reads, searched)
 writes_told asked before after inst done (answer.Infeasible branched) told faults reads searched = (faults, reads, searched)
+writes_told asked before after inst done other told faults reads searched = absurd told
 
 -- a search is due where the instance is
 pub search_due :
@@ -245,9 +235,13 @@ pub search_due :
     → ComesTo instance_due asked files (Ok inst) → ComesTo (due asked) asked files (Ok (search inst nodes))
 search_due asked p t nodes to None inst h = tt
 search_due (plan s w q u n) p t nodes to (Some held) inst h = rw h (ap (λ m. Ok (search inst m)) to.2)
-search_due (check s w None u) p t nodes to (Some held) inst h = absurd to
-search_due (check s w (Some q) u) p t nodes to (Some held) inst h = absurd to
-search_due (tasks s w) p t nodes to (Some held) inst h = absurd to
-search_due (show s w q) p t nodes to (Some held) inst h = absurd to
-search_due (make n hs cs) p t nodes to (Some held) inst h = absurd to
-search_due usage p t nodes to (Some held) inst h = absurd to
+search_due other p t nodes to (Some held) inst h = absurd to
+
+-- an answer that tells of a search may come of a plan
+pub tells_may : (asked : Asked) (p t : List ℕ) (nodes : ℕ) → IsPlanTo asked p t nodes → (inst : InstanceView) (done : DoneView) (a : Answer)
+    → Tells inst done a → MayAnswer asked a
+tells_may (plan s w q u n) p t nodes to inst done (answer.Planned told) tells = tt
+tells_may (plan s w q u n) p t nodes to inst done (answer.Unplanned bound branched) tells = tt
+tells_may (plan s w q u n) p t nodes to inst done (answer.Infeasible branched) tells = tt
+tells_may (plan s w q u n) p t nodes to inst done other tells = absurd tells
+tells_may other p t nodes to inst done a tells = absurd to

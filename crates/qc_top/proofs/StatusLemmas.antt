@@ -31,7 +31,6 @@ other (refusal.BadShip fault) = tt
 other (refusal.BadStow fault) = tt
 other (refusal.BadPlan fault) = tt
 other (refusal.BadTree fault) = tt
-other refusal.Unbuilt = tt
 
 pub not_other : (why : Refusal) (s : Status) → refusal_status why ≡ s → IsOther s
 not_other why s e = subst IsOther e (other why)

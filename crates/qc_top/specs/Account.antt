@@ -30,6 +30,7 @@ use Rattle.qc_gantt.specs.PlanText.{plan_text}
 use Rattle.qc_top.specs.Found.{IsFound, Tells}
 use Rattle.qc_top.specs.Reports.{IsPrintCut, IsPrinted}
 use Rattle.qc_top.specs.Held.{TellsBreak, TellsHeld, TellsShown}
+use Rattle.qc_top.specs.Made.{IsMade}
 
 -- where the shelf tells its files, a step over them comes to this
 abbrev pub ComesTo :
@@ -77,6 +78,7 @@ ComesThrough asked before after answer.WriteFault = ⊥
 ComesThrough asked before after (answer.Broken told) = ⊥
 ComesThrough asked before after (answer.Compared told) = ⊥
 ComesThrough asked before after (answer.Shown told) = ⊥
+ComesThrough asked before after (answer.Made told) = ⊥
 ComesThrough asked before after (answer.Planned told) = ⊥
 ComesThrough asked before after (answer.Unplanned bound branched) = ⊥
 ComesThrough asked before after (answer.Infeasible branched) = ⊥
@@ -165,6 +167,7 @@ IsWriting asked before after (answer.Checked bound) = ⊥
 IsWriting asked before after (answer.Broken told) = ⊥
 IsWriting asked before after (answer.Compared told) = ⊥
 IsWriting asked before after (answer.Shown told) = ⊥
+IsWriting asked before after (answer.Made told) = ⊥
 IsWriting asked before after a =
     (after.faults ≡ before.faults) × (after.read_faults ≡ before.read_faults)
     × IfSome before.files (λ held. IsSearched asked held a after.files)
@@ -231,15 +234,27 @@ pub record IsShowing (asked : Asked) (before after : Stand) (a : Answer) : Type 
   pub files : after.files ≡ before.files
   pub faults : after.faults ≡ before.faults
 
--- a request is refused so, or memory is wanting for its words, and the shelf isn't touched
-abbrev pub IsTurnedAway : Refusal → Stand → Stand → Answer → Type 0
-IsTurnedAway why before after a =
-    ((a ≡ answer.Stopped (stop.Refused why)) ⊎ (a ≡ answer.Stopped stop.OutOfMemory)) × (after ≡ before)
+-- what comes of a ship and a list that are made: they are searched, or memory is wanting
+abbrev pub MakesOf : (number hatches cranes : ℕ) → Answer → Type 0
+MakesOf n h c (answer.Made told) = IsMade n h c told
+MakesOf n h c (answer.Stopped stop.OutOfMemory) = Unit {0}
+MakesOf n h c _ = ⊥
+
+-- what making says: the shelf isn't touched
+pub record IsMaking (number hatches cranes : ℕ) (before after : Stand) (a : Answer) : Type 0 where
+  pub ending : MakesOf number hatches cranes a
+  pub untouched : after ≡ before
+
+-- words are refused as no command, or memory is wanting for them, and the shelf isn't touched
+abbrev pub IsTurnedAway : Stand → Stand → Answer → Type 0
+IsTurnedAway before after a =
+    ((a ≡ answer.Stopped (stop.Refused refusal.Usage)) ⊎ (a ≡ answer.Stopped stop.OutOfMemory))
+    × (after ≡ before)
 
 -- what a request says of its answer and of the shelf
 abbrev pub Serves : Asked → Stand → Stand → Answer → Type 0
-Serves usage before after a = IsTurnedAway refusal.Usage before after a
-Serves (make n h c) before after a = IsTurnedAway refusal.Unbuilt before after a
+Serves usage before after a = IsTurnedAway before after a
+Serves (make n h c) before after a = IsMaking n h c before after a
 Serves (show s w p) before after a = IsShowing (show s w p) before after a
 Serves (plan s w p t n) before after a = IsWriting (plan s w p t n) before after a
 Serves (check s w (Some p) t) before after a = IsJudging (check s w (Some p) t) before after a

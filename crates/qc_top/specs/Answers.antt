@@ -1,5 +1,5 @@
 -- What a run comes to, what it prints and the status that it ends with.
-use Rattle.std.specs.Prelude.{ℕ, nat_le, if◌then◌else◌, List, [], ◌∷◌, ◌++◌, codes, decimal}
+use Rattle.std.specs.Prelude.{ℕ, nat_le, if◌then◌else◌, List, [], ◌∷◌, ◌++◌, Option, None, Some, codes, decimal}
 use Rattle.qc_model.specs.declared.direction.Direction.{Direction}
 use Rattle.qc_model.specs.declared.direction.Direction.TheVariants.{Up, Down}
 use Rattle.qc_gantt.specs.Faults.{kind_text as plan_kind_text}
@@ -12,6 +12,8 @@ use Rattle.qc_model.specs.Judge.{rule_text}
 use Rattle.qc_model.specs.Rules.{ends}
 use Rattle.qc_replay.specs.Faults.{kind_text as tree_text}
 use Rattle.qc_replay.specs.declared.fault.TreeFault.{TreeFault}
+use Rattle.qc_search.specs.declared.done.Kind.{Kind}
+use Rattle.qc_search.specs.declared.done.Kind.TheVariants as kind
 use Rattle.qc_ship.specs.declared.fault.ShipKind.{ShipKind}
 use Rattle.qc_ship.specs.declared.fault.ShipKind.TheVariants as ship
 use Rattle.qc_ship.specs.declared.fault.ShipFault.{ShipFault}
@@ -28,6 +30,9 @@ use Rattle.qc_top.specs.declared.answer.Stop.TheVariants as stop
 use Rattle.qc_top.specs.declared.answer.Planned.{Planned}
 use Rattle.qc_top.specs.declared.answer.Broken.{Broken}
 use Rattle.qc_top.specs.declared.answer.Compared.{Compared}
+use Rattle.qc_top.specs.declared.answer.Made.{Made}
+use Rattle.qc_top.specs.declared.answer.Verdict.{Verdict}
+use Rattle.qc_top.specs.declared.answer.Verdict.TheVariants as verdict
 use Rattle.qc_top.specs.declared.answer.Answer.{Answer}
 use Rattle.qc_top.specs.declared.answer.Answer.TheVariants as answer
 use Rattle.qc_top.specs.declared.status.Status.{Status}
@@ -52,7 +57,6 @@ status_code status.BudgetNone = 12
 status_code status.Broken = 13
 status_code status.Weaker = 14
 status_code status.TooLarge = 15
-status_code status.Unbuilt = 16
 
 abbrev pub input_text : Input → List ℕ
 input_text input.Ship = codes "ship"
@@ -157,6 +161,38 @@ compared_text told =
     compared_word told ++ codes "\nend " ++ decimal told.end ++ codes "\nbound " ++ decimal told.bound
     ++ codes "\n"
 
+-- the word for how a search came out, as a plan's report begins
+abbrev pub kind_word : Kind → List ℕ
+kind_word kind.Optimal = codes "Optimal"
+kind_word kind.Infeasible = codes "Infeasible"
+kind_word kind.Budget = codes "Budget"
+
+-- the word for what a check says, as its report begins
+abbrev pub verdict_word : Verdict → List ℕ
+verdict_word verdict.Optimal = codes "Optimal"
+verdict_word verdict.Weaker = codes "Weaker"
+verdict_word verdict.Bound = codes "Bound"
+
+abbrev pub end_word : Option ℕ → List ℕ
+end_word None = codes "none"
+end_word (Some end) = decimal end
+
+-- what is printed of a made ship and its list: the numbers that they are made from, and how much work there is
+abbrev pub size_text : Made → List ℕ
+size_text told =
+    codes "make " ++ decimal told.number ++ codes " " ++ decimal told.hatches ++ codes " " ++ decimal told.cranes
+    ++ codes "\nrows " ++ decimal told.rows ++ codes "\ntasks " ++ decimal told.tasks
+    ++ codes "\nwork " ++ decimal told.work ++ codes "\n"
+
+-- what the search of its instance came to, and what the check says
+abbrev pub found_text : Made → List ℕ
+found_text told =
+    codes "plan " ++ kind_word told.kind ++ codes "\nend " ++ end_word told.end
+    ++ codes "\nbound " ++ decimal told.bound ++ codes "\ncheck " ++ verdict_word told.verdict ++ codes "\n"
+
+abbrev pub made_text : Made → List ℕ
+made_text told = size_text told ++ found_text told
+
 -- what is printed for a refusal
 abbrev pub refusal_text : Refusal → List ℕ
 refusal_text refusal.Usage = usage_text
@@ -166,7 +202,6 @@ refusal_text (refusal.BadShip fault) = bad_ship_text fault.kind fault
 refusal_text (refusal.BadStow fault) = bad_stow_text fault
 refusal_text (refusal.BadPlan fault) = bad_plan_text fault
 refusal_text (refusal.BadTree fault) = bad_tree_text fault
-refusal_text refusal.Unbuilt = codes "Unbuilt\n"
 
 abbrev pub refusal_status : Refusal → Status
 refusal_status refusal.Usage = status.Usage
@@ -176,7 +211,6 @@ refusal_status (refusal.BadShip fault) = status.BadShip
 refusal_status (refusal.BadStow fault) = status.BadStow
 refusal_status (refusal.BadPlan fault) = status.BadPlan
 refusal_status (refusal.BadTree fault) = status.BadTree
-refusal_status refusal.Unbuilt = status.Unbuilt
 
 -- what is printed where a request stops
 abbrev pub stop_text : Stop → List ℕ
@@ -196,6 +230,7 @@ report_text (answer.Checked bound) = (bound_ending bound).text
 report_text (answer.Broken told) = broken_text told
 report_text (answer.Compared told) = compared_text told
 report_text (answer.Shown told) = shown_head told.inst told.sched told.direction
+report_text (answer.Made told) = made_text told
 report_text (answer.Planned told) = planned_text told
 report_text (answer.Unplanned bound branched) = unplanned_text bound branched
 report_text (answer.Infeasible branched) = infeasible_text branched
@@ -208,6 +243,7 @@ status_of (answer.Checked bound) = (bound_ending bound).status
 status_of (answer.Broken told) = status.Broken
 status_of (answer.Compared told) = compared_status told
 status_of (answer.Shown told) = status.Done
+status_of (answer.Made told) = status.Done
 status_of (answer.Planned told) = planned_status told
 status_of (answer.Unplanned bound branched) = status.BudgetNone
 status_of (answer.Infeasible branched) = status.Infeasible

@@ -34,10 +34,10 @@ abbrev pub IsShow : Asked → Type 0
 IsShow (show s w p) = Unit {0}
 IsShow _ = ⊥
 
--- a command is asked for that isn't built yet
-abbrev pub IsUnbuilt : Asked → Type 0
-IsUnbuilt (make n h c) = Unit {0}
-IsUnbuilt _ = ⊥
+-- a ship and a list are to be made, planned and checked
+abbrev pub IsMake : Asked → Type 0
+IsMake (make n h c) = Unit {0}
+IsMake _ = ⊥
 
 -- a plan is asked for that goes into this file, with its tree in this one and so many branchings
 abbrev pub IsPlanTo : Asked → (plan_name tree : List ℕ) → ℕ → Type 0

@@ -60,11 +60,13 @@ pub record Ending : Type 0 where
   pub text : List ℕ
 
 -- what is to be done: a report is to be printed; an instance is to be searched with at most so many branchings and
--- what comes of it written; or a schedule is to be judged and, if it holds, its end compared with a tree's value, or its motion told
+-- what comes of it written; a schedule is to be judged and, if it holds, its end compared with a tree's value, or its
+-- motion told; or a ship and a list that are made from numbers are to be planned and checked
 pub data Work : Type 0 where
   print : (ending : Ending) → Work
   search : (inst : InstanceView) (nodes : ℕ) → Work
   judge : (inst : InstanceView) (sched : List Slot) → Work
+  trial : (number hatches cranes : ℕ) → Work
 
 -- the greatest length of a file that is read whole, in bytes
 abbrev pub file_limit : ℕ
@@ -159,5 +161,5 @@ due (check s w None t) reads = check_due reads
 due (check s w (Some p) t) reads = judge_due reads
 due (tasks s w) reads = tasks_due reads
 due (show s w p) reads = judge_due reads
-due (make n h c) reads = Err refusal.Unbuilt
+due (make n h c) reads = Ok (trial n h c)
 due usage reads = Err refusal.Usage

@@ -6,5 +6,6 @@ pub mod Reports
 pub mod Shown
 pub mod Found
 pub mod Held
+pub mod Made
 pub mod Account
 pub mod Promises

@@ -8,12 +8,11 @@ use Rattle.qc_top.specs.declared.answer.Stop.{Stop}
 use Rattle.qc_top.specs.declared.answer.Stop.TheVariants as stop
 use Rattle.qc_top.specs.declared.answer.Answer.{Answer}
 use Rattle.qc_top.specs.declared.answer.Answer.TheVariants as answer
-use Rattle.qc_top.specs.Asked.{IsCheck, IsCheckPlan, IsPlan, IsShow, IsTasks, IsUnbuilt, IsWhole}
+use Rattle.qc_top.specs.Asked.{IsCheck, IsCheckPlan, IsMake, IsPlan, IsShow, IsTasks, IsWhole}
 
 -- a refusal of a file comes only of one that the request reads, and TooLarge of one that it reads whole
 abbrev pub MayRefuse : Asked → Refusal → Type 0
 MayRefuse asked refusal.Usage = asked ≡ usage
-MayRefuse asked refusal.Unbuilt = IsUnbuilt asked
 MayRefuse asked (refusal.ReadFault file) = IsSome (name_of file asked)
 MayRefuse asked (refusal.TooLarge file) = IsWhole asked file
 MayRefuse asked (refusal.BadShip fault) = IsSome (name_of input.Ship asked)
@@ -35,6 +34,7 @@ MayAnswer asked (answer.Checked bound) = IsCheck asked
 MayAnswer asked (answer.Broken told) = IsSome (name_of input.Plan asked)
 MayAnswer asked (answer.Compared told) = IsCheckPlan asked
 MayAnswer asked (answer.Shown told) = IsShow asked
+MayAnswer asked (answer.Made told) = IsMake asked
 MayAnswer asked (answer.Planned told) = IsPlan asked
 MayAnswer asked (answer.Unplanned bound branched) = IsPlan asked
 MayAnswer asked (answer.Infeasible branched) = IsPlan asked

@@ -16,6 +16,7 @@ use Rattle.qc_num.specs.declared.bound.Bound.{Bound}
 use Rattle.qc_replay.specs.declared.fault.Replayed.{Replayed}
 use Rattle.qc_top.specs.declared.answer.Broken.{Broken}
 use Rattle.qc_top.specs.declared.answer.Compared.{Compared}
+use Rattle.qc_top.specs.declared.answer.Made.{Made}
 use Rattle.qc_top.specs.declared.answer.Refusal.{Refusal}
 use Rattle.qc_top.specs.declared.answer.Refusal.TheVariants as refusal
 use Rattle.qc_top.specs.declared.answer.Stop.TheVariants as stop
@@ -25,13 +26,14 @@ use Rattle.qc_top.specs.declared.answer.Answer.{Answer}
 use Rattle.qc_top.specs.declared.answer.Answer.TheVariants as answer
 use Rattle.qc_top.specs.declared.status.Status.{Status}
 use Rattle.qc_top.specs.declared.status.Status.TheVariants as status
-use Rattle.qc_words.specs.Asked.{Asked, check, tasks, show, usage}
+use Rattle.qc_words.specs.Asked.{Asked, check, tasks, show, make, usage}
 use Rattle.qc_words.specs.Commands.{named}
 use Rattle.qc_words.specs.Words.{Asks, Canonical}
-use Rattle.qc_top.specs.Asked.{IsPlan, IsUnbuilt, nodes_of}
-use Rattle.qc_top.specs.Due.{Work, print, search, judge, reads_in, instance_due, tree_due, due}
-use Rattle.qc_top.specs.Answers.{bad_plan_text, broken_text, compared_status, compared_text, compared_word, infeasible_text, planned_word, refusal_text, refusal_status, unplanned_text}
+use Rattle.qc_top.specs.Asked.{IsPlan, nodes_of}
+use Rattle.qc_top.specs.Due.{Work, print, search, judge, trial, reads_in, instance_due, tree_due, due}
+use Rattle.qc_top.specs.Answers.{bad_plan_text, broken_text, compared_status, compared_text, compared_word, infeasible_text, made_text, planned_word, refusal_text, refusal_status, unplanned_text}
 use Rattle.qc_top.specs.Held.{TellsBreak}
+use Rattle.qc_top.specs.Made.{IsMade}
 use Rattle.qc_top.specs.Reports.{IsPlanPrinted, IsPrintCut, IsShownPrinted}
 use Rattle.qc_top.specs.Shown.{IsBoundShown, IsNoneShown, IsTreeShown}
 use Rattle.qc_top.specs.Account.{IsMoved, IsSearched, IsStopped, Serves, Printed}
@@ -142,6 +144,12 @@ pub record IsMotionTold (asked : Asked) (held : Files) (before after : Printed) 
   pub moved : IsMoved asked (Some held) told
   pub report : IsShownPrinted told before.bytes after.bytes
 
+-- the made instance was searched, and the summary of that was printed
+pub record IsMakingTold (number hatches cranes : ℕ) (before after : Printed) : Type 0 where
+  pub told : Made
+  pub made : IsMade number hatches cranes told
+  pub report : after.bytes ≡ append_known before.bytes (made_text told)
+
 -- the status is that of a refusal
 abbrev pub IsRefusal : Status → Type 0
 IsRefusal status.Usage = Unit {0}
@@ -151,7 +159,6 @@ IsRefusal status.BadShip = Unit {0}
 IsRefusal status.BadStow = Unit {0}
 IsRefusal status.BadPlan = Unit {0}
 IsRefusal status.BadTree = Unit {0}
-IsRefusal status.Unbuilt = Unit {0}
 IsRefusal _ = ⊥
 
 -- a refusal with this status, which is due or has its cause, was printed
@@ -181,6 +188,7 @@ abbrev pub EndsAsDue : Result Work Refusal → Status → Type 0
 EndsAsDue (Ok (print ending)) ended = ended ≡ ending.status
 EndsAsDue (Ok (search inst nodes)) ended = IsSearchEnd ended
 EndsAsDue (Ok (judge inst sched)) ended = Unit {0}
+EndsAsDue (Ok (trial number hatches cranes)) ended = ended ≡ status.Done
 EndsAsDue (Err why) ended = ended ≡ refusal_status why
 
 -- a plan that goes one way ends so, by what its tree's file comes to
@@ -302,6 +310,15 @@ pub record Promises (words : List (List ℕ)) (before after : Stand) (printed_be
       → IfSome before.files (λ held. (inst : InstanceView) (sched : List Slot)
       → due (show ship stow plan) (reads_in held (show ship stow plan)) ≡ Ok (judge inst sched)
       → EndsShown inst sched ended ⊎ (ended ≡ status.OutOfMemory))
+  -- Done of a ship and a list that are made; where the sink doesn't fail it comes, or want of memory does
+  pub make_done :
+      (number hatches cranes : ℕ) → Asks words (make number hatches cranes) → ended ≡ status.Done
+      → IsMakingTold number hatches cranes printed_before printed_after
+  pub make_complete :
+      (number hatches cranes : ℕ) → Asks words (make number hatches cranes)
+      → EndsWith status.Done printed_before printed_after ended ⊎ (ended ≡ status.OutOfMemory)
+  pub make_leaves :
+      (number hatches cranes : ℕ) → Asks words (make number hatches cranes) → after ≡ before
   -- each refusal
   pub refused :
       (asked : Asked) → Asks words asked → IsRefusal ended
@@ -325,10 +342,6 @@ pub record Promises (words : List (List ℕ)) (before after : Stand) (printed_be
   -- Usage comes only on words that ask for nothing, and always where no command begins them
   pub usage_words : ended ≡ status.Usage → Asks words usage
   pub no_command : named words ≡ None → EndsWith status.Usage printed_before printed_after ended
-  -- Unbuilt comes on a command that isn't built, or want of memory does
-  pub not_built :
-      (asked : Asked) → Asks words asked → IsUnbuilt asked
-      → EndsWith status.Unbuilt printed_before printed_after ended ⊎ (ended ≡ status.OutOfMemory)
   -- want of memory is told by its line alone
   pub out_of_memory :
       ended ≡ status.OutOfMemory → printed_after.bytes ≡ append_known printed_before.bytes (codes "OutOfMemory\n")

@@ -11,12 +11,14 @@ use crate::faults::{put_plan_fault, put_ship_fault, put_stow_fault, put_tree_fau
 use crate::judged::{compared_status, put_broken, put_compared};
 use crate::show::put_shown;
 use crate::status::Status;
+use crate::summary::put_made;
 use qc_gantt::{PlanFault, write_tracks};
 use qc_io::{Sink, WriteFault, put_all};
 use qc_model::{Direction, Instance, Rule, Schedule, TaskText};
 use qc_motion::Track;
 use qc_num::{Bound, OutOfMemory, Text, Tick};
 use qc_replay::TreeFault;
+use qc_search::Kind;
 use qc_ship::ShipFault;
 use qc_stow::StowFault;
 use qc_tasks::write_tasks;
@@ -35,8 +37,6 @@ pub enum Refusal {
     BadStow(StowFault),
     BadPlan(PlanFault),
     BadTree(TreeFault),
-    /// A form of input that isn't built yet.
-    Unbuilt,
 }
 
 /// Why a request was given up before anything was written.
@@ -105,6 +105,40 @@ pub struct Compared {
     pub bound: Tick,
 }
 
+/// What a check says of a plan and a tree, or of a tree alone.
+#[derive(Clone, Copy, Debug, PartialEq, Eq)]
+pub enum Verdict {
+    /// The plan holds, and the tree shows that none ends earlier.
+    Optimal,
+    /// The plan holds, and the tree doesn't show that.
+    Weaker,
+    /// There is no plan; the tree shows an end that no schedule beats.
+    Bound,
+}
+
+/// What is told of a ship and a list that were made, planned and checked.
+#[derive(Clone, Copy, Debug)]
+pub struct Made {
+    /// The number that both were made from.
+    pub number: u32,
+    pub hatches: u16,
+    pub cranes: u16,
+    /// The number of moves in the list.
+    pub rows: u64,
+    /// The number of tasks.
+    pub tasks: u64,
+    /// The length of all tasks together, in ticks.
+    pub work: Tick,
+    /// How the search came out.
+    pub kind: Kind,
+    /// When the plan's last task ends, in ticks; none where no schedule was met.
+    pub end: Option<Tick>,
+    /// No schedule that goes one way ends before this tick.
+    pub bound: Tick,
+    /// What the check says of the plan and the tree.
+    pub verdict: Verdict,
+}
+
 /// What a run comes to before it is reported.
 #[derive(Drop)]
 pub enum Answer {
@@ -122,6 +156,8 @@ pub enum Answer {
     Compared(Compared),
     /// The plan holds; its motion is to be printed.
     Shown(Shown),
+    /// A ship and a list were made, planned and checked; a summary is to be printed.
+    Made(Made),
     /// The search's tree and the plan of the best schedule that it met are written.
     Planned(Planned),
     /// The search's tree is written. It met no schedule, and none that goes one way ends before `bound`, in ticks.
@@ -173,7 +209,6 @@ fn refusal_status(why: Refusal) -> Status
         Refusal::BadStow(_) => Status::BadStow,
         Refusal::BadPlan(_) => Status::BadPlan,
         Refusal::BadTree(_) => Status::BadTree,
-        Refusal::Unbuilt => Status::Unbuilt,
     }
 }
 
@@ -208,7 +243,7 @@ fn status_of(answer: &Answer) -> Status
         Answer::Checked { bound } => bound_status(*bound),
         Answer::Broken(_) => Status::Broken,
         Answer::Compared(told) => compared_status(*told),
-        Answer::Shown(_) => Status::Done,
+        Answer::Shown(_) | Answer::Made(_) => Status::Done,
         Answer::Planned(told) => planned_status(told),
         Answer::Unplanned { .. } => Status::BudgetNone,
         Answer::Infeasible { .. } => Status::Infeasible,
@@ -226,7 +261,6 @@ fn put_refusal<K: Sink>(why: Refusal, out: &mut K) -> Result<(), WriteFault>
         Refusal::BadStow(fault) => put_stow_fault(fault, out),
         Refusal::BadPlan(fault) => put_plan_fault(fault, out),
         Refusal::BadTree(fault) => put_tree_fault(fault, out),
-        Refusal::Unbuilt => put_all(out, b"Unbuilt\n"),
     }
 }
 
@@ -336,6 +370,7 @@ fn put_report<K: Sink>(answer: Answer, out: &mut K) -> Result<(), WriteFault>
         Answer::Broken(told) => put_broken(&told, out),
         Answer::Compared(told) => put_compared(told, out),
         Answer::Shown(told) => put_shown(told, out),
+        Answer::Made(told) => put_made(&told, out),
         Answer::Planned(told) => put_moved(told, out),
         Answer::Unplanned { bound, branched } => put_unplanned(bound, branched, out),
         Answer::Infeasible { branched } => put_infeasible(branched, out),

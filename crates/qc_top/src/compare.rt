@@ -18,7 +18,7 @@ ghost use Rattle.qc_top.specs.May.{MayAnswer};
 use crate::answer::{Answer, Broken, Compared};
 use crate::reading::{Job, read_job, read_tree};
 use qc_io::Shelf;
-use qc_model::{Break, Instance, direction_of, ends};
+use qc_model::{Break, Instance, Schedule, direction_of, ends};
 use qc_num::Bound;
 use qc_words::Request;
 use std::alloc::Global;
@@ -40,17 +40,17 @@ pub(crate) fn broken_of(inst: &Instance, broken: Break) -> Broken
 }
 
 /// What is told of a schedule that goes one way, beside what a tree shows.
-fn compared_of(job: &Job, bound: Bound) -> Compared
-    requires judgeable { IsJudgeable job.now.inst job.now.sched }
-    requires goes { GoesOneWay job.now.inst job.now.sched }
-    requires none_earlier { NoneEarlier job.now.inst bound }
-    ensures { TellsHeld job.now.inst job.now.sched bound result }
+pub(crate) fn compared_of(inst: &Instance, sched: &Schedule, bound: Bound) -> Compared
+    requires judgeable { IsJudgeable inst.now sched.now }
+    requires goes { GoesOneWay inst.now sched.now }
+    requires none_earlier { NoneEarlier inst.now bound }
+    ensures { TellsHeld inst.now sched.now bound result }
 {
     let Bound::Least(bound) = bound else {
         unreachable!()
     };
     Compared {
-        end: ends(&job.inst, &job.sched),
+        end: ends(inst, sched),
         bound,
     }
 }
@@ -70,7 +70,7 @@ fn compare<S: Shelf>(alloc: Global, request: &Request<'_>, job: &Job, shelf: &mu
     ensures read_faults_never_fall { S.read_faults shelf.old ≤ S.read_faults shelf.new }
 {
     match read_tree(alloc, request, &job.inst, shelf) {
-        Ok(read) => Answer::Compared(compared_of(job, read.bound)),
+        Ok(read) => Answer::Compared(compared_of(&job.inst, &job.sched, read.bound)),
         Err(stop) => Answer::Stopped(stop),
     }
 }

@@ -7,13 +7,15 @@ mod compare;
 mod faults;
 mod found;
 mod judged;
+mod make;
 mod plan;
 mod program;
 mod reading;
 mod show;
 mod status;
+mod summary;
 mod tasks;
 
-pub use answer::{Answer, Broken, Compared, Planned, Refusal, Shown, Stop};
+pub use answer::{Answer, Broken, Compared, Made, Planned, Refusal, Shown, Stop, Verdict};
 pub use program::run;
 pub use status::Status;

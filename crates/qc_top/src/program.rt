@@ -12,6 +12,7 @@ ghost use Rattle.qc_top.specs.May.{MayAnswer};
 use crate::answer::{Answer, Refusal, Stop, report};
 use crate::check::check;
 use crate::compare::check_plan;
+use crate::make::make;
 use crate::plan::plan;
 use crate::show::show;
 use crate::status::Status;
@@ -44,7 +45,11 @@ fn serve<S: Shelf>(alloc: Global, request: &Request<'_>, shelf: &mut S) -> Answe
         Request::Check { plan: Some(_), .. } => check_plan(alloc, request, shelf),
         Request::Tasks { .. } => list_tasks(alloc, request, shelf),
         Request::Show { .. } => show(alloc, request, shelf),
-        Request::Make { .. } => Answer::Stopped(Stop::Refused(Refusal::Unbuilt)),
+        Request::Make {
+            number,
+            hatches,
+            cranes,
+        } => make(alloc, *number, *hatches, *cranes),
         Request::Usage => Answer::Stopped(Stop::Refused(Refusal::Usage)),
     }
 }

@@ -30,8 +30,6 @@ pub enum Status {
     Weaker,
     /// A file has more than 8,388,608 bytes.
     TooLarge,
-    /// A form of input that isn't built yet.
-    Unbuilt,
 }
 
 impl Status {
@@ -57,7 +55,6 @@ impl Status {
             Status::Broken => 13,
             Status::Weaker => 14,
             Status::TooLarge => 15,
-            Status::Unbuilt => 16,
         }
     }
 }

@@ -1,6 +1,6 @@
 -- The first line feed of the bytes that are held.
 use Rattle.std.proofs.Common.{◌≡◌, ◌==◌, ℕ, ◌+◌, ◌-◌, ◌≤◌, ◌<◌, Bool, false, List, [], ◌∷◌, ◌++◌, length, take, drop, get_or, Option, None, Some, position, refl, sym, ap, subst, ◌∙◌, arith, suc, inl, inr, ◌⊎◌}
-use Rattle.std.proofs.Math.Seq.{drop-cons, get_or-append_seam, take-append-add}
+use Rattle.std.proofs.Math.Seq.{drop-cons, take-append-add}
 use Rattle.std.proofs.lemmas.Bool.{cases_Bool}
 use Rattle.std.proofs.lemmas.Bool.Decides.{nat_tests}
 use Rattle.std.proofs.lemmas.List.{append-nil, append_assoc, drop-drop, drop-take, get_or-take, length-drop, length-append, length-take, take-append-drop, take-append-le, take-take, take_all}
@@ -10,7 +10,7 @@ use Rattle.std.proofs.lemmas.Slice.{take-put_mid}
 use borrow.Rule.Slice.PartMut.{put_mid}
 use Rattle.std.specs.Io.KnownBytes.{prepend_known}
 use Rattle.std.specs.List.{position_or_len}
-use Rattle.std.specs.Prelude.{IfSome, nat_lt, unwrap_or}
+use Rattle.std.specs.Prelude.{IfSome, nat_lt}
 use Rattle.qc_io.proofs.Pieces.{prepend_known-append}
 use Rattle.qc_tree.specs.Left.{HoldsLine, IsCut, IsTooLong, NoFeed, Takes}
 
@@ -75,14 +75,6 @@ module _ (held : List ℕ) (none : position (λ b. b == 10) held ≡ None) where
       let same : held ++ more ≡ held = ap (λ t. held ++ t) ended ∙ append-nil held in
       subst IsCut (sym same) (some, short, subst NoFeed (take_all (length held) held (omega arith)) (no_feed (length held) (omega arith)))
 
-pub none_left :
-    (held : List ℕ) (rest : Option (List ℕ)) → length held ≡ 0
-    → (1200 ≤ length held) ⊎ IfSome rest (λ left. left ≡ []) → IfSome (prepend_known held rest) (λ left. left ≡ [])
-none_left held rest none (inl long) = absurd (omega (arith, none, long))
-none_left held None none (inr ended) = tt
-none_left [] (Some more) none (inr ended) = ended
-none_left (b ∷ held) (Some more) none (inr ended) = absurd (omega (arith, none))
-
 -- a line that is held is taken
 pub takes :
     (held : List ℕ) (len : ℕ) (before rest : Option (List ℕ)) → HoldsLine held len → before ≡ prepend_known held rest
@@ -128,25 +120,3 @@ window_rest items start end len le lt =
     ap (take (end - (start + (len + 1)))) (sym (drop-drop (len + 1) start items))
     ∙ sym (drop-take (len + 1) (end - (start + (len + 1))) (drop start items))
     ∙ ap (λ n. drop (len + 1) (take n (drop start items))) (sym size)
-
--- where a line is taken, what was left is something, neither too long nor cut: each answer comes exactly where it says
-module _ (left line : List ℕ) (after : Option (List ℕ)) (taken : Takes (Some left) line after) where
-  feed_behind : (more : Option (List ℕ)) → Some left ≡ prepend_known (line ++ 10 ∷ []) more → (length line < length left) × (get_or left (length line) 0 ≡ 10)
-  feed_behind None e = absurd (cc e)
-  feed_behind (Some more) e =
-      let same : left ≡ line ++ 10 ∷ more = ap (λ o. unwrap_or o []) e ∙ append_assoc line (10 ∷ []) more in (
-        omega (arith, ap length same, length-append line (10 ∷ more)),
-        ap (λ t. get_or t (length line) 0) same ∙ get_or-append_seam line 10 more 0,
-      )
-
-  pub takes_some : 0 < length left
-  takes_some = omega (arith, (feed_behind after taken.taken).0)
-
-  pub takes_not_long : IsTooLong left → ⊥
-  takes_not_long long =
-      let feed = feed_behind after taken.taken in
-      long.1 (length line) 0 (omega (arith, taken.short, long.0, length-take 1200 left))
-      (get_or-take 1200 left (length line) 0 taken.short ∙ feed.1)
-
-  pub takes_not_cut : IsCut left → ⊥
-  takes_not_cut cut = let feed = feed_behind after taken.taken in cut.2 (length line) 0 feed.0 feed.1

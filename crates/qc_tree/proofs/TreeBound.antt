@@ -18,16 +18,9 @@ use Rattle.qc_model.specs.Rules.{crane_of, ends, last_end, starts}
 use Rattle.qc_model.proofs.LeafLemmas.{leaf_value_le}
 use Rattle.qc_model.proofs.MirrorLemmas.{mirror_valid}
 use Rattle.qc_tree.specs.Trees.{IsPart, IsTree, Part, Tree, leaf, on_pair, on_task, part_value, tree_value}
+use Rattle.qc_num.proofs.BoundLemmas.{at_most_through}
 
 -- ---- bounds
-
-at_most_through : (a b c : Bound) → IsAtMost a b → IsAtMost b c → IsAtMost a c
-at_most_through (Least a) (Least b) (Least c) h k = omega arith
-at_most_through (Least a) (Least b) Never h k = tt
-at_most_through (Least a) Never (Least c) h k = absurd k
-at_most_through (Least a) Never Never h k = tt
-at_most_through Never (Least b) c h k = absurd h
-at_most_through Never Never c h k = k
 
 lesser_first : (a b : Bound) → IsAtMost (lesser a b) a
 lesser_first (Least a) (Least b) = omega arith

@@ -1,8 +1,9 @@
-use Rattle.std.proofs.Common.{◌≡◌, ◌<◌, ◌≤◌, ℕ, ap, ◌∙◌, arith}
+use Rattle.std.proofs.Common.{◌≡◌, ◌<◌, ◌≤◌, ℕ, true, false, ap, ◌∙◌, arith}
+use Rattle.std.proofs.lemmas.Bool.{le-ltb, lt-ltb}
 use Rattle.qc_model.specs.Instance.{InstanceView}
 use Rattle.qc_bounds.specs.declared.work.Early.{Early}
 use Rattle.qc_model.specs.Leaves.{done_at}
-use Rattle.qc_bounds.proofs.Sharing.{next_early, next_late}
+use Rattle.qc_bounds.proofs.Sharing.{next_by}
 use Rattle.qc_bounds.proofs.work.early_by.Goals as goal
 use Rattle.qc_bounds.proofs.work.early_by.Goals.{then-done-tick, else-done-tick}
 
@@ -15,7 +16,7 @@ loop-k-preserved c =
     elim c.if-done-tick.branch [
       | then-done-tick w ↦
           let low : done k < c.args.tick = omega arith in
-          let next = next_early done c.args.tick k low in
+          let next = next_by done c.args.tick k true (lt-ltb (done k) c.args.tick low) in
           let count = ap (λ (e : Early). e.cranes) w.early-is in
           let sum = ap (λ (e : Early). e.ticks) w.early-is in
           record {
@@ -26,7 +27,7 @@ loop-k-preserved c =
           }
       | else-done-tick w ↦
           let high : c.args.tick ≤ done k = omega arith in
-          let next = next_late done c.args.tick k high in
+          let next = next_by done c.args.tick k false (le-ltb (done k) c.args.tick high) in
           let count = ap (λ (e : Early). e.cranes) w.early-is in
           let sum = ap (λ (e : Early). e.ticks) w.early-is in
           record {

@@ -14,23 +14,8 @@ div_ceil-requires c =
     let some = some_early done c.args.tick (crane_numbers inst) _ c.requires.open c.requires.fit in
     omega (arith, some.1, c.early_by-early.ensures.cranes)
 
-pub returns-clause-fit : goal.returns-clause-fit
-returns-clause-fit c =
-    let inst = c.args.inst.now in
-    let done : ℕ → ℕ = done_at inst c.args.node.now.decisions in
-    let some = some_early done c.args.tick (crane_numbers inst) _ c.requires.open c.requires.fit in
-    let early = c.early_by-early.result in
-    let few = c.early_by-early.ensures in
-    let same = ap (λ (i : InstanceView). unassigned_ticks i c.args.node.now.decisions) c.requires.same in
-    let work : c.open_ticks.result ≡ unassigned_ticks inst c.args.node.now.decisions = c.open_ticks.ensures.ticks ∙ same in
-    let up = div_ceil_times (c.open_ticks.result + early.ticks) early.cranes (omega (arith, some.1, few.cranes)) in
-    let product = ap (λ (n : ℕ). c.div_ceil.result * n) few.cranes in
-    let quotient = ap (λ (n : ℕ). n * early.cranes) c.div_ceil.ensures in
-    fits_shared done c.args.tick (crane_numbers inst) _ c.div_ceil.result
-    (omega (arith, up.0, product, quotient, work, few.ticks))
-
-pub returns-clause-first : goal.returns-clause-first
-returns-clause-first c late =
+pub returns : goal.returns
+returns c =
     let inst = c.args.inst.now in
     let done : ℕ → ℕ = done_at inst c.args.node.now.decisions in
     let some = some_early done c.args.tick (crane_numbers inst) _ c.requires.open c.requires.fit in
@@ -42,7 +27,11 @@ returns-clause-first c late =
     let product = ap (λ (n : ℕ). c.div_ceil.result * n) few.cranes in
     let quotient = ap (λ (n : ℕ). n * early.cranes) c.div_ceil.ensures in
     record {
-      fit = c.requires.fit;
-      first = first_shared done c.args.tick (crane_numbers inst) _ c.div_ceil.result some.0 late
-          (omega (arith, up.1, product, quotient, work, few.ticks, few.cranes));
+      fit = fits_shared done c.args.tick (crane_numbers inst) _ c.div_ceil.result
+          (omega (arith, up.0, product, quotient, work, few.ticks));
+      first = λ late. record {
+        fit = c.requires.fit;
+        first = first_shared done c.args.tick (crane_numbers inst) _ c.div_ceil.result some.0 late
+            (omega (arith, up.1, product, quotient, work, few.ticks, few.cranes));
+      };
     }

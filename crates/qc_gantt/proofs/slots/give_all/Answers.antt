@@ -32,15 +32,9 @@ returns-in-Err-clause-slots c =
     let here = so_far_next fields_of c.args.records.now at inst all c.loop-at.slots c.index-records-at.result c.loop-at-test.true c.index-records-at.is c.loop-at.invariant in
     rw c.fault.ensures (so_far_fault inst all rest c.loop-at.slots at (fields_of c.index-records-at.result) here c.in-Err.kind (sym c.in-Err.ensures.entry))
 
-pub returns-clause-slots : goal.returns-clause-slots
-returns-clause-slots c =
+pub returns : goal.returns
+returns c =
     let inst = c.args.inst.now in
     let all = map fields_of c.args.records.now in
-    (so_far_all inst all c.loop-at.slots c.loop-at.at (so_far_end fields_of c.args.records.now c.loop-at.at inst all c.loop-at.slots c.loop-at-test.false c.loop-at.invariant)).0
-
-pub returns-clause-few : goal.returns-clause-few
-returns-clause-few c = λ ok.
-    let inst = c.args.inst.now in
-    let all = map fields_of c.args.records.now in
-    let few = (so_far_all inst all c.loop-at.slots c.loop-at.at (so_far_end fields_of c.args.records.now c.loop-at.at inst all c.loop-at.slots c.loop-at-test.false c.loop-at.invariant)).1 in
-    rw length-map at few
+    let end = so_far_all inst all c.loop-at.slots c.loop-at.at (so_far_end fields_of c.args.records.now c.loop-at.at inst all c.loop-at.slots c.loop-at-test.false c.loop-at.invariant) in
+    record { slots = end.0; few = λ ok. rw length-map at end.1 }

@@ -67,15 +67,6 @@ returns-in_err-put_line-clause-writes g c =
     (line_at c.args.inst.now tasks slots (length c.loop-task.yielded) c.in-Some.task.now c.in-Some.slot.now turn.0 turn.1 (turn.2 _) (turn.3 _))
     c.loop-task.invariant.writes c.in_err-put_line.ensures.writes
 
-pub returns-clause-writes : goal.returns-clause-writes
-returns-clause-writes g c =
-    let tasks = c.args.inst.now.tasks in
-    let slots = c.args.sched.now in
-    let many = zip_end tasks slots c.loop-task.yielded _ c.loop-task.task-iterator c.next.new.self c.next.result (search rules) (search rules) c.loop-task.yielded_by c.in-None.is c.next.ensures.steps in
-    subst (λ ls. Writes g.K.Sink.written g.K.Sink.beside g.K.Sink.faults c.args.sink.now c.loop-task.sink
-    (flat_map (λ line. plan_line c.args.inst.now line.0 line.1) ls) (Ok tt))
-    (take_all (length c.loop-task.yielded) (zip tasks slots) (omega (arith, length-zip tasks slots, many))) c.loop-task.invariant.writes
-
 pub put_line-requires-clause-end : goal.put_line-requires-clause-end
 put_line-requires-clause-end g c =
     let tasks = c.args.inst.now.tasks in
@@ -84,16 +75,16 @@ put_line-requires-clause-end g c =
     let i = length c.loop-task.yielded in
     omega (arith, ap (λ (s : Slot). s.start) (turn.3 no_slot), ap (λ (t : Task). t.ticks) (turn.2 no_task), c.requires.start_range i turn.0, ticks_bounded c.args.inst.now c.tasks.ensures.valid i turn.0)
 
-pub returns-clause-hatches : goal.returns-clause-hatches
-returns-clause-hatches g c = λ j jl.
+pub returns : goal.returns
+returns g c =
     let tasks = c.args.inst.now.tasks in
     let slots = c.args.sched.now in
     let many = zip_end tasks slots c.loop-task.yielded _ c.loop-task.task-iterator c.next.new.self c.next.result (search rules) (search rules) c.loop-task.yielded_by c.in-None.is c.next.ensures.steps in
-    c.loop-task.invariant.hatches j (omega (arith, many, c.requires.all_tasks))
-
-pub returns-clause-names : goal.returns-clause-names
-returns-clause-names g c = λ j jl.
-    let tasks = c.args.inst.now.tasks in
-    let slots = c.args.sched.now in
-    let many = zip_end tasks slots c.loop-task.yielded _ c.loop-task.task-iterator c.next.new.self c.next.result (search rules) (search rules) c.loop-task.yielded_by c.in-None.is c.next.ensures.steps in
-    c.loop-task.invariant.names j (omega (arith, many, c.requires.all_tasks))
+    record {
+      writes = subst (λ ls. Writes g.K.Sink.written g.K.Sink.beside g.K.Sink.faults c.args.sink.now c.loop-task.sink
+          (flat_map (λ line. plan_line c.args.inst.now line.0 line.1) ls) (Ok tt))
+          (take_all (length c.loop-task.yielded) (zip tasks slots) (omega (arith, length-zip tasks slots, many))) c.loop-task.invariant.writes;
+      valid = c.tasks.ensures.valid;
+      hatches = λ j jl. c.loop-task.invariant.hatches j (omega (arith, many, c.requires.all_tasks));
+      names = λ j jl. c.loop-task.invariant.names j (omega (arith, many, c.requires.all_tasks));
+    }

@@ -5,26 +5,21 @@ use Rattle.qc_model.specs.Instance.{InstanceView, pair_of}
 use Rattle.qc_starts.proofs.KeptLemmas.{IsSettledPair, apart_at, settled_at}
 use Rattle.qc_search.proofs.choice.first_unsettled.Goals as goal
 
-pub settled-requires-clause-first : goal.settled-requires-clause-first
-settled-requires-clause-first c =
-    let inst = c.args.inst.now in
-    let k = c.loop-pair.pair-index in
-    let e = c.apart-pair-items.ensures.apart in
-    let low : k < length inst.apart = omega (arith, c.loop-pair-test.true, ap (length {A = Pair}) e) in
-    let range = c.apart-pair-items.ensures.valid.apart.range _ _ (apart_at inst k (pair_of 0 0) low) in
-    subst (λ (i : InstanceView). (get_or c.apart-pair-items.result.now k (pair_of 0 0)).first < length i.tasks) (sym c.requires.same)
-    (subst (λ (pairs : List Pair). (get_or pairs k (pair_of 0 0)).first < length inst.tasks) (sym e)
-    (omega (arith, range.0, range.1)))
+-- both numbers of the pair are those of tasks
+abbrev IsIn : InstanceView → Pair → Type 0
+IsIn inst pair = (pair.first < length inst.tasks) × (pair.second < length inst.tasks)
 
-pub settled-requires-clause-second : goal.settled-requires-clause-second
-settled-requires-clause-second c =
+pub settled-requires : goal.settled-requires
+settled-requires c =
     let inst = c.args.inst.now in
     let k = c.loop-pair.pair-index in
     let e = c.apart-pair-items.ensures.apart in
     let low : k < length inst.apart = omega (arith, c.loop-pair-test.true, ap (length {A = Pair}) e) in
     let range = c.apart-pair-items.ensures.valid.apart.range _ _ (apart_at inst k (pair_of 0 0) low) in
-    subst (λ (i : InstanceView). (get_or c.apart-pair-items.result.now k (pair_of 0 0)).second < length i.tasks) (sym c.requires.same)
-    (subst (λ (pairs : List Pair). (get_or pairs k (pair_of 0 0)).second < length inst.tasks) (sym e) range.1)
+    let both =
+    subst (λ (i : InstanceView). IsIn i (get_or c.apart-pair-items.result.now k (pair_of 0 0))) (sym c.requires.same)
+    (subst (λ (pairs : List Pair). IsIn inst (get_or pairs k (pair_of 0 0))) (sym e) (omega (arith, range.0, range.1), range.1)) in
+    record { first = both.0; second = both.1 }
 
 pub loop-pair-preserved : goal.loop-pair-preserved
 loop-pair-preserved c = λ k under. elim (cases_eq k c.loop-pair.pair-index) [

@@ -1,4 +1,4 @@
-use Rattle.std.proofs.Common.{Bool, List, [], ◌∷◌, ap, sym, subst, arith, rules}
+use Rattle.std.proofs.Common.{Bool, List, [], ◌∷◌, sym, subst, arith, rules}
 use Rattle.qc_model.specs.declared.decision.Decision.{Decision}
 use Rattle.qc_starts.specs.Seen.{StartsNode}
 use Rattle.qc_search.specs.Course.{Went, due_at}

@@ -1,7 +1,7 @@
 use Rattle.std.proofs.Common.{◌∙◌}
 use Rattle.qc_io.specs.Outside.{stand_of}
 use Rattle.qc_words.specs.Asked.{asked_for}
-use Rattle.qc_top.proofs.ServeLemmas.{plan_searched, plan_cut, plan_tree_cut, writes_told}
+use Rattle.qc_top.proofs.ServeLemmas.{plan_searched, plan_cut, plan_tree_cut, tells_may, writes_told}
 use Rattle.qc_top.proofs.plan.plan_instance.Goals as goal
 
 pub returns-in_default-clause-serves : goal.returns-in_default-clause-serves
@@ -34,3 +34,7 @@ returns-in-Err-clause-serves g c = (
 
 pub answer_of-requires-clause-none_earlier : goal.answer_of-requires-clause-none_earlier
 answer_of-requires-clause-none_earlier g c = rw c.requires.same at c.in-Ok.ensures.sound.none_earlier
+
+pub returns-in-Ok-store_best-clause-may : goal.returns-in-Ok-store_best-clause-may
+returns-in-Ok-store_best-clause-may g c =
+    tells_may (asked_for c.args.request.now) _ _ c.args.search.nodes c.requires.plan c.args.inst c.in-Ok.done c.answer_of.result c.answer_of.ensures.tells

@@ -1,4 +1,4 @@
-use Rattle.std.proofs.Common.{◌≡◌, ℕ, ◌<◌, length, ap, sym, ◌∙◌, arith}
+use Rattle.std.proofs.Common.{◌≡◌, ℕ, ◌<◌, length, ap, sym, ◌∙◌, arith, rules}
 use Rattle.qc_model.specs.declared.crane.Crane.{Crane}
 use Rattle.qc_model.specs.declared.direction.Direction.{Direction}
 use Rattle.qc_model.specs.declared.direction.Direction.TheVariants.{Up}
@@ -14,63 +14,33 @@ is_seen inst way view k x e h f =
     let n : k < length inst.cranes = omega (arith, h, seen-crane_count inst way, ap (λ i. length i.cranes) e) in
     ap (seen_crane inst way) f ∙ sym (seen-crane inst way k n) ∙ ap (λ i. crane i k) e
 
-pub seen_post-requires-clause-bay : goal.seen_post-requires-clause-bay
-seen_post-requires-clause-bay c =
+pub seen_post-requires : goal.seen_post-requires
+seen_post-requires c =
     let inst = c.self.inside.inst.now in
     let s = c.seen_number-index.ensures in
     let e = read_crane inst _ _ _ _ c.cranes.ensures.cranes s.number s.range c.index-cranes-index.is in
     let r = rw s.number at s.range in
-    rw (ap (λ k. k.bay) e) (berth_on_rail inst c.cranes.ensures.valid Up _ r)
+    let reach = reach_on_rail inst c.cranes.ensures.valid _ r in
+    record {
+      bay = rw (ap (λ k. k.bay) e) (berth_on_rail inst c.cranes.ensures.valid Up _ r);
+      from = rw (ap (λ k. k.from) e) reach.0;
+      to = rw (ap (λ k. k.to) e) reach.1;
+    }
 
-pub seen_post-requires-clause-from : goal.seen_post-requires-clause-from
-seen_post-requires-clause-from c =
-    let inst = c.self.inside.inst.now in
-    let s = c.seen_number-index.ensures in
-    let e = read_crane inst _ _ _ _ c.cranes.ensures.cranes s.number s.range c.index-cranes-index.is in
-    let r = rw s.number at s.range in
-    rw (ap (λ k. k.from) e) (reach_on_rail inst c.cranes.ensures.valid _ r).0
-
-pub seen_post-requires-clause-to : goal.seen_post-requires-clause-to
-seen_post-requires-clause-to c =
-    let inst = c.self.inside.inst.now in
-    let s = c.seen_number-index.ensures in
-    let e = read_crane inst _ _ _ _ c.cranes.ensures.cranes s.number s.range c.index-cranes-index.is in
-    let r = rw s.number at s.range in
-    rw (ap (λ k. k.to) e) (reach_on_rail inst c.cranes.ensures.valid _ r).1
-
-pub returns-clause-ready : goal.returns-clause-ready
-returns-clause-ready c =
-    let inst = c.self.inside.inst.now in
-    let s = c.seen_number-index.ensures in
-    let e = read_crane inst _ _ _ _ c.cranes.ensures.cranes s.number s.range c.index-cranes-index.is in
-    c.seen_post.ensures.ready ∙ ap (λ k. k.ready) (is_seen inst c.self.inside.way _ c.args.number _ (ap (λ j. j.inst) c.self.view_is) c.requires e)
-
-pub returns-clause-bay : goal.returns-clause-bay
-returns-clause-bay c =
-    let inst = c.self.inside.inst.now in
-    let s = c.seen_number-index.ensures in
-    let e = read_crane inst _ _ _ _ c.cranes.ensures.cranes s.number s.range c.index-cranes-index.is in
-    c.seen_post.ensures.bay ∙ ap (λ k. k.bay) (is_seen inst c.self.inside.way _ c.args.number _ (ap (λ j. j.inst) c.self.view_is) c.requires e)
-
-pub returns-clause-from : goal.returns-clause-from
-returns-clause-from c =
-    let inst = c.self.inside.inst.now in
-    let s = c.seen_number-index.ensures in
-    let e = read_crane inst _ _ _ _ c.cranes.ensures.cranes s.number s.range c.index-cranes-index.is in
-    c.seen_post.ensures.from ∙ ap (λ k. k.from) (is_seen inst c.self.inside.way _ c.args.number _ (ap (λ j. j.inst) c.self.view_is) c.requires e)
-
-pub returns-clause-to : goal.returns-clause-to
-returns-clause-to c =
-    let inst = c.self.inside.inst.now in
-    let s = c.seen_number-index.ensures in
-    let e = read_crane inst _ _ _ _ c.cranes.ensures.cranes s.number s.range c.index-cranes-index.is in
-    c.seen_post.ensures.to ∙ ap (λ k. k.to) (is_seen inst c.self.inside.way _ c.args.number _ (ap (λ j. j.inst) c.self.view_is) c.requires e)
-
-pub returns-clause-on_rail : goal.returns-clause-on_rail
-returns-clause-on_rail c =
+pub returns : goal.returns
+returns c =
     let inst = c.self.inside.inst.now in
     let way = c.self.inside.way in
     let s = c.seen_number-index.ensures in
     let e = read_crane inst _ _ _ _ c.cranes.ensures.cranes s.number s.range c.index-cranes-index.is in
+    let is = is_seen inst way _ c.args.number _ (ap (λ j. j.inst) c.self.view_is) c.requires e in
     let r = rw s.number at s.range in
-    rw (c.seen_post.ensures.bay ∙ ap (λ k. (seen_crane inst way k).bay) e) (seen_on_rail inst c.cranes.ensures.valid way _ r)
+    let post = c.seen_post.ensures in
+    record {
+      ready = post.ready ∙ ap (λ k. k.ready) is;
+      bay = post.bay ∙ ap (λ k. k.bay) is;
+      from = post.from ∙ ap (λ k. k.from) is;
+      to = post.to ∙ ap (λ k. k.to) is;
+      soon = search rules;
+      on_rail = rw (post.bay ∙ ap (λ k. (seen_crane inst way k).bay) e) (seen_on_rail inst c.cranes.ensures.valid way _ r);
+    }

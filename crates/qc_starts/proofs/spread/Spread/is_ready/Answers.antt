@@ -3,8 +3,8 @@ use Rattle.std.proofs.lemmas.List.{get_or_default}
 use Rattle.qc_arena.specs.declared.edge.Edge.{Edge}
 use Rattle.qc_starts.specs.Arcs.{IsArc}
 use Rattle.qc_starts.specs.Spread.{IsIn, into_task, is_pending}
-use Rattle.qc_starts.proofs.PlaceLemmas.{into_all, into_inside}
-use Rattle.qc_starts.proofs.SpreadLemmas.{arc_of}
+use Rattle.qc_starts.proofs.SoonestLemmas.{into_all, into_inside}
+use Rattle.qc_starts.proofs.ArcLemmas.{arc_of}
 use Rattle.qc_starts.proofs.spread.Spread.is_ready.Goals as goal
 
 pub loop-arc-init : goal.loop-arc-init

@@ -1,9 +1,11 @@
-use Rattle.std.proofs.Common.{ℕ, List, length, refl, ap, sym, subst, ◌∙◌, arith}
+use Rattle.std.proofs.Common.{◌≡◌, ◌∷◌, ℕ, List, length, refl, ap, sym, subst, ◌∙◌, arith}
 use Rattle.qc_arena.specs.declared.edge.Edge.{Edge}
+use Rattle.qc_starts.specs.Noting.{Wrote}
 use Rattle.qc_starts.specs.Spread.{IsBackAtRoot, from_task, is_late, left}
 use Rattle.qc_starts.proofs.NotingLemmas.{wrote_none, wrote_then}
 use Rattle.qc_starts.proofs.SpreadLemmas.{IsLooking, set_size, looking_asks, looking_begins, looking_fits, looking_home, looking_step}
 use Rattle.qc_starts.proofs.spread.Spread.raise_from.Goals as goal
+use Rattle.qc_starts.proofs.spread.Spread.raise_from.Goals.{After-raise_by, In-Some}
 
 pub loop-arc-init : goal.loop-arc-init
 loop-arc-init g c =
@@ -20,102 +22,84 @@ loop-arc-init g c =
       wrote = wrote_none c.args.self.now.values c.args.steps.now c.requires.notes;
     }
 
-pub raise_by-requires-clause-from : goal.raise_by-requires-clause-from
-raise_by-requires-clause-from g c =
+abbrev before : (g : _) (c : In-Some g) → ℕ
+before g c =
+    left (length c.args.network.now.inst.tasks) c.args.root c.args.self.now.olds.items c.args.self.now.values.cells
+    c.args.self.now.pending.items
+
+here : (g : _) (c : In-Some g)
+    → IsLooking c.args.network.now c.args.root c.args.task c.args.self.now.olds.items c.loop-arc.self.values.cells
+    c.loop-arc.self.pending.items (c.in-Some.arc ∷ c.next.new.self) (before g c)
+here g c =
+    subst (λ (rest : List Edge). IsLooking c.args.network.now c.args.root c.args.task c.args.self.now.olds.items
+    c.loop-arc.self.values.cells c.loop-arc.self.pending.items rest (before g c)) c.in-Some.ensures.steps
+    c.loop-arc.invariant.looking
+
+pub raise_by-requires : goal.raise_by-requires
+raise_by-requires g c =
     let net = c.args.network.now in
-    let before = left (length net.inst.tasks) c.args.root c.args.self.now.olds.items
-    c.args.self.now.values.cells c.args.self.now.pending.items in
-    let is = subst (λ (rest : List Edge). IsLooking net c.args.root c.args.task c.args.self.now.olds.items
-    c.loop-arc.self.values.cells c.loop-arc.self.pending.items rest before) c.in-Some.ensures.steps
-    c.loop-arc.invariant.looking in
+    let sound = c.arena.ensures.sound in
+    let at = (goal.at.raise_by-requires g c).In-Some in
+    let is = here g at in
     let asks = looking_asks net c.args.root c.args.task c.args.self.now.olds.items c.loop-arc.self.values.cells
-    c.loop-arc.self.pending.items c.next.new.self before c.in-Some.arc c.arena.ensures.sound.valid c.arena.ensures.sound.fits
-    c.arena.ensures.sound.all c.arena.ensures.sound.low is in
-    omega (arith, asks.from, is.spreading.size)
-
-pub raise_by-requires-clause-to : goal.raise_by-requires-clause-to
-raise_by-requires-clause-to g c =
-    let net = c.args.network.now in
-    let before = left (length net.inst.tasks) c.args.root c.args.self.now.olds.items
-    c.args.self.now.values.cells c.args.self.now.pending.items in
-    let is = subst (λ (rest : List Edge). IsLooking net c.args.root c.args.task c.args.self.now.olds.items
-    c.loop-arc.self.values.cells c.loop-arc.self.pending.items rest before) c.in-Some.ensures.steps
-    c.loop-arc.invariant.looking in
-    let asks = looking_asks net c.args.root c.args.task c.args.self.now.olds.items c.loop-arc.self.values.cells
-    c.loop-arc.self.pending.items c.next.new.self before c.in-Some.arc c.arena.ensures.sound.valid c.arena.ensures.sound.fits
-    c.arena.ensures.sound.all c.arena.ensures.sound.low is in
-    omega (arith, asks.to, is.spreading.size)
-
-pub raise_by-requires-clause-few : goal.raise_by-requires-clause-few
-raise_by-requires-clause-few g c =
-    omega (arith, c.loop-arc.invariant.looking.spreading.size, c.arena.ensures.sound.valid.tasks.count)
-
-pub raise_by-requires-clause-count : goal.raise_by-requires-clause-count
-raise_by-requires-clause-count g c =
-    omega (arith, c.loop-arc.invariant.looking.spreading.size, c.loop-arc.invariant.looking.spreading.raising.count)
-
-pub raise_by-requires-clause-fits : goal.raise_by-requires-clause-fits
-raise_by-requires-clause-fits g c =
-    let net = c.args.network.now in
-    let before = left (length net.inst.tasks) c.args.root c.args.self.now.olds.items
-    c.args.self.now.values.cells c.args.self.now.pending.items in
-    let is = subst (λ (rest : List Edge). IsLooking net c.args.root c.args.task c.args.self.now.olds.items
-    c.loop-arc.self.values.cells c.loop-arc.self.pending.items rest before) c.in-Some.ensures.steps
-    c.loop-arc.invariant.looking in
+    c.loop-arc.self.pending.items c.next.new.self (before g at) c.in-Some.arc sound is in
     let fits = looking_fits net c.args.root c.args.task c.args.self.now.olds.items c.loop-arc.self.values.cells
-    c.loop-arc.self.pending.items c.next.new.self before c.in-Some.arc c.arena.ensures.sound.valid c.arena.ensures.sound.fits
-    c.arena.ensures.sound.all c.arena.ensures.sound.low is in
-    omega (arith, fits)
+    c.loop-arc.self.pending.items c.next.new.self (before g at) c.in-Some.arc sound is in
+    record {
+      from = omega (arith, asks.from, is.spreading.size);
+      to = omega (arith, asks.to, is.spreading.size);
+      few = omega (arith, is.spreading.size, sound.valid.tasks.count);
+      count = omega (arith, is.spreading.size, is.spreading.raising.count);
+      fits = omega (arith, fits);
+      notes = c.loop-arc.invariant.wrote.notes;
+    }
 
-pub returns-then-raise_by-clause-wrote : goal.returns-then-raise_by-clause-wrote
-returns-then-raise_by-clause-wrote g c =
-    wrote_then c.args.self.now.values c.loop-arc.self.values c.raise_by.new.self.values
-    c.args.steps.now c.loop-arc.steps c.raise_by.new.steps c.loop-arc.invariant.wrote c.raise_by.ensures.wrote
+-- what a raise keeps
+kept : (g : _) (c : After-raise_by g)
+    → (length c.raise_by.new.self.pending.items ≡ length c.args.self.now.pending.items)
+    × (c.raise_by.new.self.olds.items ≡ c.args.self.now.olds.items)
+    × Wrote c.args.self.now.values c.raise_by.new.self.values c.args.steps.now c.raise_by.new.steps
+kept g c = (
+  set_size c.raise_by.new.self.pending.items c.loop-arc.self.pending.items
+      (is_late c.loop-arc.self.values.cells c.in-Some.arc) c.in-Some.arc.to c.raise_by.ensures.pending
+      ∙ c.loop-arc.invariant.size,
+  c.raise_by.ensures.olds ∙ c.loop-arc.invariant.olds,
+  wrote_then c.args.self.now.values c.loop-arc.self.values c.raise_by.new.self.values
+      c.args.steps.now c.loop-arc.steps c.raise_by.new.steps c.loop-arc.invariant.wrote c.raise_by.ensures.wrote,
+)
 
-pub returns-then-raise_by-clause-looked : goal.returns-then-raise_by-clause-looked
-returns-then-raise_by-clause-looked g c =
+pub returns-then-raise_by : goal.returns-then-raise_by
+returns-then-raise_by g c =
     let net = c.args.network.now in
-    let olds = c.args.self.now.olds.items in
-    let before = left (length net.inst.tasks) c.args.root olds
-    c.args.self.now.values.cells c.args.self.now.pending.items in
-    let is = subst (λ (rest : List Edge). IsLooking net c.args.root c.args.task olds
-    c.loop-arc.self.values.cells c.loop-arc.self.pending.items rest before) c.in-Some.ensures.steps
-    c.loop-arc.invariant.looking in
-    let olds_are = c.raise_by.ensures.olds ∙ c.loop-arc.invariant.olds in
-    let back = looking_home net c.args.root c.args.task olds c.loop-arc.self.values.cells
-    c.loop-arc.self.pending.items c.next.new.self before c.in-Some.arc c.arena.ensures.sound.valid c.arena.ensures.sound.fits
-    c.arena.ensures.sound.all c.arena.ensures.sound.low is c.raise_by.new.self.values.cells c.raise_by.new.self.pending.items
+    let at = (goal.at.returns-then-raise_by g c).In-Some in
+    let is = here g at in
+    let are = kept g (goal.at.returns-then-raise_by g c).After-raise_by in
+    let back = looking_home net c.args.root c.args.task c.args.self.now.olds.items c.loop-arc.self.values.cells
+    c.loop-arc.self.pending.items c.next.new.self (before g at) c.in-Some.arc c.arena.ensures.sound
+    is c.raise_by.new.self.values.cells c.raise_by.new.self.pending.items
     (length c.loop-arc.self.pending.items) is.spreading.size c.raise_by.ensures.cells
     (sym c.raise_by.ensures.back ∙ c.if-raise_by.true) in
-    subst (λ (xs : List ℕ). IsBackAtRoot net c.args.root xs c.raise_by.new.self.values.cells) (sym olds_are) back
+    record {
+      size = are.0;
+      olds = are.1;
+      wrote = are.2;
+      looked = subst (λ (xs : List ℕ). IsBackAtRoot net c.args.root xs c.raise_by.new.self.values.cells) (sym are.1) back;
+    }
 
 pub loop-arc-preserved : goal.loop-arc-preserved
 loop-arc-preserved g c =
-    let net = c.args.network.now in
-    let olds = c.args.self.now.olds.items in
-    let before = left (length net.inst.tasks) c.args.root olds
-    c.args.self.now.values.cells c.args.self.now.pending.items in
-    let is = subst (λ (rest : List Edge). IsLooking net c.args.root c.args.task olds
-    c.loop-arc.self.values.cells c.loop-arc.self.pending.items rest before) c.in-Some.ensures.steps
-    c.loop-arc.invariant.looking in
+    let at = (goal.at.loop-arc-preserved g c).In-Some in
+    let is = here g at in
+    let are = kept g (goal.at.loop-arc-preserved g c).After-raise_by in
     record {
       can = tt;
       finite = tt;
-      looking = looking_step net c.args.root c.args.task olds c.loop-arc.self.values.cells
-          c.loop-arc.self.pending.items c.next.new.self before c.in-Some.arc c.arena.ensures.sound.valid c.arena.ensures.sound.fits
-          c.arena.ensures.sound.all c.arena.ensures.sound.low is c.raise_by.new.self.values.cells c.raise_by.new.self.pending.items
+      looking = looking_step c.args.network.now c.args.root c.args.task c.args.self.now.olds.items
+          c.loop-arc.self.values.cells c.loop-arc.self.pending.items c.next.new.self (before g at) c.in-Some.arc
+          c.arena.ensures.sound is c.raise_by.new.self.values.cells c.raise_by.new.self.pending.items
           (length c.loop-arc.self.pending.items) is.spreading.size c.raise_by.ensures.cells c.raise_by.ensures.pending
           (sym c.raise_by.ensures.back ∙ c.if-raise_by.false);
-      size = set_size c.raise_by.new.self.pending.items c.loop-arc.self.pending.items
-          (is_late c.loop-arc.self.values.cells c.in-Some.arc) c.in-Some.arc.to c.raise_by.ensures.pending
-          ∙ c.loop-arc.invariant.size;
-      olds = c.raise_by.ensures.olds ∙ c.loop-arc.invariant.olds;
-      wrote = wrote_then c.args.self.now.values c.loop-arc.self.values c.raise_by.new.self.values
-          c.args.steps.now c.loop-arc.steps c.raise_by.new.steps c.loop-arc.invariant.wrote c.raise_by.ensures.wrote;
+      size = are.0;
+      olds = are.1;
+      wrote = are.2;
     }
-
-pub returns-then-raise_by-clause-size : goal.returns-then-raise_by-clause-size
-returns-then-raise_by-clause-size g c =
-    set_size c.raise_by.new.self.pending.items c.loop-arc.self.pending.items
-    (is_late c.loop-arc.self.values.cells c.in-Some.arc) c.in-Some.arc.to c.raise_by.ensures.pending
-    ∙ c.loop-arc.invariant.size

@@ -5,12 +5,14 @@ use Rattle.qc_dist.proofs.Room.{fits_room}
 use Rattle.qc_model.specs.declared.decision.Decision.{Decision}
 use Rattle.qc_model.specs.Instance.{InstanceView}
 use Rattle.qc_model.specs.Nodes.{HasStarts}
-use Rattle.qc_starts.specs.Fields.{node_of}
+use Rattle.qc_starts.specs.declared.starts.Starts.TheInside.{Inside}
+use Rattle.qc_starts.specs.Fields.{IsKept, node_of}
 use Rattle.qc_starts.specs.Opened.{HasBegun}
 use Rattle.qc_starts.specs.Seen.{IsNoted, IsReached, IsStep, StartsNode, taken_back}
-use Rattle.qc_starts.proofs.DecideLemmas.{back_decided, begun_notes, kept_decided, noted_decided}
+use Rattle.qc_starts.proofs.DecideLemmas.{begun_notes, decided}
 use Rattle.qc_starts.proofs.KeptLemmas.{home_rest, nested_count, rooting_of, settled_step, step_of}
 use Rattle.qc_starts.proofs.starts.Starts.decide.Goals as goal
+use Rattle.qc_starts.proofs.starts.Starts.decide.Goals.{After-settle-self-inside}
 
 pub push_reserved-requires : goal.push_reserved-requires
 push_reserved-requires g c =
@@ -26,10 +28,10 @@ pub settle-self-inside-requires-clause-rooting : goal.settle-self-inside-require
 settle-self-inside-requires-clause-rooting g c =
     let f = c.self.inside in
     let is = c.self.invariant in
-    let begun = subst (HasBegun f.spread c.begin.new.self) refl c.begin.ensures.begun in
     let starts = subst (λ (i : InstanceView). HasStarts i c.args.self.now.decisions) (sym c.requires.same) c.requires.starts in
     let home = ap (λ (n : StartsNode). n.inst) c.self.view_is ∙ c.requires.same in
     let reach = subst (λ (i : InstanceView). IsReached i c.args.decision) (sym home) c.requires.reach in
+    let begun : HasBegun f.spread c.begin.new.self c.root_of-self-inside.result = c.begin.ensures.begun in
     let open_ = subst (λ (n : StartsNode). IsOpen n.inst n.decisions c.args.decision) (sym c.self.view_is)
     (subst (λ (i : InstanceView). IsOpen i c.args.self.now.decisions c.args.decision) (sym c.requires.same) c.requires.open) in
     rooting_of c.add.new.self f.inst c.args.decision f.network.decisions c.root_of-self-inside.result
@@ -41,114 +43,64 @@ settle-self-inside-requires-clause-rooting g c =
 pub settle-self-inside-requires-clause-notes : goal.settle-self-inside-requires-clause-notes
 settle-self-inside-requires-clause-notes g c =
     let f = c.self.inside in
-    let is = c.self.invariant in
-    let begun = subst (HasBegun f.spread c.begin.new.self) refl c.begin.ensures.begun in
-    let starts = subst (λ (i : InstanceView). HasStarts i c.args.self.now.decisions) (sym c.requires.same) c.requires.starts in
-    let home = ap (λ (n : StartsNode). n.inst) c.self.view_is ∙ c.requires.same in
-    let reach = subst (λ (i : InstanceView). IsReached i c.args.decision) (sym home) c.requires.reach in
-    begun_notes f c.args.self.now is c.self.view_is (record f {
+    begun_notes f c.args.self.now c.self.invariant c.self.view_is (record f {
       network = c.add.new.self;
       root = c.root_of-self-inside.result;
     }) c.begin.new.self c.args.decision c.mark-mark.result c.args.steps.now
-    c.args.steps.now refl c.add.ensures.inst c.add.ensures.decisions c.add.ensures.sound begun
+    c.args.steps.now refl c.add.ensures.inst c.add.ensures.decisions c.add.ensures.sound
+    c.begin.ensures.begun
 
-pub invariant_of-self : goal.invariant_of-self
-invariant_of-self g c =
+abbrev after : (g : _) (c : After-settle-self-inside g) → Inside
+after g c = record {
+  inst = c.self.inside.inst;
+  network = c.add.new.self;
+  spread = c.settle-self-inside.new.self;
+  marks = c.push_reserved.new.self;
+  step = c.settle-self-inside.result;
+  root = c.root_of-self-inside.result;
+}
+
+-- what the decision leaves is kept, its notes are counted, and taking it back leaves the node that it was
+all : (g : _) (c : After-settle-self-inside g)
+    → IsKept (after g c)
+    × IsNoted c.args.self.now (node_of (after g c)) c.settle-self-inside.result c.args.steps.now c.settle-self-inside.new.steps
+    × (taken_back (length c.args.self.now.decisions) (node_of (after g c)) ≡ c.args.self.now)
+all g c =
     let f = c.self.inside in
-    let is = c.self.invariant in
-    let begun = subst (HasBegun f.spread c.begin.new.self) refl c.begin.ensures.begun in
     let starts = subst (λ (i : InstanceView). HasStarts i c.args.self.now.decisions) (sym c.requires.same) c.requires.starts in
     let home = ap (λ (n : StartsNode). n.inst) c.self.view_is ∙ c.requires.same in
     let reach = subst (λ (i : InstanceView). IsReached i c.args.decision) (sym home) c.requires.reach in
-    kept_decided f c.args.self.now is c.self.view_is (record {
-      inst = f.inst;
-      network = c.add.new.self;
-      spread = c.settle-self-inside.new.self;
-      marks = c.push_reserved.new.self;
-      step = c.settle-self-inside.result;
-      root = c.root_of-self-inside.result;
-    }) c.begin.new.self c.args.decision c.mark-mark.result c.args.steps.now
-    c.settle-self-inside.new.steps refl c.add.ensures.inst c.add.ensures.decisions c.add.ensures.sound begun starts reach
+    let are = decided f c.args.self.now c.self.invariant c.self.view_is (after g c) c.begin.new.self c.args.decision
+    c.mark-mark.result c.args.steps.now c.settle-self-inside.new.steps refl c.add.ensures.inst c.add.ensures.decisions
+    c.add.ensures.sound c.begin.ensures.begun starts reach
     c.push_reserved.ensures.items c.mark-mark.ensures (omega (arith, c.push_reserved.ensures.capacity))
     c.settle-self-inside.ensures.wrote c.settle-self-inside.ensures.olds c.settle-self-inside.ensures.size
-    c.settle-self-inside.ensures.settled
+    c.settle-self-inside.ensures.settled in (
+      are.0,
+      subst (λ (n : StartsNode). IsNoted n (node_of (after g c)) c.settle-self-inside.result c.args.steps.now
+          c.settle-self-inside.new.steps) c.self.view_is are.1,
+      subst (λ (n : StartsNode). taken_back (length n.decisions) (node_of (after g c)) ≡ n) c.self.view_is are.2,
+    )
+
+pub invariant_of-self : goal.invariant_of-self
+invariant_of-self g c = (all g (goal.at.invariant_of-self g c).After-settle-self-inside).0
 
 pub returns-clause-step : goal.returns-clause-step
 returns-clause-step g c =
-    let f = c.self.inside in
-    let is = c.self.invariant in
-    let begun = subst (HasBegun f.spread c.begin.new.self) refl c.begin.ensures.begun in
-    let starts = subst (λ (i : InstanceView). HasStarts i c.args.self.now.decisions) (sym c.requires.same) c.requires.starts in
-    let home = ap (λ (n : StartsNode). n.inst) c.self.view_is ∙ c.requires.same in
-    let reach = subst (λ (i : InstanceView). IsReached i c.args.decision) (sym home) c.requires.reach in
     let net = c.add.new.self in
     let step = step_of net c.settle-self-inside.new.self.values.cells c.root_of-self-inside.result
     c.settle-self-inside.result c.add.ensures.sound
     (settled_step net c.root_of-self-inside.result c.settle-self-inside.new.self.olds.items
     c.settle-self-inside.new.self.values.cells c.settle-self-inside.result c.add.ensures.sound
     c.settle-self-inside.ensures.settled) in
-    subst (λ (i : InstanceView). IsStep i net.decisions c.settle-self-inside.result) (c.add.ensures.inst ∙ is.same ∙ home) step
+    subst (λ (i : InstanceView). IsStep i net.decisions c.settle-self-inside.result)
+    (c.add.ensures.inst ∙ c.self.invariant.same ∙ ap (λ (n : StartsNode). n.inst) c.self.view_is ∙ c.requires.same) step
 
 pub returns-clause-noted : goal.returns-clause-noted
-returns-clause-noted g c =
-    let f = c.self.inside in
-    let is = c.self.invariant in
-    let begun = subst (HasBegun f.spread c.begin.new.self) refl c.begin.ensures.begun in
-    let starts = subst (λ (i : InstanceView). HasStarts i c.args.self.now.decisions) (sym c.requires.same) c.requires.starts in
-    let home = ap (λ (n : StartsNode). n.inst) c.self.view_is ∙ c.requires.same in
-    let reach = subst (λ (i : InstanceView). IsReached i c.args.decision) (sym home) c.requires.reach in
-    let after = node_of (record {
-      inst = f.inst;
-      network = c.add.new.self;
-      spread = c.settle-self-inside.new.self;
-      marks = c.push_reserved.new.self;
-      step = c.settle-self-inside.result;
-      root = c.root_of-self-inside.result;
-    }) in
-    subst (λ (n : StartsNode). IsNoted n after c.settle-self-inside.result c.args.steps.now c.settle-self-inside.new.steps)
-    c.self.view_is
-    (noted_decided f c.args.self.now is c.self.view_is (record {
-      inst = f.inst;
-      network = c.add.new.self;
-      spread = c.settle-self-inside.new.self;
-      marks = c.push_reserved.new.self;
-      step = c.settle-self-inside.result;
-      root = c.root_of-self-inside.result;
-    }) c.begin.new.self c.args.decision c.mark-mark.result c.args.steps.now
-    c.settle-self-inside.new.steps refl c.add.ensures.inst c.add.ensures.decisions c.add.ensures.sound begun starts reach
-    c.push_reserved.ensures.items c.mark-mark.ensures (omega (arith, c.push_reserved.ensures.capacity))
-    c.settle-self-inside.ensures.wrote c.settle-self-inside.ensures.olds c.settle-self-inside.ensures.size
-    c.settle-self-inside.ensures.settled)
+returns-clause-noted g c = (all g (goal.at.returns-clause-noted g c).After-settle-self-inside).1
 
 pub returns-clause-back : goal.returns-clause-back
-returns-clause-back g c =
-    let f = c.self.inside in
-    let is = c.self.invariant in
-    let begun = subst (HasBegun f.spread c.begin.new.self) refl c.begin.ensures.begun in
-    let starts = subst (λ (i : InstanceView). HasStarts i c.args.self.now.decisions) (sym c.requires.same) c.requires.starts in
-    let home = ap (λ (n : StartsNode). n.inst) c.self.view_is ∙ c.requires.same in
-    let reach = subst (λ (i : InstanceView). IsReached i c.args.decision) (sym home) c.requires.reach in
-    let back = back_decided f c.args.self.now is c.self.view_is (record {
-      inst = f.inst;
-      network = c.add.new.self;
-      spread = c.settle-self-inside.new.self;
-      marks = c.push_reserved.new.self;
-      step = c.settle-self-inside.result;
-      root = c.root_of-self-inside.result;
-    }) c.begin.new.self c.args.decision c.mark-mark.result c.args.steps.now
-    c.settle-self-inside.new.steps refl c.add.ensures.inst c.add.ensures.decisions c.add.ensures.sound begun starts reach
-    c.push_reserved.ensures.items c.mark-mark.ensures (omega (arith, c.push_reserved.ensures.capacity))
-    c.settle-self-inside.ensures.wrote c.settle-self-inside.ensures.olds c.settle-self-inside.ensures.size
-    c.settle-self-inside.ensures.settled in
-    let after = node_of (record {
-      inst = f.inst;
-      network = c.add.new.self;
-      spread = c.settle-self-inside.new.self;
-      marks = c.push_reserved.new.self;
-      step = c.settle-self-inside.result;
-      root = c.root_of-self-inside.result;
-    }) in
-    subst (λ (n : StartsNode). taken_back (length n.decisions) after ≡ n) c.self.view_is back
+returns-clause-back g c = (all g (goal.at.returns-clause-back g c).After-settle-self-inside).2
 
 pub returns-clause-steps : goal.returns-clause-steps
 returns-clause-steps g c =

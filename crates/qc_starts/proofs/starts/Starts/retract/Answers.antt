@@ -1,6 +1,7 @@
 use Rattle.std.proofs.Common.{◌≡◌, ℕ, List, ◌+◌, ◌-◌, drop, length, length-drop, suc, refl, ap, sym, ◌∙◌, arith}
+use Rattle.std.proofs.Math.Seq.{drop-length, take-length}
 use Rattle.qc_model.specs.declared.decision.Decision.{Decision}
-use Rattle.qc_starts.proofs.KeptLemmas.{cells_on, drop_none, drop_whole, node_is, notes_on, take_whole}
+use Rattle.qc_starts.proofs.KeptLemmas.{cells_on, drop_none, node_is, notes_on}
 use Rattle.qc_trail.specs.declared.trail.Note.{Note}
 use Rattle.qc_trail.specs.Trails.{written_back}
 use Rattle.qc_starts.proofs.LevelLemmas.{drop_next}
@@ -37,8 +38,8 @@ loop-init g c = record {
   noted = sym (drop_none c.args.mark c.args.self.now.noted);
   sound = c.made-end.ensures.sound;
   few = omega arith;
-  cells = sym (ap (λ (ns : List Note). written_back ns c.args.self.now.cells) (drop_whole c.args.self.now.notes));
-  notes = sym (take_whole c.args.self.now.notes);
+  cells = sym (ap (λ (ns : List Note). written_back ns c.args.self.now.cells) (drop-length c.args.self.now.notes));
+  notes = sym (take-length c.args.self.now.notes);
   steps = omega arith;
   counted = refl;
 }

@@ -1,0 +1,57 @@
+use Rattle.std.proofs.Common.{ℕ, ◌+◌, ◌<◌, ◌≤◌, inl, inr, List, Option, None, Some, refl, ap, sym, subst, ◌∙◌, arith}
+use Rattle.std.proofs.lemmas.Bool.{cases_eq, cond_both, ltb-false, ltb-true}
+use Rattle.std.specs.Prelude.{cond, nat_lt}
+use Rattle.qc_model.specs.Instance.{InstanceView}
+use Rattle.qc_starts.specs.declared.latest.Last.{Last}
+use Rattle.qc_starts.specs.Found.{IsLast, IsLatest, end_by, end_in}
+use Rattle.qc_starts.proofs.latest.last_of.Goals as goal
+
+before_it : (inst : InstanceView) (cells : List ℕ) (t : ℕ) (last : Option ℕ) → IsLatest inst cells t last
+    → (k : ℕ) → k < t → end_in inst cells k ≤ end_by inst cells last
+before_it inst cells t None is k low = absurd (omega arith)
+before_it inst cells t (Some j) is k low = is.1 k low
+
+still : (inst : InstanceView) (cells : List ℕ) (t : ℕ) (last : Option ℕ) → IsLatest inst cells t last
+    → 1 ≤ end_in inst cells t → end_in inst cells t ≤ end_by inst cells last → IsLatest inst cells (t + 1) last
+still inst cells t None is some early = absurd (omega arith)
+still inst cells t (Some j) is some early = (
+  omega (arith, is.0),
+  λ k low. elim (cases_eq k t) [
+    | inl same ↦ subst (λ (i : ℕ). end_in inst cells i ≤ end_in inst cells j) (sym same) early
+    | inr other ↦ is.1 k (omega arith)
+  ],
+)
+
+one_more : (inst : InstanceView) (cells : List ℕ) (t : ℕ) (last : Last) → IsLast inst cells t last
+    → 1 ≤ end_in inst cells t
+    → IsLast inst cells (t + 1)
+    (cond (nat_lt last.end (end_in inst cells t)) (record { task = Some t; end = end_in inst cells t }) last)
+one_more inst cells t last is some =
+    cond_both (nat_lt last.end (end_in inst cells t)) _ _ (IsLast inst cells (t + 1))
+    (λ later.
+    let less = ltb-true last.end (end_in inst cells t) later in
+    record {
+      latest = (
+        omega arith,
+        λ k low. elim (cases_eq k t) [
+          | inl same ↦ subst (λ (i : ℕ). end_in inst cells i ≤ end_in inst cells t) (sym same) (omega arith)
+          | inr other ↦ omega (arith, before_it inst cells t last.task is.latest k (omega arith), is.end, less)
+        ],
+      );
+      end = refl;
+    })
+    (λ early. record {
+      latest = still inst cells t last.task is.latest some
+          (omega (arith, ltb-false last.end (end_in inst cells t) early, is.end));
+      end = is.end;
+    })
+
+pub loop-task-preserved : goal.loop-task-preserved
+loop-task-preserved c =
+    let inst = c.args.inst.now in
+    let cells = c.args.values.now.cells in
+    let last = c.loop-task.last in
+    let t = c.loop-task.task in
+    let more = one_more inst cells t last c.loop-task.invariant (omega (arith, c.end_in.ensures.end, c.end_in.ensures.some)) in
+    subst (IsLast inst cells (t + 1)) (sym (c.later-last.ensures ∙ ap (λ (e : ℕ).
+    cond (nat_lt last.end e) (record { task = Some t; end = e }) last) c.end_in.ensures.end)) more

@@ -1,0 +1,571 @@
+#!/usr/bin/env python3
+"""Compares the built program with the second opinion of reference.py on random small ships.
+
+    compare.py PROGRAM KEPT [--first SEED] [--count SHIPS] [--minutes M] [--wide]
+
+Each seed makes one ship and its list. `plan` runs with several numbers of branchings, `check`, `show` and `tasks` on
+what it wrote, then `check` and `show` on plans and trees that were changed, and on trees that were made here. Every
+report and every file is compared with what reference.py works out from the definitions. Of each difference the
+files and the two answers are kept in a folder under KEPT. Prints counts and the first differences; status 1 where
+there is any. With `--wide` the ships have 8 to 18 tasks, so that the trees are large, and the least end isn't known.
+"""
+import argparse
+import itertools
+import random
+import shutil
+import subprocess
+import sys
+import tempfile
+import time
+from collections import Counter
+from pathlib import Path
+
+sys.dont_write_bytecode = True  # no folder of compiled files beside the scripts
+
+from reference import (NEVER, PHASES, Node, TreeFault, TreeReader, arcs_up, bound_text, breaks_up, check_report,
+                       crane_lines, direction_of, end_of, instance_of, least_end, least_starts, motion_of, plan_text,
+                       read_plan, read_ship, show_report, tasks_report)
+
+
+# ---------------------------------------------------------------- random ships and lists
+
+class Maker:
+    """One random ship and its stowage list."""
+
+    def __init__(self, rng, wide):
+        self.rng = rng
+        self.large = rng.random() < 0.1     # long times and wide places
+        self.placed = rng.random() < 0.35   # places in decimetres
+        self.hatches = self.some_hatches()
+        count = len(self.hatches)
+        self.cranes = rng.choice((1, 1, 1, 2, 2, 2, 2, 3, 3, 3, 4, rng.randint(5, 8)))
+        most = (7, 7, 6, 4, 3, 3, 3, 3)[self.cranes - 1]
+        self.tasks = min(rng.choice((0, 1, 2, 3, 3, 4, 4, 5, 5, 5, 6, 7)), most, 4 * count)
+        if wide:
+            self.cranes, self.tasks = rng.randint(2, 5), min(rng.randint(8, 18), 4 * count)
+        step = 300 if self.large else 6
+        self.places, place = [], rng.randint(1, step)
+        for _ in self.hatches:
+            self.places.append(place)
+            place += rng.randint(1, step)
+        if self.placed:
+            self.gap = min(1800, rng.choice((1, rng.randint(1, 2 * step), rng.randint(1, step), place)))
+        else:
+            self.gap = rng.choice((1, 1, 2, 2, 2, 3, 4, rng.randint(1, 21)))
+
+    def some_hatches(self):
+        rng = self.rng
+        hatches, free = [], rng.choice((1, 1, 1, 2, 5, 90, 150, 960))
+        for _ in range(rng.choice((1, 2, 2, 3, 3, 4, 5, 6))):
+            free += rng.choice((0, 0, 0, 1, 2))
+            even = rng.random() < 0.7
+            hatch = free + 1 if even and free % 2 == 1 else free + 2 if even else free + 1 - free % 2
+            hatches.append(hatch)
+            free = hatch + 2 if even else hatch + 1
+        return hatches
+
+    def some_ticks(self, small, large):
+        return self.rng.randint(1, large if self.large else small)
+
+    def ship(self):
+        rng, count = self.rng, len(self.hatches)
+        keys = [f"hatches = {self.hatches}",
+                f"travel = {self.some_ticks(*(3, 100) if self.placed else (5, 10_000))}",
+                f"deck_move = {self.some_ticks(12, 10_000)}", f"hold_move = {self.some_ticks(12, 10_000)}"]
+        if self.placed:
+            keys += [f"places = {self.places}", f"clear = {self.gap}"]
+        if not self.placed or rng.random() < 0.1:
+            keys.append(f"margin = {self.gap - 1 if not self.placed else 99}")
+        if rng.random() < 0.5:
+            keys.append(f"cover = {rng.randint(0, 10_000 if self.large else 20)}")
+        if rng.random() < 0.6:
+            keys.append(f'restows = "{rng.choice(("ordered", "ordered", "free"))}"')
+        if count > 1 and rng.random() < 0.5:
+            pairs = [rng.sample(self.hatches, 2) for _ in range(rng.choice((1, 1, 2, 4)))]
+            keys.append(f"apart = {pairs + pairs[:1] if rng.random() < 0.2 else pairs}")
+        if rng.random() < 0.2:
+            keys.append('port = "X"')
+        rng.shuffle(keys)
+        cranes = self.crane_tables()
+        if rng.random() < 0.2:
+            keys.append("crane = [" + ", ".join("{" + ", ".join(crane) + "}" for crane in cranes) + "]")
+            return "\n".join(keys) + "\n"
+        return "\n".join(keys + ["\n[[crane]]\n" + "\n".join(crane) for crane in cranes]) + "\n"
+
+    def crane_tables(self):
+        rng, count = self.rng, len(self.hatches)
+        bays = self.places[-1] if self.placed else count
+        bay = rng.choice((1, rng.randint(1, bays), rng.randint(1 - self.gap * self.cranes, bays)))
+        bay = max(bay, -10_000 if self.placed else -200)
+        names = rng.sample(["C1", "C2", "C3", "C4", "STS-1", "a_b", "Z" * 12, "9", "C"], self.cranes)
+        tables, late = [], rng.choice(names) if rng.random() < 0.25 else None
+        for name in names:
+            keys = [f'name = "{name}"', f"bay = {bay}"]
+            if name == late:
+                keys.append(f"ready = {rng.randint(60, 250)}")
+            elif late is None and rng.random() < 0.6:
+                keys.append(f"ready = {rng.randint(0, 1_000_000 if self.large else rng.choice((5, 30, 80)))}")
+            first, last = sorted((rng.randint(1, count), rng.randint(1, count)))
+            if rng.random() < 0.25:
+                keys.append(f"from = {first}")
+            if rng.random() < 0.25:
+                keys.append(f"to = {last}" if "from" in keys[-1] else f"to = {rng.randint(1, count)}")
+            if rng.random() < 0.05:
+                keys.append("colour = 3")
+            rng.shuffle(keys)
+            tables.append(keys)
+            bay += self.gap + rng.choice((0, 0, 1, 2, self.gap if self.cranes < 5 else 3))
+        return tables
+
+    def stowage(self):
+        rng = self.rng
+        doing = rng.sample([(hatch, phase) for hatch in self.hatches for phase in PHASES], self.tasks)
+        rows, used, outs, ins = [], Counter(), [], []
+        for hatch, phase in doing:
+            kind = "D" if phase[0] == "D" else "L"
+            for _ in range(rng.choice((1, 1, 2, 2, 3, 4))):
+                slot = used[phase]
+                used[phase] += 1
+                tier = (82 if phase in ("DD", "LD") else 2) + 2 * (slot // 10)
+                bay = hatch + rng.choice((-1, 0, 0, 1)) if hatch % 2 == 0 else hatch
+                width = 3 if bay >= 100 or rng.random() < 0.1 else 2
+                (outs if kind == "D" else ins).append(len(rows))
+                cell = f"{bay:0{width}}{slot % 10:02}{tier:02}"
+                rows.append([f"R{len(rows)}", kind, cell, "20" if bay % 2 else "40"])
+        for out, back in zip(rng.sample(outs, len(outs)), rng.sample(ins, len(ins))):
+            if rng.random() < 0.4:
+                rows[back][0] = rows[out][0]
+        rng.shuffle(rows)
+        quote = '"' if rng.random() < 0.1 else ""
+        feed = "\r\n" if rng.random() < 0.1 else "\n"
+        lines = ["id,move,cell,length"] + [",".join(quote + field + quote for field in row) for row in rows]
+        return ("\ufeff" if rng.random() < 0.05 else "") + feed.join(lines) + feed
+
+
+# ---------------------------------------------------------------- changed plans and trees
+
+def changed_plans(inst, plan, rng):
+    """Texts of plans beside the given one, or of any plans where none is given."""
+    slots = list(plan) if plan else [(rng.randrange(len(inst.cranes)), rng.randint(0, 60)) for _ in inst.tasks]
+    texts = [plan_text(inst, serial_plan(inst, rng, early)) for early in (0, 1)]
+    if not slots:
+        return texts
+    new, (i, j) = serial_plan(inst, rng, 0), rng.choices(range(len(slots)), k=2)
+    after = end_of(inst, new) + inst.travel * 2 * (inst.bays + inst.gap * len(inst.cranes))
+    new[i], new[j] = (new[i][0], after), (new[j][0], after + rng.randint(0, 3))
+    texts.append(plan_text(inst, new))
+    for _ in range(2):
+        new, (i, j) = list(slots), rng.choices(range(len(slots)), k=2)
+        way = rng.choice(("shift", "shift", "shift", "cranes", "crane", "starts", "later"))
+        if way == "shift":
+            new[i] = new[i][0], max(0, new[i][1] + rng.choice((-3, -2, -1, 1, 2, 3, 30)))
+        elif way == "cranes":
+            new[i], new[j] = (new[j][0], new[i][1]), (new[i][0], new[j][1])
+        elif way == "crane":
+            new[i] = rng.randrange(len(inst.cranes)), new[i][1]
+        elif way == "starts":
+            new[i], new[j] = (new[i][0], new[j][1]), (new[j][0], new[i][1])
+        else:
+            by = rng.randint(1, 5)
+            new = [(crane, start + by) for crane, start in new]
+        texts.append(plan_text(inst, new))
+    lines = plan_text(inst, slots).splitlines()
+    fault = rng.choice(("drop", "twice", "end", "zero", "name", "crane", "shuffle", "fields", "header"))
+    at = rng.randrange(1, len(lines))
+    name, crane, start, end = lines[at].split(",")
+    if fault == "drop":
+        del lines[at]
+    elif fault == "shuffle":
+        lines[1:] = rng.sample(lines[1:], len(lines) - 1)
+    elif fault == "header":
+        lines[0] += " "
+    else:
+        lines[at] = {"twice": lines[rng.randrange(1, len(lines))], "end": f"{name},{crane},{start},{int(end) + 1}",
+                     "zero": f"{name},{crane},0{start},{end}", "name": f"{name}X,{crane},{start},{end}",
+                     "crane": f"{name},C99,{start},{end}", "fields": f"{name},{crane},{start}"}[fault]
+    return texts + ["\n".join(lines) + "\n"]
+
+
+def serial_plan(inst, rng, early):
+    """One task after the other in a random order, which seldom goes one way; too early for other cranes' berths."""
+    waiting, slots, now = list(range(len(inst.tasks))), {}, 0
+    while waiting:
+        free = [j for j in waiting if not any((i, j) in inst.before for i in waiting)] or waiting
+        j = rng.choice(free if rng.random() < 0.95 else waiting)
+        cranes = [k for k in range(len(inst.cranes)) if inst.reaches(k, j)] or [0]
+        crane = rng.choice(cranes)
+        start = max(now, inst.arrival(j, crane), inst.free_from(j, crane) - early)
+        for i, (v, begin) in slots.items():
+            far = inst.distance(i, v, j, crane) if v != crane else inst.travel * abs(
+                inst.tasks[i].bay - inst.tasks[j].bay)
+            start = max(start, begin + inst.tasks[i].ticks + far)
+        slots[j] = crane, start
+        now = start
+        waiting.remove(j)
+    return [slots[j] for j in range(len(inst.tasks))]
+
+
+def changed_trees(inst, text, rng):
+    """Bytes of trees: the given one with a change, with or without its last line mended, and random ones."""
+    texts = []
+    for _ in range(2):
+        lines = text.decode().splitlines()
+        at = rng.randrange(len(lines))
+        words = lines[at].split()
+        way = rng.choice(("number", "number", "number", "drop", "twice", "swap", "leaf", "title", "cut", "more",
+                          "space", "long"))
+        if way == "number" and words[-1].isdigit() and words[0] != "QCTREE":
+            which = rng.randrange(1, len(words))
+            if words[which].isdigit():
+                words[which] = str(max(0, int(words[which]) + rng.choice((-1, 1, -2, 2, 5))))
+            lines[at] = " ".join(words)
+        elif way == "drop":
+            del lines[at]
+        elif way == "twice":
+            lines.insert(at, lines[at])
+        elif way == "swap":
+            other = rng.randrange(len(lines))
+            lines[at], lines[other] = lines[other], lines[at]
+        elif way == "leaf" and words[0] in "PCXW":
+            lines[at] = rng.choice(("P", "X", "W 1", "P 1", "P 1 2", "C 1 2", "C 1", "W 0", "up", "P 01", "W 50"))
+        elif way == "title":
+            lines[0] = "QCTREE 1" if rng.random() < 0.8 else "QCTREE 3"
+        elif way == "space":
+            lines[at] += " "
+        elif way == "long":
+            lines[at] = "P" + " 1" * rng.choice((240, 241, 599, 600))
+        new = "".join(line + "\n" for line in lines).encode()
+        if way == "cut":
+            new = new[:rng.randrange(len(new))]
+        elif way == "more":
+            new += rng.choice((b"\n", b"x", b"end 0 0\n"))
+        texts.append(mended(inst, new) if rng.random() < 0.5 else new)
+    for version in (1, 2):
+        lines = [f"QCTREE {version}", "up"]
+        random_part(Node(inst), lines, rng)
+        lines.append("down")
+        random_part(Node(inst.mirror), lines, rng)
+        texts.append(mended(inst, ("\n".join(lines) + "\nend 0 0\n").encode()))
+    return texts
+
+
+def mended(inst, data):
+    """The tree with the last line that it must have, where that alone is wrong."""
+    reader = TreeReader(inst, data)
+    try:
+        reader.read()
+    except TreeFault as fault:
+        if fault.kind == "Counts":
+            lines = data.decode().split("\n")
+            lines[fault.line - 1] = f"end {reader.branched} {bound_text(reader.value)}"
+            return "\n".join(lines).encode()
+    return data
+
+
+def random_part(node, lines, rng):
+    """Adds a part of a tree below the node: any branchings, any leaves, a few of them wrong."""
+    inst, count = node.inst, len(node.inst.tasks)
+    tasks = [j for j in range(count) if node.crane[j] is None]
+    pairs = [pair for pair in inst.apart if not node.is_settled(*pair)]
+    wild = rng.random() < 0.01
+    below = not node.is_out_of_reach() or rng.random() < 0.1
+    if (tasks or pairs) and len(lines) < 80 and rng.random() < 0.8 and below:
+        if pairs and (not tasks or rng.random() < 0.3):
+            i, j = rng.choice(pairs)
+            lines.append(f"O {i + 1} {j + 1}" if not wild else f"O {j + 1} {i + 1}")
+            children = [node.child("O", i, j), node.child("O", j, i)]
+        else:
+            i = rng.choice(tasks) if not wild else rng.randrange(count)
+            lines.append(f"A {i + 1}")
+            children = [node.child("A", i, crane) for crane in range(len(inst.cranes))]
+        for child in children:
+            random_part(child, lines, rng)
+        return
+    ring = random_ring(node, rng) if node.starts is None else None
+    strays = any(kind == "A" and not inst.reaches(crane, task) for kind, task, crane in node.decisions)
+    if rng.random() < (0.9 if node.is_out_of_reach() else 0.3 if strays else 0):
+        lines.append("X")
+    elif ring and rng.random() < 0.9:
+        lines.append("C" + "".join(f" {j + 1}" for j in ring))
+    elif node.work_bound and rng.random() < 0.5:
+        less = -1 if rng.random() < 0.03 else rng.choice((0, 0, 0, 1, 5))
+        lines.append(f"W {max(1, node.work_bound - less)}")
+    else:
+        lines.append("P" + "".join(f" {j + 1}" for j in random_chain(node, rng)))
+
+
+def random_chain(node, rng):
+    count, chain = len(node.inst.tasks), []
+    if not count or rng.random() < 0.05:
+        return chain
+    chain.append(rng.randrange(count))
+    while len(chain) < 12:
+        later = [j for i, j, _ in node.arcs if i == chain[-1]]
+        if not later or rng.random() < 0.1:
+            break
+        chain.append(rng.choice(later))
+    if rng.random() < 0.01:
+        chain.append(rng.randrange(count))
+    return chain
+
+
+def random_ring(node, rng):
+    """A ring of forced steps, or None where a few walks find none."""
+    for _ in range(20):
+        chain = random_chain(node, rng)
+        for place, j in enumerate(chain):
+            if j in chain[:place]:
+                return chain[chain.index(j):place]
+    return None
+
+
+# ---------------------------------------------------------------- what the search may write
+
+class SearchJudge:
+    """Whether a tree is one that a search with at most `nodes` branchings may write; the best that it meets."""
+
+    def __init__(self, inst, nodes):
+        self.inst, self.nodes = inst, nodes
+        self.branched, self.leaves, self.met, self.best = 0, 0, NEVER, []
+        self.complaints = []
+
+    def visit(self, node, kind, value):
+        solvable = not node.is_out_of_reach() and node.starts is not None
+        complete = node.is_complete()
+        met = self.met
+        closable = not solvable or complete or met < NEVER and (node.end >= met or node.work_holds(max(1, met)))
+        if kind in "AO":
+            self.expect(not closable, node, "branched on, and it can be closed")
+            self.branched += 1
+            return
+        self.leaves += 1
+        if node.is_out_of_reach():
+            self.expect(kind == "X", node, f"out of reach, closed by {kind}")
+        elif not solvable:
+            self.expect(kind == "C", node, f"without a solution, closed by {kind}")
+        elif complete:
+            self.expect(kind == "P" and value == node.end, node, f"complete, closed by {kind} of {value}")
+            self.meet(node)
+        elif closable:
+            self.expect(kind in "PW" and value >= self.met, node, f"closed by {kind} of {value}")
+        else:
+            best = ("P", node.end) if node.end >= node.work_bound else ("W", node.work_bound)
+            self.expect(self.branched == self.nodes, node, "given up while branchings are left")
+            self.expect((kind, value) == best, node, f"given up with {kind} of {value}, not {best}")
+
+    def meet(self, node):
+        plan = list(zip(node.crane, node.starts))
+        plan = plan if node.inst is self.inst else node.inst.mirrored(plan)
+        if node.end < self.met:
+            self.met, self.best = node.end, []
+        if node.end == self.met:
+            self.best.append(plan)
+
+    def expect(self, holds, node, text):
+        if not holds:
+            self.complaints.append(f"node {node.decisions}: {text}")
+
+    def status(self, value):
+        """The outcome and exit status that go with the tree's value."""
+        if value == NEVER:
+            return "Infeasible", 10
+        if self.best and value >= self.met:
+            return "Optimal", 0
+        return "Budget", 11 if self.best else 12
+
+
+def is_tight(inst, plan):
+    """Whether no task could start earlier with the same cranes and orders, in a direction in which the plan goes."""
+    for seen, slots in ((inst, plan), (inst.mirror, inst.mirrored(plan))):
+        if next(breaks_up(seen, slots), None) is None:
+            arcs = arcs_up(seen, [crane for crane, _ in slots])
+            for i, j in seen.apart:
+                first, second = (i, j) if slots[i][1] + seen.tasks[i].ticks <= slots[j][1] else (j, i)
+                arcs.append((first, second, seen.tasks[first].ticks))
+            heads = [seen.free_table[j][crane] for j, (crane, _) in enumerate(slots)]
+            if least_starts(seen, heads, arcs) == [start for _, start in slots]:
+                return True
+    return False
+
+
+def first_unsafe(motion, parts):
+    """What isn't safe at some moment `m / parts`, or None."""
+    inst, last = motion.inst, None
+    for m in range(parts * motion.ends + 1):
+        at = [motion.place(k, m, parts) for k in range(len(inst.cranes))]
+        for v, w in itertools.combinations(range(len(at)), 2):
+            if at[w] - at[v] < parts * inst.travel * inst.gap * (w - v):
+                return f"cranes {v} and {w} at {m}/{parts}"
+        for crane, bay, start, end in motion.jobs:
+            if parts * start <= m <= parts * end and at[crane] != parts * inst.travel * bay:
+                return f"crane {crane} isn't at its task at {m}/{parts}"
+        for k, data in enumerate(inst.cranes):
+            first = min((start for v, _, start, _ in motion.jobs if v == k), default=NEVER)
+            if m <= parts * data.ready and at[k] != parts * inst.travel * data.bay:
+                return f"crane {k} isn't at its berth at {m}/{parts}"
+            least = 0 if m - 1 >= parts * first else -1
+            if last and not least <= at[k] - last[k] <= 1:
+                return f"crane {k} is too fast or turns at {m}/{parts}"
+        last = at
+    return None
+
+
+# ---------------------------------------------------------------- the comparison
+
+class Case:
+    """One ship and list in a folder of their own, and what differs."""
+
+    def __init__(self, program, seed, kept, counts, wide):
+        self.program, self.seed, self.kept, self.counts, self.wide = program, seed, kept, counts, wide
+        self.rng = random.Random(seed)
+        self.differences = []
+        self.folder = Path(tempfile.mkdtemp(prefix="compare-"))
+        maker = Maker(self.rng, wide)
+        self.write("ship", maker.ship().encode())
+        self.write("stow", maker.stowage().encode())
+        self.inst = instance_of(read_ship(self.read("ship")), self.read("stow"))
+
+    def write(self, name, data):
+        (self.folder / name).write_bytes(data)
+
+    def read(self, name):
+        path = self.folder / name
+        return path.read_bytes() if path.exists() else None
+
+    def run(self, *words):
+        done = subprocess.run([self.program, *words], cwd=self.folder, capture_output=True, timeout=300)
+        lines = done.stdout.decode().splitlines()
+        first = lines[0].split() if lines else [""]
+        kind = " ".join(first[:2] if first[0] in ("Broken", "BadPlan", "BadTree", "direction") else first[:1])
+        self.counts[f"{words[0]}: {kind if words[0] != 'tasks' else ''} status {done.returncode}"] += 1
+        return done.returncode, lines
+
+    def expect(self, what, seen, due):
+        """Notes a difference, with all files as they stand."""
+        if seen == due:
+            return
+        self.differences.append(what)
+        place = self.kept / f"{self.seed}-{len(self.differences)}"
+        shutil.copytree(self.folder, place, dirs_exist_ok=True)
+        (place / "difference").write_text(f"{what}\nprogram:   {seen}\nreference: {due}\n")
+
+    def compare(self):
+        least = None if self.wide else least_end(self.inst)
+        if not self.wide:
+            self.counts["ships without a one-way plan" if least == NEVER else "ships with a one-way plan"] += 1
+        self.expect("tasks", self.run("tasks", "ship", "stow"), tasks_report(self.inst))
+        for nodes in (0, self.rng.randint(2, 60), 150) if self.wide else (0, 1, 5, self.rng.randint(2, 40), None):
+            self.plan(nodes, least)
+            if nodes in (150, None) or self.rng.random() < 0.2:
+                self.check("plan.csv" if self.read("plan.csv") else "-")
+        plan, tree = self.read("plan.csv"), self.read("tree.txt")
+        slots = read_plan(self.inst, plan)[0] if plan else None
+        if plan:
+            self.show()
+        for text in changed_plans(self.inst, slots, self.rng) if self.rng.random() < 0.5 else ():
+            self.write("plan.csv", text.encode())
+            self.check("plan.csv")
+            if self.rng.random() < 0.2:
+                self.show()
+        if plan:
+            self.write("plan.csv", plan)
+        for data in changed_trees(self.inst, tree, self.rng) if self.rng.random() < 0.5 else ():
+            self.write("tree.txt", data)
+            self.check("plan.csv" if plan and self.rng.random() < 0.5 else "-")
+        shutil.rmtree(self.folder)
+        return self.differences
+
+    def plan(self, nodes, least):
+        """One run of `plan`; None branchings stand for those that it takes by itself."""
+        for name in ("plan.csv", "tree.txt"):
+            (self.folder / name).unlink(missing_ok=True)
+        option = [] if nodes is None else ["--nodes", str(nodes)]
+        seen = self.run("plan", "ship", "stow", "plan.csv", "tree.txt", *option)
+        name, nodes = f"plan {option}", 20_000 if nodes is None else nodes
+        judge = SearchJudge(self.inst, nodes)
+        try:
+            reader = TreeReader(self.inst, self.read("tree.txt"), judge.visit).read()
+        except TreeFault as fault:
+            self.expect(f"{name}: tree", seen, ("BadTree", fault.kind, fault.line))
+            return
+        self.counts["nodes judged"] += judge.branched + judge.leaves
+        self.expect(f"{name}: nodes", judge.complaints, [])
+        self.expect(f"{name}: version", reader.version, 2)
+        word, status = judge.status(reader.value)
+        lines = [word]
+        if word != "Infeasible":
+            lines += [f"end {judge.met}"] * bool(judge.best) + [f"bound {reader.value}"]
+        lines.append(f"branched {reader.branched}")
+        plan = self.read("plan.csv")
+        self.expect(f"{name}: a plan is written", plan is not None, bool(judge.best))
+        if plan:
+            lines += self.written(name, plan, judge)
+        self.expect(f"{name}: report", seen, (status, lines))
+        if word == "Budget":
+            self.expect(f"{name}: branchings spent", reader.branched, nodes)
+            self.expect(f"{name}: bound at most the least end", self.wide or reader.value <= least, True)
+        elif not self.wide:
+            self.expect(f"{name}: least end", reader.value, least)
+        most = 2 * max(2, len(self.inst.cranes)) ** (len(self.inst.tasks) + len(self.inst.apart))
+        if nodes >= most:
+            self.counts["branchings enough for an answer"] += 1
+            self.expect(f"{name}: answered", word != "Budget", True)
+
+    def written(self, name, plan, judge):
+        """What the report says behind the branchings of the plan that was written."""
+        slots, fault = read_plan(self.inst, plan)
+        if fault:
+            self.expect(f"{name}: plan file", fault, None)
+            return []
+        self.expect(f"{name}: plan text", plan.decode(), plan_text(self.inst, slots))
+        self.expect(f"{name}: one of the best met", slots in judge.best, True)
+        self.expect(f"{name}: end", end_of(self.inst, slots), judge.met)
+        way, broken = direction_of(self.inst, slots)
+        self.expect(f"{name}: goes one way", broken, None)
+        if broken:
+            return []
+        self.expect(f"{name}: tight", is_tight(self.inst, slots), True)
+        if end_of(self.inst, slots) <= 150 and self.rng.random() < 0.2:
+            self.counts["motions judged at every third of a tick"] += 1
+            self.expect(f"{name}: safe", first_unsafe(motion_of(self.inst, slots, way), 3), None)
+        return [f"direction {way}"] + crane_lines(self.inst, slots, way)
+
+    def check(self, plan):
+        """`check` with the plan, or with `-`, on the files as they stand."""
+        data = self.read(plan) if plan != "-" else None
+        due = check_report(self.inst, data, self.read("tree.txt"))
+        self.expect(f"check {plan}", self.run("check", "ship", "stow", plan, "tree.txt"), due)
+
+    def show(self):
+        due = show_report(self.inst, self.read("plan.csv"))
+        self.expect("show", self.run("show", "ship", "stow", "plan.csv"), due)
+
+
+def main():
+    parser = argparse.ArgumentParser(description="qc against the second opinion")
+    parser.add_argument("program", type=Path)
+    parser.add_argument("kept", type=Path)
+    parser.add_argument("--first", type=int, default=1)
+    parser.add_argument("--count", type=int, default=100)
+    parser.add_argument("--minutes", type=float, default=1e9)
+    parser.add_argument("--wide", action="store_true")
+    words = parser.parse_args()
+    words.kept.mkdir(parents=True, exist_ok=True)
+    counts, differing, last = Counter(), [], time.monotonic() + 60 * words.minutes
+    for seed in range(words.first, words.first + words.count):
+        if time.monotonic() > last:
+            break
+        counts["ships"] += 1
+        found = Case(words.program.resolve(), seed, words.kept, counts, words.wide).compare()
+        if found:
+            differing.append((seed, found))
+            print(f"seed {seed}: {found[:3]}", flush=True)
+        if counts["ships"] % 250 == 0:
+            print(f"{counts['ships']} ships, {len(differing)} with differences", flush=True)
+    for what, count in sorted(counts.items()):
+        print(f"{count:9} {what}")
+    print(f"{len(differing)} ships with differences, kept in {words.kept}")
+    sys.exit(1 if differing else 0)
+
+
+main()

@@ -1,0 +1,691 @@
+#!/usr/bin/env python3
+"""What a plan, a bound tree and the least end of a small ship are, worked out from the definitions alone.
+
+    reference.py tasks SHIP STOW
+    reference.py show SHIP STOW PLAN
+    reference.py check SHIP STOW PLAN TREE      (PLAN may be `-`)
+    reference.py least SHIP STOW
+
+The first three print what `qc` must print; `least` tries every choice of cranes and orders and prints the least end
+of all schedules that go one way, or `none`. Nothing here is taken from the program or from its specifications:
+it is a second opinion, meant to be short and slow. Ship files and lists must be good ones.
+
+Tasks and cranes are counted from 0 here, from 1 in tree files. A plan is a list of (crane, start), one for each task.
+Places are crane bays, or decimetres where the ship gives places; times are ticks.
+"""
+import csv
+import io
+import itertools
+import re
+import sys
+import tomllib
+from dataclasses import dataclass
+from functools import cache, cached_property
+
+PHASES = ("DD", "DH", "LH", "LD")
+LETTERS = {"DD": "D", "DH": "d", "LH": "l", "LD": "L"}
+NEVER = float("inf")  # above every number
+
+
+# ---------------------------------------------------------------- ships, lists and instances
+
+@dataclass(frozen=True)
+class Crane:
+    name: str
+    ready: int
+    bay: int
+    low: int   # the least place that it reaches
+    high: int  # the greatest
+
+
+@dataclass(frozen=True)
+class Task:
+    hatch: int
+    phase: str
+    bay: int
+    ticks: int
+
+    @property
+    def name(self):
+        return f"{self.hatch}-{self.phase}"
+
+
+@dataclass(frozen=True)
+class Instance:
+    bays: int
+    travel: int
+    gap: int
+    tasks: tuple
+    cranes: tuple
+    before: tuple  # sorted pairs of task numbers
+    apart: tuple   # sorted pairs, the lower number first
+
+    @cached_property
+    def mirror(self):
+        turn = lambda x: self.bays + 1 - x
+        return Instance(
+            self.bays, self.travel, self.gap,
+            tuple(Task(task.hatch, task.phase, turn(task.bay), task.ticks) for task in self.tasks),
+            tuple(Crane(crane.name, crane.ready, turn(crane.bay), turn(crane.high), turn(crane.low))
+                  for crane in reversed(self.cranes)),
+            self.before, self.apart)
+
+    def mirrored(self, plan):
+        return [(len(self.cranes) - 1 - crane, start) for crane, start in plan]
+
+    def reaches(self, crane, task):
+        return self.cranes[crane].low <= self.tasks[task].bay <= self.cranes[crane].high
+
+    def distance(self, i, v, j, w):
+        """The ticks between task i on crane v and task j on another crane w."""
+        if v > w:
+            i, v, j, w = j, w, i, v
+        return self.travel * max(0, self.tasks[i].bay - self.tasks[j].bay + self.gap * (w - v))
+
+    def arrival(self, task, crane):
+        """When the crane can be at the task, the other cranes left out."""
+        data = self.cranes[crane]
+        return data.ready + self.travel * abs(data.bay - self.tasks[task].bay)
+
+    def clearing(self, task, crane, other):
+        """How long the other crane takes from its start berth to make room for the task; 0 where it needn't move."""
+        bay, berth = self.tasks[task].bay, self.cranes[other].bay
+        if other > crane:
+            return self.travel * max(0, bay - berth + self.gap * (other - crane))
+        return self.travel * max(0, berth - bay + self.gap * (crane - other))
+
+    def free_from(self, task, crane):
+        """The first tick at which the crane may work on the task as far as all start berths say."""
+        moments = [self.arrival(task, crane)]
+        for other, data in enumerate(self.cranes):
+            if other != crane and self.clearing(task, crane, other) > 0:
+                moments.append(data.ready + self.clearing(task, crane, other))
+        return max(moments)
+
+
+    @cached_property
+    def free_table(self):
+        """`free_from` of each task and crane."""
+        return [[self.free_from(j, k) for k in range(len(self.cranes))] for j in range(len(self.tasks))]
+
+
+@dataclass(frozen=True)
+class Ship:
+    hatches: list
+    places: list
+    gap: int
+    travel: int
+    deck_move: int
+    hold_move: int
+    cover: int
+    ordered: bool
+    apart: list
+    cranes: tuple
+
+    def hatch_of(self, bay):
+        for hatch in self.hatches:
+            if bay == hatch or (hatch % 2 == 0 and bay in (hatch - 1, hatch + 1)):
+                return hatch
+        raise ValueError(f"no hatch takes bay {bay}")
+
+
+def read_ship(data):
+    table = tomllib.loads(data.decode())
+    hatches = table["hatches"]
+    places = table.get("places", list(range(1, len(hatches) + 1)))
+    cranes = tuple(
+        Crane(crane["name"], crane.get("ready", 0), crane["bay"], places[crane.get("from", 1) - 1],
+              places[crane.get("to", len(hatches)) - 1])
+        for crane in table["crane"])
+    gap = table["clear"] if "places" in table else table["margin"] + 1
+    return Ship(hatches, places, gap, table["travel"], table["deck_move"], table["hold_move"],
+                table.get("cover", 0), table.get("restows", "free") == "ordered", table.get("apart", []), cranes)
+
+
+def records_of(data):
+    """The records of a list or a plan, without empty lines."""
+    return [record for record in csv.reader(io.StringIO(data.decode("utf-8-sig"), newline="")) if record]
+
+
+def instance_of(ship, data):
+    """The tasks of a ship and its stowage list, and the rules between them."""
+    moves = {}  # the ids of each hatch and phase
+    for ident, kind, cell, _ in records_of(data)[1:]:
+        on_deck = int(cell[-2:]) >= 70
+        phase = {("D", True): "DD", ("D", False): "DH", ("L", False): "LH", ("L", True): "LD"}[kind, on_deck]
+        moves.setdefault((ship.hatch_of(int(cell[:-4])), phase), []).append(ident)
+    tasks, doing = [], []
+    for hatch, place in zip(ship.hatches, ship.places):
+        for phase in PHASES:
+            idents = moves.get((hatch, phase), [])
+            if idents and phase in ("DD", "LD"):
+                tasks.append(Task(hatch, phase, place, len(idents) * ship.deck_move))
+            elif idents:
+                tasks.append(Task(hatch, phase, place, len(idents) * ship.hold_move + ship.cover))
+            if idents:
+                doing.append(idents)
+    before, apart = set(), set()
+    for i, first in enumerate(tasks):
+        for j, second in enumerate(tasks):
+            if first.hatch == second.hatch and PHASES.index(first.phase) < PHASES.index(second.phase):
+                before.add((i, j))
+            moved_twice = first.phase[0] == "D" and second.phase[0] == "L" and set(doing[i]) & set(doing[j])
+            if ship.ordered and moved_twice:
+                before.add((i, j))
+            if i < j and any(sorted(pair) == sorted((first.hatch, second.hatch)) for pair in ship.apart):
+                apart.add((i, j))
+    return Instance(ship.places[-1], ship.travel, ship.gap, tuple(tasks), ship.cranes,
+                    tuple(sorted(before)), tuple(sorted(apart)))
+
+
+# ---------------------------------------------------------------- the judge of a plan
+
+def breaks_up(inst, plan):
+    """Each rule that the plan breaks on the way up, in the order of the rules, with its task or two tasks."""
+    count = len(plan)
+    end = [start + task.ticks for (_, start), task in zip(plan, inst.tasks)]
+    bay = [task.bay for task in inst.tasks]
+    pairs = list(itertools.combinations(range(count), 2))
+
+    def overlaps(i, j, rest):
+        return plan[j][1] < end[i] + rest and plan[i][1] < end[j] + rest
+
+    for j, (crane, _) in enumerate(plan):
+        if not inst.reaches(crane, j):
+            yield "Reach", j
+    for j, (crane, start) in enumerate(plan):
+        if start < inst.arrival(j, crane):
+            yield "Ready", j
+    for i, j in pairs:
+        if plan[i][0] == plan[j][0] and overlaps(i, j, inst.travel * abs(bay[i] - bay[j])):
+            yield "Travel", i, j
+    for i, j in pairs:
+        if ((i, j) in inst.before and plan[j][1] < end[i]) or ((j, i) in inst.before and plan[i][1] < end[j]):
+            yield "Before", i, j
+    for i, j in pairs:
+        if (i, j) in inst.apart and overlaps(i, j, 0):
+            yield "Apart", i, j
+    for i, j in pairs:
+        if plan[i][0] != plan[j][0]:
+            distance = inst.distance(i, plan[i][0], j, plan[j][0])
+            if distance > 0 and overlaps(i, j, distance):
+                yield "Margin", i, j
+    for j, (crane, start) in enumerate(plan):
+        for other, data in enumerate(inst.cranes):
+            clearing = inst.clearing(j, crane, other) if other != crane else 0
+            if clearing > 0 and start < data.ready + clearing:
+                yield "Berth", j
+    for i, j in pairs:
+        if not (keeps_up(inst, plan, end, i, j) and keeps_up(inst, plan, end, j, i)):
+            yield "OneWay", i, j
+
+
+def keeps_up(inst, plan, end, i, j):
+    """Whether task i on a lower crane than j's, or at a lower bay of its crane, stands to j as the way up asks."""
+    (v, start_i), (w, start_j) = plan[i], plan[j]
+    if v == w:
+        stretch = inst.tasks[j].bay - inst.tasks[i].bay
+        return stretch <= 0 or start_j >= end[i] + inst.travel * stretch
+    distance = inst.distance(i, v, j, w)
+    return v > w or distance == 0 or start_i >= end[j] + distance
+
+
+def direction_of(inst, plan):
+    """`up` or `down` and no break, or no direction and the first break on the way up."""
+    broken = next(breaks_up(inst, plan), None)
+    if broken is None:
+        return "up", None
+    if next(breaks_up(inst.mirror, inst.mirrored(plan)), None) is None:
+        return "down", None
+    return None, broken
+
+
+def end_of(inst, plan):
+    return max((start + task.ticks for (_, start), task in zip(plan, inst.tasks)), default=0)
+
+
+# ---------------------------------------------------------------- least starts and the least end of all
+
+def least_starts(inst, heads, arcs, limit=NEVER):
+    """The least starts from the heads on that keep each (i, j, ticks): j starts at least so long after i.
+
+    None where none keep them, and where some end reaches the limit.
+    """
+    starts = list(heads)
+    for _ in range(len(starts) + 1):
+        if any(start + task.ticks >= limit for start, task in zip(starts, inst.tasks)):
+            return None
+        raised = False
+        for i, j, ticks in arcs:
+            if starts[j] < starts[i] + ticks:
+                starts[j], raised = starts[i] + ticks, True
+        if not raised:
+            return starts
+    return None  # raised once more than there are tasks: a ring
+
+
+def arcs_up(inst, cranes):
+    """What the way up asks of the starts when each task has its crane, apart pairs left out."""
+    arcs = [(i, j, inst.tasks[i].ticks) for i, j in inst.before]
+    for i, j in itertools.permutations(range(len(cranes)), 2):
+        ticks, stretch = inst.tasks[i].ticks, inst.tasks[j].bay - inst.tasks[i].bay
+        if cranes[i] == cranes[j] and stretch > 0:
+            arcs.append((i, j, ticks + inst.travel * stretch))
+        elif cranes[i] > cranes[j]:
+            distance = inst.distance(i, cranes[i], j, cranes[j])
+            if distance > 0:
+                arcs.append((i, j, ticks + distance))
+    return arcs
+
+
+def best_orders(inst, heads, arcs, best):
+    """The least end below `best` over both orders of each apart pair, or `best`."""
+    starts = least_starts(inst, heads, arcs, best)
+    if starts is None:
+        return best
+    ends = [start + task.ticks for start, task in zip(starts, inst.tasks)]
+    for i, j in inst.apart:
+        if starts[i] < ends[j] and starts[j] < ends[i]:
+            for first, second in ((i, j), (j, i)):
+                order = (first, second, inst.tasks[first].ticks)
+                best = best_orders(inst, heads, arcs + [order], best)
+            return best
+    return max(ends, default=0)
+
+
+def least_end(inst):
+    """The least end of all schedules that go one way, `NEVER` where there is none."""
+    best = NEVER
+    for seen in (inst, inst.mirror):
+        choices = [[crane for crane in range(len(seen.cranes)) if seen.reaches(crane, j)]
+                   for j in range(len(seen.tasks))]
+        for cranes in itertools.product(*choices):
+            heads = [seen.free_table[j][crane] for j, crane in enumerate(cranes)]
+            if all(head + task.ticks < best for head, task in zip(heads, seen.tasks)):
+                best = best_orders(seen, heads, arcs_up(seen, cranes), best)
+    return best
+
+
+# ---------------------------------------------------------------- nodes and bound trees
+
+class Node:
+    """A list of decisions ('A', task, crane) and ('O', first, second) of an instance that is read upward."""
+
+    def __init__(self, inst, decisions=()):
+        self.inst, self.decisions = inst, decisions
+        self.crane = [None] * len(inst.tasks)
+        self.ordered = set(inst.before)
+        for kind, first, second in decisions:
+            if kind == "A":
+                self.crane[first] = second
+            else:
+                self.ordered.add((first, second))
+
+    def child(self, *decision):
+        return Node(self.inst, self.decisions + (decision,))
+
+    def forced(self, i, j):
+        """By how many ticks j starts after i at the least, or None."""
+        inst, v, w = self.inst, self.crane[i], self.crane[j]
+        ticks, numbers = inst.tasks[i].ticks, []
+        if (i, j) in self.ordered:
+            numbers.append(ticks)
+        if v is not None and w is not None:
+            stretch = inst.tasks[j].bay - inst.tasks[i].bay
+            if v == w and stretch > 0:
+                numbers.append(ticks + inst.travel * stretch)
+            if v > w and inst.distance(i, v, j, w) > 0:
+                numbers.append(ticks + inst.distance(i, v, j, w))
+        return max(numbers, default=None)
+
+    @cached_property
+    def arcs(self):
+        pairs = itertools.permutations(range(len(self.crane)), 2)
+        return [(i, j, ticks) for i, j in pairs if (ticks := self.forced(i, j)) is not None]
+
+    def head(self, j, version=2):
+        inst = self.inst
+        moments = inst.free_table[j] if version == 2 else [inst.arrival(j, k) for k in range(len(inst.cranes))]
+        if self.crane[j] is not None:
+            return moments[self.crane[j]]
+        return min((moment for k, moment in enumerate(moments) if inst.reaches(k, j)), default=0)
+
+    def is_out_of_reach(self):
+        """Whether the newest decision gives a task to a crane that doesn't reach it."""
+        if not self.decisions or self.decisions[-1][0] != "A":
+            return False
+        return not self.inst.reaches(self.decisions[-1][2], self.decisions[-1][1])
+
+    def is_settled(self, i, j):
+        return self.forced(i, j) is not None or self.forced(j, i) is not None
+
+    def is_complete(self):
+        return None not in self.crane and all(self.is_settled(i, j) for i, j in self.inst.apart)
+
+    @cached_property
+    def starts(self):
+        """The least starts, None where a ring leaves none."""
+        return least_starts(self.inst, [self.head(j) for j in range(len(self.crane))], self.arcs)
+
+    @property
+    def end(self):
+        return max((start + task.ticks for start, task in zip(self.starts, self.inst.tasks)), default=0)
+
+    def work_holds(self, v):
+        """Whether the work doesn't fit before v."""
+        inst, last, room = self.inst, v - 1, 0
+        for k, crane in enumerate(inst.cranes):
+            mine = [task for j, task in enumerate(inst.tasks) if self.crane[j] == k]
+            used = 0
+            if mine:
+                low, high = min(task.bay for task in mine), max(task.bay for task in mine)
+                used = sum(task.ticks for task in mine) + inst.travel * (abs(crane.bay - low) + high - low)
+                if crane.ready + used > last:
+                    return True
+            room += max(0, last - crane.ready - used)
+        return sum(task.ticks for j, task in enumerate(inst.tasks) if self.crane[j] is None) > room
+
+    @cached_property
+    def work_bound(self):
+        """The greatest v before which the work doesn't fit, or 0."""
+        low, high = 0, 1
+        while self.work_holds(high):
+            low, high = high, 2 * high
+        while high - low > 1:
+            middle = (low + high) // 2
+            low, high = (middle, high) if self.work_holds(middle) else (low, middle)
+        return low
+
+
+TASK_LIST = rb"((?: (?:0|[1-9][0-9]{0,3})){%s})"
+LINES = [(re.compile(pattern), kind) for pattern, kind in (
+    (rb"QCTREE ([12])", "title"), (rb"(up)", "up"), (rb"(down)", "down"), (rb"(X)", "X"),
+    (rb"A" + TASK_LIST % b"1", "A"), (rb"O" + TASK_LIST % b"2", "O"),
+    (rb"P" + TASK_LIST % b"0,240", "P"), (rb"C" + TASK_LIST % b"2,240", "C"),
+    (rb"W ([1-9][0-9]{0,14})", "W"),
+    (rb"end ((?:0|[1-9][0-9]{0,5}) (?:0|[1-9][0-9]{0,14}|never))", "end"))]
+
+
+def parse_line(text):
+    """The kind of a tree line and its numbers or text, or None."""
+    for pattern, kind in LINES:
+        match = pattern.fullmatch(text)
+        if match:
+            rest = match.group(1)
+            return kind, [int(word) for word in rest.split()] if kind in "AOPCW" else rest.decode()
+    return None
+
+
+class TreeFault(Exception):
+    def __init__(self, kind, line):
+        super().__init__(kind, line)
+        self.kind, self.line = kind, line
+
+
+class TreeReader:
+    """Reads a bound tree. `visit`, where it is given, gets each node with its line's kind and value."""
+
+    def __init__(self, inst, data, visit=None):
+        self.inst, self.data, self.visit = inst, data, visit
+        self.number, self.place = 0, 0
+        self.value, self.branched, self.version = NEVER, 0, None
+
+    def read(self):
+        """Goes through the whole file; raises the first fault."""
+        self.version = int(self.line("title"))
+        self.line("up")
+        self.part(self.inst)
+        self.line("down")
+        self.part(self.inst.mirror)
+        told = self.line("end")
+        if told != f"{self.branched} {bound_text(self.value)}":
+            raise TreeFault("Counts", self.number)
+        if self.place < len(self.data):
+            raise TreeFault("After", self.number + 1)
+        return self
+
+    def line(self, *kinds):
+        self.number += 1
+        feed = self.data.find(b"\n", self.place, self.place + 1200)
+        if feed < 0:
+            too_long = len(self.data) - self.place >= 1200
+            raise TreeFault("LineTooLong" if too_long else "Cut", self.number)
+        parsed = parse_line(self.data[self.place:feed])
+        self.place = feed + 1
+        if parsed is None:
+            raise TreeFault("Spelling", self.number)
+        if parsed[0] not in kinds:
+            raise TreeFault("Place", self.number)
+        return parsed if len(kinds) > 1 else parsed[1]
+
+    def part(self, inst):
+        waiting = [Node(inst)]
+        while waiting:
+            node = waiting.pop()
+            kind, fields = self.line("A", "O", "P", "C", "X", "W")
+            if kind in "AOPC" and any(not 1 <= number <= len(inst.tasks) for number in fields):
+                raise TreeFault("UnknownTask", self.number)
+            numbers = [number - 1 for number in fields] if kind in "AOPC" else fields
+            if kind in "AO":
+                value = None
+                waiting += reversed(self.children(node, kind, numbers))
+            else:
+                value = self.leaf(node, kind, numbers)
+                self.value = min(self.value, value)
+            if self.visit:
+                self.visit(node, kind, value)
+
+    def children(self, node, kind, numbers):
+        if kind == "O" and tuple(numbers) not in node.inst.apart:
+            raise TreeFault("NotApart", self.number)
+        if node.crane[numbers[0]] is not None if kind == "A" else node.is_settled(*numbers):
+            raise TreeFault("Decided", self.number)
+        if self.branched == 100_000:
+            raise TreeFault("Branchings", self.number)
+        self.branched += 1
+        if kind == "A":
+            return [node.child("A", numbers[0], crane) for crane in range(len(node.inst.cranes))]
+        return [node.child("O", *numbers), node.child("O", *reversed(numbers))]
+
+    def leaf(self, node, kind, numbers):
+        """The value of a leaf, or the fault of one that doesn't hold."""
+        if kind in "PC":
+            ring = numbers[:1] if kind == "C" else []
+            steps = [node.forced(i, j) for i, j in itertools.pairwise(numbers + ring)]
+            if None in steps:
+                raise TreeFault("NotCycle" if kind == "C" else "NotForced", self.number)
+            if kind == "C":
+                return NEVER
+            if not numbers:
+                return 0
+            return node.head(numbers[0], self.version) + sum(steps) + node.inst.tasks[numbers[-1]].ticks
+        if kind == "X" and not node.is_out_of_reach():
+            raise TreeFault("InReach", self.number)
+        if kind == "W" and not node.work_holds(numbers[0]):
+            raise TreeFault("WorkShort", self.number)
+        return NEVER if kind == "X" else numbers[0]
+
+
+def bound_text(value):
+    return "never" if value == NEVER else str(value)
+
+
+# ---------------------------------------------------------------- plan files
+
+def plan_text(inst, plan):
+    lines = ["task,crane,start,end"]
+    for task, (crane, start) in zip(inst.tasks, plan):
+        lines.append(f"{task.name},{inst.cranes[crane].name},{start},{start + task.ticks}")
+    return "".join(line + "\n" for line in lines)
+
+
+def read_plan(inst, data):
+    """The plan and no fault, or None and the first fault as (kind, record)."""
+    records = records_of(data)
+    tasks = {task.name: j for j, task in enumerate(inst.tasks)}
+    cranes = {crane.name: k for k, crane in enumerate(inst.cranes)}
+    plan = [None] * len(inst.tasks)
+    if not records or records[0] != ["task", "crane", "start", "end"]:
+        return None, ("Header", 1)
+    for number, record in enumerate(records[1:], 2):
+        if len(record) != 4:
+            return None, ("Fields", number)
+        name, crane, *times = record
+        if name not in tasks:
+            return None, ("UnknownTask", number)
+        if crane not in cranes:
+            return None, ("UnknownCrane", number)
+        if not all(re.fullmatch("0|[1-9][0-9]{0,11}", time) for time in times):
+            return None, ("Number", number)
+        start, end = map(int, times)
+        if end != start + inst.tasks[tasks[name]].ticks:
+            return None, ("EndWrong", number)
+        if plan[tasks[name]] is not None:
+            return None, ("TaskTwice", number)
+        plan[tasks[name]] = cranes[crane], start
+    return (None, ("TaskMissing", len(records) + 1)) if None in plan else (plan, None)
+
+
+# ---------------------------------------------------------------- motion
+
+class Motion:
+    """Where the cranes of a plan that goes upward stand; places are times the travel per bay."""
+
+    def __init__(self, inst, plan):
+        self.inst, self.ends = inst, end_of(inst, plan)
+        self.jobs = [(crane, task.bay, start, start + task.ticks) for (crane, start), task in zip(plan, inst.tasks)]
+
+    def floor(self, crane):
+        inst = self.inst
+        lowest = [bay - inst.gap * (w - crane) for w, bay, _, _ in self.jobs if w >= crane]
+        lowest += [data.bay - inst.gap * (w - crane) for w, data in enumerate(inst.cranes) if w >= crane]
+        return min(lowest)
+
+    @cache
+    def terms(self, crane):
+        """What pushes the crane: (place, tick, slope before the tick, slope after it)."""
+        inst = self.inst
+        terms = [(inst.travel * (bay + inst.gap * (crane - v)), start, 1, 0)
+                 for v, bay, start, _ in self.jobs if v <= crane]
+        terms += [(inst.travel * (data.bay + inst.gap * (crane - v)), data.ready, 0, -1)
+                  for v, data in enumerate(inst.cranes) if v <= crane]
+        return terms + [(inst.travel * self.floor(crane), 0, 0, 0)]
+
+    def place(self, crane, moment, parts=1):
+        """`parts` times the place at the moment `moment / parts`."""
+        best = -NEVER
+        for place, tick, earlier, later in self.terms(crane):
+            past = moment - parts * tick
+            height = parts * place + (later if past > 0 else earlier) * past
+            if height > best:
+                best = height
+        return best
+
+    def turns(self, crane):
+        """The ticks at which the slope may change: all, or where ends are late those near a meeting of two terms."""
+        if self.ends <= 200:
+            return range(1, self.ends)
+        terms = self.terms(crane)
+        lines = [(place - slope * tick, slope) for place, tick, *both in terms for slope in both]
+        near = [tick for _, tick, _, _ in terms]
+        near += [(c - a) // (b - d) for (a, b), (c, d) in itertools.permutations(lines, 2) if b != d]
+        ticks = {tick + step for tick in near for step in (-1, 0, 1, 2)}
+        return sorted(tick for tick in ticks if 0 < tick < self.ends)
+
+    def waypoints(self, crane):
+        place, ticks = cache(lambda m: self.place(crane, m)), [0]
+        ticks += [m for m in self.turns(crane) if place(m + 1) - place(m) != place(m) - place(m - 1)]
+        if self.ends:
+            ticks.append(self.ends)
+        return [(tick, place(tick)) for tick in ticks]
+
+
+def motion_of(inst, plan, way):
+    return Motion(inst, plan) if way == "up" else Motion(inst.mirror, inst.mirrored(plan))
+
+
+def crane_lines(inst, plan, way):
+    motion, lines = motion_of(inst, plan, way), []
+    for k, crane in enumerate(inst.cranes):
+        if way == "up":
+            points = motion.waypoints(k)
+        else:
+            wall = inst.travel * (inst.bays + 1)
+            points = [(tick, wall - place) for tick, place in motion.waypoints(len(inst.cranes) - 1 - k)]
+        lines.append(f"crane {crane.name}" + "".join(f" {tick}:{place}" for tick, place in points))
+    return lines
+
+
+# ---------------------------------------------------------------- reports
+
+def tasks_report(inst):
+    name = [task.name for task in inst.tasks]
+    lines = [f"task {task.name} {task.bay} {task.ticks}" for task in inst.tasks]
+    lines += [f"before {name[i]} {name[j]}" for i, j in inst.before]
+    lines += [f"apart {name[i]} {name[j]}" for i, j in inst.apart]
+    return 0, lines + [f"total {sum(task.ticks for task in inst.tasks)}"]
+
+
+def refusal(inst, data):
+    """The plan and its direction, or None and the refusal of a plan that is faulty or doesn't hold."""
+    plan, fault = read_plan(inst, data)
+    if fault:
+        return None, None, (8, [f"BadPlan {fault[0]} {fault[1]}"])
+    way, broken = direction_of(inst, plan)
+    if broken:
+        return None, None, (13, [" ".join(["Broken", broken[0]] + [inst.tasks[j].name for j in broken[1:]])])
+    return plan, way, None
+
+
+def show_report(inst, data):
+    plan, way, refused = refusal(inst, data)
+    if refused:
+        return refused
+    ends = end_of(inst, plan)
+    lines = [f"direction {way}", f"end {ends}"] + crane_lines(inst, plan, way) + [f"gantt {ends}"]
+    for k, crane in enumerate(inst.cranes):
+        text = ""
+        for tick in (c * ends // 60 for c in range(60)):
+            doing = [task for task, (v, start) in zip(inst.tasks, plan)
+                     if v == k and start <= tick < start + task.ticks]
+            text += LETTERS[doing[0].phase] if doing else "."
+        lines.append(f"{crane.name:<12}|{text}|")
+    return 0, lines
+
+
+def check_report(inst, data, tree):
+    """The report on a plan's file, or None for `-`, with a tree."""
+    if data is not None:
+        plan, _, refused = refusal(inst, data)
+        if refused:
+            return refused
+    try:
+        value = TreeReader(inst, tree).read().value
+    except TreeFault as fault:
+        return 7, [f"BadTree {fault.kind} {fault.line}"]
+    if data is None:
+        return (10, ["Infeasible"]) if value == NEVER else (0, [f"Bound {value}"])
+    ends = end_of(inst, plan)
+    word, status = ("Optimal", 0) if value >= ends else ("Weaker", 14)
+    return status, [word, f"end {ends}", f"bound {bound_text(value)}"]
+
+
+def main():
+    command, *paths = sys.argv[1:]
+    files = [None if path == "-" else open(path, "rb").read() for path in paths]
+    inst = instance_of(read_ship(files[0]), files[1])
+    if command == "least":
+        end = least_end(inst)
+        status, lines = 0, ["none" if end == NEVER else str(end)]
+    elif command == "tasks":
+        status, lines = tasks_report(inst)
+    elif command == "show":
+        status, lines = show_report(inst, files[2])
+    else:
+        status, lines = check_report(inst, files[2], files[3])
+    print("\n".join(lines))
+    sys.exit(status)
+
+
+if __name__ == "__main__":
+    main()
