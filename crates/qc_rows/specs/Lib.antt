@@ -1,3 +1,4 @@
+pub mod Cut
 pub mod Outcome
 pub mod Stores
 pub mod Sweep

@@ -34,6 +34,8 @@ pub struct Given {
     pub sink_failures: Vec<u64>,
     /// The store whose calls fail one after the other, each in a run of its own.
     pub sweep: Option<Store>,
+    /// The file that is cut at every byte, each time in a run of its own.
+    pub cut: Option<String>,
     /// The most bytes that a call of the shelf takes or gives; 0 stands for 1.
     pub pieces: Option<usize>,
 }
@@ -56,7 +58,8 @@ pub struct Outcome {
 }
 
 /// What a run is given and what must come back: one of the outcomes. In a sweep the outcomes come in
-/// order, each in one run or more, and the last one in the first run without a failure.
+/// order, each in one run or more, and the last one in the first run without a failure. Where a file is cut
+/// each run comes to one of the outcomes, and each outcome comes in some run.
 #[derive(Drop)]
 pub struct Case {
     pub given: Given,
@@ -73,6 +76,7 @@ impl Case {
                 shelf_failures: Vec::new(alloc),
                 sink_failures: Vec::new(alloc),
                 sweep: None,
+                cut: None,
                 pieces: None,
             },
             outcomes: Vec::new(alloc),

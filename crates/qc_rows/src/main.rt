@@ -1,7 +1,7 @@
 //! Runs cases of the program and prints one line for each: whether what came back is what was wanted.
 //!
 //! A case is a file `NAME.case` in a folder of its command. Its headings are first what the run is given:
-//! `words`, `word`, `file`, `pieces` and `fail`, then for each outcome `status`, `report` and what becomes of files: `left`,
+//! `words`, `word`, `file`, `pieces`, `fail` and `cut`, then for each outcome `status`, `report` and what becomes of files: `left`,
 //! `left-front`, `left-any`, `absent`. Content lines follow a heading: `|TEXT` is a line, `>TEXT` text
 //! without a line feed, `=0D 0A` bytes, and `*N LINE` repeats one of these. `docs/ROWS.md` has the
 //! whole format.
@@ -10,6 +10,7 @@
 mod block;
 mod case;
 mod content;
+mod cut;
 mod difference;
 mod flaw;
 mod judge;

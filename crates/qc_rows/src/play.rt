@@ -1,10 +1,12 @@
 // The runs of a case.
 
-ghost use Rattle.std.specs.Prelude.{◌↔◌, IsTrue, Any, IfOk, length, ◌<◌, ◌^◌};
+ghost use Rattle.std.specs.Prelude.{◌↔◌, All, Any, IfOk, length, ◌<◌, ◌^◌};
+ghost use Rattle.qc_rows.specs.Cut.{ComesInOne, ComesToOne};
 ghost use Rattle.qc_rows.specs.Sweep.{CameTo, IsSwept};
 ghost use Rattle.qc_rows.specs.Verdict.{IsHeld};
 
 use crate::case::{Case, Given, Outcome, Store};
+use crate::cut::{Trial, cut_to, each_comes, each_is_met, is_any_met, length_of};
 use crate::difference::difference;
 use crate::judge::{Ran, is_outcome};
 use crate::stores::{shelf_of, sink_of};
@@ -36,17 +38,6 @@ fn run_once(alloc: Global, given: &Given, more: Option<(Store, u64)>) -> Result<
         shelf,
         sink,
     })
-}
-
-fn is_any_met(given: &Given, outcomes: &[Outcome], ran: &Ran) -> bool
-    ensures { IsTrue result ↔ Any (λ outcome. CameTo given.now outcome ran.now) outcomes.now }
-{
-    for outcome in outcomes {
-        if is_outcome(given, outcome, ran) {
-            return true;
-        }
-    }
-    false
 }
 
 // Whether the run came to one of the outcomes.
@@ -139,9 +130,58 @@ fn swept_runs(alloc: Global, given: &Given, store: Store) -> Result<Vec<Ran>, Ou
     Ok(runs)
 }
 
+// One run for each length below that of the file, which is cut to it.
+fn cut_trials(alloc: Global, given: &Given, name: &str) -> Result<Vec<Trial>, OutOfMemory> {
+    let mut trials = Vec::new(alloc);
+    for length in 0..length_of(given.files.as_slice(), name) {
+        let given = cut_to(alloc, given, name, length)?;
+        let ran = run_once(alloc, &given, None)?;
+        trials.push(Trial { given, ran })?;
+    }
+    Ok(trials)
+}
+
+// The first trial that came to no outcome, as text.
+fn first_untold(
+    alloc: Global,
+    outcomes: &[Outcome],
+    trials: &[Trial],
+) -> Result<String, OutOfMemory> {
+    for (length, trial) in trials.iter().enumerate() {
+        if !is_any_met(&trial.given, outcomes, &trial.ran) {
+            let what = match outcomes.first() {
+                Some(outcome) => difference(alloc, &trial.given, outcome, &trial.ran)?,
+                None => String::new(alloc),
+            };
+            return Ok(format!(in alloc; "cut to {length} bytes: {what}")?);
+        }
+    }
+    Ok(String::from_str(alloc, "no trial")?)
+}
+
+// Whether the trials came to the outcomes.
+fn judged_cut(alloc: Global, outcomes: &[Outcome], trials: &[Trial]) -> Result<Verdict, OutOfMemory>
+    ensures met { IfOk result (λ verdict. IsHeld verdict
+        → All (λ trial. ComesToOne outcomes.now trial) trials.now) }
+    ensures none_left { IfOk result (λ verdict. IsHeld verdict
+        → All (λ outcome. ComesInOne outcome trials.now) outcomes.now) }
+{
+    if !each_is_met(outcomes, trials) {
+        return Ok(Verdict::Failed(first_untold(alloc, outcomes, trials)?));
+    }
+    if !each_comes(outcomes, trials) {
+        return Ok(Verdict::Failed(String::from_str(alloc, "an outcome is left over")?));
+    }
+    Ok(Verdict::Held)
+}
+
 /// Runs the case.
 pub fn play(alloc: Global, case: &Case) -> Result<Verdict, OutOfMemory> {
     let outcomes = case.outcomes.as_slice();
+    if let Some(name) = &case.given.cut {
+        let trials = cut_trials(alloc, &case.given, name.as_str())?;
+        return judged_cut(alloc, outcomes, trials.as_slice());
+    }
     match case.given.sweep {
         Some(store) => {
             let runs = swept_runs(alloc, &case.given, store)?;

@@ -77,6 +77,18 @@ fn add_sweep(store: Store, given: &mut Given) -> Result<(), Flaw> {
     Ok(())
 }
 
+// The file that is cut, which stands above.
+fn add_cut(alloc: Global, name: &str, given: &mut Given) -> Result<(), Flaw> {
+    if given.cut.is_some() {
+        return Err(Flaw::Twice);
+    }
+    if !is_given(given.files.as_slice(), name) {
+        return Err(Flaw::Value);
+    }
+    given.cut = Some(String::from_str(alloc, name)?);
+    Ok(())
+}
+
 // A call that is to fail: the store, and the call's number or `each`.
 fn add_failure(text: &str, given: &mut Given) -> Result<(), Flaw> {
     let Some((store, call)) = text.split_once(' ') else {
@@ -126,6 +138,7 @@ fn add_given(
         "file" => add_file(alloc, value, bytes, given),
         "fail" => add_failure(value, given),
         "pieces" => add_pieces(value, given),
+        "cut" => add_cut(alloc, value, given),
         _ => Err(Flaw::Heading),
     }
 }
@@ -212,7 +225,7 @@ fn takes_content(keyword: &str) -> bool {
 
 fn is_said_of_the_run(keyword: &str) -> bool {
     match keyword {
-        "words" | "word" | "file" | "fail" | "pieces" => true,
+        "words" | "word" | "file" | "fail" | "pieces" | "cut" => true,
         _ => false,
     }
 }

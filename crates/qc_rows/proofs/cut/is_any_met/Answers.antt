@@ -1,5 +1,5 @@
 use Rattle.std.proofs.Common.{sym, refl}
-use Rattle.qc_rows.proofs.play.is_any_met.Goals as goal
+use Rattle.qc_rows.proofs.cut.is_any_met.Goals as goal
 
 pub returns-then-is_outcome : goal.returns-then-is_outcome
 returns-then-is_outcome c = (

@@ -1,6 +1,6 @@
 use Rattle.std.specs.List.{AllWithin}
 use Rattle.qc_rows.specs.Sweep.{CameTo}
-use Rattle.qc_rows.proofs.play.is_any_met.Given as goal
+use Rattle.qc_rows.proofs.cut.is_any_met.Given as goal
 
 -- no outcome so far is met
 abbrev pub invariant-loop-outcome : goal.invariant-loop-outcome
