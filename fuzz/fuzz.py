@@ -121,6 +121,8 @@ def read_inputs(program):
     inputs = []
     for name in sorted(os.listdir(f"{ROOT}/examples")):
         folder = f"{ROOT}/examples/{name}"
+        if not os.path.isdir(folder):
+            continue
         inputs.append({role: open(f"{folder}/{file}", "rb").read()
                        for role, file in (("ship", "ship.toml"), ("stow", "stow.csv"))})
     data = f"{ROOT}/crates/qc_rows/data"

@@ -52,6 +52,8 @@ def inputs(nodes):
         ("check of a tree alone", ["check", "s", "m", "-", "t"], judged),
         ("tasks", ["tasks", "s", "m"], four),
         ("show", ["show", "s", "m", "p"], judged),
+        ("make, one hatch", ["make", "0", "1", "1"], {}),
+        ("make, three hatches", ["make", "7", "3", "2"], {}),
         ("unknown word", ["work", "s"], {}),
         ("plan, vessel", ["plan", "s", "m", "p", "t", "--nodes", nodes], vessel),
         ("tasks, vessel", ["tasks", "s", "m"], vessel),
