@@ -69,14 +69,19 @@ impl Search {
         requires { nodes ≤ MOST_BRANCHINGS }
         ensures { IfOk result (λ search. search ≡ record { inst = inst.now; nodes = nodes }) }
     {
+        let best = Schedule::new(alloc, inst.tasks().len() as u16)?;
+        let path = Path::with_capacity(alloc, MOST_TASKS as usize)?;
         let turned = mirror(alloc, inst)?;
+        let inst = copy(alloc, inst)?;
+        let up = Starts::open(alloc, &inst)?;
+        let down = Starts::open(alloc, &turned)?;
         Ok(Search {
-            up: Starts::open(alloc, inst)?,
-            down: Starts::open(alloc, &turned)?,
-            best: Schedule::new(alloc, inst.tasks().len() as u16)?,
-            path: Path::with_capacity(alloc, MOST_TASKS as usize)?,
-            inst: copy(alloc, inst)?,
+            inst,
             turned,
+            up,
+            down,
+            best,
+            path,
             nodes,
         })
     }

@@ -9,16 +9,16 @@ use Rattle.qc_search.proofs.search.Search.open.Goals as goal
 
 pub invariant_of-result : goal.invariant_of-result
 invariant_of-result c =
-    let made = c.in_ok-copy.ensures in
+    let made = c.in_ok-inst.ensures in
     record {
       valid = subst Valid (sym made) c.tasks.ensures.valid;
       turned = c.in_ok-turned.ensures.mirror ∙ ap mirror (sym made);
-      up = record { inst_is = c.in_ok-open.ensures.inst ∙ sym made; none = c.in_ok-open.ensures.decisions };
-      down = record { inst_is = c.in_ok-open-2.ensures.inst; none = c.in_ok-open-2.ensures.decisions };
-      best = ap (length {A = Slot}) c.in_ok-new.ensures
+      up = record { inst_is = c.in_ok-up.ensures.inst; none = c.in_ok-up.ensures.decisions };
+      down = record { inst_is = c.in_ok-down.ensures.inst; none = c.in_ok-down.ensures.decisions };
+      best = ap (length {A = Slot}) c.in_ok-best.ensures
           ∙ length-replicate (length c.tasks.result.now) no_slot
           ∙ ap (length {A = Task}) c.tasks.ensures.tasks
           ∙ ap (λ (i : InstanceView). length i.tasks) (sym made);
-      room = omega (arith, c.in_ok-with_capacity.ensures.capacity);
+      room = omega (arith, c.in_ok-path.ensures.capacity);
       few = c.requires;
     }
