@@ -3,9 +3,9 @@ ghost use Rattle.std.specs.String.{string_bytes};
 ghost use Rattle.qc_cli.specs.Once.{Counts, ReadsOnce, WritesOnce};
 
 use crate::once::{read_once, write_once};
-use crate::same::{Identity, is_among};
+use crate::same::{Identity, is_among, is_noted};
 use qc_io::{Failed, Shelf, Sink, fault};
-use std::fs::{self, OpenFile};
+use std::fs;
 use std::rt::Files;
 
 /// A file that is being written, and its name.
@@ -138,8 +138,11 @@ impl<R: Files + AllocGlobal> Shelf for FileShelf<'_, R> {
 /// The file of that name, which is used from now on. None where it can't be opened.
 fn opened<R: Files>(rt: &R, name: &str, used: &mut Vec<Identity>) -> Option<R::File> {
     let file = fs::open(rt, name).ok()?;
-    used.push(Identity::of(&file.metadata().ok()?)).ok()?;
-    Some(file)
+    if is_noted(&file, used) {
+        Some(file)
+    } else {
+        None
+    }
 }
 
 /// A file of that name with no bytes, which is used from now on. None where it can't be made or named,
@@ -156,7 +159,9 @@ fn made_by<R: Files + AllocGlobal>(
     }
     let name_kept = String::from_str(rt.alloc(), name).ok()?;
     let file = fs::create(rt, name).ok()?;
-    used.push(Identity::of(&file.metadata().ok()?)).ok()?;
+    if !is_noted(&file, used) {
+        return None;
+    }
     Some(Making {
         name: name_kept,
         file,

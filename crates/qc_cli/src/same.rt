@@ -1,8 +1,7 @@
 //! Which file of the system a name or an open file is.
 ghost use Rattle.std.specs.Prelude.{◌↔◌, IsTrue, Contains};
 
-use std::fs;
-use std::fs::Metadata;
+use std::fs::{self, Metadata, OpenFile};
 use std::os::unix::fs::MetadataExt;
 use std::rt::Files;
 
@@ -19,6 +18,14 @@ impl Identity {
             device: metadata.dev(),
             number: metadata.ino(),
         }
+    }
+}
+
+/// Notes which file this is. Whether that could be told and noted.
+pub fn is_noted<F: OpenFile>(file: &F, files: &mut Vec<Identity>) -> bool {
+    match file.metadata() {
+        Ok(metadata) => files.push(Identity::of(&metadata)).is_ok(),
+        Err(_) => false,
     }
 }
 
