@@ -1,5 +1,5 @@
 -- What is known of the instance of two files, and of tasks that are apart.
-use Rattle.std.proofs.Common.{◌≡◌, ◌↔◌, ◌⊎◌, inl, inr, ℕ, ◌<◌, List, Result, Ok, Err, IfOk, IfErr, length, subst, sym, arith}
+use Rattle.std.proofs.Common.{◌≡◌, ◌↔◌, ◌⊎◌, inl, inr, ℕ, ◌<◌, List, Result, Ok, Err, IfOk, IfErr, length, subst, arith}
 use Rattle.qc_num.specs.declared.memory.OutOfMemory.{OutOfMemory}
 use Rattle.std.specs.Prelude.{IsOkAnd}
 use Rattle.qc_model.specs.Instance.{InstanceView, Valid, IsApart}
@@ -46,14 +46,6 @@ of_files ship list P wanted e p =
     within h =
         both_ok (ship_file ship) (λ s. IsOkAnd (moves_in s list) (λ _. P wanted)) (λ s. IsOkAnd (moves_in s list) (λ _. P wanted))
         (λ _. P wanted) (λ s x _. known (moves_in s list) (P wanted) x) h h
-
--- it holds of the one that was read just where it holds of the instance of the files
-pub at_files : (ship list : List ℕ) (P : InstanceView → Type 0) (wanted : InstanceView)
-    → OfFiles ship list (λ i. i ≡ wanted) → P wanted ↔ OfFiles ship list P
-at_files ship list P wanted read = (
-  λ p. both_files ship list (λ i. i ≡ wanted) (λ i. i ≡ wanted) P (λ i e _. subst P (sym e) p) read read,
-  of_files ship list P wanted read,
-)
 
 -- where nothing was read, it holds of no instance
 pub unread : {E : Type 0} (ship list : List ℕ) (P : InstanceView → Type 0) (read : Result InstanceView E) (e : E)

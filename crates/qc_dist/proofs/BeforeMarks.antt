@@ -2,12 +2,12 @@
 use Rattle.std.proofs.Common.{◌≡◌, ℕ, ◌+◌, ◌*◌, ◌<◌, Bool, true, ◌&&◌, ◌||◌, nat_eq, List, length, slice_index_or, slice_set, take, sym, ap, ◌∙◌, subst}
 use Rattle.std.specs.List.{Contains, list_any}
 use Rattle.std.proofs.Math.Bool.{or-false}
+use Rattle.std.proofs.lemmas.Bool.{or_right}
 use Rattle.std.proofs.lemmas.List.Elements.{Contains-get_or}
 use Rattle.std.proofs.lemmas.List.Folds.{list_any_more}
 use Rattle.qc_model.specs.declared.pair.Pair.{Pair}
 use Rattle.qc_model.specs.Instance.{InstanceView, Valid}
 use Rattle.qc_dist.specs.Tables.{IsGrid}
-use Rattle.qc_dist.proofs.Facts.{or_second}
 use Rattle.qc_dist.proofs.Tables.{grid_write, pair_differs, pair_is}
 
 -- a pair of the list relates tasks of the instance
@@ -38,7 +38,7 @@ before_more inst v xs e k d inside at is marks grid =
     let a = (slice_index_or xs k d).first in
     let b = (slice_index_or xs k d).second in
     let range = pair_inside inst v xs e k d inside in
-    let here = or_second (among xs k a b) (nat_eq a a && nat_eq b b) (pair_is a b) in
+    let here = or_right (among xs k a b) (nat_eq a a && nat_eq b b) (pair_is a b) in
     rw (is, ← e)
     (grid_write (among xs k) (among xs (k + 1)) (length inst.tasks) marks a b true v.tasks.count range.0 range.1
     (sym (among_more xs k d a b inside ∙ here))

@@ -14,7 +14,8 @@ use Rattle.qc_dist.specs.Fields.{IsKept, node_of}
 use Rattle.qc_dist.specs.Kept.{AreKept, Beside, crane_load, decisions_of}
 use Rattle.qc_dist.specs.Loads.{load_with}
 use Rattle.qc_dist.specs.Node.{Node}
-use Rattle.qc_dist.proofs.Facts.{apart_inside, unsettled_unordered}
+use Rattle.qc_model.proofs.NodeLemmas.{unsettled_unordered}
+use Rattle.qc_dist.proofs.Facts.{apart_inside}
 use Rattle.qc_dist.proofs.Assigned.{assigned_here, assigned_other, load_here, load_other, ordered_here, ordered_other, ticks_after}
 use Rattle.qc_dist.proofs.Room.{fits_room}
 use Rattle.qc_dist.proofs.Tables.{grid_write, table_write}

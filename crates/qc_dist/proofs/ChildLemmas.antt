@@ -49,6 +49,3 @@ module _ (inst : InstanceView) where
     ap (λ b. cond b ((Order j i ∷ ds) ∷ []) []) (lt-ltb i j low)
         ∙ ap (λ b. (Order j i ∷ ds) ∷ cond b ((Order i j ∷ ds) ∷ []) []) (sym (le-ltb j i (omega (arith, low)))),
   )
-
-  pub turned_before : (ds : List Decision) (i j : ℕ) → j ≤ i → later inst ds (Order i j) ≡ []
-  turned_before ds i j high = ap (λ b. cond b ((Order j i ∷ ds) ∷ []) []) (le-ltb i j high)

@@ -1,6 +1,6 @@
 -- The greatest and the least of numbers, one more at a time.
 use Rattle.std.proofs.Common.{◌≡◌, ℕ, ◌+◌, ◌<◌, ◌||◌, max, min, Bool, true, false, cond, List, [], ◌∷◌, ◌++◌, map, refl, sym, ap, ◌∙◌, arith}
-use Rattle.std.specs.Prelude.{Option, None, Some, unwrap_or}
+use Rattle.std.specs.Prelude.{Option, None, Some}
 use Rattle.std.specs.Option.{option_map_or}
 use Rattle.std.specs.List.{filter, list_any, range_with_len, sum_by}
 use Rattle.std.proofs.lemmas.List.{append-nil, map-append, map-id}
@@ -32,11 +32,6 @@ least_option-append : (xs : List ℕ) (x : ℕ)
     → least_option (xs ++ x ∷ []) ≡ Some (option_map_or (λ n. min n x) (least_option xs) x)
 least_option-append [] x = refl
 least_option-append (y ∷ ys) x = ap Some (least-append y ys x)
-
--- without numbers the least is 0
-pub least_option_is : (ns : List ℕ) → unwrap_or (least_option ns) 0 ≡ least ns
-least_option_is [] = refl
-least_option_is (n ∷ ns) = refl
 
 pub range_more : (n : ℕ) → range_with_len 0 (n + 1) ≡ range_with_len 0 n ++ n ∷ []
 range_more n =

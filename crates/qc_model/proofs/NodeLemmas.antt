@@ -1,6 +1,6 @@
 -- What a node asks for holds of every upward schedule that agrees with it.
-use Rattle.std.proofs.Common.{◌≡◌, ℕ, zero, suc, ◌+◌, ◌<◌, ◌≤◌, max, Bool, true, false, eqb, ◌&&◌, ◌==◌, inl, inr, T, List, [], ◌∷◌, length, get_or, map, Contains, Option, None, Some, IfSome, ℤ, refl, ap, sym, subst, subst₂, ◌∙◌, arith, mul-zero, pos_of_ne-zero}
-use Rattle.std.proofs.lemmas.Bool.{and_from, and_parts, cases_lt, cond_both, eq-eqb, eqb-false, eqb-true, false≢true, le-ltb, ltb-true, or_cases, or_left}
+use Rattle.std.proofs.Common.{◌≡◌, ℕ, zero, suc, ◌+◌, ◌<◌, ◌≤◌, max, Bool, true, false, eqb, ◌&&◌, ◌==◌, inl, inr, T, List, [], ◌∷◌, length, get_or, map, Contains, Option, None, Some, IfSome, IsSome, ℤ, refl, ap, sym, subst, subst₂, ◌∙◌, arith, mul-zero, pos_of_ne-zero}
+use Rattle.std.proofs.lemmas.Bool.{and_from, and_parts, cases_lt, cond-true, cond_both, eq-eqb, eqb-false, eqb-true, false_from_ne_true, false≢true, le-ltb, ltb-true, or_cases, or_left, or_right}
 use Rattle.std.proofs.lemmas.List.{length-map}
 use Rattle.std.proofs.lemmas.List.Folds.{list_any_at}
 use Rattle.std.specs.Prelude.{filter, int_lt, nat_lt, slice_index}
@@ -10,8 +10,8 @@ use Rattle.qc_model.specs.declared.decision.Decision.TheVariants.{Assign, Order}
 use Rattle.qc_model.specs.declared.pair.Pair.{Pair}
 use Rattle.qc_model.specs.declared.schedule.Slot.{Slot}
 use Rattle.qc_model.specs.declared.task.Task.{Task}
-use Rattle.qc_model.specs.Instance.{InstanceView, IsBefore, bay_of, no_task, pair_of}
-use Rattle.qc_model.specs.Nodes.{Agrees, Fits, IsInReach, Meets, assigned, berth_wait, crane_ticks, forced, free, greater, greatest, head, head1, head_by, is_ordered, is_sooner, reaches, sooner_ticks}
+use Rattle.qc_model.specs.Instance.{InstanceView, IsBefore, bay_of, no_task, pair_of, ticks_of}
+use Rattle.qc_model.specs.Nodes.{Agrees, Fits, IsInReach, IsSettled, Meets, assigned, berth_wait, crane_ticks, forced, free, greater, greatest, head, head1, head_by, is_before, is_ordered, is_sooner, reaches, sooner_ticks}
 use Rattle.qc_model.specs.OneWay.{GoesUp}
 use Rattle.qc_model.specs.Rules.{Feasible, KeepsReach, crane_of, end_of, last_end, start_of, starts}
 use Rattle.qc_model.specs.Ticks.{arrival, berth_distance, distance, lead, task_distance}
@@ -35,6 +35,27 @@ greater_keeps P (Some m) (Some n) h k = elim (cases_lt m n) [
   | inl l ↦ let e : max m n ≡ n = omega arith in subst P (sym e) k
   | inr l ↦ let e : max m n ≡ m = omega arith in subst P (sym e) h
 ]
+
+greater_some : (n : ℕ) (o : Option ℕ) → IsSome (greater (Some n) o)
+greater_some n None = refl
+greater_some n (Some m) = refl
+
+-- what is ordered is forced
+ordered_forced : (inst : InstanceView) (ds : List Decision) (i j : ℕ) → is_ordered ds i j ≡ true
+    → IsSome (forced inst ds i j)
+ordered_forced inst ds i j t =
+    let cranes = crane_ticks inst i j (assigned ds i) (assigned ds j) in
+    let sooner : is_sooner inst ds i j ≡ true = or_right (is_before inst i j) (is_ordered ds i j) t in
+    let ticks : sooner_ticks inst ds i j ≡ Some (ticks_of inst i) = cond-true (is_sooner inst ds i j) _ None sooner in
+    subst (λ (o : Option ℕ). IsSome (greater o cranes)) (sym ticks) (greater_some (ticks_of inst i) cranes)
+
+-- two tasks of which neither is forced after the other aren't ordered
+pub unsettled_unordered : (inst : InstanceView) (ds : List Decision) (i j : ℕ) → (¬ IsSettled inst ds i j)
+    → (is_ordered ds i j ≡ false) × (is_ordered ds j i ≡ false)
+unsettled_unordered inst ds i j unsettled = (
+  false_from_ne_true (is_ordered ds i j) (λ h. unsettled (inl (ordered_forced inst ds i j h))),
+  false_from_ne_true (is_ordered ds j i) (λ h. unsettled (inr (ordered_forced inst ds j i h))),
+)
 
 -- ---- what the decisions say
 

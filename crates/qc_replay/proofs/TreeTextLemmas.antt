@@ -25,7 +25,7 @@ use Rattle.qc_model.specs.OneWay.{mirror}
 use Rattle.qc_model.specs.Seen.{seen}
 use Rattle.qc_model.proofs.MirrorLemmas.{seen_valid}
 use Rattle.qc_model.proofs.SeenLemmas.{seen-crane_count}
-use Rattle.qc_dist.proofs.Facts.{unsettled_unordered}
+use Rattle.qc_model.proofs.NodeLemmas.{unsettled_unordered}
 use Rattle.qc_tree.specs.declared.line.TheConstants.{MOST_BRANCHINGS}
 use Rattle.qc_tree.specs.declared.line.Line.{Line}
 use Rattle.qc_tree.specs.declared.line.Line.TheVariants as line

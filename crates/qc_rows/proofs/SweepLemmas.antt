@@ -7,18 +7,6 @@ use Rattle.qc_rows.specs.declared.judge.Ran.{Ran}
 use Rattle.qc_rows.specs.Sweep.{CameTo, IsSwept, calls_of}
 
 module _ (given : Given) (store : Store) (call : ℕ) (outcome : Outcome) (ran : Ran) where
-  -- the last run came to the last outcome
-  pub swept_last :
-      (outcomes : List Outcome) (runs : List Ran) → length outcomes ≡ 1 → length runs ≡ 1
-      → outcome ≡ slice_index_or outcomes 0 outcome → ran ≡ slice_index_or runs 0 ran
-      → CameTo given outcome ran → calls_of store ran < call → IsSwept given store call outcomes runs
-  swept_last [] runs one alone o r came none = absurd (omega (arith, one))
-  swept_last (first ∷ next ∷ more) runs one alone o r came none = absurd (omega (arith, one))
-  swept_last (first ∷ []) [] one alone o r came none = absurd (omega (arith, alone))
-  swept_last (first ∷ []) (run ∷ again ∷ left) one alone o r came none = absurd (omega (arith, alone))
-  swept_last (first ∷ []) (run ∷ []) one alone o r came none =
-      (subst (λ x. CameTo given x run) o (subst (λ x. CameTo given outcome x) r came), subst (λ x. calls_of store x < call) r none)
-
   -- a run came to the first outcome, and those behind it go on with this one or the next
   pub swept_on :
       (outcomes : List Outcome) (runs : List Ran) → 1 < length outcomes → 0 < length runs

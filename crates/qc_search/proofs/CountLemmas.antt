@@ -5,7 +5,7 @@ use Rattle.std.proofs.lemmas.List.FromFn.{get_or-range_with_len, length-range_wi
 use Rattle.std.proofs.lemmas.List.Sums.{sum_by-le}
 use Rattle.std.specs.Prelude.{All}
 use Rattle.std.specs.List.{range_with_len}
-use Rattle.qc_dist.proofs.Facts.{unsettled_unordered}
+use Rattle.qc_model.proofs.NodeLemmas.{unsettled_unordered}
 use Rattle.qc_dist.proofs.Room.{assigned_less, counted, ordered_less, unassigned, unordered}
 use Rattle.qc_model.specs.declared.decision.Decision.{Decision}
 use Rattle.qc_model.specs.declared.decision.Decision.TheVariants as decide

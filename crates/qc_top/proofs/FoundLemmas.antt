@@ -10,7 +10,6 @@ use Rattle.qc_model.specs.declared.schedule.Slot.{Slot}
 use Rattle.qc_model.specs.Instance.{InstanceView}
 use Rattle.qc_model.specs.Judge.{Goes}
 use Rattle.qc_model.specs.OneWay.{GoesOneWay}
-use Rattle.qc_tree.specs.Trees.{NoneEarlier}
 use Rattle.qc_search.specs.declared.done.Kind.TheVariants as kind
 use Rattle.qc_search.specs.Run.{DoneView, IsTight, best_end, outcome}
 use Rattle.qc_tree.specs.Trees.{Tree}
@@ -29,12 +28,6 @@ goes_one_way inst sched Down goes = inr goes
 
 pub tight_goes : (inst : InstanceView) (sched : List Slot) → IsTight inst sched → GoesOneWay inst sched
 tight_goes inst sched tight = goes_one_way inst sched tight.way tight.goes
-
--- where no schedule goes one way none was met
-pub none_met : (inst : InstanceView) (bound : Bound) (best : Option (List Slot)) → NoneEarlier inst bound → IfSome best (IsTight inst) → bound ≡ Never → best ≡ None
-none_met inst Never None none tight e = refl
-none_met inst Never (Some sched) none tight e = absurd (none sched (tight_goes inst sched tight))
-none_met inst (Least v) best none tight e = absurd (cc e)
 
 -- ---- the status of a plan that was found
 

@@ -5,14 +5,13 @@ use Rattle.std.specs.Prelude.{IfSome, IsSomeAnd, codes, nat_le, if◌then◌else
 use Rattle.std.specs.Cmp.Lexicographic.{nat_list_cmp_total}
 use Rattle.std.specs.FinMap.{get, get-insert, insert}
 use Rattle.qc_num.specs.declared.bound.Bound.{Bound}
-use Rattle.qc_num.specs.declared.bound.Bound.TheVariants.{Least, Never}
+use Rattle.qc_num.specs.declared.bound.Bound.TheVariants.{Least}
 use Rattle.qc_gantt.specs.Plan.{HasShortEnds, plan_in}
 use Rattle.qc_gantt.specs.PlanText.{plan_text}
 use Rattle.qc_io.specs.Outside.{Files, Stand}
 use Rattle.qc_io.proofs.Named.{get-insert_same}
 use Rattle.qc_make.specs.MadeList.{made_rows}
 use Rattle.qc_make.specs.MadeShip.{made_ship}
-use Rattle.qc_make.specs.OneWayWork.{HasOneWay}
 use Rattle.qc_model.specs.declared.limits.TheConstants.{MOST_START}
 use Rattle.qc_model.specs.declared.schedule.Slot.{Slot}
 use Rattle.qc_model.specs.Instance.{InstanceView}
@@ -24,7 +23,7 @@ use Rattle.qc_search.specs.declared.done.Kind.TheVariants as kind
 use Rattle.qc_search.specs.Run.{DoneView, IsTight, best_end, outcome}
 use Rattle.qc_ship.specs.Ship.{ShipView}
 use Rattle.qc_stow.specs.Stow.{moves_in}
-use Rattle.qc_tree.specs.Trees.{NoneEarlier, Tree, tree_text}
+use Rattle.qc_tree.specs.Trees.{Tree, tree_text}
 use Rattle.qc_top.specs.declared.answer.Answer.{Answer}
 use Rattle.qc_top.specs.declared.answer.Answer.TheVariants as answer
 use Rattle.qc_top.specs.declared.answer.Compared.{Compared}
@@ -105,12 +104,6 @@ are_stored inst (Some held) (Some now) after done stored wrote reread =
       plan_stored = plan_there inst stored.tree held now files is done.best refl sound.judgeable sound.soon reread;
     })
 
--- what is read of the plan's file is its schedule
-pub read_again : (inst : InstanceView) (files : Files) (sched : List Slot) (bytes : List ℕ)
-    → IsPlanStored inst files sched → get files (codes "plan") ≡ Some bytes → plan_in inst bytes ≡ Ok sched
-read_again inst files sched bytes stored is =
-    ap (plan_in inst) (same_some (sym is ∙ stored.text)) ∙ stored.reread
-
 -- the best schedule is read of its file, and goes one way
 pub best_read : (inst : InstanceView) (files : Files) (done : DoneView) (met sched : List Slot) → AreStored inst files done
     → done.best ≡ Some met → (IsPlanStored inst files met → sched ≡ met)
@@ -137,11 +130,6 @@ verdict_is inst done sched told best is end bound =
     is ∙ ap₂ (λ (v : Bound) (o : Option (List Slot)). outcome v (best_end inst o)) bound best
     ∙ ap (λ (e : ℕ). if nat_le e told.bound then kind.Optimal else kind.Budget) (sym end) in
     verdict_at (nat_le told.end told.bound) sched ∙ sym (ap₂ verdict_of kind_is best)
-
--- some schedule goes one way, so the bound is a number
-pub none_never : (inst : InstanceView) (bound : Bound) → NoneEarlier inst bound → HasOneWay inst → bound ≡ Never → ⊥
-none_never inst Never none one_way e = none one_way.0 one_way.1
-none_never inst (Least v) none one_way e = absurd (cc e)
 
 -- ---- what is told
 

@@ -14,18 +14,9 @@ use Rattle.qc_top.specs.declared.answer.Shown.{Shown}
 use Rattle.qc_top.specs.declared.answer.Answer.{Answer}
 use Rattle.qc_top.specs.declared.answer.Answer.TheVariants as answer
 use Rattle.qc_top.specs.Answers.{shown_head}
-use Rattle.qc_top.specs.Reports.{IsPrintCut, IsPrinted, WritesMoved, WritesReport, WritesShown, lines_text}
+use Rattle.qc_top.specs.Reports.{IsPrintCut, WritesMoved, WritesReport, WritesShown, lines_text}
 
 module _ {K B : Type 0} (written : K → Option (List ℕ)) (beside : K → B) (faults : K → ℕ) (before after : K) where
-  -- a report that was written whole
-  pub printed_whole : (a : Answer) → WritesReport written beside faults before after a (Ok tt)
-      → IsPrinted a (written before) (written after) × (faults after ≡ faults before)
-  printed_whole (answer.Planned told) w =
-      (record { tracks = w.tracks; are = w.are; all = w.all; bytes = w.writes.whole }, w.writes.unfailed)
-  printed_whole (answer.Shown told) w =
-      (record { tracks = w.tracks; are = w.are; all = w.all; bytes = w.writes.whole }, w.writes.unfailed)
-  printed_whole a w = (w.whole, w.unfailed)
-
   -- a report that was cut
   pub printed_part : (a : Answer) (fault : WriteFault) → WritesReport written beside faults before after a (Err fault)
       → IsPrintCut a (written before) (written after) × Rose (faults before) (faults after)

@@ -18,16 +18,10 @@ use Rattle.qc_top.specs.declared.answer.Answer.{Answer}
 use Rattle.qc_top.specs.declared.answer.Answer.TheVariants as answer
 use Rattle.qc_words.specs.Asked.{Asked, plan}
 use Rattle.qc_top.specs.Asked.{IsPlanTo}
-use Rattle.qc_top.specs.Due.{search, due, instance_due}
+use Rattle.qc_top.specs.Due.{search, due}
 use Rattle.qc_top.specs.Found.{IsFound, Tells}
 use Rattle.qc_top.specs.May.{MayAnswer}
 use Rattle.qc_top.specs.Account.{ComesTo, Named, written, plan_texts, texts_of, IsCutShort, IsStored, IsTreeCut, IsSearched, IsStopped, IsWriting}
-
--- two shelves stand alike
-pub same_stand : (a b : Stand) → a.files ≡ b.files → a.faults ≡ b.faults → a.read_faults ≡ b.read_faults → a ≡ b
-same_stand a b files faults reads =
-    let stand : Option Files → ℕ → ℕ → Stand = λ x y z. record { files = x; faults = y; read_faults = z } in
-    ap (λ x. stand x a.faults a.read_faults) files ∙ ap (λ y. stand b.files y a.read_faults) faults ∙ ap (stand b.files b.faults) reads
 
 -- what a plan's file holds, told or not
 told : (before after : Option Files) (name text : List ℕ) → after ≡ with_file before name text → IfSome before (λ held. after ≡ Some (insert held name text))
@@ -43,11 +37,6 @@ pub told_failed : (before after : Option Files) (name text : List ℕ) → (afte
 told_failed None after name text e = tt
 told_failed (Some held) after name text (inl e) = inl e
 told_failed (Some held) after name text (inr e) = inr (inl (0, e))
-
--- where no schedule was met, nothing is written
-pub told_none : (files : Option Files) → IfSome files (λ held. files ≡ Some held)
-told_none None = tt
-told_none (Some held) = refl
 
 -- the least tree of an instance: each part is a chain without tasks
 abbrev least_tree : Tree
@@ -228,14 +217,6 @@ writes_told asked before after inst done (answer.Planned found) told faults read
 writes_told asked before after inst done (answer.Unplanned bound branched) told faults reads searched = (faults, reads, searched)
 writes_told asked before after inst done (answer.Infeasible branched) told faults reads searched = (faults, reads, searched)
 writes_told asked before after inst done other told faults reads searched = absurd told
-
--- a search is due where the instance is
-pub search_due :
-    (asked : Asked) (p t : List ℕ) (nodes : ℕ) → IsPlanTo asked p t nodes → (files : Option Files) (inst : InstanceView)
-    → ComesTo instance_due asked files (Ok inst) → ComesTo (due asked) asked files (Ok (search inst nodes))
-search_due asked p t nodes to None inst h = tt
-search_due (plan s w q u n) p t nodes to (Some held) inst h = rw h (ap (λ m. Ok (search inst m)) to.2)
-search_due other p t nodes to (Some held) inst h = absurd to
 
 -- an answer that tells of a search may come of a plan
 pub tells_may : (asked : Asked) (p t : List ℕ) (nodes : ℕ) → IsPlanTo asked p t nodes → (inst : InstanceView) (done : DoneView) (a : Answer)

@@ -1,6 +1,6 @@
 -- No schedule that goes one way ends earlier than the value of a tree.
-use Rattle.std.proofs.Common.{◌≡◌, ℕ, zero, suc, ◌+◌, ◌<◌, ◌≤◌, true, inl, inr, List, [], ◌∷◌, length, map, Option, None, Some, IsSome, ◌⊎◌, max, refl, ap, sym, subst, arith}
-use Rattle.std.proofs.lemmas.Bool.{cases_lt, cond-true, false_from_ne_true, false≢true, or_right}
+use Rattle.std.proofs.Common.{◌≡◌, ℕ, zero, suc, ◌+◌, ◌<◌, ◌≤◌, inl, inr, List, [], ◌∷◌, length, map, Option, None, Some, IsSome, ◌⊎◌, max, refl, ap, subst, arith}
+use Rattle.std.proofs.lemmas.Bool.{cases_lt, false≢true}
 use Rattle.std.specs.Prelude.{unwrap_or}
 use Rattle.std.specs.List.{range_with_len}
 use Rattle.qc_num.specs.declared.bound.Bound.{Bound}
@@ -10,13 +10,14 @@ use Rattle.qc_model.specs.declared.decision.Decision.{Decision}
 use Rattle.qc_model.specs.declared.decision.Decision.TheVariants as decide
 use Rattle.qc_model.specs.declared.schedule.Slot.{Slot}
 use Rattle.qc_model.specs.declared.task.Task.{Task}
-use Rattle.qc_model.specs.Instance.{InstanceView, IsApart, Valid, ticks_of}
+use Rattle.qc_model.specs.Instance.{InstanceView, IsApart, Valid}
 use Rattle.qc_model.specs.Leaves.{Version, leaf_value}
-use Rattle.qc_model.specs.Nodes.{Agrees, Fits, IsSettled, assigned, crane_ticks, forced, greater, is_before, is_ordered, is_sooner, sooner_ticks}
+use Rattle.qc_model.specs.Nodes.{Agrees, Fits, IsSettled}
 use Rattle.qc_model.specs.OneWay.{GoesOneWay, GoesUp, mirror, mirror_schedule, mirror_slot, mirror_task}
 use Rattle.qc_model.specs.Rules.{crane_of, ends, last_end, starts}
 use Rattle.qc_model.proofs.LeafLemmas.{leaf_value_le}
 use Rattle.qc_model.proofs.MirrorLemmas.{mirror_valid}
+use Rattle.qc_model.proofs.NodeLemmas.{unsettled_unordered}
 use Rattle.qc_tree.specs.Trees.{IsPart, IsTree, Part, Tree, leaf, on_pair, on_task, part_value, tree_value}
 use Rattle.qc_num.proofs.BoundLemmas.{at_most_through}
 
@@ -54,20 +55,6 @@ least_through f c k a (suc n) low high h =
           first_through (f a) rest c (subst (λ (x : ℕ). IsAtMost (f x) c) e h)
     ]
 
--- ---- what is ordered is forced
-
-greater_some : (n : ℕ) (o : Option ℕ) → IsSome (greater (Some n) o)
-greater_some n None = refl
-greater_some n (Some m) = refl
-
-ordered_forced : (inst : InstanceView) (ds : List Decision) (i j : ℕ) → is_ordered ds i j ≡ true
-    → IsSome (forced inst ds i j)
-ordered_forced inst ds i j t =
-    let cranes = crane_ticks inst i j (assigned ds i) (assigned ds j) in
-    let sooner : is_sooner inst ds i j ≡ true = or_right (is_before inst i j) (is_ordered ds i j) t in
-    let ticks : sooner_ticks inst ds i j ≡ Some (ticks_of inst i) = cond-true (is_sooner inst ds i j) _ None sooner in
-    subst (λ (o : Option ℕ). IsSome (greater o cranes)) (sym ticks) (greater_some (ticks_of inst i) cranes)
-
 other_way : {A B : Type 0} → A ⊎ B → B ⊎ A
 other_way (inl a) = inr a
 other_way (inr b) = inl b
@@ -83,12 +70,9 @@ module _ (inst : InstanceView) (v : Valid inst) (version : Version) (sched : Lis
   -- the apart task i is first
   apart_fits : (ds : List Decision) (i j : ℕ) → Fits inst ds → IsApart inst i j ⊎ IsApart inst j i
       → (¬ IsSettled inst ds i j) → Fits inst (decide.Order i j ∷ ds)
-  apart_fits ds i j fits apart unsettled = (
-    apart,
-    false_from_ne_true (is_ordered ds i j) (λ t. unsettled (inl (ordered_forced inst ds i j t))),
-    false_from_ne_true (is_ordered ds j i) (λ t. unsettled (inr (ordered_forced inst ds j i t))),
-    fits,
-  )
+  apart_fits ds i j fits apart unsettled =
+      let unordered = unsettled_unordered inst ds i j unsettled in
+      (apart, unordered.0, unordered.1, fits)
 
   part_met : (part : Part) (ds : List Decision) → Fits inst ds → Agrees inst ds sched
       → IsPart version inst ds part → IsAtMost (part_value version inst ds part) (Least (ends inst sched))
