@@ -35,12 +35,23 @@ def read(*path):
         return file.read()
 
 
-def inputs(nodes):
+def planned(program, files):
+    """The files with the plan and the tree that the program makes of them with a hundred branchings."""
+    with tempfile.TemporaryDirectory() as folder:
+        for name, data in files.items():
+            with open(f"{folder}/{name}", "wb") as file:
+                file.write(data)
+        subprocess.run([program, "plan", "s", "m", "p", "t", "--nodes", "100"], cwd=folder, stdout=subprocess.DEVNULL)
+        return {name: read(folder, name) for name in "smpt"}
+
+
+def inputs(program, nodes):
     """Name, words and files of each input."""
     first = {"s": read("examples/first/ship.toml"), "m": read("examples/first/stow.csv")}
     four = {"s": FOUR, "m": MOVES}
     vessel = {"s": read("examples/vessel/ship.toml"), "m": read("examples/vessel/stow.csv")}
     judged = dict(four, p=PLAN, t=TREE)
+    vessel_judged = planned(program, vessel)
     unreached = dict(four, s=FOUR.replace(b"bay = 3\n", b"bay = 3\nto = 1\n").replace(b"bay = 1\n", b"bay = 1\nto = 1\n"))
     return [
         ("plan, first example", ["plan", "s", "m", "p", "t"], first),
@@ -57,6 +68,9 @@ def inputs(nodes):
         ("unknown word", ["work", "s"], {}),
         ("plan, vessel", ["plan", "s", "m", "p", "t", "--nodes", nodes], vessel),
         ("tasks, vessel", ["tasks", "s", "m"], vessel),
+        ("check, vessel", ["check", "s", "m", "p", "t"], vessel_judged),
+        ("check of a tree alone, vessel", ["check", "s", "m", "-", "t"], vessel_judged),
+        ("show, vessel", ["show", "s", "m", "p"], vessel_judged),
     ]
 
 
@@ -118,7 +132,7 @@ def main():
         library = os.path.join(folder, "refuse.so")
         subprocess.run(["gcc", "-O1", "-shared", "-fPIC", "-o", library, f"{HERE}/refuse.c", "-ldl"], check=True)
         runs = Runs(program, library, folder)
-        for name, words, files in inputs(args.nodes):
+        for name, words, files in inputs(program, args.nodes):
             whole, (calls, before_tree, before_plan) = runs.count(words, files)
             seen = collections.Counter()
             for number in range(1, calls + 1):

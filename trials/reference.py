@@ -143,8 +143,9 @@ def read_ship(data):
 
 
 def records_of(data):
-    """The records of a list or a plan, without empty lines."""
-    return [record for record in csv.reader(io.StringIO(data.decode("utf-8-sig"), newline="")) if record]
+    """The records of a list or a plan, without empty lines; each byte is a letter of its number."""
+    text = data.removeprefix(b"\xef\xbb\xbf").decode("latin-1")
+    return [record for record in csv.reader(io.StringIO(text, newline="")) if record]
 
 
 def instance_of(ship, data):
