@@ -1,5 +1,5 @@
 -- What goes out of a report, from what the call says that writes it.
-use Rattle.std.proofs.Common.{◌≡◌, List, [], Option, Result, Ok, Err, ℕ, refl, arith, inl, inr}
+use Rattle.std.proofs.Common.{List, [], Option, Result, Ok, Err, ℕ, refl, arith, inl, inr}
 use Rattle.std.specs.Prelude.{⊤, IsErr}
 use Rattle.qc_gantt.specs.GanttText.{gantt_text}
 use Rattle.qc_gantt.specs.TracksText.{WritesTracks, tracks_text}

@@ -1,4 +1,4 @@
-use Rattle.std.proofs.Common.{◌≤◌, [], drop, length, sym, subst, arith}
+use Rattle.std.proofs.Common.{◌≤◌, length, sym, subst, arith}
 use Rattle.std.proofs.Math.ListN.{drop_of_length-le}
 use Rattle.qc_calls.specs.StartsCalls.{AreStartsAnswered}
 use Rattle.qc_calls.proofs.starts_run.run.Goals as goal
