@@ -84,31 +84,36 @@ def content(line):
     return line[1:].encode() + (b"\n" if line[0] == "|" else b"")
 
 
-def read_case(path):
-    """Words and files of a case, or None where they are none for us."""
-    words, files, name = None, {}, None
+def case_input(path):
+    """The words of a case, its files by their names, and its other headings, as far as its first outcome."""
+    words, files, others, name = None, {}, set(), None
     with open(path, encoding="utf-8", newline="") as file:
-        for line in file.read().split("\n"):
-            if not line or line[0] == "#":
-                continue
-            if line[0] == "*" and int(line[1:].split(" ", 1)[0]) > 2000:
-                return None
-            if line[0] in "|/>=*":
-                if name is not None:
-                    files[name] += content(line)
-                continue
-            keyword, _, value = line.partition(" ")
-            if keyword == "status":
-                break
-            if keyword in ("word", "fail"):
-                return None
-            name = None
-            if keyword == "words":
-                words = value.split()
-            elif keyword == "file":
-                name = value
-                files[name] = b""
-    if not words or words[0] not in ROLES:
+        lines = file.read().split("\n")
+    for line in lines:
+        if not line or line[0] == "#":
+            continue
+        if line[0] in "|/>=*":
+            if name is not None:
+                files[name] += content(line)
+            continue
+        keyword, _, value = line.partition(" ")
+        name = None
+        if keyword == "status":
+            break
+        if keyword == "words":
+            words = value.split()
+        elif keyword == "file":
+            name = value
+            files[name] = b""
+        else:
+            others.add(keyword)
+    return words, files, others
+
+
+def read_case(path):
+    """The files of a case by their roles, or None where they are none for us."""
+    words, files, others = case_input(path)
+    if not words or words[0] not in ROLES or others & {"word", "fail"}:
         return None
     roles = ROLES[words[0]]
     names = [word for word in words[1:] if not word.startswith("--")][:len(roles)]

@@ -31,7 +31,7 @@ DATA = ROOT / "crates/qc_rows/data"
 sys.path.append(str(ROOT / "fuzz"))
 
 from faults import list_fault, ship_or_fault
-from fuzz import ROLES, content
+from fuzz import ROLES, case_input
 from reference import NEVER, TreeFault, TreeReader, check_report, end_of, instance_of, refusal, show_report, tasks_report
 
 # The cases of crates/qc_rows/data of which `--write` makes cut cases: the files of the worked examples, a file that
@@ -85,24 +85,8 @@ class Case:
 
 def read_case(path):
     """The case of a file, and the file names of its roles; None where it isn't a plain command on files."""
-    words, files, name = None, {}, None
-    for line in path.read_text(encoding="utf-8").split("\n"):
-        if not line or line[0] == "#":
-            continue
-        if line[0] in "|/>=*":
-            if name is not None:
-                files[name] += content(line)
-            continue
-        keyword, _, value = line.partition(" ")
-        if keyword == "status":
-            break
-        if keyword in ("word", "fail", "cut"):
-            return None, None
-        name = value if keyword == "file" else None
-        words = value.split() if keyword == "words" else words
-        if name is not None:
-            files[name] = b""
-    if not words or words[0] not in ROLES:
+    words, files, others = case_input(path)
+    if not words or words[0] not in ROLES or others & {"word", "fail", "cut"}:
         return None, None
     roles = ROLES[words[0]]
     names, more = words[1:len(roles) + 1], words[len(roles) + 1:]
