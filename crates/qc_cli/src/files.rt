@@ -1,9 +1,9 @@
-ghost use Rattle.std.specs.Prelude.{◌≡◌, ◌≤◌, ◌<◌, None, Ok, true, length, is_some, option_map, IfOk, IfSome};
+ghost use Rattle.std.specs.Prelude.{◌≡◌, ◌≤◌, ◌<◌, ◌+◌, None, Ok, true, length, is_some, option_map, IfOk, IfSome};
 ghost use Rattle.std.specs.String.{string_bytes};
 ghost use Rattle.qc_cli.specs.Once.{Counts, ReadsOnce, WritesOnce};
 
 use crate::once::{read_once, write_once};
-use crate::same::{Identity, is_among, is_noted};
+use crate::same::{Identity, is_among, note};
 use qc_io::{Failed, Shelf, Sink, fault};
 use std::fs;
 use std::rt::Files;
@@ -136,13 +136,12 @@ impl<R: Files + AllocGlobal> Shelf for FileShelf<'_, R> {
 }
 
 /// The file of that name, which is used from now on. None where it can't be opened.
-fn opened<R: Files>(rt: &R, name: &str, used: &mut Vec<Identity>) -> Option<R::File> {
+fn opened<R: Files>(rt: &R, name: &str, used: &mut Vec<Identity>) -> Option<R::File>
+    ensures { IfSome result (λ _. length used.new.items ≡ length used.old.items + 1) }
+{
     let file = fs::open(rt, name).ok()?;
-    if is_noted(&file, used) {
-        Some(file)
-    } else {
-        None
-    }
+    note(&file, used)?;
+    Some(file)
 }
 
 /// A file of that name with no bytes, which is used from now on. None where it can't be made or named,
@@ -152,16 +151,15 @@ fn made_by<R: Files + AllocGlobal>(
     name: &str,
     used: &mut Vec<Identity>,
 ) -> Option<Making<R::File>>
-    ensures { IfSome result (λ making. string_bytes making.name ≡ name.now) }
+    ensures named { IfSome result (λ making. string_bytes making.name ≡ name.now) }
+    ensures noted { IfSome result (λ _. length used.new.items ≡ length used.old.items + 1) }
 {
     if is_among(rt, name, used.as_slice()) {
         return None;
     }
     let name_kept = String::from_str(rt.alloc(), name).ok()?;
     let file = fs::create(rt, name).ok()?;
-    if !is_noted(&file, used) {
-        return None;
-    }
+    note(&file, used)?;
     Some(Making {
         name: name_kept,
         file,

@@ -1,5 +1,5 @@
 //! Which file of the system a name or an open file is.
-ghost use Rattle.std.specs.Prelude.{◌↔◌, IsTrue, Contains};
+ghost use Rattle.std.specs.Prelude.{◌≡◌, ◌+◌, ◌↔◌, None, IfSome, IsTrue, Contains, length, take};
 
 use std::fs::{self, Metadata, OpenFile};
 use std::os::unix::fs::MetadataExt;
@@ -21,12 +21,14 @@ impl Identity {
     }
 }
 
-/// Notes which file this is. Whether that could be told and noted.
-pub fn is_noted<F: OpenFile>(file: &F, files: &mut Vec<Identity>) -> bool {
-    match file.metadata() {
-        Ok(metadata) => files.push(Identity::of(&metadata)).is_ok(),
-        Err(_) => false,
-    }
+/// Adds to the files which one this is. None, and nothing added, where that can't be told or kept.
+pub fn note<F: OpenFile>(file: &F, files: &mut Vec<Identity>) -> Option<()>
+    ensures added { IfSome result (λ _. length files.new.items ≡ length files.old.items + 1) }
+    ensures stay { take (length files.old.items) files.new.items ≡ files.old.items }
+    ensures none { result ≡ None → files.new.items ≡ files.old.items }
+{
+    let metadata = file.metadata().ok()?;
+    files.push(Identity::of(&metadata)).ok()
 }
 
 /// Whether the name is one of these files.
