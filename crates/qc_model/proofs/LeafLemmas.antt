@@ -9,7 +9,7 @@ use Rattle.qc_num.specs.declared.bound.Bound.{Bound}
 use Rattle.qc_num.specs.declared.bound.Bound.TheVariants.{Least, Never}
 use Rattle.qc_model.specs.declared.decision.Decision.{Decision}
 use Rattle.qc_model.specs.declared.decision.Decision.TheVariants.{Assign, Order}
-use Rattle.qc_model.specs.declared.limits.TheConstants.{MOST_TASKS}
+use Rattle.qc_model.specs.Numbers.{most_tasks}
 use Rattle.qc_model.specs.declared.schedule.Slot.{Slot}
 use Rattle.qc_model.specs.Instance.{InstanceView, Valid, ticks_of}
 use Rattle.qc_model.specs.Leaves.{Leaf, Version, are_tasks, chain, chain_end, chain_ticks, head_in, is_out_of_reach, is_ring, leaf_value, reach, ring, with_berths, without_berths, work, work_holds}
@@ -26,7 +26,7 @@ are_within inst tasks = list_all (λ j. nat_lt j (length inst.tasks)) tasks
 
 within : (inst : InstanceView) (tasks : List ℕ) → are_tasks inst tasks ≡ true
     → are_within inst tasks ≡ true
-within inst tasks all = (and_parts (leb (length tasks) MOST_TASKS) (are_within inst tasks) all).1
+within inst tasks all = (and_parts (leb (length tasks) most_tasks) (are_within inst tasks) all).1
 
 -- the first of them, and the others
 first_of_them : (inst : InstanceView) (j : ℕ) (js : List ℕ) → are_within inst (j ∷ js) ≡ true

@@ -5,7 +5,6 @@ pub mod OnRail
 pub mod MirrorLemmas
 pub mod GoesLemmas
 pub mod PairOrder
-pub mod InRange
 mod RuleOrder
 mod Parts
 pub mod Extremes

@@ -7,7 +7,7 @@ use Rattle.std.proofs.lemmas.List.Sums.{sum_by-cons}
 use Rattle.qc_model.specs.declared.crane.Crane.{Crane}
 use Rattle.qc_model.specs.declared.direction.Direction.{Direction}
 use Rattle.qc_model.specs.declared.direction.Direction.TheVariants.{Up, Down}
-use Rattle.qc_model.specs.declared.limits.TheConstants.{MOST_READY}
+use Rattle.qc_model.specs.Numbers.{most_ready}
 use Rattle.qc_model.specs.declared.task.Task.{Task}
 use Rattle.qc_model.specs.Instance.{InstanceView, HasBayLimits, HasPlaceLimits, HasValidApart, HasValidBefore, HasValidCranes, HasValidTasks, IsFrom, IsOnRail, Valid, crane, mirror_bay, no_task, task}
 use Rattle.qc_model.specs.OneWay.{mirror, mirror_crane, mirror_task}
@@ -88,7 +88,7 @@ tasks_turned inst v = record {
 cranes_turned : (inst : InstanceView) → HasValidCranes inst → HasValidCranes (mirror inst)
 cranes_turned inst v = record {
   count = (omega (arith, n, v.count.0), omega (arith, n, v.count.1));
-  ready = λ k h. subst (λ (r : ℕ). r ≤ MOST_READY) (sym (ap (λ c. c.ready) (is k h))) (v.ready (back k) (low k h));
+  ready = λ k h. subst (λ (r : ℕ). r ≤ most_ready) (sym (ap (λ c. c.ready) (is k h))) (v.ready (back k) (low k h));
   reach = λ k h. let r = v.reach (back k) (low k h) in reach_turned inst.bays _ _ _ _ (ap (λ c. c.from) (is k h)) (ap (λ c. c.to) (is k h)) r.0 r.1 r.2;
   names = λ i j lower h e.
       let g : i < length (mirror inst).cranes = omega arith in

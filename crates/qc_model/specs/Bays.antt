@@ -1,3 +1,4 @@
+-- public: differences of bays.
 use Rattle.std.specs.Prelude.{ℕ, ℤ, pos, negsuc, ◌-ℤ◌, ◌+◌}
 
 -- a whole number where it is at least 0, and else 0

@@ -1,4 +1,4 @@
--- When a node of a search is closed: it is seen without branching that nothing below it ends before a bound, or
+-- public: when a node of a search is closed: it is seen without branching that nothing below it ends before a bound, or
 -- nothing is left to decide.
 use Rattle.std.specs.Prelude.{ℕ, ◌<◌, ◌≤◌, IsTrue, List}
 use Rattle.qc_num.specs.Bounds.{IsAtMost}

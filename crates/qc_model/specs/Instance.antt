@@ -1,5 +1,6 @@
+-- public: instances, and what every one keeps.
 use Rattle.std.specs.Prelude.{◌≡◌, ◌≢◌, ℕ, ◌+◌, ◌<◌, ◌≤◌, ℤ, pos, negsuc, ◌+ℤ◌, ◌-ℤ◌, ◌≤ℤ◌, ◌⊎◌, ◌↔◌, List, [], ◌∷◌, length, slice_index_or, sum_by, AllPairs, Contains}
-use Rattle.qc_model.specs.declared.limits.TheConstants.{MOST_APART, MOST_CRANES, MOST_GAP, MOST_GAP_BY_PLACES, MOST_HATCHES, MOST_PLACE, MOST_READY, MOST_TASKS, MOST_TRAVEL, MOST_TRAVEL_BY_PLACES, MOST_WORK}
+use Rattle.qc_model.specs.Numbers.{most_apart, most_cranes, most_gap, most_gap_by_places, most_hatches, most_place, most_ready, most_tasks, most_travel, most_travel_by_places, most_work}
 use Rattle.qc_model.specs.declared.task.Task.{Task}
 use Rattle.qc_model.specs.declared.task.Phase.TheVariants.{DeckOut}
 use Rattle.qc_model.specs.declared.crane.Crane.{Crane}
@@ -80,25 +81,25 @@ HasBerths inst P =
 
 -- the limits of a ship whose hatches stand one crane bay apart
 pub record HasBayLimits (inst : InstanceView) : Type 0 where
-  pub bays : (1 ≤ inst.bays) × (inst.bays ≤ MOST_HATCHES)
-  pub travel : (1 ≤ inst.travel) × (inst.travel ≤ MOST_TRAVEL)
-  pub gap : (1 ≤ inst.gap) × (inst.gap ≤ MOST_GAP)
+  pub bays : (1 ≤ inst.bays) × (inst.bays ≤ most_hatches)
+  pub travel : (1 ≤ inst.travel) × (inst.travel ≤ most_travel)
+  pub gap : (1 ≤ inst.gap) × (inst.gap ≤ most_gap)
   pub berths : HasBerths inst (IsFrom (negsuc 299) (pos 300))
 
 -- the limits of a ship whose places are given in decimetres
 pub record HasPlaceLimits (inst : InstanceView) : Type 0 where
-  pub bays : (1 ≤ inst.bays) × (inst.bays ≤ MOST_PLACE)
-  pub travel : (1 ≤ inst.travel) × (inst.travel ≤ MOST_TRAVEL_BY_PLACES)
-  pub gap : (1 ≤ inst.gap) × (inst.gap ≤ MOST_GAP_BY_PLACES)
+  pub bays : (1 ≤ inst.bays) × (inst.bays ≤ most_place)
+  pub travel : (1 ≤ inst.travel) × (inst.travel ≤ most_travel_by_places)
+  pub gap : (1 ≤ inst.gap) × (inst.gap ≤ most_gap_by_places)
   pub berths : HasBerths inst IsOnRail
 
 -- every task stands at a bay of the ship and takes time, all together not too long; tasks are in
 -- order of hatch and phase, each once; tasks of one hatch, and of no two, share a bay
 pub record HasValidTasks (inst : InstanceView) : Type 0 where
-  pub count : length inst.tasks ≤ MOST_TASKS
+  pub count : length inst.tasks ≤ most_tasks
   pub bays : (j : ℕ) → j < length inst.tasks → IsFrom (pos 1) (pos inst.bays) (bay_of inst j)
   pub ticks : (j : ℕ) → j < length inst.tasks → 1 ≤ ticks_of inst j
-  pub work : sum_by (λ t. t.ticks) inst.tasks ≤ MOST_WORK
+  pub work : sum_by (λ t. t.ticks) inst.tasks ≤ most_work
   pub sorted : (i j : ℕ) → i < j → j < length inst.tasks
       → task_rank (task inst i) < task_rank (task inst j)
   pub hatches : (i j : ℕ) → i < length inst.tasks → j < length inst.tasks
@@ -107,8 +108,8 @@ pub record HasValidTasks (inst : InstanceView) : Type 0 where
 -- cranes stand along the rail at least the gap apart and have different names; each reaches some bays
 -- of the ship
 pub record HasValidCranes (inst : InstanceView) : Type 0 where
-  pub count : (1 ≤ length inst.cranes) × (length inst.cranes ≤ MOST_CRANES)
-  pub ready : (k : ℕ) → k < length inst.cranes → (crane inst k).ready ≤ MOST_READY
+  pub count : (1 ≤ length inst.cranes) × (length inst.cranes ≤ most_cranes)
+  pub ready : (k : ℕ) → k < length inst.cranes → (crane inst k).ready ≤ most_ready
   pub reach : (k : ℕ) → k < length inst.cranes
       → (pos 1 ≤ℤ (crane inst k).from)
       × ((crane inst k).from ≤ℤ (crane inst k).to)
@@ -128,7 +129,7 @@ pub record HasValidBefore (inst : InstanceView) : Type 0 where
 
 -- pairs of different hatches, the lower task first, in rising order
 pub record HasValidApart (inst : InstanceView) : Type 0 where
-  pub count : length inst.apart ≤ MOST_APART
+  pub count : length inst.apart ≤ most_apart
   pub range : (i j : ℕ) → IsApart inst i j
       → (i < j) × (j < length inst.tasks) × ((task inst i).hatch ≢ (task inst j).hatch)
   pub sorted : AllPairs IsEarlier inst.apart

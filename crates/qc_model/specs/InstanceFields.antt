@@ -1,3 +1,4 @@
+-- inner: an instance's fields.
 use Rattle.qc_model.specs.declared.instance.Instance.TheInside.{Inside}
 use Rattle.qc_model.specs.Bays.{at_least_zero}
 use Rattle.qc_model.specs.Instance.{InstanceView, Valid}

@@ -1,11 +1,11 @@
--- Which rule a schedule breaks first, and where.
+-- public: which rule a schedule breaks first, and where.
 use Rattle.std.specs.Prelude.{◌≡◌, ℕ, ◌<◌, ◌≤◌, List, length, codes, Option, MatchOption}
 use Rattle.qc_model.specs.declared.direction.Direction.{Direction}
 use Rattle.qc_model.specs.declared.direction.Direction.TheVariants.{Up, Down}
 use Rattle.qc_model.specs.declared.rules.Rule.{Rule}
 use Rattle.qc_model.specs.declared.rules.Rule.TheVariants.{Reach, Ready, Travel, Before, Apart, Margin, Berth, OneWay}
 use Rattle.qc_model.specs.declared.rules.Break.{Break}
-use Rattle.qc_model.specs.declared.limits.TheConstants.{MOST_START}
+use Rattle.qc_model.specs.Numbers.{most_start}
 use Rattle.qc_model.specs.declared.pair.Pair.{Pair}
 use Rattle.qc_model.specs.declared.schedule.Slot.{Slot}
 use Rattle.qc_model.specs.Instance.{InstanceView, pair_of, IsEarlier}
@@ -17,7 +17,7 @@ use Rattle.qc_model.specs.OneWay.{GoesUp, GoesDown, KeepsClimb, KeepsLead}
 pub record IsJudgeable (inst : InstanceView) (sched : List Slot) : Type 0 where
   pub all_tasks : length sched ≡ length inst.tasks
   pub crane_range : (j : ℕ) → j < length inst.tasks → crane_of sched j < length inst.cranes
-  pub start_range : (j : ℕ) → j < length inst.tasks → start_of sched j ≤ MOST_START
+  pub start_range : (j : ℕ) → j < length inst.tasks → start_of sched j ≤ most_start
 
 -- the schedule is feasible and goes this way
 abbrev pub Goes : InstanceView → List Slot → Direction → Type 0

@@ -1,4 +1,4 @@
--- What is judged, and the searches of the judge.
+-- public: what is judged, and the searches of the judge.
 use Rattle.std.specs.Prelude.{ℕ, ◌<◌, List, length}
 use Rattle.qc_model.specs.declared.rules.Rule.{Rule}
 use Rattle.qc_model.specs.declared.schedule.Slot.{Slot}

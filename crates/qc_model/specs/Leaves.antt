@@ -1,8 +1,8 @@
--- Leaves of a bound tree: what shows, for all upward schedules that agree with a node, an end that none beats.
+-- public: leaves of a bound tree: what shows, for all upward schedules that agree with a node, an end that none beats.
 use Rattle.std.specs.Prelude.{ℕ, ◌+◌, ◌-◌, ◌*◌, ℤ, Bool, false, not, ◌&&◌, ◌||◌, ◌==◌, nat_lt, nat_le, if◌then◌else◌, List, [], ◌∷◌, ◌++◌, filter, length, Option, None, Some, is_some, is_none, option_map, option_and_then, sum_by}
 use Rattle.std.specs.Int.{int_min, int_max}
 use Rattle.std.specs.List.{list_any, list_all, range_with_len}
-use Rattle.qc_model.specs.declared.limits.TheConstants.{MOST_TASKS}
+use Rattle.qc_model.specs.Numbers.{most_tasks}
 use Rattle.qc_num.specs.declared.bound.Bound.{Bound}
 use Rattle.qc_num.specs.declared.bound.Bound.TheVariants.{Least, Never}
 use Rattle.qc_model.specs.declared.decision.Decision.{Decision}
@@ -111,7 +111,7 @@ work_holds inst ds end =
 
 -- a list of at most 240 tasks of the instance
 abbrev pub are_tasks : InstanceView → List ℕ → Bool
-are_tasks inst tasks = nat_le (length tasks) MOST_TASKS && list_all (λ j. nat_lt j (length inst.tasks)) tasks
+are_tasks inst tasks = nat_le (length tasks) most_tasks && list_all (λ j. nat_lt j (length inst.tasks)) tasks
 
 -- the newest decision puts a task on a crane that doesn't reach it
 abbrev pub is_out_of_reach : InstanceView → List Decision → Bool

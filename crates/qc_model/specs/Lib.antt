@@ -1,3 +1,4 @@
+pub mod Numbers
 pub mod Bays
 pub mod Names
 pub mod Tasks
@@ -9,8 +10,8 @@ pub mod Limits
 pub mod Seen
 pub mod Judge
 pub mod Judged
-pub mod InstanceFields
 pub mod Nodes
 pub mod Leaves
 pub mod Closing
 pub mod Motion
+pub mod InstanceFields

@@ -1,4 +1,4 @@
--- Where the cranes of a schedule stand at each moment, and what makes that safe.
+-- public: where the cranes of a schedule stand at each moment, and what makes that safe.
 --
 -- The moment of m parts of a tick that is divided into d parts is m / d. A place there is told times d and times
 -- the travel per bay, so that it is a whole number at every moment; a crane in motion goes by one a part.

@@ -1,3 +1,4 @@
+-- public: the names of cranes.
 use Rattle.std.specs.Prelude.{ℕ, Bool, ◌&&◌, ◌||◌, nat_le, ◌==◌, List, length}
 use Rattle.std.specs.List.{list_all}
 

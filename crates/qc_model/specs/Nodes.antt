@@ -1,4 +1,4 @@
--- Nodes of a search: lists of decisions, and what they ask of every upward schedule that agrees with them.
+-- public: nodes of a search: lists of decisions, and what they ask of every upward schedule that agrees with them.
 use Rattle.std.specs.Prelude.{◌≡◌, ℕ, ◌+◌, ◌<◌, ◌≤◌, ◌⊎◌, max, min, Bool, false, IsTrue, IsFalse, ◌&&◌, ◌||◌, ◌==◌, nat_lt, int_le, int_lt, if◌then◌else◌, List, [], ◌∷◌, map, filter, length, slice_index, Option, None, Some, IsSome, unwrap_or}
 use Rattle.std.specs.List.{list_any, range_with_len}
 use Rattle.qc_model.specs.declared.decision.Decision.{Decision}

@@ -1,4 +1,4 @@
--- Schedules in which, after a first repositioning, all cranes move one way, after the method of
+-- public: schedules in which, after a first repositioning, all cranes move one way, after the method of
 -- Bierwirth and Meisel (2009).
 use Rattle.std.specs.Prelude.{◌≡◌, ℕ, ◌+◌, ◌-◌, ◌<◌, ◌≤◌, ◌<ℤ◌, ◌⊎◌, List, length, map, reverse}
 use Rattle.qc_model.specs.declared.task.Task.{Task}

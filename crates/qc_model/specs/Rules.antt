@@ -1,4 +1,4 @@
--- The rules of a feasible schedule, after Kim and Park (2004).
+-- public: the rules of a feasible schedule, after Kim and Park (2004).
 use Rattle.std.specs.Prelude.{◌≡◌, ◌≢◌, ℕ, ◌+◌, ◌<◌, ◌≤◌, ◌≤ℤ◌, ◌⊎◌, List, [], ◌∷◌, length, map, max, slice_index_or}
 use Rattle.qc_model.specs.declared.task.Task.{Task}
 use Rattle.qc_model.specs.declared.schedule.Slot.{Slot}

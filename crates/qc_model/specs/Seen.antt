@@ -1,4 +1,4 @@
--- An instance and a schedule as they are judged with a direction: upward as they are, downward from
+-- public: an instance and a schedule as they are judged with a direction: upward as they are, downward from
 -- the other end of the ship.
 use Rattle.std.specs.Prelude.{ℕ, ◌-◌, ℤ, List, length}
 use Rattle.qc_model.specs.declared.direction.Direction.{Direction}

@@ -1,4 +1,4 @@
--- The ticks that rules ask for, of an instance alone: what a schedule keeps, and what holds of a
+-- public: the ticks that rules ask for, of an instance alone: what a schedule keeps, and what holds of a
 -- schedule that is still open, cite the same numbers.
 use Rattle.std.specs.Prelude.{ℕ, ◌+◌, ◌-◌, ◌*◌, ℤ, pos, ◌+ℤ◌, nat_lt, if◌then◌else◌}
 use Rattle.qc_model.specs.Bays.{bays_up, bays_between}

@@ -1,3 +1,5 @@
+//! Quay cranes.
+
 use crate::Name;
 use qc_num::{Bay, Tick};
 

@@ -1,3 +1,5 @@
+//! What a search decides.
+
 /// What a search decides on its way to a node. A node is the list of its decisions.
 #[derive(Clone, Copy, Debug, PartialEq, Eq)]
 pub enum Decision {

@@ -1,3 +1,5 @@
+//! The way in which a schedule goes.
+
 /// The way in which all cranes of a schedule move once they have begun to work.
 #[derive(Clone, Copy, Debug, PartialEq, Eq)]
 pub enum Direction {

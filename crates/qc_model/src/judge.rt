@@ -1,14 +1,18 @@
-ghost use Rattle.std.specs.Prelude.{◌≡◌, ◌≤◌, ◌<◌, ◌↔◌, IsTrue, length, pos, ◌≤ℤ◌};
-ghost use Rattle.qc_model.specs.declared.limits.TheConstants.{MOST_DISTANCE, MOST_END, MOST_READY};
+//! How a schedule is judged: its tasks and cranes as the rules see them, and the first tasks at which a
+//! rule fails.
+
+ghost use Rattle.std.specs.Prelude.{◌≡◌, ◌≤◌, ◌<◌, ◌↔◌, IsTrue, length, pos, ◌≤ℤ◌, MatchOption};
+ghost use Rattle.qc_model.specs.Numbers.{most_distance, most_end, most_ready};
 ghost use Rattle.qc_model.specs.Instance.{bay_of, crane, IsApart, IsBefore, IsOnRail, Valid};
 ghost use Rattle.qc_model.specs.Motion.{bay_ahead, bay_behind, scaled};
 ghost use Rattle.qc_model.specs.Limits.{IsNearRail, IsPlaceNear};
+ghost use Rattle.qc_model.specs.Judge.{IsJudgedAt};
 ghost use Rattle.qc_model.specs.Rules.{crane_of, start_of, end_of};
 ghost use Rattle.qc_model.specs.Ticks.{distance, travel_between};
 
 use crate::seen::{Post, seen_bay, seen_number, seen_post};
 use crate::ticks::{bays_between, distance, gap_over, place_of, travel_over};
-use crate::{Direction, Instance, Schedule};
+use crate::{Direction, Instance, Pair, Rule, Schedule};
 use qc_num::{Bay, Tick};
 use std::marker::Model;
 
@@ -24,7 +28,7 @@ pub struct Work {
     /// When it ends, in ticks.
     pub end: Tick,
     ghost on_rail: { IsOnRail bay },
-    ghost bounded: { end ≤ MOST_END },
+    ghost bounded: { end ≤ most_end },
 }
 
 /// A schedule that is judged with a direction: seen as the instance and the schedule themselves, or
@@ -115,7 +119,7 @@ impl<'a> Judge<'a> {
         ensures bay { result.bay ≡ (crane self.now.inst number).bay }
         ensures from { result.from ≡ (crane self.now.inst number).from }
         ensures to { result.to ≡ (crane self.now.inst number).to }
-        ensures soon { result.ready ≤ MOST_READY }
+        ensures soon { result.ready ≤ most_ready }
         ensures on_rail { IsOnRail result.bay }
     {
         let index = seen_number(self.inst, self.way, number);
@@ -127,7 +131,7 @@ impl<'a> Judge<'a> {
         requires one { IsOnRail one }
         requires other { IsOnRail other }
         ensures ticks { result ≡ travel_between self.now.inst one other }
-        ensures bound { result ≤ MOST_DISTANCE }
+        ensures bound { result ≤ most_distance }
     {
         travel_over(self.inst, bays_between(one, other))
     }
@@ -139,7 +143,7 @@ impl<'a> Judge<'a> {
         requires first_bay { IsOnRail x }
         requires second_bay { IsOnRail y }
         ensures ticks { result ≡ distance self.now.inst v x w y }
-        ensures bound { result ≤ MOST_DISTANCE }
+        ensures bound { result ≤ most_distance }
     {
         distance(self.inst, v, x, w, y)
     }
@@ -187,5 +191,47 @@ impl<'a> Judge<'a> {
         ensures { IsTrue result ↔ IsApart self.now.inst first second }
     {
         self.inst.is_apart(first, second)
+    }
+}
+
+/// Whether the rule is judged at these tasks.
+fn is_judged_at(rule: Rule, first: u16, second: u16) -> bool
+    ensures { IsTrue result ↔ IsJudgedAt rule first second }
+{
+    match rule {
+        Rule::Reach | Rule::Ready | Rule::Berth => first == second,
+        Rule::Travel | Rule::Before | Rule::Apart | Rule::Margin | Rule::OneWay => first < second,
+    }
+}
+
+impl Judge<'_> {
+    ghost use Rattle.qc_model.specs.Judge.{FaultIs};
+    ghost use Rattle.qc_model.specs.Judged.{IsFirstBeside, KeepsBeside};
+
+    /// The first task beside which the rule fails at the given one.
+    fn first_beside(&self, rule: Rule, first: u16) -> Option<u16>
+        requires { first < length self.now.inst.tasks }
+        ensures { MatchOption result
+            (KeepsBeside self.now rule first (length self.now.inst.tasks))
+            (IsFirstBeside self.now rule first) }
+    {
+        for second in 0..self.tasks() {
+            if is_judged_at(rule, first, second) && !self.keeps(rule, first, second) {
+                return Some(second);
+            }
+        }
+        None
+    }
+
+    /// The first tasks at which the rule fails.
+    pub(crate) fn first_fault(&self, rule: Rule) -> Option<Pair>
+        ensures { FaultIs self.now.inst self.now.sched rule result }
+    {
+        for first in 0..self.tasks() {
+            if let Some(second) = self.first_beside(rule, first) {
+                return Some(Pair { first, second });
+            }
+        }
+        None
     }
 }

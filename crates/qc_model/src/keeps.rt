@@ -1,7 +1,7 @@
-// Whether a rule holds at one or two tasks.
+//! Whether a rule holds at one or two tasks.
 
 ghost use Rattle.std.specs.Prelude.{◌≡◌, ◌+◌, ◌<◌, ◌≤◌, ◌⊎◌, ◌↔◌, IsTrue, length};
-ghost use Rattle.qc_model.specs.declared.limits.TheConstants.{MOST_DISTANCE};
+ghost use Rattle.qc_model.specs.Numbers.{most_distance};
 ghost use Rattle.qc_model.specs.declared.rules.Rule.TheVariants.{Berth, OneWay};
 ghost use Rattle.qc_model.specs.Judge.{Keeps};
 ghost use Rattle.qc_model.specs.OneWay.{KeepsClimb, KeepsLead};
@@ -13,7 +13,7 @@ use qc_num::Tick;
 
 /// Whether one of the two ends so many ticks before the other starts.
 fn is_clear(one: &Work, other: &Work, ticks: Tick) -> bool
-    requires { ticks ≤ MOST_DISTANCE }
+    requires { ticks ≤ most_distance }
     ensures { IsTrue result
         ↔ ((one.now.end + ticks ≤ other.now.start) ⊎ (other.now.end + ticks ≤ one.now.start)) }
 {

@@ -1,10 +1,10 @@
 //! The quay crane scheduling problem: instances, schedules and the rules that they keep.
 #![tactic(auto)]
 
+mod copies;
 mod crane;
 mod decision;
 mod direction;
-mod end;
 mod instance;
 mod judge;
 mod keeps;
@@ -14,15 +14,14 @@ mod name;
 mod pair;
 mod rules;
 mod schedule;
-mod search;
 mod seen;
 mod task;
 mod ticks;
 
+pub use copies::{copy, copy_cranes};
 pub use crane::Crane;
 pub use decision::Decision;
 pub use direction::Direction;
-pub use end::ends;
 pub use instance::Instance;
 pub use judge::{Judge, Work};
 pub use limits::{
@@ -30,11 +29,11 @@ pub use limits::{
     MOST_HATCHES, MOST_PLACE, MOST_READY, MOST_START, MOST_TASKS, MOST_TRAVEL,
     MOST_TRAVEL_BY_PLACES, MOST_WORK,
 };
-pub use mirrors::{copy, copy_cranes, mirror};
+pub use mirrors::mirror;
 pub use name::Name;
 pub use pair::Pair;
-pub use rules::{Break, Rule, direction_of, first_break, is_judgeable};
-pub use schedule::{Schedule, Slot};
+pub use rules::{Break, Rule, direction_of, first_break};
+pub use schedule::{Schedule, Slot, ends};
 pub use seen::{Post, seen_number, seen_place};
 pub use task::{Phase, Task, TaskText};
 pub use ticks::{bays_between, bays_up, distance, travel_over};

@@ -1,4 +1,7 @@
-// The limits of every instance.
+//! The limits of every instance.
+
+ghost use Rattle.std.specs.Prelude.{◌≡◌};
+ghost use Rattle.qc_model.specs.Numbers.{most_apart, most_bays, most_cranes, most_distance, most_end, most_gap, most_gap_by_places, most_hatches, most_place, most_ready, most_start, most_tasks, most_travel, most_travel_by_places, most_work};
 
 use qc_num::Tick;
 
@@ -46,3 +49,22 @@ pub const MOST_BAYS: Tick = 60_000;
 
 /// The most ticks by which cranes keep clear of each other, and of travel between two bays.
 pub const MOST_DISTANCE: Tick = MOST_TRAVEL * MOST_BAYS;
+
+/// The limits above are the numbers of the definitions. Nobody calls it; a wrong limit fails its proof.
+fn limits_are_the_definitions()
+    ensures tasks { MOST_TASKS ≡ most_tasks }
+    ensures cranes { MOST_CRANES ≡ most_cranes }
+    ensures hatches { MOST_HATCHES ≡ most_hatches }
+    ensures place { MOST_PLACE ≡ most_place }
+    ensures travel { MOST_TRAVEL ≡ most_travel }
+    ensures travel_by_places { MOST_TRAVEL_BY_PLACES ≡ most_travel_by_places }
+    ensures gap { MOST_GAP ≡ most_gap }
+    ensures gap_by_places { MOST_GAP_BY_PLACES ≡ most_gap_by_places }
+    ensures ready { MOST_READY ≡ most_ready }
+    ensures work { MOST_WORK ≡ most_work }
+    ensures apart { MOST_APART ≡ most_apart }
+    ensures start { MOST_START ≡ most_start }
+    ensures end { MOST_END ≡ most_end }
+    ensures bays { MOST_BAYS ≡ most_bays }
+    ensures distance { MOST_DISTANCE ≡ most_distance }
+{}

@@ -1,4 +1,4 @@
-// An instance seen from the other end of the ship, and copies of instances.
+//! An instance seen from the other end of the ship.
 
 ghost use Rattle.std.specs.Prelude.{◌≡◌, IfOk, map, reverse};
 ghost use Rattle.qc_model.specs.Instance.{IsOnRail, Valid};
@@ -8,32 +8,6 @@ use crate::seen::{seen_bay, seen_post};
 use crate::{Crane, Direction, Instance, Task};
 use qc_num::OutOfMemory;
 use std::alloc::Global;
-
-/// The same cranes.
-pub fn copy_cranes(alloc: Global, cranes: &[Crane]) -> Result<Vec<Crane>, OutOfMemory>
-    ensures { IfOk result (λ copies. copies.items ≡ cranes.now) }
-{
-    let mut copies = Vec::new(alloc);
-    for crane in cranes {
-        copies.push(crane.clone()?)?;
-    }
-    Ok(copies)
-}
-
-/// The same instance.
-pub fn copy(alloc: Global, inst: &Instance) -> Result<Instance, OutOfMemory>
-    ensures { IfOk result (λ copied. copied ≡ inst.now) }
-{
-    Ok(Instance::of(
-        inst.bays(),
-        inst.travel(),
-        inst.gap(),
-        Vec::from_slice(alloc, inst.tasks())?,
-        copy_cranes(alloc, inst.cranes())?,
-        Vec::from_slice(alloc, inst.before())?,
-        Vec::from_slice(alloc, inst.apart())?,
-    ))
-}
 
 /// A task seen from the other end.
 fn mirror_task(inst: &Instance, task: &Task) -> Task

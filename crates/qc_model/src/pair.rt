@@ -1,3 +1,5 @@
+//! Pairs of tasks.
+
 /// Two tasks by their numbers, from 0. Pairs are in order of the first task, then of the second.
 #[derive(Clone, Copy, Debug, PartialEq, Eq, PartialOrd, Ord)]
 pub struct Pair {

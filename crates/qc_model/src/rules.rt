@@ -1,4 +1,6 @@
-ghost use Rattle.std.specs.Prelude.{◌≡◌, ◌<◌, ◌≤◌, ◌↔◌, length, All, IfErr, IfNone, IfOk, IfSome, IsNone, IsOk, IsTrue};
+//! Which rule a schedule breaks first, and its direction.
+
+ghost use Rattle.std.specs.Prelude.{◌≡◌, ◌<◌, ◌≤◌, ◌↔◌, length, IfErr, IfNone, IfOk, IfSome, IsNone, IsOk, IsTrue};
 ghost use Rattle.qc_model.specs.declared.rules.Rule.TheVariants.{OneWay};
 ghost use Rattle.qc_model.specs.Rules.{Feasible};
 ghost use Rattle.qc_model.specs.OneWay.{GoesOneWay};
@@ -7,7 +9,7 @@ ghost use Rattle.qc_model.specs.Motion.{IsSafe};
 ghost use Rattle.qc_model.specs.Judge.{IsJudgeable, Goes, IsDirection, IsFirstBreak};
 
 use crate::judge::Judge;
-use crate::{Direction, Instance, MOST_START, Pair, Schedule, Slot};
+use crate::{Direction, Instance, Pair, Schedule};
 
 /// The rules of a schedule, in the order in which they are judged: those of a feasible
 /// schedule after Kim and Park (2004), and that of a one-way schedule after Bierwirth and
@@ -62,6 +64,7 @@ impl Rule {
     }
 }
 
+/// The rules in the order in which they are judged.
 const RULES: [Rule; 8] = [
     Rule::Reach,
     Rule::Ready,
@@ -72,22 +75,6 @@ const RULES: [Rule; 8] = [
     Rule::Berth,
     Rule::OneWay,
 ];
-
-fn are_in_range(slots: &[Slot], cranes: usize) -> bool
-    ensures { IsTrue result
-        ↔ All (λ slot. (slot.crane < cranes) × (slot.start ≤ MOST_START)) slots.now }
-{
-    slots.iter().all(|slot| (slot.crane as usize) < cranes && slot.start <= MOST_START)
-}
-
-/// Whether the schedule can be judged: it has a slot for each task, on a crane of the instance, and
-/// its starts have at most 12 digits.
-pub fn is_judgeable(inst: &Instance, sched: &Schedule) -> bool
-    ensures { IsTrue result ↔ IsJudgeable inst.now sched.now }
-{
-    let slots = sched.slots();
-    slots.len() == inst.tasks().len() && are_in_range(slots, inst.cranes().len())
-}
 
 /// The first rule that the schedule breaks if it is to go this way, and the first task or
 /// tasks at which it does; `None` exactly where the schedule is feasible and goes this way.

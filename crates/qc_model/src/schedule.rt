@@ -1,7 +1,12 @@
-ghost use Rattle.std.specs.Prelude.{◌≡◌, ◌<◌, length, map, All, IfOk, replicate, slice_set};
-ghost use Rattle.qc_model.specs.OneWay.{flipped};
-ghost use Rattle.qc_model.specs.Rules.{no_slot};
+//! Schedules, and when they end.
 
+ghost use Rattle.std.specs.Prelude.{◌≡◌, ◌<◌, ◌≤◌, length, map, All, IfOk, replicate, slice_set};
+ghost use Rattle.qc_model.specs.Judge.{IsJudgeable};
+ghost use Rattle.qc_model.specs.Numbers.{most_end};
+ghost use Rattle.qc_model.specs.OneWay.{flipped};
+ghost use Rattle.qc_model.specs.Rules.{ends, no_slot};
+
+use crate::Instance;
 use qc_num::{OutOfMemory, Tick};
 use std::alloc::Global;
 use std::marker::Model;
@@ -68,4 +73,17 @@ impl Schedule {
     {
         self.slots.as_slice()
     }
+}
+
+/// When the last task ends, in ticks; 0 where there is no task.
+pub fn ends(inst: &Instance, sched: &Schedule) -> Tick
+    requires { IsJudgeable inst.now sched.now }
+    ensures ends { result ≡ ends inst.now sched.now }
+    ensures bound { result ≤ most_end }
+{
+    let mut end = 0;
+    for (task, slot) in inst.tasks().iter().zip(sched.slots()) {
+        end = end.max(slot.start + task.ticks);
+    }
+    end
 }

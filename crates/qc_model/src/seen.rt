@@ -1,3 +1,5 @@
+//! Bays, places and cranes as they are seen from either end of the ship.
+
 ghost use Rattle.std.specs.Prelude.{◌≡◌, ◌<◌, length, pos};
 ghost use Rattle.qc_model.specs.Instance.{IsOnRail};
 ghost use Rattle.qc_model.specs.Limits.{IsPlaceNear};

@@ -1,3 +1,5 @@
+//! Tasks and their phases.
+
 ghost use Rattle.std.specs.Prelude.{◌≡◌};
 
 use itoa::Buffer;

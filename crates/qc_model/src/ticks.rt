@@ -1,5 +1,7 @@
+//! Bays and ticks between places, and the distance of two cranes.
+
 ghost use Rattle.std.specs.Prelude.{◌≡◌, ◌*◌, ◌<◌, ◌≤◌, pos, ◌≤ℤ◌, length};
-ghost use Rattle.qc_model.specs.declared.limits.TheConstants.{MOST_BAYS, MOST_CRANES, MOST_DISTANCE};
+ghost use Rattle.qc_model.specs.Numbers.{most_bays, most_cranes, most_distance};
 ghost use Rattle.qc_model.specs.Bays.{bays_up, bays_between};
 ghost use Rattle.qc_model.specs.Instance.{IsOnRail};
 ghost use Rattle.qc_model.specs.Limits.{IsNearRail, IsPlaceNear};
@@ -29,9 +31,9 @@ pub fn bays_between(one: Bay, other: Bay) -> Tick
 
 /// The ticks of travel over so many bays.
 pub fn travel_over(inst: &Instance, bays: Tick) -> Tick
-    requires { bays ≤ MOST_BAYS }
+    requires { bays ≤ most_bays }
     ensures ticks { result ≡ inst.now.travel * bays }
-    ensures bound { result ≤ MOST_DISTANCE }
+    ensures bound { result ≤ most_distance }
 {
     inst.travel() * bays
 }
@@ -61,7 +63,7 @@ pub fn distance(inst: &Instance, v: u16, x: Bay, w: u16, y: Bay) -> Tick
     requires first_bay { IsOnRail x }
     requires second_bay { IsOnRail y }
     ensures ticks { result ≡ distance inst.now v x w y }
-    ensures bound { result ≤ MOST_DISTANCE }
+    ensures bound { result ≤ most_distance }
 {
     let bays = if v < w {
         bays_up(y, x + gap_over(inst, w - v))

@@ -1,4 +1,4 @@
--- Bounds: numbers of ticks, and Never above them all.
+-- public: bounds, numbers of ticks, and Never above them all.
 use Rattle.std.specs.Prelude.{◌≤◌, min, Bool, true, false, ◌==◌, List, [], ◌∷◌}
 use Rattle.qc_num.specs.declared.bound.Bound.{Bound}
 use Rattle.qc_num.specs.declared.bound.Bound.TheVariants.{Least, Never}

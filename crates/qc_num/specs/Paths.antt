@@ -1,4 +1,4 @@
--- Paths: lists of tasks.
+-- public: paths, lists of tasks.
 use Rattle.std.specs.Prelude.{ℕ, ◌≤◌}
 use Rattle.smallvec.specs.SmallVec.{SmallVec}
 

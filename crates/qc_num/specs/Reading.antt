@@ -1,5 +1,7 @@
--- Readings: steps of which the first fault counts.
-use Rattle.std.specs.Prelude.{List, [], ◌∷◌, ◌++◌, Bool, true, false, Result, Ok, Err, ⊤}
+-- public: readings, steps of which the first fault counts.
+use Rattle.std.specs.Prelude.{◌≡◌, List, [], ◌∷◌, ◌++◌, Bool, true, false, Result, Ok, Err, ⊤}
+use Rattle.qc_num.specs.declared.read_error.ReadError.{ReadError}
+use Rattle.qc_num.specs.declared.read_error.ReadError.TheVariants.{Fault, OutOfMemory}
 
 -- a step, and then those that need its value; the first fault counts
 infixl 10 ◌>>=◌
@@ -23,3 +25,9 @@ each judge before [] = Ok before
 each judge before (x ∷ xs) = do
   b ← judge before x
   each judge (before ++ b ∷ []) xs
+
+-- what was read, seen by `view`, stands for this reading, unless memory ran out
+abbrev pub IsReading : {T V F : Type 0} → (T → V) → Result V F → Result T (ReadError F) → Type 0
+IsReading view reading (Ok value) = reading ≡ Ok (view value)
+IsReading view reading (Err (Fault fault)) = reading ≡ Err fault
+IsReading view reading (Err OutOfMemory) = ⊤

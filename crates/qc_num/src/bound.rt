@@ -1,8 +1,11 @@
+//! Bounds: what no schedule beats.
+
 ghost use Rattle.std.specs.Prelude.{◌≡◌, ◌↔◌, IsTrue};
 
 use crate::Tick;
 
-/// What no schedule beats: an end in ticks, or that there is no schedule. `Never` is above every number.
+/// A lower bound of the ends of all schedules, in ticks; `Never`, above every number, where there is no
+/// schedule.
 #[derive(Clone, Copy, Debug, PartialEq, Eq)]
 pub enum Bound {
     /// Nothing ends before this tick.
@@ -26,7 +29,7 @@ impl Bound {
         }
     }
 
-    /// Whether no end before this one is left open: `Never` reaches every end.
+    /// Whether the bound is at least `end`, so that no schedule ends before it. `Never` reaches every end.
     pub fn reaches(self, end: Tick) -> bool
         ensures { IsTrue result ↔ IsAtMost (Least end) self }
     {

@@ -1,3 +1,5 @@
+//! A run of bytes that contracts see as a list.
+
 ghost use Rattle.std.specs.Prelude.{◌≡◌};
 
 use std::marker::Model;
@@ -24,6 +26,7 @@ impl Bytes {
         Bytes { items }
     }
 
+    /// The bytes in order.
     pub fn as_slice(&self) -> &[u8]
         ensures { result.now ≡ self.now }
     {

@@ -1,4 +1,4 @@
-// Numbers in plain decimal.
+//! Numbers in plain decimal.
 
 ghost use Rattle.std.specs.Prelude.{◌≡◌, ◌≤◌, ◌<◌, ◌^◌, length, IfSome, IsTrue};
 ghost use Rattle.std.specs.Char.{is_ascii_digit};
@@ -6,12 +6,14 @@ ghost use Rattle.std.specs.List.{list_all};
 ghost use Rattle.std.specs.Str.Parse.{digits_value};
 ghost use Rattle.qc_num.specs.Digits.{is_plain, number_in};
 
+/// Whether each byte is a digit.
 fn are_digits(text: &[u8]) -> bool
     ensures { result ≡ list_all is_ascii_digit text.now }
 {
     text.iter().all(|b| b.is_ascii_digit())
 }
 
+/// Whether the text is plain decimal of at most so many digits.
 fn is_plain(text: &[u8], most: usize) -> bool
     ensures { result ≡ is_plain most text.now }
 {
@@ -21,7 +23,7 @@ fn is_plain(text: &[u8], most: usize) -> bool
         && (text.len() == 1 || text[0] != b'0')
 }
 
-// The number that at most 19 digits write.
+/// The number that at most 19 digits write.
 fn number(digits: &[u8]) -> u64
     requires few { length digits.now ≤ 19 }
     requires digits { IsTrue (list_all is_ascii_digit digits.now) }

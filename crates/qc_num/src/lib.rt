@@ -6,6 +6,7 @@ mod bytes;
 mod digits;
 mod memory;
 mod path;
+mod read_error;
 mod steps;
 mod text;
 
@@ -14,6 +15,7 @@ pub use bytes::Bytes;
 pub use digits::plain_number;
 pub use memory::OutOfMemory;
 pub use path::Path;
+pub use read_error::ReadError;
 pub use steps::Steps;
 pub use text::Text;
 

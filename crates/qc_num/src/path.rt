@@ -1,3 +1,5 @@
+//! Lists of task numbers.
+
 use smallvec::SmallVec;
 use std::alloc::Global;
 

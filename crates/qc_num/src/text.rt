@@ -1,3 +1,5 @@
+//! Short texts that are held in place.
+
 ghost use Rattle.std.specs.Prelude.{◌≡◌, ◌+◌, ◌≤◌, ◌^◌, ◌<◌, ◌∷◌, [], ◌++◌, length, decimal};
 ghost use Rattle.std.specs.Fmt.{signed_decimal};
 

@@ -14,7 +14,7 @@ use Rattle.qc_num.proofs.Lists.{Contains-map}
 use Rattle.qc_num.proofs.ReadingLemmas.{bind_ok, each-keeps, length-each, passed, passed_not, same_ok}
 use Rattle.toml.specs.Data.{Data, Members, get_member}
 use Rattle.qc_model.specs.declared.crane.Crane.{Crane}
-use Rattle.qc_model.specs.declared.limits.TheConstants.{MOST_CRANES, MOST_READY}
+use Rattle.qc_model.specs.Numbers.{most_cranes, most_ready}
 use Rattle.qc_ship.specs.declared.fault.Key.{Key}
 use Rattle.qc_ship.specs.declared.fault.Key.TheVariants as key
 use Rattle.qc_ship.specs.declared.fault.ShipKind.TheVariants as kind
@@ -33,7 +33,7 @@ number_or-bounds default k number low high ms n e from to =
 -- a crane's start bay, ready time and reach, which goes from the place of a hatch to that of the same or a later one
 abbrev pub IsCraneOf : Bool → List ℕ → Crane → Type 0
 IsCraneOf in_decimetres places c =
-    (c.ready ≤ MOST_READY)
+    (c.ready ≤ most_ready)
     × ((least_start in_decimetres ≤ℤ c.bay) × (c.bay ≤ℤ greatest_start in_decimetres))
     × (Contains (map pos places) c.from × Contains (map pos places) c.to × (c.from ≤ℤ c.to))
 
@@ -68,20 +68,20 @@ abbrev with_bay : Bool → List ℕ → ℕ → Members → List ℕ → ℕ →
 with_bay in_decimetres places number ms name ready = bay_at in_decimetres number ms >>= with_from places number ms name ready
 
 abbrev with_ready : Bool → List ℕ → ℕ → Members → List ℕ → Reading Crane
-with_ready in_decimetres places number ms name = number_or 0 key.Ready number 0 MOST_READY ms >>= with_bay in_decimetres places number ms name
+with_ready in_decimetres places number ms name = number_or 0 key.Ready number 0 most_ready ms >>= with_bay in_decimetres places number ms name
 
 crane_at-tells : (in_decimetres : Bool) (count : ℕ) (places : List ℕ) (number : ℕ) (ms : Members) (c : Crane)
     → Places count places → 1 ≤ count → crane_at in_decimetres places number ms ≡ Ok c
     → IsCraneOf in_decimetres places c
 crane_at-tells in_decimetres count places number ms c are some e =
     let (name, named, e1) = bind_ok (name_at number ms) (with_ready in_decimetres places number ms) c e in
-    let (ready, at_ready, e2) = bind_ok (number_or 0 key.Ready number 0 MOST_READY ms) (with_bay in_decimetres places number ms name) c e1 in
+    let (ready, at_ready, e2) = bind_ok (number_or 0 key.Ready number 0 most_ready ms) (with_bay in_decimetres places number ms name) c e1 in
     let (bay, at_bay, e3) = bind_ok (bay_at in_decimetres number ms) (with_from places number ms name ready) c e2 in
     let (from, at_from, e4) = bind_ok (number_or 1 key.From number 1 (length places) ms) (with_to places number ms name ready bay) c e3 in
     let (to, at_to, e5) = bind_ok (number_or (length places) key.To number from (length places) ms)
     (λ to. Ok (record { name = name; ready = ready; bay = bay; from = hatch_place places from; to = hatch_place places to })) c e4 in
     let (d, given, read) = bind_ok (required key.Bay number ms) (integer_in key.Bay number (least_start in_decimetres) (greatest_start in_decimetres)) bay at_bay in
-    let readies = number_or-bounds 0 key.Ready number 0 MOST_READY ms ready at_ready (omega arith) (omega arith) in
+    let readies = number_or-bounds 0 key.Ready number 0 most_ready ms ready at_ready (omega arith) (omega arith) in
     let starts = integer_in-bounds key.Bay number (least_start in_decimetres) (greatest_start in_decimetres) d bay read in
     let froms = number_or-bounds 1 key.From number 1 (length places) ms from at_from (omega arith) (omega arith) in
     let tos = number_or-bounds (length places) key.To number from (length places) ms to at_to froms.1 (omega arith) in
@@ -131,7 +131,7 @@ crane_in-tells in_decimetres gap count places before d c are some e =
 
 -- the cranes of a file
 pub record Cranes (in_decimetres : Bool) (gap : ℕ) (places : List ℕ) (cranes : List Crane) : Type 0 where
-  pub count : (1 ≤ length cranes) × (length cranes ≤ MOST_CRANES)
+  pub count : (1 ≤ length cranes) × (length cranes ≤ most_cranes)
   pub each_one : All (IsCraneOf in_decimetres places) cranes
   pub names : AllPairs (λ c d. c.name ≢ d.name) cranes
   pub order : AllPairs (λ c d. (c.bay +ℤ pos gap) ≤ℤ d.bay) cranes
@@ -146,9 +146,9 @@ pub Cranes-from : (in_decimetres : Bool) (gap count : ℕ) (places : List ℕ) (
     → Cranes in_decimetres gap places cranes
 Cranes-from in_decimetres gap count places ms cranes are some e =
     let judge = crane_in in_decimetres gap places in
-    let (d, found, more) = bind_ok (required key.Crane 0 ms) (λ d. array_in key.Crane 1 MOST_CRANES d >>= each judge []) cranes e in
-    let (ds, read, judged) = bind_ok (array_in key.Crane 1 MOST_CRANES d) (each judge []) cranes more in
-    let counts = array_in-count key.Crane 1 MOST_CRANES d ds read in
+    let (d, found, more) = bind_ok (required key.Crane 0 ms) (λ d. array_in key.Crane 1 most_cranes d >>= each judge []) cranes e in
+    let (ds, read, judged) = bind_ok (array_in key.Crane 1 most_cranes d) (each judge []) cranes more in
+    let counts = array_in-count key.Crane 1 most_cranes d ds read in
     let long = length-each judge [] ds cranes judged in
     let kept : SoFar in_decimetres gap places cranes = each-keeps judge (SoFar in_decimetres gap places) (λ before d c so_far step.
     let tells = crane_in-tells in_decimetres gap count places before d c are some step in (

@@ -7,12 +7,13 @@ use Rattle.std.specs.Option.{option_map_or}
 use Rattle.std.proofs.lemmas.Bool.{cases_Bool}
 use Rattle.std.proofs.lemmas.Bool.Decides.{nat_tests}
 use Rattle.std.proofs.lemmas.List.Elements.{All-push}
+use Rattle.std.proofs.lemmas.Option.{same_Some}
 use Rattle.std.proofs.lemmas.List.FromFn.{get_or-range_with_len, length-range_with_len}
 use Rattle.qc_num.specs.Reading.{◌>>=◌, each}
 use Rattle.qc_num.proofs.ReadingLemmas.{bind_ok, each-keeps, length-each, passed, passed_not, same_ok}
 use Rattle.toml.specs.Data.{Data, Members, get_member}
-use Rattle.qc_model.specs.declared.limits.TheConstants.{MOST_HATCHES, MOST_PLACE}
-use Rattle.qc_ship.specs.declared.limits.TheConstants.{GREATEST_HATCH, MOST_HATCH_PAIRS}
+use Rattle.qc_model.specs.Numbers.{most_hatches, most_place}
+use Rattle.qc_ship.specs.Numbers.{greatest_hatch, most_hatch_pairs}
 use Rattle.qc_ship.specs.declared.fault.ShipFault.{ShipFault}
 use Rattle.qc_ship.specs.declared.fault.Key.TheVariants as key
 use Rattle.qc_ship.specs.declared.fault.ShipKind.TheVariants as kind
@@ -23,13 +24,10 @@ use Rattle.qc_ship.specs.ShipValues.{Reading, required, array_in, last, next_num
 use Rattle.qc_ship.specs.ShipFile.{hatch_in, place_in, hatches_at, places_in, places_at, hatch_of, two_integers, pair_in, pairs_in, apart_at}
 use Rattle.qc_ship.proofs.ShipLaws.{chain-push, number_in-bounds, array_in-count}
 
-same_some : {A : Type 0} (a b : A) → Some a ≡ Some b → a ≡ b
-same_some a b e = cc
-
 -- a test of the last value, where there is one
 pub test_at_last : {B : Type 0} (test : B → Bool) (o : Option B) (p : B) → o ≡ Some p → option_map_or test o true ≡ true → test p ≡ true
 test_at_last test None p here test_is = cc
-test_at_last test (Some q) p here test_is = subst (λ x. test x ≡ true) (same_some q p here) test_is
+test_at_last test (Some q) p here test_is = subst (λ x. test x ≡ true) (same_Some q p here) test_is
 
 below : (a b : ℕ) → nat_lt a b ≡ true → a < b
 below a b e = grind (arith, nat_tests)
@@ -43,32 +41,32 @@ lowest-highest h =
 
 -- what a hatch that was read is
 hatch_in-tells : (before : List ℕ) (d : Data) (h : ℕ) → hatch_in before d ≡ Ok h
-    → ((1 ≤ h) × (h ≤ GREATEST_HATCH)) × ((p : ℕ) → last before ≡ Some p → highest_bay p < lowest_bay h)
+    → ((1 ≤ h) × (h ≤ greatest_hatch)) × ((p : ℕ) → last before ≡ Some p → highest_bay p < lowest_bay h)
 hatch_in-tells before d h e =
     let (n, read, judged) = bind_ok _ _ h e in
     let (behind, same) = passed _ n h _ judged in
-    let bounds : (1 ≤ n) × (n ≤ GREATEST_HATCH) = number_in-bounds _ _ 1 GREATEST_HATCH d n read in
+    let bounds : (1 ≤ n) × (n ≤ greatest_hatch) = number_in-bounds _ _ 1 greatest_hatch d n read in
     ((omega arith, omega arith), λ p here. subst (λ x. highest_bay p < lowest_bay x) same (below _ _ (test_at_last _ (last before) p here behind)))
 
 place_in-tells : (before : List ℕ) (d : Data) (h : ℕ) → place_in before d ≡ Ok h
-    → ((1 ≤ h) × (h ≤ MOST_PLACE)) × ((p : ℕ) → last before ≡ Some p → p < h)
+    → ((1 ≤ h) × (h ≤ most_place)) × ((p : ℕ) → last before ≡ Some p → p < h)
 place_in-tells before d h e =
     let (n, read, judged) = bind_ok _ _ h e in
     let (behind, same) = passed _ n h _ judged in
-    let bounds : (1 ≤ n) × (n ≤ MOST_PLACE) = number_in-bounds _ _ 1 MOST_PLACE d n read in
+    let bounds : (1 ≤ n) × (n ≤ most_place) = number_in-bounds _ _ 1 most_place d n read in
     ((omega arith, omega arith), λ p here. subst (λ x. p < x) same (below _ _ (test_at_last _ (last before) p here behind)))
 
 -- the hatches of a file
 pub HasHatches-from : (ms : Members) (hatches : List ℕ) → hatches_at ms ≡ Ok hatches → HasHatches hatches
 HasHatches-from ms hatches e =
-    let (d, found, more) = bind_ok (required key.Hatches 0 ms) (λ d. array_in key.Hatches 1 MOST_HATCHES d >>= each hatch_in []) hatches e in
-    let (ds, read, judged) = bind_ok (array_in key.Hatches 1 MOST_HATCHES d) (each hatch_in []) hatches more in
-    let counts : (1 ≤ length ds) × (length ds ≤ MOST_HATCHES) = array_in-count key.Hatches 1 MOST_HATCHES d ds read in
+    let (d, found, more) = bind_ok (required key.Hatches 0 ms) (λ d. array_in key.Hatches 1 most_hatches d >>= each hatch_in []) hatches e in
+    let (ds, read, judged) = bind_ok (array_in key.Hatches 1 most_hatches d) (each hatch_in []) hatches more in
+    let counts : (1 ≤ length ds) × (length ds ≤ most_hatches) = array_in-count key.Hatches 1 most_hatches d ds read in
     let long : length hatches ≡ 0 + length ds = length-each hatch_in [] ds hatches judged in
-    let P : List ℕ → Type 0 = λ hs. All (λ h. (1 ≤ h) × (h ≤ GREATEST_HATCH)) hs × AllPairs (λ g h. highest_bay g < lowest_bay h) hs in
+    let P : List ℕ → Type 0 = λ hs. All (λ h. (1 ≤ h) × (h ≤ greatest_hatch)) hs × AllPairs (λ g h. highest_bay g < lowest_bay h) hs in
     let kept : P hatches = each-keeps hatch_in P (λ before d h so_far step.
     let tells = hatch_in-tells before d h step in (
-      All-push (λ h. (1 ≤ h) × (h ≤ GREATEST_HATCH)) before h so_far.0 tells.0,
+      All-push (λ h. (1 ≤ h) × (h ≤ greatest_hatch)) before h so_far.0 tells.0,
       chain-push (λ g h. highest_bay g < lowest_bay h) (λ x y z left right. omega (arith, lowest-highest y)) before h so_far.1 tells.1,
     ))
     [] ds hatches (λ k d within. absurd (omega arith), λ i j d between within. absurd (omega arith)) judged in
@@ -77,7 +75,7 @@ HasHatches-from ms hatches e =
 -- places that rise from 1 to 6,000, one for each hatch
 pub record Places (count : ℕ) (places : List ℕ) : Type 0 where
   pub total : length places ≡ count
-  pub range : All (λ p. (1 ≤ p) × (p ≤ MOST_PLACE)) places
+  pub range : All (λ p. (1 ≤ p) × (p ≤ most_place)) places
   pub order : AllPairs (λ p q. p < q) places
 
 Places-from_array : (count : ℕ) (d : Data) (places : List ℕ) → places_in count d ≡ Ok places → Places count places
@@ -85,16 +83,16 @@ Places-from_array count d places e =
     let (ds, read, judged) = bind_ok (array_in key.Places count count d) (each place_in []) places e in
     let counts : (count ≤ length ds) × (length ds ≤ count) = array_in-count key.Places count count d ds read in
     let long : length places ≡ 0 + length ds = length-each place_in [] ds places judged in
-    let P : List ℕ → Type 0 = λ ps. All (λ p. (1 ≤ p) × (p ≤ MOST_PLACE)) ps × AllPairs (λ p q. p < q) ps in
+    let P : List ℕ → Type 0 = λ ps. All (λ p. (1 ≤ p) × (p ≤ most_place)) ps × AllPairs (λ p q. p < q) ps in
     let kept : P places = each-keeps place_in P (λ before d h so_far step.
     let tells = place_in-tells before d h step in (
-      All-push (λ p. (1 ≤ p) × (p ≤ MOST_PLACE)) before h so_far.0 tells.0,
+      All-push (λ p. (1 ≤ p) × (p ≤ most_place)) before h so_far.0 tells.0,
       chain-push (λ p q. p < q) (λ x y z left right. omega arith) before h so_far.1 tells.1,
     ))
     [] ds places (λ k d within. absurd (omega arith), λ i j d between within. absurd (omega arith)) judged in
     record { total = omega (arith, counts.0, counts.1, long); range = kept.0; order = kept.1 }
 
-Places-counted : (count : ℕ) → count ≤ MOST_HATCHES → Places count (range_with_len 1 count)
+Places-counted : (count : ℕ) → count ≤ most_hatches → Places count (range_with_len 1 count)
 Places-counted count few = record {
   total = length-range_with_len 1 count;
   range = λ k d within.
@@ -112,7 +110,7 @@ pub either_way : {A B : Type 0} (P : B → Type 0) (read : A → Reading B) (o :
 either_way P read None default b e left_out given = subst P (same_ok e) left_out
 either_way P read (Some a) default b e left_out given = given a e
 
-pub Places-from : (count : ℕ) (ms : Members) (places : List ℕ) → count ≤ MOST_HATCHES → places_at count ms ≡ Ok places → Places count places
+pub Places-from : (count : ℕ) (ms : Members) (places : List ℕ) → count ≤ most_hatches → places_at count ms ≡ Ok places → Places count places
 Places-from count ms places few e =
     either_way (Places count) (places_in count) _ (range_with_len 1 count) places e (Places-counted count few) (λ d read. Places-from_array count d places read)
 
@@ -127,7 +125,7 @@ find-Contains : {A : Type 0} (test : A → Bool) (xs : List A) (x : A) → find 
 find-Contains test [] x e = cc
 find-Contains test (y ∷ ys) x e =
     elim (cases_Bool (test y)) [
-      | inl passes ↦ (0, omega arith, same_some y x (rw passes at e))
+      | inl passes ↦ (0, omega arith, same_Some y x (rw passes at e))
       | inr fails ↦ (let (k, within, here) = find-Contains test ys x (rw fails at e) in (suc k, omega arith, here))
     ]
 
@@ -160,12 +158,12 @@ pair_in-tells hatches before d pair e =
     )
 
 pub HasPairs-from : (hatches : List ℕ) (ms : Members) (pairs : List HatchPair) → apart_at hatches ms ≡ Ok pairs
-    → (length pairs ≤ MOST_HATCH_PAIRS) × All (IsPairOf hatches) pairs
+    → (length pairs ≤ most_hatch_pairs) × All (IsPairOf hatches) pairs
 HasPairs-from hatches ms pairs e =
-    let P : List HatchPair → Type 0 = λ ps. (length ps ≤ MOST_HATCH_PAIRS) × All (IsPairOf hatches) ps in
+    let P : List HatchPair → Type 0 = λ ps. (length ps ≤ most_hatch_pairs) × All (IsPairOf hatches) ps in
     either_way P (pairs_in hatches) (get_member (key_text key.Apart) ms) [] pairs e (omega arith, λ k d within. absurd (omega arith)) (λ d read.
-    let (ds, items, judged) = bind_ok (array_in key.Apart 0 MOST_HATCH_PAIRS d) (each (pair_in hatches) []) pairs read in
-    let counts : (0 ≤ length ds) × (length ds ≤ MOST_HATCH_PAIRS) = array_in-count key.Apart 0 MOST_HATCH_PAIRS d ds items in
+    let (ds, items, judged) = bind_ok (array_in key.Apart 0 most_hatch_pairs d) (each (pair_in hatches) []) pairs read in
+    let counts : (0 ≤ length ds) × (length ds ≤ most_hatch_pairs) = array_in-count key.Apart 0 most_hatch_pairs d ds items in
     let long : length pairs ≡ 0 + length ds = length-each (pair_in hatches) [] ds pairs judged in
     let Q : List HatchPair → Type 0 = All (IsPairOf hatches) in (
       omega (arith, counts.1, long),

@@ -8,8 +8,8 @@ use Rattle.qc_num.specs.Reading.{◌>>=◌}
 use Rattle.qc_num.proofs.ReadingLemmas.{bind_ok, same_ok}
 use Rattle.toml.specs.Data.{Data, Members, get_member}
 use Rattle.qc_model.specs.declared.crane.Crane.{Crane}
-use Rattle.qc_model.specs.declared.limits.TheConstants.{MOST_GAP_BY_PLACES}
-use Rattle.qc_ship.specs.declared.limits.TheConstants.{MOST_MARGIN, MOST_MOVE_TICKS}
+use Rattle.qc_model.specs.Numbers.{most_gap_by_places}
+use Rattle.qc_ship.specs.Numbers.{most_margin, most_move_ticks}
 use Rattle.qc_ship.specs.declared.fault.Key.{Key}
 use Rattle.qc_ship.specs.declared.fault.Key.TheVariants as key
 use Rattle.qc_ship.specs.declared.ship.Times.{Times}
@@ -30,10 +30,10 @@ number_at-bounds k number low high ms n e =
 gap_at-bounds : (ms : Members) (gap : ℕ) → gap_at ms ≡ Ok gap → (1 ≤ gap) × (gap ≤ most_gap (gives_places ms))
 gap_at-bounds ms gap e =
     elim (cases_Bool (gives_places ms)) [
-      | inl given ↦ rw given (number_at-bounds key.Clear 0 1 MOST_GAP_BY_PLACES ms gap (rw given at e))
+      | inl given ↦ rw given (number_at-bounds key.Clear 0 1 most_gap_by_places ms gap (rw given at e))
       | inr counted ↦ (
-          let (margin, read, same) = bind_ok (number_at key.Margin 0 0 MOST_MARGIN ms) (λ margin. Ok (margin + 1)) gap (rw counted at e) in
-          let bounds = number_at-bounds key.Margin 0 0 MOST_MARGIN ms margin read in
+          let (margin, read, same) = bind_ok (number_at key.Margin 0 0 most_margin ms) (λ margin. Ok (margin + 1)) gap (rw counted at e) in
+          let bounds = number_at-bounds key.Margin 0 0 most_margin ms margin read in
           let equal = same_ok same in
           rw counted (omega (arith, equal), omega (arith, equal, bounds.1)))
     ]
@@ -44,13 +44,13 @@ with_ordered ms gap travel deck_move hold_move cover =
     ordered_at ms >>= λ ordered. Ok (record { gap = gap; travel = travel; deck_move = deck_move; hold_move = hold_move; cover = cover; ordered = ordered })
 
 abbrev with_cover : Members → ℕ → ℕ → ℕ → ℕ → Reading Times
-with_cover ms gap travel deck_move hold_move = number_or 0 key.Cover 0 0 MOST_MOVE_TICKS ms >>= with_ordered ms gap travel deck_move hold_move
+with_cover ms gap travel deck_move hold_move = number_or 0 key.Cover 0 0 most_move_ticks ms >>= with_ordered ms gap travel deck_move hold_move
 
 abbrev with_hold_move : Members → ℕ → ℕ → ℕ → Reading Times
-with_hold_move ms gap travel deck_move = number_at key.HoldMove 0 1 MOST_MOVE_TICKS ms >>= with_cover ms gap travel deck_move
+with_hold_move ms gap travel deck_move = number_at key.HoldMove 0 1 most_move_ticks ms >>= with_cover ms gap travel deck_move
 
 abbrev with_deck_move : Members → ℕ → ℕ → Reading Times
-with_deck_move ms gap travel = number_at key.DeckMove 0 1 MOST_MOVE_TICKS ms >>= with_hold_move ms gap travel
+with_deck_move ms gap travel = number_at key.DeckMove 0 1 most_move_ticks ms >>= with_hold_move ms gap travel
 
 abbrev with_travel : Members → ℕ → Reading Times
 with_travel ms gap = number_at key.Travel 0 1 (most_travel (gives_places ms)) ms >>= with_deck_move ms gap
@@ -59,27 +59,27 @@ with_travel ms gap = number_at key.Travel 0 1 (most_travel (gives_places ms)) ms
 record TimesAreIn (in_decimetres : Bool) (times : Times) : Type 0 where
   gap : (1 ≤ times.gap) × (times.gap ≤ most_gap in_decimetres)
   travel : (1 ≤ times.travel) × (times.travel ≤ most_travel in_decimetres)
-  deck_move : (1 ≤ times.deck_move) × (times.deck_move ≤ MOST_MOVE_TICKS)
-  hold_move : (1 ≤ times.hold_move) × (times.hold_move ≤ MOST_MOVE_TICKS)
-  cover : times.cover ≤ MOST_MOVE_TICKS
+  deck_move : (1 ≤ times.deck_move) × (times.deck_move ≤ most_move_ticks)
+  hold_move : (1 ≤ times.hold_move) × (times.hold_move ≤ most_move_ticks)
+  cover : times.cover ≤ most_move_ticks
 
 TimesAreIn-from : (ms : Members) (times : Times) → times_at ms ≡ Ok times → TimesAreIn (gives_places ms) times
 unfolding times_at
 TimesAreIn-from ms times e =
     let (gap, at_gap, e1) = bind_ok (gap_at ms) (with_travel ms) times e in
     let (travel, at_travel, e2) = bind_ok (number_at key.Travel 0 1 (most_travel (gives_places ms)) ms) (with_deck_move ms gap) times e1 in
-    let (deck_move, at_deck, e3) = bind_ok (number_at key.DeckMove 0 1 MOST_MOVE_TICKS ms) (with_hold_move ms gap travel) times e2 in
-    let (hold_move, at_hold, e4) = bind_ok (number_at key.HoldMove 0 1 MOST_MOVE_TICKS ms) (with_cover ms gap travel deck_move) times e3 in
-    let (cover, at_cover, e5) = bind_ok (number_or 0 key.Cover 0 0 MOST_MOVE_TICKS ms) (with_ordered ms gap travel deck_move hold_move) times e4 in
+    let (deck_move, at_deck, e3) = bind_ok (number_at key.DeckMove 0 1 most_move_ticks ms) (with_hold_move ms gap travel) times e2 in
+    let (hold_move, at_hold, e4) = bind_ok (number_at key.HoldMove 0 1 most_move_ticks ms) (with_cover ms gap travel deck_move) times e3 in
+    let (cover, at_cover, e5) = bind_ok (number_or 0 key.Cover 0 0 most_move_ticks ms) (with_ordered ms gap travel deck_move hold_move) times e4 in
     let (ordered, at_ordered, e6) = bind_ok (ordered_at ms)
     (λ ordered. Ok (record { gap = gap; travel = travel; deck_move = deck_move; hold_move = hold_move; cover = cover; ordered = ordered })) times e5 in
     let P : Times → Type 0 = TimesAreIn (gives_places ms) in
     subst P (same_ok e6) (record {
       gap = gap_at-bounds ms gap at_gap;
       travel = number_at-bounds key.Travel 0 1 (most_travel (gives_places ms)) ms travel at_travel;
-      deck_move = number_at-bounds key.DeckMove 0 1 MOST_MOVE_TICKS ms deck_move at_deck;
-      hold_move = number_at-bounds key.HoldMove 0 1 MOST_MOVE_TICKS ms hold_move at_hold;
-      cover = (number_or-bounds 0 key.Cover 0 0 MOST_MOVE_TICKS ms cover at_cover (omega arith) (omega arith)).1;
+      deck_move = number_at-bounds key.DeckMove 0 1 most_move_ticks ms deck_move at_deck;
+      hold_move = number_at-bounds key.HoldMove 0 1 most_move_ticks ms hold_move at_hold;
+      cover = (number_or-bounds 0 key.Cover 0 0 most_move_ticks ms cover at_cover (omega arith) (omega arith)).1;
     })
 
 -- where no places are given they are 1, 2 and so on

@@ -1,4 +1,4 @@
--- The keys of a ship file, and its faults.
+-- public: the keys of a ship file, and its faults.
 use Rattle.std.specs.Prelude.{ℕ, List, codes}
 use Rattle.qc_ship.specs.declared.fault.Key.{Key}
 use Rattle.qc_ship.specs.declared.fault.Key.TheVariants as key

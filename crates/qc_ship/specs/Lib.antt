@@ -1,5 +1,6 @@
+pub mod Numbers
 pub mod Keys
 pub mod Ship
-pub mod ShipFields
 pub mod ShipFile
 pub mod ShipValues
+pub mod ShipFields

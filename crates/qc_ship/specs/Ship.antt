@@ -1,9 +1,10 @@
--- A ship: its hatches, places, times and cranes.
+-- public: a ship: its hatches, places, times and cranes.
 use Rattle.std.specs.Prelude.{◌≡◌, ◌≢◌, ℕ, ◌+◌, ◌-◌, ◌%◌, ◌<◌, ◌≤◌, ℤ, pos, negsuc, ◌+ℤ◌, ◌≤ℤ◌, Bool, false, ◌&&◌, ◌==◌, nat_le, if◌then◌else◌, List, length, map, slice_index, All, AllPairs, Contains, Option, option_map, position}
 use Rattle.std.specs.List.{range_with_len}
 use Rattle.qc_model.specs.declared.crane.Crane.{Crane}
-use Rattle.qc_model.specs.declared.limits.TheConstants.{MOST_CRANES, MOST_GAP, MOST_GAP_BY_PLACES, MOST_HATCHES, MOST_PLACE, MOST_READY, MOST_TRAVEL, MOST_TRAVEL_BY_PLACES}
-use Rattle.qc_ship.specs.declared.limits.TheConstants.{GREATEST_HATCH, MOST_HATCH_PAIRS, MOST_MOVE_TICKS}
+use Rattle.qc_model.specs.Numbers.{most_cranes, most_gap_by_places, most_hatches, most_place, most_ready, most_travel_by_places}
+use Rattle.qc_model.specs.Numbers as by_bays
+use Rattle.qc_ship.specs.Numbers.{greatest_hatch, most_hatch_pairs, most_move_ticks}
 use Rattle.qc_ship.specs.declared.ship.HatchPair.{HatchPair}
 
 -- what a ship file says; counts, gaps and ticks are naturals
@@ -50,10 +51,10 @@ greatest_place ship = slice_index ship.places (length ship.places - 1)
 
 -- the limits with crane bays 1, 2 and so on, and with places in decimetres
 abbrev pub most_gap : Bool → ℕ
-most_gap in_decimetres = if in_decimetres then MOST_GAP_BY_PLACES else MOST_GAP
+most_gap in_decimetres = if in_decimetres then most_gap_by_places else by_bays.most_gap
 
 abbrev pub most_travel : Bool → ℕ
-most_travel in_decimetres = if in_decimetres then MOST_TRAVEL_BY_PLACES else MOST_TRAVEL
+most_travel in_decimetres = if in_decimetres then most_travel_by_places else by_bays.most_travel
 
 abbrev pub least_start : Bool → ℤ
 least_start in_decimetres = if in_decimetres then negsuc 9999 else negsuc 199
@@ -63,14 +64,14 @@ greatest_start in_decimetres = if in_decimetres then pos 16000 else pos 300
 
 -- 1 to 60 hatches of 1 to 998, each with its bays wholly behind those of the hatches before it
 pub record HasHatches (hatches : List ℕ) : Type 0 where
-  pub count : (1 ≤ length hatches) × (length hatches ≤ MOST_HATCHES)
-  pub range : All (λ h. (1 ≤ h) × (h ≤ GREATEST_HATCH)) hatches
+  pub count : (1 ≤ length hatches) × (length hatches ≤ most_hatches)
+  pub range : All (λ h. (1 ≤ h) × (h ≤ greatest_hatch)) hatches
   pub order : AllPairs (λ g h. highest_bay g < lowest_bay h) hatches
 
 -- a place for each hatch, rising from 1 to 6,000; 1, 2 and so on where they aren't given
 pub record HasPlaces (ship : ShipView) : Type 0 where
   pub count : length ship.places ≡ length ship.hatches
-  pub range : All (λ p. (1 ≤ p) × (p ≤ MOST_PLACE)) ship.places
+  pub range : All (λ p. (1 ≤ p) × (p ≤ most_place)) ship.places
   pub order : AllPairs (λ p q. p < q) ship.places
   pub counted : ship.in_decimetres ≡ false → ship.places ≡ range_with_len 1 (length ship.hatches)
 
@@ -78,21 +79,21 @@ pub record HasPlaces (ship : ShipView) : Type 0 where
 pub record HasTimes (ship : ShipView) : Type 0 where
   pub gap : (1 ≤ ship.gap) × (ship.gap ≤ most_gap ship.in_decimetres)
   pub travel : (1 ≤ ship.travel) × (ship.travel ≤ most_travel ship.in_decimetres)
-  pub deck_move : (1 ≤ ship.deck_move) × (ship.deck_move ≤ MOST_MOVE_TICKS)
-  pub hold_move : (1 ≤ ship.hold_move) × (ship.hold_move ≤ MOST_MOVE_TICKS)
-  pub cover : ship.cover ≤ MOST_MOVE_TICKS
+  pub deck_move : (1 ≤ ship.deck_move) × (ship.deck_move ≤ most_move_ticks)
+  pub hold_move : (1 ≤ ship.hold_move) × (ship.hold_move ≤ most_move_ticks)
+  pub cover : ship.cover ≤ most_move_ticks
 
 -- at most 100 pairs, each of two different hatches of the ship
 pub record HasPairs (ship : ShipView) : Type 0 where
-  pub count : length ship.apart ≤ MOST_HATCH_PAIRS
+  pub count : length ship.apart ≤ most_hatch_pairs
   pub hatches : All (λ pair. Contains ship.hatches pair.a × Contains ship.hatches pair.b
       × (pair.a ≢ pair.b)) ship.apart
 
 -- 1 to 8 cranes with different names, each at least the gap behind the one before it, reaching from
 -- the place of a hatch to that of the same or a later one
 pub record HasCranes (ship : ShipView) : Type 0 where
-  pub count : (1 ≤ length ship.cranes) × (length ship.cranes ≤ MOST_CRANES)
-  pub ready : All (λ c. c.ready ≤ MOST_READY) ship.cranes
+  pub count : (1 ≤ length ship.cranes) × (length ship.cranes ≤ most_cranes)
+  pub ready : All (λ c. c.ready ≤ most_ready) ship.cranes
   pub starts : All (λ c. (least_start ship.in_decimetres ≤ℤ c.bay)
       × (c.bay ≤ℤ greatest_start ship.in_decimetres)) ship.cranes
   pub reach : All (λ c. Contains (map pos ship.places) c.from × Contains (map pos ship.places) c.to

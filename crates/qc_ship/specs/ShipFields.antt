@@ -1,3 +1,4 @@
+-- inner: a ship's fields.
 use Rattle.qc_ship.specs.declared.ship.Ship.TheInside.{Inside}
 use Rattle.qc_ship.specs.Ship.{ShipView}
 

@@ -1,4 +1,4 @@
--- The ship file: the keys in their order, each with its checks; the first fault wins.
+-- public: the ship file: the keys in their order, each with its checks; the first fault wins.
 use Rattle.std.specs.Prelude.{ℕ, ◌+◌, ◌-◌, ℤ, pos, ◌+ℤ◌, List, [], length, slice_index, Bool, true, false, ◌==◌, nat_lt, int_le, bytes_eq, find, if◌then◌else◌, Option, Some, None, Ok, Err, ok_or, is_some, codes}
 use Rattle.std.specs.Ordering.{int_eq}
 use Rattle.std.specs.List.{list_any, range_with_len}
@@ -9,8 +9,8 @@ use Rattle.toml.specs.Parse.{parse_document}
 use Rattle.qc_num.specs.Reading.{◌>>=◌, each}
 use Rattle.qc_model.specs.Names.{is_name}
 use Rattle.qc_model.specs.declared.crane.Crane.{Crane}
-use Rattle.qc_model.specs.declared.limits.TheConstants.{MOST_CRANES, MOST_GAP_BY_PLACES, MOST_HATCHES, MOST_PLACE, MOST_READY}
-use Rattle.qc_ship.specs.declared.limits.TheConstants.{GREATEST_HATCH, MOST_HATCH_PAIRS, MOST_MARGIN, MOST_MOVE_TICKS}
+use Rattle.qc_model.specs.Numbers.{most_cranes, most_gap_by_places, most_hatches, most_place, most_ready}
+use Rattle.qc_ship.specs.Numbers.{greatest_hatch, most_hatch_pairs, most_margin, most_move_ticks}
 use Rattle.qc_ship.specs.Keys.{key_text, fault}
 use Rattle.qc_ship.specs.Ship.{ShipView, lowest_bay, highest_bay, most_travel, least_start, greatest_start}
 use Rattle.qc_ship.specs.ShipValues.{Reading, required, integer_in, number_in, number_at, number_or, array_in, text_in, next_number, last}
@@ -22,7 +22,7 @@ use Rattle.qc_ship.specs.declared.fault.ShipKind.TheVariants as kind
 -- a hatch: 1 to 998, its bays wholly behind those of the hatch before it
 abbrev pub hatch_in : List ℕ → Data → Reading ℕ
 hatch_in before d = do
-  hatch ← number_in key.Hatches (next_number before) 1 GREATEST_HATCH d
+  hatch ← number_in key.Hatches (next_number before) 1 greatest_hatch d
   if option_map_or (λ previous. nat_lt (highest_bay previous) (lowest_bay hatch)) (last before) true
       then Ok hatch
       else Err (fault kind.HatchOrder key.Hatches (next_number before))
@@ -30,13 +30,13 @@ hatch_in before d = do
 abbrev pub hatches_at : Members → Reading (List ℕ)
 hatches_at ms = do
   d ← required key.Hatches 0 ms
-  ds ← array_in key.Hatches 1 MOST_HATCHES d
+  ds ← array_in key.Hatches 1 most_hatches d
   each hatch_in [] ds
 
 -- a place: 1 to 6,000, behind the place before it
 abbrev pub place_in : List ℕ → Data → Reading ℕ
 place_in before d = do
-  place ← number_in key.Places (next_number before) 1 MOST_PLACE d
+  place ← number_in key.Places (next_number before) 1 most_place d
   if option_map_or (λ previous. nat_lt previous place) (last before) true
       then Ok place
       else Err (fault kind.HatchOrder key.Places (next_number before))
@@ -60,9 +60,9 @@ gives_places ms = is_some (get_member (key_text key.Places) ms)
 abbrev pub gap_at : Members → Reading ℕ
 gap_at ms =
     if gives_places ms
-    then number_at key.Clear 0 1 MOST_GAP_BY_PLACES ms
+    then number_at key.Clear 0 1 most_gap_by_places ms
     else (do
-      margin ← number_at key.Margin 0 0 MOST_MARGIN ms
+      margin ← number_at key.Margin 0 0 most_margin ms
       Ok (margin + 1))
 
 -- `"ordered"` or `"free"`
@@ -94,7 +94,7 @@ pair_in hatches before d = do
 
 abbrev pub pairs_in : List ℕ → Data → Reading (List HatchPair)
 pairs_in hatches d = do
-  ds ← array_in key.Apart 0 MOST_HATCH_PAIRS d
+  ds ← array_in key.Apart 0 most_hatch_pairs d
   each (pair_in hatches) [] ds
 
 abbrev pub apart_at : List ℕ → Members → Reading (List HatchPair)
@@ -125,7 +125,7 @@ bay_at in_decimetres number ms =
 abbrev pub crane_at : Bool → List ℕ → ℕ → Members → Reading Crane
 crane_at in_decimetres places number ms = do
   name ← name_at number ms
-  ready ← number_or 0 key.Ready number 0 MOST_READY ms
+  ready ← number_or 0 key.Ready number 0 most_ready ms
   bay ← bay_at in_decimetres number ms
   from ← number_or 1 key.From number 1 (length places) ms
   to ← number_or (length places) key.To number from (length places) ms
@@ -150,7 +150,7 @@ crane_in in_decimetres gap places before d = do
 abbrev pub cranes_at : Bool → ℕ → List ℕ → Members → Reading (List Crane)
 cranes_at in_decimetres gap places ms = do
   d ← required key.Crane 0 ms
-  ds ← array_in key.Crane 1 MOST_CRANES d
+  ds ← array_in key.Crane 1 most_cranes d
   each (crane_in in_decimetres gap places) [] ds
 
 -- the gap, the ticks and the order of restows
@@ -158,9 +158,9 @@ unfoldable pub times_at : Members → Reading Times
 times_at ms = do
   gap ← gap_at ms
   travel ← number_at key.Travel 0 1 (most_travel (gives_places ms)) ms
-  deck_move ← number_at key.DeckMove 0 1 MOST_MOVE_TICKS ms
-  hold_move ← number_at key.HoldMove 0 1 MOST_MOVE_TICKS ms
-  cover ← number_or 0 key.Cover 0 0 MOST_MOVE_TICKS ms
+  deck_move ← number_at key.DeckMove 0 1 most_move_ticks ms
+  hold_move ← number_at key.HoldMove 0 1 most_move_ticks ms
+  cover ← number_or 0 key.Cover 0 0 most_move_ticks ms
   ordered ← ordered_at ms
   Ok (record {
     gap = gap;

@@ -1,4 +1,4 @@
--- Values of a TOML table, each with its fault.
+-- public: values of a TOML table, each with its fault.
 use Rattle.std.specs.Prelude.{◌≡◌, ℕ, ◌+◌, ◌-◌, ℤ, pos, List, [], ◌∷◌, length, slice_get, ◌&&◌, nat_le, int_le, unsigned_abs, if◌then◌else◌, Option, Result, Ok, Err, ok_or, option_map}
 use Rattle.std.specs.Option.{option_map_or}
 use Rattle.qc_num.specs.Reading.{◌>>=◌}
@@ -7,19 +7,12 @@ use Rattle.qc_ship.specs.Keys.{key_text, fault}
 use Rattle.qc_ship.specs.declared.fault.Key.{Key}
 use Rattle.qc_ship.specs.declared.fault.ShipKind.TheVariants.{Missing, WrongKind, Range}
 use Rattle.qc_ship.specs.declared.fault.ShipFault.{ShipFault}
-use Rattle.qc_ship.specs.declared.fault.ShipError.{ShipError}
-use Rattle.qc_ship.specs.declared.fault.ShipError.TheVariants.{Fault, OutOfMemory}
 
 -- a value, or the first fault on the way to it
 abbrev pub Reading : Type 0 → Type 0
 Reading V = Result V ShipFault
 
--- what was read stands for this reading, unless memory ran out
-abbrev pub IsReading : {T V : Type 0} → (T → V) → Reading V → Result T ShipError → Type 0
-IsReading view reading (Ok x) = reading ≡ Ok (view x)
-IsReading view reading (Err (Fault f)) = reading ≡ Err f
-IsReading view reading (Err OutOfMemory) = Unit {0}
-
+-- what was read, seen by `view`, stands for this reading
 abbrev pub IsRead : {T V : Type 0} → (T → V) → Reading V → Result T ShipFault → Type 0
 IsRead view reading (Ok x) = reading ≡ Ok (view x)
 IsRead view reading (Err f) = reading ≡ Err f

@@ -1,8 +1,10 @@
+//! The cranes of a ship file.
+
 ghost use Rattle.std.specs.Prelude.{◌≡◌, ◌<◌, ◌≤◌, ◌+ℤ◌, pos, int_le, [], length, map, bytes_eq};
 ghost use Rattle.std.specs.List.{list_any};
 ghost use Rattle.toml.specs.View.{view, table_view};
-ghost use Rattle.qc_ship.specs.ShipValues.{IsRead, IsReading};
-ghost use Rattle.qc_num.specs.Reading.{each};
+ghost use Rattle.qc_ship.specs.ShipValues.{IsRead};
+ghost use Rattle.qc_num.specs.Reading.{IsReading, each};
 ghost use Rattle.qc_ship.specs.ShipFile.{table_in, name_at, bay_at, keeps_gap, hatch_place, crane_at, crane_in};
 
 use crate::values::{fault, integer_in, number_or, required, text_in};

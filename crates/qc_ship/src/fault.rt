@@ -1,8 +1,9 @@
-ghost use Rattle.std.specs.Prelude.{◌≡◌, ◌≤◌, length};
-ghost use Rattle.qc_ship.specs.declared.fault.ShipError.TheVariants.{Fault, OutOfMemory};
+//! What may be wrong with a ship file.
 
-use std::alloc::{AllocError, AllocFailed};
-use thiserror::Error;
+ghost use Rattle.std.specs.Prelude.{◌≡◌, ◌≤◌, length};
+ghost use Rattle.qc_num.specs.declared.read_error.ReadError.TheVariants.{Fault};
+
+use qc_num::ReadError;
 
 /// What is wrong with a key of a ship file.
 #[derive(Clone, Copy, Debug, PartialEq, Eq)]
@@ -109,34 +110,12 @@ pub struct ShipFault {
 }
 
 /// Why no ship was read.
-#[derive(Debug, Drop, Error)]
-pub enum ShipError {
-    #[error("{0:?}")]
-    Fault(ShipFault),
-    #[error("out of memory")]
-    OutOfMemory,
-}
+pub type ShipError = ReadError<ShipFault>;
 
 impl From<ShipFault> for ShipError {
     ghost from_gives = { λ fault error. error ≡ Fault fault };
 
     fn from(fault: ShipFault) -> ShipError {
         ShipError::Fault(fault)
-    }
-}
-
-impl From<AllocError> for ShipError {
-    ghost from_gives = { λ _ error. error ≡ OutOfMemory };
-
-    fn from(_refused: AllocError) -> ShipError {
-        ShipError::OutOfMemory
-    }
-}
-
-impl<T: Drop> From<AllocFailed<T>> for ShipError {
-    ghost from_gives = { λ _ error. error ≡ OutOfMemory };
-
-    fn from(_refused: AllocFailed<T>) -> ShipError {
-        ShipError::OutOfMemory
     }
 }

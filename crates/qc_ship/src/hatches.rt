@@ -1,8 +1,9 @@
+//! Hatches and their places.
+
 ghost use Rattle.std.specs.Prelude.{◌≡◌, ◌<◌, ◌≤◌, [], length, map};
 ghost use Rattle.toml.specs.View.{view};
 ghost use Rattle.qc_ship.specs.Ship.{lowest_bay, highest_bay};
-ghost use Rattle.qc_ship.specs.ShipValues.{IsReading};
-ghost use Rattle.qc_num.specs.Reading.{each};
+ghost use Rattle.qc_num.specs.Reading.{IsReading, each};
 ghost use Rattle.qc_ship.specs.ShipFile.{hatch_in, place_in};
 
 use crate::values::{fault, number_in};

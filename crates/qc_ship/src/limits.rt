@@ -1,4 +1,4 @@
-// The limits of a ship file that an instance has no use for.
+//! The limits of a ship file that an instance has no use for.
 
 /// The greatest number of a hatch.
 pub const GREATEST_HATCH: u16 = 998;

@@ -1,9 +1,11 @@
+//! Reading a ship file.
+
 ghost use Rattle.std.specs.Prelude.{◌≡◌, ◌≤◌, IfOk, OnOk, length, map, option_map, ok_or, vec_len};
 ghost use Rattle.std.specs.List.{range_with_len};
 ghost use Rattle.toml.specs.View.{view, table_view};
+ghost use Rattle.qc_num.specs.Reading.{IsReading};
 ghost use Rattle.qc_ship.specs.Keys.{fault};
 ghost use Rattle.qc_ship.specs.Ship.{most_travel};
-ghost use Rattle.qc_ship.specs.ShipValues.{IsReading};
 ghost use Rattle.qc_ship.specs.ShipFile.{times_at, hatches_at, places_at, gives_places, gap_at, restows_in, ordered_at, apart_at, cranes_at, ship_of, table_of, ship_file};
 ghost use Rattle.qc_ship.specs.declared.fault.Key.TheVariants.{Whole};
 ghost use Rattle.qc_ship.specs.declared.fault.ShipKind.TheVariants.{NotToml};

@@ -1,3 +1,5 @@
+//! Ships.
+
 ghost use Rattle.std.specs.Prelude.{◌≡◌, ◌-ℤ◌, pos, position};
 ghost use Rattle.qc_ship.specs.ShipFile.{ship_with};
 ghost use Rattle.qc_ship.specs.Ship.{ShipView, IsShip, takes, place_of_bay, greatest_place};

@@ -2,7 +2,7 @@ use Rattle.std.proofs.Common.{sym, subst, ◌∙◌, arith}
 use Rattle.qc_model.specs.Instance.{Valid}
 use Rattle.qc_model.proofs.LimitsOf.{limits_of}
 use Rattle.qc_model.proofs.Parts.{parts_are}
-use Rattle.qc_model.proofs.mirrors.copy.Goals as goal
+use Rattle.qc_model.proofs.copies.copy.Goals as goal
 
 pub of-requires : goal.of-requires
 of-requires c =

@@ -6,7 +6,7 @@ use Rattle.qc_model.proofs.Bounded.{ends_bounded}
 use Rattle.qc_model.proofs.OnRail.{ticks_bounded}
 use Rattle.qc_model.specs.Instance.{no_task}
 use Rattle.qc_model.specs.Rules.{no_slot}
-use Rattle.qc_model.proofs.end.ends.Goals as goal
+use Rattle.qc_model.proofs.schedule.ends.Goals as goal
 
 pub overflow_add-slot : goal.overflow_add-slot
 overflow_add-slot c =
