@@ -1,22 +1,18 @@
 -- Files by their names: what a change of the map changes of the files.
-use Rattle.std.proofs.Common.{◌≡◌, ℕ, Bool, true, false, cond, List, [], ◌∷◌, ◌++◌, map, Option, None, Some, Result, Ok, Err, String, Vec, refl, sym, ap, ◌∙◌}
-use Rattle.std.specs.Prelude.{OnOk, OnErr, is_ok}
+use Rattle.std.proofs.Common.{◌≡◌, ℕ, Bool, true, false, cond, List, [], ◌∷◌, map, Option, None, Some, String, Vec, refl, sym, ap, ◌∙◌}
 use Rattle.std.specs.Option.{option_map}
 use Rattle.std.specs.String.{string_bytes, string_cmp}
 use Rattle.std.specs.Global.{Global}
-use Rattle.std.specs.declared.cmp.Ordering.{Ordering}
-use Rattle.std.specs.declared.cmp.Ordering.TheVariants.{Less, Equal, Greater}
 use Rattle.std.specs.Ordering.{nat_cmp, is_eq, eq_by_cmp}
 use Rattle.std.specs.Cmp.{eq_by_cmp_equiv}
 use Rattle.std.specs.Cmp.Lexicographic.{slice_cmp, nat_list_cmp_total}
 use Rattle.std.specs.Str.{bytes_eq}
 use Rattle.std.specs.Map.{lookup}
 use Rattle.std.specs.BTreeMap.{BTreeMap, UpdatesBy, get_by_text, is_at}
-use Rattle.std.specs.FinMap.{get, insert, remove, find, get-insert, get-remove, get-from_entries, get_tied, same_map, slice_cmp-IsAntisymmetric, nat_cmp-IsAntisymmetric}
+use Rattle.std.specs.FinMap.{get, insert, find, get-insert, get-from_entries, same_map, slice_cmp-IsAntisymmetric, nat_cmp-IsAntisymmetric}
 use Rattle.std.proofs.lemmas.Map.Text.{btree_map_updates_text, is_eq-slice_cmp}
-use Rattle.std.specs.Io.KnownBytes.{append_known}
 use Rattle.qc_io.specs.Outside.{Files}
-use Rattle.qc_io.specs.Memory.{files_of, file_with, grown_at}
+use Rattle.qc_io.specs.Memory.{files_of}
 
 -- files that hold the same under each name are the same
 pub same_files : (m n : Files) → ((name : List ℕ) → get m name ≡ get n name) → m ≡ n
@@ -68,53 +64,6 @@ pub get-insert_same : (files : Files) (name bytes : List ℕ) → get (insert fi
 get-insert_same files name bytes =
     get-insert nat_list_cmp_total files name bytes name ∙ ap (λ b. cond b (Some bytes) (get files name)) (test_itself name)
 
-equal_of : (r : Ordering) → is_eq r ≡ true → r ≡ Equal
-equal_of Less e = absurd (cc e)
-equal_of Equal e = refl
-equal_of Greater e = absurd (cc e)
-
--- a name that ties with another one is held alike
-pub get_same : (files : Files) (q name : List ℕ) → eq_by_cmp (slice_cmp nat_cmp) q name ≡ true → get files q ≡ get files name
-get_same files q name e = sym (get_tied nat_list_cmp_total files q name (equal_of _ e))
-
--- to put a file that is held already changes nothing
-pub insert_held : (files : Files) (name bytes : List ℕ) → get files name ≡ Some bytes → insert files name bytes ≡ files
-insert_held files name bytes held =
-    same_files _ _ (λ q. get-insert nat_list_cmp_total files name bytes q ∙ by q (eq_by_cmp (slice_cmp nat_cmp) q name) refl)
-  where
-    by : (q : List ℕ) (b : Bool) → eq_by_cmp (slice_cmp nat_cmp) q name ≡ b → cond b (Some bytes) (get files q) ≡ get files q
-    by q true e = sym held ∙ sym (get_same files q name e)
-    by q false e = refl
-
--- besides the named file, the files stay when it is put
-pub remove-insert : (files : Files) (name bytes : List ℕ) → remove (insert files name bytes) name ≡ remove files name
-remove-insert files name bytes =
-    same_files _ _ (λ q.
-    get-remove nat_list_cmp_total _ name q
-    ∙ ap (cond (eq_by_cmp (slice_cmp nat_cmp) q name) None) (get-insert nat_list_cmp_total files name bytes q)
-    ∙ shadowed (eq_by_cmp (slice_cmp nat_cmp) q name) _ _
-    ∙ sym (get-remove nat_list_cmp_total files name q))
-  where
-    shadowed : (b : Bool) (x y : Option (List ℕ)) → cond b None (cond b x y) ≡ cond b None y
-    shadowed true x y = refl
-    shadowed false x y = refl
-
--- the named file grew by the piece
-pub get-grown_at : (files : Files) (name piece : List ℕ) → get (grown_at files name piece) name ≡ append_known (get files name) piece
-get-grown_at files name piece = by (get files name) refl
-  where
-    by : (held : Option (List ℕ)) → get files name ≡ held → get (file_with held piece files name) name ≡ append_known held piece
-    by None none = none
-    by (Some bytes) some = get-insert_same files name (bytes ++ piece)
-
--- and no other file changed
-pub remove-grown_at : (files : Files) (name piece : List ℕ) → remove (grown_at files name piece) name ≡ remove files name
-remove-grown_at files name piece = by (get files name)
-  where
-    by : (held : Option (List ℕ)) → remove (file_with held piece files name) name ≡ remove files name
-    by None = refl
-    by (Some bytes) = remove-insert files name (bytes ++ piece)
-
 -- the map's value is the file's bytes
 pub held_named : (m : BTreeMap (String Global) (Vec ℕ Global)) (files : Files) (name : List ℕ) (v : Vec ℕ Global) → files_of m ≡ files → Some v ≡ get_by_text m name → get files name ≡ Some v.items
 held_named m files name v seen held =
@@ -124,26 +73,3 @@ held_named m files name v seen held =
 pub missing_named : (m : BTreeMap (String Global) (Vec ℕ Global)) (files : Files) (name : List ℕ) → files_of m ≡ files → None ≡ get_by_text m name → get files name ≡ None
 missing_named m files name seen missing =
     ap (λ f. get f name) (sym seen) ∙ get-files_of m name ∙ ap (option_map (λ (w : Vec ℕ Global). w.items)) (sym missing)
-
--- a value that grew in the map, where memory was had, or stayed
-module _ (m n : BTreeMap (String Global) (Vec ℕ Global)) (name piece : List ℕ) (v w : Vec ℕ Global) (held : Some v ≡ get_by_text m name)
-    (updates : UpdatesBy string_cmp (λ k. slice_cmp nat_cmp name (string_bytes k)) m n (Some w)) where
-  was : get (files_of m) name ≡ Some v.items
-  was = held_named m (files_of m) name v refl held
-
-  pub grown_value : {E : Type 0} (r : Result (Unit {0}) E) → w.items ≡ cond (is_ok r) (v.items ++ piece) v.items → OnOk r (files_of n ≡ grown_at (files_of m) name piece)
-  grown_value (Ok _) grew =
-      files_of-updates name m n w updates
-      ∙ ap (insert (files_of m) name) grew
-      ∙ ap (λ o. file_with o piece (files_of m) name) (sym was)
-  grown_value (Err _) same = tt
-
-  pub same_value : {E : Type 0} (r : Result (Unit {0}) E) → w.items ≡ cond (is_ok r) (v.items ++ piece) v.items → OnErr r (files_of n ≡ files_of m)
-  same_value (Ok _) grew = tt
-  same_value (Err _) same =
-      files_of-updates name m n w updates ∙ ap (insert (files_of m) name) same ∙ insert_held (files_of m) name v.items was
-
--- a name that isn't held leaves the files
-pub grown_at-missing : (m n : BTreeMap (String Global) (Vec ℕ Global)) (name piece : List ℕ) → None ≡ get_by_text m name → n ≡ m → files_of n ≡ grown_at (files_of m) name piece
-grown_at-missing m n name piece missing same =
-    ap files_of same ∙ ap (λ o. file_with o piece (files_of m) name) (sym (missing_named m (files_of m) name refl missing))

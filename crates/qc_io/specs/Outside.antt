@@ -1,8 +1,8 @@
--- What contracts say of shelves and sinks: files by their names, bytes that grow, counts of faults.
-use Rattle.std.specs.Prelude.{◌≡◌, ℕ, ◌+◌, ◌≤◌, ◌<◌, ◌⊎◌, min, Bool, false, List, take, length, Option, None, Some}
+-- public: what contracts see of shelves and sinks: files by their names, bytes that grow, counts of faults.
+use Rattle.std.specs.Prelude.{◌≡◌, ℕ, ◌+◌, ◌≤◌, ◌<◌, ◌⊎◌, min, Bool, false, List, [], take, length, Option, None, Some}
 use Rattle.std.specs.Ordering.{nat_cmp}
 use Rattle.std.specs.Cmp.Lexicographic.{slice_cmp}
-use Rattle.std.specs.FinMap.{FinMap, get, insert, remove}
+use Rattle.std.specs.FinMap.{FinMap, get, insert}
 use Rattle.std.specs.Io.KnownBytes.{append_known, prepend_known}
 
 -- files: from the bytes of a name to the bytes of the file
@@ -31,10 +31,6 @@ abbrev pub IsMissing : Option Files → List ℕ → Type 0
 IsMissing None name = ⊥
 IsMissing (Some files) name = get files name ≡ None
 
--- what lets a read of the name fail: the count of read faults rose, or the name is missing
-abbrev pub ReadCause : ℕ → ℕ → Option Files → List ℕ → Type 0
-ReadCause before after files name = Rose before after ⊎ IsMissing files name
-
 -- where the files are told, they hold the name with these bytes
 abbrev pub IsFile : Option Files → List ℕ → List ℕ → Type 0
 IsFile None name bytes = Unit {0}
@@ -57,49 +53,62 @@ pub record TakesAtMost (most : ℕ) (before after : Option (List ℕ)) : Type 0 
   pub short : length taken ≤ most
   pub split : before ≡ prepend_known taken after
 
--- the bytes of the file being written; none where files are untold or none was created
-abbrev pub written_of : Option Files → Option (List ℕ) → Option (List ℕ)
-written_of None made = None
-written_of (Some files) None = None
-written_of (Some files) (Some name) = get files name
+-- what contracts see of a sink or of a shelf; what may be untold is None where it is
+pub record View : Type 0 where
+  -- the bytes that were written so far: to the sink, or to the file that is being made
+  pub written : Option (List ℕ)
+  -- how many calls that write have failed, up to the greatest count
+  pub faults : ℕ
+  -- the files by their names
+  pub files : Option Files
+  -- the name of the file that is being made; none where none is
+  pub made : Option (List ℕ)
+  -- what is left of the file that is being read
+  pub rest : Option (List ℕ)
+  -- whether a file is open for reading
+  pub reading : Bool
+  -- how many calls that read have failed, up to the greatest count
+  pub read_faults : ℕ
 
--- all files but the one being written, and all where none was created; none where files are untold
-abbrev pub others_of : Option Files → Option (List ℕ) → Option Files
-others_of None made = None
-others_of (Some files) None = Some files
-others_of (Some files) (Some name) = Some (remove files name)
+-- what lets a read of the name fail: the count of read faults rose, or the name is missing
+abbrev pub ReadCause : View → View → List ℕ → Type 0
+ReadCause before after name = Rose before.read_faults after.read_faults ⊎ IsMissing before.files name
 
--- what no write changes: the other files, the name of the file being written, what is left of the file
--- being read, whether one is open, and the count of failed reads
+-- what no write changes
 pub record Beside : Type 0 where
-  pub others : Option Files
+  pub files : Option Files
   pub made : Option (List ℕ)
   pub rest : Option (List ℕ)
   pub reading : Bool
   pub read_faults : ℕ
 
--- what no write changes of a shelf
-abbrev pub beside_of : Option Files → Option (List ℕ) → Option (List ℕ) → Bool → ℕ → Beside
-beside_of files made rest reading read_faults =
-    record {
-      others = others_of files made;
-      made = made;
-      rest = rest;
-      reading = reading;
-      read_faults = read_faults;
-    }
+abbrev pub beside : View → Beside
+beside v = record {
+  files = v.files;
+  made = v.made;
+  rest = v.rest;
+  reading = v.reading;
+  read_faults = v.read_faults;
+}
 
--- beside a sink that is no shelf there is nothing
-abbrev pub alone : Beside
-alone = record { others = None; made = None; rest = None; reading = false; read_faults = 0 }
+-- a sink that is no shelf, with these bytes and this count of faults
+abbrev pub sink_view : Option (List ℕ) → ℕ → View
+sink_view written faults = record {
+  written = written;
+  faults = faults;
+  files = None;
+  made = None;
+  rest = None;
+  reading = false;
+  read_faults = 0;
+}
 
--- how a shelf stands: its files, where they are told, and its two counts of faults
-pub record Stand : Type 0 where
-  pub files : Option Files
-  pub faults : ℕ
-  pub read_faults : ℕ
+-- a file that was begun holds no bytes yet; none where files are untold
+abbrev pub begun : Option Files → Option (List ℕ)
+begun None = None
+begun (Some files) = Some []
 
--- how this shelf stands, by the members of its trait
-abbrev pub stand_of : {S : Type 0} → (S → Option Files) → (S → ℕ) → (S → ℕ) → S → Stand
-stand_of files faults read_faults shelf =
-    record { files = files shelf; faults = faults shelf; read_faults = read_faults shelf }
+-- the files once the one that is being made is finished: its name holds what was written
+abbrev pub finished : Option Files → Option (List ℕ) → Option (List ℕ) → Option Files
+finished (Some files) (Some name) (Some bytes) = Some (insert files name bytes)
+finished files made written = files

@@ -1,16 +1,54 @@
+//! A shelf in memory.
 ghost use Rattle.std.specs.Prelude.{◌≡◌, ◌≤◌, ◌<◌, ◌↔◌, [], ◌∷◌, ◌++◌, None, Some, true, length, min, take, drop, is_some, unwrap_or, option_map, IsSome, IsErr, OnOk, OnErr, IfOk};
 ghost use Rattle.std.specs.FinMap.{empty, get, insert};
 ghost use Rattle.qc_io.specs.Outside.{ReadCause, next_count};
 ghost use Rattle.qc_io.specs.Calls.{counted, NextFails};
-ghost use Rattle.qc_io.specs.Memory.{files_of, grown_at, files_written};
+ghost use Rattle.qc_io.specs.Memory.{files_of, grown, held_view, with_made};
 
-use crate::calls::Calls;
-use crate::outside::{Failed, Shelf, Sink, fault};
+use crate::failing::Calls;
 use crate::rest::Rest;
+use crate::shelf::Shelf;
+use crate::sink::{Failed, Sink, fault};
 use qc_num::OutOfMemory;
 use std::alloc::{AllocError, Global};
 use std::collections::BTreeMap;
 use std::marker::Model;
+
+/// A file that is being made, by its name and its bytes.
+#[derive(Drop)]
+struct Making {
+    name: String,
+    bytes: Vec<u8>,
+}
+
+impl Model for Making {
+    ghost use Rattle.std.specs.Prelude.{ℕ, List};
+    ghost use Rattle.std.specs.String.{string_bytes};
+
+    ghost Value = { List ℕ × List ℕ };
+
+    ghost view = { λ making. (string_bytes making.name, making.bytes.items) };
+}
+
+impl Making {
+    /// Puts a piece behind the bytes.
+    fn append(&mut self, piece: &[u8]) -> Result<(), AllocError>
+        ensures ok { OnOk result (self.new ≡ (self.old.0, self.old.1 ++ piece.now)) }
+        ensures err { OnErr result (self.new ≡ self.old) }
+    {
+        self.bytes.extend_from_slice(piece)
+    }
+
+    /// Puts the file among others, in place of one of the same name.
+    fn put_into(self, files: &mut BTreeMap<String, Vec<u8>>) -> Result<(), AllocError>
+        ensures ok { OnOk result (files_of files.new ≡ insert (files_of files.old) self.0 self.1) }
+        ensures err { OnErr result (files_of files.new ≡ files_of files.old) }
+    {
+        let Making { name, bytes } = self;
+        files.insert(name, bytes)?;
+        Ok(())
+    }
+}
 
 /// A shelf in memory. It tells its files. A growth that is refused inside a call of `Sink` or `Shelf`
 /// is a fault.
@@ -19,7 +57,7 @@ pub struct MemShelf {
     alloc: Global,
     files: BTreeMap<String, Vec<u8>>,
     rest: Option<Rest>,
-    made: Option<String>,
+    making: Option<Making>,
     faults: u64,
     read_faults: u64,
     calls: Calls,
@@ -27,8 +65,7 @@ pub struct MemShelf {
 }
 
 impl Model for MemShelf {
-    ghost use Rattle.std.specs.Prelude.{◌<◌, option_map};
-    ghost use Rattle.std.specs.String.{string_bytes};
+    ghost use Rattle.std.specs.Prelude.{◌<◌};
     ghost use Rattle.qc_io.specs.Memory.{Held, held_code, files_of};
 
     ghost Value = { Held };
@@ -38,7 +75,7 @@ impl Model for MemShelf {
     ghost view = { λ shelf. record {
       files = files_of shelf.files;
       rest = shelf.rest;
-      made = option_map string_bytes shelf.made;
+      making = shelf.making;
       faults = shelf.faults;
       read_faults = shelf.read_faults;
       calls = shelf.calls;
@@ -55,7 +92,7 @@ impl MemShelf {
         ensures { IfOk result (λ shelf. shelf ≡ record {
           files = empty;
           rest = None;
-          made = None;
+          making = None;
           faults = 0;
           read_faults = 0;
           calls = record { count = 0; failing = [] };
@@ -66,7 +103,7 @@ impl MemShelf {
             alloc,
             files: BTreeMap::new(alloc),
             rest: None,
-            made: None,
+            making: None,
             faults: 0,
             read_faults: 0,
             calls: Calls::new(alloc),
@@ -84,8 +121,8 @@ impl MemShelf {
         Ok(())
     }
 
-    /// Sets a call of `write`, `open`, `read` or `create` to fail, by its number, counted from 1 over all
-    /// four.
+    /// Sets a call of `write`, `open`, `read`, `create` or `finish` to fail, by its number, counted from 1
+    /// over all five.
     pub fn fail(&mut self, call: u64) -> Result<(), OutOfMemory>
         ensures ok { OnOk result (self.new ≡ record self.old {
           calls = record self.old.calls { failing = self.old.calls.failing ++ call ∷ [] };
@@ -104,7 +141,7 @@ impl MemShelf {
         self.most = most;
     }
 
-    /// How many calls of the four were made.
+    /// How many calls of the five were made.
     pub fn calls(&self) -> u64
         ensures { result ≡ self.now.calls.count }
     {
@@ -120,23 +157,17 @@ impl MemShelf {
 }
 
 impl Sink for MemShelf {
-    ghost use Rattle.std.specs.Prelude.{[], Some, is_some, unwrap_or};
-    ghost use Rattle.qc_io.specs.Outside.{written_of, beside_of};
+    ghost use Rattle.qc_io.specs.Memory.{held_view};
 
-    ghost written = { λ shelf. written_of (Some shelf.files) shelf.made };
-
-    ghost beside = { λ shelf. beside_of (Some shelf.files) shelf.made (Some (unwrap_or shelf.rest []))
-        (is_some shelf.rest) shelf.read_faults };
-
-    ghost faults = { λ shelf. shelf.faults };
+    ghost view = { held_view };
 
     /// Takes as much of the piece as `pieces` allows. It fails where the call is set to fail, or for want
-    /// of memory; before the first `create` it takes none.
+    /// of memory; where no file is being made it takes none.
     fn write(&mut self, piece: &[u8]) -> Result<usize, Failed>
         ensures count { IfOk result (λ count. count ≡ min (length piece.now) self.old.most) }
         ensures at_least { IfOk result (λ count. 0 < length piece.now → 0 < count) }
         ensures ok { OnOk result (self.new ≡ record self.old {
-          files = files_written self.old.files self.old.made (take self.old.most piece.now);
+          making = grown self.old.making (take self.old.most piece.now);
           calls = counted self.old.calls;
         }) }
         ensures err { OnErr result (self.new ≡ record self.old {
@@ -144,17 +175,19 @@ impl Sink for MemShelf {
           calls = counted self.old.calls;
         }) }
         ensures set_to_fail { NextFails self.old.calls → IsErr result }
-        ensures before_create { self.old.made ≡ None → IsErr result → NextFails self.old.calls }
-        ensures faults_never_fall { self.old.faults ≤ self.new.faults }
+        ensures before_create { self.old.making ≡ None → IsErr result → NextFails self.old.calls }
+        ensures never_falls { self.old.faults ≤ self.new.faults }
     {
         if self.calls.next_fails() {
             return Err(fault(&mut self.faults));
         }
         let piece = &piece[..piece.len().min(self.most)];
-        let Some(name) = &self.made else {
+        let Some(mut making) = self.making.take() else {
             return Ok(piece.len());
         };
-        match append(&mut self.files, name.as_str(), piece) {
+        let appended = making.append(piece);
+        self.making = Some(making);
+        match appended {
             Ok(()) => Ok(piece.len()),
             Err(_) => Err(fault(&mut self.faults)),
         }
@@ -162,21 +195,7 @@ impl Sink for MemShelf {
 }
 
 impl Shelf for MemShelf {
-    ghost use Rattle.std.specs.Prelude.{[], Some, is_some, unwrap_or, refl};
-
-    ghost files = { λ shelf. Some shelf.files };
-
-    ghost rest = { λ shelf. Some (unwrap_or shelf.rest []) };
-
-    ghost reading = { λ shelf. is_some shelf.rest };
-
-    ghost made = { λ shelf. shelf.made };
-
-    ghost read_faults = { λ shelf. shelf.read_faults };
-
-    ghost written_is = { λ _. refl };
-
-    ghost beside_is = { λ _. refl };
+    ghost use Rattle.std.specs.Prelude.{refl};
 
     ghost rest_told = { λ _. refl };
 
@@ -201,8 +220,8 @@ impl Shelf for MemShelf {
         ensures not_counted { ¬ NextFails self.old.calls → get self.old.files name.now ≡ None
             → self.new.read_faults ≡ self.old.read_faults }
         ensures err_cause { OnErr result
-            (ReadCause self.old.read_faults self.new.read_faults (Some self.old.files) name.now) }
-        ensures read_faults_never_fall { self.old.read_faults ≤ self.new.read_faults }
+            (ReadCause (held_view self.old) (held_view self.new) name.now) }
+        ensures never_falls { self.old.read_faults ≤ self.new.read_faults }
     {
         self.rest = None;
         if self.calls.next_fails() {
@@ -238,7 +257,7 @@ impl Shelf for MemShelf {
           calls = counted self.old.calls;
         }) }
         ensures set_to_fail { IsErr result ↔ NextFails self.old.calls }
-        ensures read_faults_never_fall { self.old.read_faults ≤ self.new.read_faults }
+        ensures never_falls { self.old.read_faults ≤ self.new.read_faults }
     {
         if self.calls.next_fails() {
             return Err(fault(&mut self.read_faults));
@@ -250,31 +269,60 @@ impl Shelf for MemShelf {
         }
     }
 
-    /// It fails where the call is set to fail, or for want of memory, and then leaves all files.
+    /// It fails where the call is set to fail, or for want of memory.
     fn create(&mut self, name: &str) -> Result<(), Failed>
         ensures ok { OnOk result (self.new ≡ record self.old {
-          files = insert self.old.files name.now [];
-          made = Some name.now;
+          making = Some (name.now, []);
           calls = counted self.old.calls;
         }) }
         ensures err { OnErr result (self.new ≡ record self.old {
+          making = None;
           faults = next_count self.old.faults;
           calls = counted self.old.calls;
         }) }
         ensures set_to_fail { NextFails self.old.calls → IsErr result }
-        ensures faults_never_fall { self.old.faults ≤ self.new.faults }
+        ensures never_falls { self.old.faults ≤ self.new.faults }
     {
+        self.making = None;
         if self.calls.next_fails() {
             return Err(fault(&mut self.faults));
         }
-        let Ok(made) = String::from_str(self.alloc, name) else {
-            return Err(fault(&mut self.faults));
-        };
-        match hold(self.alloc, &mut self.files, name, &[]) {
-            Ok(()) => {
-                self.made = Some(made);
+        match String::from_str(self.alloc, name) {
+            Ok(name) => {
+                self.making = Some(Making {
+                    name,
+                    bytes: Vec::new(self.alloc),
+                });
                 Ok(())
             }
+            Err(_) => Err(fault(&mut self.faults)),
+        }
+    }
+
+    /// It fails where the call is set to fail, or for want of memory, and then leaves all files.
+    fn finish(&mut self) -> Result<(), Failed>
+        ensures ok { OnOk result (self.new ≡ record self.old {
+          files = with_made self.old.files self.old.making;
+          making = None;
+          calls = counted self.old.calls;
+        }) }
+        ensures err { OnErr result (self.new ≡ record self.old {
+          making = None;
+          faults = next_count self.old.faults;
+          calls = counted self.old.calls;
+        }) }
+        ensures set_to_fail { NextFails self.old.calls → IsErr result }
+        ensures never_falls { self.old.faults ≤ self.new.faults }
+    {
+        let making = self.making.take();
+        if self.calls.next_fails() {
+            return Err(fault(&mut self.faults));
+        }
+        let Some(making) = making else {
+            return Ok(());
+        };
+        match making.put_into(&mut self.files) {
+            Ok(()) => Ok(()),
             Err(_) => Err(fault(&mut self.faults)),
         }
     }
@@ -292,17 +340,5 @@ fn hold(
 {
     let name = String::from_str(alloc, name)?;
     let bytes = Vec::from_slice(alloc, bytes)?;
-    files.insert(name, bytes)?;
-    Ok(())
-}
-
-/// Puts a piece behind the named file, where it is held.
-fn append(files: &mut BTreeMap<String, Vec<u8>>, name: &str, piece: &[u8]) -> Result<(), AllocError>
-    ensures ok { OnOk result (files_of files.new ≡ grown_at (files_of files.old) name.now piece.now) }
-    ensures err { OnErr result (files_of files.new ≡ files_of files.old) }
-{
-    match files.get_mut(name) {
-        Some(bytes) => bytes.extend_from_slice(piece),
-        None => Ok(()),
-    }
+    Making { name, bytes }.put_into(files)
 }

@@ -1,9 +1,10 @@
+//! A sink in memory.
 ghost use Rattle.std.specs.Prelude.{◌≡◌, ◌≤◌, [], ◌∷◌, ◌++◌, length, OnOk, OnErr, IfOk, IsErr};
 ghost use Rattle.qc_io.specs.Outside.{next_count};
 ghost use Rattle.qc_io.specs.Calls.{counted, NextFails};
 
-use crate::calls::Calls;
-use crate::outside::{Failed, Sink, fault};
+use crate::failing::Calls;
+use crate::sink::{Failed, Sink, fault};
 use qc_num::OutOfMemory;
 use std::alloc::Global;
 use std::marker::Model;
@@ -68,13 +69,9 @@ impl MemSink {
 
 impl Sink for MemSink {
     ghost use Rattle.std.specs.Prelude.{Some};
-    ghost use Rattle.qc_io.specs.Outside.{alone};
+    ghost use Rattle.qc_io.specs.Outside.{sink_view};
 
-    ghost written = { λ sink. Some sink.bytes };
-
-    ghost beside = { λ _. alone };
-
-    ghost faults = { λ sink. sink.faults };
+    ghost view = { λ sink. sink_view (Some sink.bytes) sink.faults };
 
     /// Takes the whole piece. It fails where the call is set to fail, or for want of memory.
     fn write(&mut self, piece: &[u8]) -> Result<usize, Failed>
@@ -88,7 +85,7 @@ impl Sink for MemSink {
           calls = counted self.old.calls;
         }) }
         ensures set_to_fail { NextFails self.old.calls → IsErr result }
-        ensures faults_never_fall { self.old.faults ≤ self.new.faults }
+        ensures never_falls { self.old.faults ≤ self.new.faults }
     {
         if self.calls.next_fails() {
             return Err(fault(&mut self.faults));

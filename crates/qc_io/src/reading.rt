@@ -1,8 +1,11 @@
+//! Reading a whole file.
 ghost use Rattle.std.specs.Prelude.{◌≡◌, ◌<◌, ◌≤◌, ◌+◌, ◌⊎◌, true, false, [], length, vec_len, IsOk, OnOk, IfOk, IfSome};
 ghost use Rattle.std.specs.Io.KnownBytes.{prepend_known};
 ghost use Rattle.qc_io.specs.Outside.{Rose, IsMissing, ReadCause, IsFile, TakesAtMost, file_at};
+ghost use Rattle.qc_io.specs.Reads.{Reads};
 
-use crate::outside::{Failed, Shelf};
+use crate::shelf::Shelf;
+use crate::sink::Failed;
 use qc_num::Bytes;
 use std::alloc::{AllocError, Global};
 
@@ -52,30 +55,30 @@ pub fn read_all<S: Shelf>(
     name: &str,
     limit: usize,
 ) -> Result<Bytes, ReadAll>
-    ensures whole { IfOk result (λ bytes. IsFile (S.files shelf.old) name.now bytes) }
+    ensures whole { IfOk result (λ bytes. IsFile (S.Sink.view shelf.old).files name.now bytes) }
     ensures within { IfOk result (λ bytes. length bytes ≤ limit) }
     ensures read_fault { result ≡ Err ReadAll.ReadFault
-        → ReadCause (S.read_faults shelf.old) (S.read_faults shelf.new) (S.files shelf.old) name.now }
-    ensures unfailed { ¬ (result ≡ Err ReadAll.ReadFault)
-        → S.read_faults shelf.new ≡ S.read_faults shelf.old }
-    ensures missing { IsMissing (S.files shelf.old) name.now → result ≡ Err ReadAll.ReadFault }
+        → ReadCause (S.Sink.view shelf.old) (S.Sink.view shelf.new) name.now }
+    ensures missing { IsMissing (S.Sink.view shelf.old).files name.now
+        → result ≡ Err ReadAll.ReadFault }
     ensures too_large { result ≡ Err ReadAll.TooLarge
-        → IfSome (file_at (S.files shelf.old) name.now) (λ bytes. limit < length bytes) }
+        → IfSome (file_at (S.Sink.view shelf.old).files name.now) (λ bytes. limit < length bytes) }
 
     // What the answer is where no call failed. Want of memory is a free answer.
-    ensures larger { IfSome (file_at (S.files shelf.old) name.now) (λ bytes. limit < length bytes
-        → ¬ (Rose (S.read_faults shelf.old) (S.read_faults shelf.new))
+    ensures larger { IfSome (file_at (S.Sink.view shelf.old).files name.now) (λ bytes.
+        limit < length bytes
+        → ¬ (Rose (S.Sink.view shelf.old).read_faults (S.Sink.view shelf.new).read_faults)
         → (result ≡ Err ReadAll.TooLarge) ⊎ (result ≡ Err ReadAll.OutOfMemory)) }
-    ensures fitting { IfSome (file_at (S.files shelf.old) name.now) (λ bytes. length bytes ≤ limit
-        → ¬ (Rose (S.read_faults shelf.old) (S.read_faults shelf.new))
+    ensures fitting { IfSome (file_at (S.Sink.view shelf.old).files name.now) (λ bytes.
+        length bytes ≤ limit
+        → ¬ (Rose (S.Sink.view shelf.old).read_faults (S.Sink.view shelf.new).read_faults)
         → IsOk result ⊎ (result ≡ Err ReadAll.OutOfMemory)) }
 
-    ensures taken { S.reading shelf.new ≡ true
-        → TakesAtMost (limit + 1) (file_at (S.files shelf.old) name.now) (S.rest shelf.new) }
-    ensures files_stay { S.files shelf.new ≡ S.files shelf.old }
-    ensures made_stays { S.made shelf.new ≡ S.made shelf.old }
-    ensures faults_stay { S.Sink.faults shelf.new ≡ S.Sink.faults shelf.old }
-    ensures read_faults_never_fall { S.read_faults shelf.old ≤ S.read_faults shelf.new }
+    ensures taken { (S.Sink.view shelf.new).reading ≡ true
+        → TakesAtMost (limit + 1) (file_at (S.Sink.view shelf.old).files name.now)
+        (S.Sink.view shelf.new).rest }
+    ensures reads { Reads (S.Sink.view shelf.old) (S.Sink.view shelf.new)
+        (¬ (result ≡ Err ReadAll.ReadFault)) }
 {
     shelf.open(name)?;
     let mut bytes = Vec::new(alloc);
@@ -98,27 +101,24 @@ fn read_block<S: Shelf>(
     bytes: &mut Vec<u8>,
     block: &mut [u8],
 ) -> Result<bool, ReadAll>
-    requires open { S.reading shelf.old ≡ true }
+    requires open { (S.Sink.view shelf.old).reading ≡ true }
     requires within { vec_len bytes.old ≤ limit }
     requires room { 0 < length block.old }
-    ensures ok { OnOk result (prepend_known bytes.new.items (S.rest shelf.new)
-        ≡ prepend_known bytes.old.items (S.rest shelf.old)) }
+    ensures ok { OnOk result (prepend_known bytes.new.items (S.Sink.view shelf.new).rest
+        ≡ prepend_known bytes.old.items (S.Sink.view shelf.old).rest) }
     ensures more { IfOk result (λ more. more ≡ true → vec_len bytes.old < vec_len bytes.new) }
-    ensures ended { IfOk result (λ more. more ≡ false → IfSome (S.rest shelf.new) (λ rest. rest ≡ [])) }
+    ensures ended { IfOk result (λ more. more ≡ false
+        → IfSome (S.Sink.view shelf.new).rest (λ rest. rest ≡ [])) }
     ensures still_within { OnOk result (vec_len bytes.new ≤ limit) }
     ensures read_fault { result ≡ Err ReadAll.ReadFault
-        → Rose (S.read_faults shelf.old) (S.read_faults shelf.new) }
-    ensures unfailed { ¬ (result ≡ Err ReadAll.ReadFault)
-        → S.read_faults shelf.new ≡ S.read_faults shelf.old }
+        → Rose (S.Sink.view shelf.old).read_faults (S.Sink.view shelf.new).read_faults }
     ensures too_large { result ≡ Err ReadAll.TooLarge
-        → IfSome (prepend_known bytes.old.items (S.rest shelf.old)) (λ whole. limit < length whole) }
+        → IfSome (prepend_known bytes.old.items (S.Sink.view shelf.old).rest) (λ whole. limit < length whole) }
     ensures taken { TakesAtMost (limit + 1)
-        (prepend_known bytes.old.items (S.rest shelf.old)) (S.rest shelf.new) }
-    ensures reading_stays { S.reading shelf.new ≡ true }
-    ensures files_stay { S.files shelf.new ≡ S.files shelf.old }
-    ensures made_stays { S.made shelf.new ≡ S.made shelf.old }
-    ensures faults_stay { S.Sink.faults shelf.new ≡ S.Sink.faults shelf.old }
-    ensures read_faults_never_fall { S.read_faults shelf.old ≤ S.read_faults shelf.new }
+        (prepend_known bytes.old.items (S.Sink.view shelf.old).rest) (S.Sink.view shelf.new).rest }
+    ensures reading_stays { (S.Sink.view shelf.new).reading ≡ true }
+    ensures reads { Reads (S.Sink.view shelf.old) (S.Sink.view shelf.new)
+        (¬ (result ≡ Err ReadAll.ReadFault)) }
 {
     let left = limit - bytes.len();
     let room = block.len().min(left.saturating_add(1));

@@ -1,3 +1,4 @@
+//! What is left of a file.
 ghost use Rattle.std.specs.Prelude.{◌≡◌, min, take, drop, length};
 
 use std::marker::Model;

@@ -12,6 +12,6 @@ returns-in_err-read_block-clause-too_large g c =
 
 pub returns-clause-whole : goal.returns-clause-whole
 returns-clause-whole g c =
-    subst (λ bytes. IsFile (g.S.Shelf.files c.args.shelf.now) c.args.name.now bytes) (sym c.of.ensures)
-    (whole_at_end _ _ _ (g.S.Shelf.rest c.read_block.new.shelf) c.loop-block.invariant.held (c.in_ok-read_block.ensures.ok ∙ c.loop-block.invariant.whole)
+    subst (λ bytes. IsFile (g.S.Sink.view c.args.shelf.now).files c.args.name.now bytes) (sym c.of.ensures)
+    (whole_at_end _ _ _ (g.S.Sink.view c.read_block.new.shelf).rest c.loop-block.invariant.held (c.in_ok-read_block.ensures.ok ∙ c.loop-block.invariant.whole)
     (c.in_ok-read_block.ensures.ended c.if-branch.false))

@@ -9,10 +9,10 @@ loop-done-preserved g c = record {
   in_range = omega (arith, length-drop {A = ℕ}, c.in_ok-done.ensures.at_most);
   grew =
       c.in_ok-done.ensures.appended
-      ∙ ap (λ left. append_known (g.K.Sink.written c.loop-done.sink) (take c.in_ok-done.field-0 left)) (take_rest c.args.piece.now c.loop-done.done)
+      ∙ ap (λ left. append_known (g.K.Sink.view c.loop-done.sink).written (take c.in_ok-done.field-0 left)) (take_rest c.args.piece.now c.loop-done.done)
       ∙ ap (λ bytes. append_known bytes (take c.in_ok-done.field-0 (drop c.loop-done.done c.args.piece.now))) c.loop-done.invariant.grew
       ∙ append_known-take _ c.args.piece.now c.loop-done.done c.in_ok-done.field-0;
   beside_stays = c.in_ok-done.ensures.beside_stays ∙ c.loop-done.invariant.beside_stays;
-  unfailed = c.in_ok-done.ensures.ok_faults ∙ c.loop-done.invariant.unfailed;
+  unfailed = c.in_ok-done.ensures.counts.unfailed ∙ c.loop-done.invariant.unfailed;
   empty_stays = λ none. absurd (omega arith);
 }

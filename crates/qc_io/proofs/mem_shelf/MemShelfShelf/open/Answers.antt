@@ -1,6 +1,5 @@
 use Rattle.std.proofs.Common.{◌≡◌, ap, sym, ◌∙◌, subst, refl, Some, None, IsSome, inr, List, ℕ}
-use Rattle.std.specs.Option.{option_copied, option_map}
-use Rattle.std.specs.String.{string_bytes}
+use Rattle.std.specs.Option.{option_copied}
 use Rattle.std.specs.FinMap.{get}
 use Rattle.qc_io.specs.Calls.{counted}
 use Rattle.qc_io.specs.Memory.{Held, files_of}
@@ -30,7 +29,7 @@ returns-in-Ok-clause-ok c =
     let inside : record {
       files = files_of c.self.inside.files;
       rest = Some c.of.result;
-      made = option_map string_bytes c.self.inside.made;
+      making = c.self.inside.making;
       faults = c.self.inside.faults;
       read_faults = c.self.inside.read_faults;
       calls = c.next_fails.new.self;

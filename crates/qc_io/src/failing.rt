@@ -1,3 +1,4 @@
+//! Calls that are set to fail.
 ghost use Rattle.std.specs.Prelude.{◌≡◌, ◌↔◌, [], ◌∷◌, ◌++◌, IsTrue, OnOk, OnErr};
 ghost use Rattle.qc_io.specs.Calls.{counted, NextFails};
 
