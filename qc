@@ -1,7 +1,7 @@
 #!/bin/sh
-# Builds the proved program where it isn't built or its sources are newer, and runs it with the given words in the
-# caller's folder. It ends with the program's status, and with 1 where there is no program; interrupted while it
-# builds, it leaves nothing running.
+# Builds the proved program where it isn't built or its sources are newer, and runs it with the given
+# words in the caller's folder. It ends with the program's status, and with 1 where there is no
+# program; interrupted while it builds, it leaves nothing running.
 
 here=$(CDPATH='' cd -- "$(dirname -- "$0")" && pwd) || exit 1
 
@@ -10,7 +10,7 @@ if ! "$here/package/is-built"; then
         echo 'qc: the program must be built, and the command rt of the Rattle toolchain is not on PATH' >&2
         exit 1
     fi
-    echo 'qc: proving and building the program; a first build takes a quarter of an hour or more, a later one less' >&2
+    echo 'qc: proving and building the program; a first build takes a quarter of an hour or more' >&2
     trap 'kill "$!" 2>/dev/null; wait "$!"; exit 1' HUP INT TERM
     "$here/package/build-program" &
     if ! wait "$!"; then
