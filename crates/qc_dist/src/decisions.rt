@@ -94,7 +94,7 @@ impl Decisions {
         ensures added { self.new ≡ record self.old {
           decisions = decision ∷ self.old.decisions;
         } }
-        ensures fits { Fits self.new.inst self.new.decisions }
+        ensures fits { Fits self.old.inst self.new.decisions }
     {
         match decision {
             Decision::Assign(task, crane) => self.assign(task, crane),
