@@ -103,8 +103,8 @@ abbrev pub count_raised : InstanceView → List ℕ → List ℕ → ℕ
 count_raised inst olds news =
     count_by (λ j. nat_lt (slice_index olds j) (slice_index news j)) (task_numbers inst)
 
--- how many cells were noted for one decision more: two a task at most, one for each task whose start it raised at
--- least, and no more than were steps taken
+-- how many cells were noted for one decision more: two a task at most, no more than were steps taken, and where it is
+-- answered by Raised at least one for each task whose start it raised
 pub record IsNoted (old new : StartsNode) (step : Step) (before after : ℕ) : Type 0 where
   pub count : ℕ
   pub is : new.noted ≡ count ∷ old.noted
