@@ -1,4 +1,4 @@
--- Starts while they are raised behind a task, the root, that starts later than before or has new steps behind it.
+-- inner: starts while they are raised behind a task, the root, that starts later than before or has new steps behind it.
 use Rattle.std.specs.Prelude.{◌≡◌, ◌≢◌, ℕ, ◌+◌, ◌-◌, ◌*◌, ◌^◌, ◌<◌, ◌≤◌, ◌⊎◌, Bool, true, false, cond, nat_lt, ◌==◌, List, [], ◌∷◌, filter, length, Option, None, Some, slice_index_or, sum_by}
 use Rattle.std.specs.List.{range_with_len}
 use Rattle.qc_arena.specs.declared.edge.Edge.{Edge}
