@@ -32,9 +32,9 @@ fn is_late(end: Tick, bound: Bound) -> bool
     }
 }
 
-/// Tries to fathom a node against the incumbent's end `best`. Tried in order: infeasible (ring); critical
-/// chain, if it reaches `best` or nothing is left to decide; workload bound, if it reaches `best`. `None`:
-/// branch. The path is empty but for a chain or a ring.
+/// Tries to fathom a node against the incumbent's end `best`. Tried in order: infeasible (ring);
+/// critical chain, if it reaches `best` or nothing is left to decide; workload bound, if it reaches
+/// `best`. `None`: branch. The path is empty but for a chain or a ring.
 pub fn close(node: &Starts, best: Bound, path: &mut Path) -> Option<LeafKind>
     requires { HasRoom (length node.now.inst.tasks) path.old }
     ensures closed { IsSome result ↔ IsClosable node.now.inst node.now.decisions best }
@@ -61,9 +61,9 @@ pub fn close(node: &Starts, best: Bound, path: &mut Path) -> Option<LeafKind>
     }
 }
 
-/// The leaf of a node that is not branched on: a ring where it is infeasible, the critical chain where
-/// nothing is left to decide or the workload bound is no higher, else the workload bound. The path is
-/// empty but for a chain or a ring.
+/// The leaf of a node that is not branched on: a ring where it is infeasible, the critical chain
+/// where nothing is left to decide or the workload bound is no higher, else the workload bound. The
+/// path is empty but for a chain or a ring.
 pub fn spent(node: &Starts, path: &mut Path) -> LeafKind
     requires { HasRoom (length node.now.inst.tasks) path.old }
     ensures leaf { IsSpentBy node.now.inst node.now.decisions result path.new.items }

@@ -34,8 +34,9 @@ fn excess(one: Option<Tick>, other: Option<Tick>) -> Option<Tick>
 }
 
 impl Decisions {
-    /// The time lag from task `i` to task `j`: the ticks by which `j` must start after the start of `i`
-    /// in every upward schedule that agrees with the decisions; `None` exactly where nothing is forced.
+    /// The time lag from task `i` to task `j`: the ticks by which `j` must start after the start of
+    /// `i` in every upward schedule that agrees with the decisions; `None` exactly where nothing is
+    /// forced.
     pub fn forced(&self, i: u16, j: u16) -> Option<Tick>
         requires first { i < length self.now.inst.tasks }
         requires second { j < length self.now.inst.tasks }
@@ -94,8 +95,8 @@ impl Decisions {
         }
     }
 
-    /// The time lag that the cranes of `i` and `j` add beyond what the order of the two already forces;
-    /// `None` where they add none.
+    /// The time lag that the cranes of `i` and `j` add beyond what the order of the two already
+    /// forces; `None` where they add none.
     pub fn forced_by_cranes(&self, i: u16, j: u16) -> Option<Tick>
         requires first { i < length self.now.inst.tasks }
         requires second { j < length self.now.inst.tasks }
@@ -107,7 +108,7 @@ impl Decisions {
         excess(self.sooner_ticks(i, j), Some(more))
     }
 
-    /// Whether one of two tasks is forced to start after the other.
+    /// Whether one of two tasks is forced to start after the other: there is a time lag either way.
     pub fn settled(&self, i: u16, j: u16) -> bool
         requires first { i < length self.now.inst.tasks }
         requires second { j < length self.now.inst.tasks }
@@ -116,8 +117,8 @@ impl Decisions {
         self.forced(i, j).is_some() || self.forced(j, i).is_some()
     }
 
-    /// When task `j` can start at the least: with its crane, or with the earliest crane that reaches
-    /// it, and 0 where none does.
+    /// The release time of task `j`: when its crane can first be at it, or the earliest crane that
+    /// reaches it while it has none; 0 where none does.
     pub fn lead(&self, j: u16) -> Tick
         requires task { j < length self.now.inst.tasks }
         ensures ticks { result ≡ head self.now.inst self.now.decisions j }

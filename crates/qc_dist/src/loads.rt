@@ -18,7 +18,7 @@ pub(crate) struct Load {
     pub(crate) highest: Bay,
 }
 
-///! What a crane's tasks come to with one more.
+/// What a crane's tasks come to with one more.
 pub(crate) fn load_with(load: Option<Load>, task: Task) -> Load
     requires load { IfSome load IsLoad }
     requires task { task.ticks ≤ MOST_WORK }

@@ -23,9 +23,9 @@ pub fn distance(inst: &Instance, i: u16, v: u16, j: u16, w: u16) -> Tick
     qc_model::distance(inst, v, inst.task(i).bay, w, inst.task(j).bay)
 }
 
-/// The position of task `j` in crane `w`'s own coordinates, in ticks of travel: bay times travel, shifted
-/// by one gap for each crane above `w`. In these coordinates the time lag between two tasks is a
-/// difference, whichever cranes do them.
+/// The position of task `j` in crane `w`'s own coordinates, in ticks of travel: bay times travel,
+/// shifted by one gap for each crane above `w`. In these coordinates the time lag between two tasks is
+/// a difference, whichever cranes do them.
 pub(crate) fn along(inst: &Instance, j: u16, w: u16) -> Tick
     requires task { j < length inst.now.tasks }
     requires crane { w < length inst.now.cranes }

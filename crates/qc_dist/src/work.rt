@@ -1,3 +1,5 @@
+//! Whether the work fits before an end.
+
 ghost use Rattle.std.specs.Prelude.{◌≡◌, ◌+◌, ◌-◌, ◌*◌, ◌<◌, ◌≤◌, length, nat_lt, sum_by};
 ghost use Rattle.std.specs.List.{list_any};
 ghost use Rattle.qc_model.specs.declared.limits.TheConstants.{MOST_DISTANCE, MOST_READY, MOST_TASKS, MOST_WORK};
@@ -60,8 +62,8 @@ impl Decisions {
         left
     }
 
-    /// Whether the work can't end before tick `v`: some crane's tasks can't, or all unassigned tasks
-    /// together don't fit into the time that is left to the cranes.
+    /// Whether `v` is a workload bound, so that the work can't end before it: some crane's tasks
+    /// can't, or all unassigned tasks together don't fit into the time that is left to the cranes.
     pub fn work_holds(&self, v: u64) -> bool
         requires { 1 ≤ v }
         ensures { result ≡ work_holds self.now.inst self.now.decisions v }

@@ -12,7 +12,7 @@ use Rattle.qc_starts.specs.Place.{IsReasonBy, IsSoonest}
 use Rattle.qc_starts.specs.Spread.{IsBackAtRoot, IsIn, IsLifted, IsMet, IsOnly, IsRaisedBy, IsRaising, IsRooting, IsSpreading, from_task, is_late, is_pending, left, left_of, one_of}
 use Rattle.qc_starts.specs.Values.{AreRest, IsReason, raised, raiser_at, start_at}
 use Rattle.qc_starts.proofs.ArcLemmas.{arc_of, newest_in}
-use Rattle.qc_starts.proofs.Counts.{total-le, total-lt}
+use Rattle.qc_model.proofs.Sums.{sum_le, sum_raised}
 use Rattle.qc_starts.proofs.RaisedLemmas.{raised_count, raised_here, raised_other, reason_of_here, reason_of_other}
 use Rattle.qc_starts.proofs.SelfLemmas.{self_free}
 
@@ -358,12 +358,12 @@ module _ (net : NodeArcs) (root : ℕ) (olds cells : List ℕ) (pending : List B
       -- less is left to be done
       pub left_less : left (length net.inst.tasks) root olds later after
           ≤ left (length net.inst.tasks) root olds cells pending
-      left_less = total-le (left_of root olds later after) (left_of root olds cells pending) (length net.inst.tasks)
-          (λ j low. elim (cases_eq j arc.to) [
+      left_less = sum_le (left_of root olds later after) (left_of root olds cells pending) 0 (length net.inst.tasks)
+          (λ j _ low. elim (cases_eq j arc.to) [
             | inl same ↦
                 subst (λ (x : ℕ). left_of root olds later after x ≤ left_of root olds cells pending x) (sym same)
                 (omega (arith, here, root_same, raise_is.late, raise_is.bound other, ap one_of pend_here))
-            | inr off ↦ omega (arith, same_start j low off, root_same, ap one_of (pend_other j off))
+            | inr off ↦ omega (arith, same_start j (omega (arith, low)) off, root_same, ap one_of (pend_other j off))
           ])
 
 -- ---- a task is looked at
@@ -403,12 +403,11 @@ module _ (net : NodeArcs) (root : ℕ) (olds cells : List ℕ) (pending : List B
 
   pub look_less : left (length net.inst.tasks) root olds cells without
       < left (length net.inst.tasks) root olds cells pending
-  look_less = total-lt (left_of root olds cells without) (left_of root olds cells pending) (length net.inst.tasks) task
-      (λ j under. elim (cases_eq j task) [
-        | inl same ↦ subst (λ (x : ℕ). left_of root olds cells without x ≤ left_of root olds cells pending x) (sym same)
-            (omega (arith, ap one_of gone, ap one_of chosen))
-        | inr off ↦ omega (arith, ap one_of (kept j off))
-      ]) low (omega (arith, ap one_of gone, ap one_of chosen))
+  look_less =
+      let less = sum_raised (left_of root olds cells pending) (left_of root olds cells without) 1 task 0
+      (length net.inst.tasks) (omega arith) (omega (arith, low)) (omega (arith, ap one_of gone, ap one_of chosen))
+      (λ j off. omega (arith, ap one_of (kept j (λ e. off (sym e))))) in
+      omega (arith, less)
 
 -- ---- the arcs from a task, one after another
 

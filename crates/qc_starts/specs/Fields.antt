@@ -1,4 +1,4 @@
--- The fields of the least starts of a node, as clauses see them and as they are kept.
+-- inner: the fields of the least starts of a node, as clauses see them and as they are kept.
 use Rattle.std.specs.Prelude.{◌≡◌, ℕ, ◌+◌, ◌-◌, ◌*◌, ◌≤◌, List, [], ◌∷◌, drop, length, reverse, take, vec_capacity}
 use Rattle.qc_model.specs.declared.decision.Decision.{Decision}
 use Rattle.qc_model.specs.Instance.{InstanceView}
@@ -50,6 +50,7 @@ pub record IsKept (f : Inside) : Type 0 where
   pub sized : AreSized f.network.inst f.spread
   pub few : length f.spread.values.trail.notes ≤ 2 * length f.network.inst.tasks * length f.network.decisions
   pub nested :
-      AreNested f.network.inst f.network.decisions (reverse f.marks.items) f.spread.values.trail.notes f.spread.values.cells
+      AreNested f.network.inst f.network.decisions (reverse f.marks.items) f.spread.values.trail.notes
+      f.spread.values.cells
   pub room : length f.network.inst.tasks + length f.network.inst.apart ≤ vec_capacity f.marks
   pub state : IsStateOf f.network f.spread.values.cells f.root f.step

@@ -1,5 +1,5 @@
--- Starts and what raised them, as cells hold them: the start of each task, and behind these for each task the one that
--- raised it.
+-- inner: starts and what raised them, as cells hold them: the start of each task, and behind these for each task the
+-- one that raised it.
 use Rattle.std.specs.Prelude.{◌≡◌, ℕ, ◌+◌, ◌-◌, ◌*◌, ◌^◌, ◌<◌, ◌≤◌, ◌==◌, if◌then◌else◌, List, length, Option, None, Some, slice_index, slice_set}
 use Rattle.qc_model.specs.declared.decision.Decision.{Decision}
 use Rattle.qc_model.specs.Instance.{InstanceView}

@@ -19,8 +19,9 @@ fn push_forced(decisions: &Decisions, from: u16, to: u16, arena: &mut ArcArena)
     requires from { from < length decisions.now.inst.tasks }
     requires to { to < length decisions.now.inst.tasks }
     requires nodes { arena.old.nodes ≡ length decisions.now.inst.tasks }
-    requires room { length (with_added from to (forced decisions.now.inst decisions.now.decisions from to) None
-        (reverse arena.old.arcs)) ≤ arena.old.cap }
+    requires room { length (with_added from to
+        (forced decisions.now.inst decisions.now.decisions from to) None (reverse arena.old.arcs))
+        ≤ arena.old.cap }
     ensures arcs { reverse arena.new.arcs ≡ with_added from to
         (forced decisions.now.inst decisions.now.decisions from to) None (reverse arena.old.arcs) }
     ensures low { AreLow (reverse arena.old.arcs) → AreLow (reverse arena.new.arcs) }

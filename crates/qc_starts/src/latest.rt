@@ -47,7 +47,8 @@ fn later(last: Last, task: u16, end: Tick) -> Last
 /// The task that ends last.
 fn last_of(network: &Network, values: &Noted) -> Last
     requires count { length values.now.cells ≡ 2 * length network.now.inst.tasks }
-    requires soon { (j : ℕ) → j < length network.now.inst.tasks → start_at values.now.cells j ≤ MOST_START }
+    requires soon { (j : ℕ) → j < length network.now.inst.tasks
+        → start_at values.now.cells j ≤ MOST_START }
     ensures { IsLast network.now.inst values.now.cells (length network.now.inst.tasks) result }
 {
     let mut last = Last { task: None, end: 0 };
@@ -60,7 +61,8 @@ fn last_of(network: &Network, values: &Noted) -> Last
 /// The task that ends last; `None` exactly where there is no task.
 pub(crate) fn latest(network: &Network, values: &Noted) -> Option<u16>
     requires count { length values.now.cells ≡ 2 * length network.now.inst.tasks }
-    requires soon { (j : ℕ) → j < length network.now.inst.tasks → start_at values.now.cells j ≤ MOST_START }
+    requires soon { (j : ℕ) → j < length network.now.inst.tasks
+        → start_at values.now.cells j ≤ MOST_START }
     ensures { IsLatest network.now.inst values.now.cells (length network.now.inst.tasks) result }
 {
     last_of(network, values).task
@@ -69,7 +71,8 @@ pub(crate) fn latest(network: &Network, values: &Noted) -> Option<u16>
 /// When the last task ends; 0 where there is none.
 pub(crate) fn last_end(network: &Network, values: &Noted) -> Tick
     requires count { length values.now.cells ≡ 2 * length network.now.inst.tasks }
-    requires soon { (j : ℕ) → j < length network.now.inst.tasks → start_at values.now.cells j ≤ MOST_START }
+    requires soon { (j : ℕ) → j < length network.now.inst.tasks
+        → start_at values.now.cells j ≤ MOST_START }
     ensures { HasLastEnd network.now.inst values.now.cells result }
 {
     last_of(network, values).end

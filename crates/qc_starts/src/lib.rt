@@ -1,6 +1,6 @@
-//! The earliest start times of a search node. A decision raises starts along arcs behind one task; undoing
-//! it restores them. Also the critical chain that shows the node's end, or the ring that shows that the
-//! node is infeasible.
+//! The earliest start times of a search node. A decision raises starts along arcs behind one task;
+//! undoing it restores them. Also the critical chain that shows the node's end, or the ring that shows
+//! that the node is infeasible.
 #![tactic(auto)]
 
 mod arcs;

@@ -28,7 +28,7 @@ fn pop_to(arena: &mut ArcArena, mark: u32)
     }
 }
 
-///! The decisions of a node and the arcs between its tasks: from one task to another where the second
+/// The decisions of a node and the arcs between its tasks: from one task to another where the second
 /// is forced to start after the first, the newest of them as long as is forced.
 #[derive(Drop)]
 pub(crate) struct Network {

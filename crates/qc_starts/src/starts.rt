@@ -39,8 +39,8 @@ fn root_of(decision: Decision) -> u16
     }
 }
 
-/// The least starts of a node of the search: of an instance, of which it keeps a copy, and a list of
-/// decisions. Where no starts meet the node it is stuck, until decisions are taken back. A decision
+/// The earliest start times of a search node: of a list of decisions, and of the instance that they are
+/// made for. Where no starts meet the node it is stuck, until decisions are taken back. A decision
 /// costs what it changes, and so does taking it back. All memory is taken by `open`.
 #[derive(Drop)]
 pub struct Starts {
@@ -243,7 +243,7 @@ impl Starts {
         }
     }
 
-    /// When a task starts at the least.
+    /// The earliest start time of a task, in ticks.
     pub fn start(&self, j: u16) -> Tick
         requires starts { HasStarts self.now.inst self.now.decisions }
         requires task { j < length self.now.inst.tasks }
@@ -253,7 +253,7 @@ impl Starts {
         self.spread.values.start(j)
     }
 
-    /// When the last task ends, if all start at the least; 0 where there is no task.
+    /// When the last task ends, if all start as early as they can; 0 where there is no task.
     pub fn ends(&self) -> Tick
         requires { HasStarts self.now.inst self.now.decisions }
         ensures end { IsNodeEnd self.now.inst self.now.decisions result }
@@ -340,8 +340,8 @@ impl Starts {
         &self.spread.values.trail
     }
 
-    /// Writes a chain of tasks, each forced after the one before it, that ends when the node does;
-    /// an empty one where there is no task.
+    /// Writes a critical chain: tasks, each forced after the one before it, that end when the node
+    /// does; an empty one where there is no task.
     pub fn why_path(&self, path: &mut Path)
         requires starts { HasStarts self.now.inst self.now.decisions }
         requires room { HasRoom (length self.now.inst.tasks) path.old }

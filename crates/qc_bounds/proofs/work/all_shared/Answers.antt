@@ -1,5 +1,4 @@
-use Rattle.std.proofs.Common.{◌≡◌, ◌+◌, length, ap, subst, ◌∙◌, arith}
-use Rattle.qc_model.specs.Instance.{InstanceView}
+use Rattle.std.proofs.Common.{◌≡◌, ◌+◌, subst, arith}
 use Rattle.qc_bounds.specs.Work.{Fit}
 use Rattle.qc_model.specs.Leaves.{done_at}
 use Rattle.qc_dist.specs.Kept.{unassigned_ticks}

@@ -1,6 +1,5 @@
-use Rattle.std.proofs.Common.{◌≡◌, ◌<◌, ◌≤◌, ℕ, true, false, ap, ◌∙◌, arith}
+use Rattle.std.proofs.Common.{◌≡◌, ◌<◌, ◌≤◌, ℕ, true, false, ap, arith}
 use Rattle.std.proofs.lemmas.Bool.{le-ltb, lt-ltb}
-use Rattle.qc_model.specs.Instance.{InstanceView}
 use Rattle.qc_bounds.specs.declared.work.Early.{Early}
 use Rattle.qc_model.specs.Leaves.{done_at}
 use Rattle.qc_bounds.proofs.Sharing.{next_by}

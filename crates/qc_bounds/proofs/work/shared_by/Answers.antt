@@ -1,6 +1,5 @@
-use Rattle.std.proofs.Common.{◌≡◌, ◌+◌, ◌*◌, ℕ, ap, ◌∙◌, arith}
+use Rattle.std.proofs.Common.{◌≡◌, ◌+◌, ◌*◌, ℕ, ap, arith}
 use Rattle.std.proofs.lemmas.Grind.{div_ceil_times}
-use Rattle.qc_model.specs.Instance.{InstanceView}
 use Rattle.qc_model.specs.Leaves.{crane_numbers}
 use Rattle.qc_model.specs.Leaves.{done_at}
 use Rattle.qc_dist.specs.Kept.{unassigned_ticks}

@@ -1,6 +1,5 @@
-use Rattle.std.proofs.Common.{◌≡◌, max, ap, subst, ◌∙◌, arith}
+use Rattle.std.proofs.Common.{◌≡◌, max, subst, arith}
 use Rattle.qc_model.specs.Closing.{IsWorkBound}
-use Rattle.qc_model.specs.Instance.{InstanceView}
 use Rattle.qc_dist.specs.Kept.{unassigned_ticks}
 use Rattle.qc_bounds.proofs.BoundLemmas.{bound_of_both, bound_of_done}
 use Rattle.qc_bounds.proofs.work.work_bound.Goals as goal

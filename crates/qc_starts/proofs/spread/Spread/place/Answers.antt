@@ -1,4 +1,4 @@
-use Rattle.std.proofs.Common.{ℕ, false, List, length, ap, sym, subst, ◌∙◌, arith}
+use Rattle.std.proofs.Common.{ℕ, false, List, ap, sym, subst, ◌∙◌, arith}
 use Rattle.std.specs.Prelude.{slice_set}
 use Rattle.qc_starts.specs.Place.{ArePlaced}
 use Rattle.qc_starts.specs.Values.{raised}

@@ -1,4 +1,4 @@
-use Rattle.std.proofs.Common.{ℕ, [], List, length, ap, sym, subst, ◌∙◌, arith}
+use Rattle.std.proofs.Common.{ℕ, [], List, ap, sym, subst, ◌∙◌, arith}
 use Rattle.qc_starts.specs.Arcs.{IsArc}
 use Rattle.qc_starts.specs.Spread.{IsSpreading}
 use Rattle.qc_starts.specs.Values.{raised}

@@ -1,4 +1,4 @@
-use Rattle.std.proofs.Common.{◌≡◌, inr, ap, sym, subst, ◌∙◌, arith}
+use Rattle.std.proofs.Common.{◌≡◌, inr, ap, subst, ◌∙◌, arith}
 use Rattle.qc_dist.specs.Node.{Node}
 use Rattle.qc_model.specs.Nodes.{head}
 use Rattle.qc_starts.specs.Place.{IsSoonest}
