@@ -1,6 +1,6 @@
 use Rattle.std.proofs.Common.{◌-◌, arith, length}
-use Rattle.qc_tree.proofs.Feeds.{read_more}
-use Rattle.qc_tree.proofs.reader.read_behind.Goals as goal
+use Rattle.qc_lines.proofs.Feeds.{read_more}
+use Rattle.qc_lines.proofs.reader.read_behind.Goals as goal
 
 pub returns-clause-left : goal.returns-clause-left
 returns-clause-left g c =

@@ -1,9 +1,9 @@
 use Rattle.std.proofs.Common.{◌≡◌, ◌+◌, ◌<◌, ◌-◌, take, drop, ap, arith, length, refl, subst, sym, ◌∙◌}
 use Rattle.std.proofs.lemmas.List.{length-take}
 use Rattle.std.specs.Io.KnownBytes.{prepend_known}
-use Rattle.qc_tree.specs.Left.{HoldsLine, Takes}
-use Rattle.qc_tree.proofs.Feeds.{takes, window_front, window_rest}
-use Rattle.qc_tree.proofs.reader.LineReader.next.Goals as goal
+use Rattle.qc_lines.specs.Left.{HoldsLine, Takes}
+use Rattle.qc_lines.proofs.Feeds.{reads_through, takes, window_front, window_rest}
+use Rattle.qc_lines.proofs.reader.LineReader.next.Goals as goal
 
 pub returns : goal.returns
 returns g c =
@@ -13,9 +13,9 @@ returns g c =
     let end = c.self.inside.end in
     let len = c.in-Some.len in
     let held = c.find.new.self in
-    let rest = g.S.Shelf.rest c.find.new.shelf in
-    let before = prepend_known c.args.self.now (g.S.Shelf.rest c.args.shelf.now) in
-    let holds : HoldsLine held len = rw c.in-Some.is at found.line in
+    let rest = (g.S.Sink.view c.find.new.shelf).rest in
+    let before = prepend_known c.args.self.now (g.S.Sink.view c.args.shelf.now).rest in
+    let holds : HoldsLine g.row.MOST held len = rw c.in-Some.is at found.line in
     let fits : len < end - start = omega (arith, holds.inside, ap length c.self.view_is, length-take (end - start) (drop start items)) in
     let line : take (start + len - start) (drop start c.as_slice.result.now) ≡ take len held =
     ap (λ xs. take (start + len - start) (drop start xs)) c.as_slice.ensures.value
@@ -25,20 +25,14 @@ returns g c =
       (
         refl,
         λ _. tt,
-        subst (λ l. Takes before l (prepend_known (take (end - (start + (len + 1))) (drop (start + (len + 1)) items)) rest)) (sym line)
-            (subst (λ l. Takes before (take len held) (prepend_known l rest)) (sym left) (takes held len before rest holds (sym found.left))),
+        subst (λ l. Takes g.row.MOST before l (prepend_known (take (end - (start + (len + 1))) (drop (start + (len + 1)) items)) rest)) (sym line)
+            (subst (λ l. Takes g.row.MOST before (take len held) (prepend_known l rest)) (sym left) (takes g.row.MOST held len before rest holds (sym found.left))),
       ),
       record {
         left = tt;
         ended = tt;
         too_long = λ e. absurd (cc e);
         cut = λ e. absurd (cc e);
-        read_fault = λ e. absurd (cc e);
-        unfailed = λ _. found.unfailed (λ e. absurd (cc e));
-        reading_stays = found.reading_stays;
-        files_stay = found.files_stay;
-        made_stays = found.made_stays;
-        faults_stay = found.faults_stay;
-        read_faults_never_fall = found.read_faults_never_fall;
+        reads = record { reads = reads_through (g.S.Sink.view c.args.shelf.now) (g.S.Sink.view c.find.new.shelf) found.reads.reads (λ e. absurd (cc e)); reading = found.reads.reading; rose = λ e. absurd (cc e) };
       },
     )

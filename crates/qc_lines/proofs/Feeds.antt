@@ -11,8 +11,21 @@ use borrow.Rule.Slice.PartMut.{put_mid}
 use Rattle.std.specs.Io.KnownBytes.{prepend_known}
 use Rattle.std.specs.List.{position_or_len}
 use Rattle.std.specs.Prelude.{IfSome, nat_lt}
+use Rattle.qc_io.specs.Outside.{View}
+use Rattle.qc_io.specs.Reads.{Reads}
 use Rattle.qc_io.proofs.Pieces.{prepend_known-append}
-use Rattle.qc_tree.specs.Left.{HoldsLine, IsCut, IsTooLong, NoFeed, Takes}
+use Rattle.qc_lines.specs.Left.{HoldsLine, IsCut, IsTooLong, NoFeed, Takes}
+
+-- where a call came through, no read failed, whatever else it answers
+pub reads_through : {P Q : Type 0} (before after : View) → Reads before after P → P → Reads before after Q
+reads_through before after r p = record {
+  written = r.written;
+  faults = r.faults;
+  files = r.files;
+  made = r.made;
+  never_falls = r.never_falls;
+  unfailed = λ _. r.unfailed p;
+}
 
 abbrev is_feed : ℕ → Bool
 is_feed b = b == 10
@@ -25,8 +38,9 @@ none_before held n none = λ k d lt feed.
     absurd (cc (sym (ap is_feed same) ∙ none k d here))
 
 -- a line feed that is found ends a line, or one that is too long
-pub found_line : (held : List ℕ) (len : ℕ) → position (λ b. b == 10) held ≡ Some len → len < 1200 → HoldsLine held len
-found_line held len e short =
+pub found_line : (most : ℕ) (held : List ℕ) (len : ℕ) → position (λ b. b == 10) held ≡ Some len → len < most
+    → HoldsLine most held len
+found_line most held len e short =
     let found = position-Some is_feed held len 0 e in
     let feed : get_or held len 0 ≡ 10 = grind (arith, nat_tests, found.1) in
     let next : suc len ≡ len + 1 = omega arith in
@@ -39,21 +53,22 @@ found_line held len e short =
       unbroken = none_before held len (λ k d lt. (position-Some is_feed held len d e).2 k lt);
     }
 
-front_too_long : (held : List ℕ) (rest : Option (List ℕ)) → 1200 ≤ length held → NoFeed (take 1200 held) → IfSome (prepend_known held rest) IsTooLong
-front_too_long held None long none = tt
-front_too_long held (Some more) long none =
-    (omega (arith, length-append held more), subst NoFeed (sym (take-append-le 1200 held more long)) none)
+front_too_long : (most : ℕ) (held : List ℕ) (rest : Option (List ℕ)) → most ≤ length held → NoFeed (take most held)
+    → IfSome (prepend_known held rest) (IsTooLong most)
+front_too_long most held None long none = tt
+front_too_long most held (Some more) long none =
+    (omega (arith, length-append held more), subst NoFeed (sym (take-append-le most held more long)) none)
 
 pub far_line :
-    (held : List ℕ) (rest : Option (List ℕ)) (len : ℕ) → position (λ b. b == 10) held ≡ Some len → 1200 ≤ len
-    → IfSome (prepend_known held rest) IsTooLong
-far_line held rest len e long =
+    (most : ℕ) (held : List ℕ) (rest : Option (List ℕ)) (len : ℕ) → position (λ b. b == 10) held ≡ Some len
+    → most ≤ len → IfSome (prepend_known held rest) (IsTooLong most)
+far_line most held rest len e long =
     let found = position-Some is_feed held len 0 e in
-    front_too_long held rest (omega (arith, found.0))
-    (none_before held 1200 (λ k d lt. (position-Some is_feed held len d e).2 k (omega (arith, lt))))
+    front_too_long most held rest (omega (arith, found.0))
+    (none_before held most (λ k d lt. (position-Some is_feed held len d e).2 k (omega (arith, lt))))
 
 -- no line feed is held
-module _ (held : List ℕ) (none : position (λ b. b == 10) held ≡ None) where
+module _ (most : ℕ) (held : List ℕ) (none : position (λ b. b == 10) held ≡ None) where
   past : length held ≤ position_or_len is_feed held
   past = elim (cases_Bool (nat_lt (position_or_len is_feed held) (length held))) [
     | inl here ↦ cc (rw here at none)
@@ -63,23 +78,23 @@ module _ (held : List ℕ) (none : position (λ b. b == 10) held ≡ None) where
   no_feed : (n : ℕ) → n ≤ length held → NoFeed (take n held)
   no_feed n le = none_before held n (λ k d lt. fails_before_first is_feed held k d (omega (arith, past)))
 
-  pub long_left : (rest : Option (List ℕ)) → 1200 ≤ length held → IfSome (prepend_known held rest) IsTooLong
-  long_left rest long = front_too_long held rest long (no_feed 1200 long)
+  pub long_left : (rest : Option (List ℕ)) → most ≤ length held → IfSome (prepend_known held rest) (IsTooLong most)
+  long_left rest long = front_too_long most held rest long (no_feed most long)
 
   pub cut_left :
-      (rest : Option (List ℕ)) → 0 < length held → length held < 1200
-      → (1200 ≤ length held) ⊎ IfSome rest (λ left. left ≡ []) → IfSome (prepend_known held rest) IsCut
+      (rest : Option (List ℕ)) → 0 < length held → length held < most
+      → (most ≤ length held) ⊎ IfSome rest (λ left. left ≡ []) → IfSome (prepend_known held rest) (IsCut most)
   cut_left rest some short (inl long) = absurd (omega (arith, short, long))
   cut_left None some short (inr ended) = tt
   cut_left (Some more) some short (inr ended) =
       let same : held ++ more ≡ held = ap (λ t. held ++ t) ended ∙ append-nil held in
-      subst IsCut (sym same) (some, short, subst NoFeed (take_all (length held) held (omega arith)) (no_feed (length held) (omega arith)))
+      subst (IsCut most) (sym same) (some, short, subst NoFeed (take_all (length held) held (omega arith)) (no_feed (length held) (omega arith)))
 
 -- a line that is held is taken
 pub takes :
-    (held : List ℕ) (len : ℕ) (before rest : Option (List ℕ)) → HoldsLine held len → before ≡ prepend_known held rest
-    → Takes before (take len held) (prepend_known (drop (len + 1) held) rest)
-takes held len before rest holds same = record {
+    (most : ℕ) (held : List ℕ) (len : ℕ) (before rest : Option (List ℕ)) → HoldsLine most held len
+    → before ≡ prepend_known held rest → Takes most before (take len held) (prepend_known (drop (len + 1) held) rest)
+takes most held len before rest holds same = record {
   taken =
       same ∙ ap (λ t. prepend_known t rest) (holds.whole ∙ sym (append_assoc (take len held) (10 ∷ []) (drop (len + 1) held)))
       ∙ sym (prepend_known-append (take len held ++ 10 ∷ []) (drop (len + 1) held) rest);
