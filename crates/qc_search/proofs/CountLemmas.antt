@@ -1,6 +1,6 @@
 -- No tree has more branchings than what is left to decide allows.
 use Rattle.std.proofs.Common.{◌≡◌, ℕ, suc, ◌+◌, ◌-◌, ◌*◌, ◌^◌, ◌<◌, ◌≤◌, cond, max, List, [], ◌∷◌, ◌++◌, length, map, inl, inr, ap, refl, sym, subst, ◌∙◌, arith, mul-le-mul_left}
-use Rattle.std.proofs.Math.Nat.{mul_comm, one-le-pow, pow-le-pow-right, pow-suc, suc-mul}
+use Rattle.std.proofs.Math.Nat.{mul_comm, one-le-pow, pow-le-pow_right, pow-suc, suc-mul}
 use Rattle.std.proofs.lemmas.List.FromFn.{length-range_with_len}
 use Rattle.std.proofs.lemmas.List.Sums.{sum_by-append, sum_by-cons}
 use Rattle.std.specs.Prelude.{sum_by}
@@ -13,7 +13,7 @@ use Rattle.qc_model.specs.Instance.{InstanceView}
 use Rattle.qc_model.specs.Leaves.{Version, crane_numbers}
 use Rattle.qc_model.specs.OneWay.{mirror}
 use Rattle.qc_model.proofs.SeenLemmas.{seen-crane_count, seen-task_count}
-use Rattle.qc_tree.specs.Trees.{Holds, IsPart, IsTree, Leads, Node, Sign, Tree, branches, branchings, children, ends, on_pair, on_task, tree_branchings}
+use Rattle.qc_tree.specs.Trees.{Holds, IsPart, IsTree, Leads, Node, Sign, Tree, branches, branchings, children, leaf, on_pair, on_task, tree_branchings}
 use Rattle.qc_search.specs.Run.{branching_limit}
 
 -- of base parts, each with room for q branchings, one is left over for the branching itself
@@ -35,7 +35,7 @@ module _ (inst : InstanceView) (version : Version) (base : ℕ) (two : 2 ≤ bas
   -- where less is left, the room is less
   less_room : (n : ℕ) (ds : List Decision) → open_count ds ≤ n → room ds ≤ base ^ n - 1
   less_room n ds low =
-      omega (arith, pow-le-pow-right base (open_count ds) n (omega (arith, two)) low)
+      omega (arith, pow-le-pow_right {n = base} (omega (arith, two)) {i = open_count ds} {j = n} low)
 
   crowd : (f : ℕ → List Decision) (q : ℕ) → ((k : ℕ) → room (f k) ≤ q) → (ks : List ℕ)
       → sum_by room (map f ks) ≤ length ks * q
@@ -46,7 +46,7 @@ module _ (inst : InstanceView) (version : Version) (base : ℕ) (two : 2 ≤ bas
   -- a branching and the rooms of its children fit into its own room
   step_room : (ds : List Decision) (sign : Sign) → Holds version inst ds sign
       → cond (branches sign) 1 0 + sum_by room (children inst ds sign) ≤ room ds
-  step_room ds (ends shows) holds = omega arith
+  step_room ds (leaf shows) holds = omega arith
   step_room ds (on_task j) holds =
       let n = open_count ds - 1 in
       let less = λ (k : ℕ). assigned_less inst ds j k holds.0 holds.1 in

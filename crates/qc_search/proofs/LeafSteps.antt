@@ -19,7 +19,8 @@ use Rattle.qc_model.specs.Leaves.{chain, is_out_of_reach, leaf_value, reach, wit
 use Rattle.qc_model.specs.Nodes.{HasStarts, IsComplete, IsInReach, IsNodeEnd, reaches}
 use Rattle.qc_model.specs.Rules.{last_end}
 use Rattle.qc_starts.specs.Seen.{IsReached, IsWhy}
-use Rattle.qc_tree.specs.Trees.{ends, sign_value}
+use Rattle.qc_tree.specs.Trees.{sign_value}
+use Rattle.qc_tree.specs.Trees as signs
 use Rattle.qc_search.specs.declared.progress.Progress.{Progress}
 use Rattle.qc_search.specs.Earned.{IsChainTo, IsClosedAt, IsGivenUp}
 use Rattle.qc_search.specs.Lines.{IsLeafBy, leaf_of}
@@ -43,16 +44,16 @@ reached_in inst ds (Order i j) h = tt
 
 -- a child out of reach
 pub reach_step : (inst : InstanceView) (way : Direction) (ds : List Decision) (d : Decision) (now : Progress)
-    → ¬ IsReached inst d → IsStep inst way (d ∷ ds) (ends reach) now now
+    → ¬ IsReached inst d → IsStep inst way (d ∷ ds) (signs.leaf reach) now now
 reach_step inst way ds d now away =
     let out = out_of inst ds d away in
     let shows : leaf_value with_berths inst (d ∷ ds) reach ≡ Some Never =
     cond-true (is_out_of_reach inst (d ∷ ds)) (Some Never) None out in
-    let value : sign_value with_berths inst (d ∷ ds) (ends reach) ≡ Never =
+    let value : sign_value with_berths inst (d ∷ ds) (signs.leaf reach) ≡ Never =
     ap (λ (o : Option Bound). unwrap_or o Never) shows in
-    let same : lesser now.bound (sign_value with_berths inst (d ∷ ds) (ends reach)) ≡ now.bound =
+    let same : lesser now.bound (sign_value with_berths inst (d ∷ ds) (signs.leaf reach)) ≡ now.bound =
     ap (lesser now.bound) value ∙ lesser_never now.bound in
-    subst (λ (b : Bound). IsStep inst way (d ∷ ds) (ends reach) now (record now { bound = b })) same
+    subst (λ (b : Bound). IsStep inst way (d ∷ ds) (signs.leaf reach) now (record now { bound = b })) same
     (leaf_step inst way (d ∷ ds) reach now now now.path refl (λ h. subst IsSoon (sym same) h) (record {
       holds = ap is_some shows;
       closed = λ _. record {
@@ -161,7 +162,7 @@ met_by_end inst way ds old mid end (inr t) within all e =
 -- the leaf of a closed node shows no end sooner than the one that was met
 closed_late : (inst : InstanceView) (way : Direction) (ds : List Decision) (old mid : Progress) (leaf : LeafKind)
     (tasks : List ℕ) → IsPassed inst ds old mid ⊎ IsTaken inst way ds old mid → IsInReach inst ds
-    → IsClosedBy inst ds old.incumbent_end leaf tasks → IsAtMost mid.incumbent_end (sign_value with_berths inst ds (ends (leaf_of leaf tasks)))
+    → IsClosedBy inst ds old.incumbent_end leaf tasks → IsAtMost mid.incumbent_end (sign_value with_berths inst ds (signs.leaf (leaf_of leaf tasks)))
 closed_late inst way ds old mid kind.Chain tasks meets within h =
     subst (IsAtMost mid.incumbent_end) (sym (ap (λ (o : Option Bound). unwrap_or o Never) h.0.chain)) (by_due h.1)
   where

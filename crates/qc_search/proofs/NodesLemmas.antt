@@ -14,10 +14,11 @@ use Rattle.smallvec.specs.SmallVec.{SmallVec}
 use Rattle.qc_model.specs.declared.decision.Decision.{Decision}
 use Rattle.qc_model.specs.declared.direction.Direction.{Direction}
 use Rattle.qc_model.specs.Instance.{InstanceView}
-use Rattle.qc_model.specs.Leaves.{chain, with_berths}
+use Rattle.qc_model.specs.Leaves.{with_berths}
 use Rattle.qc_model.specs.Numbers.{most_tasks}
 use Rattle.qc_model.specs.Seen.{seen}
-use Rattle.qc_tree.specs.Trees.{Leads, Node, Sign, branchings, children, ends, part_text, sign_text}
+use Rattle.qc_tree.specs.Trees.{Node, Sign, branchings, children, part_text, sign_text}
+use Rattle.qc_tree.proofs.NodeLemmas.{all_given_up, given_up, leads_then, none_branched}
 use Rattle.qc_search.specs.declared.progress.Progress.{Progress}
 use Rattle.qc_search.specs.Earned.{TreeNode, branchings_in, node_at, part_nodes}
 use Rattle.qc_search.specs.Progress.{AreEarned, Comes, IsAlong, IsKept, IsProgress, IsStep, WritesNodes, emptied, left_by}
@@ -25,30 +26,9 @@ use Rattle.qc_search.proofs.EarnedLemmas.{branched_in, branchings-append, earned
 
 -- ---- nodes one behind the other
 
-module _ (inst : InstanceView) where
-  leads_then : (one two : List Node) (due between left : List (List Decision))
-      → Leads with_berths inst due one between → Leads with_berths inst between two left
-      → Leads with_berths inst due (one ++ two) left
-  leads_then [] two due between left e h =
-      subst (λ (d : List (List Decision)). Leads with_berths inst d two left) (sym e) h
-  leads_then (node ∷ one) two [] between left h k = absurd h
-  leads_then (node ∷ one) two (ds ∷ more) between left h k =
-      (h.0, h.1, leads_then one two _ between left h.2 k)
-
-  -- a node that is given up: its leaf holds everywhere
-  abbrev given_up : List Decision → Node
-  given_up ds = record { decisions = ds; sign = ends (chain []) }
-
-  abbrev pub all_up : List (List Decision) → List Node
-  all_up = map given_up
-
-  pub all_given_up : (due : List (List Decision)) → Leads with_berths inst due (all_up due) []
-  all_given_up [] = refl
-  all_given_up (ds ∷ more) = (refl, refl, all_given_up more)
-
-  pub none_branched : (due : List (List Decision)) → branchings (all_up due) ≡ 0
-  none_branched [] = refl
-  none_branched (ds ∷ more) = none_branched more
+-- these nodes, each given up
+abbrev pub all_up : InstanceView → List (List Decision) → List Node
+all_up inst due = map (given_up with_berths inst) due
 
 along_then : (inst : InstanceView) (a b c : Progress) → IsAlong inst a b → IsAlong inst b c → IsAlong inst a c
 along_then inst a b c one two = record {
@@ -145,7 +125,7 @@ module _ {inst : InstanceView} {way : Direction} where
       map-append (λ (node : Node). node_at way node.decisions node.sign) one.nodes two.nodes in
       record {
         nodes = one.nodes ++ two.nodes;
-        leads = leads_then inst one.nodes two.nodes due between left one.leads two.leads;
+        leads = leads_then with_berths inst one.nodes two.nodes due between left one.leads two.leads;
         writes = subst (λ (x : List ℕ). Writes before after x result)
             (append_assoc front (part_text one.nodes) (part_text two.nodes)
             ∙ ap (λ (x : List ℕ). front ++ x) (sym (flat_map-append (λ (node : Node). sign_text node.sign) one.nodes two.nodes)))
@@ -182,7 +162,7 @@ module _ {inst : InstanceView} {way : Direction} where
       → WritesNodes front before after inst way due [] old new (Err fault)
   front_cut {front} {before} {after} due old new fault w = record {
     nodes = all_up inst due;
-    leads = all_given_up inst due;
+    leads = all_given_up with_berths inst due;
     writes = writes_cut before after front (part_text (all_up inst due)) fault (Err fault) refl w;
     few = λ home first seen_so p. omega (
       arith,
@@ -190,7 +170,7 @@ module _ {inst : InstanceView} {way : Direction} where
       p.branched,
       branchings-append first (part_nodes way (all_up inst due)),
       branched_in way (all_up inst due),
-      none_branched inst due,
+      none_branched with_berths inst due,
     );
     comes = tt;
   }
@@ -235,9 +215,9 @@ module _ {inst : InstanceView} {way : Direction} where
       let rest = all_up inst (children inst ds sign ++ more) in
       record {
         nodes = record { decisions = ds; sign = sign } ∷ rest;
-        leads = (refl, step.holds, all_given_up inst (children inst ds sign ++ more));
+        leads = (refl, step.holds, all_given_up with_berths inst (children inst ds sign ++ more));
         writes = writes_cut before after (sign_text sign) (part_text rest) fault (Err fault) refl w;
-        few = step_few ds sign old new step rest (none_branched inst (children inst ds sign ++ more));
+        few = step_few ds sign old new step rest (none_branched with_berths inst (children inst ds sign ++ more));
         comes = tt;
       }
 

@@ -16,7 +16,7 @@ use Rattle.qc_model.specs.Leaves.{Leaf, leaf_value, with_berths}
 use Rattle.qc_model.specs.Nodes.{IsComplete, IsNodeEnd, slot_with}
 use Rattle.qc_model.specs.Rules.{last_end}
 use Rattle.qc_model.specs.Seen.{seen}
-use Rattle.qc_tree.specs.Trees.{Holds, Sign, ends, on_pair, on_task, sign_value}
+use Rattle.qc_tree.specs.Trees.{Holds, Sign, leaf, on_pair, on_task, sign_value}
 use Rattle.qc_search.specs.declared.branch.Branch.{Branch}
 use Rattle.qc_search.specs.declared.branch.Branch.TheVariants.{Pair, Task}
 use Rattle.qc_search.specs.declared.progress.Progress.{Progress}
@@ -87,7 +87,7 @@ pub record IsLeafStep
   pub closed : IsClosable inst ds old.incumbent_end → IsClosedAt inst ds old.incumbent_end shows
   pub given_up : ¬ IsClosable inst ds old.incumbent_end → (old.branched ≡ old.limit) × IsGivenUp inst ds shows
   pub meets : IsPassed inst ds old mid ⊎ IsTaken inst way ds old mid
-  pub late : old.branched < old.limit → IsAtMost mid.incumbent_end (sign_value with_berths inst ds (ends shows))
+  pub late : old.branched < old.limit → IsAtMost mid.incumbent_end (sign_value with_berths inst ds (leaf shows))
 
 module _ (home : InstanceView) (way : Direction) (ds : List Decision) (before : List TreeNode) where
   module _ (sign : Sign) where
@@ -141,15 +141,15 @@ module _ (home : InstanceView) (way : Direction) (ds : List Decision) (before : 
 
   leaf_earned : (shows : Leaf) (old mid : Progress) (path : SmallVec ℕ) → IsProgress home old before
       → IsLeafStep (seen home way) way ds shows old mid
-      → IsEarnedBehind home old.limit before (node_at way ds (ends shows))
+      → IsEarnedBehind home old.limit before (node_at way ds (leaf shows))
       × IsProgress home (record mid {
-        bound = lesser mid.bound (sign_value with_berths (seen home way) ds (ends shows));
+        bound = lesser mid.bound (sign_value with_berths (seen home way) ds (leaf shows));
         path = path;
-      }) (before ++ node_at way ds (ends shows) ∷ [])
+      }) (before ++ node_at way ds (leaf shows) ∷ [])
   leaf_earned shows old mid path now s =
-      let node = node_at way ds (ends shows) in
+      let node = node_at way ds (leaf shows) in
       let same = same_but (seen home way) way ds old mid s.meets in
-      let value = sign_value with_berths (seen home way) ds (ends shows) in (
+      let value = sign_value with_berths (seen home way) ds (leaf shows) in (
         record {
           u = old.incumbent_end;
           met = now.met;
@@ -159,9 +159,9 @@ module _ (home : InstanceView) (way : Direction) (ds : List Decision) (before : 
           few = omega (arith, now.few, same.branched, same.limit);
           branched = omega (arith, now.branched, same.branched, branchings-append before (node ∷ []));
           bound = ap (λ (b : Bound). lesser b value) (same.bound ∙ now.bound) ∙ sym (value_push home before node);
-          met = met_mid (ends shows) old mid now.met s.meets;
+          met = met_mid (leaf shows) old mid now.met s.meets;
           best = λ end e. kept_as home mid _ (before ++ node ∷ []) (before ++ node ∷ []) end refl refl (λ n c. c)
-              (kept_mid (ends shows) old mid now.best s.meets end e);
+              (kept_mid (leaf shows) old mid now.best s.meets end e);
           late = λ left.
               let less : old.branched < old.limit = omega (arith, left, same.branched, same.limit) in
               at_most_lesser mid.incumbent_end mid.bound value
@@ -175,10 +175,10 @@ module _ (home : InstanceView) (way : Direction) (ds : List Decision) (before : 
 -- a leaf was met, and its value taken
 pub leaf_step : (inst : InstanceView) (way : Direction) (ds : List Decision) (shows : Leaf) (old mid : Progress)
     (path : SmallVec ℕ) → path.capacity ≡ mid.path.capacity
-    → (IsSoon mid.bound → IsSoon (lesser mid.bound (sign_value with_berths inst ds (ends shows))))
+    → (IsSoon mid.bound → IsSoon (lesser mid.bound (sign_value with_berths inst ds (leaf shows))))
     → IsLeafStep inst way ds shows old mid
-    → IsStep inst way ds (ends shows) old
-    (record mid { bound = lesser mid.bound (sign_value with_berths inst ds (ends shows)); path = path })
+    → IsStep inst way ds (leaf shows) old
+    (record mid { bound = lesser mid.bound (sign_value with_berths inst ds (leaf shows)); path = path })
 leaf_step inst way ds shows old mid path capacity soon s =
     let same = same_but inst way ds old mid s.meets in
     record {
@@ -190,11 +190,11 @@ leaf_step inst way ds shows old mid path capacity soon s =
         soon = λ h. soon (subst IsSoon (sym same.bound) h);
       };
       earned = λ home before seen_so now.
-          subst (λ (i : InstanceView). IsEarnedBehind home old.limit before (node_at way ds (ends shows))
+          subst (λ (i : InstanceView). IsEarnedBehind home old.limit before (node_at way ds (leaf shows))
           × IsProgress home (record mid {
-            bound = lesser mid.bound (sign_value with_berths i ds (ends shows));
+            bound = lesser mid.bound (sign_value with_berths i ds (leaf shows));
             path = path;
-          }) (before ++ node_at way ds (ends shows) ∷ [])) seen_so
+          }) (before ++ node_at way ds (leaf shows) ∷ [])) seen_so
           (leaf_earned home way ds before shows old mid path now
           (subst (λ (i : InstanceView). IsLeafStep i way ds shows old mid) (sym seen_so) s));
     }

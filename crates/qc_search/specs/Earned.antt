@@ -12,7 +12,7 @@ use Rattle.qc_model.specs.Leaves.{Leaf, chain, ring, reach, work, with_berths, i
 use Rattle.qc_model.specs.Nodes.{AreLeast, HasStarts, IsComplete, IsInReach, IsNodeEnd}
 use Rattle.qc_model.specs.Rules.{last_end}
 use Rattle.qc_model.specs.Seen.{seen}
-use Rattle.qc_tree.specs.Trees.{Node, Sign, Tree, branches, ends, on_pair, on_task, tree_branchings}
+use Rattle.qc_tree.specs.Trees.{Node, Sign, Tree, branches, leaf, on_pair, on_task, tree_branchings}
 
 -- a node of a tree: in which of the two parts it stands, its decisions, newest first, and what its line says
 pub record TreeNode : Type 0 where
@@ -95,7 +95,7 @@ pub record IsGivenUp (inst : InstanceView) (ds : List Decision) (shows : Leaf) :
 -- a branching only where u doesn't close the node; the leaf that closes it where u does; and else a leaf only
 -- once all branchings are spent
 abbrev pub MayStand : InstanceView → List Decision → Bound → (branched most : ℕ) → Sign → Type 0
-MayStand inst ds u branched most (ends shows) =
+MayStand inst ds u branched most (leaf shows) =
     (IsClosable inst ds u → IsClosedAt inst ds u shows)
     × (¬ (IsClosable inst ds u) → (branched ≡ most) × IsGivenUp inst ds shows)
 MayStand inst ds u branched most branching = ¬ (IsClosable inst ds u)
