@@ -1,10 +1,9 @@
-// What the tasks of a crane come to.
+//! What the tasks of a crane come to.
 
 ghost use Rattle.std.specs.Prelude.{◌≡◌, ◌+◌, ◌*◌, ◌<◌, ◌≤◌, Some, IfSome, length};
 ghost use Rattle.qc_model.specs.declared.limits.TheConstants.{MOST_DISTANCE, MOST_TASKS, MOST_WORK};
 ghost use Rattle.qc_dist.specs.Loads.{IsLoad, load_with, load_ticks};
 
-use crate::parts::post_at;
 use qc_model::{Instance, Task, bays_between, bays_up, travel_over};
 use qc_num::{Bay, Tick};
 
@@ -19,7 +18,7 @@ pub(crate) struct Load {
     pub(crate) highest: Bay,
 }
 
-/// What a crane's tasks come to with one more.
+///! What a crane's tasks come to with one more.
 pub(crate) fn load_with(load: Option<Load>, task: Task) -> Load
     requires load { IfSome load IsLoad }
     requires task { task.ticks ≤ MOST_WORK }
@@ -50,7 +49,7 @@ pub(crate) fn load_ticks(inst: &Instance, k: u16, load: Option<Load>) -> Tick
     match load {
         None => 0,
         Some(load) => {
-            let way_there = travel_over(inst, bays_between(post_at(inst, k).bay, load.lowest));
+            let way_there = travel_over(inst, bays_between(inst.post(k).bay, load.lowest));
             load.ticks + way_there + travel_over(inst, bays_up(load.lowest, load.highest))
         }
     }

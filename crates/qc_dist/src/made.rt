@@ -1,9 +1,9 @@
-// A decision as it is kept.
+//! A decision as it is kept.
 
 use crate::loads::Load;
 use qc_model::Decision;
 
-/// A decision, and what is written back when it is undone.
+///! A decision, and what is written back when it is undone.
 #[derive(Clone, Copy)]
 pub(crate) struct Made {
     pub(crate) decision: Decision,

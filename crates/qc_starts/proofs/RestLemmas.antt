@@ -148,28 +148,7 @@ module _ (inst : InstanceView) (ds : List Decision) (cells : List ℕ) (valid : 
 
 -- ---- starts at rest
 
--- what holds of starts at rest, but for their bound
-pub record IsTight (inst : InstanceView) (ds : List Decision) (cells : List ℕ) : Type 0 where
-  pub count : length cells ≡ 2 * length inst.tasks
-  pub heads : (j : ℕ) → j < length inst.tasks → head inst ds j ≤ start_at cells j
-  pub steps :
-      (i j len : ℕ) → i < length inst.tasks → j < length inst.tasks → forced inst ds i j ≡ Some len
-      → start_at cells i + len ≤ start_at cells j
-  pub reasons : (j : ℕ) → j < length inst.tasks → IsReason inst ds cells j (raiser_at (length inst.tasks) cells j)
-  pub least : AreAtMost inst ds cells
-  pub low : (j : ℕ) → j < length inst.tasks → head inst ds j ≤ 2147483648
-
-pub tight : (inst : InstanceView) (ds : List Decision) (cells : List ℕ) → AreRest inst ds cells → IsTight inst ds cells
-tight inst ds cells is = record {
-  count = is.count;
-  heads = is.heads;
-  steps = is.steps;
-  reasons = is.reasons;
-  least = is.least;
-  low = is.low;
-}
-
-module _ (net : NodeArcs) (cells : List ℕ) (sound : IsSound net) (is : IsTight net.inst net.decisions cells) where
+module _ (net : NodeArcs) (cells : List ℕ) (sound : IsSound net) (is : AreRest net.inst net.decisions cells) where
   abbrev inst : InstanceView
   inst = net.inst
 
@@ -240,17 +219,6 @@ module _ (net : NodeArcs) (cells : List ℕ) (sound : IsSound net) (is : IsTight
   soon_of j under =
       let path = chain_exists ways (backed_of inst ds cells valid is.reasons) rising_of j under in
       (chain_shows j path.0 path.1).2
-
-  pub rest_is : AreRest net.inst net.decisions cells
-  rest_is = record {
-    count = is.count;
-    heads = is.heads;
-    steps = is.steps;
-    reasons = is.reasons;
-    least = is.least;
-    low = is.low;
-    soon = λ j under. omega (arith, soon_of j under);
-  }
 
 -- ---- what starts at rest answer
 

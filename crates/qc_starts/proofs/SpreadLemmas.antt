@@ -14,7 +14,6 @@ use Rattle.qc_starts.specs.Values.{AreRest, IsReason, raised, raiser_at, start_a
 use Rattle.qc_starts.proofs.ArcLemmas.{arc_of, newest_in}
 use Rattle.qc_starts.proofs.Counts.{total-le, total-lt}
 use Rattle.qc_starts.proofs.RaisedLemmas.{raised_count, raised_here, raised_other, reason_of_here, reason_of_other}
-use Rattle.qc_starts.proofs.RestLemmas.{rest_is}
 use Rattle.qc_starts.proofs.SelfLemmas.{self_free}
 
 -- ---- a raise
@@ -549,7 +548,7 @@ module _ (net : NodeArcs) (root task : ℕ) (olds cells : List ℕ) (pending : L
 pub spread_ends : (net : NodeArcs) (root : ℕ) (olds cells : List ℕ) (pending : List Bool) → IsSound net
     → ((j : ℕ) → j < length pending → is_pending pending j ≡ false)
     → IsSpreading net root olds cells pending [] → AreRest net.inst net.decisions cells
-spread_ends net root olds cells pending sound none is = rest_is net cells sound (record {
+spread_ends net root olds cells pending sound none is = record {
   count = is.raising.count;
   heads = λ j under. elim (cases_eq j root) [
     | inl same ↦ subst (λ (x : ℕ). head net.inst net.decisions x ≤ start_at cells x) (sym same) is.above
@@ -567,7 +566,7 @@ spread_ends net root olds cells pending sound none is = rest_is net cells sound 
     | inl same ↦ subst (λ (x : ℕ). head net.inst net.decisions x ≤ 2147483648) (sym same) is.low
     | inr other ↦ is.raising.low j under other
   ];
-})
+}
   where
     all_done : (j : ℕ) → is_pending pending j ≡ false
     all_done j = elim (cases_lt j (length pending)) [

@@ -1,4 +1,4 @@
-// The way back from a task by what raised each, to a task that nothing raised or around a ring.
+//! The way back from a task by what raised each, to a task that nothing raised or around a ring.
 
 ghost use Rattle.std.specs.Prelude.{◌≡◌, ◌*◌, ◌+◌, ◌<◌, ◌≤◌, ◌∷◌, length};
 ghost use Rattle.qc_num.specs.Paths.{HasRoom};
@@ -30,7 +30,7 @@ fn prepend(path: &mut Path, task: u16)
     let _ = path.insert(0, task);
 }
 
-/// The way back from a task until nothing raised the first, or the task that raised it is on the
+///! The way back from a task until nothing raised the first, or the task that raised it is on the
 /// way already: the place of that task.
 fn walk_back(values: &Noted, count: u16, last: u16, path: &mut Path) -> Option<usize>
     requires cells { length values.now.cells ≡ 2 * count }

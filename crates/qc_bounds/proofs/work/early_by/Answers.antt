@@ -10,9 +10,8 @@ use Rattle.qc_bounds.proofs.work.early_by.Goals.{then-done-tick, else-done-tick}
 pub loop-k-preserved : goal.loop-k-preserved
 loop-k-preserved c =
     let k = c.loop-k.k in
-    let done : ℕ → ℕ = done_at c.args.inst.now c.args.node.now.decisions in
-    let same = ap (λ (i : InstanceView). done_at i c.args.node.now.decisions k) c.requires in
-    let is : c.done_at-done.result ≡ done k = c.done_at-done.ensures.ticks ∙ same in
+    let done : ℕ → ℕ = done_at c.args.node.now.inst c.args.node.now.decisions in
+    let is : c.done_at-done.result ≡ done k = c.done_at-done.ensures.ticks in
     elim c.if-done-tick.branch [
       | then-done-tick w ↦
           let low : done k < c.args.tick = omega arith in
