@@ -1,31 +1,40 @@
--- Which leaves are steps: out of reach, closed, given up.
-use Rattle.std.proofs.Common.{◌≡◌, ℕ, ◌<◌, ◌≤◌, ◌⊎◌, inl, inr, Bool, true, false, not, List, ◌∷◌, Option, None, Some, IsSome, unwrap_or, refl, ap, sym, subst, ◌∙◌, arith}
+-- Which leaves are steps, out of reach, closed or given up, and the lines of steps.
+use Rattle.std.proofs.Common.{◌≡◌, ℕ, ◌+◌, ◌<◌, ◌≤◌, ◌⊎◌, inl, inr, Bool, true, false, not, List, [], ◌∷◌, ◌++◌, Result, Option, None, Some, IsSome, unwrap_or, refl, ap, sym, subst, ◌∙◌, arith}
 use Rattle.std.proofs.lemmas.Bool.{cond-true}
-use Rattle.std.specs.Prelude.{is_some}
+use Rattle.std.specs.Prelude.{⊤, is_some}
+use Rattle.qc_io.specs.declared.writing.WriteFault.{WriteFault}
+use Rattle.qc_io.specs.Outside.{View}
+use Rattle.qc_io.specs.Writes.{Writes}
 use Rattle.qc_num.specs.declared.bound.Bound.{Bound}
 use Rattle.qc_num.specs.declared.bound.Bound.TheVariants.{Least, Never}
 use Rattle.qc_num.specs.Bounds.{IsAtMost, lesser}
 use Rattle.qc_num.proofs.BoundLemmas.{at_most_never, at_most_through, lesser_never}
+use Rattle.smallvec.specs.SmallVec.{SmallVec}
 use Rattle.qc_bounds.specs.declared.leaves.LeafKind.{LeafKind}
 use Rattle.qc_bounds.specs.declared.leaves.LeafKind.TheVariants as kind
 use Rattle.qc_bounds.specs.Closed.{IsClosedBy, IsSpentBy}
 use Rattle.qc_bounds.proofs.ClosedLemmas.{never_out_of_reach, one_end}
+use Rattle.qc_dist.specs.Children.{behind, later}
 use Rattle.qc_model.specs.declared.decision.Decision.{Decision}
 use Rattle.qc_model.specs.declared.decision.Decision.TheVariants.{Assign, Order}
 use Rattle.qc_model.specs.declared.direction.Direction.{Direction}
 use Rattle.qc_model.specs.Closing.{IsClosable, IsWorkBound, complete, no_starts, out_of_reach}
-use Rattle.qc_model.specs.Instance.{InstanceView}
-use Rattle.qc_model.specs.Leaves.{chain, is_out_of_reach, leaf_value, reach, with_berths}
+use Rattle.qc_model.specs.Instance.{InstanceView, Valid}
+use Rattle.qc_model.specs.Leaves.{Leaf, chain, is_out_of_reach, leaf_value, reach, with_berths}
 use Rattle.qc_model.specs.Nodes.{HasStarts, IsComplete, IsInReach, IsNodeEnd, reaches}
 use Rattle.qc_model.specs.Rules.{last_end}
 use Rattle.qc_starts.specs.Seen.{IsReached, IsWhy}
-use Rattle.qc_tree.specs.Trees.{sign_value}
+use Rattle.qc_tree.specs.Trees.{leaf_text, sign_text, sign_value}
 use Rattle.qc_tree.specs.Trees as signs
+use Rattle.qc_search.specs.declared.branch.Branch.{Branch}
 use Rattle.qc_search.specs.declared.progress.Progress.{Progress}
 use Rattle.qc_search.specs.Earned.{IsChainTo, IsClosedAt, IsGivenUp}
 use Rattle.qc_search.specs.Lines.{IsLeafBy, leaf_of}
-use Rattle.qc_search.specs.Progress.{IsPassed, IsSoon, IsStep, IsTaken}
-use Rattle.qc_search.proofs.StepLemmas.{IsLeafStep, leaf_step, met_before}
+use Rattle.qc_search.specs.Progress.{IsPassed, IsSoon, IsStep, IsTaken, WritesNodes, left_by}
+use Rattle.qc_search.specs.Walk.{IsOpenBranch, first_of, from_child, from_node, sign_of}
+use Rattle.qc_search.proofs.DescentLemmas.{branch_due}
+use Rattle.qc_search.proofs.NodesLemmas.{step_written}
+use Rattle.qc_search.proofs.StepLemmas.{IsLeafStep, branch_step, leaf_step, met_before, same_but}
 
 -- ---- out of reach
 
@@ -198,3 +207,75 @@ module _ (inst : InstanceView) (way : Direction) (ds : List Decision) (leaf : Le
     meets = inl (record { same = refl; late = λ begins all within least. absurd (open_node (complete all)) });
     late = λ left. absurd (omega (arith, left, spent));
   }
+
+-- ---- their lines
+
+soon_lesser : (a b : Bound) → IsSoon b → IsSoon a → IsSoon (lesser a b)
+soon_lesser (Least a) (Least b) h k = omega arith
+soon_lesser (Least a) Never h k = k
+soon_lesser Never b h k = h
+
+-- the line of a leaf that was met between, whose value was taken into the bound
+leaf_written : {before after : View} (inst : InstanceView) (way : Direction) (ds : List Decision)
+    (more : List (List Decision)) (shows : Leaf) (old mid new : Progress) (value : Bound) (result : Result ⊤ WriteFault)
+    → IsLeafStep inst way ds shows old mid → leaf_value with_berths inst ds shows ≡ Some value → IsSoon value
+    → new ≡ record mid { bound = lesser mid.bound value; path = new.path }
+    → new.path.capacity ≡ mid.path.capacity → Writes before after (leaf_text shows) result
+    → WritesNodes [] before after inst way (ds ∷ more) (left_by (λ _. more) result) old new result
+leaf_written inst way ds more shows old mid new value result step valued soon is capacity w =
+    let shown : sign_value with_berths inst ds (signs.leaf shows) ≡ value = ap (λ (o : Option Bound). unwrap_or o Never) valued in
+    step_written ds more (signs.leaf shows) old new result
+    (subst (λ (c : Progress). IsStep inst way ds (signs.leaf shows) old c)
+    (ap (λ (b : Bound). record mid { bound = lesser mid.bound b; path = new.path }) shown ∙ sym is)
+    (leaf_step inst way ds shows old mid new.path capacity
+    (λ h. soon_lesser mid.bound _ (subst IsSoon (sym shown) soon) h) step)) w
+
+module _ {before after : View} (inst : InstanceView) (way : Direction) (ds : List Decision) (leaf : LeafKind)
+    (old new : Progress) (value : Bound) (soon : IsSoon value) (result : Result ⊤ WriteFault) where
+  pub closed_written : (mid : Progress) → IsPassed inst ds old mid ⊎ IsTaken inst way ds old mid → IsInReach inst ds
+      → IsClosable inst ds old.incumbent_end → IsClosedBy inst ds old.incumbent_end leaf old.path.items
+      → leaf_value with_berths inst ds (leaf_of leaf old.path.items) ≡ Some value
+      → new ≡ record mid { bound = lesser mid.bound value; path = new.path }
+      → new.path.capacity ≡ mid.path.capacity
+      → Writes before after (leaf_text (leaf_of leaf mid.path.items)) result
+      → WritesNodes [] before after inst way (from_node inst ds) (left_by (λ _. behind inst ds) result) old new result
+  closed_written mid meets within closable by valued is capacity w =
+      let tasks = ap (λ (p : SmallVec ℕ). p.items) (same_but inst way ds old mid meets).path in
+      leaf_written inst way ds (behind inst ds) (leaf_of leaf old.path.items) old mid new value result
+      (closed_step inst way ds leaf old mid meets within closable by) valued soon is capacity
+      (subst (λ (t : List ℕ). Writes before after (leaf_text (leaf_of leaf t)) result) tasks w)
+
+  pub spent_written : ¬ IsClosable inst ds old.incumbent_end → old.branched ≡ old.limit
+      → IsSpentBy inst ds leaf old.path.items
+      → leaf_value with_berths inst ds (leaf_of leaf old.path.items) ≡ Some value
+      → new ≡ record old { bound = lesser old.bound value; path = new.path }
+      → new.path.capacity ≡ old.path.capacity
+      → Writes before after (leaf_text (leaf_of leaf old.path.items)) result
+      → WritesNodes [] before after inst way (from_node inst ds) (left_by (λ _. behind inst ds) result) old new result
+  spent_written open_node spent by valued is capacity w =
+      leaf_written inst way ds (behind inst ds) (leaf_of leaf old.path.items) old old new value result
+      (spent_step inst way ds leaf old open_node spent by) valued soon is capacity w
+
+-- the line of a branching
+pub branch_written : {before after : View} (inst : InstanceView) (way : Direction) (ds : List Decision) (branch : Branch)
+    (old : Progress) (path : SmallVec ℕ) (since : ℕ) (result : Result ⊤ WriteFault) → Valid inst
+    → path.capacity ≡ old.path.capacity → IsOpenBranch inst ds branch → ¬ IsClosable inst ds old.incumbent_end
+    → old.branched < old.limit → Writes before after (sign_text (sign_of branch)) result
+    → WritesNodes [] before after inst way (from_node inst ds)
+    (left_by (λ _. from_child inst ds (Some (first_of branch))) result) old
+    (record old { branched = old.branched + 1; since_incumbent = since; path = path }) result
+branch_written {before} {after} inst way ds branch old path since result v capacity is_open unclosed left w =
+    let new = record old { branched = old.branched + 1; since_incumbent = since; path = path } in
+    subst (λ (l : List (List Decision)). WritesNodes [] before after inst way (from_node inst ds) (left_by (λ _. l) result)
+    old new result) (branch_due inst v ds branch is_open)
+    (step_written ds (behind inst ds) (sign_of branch) old new result
+    (branch_step inst way ds old path since capacity unclosed left branch is_open) w)
+
+-- the line of a child that is out of reach: those from the next one on are left
+pub reach_written : {before after : View} (inst : InstanceView) (way : Direction) (ds : List Decision) (d : Decision)
+    (now : Progress) (result : Result ⊤ WriteFault) → ¬ IsReached inst d → Writes before after (leaf_text reach) result
+    → WritesNodes [] before after inst way (from_child inst ds (Some d))
+    (left_by (λ _. later inst ds d ++ behind inst ds) result) now now result
+reach_written inst way ds d now result away w =
+    step_written (d ∷ ds) (later inst ds d ++ behind inst ds) (signs.leaf reach) now now result
+    (reach_step inst way ds d now away) w

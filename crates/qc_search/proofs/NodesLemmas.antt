@@ -232,6 +232,15 @@ module _ {inst : InstanceView} {way : Direction} where
   on_fault left end (Err fault) is n =
       record { nodes = n.nodes; leads = n.leads; writes = n.writes; few = n.few; comes = tt }
 
+  -- the same where nothing was to be left
+  pub on_fault_whole : {front : List ℕ} {before after : View} {due : List (List Decision)} {old new : Progress}
+      (end : Progress) (result : Result ⊤ WriteFault) → IsErr result
+      → WritesNodes front before after inst way due [] old new (Err (record {}))
+      → WritesNodes front before after inst way due [] old end result
+  on_fault_whole end (Ok x) is n = absurd (false≢true is)
+  on_fault_whole end (Err fault) is n =
+      record { nodes = n.nodes; leads = n.leads; writes = n.writes; few = n.few; comes = tt }
+
   pub from_path : {front : List ℕ} {before after : View} {due left : List (List Decision)} {new : Progress}
       {result : Result ⊤ WriteFault} (old : Progress) (path : SmallVec ℕ)
       → (HasRoom most_tasks old.path → HasRoom most_tasks path)

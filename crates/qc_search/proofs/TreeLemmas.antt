@@ -1,6 +1,7 @@
 -- The lines of a whole tree, and where they are cut.
 use Rattle.std.proofs.Common.{◌≡◌, ℕ, ◌≤◌, List, [], ◌∷◌, ◌++◌, Result, Ok, Err, refl, ap, ap₂, sym, subst, ◌∙◌, append_assoc, arith}
-use Rattle.std.specs.Prelude.{⊤, OnOk}
+use Rattle.std.proofs.lemmas.Bool.{false≢true}
+use Rattle.std.specs.Prelude.{⊤, IsErr, OnOk}
 use Rattle.qc_io.specs.declared.writing.WriteFault.{WriteFault}
 use Rattle.qc_io.specs.Outside.{View}
 use Rattle.qc_io.specs.Writes.{Writes}
@@ -57,6 +58,21 @@ module _ (t u a d b e : List ℕ) where
 given : (result : Result ⊤ WriteFault) (P : Type 0) → P → OnOk result P
 given (Ok x) P p = p
 given (Err fault) P p = tt
+
+-- an answer that is a fault
+pub by_fault : {before after : View} {home : InstanceView} {old new : Progress} (end : Progress)
+    (result : Result ⊤ WriteFault) → IsErr result → WritesTree before after home old new (Err (record {}))
+    → WritesTree before after home old end result
+by_fault end (Ok x) is w = absurd (false≢true is)
+by_fault end (Err fault) is w = record {
+  tree = w.tree;
+  version = w.version;
+  is_tree = w.is_tree;
+  writes = w.writes;
+  earned = tt;
+  progress = tt;
+  limit = tt;
+}
 
 abbrev title : List ℕ
 title = whole_line line.Title2 []

@@ -8,46 +8,46 @@ use qc_num::{Bound, Path};
 
 /// What a search carries through both parts of its tree.
 #[derive(Drop)]
-pub(crate) struct Course {
+pub(crate) struct Progress {
     /// How many branchings it may write.
-    pub(crate) nodes: u32,
+    pub(crate) limit: u32,
     /// How many it has written.
     pub(crate) branched: u32,
-    /// How many it has written since the least end fell.
-    pub(crate) since: u32,
-    /// The least value of the leaves written.
+    /// How many it has written since the incumbent last improved.
+    pub(crate) since_incumbent: u32,
+    /// The lower bound so far: the least value of the leaves written.
     pub(crate) bound: Bound,
-    /// The least end of the complete nodes met.
-    pub(crate) met: Bound,
-    /// The part in which it was met.
+    /// The end of the incumbent; `Never` where there is none yet.
+    pub(crate) incumbent_end: Bound,
+    /// The part in which the incumbent was met.
     pub(crate) way: Direction,
-    /// The schedule with that end, as it is seen in that part.
-    pub(crate) best: Schedule,
+    /// The incumbent: the best schedule that was met, as it is seen in that part.
+    pub(crate) incumbent: Schedule,
     /// Room for the tasks of a leaf.
     pub(crate) path: Path,
 }
 
-/// A course at its beginning.
-pub(crate) fn first_course(best: Schedule, path: Path, nodes: u32) -> Course
+/// The progress before the first line, with room for an incumbent and for a leaf's tasks.
+pub(crate) fn first_progress(incumbent: Schedule, path: Path, limit: u32) -> Progress
     ensures { result ≡ record {
-      nodes = nodes;
+      limit = limit;
       branched = 0;
-      since = 0;
+      since_incumbent = 0;
       bound = Never;
-      met = Never;
+      incumbent_end = Never;
       way = Up;
-      best = best;
+      incumbent = incumbent;
       path = path;
     } }
 {
-    Course {
-        nodes,
+    Progress {
+        limit,
         branched: 0,
-        since: 0,
+        since_incumbent: 0,
         bound: Bound::Never,
-        met: Bound::Never,
+        incumbent_end: Bound::Never,
         way: Direction::Up,
-        best,
+        incumbent,
         path,
     }
 }
