@@ -28,12 +28,12 @@ use Rattle.qc_search.proofs.EarnedLemmas.{branchings-append, met_passed, met_tak
 -- ---- the incumbent
 
 -- what meeting a node leaves as it was
-record IsSameBut (inst : InstanceView) (old mid : Progress) : Type 0 where
-  path : mid.path ≡ old.path
-  bound : mid.bound ≡ old.bound
-  branched : mid.branched ≡ old.branched
-  limit : mid.limit ≡ old.limit
-  count : length old.incumbent ≡ length inst.tasks → length mid.incumbent ≡ length inst.tasks
+pub record IsSameBut (inst : InstanceView) (old mid : Progress) : Type 0 where
+  pub path : mid.path ≡ old.path
+  pub bound : mid.bound ≡ old.bound
+  pub branched : mid.branched ≡ old.branched
+  pub limit : mid.limit ≡ old.limit
+  pub count : length old.incumbent ≡ length inst.tasks → length mid.incumbent ≡ length inst.tasks
 
 pub same_but : (inst : InstanceView) (way : Direction) (ds : List Decision) (old mid : Progress)
     → IsPassed inst ds old mid ⊎ IsTaken inst way ds old mid → IsSameBut inst old mid

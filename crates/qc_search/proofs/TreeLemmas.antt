@@ -89,17 +89,17 @@ tree_of up down = record { version = with_berths; up = up; down = down }
 abbrev end_line : InstanceView → Tree → List ℕ
 end_line home tree = whole_line (line.End (tree_branchings tree) (tree_value home tree)) []
 
-module _ (home : InstanceView) {before after : View} (old new : Progress) (begun : IsProgress home old [])
-    (most : old.limit ≤ most_branchings) where
-  -- the root of a part that is given up
-  abbrev root : InstanceView → List Node
-  root inst = all_up inst ([] ∷ [])
+-- the root of a part that is given up
+abbrev root : InstanceView → List Node
+root inst = all_up inst ([] ∷ [])
 
+module _ (home : InstanceView) (before : View) (old new : Progress) (begun : IsProgress home old [])
+    (most : old.limit ≤ most_branchings) where
   -- a front part of the text that was cut
-  cut_at : (up down : List Node) → IsTree home (tree_of up down) → (front rest : List ℕ) (fault : WriteFault)
+  cut_at : {after : View} (up down : List Node) → IsTree home (tree_of up down) → (front rest : List ℕ) (fault : WriteFault)
       → Writes before after front (Err fault) → front ++ rest ≡ tree_text home (tree_of up down)
       → WritesTree before after home old new (Err fault)
-  cut_at up down is front rest fault w same = record {
+  cut_at {after} up down is front rest fault w same = record {
     tree = tree_of up down;
     version = refl;
     is_tree = is;
@@ -110,9 +110,9 @@ module _ (home : InstanceView) {before after : View} (old new : Progress) (begun
     limit = tt;
   }
 
-  pub title_cut : (fault : WriteFault) → Writes before after title (Err fault)
+  pub title_cut : {after : View} (fault : WriteFault) → Writes before after title (Err fault)
       → WritesTree before after home old new (Err fault)
-  title_cut fault w =
+  title_cut {after} fault w =
       let up = root home in
       let down = root (mirror home) in
       let is : IsTree home (tree_of up down) = record {
@@ -128,10 +128,10 @@ module _ (home : InstanceView) {before after : View} (old new : Progress) (begun
       (after_title title up_line (part_text up) down_line (part_text down) (end_line home (tree_of up down)))
 
   module _ {titled : View} (first : Writes before titled title (Ok tt)) where
-    pub up_cut : (mid : Progress) (fault : WriteFault)
+    pub up_cut : {after : View} (mid : Progress) (fault : WriteFault)
         → WritesNodes up_line titled after home Up ([] ∷ []) [] old mid (Err fault)
         → WritesTree before after home old new (Err fault)
-    up_cut mid fault n =
+    up_cut {after} mid fault n =
         let down = root (mirror home) in
         let is : IsTree home (tree_of n.nodes down) = record {
           up = n.leads;
@@ -178,10 +178,10 @@ module _ (home : InstanceView) {before after : View} (old new : Progress) (begun
         );
       }
 
-      pub down_cut : (end : Progress) (fault : WriteFault)
+      pub down_cut : {after : View} (end : Progress) (fault : WriteFault)
           → WritesNodes down_line upped after (mirror home) Down ([] ∷ []) [] mid end (Err fault)
           → WritesTree before after home old new (Err fault)
-      down_cut end fault n =
+      down_cut {after} end fault n =
           let a = part_text up.nodes in
           let b = part_text n.nodes in
           cut_at up.nodes n.nodes (down_tree n) ((title ++ (up_line ++ a)) ++ (down_line ++ b))
@@ -190,11 +190,11 @@ module _ (home : InstanceView) {before after : View} (old new : Progress) (begun
           (after_down title up_line a down_line b (end_line home (tree_of up.nodes n.nodes)))
 
       -- the line at the end, whole or cut
-      pub end_written : {downed : View} (down : WritesNodes down_line upped downed (mirror home) Down ([] ∷ []) [] mid new (Ok tt))
+      pub end_written : {downed after : View} (down : WritesNodes down_line upped downed (mirror home) Down ([] ∷ []) [] mid new (Ok tt))
           → (result : Result ⊤ WriteFault)
           → Writes downed after (whole_line (line.End new.branched new.bound) []) result
           → WritesTree before after home old new result
-      end_written {downed} down result last =
+      end_written {downed} {after} down result last =
           let a = part_text up.nodes in
           let b = part_text down.nodes in
           let tree = tree_of up.nodes down.nodes in

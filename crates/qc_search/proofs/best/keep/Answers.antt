@@ -11,4 +11,4 @@ returns c = λ begins least.
     fill_by_all (slot_with c.args.starts.now.decisions begins) c.loop-task.incumbent (length c.args.starts.now.inst.tasks) no_slot
     c.loop-task.invariant.count
     (λ j low. c.loop-task.invariant.slots begins least j
-    (omega (arith, low, count, c.task_count.ensures.count, c.loop-task-test.false)))
+    (omega (arith, low, count, c.task_count-task-end.ensures.count, c.loop-task-test.false)))

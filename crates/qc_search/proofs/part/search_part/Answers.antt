@@ -1,5 +1,7 @@
 use Rattle.std.proofs.Common.{Bool, List, [], ◌∷◌, Ok, refl, sym, subst, ◌∙◌, arith, rules}
 use Rattle.qc_model.specs.declared.decision.Decision.{Decision}
+use Rattle.qc_model.specs.Instance.{InstanceView}
+use Rattle.qc_model.specs.Nodes.{IsInReach}
 use Rattle.qc_search.specs.Progress.{WritesNodes}
 use Rattle.qc_search.specs.Walk.{WereMade, from_node}
 use Rattle.qc_search.proofs.DescentLemmas.{made_in_reach}
@@ -12,7 +14,7 @@ loop-child-init g c =
     let none = sym c.requires.root in
     record {
       same = refl;
-      valid = c.heavy_window-side.ensures;
+      valid = c.heavy_window.ensures;
       made = subst (WereMade inst) none tt;
       count = c.requires.count;
       room = c.requires.room;
@@ -24,22 +26,23 @@ loop-child-init g c =
 
 pub visit-requires-clause-in_reach : goal.visit-requires-clause-in_reach
 visit-requires-clause-in_reach g c =
-    rw (sym c.loop-child.invariant.same) at made_in_reach c.args.starts.now.inst c.loop-child.starts.decisions c.loop-child.invariant.made
+    subst (λ (i : InstanceView). IsInReach i c.loop-child.starts.decisions) (sym c.loop-child.invariant.same)
+    (made_in_reach c.args.starts.now.inst c.loop-child.starts.decisions c.loop-child.invariant.made)
 
-pub returns-in_err-child-clause-goes : goal.returns-in_err-child-clause-goes
-returns-in_err-child-clause-goes g c =
+pub returns-in_err-child : goal.returns-in_err-child
+returns-in_err-child g c =
     on_fault_whole _ c.from_residual.result (search rules)
     (nodes_then c.loop-child.invariant.goes (rw c.loop-child.invariant.same at c.in_err-child.ensures.goes))
 
-pub returns-in_err-advance-clause-goes : goal.returns-in_err-advance-clause-goes
-returns-in_err-advance-clause-goes g c =
+pub returns-in_err-advance : goal.returns-in_err-advance
+returns-in_err-advance g c =
     let visited = nodes_then c.loop-child.invariant.goes (rw c.loop-child.invariant.same at c.in_ok-child.ensures.goes) in
     on_fault_whole _ c.from_residual-in_err-advance.result (search rules)
     (nodes_then visited (rw c.loop-child.invariant.same at
     (rw c.in_ok-child.ensures.stays at c.in_err-advance.ensures.goes c.args.way)))
 
-pub returns-then-not-branch-clause-goes : goal.returns-then-not-branch-clause-goes
-returns-then-not-branch-clause-goes g c =
+pub returns-then-not-branch : goal.returns-then-not-branch
+returns-then-not-branch g c =
     let visited = nodes_then c.loop-child.invariant.goes (rw c.loop-child.invariant.same at c.in_ok-child.ensures.goes) in
     nodes_then visited (rw c.if-not-branch.true at (rw c.loop-child.invariant.same at
     (rw c.in_ok-child.ensures.stays at c.in_ok-advance.ensures.goes c.args.way)))
