@@ -102,7 +102,7 @@ pub(crate) fn search_part<K: Sink>(
     requires count { length progress.old.incumbent ≡ length starts.old.inst.tasks }
     requires room { HasRoom most_tasks progress.old.path }
     requires few { progress.old.branched ≤ progress.old.limit }
-    ensures goes { WritesNodes [] (K.view sink.old) (K.view sink.new) starts.old.inst way ([] ∷ []) []
+    ensures { WritesNodes [] (K.view sink.old) (K.view sink.new) starts.old.inst way ([] ∷ []) []
         progress.old progress.new result }
 {
     let side = Side {

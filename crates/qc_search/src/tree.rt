@@ -38,7 +38,7 @@ fn put_part<K: Sink>(
     requires count { length progress.old.incumbent ≡ length starts.old.inst.tasks }
     requires room { HasRoom most_tasks progress.old.path }
     requires few { progress.old.branched ≤ progress.old.limit }
-    ensures goes { WritesNodes (whole_line (part_line way) []) (K.view sink.old) (K.view sink.new)
+    ensures { WritesNodes (whole_line (part_line way) []) (K.view sink.old) (K.view sink.new)
         starts.old.inst way ([] ∷ []) [] progress.old progress.new result }
 {
     put_way(way, progress, sink)?;
@@ -74,7 +74,7 @@ pub(crate) fn write_tree<K: Sink>(
     requires begun { IsProgress up.old.inst progress.old [] }
     requires few { progress.old.limit ≤ most_branchings }
     requires soon { IsSoon progress.old.bound }
-    ensures goes { WritesTree (K.view sink.old) (K.view sink.new) up.old.inst progress.old progress.new
+    ensures { WritesTree (K.view sink.old) (K.view sink.new) up.old.inst progress.old progress.new
         result }
 {
     write_line(&Line::Title2, &progress.path, sink)?;

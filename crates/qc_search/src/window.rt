@@ -34,7 +34,7 @@ fn ticks_in(inst: &Instance, window: Window) -> Tick {
 /// The first of the windows with the most work, where it has more than the root of the part shows:
 /// no two cranes can work there at once, so its tasks are the ones to settle first.
 pub(crate) fn heavy_window(root: &Starts) -> Option<Window>
-    ensures valid { Valid root.now.inst }
+    ensures { Valid root.now.inst }
 {
     let inst = root.instance();
     if root.stuck() {
