@@ -37,7 +37,7 @@ returns-in_err-child g c =
 pub returns-in_err-advance : goal.returns-in_err-advance
 returns-in_err-advance g c =
     let visited = nodes_then c.loop-child.invariant.goes (rw c.loop-child.invariant.same at c.in_ok-child.ensures.goes) in
-    on_fault_whole _ c.from_residual-in_err-advance.result (search rules)
+    on_fault_whole _ c.from_residual-in_err-advance.result c.from_residual-in_err-advance.ensures.0
     (nodes_then visited (rw c.loop-child.invariant.same at
     (rw c.in_ok-child.ensures.stays at c.in_err-advance.ensures.goes c.args.way)))
 
