@@ -1,8 +1,7 @@
 -- A tree whose nodes are all earned is a run, and what is told of it.
-use Rattle.std.proofs.Common.{◌≡◌, ℕ, ◌<◌, ◌≤◌, ◌⊎◌, inl, inr, All, Bool, cond, List, [], length, refl, ap, sym, subst, ◌∙◌, arith}
+use Rattle.std.proofs.Common.{◌≡◌, ℕ, ◌<◌, ◌⊎◌, inl, inr, All, Bool, cond, List, [], length, refl, ap, sym, subst, ◌∙◌, arith}
 use Rattle.std.proofs.Math.Nat.{eq-or-lt_of_le}
 use Rattle.std.proofs.lemmas.Bool.{le-leb}
-use Rattle.std.specs.Io.KnownBytes.{append_known}
 use Rattle.std.specs.Prelude.{MatchOption, Ok}
 use Rattle.qc_io.specs.Outside.{View}
 use Rattle.qc_num.specs.declared.bound.Bound.{Bound}
@@ -18,7 +17,7 @@ use Rattle.qc_tree.proofs.TreeBound.{tree_bound}
 use Rattle.qc_search.specs.declared.progress.Progress.{Progress}
 use Rattle.qc_search.specs.declared.done.Kind.TheVariants.{Budget, Optimal}
 use Rattle.qc_search.specs.Earned.{IsMetEnd, tree_nodes}
-use Rattle.qc_search.specs.Progress.{IsProgress, WritesTree, shown_best}
+use Rattle.qc_search.specs.Progress.{IsProgress, WritesTree, begun, shown_best}
 use Rattle.qc_search.specs.Run.{DoneView, IsMetBest, IsRun, IsSearched, IsSound, outcome}
 use Rattle.qc_search.proofs.CountLemmas.{few_in_tree}
 use Rattle.qc_search.proofs.EarnedLemmas.{all_earned, none_met}
@@ -33,20 +32,10 @@ decided (Least value) Never is late = late
 decided (Least value) (Least end) is late =
     cc (sym is ∙ ap (λ (b : Bool). cond b Optimal Budget) (le-leb end value late))
 
--- a progress at its beginning
-pub begun_progress : (home : InstanceView) (begun : Progress) (limit : ℕ) (best : List Slot) (path : SmallVec ℕ)
-    → begun ≡ record {
-      limit = limit;
-      branched = 0;
-      since_incumbent = 0;
-      bound = Never;
-      incumbent_end = Never;
-      way = Up;
-      incumbent = best;
-      path = path;
-    }
-    → IsProgress home begun []
-begun_progress home begun limit best path is = subst (λ (c : Progress). IsProgress home c []) (sym is) (record {
+-- no node came yet
+pub begun_progress : (home : InstanceView) (now : Progress) (limit : ℕ) (best : List Slot) (path : SmallVec ℕ)
+    → now ≡ begun limit best path → IsProgress home now []
+begun_progress home now limit best path is = subst (λ (c : Progress). IsProgress home c []) (sym is) (record {
   few = omega arith;
   branched = refl;
   bound = refl;
@@ -67,8 +56,8 @@ told_with cranes now = record {
 abbrev pub told_of : InstanceView → Progress → DoneView
 told_of home now = told_with (length home.cranes) now
 
-module _ (home : InstanceView) (v : Valid home) {before after : View} (begun now : Progress)
-    (w : WritesTree before after home begun now (Ok tt)) where
+module _ (home : InstanceView) (v : Valid home) {before after : View} (old now : Progress)
+    (w : WritesTree before after home old now (Ok tt)) where
   -- the best schedule as it is answered, and its end
   best_is : MatchOption (shown_best (length home.cranes) now.incumbent_end now.way now.incumbent)
       (now.incumbent_end ≡ Never) (IsMetBest home w.tree)
@@ -88,21 +77,21 @@ module _ (home : InstanceView) (v : Valid home) {before after : View} (begun now
   bound_told = bound_is home w.tree now w.progress w.version
 
   -- under Budget all branchings are spent
-  spent_is : outcome now.bound now.incumbent_end ≡ Budget → now.branched ≡ begun.limit
+  spent_is : outcome now.bound now.incumbent_end ≡ Budget → now.branched ≡ old.limit
   spent_is kind = by_left (eq-or-lt_of_le w.progress.few)
     where
-      by_left : (now.branched ≡ now.limit) ⊎ (now.branched < now.limit) → now.branched ≡ begun.limit
+      by_left : (now.branched ≡ now.limit) ⊎ (now.branched < now.limit) → now.branched ≡ old.limit
       by_left (inl all) = all ∙ w.limit
       by_left (inr left) = absurd (decided now.bound now.incumbent_end kind (w.progress.late left))
 
-  run_is : IsRun home begun.limit w.tree (shown_best (length home.cranes) now.incumbent_end now.way now.incumbent)
+  run_is : IsRun home old.limit w.tree (shown_best (length home.cranes) now.incumbent_end now.way now.incumbent)
       (outcome now.bound now.incumbent_end)
   run_is = record {
     is_tree = w.is_tree;
     earned = record {
       version = w.version;
       few = omega (arith, branched_told, w.progress.few, w.limit);
-      each = all_earned home begun.limit (tree_nodes w.tree) w.earned;
+      each = all_earned home old.limit (tree_nodes w.tree) w.earned;
     };
     met = now.incumbent_end;
     ends = w.progress.met;
@@ -111,7 +100,7 @@ module _ (home : InstanceView) (v : Valid home) {before after : View} (begun now
     spent = λ kind. sym branched_told ∙ spent_is kind;
   }
 
-  pub went_searched : IsSearched (record { inst = home; nodes = begun.limit }) before.written after.written (told_of home now)
+  pub went_searched : IsSearched (record { inst = home; nodes = old.limit }) before.written after.written (told_of home now)
   went_searched = record {
     tree = w.tree;
     run = run_is;
@@ -123,7 +112,7 @@ module _ (home : InstanceView) (v : Valid home) {before after : View} (begun now
   pub went_cranes : (end : ℕ) → now.incumbent_end ≡ Least end → All (λ (s : Slot). s.crane < length home.cranes) now.incumbent
   went_cranes = cranes_low home v now _ w.progress
 
-  pub went_sound : IsSound (record { inst = home; nodes = begun.limit }) (told_of home now)
+  pub went_sound : IsSound (record { inst = home; nodes = old.limit }) (told_of home now)
   went_sound = record {
     none_earlier = subst (NoneEarlier home) (sym bound_told) (tree_bound home v w.tree w.is_tree);
     judgeable = judgeable_is home v now _ w.progress;

@@ -16,7 +16,7 @@ use Rattle.qc_model.specs.Leaves.{Leaf, leaf_value, with_berths}
 use Rattle.qc_model.specs.Nodes.{IsComplete, IsNodeEnd, slot_with}
 use Rattle.qc_model.specs.Rules.{last_end}
 use Rattle.qc_model.specs.Seen.{seen}
-use Rattle.qc_tree.specs.Trees.{Holds, Sign, leaf, on_pair, on_task, sign_value}
+use Rattle.qc_tree.specs.Trees.{Sign, leaf, on_pair, on_task, sign_value}
 use Rattle.qc_search.specs.declared.branch.Branch.{Branch}
 use Rattle.qc_search.specs.declared.branch.Branch.TheVariants.{Pair, Task}
 use Rattle.qc_search.specs.declared.progress.Progress.{Progress}

@@ -1,5 +1,5 @@
 -- public: which bound trees a search with a budget of branchings may write.
-use Rattle.std.specs.Prelude.{◌≡◌, ℕ, ◌<◌, ◌≤◌, IsTrue, List, [], ◌∷◌, ◌++◌, map, Some, All, Any, count_by}
+use Rattle.std.specs.Prelude.{◌≡◌, ℕ, ◌<◌, ◌≤◌, IsTrue, List, ◌∷◌, ◌++◌, map, Some, All, Any, count_by}
 use Rattle.qc_num.specs.declared.bound.Bound.{Bound}
 use Rattle.qc_num.specs.declared.bound.Bound.TheVariants.{Least}
 use Rattle.qc_num.specs.Bounds.{IsAtMost}
@@ -12,7 +12,7 @@ use Rattle.qc_model.specs.Leaves.{Leaf, chain, ring, reach, work, with_berths, i
 use Rattle.qc_model.specs.Nodes.{AreLeast, HasStarts, IsComplete, IsInReach, IsNodeEnd}
 use Rattle.qc_model.specs.Rules.{last_end}
 use Rattle.qc_model.specs.Seen.{seen}
-use Rattle.qc_tree.specs.Trees.{Node, Sign, Tree, branches, leaf, on_pair, on_task, tree_branchings}
+use Rattle.qc_tree.specs.Trees.{Node, Sign, Tree, branches, leaf, tree_branchings}
 
 -- a node of a tree: in which of the two parts it stands, its decisions, newest first, and what its line says
 pub record TreeNode : Type 0 where
@@ -47,7 +47,8 @@ pub record IsSolvedBy (inst : InstanceView) (end : ℕ) (node : TreeNode) : Type
   pub solved : IsSolved inst node starts
   pub ends : end ≡ solved_end inst node starts
 
--- the least end of the complete nodes with a solution among these; Never where there is none
+-- the end of the incumbent behind these nodes: the least end of the complete ones with a solution; Never where there is
+-- none
 pub record IsMetEnd (inst : InstanceView) (nodes : List TreeNode) (met : Bound) : Type 0 where
   pub reached : (end : ℕ) → met ≡ Least end → Any (IsSolvedBy inst end) nodes
   pub least : (end : ℕ) → All (λ node. IsSolvedBy inst end node → IsAtMost met (Least end)) nodes
@@ -91,7 +92,7 @@ pub record IsGivenUp (inst : InstanceView) (ds : List Decision) (shows : Leaf) :
   pub by_chain : bound ≤ end → IsChainTo inst ds end shows
   pub by_work : end < bound → shows ≡ work bound
 
--- what may stand at a node, u being the least end that was met before it, and so many branchings before it written:
+-- what may stand at a node, u being the end of the incumbent before it, and so many branchings before it written:
 -- a branching only where u doesn't close the node; the leaf that closes it where u does; and else a leaf only
 -- once all branchings are spent
 abbrev pub MayStand : InstanceView → List Decision → Bound → (branched most : ℕ) → Sign → Type 0
@@ -100,14 +101,15 @@ MayStand inst ds u branched most (leaf shows) =
     × (¬ (IsClosable inst ds u) → (branched ≡ most) × IsGivenUp inst ds shows)
 MayStand inst ds u branched most branching = ¬ (IsClosable inst ds u)
 
--- the node is as it may be behind those before it in the file
+-- the node is justified behind those before it in the file
 pub record IsEarnedBehind
     (inst : InstanceView) (most : ℕ) (before : List TreeNode) (node : TreeNode) : Type 0 where
   pub u : Bound
   pub met : IsMetEnd inst before u
   pub stands : MayStand (seen inst node.way) node.decisions u (branchings_in before) most node.sign
 
--- the tree is of the second version, has at most so many branchings, and earns each of its nodes
+-- the tree is of the second version and has at most so many branchings, and each of its nodes is justified by what the
+-- search knew when it wrote the line
 pub record IsEarned (inst : InstanceView) (most : ℕ) (tree : Tree) : Type 0 where
   pub version : tree.version ≡ with_berths
   pub few : tree_branchings tree ≤ most

@@ -8,6 +8,7 @@ use Rattle.qc_num.specs.declared.bound.Bound.{Bound}
 use Rattle.qc_num.specs.declared.bound.Bound.TheVariants.{Least, Never}
 use Rattle.qc_num.specs.Bounds.{IsAtMost, least_bound}
 use Rattle.qc_num.specs.Paths.{HasRoom}
+use Rattle.smallvec.specs.SmallVec.{SmallVec}
 use Rattle.qc_model.specs.declared.decision.Decision.{Decision}
 use Rattle.qc_model.specs.declared.direction.Direction.{Direction}
 use Rattle.qc_model.specs.declared.direction.Direction.TheVariants.{Up, Down}
@@ -22,6 +23,19 @@ use Rattle.qc_model.specs.Seen.{seen}
 use Rattle.qc_tree.specs.Trees.{Holds, IsTree, Leads, Node, Sign, Tree, part_text, sign_value, tree_text}
 use Rattle.qc_search.specs.declared.progress.Progress.{Progress}
 use Rattle.qc_search.specs.Earned.{IsEarnedBehind, IsMetEnd, IsSolved, TreeNode, branchings_in, node_at, part_nodes, solved_end, tree_nodes}
+
+-- the progress before the first line
+abbrev pub begun : (limit : ℕ) → List Slot → SmallVec ℕ → Progress
+begun limit incumbent path = record {
+  limit = limit;
+  branched = 0;
+  since_incumbent = 0;
+  bound = Never;
+  incumbent_end = Never;
+  way = Up;
+  incumbent = incumbent;
+  path = path;
+}
 
 -- the value of a node's leaf; Never of a branching
 abbrev pub value_at : InstanceView → TreeNode → Bound

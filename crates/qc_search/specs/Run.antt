@@ -33,7 +33,8 @@ abbrev pub decided_by : InstanceView → List Slot → List Decision
 decided_by inst sched =
     map (λ j. Assign j (crane_of sched j)) (task_numbers inst) ++ map (order_in inst sched) inst.apart
 
--- the schedule goes one way, and no task of it could start earlier with the same cranes and orders
+-- the schedule is semi-active: it goes one way, and no task of it could start earlier with the same cranes, the same order
+-- of apart tasks and the same way
 pub record IsTight (inst : InstanceView) (sched : List Slot) : Type 0 where
   pub way : Direction
   pub goes : Goes inst sched way
@@ -51,7 +52,7 @@ pub record IsMetBest (inst : InstanceView) (tree : Tree) (sched : List Slot) : T
   pub earliest : IsMetEnd inst (tree_nodes tree) (Least (solved_end inst node begins))
   pub is : sched ≡ seen_schedule inst (schedule_with (seen inst node.way) node.decisions begins) node.way
 
--- how a tree's value and the least end that was met stand to each other
+-- how a tree's value, the lower bound, and the end of the incumbent stand to each other
 abbrev pub outcome : Bound → Bound → Kind
 outcome Never met = Infeasible
 outcome (Least value) Never = Budget
@@ -93,7 +94,7 @@ best_end inst (Some sched) = Least (ends inst sched)
 pub record IsSound (search : SearchView) (done : DoneView) : Type 0 where
   -- no schedule that goes one way ends before the bound; where it is Never, there is none
   pub none_earlier : NoneEarlier search.inst done.bound
-  -- the best schedule can be judged, and no task of it could start earlier
+  -- the best schedule can be judged, and is semi-active
   pub judgeable : IfSome done.best (IsJudgeable search.inst)
   pub tight : IfSome done.best (IsTight search.inst)
   -- its tasks end at ticks of at most 12 digits

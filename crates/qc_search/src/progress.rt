@@ -1,7 +1,6 @@
 //! How far a search has come.
 ghost use Rattle.std.specs.Prelude.{◌≡◌};
-ghost use Rattle.qc_num.specs.declared.bound.Bound.TheVariants.{Never};
-ghost use Rattle.qc_model.specs.declared.direction.Direction.TheVariants.{Up};
+ghost use Rattle.qc_search.specs.Progress.{begun};
 
 use qc_model::{Direction, Schedule};
 use qc_num::{Bound, Path};
@@ -29,16 +28,7 @@ pub(crate) struct Progress {
 
 /// The progress before the first line, with room for an incumbent and for a leaf's tasks.
 pub(crate) fn first_progress(incumbent: Schedule, path: Path, limit: u32) -> Progress
-    ensures { result ≡ record {
-      limit = limit;
-      branched = 0;
-      since_incumbent = 0;
-      bound = Never;
-      incumbent_end = Never;
-      way = Up;
-      incumbent = incumbent;
-      path = path;
-    } }
+    ensures { result ≡ begun limit incumbent path }
 {
     Progress {
         limit,

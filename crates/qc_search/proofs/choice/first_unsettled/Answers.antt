@@ -1,4 +1,4 @@
-use Rattle.std.proofs.Common.{ℕ, ◌<◌, ◌∙◌, inl, inr, List, length, get_or, sym, ap, subst, arith}
+use Rattle.std.proofs.Common.{ℕ, ◌<◌, inl, inr, List, length, get_or, sym, ap, subst, arith}
 use Rattle.std.proofs.lemmas.Bool.{cases_eq}
 use Rattle.qc_model.specs.declared.pair.Pair.{Pair}
 use Rattle.qc_model.specs.Instance.{InstanceView, pair_of}

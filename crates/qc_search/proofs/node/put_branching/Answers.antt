@@ -1,4 +1,4 @@
-use Rattle.std.proofs.Common.{[], ◌∷◌, ◌+◌, ◌<◌, List, Ok, sym, subst, rules}
+use Rattle.std.proofs.Common.{[], ◌∷◌, ◌+◌, ◌<◌, Ok, sym, subst}
 use Rattle.qc_model.specs.declared.decision.Decision.{Decision}
 use Rattle.qc_search.specs.Progress.{WritesNodes}
 use Rattle.qc_search.specs.Walk.{IsChild, from_node, steps_left}
@@ -9,7 +9,7 @@ use Rattle.qc_search.proofs.node.put_branching.Goals as goal
 
 pub returns-in_err-put_branch-clause-goes : goal.returns-in_err-put_branch-clause-goes
 returns-in_err-put_branch-clause-goes g c =
-    on_fault _ _ c.from_residual.result (search rules)
+    on_fault _ _ c.from_residual.result c.from_residual.ensures.0
     (branch_written c.args.starts.now.inst c.args.side.way c.args.starts.now.decisions c.pick-branch.result c.args.progress.now
     c.pick-branch.new.path c.saturating_add-progress.result _ c.requires.valid c.pick-branch.ensures.room
     c.pick-branch.ensures.open c.requires.open c.requires.left c.in_err-put_branch.ensures)

@@ -6,7 +6,7 @@ use Rattle.qc_search.proofs.node.visit.Goals as goal
 
 pub returns-in_err-put_closed-clause-goes : goal.returns-in_err-put_closed-clause-goes
 returns-in_err-put_closed-clause-goes g c =
-    on_fault _ _ c.from_residual.result (search rules)
+    on_fault _ _ c.from_residual.result c.from_residual.ensures.0
     (from_path c.args.progress.now c.close.new.path (λ room. omega (arith, room, c.close.ensures.room))
     c.in_err-put_closed.ensures.goes)
 
@@ -25,7 +25,7 @@ put_branching-requires-clause-starts g c =
 
 pub returns-in_err-child-clause-goes : goal.returns-in_err-child-clause-goes
 returns-in_err-child-clause-goes g c =
-    on_fault _ _ c.from_residual-in_err-child.result (search rules)
+    on_fault _ _ c.from_residual-in_err-child.result c.from_residual-in_err-child.ensures.0
     (from_path c.args.progress.now c.close.new.path (λ room. omega (arith, room, c.close.ensures.room))
     c.in_err-child.ensures.goes)
 
@@ -36,7 +36,7 @@ returns-then-progress-clause-goes g c =
 
 pub returns-in_err-put_spent-clause-goes : goal.returns-in_err-put_spent-clause-goes
 returns-in_err-put_spent-clause-goes g c =
-    on_fault _ _ c.from_residual-in_err-put_spent.result (search rules)
+    on_fault _ _ c.from_residual-in_err-put_spent.result c.from_residual-in_err-put_spent.ensures.0
     (from_path c.args.progress.now c.spent-leaf.new.path
     (λ room. omega (arith, room, c.close.ensures.room, c.spent-leaf.ensures.room)) c.in_err-put_spent.ensures.goes)
 

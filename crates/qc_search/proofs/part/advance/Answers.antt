@@ -1,9 +1,9 @@
-use Rattle.std.proofs.Common.{◌≡◌, ◌≤◌, ◌++◌, List, [], Result, Ok, Err, IfSome, Option, Some, length, true, refl, ap, sym, subst, ◌∙◌, arith, rules}
+use Rattle.std.proofs.Common.{◌≡◌, ◌≤◌, List, [], Ok, Err, IfSome, Option, length, true, refl, ap, sym, subst, ◌∙◌, arith}
 use Rattle.std.proofs.lemmas.Bool.{false≢true}
 use Rattle.qc_dist.specs.Children.{IsNextChild}
 use Rattle.qc_model.specs.declared.decision.Decision.{Decision}
 use Rattle.qc_model.specs.Instance.{InstanceView}
-use Rattle.qc_starts.specs.Seen.{IsReached, StartsNode}
+use Rattle.qc_starts.specs.Seen.{StartsNode}
 use Rattle.qc_search.specs.Progress.{WritesNodes}
 use Rattle.qc_search.specs.Walk.{IsChild, WereMade, from_child}
 use Rattle.qc_search.proofs.DescentLemmas.{next_child_is, next_count, next_due}
@@ -25,7 +25,7 @@ pub returns-in_err-put_reach-clause-goes : goal.returns-in_err-put_reach-clause-
 returns-in_err-put_reach-clause-goes g c = λ way.
     let inst = c.args.starts.now.inst in
     let away = rw c.loop-next.invariant.same at c.descend.ensures.out (λ t. false≢true (sym c.if-descend.false ∙ t)) in
-    on_fault _ _ c.from_residual.result (search rules)
+    on_fault _ _ c.from_residual.result c.from_residual.ensures.0
     (nodes_then (rw c.in-Some.is at c.loop-next.invariant.goes way)
     (reach_written inst way c.loop-next.starts.decisions c.in-Some.decision c.args.progress.now (Err (record {})) away
     c.in_err-put_reach.ensures))

@@ -1,4 +1,4 @@
-use Rattle.std.proofs.Common.{Bool, List, [], ◌∷◌, Ok, refl, sym, subst, ◌∙◌, arith, rules}
+use Rattle.std.proofs.Common.{List, [], ◌∷◌, Ok, refl, sym, subst, ◌∙◌}
 use Rattle.qc_model.specs.declared.decision.Decision.{Decision}
 use Rattle.qc_model.specs.Instance.{InstanceView}
 use Rattle.qc_model.specs.Nodes.{IsInReach}
@@ -31,7 +31,7 @@ visit-requires-clause-in_reach g c =
 
 pub returns-in_err-child : goal.returns-in_err-child
 returns-in_err-child g c =
-    on_fault_whole _ c.from_residual.result (search rules)
+    on_fault_whole _ c.from_residual.result c.from_residual.ensures.0
     (nodes_then c.loop-child.invariant.goes (rw c.loop-child.invariant.same at c.in_err-child.ensures.goes))
 
 pub returns-in_err-advance : goal.returns-in_err-advance

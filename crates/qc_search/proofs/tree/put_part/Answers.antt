@@ -1,10 +1,10 @@
-use Rattle.std.proofs.Common.{[], ◌∷◌, rules}
+use Rattle.std.proofs.Common.{[], ◌∷◌}
 use Rattle.qc_search.proofs.NodesLemmas.{behind_front, front_cut, on_fault_whole}
 use Rattle.qc_search.proofs.tree.put_part.Goals as goal
 
 pub returns-in_err-put_way : goal.returns-in_err-put_way
 returns-in_err-put_way g c =
-    on_fault_whole _ c.from_residual.result (search rules)
+    on_fault_whole _ c.from_residual.result c.from_residual.ensures.0
     (front_cut ([] ∷ []) c.args.progress.now c.args.progress.now (record {}) c.in_err-put_way.ensures)
 
 pub returns : goal.returns

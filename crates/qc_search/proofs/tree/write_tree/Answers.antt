@@ -1,22 +1,22 @@
-use Rattle.std.proofs.Common.{rules, subst, sym}
+use Rattle.std.proofs.Common.{rules}
 use Rattle.qc_search.proofs.TreeLemmas.{by_fault, down_cut, end_written, title_cut, up_cut}
 use Rattle.qc_search.proofs.tree.write_tree.Goals as goal
 
 pub returns-in_err-write_line : goal.returns-in_err-write_line
 returns-in_err-write_line g c =
-    by_fault _ c.from_residual.result (search rules)
+    by_fault _ c.from_residual.result c.from_residual.ensures.0
     (title_cut c.args.up.now.inst _ c.args.progress.now c.args.progress.now c.requires.begun c.requires.few (record {})
     c.in_err-write_line.ensures.writes)
 
 pub returns-in_err-put_part : goal.returns-in_err-put_part
 returns-in_err-put_part g c =
-    by_fault _ c.from_residual-in_err-put_part.result (search rules)
+    by_fault _ c.from_residual-in_err-put_part.result c.from_residual-in_err-put_part.ensures.0
     (up_cut c.args.up.now.inst _ c.args.progress.now c.args.progress.now c.requires.begun c.requires.few
     c.in_ok-write_line.ensures.writes _ (record {}) c.in_err-put_part.ensures)
 
 pub returns-in_err-put_part-2 : goal.returns-in_err-put_part-2
 returns-in_err-put_part-2 g c =
-    by_fault _ c.from_residual-in_err-put_part-2.result (search rules)
+    by_fault _ c.from_residual-in_err-put_part-2.result c.from_residual-in_err-put_part-2.ensures.0
     (down_cut c.args.up.now.inst _ c.args.progress.now c.args.progress.now c.requires.begun c.requires.few
     c.in_ok-write_line.ensures.writes _ c.in_ok-put_part.ensures _ (record {})
     (rw c.requires.turned at c.in_err-put_part-2.ensures))
