@@ -70,13 +70,16 @@ fn is_link<R: Files>(rt: &R, path: Path<'_>) -> io::Result<bool> {
     }
 }
 
-/// The file at the path, which can be written; None where there is none.
+/// The file at the path, which is no folder and can be written; None where there is none.
 fn found_at<R: Files>(rt: &R, path: &str) -> io::Result<Option<Found>> {
     let metadata = match fs::metadata(rt, path) {
         Ok(metadata) => metadata,
         Err(error) if error.kind() == ErrorKind::NotFound => return Ok(None),
         Err(error) => return Err(error),
     };
+    if metadata.is_dir() {
+        return Err(io::Error::from(ErrorKind::IsADirectory));
+    }
     let in_place = !metadata.is_file() || is_of_system(Path::new(path));
     if !in_place {
         OpenOptions::new().write(true).open(rt, path)?;
