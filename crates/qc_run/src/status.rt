@@ -1,3 +1,4 @@
+//! How a run ended.
 ghost use Rattle.std.specs.Prelude.{◌≡◌};
 
 /// How a run ended. Each status has a report, and `code` gives the exit status.
@@ -33,7 +34,7 @@ pub enum Status {
 }
 
 impl Status {
-    ghost use Rattle.qc_top.specs.Answers.{status_code};
+    ghost use Rattle.qc_run.specs.Texts.{status_code};
 
     /// The exit status: 0 where the run came to what was asked for.
     pub fn code(&self) -> u8
