@@ -5,16 +5,16 @@ use Rattle.std.proofs.lemmas.Bool.{cases_Bool, cases_lt}
 use Rattle.std.proofs.lemmas.List.{length-take, take_all}
 use Rattle.std.proofs.lemmas.List.Elements.{All-head, All-tail}
 use Rattle.std.proofs.lemmas.List.FromFn.{get_or-map-range_with_len, length-map-range_with_len}
-use Rattle.qc_num.specs.Reading.{◌>>=◌, each, require}
+use Rattle.qc_num.specs.declared.read_error.ReadError.{ReadError}
+use Rattle.qc_num.specs.Reading.{◌>>=◌, IsReading, each, require}
 use Rattle.qc_num.proofs.ReadingLemmas.{bind_ok, same_ok, with_fault_ok}
 use Rattle.qc_model.specs.declared.schedule.Slot.{Slot}
 use Rattle.qc_model.specs.Instance.{InstanceView}
 use Rattle.qc_model.specs.Judge.{IsJudgeable}
 use Rattle.qc_model.specs.Rules.{no_slot}
 use Rattle.qc_gantt.specs.Entries.{is_header, slot_given}
-use Rattle.qc_gantt.specs.Plan.{IsReading, all_given, next_entry, numbered, plan_of, schedule_of, slots_given, slots_of}
+use Rattle.qc_gantt.specs.Plan.{all_given, next_entry, numbered, plan_of, schedule_of, slots_given, slots_of}
 use Rattle.qc_gantt.specs.declared.entry.Entry.{Entry}
-use Rattle.qc_gantt.specs.declared.fault.PlanError.{PlanError}
 use Rattle.qc_gantt.specs.declared.fault.PlanFault.{PlanFault}
 use Rattle.qc_gantt.specs.declared.fault.PlanKind.TheVariants as kind
 use Rattle.qc_gantt.proofs.EntryLemmas.{IsEntryOf, all_entries, ok_or_ok}
@@ -120,7 +120,7 @@ front_counts inst (header ∷ records) =
       | inr few ↦ ap (schedule_of inst) (take_all (length inst.tasks + 1) records (omega arith))
     ]
 
-pub reading_judgeable : (inst : InstanceView) (records : List (List (List ℕ))) (result : Result (List Slot) PlanError)
+pub reading_judgeable : (inst : InstanceView) (records : List (List (List ℕ))) (result : Result (List Slot) (ReadError PlanFault))
     → IsReading (λ (sched : List Slot). sched) (plan_of inst records) result → IfOk result (λ sched. IsJudgeable inst sched)
 reading_judgeable inst records (Ok sched) read = plan_judgeable inst records sched read
 reading_judgeable inst records (Err why) read = tt

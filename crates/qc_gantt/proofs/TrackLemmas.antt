@@ -1,5 +1,5 @@
 -- The tracks of one crane more.
-use Rattle.std.proofs.Common.{◌≡◌, ℕ, ◌+◌, ◌<◌, ◌≤◌, ◌⊎◌, inl, inr, List, [], ◌∷◌, ◌++◌, length, get_or, Option, Result, Ok, Err, refl, ap, sym, subst, ◌∙◌, arith}
+use Rattle.std.proofs.Common.{◌≡◌, ℕ, ◌+◌, ◌<◌, ◌≤◌, ◌⊎◌, inl, inr, List, [], ◌∷◌, ◌++◌, length, get_or, Result, Ok, Err, refl, ap, sym, subst, ◌∙◌, arith}
 use Rattle.std.proofs.Math.Nat.{eq-or-lt_of_le}
 use Rattle.std.proofs.Math.Seq.{get_or-append_seam}
 use Rattle.std.proofs.lemmas.List.{append-nil, get_or_append_left, length-append}
@@ -7,6 +7,7 @@ use Rattle.std.proofs.lemmas.Grind.{flat_map-append}
 use Rattle.std.specs.Prelude.{⊤, IsErr, slice_index_or}
 use Rattle.std.specs.List.{flat_map, zip}
 use Rattle.qc_io.specs.declared.writing.WriteFault.{WriteFault}
+use Rattle.qc_io.specs.Outside.{View}
 use Rattle.qc_io.specs.Writes.{Writes}
 use Rattle.qc_io.proofs.WritesLemmas.{writes_then}
 use Rattle.qc_model.specs.declared.crane.Crane.{Crane}
@@ -58,16 +59,16 @@ tracks_more inst sched way tracks points are low is = record {
     by_place k (inr before) =
         subst (IsTrack inst sched way k) (sym (get_or_append_left tracks (points ∷ []) [] k before)) (are.each k before)
 
-module _ {K B : Type 0} (written : K → Option (List ℕ)) (beside : K → B) (faults : K → ℕ) (before : K)
+module _ (before : View)
     (inst : InstanceView) (sched : List Slot) (way : Direction) where
   -- the lines of the first k cranes were written
-  pub record SoFar (now : K) (k : ℕ) : Type 0 where
+  pub record SoFar (now : View) (k : ℕ) : Type 0 where
     pub tracks : List (List Waypoint)
     pub are : AreTracks inst sched way tracks
     pub count : length tracks ≡ k
-    pub writes : Writes written beside faults before now (tracks_text inst.cranes tracks) (Ok tt)
+    pub writes : Writes before now (tracks_text inst.cranes tracks) (Ok tt)
 
-  module _ (now after : K) (k : ℕ) (low : k < length inst.cranes) (so_far : SoFar now k) (points : List Waypoint)
+  module _ (now after : View) (k : ℕ) (low : k < length inst.cranes) (so_far : SoFar now k) (points : List Waypoint)
       (is : IsTrack inst sched way k points) where
     name : List ℕ
     name = (crane inst k).name
@@ -81,13 +82,13 @@ module _ {K B : Type 0} (written : K → Option (List ℕ)) (beside : K → B) (
     text = ap (λ (n : ℕ). tracks_text inst.cranes so_far.tracks ++ track_line (crane inst n).name points) (sym so_far.count)
         ∙ sym (lines_push inst.cranes so_far.tracks points (omega (arith, low, so_far.count)))
 
-    then : (result : Result ⊤ WriteFault) → Writes written beside faults now after (track_line (crane inst k).name points) result
-        → Writes written beside faults before after (tracks_text inst.cranes (so_far.tracks ++ points ∷ [])) result
+    then : (result : Result ⊤ WriteFault) → Writes now after (track_line (crane inst k).name points) result
+        → Writes before after (tracks_text inst.cranes (so_far.tracks ++ points ∷ [])) result
     then result writes =
-        subst (λ (t : List ℕ). Writes written beside faults before after t result) text
-        (writes_then written beside faults before now after _ _ result so_far.writes writes)
+        subst (λ (t : List ℕ). Writes before after t result) text
+        (writes_then before now after _ _ result so_far.writes writes)
 
-    pub track_more : Writes written beside faults now after (track_line (crane inst k).name points) (Ok tt) → SoFar after (k + 1)
+    pub track_more : Writes now after (track_line (crane inst k).name points) (Ok tt) → SoFar after (k + 1)
     track_more writes = record {
       tracks = so_far.tracks ++ points ∷ [];
       are = more;
@@ -96,8 +97,8 @@ module _ {K B : Type 0} (written : K → Option (List ℕ)) (beside : K → B) (
     }
 
     pub track_cut : (result : Result ⊤ WriteFault) → IsErr result
-        → (fault : WriteFault) → Writes written beside faults now after (track_line (crane inst k).name points) (Err fault)
-        → WritesTracks written beside faults before after inst sched way result
+        → (fault : WriteFault) → Writes now after (track_line (crane inst k).name points) (Err fault)
+        → WritesTracks before after inst sched way result
     track_cut (Ok u) err fault writes = absurd (cc err)
     track_cut (Err other) err fault writes = record {
       tracks = so_far.tracks ++ points ∷ [];
@@ -106,7 +107,7 @@ module _ {K B : Type 0} (written : K → Option (List ℕ)) (beside : K → B) (
       writes = then (Err other) writes;
     }
 
-  pub tracks_done : (now : K) (k : ℕ) → length inst.cranes ≤ k → SoFar now k → WritesTracks written beside faults before now inst sched way (Ok tt)
+  pub tracks_done : (now : View) (k : ℕ) → length inst.cranes ≤ k → SoFar now k → WritesTracks before now inst sched way (Ok tt)
   tracks_done now k high so_far = record {
     tracks = so_far.tracks;
     are = so_far.are;
@@ -114,10 +115,10 @@ module _ {K B : Type 0} (written : K → Option (List ℕ)) (beside : K → B) (
     writes = so_far.writes;
   }
 
-  pub tracks_begun : Writes written beside faults before before [] (Ok tt) → SoFar before 0
+  pub tracks_begun : Writes before before [] (Ok tt) → SoFar before 0
   tracks_begun writes = record {
     tracks = [];
     are = record { few = omega arith; each = λ k below. absurd (omega (arith, below)) };
     count = refl;
-    writes = subst (λ (t : List ℕ). Writes written beside faults before before t (Ok tt)) (no_lines inst.cranes) writes;
+    writes = subst (λ (t : List ℕ). Writes before before t (Ok tt)) (no_lines inst.cranes) writes;
   }

@@ -1,4 +1,4 @@
--- The texts of what is wrong with a record.
+-- public: the texts of what is wrong with a record.
 use Rattle.std.specs.Prelude.{ℕ, List, codes}
 use Rattle.qc_gantt.specs.declared.fault.PlanKind.{PlanKind}
 use Rattle.qc_gantt.specs.declared.fault.PlanKind.TheVariants as kind

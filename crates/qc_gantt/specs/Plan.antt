@@ -1,5 +1,5 @@
--- A plan file: the schedule that its records give, or the fault of the first faulty record.
-use Rattle.std.specs.Prelude.{◌≡◌, ℕ, ◌+◌, ◌<◌, ◌^◌, List, [], ◌∷◌, length, map, Option, None, Some, option_map, ok_or, Result, Ok, Err, ⊤}
+-- public: a plan file: the schedule that its records give, or the fault of the first faulty record.
+use Rattle.std.specs.Prelude.{ℕ, ◌+◌, ◌<◌, ◌^◌, List, [], ◌∷◌, length, map, Option, None, Some, option_map, ok_or, Result, Ok, Err}
 use Rattle.std.specs.List.{range_with_len}
 use Rattle.qc_num.specs.Reading.{◌>>=◌, each, require, with_fault}
 use Rattle.qc_model.specs.declared.schedule.Slot.{Slot}
@@ -8,8 +8,6 @@ use Rattle.qc_model.specs.Rules.{end_of}
 use Rattle.qc_records.specs.Records.{records_of}
 use Rattle.qc_gantt.specs.Entries.{entry_after, is_header, slot_given}
 use Rattle.qc_gantt.specs.declared.entry.Entry.{Entry}
-use Rattle.qc_gantt.specs.declared.fault.PlanError.{PlanError}
-use Rattle.qc_gantt.specs.declared.fault.PlanError.TheVariants.{Fault, OutOfMemory}
 use Rattle.qc_gantt.specs.declared.fault.PlanFault.{PlanFault}
 use Rattle.qc_gantt.specs.declared.fault.PlanKind.{PlanKind}
 use Rattle.qc_gantt.specs.declared.fault.PlanKind.TheVariants as kind
@@ -57,9 +55,3 @@ plan_in inst text = plan_of inst (records_of text)
 -- each task ends at a tick of at most 12 digits
 abbrev pub HasShortEnds : InstanceView → List Slot → Type 0
 HasShortEnds inst sched = (j : ℕ) → j < length inst.tasks → end_of inst sched j < 10 ^ 12
-
--- what was read stands for this reading, unless memory ran out
-abbrev pub IsReading : {T V : Type 0} → (T → V) → Result V PlanFault → Result T PlanError → Type 0
-IsReading view reading (Ok value) = reading ≡ Ok (view value)
-IsReading view reading (Err (Fault fault)) = reading ≡ Err fault
-IsReading view reading (Err OutOfMemory) = ⊤

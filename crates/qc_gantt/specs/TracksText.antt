@@ -1,8 +1,9 @@
 -- The crane lines of a schedule: where each crane stands, by its waypoints.
-use Rattle.std.specs.Prelude.{◌≡◌, ℕ, ◌<◌, ◌≤◌, List, [], ◌++◌, codes, decimal, length, slice_index_or, Option, Result, OnOk, ⊤}
+use Rattle.std.specs.Prelude.{◌≡◌, ℕ, ◌<◌, ◌≤◌, List, [], ◌++◌, codes, decimal, length, slice_index_or, Result, OnOk, ⊤}
 use Rattle.std.specs.Fmt.{signed_decimal}
 use Rattle.std.specs.List.{flat_map, zip}
 use Rattle.qc_io.specs.declared.writing.WriteFault.{WriteFault}
+use Rattle.qc_io.specs.Outside.{View}
 use Rattle.qc_io.specs.Writes.{Writes}
 use Rattle.qc_model.specs.declared.crane.Crane.{Crane}
 use Rattle.qc_model.specs.declared.direction.Direction.{Direction}
@@ -37,10 +38,9 @@ pub record AreTracks (inst : InstanceView) (sched : List Slot) (way : Direction)
 
 -- what a call says that writes the crane lines: those of all cranes where it comes through, and else of the first
 -- ones, the last of them cut
-pub record WritesTracks
-    {K B : Type 0} (written : K → Option (List ℕ)) (beside : K → B) (faults : K → ℕ) (before after : K)
+pub record WritesTracks (before after : View)
     (inst : InstanceView) (sched : List Slot) (way : Direction) (result : Result ⊤ WriteFault) : Type 0 where
   pub tracks : List (List Waypoint)
   pub are : AreTracks inst sched way tracks
   pub all : OnOk result (length tracks ≡ length inst.cranes)
-  pub writes : Writes written beside faults before after (tracks_text inst.cranes tracks) result
+  pub writes : Writes before after (tracks_text inst.cranes tracks) result

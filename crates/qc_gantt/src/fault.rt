@@ -1,8 +1,9 @@
-ghost use Rattle.std.specs.Prelude.{◌≡◌, ◌≤◌, length};
-ghost use Rattle.qc_gantt.specs.declared.fault.PlanError.TheVariants.{Fault, OutOfMemory};
+//! What may be wrong with a plan file.
 
-use std::alloc::AllocError;
-use thiserror::Error;
+ghost use Rattle.std.specs.Prelude.{◌≡◌, ◌≤◌, length};
+ghost use Rattle.qc_num.specs.declared.read_error.ReadError.TheVariants.{Fault};
+
+use qc_num::ReadError;
 
 /// What is wrong with a record of a plan file: the first of these that applies.
 #[derive(Clone, Copy, Debug, PartialEq, Eq)]
@@ -55,34 +56,12 @@ pub struct PlanFault {
 }
 
 /// Why no plan was read.
-#[derive(Debug, Drop, Error)]
-pub enum PlanError {
-    #[error("{0:?}")]
-    Fault(PlanFault),
-    #[error("out of memory")]
-    OutOfMemory,
-}
+pub type PlanError = ReadError<PlanFault>;
 
 impl From<PlanFault> for PlanError {
     ghost from_gives = { λ fault error. error ≡ Fault fault };
 
     fn from(fault: PlanFault) -> PlanError {
         PlanError::Fault(fault)
-    }
-}
-
-impl From<qc_num::OutOfMemory> for PlanError {
-    ghost from_gives = { λ _ error. error ≡ OutOfMemory };
-
-    fn from(_refused: qc_num::OutOfMemory) -> PlanError {
-        PlanError::OutOfMemory
-    }
-}
-
-impl From<AllocError> for PlanError {
-    ghost from_gives = { λ _ error. error ≡ OutOfMemory };
-
-    fn from(_refused: AllocError) -> PlanError {
-        PlanError::OutOfMemory
     }
 }

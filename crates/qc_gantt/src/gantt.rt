@@ -90,7 +90,7 @@ fn put_lines<K: Sink>(
 ) -> Result<(), WriteFault>
     requires end { end ≡ ends inst.now sched.now }
     requires soon { end ≤ MOST_END }
-    ensures { Writes K.written K.beside K.faults sink.old sink.new
+    ensures { Writes (K.view sink.old) (K.view sink.new)
         (flat_map (gantt_line inst.now sched.now) (range_with_len 0 (length inst.now.cranes))) result }
 {
     for crane in 0..inst.cranes().len() as u16 {
@@ -110,7 +110,7 @@ pub fn write_gantt<K: Sink>(
     sink: &mut K,
 ) -> Result<(), WriteFault>
     requires { IsJudgeable inst.now sched.now }
-    ensures { Writes K.written K.beside K.faults sink.old sink.new
+    ensures { Writes (K.view sink.old) (K.view sink.new)
         (gantt_text inst.now sched.now) result }
 {
     let end = ends(inst, sched);

@@ -1,10 +1,11 @@
-// Reading a plan file.
+//! Reading a plan file.
 
 ghost use Rattle.std.specs.Prelude.{◌≡◌, ◌≤◌, length, map, IfOk};
 ghost use Rattle.csv.specs.Records.{fields_of};
 ghost use Rattle.qc_model.specs.Judge.{IsJudgeable};
-ghost use Rattle.qc_gantt.specs.Plan.{IsReading, all_given, plan_in, plan_of, schedule_of};
-ghost use Rattle.qc_gantt.specs.declared.fault.PlanError.TheVariants.{Fault};
+ghost use Rattle.qc_gantt.specs.Plan.{all_given, plan_in, plan_of, schedule_of};
+ghost use Rattle.qc_num.specs.Reading.{IsReading};
+ghost use Rattle.qc_num.specs.declared.read_error.ReadError.TheVariants.{Fault};
 ghost use Rattle.qc_gantt.specs.declared.fault.PlanKind.TheVariants.{Header};
 
 use crate::entry::is_header;
@@ -16,7 +17,7 @@ use qc_num::OutOfMemory;
 use qc_records::first_records;
 use std::alloc::Global;
 
-// The schedule of these slots, where each task has one.
+/// The schedule of these slots, where each task has one.
 fn all_given(alloc: Global, slots: &[Option<Slot>]) -> Result<Option<Schedule>, OutOfMemory>
     requires { length slots.now ≤ MOST_TASKS }
     ensures { IfOk result (λ sched. sched ≡ all_given slots.now) }
@@ -31,7 +32,7 @@ fn all_given(alloc: Global, slots: &[Option<Slot>]) -> Result<Option<Schedule>, 
     Ok(Some(sched))
 }
 
-// The schedule of the records behind the header.
+/// The schedule of the records behind the header.
 fn read_schedule(
     alloc: Global,
     records: &[ByteRecord],
@@ -47,7 +48,7 @@ fn read_schedule(
     }
 }
 
-// The schedule of a list of records, of which the first is the header.
+/// The schedule of a list of records, of which the first is the header.
 fn read_records(
     alloc: Global,
     records: &[ByteRecord],
@@ -76,6 +77,7 @@ pub fn read_plan(alloc: Global, text: &[u8], inst: &Instance) -> Result<Schedule
     read_records(alloc, records.as_slice(), inst)
 }
 
+/// The fault of a plan that doesn't begin with its header.
 fn no_header() -> PlanError
     ensures { result ≡ Fault (record { number = 1; kind = Header }) }
 {

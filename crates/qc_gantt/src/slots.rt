@@ -1,10 +1,11 @@
-// The slots that records give the tasks.
+//! The slots that records give the tasks.
 
 ghost use Rattle.std.specs.Prelude.{◌≡◌, ◌<◌, ◌≤◌, ◌+◌, None, Some, length, map, not, is_some, IfOk, IsOk, IsTrue, MatchResult, Ok, Err, replicate, slice_index_or, slice_set};
 ghost use Rattle.csv.specs.Records.{fields_of};
 ghost use Rattle.qc_gantt.specs.Entries.{entry_beside};
 ghost use Rattle.qc_gantt.specs.Names.{Finds, crane_names, task_names};
-ghost use Rattle.qc_gantt.specs.Plan.{IsReading, slots_of};
+ghost use Rattle.qc_gantt.specs.Plan.{slots_of};
+ghost use Rattle.qc_num.specs.Reading.{IsReading};
 
 use crate::entry::{Entry, read_entry};
 use crate::fault::{PlanError, PlanFault, PlanKind};
@@ -14,7 +15,7 @@ use indexmap::IndexMap;
 use qc_model::{Instance, MOST_TASKS, Slot};
 use std::alloc::Global;
 
-// The fault of a record, by its place among those behind the header from 0.
+/// The fault of a record, by its place among those behind the header from 0.
 pub(crate) fn fault(at: usize, kind: PlanKind) -> PlanFault
     requires { at ≤ MOST_TASKS }
     ensures { result ≡ record { number = at + 2; kind = kind } }
@@ -25,7 +26,7 @@ pub(crate) fn fault(at: usize, kind: PlanKind) -> PlanFault
     }
 }
 
-// Gives the task of an entry its slot; `false` where it has one already.
+/// Gives the task of an entry its slot; `false` where it has one already.
 fn give(slots: &mut [Option<Slot>], entry: Entry) -> bool
     requires { entry.task < length slots.old }
     ensures free { result ≡ not (is_some (slice_index_or slots.old entry.task None)) }
@@ -39,7 +40,7 @@ fn give(slots: &mut [Option<Slot>], entry: Entry) -> bool
     true
 }
 
-// Gives the task of a record its slot.
+/// Gives the task of a record its slot.
 fn next_entry(
     fields: &ByteRecord,
     inst: &Instance,
@@ -62,7 +63,7 @@ fn next_entry(
     Ok(entry)
 }
 
-// Gives the task of each record its slot.
+/// Gives the task of each record its slot.
 fn give_all(
     records: &[ByteRecord],
     inst: &Instance,
@@ -88,7 +89,7 @@ fn give_all(
     Ok(())
 }
 
-// The slot of each task, where the records behind the header give one.
+/// The slot of each task, where the records behind the header give one.
 pub(crate) fn read_slots(
     alloc: Global,
     records: &[ByteRecord],

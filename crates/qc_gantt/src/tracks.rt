@@ -22,7 +22,7 @@ fn waypoint_text(point: &Waypoint) -> Text<48>
 
 #[tactic(auto, using(qc_io::proofs::WritesLemmas::items_more))]
 fn put_points<K: Sink>(points: &[Waypoint], sink: &mut K) -> Result<(), WriteFault>
-    ensures { Writes K.written K.beside K.faults sink.old sink.new
+    ensures { Writes (K.view sink.old) (K.view sink.new)
         (flat_map waypoint_text points.now) result }
 {
     for point in points {
@@ -32,7 +32,7 @@ fn put_points<K: Sink>(points: &[Waypoint], sink: &mut K) -> Result<(), WriteFau
 }
 
 fn put_head<K: Sink>(name: &Name, sink: &mut K) -> Result<(), WriteFault>
-    ensures { Writes K.written K.beside K.faults sink.old sink.new (codes "crane " ++ name.now) result }
+    ensures { Writes (K.view sink.old) (K.view sink.new) (codes "crane " ++ name.now) result }
 {
     let mut head: Text<24> = Text::of(b"crane ");
     head.push(name.as_bytes());
@@ -41,7 +41,7 @@ fn put_head<K: Sink>(name: &Name, sink: &mut K) -> Result<(), WriteFault>
 
 #[tactic(auto, using(qc_io::proofs::WritesLemmas::writes_then, qc_io::proofs::WritesLemmas::writes_cut))]
 fn put_tail<K: Sink>(points: &[Waypoint], sink: &mut K) -> Result<(), WriteFault>
-    ensures { Writes K.written K.beside K.faults sink.old sink.new
+    ensures { Writes (K.view sink.old) (K.view sink.new)
         (flat_map waypoint_text points.now ++ codes "\n") result }
 {
     put_points(points, sink)?;
@@ -51,7 +51,7 @@ fn put_tail<K: Sink>(points: &[Waypoint], sink: &mut K) -> Result<(), WriteFault
 /// Writes the line of a crane.
 #[tactic(auto, using(qc_io::proofs::WritesLemmas::writes_then, qc_io::proofs::WritesLemmas::writes_cut))]
 fn put_track<K: Sink>(name: &Name, points: &[Waypoint], sink: &mut K) -> Result<(), WriteFault>
-    ensures { Writes K.written K.beside K.faults sink.old sink.new
+    ensures { Writes (K.view sink.old) (K.view sink.new)
         (track_line name.now points.now) result }
 {
     put_head(name, sink)?;
@@ -72,7 +72,7 @@ pub fn write_tracks<K: Sink>(
     requires judgeable { IsJudgeable inst.now sched.now }
     requires goes { Goes inst.now sched.now way }
     requires room { length inst.now.tasks ≤ track.old.tasks }
-    ensures writes { WritesTracks K.written K.beside K.faults sink.old sink.new
+    ensures writes { WritesTracks (K.view sink.old) (K.view sink.new)
         inst.now sched.now way result }
     ensures room { track.new.tasks ≡ track.old.tasks }
 {

@@ -24,7 +24,7 @@ fn put_line<K: Sink>(
 ) -> Result<(), WriteFault>
     requires crane { slot.now.crane < length inst.now.cranes }
     requires end { slot.now.start + task.now.ticks < 2 ^ 64 }
-    ensures writes { Writes K.written K.beside K.faults sink.old sink.new
+    ensures writes { Writes (K.view sink.old) (K.view sink.new)
         (plan_line inst.now task.now slot.now) result }
     ensures hatch { task.now.hatch < 2 ^ 16 }
     ensures name { IsTrue (is_name (crane inst.now slot.now.crane).name) }
@@ -44,7 +44,7 @@ fn put_line<K: Sink>(
 
 fn put_lines<K: Sink>(inst: &Instance, sched: &Schedule, sink: &mut K) -> Result<(), WriteFault>
     requires { IsJudgeable inst.now sched.now }
-    ensures writes { Writes K.written K.beside K.faults sink.old sink.new
+    ensures writes { Writes (K.view sink.old) (K.view sink.new)
         (flat_map (λ line. plan_line inst.now line.0 line.1) (zip inst.now.tasks sched.now)) result }
     ensures valid { Valid inst.now }
     ensures hatches { OnOk result
@@ -68,7 +68,7 @@ pub fn write_plan<K: Sink>(
     sink: &mut K,
 ) -> Result<(), WriteFault>
     requires { IsJudgeable inst.now sched.now }
-    ensures writes { Writes K.written K.beside K.faults sink.old sink.new
+    ensures writes { Writes (K.view sink.old) (K.view sink.new)
         (plan_text inst.now sched.now) result }
     ensures reread { OnOk result (HasShortEnds inst.now sched.now
         → plan_in inst.now (plan_text inst.now sched.now) ≡ Ok sched.now) }

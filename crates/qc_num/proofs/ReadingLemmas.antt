@@ -1,7 +1,9 @@
 -- Readings, read backwards: what a reading that came through says of its steps.
-use Rattle.std.proofs.Common.{◌≡◌, ◌+◌, ◌++◌, ◌∷◌, List, [], length, length-append, Bool, true, false, cond, refl, ap, subst, arith}
+use Rattle.std.proofs.Common.{◌≡◌, ◌+◌, ◌++◌, ◌∷◌, List, [], length, length-append, Bool, true, false, cond, refl, ap, ◌∙◌, subst, arith}
 use Rattle.std.specs.Prelude.{Result, Ok, Err, ⊤}
-use Rattle.qc_num.specs.Reading.{◌>>=◌, each, require, with_fault}
+use Rattle.qc_num.specs.declared.read_error.ReadError.{ReadError}
+use Rattle.qc_num.specs.declared.read_error.ReadError.TheVariants.{Fault, OutOfMemory}
+use Rattle.qc_num.specs.Reading.{◌>>=◌, IsReading, each, require, with_fault}
 
 -- a reading came through where its first step did, and the rest of it with that step's value
 pub bind_ok : {A B E : Type 0} (r : Result A E) (next : A → Result B E) (b : B) → (r >>= next) ≡ Ok b → (a : A) × (r ≡ Ok a) × (next a ≡ Ok b)
@@ -28,6 +30,12 @@ passed_not false r b fault e = (refl, e)
 pub with_fault_ok : {A E F : Type 0} (f : E → F) (r : Result A E) (a : A) → with_fault f r ≡ Ok a → r ≡ Ok a
 with_fault_ok f (Ok x) a e = let same : x ≡ a = same_ok e in cc
 with_fault_ok f (Err fault) a e = cc
+
+-- a step that stopped stopped the reading
+pub reading_stops : {T U A B F : Type 0} (seen : T → A) (view : U → B) (step : Result A F) (next : A → Result B F) (whole : Result B F) (error : ReadError F)
+    → whole ≡ (step >>= next) → IsReading seen step (Err error) → IsReading view whole (Err error)
+reading_stops seen view step next whole (Fault fault) same stopped = same ∙ ap (λ r. r >>= next) stopped
+reading_stops seen view step next whole OutOfMemory same stopped = tt
 
 -- ---- values judged with those before them
 module _ {A B E : Type 0} (judge : List B → A → Result B E) where

@@ -1,5 +1,5 @@
 -- How the rows of a list follow from its records.
-use Rattle.std.proofs.Common.{◌≡◌, ◌≢◌, ◌<◌, ◌≤◌, ◌+◌, ◌++◌, ◌∷◌, ◌==◌, ◌&&◌, ℕ, List, [], length, get_or, Bool, true, false, nat_lt, Result, Ok, Err, Option, IsSome, is_some, All, AllPairs, refl, sym, ap, inl, inr, ◌∙◌, arith}
+use Rattle.std.proofs.Common.{◌≡◌, ◌≢◌, ◌<◌, ◌≤◌, ◌++◌, ◌∷◌, ◌==◌, ◌&&◌, ℕ, List, [], length, get_or, Bool, true, false, nat_lt, Result, Ok, Err, Option, IsSome, is_some, All, AllPairs, refl, sym, ap, inl, inr, ◌∙◌, arith}
 use Rattle.std.specs.List.{list_any}
 use Rattle.std.proofs.lemmas.Bool.{and_from, cases_Bool, false≢true, false_from_ne_true, lt-ltb, ltb-true}
 use Rattle.std.proofs.lemmas.List.{length_push}
@@ -8,52 +8,24 @@ use Rattle.std.proofs.lemmas.List.Folds.{list_any_at}
 use Rattle.std.proofs.lemmas.List.Quantifiers.{all_pairs_push}
 use Rattle.std.proofs.lemmas.Slice.Eq.{bytes_eq-Decides}
 use Rattle.std.specs.Str.{bytes_eq}
-use Rattle.qc_num.specs.Reading.{◌>>=◌, require, with_fault}
-use Rattle.qc_num.proofs.ReadingLemmas.{bind_ok, require_ok, same_ok, with_fault_ok}
+use Rattle.qc_num.specs.Reading.{◌>>=◌, each, require, with_fault}
+use Rattle.qc_num.proofs.ReadingLemmas.{bind_ok, each-keeps, require_ok, same_ok, with_fault_ok}
 use Rattle.qc_cell.specs.Cells.{CellView, cell_in, overlap}
 use Rattle.qc_records.specs.Records.{field_of}
 use Rattle.qc_ship.specs.Ship.{ShipView, place_of_bay}
-use Rattle.qc_stow.specs.Moves.{AreMoves, has_id, is_taken, same_move}
+use Rattle.qc_stow.specs.Moves.{AreMoves, has_id, is_taken, most_moves, same_move}
 use Rattle.qc_stow.specs.Fields.{is_id, length_text}
 use Rattle.qc_stow.specs.Rows.{move_in, row_in, row_of}
-use Rattle.qc_stow.specs.Stow.{IsReading, apart_from, numbered, over_hatch, row_after, row_on, rows_after}
-use Rattle.qc_stow.specs.declared.moves.TheConstants.{MOST_MOVES}
+use Rattle.qc_stow.specs.Stow.{apart_from, next_row, numbered, over_hatch, row_after, row_on}
 use Rattle.qc_stow.specs.declared.row.Move.{Move}
 use Rattle.qc_stow.specs.declared.row.Move.TheVariants.{Discharge, Load}
 use Rattle.qc_stow.specs.declared.row.Row.{Row}
-use Rattle.qc_stow.specs.declared.fault.StowError.{StowError}
-use Rattle.qc_stow.specs.declared.fault.StowError.TheVariants.{Fault, OutOfMemory}
-use Rattle.qc_stow.specs.declared.fault.StowFault.{StowFault}
 use Rattle.qc_stow.specs.declared.fault.StowKind.{StowKind}
 use Rattle.qc_stow.specs.declared.fault.StowKind.TheVariants as kind
 
--- a record with a fault, one with a row, and no record
-pub rows-fault : (ship : ShipView) (earlier : List Row) (fields : List (List ℕ)) (records : List (List (List ℕ))) (fault : StowFault)
-    → numbered (length earlier + 2) (row_after ship earlier fields) ≡ Err fault
-    → rows_after ship earlier (fields ∷ records) ≡ Err fault
-unfolding rows_after
-rows-fault ship earlier fields records fault e = rw e refl
-
-pub rows-stop : {T : Type 0} (view : T → List Row) (reading : Result (List Row) StowFault) (ship : ShipView) (earlier : List Row) (fields : List (List ℕ)) (records : List (List (List ℕ))) (error : StowError)
-    → reading ≡ rows_after ship earlier (fields ∷ records)
-    → IsReading {T = Row} (λ row. row) (numbered (length earlier + 2) (row_after ship earlier fields)) (Err error)
-    → IsReading {T = T} view reading (Err error)
-rows-stop view reading ship earlier fields records (Fault fault) same e = same ∙ rows-fault ship earlier fields records fault e
-rows-stop view reading ship earlier fields records OutOfMemory same e = tt
-
-pub rows-more : (ship : ShipView) (earlier : List Row) (fields : List (List ℕ)) (records : List (List (List ℕ))) (row : Row)
-    → numbered (length earlier + 2) (row_after ship earlier fields) ≡ Ok row
-    → rows_after ship earlier (fields ∷ records) ≡ rows_after ship (earlier ++ row ∷ []) records
-unfolding rows_after
-rows-more ship earlier fields records row e = rw e refl
-
-pub rows-end : (ship : ShipView) (earlier : List Row) → rows_after ship earlier [] ≡ Ok earlier
-unfolding rows_after
-rows-end ship earlier = refl
-
 -- what is known of a row after others
 record FollowsRows (ship : ShipView) (earlier : List Row) (row : Row) : Type 0 where
-  few : length earlier < MOST_MOVES
+  few : length earlier < most_moves
   hatch : is_some (place_of_bay ship row.cell.bay) ≡ true
   id : has_id earlier row ≡ false
   cell : is_taken earlier row ≡ false
@@ -79,22 +51,17 @@ apart-known earlier found row e = elim (cases_Bool (has_id earlier found)) [
 
 row-follows : (ship : ShipView) (earlier : List Row) (fields : List (List ℕ)) (row : Row) → row_after ship earlier fields ≡ Ok row → FollowsRows ship earlier row
 row-follows ship earlier fields row e =
-    let (u, few, rest) = bind_ok (require (nat_lt (length earlier) MOST_MOVES) kind.TooMany) (λ _. row_on ship fields >>= apart_from earlier) row e in
+    let (u, few, rest) = bind_ok (require (nat_lt (length earlier) most_moves) kind.TooMany) (λ _. row_on ship fields >>= apart_from earlier) row e in
     let (here, on, apart) = bind_ok (row_on ship fields) (apart_from earlier) row rest in
     let (found, read, hatched) = bind_ok (row_in fields) (over_hatch ship) here on in
     let (hatch, is-found) = hatch-known ship found here hatched in
     let (id, cell, is-row) = apart-known earlier here row apart in
     record {
-      few = ltb-true (length earlier) MOST_MOVES (require_ok (nat_lt (length earlier) MOST_MOVES) kind.TooMany u few);
+      few = ltb-true (length earlier) most_moves (require_ok (nat_lt (length earlier) most_moves) kind.TooMany u few);
       hatch = rw (is-found, is-row) at hatch;
       id = rw is-row at id;
       cell = rw is-row at cell;
     }
-
--- a row comes only after fewer than 50,000
-pub rows-room : (ship : ShipView) (earlier : List Row) (fields : List (List ℕ)) (row : Row) (number : ℕ)
-    → numbered number (row_after ship earlier fields) ≡ Ok row → length earlier < MOST_MOVES
-rows-room ship earlier fields row number e = (row-follows ship earlier fields row (with_fault_ok _ (row_after ship earlier fields) row e)).few
 
 same-move : (a b : Move) → a ≡ b → same_move b a ≡ true
 same-move Discharge Discharge e = refl
@@ -128,16 +95,16 @@ row-id ship fields row e =
     ap (λ (r : Row). r.id) (sym is-found) ∙ id-in fields found read
 
 -- the row after others, by the checks that are made of it
-module _ (ship : ShipView) (earlier : List Row) (fields : List (List ℕ)) (row : Row) (number : ℕ) (few : length earlier < MOST_MOVES) (on : row_on ship fields ≡ Ok row) where
+module _ (ship : ShipView) (earlier : List Row) (fields : List (List ℕ)) (row : Row) (number : ℕ) (few : length earlier < most_moves) (on : row_on ship fields ≡ Ok row) where
   pub after-id : has_id earlier row ≡ true → numbered number (row_after ship earlier fields) ≡ Err (record { number = number; kind = kind.IdTwice })
-  after-id twice = let room = lt-ltb (length earlier) MOST_MOVES few in rw (room, on, twice) refl
+  after-id twice = let room = lt-ltb (length earlier) most_moves few in rw (room, on, twice) refl
 
   pub after-cell : has_id earlier row ≡ false → is_taken earlier row ≡ true
       → numbered number (row_after ship earlier fields) ≡ Err (record { number = number; kind = kind.CellTaken })
-  after-cell new taken = let room = lt-ltb (length earlier) MOST_MOVES few in rw (room, on, new, taken) refl
+  after-cell new taken = let room = lt-ltb (length earlier) most_moves few in rw (room, on, new, taken) refl
 
   pub after-row : has_id earlier row ≡ false → is_taken earlier row ≡ false → numbered number (row_after ship earlier fields) ≡ Ok row
-  after-row new free = let room = lt-ltb (length earlier) MOST_MOVES few in rw (room, on, new, free) refl
+  after-row new free = let room = lt-ltb (length earlier) most_moves few in rw (room, on, new, free) refl
 
 -- where no element passes, that at a place doesn't
 none-at : {X : Type 0} (test : X → Bool) (xs : List X) (k : ℕ) (d : X) → k < length xs → list_any test xs ≡ false → test (get_or xs k d) ≡ true → ⊥
@@ -145,7 +112,7 @@ none-at test xs k d within none here = false≢true (sym none ∙ list_any_at te
 
 -- what rows keep, and that each is over a hatch
 record StandApart (ship : ShipView) (rows : List Row) : Type 0 where
-  count : length rows ≤ MOST_MOVES
+  count : length rows ≤ most_moves
   ids : AllPairs (λ a b. a.kind ≡ b.kind → a.id ≢ b.id) rows
   apart : AllPairs (λ a b. a.kind ≡ b.kind → overlap b.cell a.cell ≡ false) rows
   hatches : All (λ row. IsSome (place_of_bay ship row.cell.bay)) rows
@@ -172,18 +139,11 @@ stand-more ship earlier row stand follows = record {
   hatches = All-push (λ r. IsSome (place_of_bay ship r.cell.bay)) earlier row stand.hatches (some-is (place_of_bay ship row.cell.bay) follows.hatch);
 }
 
-stand-rows : (ship : ShipView) (earlier : List Row) (records : List (List (List ℕ))) (rows : List Row) → rows_after ship earlier records ≡ Ok rows
-    → StandApart ship earlier → StandApart ship rows
-unfolding rows_after
-stand-rows ship earlier [] rows e stand = let same : earlier ≡ rows = same_ok e in rw same at stand
-stand-rows ship earlier (fields ∷ records) rows e stand =
-    let (row, here, rest) = bind_ok (numbered (length earlier + 2) (row_after ship earlier fields)) (λ row. rows_after ship (earlier ++ row ∷ []) records) rows e in
-    let follows = row-follows ship earlier fields row (with_fault_ok _ (row_after ship earlier fields) row here) in
-    stand-rows ship (earlier ++ row ∷ []) records rows rest (stand-more ship earlier row stand follows)
-
--- so the rows of a list are moves, each over a hatch
-pub rows-keep : (ship : ShipView) (records : List (List (List ℕ))) (rows : List Row) → rows_after ship [] records ≡ Ok rows
+-- the rows of a list are moves, each over a hatch
+pub rows-keep : (ship : ShipView) (records : List (List (List ℕ))) (rows : List Row) → each (next_row ship) [] records ≡ Ok rows
     → AreMoves rows × All (λ row. IsSome (place_of_bay ship row.cell.bay)) rows
 rows-keep ship records rows e =
-    let stand = stand-rows ship [] records rows e (stand-none ship) in
+    let stand = each-keeps (next_row ship) (StandApart ship) (λ before fields row stand read.
+    stand-more ship before row stand (row-follows ship before fields row (with_fault_ok _ (row_after ship before fields) row read)))
+    [] records rows (stand-none ship) e in
     (record { count = stand.count; ids = stand.ids; apart = stand.apart }, stand.hatches)

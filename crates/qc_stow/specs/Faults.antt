@@ -1,4 +1,4 @@
--- The texts of what is wrong with a record.
+-- public: the texts of what is wrong with a record.
 use Rattle.std.specs.Prelude.{ℕ, List, codes}
 use Rattle.qc_cell.specs.Cells.{fault_text}
 use Rattle.qc_stow.specs.declared.fault.StowKind.{StowKind}

@@ -1,4 +1,4 @@
--- The fields of a stowage list.
+-- public: the fields of a stowage list.
 use Rattle.std.specs.Prelude.{ℕ, List, length, Bool, not, ◌&&◌, ◌==◌, ◌%◌, nat_le, if◌then◌else◌, codes}
 use Rattle.std.specs.List.{list_all}
 use Rattle.std.specs.Str.{bytes_eq}

@@ -1,12 +1,15 @@
--- The moves of a stowage list.
-use Rattle.std.specs.Prelude.{◌≡◌, ◌≢◌, ◌≤◌, List, length, AllPairs, Bool, true, false, ◌&&◌}
+-- public: the moves of a stowage list.
+use Rattle.std.specs.Prelude.{◌≡◌, ◌≢◌, ℕ, ◌≤◌, List, length, AllPairs, Bool, true, false, ◌&&◌}
 use Rattle.std.specs.List.{list_any}
 use Rattle.std.specs.Str.{bytes_eq}
 use Rattle.qc_cell.specs.Cells.{overlap}
-use Rattle.qc_stow.specs.declared.moves.TheConstants.{MOST_MOVES}
 use Rattle.qc_stow.specs.declared.row.Move.{Move}
 use Rattle.qc_stow.specs.declared.row.Move.TheVariants.{Discharge, Load}
 use Rattle.qc_stow.specs.declared.row.Row.{Row}
+
+-- the most moves of a list
+abbrev pub most_moves : ℕ
+most_moves = 50000
 
 abbrev pub is_discharge : Move → Bool
 is_discharge Discharge = true
@@ -31,6 +34,6 @@ is_taken rows row = list_any
 
 -- what a list of moves keeps: of moves of one kind, no two have one id, and no two cells overlap
 pub record AreMoves (rows : List Row) : Type 0 where
-  pub count : length rows ≤ MOST_MOVES
+  pub count : length rows ≤ most_moves
   pub ids : AllPairs (λ a b. a.kind ≡ b.kind → a.id ≢ b.id) rows
   pub apart : AllPairs (λ a b. a.kind ≡ b.kind → overlap b.cell a.cell ≡ false) rows

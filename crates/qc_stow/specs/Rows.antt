@@ -1,4 +1,4 @@
--- One record of a stowage list, read by itself.
+-- public: one record of a stowage list, read by itself.
 use Rattle.std.specs.Prelude.{ℕ, List, length, ◌==◌, if◌then◌else◌, Result, Ok, Err, codes}
 use Rattle.std.specs.Str.{bytes_eq}
 use Rattle.qc_num.specs.Reading.{◌>>=◌, require, with_fault}

@@ -1,15 +1,12 @@
--- A stowage list: the moves that its records write, or the fault of the first faulty record.
-use Rattle.std.specs.Prelude.{◌≡◌, ◌+◌, ℕ, List, [], ◌∷◌, ◌++◌, length, take, not, nat_lt, is_some, Result, Ok, Err, ⊤}
-use Rattle.qc_num.specs.Reading.{◌>>=◌, require, with_fault}
+-- public: a stowage list: the moves that its records write, or the fault of the first faulty record.
+use Rattle.std.specs.Prelude.{◌+◌, ℕ, List, [], ◌∷◌, length, take, not, nat_lt, is_some, Result, Ok, Err}
+use Rattle.qc_num.specs.Reading.{◌>>=◌, each, require, with_fault}
 use Rattle.qc_records.specs.Records.{records_of}
 use Rattle.qc_ship.specs.Ship.{ShipView, place_of_bay}
 use Rattle.qc_stow.specs.Fields.{is_header}
-use Rattle.qc_stow.specs.Moves.{has_id, is_taken}
+use Rattle.qc_stow.specs.Moves.{has_id, is_taken, most_moves}
 use Rattle.qc_stow.specs.Rows.{row_in}
-use Rattle.qc_stow.specs.declared.moves.TheConstants.{MOST_MOVES}
 use Rattle.qc_stow.specs.declared.row.Row.{Row}
-use Rattle.qc_stow.specs.declared.fault.StowError.{StowError}
-use Rattle.qc_stow.specs.declared.fault.StowError.TheVariants.{Fault, OutOfMemory}
 use Rattle.qc_stow.specs.declared.fault.StowFault.{StowFault}
 use Rattle.qc_stow.specs.declared.fault.StowKind.{StowKind}
 use Rattle.qc_stow.specs.declared.fault.StowKind.TheVariants as kind
@@ -34,32 +31,23 @@ apart_from earlier row = do
 -- the row of a record after the rows of all records before it
 abbrev pub row_after : ShipView → List Row → List (List ℕ) → Result Row StowKind
 row_after ship earlier fields = do
-  _ ← require (nat_lt (length earlier) MOST_MOVES) kind.TooMany
+  _ ← require (nat_lt (length earlier) most_moves) kind.TooMany
   row_on ship fields >>= apart_from earlier
 
 -- a fault with the number of its record, from 1: the header is the first
 abbrev pub numbered : {A : Type 0} → ℕ → Result A StowKind → Result A StowFault
 numbered number = with_fault (λ why. record { number = number; kind = why })
 
--- the rows of the records, in the order of the file
-unfoldable pub rows_after : ShipView → List Row → List (List (List ℕ)) → Result (List Row) StowFault
-rows_after ship earlier [] = Ok earlier
-rows_after ship earlier (fields ∷ records) =
-    numbered (length earlier + 2) (row_after ship earlier fields)
-    >>= λ row. rows_after ship (earlier ++ row ∷ []) records
+-- the row of the record behind the header and those of these rows
+abbrev pub next_row : ShipView → List Row → List (List ℕ) → Result Row StowFault
+next_row ship earlier fields = numbered (length earlier + 2) (row_after ship earlier fields)
 
 -- the moves of a list of records, of which the first is the header
 abbrev pub moves_of : ShipView → List (List (List ℕ)) → Result (List Row) StowFault
 moves_of ship [] = Err (record { number = 1; kind = kind.Header })
 moves_of ship (header ∷ records) =
-    numbered 1 (require (is_header header) kind.Header) >>= λ _. rows_after ship [] records
+    numbered 1 (require (is_header header) kind.Header) >>= λ _. each (next_row ship) [] records
 
 -- the moves of a stowage list; the record after the 50,000th move is a fault, so none behind it counts
 abbrev pub moves_in : ShipView → List ℕ → Result (List Row) StowFault
-moves_in ship text = moves_of ship (take (MOST_MOVES + 2) (records_of text))
-
--- what was read stands for this reading, unless memory ran out
-abbrev pub IsReading : {T V : Type 0} → (T → V) → Result V StowFault → Result T StowError → Type 0
-IsReading view reading (Ok value) = reading ≡ Ok (view value)
-IsReading view reading (Err (Fault fault)) = reading ≡ Err fault
-IsReading view reading (Err OutOfMemory) = ⊤
+moves_in ship text = moves_of ship (take (most_moves + 2) (records_of text))

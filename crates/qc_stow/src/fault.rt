@@ -1,9 +1,9 @@
+//! What may be wrong with a stowage list.
+
 ghost use Rattle.std.specs.Prelude.{◌≡◌, ◌≤◌, length};
-ghost use Rattle.qc_stow.specs.declared.fault.StowError.TheVariants.{Fault, OutOfMemory};
 
 use qc_cell::CellFault;
-use std::alloc::AllocFailed;
-use thiserror::Error;
+use qc_num::ReadError;
 
 /// What is wrong with a record of a stowage list: the first of these that applies.
 #[derive(Clone, Copy, Debug, PartialEq, Eq)]
@@ -62,26 +62,4 @@ pub struct StowFault {
 }
 
 /// Why no stowage list was read.
-#[derive(Debug, Drop, Error)]
-pub enum StowError {
-    #[error("{0:?}")]
-    Fault(StowFault),
-    #[error("out of memory")]
-    OutOfMemory,
-}
-
-impl From<qc_num::OutOfMemory> for StowError {
-    ghost from_gives = { λ _ error. error ≡ OutOfMemory };
-
-    fn from(_refused: qc_num::OutOfMemory) -> StowError {
-        StowError::OutOfMemory
-    }
-}
-
-impl<T: Drop> From<AllocFailed<T>> for StowError {
-    ghost from_gives = { λ _ error. error ≡ OutOfMemory };
-
-    fn from(_refused: AllocFailed<T>) -> StowError {
-        StowError::OutOfMemory
-    }
-}
+pub type StowError = ReadError<StowFault>;

@@ -1,4 +1,4 @@
-// The fields of a record.
+//! The fields of a record.
 
 ghost use Rattle.std.specs.Prelude.{◌≡◌};
 ghost use Rattle.csv.specs.Records.{fields_of};
@@ -7,6 +7,7 @@ ghost use Rattle.qc_stow.specs.Fields.{is_header, length_text};
 use csv::ByteRecord;
 use qc_records::field;
 
+/// Whether the record is the header.
 pub(crate) fn is_header(fields: &ByteRecord) -> bool
     ensures { result ≡ is_header (fields_of fields.now) }
 {
@@ -17,7 +18,7 @@ pub(crate) fn is_header(fields: &ByteRecord) -> bool
         && field(fields, 3) == b"length".as_slice()
 }
 
-// The length in feet of the containers at a bay.
+/// The length in feet of the containers at a bay.
 pub(crate) fn length_text(bay: u16) -> &'static [u8]
     ensures { result.now ≡ length_text bay }
 {

@@ -1,3 +1,5 @@
+//! Ids of containers.
+
 ghost use Rattle.std.specs.Prelude.{◌≡◌, IfSome, IsSome, IsTrue, ◌↔◌};
 ghost use Rattle.std.specs.List.{list_all};
 ghost use Rattle.qc_stow.specs.Fields.{is_id, is_id_byte};

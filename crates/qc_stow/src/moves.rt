@@ -1,3 +1,5 @@
+//! Lists of moves.
+
 ghost use Rattle.std.specs.Prelude.{◌≡◌};
 ghost use Rattle.qc_stow.specs.Moves.{AreMoves};
 

@@ -1,11 +1,13 @@
-// Reading a stowage list.
+//! Reading a stowage list.
 
-ghost use Rattle.std.specs.Prelude.{◌≡◌, ◌+◌, ◌≤◌, [], ◌∷◌, ◌++◌, length, map, All, IfOk, IsSome};
+ghost use Rattle.std.specs.Prelude.{◌≡◌, ◌+◌, ◌<◌, ◌≤◌, [], ◌∷◌, ◌++◌, length, map, All, IfOk, IsSome};
 ghost use Rattle.csv.specs.Records.{fields_of};
 ghost use Rattle.qc_ship.specs.Ship.{place_of_bay};
-ghost use Rattle.qc_stow.specs.Stow.{IsReading, moves_in, numbered, row_after, row_on, rows_after};
+ghost use Rattle.qc_num.specs.Reading.{IsReading, each};
+ghost use Rattle.qc_stow.specs.Moves.{most_moves};
+ghost use Rattle.qc_stow.specs.Stow.{moves_in, next_row, row_on};
 ghost use Rattle.qc_stow.specs.Taken.{ids_of, slots_taken};
-ghost use Rattle.qc_stow.specs.declared.fault.StowError.TheVariants.{Fault};
+ghost use Rattle.qc_num.specs.declared.read_error.ReadError.TheVariants.{Fault};
 
 use crate::fault::{StowError, StowFault, StowKind};
 use crate::fields::is_header;
@@ -20,9 +22,9 @@ use std::alloc::Global;
 // The header, the most moves, and one record more that tells a longer list.
 const RECORDS: usize = MOST_MOVES + 2;
 
-// The fault of a move, by its place among the moves from 0.
+/// The fault of a move, by its place among the moves from 0.
 fn fault(at: usize, kind: StowKind) -> StowError
-    requires { at ≤ MOST_MOVES }
+    requires { at ≤ most_moves }
     ensures { result ≡ Fault (record { number = at + 2; kind = kind }) }
 {
     StowError::Fault(StowFault {
@@ -31,7 +33,7 @@ fn fault(at: usize, kind: StowKind) -> StowError
     })
 }
 
-// The row of a record whose bay a hatch of the ship takes.
+/// The row of a record whose bay a hatch of the ship takes.
 fn row_on(fields: &ByteRecord, ship: &Ship) -> Result<Row, StowKind>
     ensures { result ≡ row_on ship.now (fields_of fields.now) }
 {
@@ -42,19 +44,19 @@ fn row_on(fields: &ByteRecord, ship: &Ship) -> Result<Row, StowKind>
     Ok(row)
 }
 
-// The row of a record after the rows of all records before it, whose ids and slots are taken.
+/// The row of a record after the rows of all records before it, whose ids and slots are taken.
 fn next_row<'a>(
     earlier: &[Row],
     fields: &'a ByteRecord,
     ship: &Ship,
     taken: &mut Taken<'a>,
 ) -> Result<Row, StowError>
-    requires few { length earlier.now ≤ MOST_MOVES }
+    requires few { length earlier.now ≤ most_moves }
     requires ids { taken.old.ids ≡ ids_of earlier.now }
     requires slots { taken.old.slots ≡ slots_taken earlier.now }
     ensures row { IsReading (λ row. row)
-        (numbered (length earlier.now + 2) (row_after ship.now earlier.now (fields_of fields.now)))
-        result }
+        (next_row ship.now earlier.now (fields_of fields.now)) result }
+    ensures few { IfOk result (λ _. length earlier.now < most_moves) }
     ensures ids { IfOk result (λ row. taken.new.ids ≡ ids_of (earlier.now ++ row ∷ [])) }
     ensures slots { IfOk result (λ row. taken.new.slots ≡ slots_taken (earlier.now ++ row ∷ [])) }
 {
@@ -75,9 +77,10 @@ fn next_row<'a>(
     Ok(row)
 }
 
-// The rows of the records after the header.
+/// The rows of the records after the header.
 fn read_rows(alloc: Global, records: &[ByteRecord], ship: &Ship) -> Result<Vec<Row>, StowError>
-    ensures { IsReading (λ v. v.items) (rows_after ship.now [] (map fields_of records.now)) result }
+    ensures { IsReading (λ v. v.items)
+        (each (next_row ship.now) [] (map fields_of records.now)) result }
 {
     let mut rows = Vec::new(alloc);
     let mut taken = Taken::new(alloc);
@@ -106,6 +109,7 @@ pub fn read_stow(alloc: Global, text: &[u8], ship: &Ship) -> Result<Moves, StowE
     Ok(Moves::of(read_rows(alloc, records, ship)?))
 }
 
+/// The fault of a list that doesn't begin with its header.
 fn no_header() -> StowError
     ensures { result ≡ Fault (record { number = 1; kind = StowKind.Header }) }
 {

@@ -1,3 +1,5 @@
+//! One move of a stowage list.
+
 ghost use Rattle.std.specs.Prelude.{◌≡◌};
 ghost use Rattle.csv.specs.Records.{fields_of};
 

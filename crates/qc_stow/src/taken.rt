@@ -1,3 +1,5 @@
+//! What the moves so far have taken.
+
 ghost use Rattle.std.specs.Prelude.{◌≡◌, [], ◌∷◌, ◌++◌, map, not, IfOk, IsTrue};
 ghost use Rattle.qc_stow.specs.Taken.{has_taken_cell, has_taken_id, has_taken_slot, slots_of};
 
@@ -8,7 +10,7 @@ use qc_num::OutOfMemory;
 use std::alloc::Global;
 use std::marker::Model;
 
-// A slot of 20 feet.
+/// A slot of 20 feet.
 #[derive(Clone, Copy, PartialEq, Eq, Hash)]
 pub(crate) struct Slot {
     bay: u16,
@@ -16,7 +18,7 @@ pub(crate) struct Slot {
     tier: u8,
 }
 
-// The ids and the slots of 20 feet that moves have taken, each by a kind of move.
+/// The ids and the slots of 20 feet that moves have taken, each by a kind of move.
 #[derive(Drop)]
 pub(crate) struct Taken<'a> {
     ids: IndexSet<(Move, &'a [u8])>,

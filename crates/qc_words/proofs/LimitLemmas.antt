@@ -6,13 +6,11 @@ use Rattle.std.specs.Option.{option_map_or}
 use Rattle.std.specs.Prelude.{option_and_then}
 use Rattle.clap.proofs.WalkLemmas.{both}
 use Rattle.clap.specs.Words.{Row, Text, first_of}
-use Rattle.qc_model.specs.declared.limits.TheConstants.{MOST_CRANES, MOST_HATCHES}
+use Rattle.qc_model.specs.Numbers.{most_branchings, most_cranes, most_hatches}
 use Rattle.qc_num.specs.Digits.{number_in}
-use Rattle.qc_tree.specs.declared.line.TheConstants.{MOST_BRANCHINGS}
-use Rattle.qc_words.specs.declared.asked.TheConstants.{MOST_NUMBER}
 use Rattle.qc_words.specs.declared.commands.CommandName.{CommandName}
 use Rattle.qc_words.specs.declared.commands.CommandName.TheVariants as name
-use Rattle.qc_words.specs.Asked.{KeepsLimits, are_different, plan, usage}
+use Rattle.qc_words.specs.Asked.{KeepsLimits, are_different, most_number, plan, usage}
 use Rattle.qc_words.specs.Words.{asked_in, make_of, nodes_in, number_between, plan_of, value_of}
 
 abbrev IsBetween : ℕ → ℕ → Option ℕ → Type 0
@@ -26,15 +24,15 @@ number_kept least most text = go (number_in 10 text)
     go (Some n) = cond_both (nat_le least n && nat_le n most) (Some n) None (IsBetween least most)
         (λ yes. let parts = both (nat_le least n) _ yes in (grind (arith, nat_tests, parts.0), grind (arith, nat_tests, parts.1))) (λ _. tt)
 
-nodes_kept : (text : Option Text) → IsBetween 0 MOST_BRANCHINGS (nodes_in text)
+nodes_kept : (text : Option Text) → IsBetween 0 most_branchings (nodes_in text)
 nodes_kept None = (lit≤ tt, lit≤ tt)
-nodes_kept (Some text) = number_kept 0 MOST_BRANCHINGS text
+nodes_kept (Some text) = number_kept 0 most_branchings text
 
-plan_kept : (s w p t : Text) (nodes : Option ℕ) → IsBetween 0 MOST_BRANCHINGS nodes → KeepsLimits (plan_of s w p t nodes)
+plan_kept : (s w p t : Text) (nodes : Option ℕ) → IsBetween 0 most_branchings nodes → KeepsLimits (plan_of s w p t nodes)
 plan_kept s w p t None few = tt
 plan_kept s w p t (Some n) few = cond_both (are_different s w p t) (plan s w p t n) usage KeepsLimits (λ yes. (yes, few.1)) (λ _. tt)
 
-make_kept : (number hatches cranes : Option ℕ) → IsBetween 0 MOST_NUMBER number → IsBetween 1 MOST_HATCHES hatches → IsBetween 1 MOST_CRANES cranes
+make_kept : (number hatches cranes : Option ℕ) → IsBetween 0 most_number number → IsBetween 1 most_hatches hatches → IsBetween 1 most_cranes cranes
     → KeepsLimits (make_of number hatches cranes)
 make_kept None h c n few fewer = tt
 make_kept (Some k) None c n few fewer = tt
@@ -48,8 +46,8 @@ command_kept name.Plan rows =
 command_kept name.Check rows = tt
 command_kept name.Tasks rows = tt
 command_kept name.Show rows = tt
-command_kept name.Make rows = make_kept _ _ _ (number_kept 0 MOST_NUMBER (value_of (codes "number") rows))
-    (number_kept 1 MOST_HATCHES (value_of (codes "hatches") rows)) (number_kept 1 MOST_CRANES (value_of (codes "cranes") rows))
+command_kept name.Make rows = make_kept _ _ _ (number_kept 0 most_number (value_of (codes "number") rows))
+    (number_kept 1 most_hatches (value_of (codes "hatches") rows)) (number_kept 1 most_cranes (value_of (codes "cranes") rows))
 
 pub limits_kept : (n : CommandName) (rows : Option (List Row)) → KeepsLimits (option_map_or (asked_in n) rows usage)
 limits_kept n None = tt

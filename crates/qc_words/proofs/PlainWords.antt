@@ -1,7 +1,8 @@
 -- Words in their plain form ask for what they say.
-use Rattle.std.proofs.Common.{◌≡◌, ◌∙◌, inl, inr, ℕ, ◌<◌, ◌≤◌, ◌^◌, lit<, lit≤, ap, ap₂, sym, refl, cond, true, nat_le, ◌&&◌, ◌==◌, List, [], ◌∷◌, None, Some, codes, arith}
+use Rattle.std.proofs.Common.{◌≡◌, ◌∙◌, inl, inr, ℕ, ◌<◌, ◌≤◌, ◌^◌, lit<, lit≤, ap, ap₂, subst, sym, refl, cond, true, not, bytes_eq, nat_le, ◌&&◌, ◌||◌, ◌==◌, List, [], ◌∷◌, None, Some, codes, arith}
 use Rattle.std.proofs.lemmas.Bool.{cases_Bool}
 use Rattle.std.proofs.lemmas.Bool.Decides.{nat_tests}
+use Rattle.std.proofs.lemmas.Slice.Eq.{bytes_eq-Decides}
 use Rattle.std.specs.Char.{is_ascii_digit}
 use Rattle.std.specs.List.{list_all}
 use Rattle.std.specs.Option.{option_map_or}
@@ -13,22 +14,28 @@ use Rattle.clap.specs.Walk.{Held, Walk, idle, nothing_held, option, walk_from, w
 use Rattle.clap.specs.Words.{Row, Shape, Text}
 use Rattle.clap.specs.declared.builder.value_parser.Reading.TheVariants.{AsWritten}
 use Rattle.clap.specs.declared.parser.matches.ValueSource.TheVariants.{CommandLine}
-use Rattle.qc_model.specs.declared.limits.TheConstants.{MOST_CRANES, MOST_HATCHES}
-use Rattle.qc_tree.specs.declared.line.TheConstants.{MOST_BRANCHINGS}
-use Rattle.qc_words.specs.declared.asked.TheConstants.{MOST_NUMBER}
-use Rattle.qc_words.specs.declared.words.TheConstants.{USUAL_BRANCHINGS}
+use Rattle.qc_model.specs.Numbers.{most_branchings, most_cranes, most_hatches}
 use Rattle.qc_num.proofs.DigitLemmas.{decimal_digits, fits, number_in-decimal}
 use Rattle.qc_words.specs.declared.commands.CommandName.{CommandName}
 use Rattle.qc_words.specs.declared.commands.CommandName.TheVariants as name
-use Rattle.qc_words.specs.Asked.{Asked, plan, check, tasks, show, make, usage}
+use Rattle.qc_words.specs.Asked.{Asked, plan, check, tasks, show, make, most_number, usage}
 use Rattle.qc_words.specs.Commands.{command_of}
-use Rattle.qc_words.specs.Words.{Canonical, asked_by, asked_in, is_file_word, make_of, number_between, plan_name, plan_of}
+use Rattle.qc_words.specs.Words.{Canonical, asked_by, asked_in, is_check_word, is_file_word, make_of, number_between, plan_name, plan_of, usual_branchings}
 use Rattle.qc_words.proofs.WordWalk.{Goes, IsOperand, at, goes_nowhere, goes_on, goes_past, lone_dash, other_first, read_along}
 
 file_operand : (word : Text) → is_file_word word ≡ true → IsOperand word
 file_operand [] e = cc
 file_operand (b ∷ bs) e = elim (cases_Bool (b == 45)) [
   | inl dash ↦ cc (rw dash at e)
+  | inr other ↦ other_first b bs other
+]
+
+check_operand : (word : Text) → is_check_word word ≡ true → IsOperand word
+check_operand [] e = cc
+check_operand (b ∷ bs) e = elim (cases_Bool (b == 45)) [
+  | inl dash ↦
+      let dashed = sym (ap (λ t. not t || bytes_eq (b ∷ bs) (45 ∷ [])) dash) ∙ e in
+      subst IsOperand (sym ((bytes_eq-Decides (b ∷ bs) (45 ∷ [])).0 dashed)) lone_dash
   | inr other ↦ other_first b bs other
 ]
 
@@ -97,7 +104,7 @@ check_asked s w p t is iw ip it =
     (goes_nowhere c (at after idle 5)))))) refl)
 
 make_asked : (n h k : Text) → IsOperand n → IsOperand h → IsOperand k → asked_by (codes "make" ∷ n ∷ h ∷ k ∷ [])
-    ≡ make_of (number_between 0 MOST_NUMBER n) (number_between 1 MOST_HATCHES h) (number_between 1 MOST_CRANES k)
+    ≡ make_of (number_between 0 most_number n) (number_between 1 most_hatches h) (number_between 1 most_cranes k)
 unfolding defaults_fault
 make_asked n h k is ih ik =
     let c = shape name.Make in
@@ -121,7 +128,7 @@ plan_goes s w p t words end is iw ip it more =
     (goes_past c (held (row (codes "ship") s ∷ row (codes "stow") w ∷ []) (codes "plan") p) idle 4 t words end it refl more)))
 
 plan_asked : (s w p t : Text) → IsOperand s → IsOperand w → IsOperand p → IsOperand t
-    → asked_by (codes "plan" ∷ s ∷ w ∷ p ∷ t ∷ []) ≡ plan_of s w p t (Some USUAL_BRANCHINGS)
+    → asked_by (codes "plan" ∷ s ∷ w ∷ p ∷ t ∷ []) ≡ plan_of s w p t (Some usual_branchings)
 unfolding defaults_fault
 plan_asked s w p t is iw ip it =
     let c = shape name.Plan in
@@ -132,7 +139,7 @@ plan_asked s w p t is iw ip it =
 
 nodes_asked : (s w p t n : Text) → IsOperand s → IsOperand w → IsOperand p → IsOperand t → IsOperand n
     → asked_by (codes "plan" ∷ s ∷ w ∷ p ∷ t ∷ codes "--nodes" ∷ n ∷ [])
-    ≡ plan_of s w p t (number_between 0 MOST_BRANCHINGS n)
+    ≡ plan_of s w p t (number_between 0 most_branchings n)
 unfolding defaults_fault walked
 nodes_asked s w p t n is iw ip it number =
     let c = shape name.Plan in
@@ -170,19 +177,19 @@ canonical_asked words (plan s w p t n) h =
       | inl plain ↦ ap asked_by plain.0 ∙ plan_asked s w p t is iw ip it
           ∙ ap (λ k. plan_of s w p t (Some k)) (sym plain.1) ∙ as_plan
       | inr said ↦ ap asked_by said ∙ nodes_asked s w p t (decimal n) is iw ip it (number_operand n small)
-          ∙ ap (λ o. plan_of s w p t o) (number_asked_for 0 MOST_BRANCHINGS n (omega arith) h.1.1 small) ∙ as_plan
+          ∙ ap (λ o. plan_of s w p t o) (number_asked_for 0 most_branchings n (omega arith) h.1.1 small) ∙ as_plan
     ]
 canonical_asked words (check s w None t) h =
-    let fs = both (is_file_word s) _ h.0.0 in
-    let fw = both (is_file_word w) _ fs.1 in
-    let ft = both (is_file_word t) _ fw.1 in
-    ap asked_by h.0.1 ∙ check_asked s w (45 ∷ []) t (file_operand s fs.0) (file_operand w fw.0) lone_dash (file_operand t ft.0)
+    let fs = both (is_check_word s) _ h.0.0 in
+    let fw = both (is_check_word w) _ fs.1 in
+    let ft = both (is_check_word t) _ fw.1 in
+    ap asked_by h.0.1 ∙ check_asked s w (45 ∷ []) t (check_operand s fs.0) (check_operand w fw.0) lone_dash (check_operand t ft.0)
 canonical_asked words (check s w (Some p) t) h =
-    let fs = both (is_file_word s) _ h.0.0 in
-    let fw = both (is_file_word w) _ fs.1 in
-    let fp = both (is_file_word p) _ fw.1 in
-    let ft = both (is_file_word t) _ fp.1 in
-    ap asked_by h.0.1 ∙ check_asked s w p t (file_operand s fs.0) (file_operand w fw.0) (file_operand p fp.0) (file_operand t ft.0)
+    let fp = both (is_file_word p) _ h.0.0 in
+    let fs = both (is_check_word s) _ fp.1 in
+    let fw = both (is_check_word w) _ fs.1 in
+    let ft = both (is_check_word t) _ fw.1 in
+    ap asked_by h.0.1 ∙ check_asked s w p t (check_operand s fs.0) (check_operand w fw.0) (file_operand p fp.0) (check_operand t ft.0)
     ∙ ap (λ o. check s w o t) (named_plan p fp.0)
 canonical_asked words (tasks s w) h =
     let fs = both (is_file_word s) _ h.0.0 in
@@ -198,7 +205,7 @@ canonical_asked words (make n hs k) h =
     let few : hs < 10 ^ 10 = omega (arith, h.1.2) in
     let fewer : k < 10 ^ 10 = omega (arith, h.1.4) in
     ap asked_by h.0 ∙ make_asked (decimal n) (decimal hs) (decimal k) (number_operand n small) (number_operand hs few) (number_operand k fewer)
-    ∙ ap₂ (λ o q. make_of o q (number_between 1 MOST_CRANES (decimal k))) (number_asked_for 0 MOST_NUMBER n (omega arith) h.1.0 small)
-    (number_asked_for 1 MOST_HATCHES hs h.1.1 h.1.2 few)
-    ∙ ap (λ o. make_of (Some n) (Some hs) o) (number_asked_for 1 MOST_CRANES k h.1.3 h.1.4 fewer)
+    ∙ ap₂ (λ o q. make_of o q (number_between 1 most_cranes (decimal k))) (number_asked_for 0 most_number n (omega arith) h.1.0 small)
+    (number_asked_for 1 most_hatches hs h.1.1 h.1.2 few)
+    ∙ ap (λ o. make_of (Some n) (Some hs) o) (number_asked_for 1 most_cranes k h.1.3 h.1.4 fewer)
 canonical_asked words usage h = absurd h.0

@@ -1,13 +1,15 @@
--- What a command line asks for, with the names of its files.
+-- public: what a command line asks for, with the names of its files.
 use Rattle.std.specs.Prelude.{ℕ, ◌≤◌, Bool, not, ◌||◌, IsTrue, List, Option, None, Some, option_map}
 use Rattle.std.specs.Str.{bytes_eq}
-use Rattle.qc_model.specs.declared.limits.TheConstants.{MOST_CRANES, MOST_HATCHES}
-use Rattle.qc_tree.specs.declared.line.TheConstants.{MOST_BRANCHINGS}
+use Rattle.qc_model.specs.Numbers.{most_branchings, most_cranes, most_hatches}
 use Rattle.qc_words.specs.declared.asked.Input.{Input}
 use Rattle.qc_words.specs.declared.asked.Input.TheVariants as input
 use Rattle.qc_words.specs.declared.asked.Request.{Request}
 use Rattle.qc_words.specs.declared.asked.Request.TheVariants as request
-use Rattle.qc_words.specs.declared.asked.TheConstants.{MOST_NUMBER}
+
+-- the greatest number that a ship and a list are made from
+abbrev pub most_number : ℕ
+most_number = 2147483647
 
 pub data Asked : Type 0 where
   -- a plan and its tree, for a ship file and a stowage list, with at most so many branchings
@@ -57,8 +59,8 @@ are_different s w p t =
 
 -- a plan's names are different, and each number that is asked for is in its range
 abbrev pub KeepsLimits : Asked → Type 0
-KeepsLimits (plan s w p t nodes) = IsTrue (are_different s w p t) × (nodes ≤ MOST_BRANCHINGS)
+KeepsLimits (plan s w p t nodes) = IsTrue (are_different s w p t) × (nodes ≤ most_branchings)
 KeepsLimits (make number hatches cranes) =
-    (number ≤ MOST_NUMBER) × (1 ≤ hatches) × (hatches ≤ MOST_HATCHES)
-    × (1 ≤ cranes) × (cranes ≤ MOST_CRANES)
+    (number ≤ most_number) × (1 ≤ hatches) × (hatches ≤ most_hatches)
+    × (1 ≤ cranes) × (cranes ≤ most_cranes)
 KeepsLimits _ = Unit {0}

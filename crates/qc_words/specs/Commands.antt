@@ -1,4 +1,4 @@
--- The five commands as `clap` is told them, and what it reads by one of them.
+-- public: the five commands as `clap` is told them, and what it reads by one of them.
 use Rattle.std.specs.Prelude.{ℕ, true, List, [], ◌∷◌, map, Option, None, Some, codes, if◌then◌else◌, option_and_then, slice_get}
 use Rattle.std.specs.Str.{bytes_eq}
 use Rattle.clap.specs.Simple.{new_shape}

@@ -1,16 +1,13 @@
--- The words of a command line, and what they ask for.
-use Rattle.std.specs.Prelude.{◌≡◌, ◌⊎◌, ℕ, Bool, false, not, ◌&&◌, ◌==◌, nat_le, if◌then◌else◌, IsTrue, List, [], ◌∷◌, map, Option, None, Some, option_and_then, unwrap_or, codes, decimal, string_bytes, String}
+-- public: the words of a command line, and what they ask for.
+use Rattle.std.specs.Prelude.{◌≡◌, ◌⊎◌, ℕ, Bool, false, not, ◌&&◌, ◌||◌, ◌==◌, nat_le, if◌then◌else◌, IsTrue, List, [], ◌∷◌, map, Option, None, Some, option_and_then, unwrap_or, codes, decimal, string_bytes, String}
 use Rattle.std.specs.declared.alloc.Global.{Global}
 use Rattle.std.specs.List.{list_all}
 use Rattle.std.specs.Option.{option_map_or}
 use Rattle.std.specs.Str.{bytes_eq}
 use Rattle.clap.specs.Words.{Row, first_of}
-use Rattle.qc_model.specs.declared.limits.TheConstants.{MOST_CRANES, MOST_HATCHES}
+use Rattle.qc_model.specs.Numbers.{most_branchings, most_cranes, most_hatches}
 use Rattle.qc_num.specs.Digits.{number_in}
-use Rattle.qc_tree.specs.declared.line.TheConstants.{MOST_BRANCHINGS}
-use Rattle.qc_words.specs.declared.asked.TheConstants.{MOST_NUMBER}
-use Rattle.qc_words.specs.declared.words.TheConstants.{USUAL_BRANCHINGS}
-use Rattle.qc_words.specs.Asked.{Asked, plan, check, tasks, show, make, usage, KeepsLimits, are_different}
+use Rattle.qc_words.specs.Asked.{Asked, plan, check, tasks, show, make, usage, KeepsLimits, are_different, most_number}
 use Rattle.qc_words.specs.Commands.{command_of, named, read_by}
 use Rattle.qc_words.specs.declared.commands.CommandName.{CommandName}
 use Rattle.qc_words.specs.declared.commands.CommandName.TheVariants as name
@@ -26,20 +23,30 @@ abbrev pub is_file_word : List ℕ → Bool
 is_file_word [] = false
 is_file_word (b ∷ bs) = not (b == 45)
 
+-- a word of `check`: it may name a file, or is `-`
+abbrev pub is_check_word : List ℕ → Bool
+is_check_word word = is_file_word word || bytes_eq word (codes "-")
+
 -- each of the words may name a file
 abbrev pub AreFileWords : List (List ℕ) → Type 0
 AreFileWords names = IsTrue (list_all is_file_word names)
 
--- the words are a command's name and its operands in order, which say this; `-` stands for no
--- plan, and 20,000 branchings needn't be said
+-- how many branchings a plan has at most where the words don't say it
+abbrev pub usual_branchings : ℕ
+usual_branchings = 20000
+
+-- the words are a command's name and its operands in order, which say this; in `check` a word may be
+-- `-`, which as PLAN stands for no plan
 abbrev pub Spell : List (List ℕ) → Asked → Type 0
 Spell words (plan s w p t n) = AreFileWords (s ∷ w ∷ p ∷ t ∷ [])
-    × (((words ≡ codes "plan" ∷ s ∷ w ∷ p ∷ t ∷ []) × (n ≡ USUAL_BRANCHINGS))
+    × (((words ≡ codes "plan" ∷ s ∷ w ∷ p ∷ t ∷ []) × (n ≡ usual_branchings))
     ⊎ (words ≡ codes "plan" ∷ s ∷ w ∷ p ∷ t ∷ codes "--nodes" ∷ decimal n ∷ []))
 Spell words (check s w None t) =
-    AreFileWords (s ∷ w ∷ t ∷ []) × (words ≡ codes "check" ∷ s ∷ w ∷ codes "-" ∷ t ∷ [])
+    IsTrue (list_all is_check_word (s ∷ w ∷ t ∷ []))
+    × (words ≡ codes "check" ∷ s ∷ w ∷ codes "-" ∷ t ∷ [])
 Spell words (check s w (Some p) t) =
-    AreFileWords (s ∷ w ∷ p ∷ t ∷ []) × (words ≡ codes "check" ∷ s ∷ w ∷ p ∷ t ∷ [])
+    IsTrue (is_file_word p && list_all is_check_word (s ∷ w ∷ t ∷ []))
+    × (words ≡ codes "check" ∷ s ∷ w ∷ p ∷ t ∷ [])
 Spell words (tasks s w) = AreFileWords (s ∷ w ∷ []) × (words ≡ codes "tasks" ∷ s ∷ w ∷ [])
 Spell words (show s w p) =
     AreFileWords (s ∷ w ∷ p ∷ []) × (words ≡ codes "show" ∷ s ∷ w ∷ p ∷ [])
@@ -65,8 +72,8 @@ value_of name rows = unwrap_or (first_of name rows) []
 
 -- how many branchings `--nodes` gives, and where it isn't there
 abbrev pub nodes_in : Option (List ℕ) → Option ℕ
-nodes_in None = Some USUAL_BRANCHINGS
-nodes_in (Some text) = number_between 0 MOST_BRANCHINGS text
+nodes_in None = Some usual_branchings
+nodes_in (Some text) = number_between 0 most_branchings text
 
 -- a plan with so many branchings, where its names are different
 abbrev pub plan_of : (ship stow plan tree : List ℕ) → Option ℕ → Asked
@@ -95,9 +102,9 @@ asked_in name.Show rows =
     show (value_of (codes "ship") rows) (value_of (codes "stow") rows)
     (value_of (codes "plan") rows)
 asked_in name.Make rows = make_of
-    (number_between 0 MOST_NUMBER (value_of (codes "number") rows))
-    (number_between 1 MOST_HATCHES (value_of (codes "hatches") rows))
-    (number_between 1 MOST_CRANES (value_of (codes "cranes") rows))
+    (number_between 0 most_number (value_of (codes "number") rows))
+    (number_between 1 most_hatches (value_of (codes "hatches") rows))
+    (number_between 1 most_cranes (value_of (codes "cranes") rows))
 
 -- what the words ask for: Usage where no command begins them, where `clap` refuses them, where a
 -- number isn't one in plain decimal and in range, and where a plan's names aren't different

@@ -1,4 +1,4 @@
-// The five commands, as `clap` is told them.
+//! The five commands, as `clap` is told them.
 
 ghost use Rattle.std.specs.Prelude.{◌≡◌, IfOk, map};
 ghost use Rattle.qc_words.specs.Words.{texts};
@@ -18,6 +18,7 @@ pub enum CommandName {
     Make,
 }
 
+/// The command with this name.
 fn command_name(word: &str) -> Option<CommandName>
     ensures { result ≡ command_name word.now }
 {

@@ -1,3 +1,5 @@
+//! Words that are read as a request.
+
 ghost use Rattle.std.specs.Prelude.{◌≡◌, IfOk, IsTrue, option_map};
 ghost use Rattle.std.specs.Option.{option_map_or};
 ghost use Rattle.clap.specs.Words.{app_of, found_of, rows_of, first_of, is_simple_and_free};
@@ -39,6 +41,7 @@ fn read<'a>(
     }
 }
 
+/// The value of an option or operand, where `clap` has one.
 fn text_of<'a>(matches: &ArgMatches<'a>, name: &str) -> Option<&'a str>
     ensures { option_map (λ text. text.now) result
         ≡ first_of name.now (rows_of (found_of matches.now)) }
@@ -68,6 +71,7 @@ fn number_between(text: &str, least: u32, most: u32) -> Option<u32>
     }
 }
 
+/// The most branchings that `--nodes` gives, and the usual ones without it.
 fn nodes_in(text: Option<&str>) -> Option<u32>
     ensures { result ≡ nodes_in (option_map (λ text. text.now) text.entry) }
 {
@@ -77,12 +81,14 @@ fn nodes_in(text: Option<&str>) -> Option<u32>
     }
 }
 
+/// Whether no two of a plan's four names are equal.
 fn are_different(s: &str, w: &str, p: &str, t: &str) -> bool
     ensures { result ≡ are_different s.now w.now p.now t.now }
 {
     !(s == w || s == p || s == t || w == p || w == t || p == t)
 }
 
+/// A plan with so many branchings, where its names are different.
 fn plan_of<'a>(
     ship: &'a str,
     stow: &'a str,
@@ -117,6 +123,7 @@ fn plan_name(word: &str) -> Option<&str>
     if word == "-" { None } else { Some(word) }
 }
 
+/// What is made by the three numbers, where they are in range.
 fn make_from<'a>(matches: &ArgMatches<'a>) -> Request<'a>
     ensures { asked_for result ≡ asked_in name.Make (rows_of (found_of matches.now)) }
 {
@@ -165,6 +172,7 @@ fn asked_in<'a>(name: CommandName, matches: &ArgMatches<'a>) -> Request<'a>
     }
 }
 
+/// What the words ask for by one command; `Usage` where `clap` refuses them.
 fn request_by(
     alloc: Global,
     name: CommandName,

@@ -14,8 +14,8 @@ loop-crane-preserved g c =
     let line = gantt_line c.args.inst.now c.args.sched.now in
     let low : k < n = omega (arith, c.loop-crane-test.true, ap length c.cranes.ensures.cranes) in
     let at : get_or (range_with_len 0 n) k 0 ≡ k = omega (arith, get_or-range_with_len 0 n k 0 low) in
-    items_more g.K.Sink.written g.K.Sink.beside g.K.Sink.faults line (range_with_len 0 n) k 0
-    c.args.sink.now c.loop-crane.sink c.put_all.new.sink c.as_bytes.result.now
+    items_more line (range_with_len 0 n) k 0
+    (g.K.Sink.view c.args.sink.now) (g.K.Sink.view c.loop-crane.sink) (g.K.Sink.view c.put_all.new.sink) c.as_bytes.result.now
     (omega (arith, low, length-range_with_len 0 n))
     (c.as_bytes.ensures.bytes ∙ c.gantt_line.ensures ∙ ap line (sym at))
     c.loop-crane.invariant c.in_ok-put_all.ensures.writes
@@ -27,8 +27,8 @@ returns-in_err-put_all g c =
     let line = gantt_line c.args.inst.now c.args.sched.now in
     let low : k < n = omega (arith, c.loop-crane-test.true, ap length c.cranes.ensures.cranes) in
     let at : get_or (range_with_len 0 n) k 0 ≡ k = omega (arith, get_or-range_with_len 0 n k 0 low) in
-    items_cut g.K.Sink.written g.K.Sink.beside g.K.Sink.faults line (range_with_len 0 n) k 0
-    c.args.sink.now c.loop-crane.sink c.put_all.new.sink c.as_bytes.result.now _ c.from_residual.result c.from_residual.ensures.0
+    items_cut line (range_with_len 0 n) k 0
+    (g.K.Sink.view c.args.sink.now) (g.K.Sink.view c.loop-crane.sink) (g.K.Sink.view c.put_all.new.sink) c.as_bytes.result.now _ c.from_residual.result c.from_residual.ensures.0
     (omega (arith, low, length-range_with_len 0 n))
     (c.as_bytes.ensures.bytes ∙ c.gantt_line.ensures ∙ ap line (sym at))
     c.loop-crane.invariant c.in_err-put_all.ensures.writes
@@ -36,7 +36,7 @@ returns-in_err-put_all g c =
 pub returns : goal.returns
 returns g c =
     let n = length c.args.inst.now.cranes in
-    subst (λ (ks : List ℕ). Writes g.K.Sink.written g.K.Sink.beside g.K.Sink.faults c.args.sink.now c.loop-crane.sink
+    subst (λ (ks : List ℕ). Writes (g.K.Sink.view c.args.sink.now) (g.K.Sink.view c.loop-crane.sink)
     (flat_map (gantt_line c.args.inst.now c.args.sched.now) ks) (Ok tt))
     (take_all c.loop-crane.crane (range_with_len 0 n)
     (omega (arith, c.loop-crane-test.false, ap length c.cranes.ensures.cranes, length-range_with_len 0 n)))

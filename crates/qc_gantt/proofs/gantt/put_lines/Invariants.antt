@@ -6,5 +6,5 @@ use Rattle.qc_gantt.proofs.gantt.put_lines.Given as goal
 
 abbrev pub invariant-loop-crane : goal.invariant-loop-crane
 invariant-loop-crane g l =
-    Writes g.K.Sink.written g.K.Sink.beside g.K.Sink.faults l.initial.sink l.sink
+    Writes (g.K.Sink.view l.initial.sink) (g.K.Sink.view l.sink)
     (flat_map (gantt_line l.inst l.sched) (take l.crane (range_with_len 0 (length l.inst.cranes)))) (Ok tt)

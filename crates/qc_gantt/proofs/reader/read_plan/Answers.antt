@@ -3,7 +3,8 @@ use Rattle.std.specs.Prelude.{Result}
 use Rattle.csv.specs.Records.{fields_of}
 use Rattle.qc_model.specs.declared.schedule.Slot.{Slot}
 use Rattle.qc_records.specs.Records.{records_of}
-use Rattle.qc_gantt.specs.Plan.{IsReading, plan_of}
+use Rattle.qc_gantt.specs.Plan.{plan_of}
+use Rattle.qc_num.specs.Reading.{IsReading}
 use Rattle.qc_gantt.specs.declared.fault.PlanFault.{PlanFault}
 use Rattle.qc_gantt.proofs.PlanLemmas.{front_counts, reading_judgeable}
 use Rattle.qc_gantt.proofs.reader.read_plan.Goals as goal

@@ -6,6 +6,6 @@ use Rattle.qc_gantt.proofs.tracks.put_points.Goals as goal
 
 pub returns-in_err-put_all : goal.returns-in_err-put_all
 returns-in_err-put_all g c =
-    items_cut g.K.Sink.written g.K.Sink.beside g.K.Sink.faults waypoint_text c.args.points.now c.loop-point.point-index no_waypoint
-    c.args.sink.now c.loop-point.sink c.put_all.new.sink c.as_bytes.result.now _ c.from_residual.result c.from_residual.ensures.0
+    items_cut waypoint_text c.args.points.now c.loop-point.point-index no_waypoint
+    (g.K.Sink.view c.args.sink.now) (g.K.Sink.view c.loop-point.sink) (g.K.Sink.view c.put_all.new.sink) c.as_bytes.result.now _ c.from_residual.result c.from_residual.ensures.0
     (omega arith) (c.as_bytes.ensures.bytes ∙ c.waypoint_text.ensures ∙ ap waypoint_text refl) c.loop-point.invariant c.in_err-put_all.ensures.writes

@@ -6,5 +6,5 @@ use Rattle.qc_gantt.proofs.tracks.put_points.Given as goal
 
 abbrev pub invariant-loop-point : goal.invariant-loop-point
 invariant-loop-point g l =
-    Writes g.K.Sink.written g.K.Sink.beside g.K.Sink.faults l.initial.sink l.sink
+    Writes (g.K.Sink.view l.initial.sink) (g.K.Sink.view l.sink)
     (flat_map waypoint_text (take l.point-index l.points)) (Ok tt)

@@ -6,5 +6,5 @@ use Rattle.qc_gantt.proofs.tracks.put_tail.Goals as goal
 
 pub returns : goal.returns
 returns g c =
-    writes_then g.K.Sink.written g.K.Sink.beside g.K.Sink.faults c.args.sink.now c.put_points.new.sink c.put_all.new.sink
+    writes_then (g.K.Sink.view c.args.sink.now) (g.K.Sink.view c.put_points.new.sink) (g.K.Sink.view c.put_all.new.sink)
     (flat_map waypoint_text c.args.points.now) (codes "\n") c.put_all.result c.in_ok-put_points.ensures c.put_all.ensures.writes

@@ -9,7 +9,7 @@ use Rattle.qc_gantt.proofs.tracks.write_tracks.Goals as goal
 
 pub loop-number-init : goal.loop-number-init
 loop-number-init g c = record {
-  lines = tracks_begun g.K.Sink.written g.K.Sink.beside g.K.Sink.faults c.args.sink.now c.args.inst.now c.args.sched.now
+  lines = tracks_begun (g.K.Sink.view c.args.sink.now) c.args.inst.now c.args.sched.now
       c.args.way (search rules);
   room = refl;
 }
@@ -24,10 +24,10 @@ loop-number-preserved g c =
     let line : track_line c.crane-item.result.name c.points.result.now ≡ track_line (crane inst k).name c.waypoints.new.track.points =
     ap (λ (x : Crane). track_line x.name c.points.result.now) here ∙ ap (track_line (crane inst k).name) c.points.ensures in
     record {
-      lines = track_more g.K.Sink.written g.K.Sink.beside g.K.Sink.faults c.args.sink.now inst c.args.sched.now c.args.way
-          c.loop-number.sink c.put_track.new.sink k low c.loop-number.invariant.lines c.waypoints.new.track.points
+      lines = track_more (g.K.Sink.view c.args.sink.now) inst c.args.sched.now c.args.way
+          (g.K.Sink.view c.loop-number.sink) (g.K.Sink.view c.put_track.new.sink) k low c.loop-number.invariant.lines c.waypoints.new.track.points
           (record { waypoints = c.waypoints.ensures.waypoints; between = c.waypoints.ensures.between })
-          (subst (λ (t : List ℕ). Writes g.K.Sink.written g.K.Sink.beside g.K.Sink.faults c.loop-number.sink c.put_track.new.sink t (Ok tt))
+          (subst (λ (t : List ℕ). Writes (g.K.Sink.view c.loop-number.sink) (g.K.Sink.view c.put_track.new.sink) t (Ok tt))
           line c.in_ok-put_track.ensures);
       room = c.waypoints.ensures.room ∙ c.loop-number.invariant.room;
     }
@@ -41,14 +41,14 @@ returns-in_err-put_track-clause-writes g c =
     read_crane inst c.cranes-crane-items.result.now k k c.crane-item.result c.cranes-crane-items.ensures.cranes refl low c.crane-item.is in
     let line : track_line c.crane-item.result.name c.points.result.now ≡ track_line (crane inst k).name c.waypoints.new.track.points =
     ap (λ (x : Crane). track_line x.name c.points.result.now) here ∙ ap (track_line (crane inst k).name) c.points.ensures in
-    track_cut g.K.Sink.written g.K.Sink.beside g.K.Sink.faults c.args.sink.now inst c.args.sched.now c.args.way
-    c.loop-number.sink c.put_track.new.sink k low c.loop-number.invariant.lines c.waypoints.new.track.points
+    track_cut (g.K.Sink.view c.args.sink.now) inst c.args.sched.now c.args.way
+    (g.K.Sink.view c.loop-number.sink) (g.K.Sink.view c.put_track.new.sink) k low c.loop-number.invariant.lines c.waypoints.new.track.points
     (record { waypoints = c.waypoints.ensures.waypoints; between = c.waypoints.ensures.between })
     c.from_residual.result c.from_residual.ensures.0 _
     (rw (← line) c.in_err-put_track.ensures)
 
 pub returns-clause-writes : goal.returns-clause-writes
 returns-clause-writes g c =
-    tracks_done g.K.Sink.written g.K.Sink.beside g.K.Sink.faults c.args.sink.now c.args.inst.now c.args.sched.now c.args.way
-    c.loop-number.sink c.loop-number.number
+    tracks_done (g.K.Sink.view c.args.sink.now) c.args.inst.now c.args.sched.now c.args.way
+    (g.K.Sink.view c.loop-number.sink) c.loop-number.number
     (omega (arith, c.loop-number-test.false, ap length c.cranes-crane-items.ensures.cranes)) c.loop-number.invariant.lines

@@ -4,6 +4,6 @@ use Rattle.qc_gantt.proofs.tracks.write_tracks.Given as goal
 
 abbrev pub invariant-loop-number : goal.invariant-loop-number
 invariant-loop-number g l = record {
-  lines : SoFar g.K.Sink.written g.K.Sink.beside g.K.Sink.faults l.initial.sink l.inst l.sched l.way l.sink l.number;
+  lines : SoFar (g.K.Sink.view l.initial.sink) l.inst l.sched l.way (g.K.Sink.view l.sink) l.number;
   room : l.track.tasks ≡ l.initial.track.tasks;
 }

@@ -32,11 +32,11 @@ loop-task-preserved g c =
     let more = length-append c.loop-task.yielded ((c.in-Some.task, c.in-Some.slot) ∷ []) in
     let slot = c.in-Some.slot.now in
     record {
-      writes = subst (λ n. Writes g.K.Sink.written g.K.Sink.beside g.K.Sink.faults c.args.sink.now c.put_line.new.sink
+      writes = subst (λ n. Writes (g.K.Sink.view c.args.sink.now) (g.K.Sink.view c.put_line.new.sink)
           (flat_map (λ line. plan_line c.args.inst.now line.0 line.1) (take n (zip tasks slots))) (Ok tt))
           (sym (length-append c.loop-task.yielded ((c.in-Some.task, c.in-Some.slot) ∷ [])))
-          (items_more g.K.Sink.written g.K.Sink.beside g.K.Sink.faults (λ line. plan_line c.args.inst.now line.0 line.1) (zip tasks slots)
-          (length c.loop-task.yielded) (c.in-Some.task.now, c.in-Some.slot.now) c.args.sink.now c.loop-task.sink c.put_line.new.sink _
+          (items_more (λ line. plan_line c.args.inst.now line.0 line.1) (zip tasks slots)
+          (length c.loop-task.yielded) (c.in-Some.task.now, c.in-Some.slot.now) (g.K.Sink.view c.args.sink.now) (g.K.Sink.view c.loop-task.sink) (g.K.Sink.view c.put_line.new.sink) _
           (omega (arith, length-zip tasks slots, turn.0, turn.1))
           (line_at c.args.inst.now tasks slots (length c.loop-task.yielded) c.in-Some.task.now c.in-Some.slot.now turn.0 turn.1 (turn.2 _) (turn.3 _))
           c.loop-task.invariant.writes c.in_ok-put_line.ensures.writes);
@@ -60,8 +60,8 @@ returns-in_err-put_line-clause-writes g c =
     let tasks = c.args.inst.now.tasks in
     let slots = c.args.sched.now in
     let turn = zip_turn tasks slots c.loop-task.yielded _ c.loop-task.task-iterator c.next.new.self c.next.result (search rules) (search rules) c.loop-task.yielded_by (c.in-Some.task, c.in-Some.slot) c.in-Some.is c.next.ensures.steps in
-    items_cut g.K.Sink.written g.K.Sink.beside g.K.Sink.faults (λ line. plan_line c.args.inst.now line.0 line.1) (zip tasks slots)
-    (length c.loop-task.yielded) (c.in-Some.task.now, c.in-Some.slot.now) c.args.sink.now c.loop-task.sink c.put_line.new.sink _
+    items_cut (λ line. plan_line c.args.inst.now line.0 line.1) (zip tasks slots)
+    (length c.loop-task.yielded) (c.in-Some.task.now, c.in-Some.slot.now) (g.K.Sink.view c.args.sink.now) (g.K.Sink.view c.loop-task.sink) (g.K.Sink.view c.put_line.new.sink) _
     _ c.from_residual.result (search rules)
     (omega (arith, length-zip tasks slots, turn.0, turn.1))
     (line_at c.args.inst.now tasks slots (length c.loop-task.yielded) c.in-Some.task.now c.in-Some.slot.now turn.0 turn.1 (turn.2 _) (turn.3 _))
@@ -81,7 +81,7 @@ returns g c =
     let slots = c.args.sched.now in
     let many = zip_end tasks slots c.loop-task.yielded _ c.loop-task.task-iterator c.next.new.self c.next.result (search rules) (search rules) c.loop-task.yielded_by c.in-None.is c.next.ensures.steps in
     record {
-      writes = subst (λ ls. Writes g.K.Sink.written g.K.Sink.beside g.K.Sink.faults c.args.sink.now c.loop-task.sink
+      writes = subst (λ ls. Writes (g.K.Sink.view c.args.sink.now) (g.K.Sink.view c.loop-task.sink)
           (flat_map (λ line. plan_line c.args.inst.now line.0 line.1) ls) (Ok tt))
           (take_all (length c.loop-task.yielded) (zip tasks slots) (omega (arith, length-zip tasks slots, many))) c.loop-task.invariant.writes;
       valid = c.tasks.ensures.valid;

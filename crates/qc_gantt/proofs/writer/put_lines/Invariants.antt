@@ -10,7 +10,7 @@ use Rattle.qc_gantt.proofs.writer.put_lines.Given as goal
 abbrev pub invariant-loop-task : goal.invariant-loop-task
 invariant-loop-task g l =
     record {
-      writes : Writes g.K.Sink.written g.K.Sink.beside g.K.Sink.faults l.initial.sink l.sink
+      writes : Writes (g.K.Sink.view l.initial.sink) (g.K.Sink.view l.sink)
           (flat_map (λ line. plan_line l.inst line.0 line.1) (take (length l.yielded) (zip l.inst.tasks l.sched))) (Ok tt);
       hatches : (j : ℕ) → j < length l.yielded → (task l.inst j).hatch < 2 ^ 16;
       names : (j : ℕ) → j < length l.yielded → IsTrue (is_name (crane l.inst (crane_of l.sched j)).name);

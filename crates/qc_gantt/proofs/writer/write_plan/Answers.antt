@@ -8,13 +8,13 @@ use Rattle.qc_gantt.proofs.writer.write_plan.Goals as goal
 
 pub returns-clause-writes : goal.returns-clause-writes
 returns-clause-writes g c =
-    writes_then _ _ _ c.args.sink.now c.put_all.new.sink c.put_lines.new.sink (codes "task,crane,start,end\n")
+    writes_then (g.K.Sink.view c.args.sink.now) (g.K.Sink.view c.put_all.new.sink) (g.K.Sink.view c.put_lines.new.sink) (codes "task,crane,start,end\n")
     (flat_map (λ line. plan_line c.args.inst.now line.0 line.1) (zip c.args.inst.now.tasks c.args.sched.now)) c.put_lines.result
     c.in_ok-put_all.ensures.writes c.put_lines.ensures.writes
 
 pub returns-in_err-put_all-clause-writes : goal.returns-in_err-put_all-clause-writes
 returns-in_err-put_all-clause-writes g c =
-    writes_cut _ _ _ c.args.sink.now c.put_all.new.sink (codes "task,crane,start,end\n")
+    writes_cut (g.K.Sink.view c.args.sink.now) (g.K.Sink.view c.put_all.new.sink) (codes "task,crane,start,end\n")
     (flat_map (λ line. plan_line c.args.inst.now line.0 line.1) (zip c.args.inst.now.tasks c.args.sched.now)) _ c.from_residual.result
     (search rules) c.in_err-put_all.ensures.writes
 
