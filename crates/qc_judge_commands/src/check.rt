@@ -1,55 +1,64 @@
-//! The command that checks.
-ghost use Rattle.std.specs.Prelude.{◌≡◌, ◌≤◌, Err, IfOk, IfSome};
-ghost use Rattle.qc_io.specs.Outside.{stand_of};
+//! The command that checks a tree.
+ghost use Rattle.std.specs.Prelude.{◌≡◌, ◌≤◌, Err, IfOk, IfSome, IsSome};
 ghost use Rattle.qc_replay.specs.declared.fault.TreeFault.{TreeFault};
-ghost use Rattle.qc_top.specs.declared.answer.Refusal.TheVariants as refusal;
-ghost use Rattle.qc_top.specs.declared.answer.Stop.TheVariants as stop;
-ghost use Rattle.qc_words.specs.Asked.{asked_for};
-ghost use Rattle.qc_top.specs.Asked.{IsCheck};
-ghost use Rattle.qc_top.specs.Due.{shown_due};
-ghost use Rattle.qc_top.specs.Account.{IsStep, IsReading};
-ghost use Rattle.qc_top.specs.Shown.{IsBoundShown, IsNoneShown, TellsTree};
-ghost use Rattle.qc_top.specs.May.{MayAnswer};
+ghost use Rattle.qc_run.specs.Inputs.{names_of};
+ghost use Rattle.qc_run.specs.Reports.{Prints, PrintsPart, Reports};
+ghost use Rattle.qc_judge_commands.specs.Account.{IsTreeChecked, IsTreeRun};
+ghost use Rattle.qc_judge_commands.specs.Texts.{bound_status, bound_text};
 
-use crate::answer::{Answer, Stop};
-use crate::reading::{read_instance, read_tree};
-use qc_io::Shelf;
+use qc_io::{Shelf, Sink};
+use qc_num::{Bound, Text};
 use qc_replay::Replayed;
-use qc_words::Request;
+use qc_run::{Inputs, Status, Stop, read_instance, read_tree, report_stop, report_text};
 use std::alloc::Global;
 
 /// What the tree shows for the instance of the ship file and the stowage list.
-fn read_shown<S: Shelf>(
-    alloc: Global,
-    request: &Request<'_>,
-    shelf: &mut S,
-) -> Result<Replayed, Stop>
-    requires { IsCheck (asked_for request.now) }
-    ensures step { IsStep shown_due (asked_for request.now)
-        (stand_of S.files S.Sink.faults S.read_faults shelf.old)
-        (stand_of S.files S.Sink.faults S.read_faults shelf.new) result }
-    ensures shown { IfOk result (λ read. IfSome (S.files shelf.old) (λ held.
-        IsBoundShown (asked_for request.now) held read.bound)) }
-    ensures none { (fault : TreeFault) → result ≡ Err (stop.Refused (refusal.BadTree fault))
-        → IfSome (S.files shelf.old) (λ held. IsNoneShown (asked_for request.now) held) }
+fn read_shown<S: Shelf>(alloc: Global, inputs: &Inputs<'_>, shelf: &mut S) -> Result<Replayed, Stop>
+    requires { IsSome (names_of inputs.now).tree }
+    ensures { IsTreeChecked (names_of inputs.now) (S.Sink.view shelf.old) (S.Sink.view shelf.new) result }
 {
-    let inst = read_instance(alloc, request, shelf)?;
-    read_tree(alloc, request, &inst, shelf)
+    let inst = read_instance(alloc, inputs, shelf)?;
+    read_tree(alloc, inputs, &inst, shelf)
 }
 
-/// Reads the ship file and the stowage list and replays the tree; what it shows is to be printed.
-pub(crate) fn check<S: Shelf>(alloc: Global, request: &Request<'_>, shelf: &mut S) -> Answer
-    requires { IsCheck (asked_for request.now) }
-    ensures serves { IsReading (asked_for request.now)
-        (stand_of S.files S.Sink.faults S.read_faults shelf.old)
-        (stand_of S.files S.Sink.faults S.read_faults shelf.new) result }
-    ensures tells { TellsTree (asked_for request.now) (S.files shelf.old) result }
-    ensures may { MayAnswer (asked_for request.now) result }
-    ensures faults_never_fall { S.Sink.faults shelf.old ≤ S.Sink.faults shelf.new }
-    ensures read_faults_never_fall { S.read_faults shelf.old ≤ S.read_faults shelf.new }
+fn bound_status(bound: Bound) -> Status
+    ensures { result ≡ bound_status bound }
 {
-    match read_shown(alloc, request, shelf) {
-        Ok(read) => Answer::Checked { bound: read.bound },
-        Err(stop) => Answer::Stopped(stop),
+    match bound {
+        Bound::Least(_) => Status::Done,
+        Bound::Never => Status::Infeasible,
+    }
+}
+
+/// What is printed of a tree's value.
+fn bound_text(bound: Bound) -> Text<32>
+    ensures { result ≡ bound_text bound }
+{
+    match bound {
+        Bound::Least(end) => {
+            let mut line = Text::of(b"Bound ");
+            line.push_number(end);
+            line.push(b"\n");
+            line
+        }
+        Bound::Never => Text::of(b"Infeasible\n"),
+    }
+}
+
+/// Reads the ship file and the stowage list, replays the tree, and prints what it shows.
+pub fn check_tree<S: Shelf, K: Sink>(
+    alloc: Global,
+    inputs: &Inputs<'_>,
+    shelf: &mut S,
+    out: &mut K,
+) -> Status
+    requires { IsSome (names_of inputs.now).tree }
+    ensures account { IsTreeRun (names_of inputs.now) (S.Sink.view shelf.old) (S.Sink.view shelf.new)
+        (K.Sink.view out.old) (K.Sink.view out.new) result }
+    ensures reads_never_fall { (S.Sink.view shelf.old).read_faults ≤ (S.Sink.view shelf.new).read_faults }
+{
+    match read_shown(alloc, inputs, shelf) {
+        Ok(read) => report_text(bound_status(read.bound), bound_text(read.bound).as_bytes(), out),
+        Err(stop) => report_stop(stop, out),
     }
 }

@@ -1,26 +1,23 @@
-//! The command that checks a plan.
-ghost use Rattle.std.specs.Prelude.{◌≡◌, ◌<◌, ◌≤◌, Ok, length};
-ghost use Rattle.qc_io.specs.Outside.{stand_of};
+//! The command that checks a plan beside a tree.
+ghost use Rattle.std.specs.Prelude.{◌≡◌, ◌<◌, ◌≤◌, Ok, IsSome, length};
 ghost use Rattle.qc_num.specs.declared.bound.Bound.{Bound};
 ghost use Rattle.qc_model.specs.Instance.{task};
 ghost use Rattle.qc_model.specs.Judge.{IsJudgeable};
 ghost use Rattle.qc_model.specs.OneWay.{GoesOneWay};
 ghost use Rattle.qc_model.specs.Tasks.{task_text};
 ghost use Rattle.qc_tree.specs.Trees.{NoneEarlier};
-ghost use Rattle.qc_words.specs.Asked.{asked_for};
-ghost use Rattle.qc_top.specs.Asked.{IsCheckPlan};
-ghost use Rattle.qc_top.specs.Due.{job_due};
-ghost use Rattle.qc_top.specs.Account.{ComesTo, IsJudging};
-ghost use Rattle.qc_top.specs.Held.{TellsHeld};
-ghost use Rattle.qc_top.specs.Shown.{TellsTree};
-ghost use Rattle.qc_top.specs.May.{MayAnswer};
+ghost use Rattle.qc_run.specs.Due.{job_due};
+ghost use Rattle.qc_run.specs.Inputs.{names_of};
+ghost use Rattle.qc_run.specs.Steps.{ComesTo};
+ghost use Rattle.qc_judge_commands.specs.Account.{IsJudging, IsPlanCheckRun};
+ghost use Rattle.qc_judge_commands.specs.Held.{TellsHeld};
 
-use crate::answer::{Answer, Broken, Compared};
-use crate::reading::{Job, read_job, read_tree};
-use qc_io::Shelf;
+use crate::answer::{Broken, Compared, Judged};
+use crate::judged::report;
+use qc_io::{Shelf, Sink};
 use qc_model::{Break, Instance, Schedule, direction_of, ends};
 use qc_num::Bound;
-use qc_words::Request;
+use qc_run::{Inputs, Job, Status, Stop, read_job, read_tree, report_stop};
 use std::alloc::Global;
 
 /// What is told of a break.
@@ -40,7 +37,7 @@ pub(crate) fn broken_of(inst: &Instance, broken: Break) -> Broken
 }
 
 /// What is told of a schedule that goes one way, beside what a tree shows.
-pub(crate) fn compared_of(inst: &Instance, sched: &Schedule, bound: Bound) -> Compared
+fn compared_of(inst: &Instance, sched: &Schedule, bound: Bound) -> Compared
     requires judgeable { IsJudgeable inst.now sched.now }
     requires goes { GoesOneWay inst.now sched.now }
     requires none_earlier { NoneEarlier inst.now bound }
@@ -56,43 +53,56 @@ pub(crate) fn compared_of(inst: &Instance, sched: &Schedule, bound: Bound) -> Co
 }
 
 /// Replays the tree beside a schedule that goes one way.
-fn compare<S: Shelf>(alloc: Global, request: &Request<'_>, job: &Job, shelf: &mut S) -> Answer
-    requires asked { IsCheckPlan (asked_for request.now) }
-    requires due { ComesTo job_due (asked_for request.now) (S.files shelf.old) (Ok job.now) }
+fn compare<S: Shelf>(
+    alloc: Global,
+    inputs: &Inputs<'_>,
+    job: &Job,
+    shelf: &mut S,
+) -> Result<Judged, Stop>
+    requires tree { IsSome (names_of inputs.now).tree }
+    requires due { ComesTo job_due (names_of inputs.now) (S.Sink.view shelf.old).files (Ok job.now) }
     requires judgeable { IsJudgeable job.now.inst job.now.sched }
     requires goes { GoesOneWay job.now.inst job.now.sched }
-    ensures serves { IsJudging (asked_for request.now)
-        (stand_of S.files S.Sink.faults S.read_faults shelf.old)
-        (stand_of S.files S.Sink.faults S.read_faults shelf.new) result }
-    ensures tells { TellsTree (asked_for request.now) (S.files shelf.old) result }
-    ensures may { MayAnswer (asked_for request.now) result }
-    ensures faults_never_fall { S.Sink.faults shelf.old ≤ S.Sink.faults shelf.new }
-    ensures read_faults_never_fall { S.read_faults shelf.old ≤ S.read_faults shelf.new }
+    ensures { IsJudging (names_of inputs.now) (S.Sink.view shelf.old) (S.Sink.view shelf.new) result }
 {
-    match read_tree(alloc, request, &job.inst, shelf) {
-        Ok(read) => Answer::Compared(compared_of(&job.inst, &job.sched, read.bound)),
-        Err(stop) => Answer::Stopped(stop),
+    match read_tree(alloc, inputs, &job.inst, shelf) {
+        Ok(read) => Ok(Judged::Compared(compared_of(&job.inst, &job.sched, read.bound))),
+        Err(stop) => Err(stop),
     }
 }
 
 /// Reads the ship file, the stowage list and the plan's file and judges the plan; the tree's file is
 /// opened only where the plan holds.
-pub(crate) fn check_plan<S: Shelf>(alloc: Global, request: &Request<'_>, shelf: &mut S) -> Answer
-    requires { IsCheckPlan (asked_for request.now) }
-    ensures serves { IsJudging (asked_for request.now)
-        (stand_of S.files S.Sink.faults S.read_faults shelf.old)
-        (stand_of S.files S.Sink.faults S.read_faults shelf.new) result }
-    ensures tells { TellsTree (asked_for request.now) (S.files shelf.old) result }
-    ensures may { MayAnswer (asked_for request.now) result }
-    ensures faults_never_fall { S.Sink.faults shelf.old ≤ S.Sink.faults shelf.new }
-    ensures read_faults_never_fall { S.read_faults shelf.old ≤ S.read_faults shelf.new }
+fn judge<S: Shelf>(alloc: Global, inputs: &Inputs<'_>, shelf: &mut S) -> Result<Judged, Stop>
+    requires plan { IsSome (names_of inputs.now).plan }
+    requires tree { IsSome (names_of inputs.now).tree }
+    ensures { IsJudging (names_of inputs.now) (S.Sink.view shelf.old) (S.Sink.view shelf.new) result }
 {
-    let job = match read_job(alloc, request, shelf) {
+    let job = match read_job(alloc, inputs, shelf) {
         Ok(job) => job,
-        Err(stop) => return Answer::Stopped(stop),
+        Err(stop) => return Err(stop),
     };
     match direction_of(&job.inst, &job.sched) {
-        Ok(_) => compare(alloc, request, &job, shelf),
-        Err(broken) => Answer::Broken(broken_of(&job.inst, broken)),
+        Ok(_) => compare(alloc, inputs, &job, shelf),
+        Err(broken) => Ok(Judged::Broken(broken_of(&job.inst, broken))),
+    }
+}
+
+/// Checks a plan beside a tree, and prints what came of it.
+pub fn check_plan<S: Shelf, K: Sink>(
+    alloc: Global,
+    inputs: &Inputs<'_>,
+    shelf: &mut S,
+    out: &mut K,
+) -> Status
+    requires plan { IsSome (names_of inputs.now).plan }
+    requires tree { IsSome (names_of inputs.now).tree }
+    ensures account { IsPlanCheckRun (names_of inputs.now) (S.Sink.view shelf.old) (S.Sink.view shelf.new)
+        (K.Sink.view out.old) (K.Sink.view out.new) result }
+    ensures reads_never_fall { (S.Sink.view shelf.old).read_faults ≤ (S.Sink.view shelf.new).read_faults }
+{
+    match judge(alloc, inputs, shelf) {
+        Ok(answer) => report(answer, out),
+        Err(stop) => report_stop(stop, out),
     }
 }
