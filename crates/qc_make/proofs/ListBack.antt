@@ -1,6 +1,6 @@
 -- A made list is read back as its rows.
 use Rattle.std.proofs.Common.{◌≡◌, ◌<◌, ◌≤◌, ◌+◌, ◌*◌, ◌%◌, ◌&&◌, ℕ, List, [], ◌∷◌, ◌++◌, length, get_or, map, Bool, true, false, codes, take, refl, sym, ap, ◌∙◌, arith, Ok, append_assoc, append-nil, length-append, inl, inr}
-use Rattle.std.specs.Prelude.{is_some, Option, None, Some, option_map, position, pos}
+use Rattle.std.specs.Prelude.{is_some, Option, None, Some, Result, option_map, position, pos}
 use Rattle.std.specs.List.{range_with_len, position_or_len, AllByRecursion as Each}
 use Rattle.std.specs.Str.{bytes_eq}
 use Rattle.std.proofs.lemmas.Bool.{cases_lt, false≢true, lt-ltb}
@@ -19,11 +19,12 @@ use Rattle.qc_records.specs.Records.{records_of}
 use Rattle.qc_model.specs.Tasks.{phase_rank}
 use Rattle.qc_model.specs.declared.task.Phase.{Phase}
 use Rattle.qc_ship.specs.Ship.{ShipView, place_of_bay, takes}
-use Rattle.qc_stow.specs.Moves.{has_id, is_taken, same_move}
-use Rattle.qc_stow.specs.Stow.{moves_in, moves_of, row_on, rows_after}
-use Rattle.qc_stow.specs.declared.moves.TheConstants.{MOST_MOVES}
+use Rattle.qc_num.specs.Reading.{◌>>=◌, each}
+use Rattle.qc_stow.specs.Moves.{has_id, is_taken, most_moves, same_move}
+use Rattle.qc_stow.specs.Stow.{moves_in, moves_of, next_row, row_on}
+use Rattle.qc_stow.specs.declared.fault.StowFault.{StowFault}
 use Rattle.qc_stow.specs.declared.row.Row.{Row}
-use Rattle.qc_stow.proofs.StowFacts.{after-row, rows-end, rows-more}
+use Rattle.qc_stow.proofs.StowFacts.{after-row}
 use Rattle.qc_tasks.specs.InstanceOf.{phases}
 use Rattle.qc_tasks.proofs.Lists.{EachPair, each_append, each_both, each_flat_map, each_from, each_map, each_range, each_weaker, pair_flat_map, pair_map, pair_range, pair_weaker}
 use Rattle.qc_tasks.proofs.TaskFacts.{phases_rise}
@@ -131,8 +132,8 @@ module _ (number hatches : ℕ) (few : hatches ≤ 60) where
 
 -- rows that are each read back, and of which none stands in another's way, are what their records read as
 rows_read : (ship : ShipView) (earlier rows : List Row) → Each (λ row. row_on ship (fields_of_row row) ≡ Ok row) rows → Each (λ row. Each (λ e. AreApart e row) earlier) rows → EachPair AreApart rows
-    → length earlier + length rows ≤ MOST_MOVES → rows_after ship earlier (map fields_of_row rows) ≡ Ok (earlier ++ rows)
-rows_read ship earlier [] on apart pairs few = rows-end ship earlier ∙ ap (λ (rows : List Row). Ok rows) (sym (append-nil earlier))
+    → length earlier + length rows ≤ most_moves → each (next_row ship) earlier (map fields_of_row rows) ≡ Ok (earlier ++ rows)
+rows_read ship earlier [] on apart pairs few = ap (λ (rows : List Row). Ok rows) (sym (append-nil earlier))
 rows_read ship earlier (row ∷ rows) on apart pairs few =
     let new : has_id earlier row ≡ false = list_any_none (λ (e : Row). same_move row.kind e.kind && bytes_eq row.id e.id) earlier
     (All-from_recursion (λ (e : Row). (same_move row.kind e.kind && bytes_eq row.id e.id) ≡ false) earlier
@@ -140,7 +141,8 @@ rows_read ship earlier (row ∷ rows) on apart pairs few =
     let free : is_taken earlier row ≡ false = list_any_none (λ (e : Row). same_move row.kind e.kind && overlap row.cell e.cell) earlier
     (All-from_recursion (λ (e : Row). (same_move row.kind e.kind && overlap row.cell e.cell) ≡ false) earlier
     (each_weaker (λ e. AreApart e row) (λ (e : Row). (same_move row.kind e.kind && overlap row.cell e.cell) ≡ false) earlier (λ e h. h.cell) apart.0)) in
-    rows-more ship earlier (fields_of_row row) (map fields_of_row rows) row (after-row ship earlier (fields_of_row row) row (length earlier + 2) (omega arith) on.0 new free)
+    ap (λ (r : Result Row StowFault). r >>= λ b. each (next_row ship) (earlier ++ b ∷ []) (map fields_of_row rows))
+    (after-row ship earlier (fields_of_row row) row (length earlier + 2) (omega arith) on.0 new free)
     ∙ rows_read ship (earlier ++ row ∷ []) rows on.1
     (each_weaker (λ r. Each (λ e. AreApart e r) earlier × AreApart row r) (λ r. Each (λ e. AreApart e r) (earlier ++ row ∷ [])) rows (λ r h. each_append (λ e. AreApart e r) earlier (row ∷ []) h.0 (h.1, tt))
     (each_both (λ r. Each (λ e. AreApart e r) earlier) (AreApart row) rows apart.1 pairs.0))
@@ -203,8 +205,8 @@ module _ (number hatches : ℕ) (few : hatches ≤ 60) where
   list_back cranes =
       let ship = made_ship hatches cranes in
       let rows = made_rows number hatches in
-      let most : length (header ∷ map fields_of_row rows) ≤ MOST_MOVES + 2 = omega (arith, rows_few number hatches few, length-map rows fields_of_row) in
-      ap (moves_of ship) (ap (take (MOST_MOVES + 2)) records_are ∙ take_all (MOST_MOVES + 2) (header ∷ map fields_of_row rows) most)
+      let most : length (header ∷ map fields_of_row rows) ≤ most_moves + 2 = omega (arith, rows_few number hatches few, length-map rows fields_of_row) in
+      ap (moves_of ship) (ap (take (most_moves + 2)) records_are ∙ take_all (most_moves + 2) (header ∷ map fields_of_row rows) most)
       ∙ rows_read ship [] rows
       (each_made number hatches few (λ row. row_on ship (fields_of_row row) ≡ Ok row) (λ k p i kl il. row_back ship k p i (omega arith) il (hatch_there hatches cranes k kl)))
       (each_from (λ row. Each (λ e. AreApart e row) []) rows (λ row. tt)) (rows_stand_apart number hatches few) (omega (arith, rows_few number hatches few))

@@ -11,7 +11,7 @@ use Rattle.std.proofs.lemmas.List.Concat.{length-flat_map}
 use Rattle.std.proofs.lemmas.List.Elements.{All-from_recursion}
 use Rattle.std.proofs.lemmas.List.Sums.{sum_by-le, count_by-le-length}
 use Rattle.std.proofs.lemmas.Slice.Zip.{length-zip}
-use Rattle.qc_model.specs.declared.limits.TheConstants.{MOST_TASKS}
+use Rattle.qc_model.specs.Numbers.{most_tasks}
 use Rattle.qc_model.specs.declared.task.Phase.{Phase}
 use Rattle.qc_model.specs.declared.task.Phase.TheVariants.{DeckOut, HoldOut, HoldIn, DeckIn}
 use Rattle.qc_model.specs.declared.task.Task.{Task}
@@ -155,7 +155,7 @@ module _ (ship : ShipView) (is : IsShip ship) (rows : List Row) where
   hatch_long : (h : ℕ × ℕ) → length (flat_map (tasks_at ship rows h.0 h.1) phases) ≤ 4
   hatch_long h = omega (arith, length-flat_map (tasks_at ship rows h.0 h.1) phases, sum_by-le (λ p. length (tasks_at ship rows h.0 h.1 p)) 1 phases (All-from_recursion (λ p. length (tasks_at ship rows h.0 h.1 p) ≤ 1) phases (each_from (λ p. length (tasks_at ship rows h.0 h.1 p) ≤ 1) phases (one_long h))))
 
-  pub few_tasks : length (tasks_of ship rows) ≤ MOST_TASKS
+  pub few_tasks : length (tasks_of ship rows) ≤ most_tasks
   few_tasks =
       omega (
         arith,

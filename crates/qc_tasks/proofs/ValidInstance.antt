@@ -9,7 +9,7 @@ use Rattle.std.proofs.lemmas.Int.{ints}
 use Rattle.std.proofs.lemmas.List.{get_or_default}
 use Rattle.std.proofs.lemmas.List.Elements.{All-contains, All-from_recursion, All-map, recursion_from_All}
 use Rattle.std.proofs.lemmas.List.FromFn.{get_or-range_with_len}
-use Rattle.qc_model.specs.declared.limits.TheConstants.{MOST_GAP_BY_PLACES, MOST_HATCHES, MOST_PLACE}
+use Rattle.qc_model.specs.Numbers.{most_gap_by_places, most_hatches, most_place}
 use Rattle.qc_model.specs.declared.task.Task.{Task}
 use Rattle.qc_model.specs.declared.crane.Crane.{Crane}
 use Rattle.qc_model.specs.declared.pair.Pair.{Pair}
@@ -19,7 +19,7 @@ use Rattle.qc_ship.specs.declared.ship.HatchPair.{HatchPair}
 use Rattle.qc_ship.specs.Ship.{ShipView, IsShip, greatest_place}
 use Rattle.qc_cell.specs.Cells.{is_on_deck}
 use Rattle.qc_stow.specs.Moves.{is_discharge, is_load}
-use Rattle.qc_stow.specs.declared.moves.TheConstants.{MOST_MOVES}
+use Rattle.qc_stow.specs.Moves.{most_moves}
 use Rattle.qc_stow.specs.declared.row.Move.{Move}
 use Rattle.qc_stow.specs.declared.row.Move.TheVariants.{Discharge, Load}
 use Rattle.qc_stow.specs.declared.row.Row.{Row}
@@ -62,16 +62,16 @@ some_place ship is = omega (arith, is.places.count, is.hatches.count)
 bays_low : (ship : ShipView) → IsShip ship → 1 ≤ greatest_place ship
 bays_low ship is = (is.places.range (length ship.places - 1) 0 (some_place ship is)).0
 
-pub bays_high : (ship : ShipView) → IsShip ship → greatest_place ship ≤ MOST_PLACE
+pub bays_high : (ship : ShipView) → IsShip ship → greatest_place ship ≤ most_place
 bays_high ship is = (is.places.range (length ship.places - 1) 0 (some_place ship is)).1
 
-pub gap_high : (ship : ShipView) → IsShip ship → ship.gap ≤ MOST_GAP_BY_PLACES
+pub gap_high : (ship : ShipView) → IsShip ship → ship.gap ≤ most_gap_by_places
 gap_high ship is = elim (cases_Bool ship.in_decimetres) [
   | inl given ↦ let h = rw given at is.times.gap.1 in h
   | inr counted ↦ let h = rw counted at is.times.gap.1 in omega (arith, h)
 ]
 
-bays_counted : (ship : ShipView) → IsShip ship → ship.in_decimetres ≡ false → greatest_place ship ≤ MOST_HATCHES
+bays_counted : (ship : ShipView) → IsShip ship → ship.in_decimetres ≡ false → greatest_place ship ≤ most_hatches
 bays_counted ship is counted =
     let last : length ship.hatches - 1 < length ship.hatches = omega (arith, is.hatches.count) in
     let e : greatest_place ship ≡ 1 + (length ship.hatches - 1) =
@@ -137,7 +137,7 @@ module _ (ship : ShipView) (is : IsShip ship) (rows : List Row) where
     ]
   ]
 
-  valid_tasks : length rows ≤ MOST_MOVES → HasValidTasks (instance_of ship rows)
+  valid_tasks : length rows ≤ most_moves → HasValidTasks (instance_of ship rows)
   valid_tasks few = record {
     count = few_tasks ship is rows;
     bays = λ j lt. All-from_recursion (λ (t : Task). IsFrom (pos 1) (pos (greatest_place ship)) t.bay) (tasks_of ship rows) tasks_within j no_task lt;
@@ -252,7 +252,7 @@ module _ (ship : ShipView) (is : IsShip ship) (rows : List Row) where
     sorted = pairs_sorted (length (tasks_of ship rows)) (is_apart ship.apart (tasks_of ship rows));
   }
 
-  pub valid_instance : length rows ≤ MOST_MOVES → Valid (instance_of ship rows)
+  pub valid_instance : length rows ≤ most_moves → Valid (instance_of ship rows)
   valid_instance few = record {
     limits = elim (cases_Bool ship.in_decimetres) [ inl given ↦ ∣ inr (place_limits given) ∣₁ | inr counted ↦ ∣ inl (bay_limits counted) ∣₁ ];
     tasks = valid_tasks few;

@@ -3,14 +3,14 @@ use Rattle.std.proofs.Common.{◌≡◌, ℕ, ◌+◌, ◌*◌, ◌≤◌, ◌�
 use Rattle.std.specs.List.{flat_map, zip}
 use Rattle.std.proofs.lemmas.List.Sums.{sum_by-cons}
 use Rattle.std.proofs.lemmas.Slice.Zip.{length-zip}
-use Rattle.qc_model.specs.declared.limits.TheConstants.{MOST_WORK}
+use Rattle.qc_model.specs.Numbers.{most_work}
 use Rattle.qc_model.specs.declared.task.Phase.{Phase}
 use Rattle.qc_model.specs.declared.task.Phase.TheVariants.{DeckOut, HoldOut, HoldIn, DeckIn}
 use Rattle.qc_model.specs.declared.task.Task.{Task}
 use Rattle.qc_model.specs.Tasks.{phase_rank}
 use Rattle.qc_ship.specs.Ship.{ShipView, IsShip, takes}
 use Rattle.qc_cell.specs.Cells.{is_on_deck}
-use Rattle.qc_stow.specs.declared.moves.TheConstants.{MOST_MOVES}
+use Rattle.qc_stow.specs.Moves.{most_moves}
 use Rattle.qc_stow.specs.declared.row.Row.{Row}
 use Rattle.qc_tasks.specs.InstanceOf.{is_move_at, moves_at, phase_with, phases, tasks_at, tasks_of}
 use Rattle.qc_tasks.proofs.Lists.{EachPair, each_from, pair_weaker, sum_by-flat_map, sum_by-each, sum_by-plus, sum_by-same, count_one}
@@ -72,7 +72,7 @@ module _ (ship : ShipView) (is : IsShip ship) (rows : List Row) where
             (each_from (λ p. sum_by (λ (t : Task). t.ticks) (tasks_at ship rows h.0 h.1 p) ≤ 10000 * moves_at rows h.0 p + 10000) phases (one_work ship is rows h)),
       )
 
-  pub all_work : length rows ≤ MOST_MOVES → sum_by (λ (t : Task). t.ticks) (tasks_of ship rows) ≤ MOST_WORK
+  pub all_work : length rows ≤ most_moves → sum_by (λ (t : Task). t.ticks) (tasks_of ship rows) ≤ most_work
   all_work few =
       omega (
         arith,

@@ -1,4 +1,4 @@
--- The instance of a ship and the moves of a stowage list.
+-- public: the instance of a ship and the moves of a stowage list.
 use Rattle.std.specs.Prelude.{ℕ, ◌+◌, ◌*◌, pos, Bool, true, false, ◌&&◌, ◌||◌, ◌==◌, nat_lt, min, max, if◌then◌else◌, List, [], ◌∷◌, length, map, filter, count_by, slice_index_or}
 use Rattle.std.specs.List.{list_any, flat_map, range_with_len, zip}
 use Rattle.std.specs.Str.{bytes_eq}

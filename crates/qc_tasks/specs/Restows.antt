@@ -1,4 +1,4 @@
--- What the search for restows is told, and what it tells.
+-- inner: what the search for restows is told, and what it tells.
 use Rattle.std.specs.Prelude.{◌≡◌, ℕ, ◌&&◌, ◌==◌, AllPairs, Bool, true, false, List, Option, Some, None}
 use Rattle.indexmap.specs.IndexSet.{IndexSet, contains}
 use Rattle.qc_model.specs.declared.task.Task.{Task}

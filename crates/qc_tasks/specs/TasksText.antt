@@ -1,4 +1,4 @@
--- The report of an instance's tasks and of the rules between them.
+-- public: the report of an instance's tasks and of the rules between them.
 use Rattle.std.specs.Prelude.{ℕ, List, ◌++◌, codes, decimal, sum_by}
 use Rattle.std.specs.List.{flat_map}
 use Rattle.std.specs.Fmt.{signed_decimal}

@@ -1,8 +1,9 @@
 //! Which tasks may not run at the same time.
 ghost use Rattle.std.specs.Prelude.{◌≡◌, ◌≤◌, ◌<◌, ◌++◌, length, IfOk, OnOk};
+ghost use Rattle.qc_model.specs.Numbers.{most_tasks};
 ghost use Rattle.qc_tasks.specs.InstanceOf.{apart_of, is_apart, names_both, pairs_from};
 
-use qc_model::{MOST_TASKS, Pair, Task};
+use qc_model::{Pair, Task};
 use qc_num::OutOfMemory;
 use qc_ship::HatchPair;
 use std::alloc::Global;
@@ -14,6 +15,7 @@ fn names_both(first: &Task, second: &Task, entry: &HatchPair) -> bool
     first.hatch == entry.a.min(entry.b) && second.hatch == entry.a.max(entry.b)
 }
 
+/// Whether an entry names the hatches of both tasks.
 fn is_apart(entries: &[HatchPair], tasks: &[Task], first: usize, second: usize) -> bool
     requires first { first < length tasks.now }
     requires second { second < length tasks.now }
@@ -30,7 +32,7 @@ fn push_apart(
     tasks: &[Task],
     first: usize,
 ) -> Result<(), OutOfMemory>
-    requires count { length tasks.now ≤ MOST_TASKS }
+    requires count { length tasks.now ≤ most_tasks }
     requires first { first < length tasks.now }
     ensures { OnOk result (pairs.new.items ≡ pairs.old.items
         ++ pairs_from (length tasks.now) (is_apart entries.now tasks.now) first) }
@@ -52,7 +54,7 @@ pub(crate) fn pairs_apart(
     entries: &[HatchPair],
     tasks: &[Task],
 ) -> Result<Vec<Pair>, OutOfMemory>
-    requires { length tasks.now ≤ MOST_TASKS }
+    requires { length tasks.now ≤ most_tasks }
     ensures { IfOk result (λ v. v.items ≡ apart_of entries.now tasks.now) }
 {
     let mut pairs = Vec::new(alloc);

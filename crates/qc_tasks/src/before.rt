@@ -3,12 +3,13 @@ ghost use Rattle.std.specs.Prelude.{◌≡◌, ◌≤◌, ◌<◌, ◌++◌, ◌
 ghost use Rattle.std.specs.List.{list_any};
 ghost use Rattle.indexmap.specs.IndexMap.{get_by};
 ghost use Rattle.qc_stow.specs.Moves.{AreMoves, is_load};
+ghost use Rattle.qc_model.specs.Numbers.{most_tasks};
 ghost use Rattle.qc_tasks.specs.InstanceOf.{before_of, discharges, is_before, is_earlier_phase, is_move_of, is_restow, pairs_from, pairs_with, task_at};
 ghost use Rattle.qc_tasks.specs.Restows.{ShareNoMove, is_in, is_number, is_pair};
 
 use crate::moves::is_move_of;
 use indexmap::{IndexMap, IndexSet};
-use qc_model::{MOST_TASKS, Pair, Task};
+use qc_model::{Pair, Task};
 use qc_num::OutOfMemory;
 use qc_stow::Row;
 use std::alloc::Global;
@@ -108,7 +109,7 @@ fn push_before(
     restows: &IndexSet<(usize, usize)>,
     first: usize,
 ) -> Result<(), OutOfMemory>
-    requires count { length tasks.now ≤ MOST_TASKS }
+    requires count { length tasks.now ≤ most_tasks }
     requires first { first < length tasks.now }
     ensures { OnOk result (pairs.new.items ≡ pairs.old.items
         ++ pairs_from (length tasks.now) (is_before (is_in restows.now) tasks.now) first) }
@@ -130,7 +131,7 @@ fn pairs_before(
     tasks: &[Task],
     restows: &IndexSet<(usize, usize)>,
 ) -> Result<Vec<Pair>, OutOfMemory>
-    requires { length tasks.now ≤ MOST_TASKS }
+    requires { length tasks.now ≤ most_tasks }
     ensures { IfOk result (λ v. v.items
         ≡ pairs_with (length tasks.now) (is_before (is_in restows.now) tasks.now)) }
 {
@@ -148,7 +149,7 @@ pub(crate) fn before_of(
     rows: &[Row],
     tasks: &[Task],
 ) -> Result<Vec<Pair>, OutOfMemory>
-    requires count { length tasks.now ≤ MOST_TASKS }
+    requires count { length tasks.now ≤ most_tasks }
     requires tasks { ShareNoMove tasks.now }
     requires moves { AreMoves rows.now }
     ensures { IfOk result (λ v. v.items ≡ before_of ordered rows.now tasks.now) }

@@ -4,22 +4,11 @@ ghost use Rattle.qc_tasks.specs.InstanceOf.{instance_of, tasks_of};
 
 use crate::apart::pairs_apart;
 use crate::before::before_of;
-use qc_model::{Crane, Instance};
+use qc_model::{Instance, copy_cranes};
 use qc_num::OutOfMemory;
 use qc_ship::Ship;
 use qc_stow::Moves;
 use std::alloc::Global;
-
-/// The same cranes.
-fn copy_cranes(alloc: Global, cranes: &[Crane]) -> Result<Vec<Crane>, OutOfMemory>
-    ensures { IfOk result (λ v. v.items ≡ cranes.now) }
-{
-    let mut copies = Vec::new(alloc);
-    for crane in cranes {
-        copies.push(crane.clone()?)?;
-    }
-    Ok(copies)
-}
 
 /// The instance of a ship and its moves: the moves of each hatch and phase are a task, a move that
 /// no hatch takes is in none.

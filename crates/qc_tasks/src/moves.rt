@@ -6,6 +6,7 @@ use qc_model::{Phase, Task};
 use qc_ship::takes;
 use qc_stow::{Move, Row};
 
+/// The phase of a move of this kind, on deck or in the hold.
 fn phase_with(kind: Move, on_deck: bool) -> Phase
     ensures { result ≡ phase_with kind on_deck }
 {
@@ -17,6 +18,7 @@ fn phase_with(kind: Move, on_deck: bool) -> Phase
     }
 }
 
+/// Whether a move is one of a hatch's moves in a phase.
 fn is_move_at(hatch: u16, phase: Phase, row: &Row) -> bool
     ensures { result ≡ is_move_at hatch phase row.now }
 {

@@ -59,7 +59,7 @@ fn total_line(inst: &Instance) -> Text<32>
 
 /// Writes the lines of tasks.
 fn put_tasks<K: Sink>(tasks: &[Task], sink: &mut K) -> Result<(), WriteFault>
-    ensures { Writes K.written K.beside K.faults sink.old sink.new (flat_map task_line tasks.now) result }
+    ensures { Writes (K.view sink.old) (K.view sink.new) (flat_map task_line tasks.now) result }
 {
     for task in tasks {
         put_all(sink, task_line(task).as_bytes())?;
@@ -77,7 +77,7 @@ fn put_pairs<K: Sink>(
     requires title { length title.now ≤ 8 }
     requires tasks { (i j : ℕ) → Contains pairs.now (pair_of i j)
         → (i < length inst.now.tasks) × (j < length inst.now.tasks) }
-    ensures { Writes K.written K.beside K.faults sink.old sink.new
+    ensures { Writes (K.view sink.old) (K.view sink.new)
         (flat_map (pair_line inst.now title.now) pairs.now) result }
 {
     for pair in pairs {
@@ -89,7 +89,7 @@ fn put_pairs<K: Sink>(
 /// Writes the lines of the rules between tasks, and that of their length.
 #[tactic(auto, using(qc_io::proofs::WritesLemmas::writes_cut))]
 fn put_rules<K: Sink>(inst: &Instance, sink: &mut K) -> Result<(), WriteFault>
-    ensures { Writes K.written K.beside K.faults sink.old sink.new
+    ensures { Writes (K.view sink.old) (K.view sink.new)
         (flat_map (pair_line inst.now (codes "before ")) inst.now.before
         ++ (flat_map (pair_line inst.now (codes "apart ")) inst.now.apart
         ++ total_line inst.now)) result }
@@ -105,7 +105,7 @@ fn put_rules<K: Sink>(inst: &Instance, sink: &mut K) -> Result<(), WriteFault>
 /// was written, from its front, that isn't the whole report.
 #[tactic(auto, using(qc_io::proofs::WritesLemmas::writes_cut))]
 pub fn write_tasks<K: Sink>(inst: &Instance, sink: &mut K) -> Result<(), WriteFault>
-    ensures { Writes K.written K.beside K.faults sink.old sink.new (tasks_text inst.now) result }
+    ensures { Writes (K.view sink.old) (K.view sink.new) (tasks_text inst.now) result }
 {
     put_tasks(inst.tasks(), sink)?;
     put_rules(inst, sink)

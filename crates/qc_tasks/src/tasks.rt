@@ -1,18 +1,19 @@
 //! The tasks of a ship.
 ghost use Rattle.std.specs.Prelude.{◌≡◌, ◌≤◌, ◌*◌, ◌+◌, ◌++◌, pos, length, IfOk, OnOk};
 ghost use Rattle.std.specs.List.{flat_map};
+ghost use Rattle.qc_stow.specs.Moves.{most_moves};
 ghost use Rattle.qc_tasks.specs.InstanceOf.{phases, tasks_at, tasks_of, ticks_in};
 
 use crate::moves::moves_at;
 use qc_model::{Phase, Task};
 use qc_num::{Bay, OutOfMemory, Tick};
 use qc_ship::Ship;
-use qc_stow::{MOST_MOVES, Row};
+use qc_stow::Row;
 use std::alloc::Global;
 
 /// The ticks of so many moves in a phase.
 fn ticks_in(ship: &Ship, phase: Phase, moves: usize) -> Tick
-    requires { moves ≤ MOST_MOVES }
+    requires { moves ≤ most_moves }
     ensures { result ≡ ticks_in ship.now phase moves }
 {
     let moves = moves as Tick;
@@ -31,7 +32,7 @@ fn push_task(
     place: u16,
     phase: Phase,
 ) -> Result<(), OutOfMemory>
-    requires { length rows.now ≤ MOST_MOVES }
+    requires { length rows.now ≤ most_moves }
     ensures { OnOk result (tasks.new.items ≡ tasks.old.items
         ++ tasks_at ship.now rows.now hatch place phase) }
 {
@@ -56,7 +57,7 @@ fn push_tasks(
     hatch: u16,
     place: u16,
 ) -> Result<(), OutOfMemory>
-    requires { length rows.now ≤ MOST_MOVES }
+    requires { length rows.now ≤ most_moves }
     ensures { OnOk result (tasks.new.items ≡ tasks.old.items
         ++ flat_map (tasks_at ship.now rows.now hatch place) phases) }
 {
@@ -68,7 +69,7 @@ fn push_tasks(
 
 /// The tasks in order of hatch, then phase: those that have a move.
 pub(crate) fn tasks_of(alloc: Global, ship: &Ship, rows: &[Row]) -> Result<Vec<Task>, OutOfMemory>
-    requires { length rows.now ≤ MOST_MOVES }
+    requires { length rows.now ≤ most_moves }
     ensures { IfOk result (λ v. v.items ≡ tasks_of ship.now rows.now) }
 {
     let mut tasks = Vec::new(alloc);

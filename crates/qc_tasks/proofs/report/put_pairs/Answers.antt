@@ -19,10 +19,10 @@ pair_line-requires-clause-second g c =
 
 pub returns-in_err-put_all : goal.returns-in_err-put_all
 returns-in_err-put_all g c =
-    items_cut g.K.Sink.written g.K.Sink.beside g.K.Sink.faults (pair_line c.args.inst.now c.args.title.now) c.args.pairs.now c.loop-pair.pair-index (pair_of 0 0) c.args.sink.now c.loop-pair.sink c.put_all.new.sink _
+    items_cut (pair_line c.args.inst.now c.args.title.now) c.args.pairs.now c.loop-pair.pair-index (pair_of 0 0) (g.K.Sink.view c.args.sink.now) (g.K.Sink.view c.loop-pair.sink) (g.K.Sink.view c.put_all.new.sink) _
     _ c.from_residual.result (search rules) (omega arith) (c.as_bytes.ensures.bytes ∙ c.pair_line.ensures) c.loop-pair.invariant c.in_err-put_all.ensures.writes
 
 pub loop-pair-preserved : goal.loop-pair-preserved
 loop-pair-preserved g c =
-    items_more g.K.Sink.written g.K.Sink.beside g.K.Sink.faults (pair_line c.args.inst.now c.args.title.now) c.args.pairs.now c.loop-pair.pair-index (pair_of 0 0) c.args.sink.now c.loop-pair.sink c.put_all.new.sink _
+    items_more (pair_line c.args.inst.now c.args.title.now) c.args.pairs.now c.loop-pair.pair-index (pair_of 0 0) (g.K.Sink.view c.args.sink.now) (g.K.Sink.view c.loop-pair.sink) (g.K.Sink.view c.put_all.new.sink) _
     (omega arith) (c.as_bytes.ensures.bytes ∙ c.pair_line.ensures) c.loop-pair.invariant c.in_ok-put_all.ensures.writes

@@ -6,4 +6,4 @@ use Rattle.qc_tasks.proofs.report.put_pairs.Given as goal
 
 abbrev pub invariant-loop-pair : goal.invariant-loop-pair
 invariant-loop-pair g l =
-    Writes g.K.Sink.written g.K.Sink.beside g.K.Sink.faults l.fn.sink l.sink (flat_map (pair_line l.inst l.title) (take l.pair-index l.pairs)) (Ok tt)
+    Writes (g.K.Sink.view l.fn.sink) (g.K.Sink.view l.sink) (flat_map (pair_line l.inst l.title) (take l.pair-index l.pairs)) (Ok tt)

@@ -16,14 +16,14 @@ put_pairs-requires-2-clause-tasks g c = λ i j listed.
 
 pub returns-in_err-put_pairs-2 : goal.returns-in_err-put_pairs-2
 returns-in_err-put_pairs-2 g c =
-    writes_then g.K.Sink.written g.K.Sink.beside g.K.Sink.faults c.args.sink.now c.put_pairs.new.sink c.put_pairs-2.new.sink _ _ c.from_residual-in_err-put_pairs-2.result
+    writes_then (g.K.Sink.view c.args.sink.now) (g.K.Sink.view c.put_pairs.new.sink) (g.K.Sink.view c.put_pairs-2.new.sink) _ _ c.from_residual-in_err-put_pairs-2.result
     (rw c.before-2.ensures.before at c.in_ok-put_pairs.ensures)
-    (writes_cut g.K.Sink.written g.K.Sink.beside g.K.Sink.faults c.put_pairs.new.sink c.put_pairs-2.new.sink _ _ _ c.from_residual-in_err-put_pairs-2.result (search rules)
+    (writes_cut (g.K.Sink.view c.put_pairs.new.sink) (g.K.Sink.view c.put_pairs-2.new.sink) _ _ _ c.from_residual-in_err-put_pairs-2.result (search rules)
     (rw c.apart.ensures.apart at c.in_err-put_pairs-2.ensures))
 
 pub returns : goal.returns
 returns g c =
-    writes_then g.K.Sink.written g.K.Sink.beside g.K.Sink.faults c.args.sink.now c.put_pairs.new.sink c.put_all.new.sink _ _ c.put_all.result
+    writes_then (g.K.Sink.view c.args.sink.now) (g.K.Sink.view c.put_pairs.new.sink) (g.K.Sink.view c.put_all.new.sink) _ _ c.put_all.result
     (rw c.before-2.ensures.before at c.in_ok-put_pairs.ensures)
-    (writes_then g.K.Sink.written g.K.Sink.beside g.K.Sink.faults c.put_pairs.new.sink c.put_pairs-2.new.sink c.put_all.new.sink _ _ c.put_all.result
+    (writes_then (g.K.Sink.view c.put_pairs.new.sink) (g.K.Sink.view c.put_pairs-2.new.sink) (g.K.Sink.view c.put_all.new.sink) _ _ c.put_all.result
     (rw c.apart.ensures.apart at c.in_ok-put_pairs-2.ensures) (rw (c.as_bytes.ensures.bytes, c.total_line.ensures) at c.put_all.ensures.writes))

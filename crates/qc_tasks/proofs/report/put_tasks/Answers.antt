@@ -6,10 +6,10 @@ use Rattle.qc_tasks.proofs.report.put_tasks.Goals as goal
 
 pub returns-in_err-put_all : goal.returns-in_err-put_all
 returns-in_err-put_all g c =
-    items_cut g.K.Sink.written g.K.Sink.beside g.K.Sink.faults task_line c.args.tasks.now c.loop-task.task-index no_task c.args.sink.now c.loop-task.sink c.put_all.new.sink _
+    items_cut task_line c.args.tasks.now c.loop-task.task-index no_task (g.K.Sink.view c.args.sink.now) (g.K.Sink.view c.loop-task.sink) (g.K.Sink.view c.put_all.new.sink) _
     _ c.from_residual.result (search rules) (omega arith) (c.as_bytes.ensures.bytes ∙ c.task_line.ensures) c.loop-task.invariant c.in_err-put_all.ensures.writes
 
 pub loop-task-preserved : goal.loop-task-preserved
 loop-task-preserved g c =
-    items_more g.K.Sink.written g.K.Sink.beside g.K.Sink.faults task_line c.args.tasks.now c.loop-task.task-index no_task c.args.sink.now c.loop-task.sink c.put_all.new.sink _
+    items_more task_line c.args.tasks.now c.loop-task.task-index no_task (g.K.Sink.view c.args.sink.now) (g.K.Sink.view c.loop-task.sink) (g.K.Sink.view c.put_all.new.sink) _
     (omega arith) (c.as_bytes.ensures.bytes ∙ c.task_line.ensures) c.loop-task.invariant c.in_ok-put_all.ensures.writes

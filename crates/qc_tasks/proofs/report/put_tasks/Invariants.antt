@@ -6,4 +6,4 @@ use Rattle.qc_tasks.proofs.report.put_tasks.Given as goal
 
 abbrev pub invariant-loop-task : goal.invariant-loop-task
 invariant-loop-task g l =
-    Writes g.K.Sink.written g.K.Sink.beside g.K.Sink.faults l.fn.sink l.sink (flat_map task_line (take l.task-index l.tasks)) (Ok tt)
+    Writes (g.K.Sink.view l.fn.sink) (g.K.Sink.view l.sink) (flat_map task_line (take l.task-index l.tasks)) (Ok tt)

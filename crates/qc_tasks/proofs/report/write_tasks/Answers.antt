@@ -3,5 +3,5 @@ use Rattle.qc_tasks.proofs.report.write_tasks.Goals as goal
 
 pub returns : goal.returns
 returns g c =
-    writes_then g.K.Sink.written g.K.Sink.beside g.K.Sink.faults c.args.sink.now c.put_tasks.new.sink c.put_rules.new.sink _ _ c.put_rules.result
+    writes_then (g.K.Sink.view c.args.sink.now) (g.K.Sink.view c.put_tasks.new.sink) (g.K.Sink.view c.put_rules.new.sink) _ _ c.put_rules.result
     (rw c.tasks.ensures.tasks at c.in_ok-put_tasks.ensures) c.put_rules.ensures

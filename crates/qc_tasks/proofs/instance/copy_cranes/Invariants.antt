@@ -1,5 +1,0 @@
-use Rattle.std.proofs.Common.{◌≡◌, take}
-use Rattle.qc_tasks.proofs.instance.copy_cranes.Given as goal
-
-abbrev pub invariant-loop-crane : goal.invariant-loop-crane
-invariant-loop-crane l = l.copies.items ≡ take l.crane-index l.cranes
