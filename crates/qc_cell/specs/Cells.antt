@@ -1,4 +1,4 @@
--- Cells of a ship: bay, row and tier (ISO 9711), here with even tiers above 0.
+-- public: cells of a ship: bay, row and tier (ISO 9711), here with even tiers above 0.
 use Rattle.std.specs.Prelude.{ℕ, ◌+◌, ◌-◌, ◌/◌, ◌%◌, ◌<◌, ◌≡◌, List, [], ◌∷◌, ◌++◌, length, take, drop, Bool, not, ◌&&◌, ◌||◌, ◌==◌, nat_lt, nat_le, if◌then◌else◌, Result, Ok, Err, codes}
 use Rattle.std.specs.Char.{is_ascii_digit}
 use Rattle.std.specs.List.{list_all, list_any}

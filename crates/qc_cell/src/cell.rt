@@ -1,7 +1,9 @@
+//! Cells: bay, row and tier.
+
 ghost use Rattle.std.specs.Prelude.{◌≡◌, ◌≢◌, ◌<◌, ◌≤◌, length, ◌%◌, [], ◌∷◌};
 
-use crate::digits::{are_digits, number, two_digits};
-use qc_num::Text;
+use crate::digits::two_digits;
+use qc_num::{Text, are_digits, value_of_digits};
 use std::marker::Model;
 
 /// The text of a cell: six digits, or seven from bay 100 on.
@@ -84,10 +86,15 @@ impl Cell {
         }
         let (bay, place) = text.split_at(text.len() - 4);
         let (row, tier) = place.split_at(2);
-        Cell::of(number(bay), number(row) as u8, number(tier) as u8)
+        let (bay, row, tier) = (
+            value_of_digits(bay),
+            value_of_digits(row),
+            value_of_digits(tier),
+        );
+        Cell::of(bay as u16, row as u8, tier as u8)
     }
 
-    // The cell of these numbers, or the first fault of them.
+    /// The cell of these numbers, or the first fault of them.
     fn of(bay: u16, row: u8, tier: u8) -> Result<Cell, CellFault>
         requires bay { bay < 1000 }
         requires row { row < 100 }

@@ -1,4 +1,4 @@
--- The draws that are made from a number.
+-- public: the draws that are made from a number.
 use Rattle.std.specs.Prelude.{ℕ, zero, suc, ◌+◌, ◌*◌, ◌/◌, ◌%◌}
 
 -- the state after the next draw

@@ -1,4 +1,4 @@
--- The stowage list that is made from a number.
+-- public: the stowage list that is made from a number.
 use Rattle.std.specs.Prelude.{ℕ, ◌+◌, ◌*◌, ◌/◌, ◌%◌, List, ◌++◌, map, codes, decimal}
 use Rattle.std.specs.List.{flat_map, range_with_len}
 use Rattle.qc_cell.specs.Cells.{cell_text}

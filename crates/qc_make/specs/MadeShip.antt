@@ -1,4 +1,4 @@
--- The ship that is made, by its numbers of hatches and cranes.
+-- public: the ship that is made, by its numbers of hatches and cranes.
 use Rattle.std.specs.Prelude.{ℕ, ◌+◌, ◌*◌, pos, false, [], ◌∷◌, map, decimal}
 use Rattle.std.specs.List.{range_with_len}
 use Rattle.qc_model.specs.declared.crane.Crane.{Crane}

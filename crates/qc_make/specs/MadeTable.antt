@@ -1,4 +1,4 @@
--- The table that a made ship file is printed from.
+-- inner: the table that a made ship file is printed from.
 use Rattle.std.specs.Prelude.{ℕ, ◌+◌, ◌*◌, pos, List, ◌∷◌, map, codes, decimal}
 use Rattle.std.specs.Cmp.Lexicographic.{slice_cmp}
 use Rattle.std.specs.List.{range_with_len}

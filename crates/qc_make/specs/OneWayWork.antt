@@ -1,4 +1,4 @@
--- What can be worked by cranes that go one way.
+-- public: what can be worked by cranes that go one way.
 use Rattle.std.specs.Prelude.{List}
 use Rattle.qc_model.specs.declared.schedule.Slot.{Slot}
 use Rattle.qc_model.specs.Instance.{InstanceView}

@@ -1,4 +1,4 @@
-// The stowage list that is made from a number.
+//! The stowage list that is made from a number.
 ghost use Rattle.std.specs.Prelude.{◌≡◌, ℕ, ◌<◌, ◌≤◌, ◌++◌, length, map, IfOk, OnOk, Ok};
 ghost use Rattle.std.specs.List.{range_with_len};
 ghost use Rattle.qc_stow.specs.Stow.{moves_in};
@@ -14,6 +14,7 @@ use std::alloc::Global;
 
 const PHASES: [Phase; 4] = [Phase::DeckOut, Phase::HoldOut, Phase::HoldIn, Phase::DeckIn];
 
+/// How the way of the moves of a phase is written.
 fn move_text(phase: Phase) -> &'static [u8; 1]
     ensures { result.now ≡ move_text (move_of phase) }
 {
@@ -23,6 +24,7 @@ fn move_text(phase: Phase) -> &'static [u8; 1]
     }
 }
 
+/// The tier of the lowest container of a phase.
 fn lowest_tier(phase: Phase) -> u8
     ensures tier { result ≡ lowest_tier phase }
     ensures most { result ≤ 82 }
@@ -33,7 +35,7 @@ fn lowest_tier(phase: Phase) -> u8
     }
 }
 
-// The line of row i of a hatch in a phase.
+/// The line of row i of a hatch in a phase.
 fn row_line(hatch: u16, phase: Phase, i: u8) -> Text<64>
     requires hatch { (2 ≤ hatch) × (hatch < 1000) }
     requires i { i < 30 }
@@ -58,7 +60,7 @@ fn row_line(hatch: u16, phase: Phase, i: u8) -> Text<64>
     line
 }
 
-// Puts the lines of a hatch's rows in a phase behind a text.
+/// Puts the lines of a hatch's rows in a phase behind a text.
 fn push_phase(text: &mut Vec<u8>, hatch: u16, phase: Phase, count: u8) -> Result<(), OutOfMemory>
     requires hatch { (2 ≤ hatch) × (hatch < 1000) }
     requires count { count ≤ 30 }
@@ -71,7 +73,7 @@ fn push_phase(text: &mut Vec<u8>, hatch: u16, phase: Phase, count: u8) -> Result
     Ok(())
 }
 
-// Puts the lines of a hatch's rows behind a text, and answers the state after its draws.
+/// Puts the lines of a hatch's rows behind a text, and answers the state after its draws.
 fn push_hatch(text: &mut Vec<u8>, hatch: u16, state: u32) -> Result<u32, OutOfMemory>
     requires { (2 ≤ hatch) × (hatch < 1000) }
     ensures text { OnOk result (text.new.items ≡ text.old.items ++ row_lines (hatch_rows state hatch)) }

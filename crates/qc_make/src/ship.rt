@@ -1,4 +1,4 @@
-// The ship file that is made.
+//! The ship file that is made.
 ghost use Rattle.std.specs.Prelude.{◌≡◌, ◌<◌, ◌≤◌, List, map, IfOk, OnOk, Ok, Some};
 ghost use Rattle.toml.specs.Parse.{parse_document};
 ghost use Rattle.toml.specs.View.{table_view, view};
@@ -20,7 +20,7 @@ fn number_value(number: u16) -> Value
     Value::Integer(i64::from(number))
 }
 
-// Puts a value at a key.
+/// Puts a value at a key.
 fn put(alloc: Global, table: &mut Table, key: &str, value: Value) -> Result<(), OutOfMemory>
     ensures { OnOk result (table_view table.new
         ≡ with_member key.now (view value) (table_view table.old)) }
@@ -48,7 +48,7 @@ fn hatch_values(alloc: Global, hatches: u16) -> Result<Vec<Value>, OutOfMemory>
     Ok(values)
 }
 
-// The table of crane k, from 0.
+/// The table of crane k, from 0.
 fn crane_table(alloc: Global, k: u16) -> Result<Table, OutOfMemory>
     requires { k < MOST_CRANES }
     ensures { IfOk result (λ t. table_view t ≡ crane_table k) }

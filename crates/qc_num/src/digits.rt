@@ -7,7 +7,7 @@ ghost use Rattle.std.specs.Str.Parse.{digits_value};
 ghost use Rattle.qc_num.specs.Digits.{is_plain, number_in};
 
 /// Whether each byte is a digit.
-fn are_digits(text: &[u8]) -> bool
+pub fn are_digits(text: &[u8]) -> bool
     ensures { result ≡ list_all is_ascii_digit text.now }
 {
     text.iter().all(|b| b.is_ascii_digit())
@@ -24,10 +24,11 @@ fn is_plain(text: &[u8], most: usize) -> bool
 }
 
 /// The number that at most 19 digits write.
-fn number(digits: &[u8]) -> u64
+pub fn value_of_digits(digits: &[u8]) -> u64
     requires few { length digits.now ≤ 19 }
     requires digits { IsTrue (list_all is_ascii_digit digits.now) }
     ensures value { result ≡ digits_value 10 digits.now }
+    ensures bound { result < 10 ^ length digits.now }
 {
     let mut number = 0;
     for digit in digits {
@@ -44,7 +45,7 @@ pub fn plain_number(text: &[u8], most: usize) -> Option<u64>
     ensures small { IfSome result (λ number. number < 10 ^ most) }
 {
     if is_plain(text, most) {
-        Some(number(text))
+        Some(value_of_digits(text))
     } else {
         None
     }

@@ -12,7 +12,7 @@ mod text;
 
 pub use bound::Bound;
 pub use bytes::Bytes;
-pub use digits::plain_number;
+pub use digits::{are_digits, plain_number, value_of_digits};
 pub use memory::OutOfMemory;
 pub use path::Path;
 pub use read_error::ReadError;

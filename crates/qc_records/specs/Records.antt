@@ -1,4 +1,4 @@
--- The records of a file of comma-separated values, as the crate `csv` reads them.
+-- public: the records of a file of comma-separated values, as the crate `csv` reads them.
 use Rattle.std.specs.Prelude.{ℕ, List, [], get_or}
 use Rattle.csv.specs.Reading.{default_config, records, strip_bom}
 

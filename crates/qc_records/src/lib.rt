@@ -10,7 +10,7 @@ use csv::{ByteRecord, Error, ErrorKind, ReaderBuilder};
 use qc_num::OutOfMemory;
 use std::alloc::Global;
 
-// A read of bytes in memory, of records that may differ in length, fails only for memory.
+/// A read of bytes in memory, of records that may differ in length, fails only for memory.
 fn stopped(error: Error) -> OutOfMemory
     requires { stops_reader (error_kind error) ≡ true }
 {

@@ -1,6 +1,7 @@
-use Rattle.std.proofs.Common.{arith}
-use Rattle.qc_num.proofs.DigitLemmas.{so_far_fits, value_more}
-use Rattle.qc_num.proofs.digits.number.Goals as goal
+use Rattle.std.proofs.Common.{arith, length}
+use Rattle.std.proofs.lemmas.List.{take_all}
+use Rattle.qc_num.proofs.DigitLemmas.{so_far_fits, value_fits, value_more}
+use Rattle.qc_num.proofs.digits.value_of_digits.Goals as goal
 
 pub overflow_mul-number : goal.overflow_mul-number
 overflow_mul-number c =
@@ -16,3 +17,8 @@ pub loop-digit-preserved : goal.loop-digit-preserved
 loop-digit-preserved c =
     let more = value_more c.args.digits.now c.loop-digit.digit-index c.loop-digit-test.true c.requires.digits in
     omega (arith, more, c.loop-digit.invariant, c.from.ensures)
+
+pub returns-clause-bound : goal.returns-clause-bound
+returns-clause-bound c =
+    let all = take_all c.loop-digit.digit-index c.args.digits.now c.loop-digit-test.false in
+    rw (c.loop-digit.invariant, all) (value_fits c.args.digits.now (length c.args.digits.now) c.requires.digits (omega arith))
