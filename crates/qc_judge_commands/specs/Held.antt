@@ -1,4 +1,4 @@
--- What an answer tells of a schedule that was judged.
+-- public: what an answer tells of a schedule that was judged.
 use Rattle.std.specs.Prelude.{◌≡◌, List}
 use Rattle.qc_num.specs.declared.bound.Bound.{Bound}
 use Rattle.qc_num.specs.declared.bound.Bound.TheVariants.{Least}
@@ -10,9 +10,9 @@ use Rattle.qc_model.specs.Motion.{IsSafe}
 use Rattle.qc_model.specs.OneWay.{GoesOneWay}
 use Rattle.qc_model.specs.Rules.{ends}
 use Rattle.qc_model.specs.Tasks.{task_text}
-use Rattle.qc_top.specs.declared.answer.Broken.{Broken}
-use Rattle.qc_top.specs.declared.answer.Compared.{Compared}
-use Rattle.qc_top.specs.declared.answer.Shown.{Shown}
+use Rattle.qc_judge_commands.specs.declared.answer.Broken.{Broken}
+use Rattle.qc_judge_commands.specs.declared.answer.Compared.{Compared}
+use Rattle.qc_judge_commands.specs.declared.answer.Shown.{Shown}
 
 -- the schedule goes neither way; the first rule that it breaks on the way up is told, with the names of the tasks
 pub record TellsBreak (inst : InstanceView) (sched : List Slot) (told : Broken) : Type 0 where
