@@ -1,9 +1,8 @@
 //! What is told of a search.
-ghost use Rattle.std.specs.Prelude.{◌≡◌, ◌≤◌, IfSome, Ok, length};
-ghost use Rattle.qc_gantt.specs.Plan.{HasShortEnds, plan_in};
-ghost use Rattle.qc_gantt.specs.PlanText.{plan_text};
+ghost use Rattle.std.specs.Prelude.{◌≤◌, IfSome, length};
 ghost use Rattle.qc_model.specs.Judge.{IsJudgeable};
-ghost use Rattle.qc_search.specs.Run.{IsSound};
+ghost use Rattle.qc_tree.specs.Trees.{NoneEarlier};
+ghost use Rattle.qc_search.specs.Run.{IsTight};
 ghost use Rattle.qc_plan_command.specs.Found.{IsReread, Tells};
 ghost use Rattle.qc_plan_command.specs.Reports.{CanBeTold};
 
@@ -15,7 +14,9 @@ use qc_search::Done;
 
 /// The answer that tells what a search came to; the track is for its motion.
 pub(crate) fn answer_of(inst: Instance, done: Done, track: Track) -> PlanAnswer
-    requires sound { (nodes : ℕ) × IsSound (record { inst = inst; nodes = nodes }) done }
+    requires none_earlier { NoneEarlier inst done.bound }
+    requires judgeable { IfSome done.best (IsJudgeable inst) }
+    requires tight { IfSome done.best (IsTight inst) }
     requires reread { IfSome done.best (IsReread inst) }
     requires room { length inst.tasks ≤ track.tasks }
     ensures tells { Tells inst done result }

@@ -1,14 +1,15 @@
 -- What a made ship and its list come to: the stored tree and plan, the check of both, and what is told.
-use Rattle.std.proofs.Common.{◌≡◌, ◌≤◌, ◌⊎◌, ℕ, Bool, true, false, List, Option, None, Some, Ok, arith, refl, sym, subst, ap, ap₂, inl, inr, ◌∙◌}
+use Rattle.std.proofs.Common.{◌≡◌, ◌≤◌, ◌⊎◌, ℕ, Bool, true, false, List, Option, None, Some, Result, Ok, Err, arith, refl, sym, subst, ap, ap₂, inl, inr, ◌∙◌}
 use Rattle.std.proofs.lemmas.List.{length-map}
 use Rattle.std.specs.Prelude.{IfSome, IsSomeAnd, codes, nat_le, if◌then◌else◌}
 use Rattle.std.specs.Cmp.Lexicographic.{nat_list_cmp_total}
 use Rattle.std.specs.FinMap.{get, get-insert, insert}
+use Rattle.qc_num.specs.Bounds.{IsAtMost}
 use Rattle.qc_num.specs.declared.bound.Bound.{Bound}
-use Rattle.qc_num.specs.declared.bound.Bound.TheVariants.{Least}
+use Rattle.qc_num.specs.declared.bound.Bound.TheVariants.{Least, Never}
 use Rattle.qc_gantt.specs.Plan.{HasShortEnds, plan_in}
 use Rattle.qc_gantt.specs.PlanText.{plan_text}
-use Rattle.qc_io.specs.Outside.{Files, Stand}
+use Rattle.qc_io.specs.Outside.{Files, View}
 use Rattle.qc_io.proofs.Named.{get-insert_same}
 use Rattle.qc_make.specs.MadeList.{made_rows}
 use Rattle.qc_make.specs.MadeShip.{made_ship}
@@ -24,18 +25,23 @@ use Rattle.qc_search.specs.Run.{DoneView, IsTight, best_end, outcome}
 use Rattle.qc_ship.specs.Ship.{ShipView}
 use Rattle.qc_stow.specs.Stow.{moves_in}
 use Rattle.qc_tree.specs.Trees.{Tree, tree_text}
-use Rattle.qc_top.specs.declared.answer.Answer.{Answer}
-use Rattle.qc_top.specs.declared.answer.Answer.TheVariants as answer
-use Rattle.qc_top.specs.declared.answer.Compared.{Compared}
-use Rattle.qc_top.specs.declared.answer.Stop.TheVariants as stop
-use Rattle.qc_top.specs.declared.answer.Verdict.TheVariants as verdict
-use Rattle.qc_top.specs.declared.status.Status.TheVariants as status
-use Rattle.qc_top.specs.Account.{IsMaking, IsStored, plan_texts, Printed, written}
-use Rattle.qc_top.specs.Answers.{status_of}
-use Rattle.qc_top.specs.Made.{AreStored, IsPlanStored, made_branchings, verdict_of}
-use Rattle.qc_top.specs.Promises.{IsMakingTold}
-use Rattle.qc_top.specs.Reports.{IsPrinted}
-use Rattle.qc_top.proofs.FoundLemmas.{of_some, tight_goes}
+use Rattle.qc_plan_command.specs.Stored.{with_plan, with_tree}
+use Rattle.qc_plan_command.specs.Stored.{IsTreeStored as IsSearchStored}
+use Rattle.qc_plan_command.proofs.FoundLemmas.{of_some, tight_goes}
+use Rattle.qc_run.specs.declared.refusal.Refusal.TheVariants as refusal
+use Rattle.qc_run.specs.declared.refusal.Stop.{Stop}
+use Rattle.qc_run.specs.declared.refusal.Stop.TheVariants as stop
+use Rattle.qc_run.specs.declared.status.Status.{Status}
+use Rattle.qc_run.specs.declared.status.Status.TheVariants as status
+use Rattle.qc_run.specs.Reports.{Printing, Prints, PrintsPart, answer_prints, answer_status}
+use Rattle.qc_run.specs.Told.{EndsWith}
+use Rattle.qc_run.proofs.ToldLemmas.{cut_told, memory_told, never_usage, of_status}
+use Rattle.qc_trial.specs.declared.made.Made.{Made}
+use Rattle.qc_trial.specs.declared.made.Verdict.TheVariants as verdict
+use Rattle.qc_trial.specs.Account.{IsMaking, IsMakingTold, IsTrialRun, TrialPromises}
+use Rattle.qc_trial.specs.Made.{made_branchings, verdict_of}
+use Rattle.qc_trial.specs.Stored.{AreStored, IsPlanStored, verdict_at}
+use Rattle.qc_trial.specs.Texts.{made_text}
 
 -- ---- what is made
 
@@ -61,14 +67,14 @@ module _ (inst : InstanceView) (tree : Tree) (held mid after : Files)
   tree_there =
       ap (λ (m : Files). get m (codes "tree")) mid_is ∙ get-insert_same held (codes "tree") (tree_text inst tree)
 
-  still_there : (best : Option (List Slot)) → after ≡ written (plan_texts (codes "plan") inst best) mid
+  still_there : (best : Option (List Slot)) → after ≡ with_plan mid (codes "plan") inst best
       → get after (codes "tree") ≡ Some (tree_text inst tree)
   still_there None is = ap (λ (m : Files). get m (codes "tree")) is ∙ tree_there
   still_there (Some sched) is =
       ap (λ (m : Files). get m (codes "tree")) is
       ∙ get-insert nat_list_cmp_total mid (codes "plan") (plan_text inst sched) (codes "tree") ∙ tree_there
 
-  plan_there : (best : Option (List Slot)) → after ≡ written (plan_texts (codes "plan") inst best) mid
+  plan_there : (best : Option (List Slot)) → after ≡ with_plan mid (codes "plan") inst best
       → IfSome best (IsJudgeable inst) → IfSome best (λ sched. ends inst sched ≤ MOST_START)
       → IfSome best (λ sched. HasShortEnds inst sched → plan_in inst (plan_text inst sched) ≡ Ok sched)
       → IfSome best (IsPlanStored inst after)
@@ -84,8 +90,8 @@ same_some e = cc
 
 -- the tree was stored, and then the plan
 pub are_stored : (inst : InstanceView) (before mid after : Option Files) (done : DoneView)
-    → IfSome before (λ held. IsStored (record { inst = inst; nodes = made_branchings }) (codes "tree") held mid done)
-    → IfSome mid (λ held. after ≡ Some (written (plan_texts (codes "plan") inst done.best) held))
+    → IfSome before (λ held. IsSearchStored (record { inst = inst; nodes = made_branchings }) (codes "tree") held mid done)
+    → IfSome mid (λ held. after ≡ Some (with_plan held (codes "plan") inst done.best))
     → IfSome done.best (λ sched. HasShortEnds inst sched → plan_in inst (plan_text inst sched) ≡ Ok sched)
     → IfSome before (λ held. IsSomeAnd after (λ files. AreStored inst files done))
 are_stored inst None mid after done stored wrote reread = tt
@@ -93,7 +99,7 @@ are_stored inst (Some held) None after done stored wrote reread = absurd (cc sto
 are_stored inst (Some held) (Some now) after done stored wrote reread =
     let is = same_some stored.files in
     let sound = stored.found.sound in
-    let files : Files = written (plan_texts (codes "plan") inst done.best) now in
+    let files : Files = with_plan now (codes "plan") inst done.best in
     subst (λ (o : Option Files). IsSomeAnd o (λ files. AreStored inst files done)) (sym wrote) (record {
       tree = stored.tree;
       found = stored.found;
@@ -115,33 +121,62 @@ best_read inst files done met sched stored best read =
 
 -- ---- the check
 
-verdict_at : (late : Bool) (sched : List Slot)
+verdict_by : (late : Bool) (sched : List Slot)
     → (if late then verdict.Optimal else verdict.Weaker)
     ≡ verdict_of (if late then kind.Optimal else kind.Budget) (Some sched)
-verdict_at true sched = refl
-verdict_at false sched = refl
+verdict_by true sched = refl
+verdict_by false sched = refl
+
+verdict_out : (bound : Bound) (end : ℕ) (sched : List Slot) → IsAtMost bound (Least end)
+    → verdict_at bound end ≡ verdict_of (outcome bound (Least end)) (Some sched)
+verdict_out (Least bound) end sched late = verdict_by (nat_le end bound) sched
+verdict_out Never end sched late = absurd late
 
 -- the check of a best schedule finds what the search found
-pub verdict_is : (inst : InstanceView) (done : DoneView) (sched : List Slot) (told : Compared) → done.best ≡ Some sched
-    → done.kind ≡ outcome done.bound (best_end inst done.best) → told.end ≡ ends inst sched → done.bound ≡ Least told.bound
-    → (if nat_le told.end told.bound then verdict.Optimal else verdict.Weaker) ≡ verdict_of done.kind done.best
-verdict_is inst done sched told best is end bound =
-    let kind_is =
-    is ∙ ap₂ (λ (v : Bound) (o : Option (List Slot)). outcome v (best_end inst o)) bound best
-    ∙ ap (λ (e : ℕ). if nat_le e told.bound then kind.Optimal else kind.Budget) (sym end) in
-    verdict_at (nat_le told.end told.bound) sched ∙ sym (ap₂ verdict_of kind_is best)
+pub verdict_is : (inst : InstanceView) (done : DoneView) (sched : List Slot) (bound : Bound) → done.best ≡ Some sched
+    → done.kind ≡ outcome done.bound (best_end inst done.best) → done.bound ≡ bound
+    → IsAtMost bound (Least (ends inst sched)) → verdict_at bound (ends inst sched) ≡ verdict_of done.kind done.best
+verdict_is inst done sched bound best is same late =
+    verdict_out bound (ends inst sched) sched late
+    ∙ sym (ap₂ verdict_of (is ∙ ap₂ (λ (v : Bound) (o : Option (List Slot)). outcome v (best_end inst o)) same best) best)
 
 -- ---- what is told
 
-module _ (n h c : ℕ) (before after : Stand) where
-  pub making_told : (pb pa : Printed) (a : Answer) → IsMaking n h c before after a → status_of a ≡ status.Done
-      → IsPrinted a pb.bytes pa.bytes → IsMakingTold n h c pb pa
-  making_told pb pa (answer.Made told) making e report = record { told = told; made = making.ending; report = report }
-  making_told pb pa (answer.Stopped stop.OutOfMemory) making e report = absurd (cc e)
-  making_told pb pa other making e report = absurd making.ending
+module _ (n h c : ℕ) (pb pa : View) (ended : Status) (run : IsTrialRun n h c pb pa ended) where
+  abbrev part : Made → Printing
+  part told = PrintsPart (made_text told)
 
-  pub making_ends : (a : Answer) → IsMaking n h c before after a
-      → (status_of a ≡ status.Done) ⊎ (status_of a ≡ status.OutOfMemory)
-  making_ends (answer.Made told) making = inl refl
-  making_ends (answer.Stopped stop.OutOfMemory) making = inr refl
-  making_ends other making = absurd making.ending
+  abbrev whole : Made → Printing
+  whole told = Prints (made_text told)
+
+  abbrev done : Made → Status
+  done told = status.Done
+
+  making_told : (r : Result Made Stop) → IsMaking n h c r → answer_status done r ≡ status.Done
+      → answer_prints Prints whole r pb.written pa.written → IsMakingTold n h c pb pa
+  making_told (Ok told) making e report = record { told = told; made = making; report = report }
+  making_told (Err stop.OutOfMemory) making e report = absurd (cc e)
+  making_told (Err (stop.Refused why)) making e report = absurd making
+
+  making_ends : (r : Result Made Stop) → IsMaking n h c r → (answer_status done r ≡ status.Done) ⊎ (answer_status done r ≡ status.OutOfMemory)
+  making_ends (Ok told) making = inl refl
+  making_ends (Err stop.OutOfMemory) making = inr refl
+  making_ends (Err (stop.Refused why)) making = absurd making
+
+  make_complete : EndsWith status.Done pb pa ended ⊎ (ended ≡ status.OutOfMemory)
+  make_complete = elim run.reports.ending [
+    | inl told ↦ elim (making_ends run.answer run.serves) [
+      | inl is ↦ inl (inl (told.status ∙ is))
+      | inr wanting ↦ inr (told.status ∙ wanting)
+    ]
+    | inr cut ↦ inl (inr (cut.status, cut.rose))
+  ]
+
+  pub trial_promises : TrialPromises n h c pb pa ended
+  trial_promises = record {
+    make_done = λ e. of_status (IsMaking n h c) whole part done pb pa ended run status.Done e (λ f. cc f) making_told;
+    make_complete = make_complete;
+    no_usage = never_usage (IsMaking n h c) whole part done pb pa ended run (λ told. tt) (λ making. making);
+    out_of_memory = memory_told (IsMaking n h c) whole part done pb pa ended run (λ told. tt);
+    write_fault = cut_told (IsMaking n h c) whole part done pb pa ended run (λ told e. cc e);
+  }

@@ -1,10 +1,6 @@
--- What is made from numbers, what a search of it came to, and what is told of that.
-use Rattle.std.specs.Prelude.{◌≡◌, ℕ, List, length, sum_by, Option, None, Some, IfSome, Ok, codes, option_map}
-use Rattle.std.specs.FinMap.{get}
+-- public: what is made from numbers, what a search of it came to, and what is told of that.
+use Rattle.std.specs.Prelude.{◌≡◌, ℕ, List, length, sum_by, Option, None, Some, option_map}
 use Rattle.qc_num.specs.declared.bound.Bound.TheVariants.{Least}
-use Rattle.qc_gantt.specs.Plan.{plan_in}
-use Rattle.qc_gantt.specs.PlanText.{plan_text}
-use Rattle.qc_io.specs.Outside.{Files}
 use Rattle.qc_make.specs.MadeList.{made_rows}
 use Rattle.qc_make.specs.MadeShip.{made_ship}
 use Rattle.qc_model.specs.declared.schedule.Slot.{Slot}
@@ -14,11 +10,11 @@ use Rattle.qc_search.specs.declared.done.Kind.{Kind}
 use Rattle.qc_search.specs.declared.done.Kind.TheVariants as kind
 use Rattle.qc_search.specs.Run.{DoneView}
 use Rattle.qc_tasks.specs.InstanceOf.{instance_of}
-use Rattle.qc_tree.specs.Trees.{IsTree, Tree, tree_text}
-use Rattle.qc_top.specs.declared.answer.Made.{Made}
-use Rattle.qc_top.specs.declared.answer.Verdict.{Verdict}
-use Rattle.qc_top.specs.declared.answer.Verdict.TheVariants as verdict
-use Rattle.qc_top.specs.Found.{IsFound}
+use Rattle.qc_tree.specs.Trees.{Tree}
+use Rattle.qc_trial.specs.declared.made.Made.{Made}
+use Rattle.qc_trial.specs.declared.made.Verdict.{Verdict}
+use Rattle.qc_trial.specs.declared.made.Verdict.TheVariants as verdict
+use Rattle.qc_plan_command.specs.Found.{IsFound}
 
 -- the instance of the made ship and the made list
 abbrev pub made_instance : (number hatches cranes : ℕ) → InstanceView
@@ -54,20 +50,3 @@ pub record IsMade (number hatches cranes : ℕ) (told : Made) : Type 0 where
   pub done : DoneView
   pub found : IsFound (made_instance number hatches cranes) made_branchings tree done
   pub tells : TellsMade number hatches cranes done told
-
--- the tree is one of the instance, and stands in its file
-pub record IsTreeStored (inst : InstanceView) (files : Files) (tree : Tree) : Type 0 where
-  pub is_tree : IsTree inst tree
-  pub text : get files (codes "tree") ≡ Some (tree_text inst tree)
-
--- the plan of the schedule stands in its file, and is read as this schedule
-pub record IsPlanStored (inst : InstanceView) (files : Files) (sched : List Slot) : Type 0 where
-  pub text : get files (codes "plan") ≡ Some (plan_text inst sched)
-  pub reread : plan_in inst (plan_text inst sched) ≡ Ok sched
-
--- the tree of a search stands in its file, and the plan of its best schedule, if it met any
-pub record AreStored (inst : InstanceView) (files : Files) (done : DoneView) : Type 0 where
-  pub tree : Tree
-  pub found : IsFound inst made_branchings tree done
-  pub tree_stored : IsTreeStored inst files tree
-  pub plan_stored : IfSome done.best (IsPlanStored inst files)

@@ -1,47 +1,29 @@
-//! The command that makes a ship and a list from numbers, and plans and checks them. All that it needs
-//! lies on a shelf of its own, so a fault of that shelf is want of memory.
-ghost use Rattle.std.specs.Prelude.{◌≡◌, ◌≤◌, List, length, sum_by, nat_le, if◌then◌else◌, OnOk, IfOk, IfSome, IsSome, IsSomeAnd, Some, option_map};
-ghost use Rattle.std.specs.FinMap.{get};
+//! The command that makes a ship and a stowage list from numbers, and plans and checks them.
+ghost use Rattle.std.specs.Prelude.{◌≡◌, ◌≤◌, List, length, sum_by, OnOk, IfOk, IfSome, option_map};
 ghost use Rattle.qc_make.specs.MadeList.{made_rows};
 ghost use Rattle.qc_make.specs.MadeShip.{made_ship};
 ghost use Rattle.qc_make.specs.OneWayWork.{HasOneWay};
 ghost use Rattle.qc_model.specs.declared.limits.TheConstants.{MOST_CRANES, MOST_HATCHES};
-ghost use Rattle.qc_model.specs.declared.schedule.Slot.{Slot};
 ghost use Rattle.qc_model.specs.Judge.{IsJudgeable};
 ghost use Rattle.qc_model.specs.Rules.{ends};
 ghost use Rattle.qc_stow.specs.declared.row.Row.{Row};
 ghost use Rattle.qc_tasks.specs.InstanceOf.{instance_of};
-ghost use Rattle.qc_tree.specs.Trees.{NoneEarlier, Tree, tree_value};
-ghost use Rattle.qc_words.specs.Asked.{make as make_asked};
-ghost use Rattle.qc_top.specs.Account.{MakesOf};
-ghost use Rattle.qc_top.specs.May.{MayAnswer};
-ghost use Rattle.qc_top.specs.Reports.{CanBeTold};
-ghost use Rattle.qc_top.specs.Made.{AreStored, IsMade, IsPlanStored, IsTreeStored, made_instance, verdict_of};
+ghost use Rattle.qc_trial.specs.Account.{IsTrialRun};
+ghost use Rattle.qc_trial.specs.Made.{IsMade, made_instance};
 
-use crate::answer::{Answer, Compared, Made, Stop, Verdict};
-use crate::compare::compared_of;
-use crate::judged::compared_status;
-use crate::plan::{store_best, store_tree};
-use crate::status::Status;
-use qc_gantt::{PlanError, read_plan};
-use qc_io::{MemShelf, ReadAll, Shelf, WriteFault, read_all};
+use crate::made::Made;
+use crate::stored::{check_stored, store_search};
+use crate::summary::made_text;
+use qc_io::{MemShelf, Sink};
 use qc_make::{list_text, ship_text};
-use qc_model::{Instance, Schedule, direction_of, ends};
-use qc_num::{Bound, Bytes, OutOfMemory, Tick};
-use qc_replay::{ReplayError, replay};
-use qc_search::{Done, Search};
+use qc_model::{Instance, ends};
+use qc_num::{Bound, OutOfMemory, Tick};
+use qc_run::{Status, Stop, report_stop, report_text};
+use qc_search::Done;
 use qc_ship::{Ship, ShipError, read_ship};
 use qc_stow::{StowError, read_stow};
 use qc_tasks::tasks_of;
 use std::alloc::Global;
-
-/// The most branchings of the search.
-const BRANCHINGS: u32 = 500;
-
-/// The names of the plan's file and of the tree's file on the shelf.
-const PLAN: &str = "plan";
-
-const TREE: &str = "tree";
 
 /// The ship that is made, as its file is read.
 fn made_ship(alloc: Global, hatches: u16, cranes: u16) -> Result<Ship, OutOfMemory>
@@ -81,120 +63,6 @@ fn made_instance(
     };
     let inst = tasks_of(alloc, &ship, &moves)?;
     Ok((moves.rows().len() as u64, inst))
-}
-
-/// Searches the instance, and stores its tree and the plan of the best schedule.
-fn store_search<S: Shelf>(
-    alloc: Global,
-    inst: &Instance,
-    shelf: &mut S,
-) -> Result<Done, OutOfMemory>
-    ensures { IfOk result (λ done. IfSome (S.files shelf.old) (λ held.
-        IsSomeAnd (S.files shelf.new) (λ files. AreStored inst.now files done))) }
-{
-    let search = Search::open(alloc, inst, BRANCHINGS)?;
-    let Ok(done) = store_tree(search, TREE, shelf) else {
-        return Err(OutOfMemory);
-    };
-    match store_best(inst, &done, PLAN, shelf) {
-        Ok(()) => Ok(done),
-        Err(WriteFault) => Err(OutOfMemory),
-    }
-}
-
-/// A file of the shelf, however long it is.
-fn read_stored(alloc: Global, name: &str, shelf: &mut MemShelf) -> Result<Bytes, OutOfMemory>
-    requires { IsSome (get shelf.old.files name.now) }
-    ensures bytes { IfOk result (λ bytes. get shelf.old.files name.now ≡ Some bytes) }
-    ensures files { shelf.new.files ≡ shelf.old.files }
-{
-    let Some(bytes) = shelf.bytes(name) else {
-        unreachable!()
-    };
-    let limit = bytes.len();
-    match read_all(alloc, shelf, name, limit) {
-        Ok(bytes) => Ok(bytes),
-        Err(ReadAll::TooLarge) => unreachable!(),
-        Err(ReadAll::ReadFault | ReadAll::OutOfMemory) => Err(OutOfMemory),
-    }
-}
-
-/// The schedule of the stored plan.
-fn stored_schedule(
-    alloc: Global,
-    inst: &Instance,
-    shelf: &mut MemShelf,
-) -> Result<Schedule, OutOfMemory>
-    requires { (sched : List Slot) × IsPlanStored inst.now shelf.old.files sched }
-    ensures sched { (sched : List Slot) → IsPlanStored inst.now shelf.old.files sched
-        → IfOk result (λ read. read ≡ sched) }
-    ensures judgeable { IfOk result (IsJudgeable inst.now) }
-    ensures files { shelf.new.files ≡ shelf.old.files }
-{
-    let bytes = read_stored(alloc, PLAN, shelf)?;
-    match read_plan(alloc, bytes.as_slice(), inst) {
-        Ok(sched) => Ok(sched),
-        Err(PlanError::Fault(_)) => unreachable!(),
-        Err(PlanError::OutOfMemory) => Err(OutOfMemory),
-    }
-}
-
-/// What the stored tree shows.
-fn stored_bound(alloc: Global, inst: &Instance, shelf: &mut MemShelf) -> Result<Bound, OutOfMemory>
-    requires { (tree : Tree) × IsTreeStored inst.now shelf.old.files tree }
-    ensures value { (tree : Tree) → IsTreeStored inst.now shelf.old.files tree
-        → IfOk result (λ bound. bound ≡ tree_value inst.now tree) }
-    ensures none_earlier { IfOk result (NoneEarlier inst.now) }
-{
-    match replay(alloc, inst, shelf, TREE) {
-        Ok(read) => Ok(read.bound),
-        Err(ReplayError::Tree(_)) => unreachable!(),
-        Err(ReplayError::ReadFault | ReplayError::OutOfMemory) => Err(OutOfMemory),
-    }
-}
-
-/// What a check says of the stored tree alone.
-fn check_tree(alloc: Global, inst: &Instance, shelf: &mut MemShelf) -> Result<Verdict, OutOfMemory>
-    requires stored { (tree : Tree) × IsTreeStored inst.now shelf.old.files tree }
-    requires one_way { HasOneWay inst.now }
-    ensures { IfOk result (λ verdict. verdict ≡ Verdict.Bound) }
-{
-    match stored_bound(alloc, inst, shelf)? {
-        Bound::Least(_) => Ok(Verdict::Bound),
-        Bound::Never => unreachable!(),
-    }
-}
-
-/// What a check says of a plan that holds.
-fn verdict_on(told: Compared) -> Verdict
-    ensures { result ≡ (if nat_le told.end told.bound then Verdict.Optimal else Verdict.Weaker) }
-{
-    match compared_status(told) {
-        Status::Optimal => Verdict::Optimal,
-        _ => Verdict::Weaker,
-    }
-}
-
-/// What a check says of the stored plan and tree, or of the tree alone where no schedule was met.
-fn check_stored(
-    alloc: Global,
-    inst: &Instance,
-    done: &Done,
-    shelf: &mut MemShelf,
-) -> Result<Verdict, OutOfMemory>
-    requires stored { AreStored inst.now shelf.old.files done.now }
-    requires one_way { HasOneWay inst.now }
-    ensures { IfOk result (λ verdict. verdict ≡ verdict_of done.now.kind done.now.best) }
-{
-    let Some(_) = done.best() else {
-        return check_tree(alloc, inst, shelf);
-    };
-    let sched = stored_schedule(alloc, inst, shelf)?;
-    let Ok(_) = direction_of(inst, &sched) else {
-        unreachable!()
-    };
-    let bound = stored_bound(alloc, inst, shelf)?;
-    Ok(verdict_on(compared_of(inst, &sched, bound)))
 }
 
 /// The length of all tasks together, in ticks.
@@ -243,16 +111,14 @@ fn try_out(alloc: Global, number: u32, hatches: u16, cranes: u16) -> Result<Made
     })
 }
 
-/// Makes a ship and a list from a number, plans and checks them; a summary is to be printed.
-pub(crate) fn make(alloc: Global, number: u32, hatches: u16, cranes: u16) -> Answer
+/// Makes a ship and a list from a number, plans and checks them, and prints a summary.
+pub fn make<K: Sink>(alloc: Global, number: u32, hatches: u16, cranes: u16, out: &mut K) -> Status
     requires hatches { (1 ≤ hatches) × (hatches ≤ MOST_HATCHES) }
     requires cranes { (1 ≤ cranes) × (cranes ≤ MOST_CRANES) }
-    ensures ending { MakesOf number hatches cranes result }
-    ensures may { MayAnswer (make_asked number hatches cranes) result }
-    ensures ready { CanBeTold result }
+    ensures { IsTrialRun number hatches cranes (K.view out.old) (K.view out.new) result }
 {
     match try_out(alloc, number, hatches, cranes) {
-        Ok(told) => Answer::Made(told),
-        Err(OutOfMemory) => Answer::Stopped(Stop::OutOfMemory),
+        Ok(told) => report_text(Status::Done, made_text(&told).as_bytes(), out),
+        Err(OutOfMemory) => report_stop(Stop::OutOfMemory, out),
     }
 }

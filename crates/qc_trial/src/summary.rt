@@ -1,23 +1,10 @@
 //! The report of a ship and a list that were made, planned and checked.
 ghost use Rattle.std.specs.Prelude.{◌≡◌, ◌≤◌, length};
-ghost use Rattle.qc_io.specs.Writes.{Writes};
-ghost use Rattle.qc_top.specs.Answers.{end_word, found_text, kind_word, made_text, size_text, verdict_word};
+ghost use Rattle.qc_trial.specs.Texts.{end_word, found_text, made_text, size_text, verdict_word};
 
-use crate::answer::{Made, Verdict};
-use qc_io::{Sink, WriteFault, put_all};
+use crate::made::{Made, Verdict};
 use qc_num::{Text, Tick};
-use qc_search::Kind;
-
-fn kind_word(kind: Kind) -> &'static [u8]
-    ensures text { result.now ≡ kind_word kind }
-    ensures short { length result.now ≤ 10 }
-{
-    match kind {
-        Kind::Optimal => b"Optimal",
-        Kind::Infeasible => b"Infeasible",
-        Kind::Budget => b"Budget",
-    }
-}
+use qc_plan_command::kind_word;
 
 fn verdict_word(verdict: Verdict) -> &'static [u8]
     ensures text { result.now ≡ verdict_word verdict }
@@ -80,11 +67,11 @@ fn found_text(told: &Made) -> Text<96>
     text
 }
 
-/// Writes the summary.
-pub(crate) fn put_made<K: Sink>(told: &Made, out: &mut K) -> Result<(), WriteFault>
-    ensures { Writes K.written K.beside K.faults out.old out.new (made_text told.now) result }
+/// The summary.
+pub(crate) fn made_text(told: &Made) -> Text<256>
+    ensures { result ≡ made_text told.now }
 {
-    let mut text: Text<256> = Text::of(size_text(told).as_bytes());
+    let mut text = Text::of(size_text(told).as_bytes());
     text.push(found_text(told).as_bytes());
-    put_all(out, text.as_bytes())
+    text
 }

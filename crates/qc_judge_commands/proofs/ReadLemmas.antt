@@ -1,0 +1,56 @@
+-- What a tree's file shows for the instance that is due, and what is promised of each command that only reads.
+use Rattle.std.proofs.Common.{◌≡◌, ◌≢◌, ◌≤◌, ℕ, List, Option, None, Some, Result, Ok, Err, sym, ap, subst, ◌∙◌}
+use Rattle.std.specs.Prelude.{IfSome}
+use Rattle.qc_num.specs.declared.bound.Bound.{Bound}
+use Rattle.qc_num.specs.Reading.{◌>>=◌}
+use Rattle.qc_num.proofs.ReadingLemmas.{bind_ok, same_ok}
+use Rattle.qc_io.specs.Outside.{Files, View}
+use Rattle.qc_model.specs.Instance.{InstanceView}
+use Rattle.qc_run.specs.declared.reading.Job.{Job}
+use Rattle.qc_run.specs.declared.refusal.Refusal.TheVariants as refusal
+use Rattle.qc_run.specs.declared.refusal.Stop.{Stop}
+use Rattle.qc_run.specs.declared.refusal.Stop.TheVariants as stop
+use Rattle.qc_run.specs.declared.status.Status.{Status}
+use Rattle.qc_run.specs.declared.status.Status.TheVariants as status
+use Rattle.qc_run.specs.Due.{Contents, contents_in, instance_due, job_due, schedule_due}
+use Rattle.qc_run.specs.Inputs.{Names}
+use Rattle.qc_run.specs.Reports.{IsRun, Printing}
+use Rattle.qc_run.specs.Shown.{IsNoTree, IsTreeShown}
+use Rattle.qc_run.specs.Steps.{ComesTo}
+use Rattle.qc_run.proofs.StatusLemmas.{IsOwn}
+use Rattle.qc_run.proofs.ToldLemmas.{cut_told, memory_told, never_usage, refused_told}
+use Rattle.qc_judge_commands.specs.Promises.{ReadPromises}
+use Rattle.qc_judge_commands.specs.Shown.{IsBoundShown, IsNoneShown}
+
+-- ---- the instance that is due
+
+pub job_inst : (contents : Contents) (job : Job) → job_due contents ≡ Ok job → instance_due contents ≡ Ok job.inst
+job_inst contents job e =
+    let (inst, first, rest) = bind_ok (instance_due contents) (λ inst. schedule_due inst contents >>= λ sched. Ok (record { inst = inst; sched = sched })) job e in
+    let (sched, second, made) = bind_ok (schedule_due inst contents) (λ sched. Ok (record { inst = inst; sched = sched })) job rest in
+    first ∙ ap (λ (j : Job). Ok j.inst) (same_ok made)
+
+-- what a tree's file shows is shown for that instance
+pub shown_bound : (names : Names) (files : Option Files) (job : Job) (bound : Bound) → ComesTo job_due names files (Ok job)
+    → IfSome files (λ held. IsTreeShown job.inst (contents_in held names).tree bound) → IfSome files (λ held. IsBoundShown names held bound)
+shown_bound names None job bound h shown = tt
+shown_bound names (Some held) job bound h shown = record { inst = job.inst; due = job_inst (contents_in held names) job h; shown = shown }
+
+pub shown_none : (names : Names) (files : Option Files) (job : Job) → ComesTo job_due names files (Ok job)
+    → IfSome files (λ held. IsNoTree job.inst (contents_in held names).tree) → IfSome files (λ held. IsNoneShown names held)
+shown_none names None job h none = tt
+shown_none names (Some held) job h none = record { inst = job.inst; due = job_inst (contents_in held names) job h; none = none }
+
+-- ---- what each command promises that only reads
+
+module _ {A : Type 0} (account : Result A Stop → Type 0) (whole part : A → Printing) (status_of : A → Status)
+    (before after pb pa : View) (ended : Status) (run : IsRun account whole part status_of pb pa ended) where
+  pub read_promises : ((answer : A) → IsOwn (status_of answer)) → ((answer : A) → status_of answer ≢ status.WriteFault)
+      → ¬ account (Err (stop.Refused refusal.Usage)) → after.files ≡ before.files → ReadPromises account part before after pb pa ended
+  read_promises own no_fault no_usage files = record {
+    refused = refused_told account whole part status_of pb pa ended run own;
+    no_usage = never_usage account whole part status_of pb pa ended run own no_usage;
+    out_of_memory = memory_told account whole part status_of pb pa ended run own;
+    files_stay = files;
+    write_fault = cut_told account whole part status_of pb pa ended run no_fault;
+  }
