@@ -5,12 +5,12 @@ mod answer;
 mod check;
 mod compare;
 mod judged;
-mod show;
+mod motion;
 mod shown;
 mod tasks;
 
 pub use answer::{Broken, Compared, Judged, Showing, Shown};
 pub use check::check_tree;
 pub use compare::check_plan;
-pub use show::show;
+pub use motion::show;
 pub use tasks::list_tasks;

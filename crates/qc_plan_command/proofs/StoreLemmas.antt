@@ -121,8 +121,10 @@ module _ (asked : Planning) (inst : InstanceView) (before mid after : Option Fil
           → IfSome mid (λ held. (after ≡ Some held) ⊎ (after ≡ Some (with_plan held asked.plan inst done.best)))
           → IfSome files (λ held. IsLeft asked held after)
       by None due_is stored left = tt
-      by (Some held) due_is stored left = inr (searched held done due_is stored,
-      over (λ files. (after ≡ Some files) ⊎ (after ≡ Some (with_plan files asked.plan inst done.best))) _ _ stored.files left refl)
+      by (Some held) due_is stored left = inr (
+        searched held done due_is stored,
+        over (λ files. (after ≡ Some files) ⊎ (after ≡ Some (with_plan files asked.plan inst done.best))) _ _ stored.files left refl,
+      )
 
   -- both are made, and the answer tells of the search
   pub both_written : (done : DoneView) (a : PlanAnswer) → IfSome before (λ held. IsTreeStored view asked.tree held mid done)

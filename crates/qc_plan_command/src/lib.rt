@@ -4,13 +4,13 @@
 
 mod answer;
 mod asked;
+mod command;
 mod found;
-mod plan;
 mod report;
 mod store;
 
 pub use answer::{PlanAnswer, Planned};
 pub use asked::PlanAsked;
-pub use plan::plan;
+pub use command::plan;
 pub use report::kind_word;
 pub use store::{store_best, store_tree};

@@ -17,5 +17,5 @@ has_place ship.NameTwice fault other = refl
 has_place ship.Apart fault other = refl
 
 pub returns-in_default : goal.returns-in_default
-returns-in_default g c =
+returns-in_default c =
     c.place_line.ensures ∙ has_place c.args.fault.kind c.args.fault c.in_default.not-NotToml

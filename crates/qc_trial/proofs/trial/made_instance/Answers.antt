@@ -4,7 +4,7 @@ use Rattle.qc_make.specs.MadeList.{made_rows}
 use Rattle.qc_make.specs.OneWayWork.{HasOneWay}
 use Rattle.qc_tasks.specs.InstanceOf.{instance_of}
 use Rattle.qc_trial.proofs.MadeLemmas.{moves_read}
-use Rattle.qc_trial.proofs.make.made_instance.Goals as goal
+use Rattle.qc_trial.proofs.trial.made_instance.Goals as goal
 
 pub unreachable-requires : goal.unreachable-requires
 unreachable-requires c =

@@ -5,6 +5,7 @@ ghost use Rattle.qc_run.specs.Due.{instance_due};
 ghost use Rattle.qc_run.specs.Steps.{ComesTo};
 ghost use Rattle.qc_plan_command.specs.Account.{IsPlanRun, IsPlanning};
 ghost use Rattle.qc_plan_command.specs.Asked.{planning};
+ghost use Rattle.qc_plan_command.specs.Promises.{PlanPromises};
 ghost use Rattle.qc_plan_command.specs.Reports.{CanBeTold};
 
 use crate::answer::PlanAnswer;
@@ -76,6 +77,8 @@ fn serve<S: Shelf>(alloc: Global, asked: &PlanAsked<'_>, shelf: &mut S) -> Resul
 pub fn plan<S: Shelf, K: Sink>(alloc: Global, asked: &PlanAsked<'_>, shelf: &mut S, out: &mut K) -> Status
     requires { asked.now.nodes ≤ MOST_BRANCHINGS }
     ensures account { IsPlanRun (planning asked.now) (S.Sink.view shelf.old) (S.Sink.view shelf.new)
+        (K.Sink.view out.old) (K.Sink.view out.new) result }
+    ensures promises { PlanPromises (planning asked.now) (S.Sink.view shelf.old) (S.Sink.view shelf.new)
         (K.Sink.view out.old) (K.Sink.view out.new) result }
     ensures never_falls { (S.Sink.view shelf.old).faults ≤ (S.Sink.view shelf.new).faults }
     ensures reads_never_fall { (S.Sink.view shelf.old).read_faults ≤ (S.Sink.view shelf.new).read_faults }
