@@ -1,5 +1,5 @@
 -- What a tree's file shows for the instance that is due, and what is promised of each command that only reads.
-use Rattle.std.proofs.Common.{◌≡◌, ◌≢◌, ◌≤◌, ℕ, List, Option, None, Some, Result, Ok, Err, sym, ap, subst, ◌∙◌}
+use Rattle.std.proofs.Common.{◌≡◌, ◌≢◌, ◌≤◌, ℕ, List, Option, None, Some, Result, Ok, Err, sym, ap, subst, inl, inr, ◌∙◌}
 use Rattle.std.specs.Prelude.{IfSome}
 use Rattle.qc_num.specs.declared.bound.Bound.{Bound}
 use Rattle.qc_num.specs.Reading.{◌>>=◌}
@@ -12,13 +12,17 @@ use Rattle.qc_run.specs.declared.refusal.Stop.{Stop}
 use Rattle.qc_run.specs.declared.refusal.Stop.TheVariants as stop
 use Rattle.qc_run.specs.declared.status.Status.{Status}
 use Rattle.qc_run.specs.declared.status.Status.TheVariants as status
-use Rattle.qc_run.specs.Due.{Contents, contents_in, instance_due, job_due, schedule_due}
+use Rattle.qc_run.specs.Due.{Contents, contents_in, instance_due, job_due, schedule_due, tree_due}
 use Rattle.qc_run.specs.Inputs.{Names}
 use Rattle.qc_run.specs.Reports.{IsRun, Printing}
 use Rattle.qc_run.specs.Shown.{IsNoTree, IsTreeShown}
 use Rattle.qc_run.specs.Steps.{ComesTo}
+use Rattle.qc_run.proofs.DueLemmas.{stops_from}
 use Rattle.qc_run.proofs.StatusLemmas.{IsOwn}
 use Rattle.qc_run.proofs.ToldLemmas.{cut_told, memory_told, never_usage, refused_told}
+use Rattle.qc_judge_commands.specs.declared.answer.Judged.{Judged}
+use Rattle.qc_judge_commands.specs.declared.answer.Judged.TheVariants as judged
+use Rattle.qc_judge_commands.specs.Account.{ComesOf, IsBroken, IsCompared, IsJudging}
 use Rattle.qc_judge_commands.specs.Promises.{ReadPromises}
 use Rattle.qc_judge_commands.specs.Shown.{IsBoundShown, IsNoneShown}
 
@@ -40,6 +44,37 @@ pub shown_none : (names : Names) (files : Option Files) (job : Job) → ComesTo 
     → IfSome files (λ held. IsNoTree job.inst (contents_in held names).tree) → IfSome files (λ held. IsNoneShown names held)
 shown_none names None job h none = tt
 shown_none names (Some held) job h none = record { inst = job.inst; due = job_inst (contents_in held names) job h; none = none }
+
+-- ---- a check of a plan
+
+-- two errors that are the same, of results with other values
+pub err_of : {A B : Type 0} {a b : Stop} → ◌≡◌ {A = Result A Stop} (Err a) (Err b) → ◌≡◌ {A = Result B Stop} (Err a) (Err b)
+err_of {a = a} {b = b} e = let same : a ≡ b = cc in ap Err same
+
+-- what it says behind calls that only read and came through, it says from their beginning
+pub judging_from : (names : Names) (before mid after : View) (r : Result Judged Stop) → mid.files ≡ before.files
+    → mid.faults ≡ before.faults → mid.read_faults ≡ before.read_faults → IsJudging names mid after r → IsJudging names before after r
+judging_from names before mid after r files faults reads is = record {
+  ending = by r is.ending;
+  none = λ fault e. subst (λ (f : Option Files). IfSome f (λ held. IsNoneShown names held)) files (is.none fault e);
+  may = is.may;
+  files = is.files ∙ files;
+  faults = is.faults ∙ faults;
+  read_faults = subst (λ (n : ℕ). n ≤ after.read_faults) reads is.read_faults;
+}
+  where
+    by : (r : Result Judged Stop) → ComesOf names mid after r → ComesOf names before after r
+    by (Ok (judged.Broken told)) h = (h.0 ∙ reads, subst (λ (f : Option Files). IsBroken names f told) files h.1)
+    by (Ok (judged.Compared told)) h = (h.0 ∙ reads, subst (λ (f : Option Files). IsCompared names f told) files h.1)
+    by (Err why) h = elim h [
+      | inl early ↦ inl (stops_from job_due names before mid after files reads why early)
+      | inr late ↦ inr (record {
+        job = late.job;
+        due = subst (λ (f : Option Files). ComesTo job_due names f (Ok late.job)) files late.due;
+        goes = late.goes;
+        tree = stops_from (tree_due late.job.inst) names before mid after files reads why late.tree;
+      })
+    ]
 
 -- ---- what each command promises that only reads
 

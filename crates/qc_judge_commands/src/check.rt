@@ -1,9 +1,13 @@
 //! The command that checks a tree.
-ghost use Rattle.std.specs.Prelude.{◌≡◌, ◌≤◌, Err, IfOk, IfSome, IsSome};
+ghost use Rattle.std.specs.Prelude.{◌≡◌, ◌≤◌, IfOk, IfSome, IsSome};
 ghost use Rattle.qc_replay.specs.declared.fault.TreeFault.{TreeFault};
+ghost use Rattle.qc_run.specs.Due.{shown_due};
 ghost use Rattle.qc_run.specs.Inputs.{names_of};
 ghost use Rattle.qc_run.specs.Reports.{Prints, PrintsPart, Reports};
-ghost use Rattle.qc_judge_commands.specs.Account.{IsTreeChecked, IsTreeRun};
+ghost use Rattle.qc_run.specs.Steps.{IsStep};
+ghost use Rattle.qc_judge_commands.specs.Account.{IsBoundOfSome, IsTreeFault, IsTreeRun};
+ghost use Rattle.qc_judge_commands.specs.Promises.{TreePromises};
+ghost use Rattle.qc_judge_commands.specs.Shown.{IsBoundShown, IsNoneShown};
 ghost use Rattle.qc_judge_commands.specs.Texts.{bound_status, bound_text};
 
 use qc_io::{Shelf, Sink};
@@ -15,7 +19,13 @@ use std::alloc::Global;
 /// What the tree shows for the instance of the ship file and the stowage list.
 fn read_shown<S: Shelf>(alloc: Global, inputs: &Inputs<'_>, shelf: &mut S) -> Result<Replayed, Stop>
     requires { IsSome (names_of inputs.now).tree }
-    ensures { IsTreeChecked (names_of inputs.now) (S.Sink.view shelf.old) (S.Sink.view shelf.new) result }
+    ensures step { IsStep shown_due (names_of inputs.now)
+        (S.Sink.view shelf.old) (S.Sink.view shelf.new) result }
+    ensures none_earlier { IfOk result (λ read. IsBoundOfSome read.bound) }
+    ensures shown { IfOk result (λ read. IfSome (S.Sink.view shelf.old).files (λ held.
+        IsBoundShown (names_of inputs.now) held read.bound)) }
+    ensures none { (fault : TreeFault) → IsTreeFault result fault
+        → IfSome (S.Sink.view shelf.old).files (λ held. IsNoneShown (names_of inputs.now) held) }
 {
     let inst = read_instance(alloc, inputs, shelf)?;
     read_tree(alloc, inputs, &inst, shelf)
@@ -45,6 +55,14 @@ fn bound_text(bound: Bound) -> Text<32>
     }
 }
 
+/// Prints a tree's value.
+fn report_bound<K: Sink>(bound: Bound, out: &mut K) -> Status
+    ensures { Reports (Prints (bound_text bound)) (PrintsPart (bound_text bound)) (bound_status bound)
+        (K.view out.old) (K.view out.new) result }
+{
+    report_text(bound_status(bound), bound_text(bound).as_bytes(), out)
+}
+
 /// Reads the ship file and the stowage list, replays the tree, and prints what it shows.
 pub fn check_tree<S: Shelf, K: Sink>(
     alloc: Global,
@@ -55,10 +73,12 @@ pub fn check_tree<S: Shelf, K: Sink>(
     requires { IsSome (names_of inputs.now).tree }
     ensures account { IsTreeRun (names_of inputs.now) (S.Sink.view shelf.old) (S.Sink.view shelf.new)
         (K.Sink.view out.old) (K.Sink.view out.new) result }
+    ensures promises { TreePromises (names_of inputs.now) (S.Sink.view shelf.old) (S.Sink.view shelf.new)
+        (K.Sink.view out.old) (K.Sink.view out.new) result }
     ensures reads_never_fall { (S.Sink.view shelf.old).read_faults ≤ (S.Sink.view shelf.new).read_faults }
 {
     match read_shown(alloc, inputs, shelf) {
-        Ok(read) => report_text(bound_status(read.bound), bound_text(read.bound).as_bytes(), out),
+        Ok(read) => report_bound(read.bound, out),
         Err(stop) => report_stop(stop, out),
     }
 }

@@ -10,6 +10,7 @@ ghost use Rattle.qc_run.specs.Due.{job_due};
 ghost use Rattle.qc_run.specs.Inputs.{names_of};
 ghost use Rattle.qc_run.specs.Steps.{ComesTo};
 ghost use Rattle.qc_judge_commands.specs.Account.{IsJudging, IsPlanCheckRun};
+ghost use Rattle.qc_judge_commands.specs.Promises.{PlanCheckPromises};
 ghost use Rattle.qc_judge_commands.specs.Held.{TellsHeld};
 
 use crate::answer::{Broken, Compared, Judged};
@@ -98,6 +99,8 @@ pub fn check_plan<S: Shelf, K: Sink>(
     requires plan { IsSome (names_of inputs.now).plan }
     requires tree { IsSome (names_of inputs.now).tree }
     ensures account { IsPlanCheckRun (names_of inputs.now) (S.Sink.view shelf.old) (S.Sink.view shelf.new)
+        (K.Sink.view out.old) (K.Sink.view out.new) result }
+    ensures promises { PlanCheckPromises (names_of inputs.now) (S.Sink.view shelf.old) (S.Sink.view shelf.new)
         (K.Sink.view out.old) (K.Sink.view out.new) result }
     ensures reads_never_fall { (S.Sink.view shelf.old).read_faults ≤ (S.Sink.view shelf.new).read_faults }
 {

@@ -1,5 +1,5 @@
 -- What stopped is due where no call failed.
-use Rattle.std.proofs.Common.{◌≡◌, ℕ, List, Option, None, Some, Result, Err, refl, sym, ap, inl, inr, ◌∙◌, ◌⊎◌}
+use Rattle.std.proofs.Common.{◌≡◌, ℕ, List, Option, None, Some, Result, Err, refl, sym, ap, inl, inr, ◌∙◌, ◌⊎◌, subst, subst₂}
 use Rattle.std.specs.Prelude.{IfSome, IsSomeAnd, option_and_then}
 use Rattle.std.specs.FinMap.{get}
 use Rattle.qc_io.specs.Outside.{Files, View, IsMissing, Rose}
@@ -7,6 +7,7 @@ use Rattle.qc_run.specs.declared.inputs.Input.{Input}
 use Rattle.qc_run.specs.declared.inputs.Input.TheVariants as input
 use Rattle.qc_run.specs.declared.refusal.Refusal.{Refusal}
 use Rattle.qc_run.specs.declared.refusal.Refusal.TheVariants as refusal
+use Rattle.qc_run.specs.declared.refusal.Stop.{Stop}
 use Rattle.qc_run.specs.declared.refusal.Stop.TheVariants as stop
 use Rattle.qc_run.specs.Inputs.{Names, name_of}
 use Rattle.qc_run.specs.Due.{Contents, contents_in, without}
@@ -50,3 +51,24 @@ module _ {A : Type 0} (step : Contents → Result A Refusal) (names : Names) whe
   stop_is before after held told none (refusal.BadStow fault) h = comes_due held before.files told (Err (refusal.BadStow fault)) h.1
   stop_is before after held told none (refusal.BadPlan fault) h = comes_due held before.files told (Err (refusal.BadPlan fault)) h.1
   stop_is before after held told none (refusal.BadTree fault) h = comes_due held before.files told (Err (refusal.BadTree fault)) h.1
+
+  -- what stopped behind calls that left the files and came through stopped as from their beginning
+  pub stops_from : (before mid after : View) → mid.files ≡ before.files → mid.read_faults ≡ before.read_faults → (why : Stop)
+      → Stops step names mid after why → Stops step names before after why
+  stops_from before mid after files reads stop.OutOfMemory h = h ∙ reads
+  stops_from before mid after files reads (stop.Refused refusal.Usage) h = h
+  stops_from before mid after files reads (stop.Refused (refusal.ReadFault file)) h = record {
+    cause = subst₂ (λ (f : Option Files) (n : ℕ). IsSomeAnd (name_of file names) (λ name. Rose n after.read_faults ⊎ IsMissing f name))
+        files reads h.cause;
+    turn = subst (λ (f : Option Files). IfSome f (λ held. step (without file (contents_in held names)) ≡ Err (refusal.ReadFault file))) files h.turn;
+  }
+  stops_from before mid after files reads (stop.Refused (refusal.TooLarge file)) h =
+      (h.0 ∙ reads, subst (λ (f : Option Files). ComesTo step names f (Err (refusal.TooLarge file))) files h.1)
+  stops_from before mid after files reads (stop.Refused (refusal.BadShip fault)) h =
+      (h.0 ∙ reads, subst (λ (f : Option Files). ComesTo step names f (Err (refusal.BadShip fault))) files h.1)
+  stops_from before mid after files reads (stop.Refused (refusal.BadStow fault)) h =
+      (h.0 ∙ reads, subst (λ (f : Option Files). ComesTo step names f (Err (refusal.BadStow fault))) files h.1)
+  stops_from before mid after files reads (stop.Refused (refusal.BadPlan fault)) h =
+      (h.0 ∙ reads, subst (λ (f : Option Files). ComesTo step names f (Err (refusal.BadPlan fault))) files h.1)
+  stops_from before mid after files reads (stop.Refused (refusal.BadTree fault)) h =
+      (h.0 ∙ reads, subst (λ (f : Option Files). ComesTo step names f (Err (refusal.BadTree fault))) files h.1)
