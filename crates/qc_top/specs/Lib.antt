@@ -1,11 +1,2 @@
-pub mod Asked
-pub mod May
-pub mod Due
-pub mod Answers
-pub mod Reports
-pub mod Shown
-pub mod Found
-pub mod Held
-pub mod Made
 pub mod Account
 pub mod Promises

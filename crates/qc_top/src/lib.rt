@@ -1,21 +1,7 @@
-//! The commands of the program.
+//! A run of the program: the words ask for a command, which serves and reports.
 #![tactic(auto)]
 
-mod answer;
-mod check;
-mod compare;
-mod faults;
-mod found;
-mod judged;
-mod make;
-mod plan;
 mod program;
-mod reading;
-mod show;
-mod status;
-mod summary;
-mod tasks;
 
-pub use answer::{Answer, Broken, Compared, Made, Planned, Refusal, Shown, Stop, Verdict};
 pub use program::run;
-pub use status::Status;
+pub use qc_run::Status;

@@ -1,0 +1,4 @@
+pub mod ReadLemmas
+pub mod TasksLemmas
+pub mod JudgedLemmas
+pub mod ReportLemmas

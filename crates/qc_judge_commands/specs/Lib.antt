@@ -1,0 +1,6 @@
+pub mod Texts
+pub mod Reports
+pub mod Held
+pub mod Shown
+pub mod Account
+pub mod Promises

@@ -1,0 +1,177 @@
+-- public: what follows from the accounts of these commands, said by itself for whoever reads one status.
+use Rattle.std.specs.Prelude.{◌≡◌, ◌≢◌, ℕ, ◌≤◌, ◌<◌, ◌⊎◌, List, ◌++◌, codes, decimal, nat_le, if◌then◌else◌, Result, Ok, Err, Some, IfSome}
+use Rattle.qc_num.specs.declared.bound.Bound.{Bound}
+use Rattle.qc_num.specs.declared.bound.Bound.TheVariants.{Least, Never}
+use Rattle.qc_io.specs.Outside.{Files, View}
+use Rattle.qc_gantt.specs.declared.fault.PlanFault.{PlanFault}
+use Rattle.qc_model.specs.Instance.{InstanceView}
+use Rattle.qc_model.specs.OneWay.{GoesOneWay}
+use Rattle.qc_model.specs.Rules.{ends}
+use Rattle.qc_replay.specs.declared.fault.Replayed.{Replayed}
+use Rattle.qc_tasks.specs.TasksText.{tasks_text}
+use Rattle.qc_run.specs.declared.reading.Job.{Job}
+use Rattle.qc_run.specs.declared.refusal.Refusal.{Refusal}
+use Rattle.qc_run.specs.declared.refusal.Refusal.TheVariants as refusal
+use Rattle.qc_run.specs.declared.refusal.Stop.{Stop}
+use Rattle.qc_run.specs.declared.status.Status.{Status}
+use Rattle.qc_run.specs.declared.status.Status.TheVariants as status
+use Rattle.qc_run.specs.Due.{contents_in, instance_due, job_due, shown_due, tree_due}
+use Rattle.qc_run.specs.Inputs.{Names}
+use Rattle.qc_run.specs.Reports.{Printing, Prints, PrintsPart}
+use Rattle.qc_run.specs.Shown.{IsTreeShown}
+use Rattle.qc_run.specs.Steps.{IsStep}
+use Rattle.qc_run.specs.Texts.{bad_plan_text, refusal_status}
+use Rattle.qc_run.specs.Told.{EndsBy, IsBest, IsCutTold, IsRefusal, IsRefusalTold, NoneFailed}
+use Rattle.qc_judge_commands.specs.declared.answer.Broken.{Broken}
+use Rattle.qc_judge_commands.specs.declared.answer.Compared.{Compared}
+use Rattle.qc_judge_commands.specs.declared.answer.Shown.{Shown}
+use Rattle.qc_judge_commands.specs.Account.{IsJudging, IsMoved, IsShowing, IsTreeChecked}
+use Rattle.qc_judge_commands.specs.Held.{TellsBreak}
+use Rattle.qc_judge_commands.specs.Reports.{IsShownPrinted, showing_prints_part}
+use Rattle.qc_judge_commands.specs.Shown.{IsBoundShown, IsNoneShown}
+use Rattle.qc_judge_commands.specs.Texts.{bound_status, bound_text, broken_text, compared_status, compared_text, compared_word, judged_text}
+
+-- ---- what each of them promises
+
+-- each command that only reads: refusals, want of memory, and the files stay
+pub record ReadPromises {A : Type 0} (account : Result A Stop → Type 0) (part : A → Printing)
+    (before after out_before out_after : View) (ended : Status) : Type 0 where
+  pub refused : IsRefusal ended → IsRefusalTold account out_before out_after ended
+  pub no_usage : ended ≢ status.Usage
+  pub out_of_memory : ended ≡ status.OutOfMemory
+      → Prints (codes "OutOfMemory\n") out_before.written out_after.written
+  pub files_stay : after.files ≡ before.files
+  pub write_fault : ended ≡ status.WriteFault → IsCutTold account part out_before out_after
+
+-- ---- the tasks
+
+-- the tasks of the instance of the two files were printed
+pub record AreTasksTold (names : Names) (held : Files) (before after : View) : Type 0 where
+  pub inst : InstanceView
+  pub due : instance_due (contents_in held names) ≡ Ok inst
+  pub report : Prints (tasks_text inst) before.written after.written
+
+pub record TasksPromises (names : Names) (before after out_before out_after : View) (ended : Status) : Type 0 where
+  pub reads : ReadPromises (IsStep instance_due names before after) (λ inst. PrintsPart (tasks_text inst))
+      before after out_before out_after ended
+  pub tasks_done : ended ≡ status.Done → IfSome before.files (λ held. AreTasksTold names held out_before out_after)
+  -- what is due of the files comes where no call failed, or want of memory does
+  pub complete : NoneFailed before after out_before out_after → IfSome before.files (λ held.
+      EndsBy (λ inst end. end ≡ status.Done) (instance_due (contents_in held names)) ended
+      ⊎ (ended ≡ status.OutOfMemory))
+
+-- ---- a tree alone
+
+-- the value of the tree was printed, an end that no schedule beats
+pub record IsEndTold (names : Names) (held : Files) (before after : View) : Type 0 where
+  pub end : ℕ
+  pub shown : IsBoundShown names held (Least end)
+  pub report : Prints (codes "Bound " ++ decimal end ++ codes "\n") before.written after.written
+
+-- it was printed that no schedule goes one way, as the tree shows
+pub record IsNoneTold (names : Names) (held : Files) (before after : View) : Type 0 where
+  pub shown : IsBoundShown names held Never
+  pub report : Prints (codes "Infeasible\n") before.written after.written
+
+pub record TreePromises (names : Names) (before after out_before out_after : View) (ended : Status) : Type 0 where
+  pub reads : ReadPromises (IsTreeChecked names before after) (λ read. PrintsPart (bound_text read.bound))
+      before after out_before out_after ended
+  -- Done, Infeasible and BadTree
+  pub check_done : ended ≡ status.Done → IfSome before.files (λ held. IsEndTold names held out_before out_after)
+  pub check_infeasible :
+      ended ≡ status.Infeasible → IfSome before.files (λ held. IsNoneTold names held out_before out_after)
+  pub check_bad_tree : ended ≡ status.BadTree → IfSome before.files (λ held. IsNoneShown names held)
+  pub complete : NoneFailed before after out_before out_after → IfSome before.files (λ held.
+      EndsBy (λ read end. end ≡ bound_status read.bound) (shown_due (contents_in held names)) ended
+      ⊎ (ended ≡ status.OutOfMemory))
+
+-- ---- a plan
+
+-- the plan that was checked goes one way, the tree's file is the text of a tree of the instance, and the plan's end
+-- and the tree's value were printed
+pub record IsComparedTold (names : Names) (held : Files) (before after : View) (first : List ℕ) : Type 0 where
+  pub job : Job
+  pub due : job_due (contents_in held names) ≡ Ok job
+  pub goes : GoesOneWay job.inst job.sched
+  pub told : Compared
+  pub end : told.end ≡ ends job.inst job.sched
+  pub shown : IsTreeShown job.inst (contents_in held names).tree (Least told.bound)
+  pub report : Prints (compared_text told) before.written after.written
+  pub word : compared_word told ≡ first
+
+-- and the tree's value is at least the plan's end, so no schedule that goes one way ends earlier
+pub record IsBestTold (names : Names) (held : Files) (before after : View) : Type 0 where
+  pub plan : IsComparedTold names held before after (codes "Optimal")
+  pub enough : plan.told.end ≤ plan.told.bound
+  pub best : IsBest plan.job.inst plan.job.sched
+
+-- and the tree's value is less than the plan's end
+pub record IsWeakerTold (names : Names) (held : Files) (before after : View) : Type 0 where
+  pub plan : IsComparedTold names held before after (codes "Weaker")
+  pub weaker : plan.told.bound < plan.told.end
+
+-- the plan goes neither way, and the first rule that it breaks was printed
+pub record IsBrokenTold (names : Names) (held : Files) (before after : View) : Type 0 where
+  pub job : Job
+  pub due : job_due (contents_in held names) ≡ Ok job
+  pub told : Broken
+  pub tells : TellsBreak job.inst job.sched told
+  pub report : Prints (broken_text told) before.written after.written
+
+-- the plan's file has a fault, which was printed
+pub record IsBadPlanTold (names : Names) (held : Files) (before after : View) : Type 0 where
+  pub fault : PlanFault
+  pub due : job_due (contents_in held names) ≡ Err (refusal.BadPlan fault)
+  pub report : Prints (bad_plan_text fault) before.written after.written
+
+-- a plan that goes one way ends so, by what its tree's file comes to
+abbrev pub held_status : ℕ → Bound → Status
+held_status end (Least bound) = compared_status (record { end = end; bound = bound })
+held_status end Never = status.Optimal
+
+-- a plan that is judged ends so where nothing fails
+pub record EndsJudged (job : Job) (tree : Result Replayed Refusal) (ended : Status) : Type 0 where
+  pub neither : ¬ GoesOneWay job.inst job.sched → ended ≡ status.Broken
+  pub one_way : GoesOneWay job.inst job.sched
+      → EndsBy (λ read end. end ≡ held_status (ends job.inst job.sched) read.bound) tree ended
+
+pub record PlanCheckPromises (names : Names) (before after out_before out_after : View) (ended : Status)
+    : Type 0 where
+  pub reads : ReadPromises (IsJudging names before after) (λ a. PrintsPart (judged_text a))
+      before after out_before out_after ended
+  -- Optimal, Weaker, Broken, BadPlan and BadTree
+  pub check_optimal : ended ≡ status.Optimal → IfSome before.files (λ held. IsBestTold names held out_before out_after)
+  pub check_weaker : ended ≡ status.Weaker → IfSome before.files (λ held. IsWeakerTold names held out_before out_after)
+  pub check_broken : ended ≡ status.Broken → IfSome before.files (λ held. IsBrokenTold names held out_before out_after)
+  pub check_bad_plan :
+      ended ≡ status.BadPlan → IfSome before.files (λ held. IsBadPlanTold names held out_before out_after)
+  pub check_plan_bad_tree : ended ≡ status.BadTree → IfSome before.files (λ held. IsNoneShown names held)
+  -- where no call failed: Broken exactly where the plan goes neither way, and else what its tree's file comes to
+  pub check_complete : NoneFailed before after out_before out_after → IfSome before.files (λ held.
+      EndsBy (λ job end. EndsJudged job (tree_due job.inst (contents_in held names)) end)
+      (job_due (contents_in held names)) ended ⊎ (ended ≡ status.OutOfMemory))
+
+-- ---- the motion of a plan
+
+-- the plan goes one way, and its direction, its end, the motion of every crane, which is safe, and the Gantt text
+-- were printed
+pub record IsMotionTold (names : Names) (held : Files) (before after : View) : Type 0 where
+  pub told : Shown
+  pub moved : IsMoved names (Some held) told
+  pub report : IsShownPrinted told before.written after.written
+
+-- a plan that is shown ends so where nothing fails
+pub record EndsShown (job : Job) (ended : Status) : Type 0 where
+  pub neither : ¬ GoesOneWay job.inst job.sched → ended ≡ status.Broken
+  pub one_way : GoesOneWay job.inst job.sched → ended ≡ status.Done
+
+pub record ShowPromises (names : Names) (before after out_before out_after : View) (ended : Status) : Type 0 where
+  pub reads : ReadPromises (IsShowing names before after) showing_prints_part before after out_before out_after ended
+  -- Done, Broken and BadPlan
+  pub show_done : ended ≡ status.Done → IfSome before.files (λ held. IsMotionTold names held out_before out_after)
+  pub show_broken : ended ≡ status.Broken → IfSome before.files (λ held. IsBrokenTold names held out_before out_after)
+  pub show_bad_plan :
+      ended ≡ status.BadPlan → IfSome before.files (λ held. IsBadPlanTold names held out_before out_after)
+  -- where no call failed it is Broken exactly where the plan goes neither way
+  pub show_complete : NoneFailed before after out_before out_after → IfSome before.files (λ held.
+      EndsBy EndsShown (job_due (contents_in held names)) ended ⊎ (ended ≡ status.OutOfMemory))

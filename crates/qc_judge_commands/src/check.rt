@@ -1,0 +1,84 @@
+//! The command that checks a tree.
+ghost use Rattle.std.specs.Prelude.{◌≡◌, ◌≤◌, IfOk, IfSome, IsSome};
+ghost use Rattle.qc_replay.specs.declared.fault.TreeFault.{TreeFault};
+ghost use Rattle.qc_run.specs.Due.{shown_due};
+ghost use Rattle.qc_run.specs.Inputs.{names_of};
+ghost use Rattle.qc_run.specs.Reports.{Prints, PrintsPart, Reports};
+ghost use Rattle.qc_run.specs.Steps.{IsStep};
+ghost use Rattle.qc_judge_commands.specs.Account.{IsBoundOfSome, IsTreeFault, IsTreeRun};
+ghost use Rattle.qc_judge_commands.specs.Promises.{TreePromises};
+ghost use Rattle.qc_judge_commands.specs.Shown.{IsBoundShown, IsNoneShown};
+ghost use Rattle.qc_judge_commands.specs.Texts.{bound_status, bound_text};
+
+use qc_io::{Shelf, Sink};
+use qc_num::{Bound, Text};
+use qc_replay::Replayed;
+use qc_run::{Inputs, Status, Stop, read_instance, read_tree, report_stop, report_text};
+use std::alloc::Global;
+
+/// What the tree shows for the instance of the ship file and the stowage list.
+fn read_shown<S: Shelf>(alloc: Global, inputs: &Inputs<'_>, shelf: &mut S) -> Result<Replayed, Stop>
+    requires { IsSome (names_of inputs.now).tree }
+    ensures step { IsStep shown_due (names_of inputs.now)
+        (S.Sink.view shelf.old) (S.Sink.view shelf.new) result }
+    ensures none_earlier { IfOk result (λ read. IsBoundOfSome read.bound) }
+    ensures shown { IfOk result (λ read. IfSome (S.Sink.view shelf.old).files (λ held.
+        IsBoundShown (names_of inputs.now) held read.bound)) }
+    ensures none { (fault : TreeFault) → IsTreeFault result fault
+        → IfSome (S.Sink.view shelf.old).files (λ held. IsNoneShown (names_of inputs.now) held) }
+{
+    let inst = read_instance(alloc, inputs, shelf)?;
+    read_tree(alloc, inputs, &inst, shelf)
+}
+
+fn bound_status(bound: Bound) -> Status
+    ensures { result ≡ bound_status bound }
+{
+    match bound {
+        Bound::Least(_) => Status::Done,
+        Bound::Never => Status::Infeasible,
+    }
+}
+
+/// What is printed of a tree's value.
+fn bound_text(bound: Bound) -> Text<32>
+    ensures { result ≡ bound_text bound }
+{
+    match bound {
+        Bound::Least(end) => {
+            let mut line = Text::of(b"Bound ");
+            line.push_number(end);
+            line.push(b"\n");
+            line
+        }
+        Bound::Never => Text::of(b"Infeasible\n"),
+    }
+}
+
+/// Prints a tree's value.
+fn report_bound<K: Sink>(bound: Bound, out: &mut K) -> Status
+    ensures { Reports (Prints (bound_text bound)) (PrintsPart (bound_text bound)) (bound_status bound)
+        (K.view out.old) (K.view out.new) result }
+{
+    report_text(bound_status(bound), bound_text(bound).as_bytes(), out)
+}
+
+/// Reads the ship file and the stowage list, replays the tree, and prints what it shows.
+pub fn check_tree<S: Shelf, K: Sink>(
+    alloc: Global,
+    inputs: &Inputs<'_>,
+    shelf: &mut S,
+    out: &mut K,
+) -> Status
+    requires { IsSome (names_of inputs.now).tree }
+    ensures account { IsTreeRun (names_of inputs.now) (S.Sink.view shelf.old) (S.Sink.view shelf.new)
+        (K.Sink.view out.old) (K.Sink.view out.new) result }
+    ensures promises { TreePromises (names_of inputs.now) (S.Sink.view shelf.old) (S.Sink.view shelf.new)
+        (K.Sink.view out.old) (K.Sink.view out.new) result }
+    ensures reads_never_fall { (S.Sink.view shelf.old).read_faults ≤ (S.Sink.view shelf.new).read_faults }
+{
+    match read_shown(alloc, inputs, shelf) {
+        Ok(read) => report_bound(read.bound, out),
+        Err(stop) => report_stop(stop, out),
+    }
+}

@@ -1,0 +1,111 @@
+//! The command that checks a plan beside a tree.
+ghost use Rattle.std.specs.Prelude.{◌≡◌, ◌<◌, ◌≤◌, Ok, IsSome, length};
+ghost use Rattle.qc_num.specs.declared.bound.Bound.{Bound};
+ghost use Rattle.qc_model.specs.Instance.{task};
+ghost use Rattle.qc_model.specs.Judge.{IsJudgeable};
+ghost use Rattle.qc_model.specs.OneWay.{GoesOneWay};
+ghost use Rattle.qc_model.specs.Tasks.{task_text};
+ghost use Rattle.qc_tree.specs.Trees.{NoneEarlier};
+ghost use Rattle.qc_run.specs.Due.{job_due};
+ghost use Rattle.qc_run.specs.Inputs.{names_of};
+ghost use Rattle.qc_run.specs.Steps.{ComesTo};
+ghost use Rattle.qc_judge_commands.specs.Account.{IsJudging, IsPlanCheckRun};
+ghost use Rattle.qc_judge_commands.specs.Promises.{PlanCheckPromises};
+ghost use Rattle.qc_judge_commands.specs.Held.{TellsHeld};
+
+use crate::answer::{Broken, Compared, Judged};
+use crate::judged::report;
+use qc_io::{Shelf, Sink};
+use qc_model::{Break, Instance, Schedule, direction_of, ends};
+use qc_num::Bound;
+use qc_run::{Inputs, Job, Status, Stop, read_job, read_tree, report_stop};
+use std::alloc::Global;
+
+/// What is told of a break.
+pub(crate) fn broken_of(inst: &Instance, broken: Break) -> Broken
+    requires first { broken.first < length inst.now.tasks }
+    requires second { broken.second < length inst.now.tasks }
+    ensures rule { result.rule ≡ broken.rule }
+    ensures first { result.first ≡ task_text (task inst.now broken.first) }
+    ensures second { result.second ≡ task_text (task inst.now broken.second) }
+{
+    let tasks = inst.tasks();
+    Broken {
+        rule: broken.rule,
+        first: tasks[broken.first as usize].text(),
+        second: tasks[broken.second as usize].text(),
+    }
+}
+
+/// What is told of a schedule that goes one way, beside what a tree shows.
+fn compared_of(inst: &Instance, sched: &Schedule, bound: Bound) -> Compared
+    requires judgeable { IsJudgeable inst.now sched.now }
+    requires goes { GoesOneWay inst.now sched.now }
+    requires none_earlier { NoneEarlier inst.now bound }
+    ensures { TellsHeld inst.now sched.now bound result }
+{
+    let Bound::Least(bound) = bound else {
+        unreachable!()
+    };
+    Compared {
+        end: ends(inst, sched),
+        bound,
+    }
+}
+
+/// Replays the tree beside a schedule that goes one way.
+fn compare<S: Shelf>(
+    alloc: Global,
+    inputs: &Inputs<'_>,
+    job: &Job,
+    shelf: &mut S,
+) -> Result<Judged, Stop>
+    requires tree { IsSome (names_of inputs.now).tree }
+    requires due { ComesTo job_due (names_of inputs.now) (S.Sink.view shelf.old).files (Ok job.now) }
+    requires judgeable { IsJudgeable job.now.inst job.now.sched }
+    requires goes { GoesOneWay job.now.inst job.now.sched }
+    ensures { IsJudging (names_of inputs.now) (S.Sink.view shelf.old) (S.Sink.view shelf.new) result }
+{
+    match read_tree(alloc, inputs, &job.inst, shelf) {
+        Ok(read) => Ok(Judged::Compared(compared_of(&job.inst, &job.sched, read.bound))),
+        Err(stop) => Err(stop),
+    }
+}
+
+/// Reads the ship file, the stowage list and the plan's file and judges the plan; the tree's file is
+/// opened only where the plan holds.
+fn judge<S: Shelf>(alloc: Global, inputs: &Inputs<'_>, shelf: &mut S) -> Result<Judged, Stop>
+    requires plan { IsSome (names_of inputs.now).plan }
+    requires tree { IsSome (names_of inputs.now).tree }
+    ensures { IsJudging (names_of inputs.now) (S.Sink.view shelf.old) (S.Sink.view shelf.new) result }
+{
+    let job = match read_job(alloc, inputs, shelf) {
+        Ok(job) => job,
+        Err(stop) => return Err(stop),
+    };
+    match direction_of(&job.inst, &job.sched) {
+        Ok(_) => compare(alloc, inputs, &job, shelf),
+        Err(broken) => Ok(Judged::Broken(broken_of(&job.inst, broken))),
+    }
+}
+
+/// Checks a plan beside a tree, and prints what came of it.
+pub fn check_plan<S: Shelf, K: Sink>(
+    alloc: Global,
+    inputs: &Inputs<'_>,
+    shelf: &mut S,
+    out: &mut K,
+) -> Status
+    requires plan { IsSome (names_of inputs.now).plan }
+    requires tree { IsSome (names_of inputs.now).tree }
+    ensures account { IsPlanCheckRun (names_of inputs.now) (S.Sink.view shelf.old) (S.Sink.view shelf.new)
+        (K.Sink.view out.old) (K.Sink.view out.new) result }
+    ensures promises { PlanCheckPromises (names_of inputs.now) (S.Sink.view shelf.old) (S.Sink.view shelf.new)
+        (K.Sink.view out.old) (K.Sink.view out.new) result }
+    ensures reads_never_fall { (S.Sink.view shelf.old).read_faults ≤ (S.Sink.view shelf.new).read_faults }
+{
+    match judge(alloc, inputs, shelf) {
+        Ok(answer) => report(answer, out),
+        Err(stop) => report_stop(stop, out),
+    }
+}

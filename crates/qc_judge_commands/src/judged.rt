@@ -1,0 +1,96 @@
+//! The reports of a plan that was judged.
+ghost use Rattle.std.specs.Prelude.{◌≡◌, ◌≤◌, ◌+◌, ◌++◌, nat_le, length};
+ghost use Rattle.qc_run.specs.declared.status.Status.TheVariants as status;
+ghost use Rattle.qc_run.specs.Reports.{Prints, PrintsPart, Reports};
+ghost use Rattle.qc_judge_commands.specs.Texts.{broken_text, compared_status, compared_text, compared_word, judged_status, judged_text, tasks_named};
+
+use crate::answer::{Broken, Compared, Judged};
+use qc_io::Sink;
+use qc_model::Rule;
+use qc_num::{Bound, Text};
+use qc_run::{Status, report_text};
+
+/// Puts the names of the task or of the two tasks at which the rule is broken behind the text.
+fn push_tasks(told: &Broken, text: &mut Text<64>)
+    requires { length text.old ≤ 32 }
+    ensures text { text.new ≡ text.old ++ tasks_named told.now.rule told.now.first told.now.second }
+    ensures length { length text.new ≤ length text.old + 17 }
+{
+    match told.rule {
+        Rule::Reach | Rule::Ready | Rule::Berth => text.push(told.first.as_bytes()),
+        Rule::Travel | Rule::Before | Rule::Apart | Rule::Margin | Rule::OneWay => {
+            text.push(told.first.as_bytes());
+            text.push(b" ");
+            text.push(told.second.as_bytes());
+        }
+    }
+}
+
+/// What is told of a plan that breaks a rule.
+fn broken_text(told: &Broken) -> Text<64>
+    ensures { result ≡ broken_text told.now }
+{
+    let mut text = Text::of(b"Broken ");
+    text.push(told.rule.text());
+    text.push(b" ");
+    push_tasks(told, &mut text);
+    text.push(b"\n");
+    text
+}
+
+/// Prints what is told of a plan that breaks a rule.
+pub(crate) fn report_broken<K: Sink>(told: &Broken, out: &mut K) -> Status
+    ensures { Reports (Prints (broken_text told.now)) (PrintsPart (broken_text told.now)) status.Broken
+        (K.view out.old) (K.view out.new) result }
+{
+    report_text(Status::Broken, broken_text(told).as_bytes(), out)
+}
+
+/// Whether no schedule that goes one way ends before the plan.
+fn is_best(told: Compared) -> bool
+    ensures { result ≡ nat_le told.end told.bound }
+{
+    Bound::Least(told.bound).reaches(told.end)
+}
+
+fn compared_status(told: Compared) -> Status
+    ensures { result ≡ compared_status told }
+{
+    if is_best(told) {
+        Status::Optimal
+    } else {
+        Status::Weaker
+    }
+}
+
+fn compared_word(told: Compared) -> &'static [u8]
+    ensures text { result.now ≡ compared_word told }
+    ensures short { length result.now ≤ 7 }
+{
+    if is_best(told) { b"Optimal" } else { b"Weaker" }
+}
+
+/// What is told of a plan that holds.
+fn compared_text(told: Compared) -> Text<64>
+    ensures { result ≡ compared_text told }
+{
+    let mut text = Text::new();
+    text.push(compared_word(told));
+    text.push(b"\nend ");
+    text.push_number(told.end);
+    text.push(b"\nbound ");
+    text.push_number(told.bound);
+    text.push(b"\n");
+    text
+}
+
+/// Prints what a check of a plan came to.
+pub(crate) fn report<K: Sink>(answer: Judged, out: &mut K) -> Status
+    ensures { Reports (Prints (judged_text answer)) (PrintsPart (judged_text answer)) (judged_status answer)
+        (K.view out.old) (K.view out.new) result }
+{
+    match answer {
+        Judged::Broken(told) => report_broken(&told, out),
+        Judged::Compared(told) => report_text(compared_status(told), compared_text(told).as_bytes(), out),
+    }
+}

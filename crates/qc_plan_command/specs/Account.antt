@@ -1,0 +1,64 @@
+-- public: the account of a plan: what its answer says of the files.
+use Rattle.std.specs.Prelude.{◌≡◌, ◌⊎◌, ℕ, List, Option, Some, Result, Ok, Err, IfErr, IfSome}
+use Rattle.qc_io.specs.Outside.{Files, Rose, View}
+use Rattle.qc_model.specs.Instance.{InstanceView}
+use Rattle.qc_search.specs.Run.{DoneView}
+use Rattle.qc_tree.specs.Trees.{Tree}
+use Rattle.qc_run.specs.declared.refusal.Stop.{Stop}
+use Rattle.qc_run.specs.declared.status.Status.{Status}
+use Rattle.qc_run.specs.Due.{contents_in, instance_due}
+use Rattle.qc_run.specs.Reports.{IsRun}
+use Rattle.qc_run.specs.Steps.{MayStop, Stops}
+use Rattle.qc_plan_command.specs.declared.answer.PlanAnswer.{PlanAnswer}
+use Rattle.qc_plan_command.specs.declared.answer.PlanAnswer.TheVariants as answer
+use Rattle.qc_plan_command.specs.Asked.{Planning}
+use Rattle.qc_plan_command.specs.Found.{IsFound, Tells}
+use Rattle.qc_plan_command.specs.Reports.{plan_prints, plan_prints_part, plan_status}
+use Rattle.qc_plan_command.specs.Stored.{with_plan, with_tree}
+
+-- the search of the instance of the two files came to this
+pub record IsSearched (asked : Planning) (held : Files) : Type 0 where
+  pub inst : InstanceView
+  pub due : instance_due (contents_in held asked.inputs) ≡ Ok inst
+  pub tree : Tree
+  pub done : DoneView
+  pub found : IsFound inst asked.nodes tree done
+
+-- the files with its tree alone, and with the plan of its best schedule too
+abbrev pub tree_files : (asked : Planning) (held : Files) → IsSearched asked held → Files
+tree_files asked held s = with_tree held asked.tree s.inst s.tree
+
+abbrev pub both_files : (asked : Planning) (held : Files) → IsSearched asked held → Files
+both_files asked held s = with_plan (tree_files asked held s) asked.plan s.inst s.done.best
+
+-- it is what the answer tells, and both files are whole; all others are as they were
+pub record IsWritten (asked : Planning) (held : Files) (now : Option Files) (a : PlanAnswer) : Type 0 where
+  pub search : IsSearched asked held
+  pub told : Tells search.inst search.done a
+  pub files : now ≡ Some (both_files asked held search)
+
+-- all files are as they were, or the tree's file is whole, or that and the plan's file are
+abbrev pub IsLeft : Planning → Files → Option Files → Type 0
+IsLeft asked held now =
+    (now ≡ Some held)
+    ⊎ ((s : IsSearched asked held) × ((now ≡ Some (tree_files asked held s)) ⊎ (now ≡ Some (both_files asked held s))))
+
+-- what an answer says of the files
+abbrev pub Writes : Planning → View → View → PlanAnswer → Type 0
+Writes asked before after answer.WriteFault =
+    Rose before.faults after.faults × IfSome before.files (λ held. IsLeft asked held after.files)
+Writes asked before after a =
+    (after.faults ≡ before.faults) × IfSome before.files (λ held. IsWritten asked held after.files a)
+
+-- what a plan says of its answer and of the shelf
+abbrev pub IsPlanning : Planning → View → View → Result PlanAnswer Stop → Type 0
+IsPlanning asked before after (Ok a) =
+    Writes asked before after a × (after.read_faults ≡ before.read_faults)
+IsPlanning asked before after (Err why) =
+    Stops instance_due asked.inputs before after why × MayStop asked.inputs why
+    × (after.files ≡ before.files) × (after.faults ≡ before.faults)
+
+-- a run of the command: it plans, and reports
+abbrev pub IsPlanRun : Planning → (before after out_before out_after : View) → Status → Type 0
+IsPlanRun asked before after out_before out_after ended =
+    IsRun (IsPlanning asked before after) plan_prints plan_prints_part plan_status out_before out_after ended

@@ -1,0 +1,23 @@
+-- public: what a plan is asked for with.
+use Rattle.std.specs.Prelude.{ℕ, List, None, Some}
+use Rattle.qc_run.specs.Inputs.{Names}
+use Rattle.qc_plan_command.specs.declared.asked.PlanAsked.{PlanAsked}
+
+-- the files that are read, the names of the plan's file and of the tree's, and at most how many branchings
+pub record Planning : Type 0 where
+  pub inputs : Names
+  pub plan : List ℕ
+  pub tree : List ℕ
+  pub nodes : ℕ
+
+-- a plan reads a ship file and a stowage list
+abbrev pub plan_of : (ship stow plan tree : List ℕ) (nodes : ℕ) → Planning
+plan_of ship stow plan tree nodes = record {
+  inputs = record { ship = Some ship; stow = Some stow; plan = None; tree = None };
+  plan = plan;
+  tree = tree;
+  nodes = nodes;
+}
+
+abbrev pub planning : PlanAsked → Planning
+planning asked = plan_of asked.ship.now asked.stow.now asked.plan.now asked.tree.now asked.nodes

@@ -1,0 +1,51 @@
+-- public: what a search came to, and what an answer tells of it.
+use Rattle.std.specs.Prelude.{◌≡◌, ℕ, List, None, Some, Ok}
+use Rattle.qc_num.specs.declared.bound.Bound.TheVariants.{Least, Never}
+use Rattle.qc_gantt.specs.Plan.{plan_in}
+use Rattle.qc_gantt.specs.PlanText.{plan_text}
+use Rattle.qc_model.specs.declared.schedule.Slot.{Slot}
+use Rattle.qc_model.specs.Instance.{InstanceView}
+use Rattle.qc_model.specs.Judge.{IsDirection}
+use Rattle.qc_model.specs.Motion.{IsSafe}
+use Rattle.qc_model.specs.Rules.{ends}
+use Rattle.qc_tree.specs.Trees.{Tree, tree_branchings, tree_value}
+use Rattle.qc_search.specs.Run.{DoneView, IsRun, IsSound}
+use Rattle.qc_plan_command.specs.declared.answer.Planned.{Planned}
+use Rattle.qc_plan_command.specs.declared.answer.PlanAnswer.{PlanAnswer}
+use Rattle.qc_plan_command.specs.declared.answer.PlanAnswer.TheVariants as answer
+
+-- what a search with so many branchings came to: its tree is one of the instance that is earned, its schedule, if any,
+-- a best one that the tree meets, and what holds of each search
+pub record IsFound (inst : InstanceView) (nodes : ℕ) (tree : Tree) (done : DoneView) : Type 0 where
+  pub run : IsRun inst nodes tree done.best done.kind
+  pub bound : done.bound ≡ tree_value inst tree
+  pub branched : done.branched ≡ tree_branchings inst tree
+  pub sound : IsSound (record { inst = inst; nodes = nodes }) done
+
+-- the text of the schedule's plan is read as this schedule
+abbrev pub IsReread : InstanceView → List Slot → Type 0
+IsReread inst sched = plan_in inst (plan_text inst sched) ≡ Ok sched
+
+-- the schedule that was met is told, its end, the bound, the number of branchings and the schedule's direction; in
+-- that direction its motion is safe, and its plan is read as this schedule
+pub record TellsPlan (inst : InstanceView) (done : DoneView) (told : Planned) : Type 0 where
+  pub sched : List Slot
+  pub best : done.best ≡ Some sched
+  pub inst_told : told.inst ≡ inst
+  pub sched_told : told.sched ≡ sched
+  pub kind_told : told.kind ≡ done.kind
+  pub end : told.end ≡ ends inst sched
+  pub bound : done.bound ≡ Least told.bound
+  pub branched : told.branched ≡ done.branched
+  pub direction : IsDirection inst sched told.direction
+  pub safe : IsSafe inst sched told.direction
+  pub reread : IsReread inst sched
+
+-- what an answer tells of a search
+abbrev pub Tells : InstanceView → DoneView → PlanAnswer → Type 0
+Tells inst done answer.WriteFault = ⊥
+Tells inst done (answer.Planned told) = TellsPlan inst done told
+Tells inst done (answer.Unplanned bound branched) =
+    (done.best ≡ None) × (done.bound ≡ Least bound) × (branched ≡ done.branched)
+Tells inst done (answer.Infeasible branched) =
+    (done.best ≡ None) × (done.bound ≡ Never) × (branched ≡ done.branched)

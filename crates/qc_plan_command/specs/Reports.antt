@@ -1,0 +1,90 @@
+-- public: what a plan prints, and the status that it ends with.
+use Rattle.std.specs.Prelude.{◌≡◌, ◌≤◌, ℕ, List, ◌++◌, length, Option, codes, decimal}
+use Rattle.std.specs.Io.KnownBytes.{append_known}
+use Rattle.qc_gantt.specs.TracksText.{AreTracks, tracks_text}
+use Rattle.qc_io.specs.Outside.{GrewByPart}
+use Rattle.qc_model.specs.Judge.{Goes, IsJudgeable}
+use Rattle.qc_motion.specs.declared.track.Waypoint.{Waypoint}
+use Rattle.qc_search.specs.declared.done.Kind.{Kind}
+use Rattle.qc_search.specs.declared.done.Kind.TheVariants as kind
+use Rattle.qc_run.specs.declared.status.Status.{Status}
+use Rattle.qc_run.specs.declared.status.Status.TheVariants as status
+use Rattle.qc_run.specs.Reports.{Printing, Prints, PrintsPart}
+use Rattle.qc_run.specs.Texts.{direction_text}
+use Rattle.qc_plan_command.specs.declared.answer.Planned.{Planned}
+use Rattle.qc_plan_command.specs.declared.answer.PlanAnswer.{PlanAnswer}
+use Rattle.qc_plan_command.specs.declared.answer.PlanAnswer.TheVariants as answer
+
+-- the word for how a search came out, as a plan's report begins
+abbrev pub kind_word : Kind → List ℕ
+kind_word kind.Optimal = codes "Optimal"
+kind_word kind.Infeasible = codes "Infeasible"
+kind_word kind.Budget = codes "Budget"
+
+-- what is printed for a plan that was found
+abbrev pub planned_text : Planned → List ℕ
+planned_text told =
+    kind_word told.kind ++ codes "\nend " ++ decimal told.end ++ codes "\nbound " ++ decimal told.bound
+    ++ codes "\nbranched " ++ decimal told.branched ++ codes "\ndirection " ++ direction_text told.direction
+    ++ codes "\n"
+
+-- what is printed where all branchings are spent and no plan was found
+abbrev pub unplanned_text : ℕ → ℕ → List ℕ
+unplanned_text bound branched =
+    codes "Budget\nbound " ++ decimal bound ++ codes "\nbranched " ++ decimal branched ++ codes "\n"
+
+-- what is printed where there is no plan
+abbrev pub infeasible_text : ℕ → List ℕ
+infeasible_text branched = codes "Infeasible\nbranched " ++ decimal branched ++ codes "\n"
+
+-- the plan's motion can be told: it goes its way, and the track has room for it
+pub record IsReady (told : Planned) : Type 0 where
+  pub judgeable : IsJudgeable told.inst told.sched
+  pub goes : Goes told.inst told.sched told.direction
+  pub room : length told.inst.tasks ≤ told.track.tasks
+
+abbrev pub CanBeTold : PlanAnswer → Type 0
+CanBeTold (answer.Planned told) = IsReady told
+CanBeTold _ = Unit {0}
+
+-- the summary, and the lines of cranes with these waypoints
+abbrev pub moved_text : Planned → List (List Waypoint) → List ℕ
+moved_text told tracks = planned_text told ++ tracks_text told.inst.cranes tracks
+
+-- the report of a plan that was found went out: its summary, and the motion of every crane
+pub record IsPlanPrinted (told : Planned) (before after : Option (List ℕ)) : Type 0 where
+  pub tracks : List (List Waypoint)
+  pub are : AreTracks told.inst told.sched told.direction tracks
+  pub all : length tracks ≡ length told.inst.cranes
+  pub bytes : after ≡ append_known before (moved_text told tracks)
+
+-- a front part of it went out
+pub record IsPlanCut (told : Planned) (before after : Option (List ℕ)) : Type 0 where
+  pub tracks : List (List Waypoint)
+  pub are : AreTracks told.inst told.sched told.direction tracks
+  pub part : GrewByPart before after (moved_text told tracks)
+
+-- what is printed for an answer, and what where the sink failed on the way
+abbrev pub plan_prints : PlanAnswer → Printing
+plan_prints answer.WriteFault = Prints (codes "WriteFault\n")
+plan_prints (answer.Planned told) = IsPlanPrinted told
+plan_prints (answer.Unplanned bound branched) = Prints (unplanned_text bound branched)
+plan_prints (answer.Infeasible branched) = Prints (infeasible_text branched)
+
+abbrev pub plan_prints_part : PlanAnswer → Printing
+plan_prints_part answer.WriteFault = PrintsPart (codes "WriteFault\n")
+plan_prints_part (answer.Planned told) = IsPlanCut told
+plan_prints_part (answer.Unplanned bound branched) = PrintsPart (unplanned_text bound branched)
+plan_prints_part (answer.Infeasible branched) = PrintsPart (infeasible_text branched)
+
+-- the status of a plan that was found: it is a best one where the search says so
+abbrev pub found_status : Kind → Status
+found_status kind.Optimal = status.Optimal
+found_status kind.Infeasible = status.BudgetPlan
+found_status kind.Budget = status.BudgetPlan
+
+abbrev pub plan_status : PlanAnswer → Status
+plan_status answer.WriteFault = status.WriteFault
+plan_status (answer.Planned told) = found_status told.kind
+plan_status (answer.Unplanned bound branched) = status.BudgetNone
+plan_status (answer.Infeasible branched) = status.Infeasible

@@ -1,0 +1,31 @@
+-- public: what a search leaves in its files. Each is whole or as it was.
+use Rattle.std.specs.Prelude.{◌≡◌, ◌⊎◌, ℕ, List, Option, None, Some}
+use Rattle.std.specs.FinMap.{insert}
+use Rattle.qc_gantt.specs.PlanText.{plan_text}
+use Rattle.qc_io.specs.Outside.{Files}
+use Rattle.qc_model.specs.declared.schedule.Slot.{Slot}
+use Rattle.qc_model.specs.Instance.{InstanceView}
+use Rattle.qc_search.specs.Run.{DoneView, SearchView}
+use Rattle.qc_tree.specs.Trees.{Tree, tree_text}
+use Rattle.qc_plan_command.specs.Found.{IsFound}
+
+-- the files with the tree's text in the file of this name
+abbrev pub with_tree : Files → List ℕ → InstanceView → Tree → Files
+with_tree held name inst tree = insert held name (tree_text inst tree)
+
+-- the files with the plan of the best schedule in the file of this name; where none was met, as they were
+abbrev pub with_plan : Files → List ℕ → InstanceView → Option (List Slot) → Files
+with_plan held name inst None = held
+with_plan held name inst (Some sched) = insert held name (plan_text inst sched)
+
+-- the search came to this, and the file of this name holds its tree
+pub record IsTreeStored (search : SearchView) (name : List ℕ) (held : Files) (now : Option Files) (done : DoneView)
+    : Type 0 where
+  pub tree : Tree
+  pub found : IsFound search.inst search.nodes tree done
+  pub files : now ≡ Some (with_tree held name search.inst tree)
+
+-- the files are as they were, or the tree of what the search came to is stored
+abbrev pub IsTreeLeft : SearchView → List ℕ → Files → Option Files → Type 0
+IsTreeLeft search name held now =
+    (now ≡ Some held) ⊎ ((done : DoneView) × IsTreeStored search name held now done)

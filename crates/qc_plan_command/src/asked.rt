@@ -1,0 +1,36 @@
+//! What a plan is asked for with.
+
+use qc_run::Inputs;
+
+/// The names of a plan's files, and its limit of branchings.
+#[derive(Clone, Copy, Debug)]
+pub struct PlanAsked<'a> {
+    /// The ship file, which is read.
+    pub ship: &'a str,
+    /// The stowage list, which is read.
+    pub stow: &'a str,
+    /// The plan's file, which is written.
+    pub plan: &'a str,
+    /// The tree's file, which is written.
+    pub tree: &'a str,
+    /// How many branchings the search takes at most.
+    pub nodes: u32,
+}
+
+impl<'a> PlanAsked<'a> {
+    ghost use Rattle.std.specs.Prelude.{◌≡◌};
+    ghost use Rattle.qc_run.specs.Inputs.{names_of};
+    ghost use Rattle.qc_plan_command.specs.Asked.{planning};
+
+    /// The files that are read.
+    pub(crate) fn inputs(&self) -> Inputs<'a>
+        ensures { names_of result ≡ (planning self.now).inputs }
+    {
+        Inputs {
+            ship: self.ship,
+            stow: self.stow,
+            plan: None,
+            tree: None,
+        }
+    }
+}

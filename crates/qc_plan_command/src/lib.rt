@@ -1,0 +1,16 @@
+//! The command that plans: it searches the instance of a ship file and a stowage list, and writes the search's
+//! tree and the plan of the best schedule that it met.
+#![tactic(auto)]
+
+mod answer;
+mod asked;
+mod command;
+mod found;
+mod report;
+mod store;
+
+pub use answer::{PlanAnswer, Planned};
+pub use asked::PlanAsked;
+pub use command::plan;
+pub use report::kind_word;
+pub use store::{store_best, store_tree};

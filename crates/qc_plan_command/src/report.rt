@@ -1,0 +1,122 @@
+//! The report of a plan.
+ghost use Rattle.std.specs.Prelude.{◌≡◌, ◌≤◌, length};
+ghost use Rattle.qc_run.specs.Moved.{WritesMoved};
+ghost use Rattle.qc_run.specs.Reports.{Reports};
+ghost use Rattle.qc_plan_command.specs.Reports.{CanBeTold, IsPlanCut, IsPlanPrinted, IsReady, found_status, infeasible_text, kind_word, plan_prints, plan_prints_part, plan_status, planned_text, unplanned_text};
+
+use crate::answer::{PlanAnswer, Planned};
+use qc_gantt::write_tracks;
+use qc_io::{Sink, WriteFault, put_all};
+use qc_num::{Text, Tick};
+use qc_run::{Status, direction_text, report_text};
+use qc_search::Kind;
+
+/// The word for how a search came out.
+pub fn kind_word(kind: Kind) -> &'static [u8]
+    ensures text { result.now ≡ kind_word kind }
+    ensures short { length result.now ≤ 10 }
+{
+    match kind {
+        Kind::Optimal => b"Optimal",
+        Kind::Infeasible => b"Infeasible",
+        Kind::Budget => b"Budget",
+    }
+}
+
+/// The summary of a search that met a schedule.
+fn planned_text(told: &Planned) -> Text<160>
+    ensures { result ≡ planned_text told.now }
+{
+    let mut text = Text::new();
+    text.push(kind_word(told.kind));
+    text.push(b"\nend ");
+    text.push_number(told.end);
+    text.push(b"\nbound ");
+    text.push_number(told.bound);
+    text.push(b"\nbranched ");
+    text.push_number(told.branched);
+    text.push(b"\ndirection ");
+    text.push(direction_text(told.direction));
+    text.push(b"\n");
+    text
+}
+
+/// What is told of a search that spent its branchings and met no schedule.
+fn unplanned_text(bound: Tick, branched: u64) -> Text<64>
+    ensures { result ≡ unplanned_text bound branched }
+{
+    let mut text = Text::of(b"Budget\nbound ");
+    text.push_number(bound);
+    text.push(b"\nbranched ");
+    text.push_number(branched);
+    text.push(b"\n");
+    text
+}
+
+/// What is told of a search that showed that no schedule goes one way.
+fn infeasible_text(branched: u64) -> Text<64>
+    ensures { result ≡ infeasible_text branched }
+{
+    let mut text = Text::of(b"Infeasible\nbranched ");
+    text.push_number(branched);
+    text.push(b"\n");
+    text
+}
+
+/// Writes the summary of a search that met a schedule, and the motion of each crane.
+fn put_moved<K: Sink>(told: Planned, out: &mut K) -> Result<(), WriteFault>
+    requires { IsReady told }
+    ensures { WritesMoved (K.view out.old) (K.view out.new) (planned_text told)
+        told.inst told.sched told.direction result }
+{
+    put_all(out, planned_text(&told).as_bytes())?;
+    let Planned {
+        inst,
+        sched,
+        mut track,
+        direction,
+        ..
+    } = told;
+    write_tracks(&inst, &sched, direction, &mut track, out)
+}
+
+/// The status of a plan that was found.
+fn found_status(kind: Kind) -> Status
+    ensures { result ≡ found_status kind }
+{
+    match kind {
+        Kind::Optimal => Status::Optimal,
+        Kind::Infeasible | Kind::Budget => Status::BudgetPlan,
+    }
+}
+
+/// Prints what is told of a plan that was found.
+fn report_planned<K: Sink>(told: Planned, out: &mut K) -> Status
+    requires { IsReady told }
+    ensures { Reports (IsPlanPrinted told) (IsPlanCut told) (found_status told.kind)
+        (K.view out.old) (K.view out.new) result }
+{
+    let status = found_status(told.kind);
+    match put_moved(told, out) {
+        Ok(()) => status,
+        Err(WriteFault) => Status::WriteFault,
+    }
+}
+
+/// Prints what a plan came to.
+pub(crate) fn report<K: Sink>(answer: PlanAnswer, out: &mut K) -> Status
+    requires { CanBeTold answer }
+    ensures { Reports (plan_prints answer) (plan_prints_part answer) (plan_status answer)
+        (K.view out.old) (K.view out.new) result }
+{
+    match answer {
+        PlanAnswer::WriteFault => report_text(Status::WriteFault, b"WriteFault\n", out),
+        PlanAnswer::Planned(told) => report_planned(told, out),
+        PlanAnswer::Unplanned { bound, branched } => {
+            report_text(Status::BudgetNone, unplanned_text(bound, branched).as_bytes(), out)
+        }
+        PlanAnswer::Infeasible { branched } => {
+            report_text(Status::Infeasible, infeasible_text(branched).as_bytes(), out)
+        }
+    }
+}

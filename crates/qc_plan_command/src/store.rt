@@ -1,0 +1,82 @@
+//! The storing of a search: its tree, and then the plan of the best schedule. Each file is whole or as it was.
+ghost use Rattle.std.specs.Prelude.{◌≡◌, ◌⊎◌, Ok, Some, IfOk, IfSome, OnOk, OnErr};
+ghost use Rattle.std.specs.FinMap.{insert};
+ghost use Rattle.qc_gantt.specs.Plan.{HasShortEnds};
+ghost use Rattle.qc_gantt.specs.PlanText.{plan_text};
+ghost use Rattle.qc_io.specs.Writes.{Counts};
+ghost use Rattle.qc_model.specs.Judge.{IsJudgeable};
+ghost use Rattle.qc_search.specs.Run.{IsSound};
+ghost use Rattle.qc_plan_command.specs.Found.{IsReread};
+ghost use Rattle.qc_plan_command.specs.Stored.{IsTreeLeft, IsTreeStored, with_plan};
+
+use qc_gantt::write_plan;
+use qc_io::{Shelf, WriteFault};
+use qc_model::{Instance, Schedule};
+use qc_search::{Done, Search};
+
+/// Runs the search, and makes the tree's file of what it writes.
+pub fn store_tree<S: Shelf>(
+    search: Search,
+    name: &str,
+    shelf: &mut S,
+) -> Result<Done, WriteFault>
+    ensures ok { IfOk result (λ done. IfSome (S.Sink.view shelf.old).files (λ held.
+        IsTreeStored search name.now held (S.Sink.view shelf.new).files done)) }
+    ensures err { OnErr result (IfSome (S.Sink.view shelf.old).files (λ held.
+        IsTreeLeft search name.now held (S.Sink.view shelf.new).files)) }
+    ensures sound { IfOk result (IsSound search) }
+    ensures counts { Counts (S.Sink.view shelf.old).faults (S.Sink.view shelf.new).faults result }
+    ensures read_faults { (S.Sink.view shelf.new).read_faults ≡ (S.Sink.view shelf.old).read_faults }
+{
+    shelf.create(name)?;
+    let done = search.run(shelf)?;
+    shelf.finish()?;
+    Ok(done)
+}
+
+/// Makes the plan's file.
+fn store_plan<S: Shelf>(
+    inst: &Instance,
+    sched: &Schedule,
+    name: &str,
+    shelf: &mut S,
+) -> Result<(), WriteFault>
+    requires { IsJudgeable inst.now sched.now }
+    ensures ok { OnOk result (IfSome (S.Sink.view shelf.old).files (λ held. (S.Sink.view shelf.new).files
+        ≡ Some (insert held name.now (plan_text inst.now sched.now)))) }
+    ensures err { OnErr result (IfSome (S.Sink.view shelf.old).files (λ held.
+        ((S.Sink.view shelf.new).files ≡ Some held)
+        ⊎ ((S.Sink.view shelf.new).files ≡ Some (insert held name.now (plan_text inst.now sched.now))))) }
+    ensures reread { OnOk result (HasShortEnds inst.now sched.now → IsReread inst.now sched.now) }
+    ensures counts { Counts (S.Sink.view shelf.old).faults (S.Sink.view shelf.new).faults result }
+    ensures read_faults { (S.Sink.view shelf.new).read_faults ≡ (S.Sink.view shelf.old).read_faults }
+{
+    shelf.create(name)?;
+    write_plan(inst, sched, shelf)?;
+    shelf.finish()?;
+    Ok(())
+}
+
+/// Makes the plan's file where the search met a schedule, and else none.
+pub fn store_best<S: Shelf>(
+    inst: &Instance,
+    done: &Done,
+    name: &str,
+    shelf: &mut S,
+) -> Result<(), WriteFault>
+    requires { IfSome done.now.best (IsJudgeable inst.now) }
+    ensures ok { OnOk result (IfSome (S.Sink.view shelf.old).files (λ held.
+        (S.Sink.view shelf.new).files ≡ Some (with_plan held name.now inst.now done.now.best))) }
+    ensures err { OnErr result (IfSome (S.Sink.view shelf.old).files (λ held.
+        ((S.Sink.view shelf.new).files ≡ Some held)
+        ⊎ ((S.Sink.view shelf.new).files ≡ Some (with_plan held name.now inst.now done.now.best)))) }
+    ensures reread { OnOk result (IfSome done.now.best (λ sched.
+        HasShortEnds inst.now sched → IsReread inst.now sched)) }
+    ensures counts { Counts (S.Sink.view shelf.old).faults (S.Sink.view shelf.new).faults result }
+    ensures read_faults { (S.Sink.view shelf.new).read_faults ≡ (S.Sink.view shelf.old).read_faults }
+{
+    match done.best() {
+        Some(sched) => store_plan(inst, sched, name, shelf),
+        None => Ok(()),
+    }
+}

@@ -1,0 +1,5 @@
+pub mod StepLemmas
+pub mod DueLemmas
+pub mod StatusLemmas
+pub mod ReportLemmas
+pub mod ToldLemmas

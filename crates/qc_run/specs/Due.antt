@@ -1,0 +1,107 @@
+-- public: what the files that a command reads come to, with the order of refusals.
+use Rattle.std.specs.Prelude.{ℕ, List, length, nat_le, if◌then◌else◌, Option, Some, None, option_and_then, ok_or, Result, Ok, Err}
+use Rattle.std.specs.FinMap.{get}
+use Rattle.qc_num.specs.Reading.{◌>>=◌, with_fault}
+use Rattle.qc_io.specs.Outside.{Files}
+use Rattle.qc_gantt.specs.Plan.{plan_in}
+use Rattle.qc_model.specs.declared.schedule.Slot.{Slot}
+use Rattle.qc_model.specs.Instance.{InstanceView}
+use Rattle.qc_replay.specs.declared.fault.Replayed.{Replayed}
+use Rattle.qc_replay.specs.Walk.{tree_in}
+use Rattle.qc_ship.specs.Ship.{ShipView}
+use Rattle.qc_ship.specs.ShipFile.{ship_file}
+use Rattle.qc_stow.specs.declared.row.Row.{Row}
+use Rattle.qc_stow.specs.Stow.{moves_in}
+use Rattle.qc_tasks.specs.InstanceOf.{instance_of}
+use Rattle.qc_run.specs.declared.inputs.Input.{Input}
+use Rattle.qc_run.specs.declared.inputs.Input.TheVariants as input
+use Rattle.qc_run.specs.Inputs.{Names, name_of}
+use Rattle.qc_run.specs.declared.refusal.Refusal.{Refusal}
+use Rattle.qc_run.specs.declared.refusal.Refusal.TheVariants as refusal
+use Rattle.qc_run.specs.declared.reading.Job.{Job}
+
+-- the bytes of the files that are read, by what each is for; none where it isn't held or isn't read
+pub record Contents : Type 0 where
+  pub ship : Option (List ℕ)
+  pub stow : Option (List ℕ)
+  pub plan : Option (List ℕ)
+  pub tree : Option (List ℕ)
+
+abbrev pub bytes_of : Input → Contents → Option (List ℕ)
+bytes_of input.Ship contents = contents.ship
+bytes_of input.Stow contents = contents.stow
+bytes_of input.Plan contents = contents.plan
+bytes_of input.Tree contents = contents.tree
+
+-- the same, as if one of the files weren't held
+abbrev pub without : Input → Contents → Contents
+without input.Ship contents = record contents { ship = None }
+without input.Stow contents = record contents { stow = None }
+without input.Plan contents = record contents { plan = None }
+without input.Tree contents = record contents { tree = None }
+
+-- what a command finds in these files
+abbrev pub contents_in : Files → Names → Contents
+contents_in held names = record {
+  ship = option_and_then (get held) (name_of input.Ship names);
+  stow = option_and_then (get held) (name_of input.Stow names);
+  plan = option_and_then (get held) (name_of input.Plan names);
+  tree = option_and_then (get held) (name_of input.Tree names);
+}
+
+-- the greatest length of a file that is read whole, in bytes
+abbrev pub file_limit : ℕ
+file_limit = 8388608
+
+-- the bytes of a file that is held and isn't too large
+abbrev pub within_limit : Input → Option (List ℕ) → Result (List ℕ) Refusal
+within_limit file None = Err (refusal.ReadFault file)
+within_limit file (Some bytes) =
+    if nat_le (length bytes) file_limit then Ok bytes else Err (refusal.TooLarge file)
+
+abbrev pub input_due : Input → Contents → Result (List ℕ) Refusal
+input_due file contents = within_limit file (bytes_of file contents)
+
+-- the ship, or the first refusal of its file
+abbrev pub ship_due : Contents → Result ShipView Refusal
+ship_due contents = do
+  bytes ← input_due input.Ship contents
+  with_fault refusal.BadShip (ship_file bytes)
+
+-- the moves of the stowage list, or the first refusal of its file
+abbrev pub moves_due : ShipView → Contents → Result (List Row) Refusal
+moves_due ship contents = do
+  bytes ← input_due input.Stow contents
+  with_fault refusal.BadStow (moves_in ship bytes)
+
+-- the instance of the files, or the first refusal: first of the ship file, then of the stowage list
+abbrev pub instance_due : Contents → Result InstanceView Refusal
+instance_due contents = do
+  ship ← ship_due contents
+  rows ← moves_due ship contents
+  Ok (instance_of ship rows)
+
+-- the schedule of the plan's file, or the first refusal of that file
+abbrev pub schedule_due : InstanceView → Contents → Result (List Slot) Refusal
+schedule_due inst contents = do
+  bytes ← input_due input.Plan contents
+  with_fault refusal.BadPlan (plan_in inst bytes)
+
+-- the instance and the schedule of the files, or the first refusal: the plan's file comes last
+abbrev pub job_due : Contents → Result Job Refusal
+job_due contents = do
+  inst ← instance_due contents
+  sched ← schedule_due inst contents
+  Ok (record { inst = inst; sched = sched })
+
+-- what the tree of the tree's file shows for the instance, or the first refusal of that file
+abbrev pub tree_due : InstanceView → Contents → Result Replayed Refusal
+tree_due inst contents = do
+  bytes ← ok_or contents.tree (refusal.ReadFault input.Tree)
+  with_fault refusal.BadTree (tree_in inst bytes)
+
+-- what that tree shows for the instance of the files, or the first refusal: the tree's file comes last
+abbrev pub shown_due : Contents → Result Replayed Refusal
+shown_due contents = do
+  inst ← instance_due contents
+  tree_due inst contents

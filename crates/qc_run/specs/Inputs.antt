@@ -1,0 +1,31 @@
+-- public: the names of the files that a command reads, by what each is for.
+use Rattle.std.specs.Prelude.{List, ℕ, Option, None, Some, IsSome, option_map}
+use Rattle.qc_run.specs.declared.inputs.Input.{Input}
+use Rattle.qc_run.specs.declared.inputs.Input.TheVariants as input
+use Rattle.qc_run.specs.declared.inputs.Inputs.{Inputs}
+
+-- each name, and none where the command reads no such file
+pub record Names : Type 0 where
+  pub ship : Option (List ℕ)
+  pub stow : Option (List ℕ)
+  pub plan : Option (List ℕ)
+  pub tree : Option (List ℕ)
+
+abbrev pub names_of : Inputs → Names
+names_of inputs = record {
+  ship = Some inputs.ship.now;
+  stow = Some inputs.stow.now;
+  plan = option_map (λ name. name.now) inputs.plan;
+  tree = option_map (λ name. name.now) inputs.tree;
+}
+
+abbrev pub name_of : Input → Names → Option (List ℕ)
+name_of input.Ship names = names.ship
+name_of input.Stow names = names.stow
+name_of input.Plan names = names.plan
+name_of input.Tree names = names.tree
+
+-- the command reads the file whole; a tree's file is read line by line
+abbrev pub IsWhole : Input → Names → Type 0
+IsWhole input.Tree names = ⊥
+IsWhole file names = IsSome (name_of file names)

@@ -1,0 +1,69 @@
+//! The lines of faults in a ship file, in a stowage list, in a plan's file and in a tree's file.
+ghost use Rattle.std.specs.Prelude.{◌≡◌};
+ghost use Rattle.qc_run.specs.Texts.{bad_ship_text, place_line, bad_plan_text, bad_stow_text, bad_tree_text};
+
+use qc_gantt::PlanFault;
+use qc_num::Text;
+use qc_replay::TreeFault;
+use qc_ship::{ShipFault, ShipKind};
+use qc_stow::StowFault;
+
+/// The line of a fault of the ship file with its place: the key and the number of its element.
+fn place_line(fault: ShipFault) -> Text<192>
+    ensures { result ≡ place_line fault.kind fault }
+{
+    let mut line = Text::of(b"BadShip ");
+    line.push(fault.kind.text().as_bytes());
+    line.push(b" ");
+    line.push(fault.key.text().as_bytes());
+    line.push(b" ");
+    line.push_number(u64::from(fault.number));
+    line.push(b"\n");
+    line
+}
+
+/// The line of a fault in the ship file; a text that is no TOML has no place.
+pub(crate) fn ship_fault_line(fault: ShipFault) -> Text<192>
+    ensures { result ≡ bad_ship_text fault.kind fault }
+{
+    match fault.kind {
+        ShipKind::NotToml => Text::of(b"BadShip NotToml\n"),
+        _ => place_line(fault),
+    }
+}
+
+/// The line of a fault in the stowage list.
+pub(crate) fn stow_fault_line(fault: StowFault) -> Text<192>
+    ensures { result ≡ bad_stow_text fault }
+{
+    let mut line = Text::of(b"BadStow ");
+    line.push(fault.kind.text().as_bytes());
+    line.push(b" ");
+    line.push_number(u64::from(fault.number));
+    line.push(b"\n");
+    line
+}
+
+/// The line of a fault in the plan's file.
+pub(crate) fn plan_fault_line(fault: PlanFault) -> Text<192>
+    ensures { result ≡ bad_plan_text fault }
+{
+    let mut line = Text::of(b"BadPlan ");
+    line.push(fault.kind.text().as_bytes());
+    line.push(b" ");
+    line.push_number(u64::from(fault.number));
+    line.push(b"\n");
+    line
+}
+
+/// The line of a fault in a tree's file.
+pub(crate) fn tree_fault_line(fault: TreeFault) -> Text<192>
+    ensures { result ≡ bad_tree_text fault }
+{
+    let mut line = Text::of(b"BadTree ");
+    line.push(fault.kind.text().as_bytes());
+    line.push(b" ");
+    line.push_number(u64::from(fault.line));
+    line.push(b"\n");
+    line
+}

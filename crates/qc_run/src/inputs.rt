@@ -1,0 +1,35 @@
+//! The files that a command reads.
+ghost use Rattle.std.specs.Prelude.{◌≡◌, option_map};
+ghost use Rattle.qc_run.specs.Inputs.{name_of, names_of};
+
+/// A file that a command reads, by what it is for.
+#[derive(Clone, Copy, Debug, PartialEq, Eq)]
+pub enum Input {
+    Ship,
+    Stow,
+    Plan,
+    Tree,
+}
+
+/// The names of the files that a command reads: a plan's and a tree's where it reads one.
+#[derive(Clone, Copy, Debug)]
+pub struct Inputs<'a> {
+    pub ship: &'a str,
+    pub stow: &'a str,
+    pub plan: Option<&'a str>,
+    pub tree: Option<&'a str>,
+}
+
+impl<'a> Inputs<'a> {
+    /// The name of the file that is for this; none where the command reads no such file.
+    pub(crate) fn name_of(&self, file: Input) -> Option<&'a str>
+        ensures { option_map (λ name. name.now) result ≡ name_of file (names_of self.now) }
+    {
+        match file {
+            Input::Ship => Some(self.ship),
+            Input::Stow => Some(self.stow),
+            Input::Plan => self.plan,
+            Input::Tree => self.tree,
+        }
+    }
+}

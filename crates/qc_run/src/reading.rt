@@ -1,0 +1,171 @@
+//! The files that a command reads.
+ghost use Rattle.std.specs.Prelude.{◌≡◌, Err, IfOk, IfSome, Some, All, IsSome};
+ghost use Rattle.qc_model.specs.Judge.{IsJudgeable};
+ghost use Rattle.qc_ship.specs.Ship.{place_of_bay};
+ghost use Rattle.qc_tree.specs.Trees.{NoneEarlier};
+ghost use Rattle.qc_replay.specs.declared.fault.TreeFault.{TreeFault};
+ghost use Rattle.qc_run.specs.declared.refusal.Refusal.TheVariants as refusal;
+ghost use Rattle.qc_run.specs.declared.refusal.Stop.TheVariants as stop;
+ghost use Rattle.qc_run.specs.Inputs.{IsWhole, name_of, names_of};
+ghost use Rattle.qc_run.specs.Due.{input_due, ship_due, moves_due, instance_due, schedule_due, job_due, tree_due, contents_in};
+ghost use Rattle.qc_run.specs.Steps.{IsStep};
+ghost use Rattle.qc_run.specs.Shown.{IsTreeShown, IsNoTree};
+
+use crate::inputs::{Input, Inputs};
+use crate::refusal::{Refusal, Stop};
+use qc_gantt::{PlanError, read_plan};
+use qc_io::{ReadAll, Shelf, read_all};
+use qc_model::{Instance, Schedule};
+use qc_num::{Bytes, OutOfMemory};
+use qc_replay::{ReplayError, Replayed, replay};
+use qc_ship::{Ship, ShipError, read_ship};
+use qc_stow::{Moves, StowError, read_stow};
+use qc_tasks::tasks_of;
+use std::alloc::Global;
+
+/// The greatest length of a ship file, of a stowage list and of a plan's file, in bytes.
+const FILE_LIMIT: usize = 8_388_608;
+
+/// The bytes of a file that the command reads.
+fn read_input<S: Shelf>(
+    alloc: Global,
+    inputs: &Inputs<'_>,
+    file: Input,
+    shelf: &mut S,
+) -> Result<Bytes, Stop>
+    requires named { IsSome (name_of file (names_of inputs.now)) }
+    requires whole { IsWhole file (names_of inputs.now) }
+    ensures { IsStep (input_due file) (names_of inputs.now)
+        (S.Sink.view shelf.old) (S.Sink.view shelf.new) result }
+{
+    let Some(name) = inputs.name_of(file) else {
+        unreachable!()
+    };
+    match read_all(alloc, shelf, name, FILE_LIMIT) {
+        Ok(bytes) => Ok(bytes),
+        Err(ReadAll::ReadFault) => Err(Stop::Refused(Refusal::ReadFault(file))),
+        Err(ReadAll::TooLarge) => Err(Stop::Refused(Refusal::TooLarge(file))),
+        Err(ReadAll::OutOfMemory) => Err(Stop::OutOfMemory),
+    }
+}
+
+/// The ship of the ship file.
+fn read_ship_file<S: Shelf>(
+    alloc: Global,
+    inputs: &Inputs<'_>,
+    shelf: &mut S,
+) -> Result<Ship, Stop>
+    ensures { IsStep ship_due (names_of inputs.now)
+        (S.Sink.view shelf.old) (S.Sink.view shelf.new) result }
+{
+    let bytes = read_input(alloc, inputs, Input::Ship, shelf)?;
+    match read_ship(alloc, bytes.as_slice()) {
+        Ok(ship) => Ok(ship),
+        Err(ShipError::Fault(fault)) => Err(Stop::Refused(Refusal::BadShip(fault))),
+        Err(ShipError::OutOfMemory) => Err(Stop::OutOfMemory),
+    }
+}
+
+/// The moves of the stowage list.
+fn read_moves<S: Shelf>(
+    alloc: Global,
+    inputs: &Inputs<'_>,
+    ship: &Ship,
+    shelf: &mut S,
+) -> Result<Moves, Stop>
+    ensures step { IsStep (moves_due ship.now) (names_of inputs.now)
+        (S.Sink.view shelf.old) (S.Sink.view shelf.new) result }
+    ensures hatches { IfOk result (All (λ row. IsSome (place_of_bay ship.now row.cell.bay))) }
+{
+    let bytes = read_input(alloc, inputs, Input::Stow, shelf)?;
+    match read_stow(alloc, bytes.as_slice(), ship) {
+        Ok(moves) => Ok(moves),
+        Err(StowError::Fault(fault)) => Err(Stop::Refused(Refusal::BadStow(fault))),
+        Err(StowError::OutOfMemory) => Err(Stop::OutOfMemory),
+    }
+}
+
+/// The instance of the ship file and the stowage list, or why there is none.
+pub fn read_instance<S: Shelf>(
+    alloc: Global,
+    inputs: &Inputs<'_>,
+    shelf: &mut S,
+) -> Result<Instance, Stop>
+    ensures { IsStep instance_due (names_of inputs.now)
+        (S.Sink.view shelf.old) (S.Sink.view shelf.new) result }
+{
+    let ship = read_ship_file(alloc, inputs, shelf)?;
+    let moves = read_moves(alloc, inputs, &ship, shelf)?;
+    Ok(tasks_of(alloc, &ship, &moves)?)
+}
+
+/// An instance and a schedule for it.
+#[derive(Drop)]
+pub struct Job {
+    pub inst: Instance,
+    pub sched: Schedule,
+}
+
+/// The schedule of the plan's file.
+fn read_schedule<S: Shelf>(
+    alloc: Global,
+    inputs: &Inputs<'_>,
+    inst: &Instance,
+    shelf: &mut S,
+) -> Result<Schedule, Stop>
+    requires { IsSome (names_of inputs.now).plan }
+    ensures step { IsStep (schedule_due inst.now) (names_of inputs.now)
+        (S.Sink.view shelf.old) (S.Sink.view shelf.new) result }
+    ensures judgeable { IfOk result (λ sched. IsJudgeable inst.now sched) }
+{
+    let bytes = read_input(alloc, inputs, Input::Plan, shelf)?;
+    match read_plan(alloc, bytes.as_slice(), inst) {
+        Ok(sched) => Ok(sched),
+        Err(PlanError::Fault(fault)) => Err(Stop::Refused(Refusal::BadPlan(fault))),
+        Err(PlanError::OutOfMemory) => Err(Stop::OutOfMemory),
+    }
+}
+
+/// The instance of the ship file and the stowage list, and the schedule of the plan's file.
+pub fn read_job<S: Shelf>(
+    alloc: Global,
+    inputs: &Inputs<'_>,
+    shelf: &mut S,
+) -> Result<Job, Stop>
+    requires { IsSome (names_of inputs.now).plan }
+    ensures step { IsStep job_due (names_of inputs.now)
+        (S.Sink.view shelf.old) (S.Sink.view shelf.new) result }
+    ensures judgeable { IfOk result (λ job. IsJudgeable job.inst job.sched) }
+{
+    let inst = read_instance(alloc, inputs, shelf)?;
+    let sched = read_schedule(alloc, inputs, &inst, shelf)?;
+    Ok(Job { inst, sched })
+}
+
+/// What the tree of the tree's file shows for the instance.
+pub fn read_tree<S: Shelf>(
+    alloc: Global,
+    inputs: &Inputs<'_>,
+    inst: &Instance,
+    shelf: &mut S,
+) -> Result<Replayed, Stop>
+    requires { IsSome (names_of inputs.now).tree }
+    ensures step { IsStep (tree_due inst.now) (names_of inputs.now)
+        (S.Sink.view shelf.old) (S.Sink.view shelf.new) result }
+    ensures shown { IfOk result (λ read. IfSome (S.Sink.view shelf.old).files (λ held.
+        IsTreeShown inst.now (contents_in held (names_of inputs.now)).tree read.bound)) }
+    ensures none_earlier { IfOk result (λ read. NoneEarlier inst.now read.bound) }
+    ensures none { (fault : TreeFault) → result ≡ Err (stop.Refused (refusal.BadTree fault))
+        → IfSome (S.Sink.view shelf.old).files (λ held.
+        IsNoTree inst.now (contents_in held (names_of inputs.now)).tree) }
+{
+    let Some(name) = inputs.name_of(Input::Tree) else {
+        unreachable!()
+    };
+    match replay(alloc, inst, shelf, name) {
+        Ok(read) => Ok(read),
+        Err(ReplayError::ReadFault) => Err(Stop::Refused(Refusal::ReadFault(Input::Tree))),
+        Err(ReplayError::Tree(fault)) => Err(Stop::Refused(Refusal::BadTree(fault))),
+        Err(ReplayError::OutOfMemory) => Err(Stop::OutOfMemory),
+    }
+}

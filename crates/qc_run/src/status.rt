@@ -1,0 +1,61 @@
+//! How a run ended.
+ghost use Rattle.std.specs.Prelude.{◌≡◌};
+
+/// How a run ended. Each status has a report, and `code` gives the exit status.
+#[derive(Clone, Copy, Debug, PartialEq, Eq)]
+pub enum Status {
+    /// The plan that was written is the best.
+    Optimal,
+    /// The command is through.
+    Done,
+    /// The words are no command.
+    Usage,
+    /// A file isn't there or couldn't be read.
+    ReadFault,
+    /// A file or the report couldn't be written.
+    WriteFault,
+    BadShip,
+    BadStow,
+    BadTree,
+    BadPlan,
+    OutOfMemory,
+    /// There is no one-way schedule.
+    Infeasible,
+    /// The branchings are spent; a plan was found.
+    BudgetPlan,
+    /// The branchings are spent; no plan was found.
+    BudgetNone,
+    /// The plan breaks a rule.
+    Broken,
+    /// The plan holds, and the tree doesn't show that it is the best.
+    Weaker,
+    /// A file has more than 8,388,608 bytes.
+    TooLarge,
+}
+
+impl Status {
+    ghost use Rattle.qc_run.specs.Texts.{status_code};
+
+    /// The exit status: 0 where the run came to what was asked for.
+    pub fn code(&self) -> u8
+        ensures { result ≡ status_code self.now }
+    {
+        match self {
+            Status::Optimal | Status::Done => 0,
+            Status::Usage => 2,
+            Status::ReadFault => 3,
+            Status::WriteFault => 4,
+            Status::BadShip => 5,
+            Status::BadStow => 6,
+            Status::BadTree => 7,
+            Status::BadPlan => 8,
+            Status::OutOfMemory => 9,
+            Status::Infeasible => 10,
+            Status::BudgetPlan => 11,
+            Status::BudgetNone => 12,
+            Status::Broken => 13,
+            Status::Weaker => 14,
+            Status::TooLarge => 15,
+        }
+    }
+}

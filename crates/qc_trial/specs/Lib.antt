@@ -1,0 +1,4 @@
+pub mod Made
+pub mod Texts
+pub mod Account
+pub mod Stored
