@@ -10,3 +10,4 @@ pub mod WalkFacts
 pub mod LeafBounds
 pub mod TreeTextLemmas
 pub mod TreeFacts
+pub mod OneTree

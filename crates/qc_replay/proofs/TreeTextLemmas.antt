@@ -181,7 +181,7 @@ end_short b x small h =
     let digits = length-decimal-le 6 b (omega arith) small (omega (arith, small)) in
     omega (arith, digits, bound_short x h, length-append (decimal b) (bound_field x))
 
-regroup : (t u a d b e : List ℕ) → t ++ (u ++ (a ++ (d ++ (b ++ (e ++ []))))) ≡ t ++ u ++ a ++ d ++ b ++ e
+pub regroup : (t u a d b e : List ℕ) → t ++ (u ++ (a ++ (d ++ (b ++ (e ++ []))))) ≡ t ++ u ++ a ++ d ++ b ++ e
 regroup t u a d b e = simp (append_assoc, append-nil)
 
 -- ---- a tree

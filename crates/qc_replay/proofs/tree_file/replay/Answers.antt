@@ -8,7 +8,8 @@ use Rattle.qc_replay.specs.Stages.{WalkView}
 use Rattle.qc_replay.specs.Walk.{start, tree_in}
 use Rattle.qc_replay.specs.declared.fault.ReplayError.TheVariants.{ReadFault}
 use Rattle.qc_replay.proofs.FileFacts.{error_through, never_failed, reads_then, reads_when}
-use Rattle.qc_replay.proofs.TreeFacts.{each_ok, never_faulty, no_earlier, one_value, read_in, shows}
+use Rattle.qc_replay.proofs.OneTree.{one_tree}
+use Rattle.qc_replay.proofs.TreeFacts.{each_ok, never_faulty, no_earlier, one_value, read_in, shows, whatever_ok}
 use Rattle.qc_replay.proofs.tree_file.replay.Goals as goal
 
 pub returns-in_err-lines-clause-reads : goal.returns-in_err-lines-clause-reads
@@ -76,3 +77,8 @@ returns-clause-one_value g c =
     (subst (λ (w : WalkView). IfOk c.read_lines.result (IsReadThrough w.inst file)) c.in_ok-walk.ensures.start
     (subst (λ f. IfOk c.read_lines.result (IsReadThrough c.in_ok-walk.walk.inst f)) c.in_ok-lines.ensures.whole
     c.read_lines.ensures.read))
+
+pub returns-clause-one_tree : goal.returns-clause-one_tree
+returns-clause-one_tree g c =
+    whatever_ok _ c.read_lines.result
+    (one_tree c.args.inst.now c.in_ok-walk.ensures.valid (file_at (g.S.Sink.view c.args.shelf.now).files c.args.name.now))
