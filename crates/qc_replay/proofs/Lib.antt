@@ -3,8 +3,11 @@ pub mod DescentFacts
 pub mod LeafFacts
 pub mod NodeFacts
 pub mod StepFacts
-pub mod WalkFacts
+pub mod SignLemmas
 pub mod ReadLemmas
+pub mod LinesLeft
+pub mod WalkFacts
 pub mod LeafBounds
 pub mod TreeTextLemmas
 pub mod TreeFacts
+pub mod OneTree

@@ -1,19 +1,18 @@
 -- Lines, taken from a file one after the other.
-use Rattle.std.proofs.Common.{◌≡◌, ℕ, ◌+◌, false, List, [], ◌∷◌, ◌++◌, length, map, drop, Option, None, Some, IfSome, nat_lt, Result, Ok, Err, refl, sym, ap, subst, ◌∙◌, append_assoc}
-use Rattle.std.specs.Prelude.{IsSomeAnd, ok_or}
+use Rattle.std.proofs.Common.{◌≡◌, ℕ, ◌+◌, true, false, List, [], ◌∷◌, ◌++◌, length, Option, None, Some, IfSome, Result, Ok, Err, refl, sym, ap, ◌∙◌, append_assoc}
+use Rattle.std.specs.Prelude.{IsSomeAnd}
 use Rattle.std.proofs.lemmas.Bool.{lt-ltb, true≢false}
 use Rattle.std.proofs.lemmas.List.{append-nil}
 use Rattle.std.proofs.lemmas.Grind.{flat_map-append}
-use Rattle.qc_num.specs.Reading.{◌>>=◌, require}
+use Rattle.qc_num.specs.Reading.{◌>>=◌}
 use Rattle.qc_model.specs.Instance.{InstanceView}
 use Rattle.qc_tree.specs.declared.line.Line.{Line}
-use Rattle.qc_tree.specs.LineIn.{Listed, line_in}
+use Rattle.qc_tree.specs.LineIn.{Listed}
 use Rattle.qc_tree.specs.Lines.{line_text}
 use Rattle.qc_tree.specs.Trees.{whole_line}
 use Rattle.qc_tree.proofs.LineInLemmas.{line_in_of, split_line}
 use Rattle.qc_replay.specs.declared.fault.TreeFault.{TreeFault}
 use Rattle.qc_replay.specs.declared.fault.TreeKind.{TreeKind}
-use Rattle.qc_replay.specs.declared.fault.TreeKind.TheVariants as kind
 use Rattle.qc_replay.specs.File.{Fails, IsFaulty, IsNext, Leads, texts}
 use Rattle.qc_replay.specs.Read.{lines_text, with_line, with_lines}
 use Rattle.qc_replay.specs.Stages.{is_over, none_due}
@@ -81,6 +80,14 @@ module _ (inst : InstanceView) (n : ℕ) (r : Reading) (before : Option (List �
           ap (λ bytes. texts_from inst n r (texts bytes)) h ∙ text_is y
               ∙ ap (λ now. numbered n now >>= λ now. texts_from inst (n + 1) now (texts y)) goes,
         )
+
+-- no line must come any more
+pub over_now : (r : Reading) → is_over r ≡ true → r.coming ≡ []
+over_now r over = by_coming r.coming over
+  where
+    by_coming : (coming : List Coming) → none_due coming ≡ true → coming ≡ []
+    by_coming [] e = refl
+    by_coming (c ∷ more) e = absurd (cc e)
 
 -- nothing is read yet
 pub leads_none : (inst : InstanceView) (n : ℕ) (r : Reading) (left : Option (List ℕ)) → Leads inst n r left n r left

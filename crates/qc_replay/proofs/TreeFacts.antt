@@ -1,54 +1,18 @@
 -- A file, read from its title to its end.
-use Rattle.std.proofs.Common.{◌≡◌, ℕ, true, false, List, [], ◌∷◌, ◌++◌, map, Option, None, Some, IfSome, Result, Ok, Err, sym, ap, subst, subst₂, ◌∙◌}
-use Rattle.std.specs.Prelude.{IfOk, IsSomeAnd, if◌then◌else◌, ◌<◌, length}
-use Rattle.qc_model.specs.declared.direction.Direction.{Direction}
+use Rattle.std.proofs.Common.{◌≡◌, ℕ, List, [], ◌++◌, Option, None, Some, IfSome, Result, Ok, Err, sym, ap, subst, ◌∙◌}
+use Rattle.std.specs.Prelude.{IfOk, IsSomeAnd, ◌<◌, length}
 use Rattle.qc_model.specs.Instance.{InstanceView, Valid}
 use Rattle.qc_tree.specs.Trees.{IsTree, NoneEarlier, Tree, tree_branchings, tree_text, tree_value}
 use Rattle.qc_replay.specs.declared.fault.Replayed.{Replayed}
 use Rattle.qc_replay.specs.declared.fault.TreeFault.{TreeFault}
 use Rattle.qc_replay.specs.declared.fault.TreeKind.TheVariants as kind
-use Rattle.qc_replay.specs.declared.leaf.Heads.{Heads}
-use Rattle.qc_replay.specs.declared.node.Tally.{Tally}
-use Rattle.qc_replay.specs.File.{Fails, IsReadThrough, Leads, texts}
-use Rattle.qc_replay.specs.Frame.{standing_at}
-use Rattle.qc_dist.specs.Children.{behind}
-use Rattle.qc_replay.specs.Part.{Standing, within}
+use Rattle.qc_replay.specs.File.{Fails, IsReadThrough, texts}
 use Rattle.qc_replay.specs.Read.{IsReached, lines_text}
 use Rattle.qc_replay.specs.Shown.{IsShown}
-use Rattle.qc_replay.specs.Walk.{Coming, Reading, node, start, texts_from, tree_in}
+use Rattle.qc_replay.specs.Walk.{Reading, start, texts_from, tree_in}
 use Rattle.qc_replay.proofs.FileFacts.{at_end, behind_end}
 use Rattle.qc_replay.proofs.ReadLemmas.{none_earlier_of, shown_of}
 use Rattle.qc_replay.proofs.TreeTextLemmas.{tree_read}
-
--- ---- where a part begins and ends
-
-module _ (way : Direction) (heads : Heads) (s : Standing) (more : List Coming) (tally : Tally) where
-  -- nothing of it is read
-  pub part_begins : (inst : InstanceView) → s ≡ record { inst = inst; decisions = []; live = true }
-      → standing_at heads tally (node way [] ∷ more) ≡ within way heads s more tally
-  part_begins inst is = ap (λ (t : Standing). within way heads t more tally) (sym is)
-
-  -- all of it is
-  pub part_ends : s.live ≡ false → within way heads s more tally ≡ standing_at heads tally more
-  part_ends over = ap (λ b. standing_at heads tally (map (node way) (if b then s.decisions ∷ behind s.inst s.decisions else []) ++ more)) over
-
--- a part, read from its first node to its last
-module _ (whole inst : InstanceView) (way : Direction) (heads : Heads) (before : Standing) (more : List Coming) (tally : Tally)
-    (fresh : before ≡ record { inst = inst; decisions = []; live = true }) (n : ℕ) (left : Option (List ℕ)) where
-  abbrev pub fresh_part : Reading
-  fresh_part = standing_at heads tally (node way [] ∷ more)
-
-  pub part_read : (m : ℕ) (after : Standing) (now : Tally) (rest : Option (List ℕ)) → after.live ≡ false
-      → Leads whole n (within way heads before more tally) left m (within way heads after more now) rest
-      → Leads whole n fresh_part left m (standing_at heads now more) rest
-  part_read m after now rest over leads =
-      subst₂ (λ (r l : Reading). Leads whole n r left m l rest)
-      (sym (part_begins way heads before more tally inst fresh)) (part_ends way heads after more now over) leads
-
-  pub part_fails : (fault : TreeFault) → Fails whole n (within way heads before more tally) left fault
-      → Fails whole n fresh_part left fault
-  part_fails fault fails =
-      subst (λ (r : Reading). Fails whole n r left fault) (sym (part_begins way heads before more tally inst fresh)) fails
 
 -- ---- the whole file
 
@@ -104,10 +68,14 @@ pub each_ok : {A E : Type 0} (P Q : A → Type 0) (result : Result A E) → ((a 
 each_ok P Q (Ok a) all h = all a h
 each_ok P Q (Err e) all h = tt
 
+pub whatever_ok : {A E : Type 0} (P : Type 0) (result : Result A E) → P → IfOk result (λ _. P)
+whatever_ok P (Ok a) p = p
+whatever_ok P (Err e) p = tt
+
 -- what was read of the text of a tree is its value
 pub one_value : (inst : InstanceView) → Valid inst → (file : Option (List ℕ)) (read : Replayed)
     → IsReadThrough inst file read → (tree : Tree) → IsTree inst tree → file ≡ Some (tree_text inst tree)
-    → (read.bound ≡ tree_value inst tree) × (read.branched ≡ tree_branchings inst tree)
+    → (read.bound ≡ tree_value inst tree) × (read.branched ≡ tree_branchings tree)
 one_value inst v file read through tree is text =
     let told = subst (λ (f : Option (List ℕ)). IfSome f (λ bytes. tree_in inst bytes ≡ Ok read)) text
     (read_in inst file read through) in

@@ -1,15 +1,11 @@
 -- A line that is taken at each stage.
-use Rattle.std.proofs.Common.{◌≡◌, ℕ, true, false, List, [], ◌∷◌, ◌++◌, drop, map, Result, Ok, Err, refl, ap, subst, sym, ◌∙◌}
+use Rattle.std.proofs.Common.{◌≡◌, ℕ, true, false, List, [], ◌∷◌, ◌++◌, map, Result, Err, refl, ap, sym, ◌∙◌}
 use Rattle.std.specs.Prelude.{if◌then◌else◌}
-use Rattle.qc_num.specs.declared.bound.Bound.{Bound}
 use Rattle.qc_num.specs.Reading.{◌>>=◌}
 use Rattle.qc_dist.specs.Children.{behind}
-use Rattle.qc_model.specs.declared.direction.Direction.{Direction}
 use Rattle.qc_model.specs.declared.direction.Direction.TheVariants as way
 use Rattle.qc_model.specs.Instance.{InstanceView}
 use Rattle.qc_model.specs.Leaves.{with_berths}
-use Rattle.qc_model.specs.OneWay.{mirror}
-use Rattle.qc_model.specs.Seen.{seen}
 use Rattle.qc_tree.specs.declared.line.Line.{Line}
 use Rattle.qc_tree.specs.LineIn.{Listed}
 use Rattle.qc_replay.specs.declared.fault.TreeKind.{TreeKind}
@@ -18,10 +14,10 @@ use Rattle.qc_replay.specs.declared.node.Tally.{Tally}
 use Rattle.qc_replay.specs.declared.walk.Stage.{Stage}
 use Rattle.qc_replay.specs.declared.walk.Stage.TheVariants.{Title, Up, InUp, InDown, Done}
 use Rattle.qc_replay.specs.declared.walk.Walk.TheInside.{Inside}
-use Rattle.qc_replay.specs.Part.{IsJudged, Standing, nodes, version_of, within}
+use Rattle.qc_replay.specs.Part.{IsJudged, Standing, nodes, version_of}
 use Rattle.qc_replay.specs.Read.{with_line}
-use Rattle.qc_replay.specs.Stages.{IsKeptWalk, WalkView, coming_at, from_down, from_up, leading, reading_at, walk_of, word_of}
-use Rattle.qc_replay.specs.Walk.{Coming, Reading, at, at_node, came, down, end, next_of, node, title, up}
+use Rattle.qc_replay.specs.Stages.{IsKeptWalk, WalkView, from_down, leading, reading_at, walk_of, word_of}
+use Rattle.qc_replay.specs.Walk.{Reading, at, at_node, came, down, end, next_of, node, title}
 use Rattle.qc_replay.proofs.NodeFacts.{nodes_here}
 
 -- a fault that is handed on

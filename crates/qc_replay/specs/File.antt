@@ -1,5 +1,5 @@
 -- inner: the file of a tree as it is read: lines taken off the front of what is left.
-use Rattle.std.specs.Prelude.{◌≡◌, ℕ, ◌==◌, ◌<◌, ◌≤◌, Bool, true, List, [], ◌∷◌, ◌++◌, length, Option, IfSome, IsSomeAnd, Result, Ok, Err}
+use Rattle.std.specs.Prelude.{◌≡◌, ℕ, ◌==◌, ◌<◌, List, [], ◌∷◌, ◌++◌, length, Option, IfSome, IsSomeAnd, Ok, Err}
 use Rattle.std.specs.List.{slice_split}
 use Rattle.qc_model.specs.Instance.{InstanceView}
 use Rattle.qc_tree.specs.LineIn.{Listed}

@@ -1,10 +1,11 @@
 -- inner: how far a tree is read, as it is kept.
-use Rattle.std.specs.Prelude.{◌≡◌, Bool, true, false, List, [], ◌∷◌, ◌++◌, map, Result, Ok}
+use Rattle.std.specs.Prelude.{◌≡◌, ℕ, ◌+◌, ◌-◌, ◌*◌, length, Bool, true, false, List, [], ◌∷◌, ◌++◌, map, Result, Ok}
 use Rattle.qc_num.specs.Reading.{◌>>=◌}
 use Rattle.qc_model.specs.declared.direction.Direction.{Direction}
 use Rattle.qc_model.specs.declared.direction.Direction.TheVariants as way
 use Rattle.qc_model.specs.Instance.{InstanceView}
 use Rattle.qc_model.specs.Leaves.{with_berths}
+use Rattle.qc_model.specs.Numbers.{most_branchings, most_cranes}
 use Rattle.qc_model.specs.OneWay.{mirror}
 use Rattle.qc_replay.specs.declared.fault.TreeKind.{TreeKind}
 use Rattle.qc_replay.specs.declared.leaf.TreeVersion.{TreeVersion}
@@ -27,6 +28,10 @@ none_due (c ∷ more) = false
 
 abbrev pub is_over : Reading → Bool
 is_over r = none_due r.coming
+
+-- how many lines may still come: those that must, and the children of each branching that a tree may still have
+abbrev pub lines_left : Reading → ℕ
+lines_left r = length r.coming + most_cranes * (most_branchings - r.branched)
 
 -- the reading that a judged line leads to, or its fault
 abbrev pub leading : {A : Type 0} → (A → Reading) → Result A TreeKind → Result Reading TreeKind

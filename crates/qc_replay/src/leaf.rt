@@ -55,11 +55,7 @@ fn way_along(node: &Decisions, first: u16, numbers: &[u16]) -> Option<(u16, Tick
 }
 
 /// The end that a chain shows; `None` where a task of it isn't forced after the one before.
-pub(crate) fn chain_end(
-    node: &Decisions,
-    version: TreeVersion,
-    numbers: &[u16],
-) -> Option<Tick>
+pub(crate) fn chain_end(node: &Decisions, version: TreeVersion, numbers: &[u16]) -> Option<Tick>
     requires numbers { All (IsNumber node.now.inst) numbers.now }
     requires few { length numbers.now ≤ most_tasks }
     ensures { result ≡ chain_end (version_of version) node.now.inst node.now.decisions (from_file numbers.now) }

@@ -50,11 +50,7 @@ fn are_numbers(node: &Decisions, numbers: &[u16]) -> bool
 }
 
 /// The end that a chain of tasks shows.
-fn chain_bound(
-    node: &Decisions,
-    version: TreeVersion,
-    numbers: &[u16],
-) -> Result<Bound, TreeKind>
+fn chain_bound(node: &Decisions, version: TreeVersion, numbers: &[u16]) -> Result<Bound, TreeKind>
     requires few { length numbers.now ≤ most_tasks }
     ensures { Shows node.now.inst node.now.decisions version Chain numbers.now result }
 {
@@ -68,11 +64,7 @@ fn chain_bound(
 }
 
 /// A ring of tasks shows that no schedule agrees with the node.
-fn ring_bound(
-    node: &Decisions,
-    version: TreeVersion,
-    numbers: &[u16],
-) -> Result<Bound, TreeKind>
+fn ring_bound(node: &Decisions, version: TreeVersion, numbers: &[u16]) -> Result<Bound, TreeKind>
     requires some { 2 ≤ length numbers.now }
     requires few { length numbers.now ≤ most_tasks }
     ensures { Shows node.now.inst node.now.decisions version Ring numbers.now result }

@@ -11,7 +11,7 @@ ghost use Rattle.qc_replay.specs.File.{Fails, IsReadThrough, Leads};
 ghost use Rattle.qc_replay.specs.Read.{with_line};
 ghost use Rattle.qc_replay.specs.Shown.{IsShown};
 ghost use Rattle.qc_replay.specs.Stages.{is_over};
-ghost use Rattle.qc_replay.specs.Walk.{replayed, start, tree_in};
+ghost use Rattle.qc_replay.specs.Walk.{start, tree_in};
 ghost use Rattle.qc_replay.specs.declared.fault.TreeFault.{TreeFault};
 
 use crate::fault::{ReplayError, Replayed};
@@ -47,6 +47,10 @@ pub fn replay<S: Shelf>(
     ensures one_value { IfOk result (λ read. (tree : Tree) → IsTree inst.now tree
         → file_at (S.Sink.view shelf.old).files name.now ≡ Some (tree_text inst.now tree)
         → (read.bound ≡ tree_value inst.now tree) × (read.branched ≡ tree_branchings tree)) }
+    ensures one_tree { IfOk result (λ read. (one other : Tree) → IsTree inst.now one → IsTree inst.now other
+        → file_at (S.Sink.view shelf.old).files name.now ≡ Some (tree_text inst.now one)
+        → file_at (S.Sink.view shelf.old).files name.now ≡ Some (tree_text inst.now other)
+        → one ≡ other) }
 
     ensures missing { IsMissing (S.Sink.view shelf.old).files name.now
         → ¬ (result ≡ Err ReplayError.OutOfMemory) → result ≡ Err ReplayError.ReadFault }
@@ -57,8 +61,7 @@ pub fn replay<S: Shelf>(
 {
     let mut walk = Walk::new(alloc, inst)?;
     let mut lines = TreeLines::open(alloc, shelf, name)?;
-    read_lines(&mut walk, &mut lines, shelf)?;
-    Ok(walk.shown())
+    read_lines(&mut walk, &mut lines, shelf)
 }
 
 /// Reads all lines of a tree, from its title to the end of its file.
@@ -66,14 +69,14 @@ fn read_lines<S: Shelf>(
     walk: &mut Walk,
     lines: &mut TreeLines,
     shelf: &mut S,
-) -> Result<(), ReplayError>
+) -> Result<Replayed, ReplayError>
     requires start { walk.old.reading ≡ start }
     requires valid { Valid walk.old.inst }
     requires first { lines.old.number ≡ 1 }
     requires room { HasRoom 240 lines.old.path }
     requires reading { (S.Sink.view shelf.old).reading ≡ true }
-    ensures read { OnOk result (IsReadThrough walk.old.inst
-        (prepend_known lines.old.reader (S.Sink.view shelf.old).rest) (replayed walk.new.reading)) }
+    ensures read { IfOk result (IsReadThrough walk.old.inst
+        (prepend_known lines.old.reader (S.Sink.view shelf.old).rest)) }
     ensures fault { (fault : TreeFault) → result ≡ Err (ReplayError.Tree fault)
         → Fails walk.old.inst 1 start (prepend_known lines.old.reader (S.Sink.view shelf.old).rest) fault }
     ensures last { (fault : TreeFault) → result ≡ Err (ReplayError.Tree fault)
@@ -84,7 +87,8 @@ fn read_lines<S: Shelf>(
     while !walk.is_over() {
         read_line(walk, lines, shelf)?;
     }
-    lines.end(shelf)
+    lines.end(shelf)?;
+    Ok(walk.shown())
 }
 
 /// Reads the next line, of which one must come.

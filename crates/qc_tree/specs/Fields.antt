@@ -1,4 +1,4 @@
--- What the steps of a reading say: numbers at the front of a text, and lines without numbers.
+-- inner: what the steps of a reading say: numbers at the front of a text, and lines without numbers.
 use Rattle.std.specs.Prelude.{◌≡◌, ℕ, ◌<◌, ◌^◌, List, [], ◌∷◌, ◌++◌, All, false, decimal}
 use Rattle.qc_tree.specs.Lines.{line_text}
 use Rattle.qc_tree.specs.declared.line.Line.TheVariants.{Title, Title2, Up, Down, Reach}

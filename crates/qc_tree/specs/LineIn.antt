@@ -1,4 +1,4 @@
--- Which line a text is, if any, as a value.
+-- public: which line a text is, if any, as a value.
 use Rattle.std.specs.Prelude.{ℕ, ◌^◌, Bool, true, ◌&&◌, ◌==◌, nat_lt, nat_le, if◌then◌else◌, List, [], map, length, get_or, drop, Option, None, Some, codes, bytes_eq}
 use Rattle.std.specs.List.{list_all, slice_split}
 use Rattle.std.specs.Str.Parse.{digits_value}

@@ -1,4 +1,4 @@
--- The lines of a tree's text.
+-- public: the lines of a tree's text.
 use Rattle.std.specs.Prelude.{◌≡◌, ℕ, ◌≤◌, ◌<◌, ◌^◌, List, [], ◌∷◌, ◌++◌, length, All, Result, MatchResult, codes, decimal}
 use Rattle.std.specs.List.{flat_map}
 use Rattle.qc_num.specs.declared.bound.Bound.{Bound}

@@ -1,4 +1,4 @@
-// Numbers in plain decimal, each after one space.
+//! Numbers in plain decimal, each after one space.
 
 ghost use Rattle.std.specs.Prelude.{◌≡◌, ◌<◌, ◌≤◌, ◌++◌, [], ℕ, true, not, position, MatchOption};
 ghost use Rattle.std.specs.Char.{is_ascii_digit};
@@ -8,8 +8,8 @@ ghost use Rattle.qc_tree.specs.Lines.{fields};
 
 use qc_num::plain_number;
 
-// The number of at most so many digits that the text begins with, after one space, and what stands
-// behind it.
+/// The number of at most so many digits that the text begins with, after one space, and what stands
+/// behind it.
 pub(crate) fn read_field(text: &[u8], most: usize) -> Option<(u64, &[u8])>
     requires some { 0 < most }
     requires fit { most ≤ 19 }
@@ -25,7 +25,7 @@ pub(crate) fn read_field(text: &[u8], most: usize) -> Option<(u64, &[u8])>
     Some((number, rest))
 }
 
-// The same where nothing stands behind it.
+/// The same where nothing stands behind it.
 pub(crate) fn read_last(text: &[u8], most: usize) -> Option<u64>
     requires some { 0 < most }
     requires fit { most ≤ 19 }
@@ -36,7 +36,7 @@ pub(crate) fn read_last(text: &[u8], most: usize) -> Option<u64>
     if rest.is_empty() { Some(number) } else { None }
 }
 
-// The digits at the front, and the rest.
+/// The digits at the front, and the rest.
 fn split_digits(text: &[u8]) -> (&[u8], &[u8])
     ensures whole { text.now ≡ result.0.now ++ result.1.now }
     ensures digits { list_all is_ascii_digit result.0.now ≡ true }
@@ -45,7 +45,7 @@ fn split_digits(text: &[u8]) -> (&[u8], &[u8])
     text.split_at(first_other(text).unwrap_or(text.len()))
 }
 
-// The place of the first byte that is no digit.
+/// The place of the first byte that is no digit.
 fn first_other(text: &[u8]) -> Option<usize>
     ensures { result ≡ position (λ b. not (is_ascii_digit b)) text.now }
 {

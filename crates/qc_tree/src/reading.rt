@@ -1,3 +1,4 @@
+//! How a line of a tree is read.
 ghost use Rattle.std.specs.Prelude.{◌≡◌, ◌≤◌, ◌∷◌, [], List, ℕ, OnOk, IsErr, IfOk, MatchOption};
 ghost use Rattle.qc_num.specs.Paths.{HasRoom};
 ghost use Rattle.qc_tree.specs.Fields.{IsNoWord};
@@ -39,7 +40,7 @@ pub fn read_line(text: &[u8], path: &mut Path) -> Result<Line, BadLine>
     }
 }
 
-// A line without numbers.
+/// A line without numbers.
 fn read_word(text: &[u8]) -> Result<Line, BadLine>
     ensures ok { IfOk result (λ line. IsTextOf text.now line []) }
     ensures err { IsErr result → IsNoWord text.now }
@@ -59,7 +60,7 @@ fn read_word(text: &[u8]) -> Result<Line, BadLine>
     }
 }
 
-// What stands behind `A`.
+/// What stands behind `A`.
 fn read_assign(rest: &[u8]) -> Result<Line, BadLine>
     ensures { Reads (65 ∷ rest.now) [] result }
 {
@@ -69,7 +70,7 @@ fn read_assign(rest: &[u8]) -> Result<Line, BadLine>
     Ok(Line::Assign(task as u16))
 }
 
-// What stands behind `O`.
+/// What stands behind `O`.
 fn read_order(rest: &[u8]) -> Result<Line, BadLine>
     ensures { Reads (79 ∷ rest.now) [] result }
 {
@@ -82,7 +83,7 @@ fn read_order(rest: &[u8]) -> Result<Line, BadLine>
     Ok(Line::Order(first as u16, second as u16))
 }
 
-// What stands behind `P`.
+/// What stands behind `P`.
 fn read_chain(rest: &[u8], path: &mut Path) -> Result<Line, BadLine>
     requires empty { path.old.items ≡ [] }
     requires room { HasRoom 240 path.old }
@@ -93,7 +94,7 @@ fn read_chain(rest: &[u8], path: &mut Path) -> Result<Line, BadLine>
     Ok(Line::Chain)
 }
 
-// What stands behind `C`.
+/// What stands behind `C`.
 fn read_ring(rest: &[u8], path: &mut Path) -> Result<Line, BadLine>
     requires empty { path.old.items ≡ [] }
     requires room { HasRoom 240 path.old }
@@ -107,7 +108,7 @@ fn read_ring(rest: &[u8], path: &mut Path) -> Result<Line, BadLine>
     Ok(Line::Ring)
 }
 
-// What stands behind `W`.
+/// What stands behind `W`.
 fn read_work(rest: &[u8]) -> Result<Line, BadLine>
     ensures { Reads (87 ∷ rest.now) [] result }
 {
@@ -120,7 +121,7 @@ fn read_work(rest: &[u8]) -> Result<Line, BadLine>
     Ok(Line::Work(value))
 }
 
-// What stands behind `e`.
+/// What stands behind `e`.
 fn read_end(rest: &[u8]) -> Result<Line, BadLine>
     ensures { Reads (101 ∷ rest.now) [] result }
 {
@@ -139,7 +140,7 @@ fn read_end(rest: &[u8]) -> Result<Line, BadLine>
     Ok(Line::End(branched as u32, bound))
 }
 
-// A tree's value, after one space.
+/// A tree's value, after one space.
 fn read_bound(text: &[u8]) -> Option<Bound>
     ensures { MatchOption result ((x : Bound) → IsValue x → ¬ (text.now ≡ bound_field x))
         (λ x. IsValue x × (text.now ≡ bound_field x)) }
@@ -151,7 +152,7 @@ fn read_bound(text: &[u8]) -> Option<Bound>
     Some(Bound::Least(value))
 }
 
-// Puts the tasks that the text lists, each after one space, into the empty path.
+/// Puts the tasks that the text lists, each after one space, into the empty path.
 fn read_tasks(text: &[u8], path: &mut Path) -> Result<(), BadLine>
     requires empty { path.old.items ≡ [] }
     requires room { HasRoom 240 path.old }

@@ -1,3 +1,4 @@
+//! How a line of a tree is written.
 ghost use Rattle.std.specs.Prelude.{◌≡◌, ◌≤◌, ◌<◌, ◌+◌, ◌*◌, ◌^◌, ◌++◌, ◌∷◌, [], length, All};
 ghost use Rattle.qc_io.specs.Writes.{Writes};
 ghost use Rattle.qc_tree.specs.Lines.{AreTasks, IsLine, IsTask, bound_field, fields, line_text};
@@ -19,7 +20,7 @@ pub fn write_line<K: Sink>(line: &Line, path: &Path, sink: &mut K) -> Result<(),
     put_all(sink, text_of(line, path.as_slice()).as_bytes())
 }
 
-// The line's text and its line feed.
+/// The line's text and its line feed.
 fn text_of(line: &Line, path: &[u16]) -> Text<ROOM>
     requires in_range { IsLine line.now path.now }
     ensures { result ≡ line_text line.now path.now ++ 10 ∷ [] }
@@ -49,7 +50,7 @@ fn text_of(line: &Line, path: &[u16]) -> Text<ROOM>
     text
 }
 
-// Puts a tree's value behind the text, after one space.
+/// Puts a tree's value behind the text, after one space.
 fn push_bound(text: &mut Text<ROOM>, bound: Bound)
     requires { length text.old ≤ 24 }
     ensures text { text.new ≡ text.old ++ bound_field bound }
@@ -64,7 +65,7 @@ fn push_bound(text: &mut Text<ROOM>, bound: Bound)
     }
 }
 
-// Puts a word of one letter and the tasks behind the empty text.
+/// Puts a word of one letter and the tasks behind the empty text.
 fn push_listed(text: &mut Text<ROOM>, word: &[u8], tasks: &[u16])
     requires word { length word.now ≡ 1 }
     requires empty { text.old ≡ [] }
@@ -78,7 +79,7 @@ fn push_listed(text: &mut Text<ROOM>, word: &[u8], tasks: &[u16])
     }
 }
 
-// Puts a task's number behind the text, after one space.
+/// Puts a task's number behind the text, after one space.
 fn push_task(text: &mut Text<ROOM>, task: u16)
     requires in_range { IsTask task }
     requires room { length text.old ≤ 1200 }

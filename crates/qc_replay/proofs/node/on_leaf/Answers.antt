@@ -1,4 +1,4 @@
-use Rattle.std.proofs.Common.{Ok, ap, subst, sym}
+use Rattle.std.proofs.Common.{Ok, subst, sym}
 use Rattle.qc_num.specs.declared.bound.Bound.{Bound}
 use Rattle.qc_dist.specs.Node.{Node}
 use Rattle.qc_replay.specs.Part.{IsJudged, Shows}

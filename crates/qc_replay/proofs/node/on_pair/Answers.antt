@@ -1,4 +1,4 @@
-use Rattle.std.proofs.Common.{◌≡◌, ◌∙◌, ◌-◌, ◌&&◌, false, subst, sym, true}
+use Rattle.std.proofs.Common.{◌≡◌, ◌∙◌, ◌-◌, ◌&&◌, subst, sym, true}
 use Rattle.std.proofs.lemmas.Bool.{true≢false}
 use Rattle.qc_dist.specs.Node.{Node}
 use Rattle.qc_model.specs.Nodes.{IsSettled}
