@@ -8,11 +8,11 @@ nth refused, once with the nth and all after it. Each run must come to one of
 
 - `OutOfMemory`, or nothing at all, with status 9 and every file as before the run;
 - the same status, report and files as without a refusal;
-- a fault of the file that was being opened: `ReadFault f` with every file as before, or `WriteFault` with the tree's
-  file whole or a front part of it, and the plan's file as before, empty or a front part.
+- a fault of the file that was being opened or begun: `ReadFault f` with every file as before, or `WriteFault` with
+  the tree's file as before or whole, the plan's file as before, and no further file.
 
-Printed is how often each came, how many allocations were made before the tree's file was created, and how many
-after that. Only Python's standard library and gcc are needed. It ends with 1 where a run came to anything else.
+Printed is how often each came, how many allocations were made before the first file was begun, and how many after
+that. Only Python's standard library and gcc are needed. It ends with 1 where a run came to anything else.
 """
 import argparse
 import collections
@@ -113,12 +113,10 @@ def verdict(ran, whole, files):
     if status == 3 and report.startswith(b"ReadFault ") and left == files:
         return report.decode().strip()
     if status == 4 and report == b"WriteFault\n":
-        same = {name: data for name, data in left.items() if name not in "pt"}
-        tree, plan, whole_tree, whole_plan = left.get("t"), left.get("p"), whole[2].get("t"), whole[2].get("p")
-        tree_is_front = tree == files.get("t") or tree is not None and whole_tree.startswith(tree)
-        plan_is_front = plan == files.get("p") or plan is not None and tree == whole_tree and whole_plan.startswith(plan)
-        if same == {name: data for name, data in files.items() if name not in "pt"} and tree_is_front and plan_is_front:
-            return "WriteFault, tree " + ("whole" if tree == whole_tree else "not whole")
+        before = {name: data for name, data in left.items() if name != "t"} == {name: data for name, data in files.items() if name != "t"}
+        tree, older, made = left.get("t"), files.get("t"), whole[2].get("t")
+        if before and tree in (older, made):
+            return "WriteFault, tree " + ("whole" if tree == made and made != older else "as before")
     return f"WRONG: status {status}, report {report[:80]!r}, files {sorted(left)}"
 
 
@@ -133,15 +131,15 @@ def main():
         subprocess.run(["gcc", "-O1", "-shared", "-fPIC", "-o", library, f"{HERE}/refuse.c", "-ldl"], check=True)
         runs = Runs(program, library, folder)
         for name, words, files in inputs(program, args.nodes):
-            whole, (calls, before_tree, before_plan) = runs.count(words, files)
+            whole, (calls, before_first, before_last) = runs.count(words, files)
             seen = collections.Counter()
             for number in range(1, calls + 1):
                 for how in ("REFUSE_AT", "REFUSE_FROM"):
                     what = verdict(runs.run(words, files, **{how: number}), whole, files)
                     seen[what] += 1
                     wrong += what.startswith("WRONG") or what.startswith("standard error")
-            made = f", {before_tree} before the tree's file was made, {before_plan - before_tree} from then to the last file, " \
-                   f"{calls - before_plan} after it" if before_tree >= 0 else ""
+            made = f", {before_first} before the first file was begun, {before_last - before_first} from then to the last, " \
+                   f"{calls - before_last} after it" if before_first >= 0 else ""
             print(f"{name}: status {whole[0]}, {calls} allocations{made}", flush=True)
             for what, times in sorted(seen.items()):
                 print(f"    {times:6} {what}", flush=True)

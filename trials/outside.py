@@ -5,7 +5,8 @@
 
 prints a line for each trial: `ok` or `WRONG`, what was tried, the status and what is left. Some trials mount a small
 tmpfs or become `nobody`, so it is run as root; without root they are skipped, and said so. It ends with 1 where
-anything else came than was wanted. The wanted answers are those of docs/FORMATS.md.
+anything else came than was wanted. The wanted answers are those of docs/FORMATS.md. That files are whole or as they
+were, whatever stops a run, is tried by whole.py.
 """
 import os
 import resource
@@ -60,6 +61,10 @@ class Room:
     def read(self, name):
         return read(self.at(name))
 
+    def parts(self, folder="."):
+        """The new files that a run left behind, which it had begun beside others."""
+        return sorted(name for name in os.listdir(self.at(folder)) if ".part" in name)
+
     def run(self, words, before=None, how=None, **more):
         more.setdefault("stdout", subprocess.PIPE)
         return subprocess.run((how or []) + [PROGRAM] + words, cwd=self.path, stderr=subprocess.PIPE,
@@ -108,27 +113,27 @@ def fill(path):
 
 
 def full_disks():
-    room = Room(VESSEL, VESSEL_STOW, ["--nodes", "3000"])
-    words = ["plan", "s", "m", "p", "disk/t", "--nodes", "3000"]
-    with Disk(room, "16k") as disk:
-        ran = room.run(words)
-        tree = read(f"{disk}/t")
-        expect("the disk of the tree is full after 16 kB, 3,000 branchings", ran, 4, FAULT,
-               tree_is_the_first_16_kB=tree is not None and len(tree) == 16384 and room.tree.startswith(tree),
-               no_plan=room.read("p") is None)
-        shutil.copy(f"{disk}/t", room.at("t"))
-    again = room.run(["check", "s", "m", "-", "t"])
-    lines = room.read("t").count(b"\n") + 1
-    expect("check of what is left of that tree", again, 7, b"BadTree Cut %d\n" % lines)
+    more = ["--nodes", "3000"]
+    room = Room(VESSEL, VESSEL_STOW, more)
+    for what in ("no tree", "an older tree"):
+        with Disk(room, "16k") as disk:
+            if what == "an older tree":
+                room.write("disk/t", b"an older tree\n")
+            older = read(f"{disk}/t")
+            ran = room.run(["plan", "s", "m", "p", "disk/t"] + more)
+            expect(f"the disk of the tree is full after 16 kB, 3,000 branchings, {what} before", ran, 4, FAULT,
+                   tree_as_before=read(f"{disk}/t") == older, no_plan=room.read("p") is None,
+                   no_part_left=not room.parts("disk") + room.parts())
+        os.rmdir(room.at("disk"))
     room = Room()
     with Disk(room, "16k") as disk:
         fill(disk)
         ran = room.run(["plan", "s", "m", "p", "disk/t"])
-        expect("the disk of the tree has no room at all", ran, 4, FAULT, tree_is_empty=read(f"{disk}/t") == b"",
-               no_plan=room.read("p") is None)
+        expect("the disk of the tree has no room at all", ran, 4, FAULT, no_tree=read(f"{disk}/t") is None,
+               no_plan=room.read("p") is None, no_part_left=not room.parts("disk") + room.parts())
         ran = room.run(["plan", "s", "m", "disk/p", "t"])
-        expect("the disk of the plan has no room at all", ran, 4, FAULT, plan_is_empty=read(f"{disk}/p") == b"",
-               tree_is_whole=room.read("t") == room.tree)
+        expect("the disk of the plan has no room at all", ran, 4, FAULT, no_plan=read(f"{disk}/p") is None,
+               tree_is_whole=room.read("t") == room.tree, no_part_left=not room.parts("disk") + room.parts())
         with open(room.at("disk/out"), "wb") as out:
             ran = room.run(["tasks", "s", "m"], stdout=out)
         expect("the disk of the report has no room at all", ran, 4)
@@ -136,24 +141,27 @@ def full_disks():
     with Disk(room, "1m", inodes=1) as disk:
         ran = room.run(["plan", "s", "m", "p", "disk/t"])
         expect("the disk of the tree takes no further file", ran, 4, FAULT, no_tree=read(f"{disk}/t") is None,
-               no_plan=room.read("p") is None)
-    room = Room(VESSEL, VESSEL_STOW, ["--nodes", "3000"])
-    room.write("t", b"an older tree\n" * 9000), room.write("p", b"an older plan\n")
-    ran = room.run(["plan", "s", "m", "p", "t", "--nodes", "3000"],
-                   before=lambda: resource.setrlimit(resource.RLIMIT_FSIZE, (8192, 8192)))
-    tree = room.read("t")
+               no_plan=room.read("p") is None, no_part_left=not room.parts())
+        ran = room.run(["plan", "s", "m", "disk/p", "t"])
+        expect("the disk of the plan takes no further file", ran, 4, FAULT, no_tree=room.read("t") is None,
+               no_plan=read(f"{disk}/p") is None, no_part_left=not room.parts())
+    room = Room(VESSEL, VESSEL_STOW, more)
+    older = {"t": b"an older tree\n" * 9000, "p": b"an older plan\n"}
+    for name, data in older.items():
+        room.write(name, data)
+    ran = room.run(PLANNED + more, before=lambda: resource.setrlimit(resource.RLIMIT_FSIZE, (8192, 8192)))
     told("the system allows files of 8,192 bytes, with the default action of SIGXFSZ",
-         ran.returncode == 4 or ran.returncode == -signal.SIGXFSZ and room.tree.startswith(tree)
-         and room.read("p") == b"an older plan\n",
-         f"{'ended by SIGXFSZ' if ran.returncode < 0 else f'status {ran.returncode}'}; {len(tree)} bytes of the tree; older plan kept")
+         ran.returncode in (4, -signal.SIGXFSZ) and {name: room.read(name) for name in older} == older,
+         f"{'ended by SIGXFSZ' if ran.returncode < 0 else f'status {ran.returncode}'}; both older files kept; "
+         f"{len(room.parts())} part left behind")
 
     def ignored():
         signal.signal(signal.SIGXFSZ, signal.SIG_IGN)
         resource.setrlimit(resource.RLIMIT_FSIZE, (8192, 8192))
-    room = Room(VESSEL, VESSEL_STOW, ["--nodes", "3000"])
-    ran = room.run(["plan", "s", "m", "p", "t", "--nodes", "3000"], before=ignored, restore_signals=False)
-    expect("the system allows files of 8,192 bytes, SIGXFSZ ignored", ran, 4, FAULT,
-           tree_is_the_first_8192_bytes=room.read("t") == room.tree[:8192], no_plan=room.read("p") is None)
+    room = Room(VESSEL, VESSEL_STOW, more)
+    ran = room.run(PLANNED + more, before=ignored, restore_signals=False)
+    expect("the system allows files of 8,192 bytes, SIGXFSZ ignored", ran, 4, FAULT, no_tree=room.read("t") is None,
+           no_plan=room.read("p") is None, no_part_left=not room.parts())
 
 
 def no_rights():
@@ -166,10 +174,16 @@ def no_rights():
     ran = nobody(room, PLANNED)
     expect("an older tree that can't be written, as nobody", ran, 4, FAULT, older_tree_kept=room.read("t") == b"an older tree\n",
            older_plan_kept=room.read("p") == b"an older plan\n")
-    os.chmod(room.at("t"), 0o666)
+    for name in ("t", "p"):
+        os.chmod(room.at(name), 0o666)
     ran = nobody(room, PLANNED)
-    expect("an older plan that can't be written, as nobody", ran, 4, FAULT, tree_is_whole=room.read("t") == room.tree,
-           older_plan_kept=room.read("p") == b"an older plan\n")
+    expect("older files that can be written in a folder that can't, as nobody", ran, 4, FAULT,
+           older_tree_kept=room.read("t") == b"an older tree\n", older_plan_kept=room.read("p") == b"an older plan\n")
+    os.chmod(room.path, 0o777)
+    os.chmod(room.at("p"), 0o644)
+    ran = nobody(room, PLANNED)
+    expect("an older plan that can't be written, as nobody", ran, 4, FAULT, older_tree_kept=room.read("t") == b"an older tree\n",
+           older_plan_kept=room.read("p") == b"an older plan\n", no_part_left=not room.parts())
     for name, word, words in (("s", "ship", ["tasks", "s", "m"]), ("m", "stow", ["tasks", "s", "m"]),
                               ("p", "plan", ["check", "s", "m", "p", "t"]), ("t", "tree", ["check", "s", "m", "p", "t"])):
         room = Room()
@@ -195,7 +209,7 @@ def kinds_of_files():
     expect("a folder in place of the tree that is to be written", room.run(PLANNED), 4, FAULT, no_plan=room.read("p") is None)
     room = Room()
     os.mkdir(room.at("p"))
-    expect("a folder in place of the plan that is to be written", room.run(PLANNED), 4, FAULT, tree_is_whole=room.read("t") == room.tree)
+    expect("a folder in place of the plan that is to be written", room.run(PLANNED), 4, FAULT, no_tree=room.read("t") is None)
     room = Room()
     expect("a tree in a folder that isn't there", room.run(["plan", "s", "m", "p", "no/t"]), 4, FAULT, no_plan=room.read("p") is None)
     room = Room()
@@ -214,19 +228,23 @@ def same_files():
     def older(room):
         room.write("t", b"an older tree\n")
     for how, plan, make in (("./t", "./t", older), ("a link", "p", lambda room: (older(room), os.symlink("t", room.at("p")))),
-                            ("a second name", "p", lambda room: (older(room), os.link(room.at("t"), room.at("p"))))):
+                            ("a link to no file yet", "p", lambda room: os.symlink("t", room.at("p")))):
         room = Room()
         make(room)
         expect(f"the plan is the tree, by {how}", room.run(["plan", "s", "m", plan, "t"]), 4, FAULT,
-               tree_is_whole=room.read("t") == room.tree)
+               tree_is_whole=room.read("t") == room.tree, no_part_left=not room.parts())
+    room = Room()
+    older(room), os.link(room.at("t"), room.at("p"))
+    expect("the plan is a second name of the older tree, which is replaced", room.run(PLANNED), 0, None,
+           tree_is_whole=room.read("t") == room.tree, plan_is_whole=room.read("p") == room.plan)
     for role, name in (("the ship file", "s"), ("the list", "m")):
         room = Room()
         before = room.read(name)
         expect(f"the tree is {role}, by another path", room.run(["plan", "s", "m", "p", f"./{name}"]), 4, FAULT,
-               it_is_kept=room.read(name) == before, no_plan=room.read("p") is None)
+               it_is_kept=room.read(name) == before, no_plan=room.read("p") is None, no_part_left=not room.parts())
         room = Room()
         expect(f"the plan is {role}, by another path", room.run(["plan", "s", "m", f"./{name}", "t"]), 4, FAULT,
-               it_is_kept=room.read(name) == before, tree_is_whole=room.read("t") == room.tree)
+               it_is_kept=room.read(name) == before, no_tree=room.read("t") is None, no_part_left=not room.parts())
     room = Room()
     expect("the plan is the tree by the same name", room.run(["plan", "s", "m", "t", "t"]), 2, None, no_file=room.read("t") is None)
 
@@ -291,7 +309,7 @@ def changes_meanwhile():
         ran = room.run(["tasks", "pipe", "m"])
         thread.join()
         expect(f"the ship file is a pipe that gives {len(part)} of {len(SHIP)} bytes, 7 at a time", ran, status)
-    cut, whole = 0, 0
+    right, begun = 0, 0
     for turn in range(20):
         room = Room.__new__(Room)
         room.path = tempfile.mkdtemp(prefix="qc-trial-")
@@ -300,14 +318,10 @@ def changes_meanwhile():
         time.sleep(0.05 + 0.02 * turn)
         process.kill()
         process.wait()
-        tree = room.read("t")
-        if tree is None:
-            continue
-        ran = room.run(["check", "s", "m", "-", "t"])
-        cut += ran.returncode == 7 and ran.stdout == b"BadTree Cut %d\n" % (tree.count(b"\n") + 1) and room.read("p") is None
-        whole += 1
-    told("plan is killed while it searches, 20 times", cut == whole and whole > 0,
-         f"{whole} times a tree was there, {cut} times check says BadTree Cut at its last line, and there is no plan")
+        right += room.read("t") is None and room.read("p") is None
+        begun += room.parts() == ["t.part"]
+    told("plan is killed while it searches, 20 times", right == 20 and begun > 0,
+         f"{right} times neither file is there, {begun} times a part of the tree is left behind")
 
 
 def main():

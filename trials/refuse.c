@@ -59,7 +59,7 @@ int open(const char *name, int flags, ...) {
     va_end(rest);
     if (!real) real = (int (*)(const char *, int, ...))dlsym(RTLD_NEXT, "open");
     int made = real(name, flags, mode);
-    if (made >= 0 && (flags & (O_CREAT | O_WRONLY | O_RDWR))) {
+    if (made >= 0 && (flags & O_CREAT)) {
         if (at_first_created < 0) at_first_created = calls;
         at_last_created = calls;
     }

@@ -1,38 +1,28 @@
 -- Which leaf closes a node, and that nothing else does.
-use Rattle.std.proofs.Common.{◌≡◌, ℕ, suc, ◌<◌, ◌≤◌, true, not, ◌⊎◌, inl, inr, List, [], ◌∷◌, length, slice_index, sym, ap, subst, ◌∙◌, arith}
+use Rattle.std.proofs.Common.{◌≡◌, ℕ, ◌≤◌, true, not, ◌⊎◌, inl, inr, List, [], ◌∷◌, sym, ap, subst, ◌∙◌, arith}
 use Rattle.std.proofs.lemmas.Bool.{false≢true}
 use Rattle.qc_num.specs.Bounds.{IsAtMost}
 use Rattle.qc_num.specs.declared.bound.Bound.{Bound}
 use Rattle.qc_num.specs.declared.bound.Bound.TheVariants.{Least, Never}
 use Rattle.qc_model.specs.declared.decision.Decision.{Decision}
 use Rattle.qc_model.specs.declared.decision.Decision.TheVariants.{Assign, Order}
-use Rattle.qc_model.specs.declared.task.Task.{Task}
 use Rattle.qc_model.specs.Closing.{IsClosable, IsWorkBound, out_of_reach, no_starts, complete, ends_late, work_late}
 use Rattle.qc_model.specs.Instance.{InstanceView}
 use Rattle.qc_model.specs.Leaves.{is_out_of_reach}
 use Rattle.qc_model.specs.Nodes.{HasStarts, IsComplete, IsInReach, IsNodeEnd}
 use Rattle.qc_model.specs.Rules.{last_end}
+use Rattle.qc_model.proofs.Bounded.{last_end_le}
+use Rattle.qc_model.proofs.NodeLemmas.{ends_by}
 use Rattle.qc_starts.specs.Seen.{IsWhy}
 use Rattle.qc_bounds.specs.declared.leaves.LeafKind.TheVariants.{Chain}
 use Rattle.qc_bounds.specs.Closed.{IsClosedBy, IsSpentBy}
-
--- starts that are no later end no later
-last_end_le : (tasks : List Task) (starts others : List ℕ) → length starts ≡ length tasks → length others ≡ length tasks
-    → ((k : ℕ) → k < length tasks → slice_index starts k ≤ slice_index others k)
-    → last_end tasks starts ≤ last_end tasks others
-last_end_le [] starts others count same all = omega arith
-last_end_le (t ∷ ts) [] others count same all = omega arith
-last_end_le (t ∷ ts) (s ∷ ss) [] count same all = absurd (omega arith)
-last_end_le (t ∷ ts) (s ∷ ss) (o ∷ os) count same all =
-    let rest = last_end_le ts ss os (omega arith) (omega arith) (λ k low. all (suc k) (omega arith)) in
-    omega (arith, all 0 (omega arith), rest)
 
 -- a node has one end
 end_le : (inst : InstanceView) (ds : List Decision) (end other : ℕ) → IsNodeEnd inst ds end → IsNodeEnd inst ds other
     → end ≤ other
 end_le inst ds end other a b =
-    let le = last_end_le inst.tasks a.starts b.starts a.least.meets.all_tasks b.least.meets.all_tasks
-    (a.least.least b.starts b.least.meets) in
+    let le = last_end_le inst.tasks a.starts (last_end inst.tasks b.starts) (λ k low _.
+    omega (arith, a.least.least b.starts b.least.meets k low, ends_by inst.tasks b.starts k b.least.meets.all_tasks low)) in
     omega (arith, a.ends, b.ends, le)
 
 pub one_end : (inst : InstanceView) (ds : List Decision) (end other : ℕ) → IsNodeEnd inst ds end

@@ -1,4 +1,4 @@
--- The leaf that closes a node, or that stands for one that isn't branched on.
+-- public: the leaf that closes a node, or that stands for one that isn't branched on.
 use Rattle.std.specs.Prelude.{◌≡◌, ℕ, ◌<◌, ◌≤◌, ◌⊎◌, List, [], Some}
 use Rattle.qc_num.specs.Bounds.{IsAtMost}
 use Rattle.qc_num.specs.declared.bound.Bound.{Bound}

@@ -1,4 +1,4 @@
--- When the work of a node is done at the soonest.
+-- inner: when the work of a node is done at the soonest.
 use Rattle.std.specs.Prelude.{ℕ, ◌-◌, ◌<◌, ◌≤◌, nat_lt, if◌then◌else◌, List, length, sum_by}
 use Rattle.std.specs.List.{count_by, range_with_len}
 use Rattle.qc_model.specs.declared.decision.Decision.{Decision}

@@ -1,4 +1,4 @@
-// The leaf of a node that needs no branching, or gets none.
+//! The leaf of a node that needs no branching, or gets none.
 
 ghost use Rattle.std.specs.Prelude.{◌≡◌, ◌↔◌, ◌≤◌, [], IsSome, IsTrue, MatchOption, length};
 ghost use Rattle.qc_model.specs.Closing.{IsClosable};
@@ -8,18 +8,17 @@ ghost use Rattle.qc_num.specs.Paths.{HasRoom};
 ghost use Rattle.qc_bounds.specs.Closed.{IsClosedBy, IsSpentBy};
 
 use crate::work::work_bound;
-use qc_model::Instance;
 use qc_num::{Bound, Path, Tick};
 use qc_starts::Starts;
 
 /// The leaf that a node gets in a bound tree. The tasks of a chain or a ring stand in a path.
 #[derive(Clone, Copy, Debug, PartialEq, Eq)]
 pub enum LeafKind {
-    /// Tasks, each forced after the one before it, that end when the node does.
+    /// Tasks, each forced after the one before it, that end when the node does: a critical chain.
     Chain,
     /// Tasks, each forced after the one before it, and the first after the last.
     Ring,
-    /// The end before which the work doesn't fit, in ticks.
+    /// The end before which the work doesn't fit, in ticks: the workload bound.
     Work(Tick),
 }
 
@@ -33,17 +32,16 @@ fn is_late(end: Tick, bound: Bound) -> bool
     }
 }
 
-/// The leaf that closes a node, where an end of `best` or later is of no use: a ring where the node is
-/// stuck, the chain to its end where it is complete, else a chain or the work that shows at least
-/// `best`. `None` exactly where nothing closes it. The path is empty but for a chain or a ring.
-pub fn close(inst: &Instance, node: &Starts, best: Bound, path: &mut Path) -> Option<LeafKind>
-    requires same { node.now.inst ≡ inst.now }
-    requires room { HasRoom (length inst.now.tasks) path.old }
-    ensures closed { IsSome result ↔ IsClosable inst.now node.now.decisions best }
+/// Tries to fathom a node against the incumbent's end `best`. Tried in order: infeasible (ring);
+/// critical chain, if it reaches `best` or nothing is left to decide; workload bound, if it reaches
+/// `best`. `None`: branch. The path is empty but for a chain or a ring.
+pub fn close(node: &Starts, best: Bound, path: &mut Path) -> Option<LeafKind>
+    requires { HasRoom (length node.now.inst.tasks) path.old }
+    ensures closed { IsSome result ↔ IsClosable node.now.inst node.now.decisions best }
     ensures leaf { MatchOption result
         (path.new.items ≡ [])
-        (λ leaf. IsClosedBy inst.now node.now.decisions best leaf path.new.items) }
-    ensures count { length path.new.items ≤ length inst.now.tasks }
+        (λ leaf. IsClosedBy node.now.inst node.now.decisions best leaf path.new.items) }
+    ensures count { length path.new.items ≤ length node.now.inst.tasks }
     ensures room { path.new.capacity ≡ path.old.capacity }
 {
     if node.stuck() {
@@ -55,7 +53,7 @@ pub fn close(inst: &Instance, node: &Starts, best: Bound, path: &mut Path) -> Op
         return Some(LeafKind::Chain);
     }
     path.clear();
-    let bound = work_bound(inst, node);
+    let bound = work_bound(node);
     if is_late(bound, best) {
         Some(LeafKind::Work(bound))
     } else {
@@ -63,21 +61,20 @@ pub fn close(inst: &Instance, node: &Starts, best: Bound, path: &mut Path) -> Op
     }
 }
 
-/// The leaf of a node that is not branched on: a ring where the node is stuck, the chain to its end
-/// where it is complete or its work shows no more, else its work. The path is empty but for a chain
-/// or a ring.
-pub fn spent(inst: &Instance, node: &Starts, path: &mut Path) -> LeafKind
-    requires same { node.now.inst ≡ inst.now }
-    requires room { HasRoom (length inst.now.tasks) path.old }
-    ensures leaf { IsSpentBy inst.now node.now.decisions result path.new.items }
-    ensures count { length path.new.items ≤ length inst.now.tasks }
+/// The leaf of a node that is not branched on: a ring where it is infeasible, the critical chain
+/// where nothing is left to decide or the workload bound is no higher, else the workload bound. The
+/// path is empty but for a chain or a ring.
+pub fn spent(node: &Starts, path: &mut Path) -> LeafKind
+    requires { HasRoom (length node.now.inst.tasks) path.old }
+    ensures leaf { IsSpentBy node.now.inst node.now.decisions result path.new.items }
+    ensures count { length path.new.items ≤ length node.now.inst.tasks }
     ensures room { path.new.capacity ≡ path.old.capacity }
 {
     if node.stuck() {
         node.cycle(path);
         return LeafKind::Ring;
     }
-    let bound = work_bound(inst, node);
+    let bound = work_bound(node);
     if bound <= node.ends() || node.complete() {
         node.why_path(path);
         return LeafKind::Chain;

@@ -1,8 +1,13 @@
 -- What is known of the instance of two files, and of tasks that are apart.
-use Rattle.std.proofs.Common.{◌≡◌, ◌↔◌, ◌⊎◌, inl, inr, ℕ, ◌<◌, List, Result, Ok, Err, IfOk, IfErr, length, subst, arith}
+use Rattle.std.proofs.Common.{◌≡◌, ◌↔◌, ◌⊎◌, ℕ, Bool, true, false, not, IsTrue, List, Result, Ok, Err, IfOk, IfErr, refl, subst}
 use Rattle.qc_num.specs.declared.memory.OutOfMemory.{OutOfMemory}
 use Rattle.std.specs.Prelude.{IsOkAnd}
-use Rattle.qc_model.specs.Instance.{InstanceView, Valid, IsApart}
+use Rattle.std.proofs.lemmas.Bool.{false≢true}
+use Rattle.qc_model.specs.declared.decision.Decision.{Decision}
+use Rattle.qc_model.specs.declared.decision.Decision.TheVariants.{Order}
+use Rattle.qc_model.specs.Instance.{InstanceView, IsApart}
+use Rattle.qc_model.specs.Nodes.{IsSettled}
+use Rattle.qc_dist.specs.Node.{IsOpen}
 use Rattle.qc_ship.specs.ShipFile.{ship_file}
 use Rattle.qc_stow.specs.Stow.{moves_in}
 use Rattle.qc_tasks.specs.InstanceOf.{instance_of}
@@ -65,8 +70,11 @@ pub passes : (result : Result Verdict OutOfMemory) (P Q : Type 0) → P ↔ Q
 passes (Ok verdict) P Q same held = (λ h. same.0 (held.0 h), λ q. held.1 (same.1 q))
 passes (Err e) P Q same held = tt
 
--- two tasks that are apart are tasks of the instance
-pub apart_there : (inst : InstanceView) (i j : ℕ) → Valid inst → IsApart inst i j ⊎ IsApart inst j i
-    → (i < length inst.tasks) × (j < length inst.tasks)
-apart_there inst i j v (inl a) = let r = v.apart.range i j a in (omega arith, r.1)
-apart_there inst i j v (inr a) = let r = v.apart.range j i a in (r.1, omega arith)
+-- two tasks that are apart may be ordered just where they aren't settled
+pub order_open : (inst : InstanceView) (ds : List Decision) (i j : ℕ) (settled : Bool)
+    → IsApart inst i j ⊎ IsApart inst j i → IsTrue settled ↔ IsSettled inst ds i j
+    → IsTrue (not settled) ↔ IsOpen inst ds (Order i j)
+order_open inst ds i j true apart settles =
+    (λ no. absurd (false≢true no), λ open_. absurd (open_.1 (settles.0 refl)))
+order_open inst ds i j false apart settles =
+    (λ _. (apart, λ is. false≢true (settles.1 is)), λ _. refl)

@@ -1,4 +1,4 @@
--- What calls answer, one after the other, by the definitions of nodes. Decisions are newest first.
+-- public: what calls answer, one after the other, by the definitions of nodes. Decisions are newest first.
 use Rattle.std.specs.Prelude.{◌≡◌, ◌↔◌, ◌+◌, ◌<◌, ◌≤◌, List, [], ◌∷◌, length, drop, Option, None, Some, IsTrue}
 use Rattle.qc_model.specs.declared.decision.Decision.{Decision}
 use Rattle.qc_model.specs.Instance.{InstanceView, bay_of, ticks_of, crane}

@@ -1,4 +1,4 @@
--- The instance of a ship file and a stowage list.
+-- public: the instance of a ship file and a stowage list.
 use Rattle.std.specs.Prelude.{ℕ, List, IsOkAnd}
 use Rattle.qc_model.specs.Instance.{InstanceView}
 use Rattle.qc_ship.specs.ShipFile.{ship_file}

@@ -1,4 +1,4 @@
--- When a row passes.
+-- public: when a row passes.
 use Rattle.std.specs.Prelude.{[]}
 use Rattle.qc_calls.specs.declared.row.CallRow.{CallRow}
 use Rattle.qc_calls.specs.declared.row.StartsRow.{StartsRow}

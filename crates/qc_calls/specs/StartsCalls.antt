@@ -1,4 +1,4 @@
--- What calls on least starts answer, one after the other, by the definitions of nodes. Decisions are
+-- public: what calls on least starts answer, one after the other, by the definitions of nodes. Decisions are
 -- newest first.
 use Rattle.std.specs.Prelude.{◌≡◌, ◌↔◌, ℕ, ◌<◌, ◌≤◌, List, [], ◌∷◌, length, IsTrue, MatchOption}
 use Rattle.qc_arena.specs.Arcs.{Arcs, leaving}

@@ -1,4 +1,4 @@
--- What is printed of a row.
+-- public: what is printed of a row.
 use Rattle.std.specs.Prelude.{ℕ, List, ◌++◌, codes, string_bytes}
 use Rattle.qc_calls.specs.declared.verdict.Verdict.{Verdict}
 use Rattle.qc_calls.specs.declared.verdict.Verdict.TheVariants.{Held, Failed}

@@ -1,4 +1,4 @@
-// Makes calls, and compares what they answer.
+//! Makes calls, and compares what they answer.
 
 ghost use Rattle.std.specs.Prelude.{◌≡◌, ◌↔◌, ◌<◌, ◌⊎◌, IfOk, IsTrue, drop, length};
 ghost use Rattle.qc_model.specs.Instance.{IsApart, Valid, bay_of, crane};
@@ -45,28 +45,28 @@ pub fn are_apart(inst: &Instance, first: u16, second: u16) -> bool
     are_tasks(inst, first, second) && (inst.is_apart(first, second) || inst.is_apart(second, first))
 }
 
-// Whether the decision may be made.
-fn is_open(decisions: &Decisions, inst: &Instance, decision: Decision) -> bool
-    requires { decisions.now.inst ≡ inst.now }
-    ensures { IsTrue result ↔ IsOpen inst.now decisions.now.decisions decision }
+/// Whether the decision may be made.
+fn is_open(decisions: &Decisions, decision: Decision) -> bool
+    ensures { IsTrue result ↔ IsOpen decisions.now.inst decisions.now.decisions decision }
 {
+    let inst = decisions.instance();
     match decision {
         Decision::Assign(task, crane) => {
             is_task(inst, task) && is_crane(inst, crane) && decisions.crane_of(task).is_none()
         }
         Decision::Order(first, second) => {
-            are_apart(inst, first, second) && !decisions.settled(inst, first, second)
+            are_apart(inst, first, second) && !decisions.settled(first, second)
         }
     }
 }
 
 /// Whether the call can be made: its tasks and cranes are there, and what it decides is open.
-pub fn can_be_made(decisions: &Decisions, inst: &Instance, call: Call) -> bool
-    requires { decisions.now.inst ≡ inst.now }
-    ensures { IsTrue result ↔ CanBeMade inst.now decisions.now.decisions call }
+pub fn can_be_made(decisions: &Decisions, call: Call) -> bool
+    ensures { IsTrue result ↔ CanBeMade decisions.now.inst decisions.now.decisions call }
 {
+    let inst = decisions.instance();
     match call {
-        Call::Add(decision) => is_open(decisions, inst, decision),
+        Call::Add(decision) => is_open(decisions, decision),
         Call::CraneOf(j, _) => is_task(inst, j),
         Call::Lead(j, _) | Call::Lead1(j, _) => is_task(inst, j),
         Call::Forced(i, j, _) | Call::Span(i, j, _) => are_tasks(inst, i, j),
@@ -83,7 +83,7 @@ pub fn can_be_made(decisions: &Decisions, inst: &Instance, call: Call) -> bool
     }
 }
 
-// Takes the newest decision back; whether it is this one.
+/// Takes the newest decision back; whether it is this one.
 fn undoes(decisions: &mut Decisions, wanted: Option<Decision>) -> bool
     ensures newest { IsTrue result ↔ (newest decisions.old.decisions ≡ wanted) }
     ensures older { decisions.new ≡ record decisions.old {
@@ -93,7 +93,7 @@ fn undoes(decisions: &mut Decisions, wanted: Option<Decision>) -> bool
     decisions.undo() == wanted
 }
 
-// Whether the task is at this bay in the mirror.
+/// Whether the task is at this bay in the mirror.
 fn is_mirror_bay(alloc: Global, inst: &Instance, task: u16, bay: Bay) -> Result<bool, OutOfMemory>
     requires { task < length inst.now.tasks }
     ensures { IfOk result (λ is. IsTrue is ↔ (bay_of (mirror inst.now) task ≡ bay)) }
@@ -102,7 +102,7 @@ fn is_mirror_bay(alloc: Global, inst: &Instance, task: u16, bay: Bay) -> Result<
     Ok(turned.tasks()[task as usize].bay == bay)
 }
 
-// Whether the crane of this number has this name and start bay.
+/// Whether the crane of this number has this name and start bay.
 fn is_at(inst: &Instance, number: u16, name: &str, bay: Bay) -> bool
     requires { number < length inst.now.cranes }
     ensures { IsTrue result
@@ -112,7 +112,7 @@ fn is_at(inst: &Instance, number: u16, name: &str, bay: Bay) -> bool
     post.name.as_bytes() == name.as_bytes() && post.bay == bay
 }
 
-// Whether the crane has this name and start bay in the mirror.
+/// Whether the crane has this name and start bay in the mirror.
 fn is_mirror_crane(
     alloc: Global,
     inst: &Instance,
@@ -129,7 +129,7 @@ fn is_mirror_crane(
     Ok(is_at(&turned, number, name, bay))
 }
 
-// Whether the copy, and the mirror of the mirror, are the instance of these files.
+/// Whether the copy, and the mirror of the mirror, are the instance of these files.
 fn are_again(alloc: Global, inst: &Instance, ship: &str, list: &str) -> Result<bool, OutOfMemory>
     ensures { IfOk result (λ are. IsTrue are ↔ OfFiles ship.now list.now (AreAgain inst.now)) }
 {
@@ -143,38 +143,40 @@ fn are_again(alloc: Global, inst: &Instance, ship: &str, list: &str) -> Result<b
 }
 
 /// Makes the call; whether it answers as it must.
-pub fn answers(
-    alloc: Global,
-    decisions: &mut Decisions,
-    inst: &Instance,
-    call: Call,
-) -> Result<bool, OutOfMemory>
-    requires same { decisions.old.inst ≡ inst.now }
-    requires possible { CanBeMade inst.now decisions.old.decisions call }
+pub fn answers(alloc: Global, decisions: &mut Decisions, call: Call) -> Result<bool, OutOfMemory>
+    requires { CanBeMade decisions.old.inst decisions.old.decisions call }
     ensures answer { IfOk result
-        (λ held. IsTrue held ↔ IsAnswered inst.now decisions.old.decisions call) }
+        (λ held. IsTrue held ↔ IsAnswered decisions.old.inst decisions.old.decisions call) }
     ensures after { decisions.new ≡ record decisions.old {
       decisions = after decisions.old.decisions call;
     } }
 {
     match call {
         Call::Add(decision) => {
-            decisions.add(inst, decision);
+            decisions.add(decision);
             Ok(true)
         }
         Call::Undo(newest) => Ok(undoes(decisions, newest)),
         Call::CraneOf(j, crane) => Ok(decisions.crane_of(j) == crane),
-        Call::Forced(i, j, ticks) => Ok(decisions.forced(inst, i, j) == ticks),
-        Call::Settled(i, j, is) => Ok(decisions.settled(inst, i, j) == is),
-        Call::Lead(j, tick) => Ok(decisions.lead(inst, j) == tick),
-        Call::Lead1(j, tick) => Ok(decisions.lead1(inst, j) == tick),
-        Call::WorkHolds(v, holds) => Ok(decisions.work_holds(inst, v) == holds),
-        Call::Distance(i, v, j, w, ticks) => Ok(distance(inst, i, v, j, w) == ticks),
-        Call::Head(j, k, tick) => Ok(head(inst, j, k) == tick),
-        Call::Span(i, j, ticks) => Ok(span(inst, i, j) == ticks),
-        Call::InReach(j, k, is) => Ok(in_reach(inst, j, k) == is),
-        Call::MirrorBay(j, bay) => is_mirror_bay(alloc, inst, j, bay),
-        Call::MirrorCrane(k, name, bay) => is_mirror_crane(alloc, inst, k, name, bay),
-        Call::Same(ship, list) => are_again(alloc, inst, ship, list),
+        Call::Forced(i, j, ticks) => Ok(decisions.forced(i, j) == ticks),
+        Call::Settled(i, j, is) => Ok(decisions.settled(i, j) == is),
+        Call::Lead(j, tick) => Ok(decisions.lead(j) == tick),
+        Call::Lead1(j, tick) => Ok(decisions.lead1(j) == tick),
+        Call::WorkHolds(v, holds) => Ok(decisions.work_holds(v) == holds),
+        Call::Distance(i, v, j, w, ticks) => Ok(
+            distance(decisions.instance(), i, v, j, w) == ticks,
+        ),
+        Call::Head(j, k, tick) => Ok(head(decisions.instance(), j, k) == tick),
+        Call::Span(i, j, ticks) => Ok(span(decisions.instance(), i, j) == ticks),
+        Call::InReach(j, k, is) => Ok(in_reach(decisions.instance(), j, k) == is),
+        Call::MirrorBay(j, bay) => is_mirror_bay(alloc, decisions.instance(), j, bay),
+        Call::MirrorCrane(k, name, bay) => is_mirror_crane(
+            alloc,
+            decisions.instance(),
+            k,
+            name,
+            bay,
+        ),
+        Call::Same(ship, list) => are_again(alloc, decisions.instance(), ship, list),
     }
 }

@@ -1,6 +1,6 @@
-// Calls on decisions and on the mirror, and what they must answer. Tasks and cranes are counted from
-// 0. With the margin 1 cranes k places apart keep 2 k bays between them; where bays are missing, one
-// goes clear of the other by as many ticks.
+//! Calls on decisions and on the mirror, and what they must answer. Tasks and cranes are counted from
+//! 0. With the margin 1 cranes k places apart keep 2 k bays between them; where bays are missing, one
+//! goes clear of the other by as many ticks.
 
 use crate::files::{
     APART, AT_2_AND_6, AT_2_AND_14, AT_10, DECK_HOLD, ENDS, FROM_2, LATE, ONE, THREE, TO_1, TWO,

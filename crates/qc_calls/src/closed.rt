@@ -1,5 +1,5 @@
-// Calls on the work of nodes and the leaves that close them, and what they must answer. Tasks and
-// cranes are counted from 0.
+//! Calls on the work of nodes and the leaves that close them, and what they must answer. Tasks and
+//! cranes are counted from 0.
 
 use crate::files::{APART, AT_2_AND_6, DECK_HOLD, DECK_HOLD_AND_14, LATE, ONE, TWO};
 use crate::row::StartsCall::{Close, Decide, Ends, Retract, Spent, WorkBound};

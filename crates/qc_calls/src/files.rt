@@ -1,5 +1,5 @@
-// The texts of ship files and stowage lists. Hatches 2, 6, 10 and 14 are at bays 1 to 4; travel takes
-// 1 tick a bay and a move 10.
+//! The texts of ship files and stowage lists. Hatches 2, 6, 10 and 14 are at bays 1 to 4; travel takes
+//! 1 tick a bay and a move 10.
 
 macro_rules! ship {
     ($keys:literal, $cranes:literal) => {

@@ -1,4 +1,4 @@
-// The instance of a row.
+//! The instance of a row.
 
 ghost use Rattle.std.specs.Prelude.{◌≡◌, IfOk, IfErr};
 ghost use Rattle.qc_calls.specs.OfFiles.{OfFiles};

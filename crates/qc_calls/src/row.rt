@@ -1,3 +1,5 @@
+//! A row: a ship, a list, and the calls that are made.
+
 use qc_arena::Edge;
 use qc_bounds::LeafKind;
 use qc_model::Decision;

@@ -1,4 +1,4 @@
-// The verdict on calls.
+//! The verdict on calls.
 
 ghost use Rattle.std.specs.Prelude.{◌↔◌, IfOk, []};
 ghost use Rattle.qc_calls.specs.Calls.{AreAnswered};
@@ -26,10 +26,10 @@ fn run(alloc: Global, inst: &Instance, calls: &[Call]) -> Result<Verdict, OutOfM
 {
     let mut decisions = Decisions::new(alloc, inst)?;
     for (number, call) in calls.iter().enumerate() {
-        if !can_be_made(&decisions, inst, *call) {
+        if !can_be_made(&decisions, *call) {
             return failed_at(alloc, number, "can't be made");
         }
-        if !answers(alloc, &mut decisions, inst, *call)? {
+        if !answers(alloc, &mut decisions, *call)? {
             return failed_at(alloc, number, "answers otherwise");
         }
     }

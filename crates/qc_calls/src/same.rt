@@ -1,4 +1,4 @@
-// Whether two instances are the same, part by part.
+//! Whether two instances are the same, part by part.
 
 ghost use Rattle.std.specs.Prelude.{◌≡◌, ◌↔◌, IsTrue};
 

@@ -1,5 +1,5 @@
-// Calls on least starts, and what they must answer. Tasks and cranes are counted from 0. What cranes
-// keep between them is told in `calls.rt`.
+//! Calls on least starts, and what they must answer. Tasks and cranes are counted from 0. What cranes
+//! keep between them is told in `calls.rt`.
 
 use crate::files::{APART, AT_2_AND_6, AT_2_AND_14, DECK_HOLD, DECK_HOLD_AND_14, ONE, TWO};
 use crate::row::StartsCall::{

@@ -1,4 +1,4 @@
-// Makes calls on least starts, and compares what they answer.
+//! Makes calls on least starts, and compares what they answer.
 
 ghost use Rattle.std.specs.Prelude.{◌≡◌, ◌∷◌, IfOk, IsTrue, MatchOption};
 ghost use Rattle.qc_model.specs.Nodes.{HasStarts};
@@ -18,12 +18,12 @@ use qc_starts::{Starts, Step};
 use std::alloc::Global;
 use std::sync::ledger::Ledger;
 
-// Whether the decision may be made, and with a crane that reaches the task.
-fn is_open(starts: &Starts, inst: &Instance, decision: Decision) -> bool
-    requires { starts.now.inst ≡ inst.now }
-    ensures open { IsTrue result → IsOpen inst.now starts.now.decisions decision }
-    ensures reached { IsTrue result → IsReached inst.now decision }
+/// Whether the decision may be made, and with a crane that reaches the task.
+fn is_open(starts: &Starts, decision: Decision) -> bool
+    ensures open { IsTrue result → IsOpen starts.now.inst starts.now.decisions decision }
+    ensures reached { IsTrue result → IsReached starts.now.inst decision }
 {
+    let inst = starts.instance();
     match decision {
         Decision::Assign(task, crane) => {
             is_task(inst, task)
@@ -38,12 +38,12 @@ fn is_open(starts: &Starts, inst: &Instance, decision: Decision) -> bool
 }
 
 /// Whether the call can be made: its tasks and cranes are there, and what it decides is open.
-pub fn can_be_made(starts: &Starts, inst: &Instance, call: StartsCall) -> bool
-    requires { starts.now.inst ≡ inst.now }
-    ensures { IsTrue result → CanBeMade inst.now starts.now.decisions call }
+pub fn can_be_made(starts: &Starts, call: StartsCall) -> bool
+    ensures { IsTrue result → CanBeMade starts.now.inst starts.now.decisions call }
 {
+    let inst = starts.instance();
     match call {
-        StartsCall::Decide(decision, _) => !starts.stuck() && is_open(starts, inst, decision),
+        StartsCall::Decide(decision, _) => !starts.stuck() && is_open(starts, decision),
         StartsCall::Retract(mark) => mark <= starts.mark(),
         StartsCall::Start(j, _) | StartsCall::Cell(j, _) => !starts.stuck() && is_task(inst, j),
         StartsCall::Ends(_) | StartsCall::WhyPath(_) => !starts.stuck(),
@@ -55,28 +55,22 @@ pub fn can_be_made(starts: &Starts, inst: &Instance, call: StartsCall) -> bool
     }
 }
 
-// Makes the decision; what it leads to.
-fn decide<L: Ledger>(
-    starts: &mut Starts,
-    inst: &Instance,
-    decision: Decision,
-    steps: &mut Steps<L>,
-) -> Step
-    requires same { starts.old.inst ≡ inst.now }
-    requires starts { HasStarts inst.now starts.old.decisions }
-    requires open { IsOpen inst.now starts.old.decisions decision }
-    requires reached { IsReached inst.now decision }
+/// Makes the decision; what it leads to.
+fn decide<L: Ledger>(starts: &mut Starts, decision: Decision, steps: &mut Steps<L>) -> Step
+    requires starts { HasStarts starts.old.inst starts.old.decisions }
+    requires open { IsOpen starts.old.inst starts.old.decisions decision }
+    requires reached { IsReached starts.old.inst decision }
     ensures inst { starts.new.inst ≡ starts.old.inst }
     ensures decisions { starts.new.decisions ≡ decision ∷ starts.old.decisions }
-    ensures step { IsStep inst.now starts.new.decisions result }
+    ensures step { IsStep starts.old.inst starts.new.decisions result }
 {
     match decision {
-        Decision::Assign(task, crane) => starts.assign(inst, task, crane, steps),
-        Decision::Order(first, second) => starts.order(inst, first, second, steps),
+        Decision::Assign(task, crane) => starts.assign(task, crane, steps),
+        Decision::Order(first, second) => starts.order(first, second, steps),
     }
 }
 
-// Whether the arcs that leave the task are these.
+/// Whether the arcs that leave the task are these.
 fn hands_out(starts: &Starts, task: u16, arcs: &[Edge]) -> bool
     ensures { IsTrue result → HandsOut starts.now.inst starts.now.decisions task arcs.now }
 {
@@ -89,86 +83,64 @@ fn hands_out(starts: &Starts, task: u16, arcs: &[Edge]) -> bool
     walk.next().is_none()
 }
 
-// Whether the chain is of these tasks.
-fn is_why(
-    alloc: Global,
-    starts: &Starts,
-    inst: &Instance,
-    tasks: &[u16],
-) -> Result<bool, OutOfMemory>
-    requires same { starts.now.inst ≡ inst.now }
-    requires starts { HasStarts inst.now starts.now.decisions }
-    ensures { IfOk result (λ is. IsTrue is → IsWhy inst.now starts.now.decisions tasks.now) }
+/// Whether the chain is of these tasks.
+fn is_why(alloc: Global, starts: &Starts, tasks: &[u16]) -> Result<bool, OutOfMemory>
+    requires starts { HasStarts starts.now.inst starts.now.decisions }
+    ensures { IfOk result (λ is. IsTrue is → IsWhy starts.now.inst starts.now.decisions tasks.now) }
 {
-    let mut path = Path::with_capacity(alloc, inst.tasks().len())?;
+    let mut path = Path::with_capacity(alloc, starts.instance().task_count() as usize)?;
     starts.why_path(&mut path);
     Ok(path.as_slice() == tasks)
 }
 
-// Whether the ring is of so many tasks.
-fn is_ring_of(
-    alloc: Global,
-    starts: &Starts,
-    inst: &Instance,
-    count: usize,
-) -> Result<bool, OutOfMemory>
-    requires same { starts.now.inst ≡ inst.now }
-    requires stuck { ¬ HasStarts inst.now starts.now.decisions }
-    ensures { IfOk result (λ is. IsTrue is → HasRingOf inst.now starts.now.decisions count) }
+/// Whether the ring is of so many tasks.
+fn is_ring_of(alloc: Global, starts: &Starts, count: usize) -> Result<bool, OutOfMemory>
+    requires stuck { ¬ HasStarts starts.now.inst starts.now.decisions }
+    ensures { IfOk result (λ is. IsTrue is → HasRingOf starts.now.inst starts.now.decisions count) }
 {
-    let mut path = Path::with_capacity(alloc, inst.tasks().len())?;
+    let mut path = Path::with_capacity(alloc, starts.instance().task_count() as usize)?;
     starts.cycle(&mut path);
     Ok(path.len() == count)
 }
 
-// Whether the node is closed by this leaf, or by none.
+/// Whether the node is closed by this leaf, or by none.
 fn is_closed_by(
     alloc: Global,
     starts: &Starts,
-    inst: &Instance,
     bound: Bound,
     leaf: Option<LeafKind>,
 ) -> Result<bool, OutOfMemory>
-    requires { starts.now.inst ≡ inst.now }
     ensures { IfOk result (λ is. IsTrue is → MatchOption leaf
-        (¬ IsClosable inst.now starts.now.decisions bound)
-        (HasLeaf inst.now starts.now.decisions bound)) }
+        (¬ IsClosable starts.now.inst starts.now.decisions bound)
+        (HasLeaf starts.now.inst starts.now.decisions bound)) }
 {
-    let mut path = Path::with_capacity(alloc, inst.tasks().len())?;
-    Ok(close(inst, starts, bound, &mut path) == leaf)
+    let mut path = Path::with_capacity(alloc, starts.instance().task_count() as usize)?;
+    Ok(close(starts, bound, &mut path) == leaf)
 }
 
-// Whether this leaf stands for the node.
-fn is_spent_by(
-    alloc: Global,
-    starts: &Starts,
-    inst: &Instance,
-    leaf: LeafKind,
-) -> Result<bool, OutOfMemory>
-    requires { starts.now.inst ≡ inst.now }
-    ensures { IfOk result (λ is. IsTrue is → HasSpent inst.now starts.now.decisions leaf) }
+/// Whether this leaf stands for the node.
+fn is_spent_by(alloc: Global, starts: &Starts, leaf: LeafKind) -> Result<bool, OutOfMemory>
+    ensures { IfOk result (λ is. IsTrue is → HasSpent starts.now.inst starts.now.decisions leaf) }
 {
-    let mut path = Path::with_capacity(alloc, inst.tasks().len())?;
-    Ok(spent(inst, starts, &mut path) == leaf)
+    let mut path = Path::with_capacity(alloc, starts.instance().task_count() as usize)?;
+    Ok(spent(starts, &mut path) == leaf)
 }
 
 /// Makes the call; whether it answers as it must.
 pub fn answers<L: Ledger>(
     alloc: Global,
     starts: &mut Starts,
-    inst: &Instance,
     call: StartsCall,
     steps: &mut Steps<L>,
 ) -> Result<bool, OutOfMemory>
-    requires same { starts.old.inst ≡ inst.now }
-    requires possible { CanBeMade inst.now starts.old.decisions call }
+    requires { CanBeMade starts.old.inst starts.old.decisions call }
     ensures answer { IfOk result
-        (λ held. IsTrue held → IsAnswered inst.now starts.old.decisions call) }
+        (λ held. IsTrue held → IsAnswered starts.old.inst starts.old.decisions call) }
     ensures inst { starts.new.inst ≡ starts.old.inst }
     ensures after { starts.new.decisions ≡ after starts.old.decisions call }
 {
     match call {
-        StartsCall::Decide(decision, step) => Ok(decide(starts, inst, decision, steps) == step),
+        StartsCall::Decide(decision, step) => Ok(decide(starts, decision, steps) == step),
         StartsCall::Retract(mark) => {
             starts.retract(mark, steps);
             Ok(true)
@@ -182,10 +154,10 @@ pub fn answers<L: Ledger>(
         StartsCall::Settles(i, j, is) => Ok(starts.settled(i, j) == is),
         StartsCall::Complete(is) => Ok(starts.complete() == is),
         StartsCall::Leaving(j, arcs) => Ok(hands_out(starts, j, arcs)),
-        StartsCall::WhyPath(tasks) => is_why(alloc, starts, inst, tasks),
-        StartsCall::Ring(count) => is_ring_of(alloc, starts, inst, count),
-        StartsCall::WorkBound(bound) => Ok(work_bound(inst, starts) == bound),
-        StartsCall::Close(bound, leaf) => is_closed_by(alloc, starts, inst, bound, leaf),
-        StartsCall::Spent(leaf) => is_spent_by(alloc, starts, inst, leaf),
+        StartsCall::WhyPath(tasks) => is_why(alloc, starts, tasks),
+        StartsCall::Ring(count) => is_ring_of(alloc, starts, count),
+        StartsCall::WorkBound(bound) => Ok(work_bound(starts) == bound),
+        StartsCall::Close(bound, leaf) => is_closed_by(alloc, starts, bound, leaf),
+        StartsCall::Spent(leaf) => is_spent_by(alloc, starts, leaf),
     }
 }

@@ -1,4 +1,4 @@
-// The verdict on calls on least starts.
+//! The verdict on calls on least starts.
 
 ghost use Rattle.std.specs.Prelude.{◌≡◌, ◌<◌, IfOk, []};
 ghost use Rattle.qc_calls.specs.Passes.{PassesStarts};
@@ -31,10 +31,10 @@ fn run<L: Ledger>(
     let mut steps = Steps::<L>::new(blank);
     let mut starts = Starts::open(alloc, inst)?;
     for (number, call) in calls.iter().enumerate() {
-        if !can_be_made(&starts, inst, *call) {
+        if !can_be_made(&starts, *call) {
             return failed_at(alloc, number, "can't be made");
         }
-        if !answers(alloc, &mut starts, inst, *call, &mut steps)? {
+        if !answers(alloc, &mut starts, *call, &mut steps)? {
             return failed_at(alloc, number, "answers otherwise");
         }
     }

@@ -1,4 +1,4 @@
-// The verdict on a row, and its line.
+//! The verdict on a row, and its line.
 
 ghost use Rattle.std.specs.Prelude.{◌≡◌, ◌↔◌, IsTrue, IfOk, string_bytes};
 ghost use Rattle.qc_calls.specs.Verdict.{IsHeld, line_of};

@@ -1,15 +1,8 @@
--- What one call of a writer or a reader of the system does, and that it is counted where it fails.
-use Rattle.std.specs.Prelude.{◌≡◌, ℕ, ◌≤◌, ◌<◌, List, length, Option, Result, IfOk, OnOk, OnErr}
+-- inner: what one call of a writer or a reader of the system does.
+use Rattle.std.specs.Prelude.{ℕ, ◌<◌, List, length, Option, Result, IfOk}
 use Rattle.std.specs.Io.{ReadsAtMost, WritesAtMost}
 use Rattle.std.specs.Io.KnownBytes.{WriteAppends, ReadConsumes}
-use Rattle.qc_io.specs.declared.outside.Failed.{Failed}
-use Rattle.qc_io.specs.Outside.{next_count}
-
--- an error is counted, and nothing else is
-pub record Counts (before after : ℕ) (result : Result ℕ Failed) : Type 0 where
-  pub ok : OnOk result (after ≡ before)
-  pub err : OnErr result (after ≡ next_count before)
-  pub never_falls : before ≤ after
+use Rattle.qc_io.specs.declared.sink.Failed.{Failed}
 
 -- the writer took the front of the piece that the answer says, at least the first byte where there is one
 pub record WritesOnce (held now : Option (List ℕ)) (piece : List ℕ) (result : Result ℕ Failed) : Type 0 where

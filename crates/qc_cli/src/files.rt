@@ -1,35 +1,34 @@
-ghost use Rattle.std.specs.Prelude.{◌≡◌, ◌≤◌, ◌<◌, ◌+◌, None, Ok, true, length, is_some, option_map, IfOk, IfSome};
+//! The files of the system as a shelf.
+ghost use Rattle.std.specs.Prelude.{◌≡◌, ◌≤◌, ◌<◌, None, Ok, true, length, is_some, option_map, IfOk, IfSome};
 ghost use Rattle.std.specs.String.{string_bytes};
-ghost use Rattle.qc_cli.specs.Once.{Counts, ReadsOnce, WritesOnce};
+ghost use Rattle.qc_io.specs.Writes.{Counts};
+ghost use Rattle.qc_cli.specs.Once.{ReadsOnce, WritesOnce};
+ghost use Rattle.qc_cli.specs.Used.{NotesOne};
 
-use crate::once::{read_once, write_once};
-use crate::same::{Identity, is_among, note};
+use crate::making::{Making, begun};
+use crate::once::read_once;
+use crate::same::{Identity, identity_of, note};
+use crate::target::target_of;
 use qc_io::{Failed, Shelf, Sink, fault};
 use std::fs;
 use std::rt::Files;
 
-/// A file that is being written, and its name.
-#[derive(Drop)]
-struct Making<F> {
-    name: String,
-    file: F,
-}
-
 /// The files of the system as a shelf. It tells no file. Each error is a fault, and so is a write that
-/// takes nothing. A file that was opened or created isn't created again, under whatever name.
+/// takes nothing. A file that is made stands beside the one of its name until it is finished. A file that
+/// was opened or finished isn't made again, under whatever name.
 #[derive(Drop)]
 pub struct FileShelf<'a, R: Files> {
     rt: &'a R,
     reading: Option<R::File>,
-    making: Option<Making<R::File>>,
-    /// The files that were opened or created.
+    making: Option<Making<'a, R>>,
+    /// The files that were opened or finished.
     used: Vec<Identity>,
     faults: u64,
     read_faults: u64,
 }
 
 impl<'a, R: Files + AllocGlobal> FileShelf<'a, R> {
-    /// No file is open, and none was created.
+    /// No file is open, and none is being made.
     pub fn new(rt: &'a R) -> Self {
         FileShelf {
             rt,
@@ -45,19 +44,22 @@ impl<'a, R: Files + AllocGlobal> FileShelf<'a, R> {
 impl<R: Files> Sink for FileShelf<'_, R> {
     ghost use Rattle.std.specs.Prelude.{None, is_some, option_map};
     ghost use Rattle.std.specs.String.{string_bytes};
-    ghost use Rattle.qc_io.specs.Outside.{beside_of};
 
-    ghost written = { λ _. None };
-
-    ghost beside = { λ shelf. beside_of None (option_map (λ making. string_bytes making.name) shelf.making) None
-        (is_some shelf.reading) shelf.read_faults };
-
-    ghost faults = { λ shelf. shelf.faults };
+    ghost view = { λ shelf. record {
+      written = None;
+      faults = shelf.faults;
+      files = None;
+      made = option_map (λ making. string_bytes making.name) shelf.making;
+      rest = None;
+      reading = is_some shelf.reading;
+      read_faults = shelf.read_faults;
+    } };
 
     fn write(&mut self, piece: &[u8]) -> Result<usize, Failed>
         ensures unmade { self.old.making ≡ None → (result ≡ Ok (length piece.now)) × (self.new.making ≡ None) }
         ensures writes { IfSome self.old.making (λ before. IfSome self.new.making (λ after.
-            WritesOnce (R.File.contents before.file) (R.File.contents after.file) piece.now result)) }
+            IfSome before.file (λ held. IfSome after.file (λ now.
+            WritesOnce (R.File.contents held) (R.File.contents now) piece.now result)))) }
         ensures at_least { IfOk result (λ count. 0 < length piece.now → 0 < count) }
         ensures at_most { IfOk result (λ count. count ≤ length piece.now) }
         ensures counts { Counts self.old.faults self.new.faults result }
@@ -67,29 +69,14 @@ impl<R: Files> Sink for FileShelf<'_, R> {
         ensures read_faults_stay { self.new.read_faults ≡ self.old.read_faults }
     {
         match &mut self.making {
-            Some(making) => write_once(&mut making.file, &mut self.faults, piece),
+            Some(making) => making.write(&mut self.faults, piece),
             None => Ok(piece.len()),
         }
     }
 }
 
 impl<R: Files + AllocGlobal> Shelf for FileShelf<'_, R> {
-    ghost use Rattle.std.specs.Prelude.{None, is_some, option_map, refl};
-    ghost use Rattle.std.specs.String.{string_bytes};
-
-    ghost files = { λ _. None };
-
-    ghost rest = { λ _. None };
-
-    ghost reading = { λ shelf. is_some shelf.reading };
-
-    ghost made = { λ shelf. option_map (λ making. string_bytes making.name) shelf.making };
-
-    ghost read_faults = { λ shelf. shelf.read_faults };
-
-    ghost written_is = { λ _. refl };
-
-    ghost beside_is = { λ _. refl };
+    ghost use Rattle.std.specs.Prelude.{refl};
 
     ghost rest_told = { λ _. refl };
 
@@ -97,13 +84,11 @@ impl<R: Files + AllocGlobal> Shelf for FileShelf<'_, R> {
 
     fn open(&mut self, name: &str) -> Result<(), Failed> {
         self.reading = None;
-        match opened(self.rt, name, &mut self.used) {
-            Some(file) => {
-                self.reading = Some(file);
-                Ok(())
-            }
-            None => Err(fault(&mut self.read_faults)),
+        self.reading = opened(self.rt, name, &mut self.used);
+        if self.reading.is_none() {
+            return Err(fault(&mut self.read_faults));
         }
+        Ok(())
     }
 
     fn read(&mut self, buf: &mut [u8]) -> Result<usize, Failed>
@@ -125,11 +110,20 @@ impl<R: Files + AllocGlobal> Shelf for FileShelf<'_, R> {
     }
 
     fn create(&mut self, name: &str) -> Result<(), Failed> {
-        match made_by(self.rt, name, &mut self.used) {
-            Some(making) => {
-                self.making = Some(making);
-                Ok(())
-            }
+        self.making = None;
+        self.making = made_by(self.rt, name, self.used.as_slice());
+        if self.making.is_none() {
+            return Err(fault(&mut self.faults));
+        }
+        Ok(())
+    }
+
+    fn finish(&mut self) -> Result<(), Failed> {
+        let Some(making) = self.making.take() else {
+            return Ok(());
+        };
+        match making.finish(&mut self.used) {
+            Some(()) => Ok(()),
             None => Err(fault(&mut self.faults)),
         }
     }
@@ -137,31 +131,21 @@ impl<R: Files + AllocGlobal> Shelf for FileShelf<'_, R> {
 
 /// The file of that name, which is used from now on. None where it can't be opened.
 fn opened<R: Files>(rt: &R, name: &str, used: &mut Vec<Identity>) -> Option<R::File>
-    ensures { IfSome result (λ _. length used.new.items ≡ length used.old.items + 1) }
+    ensures { IfSome result (λ _. NotesOne used.old.items used.new.items) }
 {
     let file = fs::open(rt, name).ok()?;
-    note(&file, used)?;
+    note(identity_of(&file)?, used)?;
     Some(file)
 }
 
-/// A file of that name with no bytes, which is used from now on. None where it can't be made or named,
-/// or is used already.
-fn made_by<R: Files + AllocGlobal>(
-    rt: &R,
+/// A file of that name that is being made. None where it is in use, or can't be made.
+fn made_by<'a, R: Files + AllocGlobal>(
+    rt: &'a R,
     name: &str,
-    used: &mut Vec<Identity>,
-) -> Option<Making<R::File>>
-    ensures named { IfSome result (λ making. string_bytes making.name ≡ name.now) }
-    ensures noted { IfSome result (λ _. length used.new.items ≡ length used.old.items + 1) }
+    used: &[Identity],
+) -> Option<Making<'a, R>>
+    ensures { IfSome result (λ making. string_bytes making.name ≡ name.now) }
 {
-    if is_among(rt, name, used.as_slice()) {
-        return None;
-    }
-    let name_kept = String::from_str(rt.alloc(), name).ok()?;
-    let file = fs::create(rt, name).ok()?;
-    note(&file, used)?;
-    Some(Making {
-        name: name_kept,
-        file,
-    })
+    let target = target_of(rt, name).ok()?;
+    begun(rt, name, target, used)
 }

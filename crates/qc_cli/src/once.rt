@@ -1,6 +1,7 @@
 //! One call of a writer or a reader of the system.
 ghost use Rattle.std.specs.Prelude.{◌≡◌, length};
-ghost use Rattle.qc_cli.specs.Once.{Counts, ReadsOnce, WritesOnce};
+ghost use Rattle.qc_io.specs.Writes.{Counts};
+ghost use Rattle.qc_cli.specs.Once.{ReadsOnce, WritesOnce};
 
 use qc_io::{Failed, fault};
 use std::io::{Read, Write};

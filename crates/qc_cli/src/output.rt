@@ -1,4 +1,6 @@
-ghost use Rattle.qc_cli.specs.Once.{Counts, WritesOnce};
+//! A writer of the system as a sink.
+ghost use Rattle.qc_io.specs.Writes.{Counts};
+ghost use Rattle.qc_cli.specs.Once.{WritesOnce};
 
 use crate::once::write_once;
 use qc_io::{Failed, Sink};
@@ -12,6 +14,7 @@ pub struct Output<W> {
 }
 
 impl<W: Write> Output<W> {
+    /// No fault was counted.
     pub fn new(to: W) -> Self {
         Output { to, faults: 0 }
     }
@@ -19,13 +22,9 @@ impl<W: Write> Output<W> {
 
 impl<W: Write> Sink for Output<W> {
     ghost use Rattle.std.specs.Prelude.{None};
-    ghost use Rattle.qc_io.specs.Outside.{alone};
+    ghost use Rattle.qc_io.specs.Outside.{sink_view};
 
-    ghost written = { λ _. None };
-
-    ghost beside = { λ _. alone };
-
-    ghost faults = { λ sink. sink.faults };
+    ghost view = { λ sink. sink_view None sink.faults };
 
     fn write(&mut self, piece: &[u8]) -> Result<usize, Failed>
         ensures counts { Counts self.old.faults self.new.faults result }

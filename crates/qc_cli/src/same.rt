@@ -1,9 +1,8 @@
-//! Which file of the system a name or an open file is.
-ghost use Rattle.std.specs.Prelude.{◌≡◌, ◌+◌, ◌↔◌, None, IfSome, IsTrue, Contains, length, take};
+//! Which file of the system an open file or a name is.
+ghost use Rattle.std.specs.Prelude.{◌≡◌, ◌↔◌, ◌++◌, ◌∷◌, [], None, IfSome, IsTrue, Contains};
 
-use std::fs::{self, Metadata, OpenFile};
+use std::fs::{Metadata, OpenFile};
 use std::os::unix::fs::MetadataExt;
-use std::rt::Files;
 
 /// A file of the system, whatever its names are: its device and its number there.
 #[derive(Clone, Copy, Debug, PartialEq, Eq)]
@@ -13,6 +12,7 @@ pub struct Identity {
 }
 
 impl Identity {
+    /// The file that this tells of.
     pub fn of(metadata: &Metadata) -> Identity {
         Identity {
             device: metadata.dev(),
@@ -21,20 +21,22 @@ impl Identity {
     }
 }
 
-/// Adds to the files which one this is. None, and nothing added, where that can't be told or kept.
-pub fn note<F: OpenFile>(file: &F, files: &mut Vec<Identity>) -> Option<()>
-    ensures added { IfSome result (λ _. length files.new.items ≡ length files.old.items + 1) }
-    ensures stay { take (length files.old.items) files.new.items ≡ files.old.items }
-    ensures none { result ≡ None → files.new.items ≡ files.old.items }
-{
-    let metadata = file.metadata().ok()?;
-    files.push(Identity::of(&metadata)).ok()
+/// Which file this is. None where the system doesn't tell.
+pub fn identity_of<F: OpenFile>(file: &F) -> Option<Identity> {
+    Some(Identity::of(&file.metadata().ok()?))
 }
 
-/// Whether the name is one of these files.
-pub fn is_among<R: Files>(rt: &R, name: &str, files: &[Identity]) -> bool {
-    match fs::metadata(rt, name) {
-        Ok(metadata) => files.contains(&Identity::of(&metadata)),
-        Err(_) => false,
-    }
+/// Adds a file to the files. None, and nothing added, where it can't be kept.
+pub fn note(file: Identity, files: &mut Vec<Identity>) -> Option<()>
+    ensures added { IfSome result (λ _. files.new.items ≡ files.old.items ++ file ∷ []) }
+    ensures none { result ≡ None → files.new.items ≡ files.old.items }
+{
+    files.push(file).ok()
+}
+
+/// Whether the file is one of the files.
+pub fn is_among(file: Identity, files: &[Identity]) -> bool
+    ensures { IsTrue result ↔ Contains files.now file }
+{
+    files.contains(&file)
 }

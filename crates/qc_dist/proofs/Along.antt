@@ -130,28 +130,21 @@ module _ (inst : InstanceView) (valid : Valid inst) (i v j w : ℕ) (first : i <
       ]
 
 -- the same by what is kept of the two tasks
-module _ (inst own : InstanceView) (same : own ≡ inst) (valid : Valid own) (i v j w : ℕ) (first : i < length inst.tasks)
+module _ (inst : InstanceView) (valid : Valid inst) (i v j w : ℕ) (first : i < length inst.tasks)
     (second : j < length inst.tasks) (one : v < length inst.cranes) (other : w < length inst.cranes) (a b : Heads)
-    (of_first : IsHeads own i a) (of_second : IsHeads own j b) where
-  here : Valid inst
-  here = subst Valid same valid
-
+    (of_first : IsHeads inst i a) (of_second : IsHeads inst j b) where
   from_is : slice_index a.along v ≡ along inst i v
-  from_is =
-      let cranes = ap (λ (k : InstanceView). length k.cranes) same in
-      (of_first.along.values v (omega arith)).0 ∙ ap (λ (k : InstanceView). along k i v) same
+  from_is = (of_first.along.values v one).0
 
   to_is : slice_index b.along w ≡ along inst j w
-  to_is =
-      let cranes = ap (λ (k : InstanceView). length k.cranes) same in
-      (of_second.along.values w (omega arith)).0 ∙ ap (λ (k : InstanceView). along k j w) same
+  to_is = (of_second.along.values w other).0
 
   pub heads_near : slice_index b.along w ≤ slice_index a.along v → None ≡ crane_ticks inst i j (Some v) (Some w)
   heads_near near =
-      sym (pair_none inst here i v j w first second (omega (arith, here.cranes.count.1)) (inr (omega (arith, from_is, to_is))))
+      sym (pair_none inst valid i v j w first second (omega (arith, valid.cranes.count.1)) (inr (omega (arith, from_is, to_is))))
 
   pub heads_far : (ticks : ℕ) → ticks ≡ ticks_of inst i → w ≤ v → slice_index a.along v < slice_index b.along w
       → Some (ticks + (slice_index b.along w - slice_index a.along v)) ≡ crane_ticks inst i j (Some v) (Some w)
   heads_far ticks is low far =
       ap Some (omega (arith, is, from_is, to_is))
-      ∙ sym (pair_some inst here i v j w first second (omega (arith, here.cranes.count.1)) low (omega (arith, from_is, to_is)))
+      ∙ sym (pair_some inst valid i v j w first second (omega (arith, valid.cranes.count.1)) low (omega (arith, from_is, to_is)))

@@ -1,21 +1,23 @@
 -- Bounds on what the tasks of a list come to.
-use Rattle.std.proofs.Common.{◌≡◌, ℕ, ◌*◌, ◌≤◌, ℤ, pos, Bool, true, false, cond, List, [], ◌∷◌, length, inl, inr, ap, arith}
+use Rattle.std.proofs.Common.{◌≡◌, ℕ, ◌+◌, ◌*◌, ◌≤◌, ℤ, pos, Bool, true, false, cond, List, [], ◌∷◌, length, inl, inr, refl, sym, ap, ◌∙◌, arith}
 use Rattle.std.specs.Prelude.{IfSome, int_lt, is_none}
-use Rattle.std.specs.List.{range_with_len}
+use Rattle.std.specs.List.{range_with_len, sum_by}
 use Rattle.std.proofs.lemmas.Bool.{cases_lt}
 use Rattle.std.proofs.lemmas.Int.{ints}
 use Rattle.std.proofs.Math.ListN.{get_or-eq_default}
-use Rattle.std.proofs.lemmas.List.FromFn.{length-range_with_len}
+use Rattle.std.proofs.lemmas.List.Folds.{fold-map}
+use Rattle.std.proofs.lemmas.List.FromFn.{fill_by_all, length-range_with_len}
 use Rattle.std.proofs.lemmas.List.Sums.{count_by-le-length, length-filter, sum_by-cons}
 use Rattle.qc_model.specs.declared.decision.Decision.{Decision}
 use Rattle.qc_model.specs.declared.task.Task.{Task}
 use Rattle.qc_model.specs.declared.direction.Direction.TheVariants.{Up}
-use Rattle.qc_model.specs.Instance.{InstanceView, Valid, IsOnRail, bay_of, ticks_of, no_task}
+use Rattle.qc_model.specs.Instance.{InstanceView, Valid, IsOnRail, bay_of, task, ticks_of, no_task}
 use Rattle.qc_model.specs.Leaves.{highest, lowest, open_tasks, tasks_on, ticks_over}
 use Rattle.qc_model.specs.Nodes.{Fits, assigned}
 use Rattle.qc_model.proofs.OnRail.{task_on_rail, ticks_bounded}
 use Rattle.qc_dist.specs.Kept.{crane_load, unassigned_ticks}
 use Rattle.qc_dist.specs.Loads.{IsLoad, load_of}
+use Rattle.qc_dist.proofs.Ranges.{filter_all}
 use Rattle.qc_dist.proofs.Room.{tasks_on_few}
 
 -- past the last task there is nothing
@@ -80,3 +82,12 @@ open_bounded inst v ds =
     let few = length-range_with_len 0 (length inst.tasks) in
     let ticks = ticks_over_bounded inst v (open_tasks inst ds) in
     omega (arith, ticks, length-filter p all, count_by-le-length p all, few, v.tasks.count)
+
+-- before any decision these are all tasks
+pub all_open : (inst : InstanceView) → sum_by (λ (t : Task). t.ticks) inst.tasks ≡ unassigned_ticks inst []
+all_open inst =
+    let all = range_with_len 0 (length inst.tasks) in
+    ap (sum_by (λ (t : Task). t.ticks))
+    (fill_by_all (task inst) inst.tasks (length inst.tasks) no_task refl (λ k h. refl))
+    ∙ fold-map (λ a (t : Task). a + t.ticks) (task inst) 0 all
+    ∙ sym (ap (sum_by (ticks_of inst)) (filter_all all))

@@ -34,17 +34,9 @@ pub record CanAssign (inst : InstanceView) (ds : List Decision) (j k : ℕ) : Ty
   pub crane : k < length inst.cranes
   pub none : assigned ds j ≡ None
 
-pub can_assign : (f : Inside) (node : Node) (inst : InstanceView) (j k : ℕ)
-    → node_of f ≡ node → node.inst ≡ inst
-    → j < length inst.tasks → k < length inst.cranes → assigned node.decisions j ≡ None
+pub can_assign : (f : Inside) (node : Node) (j k : ℕ) → node_of f ≡ node → CanAssign node.inst node.decisions j k
     → CanAssign f.inst (decisions_of (reverse f.made.items)) j k
-can_assign f node inst j k view same in_tasks in_cranes none =
-    let is = ap (λ (n : Node). n.inst) view ∙ same in
-    record {
-      task = omega (arith, ap (λ (i : InstanceView). length i.tasks) is);
-      crane = omega (arith, ap (λ (i : InstanceView). length i.cranes) is);
-      none = ap (λ (n : Node). assigned n.decisions j) view ∙ none;
-    }
+can_assign f node j k view = subst (λ (n : Node). CanAssign n.inst n.decisions j k) (sym view)
 
 -- the first task can be ordered before the second
 pub record CanOrder (inst : InstanceView) (ds : List Decision) (i j : ℕ) : Type 0 where

@@ -1,4 +1,4 @@
--- What one of two numbers that may be missing adds to the other.
+-- public: what one of two numbers that may be missing adds to the other.
 use Rattle.std.specs.Prelude.{ℕ, nat_lt, if◌then◌else◌, Option, None, Some}
 
 -- the second number, where it is there and no first is as great

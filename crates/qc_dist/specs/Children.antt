@@ -1,4 +1,4 @@
--- The children of a branching, one after the other, and the nodes that come after one.
+-- public: the children of a branching, one after the other, and the nodes that come after one.
 use Rattle.std.specs.Prelude.{◌≡◌, ◌+◌, nat_lt, if◌then◌else◌, List, [], ◌∷◌, ◌++◌, map, drop, Option, None, Some}
 use Rattle.qc_model.specs.declared.decision.Decision.{Decision}
 use Rattle.qc_model.specs.declared.decision.Decision.TheVariants.{Assign, Order}

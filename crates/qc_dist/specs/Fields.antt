@@ -1,4 +1,4 @@
--- The fields of decisions, as clauses see them and as they are kept.
+-- inner: the fields of decisions, as clauses see them and as they are kept.
 use Rattle.std.specs.Prelude.{reverse, vec_capacity}
 use Rattle.qc_dist.specs.declared.decisions.Decisions.TheInside.{Inside}
 use Rattle.qc_dist.specs.Kept.{AreKept, Beside, decisions_of}

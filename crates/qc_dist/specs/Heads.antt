@@ -1,4 +1,4 @@
--- When tasks can start at the least, as it is kept for an instance.
+-- inner: when tasks can start at the least, as it is kept for an instance.
 use Rattle.std.specs.Prelude.{◌≡◌, ℕ, pos, ◌+◌, ◌-◌, ◌*◌, ◌<◌, ◌≤◌, List, [], length, slice_index, slice_index_or}
 use Rattle.qc_model.specs.declared.limits.TheConstants.{MOST_CRANES, MOST_DISTANCE, MOST_READY}
 use Rattle.qc_dist.specs.declared.heads.Berths.{Berths}

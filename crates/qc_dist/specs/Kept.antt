@@ -1,4 +1,4 @@
--- What is kept beside decisions: each table and total is that of the definition.
+-- public: what is kept beside decisions: each table and total is that of the definition.
 use Rattle.std.specs.Prelude.{◌≡◌, ℕ, ◌+◌, ◌≤◌, Bool, List, [], ◌∷◌, length, map, Option}
 use Rattle.qc_dist.specs.declared.heads.Heads.{Heads}
 use Rattle.qc_dist.specs.declared.loads.Load.{Load}

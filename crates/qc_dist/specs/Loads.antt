@@ -1,4 +1,4 @@
--- What the tasks of a crane come to, as it is kept beside the decisions.
+-- inner: what the tasks of a crane come to, as it is kept beside the decisions.
 use Rattle.std.specs.Prelude.{ℕ, ◌+◌, ◌*◌, ◌≤◌, List, [], ◌∷◌, Option, None, Some}
 use Rattle.std.specs.Int.{int_min, int_max}
 use Rattle.qc_dist.specs.declared.loads.Load.{Load}

@@ -1,4 +1,4 @@
--- What contracts see of decisions, and what may be decided next.
+-- public: what contracts see of decisions, and what may be decided next.
 use Rattle.std.specs.Prelude.{◌≡◌, ◌<◌, ◌⊎◌, List, [], ◌∷◌, length, Option, None, Some}
 use Rattle.qc_model.specs.declared.decision.Decision.{Decision}
 use Rattle.qc_model.specs.declared.decision.Decision.TheVariants.{Assign, Order}

@@ -1,4 +1,4 @@
--- Tables that hold what functions of numbers give.
+-- inner: tables that hold what functions of numbers give.
 use Rattle.std.specs.Prelude.{◌≡◌, ℕ, ◌+◌, ◌*◌, ◌<◌, Bool, List, length, slice_index_or}
 use Rattle.qc_model.specs.declared.limits.TheConstants.{MOST_TASKS}
 

@@ -1,3 +1,5 @@
+//! The decisions of a search node, with tables beside them.
+
 ghost use Rattle.std.specs.Prelude.{◌≡◌, ◌*◌, ◌<◌, ◌≤◌, ◌⊎◌, None, [], ◌∷◌, IfOk, IfSome, MatchOption, length};
 ghost use Rattle.qc_model.specs.declared.decision.Decision.TheVariants.{Assign, Order};
 ghost use Rattle.qc_model.specs.declared.limits.TheConstants.{MOST_TASKS, MOST_WORK};
@@ -11,7 +13,6 @@ use crate::grid::{before_marks, cell, no_marks};
 use crate::heads::{Heads, head_table};
 use crate::loads::{Load, load_with};
 use crate::made::Made;
-use crate::parts::{crane_count, task_at, task_count, total_ticks};
 use qc_model::{Decision, Instance, copy};
 use qc_num::{OutOfMemory, Tick};
 use std::alloc::Global;
@@ -51,6 +52,13 @@ impl Model for Decisions {
     ghost invariant = { IsKept };
 }
 
+/// The ticks of all tasks, none of which has a crane yet.
+fn all_ticks(inst: &Instance) -> Tick
+    ensures { result ≡ unassigned_ticks inst.now [] }
+{
+    inst.work()
+}
+
 impl Decisions {
     ghost use Rattle.qc_dist.specs.Node.{IsOpen, newest};
 
@@ -58,7 +66,7 @@ impl Decisions {
     pub fn new(alloc: Global, inst: &Instance) -> Result<Decisions, OutOfMemory>
         ensures { IfOk result (λ made. made ≡ record { inst = inst.now; decisions = [] }) }
     {
-        let tasks = task_count(inst);
+        let tasks = inst.task_count();
         let room = tasks as usize + inst.apart().len();
         Ok(Decisions {
             made: Vec::with_capacity(alloc, room)?,
@@ -66,32 +74,38 @@ impl Decisions {
             before: before_marks(alloc, inst)?,
             ordered: no_marks(alloc, tasks)?,
             heads: head_table(alloc, inst)?,
-            loads: vec![in alloc; None; crane_count(inst) as usize]?,
-            open_ticks: total_ticks(inst),
+            loads: vec![in alloc; None; inst.crane_count() as usize]?,
+            open_ticks: all_ticks(inst),
             inst: copy(alloc, inst)?,
         })
     }
 
+    /// The instance that the decisions are made for.
+    pub fn instance(&self) -> &Instance
+        ensures same { result.now ≡ self.now.inst }
+        ensures valid { Valid self.now.inst }
+    {
+        &self.inst
+    }
+
     /// Decides one thing more.
-    pub fn add(&mut self, inst: &Instance, decision: Decision)
-        requires same { self.old.inst ≡ inst.now }
-        requires undecided { IsOpen inst.now self.old.decisions decision }
+    pub fn add(&mut self, decision: Decision)
+        requires { IsOpen self.old.inst self.old.decisions decision }
         ensures added { self.new ≡ record self.old {
           decisions = decision ∷ self.old.decisions;
         } }
-        ensures fits { Fits inst.now self.new.decisions }
+        ensures fits { Fits self.old.inst self.new.decisions }
     {
         match decision {
-            Decision::Assign(task, crane) => self.assign(inst, task, crane),
+            Decision::Assign(task, crane) => self.assign(task, crane),
             Decision::Order(first, second) => self.order(first, second),
         }
     }
 
     /// Decides the crane of a task.
-    fn assign(&mut self, inst: &Instance, task: u16, crane: u16)
-        requires same { self.old.inst ≡ inst.now }
-        requires task { task < length inst.now.tasks }
-        requires crane { crane < length inst.now.cranes }
+    fn assign(&mut self, task: u16, crane: u16)
+        requires task { task < length self.old.inst.tasks }
+        requires crane { crane < length self.old.inst.cranes }
         requires none { assigned self.old.decisions task ≡ None }
         ensures added { self.new ≡ record self.old {
           decisions = Assign task crane ∷ self.old.decisions;
@@ -99,7 +113,7 @@ impl Decisions {
         ensures fits { Fits self.new.inst self.new.decisions }
     {
         let load = self.loads[crane as usize];
-        let job = task_at(inst, task);
+        let job = self.inst.task(task);
         let decision = Decision::Assign(task, crane);
         self.made.push_reserved(Made { decision, load });
         self.cranes[task as usize] = Some(crane);
@@ -138,7 +152,7 @@ impl Decisions {
             Decision::Assign(task, crane) => {
                 self.cranes[task as usize] = None;
                 self.loads[crane as usize] = made.load;
-                self.open_ticks += task_at(&self.inst, task).ticks;
+                self.open_ticks += self.inst.task(task).ticks;
             }
             Decision::Order(first, second) => self.ordered[cell(first, second)] = false,
         }

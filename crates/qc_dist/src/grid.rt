@@ -1,11 +1,10 @@
-// Tables of pairs of tasks.
+//! Tables of pairs of tasks.
 
 ghost use Rattle.std.specs.Prelude.{◌≡◌, ◌+◌, ◌*◌, ◌<◌, ◌≤◌, [], IfOk, false, length};
 ghost use Rattle.qc_model.specs.declared.limits.TheConstants.{MOST_TASKS};
 ghost use Rattle.qc_model.specs.Nodes.{is_sooner};
 ghost use Rattle.qc_dist.specs.Tables.{IsGrid};
 
-use crate::parts::task_count;
 use qc_model::{Instance, MOST_TASKS};
 use qc_num::OutOfMemory;
 use std::alloc::Global;
@@ -34,7 +33,7 @@ pub(crate) fn before_marks(alloc: Global, inst: &Instance) -> Result<Vec<bool>, 
     ensures { IfOk result
         (λ marks. IsGrid (is_sooner inst.now []) (length inst.now.tasks) marks.items) }
 {
-    let mut marks = no_marks(alloc, task_count(inst))?;
+    let mut marks = no_marks(alloc, inst.task_count())?;
     for pair in inst.before() {
         marks[cell(pair.first, pair.second)] = true;
     }

@@ -1,4 +1,4 @@
-// When tasks can start at the least, for every task and crane: computed once for an instance.
+//! Release times of tasks, for every task and crane: computed once for an instance.
 
 ghost use Rattle.std.specs.Prelude.{◌≡◌, ◌+◌, ◌<◌, ◌≤◌, None, length, min, IfOk};
 ghost use Rattle.std.specs.Option.{option_map_or};
@@ -6,7 +6,6 @@ ghost use Rattle.qc_model.specs.declared.limits.TheConstants.{MOST_DISTANCE, MOS
 ghost use Rattle.qc_model.specs.Nodes.{free, head_by};
 ghost use Rattle.qc_dist.specs.Heads.{IsAlongRow, IsFreeRow, IsHeads, IsHeadTable, there};
 
-use crate::parts::{crane_count, task_count};
 use crate::travel::{along, arrival, head, in_reach};
 use qc_model::{Instance, MOST_CRANES};
 use qc_num::{OutOfMemory, Tick};
@@ -60,7 +59,7 @@ fn least_head(inst: &Instance, berths: Berths, j: u16) -> Tick
     ensures bound { result ≤ MOST_READY + MOST_DISTANCE }
 {
     let mut least: Option<Tick> = None;
-    for k in 0..crane_count(inst) {
+    for k in 0..inst.crane_count() {
         if in_reach(inst, j, k) {
             least = Some(sooner(least, there(inst, berths, j, k)));
         }
@@ -74,7 +73,7 @@ fn free_row(inst: &Instance, j: u16) -> [Tick; MOST_CRANES as usize]
     ensures { IsFreeRow inst.now j result }
 {
     let mut row = [0; MOST_CRANES as usize];
-    for k in 0..crane_count(inst) {
+    for k in 0..inst.crane_count() {
         row[k as usize] = head(inst, j, k);
     }
     row
@@ -86,7 +85,7 @@ fn along_row(inst: &Instance, j: u16) -> [Tick; MOST_CRANES as usize]
     ensures { IsAlongRow inst.now j result }
 {
     let mut row = [0; MOST_CRANES as usize];
-    for k in 0..crane_count(inst) {
+    for k in 0..inst.crane_count() {
         row[k as usize] = along(inst, j, k);
     }
     row
@@ -110,7 +109,7 @@ pub(crate) fn head_table(alloc: Global, inst: &Instance) -> Result<Vec<Heads>, O
     ensures { IfOk result (λ table. IsHeadTable inst.now table.items) }
 {
     let mut table = Vec::new(alloc);
-    for j in 0..task_count(inst) {
+    for j in 0..inst.task_count() {
         table.push(heads_of(inst, j))?;
     }
     Ok(table)

@@ -9,7 +9,6 @@ mod grid;
 mod heads;
 mod loads;
 mod made;
-mod parts;
 mod travel;
 mod work;
 

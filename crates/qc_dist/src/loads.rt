@@ -1,10 +1,9 @@
-// What the tasks of a crane come to.
+//! What the tasks of a crane come to.
 
 ghost use Rattle.std.specs.Prelude.{◌≡◌, ◌+◌, ◌*◌, ◌<◌, ◌≤◌, Some, IfSome, length};
 ghost use Rattle.qc_model.specs.declared.limits.TheConstants.{MOST_DISTANCE, MOST_TASKS, MOST_WORK};
 ghost use Rattle.qc_dist.specs.Loads.{IsLoad, load_with, load_ticks};
 
-use crate::parts::post_at;
 use qc_model::{Instance, Task, bays_between, bays_up, travel_over};
 use qc_num::{Bay, Tick};
 
@@ -50,7 +49,7 @@ pub(crate) fn load_ticks(inst: &Instance, k: u16, load: Option<Load>) -> Tick
     match load {
         None => 0,
         Some(load) => {
-            let way_there = travel_over(inst, bays_between(post_at(inst, k).bay, load.lowest));
+            let way_there = travel_over(inst, bays_between(inst.post(k).bay, load.lowest));
             load.ticks + way_there + travel_over(inst, bays_up(load.lowest, load.highest))
         }
     }

@@ -1,4 +1,4 @@
-// A decision as it is kept.
+//! A decision as it is kept.
 
 use crate::loads::Load;
 use qc_model::Decision;

@@ -1,3 +1,5 @@
+//! Distances, travel and reach of cranes over an instance.
+
 ghost use Rattle.std.specs.Prelude.{◌≡◌, ◌+◌, ◌<◌, ◌≤◌, length};
 ghost use Rattle.qc_model.specs.declared.limits.TheConstants.{MOST_DISTANCE, MOST_READY, MOST_WORK};
 ghost use Rattle.qc_model.specs.Instance.{bay_of, ticks_of};
@@ -5,7 +7,6 @@ ghost use Rattle.qc_model.specs.Nodes.{berth_wait, free, reaches};
 ghost use Rattle.qc_model.specs.Ticks.{arrival, task_distance, travel_between};
 ghost use Rattle.qc_dist.specs.Heads.{along};
 
-use crate::parts::{crane_count, post_at, task_at};
 use qc_model::{Instance, MOST_CRANES, bays_between, bays_up, travel_over};
 use qc_num::Tick;
 
@@ -19,12 +20,12 @@ pub fn distance(inst: &Instance, i: u16, v: u16, j: u16, w: u16) -> Tick
     ensures ticks { result ≡ task_distance inst.now i v j w }
     ensures bound { result ≤ MOST_DISTANCE }
 {
-    qc_model::distance(inst, v, task_at(inst, i).bay, w, task_at(inst, j).bay)
+    qc_model::distance(inst, v, inst.task(i).bay, w, inst.task(j).bay)
 }
 
-/// How far along the rail task `j` lies for crane `w`, in ticks of travel: a crane counts its bays from a
-/// place that lies lower by a gap than that of the crane above it. So a crane must give way to a higher
-/// one by as much as its task lies farther, and to itself, upwards, by the way between two tasks.
+/// The position of task `j` in crane `w`'s own coordinates, in ticks of travel: bay times travel,
+/// shifted by one gap for each crane above `w`. In these coordinates the time lag between two tasks is
+/// a difference, whichever cranes do them.
 pub(crate) fn along(inst: &Instance, j: u16, w: u16) -> Tick
     requires task { j < length inst.now.tasks }
     requires crane { w < length inst.now.cranes }
@@ -32,7 +33,7 @@ pub(crate) fn along(inst: &Instance, j: u16, w: u16) -> Tick
     ensures bound { result ≤ MOST_DISTANCE }
 {
     let gaps = bays_up(0, inst.gap()) * Tick::from(MOST_CRANES - w);
-    travel_over(inst, bays_up(0, task_at(inst, j).bay) + gaps)
+    travel_over(inst, bays_up(0, inst.task(j).bay) + gaps)
 }
 
 /// When crane `k` can first be at task `j`, whatever stands between.
@@ -42,8 +43,8 @@ pub(crate) fn arrival(inst: &Instance, j: u16, k: u16) -> Tick
     ensures ticks { result ≡ arrival inst.now k (bay_of inst.now j) }
     ensures bound { result ≤ MOST_READY + MOST_DISTANCE }
 {
-    let post = post_at(inst, k);
-    let task = task_at(inst, j);
+    let post = inst.post(k);
+    let task = inst.task(j);
     post.ready + travel_over(inst, bays_between(post.bay, task.bay))
 }
 
@@ -55,8 +56,8 @@ fn berth_wait(inst: &Instance, j: u16, k: u16, v: u16) -> Tick
     ensures ticks { result ≡ berth_wait inst.now j k v }
     ensures bound { result ≤ MOST_READY + MOST_DISTANCE }
 {
-    let post = post_at(inst, v);
-    let clear = qc_model::distance(inst, v, post.bay, k, task_at(inst, j).bay);
+    let post = inst.post(v);
+    let clear = qc_model::distance(inst, v, post.bay, k, inst.task(j).bay);
     if clear == 0 { 0 } else { post.ready + clear }
 }
 
@@ -69,7 +70,7 @@ pub fn head(inst: &Instance, j: u16, k: u16) -> Tick
     ensures bound { result ≤ MOST_READY + MOST_DISTANCE }
 {
     let mut tick = arrival(inst, j, k);
-    for v in 0..crane_count(inst) {
+    for v in 0..inst.crane_count() {
         tick = tick.max(berth_wait(inst, j, k, v));
     }
     tick
@@ -83,8 +84,8 @@ pub fn span(inst: &Instance, i: u16, j: u16) -> Tick
         + travel_between inst.now (bay_of inst.now i) (bay_of inst.now j) }
     ensures bound { result ≤ MOST_WORK + MOST_DISTANCE }
 {
-    let first = task_at(inst, i);
-    first.ticks + travel_over(inst, bays_between(first.bay, task_at(inst, j).bay))
+    let first = inst.task(i);
+    first.ticks + travel_over(inst, bays_between(first.bay, inst.task(j).bay))
 }
 
 /// Whether task `j` lies within the reach of crane `k`.
@@ -93,7 +94,7 @@ pub fn in_reach(inst: &Instance, j: u16, k: u16) -> bool
     requires crane { k < length inst.now.cranes }
     ensures { result ≡ reaches inst.now j k }
 {
-    let post = post_at(inst, k);
-    let bay = task_at(inst, j).bay;
+    let post = inst.post(k);
+    let bay = inst.task(j).bay;
     post.from <= bay && bay <= post.to
 }

@@ -14,6 +14,7 @@ use qc_num::{Bytes, OutOfMemory};
 use std::alloc::Global;
 use toml::{Table, Value};
 
+/// A number as a value.
 fn number_value(number: u16) -> Value
     ensures { view result ≡ number_value number }
 {
@@ -30,6 +31,7 @@ fn put(alloc: Global, table: &mut Table, key: &str, value: Value) -> Result<(), 
     Ok(())
 }
 
+/// Puts a number at a key.
 fn put_number(alloc: Global, table: &mut Table, key: &str, number: u16) -> Result<(), OutOfMemory>
     ensures { OnOk result (table_view table.new
         ≡ with_member key.now (number_value number) (table_view table.old)) }
@@ -37,6 +39,7 @@ fn put_number(alloc: Global, table: &mut Table, key: &str, number: u16) -> Resul
     put(alloc, table, key, number_value(number))
 }
 
+/// The numbers of so many hatches, as values.
 fn hatch_values(alloc: Global, hatches: u16) -> Result<Vec<Value>, OutOfMemory>
     requires { hatches ≤ MOST_HATCHES }
     ensures { IfOk result (λ v. map view v.items ≡ hatch_values hatches) }
@@ -65,6 +68,7 @@ fn crane_table(alloc: Global, k: u16) -> Result<Table, OutOfMemory>
     Ok(table)
 }
 
+/// The tables of so many cranes, as values.
 fn crane_values(alloc: Global, cranes: u16) -> Result<Vec<Value>, OutOfMemory>
     requires { cranes ≤ MOST_CRANES }
     ensures { IfOk result (λ v. map view v.items ≡ crane_values cranes) }
@@ -76,6 +80,7 @@ fn crane_values(alloc: Global, cranes: u16) -> Result<Vec<Value>, OutOfMemory>
     Ok(values)
 }
 
+/// The table of a ship file.
 fn ship_table(alloc: Global, hatches: u16, cranes: u16) -> Result<Table, OutOfMemory>
     requires hatches { hatches ≤ MOST_HATCHES }
     requires cranes { cranes ≤ MOST_CRANES }

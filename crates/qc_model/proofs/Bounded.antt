@@ -9,7 +9,8 @@ use Rattle.qc_model.specs.Judge.{IsJudgeable}
 use Rattle.qc_model.specs.Rules.{ends, last_end, no_slot, starts}
 use Rattle.qc_model.proofs.OnRail.{ticks_bounded}
 
-last_end_le : (ts : List Task) (ss : List ℕ) (n : ℕ)
+-- what no task ends after, the last one doesn't either
+pub last_end_le : (ts : List Task) (ss : List ℕ) (n : ℕ)
     → ((j : ℕ) → j < length ts → j < length ss → get_or ss j 0 + (get_or ts j no_task).ticks ≤ n) → last_end ts ss ≤ n
 last_end_le [] ss n h = omega arith
 last_end_le (t ∷ ts) [] n h = omega arith

@@ -10,7 +10,7 @@ mod Parts
 pub mod Extremes
 pub mod NodeLemmas
 pub mod CompleteNodes
-mod Sums
+pub mod Sums
 mod WorkLemmas
 pub mod LeafLemmas
 pub mod Scaled

@@ -1,8 +1,12 @@
-ghost use Rattle.std.specs.Prelude.{◌≡◌, ◌↔◌, pos, AllPairs, Contains, IsTrue};
-ghost use Rattle.qc_model.specs.Bays.{at_least_zero};
-ghost use Rattle.qc_model.specs.Instance.{IsApart, IsBefore, IsEarlier, Valid};
+//! What is to be planned.
 
-use crate::{Crane, Pair, Task};
+ghost use Rattle.std.specs.Prelude.{◌≡◌, ◌↔◌, ◌<◌, ◌≤◌, pos, AllPairs, Contains, IsTrue, length, sum_by};
+ghost use Rattle.qc_model.specs.declared.limits.TheConstants.{MOST_CRANES, MOST_READY, MOST_TASKS, MOST_WORK};
+ghost use Rattle.qc_model.specs.Bays.{at_least_zero};
+ghost use Rattle.qc_model.specs.Instance.{IsApart, IsBefore, IsEarlier, IsOnRail, Valid, crane, task};
+
+use crate::seen::seen_post;
+use crate::{Crane, Direction, Pair, Post, Task};
 use qc_num::{Bay, Tick};
 use std::marker::Model;
 
@@ -124,6 +128,68 @@ impl Instance {
         ensures valid { Valid self.now }
     {
         self.apart.as_slice()
+    }
+
+    /// How many tasks there are.
+    pub fn task_count(&self) -> u16
+        ensures count { result ≡ length self.now.tasks }
+        ensures bound { result ≤ MOST_TASKS }
+        ensures valid { Valid self.now }
+    {
+        self.tasks().len() as u16
+    }
+
+    /// How many cranes there are.
+    pub fn crane_count(&self) -> u16
+        ensures count { result ≡ length self.now.cranes }
+        ensures some { 1 ≤ result }
+        ensures bound { result ≤ MOST_CRANES }
+        ensures valid { Valid self.now }
+    {
+        self.cranes().len() as u16
+    }
+
+    /// A task by its number, from 0.
+    pub fn task(&self, number: u16) -> Task
+        requires { number < length self.now.tasks }
+        ensures task { result ≡ task self.now number }
+        ensures on_rail { IsOnRail result.bay }
+        ensures some { 1 ≤ result.ticks }
+        ensures bound { result.ticks ≤ MOST_WORK }
+        ensures valid { Valid self.now }
+    {
+        self.tasks()[number as usize]
+    }
+
+    /// A crane by its number, from 0.
+    pub fn crane(&self, number: u16) -> &Crane
+        requires { number < length self.now.cranes }
+        ensures crane { result.now ≡ crane self.now number }
+        ensures valid { Valid self.now }
+    {
+        &self.cranes()[number as usize]
+    }
+
+    /// What the rules ask of a crane, by its number.
+    pub fn post(&self, number: u16) -> Post
+        requires { number < length self.now.cranes }
+        ensures ready { result.ready ≡ (crane self.now number).ready }
+        ensures bay { result.bay ≡ (crane self.now number).bay }
+        ensures from { result.from ≡ (crane self.now number).from }
+        ensures to { result.to ≡ (crane self.now number).to }
+        ensures soon { result.ready ≤ MOST_READY }
+        ensures on_rail { IsOnRail result.bay }
+        ensures valid { Valid self.now }
+    {
+        seen_post(self, Direction::Up, self.crane(number))
+    }
+
+    /// The length of all tasks together, in ticks.
+    pub fn work(&self) -> Tick
+        ensures ticks { result ≡ sum_by (λ t. t.ticks) self.now.tasks }
+        ensures bound { result ≤ MOST_WORK }
+    {
+        self.tasks().iter().map(|task| task.ticks).sum()
     }
 
     /// Whether one task must end before another starts.

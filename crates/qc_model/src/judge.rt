@@ -1,5 +1,5 @@
-//! How a schedule is judged: its tasks and cranes as the rules see them, and the first tasks at which a
-//! rule fails.
+//! How a schedule is judged: its tasks and cranes as the rules see them, and the first tasks at
+//! which a rule fails.
 
 ghost use Rattle.std.specs.Prelude.{◌≡◌, ◌≤◌, ◌<◌, ◌↔◌, IsTrue, length, pos, ◌≤ℤ◌, MatchOption};
 ghost use Rattle.qc_model.specs.Numbers.{most_distance, most_end, most_ready};

@@ -50,7 +50,8 @@ pub const MOST_BAYS: Tick = 60_000;
 /// The most ticks by which cranes keep clear of each other, and of travel between two bays.
 pub const MOST_DISTANCE: Tick = MOST_TRAVEL * MOST_BAYS;
 
-/// The limits above are the numbers of the definitions. Nobody calls it; a wrong limit fails its proof.
+/// The limits above are the numbers of the definitions. Nobody calls it; its proof fails where a
+/// limit is another.
 fn limits_are_the_definitions()
     ensures tasks { MOST_TASKS ≡ most_tasks }
     ensures cranes { MOST_CRANES ≡ most_cranes }

@@ -4,8 +4,8 @@ ghost use Rattle.std.specs.Prelude.{◌≡◌, ◌↔◌, IsTrue};
 
 use crate::Tick;
 
-/// A lower bound of the ends of all schedules, in ticks; `Never`, above every number, where there is no
-/// schedule.
+/// A lower bound of the ends of all schedules, in ticks; `Never`, above every number, where there
+/// is no schedule.
 #[derive(Clone, Copy, Debug, PartialEq, Eq)]
 pub enum Bound {
     /// Nothing ends before this tick.
@@ -29,7 +29,8 @@ impl Bound {
         }
     }
 
-    /// Whether the bound is at least `end`, so that no schedule ends before it. `Never` reaches every end.
+    /// Whether the bound is at least `end`, so that no schedule ends before it. `Never` reaches
+    /// every end.
     pub fn reaches(self, end: Tick) -> bool
         ensures { IsTrue result ↔ IsAtMost (Least end) self }
     {

@@ -7,17 +7,18 @@ use Rattle.std.proofs.lemmas.List.{length-append, length-take, take-append-drop}
 use Rattle.std.proofs.lemmas.List.Elements.{All-head, All-tail}
 use Rattle.std.proofs.lemmas.List.Splits.{join_with_byte-slice_split, slice_split-cons_no, slice_split_at, slice_split_none}
 use Rattle.qc_num.specs.Reading.{◌>>=◌, require}
-use Rattle.qc_io.specs.Outside.{Rose}
+use Rattle.qc_io.specs.Outside.{Rose, View}
+use Rattle.qc_io.specs.Reads.{ReadsOn}
 use Rattle.qc_model.specs.Instance.{InstanceView}
 use Rattle.qc_tree.specs.declared.line.Line.{Line}
-use Rattle.qc_tree.specs.Left.{IsCut, IsTooLong, NoFeed, Takes}
+use Rattle.qc_lines.specs.Left.{IsCut, IsTooLong, NoFeed, Takes}
 use Rattle.qc_tree.specs.LineIn.{Listed, line_in}
 use Rattle.qc_replay.specs.declared.fault.ReplayError.{ReplayError}
-use Rattle.qc_replay.specs.declared.fault.ReplayError.TheVariants.{Tree}
+use Rattle.qc_replay.specs.declared.fault.ReplayError.TheVariants.{ReadFault, Tree}
 use Rattle.qc_replay.specs.declared.fault.TreeFault.{TreeFault}
 use Rattle.qc_replay.specs.declared.fault.TreeKind.{TreeKind}
 use Rattle.qc_replay.specs.declared.fault.TreeKind.TheVariants as kind
-use Rattle.qc_replay.specs.File.{IsFaulty, OnlyReads, Stage, texts}
+use Rattle.qc_replay.specs.File.{IsFaulty, texts}
 use Rattle.qc_replay.specs.Walk.{Coming, Reading, at, at_rest, at_text, most_bytes, next_of, numbered, replayed, texts_from}
 
 abbrev pub fault_at : ℕ → TreeKind → TreeFault
@@ -107,7 +108,7 @@ module _ (inst : InstanceView) (n : ℕ) (r : Reading) where
         >>= λ (seen : Listed). at inst r c seen.line seen.list) >>= λ now. texts_from inst (n + 1) now (next ∷ others))
         (le-ltb (length first) most_bytes long)
 
-    pub too_long : (bytes : List ℕ) → IsTooLong bytes → texts_from inst n r (texts bytes) ≡ Err (fault_at n kind.LineTooLong)
+    pub too_long : (bytes : List ℕ) → IsTooLong 1200 bytes → texts_from inst n r (texts bytes) ≡ Err (fault_at n kind.LineTooLong)
     too_long bytes long =
         let p = parts (drop 1200 bytes) in
         let count = length-take 1200 bytes in
@@ -150,15 +151,15 @@ refused before n why e is faulty fault same =
     let one = fault_told e fault n why is same in
     (sym (ap (λ (f : TreeFault). f.line) one), subst (λ (f : TreeFault). IsFaulty before f.kind) one faulty)
 
-pub long_faulty : (before : Option (List ℕ)) → IfSome before IsTooLong → IsFaulty before kind.LineTooLong
+pub long_faulty : (before : Option (List ℕ)) → IfSome before (IsTooLong 1200) → IsFaulty before kind.LineTooLong
 long_faulty None long = tt
 long_faulty (Some bytes) long = λ inst n r c more must. too_long inst n r c more must bytes long
 
-pub cut_faulty : (before : Option (List ℕ)) → IfSome before IsCut → IsFaulty before kind.Cut
+pub cut_faulty : (before : Option (List ℕ)) → IfSome before (IsCut 1200) → IsFaulty before kind.Cut
 cut_faulty None cut = tt
 cut_faulty (Some bytes) cut = λ inst n r c more must. cut_off inst n r c more must bytes cut.1 cut.2
 
-pub misspelt_faulty : (before : Option (List ℕ)) (text : List ℕ) (after : Option (List ℕ)) → Takes before text after
+pub misspelt_faulty : (before : Option (List ℕ)) (text : List ℕ) (after : Option (List ℕ)) → Takes 1200 before text after
     → line_in text ≡ None → IsFaulty before kind.Spelling
 misspelt_faulty None text after takes unread = tt
 misspelt_faulty (Some bytes) text None takes unread = absurd (cc takes.taken)
@@ -172,16 +173,20 @@ misspelt_faulty (Some bytes) text (Some rest) takes unread = λ inst n r c more 
 -- ---- a shelf that is only read
 
 -- one read after another; the first came through
-pub reads_on : {A B : Type 0} (x : A) (before mid after : Stage) (result : Result B ReplayError)
-    → OnlyReads before mid (Ok x) → OnlyReads mid after result → OnlyReads before after result
+pub reads_on : {A B : Type 0} (x : A) (before mid after : View) (result : Result B ReplayError)
+    → ReadsOn {A = A} {E = ReplayError} before mid ReadFault (Ok x) → ReadsOn mid after ReadFault result
+    → ReadsOn before after ReadFault result
 reads_on x before mid after result first second =
-    let same = first.unfailed (λ e. absurd (cc e)) in
+    let same = first.reads.unfailed (λ e. absurd (cc e)) in
     record {
-      files = second.files ∙ first.files;
-      made = second.made ∙ first.made;
-      faults = second.faults ∙ first.faults;
+      reads = record {
+        written = second.reads.written ∙ first.reads.written;
+        faults = second.reads.faults ∙ first.reads.faults;
+        files = second.reads.files ∙ first.reads.files;
+        made = second.reads.made ∙ first.reads.made;
+        never_falls = omega (arith, first.reads.never_falls, second.reads.never_falls);
+        unfailed = λ h. second.reads.unfailed h ∙ same;
+      };
       reading = second.reading;
-      read_faults = omega (arith, first.read_faults, second.read_faults);
-      read_fault = λ e. subst (λ n. Rose n after.read_faults) same (second.read_fault e);
-      unfailed = λ h. second.unfailed h ∙ same;
+      rose = λ e. subst (λ n. Rose n after.read_faults) same (second.rose e);
     }

@@ -2,9 +2,9 @@ pub mod FileFacts
 pub mod DescentFacts
 pub mod LeafFacts
 pub mod NodeFacts
-pub mod PartFacts
+pub mod StepFacts
+pub mod WalkFacts
 pub mod ReadLemmas
-pub mod FrameFacts
 pub mod LeafBounds
 pub mod TreeTextLemmas
 pub mod TreeFacts

@@ -13,23 +13,22 @@ use Rattle.qc_num.specs.Reading.{◌>>=◌, require}
 use Rattle.qc_num.proofs.ReadingLemmas.{passed}
 use Rattle.qc_model.specs.declared.decision.Decision.{Decision}
 use Rattle.qc_model.specs.declared.direction.Direction.{Direction}
-use Rattle.qc_model.specs.declared.limits.TheConstants.{MOST_CRANES, MOST_TASKS}
+use Rattle.qc_model.specs.Numbers.{most_branchings, most_tasks}
 use Rattle.qc_model.specs.declared.pair.Pair.{Pair}
 use Rattle.qc_model.specs.Instance.{InstanceView, IsApart, pair_of}
 use Rattle.qc_model.specs.declared.decision.Decision.TheVariants as decide
 use Rattle.qc_model.specs.Nodes.{IsSettled, assigned, forced}
 use Rattle.qc_model.specs.Leaves.{Leaf, are_tasks, crane_numbers, chain, chain_end, is_ring, leaf_value, ring}
 use Rattle.qc_model.proofs.NodeLemmas.{before_found}
-use Rattle.qc_tree.specs.declared.line.TheConstants.{MOST_BRANCHINGS}
 use Rattle.qc_tree.specs.declared.line.Line.{Line}
 use Rattle.qc_tree.specs.declared.line.Line.TheVariants.{Chain, Ring}
 use Rattle.qc_tree.specs.declared.line.Line.TheVariants as line
 use Rattle.qc_replay.specs.declared.fault.TreeKind.{TreeKind}
 use Rattle.qc_replay.specs.declared.fault.TreeKind.TheVariants as kind
-use Rattle.qc_replay.specs.declared.leaf.Heads.{Heads}
+use Rattle.qc_replay.specs.declared.leaf.TreeVersion.{TreeVersion}
 use Rattle.qc_replay.specs.declared.node.Tally.{Tally}
 use Rattle.qc_dist.specs.Children.{behind}
-use Rattle.qc_replay.specs.Part.{IsJudged, Shows, Standing, nodes, steps_left, version_of, with_branching, within}
+use Rattle.qc_replay.specs.Part.{IsJudged, Shows, Standing, nodes, version_of, with_branching, within}
 use Rattle.qc_replay.specs.Walk.{Coming, Reading, at_node, branched_to, came, closed_by, from_file, is_apart, is_number, is_settled, node, on_pair, on_task}
 
 number_inside : (inst : InstanceView) (i : ℕ) → is_number inst i ≡ true → nat_lt (i - 1) (length inst.tasks) ≡ true
@@ -47,40 +46,40 @@ all_inside inst (i ∷ is) all =
 
 -- numbers of tasks are tasks
 pub are_tasks_of : (inst : InstanceView) (list : List ℕ) → list_all (is_number inst) list ≡ true
-    → length list ≤ MOST_TASKS → are_tasks inst (from_file list) ≡ true
+    → length list ≤ most_tasks → are_tasks inst (from_file list) ≡ true
 are_tasks_of inst list all few =
-    and_from _ _ (le-leb (length (from_file list)) MOST_TASKS (omega (arith, length-map list (λ i. i - 1), few)))
+    and_from _ _ (le-leb (length (from_file list)) most_tasks (omega (arith, length-map list (λ i. i - 1), few)))
     (all_inside inst list all)
 
 -- a leaf of a line, by its value
-shown_leaf : (inst : InstanceView) (ds : List Decision) (heads : Heads) (leaf : Leaf) (fault : TreeKind)
-    (result : Result Bound TreeKind) → ok_or (leaf_value (version_of heads) inst ds leaf) fault ≡ result
-    → (r : Reading) → r.version ≡ version_of heads
+shown_leaf : (inst : InstanceView) (ds : List Decision) (version : TreeVersion) (leaf : Leaf) (fault : TreeKind)
+    (result : Result Bound TreeKind) → ok_or (leaf_value (version_of version) inst ds leaf) fault ≡ result
+    → (r : Reading) → r.version ≡ version_of version
     → closed_by r fault (leaf_value r.version inst ds leaf)
     ≡ (result >>= λ value. Ok (record (came r) { bound = lesser r.bound value }))
-shown_leaf inst ds heads leaf fault result is r version =
-    ap (λ v. ok_or (leaf_value v inst ds leaf) fault >>= λ value. Ok (record (came r) { bound = lesser r.bound value })) version
+shown_leaf inst ds version leaf fault result is r same =
+    ap (λ v. ok_or (leaf_value v inst ds leaf) fault >>= λ value. Ok (record (came r) { bound = lesser r.bound value })) same
     ∙ ap (λ result. result >>= λ value. Ok (record (came r) { bound = lesser r.bound value })) is
 
-module _ (inst : InstanceView) (ds : List Decision) (heads : Heads) (list : List ℕ)
-    (all : list_all (is_number inst) list ≡ true) (few : length list ≤ MOST_TASKS) where
+module _ (inst : InstanceView) (ds : List Decision) (version : TreeVersion) (list : List ℕ)
+    (all : list_all (is_number inst) list ≡ true) (few : length list ≤ most_tasks) where
   -- the end of a chain, or none
-  pub chain_shows : (end : Option ℕ) → end ≡ chain_end (version_of heads) inst ds (from_file list)
-      → Shows inst ds heads Chain list (ok_or (option_map Least end) kind.NotForced)
-  chain_shows end is way r version =
+  pub chain_shows : (end : Option ℕ) → end ≡ chain_end (version_of version) inst ds (from_file list)
+      → Shows inst ds version Chain list (ok_or (option_map Least end) kind.NotForced)
+  chain_shows end is way r same =
       ap (λ b. require b kind.UnknownTask >>= λ _. closed_by r kind.NotForced (leaf_value r.version inst ds (chain (from_file list)))) all
-      ∙ shown_leaf inst ds heads (chain (from_file list)) kind.NotForced _
-      (ap (λ b. ok_or (if b then option_map Least (chain_end (version_of heads) inst ds (from_file list)) else None) kind.NotForced)
+      ∙ shown_leaf inst ds version (chain (from_file list)) kind.NotForced _
+      (ap (λ b. ok_or (if b then option_map Least (chain_end (version_of version) inst ds (from_file list)) else None) kind.NotForced)
       (are_tasks_of inst list all few)
-      ∙ ap (λ o. ok_or (option_map Least o) kind.NotForced) (sym is)) r version
+      ∙ ap (λ o. ok_or (option_map Least o) kind.NotForced) (sym is)) r same
 
   -- a ring, or none
   pub ring_shows : 2 ≤ length list → (turns : Bool) → turns ≡ is_ring inst ds (from_file list)
-      → Shows inst ds heads Ring list (ok_or (if turns then Some Never else None) kind.NotCycle)
-  ring_shows some turns is way r version =
+      → Shows inst ds version Ring list (ok_or (if turns then Some Never else None) kind.NotCycle)
+  ring_shows some turns is way r same =
       ap (λ b. require b kind.UnknownTask >>= λ _. closed_by r kind.NotCycle (leaf_value r.version inst ds (ring (from_file list)))) all
-      ∙ shown_leaf inst ds heads (ring (from_file list)) kind.NotCycle _
-      (ap (λ b. ok_or (if b then Some Never else None) kind.NotCycle) tests) r version
+      ∙ shown_leaf inst ds version (ring (from_file list)) kind.NotCycle _
+      (ap (λ b. ok_or (if b then Some Never else None) kind.NotCycle) tests) r same
     where
       long : nat_le 2 (length (from_file list)) ≡ true
       long = le-leb 2 (length (from_file list)) (omega (arith, length-map list (λ i. i - 1), some))
@@ -121,21 +120,20 @@ apart_found inst i j false is =
 
 -- a branching that was counted
 pub branching_made : (t now : Tally) → with_branching t ≡ Ok now
-    → (nat_lt t.branched MOST_BRANCHINGS ≡ true) × (record t { branched = t.branched + 1 } ≡ now)
+    → (nat_lt t.branched most_branchings ≡ true) × (record t { branched = t.branched + 1 } ≡ now)
 branching_made t now is =
-    passed (nat_lt t.branched MOST_BRANCHINGS) (record t { branched = t.branched + 1 }) now kind.Branchings is
+    passed (nat_lt t.branched most_branchings) (record t { branched = t.branched + 1 }) now kind.Branchings is
 
 -- ---- a line of a part, judged
 
-module _ (heads : Heads) (inst : InstanceView) (before after : Standing) (same : before.inst ≡ inst)
-    (live : before.live ≡ true) (tally : Tally) where
+module _ (version : TreeVersion) (before after : Standing) (live : before.live ≡ true) (tally : Tally) where
   pub nodes_here : nodes before ≡ before.decisions ∷ drop 1 (nodes before)
   nodes_here = ap (λ b. if b then before.decisions ∷ behind before.inst before.decisions else []) live
       ∙ ap (λ b. before.decisions ∷ drop 1 (if b then before.decisions ∷ behind before.inst before.decisions else [])) (sym live)
 
   module _ (way : Direction) (more : List Coming) where
     abbrev here : Reading
-    here = within way heads before more tally
+    here = within way version before more tally
 
     -- what comes behind the node
     abbrev past : List Coming
@@ -155,103 +153,88 @@ module _ (heads : Heads) (inst : InstanceView) (before after : Standing) (same :
 
     branched_on : (now : Tally) (made : List (List Decision)) → with_branching tally ≡ Ok now
         → nodes after ≡ made ++ drop 1 (nodes before)
-        → branched_to here (map (node way) made) ≡ Ok (within way heads after more now)
+        → branched_to here (map (node way) made) ≡ Ok (within way version after more now)
     branched_on now made counted is =
         let one = branching_made tally now counted in
         ap (λ b. require b kind.Branchings >>= λ _. Ok (record here { coming = map (node way) made ++ drop 1 here.coming; branched = tally.branched + 1 })) one.0
         ∙ ap (λ cs. Ok (record here { coming = cs; branched = tally.branched + 1 })) (with_nodes made is)
-        ∙ ap (λ t. Ok (within way heads after more t)) one.1
+        ∙ ap (λ t. Ok (within way version after more t)) one.1
 
     not_branched : with_branching tally ≡ Err kind.Branchings → (children : List Coming)
         → branched_to here children ≡ Err kind.Branchings
-    not_branched full children = elim (cases_Bool (nat_lt tally.branched MOST_BRANCHINGS)) [
+    not_branched full children = elim (cases_Bool (nat_lt tally.branched most_branchings)) [
       | inl low ↦ absurd (cc (full, low))
       | inr high ↦ ap (λ b. require b kind.Branchings >>= λ _. Ok (record here { coming = children ++ drop 1 here.coming; branched = tally.branched + 1 })) high
     ]
 
     -- a leaf in its place
     came_is : (now : Tally) → nodes after ≡ drop 1 (nodes before)
-        → record (came here) { branched = now.branched; bound = now.bound } ≡ within way heads after more now
+        → record (came here) { branched = now.branched; bound = now.bound } ≡ within way version after more now
     came_is now is =
         ap (λ cs. record here { coming = cs; branched = now.branched; bound = now.bound })
         (past_is ∙ ap (λ ns. map (node way) ns ++ more) (sym is))
 
   -- a leaf of this value
   pub leaf_judged : (line : Line) (list : List ℕ) (value : Bound)
-      → Shows inst before.decisions heads line list (Ok value) → nodes after ≡ drop 1 (nodes before)
-      → IsJudged heads before tally line list after (Ok (record tally { bound = lesser tally.bound value }))
+      → Shows before.inst before.decisions version line list (Ok value) → nodes after ≡ drop 1 (nodes before)
+      → IsJudged version before tally line list after (Ok (record tally { bound = lesser tally.bound value }))
   leaf_judged line list value shows is way more =
-      ap (λ i. at_node i way before.decisions (here way more) line list) same
-      ∙ shows way (here way more) refl
+      shows way (here way more) refl
       ∙ ap Ok (came_is way more (record tally { bound = lesser tally.bound value }) is)
 
   -- a leaf that doesn't hold
   pub leaf_refused : (line : Line) (list : List ℕ) (fault : TreeKind)
-      → Shows inst before.decisions heads line list (Err fault)
-      → IsJudged heads before tally line list after (Err fault)
+      → Shows before.inst before.decisions version line list (Err fault)
+      → IsJudged version before tally line list after (Err fault)
   leaf_refused line list fault shows way more =
-      ap (λ i. at_node i way before.decisions (here way more) line list) same ∙ shows way (here way more) refl
+      shows way (here way more) refl
 
-  module _ (i : ℕ) (list : List ℕ) (number : is_number inst i ≡ true) where
+  module _ (i : ℕ) (list : List ℕ) (number : is_number before.inst i ≡ true) where
     task_line : (way : Direction) (more : List Coming)
         → at_node before.inst way before.decisions (here way more) (line.Assign i) list
-        ≡ on_task inst way before.decisions (here way more) (i - 1)
+        ≡ on_task before.inst way before.decisions (here way more) (i - 1)
     task_line way more =
-        ap (λ j. at_node j way before.decisions (here way more) (line.Assign i) list) same
-        ∙ ap (λ b. require b kind.UnknownTask >>= λ _. on_task inst way before.decisions (here way more) (i - 1)) number
+        ap (λ b. require b kind.UnknownTask >>= λ _. on_task before.inst way before.decisions (here way more) (i - 1)) number
 
     -- a branching on a task
     pub task_judged : (now : Tally) → assigned before.decisions (i - 1) ≡ None → with_branching tally ≡ Ok now
-        → nodes after ≡ map (λ k. decide.Assign (i - 1) k ∷ before.decisions) (crane_numbers inst) ++ drop 1 (nodes before)
-        → IsJudged heads before tally (line.Assign i) list after (Ok now)
+        → nodes after ≡ map (λ k. decide.Assign (i - 1) k ∷ before.decisions) (crane_numbers before.inst) ++ drop 1 (nodes before)
+        → IsJudged version before tally (line.Assign i) list after (Ok now)
     task_judged now none counted is way more =
         let ds = before.decisions in
-        let children = map (λ k. node way (decide.Assign (i - 1) k ∷ ds)) (crane_numbers inst) in
+        let children = map (λ k. node way (decide.Assign (i - 1) k ∷ ds)) (crane_numbers before.inst) in
         task_line way more
         ∙ ap (λ o. require (is_none o) kind.Decided >>= λ _. branched_to (here way more) children) none
-        ∙ ap (branched_to (here way more)) (sym (map-map (node way) (λ k. decide.Assign (i - 1) k ∷ ds) (crane_numbers inst)))
+        ∙ ap (branched_to (here way more)) (sym (map-map (node way) (λ k. decide.Assign (i - 1) k ∷ ds) (crane_numbers before.inst)))
         ∙ branched_on way more now _ counted is
 
-  module _ (i j : ℕ) (list : List ℕ) (numbers : (is_number inst i && is_number inst j) ≡ true) where
+  module _ (i j : ℕ) (list : List ℕ) (numbers : (is_number before.inst i && is_number before.inst j) ≡ true) where
     pair_line : (way : Direction) (more : List Coming)
         → at_node before.inst way before.decisions (here way more) (line.Order i j) list
-        ≡ on_pair inst way before.decisions (here way more) (i - 1) (j - 1)
+        ≡ on_pair before.inst way before.decisions (here way more) (i - 1) (j - 1)
     pair_line way more =
-        ap (λ k. at_node k way before.decisions (here way more) (line.Order i j) list) same
-        ∙ ap (λ b. require b kind.UnknownTask >>= λ _. on_pair inst way before.decisions (here way more) (i - 1) (j - 1)) numbers
+        ap (λ b. require b kind.UnknownTask >>= λ _. on_pair before.inst way before.decisions (here way more) (i - 1) (j - 1)) numbers
 
-    module _ (apart : is_apart inst (i - 1) (j - 1) ≡ true) where
+    module _ (apart : is_apart before.inst (i - 1) (j - 1) ≡ true) where
       abbrev orders : List (List Decision)
       orders =
           (decide.Order (i - 1) (j - 1) ∷ before.decisions) ∷ (decide.Order (j - 1) (i - 1) ∷ before.decisions) ∷ []
 
       tested_pair : (way : Direction) (more : List Coming)
           → at_node before.inst way before.decisions (here way more) (line.Order i j) list
-          ≡ (require (not (is_settled inst before.decisions (i - 1) (j - 1))) kind.Decided
+          ≡ (require (not (is_settled before.inst before.decisions (i - 1) (j - 1))) kind.Decided
           >>= λ _. branched_to (here way more) (map (node way) orders))
       tested_pair way more =
           pair_line way more
-          ∙ ap (λ b. require b kind.NotApart >>= λ _. (require (not (is_settled inst before.decisions (i - 1) (j - 1))) kind.Decided
+          ∙ ap (λ b. require b kind.NotApart >>= λ _. (require (not (is_settled before.inst before.decisions (i - 1) (j - 1))) kind.Decided
           >>= λ _. branched_to (here way more) (map (node way) orders))) apart
 
       -- a branching on a pair
-      pub pair_judged : (now : Tally) → (¬ IsSettled inst before.decisions (i - 1) (j - 1)) → with_branching tally ≡ Ok now
+      pub pair_judged : (now : Tally) → (¬ IsSettled before.inst before.decisions (i - 1) (j - 1)) → with_branching tally ≡ Ok now
           → nodes after ≡ orders ++ drop 1 (nodes before)
-          → IsJudged heads before tally (line.Order i j) list after (Ok now)
+          → IsJudged version before tally (line.Order i j) list after (Ok now)
       pair_judged now un counted is way more =
           tested_pair way more
           ∙ ap (λ b. require b kind.Decided >>= λ _. branched_to (here way more) (map (node way) orders))
-          (ap not (unsettled_false inst before.decisions (i - 1) (j - 1) un))
+          (ap not (unsettled_false before.inst before.decisions (i - 1) (j - 1) un))
           ∙ branched_on way more now orders counted is
-
-  -- fewer lines may come after a branching
-  pub fewer_after : (now : Tally) (made : List (List Decision)) → with_branching tally ≡ Ok now
-      → nodes after ≡ made ++ drop 1 (nodes before) → length made ≤ MOST_CRANES
-      → steps_left after now < steps_left before tally
-  fewer_after now made counted is few =
-      let one = branching_made tally now counted in
-      let low = ltb-true tally.branched MOST_BRANCHINGS one.0 in
-      let count = ap length is ∙ length-append made (drop 1 (nodes before)) in
-      let long = ap length nodes_here in
-      let next = ap (λ (t : Tally). t.branched) one.1 in
-      omega (arith, low, count, long, next, few)

@@ -1,4 +1,4 @@
--- The faults of a tree's file, as reports print them.
+-- public: the faults of a tree's file, as reports print them.
 use Rattle.std.specs.Prelude.{ℕ, List, codes}
 use Rattle.qc_replay.specs.declared.fault.TreeKind.{TreeKind}
 use Rattle.qc_replay.specs.declared.fault.TreeKind.TheVariants as kind

@@ -1,14 +1,11 @@
--- The file of a tree as it is read: lines taken off the front of what is left.
+-- inner: the file of a tree as it is read: lines taken off the front of what is left.
 use Rattle.std.specs.Prelude.{◌≡◌, ℕ, ◌==◌, ◌<◌, ◌≤◌, Bool, true, List, [], ◌∷◌, ◌++◌, length, Option, IfSome, IsSomeAnd, Result, Ok, Err}
 use Rattle.std.specs.List.{slice_split}
-use Rattle.qc_io.specs.Outside.{Files, Rose}
 use Rattle.qc_model.specs.Instance.{InstanceView}
 use Rattle.qc_tree.specs.LineIn.{Listed}
 use Rattle.qc_tree.specs.Lines.{IsTextOf, line_text}
 use Rattle.qc_tree.specs.Trees.{whole_line}
 use Rattle.qc_tree.specs.declared.line.Line.{Line}
-use Rattle.qc_replay.specs.declared.fault.ReplayError.{ReplayError}
-use Rattle.qc_replay.specs.declared.fault.ReplayError.TheVariants.{ReadFault}
 use Rattle.qc_replay.specs.declared.fault.Replayed.{Replayed}
 use Rattle.qc_replay.specs.declared.fault.TreeFault.{TreeFault}
 use Rattle.qc_replay.specs.declared.fault.TreeKind.{TreeKind}
@@ -53,31 +50,3 @@ abbrev pub IsFaulty : Option (List ℕ) → TreeKind → Type 0
 IsFaulty before why =
     IfSome before (λ b. (inst : InstanceView) (n : ℕ) (r : Reading) (c : Coming) (more : List Coming)
     → r.coming ≡ c ∷ more → texts_from inst n r (texts b) ≡ Err (record { line = n; kind = why }))
-
--- how a shelf stands that is read from
-pub record Stage : Type 0 where
-  pub files : Option Files
-  pub made : Option (List ℕ)
-  pub faults : ℕ
-  pub read_faults : ℕ
-  pub reading : Bool
-
-abbrev pub stage_of :
-    {S : Type 0} → (S → Option Files) → (S → Option (List ℕ)) → (S → ℕ) → (S → ℕ) → (S → Bool) → S → Stage
-stage_of files made faults read_faults reading shelf = record {
-  files = files shelf;
-  made = made shelf;
-  faults = faults shelf;
-  read_faults = read_faults shelf;
-  reading = reading shelf;
-}
-
--- only reads were made, and where the answer isn't that one failed, none did
-pub record OnlyReads {A : Type 0} (before after : Stage) (result : Result A ReplayError) : Type 0 where
-  pub files : after.files ≡ before.files
-  pub made : after.made ≡ before.made
-  pub faults : after.faults ≡ before.faults
-  pub reading : after.reading ≡ true
-  pub read_faults : before.read_faults ≤ after.read_faults
-  pub read_fault : ◌≡◌ {A = Result A ReplayError} result (Err ReadFault) → Rose before.read_faults after.read_faults
-  pub unfailed : ¬ (◌≡◌ {A = Result A ReplayError} result (Err ReadFault)) → after.read_faults ≡ before.read_faults

@@ -4,4 +4,4 @@ pub mod Shown
 pub mod Read
 pub mod Part
 pub mod File
-pub mod Frame
+pub mod Stages

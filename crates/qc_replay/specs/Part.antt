@@ -1,4 +1,4 @@
--- A part of a tree as it is kept while it is read.
+-- inner: a part of a tree as it is kept while it is read.
 use Rattle.std.specs.Prelude.{◌≡◌, ℕ, ◌+◌, ◌<◌, ◌≤◌, Bool, nat_lt, if◌then◌else◌, List, [], ◌∷◌, ◌++◌, length, map, Result, Ok, Err, ◌-◌, ◌*◌}
 use Rattle.qc_num.specs.declared.bound.Bound.{Bound}
 use Rattle.qc_num.specs.Bounds.{lesser}
@@ -6,25 +6,24 @@ use Rattle.qc_num.specs.Reading.{◌>>=◌}
 use Rattle.qc_dist.specs.Children.{behind}
 use Rattle.qc_dist.specs.Node.{IsOpen}
 use Rattle.qc_model.specs.declared.direction.Direction.{Direction}
-use Rattle.qc_model.specs.declared.limits.TheConstants.{MOST_CRANES}
+use Rattle.qc_model.specs.Numbers.{most_branchings}
 use Rattle.qc_model.specs.declared.decision.Decision.{Decision}
 use Rattle.qc_model.specs.Instance.{InstanceView}
 use Rattle.qc_model.specs.Leaves.{Version, without_berths, with_berths}
 use Rattle.qc_tree.specs.declared.line.Line.{Line}
 use Rattle.qc_tree.specs.declared.line.Line.TheVariants as line
-use Rattle.qc_tree.specs.declared.line.TheConstants.{MOST_BRANCHINGS}
 use Rattle.qc_replay.specs.declared.descent.Descent.TheInside.{Inside}
 use Rattle.qc_replay.specs.declared.fault.TreeKind.{TreeKind}
 use Rattle.qc_replay.specs.declared.fault.TreeKind.TheVariants as kind
-use Rattle.qc_replay.specs.declared.leaf.Heads.{Heads}
-use Rattle.qc_replay.specs.declared.leaf.Heads.TheVariants.{Alone, Berths}
+use Rattle.qc_replay.specs.declared.leaf.TreeVersion.{TreeVersion}
+use Rattle.qc_replay.specs.declared.leaf.TreeVersion.TheVariants.{WithoutBerths, WithBerths}
 use Rattle.qc_replay.specs.declared.node.Tally.{Tally}
 use Rattle.qc_replay.specs.Walk.{Coming, Reading, at_node, came, node}
 
 -- the version of trees that counts with these heads
-abbrev pub version_of : Heads → Version
-version_of Alone = without_berths
-version_of Berths = with_berths
+abbrev pub version_of : TreeVersion → Version
+version_of WithoutBerths = without_berths
+version_of WithBerths = with_berths
 
 -- the number of a task in a file
 abbrev pub IsNumber : InstanceView → ℕ → Type 0
@@ -52,9 +51,9 @@ abbrev pub IsKept : Inside → Type 0
 IsKept f = WereOpen f.node.inst f.node.decisions
 
 -- what a line shows at a node: the value of a leaf, or its fault
-abbrev pub Shows : InstanceView → List Decision → Heads → Line → List ℕ → Result Bound TreeKind → Type 0
-Shows inst ds heads line list result =
-    (way : Direction) (r : Reading) → r.version ≡ version_of heads
+abbrev pub Shows : InstanceView → List Decision → TreeVersion → Line → List ℕ → Result Bound TreeKind → Type 0
+Shows inst ds version line list result =
+    (way : Direction) (r : Reading) → r.version ≡ version_of version
     → at_node inst way ds r line list
     ≡ (result >>= λ value. Ok (record (came r) { bound = lesser r.bound value }))
 
@@ -67,26 +66,22 @@ IsNoBranching _ = Unit {0}
 -- one branching more, as long as a tree may have more
 abbrev pub with_branching : Tally → Result Tally TreeKind
 with_branching tally =
-    if nat_lt tally.branched MOST_BRANCHINGS then Ok (record tally { branched = tally.branched + 1 })
+    if nat_lt tally.branched most_branchings then Ok (record tally { branched = tally.branched + 1 })
     else Err kind.Branchings
 
 -- a reading in a part: its nodes come next, and then what follows the part
-abbrev pub within : Direction → Heads → Standing → List Coming → Tally → Reading
-within way heads s more tally = record {
-  version = version_of heads;
+abbrev pub within : Direction → TreeVersion → Standing → List Coming → Tally → Reading
+within way version s more tally = record {
+  version = version_of version;
   coming = map (node way) (nodes s) ++ more;
   branched = tally.branched;
   bound = tally.bound;
 }
 
--- how many lines may still come in a part: those that must, and those of each branching that is left
-abbrev pub steps_left : Standing → Tally → ℕ
-steps_left s tally = length (nodes s) + MOST_CRANES * (MOST_BRANCHINGS - tally.branched)
-
 -- what came of a line in a part: a reading further on, or a fault
 abbrev pub IsJudged :
-    Heads → Standing → Tally → Line → List ℕ → Standing → Result Tally TreeKind → Type 0
-IsJudged heads before tally line list after result =
+    TreeVersion → Standing → Tally → Line → List ℕ → Standing → Result Tally TreeKind → Type 0
+IsJudged version before tally line list after result =
     (way : Direction) (more : List Coming)
-    → at_node before.inst way before.decisions (within way heads before more tally) line list
-    ≡ (result >>= λ now. Ok (within way heads after more now))
+    → at_node before.inst way before.decisions (within way version before more tally) line list
+    ≡ (result >>= λ now. Ok (within way version after more now))

@@ -1,4 +1,4 @@
--- Lines of a tree's file, read one after the other.
+-- inner: lines of a tree's file, read one after the other.
 use Rattle.std.specs.Prelude.{◌≡◌, ℕ, List, [], ◌∷◌, ◌++◌, Option, IfSome, Result, Ok}
 use Rattle.std.specs.List.{flat_map}
 use Rattle.qc_num.specs.Reading.{◌>>=◌}

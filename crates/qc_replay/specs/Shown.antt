@@ -1,4 +1,4 @@
--- What is believed of a file that is a tree's.
+-- public: what is believed of a file that is a tree's.
 use Rattle.std.specs.Prelude.{◌≡◌, ℕ, List, Option, IfSome}
 use Rattle.qc_model.specs.Instance.{InstanceView}
 use Rattle.qc_tree.specs.Trees.{Tree, IsTree, tree_branchings, tree_text, tree_value}
@@ -9,5 +9,5 @@ pub record IsShown (inst : InstanceView) (file : Option (List ℕ)) (read : Repl
   pub tree : Tree
   pub is_tree : IsTree inst tree
   pub bound : read.bound ≡ tree_value inst tree
-  pub branched : read.branched ≡ tree_branchings inst tree
+  pub branched : read.branched ≡ tree_branchings tree
   pub text : IfSome file (λ bytes. bytes ≡ tree_text inst tree)

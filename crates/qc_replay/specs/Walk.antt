@@ -1,4 +1,4 @@
--- What a tree's file shows, line by line, or its first fault.
+-- public: what a tree's file shows, line by line, or its first fault.
 use Rattle.std.specs.Prelude.{ℕ, ◌+◌, ◌-◌, Bool, not, ◌&&◌, ◌||◌, ◌==◌, nat_lt, nat_le, if◌then◌else◌, List, [], ◌∷◌, ◌++◌, map, length, drop, Option, is_none, is_some, Result, Ok, Err, ok_or, ⊤}
 use Rattle.std.specs.List.{list_all, list_any, slice_split}
 use Rattle.qc_num.specs.declared.bound.Bound.{Bound}
@@ -12,8 +12,8 @@ use Rattle.qc_model.specs.declared.direction.Direction.TheVariants as way
 use Rattle.qc_model.specs.Instance.{InstanceView}
 use Rattle.qc_model.specs.Leaves.{Version, chain, ring, reach, work, without_berths, with_berths, crane_numbers, leaf_value}
 use Rattle.qc_model.specs.Nodes.{assigned, forced}
+use Rattle.qc_model.specs.Numbers.{most_branchings}
 use Rattle.qc_model.specs.Seen.{seen}
-use Rattle.qc_tree.specs.declared.line.TheConstants.{MOST_BRANCHINGS}
 use Rattle.qc_tree.specs.declared.line.Line.{Line}
 use Rattle.qc_tree.specs.declared.line.Line.TheVariants as line
 use Rattle.qc_tree.specs.LineIn.{line_in}
@@ -51,7 +51,7 @@ came r = record r { coming = drop 1 r.coming }
 -- a branching: its children come next
 abbrev pub branched_to : Reading → List Coming → Result Reading TreeKind
 branched_to r children = do
-  _ ← require (nat_lt r.branched MOST_BRANCHINGS) kind.Branchings
+  _ ← require (nat_lt r.branched most_branchings) kind.Branchings
   Ok (record r { coming = children ++ drop 1 r.coming; branched = r.branched + 1 })
 
 -- a leaf, with its fault where it doesn't hold

@@ -61,58 +61,54 @@ impl Descent {
     }
 
     /// The next node branches on the crane of a task.
-    pub(crate) fn on_task(&mut self, inst: &Instance, task: u16)
-        requires same { self.old.inst ≡ inst.now }
-        requires valid { Valid inst.now }
+    pub(crate) fn on_task(&mut self, task: u16)
+        requires valid { Valid self.old.inst }
         requires live { self.old.live ≡ true }
-        requires task { task < length inst.now.tasks }
+        requires task { task < length self.old.inst.tasks }
         requires none { assigned self.old.decisions task ≡ None }
-        ensures same { self.new.inst ≡ inst.now }
+        ensures inst { self.new.inst ≡ self.old.inst }
         ensures nodes { nodes self.new
-            ≡ map (λ k. Assign task k ∷ self.old.decisions) (crane_numbers inst.now)
+            ≡ map (λ k. Assign task k ∷ self.old.decisions) (crane_numbers self.old.inst)
             ++ drop 1 (nodes self.old) }
     {
-        self.node.add(inst, Decision::Assign(task, 0));
+        self.node.add(Decision::Assign(task, 0));
     }
 
     /// The next node branches on the order of an apart pair.
-    pub(crate) fn on_pair(&mut self, inst: &Instance, first: u16, second: u16)
-        requires same { self.old.inst ≡ inst.now }
-        requires valid { Valid inst.now }
+    pub(crate) fn on_pair(&mut self, first: u16, second: u16)
+        requires valid { Valid self.old.inst }
         requires live { self.old.live ≡ true }
-        requires apart { IsApart inst.now first second }
-        requires unsettled { ¬ IsSettled inst.now self.old.decisions first second }
-        ensures same { self.new.inst ≡ inst.now }
+        requires apart { IsApart self.old.inst first second }
+        requires unsettled { ¬ IsSettled self.old.inst self.old.decisions first second }
+        ensures inst { self.new.inst ≡ self.old.inst }
         ensures nodes { nodes self.new ≡ (Order first second ∷ self.old.decisions)
             ∷ (Order second first ∷ self.old.decisions) ∷ drop 1 (nodes self.old) }
     {
-        self.node.add(inst, Decision::Order(first, second));
+        self.node.add(Decision::Order(first, second));
     }
 
     /// The next node is a leaf.
-    pub(crate) fn leave(&mut self, inst: &Instance)
-        requires same { self.old.inst ≡ inst.now }
+    pub(crate) fn leave(&mut self)
         requires live { self.old.live ≡ true }
-        ensures same { self.new.inst ≡ inst.now }
+        ensures inst { self.new.inst ≡ self.old.inst }
         ensures nodes { nodes self.new ≡ drop 1 (nodes self.old) }
     {
-        self.live = climb(inst, &mut self.node);
+        self.live = climb(&mut self.node);
     }
 }
 
 /// Takes decisions back up to the newest branching with a child that is left, and goes to that child;
 /// whether there was one.
-fn climb(inst: &Instance, node: &mut Decisions) -> bool
-    requires same { node.old.inst ≡ inst.now }
-    requires were_open { WereOpen inst.now node.old.decisions }
-    ensures same { node.new.inst ≡ inst.now }
-    ensures were_open { WereOpen inst.now node.new.decisions }
-    ensures nodes { nodes (record { inst = inst.now; decisions = node.new.decisions; live = result })
-        ≡ behind inst.now node.old.decisions }
+fn climb(node: &mut Decisions) -> bool
+    requires were_open { WereOpen node.old.inst node.old.decisions }
+    ensures inst { node.new.inst ≡ node.old.inst }
+    ensures were_open { WereOpen node.old.inst node.new.decisions }
+    ensures nodes { nodes (record { inst = node.old.inst; decisions = node.new.decisions; live = result })
+        ≡ behind node.old.inst node.old.decisions }
 {
     while let Some(decision) = node.undo() {
-        if let Some(next) = next_child(inst, decision) {
-            node.add(inst, next);
+        if let Some(next) = next_child(node.instance(), decision) {
+            node.add(next);
             return true;
         }
     }

@@ -1,3 +1,4 @@
+//! Faults, and what a tree shows.
 ghost use Rattle.std.specs.Prelude.{◌≡◌, ◌≤◌, length};
 
 use qc_num::{Bound, OutOfMemory};

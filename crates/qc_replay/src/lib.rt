@@ -4,12 +4,11 @@
 
 mod descent;
 mod fault;
-mod frame;
 mod leaf;
 mod lines;
 mod node;
-mod part;
 mod tree_file;
+mod walk;
 
 pub use fault::{ReplayError, Replayed, TreeFault, TreeKind};
 pub use tree_file::replay;

@@ -1,9 +1,11 @@
 //! The lines of a tree's file.
-ghost use Rattle.std.specs.Prelude.{◌≡◌, ◌<◌, ◌≤◌, ◌^◌, [], IfOk, IfSome, OnOk, Ok, Err, true, length};
+ghost use Rattle.std.specs.Prelude.{◌≡◌, ◌<◌, ◌^◌, [], IfOk, IfSome, OnOk, Ok, Err, true, length};
 ghost use Rattle.std.specs.Io.KnownBytes.{prepend_known};
 ghost use Rattle.qc_io.specs.Outside.{IsMissing, ReadCause, file_at};
 ghost use Rattle.qc_num.specs.Paths.{HasRoom};
-ghost use Rattle.qc_replay.specs.File.{IsFaulty, IsNext, OnlyReads, stage_of};
+ghost use Rattle.qc_io.specs.Reads.{Reads, ReadsOn};
+ghost use Rattle.qc_tree.specs.Lines.{IsLine};
+ghost use Rattle.qc_replay.specs.File.{IsFaulty, IsNext};
 ghost use Rattle.qc_replay.specs.declared.fault.TreeFault.{TreeFault};
 ghost use Rattle.qc_replay.specs.declared.fault.TreeKind.TheVariants.{After};
 
@@ -31,22 +33,18 @@ impl TreeLines {
         shelf: &mut S,
         name: &str,
     ) -> Result<TreeLines, ReplayError>
-        ensures whole { IfOk result (λ lines. prepend_known lines.reader (S.rest shelf.new)
-            ≡ file_at (S.files shelf.old) name.now) }
+        ensures whole { IfOk result (λ lines. prepend_known lines.reader (S.Sink.view shelf.new).rest
+            ≡ file_at (S.Sink.view shelf.old).files name.now) }
         ensures first { IfOk result (λ lines. lines.number ≡ 1) }
         ensures room { IfOk result (λ lines. HasRoom 240 lines.path) }
-        ensures reading { OnOk result (S.reading shelf.new ≡ true) }
-        ensures missing { IsMissing (S.files shelf.old) name.now
+        ensures reading { OnOk result ((S.Sink.view shelf.new).reading ≡ true) }
+        ensures missing { IsMissing (S.Sink.view shelf.old).files name.now
             → ¬ (result ≡ Err ReplayError.OutOfMemory) → result ≡ Err ReplayError.ReadFault }
         ensures no_fault { (fault : TreeFault) → ¬ (result ≡ Err (ReplayError.Tree fault)) }
         ensures read_fault { result ≡ Err ReplayError.ReadFault
-            → ReadCause (S.read_faults shelf.old) (S.read_faults shelf.new) (S.files shelf.old) name.now }
-        ensures unfailed { ¬ (result ≡ Err ReplayError.ReadFault)
-            → S.read_faults shelf.new ≡ S.read_faults shelf.old }
-        ensures files_stay { S.files shelf.new ≡ S.files shelf.old }
-        ensures made_stays { S.made shelf.new ≡ S.made shelf.old }
-        ensures faults_stay { S.Sink.faults shelf.new ≡ S.Sink.faults shelf.old }
-        ensures read_faults_never_fall { S.read_faults shelf.old ≤ S.read_faults shelf.new }
+            → ReadCause (S.Sink.view shelf.old) (S.Sink.view shelf.new) name.now }
+        ensures reads { Reads (S.Sink.view shelf.old) (S.Sink.view shelf.new)
+            (¬ (result ≡ Err ReplayError.ReadFault)) }
     {
         let mut path = Path::new(alloc);
         path.reserve(MOST_TASKS as usize)?;
@@ -73,20 +71,20 @@ impl TreeLines {
 
     /// The next line, of which one must come.
     pub(crate) fn next<S: Shelf>(&mut self, shelf: &mut S) -> Result<Line, ReplayError>
-        requires reading { S.reading shelf.old ≡ true }
+        requires reading { (S.Sink.view shelf.old).reading ≡ true }
         requires room { HasRoom 240 self.old.path }
         requires few { self.old.number < 2 ^ 31 }
+        ensures in_range { IfOk result (λ line. IsLine line self.new.path.items) }
         ensures next { IfOk result (λ line.
-            IsNext (prepend_known self.old.reader (S.rest shelf.old)) line self.new.path.items
-            (prepend_known self.new.reader (S.rest shelf.new))) }
+            IsNext (prepend_known self.old.reader (S.Sink.view shelf.old).rest) line self.new.path.items
+            (prepend_known self.new.reader (S.Sink.view shelf.new).rest)) }
         ensures number { OnOk result (self.new.number ≡ self.old.number) }
         ensures room_stays { HasRoom 240 self.new.path }
         ensures fault { (fault : TreeFault) → result ≡ Err (ReplayError.Tree fault)
             → (fault.line ≡ self.old.number)
-            × IsFaulty (prepend_known self.old.reader (S.rest shelf.old)) fault.kind }
-        ensures shelf { OnlyReads
-            (stage_of S.files S.made S.Sink.faults S.read_faults S.reading shelf.old)
-            (stage_of S.files S.made S.Sink.faults S.read_faults S.reading shelf.new) result }
+            × IsFaulty (prepend_known self.old.reader (S.Sink.view shelf.old).rest) fault.kind }
+        ensures reads { ReadsOn (S.Sink.view shelf.old) (S.Sink.view shelf.new)
+            ReplayError.ReadFault result }
     {
         match self.reader.next(shelf) {
             Ok(Some(text)) => match read_line(text, &mut self.path) {
@@ -102,15 +100,14 @@ impl TreeLines {
 
     /// Nothing may come any more.
     pub(crate) fn end<S: Shelf>(&mut self, shelf: &mut S) -> Result<(), ReplayError>
-        requires reading { S.reading shelf.old ≡ true }
+        requires reading { (S.Sink.view shelf.old).reading ≡ true }
         ensures ended { OnOk result
-            (IfSome (prepend_known self.old.reader (S.rest shelf.old)) (λ left. left ≡ [])) }
+            (IfSome (prepend_known self.old.reader (S.Sink.view shelf.old).rest) (λ left. left ≡ [])) }
         ensures fault { (fault : TreeFault) → result ≡ Err (ReplayError.Tree fault)
             → (fault.line ≡ self.old.number) × (fault.kind ≡ After)
-            × IfSome (prepend_known self.old.reader (S.rest shelf.old)) (λ left. 0 < length left) }
-        ensures shelf { OnlyReads
-            (stage_of S.files S.made S.Sink.faults S.read_faults S.reading shelf.old)
-            (stage_of S.files S.made S.Sink.faults S.read_faults S.reading shelf.new) result }
+            × IfSome (prepend_known self.old.reader (S.Sink.view shelf.old).rest) (λ left. 0 < length left) }
+        ensures reads { ReadsOn (S.Sink.view shelf.old) (S.Sink.view shelf.new)
+            ReplayError.ReadFault result }
     {
         match self.reader.next(shelf) {
             Ok(None) => Ok(()),

@@ -1,19 +1,19 @@
 //! A line where a node must stand.
 ghost use Rattle.std.specs.Prelude.{◌≡◌, ◌<◌, ◌≤◌, ◌&&◌, ℕ, List, IfOk, length, true};
 ghost use Rattle.std.specs.List.{list_all};
-ghost use Rattle.qc_model.specs.declared.limits.TheConstants.{MOST_TASKS};
+ghost use Rattle.qc_model.specs.Numbers.{most_tasks};
 ghost use Rattle.qc_model.specs.Instance.{Valid};
 ghost use Rattle.qc_model.specs.Leaves.{is_out_of_reach};
-ghost use Rattle.qc_replay.specs.Part.{IsJudged, IsNoBranching, Shows, WereOpen, steps_left, with_branching};
+ghost use Rattle.qc_replay.specs.Part.{IsJudged, IsNoBranching, Shows, WereOpen, with_branching};
 ghost use Rattle.qc_replay.specs.Walk.{is_apart, is_number};
 ghost use Rattle.qc_tree.specs.declared.line.Line.TheVariants.{Assign, Chain, Order, Reach, Ring, Work};
 ghost use Rattle.qc_tree.specs.Lines.{IsLine};
 
 use crate::descent::Descent;
 use crate::fault::TreeKind;
-use crate::leaf::{Heads, chain_end, is_ring};
+use crate::leaf::{TreeVersion, chain_end, is_ring};
 use qc_dist::{Decisions, in_reach};
-use qc_model::{Decision, Instance};
+use qc_model::Decision;
 use qc_num::{Bound, Tick};
 use qc_tree::{Line, MOST_BRANCHINGS};
 
@@ -25,45 +25,43 @@ pub(crate) struct Tally {
 }
 
 /// Whether a number in a file is that of a task.
-fn is_number(inst: &Instance, number: u16) -> bool
-    ensures number { result ≡ is_number inst.now number }
-    ensures valid { Valid inst.now }
+fn is_number(node: &Decisions, number: u16) -> bool
+    ensures number { result ≡ is_number node.now.inst number }
+    ensures valid { Valid node.now.inst }
 {
-    let count = inst.tasks().len();
-    0 < number && number as usize <= count
+    let count = node.instance().task_count();
+    0 < number && number <= count
 }
 
 /// Whether both are numbers of tasks.
-fn are_both_numbers(inst: &Instance, one: u16, other: u16) -> bool
-    ensures numbers { result ≡ (is_number inst.now one && is_number inst.now other) }
-    ensures valid { Valid inst.now }
+fn are_both_numbers(node: &Decisions, one: u16, other: u16) -> bool
+    ensures numbers { result ≡ (is_number node.now.inst one && is_number node.now.inst other) }
+    ensures valid { Valid node.now.inst }
 {
-    let first = is_number(inst, one);
-    first && is_number(inst, other)
+    let first = is_number(node, one);
+    first && is_number(node, other)
 }
 
 /// Whether all are numbers of tasks.
-fn are_numbers(inst: &Instance, numbers: &[u16]) -> bool
-    ensures { result ≡ list_all (is_number inst.now) numbers.now }
+fn are_numbers(node: &Decisions, numbers: &[u16]) -> bool
+    ensures { result ≡ list_all (is_number node.now.inst) numbers.now }
 {
-    numbers.iter().all(|number| is_number(inst, *number))
+    numbers.iter().all(|number| is_number(node, *number))
 }
 
 /// The end that a chain of tasks shows.
 fn chain_bound(
     node: &Decisions,
-    inst: &Instance,
-    heads: Heads,
+    version: TreeVersion,
     numbers: &[u16],
 ) -> Result<Bound, TreeKind>
-    requires same { node.now.inst ≡ inst.now }
-    requires few { length numbers.now ≤ MOST_TASKS }
-    ensures { Shows inst.now node.now.decisions heads Chain numbers.now result }
+    requires few { length numbers.now ≤ most_tasks }
+    ensures { Shows node.now.inst node.now.decisions version Chain numbers.now result }
 {
-    if !are_numbers(inst, numbers) {
+    if !are_numbers(node, numbers) {
         return Err(TreeKind::UnknownTask);
     }
-    match chain_end(node, inst, heads, numbers) {
+    match chain_end(node, version, numbers) {
         Some(end) => Ok(Bound::Least(end)),
         None => Err(TreeKind::NotForced),
     }
@@ -72,18 +70,16 @@ fn chain_bound(
 /// A ring of tasks shows that no schedule agrees with the node.
 fn ring_bound(
     node: &Decisions,
-    inst: &Instance,
-    heads: Heads,
+    version: TreeVersion,
     numbers: &[u16],
 ) -> Result<Bound, TreeKind>
-    requires same { node.now.inst ≡ inst.now }
     requires some { 2 ≤ length numbers.now }
-    requires few { length numbers.now ≤ MOST_TASKS }
-    ensures { Shows inst.now node.now.decisions heads Ring numbers.now result }
+    requires few { length numbers.now ≤ most_tasks }
+    ensures { Shows node.now.inst node.now.decisions version Ring numbers.now result }
 {
-    if !are_numbers(inst, numbers) {
+    if !are_numbers(node, numbers) {
         Err(TreeKind::UnknownTask)
-    } else if is_ring(node, inst, numbers) {
+    } else if is_ring(node, numbers) {
         Ok(Bound::Never)
     } else {
         Err(TreeKind::NotCycle)
@@ -91,24 +87,22 @@ fn ring_bound(
 }
 
 /// Whether the newest decision puts a task on a crane that doesn't reach it.
-fn is_out_of_reach(node: &Decisions, inst: &Instance) -> bool
-    requires same { node.now.inst ≡ inst.now }
-    requires were_open { WereOpen inst.now node.now.decisions }
-    ensures { result ≡ is_out_of_reach inst.now node.now.decisions }
+fn is_out_of_reach(node: &Decisions) -> bool
+    requires were_open { WereOpen node.now.inst node.now.decisions }
+    ensures { result ≡ is_out_of_reach node.now.inst node.now.decisions }
 {
     match node.newest() {
-        Some(Decision::Assign(task, crane)) => !in_reach(inst, task, crane),
+        Some(Decision::Assign(task, crane)) => !in_reach(node.instance(), task, crane),
         _ => false,
     }
 }
 
 /// A decision out of reach shows that no schedule agrees with the node.
-fn reach_bound(node: &Decisions, inst: &Instance, heads: Heads) -> Result<Bound, TreeKind>
-    requires same { node.now.inst ≡ inst.now }
-    requires were_open { WereOpen inst.now node.now.decisions }
-    ensures { (numbers : List ℕ) → Shows inst.now node.now.decisions heads Reach numbers result }
+fn reach_bound(node: &Decisions, version: TreeVersion) -> Result<Bound, TreeKind>
+    requires were_open { WereOpen node.now.inst node.now.decisions }
+    ensures { (numbers : List ℕ) → Shows node.now.inst node.now.decisions version Reach numbers result }
 {
-    if is_out_of_reach(node, inst) {
+    if is_out_of_reach(node) {
         Ok(Bound::Never)
     } else {
         Err(TreeKind::InReach)
@@ -116,12 +110,11 @@ fn reach_bound(node: &Decisions, inst: &Instance, heads: Heads) -> Result<Bound,
 }
 
 /// The end before which the work doesn't fit.
-fn work_bound(node: &Decisions, inst: &Instance, heads: Heads, end: Tick) -> Result<Bound, TreeKind>
-    requires same { node.now.inst ≡ inst.now }
+fn work_bound(node: &Decisions, version: TreeVersion, end: Tick) -> Result<Bound, TreeKind>
     requires some { 1 ≤ end }
-    ensures { (numbers : List ℕ) → Shows inst.now node.now.decisions heads (Work end) numbers result }
+    ensures { (numbers : List ℕ) → Shows node.now.inst node.now.decisions version (Work end) numbers result }
 {
-    if node.work_holds(inst, end) {
+    if node.work_holds(end) {
         Ok(Bound::Least(end))
     } else {
         Err(TreeKind::WorkShort)
@@ -131,22 +124,20 @@ fn work_bound(node: &Decisions, inst: &Instance, heads: Heads, end: Tick) -> Res
 /// What a leaf's line shows.
 fn leaf_bound(
     node: &Decisions,
-    inst: &Instance,
-    heads: Heads,
+    version: TreeVersion,
     line: Line,
     numbers: &[u16],
 ) -> Result<Bound, TreeKind>
-    requires same { node.now.inst ≡ inst.now }
-    requires were_open { WereOpen inst.now node.now.decisions }
+    requires were_open { WereOpen node.now.inst node.now.decisions }
     requires in_range { IsLine line numbers.now }
     requires leaf { IsNoBranching line }
-    ensures { Shows inst.now node.now.decisions heads line numbers.now result }
+    ensures { Shows node.now.inst node.now.decisions version line numbers.now result }
 {
     match line {
-        Line::Chain => chain_bound(node, inst, heads, numbers),
-        Line::Ring => ring_bound(node, inst, heads, numbers),
-        Line::Reach => reach_bound(node, inst, heads),
-        Line::Work(end) => work_bound(node, inst, heads, end),
+        Line::Chain => chain_bound(node, version, numbers),
+        Line::Ring => ring_bound(node, version, numbers),
+        Line::Reach => reach_bound(node, version),
+        Line::Work(end) => work_bound(node, version, end),
         _ => Err(TreeKind::Place),
     }
 }
@@ -169,89 +160,82 @@ impl Tally {
 
 /// Branching on the crane of a task.
 fn on_task(
-    inst: &Instance,
-    heads: Heads,
+    version: TreeVersion,
     descent: &mut Descent,
     tally: Tally,
     number: u16,
 ) -> Result<Tally, TreeKind>
-    requires same { descent.old.inst ≡ inst.now }
     requires live { descent.old.live ≡ true }
-    ensures same { descent.new.inst ≡ inst.now }
+    ensures inst { descent.new.inst ≡ descent.old.inst }
     ensures judged { (numbers : List ℕ)
-        → IsJudged heads descent.old tally (Assign number) numbers descent.new result }
-    ensures fewer { IfOk result (λ now. steps_left descent.new now < steps_left descent.old tally) }
+        → IsJudged version descent.old tally (Assign number) numbers descent.new result }
 {
-    if !is_number(inst, number) {
+    let node = descent.node();
+    if !is_number(node, number) {
         return Err(TreeKind::UnknownTask);
     }
     let task = number - 1;
-    if descent.node().crane_of(task).is_some() {
+    if node.crane_of(task).is_some() {
         return Err(TreeKind::Decided);
     }
     let now = tally.with_branching()?;
-    descent.on_task(inst, task);
+    descent.on_task(task);
     Ok(now)
 }
 
 /// Whether two tasks are an apart pair, in this order.
-fn is_apart(inst: &Instance, first: u16, second: u16) -> bool
-    ensures { result ≡ is_apart inst.now first second }
+fn is_apart(node: &Decisions, first: u16, second: u16) -> bool
+    ensures { result ≡ is_apart node.now.inst first second }
 {
-    inst.is_apart(first, second)
+    node.instance().is_apart(first, second)
 }
 
 /// Branching on the order of an apart pair.
 fn on_pair(
-    inst: &Instance,
-    heads: Heads,
+    version: TreeVersion,
     descent: &mut Descent,
     tally: Tally,
     one: u16,
     other: u16,
 ) -> Result<Tally, TreeKind>
-    requires same { descent.old.inst ≡ inst.now }
     requires live { descent.old.live ≡ true }
-    ensures same { descent.new.inst ≡ inst.now }
+    ensures inst { descent.new.inst ≡ descent.old.inst }
     ensures judged { (numbers : List ℕ)
-        → IsJudged heads descent.old tally (Order one other) numbers descent.new result }
-    ensures fewer { IfOk result (λ now. steps_left descent.new now < steps_left descent.old tally) }
+        → IsJudged version descent.old tally (Order one other) numbers descent.new result }
 {
-    if !are_both_numbers(inst, one, other) {
+    let node = descent.node();
+    if !are_both_numbers(node, one, other) {
         return Err(TreeKind::UnknownTask);
     }
     let (first, second) = (one - 1, other - 1);
-    if !is_apart(inst, first, second) {
+    if !is_apart(node, first, second) {
         return Err(TreeKind::NotApart);
     }
-    if descent.node().settled(inst, first, second) {
+    if node.settled(first, second) {
         return Err(TreeKind::Decided);
     }
     let now = tally.with_branching()?;
-    descent.on_pair(inst, first, second);
+    descent.on_pair(first, second);
     Ok(now)
 }
 
 /// A leaf.
 fn on_leaf(
-    inst: &Instance,
-    heads: Heads,
+    version: TreeVersion,
     descent: &mut Descent,
     tally: Tally,
     line: Line,
     numbers: &[u16],
 ) -> Result<Tally, TreeKind>
-    requires same { descent.old.inst ≡ inst.now }
     requires live { descent.old.live ≡ true }
     requires in_range { IsLine line numbers.now }
     requires leaf { IsNoBranching line }
-    ensures same { descent.new.inst ≡ inst.now }
-    ensures judged { IsJudged heads descent.old tally line numbers.now descent.new result }
-    ensures fewer { IfOk result (λ now. steps_left descent.new now < steps_left descent.old tally) }
+    ensures inst { descent.new.inst ≡ descent.old.inst }
+    ensures judged { IsJudged version descent.old tally line numbers.now descent.new result }
 {
-    match leaf_bound(descent.node(), inst, heads, line, numbers) {
+    match leaf_bound(descent.node(), version, line, numbers) {
         Ok(value) => {
-            descent.leave(inst);
+            descent.leave();
             Ok(Tally {
                 bound: tally.bound.min(value),
                 ..tally
@@ -263,23 +247,20 @@ fn on_leaf(
 
 /// A line of a part: what the lines come to with it, or its fault.
 pub(crate) fn on_line(
-    inst: &Instance,
-    heads: Heads,
+    version: TreeVersion,
     descent: &mut Descent,
     tally: Tally,
     line: Line,
     numbers: &[u16],
 ) -> Result<Tally, TreeKind>
-    requires same { descent.old.inst ≡ inst.now }
     requires live { descent.old.live ≡ true }
     requires in_range { IsLine line numbers.now }
-    ensures same { descent.new.inst ≡ inst.now }
-    ensures judged { IsJudged heads descent.old tally line numbers.now descent.new result }
-    ensures fewer { IfOk result (λ now. steps_left descent.new now < steps_left descent.old tally) }
+    ensures inst { descent.new.inst ≡ descent.old.inst }
+    ensures judged { IsJudged version descent.old tally line numbers.now descent.new result }
 {
     match line {
-        Line::Assign(number) => on_task(inst, heads, descent, tally, number),
-        Line::Order(one, other) => on_pair(inst, heads, descent, tally, one, other),
-        _ => on_leaf(inst, heads, descent, tally, line, numbers),
+        Line::Assign(number) => on_task(version, descent, tally, number),
+        Line::Order(one, other) => on_pair(version, descent, tally, one, other),
+        _ => on_leaf(version, descent, tally, line, numbers),
     }
 }

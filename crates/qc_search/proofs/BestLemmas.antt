@@ -7,19 +7,19 @@ use Rattle.qc_num.specs.Bounds.{IsAtMost}
 use Rattle.qc_bounds.proofs.ClosedLemmas.{one_end}
 use Rattle.qc_model.specs.declared.decision.Decision.{Decision}
 use Rattle.qc_model.specs.declared.direction.Direction.{Direction}
-use Rattle.qc_model.specs.declared.limits.TheConstants.{MOST_START}
 use Rattle.qc_model.specs.declared.schedule.Slot.{Slot}
+use Rattle.qc_model.specs.Numbers.{most_start}
 use Rattle.qc_model.specs.Instance.{InstanceView}
 use Rattle.qc_model.specs.Nodes.{Fits, IsComplete, IsInReach, IsNodeEnd, schedule_with}
 use Rattle.qc_model.specs.Rules.{last_end}
-use Rattle.qc_search.specs.declared.course.Course.{Course}
-use Rattle.qc_search.specs.Course.{IsPassed, IsSooner, IsTaken}
+use Rattle.qc_search.specs.declared.progress.Progress.{Progress}
+use Rattle.qc_search.specs.Progress.{IsPassed, Improves, IsTaken}
 
-at_most_of : (n : ℕ) (met : Bound) → IsSooner n met → IsAtMost (Least n) met
+at_most_of : (n : ℕ) (met : Bound) → Improves n met → IsAtMost (Least n) met
 at_most_of n (Least m) h = omega arith
 at_most_of n Never h = tt
 
-late_of : (n : ℕ) (met : Bound) → ¬ IsSooner n met → IsAtMost met (Least n)
+late_of : (n : ℕ) (met : Bound) → ¬ Improves n met → IsAtMost met (Least n)
 late_of n (Least m) h = by_order (cases_lt n m)
   where
     by_order : (n < m) ⊎ (m ≤ n) → m ≤ n
@@ -27,29 +27,29 @@ late_of n (Least m) h = by_order (cases_lt n m)
     by_order (inr more) = more
 late_of n Never h = absurd (h tt)
 
-module _ (inst : InstanceView) (way : Direction) (ds : List Decision) (old : Course) (n : ℕ)
+module _ (inst : InstanceView) (way : Direction) (ds : List Decision) (old : Progress) (n : ℕ)
     (end : IsNodeEnd inst ds n) where
   -- a schedule that ends sooner than any before
-  pub taken : (sched : List Slot) → Fits inst ds → IsComplete inst ds → IsInReach inst ds → IsSooner n old.met
-      → n ≤ MOST_START → sched ≡ schedule_with inst ds end.starts
-      → IsTaken inst way ds old (record old { met = Least n; way = way; best = sched; since = 0 })
+  pub taken : (sched : List Slot) → Fits inst ds → IsComplete inst ds → IsInReach inst ds → Improves n old.incumbent_end
+      → n ≤ most_start → sched ≡ schedule_with inst ds end.starts
+      → IsTaken inst way ds old (record old { incumbent_end = Least n; way = way; incumbent = sched; since_incumbent = 0 })
   taken sched fits complete reach sooner soon is = record {
     begins = end.starts;
     fits = fits;
     complete = complete;
     in_reach = reach;
     least = end.least;
-    sooner = subst (λ (k : ℕ). IsAtMost (Least k) old.met) end.ends (at_most_of n old.met sooner);
+    sooner = subst (λ (k : ℕ). IsAtMost (Least k) old.incumbent_end) end.ends (at_most_of n old.incumbent_end sooner);
     soon = omega (arith, end.ends, soon);
-    is = ap₂ (λ (k : ℕ) (best : List Slot). record old { met = Least k; way = way; best = best; since = 0 }) end.ends is;
+    is = ap₂ (λ (k : ℕ) (best : List Slot). record old { incumbent_end = Least k; way = way; incumbent = best; since_incumbent = 0 }) end.ends is;
   }
 
   -- one that doesn't
-  pub passed : ¬ IsSooner n old.met → IsPassed inst ds old old
+  pub passed : ¬ Improves n old.incumbent_end → IsPassed inst ds old old
   passed late = record {
     same = refl;
     late = λ begins complete reach least.
-        subst (λ (k : ℕ). IsAtMost old.met (Least k))
+        subst (λ (k : ℕ). IsAtMost old.incumbent_end (Least k))
         (one_end inst ds n (last_end inst.tasks begins) end (record { starts = begins; least = least; ends = refl }))
-        (late_of n old.met late);
+        (late_of n old.incumbent_end late);
   }

@@ -2,14 +2,19 @@
 use Rattle.std.proofs.Common.{◌≡◌, ℕ, ◌+◌, cond, List, [], ◌∷◌, ◌++◌, drop, get_or, refl, ap, sym, subst, ◌∙◌, append_assoc, arith}
 use Rattle.std.proofs.lemmas.List.{append-nil}
 use Rattle.std.proofs.lemmas.List.Elements.{All-append, All-cons, Contains-append_left, Contains-push}
-use Rattle.std.proofs.lemmas.List.Sums.{sum_by-append}
-use Rattle.std.specs.Prelude.{All, Any, Contains, is_none}
+use Rattle.std.proofs.lemmas.List.Sums.{sum_by-append, sum_by-cons}
+use Rattle.std.proofs.lemmas.Simd.{map-map}
+use Rattle.std.specs.Prelude.{All, Any, Contains}
 use Rattle.qc_num.specs.declared.bound.Bound.{Bound}
 use Rattle.qc_num.specs.declared.bound.Bound.TheVariants.{Least, Never}
-use Rattle.qc_num.specs.Bounds.{IsAtMost, lesser}
+use Rattle.qc_num.specs.Bounds.{IsAtMost, least_bound, lesser}
+use Rattle.qc_model.specs.declared.direction.Direction.{Direction}
 use Rattle.qc_model.specs.Instance.{InstanceView}
-use Rattle.qc_search.specs.Earned.{IsEarnedBehind, IsMetEnd, IsSolvedBy, TreeNode, branchings_in}
-use Rattle.qc_search.specs.Course.{AreEarned, node_value, value_in}
+use Rattle.qc_model.specs.Leaves.{with_berths}
+use Rattle.qc_model.specs.Seen.{seen}
+use Rattle.qc_tree.specs.Trees.{Node, branches, branchings, part_value}
+use Rattle.qc_search.specs.Earned.{IsEarnedBehind, IsMetEnd, IsSolvedBy, TreeNode, branchings_in, node_at, part_nodes}
+use Rattle.qc_search.specs.Progress.{AreEarned, value_at, value_in}
 use Rattle.qc_num.proofs.BoundLemmas.{at_most_through, lesser_assoc, lesser_never, same_least}
 
 -- ---- lists
@@ -68,22 +73,6 @@ module _ (home : InstanceView) (most : ℕ) where
 
 -- ---- the least end that was met
 
-pub at_most_same : (a : Bound) → IsAtMost a a
-at_most_same (Least a) = omega arith
-at_most_same Never = tt
-
-pub at_most_never : (a : Bound) → IsAtMost a Never
-at_most_never (Least a) = tt
-at_most_never Never = tt
-
--- what is no greater than two bounds is no greater than the lesser
-pub at_most_lesser : (a b c : Bound) → IsAtMost a b → IsAtMost a c → IsAtMost a (lesser b c)
-at_most_lesser (Least a) (Least b) (Least c) h k = omega arith
-at_most_lesser (Least a) (Least b) Never h k = h
-at_most_lesser (Least a) Never c h k = k
-at_most_lesser Never (Least b) c h k = absurd h
-at_most_lesser Never Never c h k = k
-
 module _ (home : InstanceView) (before : List TreeNode) (u : Bound) (met : IsMetEnd home before u)
     (node : TreeNode) where
   -- a node that is not solved sooner
@@ -121,13 +110,26 @@ pub value-append : (home : InstanceView) (one two : List TreeNode)
     → value_in home (one ++ two) ≡ lesser (value_in home one) (value_in home two)
 value-append home [] two = refl
 value-append home (node ∷ one) two =
-    ap (lesser (node_value home node)) (value-append home one two)
-    ∙ sym (lesser_assoc (node_value home node) (value_in home one) (value_in home two))
+    ap (lesser (value_at home node)) (value-append home one two)
+    ∙ sym (lesser_assoc (value_at home node) (value_in home one) (value_in home two))
 
 pub value_push : (home : InstanceView) (before : List TreeNode) (node : TreeNode)
-    → value_in home (before ++ node ∷ []) ≡ lesser (value_in home before) (node_value home node)
+    → value_in home (before ++ node ∷ []) ≡ lesser (value_in home before) (value_at home node)
 value_push home before node =
-    value-append home before (node ∷ []) ∙ ap (lesser (value_in home before)) (lesser_never (node_value home node))
+    value-append home before (node ∷ []) ∙ ap (lesser (value_in home before)) (lesser_never (value_at home node))
 
 pub branchings-append : (one two : List TreeNode) → branchings_in (one ++ two) ≡ branchings_in one + branchings_in two
-branchings-append = sum_by-append (λ (node : TreeNode). cond (is_none node.shows) 1 0)
+branchings-append = sum_by-append (λ (node : TreeNode). cond (branches node.sign) 1 0)
+
+-- the nodes of a part, counted and valued as they are by themselves
+pub branched_in : (way : Direction) (nodes : List Node) → branchings_in (part_nodes way nodes) ≡ branchings nodes
+branched_in way [] = refl
+branched_in way (n ∷ nodes) =
+    sum_by-cons (λ (node : TreeNode). cond (branches node.sign) 1 0) (node_at way n.decisions n.sign) (part_nodes way nodes)
+    ∙ ap (λ (k : ℕ). cond (branches n.sign) 1 0 + k) (branched_in way nodes)
+    ∙ sym (sum_by-cons (λ (node : Node). cond (branches node.sign) 1 0) n nodes)
+
+pub valued_in : (home : InstanceView) (way : Direction) (nodes : List Node)
+    → value_in home (part_nodes way nodes) ≡ part_value with_berths (seen home way) nodes
+valued_in home way nodes =
+    ap least_bound (map-map (value_at home) (λ (node : Node). node_at way node.decisions node.sign) nodes)

@@ -9,12 +9,12 @@ use Rattle.qc_num.specs.declared.bound.Bound.TheVariants.{Least, Never}
 use Rattle.qc_bounds.specs.declared.leaves.LeafKind.{LeafKind}
 use Rattle.qc_bounds.specs.declared.leaves.LeafKind.TheVariants as kind
 use Rattle.qc_model.specs.declared.decision.Decision.{Decision}
-use Rattle.qc_model.specs.declared.limits.TheConstants.{MOST_TASKS}
+use Rattle.qc_model.specs.Numbers.{most_tasks}
 use Rattle.qc_model.specs.Instance.{InstanceView}
 use Rattle.qc_model.specs.Leaves.{are_tasks, is_ring, work_holds}
 use Rattle.qc_tree.specs.Lines.{AreTasks, IsLine, IsTask}
 use Rattle.qc_tree.specs.Trees.{in_file, leaf_text, whole_line}
-use Rattle.qc_search.specs.Course.{AreNumbers, IsLeafBy, IsWritable, leaf_line, leaf_of}
+use Rattle.qc_search.specs.Lines.{AreNumbers, IsLeafBy, IsWritable, leaf_line, leaf_of}
 
 -- tasks as they are numbered in a file
 named : (tasks : List ℕ) → AreNumbers tasks → AreTasks (in_file tasks)
@@ -42,14 +42,14 @@ all_below n m (j ∷ tasks) few t =
     let both = and_parts (nat_lt j n) (list_all (λ i. nat_lt i n) tasks) t in
     All-cons (λ i. i < m) j tasks (omega (arith, ltb-true j n both.0, few)) (all_below n m tasks few both.1)
 
-numbers_of : (inst : InstanceView) (tasks : List ℕ) → length inst.tasks ≤ MOST_TASKS → are_tasks inst tasks ≡ true
+numbers_of : (inst : InstanceView) (tasks : List ℕ) → length inst.tasks ≤ most_tasks → are_tasks inst tasks ≡ true
     → AreNumbers tasks
 numbers_of inst tasks few t =
-    let both = and_parts (nat_le (length tasks) MOST_TASKS) (list_all (λ j. nat_lt j (length inst.tasks)) tasks) t in
-    (leb-true (length tasks) MOST_TASKS both.0, all_below (length inst.tasks) MOST_TASKS tasks few both.1)
+    let both = and_parts (nat_le (length tasks) most_tasks) (list_all (λ j. nat_lt j (length inst.tasks)) tasks) t in
+    (leb-true (length tasks) most_tasks both.0, all_below (length inst.tasks) most_tasks tasks few both.1)
 
 pub writable : (inst : InstanceView) (ds : List Decision) (leaf : LeafKind) (tasks : List ℕ)
-    → length inst.tasks ≤ MOST_TASKS → IsLeafBy inst ds leaf tasks → IsWritable leaf tasks
+    → length inst.tasks ≤ most_tasks → IsLeafBy inst ds leaf tasks → IsWritable leaf tasks
 writable inst ds kind.Chain tasks few h =
     numbers_of inst tasks few (some_true (are_tasks inst tasks) _ _ h.chain)
 writable inst ds kind.Ring tasks few h =

@@ -6,8 +6,8 @@ use Rattle.qc_num.specs.declared.bound.Bound.{Bound}
 use Rattle.qc_num.specs.declared.bound.Bound.TheVariants.{Least, Never}
 use Rattle.qc_model.specs.declared.direction.Direction.{Direction}
 use Rattle.qc_model.specs.declared.direction.Direction.TheVariants.{Up, Down}
-use Rattle.qc_model.specs.declared.limits.TheConstants.{MOST_START}
 use Rattle.qc_model.specs.declared.schedule.Slot.{Slot}
+use Rattle.qc_model.specs.Numbers.{most_start}
 use Rattle.qc_model.specs.Instance.{InstanceView, Valid}
 use Rattle.qc_model.specs.Judge.{Goes, IsJudgeable}
 use Rattle.qc_model.specs.Nodes.{AreLeast, schedule_with}
@@ -18,8 +18,8 @@ use Rattle.qc_model.proofs.CompleteNodes.{goes_with, starts_with}
 use Rattle.qc_model.proofs.MirrorLemmas.{seen_valid}
 use Rattle.qc_model.proofs.NodeLemmas.{ends_by, start_at}
 use Rattle.qc_model.proofs.SeenLemmas.{seen-crane_count, seen-crane_of, seen-start_of, seen-task_count}
-use Rattle.qc_search.specs.declared.course.Course.{Course}
-use Rattle.qc_search.specs.Course.{IsCourse, IsKeptBest, shown_best}
+use Rattle.qc_search.specs.declared.progress.Progress.{Progress}
+use Rattle.qc_search.specs.Progress.{IsProgress, IsKept, shown_best}
 use Rattle.qc_search.specs.Earned.{TreeNode}
 use Rattle.qc_search.specs.Run.{IsTight, decided_by}
 use Rattle.qc_search.proofs.DecidedLemmas.{decided_least}
@@ -69,8 +69,8 @@ goes_as home Up sched met same low goes = subst (GoesUp home) (sym same) goes
 goes_as home Down sched met same low goes =
     record { crane_range = low; mirrored = subst (GoesUp (mirror home)) (sym same) goes }
 
-module _ (home : InstanceView) (v : Valid home) (done : Course) (nodes : List TreeNode) (end : ℕ)
-    (k : IsKeptBest home done nodes end) where
+module _ (home : InstanceView) (v : Valid home) (done : Progress) (nodes : List TreeNode) (end : ℕ)
+    (k : IsKept home done nodes end) where
   abbrev inst : InstanceView
   inst = seen home k.node.way
 
@@ -97,7 +97,7 @@ module _ (home : InstanceView) (v : Valid home) (done : Course) (nodes : List Tr
       let c = kept_goes.feasible.crane_range j (omega (arith, n, low)) in
       omega (arith, c, seen-crane_count home k.node.way)
 
-  kept_soon : (j : ℕ) → j < length home.tasks → start_of kept j ≤ MOST_START
+  kept_soon : (j : ℕ) → j < length home.tasks → start_of kept j ≤ most_start
   kept_soon j low =
       let n = seen-task_count home k.node.way in
       let met = k.solved.least.meets.all_tasks in
@@ -105,7 +105,7 @@ module _ (home : InstanceView) (v : Valid home) (done : Course) (nodes : List Tr
       let is = ap (λ (b : List ℕ). get_or b j 0) (starts_with inst k.node.decisions k.begins met) in
       omega (arith, by, is, start_at kept j, k.ends, k.soon)
 
-  pub kept_cranes : All (λ (s : Slot). s.crane < length home.cranes) done.best
+  pub kept_cranes : All (λ (s : Slot). s.crane < length home.cranes) done.incumbent
   kept_cranes =
       subst (All (λ (s : Slot). s.crane < length home.cranes)) (sym k.is) (λ j d low.
       let here = kept_low j (omega (arith, kept_count, low)) in
@@ -137,38 +137,38 @@ module _ (home : InstanceView) (v : Valid home) (done : Course) (nodes : List Tr
       }
 
 -- what is answered is nothing where no end was met, and else the schedule that is kept, as it is seen
-module _ (home : InstanceView) (done : Course) (nodes : List TreeNode) (course : IsCourse home done nodes)
+module _ (home : InstanceView) (done : Progress) (nodes : List TreeNode) (course : IsProgress home done nodes)
     (P : List Slot → Type 0)
-    (shown_is : (end : ℕ) → done.met ≡ Least end → (k : IsKeptBest home done nodes end)
-    → P (seen_schedule home done.best k.node.way)) where
-  by_met : (met : Bound) (way : Direction) → done.met ≡ met → done.way ≡ way
-      → MatchOption (shown_best (length home.cranes) met way done.best) (done.met ≡ Never) P
+    (shown_is : (end : ℕ) → done.incumbent_end ≡ Least end → (k : IsKept home done nodes end)
+    → P (seen_schedule home done.incumbent k.node.way)) where
+  by_met : (met : Bound) (way : Direction) → done.incumbent_end ≡ met → done.way ≡ way
+      → MatchOption (shown_best (length home.cranes) met way done.incumbent) (done.incumbent_end ≡ Never) P
   by_met Never way met_is way_is = met_is
   by_met (Least end) Up met_is way_is =
       let k = course.best end met_is in
-      subst P (ap (seen_schedule home done.best) (k.way ∙ way_is)) (shown_is end met_is k)
+      subst P (ap (seen_schedule home done.incumbent) (k.way ∙ way_is)) (shown_is end met_is k)
   by_met (Least end) Down met_is way_is =
       let k = course.best end met_is in
-      subst P (ap (seen_schedule home done.best) (k.way ∙ way_is)) (shown_is end met_is k)
+      subst P (ap (seen_schedule home done.incumbent) (k.way ∙ way_is)) (shown_is end met_is k)
 
-  pub best_shown : MatchOption (shown_best (length home.cranes) done.met done.way done.best) (done.met ≡ Never) P
-  best_shown = by_met done.met done.way refl refl
+  pub best_shown : MatchOption (shown_best (length home.cranes) done.incumbent_end done.way done.incumbent) (done.incumbent_end ≡ Never) P
+  best_shown = by_met done.incumbent_end done.way refl refl
 
 some_shown : (N : Type 0) (P : List Slot → Type 0) (o : Option (List Slot)) → MatchOption o N P → IfSome o P
 some_shown N P None h = tt
 some_shown N P (Some s) h = h
 
-module _ (home : InstanceView) (v : Valid home) (done : Course) (nodes : List TreeNode)
-    (course : IsCourse home done nodes) where
-  pub cranes_low : (end : ℕ) → done.met ≡ Least end → All (λ (s : Slot). s.crane < length home.cranes) done.best
+module _ (home : InstanceView) (v : Valid home) (done : Progress) (nodes : List TreeNode)
+    (course : IsProgress home done nodes) where
+  pub cranes_low : (end : ℕ) → done.incumbent_end ≡ Least end → All (λ (s : Slot). s.crane < length home.cranes) done.incumbent
   cranes_low end e = kept_cranes home v done nodes end (course.best end e)
 
-  pub judgeable_is : IfSome (shown_best (length home.cranes) done.met done.way done.best) (IsJudgeable home)
+  pub judgeable_is : IfSome (shown_best (length home.cranes) done.incumbent_end done.way done.incumbent) (IsJudgeable home)
   judgeable_is = some_shown _ (IsJudgeable home) _ (best_shown home done nodes course (IsJudgeable home) (λ end e k.
       subst (λ (s : List Slot). IsJudgeable home (seen_schedule home s k.node.way)) (sym k.is)
       (shown_judgeable home v done nodes end k)))
 
-  pub tight_is : IfSome (shown_best (length home.cranes) done.met done.way done.best) (IsTight home)
+  pub tight_is : IfSome (shown_best (length home.cranes) done.incumbent_end done.way done.incumbent) (IsTight home)
   tight_is = some_shown _ (IsTight home) _ (best_shown home done nodes course (IsTight home) (λ end e k.
       subst (λ (s : List Slot). IsTight home (seen_schedule home s k.node.way)) (sym k.is)
       (shown_tight home v done nodes end k)))

@@ -4,17 +4,17 @@ use Rattle.std.specs.Prelude.{IfSome, MatchOption}
 use Rattle.qc_num.specs.declared.bound.Bound.TheVariants.{Least, Never}
 use Rattle.qc_model.specs.declared.direction.Direction.{Direction}
 use Rattle.qc_model.specs.declared.direction.Direction.TheVariants.{Up, Down}
-use Rattle.qc_model.specs.declared.limits.TheConstants.{MOST_START}
 use Rattle.qc_model.specs.declared.schedule.Slot.{Slot}
 use Rattle.qc_model.specs.declared.task.Task.{Task}
+use Rattle.qc_model.specs.Numbers.{most_start}
 use Rattle.qc_model.specs.Instance.{InstanceView}
 use Rattle.qc_model.specs.OneWay.{mirror_slot, mirror_task}
 use Rattle.qc_model.specs.Rules.{ends, last_end, starts}
 use Rattle.qc_model.specs.Seen.{seen, seen_schedule}
 use Rattle.qc_model.proofs.CompleteNodes.{ends_with}
-use Rattle.qc_search.specs.declared.course.Course.{Course}
+use Rattle.qc_search.specs.declared.progress.Progress.{Progress}
 use Rattle.qc_search.specs.Earned.{TreeNode}
-use Rattle.qc_search.specs.Course.{IsCourse, IsKeptBest, shown_best}
+use Rattle.qc_search.specs.Progress.{IsProgress, IsKept, shown_best}
 use Rattle.qc_search.specs.Run.{best_end}
 use Rattle.qc_search.proofs.ShownLemmas.{best_shown}
 
@@ -30,23 +30,23 @@ pub seen_end : (inst : InstanceView) (sched : List Slot) (way : Direction)
 seen_end inst sched Up = refl
 seen_end inst sched Down = turned_end inst inst.tasks sched
 
-module _ (home : InstanceView) (done : Course) (nodes : List TreeNode) (course : IsCourse home done nodes) where
-  kept_end : (end : ℕ) (k : IsKeptBest home done nodes end) → end ≡ ends home (seen_schedule home done.best k.node.way)
+module _ (home : InstanceView) (done : Progress) (nodes : List TreeNode) (course : IsProgress home done nodes) where
+  kept_end : (end : ℕ) (k : IsKept home done nodes end) → end ≡ ends home (seen_schedule home done.incumbent k.node.way)
   kept_end end k =
       let begins = ends_with (seen home k.node.way) k.node.decisions k.begins k.solved.least.meets in
-      k.ends ∙ sym begins ∙ ap (ends (seen home k.node.way)) (sym k.is) ∙ sym (seen_end home done.best k.node.way)
+      k.ends ∙ sym begins ∙ ap (ends (seen home k.node.way)) (sym k.is) ∙ sym (seen_end home done.incumbent k.node.way)
 
-  end_of_best : (o : Option (List Slot)) → MatchOption o (done.met ≡ Never) (λ s. done.met ≡ Least (ends home s))
-      → best_end home o ≡ done.met
+  end_of_best : (o : Option (List Slot)) → MatchOption o (done.incumbent_end ≡ Never) (λ s. done.incumbent_end ≡ Least (ends home s))
+      → best_end home o ≡ done.incumbent_end
   end_of_best None h = sym h
   end_of_best (Some s) h = sym h
 
   -- the end of the best schedule as it is answered is the least end that was met
-  pub best_end_is : best_end home (shown_best (length home.cranes) done.met done.way done.best) ≡ done.met
-  best_end_is = end_of_best _ (best_shown home done nodes course (λ s. done.met ≡ Least (ends home s))
+  pub best_end_is : best_end home (shown_best (length home.cranes) done.incumbent_end done.way done.incumbent) ≡ done.incumbent_end
+  best_end_is = end_of_best _ (best_shown home done nodes course (λ s. done.incumbent_end ≡ Least (ends home s))
       (λ end e k. e ∙ ap Least (kept_end end k)))
 
   -- and no task of it ends at a tick of more digits than a start has
-  pub best_soon : (best : Option (List Slot)) → best_end home best ≡ done.met → IfSome best (λ sched. ends home sched ≤ MOST_START)
+  pub best_soon : (best : Option (List Slot)) → best_end home best ≡ done.incumbent_end → IfSome best (λ sched. ends home sched ≤ most_start)
   best_soon None is = tt
   best_soon (Some sched) is = (course.best (ends home sched) (sym is)).soon

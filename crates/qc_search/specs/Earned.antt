@@ -1,44 +1,35 @@
--- Which bound trees a search with a budget of branchings may write.
-use Rattle.std.specs.Prelude.{◌≡◌, ℕ, ◌<◌, ◌≤◌, IsTrue, List, [], ◌∷◌, ◌++◌, Option, None, Some, is_none, All, Any, count_by}
-use Rattle.std.specs.List.{flat_map}
+-- public: which bound trees a search with a budget of branchings may write.
+use Rattle.std.specs.Prelude.{◌≡◌, ℕ, ◌<◌, ◌≤◌, IsTrue, List, ◌∷◌, ◌++◌, map, Some, All, Any, count_by}
 use Rattle.qc_num.specs.declared.bound.Bound.{Bound}
 use Rattle.qc_num.specs.declared.bound.Bound.TheVariants.{Least}
 use Rattle.qc_num.specs.Bounds.{IsAtMost}
 use Rattle.qc_model.specs.declared.decision.Decision.{Decision}
-use Rattle.qc_model.specs.declared.decision.Decision.TheVariants as decide
 use Rattle.qc_model.specs.declared.direction.Direction.{Direction}
 use Rattle.qc_model.specs.declared.direction.Direction.TheVariants.{Up, Down}
 use Rattle.qc_model.specs.Closing.{IsClosable, IsWorkBound}
 use Rattle.qc_model.specs.Instance.{InstanceView}
-use Rattle.qc_model.specs.Leaves.{Leaf, chain, ring, reach, work, with_berths, crane_numbers, is_out_of_reach, leaf_value}
+use Rattle.qc_model.specs.Leaves.{Leaf, chain, ring, reach, work, with_berths, is_out_of_reach, leaf_value}
 use Rattle.qc_model.specs.Nodes.{AreLeast, HasStarts, IsComplete, IsInReach, IsNodeEnd}
 use Rattle.qc_model.specs.Rules.{last_end}
 use Rattle.qc_model.specs.Seen.{seen}
-use Rattle.qc_tree.specs.Trees.{Part, Tree, leaf, on_pair, on_task, tree_branchings}
+use Rattle.qc_tree.specs.Trees.{Node, Sign, Tree, branches, leaf, tree_branchings}
 
--- a node of a tree: in which of the two parts it stands, its decisions, newest first, and its leaf, or none where the
--- tree branches
+-- a node of a tree: in which of the two parts it stands, its decisions, newest first, and what its line says
 pub record TreeNode : Type 0 where
   pub way : Direction
   pub decisions : List Decision
-  pub shows : Option Leaf
+  pub sign : Sign
 
-abbrev pub node_at : Direction → List Decision → Option Leaf → TreeNode
-node_at way ds shows = record { way = way; decisions = ds; shows = shows }
+abbrev pub node_at : Direction → List Decision → Sign → TreeNode
+node_at way ds sign = record { way = way; decisions = ds; sign = sign }
 
 -- the nodes of a part, in the order of the file
-abbrev pub part_nodes : List ℕ → Direction → List Decision → Part → List TreeNode
-part_nodes cranes way ds (leaf shows) = node_at way ds (Some shows) ∷ []
-part_nodes cranes way ds (on_task j children) =
-    node_at way ds None ∷ flat_map (λ k. part_nodes cranes way (decide.Assign j k ∷ ds) (children k)) cranes
-part_nodes cranes way ds (on_pair i j in_order turned) =
-    node_at way ds None
-    ∷ part_nodes cranes way (decide.Order i j ∷ ds) in_order ++ part_nodes cranes way (decide.Order j i ∷ ds) turned
+abbrev pub part_nodes : Direction → List Node → List TreeNode
+part_nodes way = map (λ node. node_at way node.decisions node.sign)
 
 -- the nodes of a tree, in the order of the file
-abbrev pub tree_nodes : InstanceView → Tree → List TreeNode
-tree_nodes inst tree =
-    part_nodes (crane_numbers inst) Up [] tree.up ++ part_nodes (crane_numbers inst) Down [] tree.down
+abbrev pub tree_nodes : Tree → List TreeNode
+tree_nodes tree = part_nodes Up tree.up ++ part_nodes Down tree.down
 
 -- all is decided at the node, within reach, and these are its least starts
 pub record IsSolved (inst : InstanceView) (node : TreeNode) (starts : List ℕ) : Type 0 where
@@ -56,14 +47,15 @@ pub record IsSolvedBy (inst : InstanceView) (end : ℕ) (node : TreeNode) : Type
   pub solved : IsSolved inst node starts
   pub ends : end ≡ solved_end inst node starts
 
--- the least end of the complete nodes with a solution among these; Never where there is none
+-- the end of the incumbent behind these nodes: the least end of the complete ones with a solution; Never where there is
+-- none
 pub record IsMetEnd (inst : InstanceView) (nodes : List TreeNode) (met : Bound) : Type 0 where
   pub reached : (end : ℕ) → met ≡ Least end → Any (IsSolvedBy inst end) nodes
   pub least : (end : ℕ) → All (λ node. IsSolvedBy inst end node → IsAtMost met (Least end)) nodes
 
 -- how many branchings are among these nodes
 abbrev pub branchings_in : List TreeNode → ℕ
-branchings_in = count_by (λ node. is_none node.shows)
+branchings_in = count_by (λ node. branches node.sign)
 
 -- the leaf is a chain that shows this end
 pub record IsChainTo (inst : InstanceView) (ds : List Decision) (end : ℕ) (shows : Leaf) : Type 0 where
@@ -100,26 +92,27 @@ pub record IsGivenUp (inst : InstanceView) (ds : List Decision) (shows : Leaf) :
   pub by_chain : bound ≤ end → IsChainTo inst ds end shows
   pub by_work : end < bound → shows ≡ work bound
 
--- what may stand at a node, u being the least end that was met before it, and so many branchings before it written:
+-- what may stand at a node, u being the end of the incumbent before it, and so many branchings before it written:
 -- a branching only where u doesn't close the node; the leaf that closes it where u does; and else a leaf only
 -- once all branchings are spent
-abbrev pub MayStand : InstanceView → List Decision → Bound → (branched most : ℕ) → Option Leaf → Type 0
-MayStand inst ds u branched most None = ¬ (IsClosable inst ds u)
-MayStand inst ds u branched most (Some shows) =
+abbrev pub MayStand : InstanceView → List Decision → Bound → (branched most : ℕ) → Sign → Type 0
+MayStand inst ds u branched most (leaf shows) =
     (IsClosable inst ds u → IsClosedAt inst ds u shows)
     × (¬ (IsClosable inst ds u) → (branched ≡ most) × IsGivenUp inst ds shows)
+MayStand inst ds u branched most branching = ¬ (IsClosable inst ds u)
 
--- the node is as it may be behind those before it in the file
+-- the node is justified behind those before it in the file
 pub record IsEarnedBehind
     (inst : InstanceView) (most : ℕ) (before : List TreeNode) (node : TreeNode) : Type 0 where
   pub u : Bound
   pub met : IsMetEnd inst before u
-  pub stands : MayStand (seen inst node.way) node.decisions u (branchings_in before) most node.shows
+  pub stands : MayStand (seen inst node.way) node.decisions u (branchings_in before) most node.sign
 
--- the tree is of the second version, has at most so many branchings, and earns each of its nodes
+-- the tree is of the second version and has at most so many branchings, and each of its nodes is justified by what the
+-- search knew when it wrote the line
 pub record IsEarned (inst : InstanceView) (most : ℕ) (tree : Tree) : Type 0 where
   pub version : tree.version ≡ with_berths
-  pub few : tree_branchings inst tree ≤ most
+  pub few : tree_branchings tree ≤ most
   pub each :
       (before : List TreeNode) (node : TreeNode) (behind : List TreeNode)
-      → tree_nodes inst tree ≡ before ++ node ∷ behind → IsEarnedBehind inst most before node
+      → tree_nodes tree ≡ before ++ node ∷ behind → IsEarnedBehind inst most before node

@@ -2,4 +2,5 @@ pub mod Earned
 pub mod Run
 pub mod Fields
 pub mod Walk
-pub mod Course
+pub mod Lines
+pub mod Progress

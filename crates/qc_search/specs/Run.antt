@@ -1,4 +1,4 @@
--- What a search comes to: a tree that is earned, the best schedule that it met, and how both stand to each other.
+-- public: what a search comes to: a tree that is earned, the best schedule that it met, and how both stand to each other.
 use Rattle.std.specs.Prelude.{◌≡◌, ◌≢◌, ℕ, ◌+◌, ◌*◌, ◌^◌, ◌≤◌, max, nat_le, if◌then◌else◌, List, ◌++◌, length, map, Option, None, Some, IfSome, MatchOption, Contains}
 use Rattle.std.specs.Io.KnownBytes.{append_known}
 use Rattle.qc_io.specs.Outside.{GrewByPart}
@@ -7,13 +7,13 @@ use Rattle.qc_num.specs.declared.bound.Bound.TheVariants.{Least, Never}
 use Rattle.qc_model.specs.declared.decision.Decision.{Decision}
 use Rattle.qc_model.specs.declared.decision.Decision.TheVariants.{Assign, Order}
 use Rattle.qc_model.specs.declared.direction.Direction.{Direction}
-use Rattle.qc_model.specs.declared.limits.TheConstants.{MOST_START}
 use Rattle.qc_model.specs.declared.pair.Pair.{Pair}
 use Rattle.qc_model.specs.declared.schedule.Slot.{Slot}
 use Rattle.qc_model.specs.Instance.{InstanceView}
 use Rattle.qc_model.specs.Judge.{Goes, IsJudgeable}
 use Rattle.qc_model.specs.Leaves.{task_numbers}
 use Rattle.qc_model.specs.Nodes.{AreLeast, schedule_with}
+use Rattle.qc_model.specs.Numbers.{most_start}
 use Rattle.qc_model.specs.Rules.{crane_of, end_of, ends, start_of, starts}
 use Rattle.qc_model.specs.Seen.{seen, seen_schedule}
 use Rattle.qc_tree.specs.Trees.{NoneEarlier, Tree, IsTree, tree_branchings, tree_text, tree_value}
@@ -33,7 +33,8 @@ abbrev pub decided_by : InstanceView → List Slot → List Decision
 decided_by inst sched =
     map (λ j. Assign j (crane_of sched j)) (task_numbers inst) ++ map (order_in inst sched) inst.apart
 
--- the schedule goes one way, and no task of it could start earlier with the same cranes and orders
+-- the schedule is semi-active: it goes one way, and no task of it could start earlier with the same cranes, the same order
+-- of apart tasks and the same way
 pub record IsTight (inst : InstanceView) (sched : List Slot) : Type 0 where
   pub way : Direction
   pub goes : Goes inst sched way
@@ -45,13 +46,13 @@ pub record IsTight (inst : InstanceView) (sched : List Slot) : Type 0 where
 -- down part is turned back by the mirror
 pub record IsMetBest (inst : InstanceView) (tree : Tree) (sched : List Slot) : Type 0 where
   pub node : TreeNode
-  pub stands : Contains (tree_nodes inst tree) node
+  pub stands : Contains (tree_nodes tree) node
   pub begins : List ℕ
   pub solved : IsSolved inst node begins
-  pub earliest : IsMetEnd inst (tree_nodes inst tree) (Least (solved_end inst node begins))
+  pub earliest : IsMetEnd inst (tree_nodes tree) (Least (solved_end inst node begins))
   pub is : sched ≡ seen_schedule inst (schedule_with (seen inst node.way) node.decisions begins) node.way
 
--- how a tree's value and the least end that was met stand to each other
+-- how a tree's value, the lower bound, and the end of the incumbent stand to each other
 abbrev pub outcome : Bound → Bound → Kind
 outcome Never met = Infeasible
 outcome (Least value) Never = Budget
@@ -62,11 +63,11 @@ pub record IsRun (inst : InstanceView) (most : ℕ) (tree : Tree) (best : Option
   pub is_tree : IsTree inst tree
   pub earned : IsEarned inst most tree
   pub met : Bound
-  pub ends : IsMetEnd inst (tree_nodes inst tree) met
+  pub ends : IsMetEnd inst (tree_nodes tree) met
   pub is_best : MatchOption best (met ≡ Never) (IsMetBest inst tree)
   pub is_kind : kind ≡ outcome (tree_value inst tree) met
   -- under Budget all branchings are spent
-  pub spent : kind ≡ Budget → tree_branchings inst tree ≡ most
+  pub spent : kind ≡ Budget → tree_branchings tree ≡ most
 
 -- every tree of the instance has fewer branchings
 abbrev pub branching_limit : InstanceView → ℕ
@@ -93,11 +94,11 @@ best_end inst (Some sched) = Least (ends inst sched)
 pub record IsSound (search : SearchView) (done : DoneView) : Type 0 where
   -- no schedule that goes one way ends before the bound; where it is Never, there is none
   pub none_earlier : NoneEarlier search.inst done.bound
-  -- the best schedule can be judged, and no task of it could start earlier
+  -- the best schedule can be judged, and is semi-active
   pub judgeable : IfSome done.best (IsJudgeable search.inst)
   pub tight : IfSome done.best (IsTight search.inst)
   -- its tasks end at ticks of at most 12 digits
-  pub soon : IfSome done.best (λ sched. ends search.inst sched ≤ MOST_START)
+  pub soon : IfSome done.best (λ sched. ends search.inst sched ≤ most_start)
   -- the outcome is that of the bound and of the best schedule's end
   pub kind : done.kind ≡ outcome done.bound (best_end search.inst done.best)
   -- under Budget exactly as many branchings are written as may be
@@ -110,7 +111,7 @@ pub record IsSearched (search : SearchView) (before after : Option (List ℕ)) (
   pub tree : Tree
   pub run : IsRun search.inst search.nodes tree done.best done.kind
   pub bound : done.bound ≡ tree_value search.inst tree
-  pub branched : done.branched ≡ tree_branchings search.inst tree
+  pub branched : done.branched ≡ tree_branchings tree
   pub written : after ≡ append_known before (tree_text search.inst tree)
 
 -- the bytes grew by a front part of a tree's text that isn't the whole

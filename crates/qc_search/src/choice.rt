@@ -7,19 +7,19 @@ ghost use Rattle.qc_starts.specs.Seen.{AreAssigned};
 ghost use Rattle.qc_search.specs.Walk.{IsOpenBranch, IsOpenTask};
 
 use crate::branch::Branch;
+use crate::moves::{go, go_back};
 use crate::window::Window;
 use qc_bounds::close;
 use qc_dist::in_reach;
-use qc_model::Instance;
-use qc_num::{Bound, Path, Steps, Tick};
+use qc_model::{Decision, Instance};
+use qc_num::{Bound, Path, Tick};
 use qc_starts::Starts;
-use std::sync::ledger::Ledger;
 
 /// What the search looks at where it looks ahead for a task to branch on.
 #[derive(Clone, Copy)]
 pub(crate) struct Outlook {
-    /// The least end that was met.
-    pub(crate) met: Bound,
+    /// The end of the incumbent.
+    pub(crate) incumbent_end: Bound,
     /// The bays with the most work, where they count.
     pub(crate) heavy: Option<Window>,
 }
@@ -61,20 +61,19 @@ fn is_ahead(inst: &Instance, one: Option<u16>, two: Option<u16>) -> bool
     let Some(two) = two else {
         return true;
     };
-    let tasks = inst.tasks();
-    let (here, there) = (tasks[one as usize].bay, tasks[two as usize].bay);
+    let (here, there) = (inst.task(one).bay, inst.task(two).bay);
     here < there || here == there && one < two
 }
 
 /// The first unassigned task in bow order behind a task, or of all.
-fn next_open(inst: &Instance, starts: &Starts, last: Option<u16>) -> Option<u16>
-    requires same { starts.now.inst ≡ inst.now }
-    requires last { IfSome last (λ other. other < length inst.now.tasks) }
-    ensures open { IfSome result (IsOpenTask inst.now starts.now.decisions) }
-    ensures none { last ≡ None → result ≡ None → AreAssigned inst.now starts.now.decisions }
+fn next_open(starts: &Starts, last: Option<u16>) -> Option<u16>
+    requires last { IfSome last (λ other. other < length starts.now.inst.tasks) }
+    ensures open { IfSome result (IsOpenTask starts.now.inst starts.now.decisions) }
+    ensures none { last ≡ None → result ≡ None → AreAssigned starts.now.inst starts.now.decisions }
 {
+    let inst = starts.instance();
     let mut next = None;
-    for task in 0..inst.tasks().len() as u16 {
+    for task in 0..inst.task_count() {
         if starts.crane_of(task).is_none()
             && is_ahead(inst, last, Some(task))
             && is_ahead(inst, Some(task), next)
@@ -86,54 +85,35 @@ fn next_open(inst: &Instance, starts: &Starts, last: Option<u16>) -> Option<u16>
 }
 
 /// Whether the child that puts the task on the crane would be closed. The node stays as it is.
-fn closes<L: Ledger>(
-    inst: &Instance,
-    starts: &mut Starts,
-    task: u16,
-    crane: u16,
-    met: Bound,
-    path: &mut Path,
-    steps: &mut Steps<L>,
-) -> bool
-    requires same { starts.old.inst ≡ inst.now }
-    requires starts { HasStarts inst.now starts.old.decisions }
-    requires open { IsOpenTask inst.now starts.old.decisions task }
-    requires crane { crane < length inst.now.cranes }
-    requires reach { IsTrue (reaches inst.now task crane) }
-    requires room { HasRoom (length inst.now.tasks) path.old }
+fn closes(starts: &mut Starts, task: u16, crane: u16, incumbent_end: Bound, path: &mut Path) -> bool
+    requires starts { HasStarts starts.old.inst starts.old.decisions }
+    requires open { IsOpenTask starts.old.inst starts.old.decisions task }
+    requires crane { crane < length starts.old.inst.cranes }
+    requires reach { IsTrue (reaches starts.old.inst task crane) }
+    requires room { HasRoom (length starts.old.inst.tasks) path.old }
     ensures stays { starts.new ≡ starts.old }
     ensures room { path.new.capacity ≡ path.old.capacity }
-    ensures steps { steps.old ≤ steps.new }
 {
     let mark = starts.mark();
-    starts.assign(inst, task, crane, steps);
-    let closed = close(inst, starts, met, path).is_some();
-    starts.retract(mark, steps);
+    go(starts, Decision::Assign(task, crane));
+    let closed = close(starts, incumbent_end, path).is_some();
+    go_back(starts, mark);
     closed
 }
 
 /// How many children of a task would stay open, at most two. The node stays as it is.
-fn open_children<L: Ledger>(
-    inst: &Instance,
-    starts: &mut Starts,
-    task: u16,
-    met: Bound,
-    path: &mut Path,
-    steps: &mut Steps<L>,
-) -> u8
-    requires same { starts.old.inst ≡ inst.now }
-    requires starts { HasStarts inst.now starts.old.decisions }
-    requires open { IsOpenTask inst.now starts.old.decisions task }
-    requires room { HasRoom (length inst.now.tasks) path.old }
+fn open_children(starts: &mut Starts, task: u16, incumbent_end: Bound, path: &mut Path) -> u8
+    requires starts { HasStarts starts.old.inst starts.old.decisions }
+    requires open { IsOpenTask starts.old.inst starts.old.decisions task }
+    requires room { HasRoom (length starts.old.inst.tasks) path.old }
     ensures stays { starts.new ≡ starts.old }
     ensures room { path.new.capacity ≡ path.old.capacity }
-    ensures steps { steps.old ≤ steps.new }
 {
     let mut open = 0;
-    for crane in 0..inst.cranes().len() as u16 {
+    for crane in 0..starts.instance().crane_count() {
         if open < 2
-            && in_reach(inst, task, crane)
-            && !closes(inst, starts, task, crane, met, path, steps)
+            && in_reach(starts.instance(), task, crane)
+            && !closes(starts, task, crane, incumbent_end, path)
         {
             open += 1;
         }
@@ -142,29 +122,20 @@ fn open_children<L: Ledger>(
 }
 
 /// A task's rating. The node stays as it is.
-fn rate<L: Ledger>(
-    inst: &Instance,
-    starts: &mut Starts,
-    number: u16,
-    outlook: Outlook,
-    path: &mut Path,
-    steps: &mut Steps<L>,
-) -> Rating
-    requires same { starts.old.inst ≡ inst.now }
-    requires starts { HasStarts inst.now starts.old.decisions }
-    requires open { IsOpenTask inst.now starts.old.decisions number }
-    requires room { HasRoom (length inst.now.tasks) path.old }
+fn rate(starts: &mut Starts, number: u16, outlook: Outlook, path: &mut Path) -> Rating
+    requires starts { HasStarts starts.old.inst starts.old.decisions }
+    requires open { IsOpenTask starts.old.inst starts.old.decisions number }
+    requires room { HasRoom (length starts.old.inst.tasks) path.old }
     ensures stays { starts.new ≡ starts.old }
     ensures room { path.new.capacity ≡ path.old.capacity }
-    ensures steps { steps.old ≤ steps.new }
 {
-    let task = inst.tasks()[number as usize];
+    let task = starts.instance().task(number);
     let heavy = match outlook.heavy {
         Some(window) => window.holds(task.bay),
         None => false,
     };
     Rating {
-        open: open_children(inst, starts, number, outlook.met, path, steps),
+        open: open_children(starts, number, outlook.incumbent_end, path),
         heavy,
         ticks: task.ticks,
     }
@@ -172,34 +143,25 @@ fn rate<L: Ledger>(
 
 /// The best task by looking one step ahead, from the first unassigned one on in bow order; one of
 /// which no child stays open is taken at once. The node stays as it is.
-fn best_ahead<L: Ledger>(
-    inst: &Instance,
-    starts: &mut Starts,
-    first: u16,
-    outlook: Outlook,
-    path: &mut Path,
-    steps: &mut Steps<L>,
-) -> u16
-    requires same { starts.old.inst ≡ inst.now }
-    requires starts { HasStarts inst.now starts.old.decisions }
-    requires open { IsOpenTask inst.now starts.old.decisions first }
-    requires room { HasRoom (length inst.now.tasks) path.old }
+fn best_ahead(starts: &mut Starts, first: u16, outlook: Outlook, path: &mut Path) -> u16
+    requires starts { HasStarts starts.old.inst starts.old.decisions }
+    requires open { IsOpenTask starts.old.inst starts.old.decisions first }
+    requires room { HasRoom (length starts.old.inst.tasks) path.old }
     ensures stays { starts.new ≡ starts.old }
-    ensures open { IsOpenTask inst.now starts.old.decisions result }
+    ensures open { IsOpenTask starts.old.inst starts.old.decisions result }
     ensures room { path.new.capacity ≡ path.old.capacity }
-    ensures steps { steps.old ≤ steps.new }
 {
     let mut best = first;
-    let mut most = rate(inst, starts, first, outlook, path, steps);
+    let mut most = rate(starts, first, outlook, path);
     let mut last = first;
-    for _ in 0..inst.tasks().len() {
+    for _ in 0..starts.instance().task_count() {
         if most.open == 0 {
             break;
         }
-        let Some(task) = next_open(inst, starts, Some(last)) else {
+        let Some(task) = next_open(starts, Some(last)) else {
             break;
         };
-        let this = rate(inst, starts, task, outlook, path, steps);
+        let this = rate(starts, task, outlook, path);
         if this.is_better(most) {
             best = task;
             most = this;
@@ -210,13 +172,12 @@ fn best_ahead<L: Ledger>(
 }
 
 /// The first apart pair that isn't settled.
-fn first_unsettled(inst: &Instance, starts: &Starts) -> Branch
-    requires same { starts.now.inst ≡ inst.now }
-    requires assigned { AreAssigned inst.now starts.now.decisions }
-    requires undecided { ¬ IsComplete inst.now starts.now.decisions }
-    ensures { IsOpenBranch inst.now starts.now.decisions result }
+fn first_unsettled(starts: &Starts) -> Branch
+    requires assigned { AreAssigned starts.now.inst starts.now.decisions }
+    requires undecided { ¬ IsComplete starts.now.inst starts.now.decisions }
+    ensures { IsOpenBranch starts.now.inst starts.now.decisions result }
 {
-    for pair in inst.apart() {
+    for pair in starts.instance().apart() {
         if !starts.settled(pair.first, pair.second) {
             return Branch::Pair(pair.first, pair.second);
         }
@@ -226,27 +187,19 @@ fn first_unsettled(inst: &Instance, starts: &Starts) -> Branch
 
 /// An unassigned task or, where there is none, an apart pair that isn't settled. Without an outlook it
 /// is the first task in bow order. The node stays as it is.
-pub(crate) fn pick<L: Ledger>(
-    inst: &Instance,
-    starts: &mut Starts,
-    ahead: Option<Outlook>,
-    path: &mut Path,
-    steps: &mut Steps<L>,
-) -> Branch
-    requires same { starts.old.inst ≡ inst.now }
-    requires starts { HasStarts inst.now starts.old.decisions }
-    requires undecided { ¬ IsComplete inst.now starts.old.decisions }
-    requires room { HasRoom (length inst.now.tasks) path.old }
+pub(crate) fn pick(starts: &mut Starts, ahead: Option<Outlook>, path: &mut Path) -> Branch
+    requires starts { HasStarts starts.old.inst starts.old.decisions }
+    requires undecided { ¬ IsComplete starts.old.inst starts.old.decisions }
+    requires room { HasRoom (length starts.old.inst.tasks) path.old }
     ensures stays { starts.new ≡ starts.old }
-    ensures open { IsOpenBranch inst.now starts.old.decisions result }
+    ensures open { IsOpenBranch starts.old.inst starts.old.decisions result }
     ensures room { path.new.capacity ≡ path.old.capacity }
-    ensures steps { steps.old ≤ steps.new }
 {
-    let Some(first) = next_open(inst, starts, None) else {
-        return first_unsettled(inst, starts);
+    let Some(first) = next_open(starts, None) else {
+        return first_unsettled(starts);
     };
     match ahead {
         None => Branch::Task(first),
-        Some(outlook) => Branch::Task(best_ahead(inst, starts, first, outlook, path, steps)),
+        Some(outlook) => Branch::Task(best_ahead(starts, first, outlook, path)),
     }
 }

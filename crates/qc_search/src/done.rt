@@ -7,12 +7,12 @@ use std::marker::Model;
 /// How a search came out.
 #[derive(Clone, Copy, Debug, PartialEq, Eq)]
 pub enum Kind {
-    /// No schedule that goes one way ends before the best that was met.
+    /// No schedule that goes one way ends before the incumbent.
     Optimal,
     /// No schedule goes one way.
     Infeasible,
-    /// All branchings are spent, and the tree's value is less than the least end that was met, or none
-    /// was met.
+    /// All branchings are spent, and the lower bound is less than the incumbent's end, or there is no
+    /// incumbent.
     Budget,
 }
 
@@ -48,7 +48,7 @@ impl Done {
         self.kind
     }
 
-    /// The tree's value, in ticks: no schedule that goes one way ends earlier; `Never`: there is none.
+    /// The lower bound, in ticks, which is the tree's value: no schedule that goes one way ends earlier; `Never`: there is none.
     pub fn bound(&self) -> Bound
         ensures { result ≡ self.now.bound }
     {

@@ -1,16 +1,18 @@
 //! The search for the best one-way plan: branch and bound over nodes, with a bound tree that shows what
-//! was found. The tree is written line by line and never held whole.
+//! was found. The tree is written line by line and never held whole. A bound is a lower bound, on the ends of
+//! all schedules that go one way; the incumbent is the best schedule that was met.
 #![tactic(auto)]
 
 mod best;
 mod branch;
 mod choice;
-mod course;
 mod done;
 mod lines;
+mod moves;
 mod node;
 mod outcome;
 mod part;
+mod progress;
 mod search;
 mod tree;
 mod window;

@@ -1,11 +1,11 @@
 //! The lines of nodes.
 ghost use Rattle.std.specs.Prelude.{◌≡◌, ◌+◌, ◌<◌, All, map};
 ghost use Rattle.qc_io.specs.Writes.{Writes};
-ghost use Rattle.qc_model.specs.declared.limits.TheConstants.{MOST_TASKS};
 ghost use Rattle.qc_model.specs.Leaves.{reach};
-ghost use Rattle.qc_tree.specs.Trees.{in_file, leaf_text};
-ghost use Rattle.qc_search.specs.Course.{IsWritable, leaf_line, leaf_of};
-ghost use Rattle.qc_search.specs.Walk.{IsNamed, sign_of, sign_text};
+ghost use Rattle.qc_model.specs.Numbers.{most_tasks};
+ghost use Rattle.qc_tree.specs.Trees.{in_file, leaf_text, sign_text};
+ghost use Rattle.qc_search.specs.Lines.{IsNamed, IsWritable, leaf_line, leaf_of};
+ghost use Rattle.qc_search.specs.Walk.{sign_of};
 
 use crate::branch::Branch;
 use qc_bounds::LeafKind;
@@ -15,7 +15,7 @@ use qc_tree::{Line, write_line};
 
 /// Numbers tasks as files do, from 1.
 fn number_from_one(tasks: &mut [u16])
-    requires { All (λ j. j < MOST_TASKS) tasks.old }
+    requires { All (λ j. j < most_tasks) tasks.old }
     ensures { tasks.new ≡ in_file tasks.old }
 {
     for task in tasks.iter_mut() {
@@ -41,7 +41,7 @@ pub(crate) fn put_leaf<K: Sink>(
     sink: &mut K,
 ) -> Result<(), WriteFault>
     requires { IsWritable leaf path.old.items }
-    ensures writes { Writes K.written K.beside K.faults sink.old sink.new
+    ensures writes { Writes (K.view sink.old) (K.view sink.new)
         (leaf_text (leaf_of leaf path.old.items)) result }
     ensures room { path.new.capacity ≡ path.old.capacity }
 {
@@ -51,7 +51,7 @@ pub(crate) fn put_leaf<K: Sink>(
 
 /// Writes the line of a node that is out of reach.
 pub(crate) fn put_reach<K: Sink>(path: &Path, sink: &mut K) -> Result<(), WriteFault>
-    ensures { Writes K.written K.beside K.faults sink.old sink.new (leaf_text reach) result }
+    ensures { Writes (K.view sink.old) (K.view sink.new) (leaf_text reach) result }
 {
     write_line(&Line::Reach, path, sink)
 }
@@ -63,8 +63,7 @@ pub(crate) fn put_branch<K: Sink>(
     sink: &mut K,
 ) -> Result<(), WriteFault>
     requires { IsNamed branch }
-    ensures { Writes K.written K.beside K.faults sink.old sink.new
-        (sign_text (sign_of branch)) result }
+    ensures { Writes (K.view sink.old) (K.view sink.new) (sign_text (sign_of branch)) result }
 {
     let line = match branch {
         Branch::Task(task) => Line::Assign(task + 1),

@@ -1,31 +1,31 @@
 //! The line of a node.
-ghost use Rattle.std.specs.Prelude.{◌≡◌, ◌+◌, ◌<◌, ◌≤◌, List, ℕ, None, Some, IfOk, IfSome, MatchResult, OnOk, length};
+ghost use Rattle.std.specs.Prelude.{◌≡◌, ◌+◌, ◌<◌, ◌≤◌, ◌⊎◌, [], List, ℕ, Some, IfOk, IfSome, OnOk, length};
 ghost use Rattle.qc_bounds.specs.Closed.{IsClosedBy, IsSpentBy};
 ghost use Rattle.qc_bounds.specs.declared.leaves.LeafKind.TheVariants.{Chain};
+ghost use Rattle.qc_dist.specs.Children.{behind};
 ghost use Rattle.qc_io.specs.Writes.{Writes};
-ghost use Rattle.qc_model.specs.declared.limits.TheConstants.{MOST_TASKS};
 ghost use Rattle.qc_model.specs.Closing.{IsClosable};
 ghost use Rattle.qc_model.specs.Instance.{Valid};
 ghost use Rattle.qc_model.specs.Leaves.{leaf_value, with_berths};
 ghost use Rattle.qc_model.specs.Nodes.{HasStarts, IsInReach};
+ghost use Rattle.qc_model.specs.Numbers.{most_tasks};
 ghost use Rattle.qc_num.specs.Bounds.{lesser};
 ghost use Rattle.qc_num.specs.Paths.{HasRoom};
 ghost use Rattle.qc_tree.specs.Trees.{leaf_text};
-ghost use Rattle.qc_search.specs.Course.{IsLeafBy, IsSoon, Stopped, Went, leaf_of, steps_left, value_by};
-ghost use Rattle.qc_dist.specs.Children.{behind};
-ghost use Rattle.qc_search.specs.Walk.{IsChild, from_child, from_node};
+ghost use Rattle.qc_search.specs.Lines.{IsLeafBy, IsWritable, leaf_of};
+ghost use Rattle.qc_search.specs.Progress.{IsPassed, IsSoon, IsTaken, WritesNodes, emptied, left_by};
+ghost use Rattle.qc_search.specs.Walk.{IsChild, from_child, from_node, steps_left};
 
 use crate::best::meet;
 use crate::choice::{Outlook, pick};
-use crate::course::Course;
 use crate::lines::{put_branch, put_leaf};
+use crate::progress::Progress;
 use crate::window::Window;
 use qc_bounds::{LeafKind, close, spent};
 use qc_io::{Sink, WriteFault};
-use qc_model::{Decision, Direction, Instance};
-use qc_num::{Bound, Steps};
+use qc_model::{Decision, Direction};
+use qc_num::Bound;
 use qc_starts::Starts;
-use std::sync::ledger::Ledger;
 
 /// What is the same for all nodes of a part.
 #[derive(Clone, Copy)]
@@ -52,172 +52,179 @@ fn value_of(leaf: LeafKind, starts: &Starts) -> Bound
     }
 }
 
-/// Writes a leaf of the node.
+/// Updates the incumbent at a node that a leaf closes, and answers the leaf's value. Only a chain closes a node with a
+/// schedule that could improve on it.
+fn meet_closed(leaf: LeafKind, starts: &Starts, way: Direction, progress: &mut Progress) -> Bound
+    requires count { length progress.old.incumbent ≡ length starts.now.inst.tasks }
+    requires leaf { IsClosedBy starts.now.inst starts.now.decisions progress.old.incumbent_end leaf
+        progress.old.path.items }
+    ensures meets { IsPassed starts.now.inst starts.now.decisions progress.old progress.new
+        ⊎ IsTaken starts.now.inst way starts.now.decisions progress.old progress.new }
+    ensures value { leaf_value with_berths starts.now.inst starts.now.decisions
+        (leaf_of leaf progress.old.path.items) ≡ Some result }
+    ensures soon { IsSoon result }
+{
+    match leaf {
+        LeafKind::Chain => {
+            let end = starts.ends();
+            meet(end, starts, way, progress);
+            Bound::Least(end)
+        }
+        LeafKind::Ring => Bound::Never,
+        LeafKind::Work(end) => Bound::Least(end),
+    }
+}
+
+/// Takes the value of a leaf into the bound, and writes its line.
 fn leave<K: Sink>(
     leaf: LeafKind,
-    starts: &Starts,
-    course: &mut Course,
+    value: Bound,
+    progress: &mut Progress,
     sink: &mut K,
 ) -> Result<(), WriteFault>
-    requires few { length starts.now.inst.tasks ≤ MOST_TASKS }
-    requires leaf { IsLeafBy starts.now.inst starts.now.decisions leaf course.old.path.items }
-    ensures writes { Writes K.written K.beside K.faults sink.old sink.new
-        (leaf_text (leaf_of leaf course.old.path.items)) result }
-    ensures course { course.new ≡ record course.old {
-      bound = lesser course.old.bound (value_by starts.now.inst starts.now.decisions
-          (Some (leaf_of leaf course.old.path.items)));
-      path = course.new.path;
+    requires { IsWritable leaf progress.old.path.items }
+    ensures writes { Writes (K.view sink.old) (K.view sink.new)
+        (leaf_text (leaf_of leaf progress.old.path.items)) result }
+    ensures progress { progress.new ≡ record progress.old {
+      bound = lesser progress.old.bound value;
+      path = progress.new.path;
     } }
-    ensures room { course.new.path.capacity ≡ course.old.path.capacity }
-    ensures soon { IsSoon course.old.bound → IsSoon course.new.bound }
+    ensures room { progress.new.path.capacity ≡ progress.old.path.capacity }
 {
-    course.bound = course.bound.min(value_of(leaf, starts));
-    put_leaf(leaf, &mut course.path, sink)
+    progress.bound = progress.bound.min(value);
+    put_leaf(leaf, &mut progress.path, sink)
 }
 
 /// Writes the leaf that closes the node.
 fn put_closed<K: Sink>(
     leaf: LeafKind,
-    inst: &Instance,
     starts: &Starts,
     way: Direction,
-    course: &mut Course,
+    progress: &mut Progress,
     sink: &mut K,
 ) -> Result<(), WriteFault>
-    requires same { starts.now.inst ≡ inst.now }
-    requires valid { Valid inst.now }
-    requires count { length course.old.best ≡ length inst.now.tasks }
-    requires in_reach { IsInReach inst.now starts.now.decisions }
-    requires closable { IsClosable inst.now starts.now.decisions course.old.met }
-    requires leaf { IsClosedBy inst.now starts.now.decisions course.old.met leaf
-        course.old.path.items }
-    ensures goes { MatchResult result
-        (λ _. Went K.written K.beside K.faults sink.old sink.new inst.now way
-        (from_node inst.now starts.now.decisions) (behind inst.now starts.now.decisions)
-        course.old course.new)
-        (Stopped K.written K.beside K.faults sink.old sink.new inst.now way
-        (from_node inst.now starts.now.decisions) course.old) }
-    ensures branched { course.new.branched ≡ course.old.branched }
+    requires valid { Valid starts.now.inst }
+    requires count { length progress.old.incumbent ≡ length starts.now.inst.tasks }
+    requires in_reach { IsInReach starts.now.inst starts.now.decisions }
+    requires closable { IsClosable starts.now.inst starts.now.decisions progress.old.incumbent_end }
+    requires leaf { IsClosedBy starts.now.inst starts.now.decisions progress.old.incumbent_end leaf
+        progress.old.path.items }
+    ensures goes { WritesNodes [] (K.view sink.old) (K.view sink.new) starts.now.inst way
+        (from_node starts.now.inst starts.now.decisions)
+        (left_by (λ _. behind starts.now.inst starts.now.decisions) result)
+        progress.old progress.new result }
+    ensures branched { progress.new.branched ≡ progress.old.branched }
+    ensures limit { progress.new.limit ≡ progress.old.limit }
 {
-    meet(inst, starts, way, course);
-    leave(leaf, starts, course, sink)
+    let value = meet_closed(leaf, starts, way, progress);
+    leave(leaf, value, progress, sink)
 }
 
 /// Writes the leaf of a node that isn't branched on any more.
 fn put_spent<K: Sink>(
     leaf: LeafKind,
-    inst: &Instance,
     starts: &Starts,
     way: Direction,
-    course: &mut Course,
+    progress: &mut Progress,
     sink: &mut K,
 ) -> Result<(), WriteFault>
-    requires same { starts.now.inst ≡ inst.now }
-    requires valid { Valid inst.now }
-    requires open { ¬ IsClosable inst.now starts.now.decisions course.old.met }
-    requires spent { course.old.branched ≡ course.old.nodes }
-    requires leaf { IsSpentBy inst.now starts.now.decisions leaf course.old.path.items }
-    ensures goes { MatchResult result
-        (λ _. Went K.written K.beside K.faults sink.old sink.new inst.now way
-        (from_node inst.now starts.now.decisions) (behind inst.now starts.now.decisions)
-        course.old course.new)
-        (Stopped K.written K.beside K.faults sink.old sink.new inst.now way
-        (from_node inst.now starts.now.decisions) course.old) }
-    ensures branched { course.new.branched ≡ course.old.branched }
+    requires valid { Valid starts.now.inst }
+    requires open { ¬ IsClosable starts.now.inst starts.now.decisions progress.old.incumbent_end }
+    requires spent { progress.old.branched ≡ progress.old.limit }
+    requires leaf { IsSpentBy starts.now.inst starts.now.decisions leaf progress.old.path.items }
+    ensures goes { WritesNodes [] (K.view sink.old) (K.view sink.new) starts.now.inst way
+        (from_node starts.now.inst starts.now.decisions)
+        (left_by (λ _. behind starts.now.inst starts.now.decisions) result)
+        progress.old progress.new result }
+    ensures branched { progress.new.branched ≡ progress.old.branched }
+    ensures limit { progress.new.limit ≡ progress.old.limit }
 {
-    leave(leaf, starts, course, sink)
+    let value = value_of(leaf, starts);
+    leave(leaf, value, progress, sink)
 }
 
 /// Whether and how the search looks ahead: once as many branchings as there are tasks have met
 /// nothing better.
-fn outlook(inst: &Instance, side: Side, course: &Course) -> Option<Outlook> {
-    if (course.since as usize) < inst.tasks().len() {
+fn outlook(starts: &Starts, side: Side, progress: &Progress) -> Option<Outlook> {
+    if progress.since_incumbent < u32::from(starts.instance().task_count()) {
         return None;
     }
     Some(Outlook {
-        met: course.met,
+        incumbent_end: progress.incumbent_end,
         heavy: side.heavy,
     })
 }
 
 /// Branches on the node: writes the line, and answers the first child.
-fn put_branching<K: Sink, L: Ledger>(
-    inst: &Instance,
+fn put_branching<K: Sink>(
     starts: &mut Starts,
     side: Side,
-    course: &mut Course,
+    progress: &mut Progress,
     sink: &mut K,
-    steps: &mut Steps<L>,
 ) -> Result<Decision, WriteFault>
-    requires same { starts.old.inst ≡ inst.now }
-    requires valid { Valid inst.now }
-    requires room { HasRoom MOST_TASKS course.old.path }
-    requires starts { HasStarts inst.now starts.old.decisions }
-    requires open { ¬ IsClosable inst.now starts.old.decisions course.old.met }
-    requires left { course.old.branched < course.old.nodes }
-    ensures goes { MatchResult result
-        (λ child. Went K.written K.beside K.faults sink.old sink.new inst.now side.way
-        (from_node inst.now starts.old.decisions)
-        (from_child inst.now starts.old.decisions (Some child)) course.old course.new)
-        (Stopped K.written K.beside K.faults sink.old sink.new inst.now side.way
-        (from_node inst.now starts.old.decisions) course.old) }
-    ensures child { IfOk result (IsChild inst.now starts.old.decisions) }
-    ensures branched { course.new.branched ≡ course.old.branched + 1 }
-    ensures nodes { course.new.nodes ≡ course.old.nodes }
+    requires valid { Valid starts.old.inst }
+    requires room { HasRoom most_tasks progress.old.path }
+    requires starts { HasStarts starts.old.inst starts.old.decisions }
+    requires open { ¬ IsClosable starts.old.inst starts.old.decisions progress.old.incumbent_end }
+    requires left { progress.old.branched < progress.old.limit }
+    ensures goes { WritesNodes [] (K.view sink.old) (K.view sink.new) starts.old.inst side.way
+        (from_node starts.old.inst starts.old.decisions)
+        (left_by (λ child. from_child starts.old.inst starts.old.decisions (Some child)) result)
+        progress.old progress.new (emptied result) }
+    ensures child { IfOk result (IsChild starts.old.inst starts.old.decisions) }
+    ensures branched { progress.new.branched ≡ progress.old.branched + 1 }
+    ensures limit { progress.new.limit ≡ progress.old.limit }
     ensures fewer { IfOk result (λ child.
-        steps_left (from_child inst.now starts.old.decisions (Some child)) course.new
-        < steps_left (from_node inst.now starts.old.decisions) course.old) }
+        steps_left (from_child starts.old.inst starts.old.decisions (Some child))
+        progress.old.limit (progress.old.branched + 1)
+        < steps_left (from_node starts.old.inst starts.old.decisions)
+        progress.old.limit progress.old.branched) }
     ensures stays { starts.new ≡ starts.old }
-    ensures steps { steps.old ≤ steps.new }
 {
-    let ahead = outlook(inst, side, course);
-    let branch = pick(inst, starts, ahead, &mut course.path, steps);
-    course.branched += 1;
-    course.since = course.since.saturating_add(1);
-    put_branch(branch, &course.path, sink)?;
+    let ahead = outlook(starts, side, progress);
+    let branch = pick(starts, ahead, &mut progress.path);
+    progress.branched += 1;
+    progress.since_incumbent = progress.since_incumbent.saturating_add(1);
+    put_branch(branch, &progress.path, sink)?;
     Ok(branch.first_child())
 }
 
 /// Meets the node: writes its line, and answers its first child, if it has children.
-pub(crate) fn visit<K: Sink, L: Ledger>(
-    inst: &Instance,
+pub(crate) fn visit<K: Sink>(
     starts: &mut Starts,
     side: Side,
-    course: &mut Course,
+    progress: &mut Progress,
     sink: &mut K,
-    steps: &mut Steps<L>,
 ) -> Result<Option<Decision>, WriteFault>
-    requires same { starts.old.inst ≡ inst.now }
-    requires valid { Valid inst.now }
-    requires count { length course.old.best ≡ length inst.now.tasks }
-    requires in_reach { IsInReach inst.now starts.old.decisions }
-    requires room { HasRoom MOST_TASKS course.old.path }
-    requires few { course.old.branched ≤ course.old.nodes }
-    ensures goes { MatchResult result
-        (λ child. Went K.written K.beside K.faults sink.old sink.new inst.now side.way
-        (from_node inst.now starts.old.decisions)
-        (from_child inst.now starts.old.decisions child) course.old course.new)
-        (Stopped K.written K.beside K.faults sink.old sink.new inst.now side.way
-        (from_node inst.now starts.old.decisions) course.old) }
-    ensures child { IfOk result (λ child. IfSome child (IsChild inst.now starts.old.decisions)) }
+    requires valid { Valid starts.old.inst }
+    requires count { length progress.old.incumbent ≡ length starts.old.inst.tasks }
+    requires in_reach { IsInReach starts.old.inst starts.old.decisions }
+    requires room { HasRoom most_tasks progress.old.path }
+    requires few { progress.old.branched ≤ progress.old.limit }
+    ensures goes { WritesNodes [] (K.view sink.old) (K.view sink.new) starts.old.inst side.way
+        (from_node starts.old.inst starts.old.decisions)
+        (left_by (from_child starts.old.inst starts.old.decisions) result)
+        progress.old progress.new (emptied result) }
+    ensures child { IfOk result (λ child. IfSome child (IsChild starts.old.inst starts.old.decisions)) }
     ensures fewer { IfOk result (λ child.
-        steps_left (from_child inst.now starts.old.decisions child) course.new
-        < steps_left (from_node inst.now starts.old.decisions) course.old) }
-    ensures few { OnOk result (course.new.branched ≤ course.new.nodes) }
+        steps_left (from_child starts.old.inst starts.old.decisions child)
+        progress.new.limit progress.new.branched
+        < steps_left (from_node starts.old.inst starts.old.decisions)
+        progress.old.limit progress.old.branched) }
+    ensures few { OnOk result (progress.new.branched ≤ progress.new.limit) }
     ensures stays { starts.new ≡ starts.old }
-    ensures steps { steps.old ≤ steps.new }
 {
-    if let Some(leaf) = close(inst, starts, course.met, &mut course.path) {
-        put_closed(leaf, inst, starts, side.way, course, sink)?;
+    if let Some(leaf) = close(starts, progress.incumbent_end, &mut progress.path) {
+        put_closed(leaf, starts, side.way, progress, sink)?;
         return Ok(None);
     }
     let stuck = starts.stuck();
     prove!(!stuck);
-    if course.branched < course.nodes {
-        let child = put_branching(inst, starts, side, course, sink, steps)?;
+    if progress.branched < progress.limit {
+        let child = put_branching(starts, side, progress, sink)?;
         return Ok(Some(child));
     }
-    let leaf = spent(inst, starts, &mut course.path);
-    put_spent(leaf, inst, starts, side.way, course, sink)?;
+    let leaf = spent(starts, &mut progress.path);
+    put_spent(leaf, starts, side.way, progress, sink)?;
     Ok(None)
 }

@@ -5,11 +5,11 @@ ghost use Rattle.qc_search.specs.Run.{outcome};
 use crate::done::Kind;
 use qc_num::Bound;
 
-/// How a tree's value and the least end that was met stand to each other.
-pub(crate) fn outcome(value: Bound, met: Bound) -> Kind
-    ensures { result ≡ outcome value met }
+/// Compares the lower bound with the end of the incumbent.
+pub(crate) fn outcome(bound: Bound, incumbent_end: Bound) -> Kind
+    ensures { result ≡ outcome bound incumbent_end }
 {
-    match (value, met) {
+    match (bound, incumbent_end) {
         (Bound::Never, _) => Kind::Infeasible,
         (Bound::Least(_), Bound::Never) => Kind::Budget,
         (Bound::Least(least), Bound::Least(end)) => {

@@ -1,102 +1,84 @@
 //! The lines of a whole tree.
-ghost use Rattle.std.specs.Prelude.{◌≡◌, ◌≤◌, [], MatchResult, length};
+ghost use Rattle.std.specs.Prelude.{◌≡◌, ◌≤◌, [], ◌∷◌, length};
 ghost use Rattle.qc_io.specs.Writes.{Writes};
-ghost use Rattle.qc_model.specs.declared.limits.TheConstants.{MOST_TASKS};
-ghost use Rattle.qc_model.specs.Instance.{Valid};
+ghost use Rattle.qc_model.specs.Numbers.{most_branchings, most_tasks};
 ghost use Rattle.qc_model.specs.OneWay.{mirror};
 ghost use Rattle.qc_num.specs.Paths.{HasRoom};
-ghost use Rattle.qc_tree.specs.declared.line.TheConstants.{MOST_BRANCHINGS};
 ghost use Rattle.qc_tree.specs.declared.line.Line.TheVariants.{End};
 ghost use Rattle.qc_tree.specs.Trees.{whole_line};
-ghost use Rattle.qc_starts.specs.Seen.{IsRoot};
-ghost use Rattle.qc_search.specs.Course.{IsCourse, IsSoon, StoppedPart, StoppedTree, WentPart, WentTree, part_line};
+ghost use Rattle.qc_search.specs.Lines.{part_line};
+ghost use Rattle.qc_search.specs.Progress.{IsProgress, IsSoon, WritesNodes, WritesTree};
 
-use crate::course::Course;
 use crate::part::search_part;
+use crate::progress::Progress;
 use qc_io::{Sink, WriteFault};
-use qc_model::{Direction, Instance};
-use qc_num::Steps;
+use qc_model::Direction;
 use qc_starts::Starts;
 use qc_tree::{Line, write_line};
-use std::sync::ledger::Ledger;
 
 /// Writes the line at the beginning of a part.
-fn put_way<K: Sink>(way: Direction, course: &Course, sink: &mut K) -> Result<(), WriteFault>
-    ensures { Writes K.written K.beside K.faults sink.old sink.new
-        (whole_line (part_line way) []) result }
+fn put_way<K: Sink>(way: Direction, progress: &Progress, sink: &mut K) -> Result<(), WriteFault>
+    ensures { Writes (K.view sink.old) (K.view sink.new) (whole_line (part_line way) []) result }
 {
     let line = match way {
         Direction::Up => Line::Up,
         Direction::Down => Line::Down,
     };
-    write_line(&line, &course.path, sink)
+    write_line(&line, &progress.path, sink)
 }
 
-/// Writes the line of a part, and searches it.
-fn put_part<K: Sink, L: Ledger>(
-    inst: &Instance,
+/// Writes the line of a part, and searches it from its root on.
+fn put_part<K: Sink>(
     starts: &mut Starts,
     way: Direction,
-    course: &mut Course,
+    progress: &mut Progress,
     sink: &mut K,
-    steps: &mut Steps<L>,
 ) -> Result<(), WriteFault>
-    requires root { IsRoot inst.now starts.old }
-    requires valid { Valid inst.now }
-    requires count { length course.old.best ≡ length inst.now.tasks }
-    requires room { HasRoom MOST_TASKS course.old.path }
-    requires few { course.old.branched ≤ course.old.nodes }
-    ensures goes { MatchResult result
-        (λ _. WentPart K.written K.beside K.faults sink.old sink.new inst.now way
-        course.old course.new)
-        (StoppedPart K.written K.beside K.faults sink.old sink.new inst.now way course.old) }
-    ensures steps { steps.old ≤ steps.new }
+    requires root { starts.old.decisions ≡ [] }
+    requires count { length progress.old.incumbent ≡ length starts.old.inst.tasks }
+    requires room { HasRoom most_tasks progress.old.path }
+    requires few { progress.old.branched ≤ progress.old.limit }
+    ensures { WritesNodes (whole_line (part_line way) []) (K.view sink.old) (K.view sink.new)
+        starts.old.inst way ([] ∷ []) [] progress.old progress.new result }
 {
-    put_way(way, course, sink)?;
-    search_part(inst, starts, way, course, sink, steps)
+    put_way(way, progress, sink)?;
+    search_part(starts, way, progress, sink)
 }
 
 /// Writes the line at the end of a tree.
-fn put_end<K: Sink>(course: &Course, sink: &mut K) -> Result<(), WriteFault>
-    requires few { course.now.branched ≤ MOST_BRANCHINGS }
-    requires soon { IsSoon course.now.bound }
-    ensures { Writes K.written K.beside K.faults sink.old sink.new
-        (whole_line (End course.now.branched course.now.bound) []) result }
+fn put_end<K: Sink>(progress: &Progress, sink: &mut K) -> Result<(), WriteFault>
+    requires few { progress.now.branched ≤ most_branchings }
+    requires soon { IsSoon progress.now.bound }
+    ensures { Writes (K.view sink.old) (K.view sink.new)
+        (whole_line (End progress.now.branched progress.now.bound) []) result }
 {
     write_line(
-        &Line::End(course.branched, course.bound),
-        &course.path,
+        &Line::End(progress.branched, progress.bound),
+        &progress.path,
         sink,
     )
 }
 
 /// Searches both parts, and writes the lines of the tree.
-pub(crate) fn write_tree<K: Sink, L: Ledger>(
-    inst: &Instance,
-    turned: &Instance,
+pub(crate) fn write_tree<K: Sink>(
     up: &mut Starts,
     down: &mut Starts,
-    course: &mut Course,
+    progress: &mut Progress,
     sink: &mut K,
-    steps: &mut Steps<L>,
 ) -> Result<(), WriteFault>
-    requires valid { Valid inst.now }
-    requires turned { turned.now ≡ mirror inst.now }
-    requires up { IsRoot inst.now up.old }
-    requires down { IsRoot turned.now down.old }
-    requires count { length course.old.best ≡ length inst.now.tasks }
-    requires room { HasRoom MOST_TASKS course.old.path }
-    requires begun { IsCourse inst.now course.old [] }
-    requires few { course.old.nodes ≤ MOST_BRANCHINGS }
-    requires soon { IsSoon course.old.bound }
-    ensures goes { MatchResult result
-        (λ _. WentTree K.written K.beside K.faults sink.old sink.new inst.now
-        course.old course.new)
-        (StoppedTree K.written K.beside K.faults sink.old sink.new inst.now) }
-    ensures steps { steps.old ≤ steps.new }
+    requires turned { down.old.inst ≡ mirror up.old.inst }
+    requires up { up.old.decisions ≡ [] }
+    requires down { down.old.decisions ≡ [] }
+    requires count { length progress.old.incumbent ≡ length up.old.inst.tasks }
+    requires room { HasRoom most_tasks progress.old.path }
+    requires begun { IsProgress up.old.inst progress.old [] }
+    requires few { progress.old.limit ≤ most_branchings }
+    requires soon { IsSoon progress.old.bound }
+    ensures { WritesTree (K.view sink.old) (K.view sink.new) up.old.inst progress.old progress.new
+        result }
 {
-    write_line(&Line::Title2, &course.path, sink)?;
-    put_part(inst, up, Direction::Up, course, sink, steps)?;
-    put_part(turned, down, Direction::Down, course, sink, steps)?;
-    put_end(course, sink)
+    write_line(&Line::Title2, &progress.path, sink)?;
+    put_part(up, Direction::Up, progress, sink)?;
+    put_part(down, Direction::Down, progress, sink)?;
+    put_end(progress, sink)
 }

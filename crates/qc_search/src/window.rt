@@ -1,5 +1,5 @@
 //! The bays of a part with the most work.
-ghost use Rattle.std.specs.Prelude.{◌≡◌};
+ghost use Rattle.qc_model.specs.Instance.{Valid};
 
 use qc_bounds::work_bound;
 use qc_model::Instance;
@@ -33,13 +33,14 @@ fn ticks_in(inst: &Instance, window: Window) -> Tick {
 
 /// The first of the windows with the most work, where it has more than the root of the part shows:
 /// no two cranes can work there at once, so its tasks are the ones to settle first.
-pub(crate) fn heavy_window(inst: &Instance, root: &Starts) -> Option<Window>
-    requires { root.now.inst ≡ inst.now }
+pub(crate) fn heavy_window(root: &Starts) -> Option<Window>
+    ensures { Valid root.now.inst }
 {
+    let inst = root.instance();
     if root.stuck() {
         return None;
     }
-    let mut most = root.ends().max(work_bound(inst, root));
+    let mut most = root.ends().max(work_bound(root));
     let mut heavy = None;
     for first in 1..=inst.bays() {
         let window = Window {

@@ -1,5 +1,5 @@
 -- What cranes that were read are.
-use Rattle.std.proofs.Common.{◌≡◌, ◌≢◌, ℕ, ◌-◌, ◌<◌, ◌≤◌, ℤ, pos, ◌+ℤ◌, ◌≤ℤ◌, Bool, true, false, cond, List, [], length, map, get_or, Contains, Some, Ok, Err, sym, subst, ◌∙◌, inl, inr, arith, slice_index}
+use Rattle.std.proofs.Common.{◌≡◌, ◌≢◌, ℕ, ◌-◌, ◌<◌, ◌≤◌, pos, ◌+ℤ◌, ◌≤ℤ◌, Bool, true, false, List, [], length, map, get_or, Contains, Some, Ok, sym, subst, ◌∙◌, inl, inr, arith, slice_index}
 use Rattle.std.specs.Prelude.{All, AllPairs, int_le, bytes_eq}
 use Rattle.std.specs.List.{list_any}
 use Rattle.std.proofs.lemmas.Bool.{cases_lt, false≢true}
@@ -20,8 +20,8 @@ use Rattle.qc_ship.specs.declared.fault.Key.TheVariants as key
 use Rattle.qc_ship.specs.declared.fault.ShipKind.TheVariants as kind
 use Rattle.qc_ship.specs.Keys.{key_text, fault}
 use Rattle.qc_ship.specs.Ship.{least_start, greatest_start}
-use Rattle.qc_ship.specs.ShipValues.{Reading, required, integer_in, number_in, number_or, array_in, last, next_number}
-use Rattle.qc_ship.specs.ShipFile.{table_in, name_at, bay_at, hatch_place, crane_at, keeps_gap, crane_in, cranes_at}
+use Rattle.qc_ship.specs.ShipValues.{required, integer_in, number_in, number_or, array_in, last, next_number}
+use Rattle.qc_ship.specs.ShipFile.{table_in, name_at, hatch_place, crane_at, keeps_gap, crane_in, cranes_at}
 use Rattle.qc_ship.proofs.ShipLaws.{chain-push, integer_in-bounds, number_in-bounds, array_in-count}
 use Rattle.qc_ship.proofs.HatchLaws.{Places, either_way, test_at_last}
 
@@ -55,31 +55,15 @@ reach_of count places from to are low middle high =
     let rises = place_rises places (from - 1) (to - 1) are.order (omega arith) (omega arith) in
     (is_place places from low (omega arith), is_place places to (omega arith) high, omega (arith, ints, rises))
 
--- the checks of a crane's keys after its name, its ready time, its start bay and its first hatch
-abbrev with_to : List ℕ → ℕ → Members → List ℕ → ℕ → ℤ → ℕ → Reading Crane
-with_to places number ms name ready bay from =
-    number_or (length places) key.To number from (length places) ms >>= λ to. Ok (record { name = name; ready = ready; bay = bay; from = hatch_place places from; to = hatch_place places to })
-
-abbrev with_from : List ℕ → ℕ → Members → List ℕ → ℕ → ℤ → Reading Crane
-with_from places number ms name ready bay =
-    number_or 1 key.From number 1 (length places) ms >>= with_to places number ms name ready bay
-
-abbrev with_bay : Bool → List ℕ → ℕ → Members → List ℕ → ℕ → Reading Crane
-with_bay in_decimetres places number ms name ready = bay_at in_decimetres number ms >>= with_from places number ms name ready
-
-abbrev with_ready : Bool → List ℕ → ℕ → Members → List ℕ → Reading Crane
-with_ready in_decimetres places number ms name = number_or 0 key.Ready number 0 most_ready ms >>= with_bay in_decimetres places number ms name
-
 crane_at-tells : (in_decimetres : Bool) (count : ℕ) (places : List ℕ) (number : ℕ) (ms : Members) (c : Crane)
     → Places count places → 1 ≤ count → crane_at in_decimetres places number ms ≡ Ok c
     → IsCraneOf in_decimetres places c
 crane_at-tells in_decimetres count places number ms c are some e =
-    let (name, named, e1) = bind_ok (name_at number ms) (with_ready in_decimetres places number ms) c e in
-    let (ready, at_ready, e2) = bind_ok (number_or 0 key.Ready number 0 most_ready ms) (with_bay in_decimetres places number ms name) c e1 in
-    let (bay, at_bay, e3) = bind_ok (bay_at in_decimetres number ms) (with_from places number ms name ready) c e2 in
-    let (from, at_from, e4) = bind_ok (number_or 1 key.From number 1 (length places) ms) (with_to places number ms name ready bay) c e3 in
-    let (to, at_to, e5) = bind_ok (number_or (length places) key.To number from (length places) ms)
-    (λ to. Ok (record { name = name; ready = ready; bay = bay; from = hatch_place places from; to = hatch_place places to })) c e4 in
+    let (name, named, e1) = bind_ok (name_at number ms) _ c e in
+    let (ready, at_ready, e2) = bind_ok _ _ c e1 in
+    let (bay, at_bay, e3) = bind_ok _ _ c e2 in
+    let (from, at_from, e4) = bind_ok _ _ c e3 in
+    let (to, at_to, e5) = bind_ok _ _ c e4 in
     let (d, given, read) = bind_ok (required key.Bay number ms) (integer_in key.Bay number (least_start in_decimetres) (greatest_start in_decimetres)) bay at_bay in
     let readies = number_or-bounds 0 key.Ready number 0 most_ready ms ready at_ready (omega arith) (omega arith) in
     let starts = integer_in-bounds key.Bay number (least_start in_decimetres) (greatest_start in_decimetres) d bay read in
@@ -92,14 +76,6 @@ crane_at-tells in_decimetres count places number ms c are some e =
 -- the order of two neighbouring cranes
 order_test : (gap : ℕ) (p c : Crane) → int_le (p.bay +ℤ pos gap) c.bay ≡ true → (p.bay +ℤ pos gap) ≤ℤ c.bay
 order_test gap p c e = grind (arith, ints, e)
-
--- the checks of a crane after its table, and after its keys
-abbrev apart_enough : ℕ → List Crane → Crane → Reading Crane
-apart_enough gap before c = cond (keeps_gap gap before c.bay) (Ok c) (Err (fault kind.CraneOrder key.Crane (next_number before)))
-
-abbrev among : ℕ → List Crane → Crane → Reading Crane
-among gap before c =
-    cond (list_any (λ earlier. bytes_eq earlier.name c.name) before) (Err (fault kind.NameTwice key.Name (next_number before))) (apart_enough gap before c)
 
 -- no earlier crane has the name
 new_name : (before : List Crane) (c : Crane) → list_any (λ earlier. bytes_eq earlier.name c.name) before ≡ false
@@ -116,9 +92,9 @@ crane_in-tells : (in_decimetres : Bool) (gap count : ℕ) (places : List ℕ) (b
     × ((p : Crane) → last before ≡ Some p → (p.bay +ℤ pos gap) ≤ℤ c.bay)
 crane_in-tells in_decimetres gap count places before d c are some e =
     let number = next_number before in
-    let (ms, is_table, e1) = bind_ok (table_in number d) (λ ms. crane_at in_decimetres places number ms >>= among gap before) c e in
-    let (crane, keys, e2) = bind_ok (crane_at in_decimetres places number ms) (among gap before) c e1 in
-    let (fresh, e3) = passed_not (list_any (λ earlier. bytes_eq earlier.name crane.name) before) (apart_enough gap before crane) c (fault kind.NameTwice key.Name number) e2 in
+    let (ms, is_table, e1) = bind_ok (table_in number d) _ c e in
+    let (crane, keys, e2) = bind_ok (crane_at in_decimetres places number ms) _ c e1 in
+    let (fresh, e3) = passed_not (list_any (λ earlier. bytes_eq earlier.name crane.name) before) _ c (fault kind.NameTwice key.Name number) e2 in
     let (behind, same) = passed (keeps_gap gap before crane.bay) crane c (fault kind.CraneOrder key.Crane number) e3 in
     let P : Crane → Type 0 = λ c. IsCraneOf in_decimetres places c
     × ((k : ℕ) (e : Crane) → k < length before → (get_or before k e).name ≢ c.name)

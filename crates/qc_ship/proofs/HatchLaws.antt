@@ -1,5 +1,5 @@
 -- What hatches, places and pairs that were read are.
-use Rattle.std.proofs.Common.{◌≡◌, ◌≢◌, ℕ, ◌+◌, ◌%◌, ◌<◌, ◌≤◌, ℤ, pos, Bool, true, false, cond, List, [], ◌∷◌, length, Option, Some, None, Ok, Err, subst, ap, inl, inr, arith, nat_lt, suc}
+use Rattle.std.proofs.Common.{◌≡◌, ◌≢◌, ℕ, ◌+◌, ◌%◌, ◌<◌, ◌≤◌, pos, Bool, true, false, List, [], ◌∷◌, length, Option, Some, None, Ok, subst, ap, inl, inr, arith, nat_lt, suc}
 use Rattle.std.specs.Prelude.{◌==◌, ok_or, All, AllPairs, Contains, find}
 use Rattle.std.specs.List.{range_with_len}
 use Rattle.std.specs.Ordering.{int_eq}
@@ -133,22 +133,13 @@ found : {A : Type 0} (o : Option A) (f : ShipFault) (a : A) → ◌≡◌ {A = R
 found None f a e = cc
 found (Some x) f a e = ap Some (same_ok e)
 
--- the checks of a pair after its numbers, and after its first hatch
-abbrev second_hatch : List ℕ → ℕ → ℤ → ℕ → Reading HatchPair
-second_hatch hatches number n a =
-    ok_or (hatch_of hatches n) (fault kind.Apart key.Apart number) >>= λ b. cond (a == b) (Err (fault kind.Apart key.Apart number)) (Ok (record { a = a; b = b }))
-
-abbrev both_hatches : List ℕ → ℕ → ℤ × ℤ → Reading HatchPair
-both_hatches hatches number numbers =
-    ok_or (hatch_of hatches numbers.0) (fault kind.Apart key.Apart number) >>= second_hatch hatches number numbers.1
-
 pair_in-tells : (hatches : List ℕ) (before : List HatchPair) (d : Data) (pair : HatchPair) → pair_in hatches before d ≡ Ok pair → IsPairOf hatches pair
 pair_in-tells hatches before d pair e =
     let number = next_number before in
     let apart = fault kind.Apart key.Apart number in
-    let (numbers, two, e1) = bind_ok (ok_or (two_integers d) (fault kind.WrongKind key.Apart number)) (both_hatches hatches number) pair e in
-    let (a, at_a, e2) = bind_ok (ok_or (hatch_of hatches numbers.0) apart) (second_hatch hatches number numbers.1) pair e1 in
-    let (b, at_b, e3) = bind_ok (ok_or (hatch_of hatches numbers.1) apart) (λ b. cond (a == b) (Err apart) (Ok (record { a = a; b = b }))) pair e2 in
+    let (numbers, two, e1) = bind_ok (ok_or (two_integers d) (fault kind.WrongKind key.Apart number)) _ pair e in
+    let (a, at_a, e2) = bind_ok (ok_or (hatch_of hatches numbers.0) apart) _ pair e1 in
+    let (b, at_b, e3) = bind_ok (ok_or (hatch_of hatches numbers.1) apart) _ pair e2 in
     let (differ, same) = passed_not (a == b) (Ok (record { a = a; b = b })) pair apart e3 in
     let P : HatchPair → Type 0 = IsPairOf hatches in
     subst P (same_ok same) (

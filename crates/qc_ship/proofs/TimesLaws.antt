@@ -4,7 +4,6 @@ use Rattle.std.specs.Prelude.{is_some}
 use Rattle.std.specs.List.{range_with_len}
 use Rattle.std.specs.Option.{option_map_or}
 use Rattle.std.proofs.lemmas.Bool.{cases_Bool}
-use Rattle.qc_num.specs.Reading.{◌>>=◌}
 use Rattle.qc_num.proofs.ReadingLemmas.{bind_ok, same_ok}
 use Rattle.toml.specs.Data.{Data, Members, get_member}
 use Rattle.qc_model.specs.declared.crane.Crane.{Crane}
@@ -16,7 +15,7 @@ use Rattle.qc_ship.specs.declared.ship.Times.{Times}
 use Rattle.qc_ship.specs.declared.ship.HatchPair.{HatchPair}
 use Rattle.qc_ship.specs.Keys.{key_text}
 use Rattle.qc_ship.specs.Ship.{most_gap, most_travel, IsShip}
-use Rattle.qc_ship.specs.ShipValues.{Reading, required, number_in, number_at, number_or}
+use Rattle.qc_ship.specs.ShipValues.{required, number_in, number_at}
 use Rattle.qc_ship.specs.ShipFile.{hatches_at, places_in, places_at, gives_places, gap_at, ordered_at, times_at, apart_at, cranes_at, ship_with}
 use Rattle.qc_ship.proofs.ShipLaws.{number_in-bounds}
 use Rattle.qc_ship.proofs.HatchLaws.{HasHatches-from, Places-from, HasPairs-from}
@@ -38,23 +37,6 @@ gap_at-bounds ms gap e =
           rw counted (omega (arith, equal), omega (arith, equal, bounds.1)))
     ]
 
--- the checks of the times after the gap, and so on
-abbrev with_ordered : Members → ℕ → ℕ → ℕ → ℕ → ℕ → Reading Times
-with_ordered ms gap travel deck_move hold_move cover =
-    ordered_at ms >>= λ ordered. Ok (record { gap = gap; travel = travel; deck_move = deck_move; hold_move = hold_move; cover = cover; ordered = ordered })
-
-abbrev with_cover : Members → ℕ → ℕ → ℕ → ℕ → Reading Times
-with_cover ms gap travel deck_move hold_move = number_or 0 key.Cover 0 0 most_move_ticks ms >>= with_ordered ms gap travel deck_move hold_move
-
-abbrev with_hold_move : Members → ℕ → ℕ → ℕ → Reading Times
-with_hold_move ms gap travel deck_move = number_at key.HoldMove 0 1 most_move_ticks ms >>= with_cover ms gap travel deck_move
-
-abbrev with_deck_move : Members → ℕ → ℕ → Reading Times
-with_deck_move ms gap travel = number_at key.DeckMove 0 1 most_move_ticks ms >>= with_hold_move ms gap travel
-
-abbrev with_travel : Members → ℕ → Reading Times
-with_travel ms gap = number_at key.Travel 0 1 (most_travel (gives_places ms)) ms >>= with_deck_move ms gap
-
 -- the times of a file
 record TimesAreIn (in_decimetres : Bool) (times : Times) : Type 0 where
   gap : (1 ≤ times.gap) × (times.gap ≤ most_gap in_decimetres)
@@ -66,13 +48,12 @@ record TimesAreIn (in_decimetres : Bool) (times : Times) : Type 0 where
 TimesAreIn-from : (ms : Members) (times : Times) → times_at ms ≡ Ok times → TimesAreIn (gives_places ms) times
 unfolding times_at
 TimesAreIn-from ms times e =
-    let (gap, at_gap, e1) = bind_ok (gap_at ms) (with_travel ms) times e in
-    let (travel, at_travel, e2) = bind_ok (number_at key.Travel 0 1 (most_travel (gives_places ms)) ms) (with_deck_move ms gap) times e1 in
-    let (deck_move, at_deck, e3) = bind_ok (number_at key.DeckMove 0 1 most_move_ticks ms) (with_hold_move ms gap travel) times e2 in
-    let (hold_move, at_hold, e4) = bind_ok (number_at key.HoldMove 0 1 most_move_ticks ms) (with_cover ms gap travel deck_move) times e3 in
-    let (cover, at_cover, e5) = bind_ok (number_or 0 key.Cover 0 0 most_move_ticks ms) (with_ordered ms gap travel deck_move hold_move) times e4 in
-    let (ordered, at_ordered, e6) = bind_ok (ordered_at ms)
-    (λ ordered. Ok (record { gap = gap; travel = travel; deck_move = deck_move; hold_move = hold_move; cover = cover; ordered = ordered })) times e5 in
+    let (gap, at_gap, e1) = bind_ok _ _ times e in
+    let (travel, at_travel, e2) = bind_ok _ _ times e1 in
+    let (deck_move, at_deck, e3) = bind_ok _ _ times e2 in
+    let (hold_move, at_hold, e4) = bind_ok _ _ times e3 in
+    let (cover, at_cover, e5) = bind_ok _ _ times e4 in
+    let (ordered, at_ordered, e6) = bind_ok (ordered_at ms) _ times e5 in
     let P : Times → Type 0 = TimesAreIn (gives_places ms) in
     subst P (same_ok e6) (record {
       gap = gap_at-bounds ms gap at_gap;

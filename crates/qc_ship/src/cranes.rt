@@ -24,6 +24,7 @@ fn table_in(number: u32, value: &Value) -> Result<&Table, ShipFault>
     }
 }
 
+/// The name of a crane.
 fn name_at(number: u32, table: &Table) -> Result<Name, ShipFault>
     ensures { result ≡ name_at number (table_view table.now) }
 {
@@ -121,6 +122,7 @@ fn keeps_gap(gap: u16, before: &[Crane], bay: Bay) -> bool
 }
 
 #[tactic(auto, using(std::proofs::lemmas::Int::ints))]
+/// Whether a crane at `bay` starts at least the gap behind the one before it.
 fn is_clear_of(previous: Bay, gap: u16, bay: Bay) -> bool
     ensures { result ≡ int_le (previous +ℤ pos gap) bay }
 {

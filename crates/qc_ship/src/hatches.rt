@@ -12,6 +12,7 @@ use qc_model::{MOST_HATCHES, MOST_PLACE};
 use std::alloc::Global;
 use toml::Value;
 
+/// The lowest bay of a hatch.
 fn lowest_bay(hatch: u16) -> u32
     ensures { result ≡ lowest_bay hatch }
 {
@@ -22,6 +23,7 @@ fn lowest_bay(hatch: u16) -> u32
     }
 }
 
+/// The highest bay of a hatch.
 fn highest_bay(hatch: u16) -> u32
     ensures { result ≡ highest_bay hatch }
 {

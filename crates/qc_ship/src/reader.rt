@@ -40,6 +40,7 @@ fn read_table(alloc: Global, text: &[u8]) -> Result<Table, ShipError>
     }
 }
 
+/// The numbers of the hatches.
 fn hatches_at(alloc: Global, table: &Table) -> Result<Vec<u16>, ShipError>
     ensures { IsReading (λ v. v.items) (hatches_at (table_view table.now)) result }
 {
@@ -48,6 +49,7 @@ fn hatches_at(alloc: Global, table: &Table) -> Result<Vec<u16>, ShipError>
     read_hatches(alloc, values)
 }
 
+/// The crane bay of each hatch: as it is given, or counted from 1.
 fn places_at(alloc: Global, count: usize, table: &Table) -> Result<Vec<u16>, ShipError>
     requires { count ≤ MOST_HATCHES }
     ensures { IsReading (λ v. v.items) (places_at count (table_view table.now)) result }
@@ -70,6 +72,7 @@ fn counted_places(alloc: Global, count: u16) -> Result<Vec<u16>, AllocError>
     Ok(places)
 }
 
+/// Whether the file gives places in decimetres.
 fn gives_places(table: &Table) -> bool
     ensures { result ≡ gives_places (table_view table.now) }
 {
@@ -88,6 +91,7 @@ fn gap_at(table: &Table) -> Result<u16, ShipFault>
 }
 
 #[tactic(auto, unfolding(crate::specs::ShipFile::times_at))]
+/// The gap, the ticks and the order of restows.
 fn times_at(table: &Table) -> Result<Times, ShipFault>
     ensures { result ≡ times_at (table_view table.now) }
 {
@@ -107,6 +111,7 @@ fn times_at(table: &Table) -> Result<Times, ShipFault>
     })
 }
 
+/// The most ticks of travel per crane bay.
 fn most_travel(in_decimetres: bool) -> u32
     ensures { result ≡ most_travel in_decimetres }
 {
@@ -117,6 +122,7 @@ fn most_travel(in_decimetres: bool) -> u32
     }
 }
 
+/// Whether a restow is done in order, by the word of the file.
 fn restows_in(value: &Value) -> Result<bool, ShipFault>
     ensures { result ≡ restows_in (view value.now) }
 {
@@ -127,6 +133,7 @@ fn restows_in(value: &Value) -> Result<bool, ShipFault>
     }
 }
 
+/// The same, by the table: restows are in order where nothing is said.
 fn ordered_at(table: &Table) -> Result<bool, ShipFault>
     ensures { result ≡ ordered_at (table_view table.now) }
 {
@@ -136,6 +143,7 @@ fn ordered_at(table: &Table) -> Result<bool, ShipFault>
     }
 }
 
+/// The pairs of hatches that aren't worked at the same time.
 fn apart_at(alloc: Global, hatches: &[u16], table: &Table) -> Result<Vec<HatchPair>, ShipError>
     ensures { IsReading (λ v. v.items) (apart_at hatches.now (table_view table.now)) result }
 {
@@ -149,6 +157,7 @@ fn apart_at(alloc: Global, hatches: &[u16], table: &Table) -> Result<Vec<HatchPa
     }
 }
 
+/// The cranes along the rail.
 fn cranes_at(
     alloc: Global,
     in_decimetres: bool,

@@ -10,6 +10,7 @@ use crate::{Key, ShipFault, ShipKind};
 use qc_num::Tick;
 use toml::{Table, Value};
 
+/// A fault of a key.
 pub(crate) fn fault(kind: ShipKind, key: Key, number: u32) -> ShipFault
     ensures { result ≡ fault kind key number }
 {

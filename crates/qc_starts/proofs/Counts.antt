@@ -1,45 +1,26 @@
 -- How many elements there are, by how many fall into each of several classes.
-use Rattle.std.proofs.Common.{◌≡◌, ◌≢◌, inl, inr, ℕ, zero, suc, ◌+◌, ◌*◌, ◌<◌, ◌≤◌, max, min, Bool, true, false, ◌&&◌, eqb, List, [], ◌∷◌, length, refl, sym, ap, ◌∙◌, arith}
-use Rattle.std.proofs.lemmas.Bool.{cases_Bool, cases_eq, cases_lt, and_from, and_parts, eq-eqb, eqb-true, ne_eqb, or_left, or_right}
+use Rattle.std.proofs.Common.{◌≡◌, ◌≢◌, inl, inr, ℕ, zero, suc, ◌+◌, ◌*◌, ◌<◌, ◌≤◌, max, min, Bool, true, ◌&&◌, eqb, List, [], ◌∷◌, length, refl, ap, add-one, arith}
+use Rattle.std.proofs.lemmas.Bool.{cases_Bool, cases_lt, and_from, and_parts, eq-eqb, eqb-true, or_left, or_right}
 use Rattle.std.proofs.lemmas.List.Sums.{sum_by-cons}
-use Rattle.std.specs.Prelude.{count_by}
-use Rattle.std.specs.List.{AllByRecursion}
+use Rattle.std.specs.Prelude.{count_by, sum_by}
+use Rattle.std.specs.List.{AllByRecursion, range_with_len}
+use Rattle.qc_model.proofs.Sums.{sum_both, sum_le, sum_raised}
+use Rattle.qc_dist.proofs.Ranges.{sum_more}
 use Rattle.qc_arena.specs.declared.edge.Edge.{Edge}
 use Rattle.qc_starts.specs.Arcs.{joins, leads}
-use Rattle.qc_starts.specs.Spread.{one_of, total}
+use Rattle.qc_starts.specs.Spread.{one_of}
 
-pub total-le : (f g : ℕ → ℕ) (n : ℕ) → ((j : ℕ) → j < n → f j ≤ g j) → total f n ≤ total g n
-total-le f g zero each = omega arith
-total-le f g (suc n) each = omega (arith, total-le f g n (λ j low. each j (omega arith)), each n (omega arith))
+twice : (n : ℕ) → sum_by (λ c. 2 * c) (range_with_len 0 n) + n ≡ n * n
+twice zero = omega arith
+twice (suc n) =
+    let next = ap (λ k. sum_by (λ c. 2 * c) (range_with_len 0 k)) (add-one n) in
+    omega (arith, next, sum_more (λ c. 2 * c) n, twice n)
 
--- one part that is less makes the sum less
-pub total-lt : (f g : ℕ → ℕ) (n z : ℕ) → ((j : ℕ) → j < n → f j ≤ g j) → z < n → f z < g z
-    → total f n < total g n
-total-lt f g zero z each low less = absurd (omega arith)
-total-lt f g (suc n) z each low less = elim (cases_eq z n) [
-  | inl same ↦
-      let here = ap f same in
-      let there = ap g same in
-      omega (arith, total-le f g n (λ j under. each j (omega arith)), here, there)
-  | inr other ↦
-      omega (arith, total-lt f g n z (λ j under. each j (omega arith)) (omega arith) less, each n (omega arith))
-]
-
-total-const : (k n : ℕ) → total (λ _. k) n ≡ k * n
-total-const k zero = omega arith
-total-const k (suc n) = omega (arith, total-const k n)
-
-total-twice : (n : ℕ) → total (λ c. 2 * c) n + n ≡ n * n
-total-twice zero = omega arith
-total-twice (suc n) = omega (arith, total-twice n)
-
-total-none : (n : ℕ) → total (λ _. 0) n ≡ 0
-total-none zero = refl
-total-none (suc n) = omega (arith, total-none n)
-
-total-plus : (f g h : ℕ → ℕ) (n : ℕ) → ((c : ℕ) → h c ≡ f c + g c) → total h n ≡ total f n + total g n
-total-plus f g h zero each = refl
-total-plus f g h (suc n) each = omega (arith, total-plus f g h n each, each n)
+two_each : (n : ℕ) → sum_by (λ _. 2) (range_with_len 0 n) ≡ 2 * n
+two_each zero = refl
+two_each (suc n) =
+    let next = ap (λ k. sum_by (λ _. 2) (range_with_len 0 k)) (add-one n) in
+    omega (arith, next, sum_more (λ _. 2) n, two_each n)
 
 pub count_cons : (p : Edge → Bool) (arc : Edge) (arcs : List Edge)
     → count_by p (arc ∷ arcs) ≡ one_of (p arc) + count_by p arcs
@@ -49,49 +30,29 @@ module _ (p : Edge → Bool) (f : Edge → ℕ) where
   abbrev in_class : ℕ → Edge → Bool
   in_class c arc = p arc && eqb (f arc) c
 
-  -- one element falls into one class, if it counts at all
-  one_hit : (arc : Edge) (m : ℕ) → (p arc ≡ true → f arc < m)
-      → total (λ c. one_of (in_class c arc)) m ≡ one_of (p arc)
-  one_hit arc m low = elim (cases_Bool (p arc)) [
-    | inl holds ↦ counts m (low holds) holds
-    | inr fails ↦
-        let all = λ (c : ℕ) (l : c < m). le_of (none c fails) in
-        omega (arith, total-le (λ c. one_of (in_class c arc)) (λ _. 0) m all, total-none m, ap one_of fails)
+  -- an element that counts falls into some class
+  some_class : (arc : Edge) (m : ℕ) → (p arc ≡ true → f arc < m)
+      → one_of (p arc) ≤ sum_by (λ c. one_of (in_class c arc)) (range_with_len 0 m)
+  some_class arc m low = elim (cases_Bool (p arc)) [
+    | inl holds ↦
+        let here = ap one_of (and_from (p arc) (eqb (f arc) (f arc)) holds (eq-eqb (f arc) (f arc) refl)) in
+        omega (
+          arith,
+          ap one_of holds,
+          sum_raised (λ c. one_of (in_class c arc)) (λ _. 0) 1 (f arc) 0 m (omega arith) (omega (arith, low holds))
+              (omega (arith, here)) (λ j _. omega arith),
+        )
+    | inr fails ↦ omega (arith, ap one_of fails)
   ]
-    where
-      none : (c : ℕ) → p arc ≡ false → one_of (in_class c arc) ≡ 0
-      none c fails = ap (λ (b : Bool). one_of (b && eqb (f arc) c)) fails
-
-      le_of : {n : ℕ} → n ≡ 0 → n ≤ 0
-      le_of e = omega arith
-
-      both_false : (b : Bool) → one_of (b && false) ≡ 0
-      both_false true = refl
-      both_false false = refl
-
-      other : (c : ℕ) → f arc ≢ c → one_of (in_class c arc) ≡ 0
-      other c differ = ap (λ (b : Bool). one_of (p arc && b)) (ne_eqb (f arc) c differ) ∙ both_false (p arc)
-
-      counts : (n : ℕ) → f arc < n → p arc ≡ true → total (λ c. one_of (in_class c arc)) n ≡ one_of (p arc)
-      counts zero low holds = absurd (omega arith)
-      counts (suc n) low holds = elim (cases_eq (f arc) n) [
-        | inl same ↦
-            let here = ap one_of (and_from (p arc) (eqb (f arc) n) holds (eq-eqb (f arc) n same)) in
-            let all = λ (c : ℕ) (l : c < n). le_of (other c (λ e. absurd (omega arith))) in
-            omega (arith, total-le (λ c. one_of (in_class c arc)) (λ _. 0) n all, total-none n, here, ap one_of holds)
-        | inr differ ↦ omega (arith, counts n (omega arith) holds, other n differ)
-      ]
 
   -- all that counts is in some class
   pub by_classes : (arcs : List Edge) (m : ℕ) → AllByRecursion (λ arc. p arc ≡ true → f arc < m) arcs
-      → count_by p arcs ≡ total (λ c. count_by (in_class c) arcs) m
-  by_classes [] m all = sym (total-none m)
+      → count_by p arcs ≤ sum_by (λ c. count_by (in_class c) arcs) (range_with_len 0 m)
+  by_classes [] m all = omega arith
   by_classes (arc ∷ arcs) m all =
-      let rest = by_classes arcs m all.1 in
-      let here = one_hit arc m all.0 in
-      let plus = total-plus (λ c. one_of (in_class c arc)) (λ c. count_by (in_class c) arcs)
-      (λ c. count_by (in_class c) (arc ∷ arcs)) m (λ c. count_cons (in_class c) arc arcs) in
-      omega (arith, rest, here, plus, count_cons p arc arcs)
+      let both = sum_both (λ c. one_of (in_class c arc)) (λ c. count_by (in_class c) arcs)
+      (λ c. count_by (in_class c) (arc ∷ arcs)) 0 m (λ c _ _. omega (arith, count_cons (in_class c) arc arcs)) in
+      omega (arith, by_classes arcs m all.1, some_class arc m all.0, both, count_cons p arc arcs)
 
 -- a test that implies another counts no more
 pub count_by-le : (p q : Edge → Bool) → ((arc : Edge) → p arc ≡ true → q arc ≡ true) → (arcs : List Edge)
@@ -135,9 +96,9 @@ pub arcs_few : (n : ℕ) (arcs : List Edge) → AllByRecursion (IsBetween n) arc
     → ((i j : ℕ) → count_by (joins i j) arcs ≤ 2) → length arcs + n ≤ n * n
 arcs_few n arcs all few =
     let split = by_classes (λ _. true) greater_end arcs n (mapped arcs all) in
-    let each = total-le (λ c. count_by (λ arc. true && eqb (greater_end arc) c) arcs) (λ c. 2 * c) n
-    (λ c low. of_class c) in
-    omega (arith, split, each, total-twice n, count_all arcs)
+    let each = sum_le (λ c. count_by (λ arc. true && eqb (greater_end arc) c) arcs) (λ c. 2 * c) 0 n
+    (λ c _ _. of_class c) in
+    omega (arith, split, each, twice n, count_all arcs)
   where
     mapped : (arcs : List Edge) → AllByRecursion (IsBetween n) arcs
         → AllByRecursion (λ arc. true ≡ true → greater_end arc < n) arcs
@@ -153,11 +114,11 @@ arcs_few n arcs all few =
     of_class : (c : ℕ) → count_by (λ arc. eqb (greater_end arc) c) arcs ≤ 2 * c
     of_class c =
         let split = by_classes (λ arc. eqb (greater_end arc) c) lesser_end arcs c (below c arcs all) in
-        let each = total-le (λ d. count_by (λ arc. eqb (greater_end arc) c && eqb (lesser_end arc) d) arcs) (λ _. 2) c
-        (λ d low. omega (
+        let each = sum_le (λ d. count_by (λ arc. eqb (greater_end arc) c && eqb (lesser_end arc) d) arcs) (λ _. 2) 0 c
+        (λ d _ _. omega (
           arith,
           few c d,
           count_by-le (λ arc. eqb (greater_end arc) c && eqb (lesser_end arc) d) (joins c d)
               (joined c d) arcs,
         )) in
-        omega (arith, split, each, total-const 2 c)
+        omega (arith, split, each, two_each c)

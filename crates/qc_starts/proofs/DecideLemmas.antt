@@ -22,7 +22,7 @@ use Rattle.qc_starts.specs.Opened.{AreSized, HasBegun}
 use Rattle.qc_starts.specs.Seen.{IsNoted, IsReached, StartsNode, count_raised, first_of, taken_back}
 use Rattle.qc_starts.specs.Spread.{IsSettledTo, one_of}
 use Rattle.qc_starts.specs.Values.{AreRest, start_at}
-use Rattle.qc_starts.proofs.KeptLemmas.{counts_count, first_here, in_reach_more, nested_count, nested_more, rest_of, same_node, seen_back, sum_counts, settled_step}
+use Rattle.qc_starts.proofs.KeptLemmas.{counts_count, first_here, home_rest, in_reach_more, nested_count, nested_more, same_node, sum_counts, settled_step}
 use Rattle.qc_starts.proofs.LevelLemmas.{reverse_push}
 use Rattle.qc_starts.proofs.NotingLemmas.{noting_begins}
 use Rattle.qc_starts.proofs.RestLemmas.{least_of, start_in}
@@ -56,18 +56,18 @@ same_least inst ds cells others rest least j low =
 
 module _ (f : Inside) (node : StartsNode) (is : IsKept f) (view : node_of f ≡ node) (g : Inside) (mid : Spread)
     (d : Decision) (mark before after : ℕ)
-    (home : g.inst ≡ f.inst) (inst_is : g.network.inst ≡ f.network.inst)
+    (home : g.network.inst ≡ f.network.inst)
     (ds_is : g.network.decisions ≡ (d ∷ f.network.decisions)) (sound : IsSound g.network)
     (begun : HasBegun f.spread mid g.root) where
   abbrev n : ℕ
-  n = length f.inst.tasks
+  n = length f.network.inst.tasks
 
-  room_for : 2 * n * length f.network.decisions + 2 * n ≤ 2 * n * (n + length f.inst.apart)
+  room_for : 2 * n * length f.network.decisions + 2 * n ≤ 2 * n * (n + length f.network.inst.apart)
   room_for =
       let fits = fits_room g.network.inst g.network.decisions sound.fits in
-      let same = ap (λ (i : InstanceView). length i.tasks + length i.apart) (inst_is ∙ is.same) in
+      let same = ap (λ (i : InstanceView). length i.tasks + length i.apart) home in
       let more = ap (length {A = Decision}) ds_is in
-      let up : length f.network.decisions + 1 ≤ n + length f.inst.apart = omega (arith, fits, same, more) in
+      let up : length f.network.decisions + 1 ≤ n + length f.network.inst.apart = omega (arith, fits, same, more) in
       let product = mul-le-mul_left (2 * n) up in
       omega (arith, product)
 
@@ -89,7 +89,7 @@ module _ (f : Inside) (node : StartsNode) (is : IsKept f) (view : node_of f ≡ 
         is.sized.places;
   }
 
-  module _ (starts : HasStarts node.inst node.decisions) (reach : IsReached f.inst d)
+  module _ (starts : HasStarts node.inst node.decisions) (reach : IsReached f.network.inst d)
       (marks_are : g.marks.items ≡ f.marks.items ++ mark ∷ [])
       (mark_is : mark ≡ length f.spread.values.trail.notes)
       (wide : vec_capacity f.marks ≤ vec_capacity g.marks)
@@ -98,10 +98,7 @@ module _ (f : Inside) (node : StartsNode) (is : IsKept f) (view : node_of f ≡ 
       (pend_size : length g.spread.pending.items ≡ length mid.pending.items)
       (settled : IsSettledTo g.network g.root g.spread.olds.items g.spread.values.cells g.step) where
     rest : AreRest f.network.inst f.network.decisions f.spread.values.cells
-    rest = rest_of f.network f.spread.values.cells f.root f.step is.sound is.state (seen_back f node is view HasStarts starts)
-
-    home_rest : AreRest f.inst f.network.decisions f.spread.values.cells
-    home_rest = subst (λ (i : InstanceView). AreRest i f.network.decisions f.spread.values.cells) is.same rest
+    rest = home_rest f node is view starts
 
     noting : IsNoting mid.values.trail.notes mid.values.cells g.spread.values
     noting = wrote.noting mid.values.trail.notes mid.values.cells
@@ -113,33 +110,29 @@ module _ (f : Inside) (node : StartsNode) (is : IsKept f) (view : node_of f ≡ 
     back : written_back noting.since g.spread.values.cells ≡ f.spread.values.cells
     back = noting.back g.spread.values.cells noting.size noting.same ∙ begun.cells
 
-    cells_count : length g.spread.values.cells ≡ 2 * length f.inst.tasks
+    cells_count : length g.spread.values.cells ≡ 2 * length f.network.inst.tasks
     cells_count = noting.size ∙ ap (length {A = ℕ}) begun.cells ∙ is.sized.cells
 
-    since_few : length noting.since ≤ 2 * length f.inst.tasks
+    since_few : length noting.since ≤ 2 * length f.network.inst.tasks
     since_few =
         omega (arith, noting.count, count_by-le-length (λ b. b) g.spread.values.noted.items, wrote.notes.size, cells_count)
 
-    nested : AreNested f.inst (d ∷ f.network.decisions) (mark ∷ reverse f.marks.items) g.spread.values.trail.notes
+    nested : AreNested f.network.inst (d ∷ f.network.decisions) (mark ∷ reverse f.marks.items) g.spread.values.trail.notes
         g.spread.values.cells
     nested =
         subst₂ (λ (m : ℕ) (ns : List Note).
-        AreNested f.inst (d ∷ f.network.decisions) (m ∷ reverse f.marks.items) ns g.spread.values.cells)
+        AreNested f.network.inst (d ∷ f.network.decisions) (m ∷ reverse f.marks.items) ns g.spread.values.cells)
         (sym mark_is) (sym notes_are)
-        (nested_more f.inst d f.network.decisions (reverse f.marks.items) f.spread.values.trail.notes noting.since
-        f.spread.values.cells g.spread.values.cells is.nested home_rest is.few back)
+        (nested_more f.network.inst d f.network.decisions (reverse f.marks.items) f.spread.values.trail.notes noting.since
+        f.spread.values.cells g.spread.values.cells is.nested rest is.few back)
 
     marks_reversed : reverse g.marks.items ≡ mark ∷ reverse f.marks.items
     marks_reversed = ap reverse marks_are ∙ reverse_push f.marks.items mark
 
-    tasks_home : length g.inst.tasks ≡ length f.inst.tasks
-    tasks_home = ap (λ (i : InstanceView). length i.tasks) home
-
     kept_decided : IsKept g
     kept_decided = record {
       sound = sound;
-      same = inst_is ∙ is.same ∙ sym home;
-      in_reach = subst₂ IsInReach (sym home) (sym ds_is) (in_reach_more f.inst d f.network.decisions reach is.in_reach);
+      in_reach = subst₂ IsInReach (sym home) (sym ds_is) (in_reach_more f.network.inst d f.network.decisions reach is.in_reach);
       sized = subst (λ (i : InstanceView). AreSized i g.spread) (sym home) (record {
         cells = cells_count;
         noted = wrote.notes.size ∙ cells_count;
@@ -153,7 +146,7 @@ module _ (f : Inside) (node : StartsNode) (is : IsKept f) (view : node_of f ≡ 
           (omega (arith, ap (length {A = Note}) notes_are, length-append f.spread.values.trail.notes noting.since, since_few, is.few));
       nested = subst₂ (λ (i : InstanceView) (xs : List Decision).
           AreNested i xs (reverse g.marks.items) g.spread.values.trail.notes g.spread.values.cells) (sym home) (sym ds_is)
-          (subst (λ (ms : List ℕ). AreNested f.inst (d ∷ f.network.decisions) ms g.spread.values.trail.notes
+          (subst (λ (ms : List ℕ). AreNested f.network.inst (d ∷ f.network.decisions) ms g.spread.values.trail.notes
           g.spread.values.cells) (sym marks_reversed) nested);
       room = omega (arith, is.room, ap (λ (i : InstanceView). length i.tasks + length i.apart) home);
       state = settled_step g.network g.root g.spread.olds.items g.spread.values.cells g.step sound settled;
@@ -161,21 +154,21 @@ module _ (f : Inside) (node : StartsNode) (is : IsKept f) (view : node_of f ≡ 
 
     raised_few : (step : Step) → IsSettledTo g.network g.root g.spread.olds.items g.spread.values.cells step
         → (olds news : List ℕ) → step ≡ Raised
-        → AreLeast f.inst f.network.decisions olds → AreLeast f.inst g.network.decisions news
-        → count_raised f.inst olds news ≤ length noting.since
+        → AreLeast f.network.inst f.network.decisions olds → AreLeast f.network.inst g.network.decisions news
+        → count_raised f.network.inst olds news ≤ length noting.since
     raised_few Cycle done olds news e one two = absurd (cc)
     raised_few Raised done olds news e one two =
-        let after = subst (λ (i : InstanceView). AreRest i g.network.decisions g.spread.values.cells) (inst_is ∙ is.same) done in
+        let after = subst (λ (i : InstanceView). AreRest i g.network.decisions g.spread.values.cells) home done in
         let few = range_marks (λ j. nat_lt (slice_index olds j) (slice_index news j)) g.spread.values.noted.items 0
-        (length f.inst.tasks) (omega (arith, wrote.notes.size, cells_count))
+        (length f.network.inst.tasks) (omega (arith, wrote.notes.size, cells_count))
         (λ k low later. elim (cases_Bool (slice_index_or g.spread.values.noted.items k true)) [
           | inl on ↦ on
           | inr off ↦
               let at : 0 + k ≡ k = omega arith in
               let less = ltb-true (slice_index olds k) (slice_index news k)
               (ap (λ (j : ℕ). nat_lt (slice_index olds j) (slice_index news j)) (sym at) ∙ later) in
-              let old = same_least f.inst f.network.decisions f.spread.values.cells olds home_rest one k low in
-              let new = same_least f.inst g.network.decisions g.spread.values.cells news after two k low in
+              let old = same_least f.network.inst f.network.decisions f.spread.values.cells olds rest one k low in
+              let new = same_least f.network.inst g.network.decisions g.spread.values.cells news after two k low in
               let held = noting.same k (omega (arith, noting.size, cells_count)) off
               ∙ ap (λ (xs : List ℕ). slice_index xs k) begun.cells in
               absurd (omega (arith, less, old, new, held))
@@ -207,8 +200,8 @@ module _ (f : Inside) (node : StartsNode) (is : IsKept f) (view : node_of f ≡ 
         let ds = f.network.decisions in
         let kept_notes = f.spread.values.trail.notes in
         let each = counts_count (reverse f.marks.items) (length kept_notes)
-        ∙ nested_count f.inst ds (reverse f.marks.items) kept_notes f.spread.values.cells is.nested in
-        let total = sum_counts f.inst ds (reverse f.marks.items) kept_notes f.spread.values.cells is.nested in
+        ∙ nested_count f.network.inst ds (reverse f.marks.items) kept_notes f.spread.values.cells is.nested in
+        let total = sum_counts f.network.inst ds (reverse f.marks.items) kept_notes f.spread.values.cells is.nested in
         let decisions = ap (first_of (length ds)) ds_is ∙ first_here (length ds) (length ds) d ds refl refl in
         let noted = ap (first_of (length ds)) counts_are
         ∙ first_here (length ds) (length ds) (length noting.since) (node_of f).noted each refl in

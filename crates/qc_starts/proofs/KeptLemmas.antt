@@ -10,8 +10,6 @@ use Rattle.qc_model.specs.declared.decision.Decision.{Decision}
 use Rattle.qc_model.specs.declared.decision.Decision.TheVariants.{Assign, Order}
 use Rattle.qc_model.specs.Instance.{InstanceView, IsApart, pair_of}
 use Rattle.qc_model.specs.declared.pair.Pair.{Pair}
-use Rattle.qc_model.specs.Leaves.{chain, leaf_value, with_berths}
-use Rattle.qc_num.specs.declared.bound.Bound.TheVariants.{Least}
 use Rattle.qc_model.specs.Nodes.{HasStarts, IsInReach, IsNodeEnd, IsSettled, Meets, forced, head}
 use Rattle.qc_starts.specs.Arcs.{IsArc}
 use Rattle.qc_starts.specs.Fields.{AreNested, IsKept, IsStateOf, counts_of, node_of}
@@ -27,7 +25,7 @@ use Rattle.qc_starts.specs.Values.{AreRest, IsReason, raiser_at, start_at}
 use Rattle.qc_starts.specs.Ways.{AreBacked, IsBackTo, IsEndless, IsRing, IsRising, Why}
 use Rattle.qc_starts.proofs.Growth.{assigned_same, forced_grows, head_grows, head_same, meets_before, ordered_same}
 use Rattle.qc_starts.proofs.NotingLemmas.{written_back-append}
-use Rattle.qc_starts.proofs.RestLemmas.{backed_of, chain_shows, end_of, has_starts, link, ring_of, rising_of, soon_of, start_of, tight}
+use Rattle.qc_starts.proofs.RestLemmas.{backed_of, chain_shows, end_of, has_starts, link, ring_of, rising_of, soon_of, start_of}
 use Rattle.qc_starts.proofs.ArcLemmas.{arc_of}
 use Rattle.qc_starts.proofs.WayLemmas.{IsClosed, no_end}
 use Rattle.qc_trail.specs.declared.trail.Note.{Note}
@@ -98,20 +96,6 @@ pub holds_of : (inst : InstanceView) (ds : List Decision) (cells : List ℕ) →
     → HoldsStarts inst ds cells
 holds_of inst ds cells rest = start_of inst ds cells rest
 
--- ---- starts at rest, with the arcs of their node
-
-module _ (net : NodeArcs) (cells : List ℕ) (sound : IsSound net) (rest : AreRest net.inst net.decisions cells) where
-  pub rest_rises : IsRising (why_in (length net.inst.tasks) cells)
-  rest_rises = rising_of net cells sound (tight net.inst net.decisions cells rest)
-
-  pub rest_ends : (j : ℕ) → j < length net.inst.tasks → end_in net.inst cells j ≤ 999999999999
-  rest_ends = soon_of net cells sound (tight net.inst net.decisions cells rest)
-
-  pub rest_shows : (last : ℕ) (path : List ℕ) → IsBackTo (why_in (length net.inst.tasks) cells) last path
-      → (leaf_value with_berths net.inst net.decisions (chain path) ≡ Some (Least (end_in net.inst cells last)))
-      × (length path ≤ length net.inst.tasks) × (end_in net.inst cells last ≤ 999999999999)
-  rest_shows = chain_shows net cells sound (tight net.inst net.decisions cells rest)
-
 pub state_reasons : (net : NodeArcs) (cells : List ℕ) (root : ℕ) (step : Step) → IsStateOf net cells root step
     → (j : ℕ) → j < length net.inst.tasks
     → IsReason net.inst net.decisions cells j (raiser_at (length net.inst.tasks) cells j)
@@ -123,6 +107,7 @@ state_reasons net cells root Cycle state = state.1.raising.reasons
 module _ (net : NodeArcs) (d : Decision) (ds : List Decision) (olds cells : List ℕ) (sound : IsSound net)
     (is : net.decisions ≡ (d ∷ ds)) (able : IsOpen net.inst ds d) (reach : IsReached net.inst d)
     (rest : AreRest net.inst ds cells)
+    (soon : (j : ℕ) → j < length net.inst.tasks → start_at cells j ≤ 999999999999)
     (same : (j : ℕ) → j < length net.inst.tasks → start_at olds j ≡ start_at cells j) where
   root_inside : (e : Decision) → IsOpen net.inst ds e → root_of e < length net.inst.tasks
   root_inside (Assign t k) open_ = open_.0
@@ -167,7 +152,7 @@ module _ (net : NodeArcs) (d : Decision) (ds : List Decision) (olds cells : List
           rest.least others before;
       rise = λ j low. omega (arith, same j low);
       lifted = λ j low other less. absurd (omega (arith, same j low));
-      soon = λ j low. omega (arith, same j low, rest.soon j low);
+      soon = λ j low. omega (arith, same j low, soon j low);
       bound = λ j low other. omega (arith, same j low);
       settled = λ arc in_ first second.
           let asks = arc_of (IsArc net.inst net.decisions) net.arcs sound.all.each arc in_ in
@@ -177,7 +162,7 @@ module _ (net : NodeArcs) (d : Decision) (ds : List Decision) (olds cells : List
           omega (arith, same arc.from asks.from, same arc.to asks.to, kept, asks.within);
     };
     still = λ j low other. sym (same j low);
-    top = omega (arith, rest.soon (root_of d) root_in);
+    top = omega (arith, soon (root_of d) root_in);
   }
 
 -- ---- notes of decisions
@@ -245,15 +230,17 @@ in_reach_more inst (Order i j) ds reach all = all
 
 pub rooting_of : (net : NodeArcs) (inst : InstanceView) (d : Decision) (ds : List Decision) (root : ℕ)
     (olds before cells : List ℕ) → IsSound net → net.inst ≡ inst → net.decisions ≡ (d ∷ ds) → IsOpen inst ds d
-    → IsReached inst d → AreRest inst ds before → root ≡ root_of d → cells ≡ before
+    → IsReached inst d → AreRest inst ds before
+    → ((j : ℕ) → j < length inst.tasks → start_at before j ≤ 999999999999) → root ≡ root_of d → cells ≡ before
     → length olds ≡ length inst.tasks → ((j : ℕ) → j < length olds → start_at olds j ≡ start_at before j)
     → IsRooting net root olds cells
-rooting_of net inst d ds root olds before cells sound same is able reach rest root_is cells_are size starts =
+rooting_of net inst d ds root olds before cells sound same is able reach rest soon root_is cells_are size starts =
     subst₂ (λ (r : ℕ) (xs : List ℕ). IsRooting net r olds xs) (sym root_is) (sym cells_are)
     (rooting_begins net d ds olds before sound is
     (subst (λ (i : InstanceView). IsOpen i ds d) (sym same) able)
     (subst (λ (i : InstanceView). IsReached i d) (sym same) reach)
     (subst (λ (i : InstanceView). AreRest i ds before) (sym same) rest)
+    (λ j low. soon j (omega (arith, ap (λ (i : InstanceView). length i.tasks) same)))
     (λ j low. starts j (omega (arith, size, ap (λ (i : InstanceView). length i.tasks) same))))
 
 pub first_here : {A : Type 0} (m k : ℕ) (x : A) (xs : List A) → length xs ≡ k → m ≡ k → first_of m (x ∷ xs) ≡ xs
@@ -314,52 +301,25 @@ nested_back inst (d ∷ ds) (k ∷ ks) notes cells are m low =
 
 -- ---- the fields of a node
 
-as_net : Inside → StartsNode
-as_net f = record {
-  inst = f.network.inst;
-  decisions = f.network.decisions;
-  noted = counts_of (reverse f.marks.items) (length f.spread.values.trail.notes);
-  cells = f.spread.values.cells;
-  notes = f.spread.values.trail.notes;
-}
-
 module _ (f : Inside) (node : StartsNode) (is : IsKept f) (view : node_of f ≡ node) where
-  seen : as_net f ≡ node
-  unfolding as_net
-  seen = ap (λ (i : InstanceView). record {
-    inst = i;
-    decisions = f.network.decisions;
-    noted = counts_of (reverse f.marks.items) (length f.spread.values.trail.notes);
-    cells = f.spread.values.cells;
-    notes = f.spread.values.trail.notes;
-  }) is.same ∙ view
-
   pub seen_back : (P : InstanceView → List Decision → Type 0) → P node.inst node.decisions → P f.network.inst f.network.decisions
-  unfolding as_net
-  seen_back P holds = subst (λ (n : StartsNode). P n.inst n.decisions) (sym seen) holds
+  seen_back P holds = subst (λ (n : StartsNode). P n.inst n.decisions) (sym view) holds
 
   seen_on : (P : InstanceView → List Decision → Type 0) → P f.network.inst f.network.decisions → P node.inst node.decisions
-  unfolding as_net
-  seen_on P holds = subst (λ (n : StartsNode). P n.inst n.decisions) seen holds
+  seen_on P holds = subst (λ (n : StartsNode). P n.inst n.decisions) view holds
 
-  pub tasks_are : length f.inst.tasks ≡ length node.inst.tasks
+  pub tasks_are : length f.network.inst.tasks ≡ length node.inst.tasks
   tasks_are = ap (λ (n : StartsNode). length n.inst.tasks) view
 
-  pub net_tasks : length f.network.inst.tasks ≡ length f.inst.tasks
-  net_tasks = ap (λ (i : InstanceView). length i.tasks) is.same
-
-  net_rest : HasStarts node.inst node.decisions → AreRest f.network.inst f.network.decisions f.spread.values.cells
-  net_rest starts = rest_of f.network f.spread.values.cells f.root f.step is.sound is.state (seen_back HasStarts starts)
-
-  pub home_rest : HasStarts node.inst node.decisions → AreRest f.inst f.network.decisions f.spread.values.cells
-  home_rest starts = subst (λ (i : InstanceView). AreRest i f.network.decisions f.spread.values.cells) is.same (net_rest starts)
+  pub home_rest : HasStarts node.inst node.decisions → AreRest f.network.inst f.network.decisions f.spread.values.cells
+  home_rest starts = rest_of f.network f.spread.values.cells f.root f.step is.sound is.state (seen_back HasStarts starts)
 
   pub rest_kept : HasStarts node.inst node.decisions → AreRest node.inst node.decisions f.spread.values.cells
-  rest_kept starts = seen_on (λ i ds. AreRest i ds f.spread.values.cells) (net_rest starts)
+  rest_kept starts = seen_on (λ i ds. AreRest i ds f.spread.values.cells) (home_rest starts)
 
-  pub soon_kept : HasStarts node.inst node.decisions → (j : ℕ) → j < length f.inst.tasks
+  pub soon_kept : HasStarts node.inst node.decisions → (j : ℕ) → j < length f.network.inst.tasks
       → start_at f.spread.values.cells j ≤ 999999999999
-  soon_kept starts j low = omega (arith, (net_rest starts).soon j (omega (arith, net_tasks)))
+  soon_kept starts j low = omega (arith, soon_of f.network f.spread.values.cells is.sound (home_rest starts) j low)
 
   pub start_kept : HasStarts node.inst node.decisions → (j : ℕ) → j < length node.inst.tasks
       → IsNodeStart node.inst node.decisions j (start_at f.spread.values.cells j)
@@ -375,46 +335,44 @@ module _ (f : Inside) (node : StartsNode) (is : IsKept f) (view : node_of f ≡ 
 
   -- the task that ends last
 
-  latest_low : (last : Option ℕ) → IsLatest f.inst f.spread.values.cells (length f.inst.tasks) last
+  latest_low : (last : Option ℕ) → IsLatest f.network.inst f.spread.values.cells (length f.network.inst.tasks) last
       → IsLatest node.inst f.spread.values.cells (length node.inst.tasks) last
   latest_low last latest =
       subst (λ (n : StartsNode). IsLatest n.inst f.spread.values.cells (length n.inst.tasks) last) view latest
 
-  pub end_kept : HasStarts node.inst node.decisions → (end : ℕ) → HasLastEnd f.inst f.spread.values.cells end
+  pub end_kept : HasStarts node.inst node.decisions → (end : ℕ) → HasLastEnd f.network.inst f.spread.values.cells end
       → IsNodeEnd node.inst node.decisions end
   end_kept starts end has =
       end_of node.inst node.decisions f.spread.values.cells (rest_kept starts) has.last end (latest_low has.last has.latest)
       (subst (λ (n : StartsNode). end ≡ end_by n.inst f.spread.values.cells has.last) view has.is)
 
-  end_low : HasStarts node.inst node.decisions → (last : Option ℕ) → IsLatest f.inst f.spread.values.cells (length f.inst.tasks) last
-      → end_by f.inst f.spread.values.cells last ≤ 999999999999
+  end_low : HasStarts node.inst node.decisions → (last : Option ℕ) → IsLatest f.network.inst f.spread.values.cells (length f.network.inst.tasks) last
+      → end_by f.network.inst f.spread.values.cells last ≤ 999999999999
   end_low starts None latest = omega arith
-  end_low starts (Some j) latest =
-      let ends = rest_ends f.network f.spread.values.cells is.sound (net_rest starts) j (omega (arith, net_tasks, latest.0)) in
-      omega (arith, ends, ap (λ (i : InstanceView). end_in i f.spread.values.cells j) is.same)
+  end_low starts (Some j) latest = soon_of f.network f.spread.values.cells is.sound (home_rest starts) j latest.0
 
-  pub end_soon : HasStarts node.inst node.decisions → (end : ℕ) → HasLastEnd f.inst f.spread.values.cells end
+  pub end_soon : HasStarts node.inst node.decisions → (end : ℕ) → HasLastEnd f.network.inst f.spread.values.cells end
       → end ≤ 999999999999
   end_soon starts end has = omega (arith, has.is, end_low starts has.last has.latest)
 
   -- ways back
 
   abbrev count : ℕ
-  count = length f.inst.tasks
+  count = length f.network.inst.tasks
 
   why_moves : (P : Why → Type 0) → P (why_in (length f.network.inst.tasks) f.spread.values.cells)
       → (k : ℕ) → k ≡ count → P (why_in k f.spread.values.cells)
   why_moves P holds k same =
-      subst (λ (n : ℕ). P (why_in n f.spread.values.cells)) (net_tasks ∙ sym same) holds
+      subst (λ (n : ℕ). P (why_in n f.spread.values.cells)) (sym same) holds
 
   why_back : (P : Why → Type 0) → (k : ℕ) → k ≡ count → P (why_in k f.spread.values.cells)
       → P (why_in (length f.network.inst.tasks) f.spread.values.cells)
   why_back P k same holds =
-      subst (λ (n : ℕ). P (why_in n f.spread.values.cells)) (same ∙ sym net_tasks) holds
+      subst (λ (n : ℕ). P (why_in n f.spread.values.cells)) same holds
 
   pub rises_kept : HasStarts node.inst node.decisions → (k : ℕ) → k ≡ count → IsRising (why_in k f.spread.values.cells)
   rises_kept starts k same =
-      why_moves IsRising (rest_rises f.network f.spread.values.cells is.sound (net_rest starts)) k same
+      why_moves IsRising (rising_of f.network f.spread.values.cells is.sound (home_rest starts)) k same
 
   pub backed_kept : (k : ℕ) → k ≡ count → AreBacked (why_in k f.spread.values.cells)
   backed_kept k same =
@@ -422,19 +380,18 @@ module _ (f : Inside) (node : StartsNode) (is : IsKept f) (view : node_of f ≡ 
       (state_reasons f.network f.spread.values.cells f.root f.step is.state)) k same
 
   pub why_kept : HasStarts node.inst node.decisions → (last : ℕ) → (k : ℕ) → k ≡ count
-      → IsLatest f.inst f.spread.values.cells count (Some last) → (path : List ℕ)
+      → IsLatest f.network.inst f.spread.values.cells count (Some last) → (path : List ℕ)
       → IsBackTo (why_in k f.spread.values.cells) last path
       → IsWhy node.inst node.decisions path × (length path ≤ length node.inst.tasks)
   why_kept starts last k same latest path back =
       let net = f.network in
       let cells = f.spread.values.cells in
-      let rest = net_rest starts in
-      let shown = rest_shows net cells is.sound rest last path (why_back (λ why. IsBackTo why last path) k same back) in
-      let near = subst (λ (i : InstanceView). IsLatest i cells (length i.tasks) (Some last)) (sym is.same) latest in
-      let end = end_of net.inst net.decisions cells rest (Some last) (end_in net.inst cells last) near refl in
+      let rest = home_rest starts in
+      let shown = chain_shows net cells is.sound rest last path (why_back (λ why. IsBackTo why last path) k same back) in
+      let end = end_of net.inst net.decisions cells rest (Some last) (end_in net.inst cells last) latest refl in
       let why : IsWhy net.inst net.decisions path = record { end = end_in net.inst cells last; ends = end; chain = shown.0 } in (
         seen_on (λ i ds. IsWhy i ds path) why,
-        omega (arith, shown.1, net_tasks, tasks_are),
+        omega (arith, shown.1, tasks_are),
       )
 
   -- a ring
@@ -444,7 +401,7 @@ module _ (f : Inside) (node : StartsNode) (is : IsKept f) (view : node_of f ≡ 
       back_of f.network f.spread.values.cells f.root f.step is.sound is.state (λ has. none (seen_on HasStarts has))
 
   pub root_kept : (¬ HasStarts node.inst node.decisions) → f.root < count
-  root_kept none = omega (arith, (ring_back none).1.raising.inside, net_tasks)
+  root_kept none = omega (arith, (ring_back none).1.raising.inside)
 
   pub endless_kept : (¬ HasStarts node.inst node.decisions) → (k : ℕ) → k ≡ count
       → IsEndless (why_in k f.spread.values.cells) f.root
@@ -459,14 +416,14 @@ module _ (f : Inside) (node : StartsNode) (is : IsKept f) (view : node_of f ≡ 
       let found = ring_of net.inst net.decisions f.spread.values.cells is.sound.valid
       (state_reasons net f.spread.values.cells f.root f.step is.state) is.sound.fits path
       (why_back (λ why. IsRing why path) k same ring) in
-      (seen_on (λ i ds. IsCycle i ds path) found.0, omega (arith, found.1, net_tasks, tasks_are))
+      (seen_on (λ i ds. IsCycle i ds path) found.0, omega (arith, found.1, tasks_are))
 
   pub noted_count : length node.noted ≡ length node.decisions
   noted_count =
       let marks = reverse f.marks.items in
       let here : length (counts_of marks (length f.spread.values.trail.notes)) ≡ length f.network.decisions =
       counts_count marks (length f.spread.values.trail.notes)
-      ∙ nested_count f.inst f.network.decisions marks f.spread.values.trail.notes f.spread.values.cells is.nested in
+      ∙ nested_count f.network.inst f.network.decisions marks f.spread.values.trail.notes f.spread.values.cells is.nested in
       subst (λ (n : StartsNode). length n.noted ≡ length n.decisions) view here
 
   pub notes_kept : AreNotes node
@@ -475,11 +432,11 @@ module _ (f : Inside) (node : StartsNode) (is : IsKept f) (view : node_of f ≡ 
       let notes = f.spread.values.trail.notes in
       let cells = f.spread.values.cells in
       let each : length (counts_of marks (length notes)) ≡ length f.network.decisions =
-      counts_count marks (length notes) ∙ nested_count f.inst f.network.decisions marks notes cells is.nested in
+      counts_count marks (length notes) ∙ nested_count f.network.inst f.network.decisions marks notes cells is.nested in
       let here : AreNotes (node_of f) = record {
         each = each;
-        count = sym (sum_counts f.inst f.network.decisions marks notes cells is.nested);
-        back = nested_back f.inst f.network.decisions marks notes cells is.nested;
+        count = sym (sum_counts f.network.inst f.network.decisions marks notes cells is.nested);
+        back = nested_back f.network.inst f.network.decisions marks notes cells is.nested;
       } in
       subst AreNotes view here
 

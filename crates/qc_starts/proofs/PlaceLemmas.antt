@@ -21,7 +21,6 @@ use Rattle.qc_starts.specs.Values.{AreRest, IsReason, raised, raiser_at, start_a
 use Rattle.qc_starts.proofs.ArcLemmas.{arc_of, before_true, newest_in}
 use Rattle.qc_starts.proofs.NotingLemmas.{marks_less}
 use Rattle.qc_starts.proofs.RaisedLemmas.{raised_count, raised_here, raised_other, reason_of_here, reason_of_other}
-use Rattle.qc_starts.proofs.RestLemmas.{rest_is}
 
 -- ---- a task is placed
 
@@ -195,14 +194,14 @@ module _ (inst : InstanceView) (valid : Valid inst) (P : ℕ → Type 0)
 pub place_ends : (net : NodeArcs) (cells : List ℕ) (pending : List Bool) → IsSound net → net.decisions ≡ []
     → IsReadyPick net pending (length net.inst.tasks) None → ArePlaced net cells pending
     → AreRest net.inst net.decisions cells
-place_ends net cells pending sound none stuck placed = rest_is net cells sound (record {
+place_ends net cells pending sound none stuck placed = record {
   count = placed.count;
   heads = λ j low. (each j low).above;
   steps = λ i j len first second asks. ((each j second).steps i len first asks).1;
   reasons = λ j low. (each j low).reason;
   least = λ others meets j low. (each j low).least others meets;
   low = λ j low. (each j low).low;
-})
+}
   where
     waits : (j : ℕ) → (j < length net.inst.tasks) × (is_pending pending j ≡ true)
         → (i : ℕ) × ((i < length net.inst.tasks) × (is_pending pending i ≡ true))

@@ -1,5 +1,5 @@
 -- What reasons show: a ring, or the least starts of a node and a chain to its end.
-use Rattle.std.proofs.Common.{◌≡◌, ℕ, suc, ◌+◌, ◌*◌, ◌<◌, ◌≤◌, true, ◌&&◌, List, [], ◌∷◌, ◌++◌, length, slice_index_or, Option, None, Some, IfSome, is_some, refl, sym, ap, ap₂, subst, ◌∙◌, leb, arith}
+use Rattle.std.proofs.Common.{◌≡◌, ℕ, ◌+◌, ◌*◌, ◌<◌, ◌≤◌, true, ◌&&◌, List, [], ◌∷◌, ◌++◌, length, Option, None, Some, IfSome, is_some, refl, sym, ap, ap₂, subst, ◌∙◌, leb, arith}
 use Rattle.std.proofs.lemmas.Bool.{and_from, cond-true, le-leb, lt-ltb}
 use Rattle.std.proofs.lemmas.List.{get_or-take, length-take-le}
 use Rattle.std.proofs.lemmas.Option.{same_Some}
@@ -8,18 +8,19 @@ use Rattle.std.specs.List.{AllByRecursion, list_all}
 use Rattle.qc_model.specs.declared.decision.Decision.{Decision}
 use Rattle.qc_model.specs.declared.limits.TheConstants.{MOST_TASKS}
 use Rattle.qc_model.specs.declared.task.Task.{Task}
-use Rattle.qc_model.specs.Instance.{InstanceView, Valid, no_task, ticks_of}
+use Rattle.qc_model.specs.Instance.{InstanceView, Valid, ticks_of}
 use Rattle.qc_model.specs.Leaves.{are_tasks, chain, chain_end, chain_ticks, is_ring, leaf_value, with_berths}
 use Rattle.qc_model.specs.Nodes.{AreLeast, Fits, HasStarts, IsNodeEnd, forced, head}
 use Rattle.qc_model.specs.Rules.{last_end}
 use Rattle.qc_model.proofs.CompleteNodes.{forced_ticks}
+use Rattle.qc_model.proofs.Bounded.{last_end_le}
 use Rattle.qc_model.proofs.NodeLemmas.{ends_by}
 use Rattle.qc_model.proofs.OnRail.{ticks_bounded}
 use Rattle.qc_num.specs.declared.bound.Bound.TheVariants.{Least, Never}
 use Rattle.qc_starts.specs.Found.{IsLatest, end_by, end_in, starts_in, why_in}
 use Rattle.qc_starts.specs.NodeArcs.{IsSound, NodeArcs}
 use Rattle.qc_starts.specs.Seen.{IsCycle, IsNodeStart}
-use Rattle.qc_starts.specs.Values.{AreAtMost, AreRest, IsReason, raiser_at, start_at}
+use Rattle.qc_starts.specs.Values.{AreRest, IsReason, raiser_at, start_at}
 use Rattle.qc_starts.specs.Ways.{AreBacked, IsBackTo, IsLinked, IsRing, IsRising, IsWay, Why, last_of}
 use Rattle.qc_starts.proofs.ArcLemmas.{arc_of, newest_in}
 use Rattle.qc_starts.proofs.SelfLemmas.{self_free}
@@ -32,15 +33,6 @@ pub record Link (inst : InstanceView) (ds : List Decision) (cells : List ℕ) (i
   pub step : forced inst ds i j ≡ Some len
   pub some : 1 ≤ len
   pub below : start_at cells j ≤ start_at cells i + len
-
-last_end_le : (tasks : List Task) (starts : List ℕ) (m : ℕ) → length starts ≡ length tasks
-    → ((k : ℕ) → k < length tasks → slice_index starts k + (slice_index_or tasks k no_task).ticks ≤ m)
-    → last_end tasks starts ≤ m
-last_end_le [] starts m count all = omega arith
-last_end_le (t ∷ ts) [] m count all = omega arith
-last_end_le (t ∷ ts) (s ∷ ss) m count all =
-    let rest = last_end_le ts ss m (omega arith) (λ k low. all (suc k) (omega arith)) in
-    omega (arith, all 0 (omega arith), rest)
 
 no_last : (tasks : List Task) (starts : List ℕ) → length tasks ≡ 0 → last_end tasks starts ≡ 0
 no_last [] starts e = refl
@@ -148,28 +140,7 @@ module _ (inst : InstanceView) (ds : List Decision) (cells : List ℕ) (valid : 
 
 -- ---- starts at rest
 
--- what holds of starts at rest, but for their bound
-pub record IsTight (inst : InstanceView) (ds : List Decision) (cells : List ℕ) : Type 0 where
-  pub count : length cells ≡ 2 * length inst.tasks
-  pub heads : (j : ℕ) → j < length inst.tasks → head inst ds j ≤ start_at cells j
-  pub steps :
-      (i j len : ℕ) → i < length inst.tasks → j < length inst.tasks → forced inst ds i j ≡ Some len
-      → start_at cells i + len ≤ start_at cells j
-  pub reasons : (j : ℕ) → j < length inst.tasks → IsReason inst ds cells j (raiser_at (length inst.tasks) cells j)
-  pub least : AreAtMost inst ds cells
-  pub low : (j : ℕ) → j < length inst.tasks → head inst ds j ≤ 2147483648
-
-pub tight : (inst : InstanceView) (ds : List Decision) (cells : List ℕ) → AreRest inst ds cells → IsTight inst ds cells
-tight inst ds cells is = record {
-  count = is.count;
-  heads = is.heads;
-  steps = is.steps;
-  reasons = is.reasons;
-  least = is.least;
-  low = is.low;
-}
-
-module _ (net : NodeArcs) (cells : List ℕ) (sound : IsSound net) (is : IsTight net.inst net.decisions cells) where
+module _ (net : NodeArcs) (cells : List ℕ) (sound : IsSound net) (is : AreRest net.inst net.decisions cells) where
   abbrev inst : InstanceView
   inst = net.inst
 
@@ -241,17 +212,6 @@ module _ (net : NodeArcs) (cells : List ℕ) (sound : IsSound net) (is : IsTight
       let path = chain_exists ways (backed_of inst ds cells valid is.reasons) rising_of j under in
       (chain_shows j path.0 path.1).2
 
-  pub rest_is : AreRest net.inst net.decisions cells
-  rest_is = record {
-    count = is.count;
-    heads = is.heads;
-    steps = is.steps;
-    reasons = is.reasons;
-    least = is.least;
-    low = is.low;
-    soon = λ j under. omega (arith, soon_of j under);
-  }
-
 -- ---- what starts at rest answer
 
 module _ (inst : InstanceView) (ds : List Decision) (cells : List ℕ) (rest : AreRest inst ds cells) where
@@ -282,8 +242,8 @@ module _ (inst : InstanceView) (ds : List Decision) (cells : List ℕ) (rest : A
   }
   end_of (Some last) end latest is =
       let count = starts_count inst cells rest.count in
-      let most = last_end_le inst.tasks (starts_in inst cells) (end_in inst cells last) count
-      (λ k low. omega (arith, start_in inst cells k low, latest.1 k low)) in
+      let most = last_end_le inst.tasks (starts_in inst cells) (end_in inst cells last)
+      (λ k low _. omega (arith, start_in inst cells k low, latest.1 k low)) in
       let least = ends_by inst.tasks (starts_in inst cells) last count latest.0 in
       record {
         starts = starts_in inst cells;

@@ -12,9 +12,8 @@ use Rattle.qc_starts.specs.Place.{IsReasonBy, IsSoonest}
 use Rattle.qc_starts.specs.Spread.{IsBackAtRoot, IsIn, IsLifted, IsMet, IsOnly, IsRaisedBy, IsRaising, IsRooting, IsSpreading, from_task, is_late, is_pending, left, left_of, one_of}
 use Rattle.qc_starts.specs.Values.{AreRest, IsReason, raised, raiser_at, start_at}
 use Rattle.qc_starts.proofs.ArcLemmas.{arc_of, newest_in}
-use Rattle.qc_starts.proofs.Counts.{total-le, total-lt}
+use Rattle.qc_model.proofs.Sums.{sum_le, sum_raised}
 use Rattle.qc_starts.proofs.RaisedLemmas.{raised_count, raised_here, raised_other, reason_of_here, reason_of_other}
-use Rattle.qc_starts.proofs.RestLemmas.{rest_is}
 use Rattle.qc_starts.proofs.SelfLemmas.{self_free}
 
 -- ---- a raise
@@ -359,12 +358,12 @@ module _ (net : NodeArcs) (root : ℕ) (olds cells : List ℕ) (pending : List B
       -- less is left to be done
       pub left_less : left (length net.inst.tasks) root olds later after
           ≤ left (length net.inst.tasks) root olds cells pending
-      left_less = total-le (left_of root olds later after) (left_of root olds cells pending) (length net.inst.tasks)
-          (λ j low. elim (cases_eq j arc.to) [
+      left_less = sum_le (left_of root olds later after) (left_of root olds cells pending) 0 (length net.inst.tasks)
+          (λ j _ low. elim (cases_eq j arc.to) [
             | inl same ↦
                 subst (λ (x : ℕ). left_of root olds later after x ≤ left_of root olds cells pending x) (sym same)
                 (omega (arith, here, root_same, raise_is.late, raise_is.bound other, ap one_of pend_here))
-            | inr off ↦ omega (arith, same_start j low off, root_same, ap one_of (pend_other j off))
+            | inr off ↦ omega (arith, same_start j (omega (arith, low)) off, root_same, ap one_of (pend_other j off))
           ])
 
 -- ---- a task is looked at
@@ -404,12 +403,11 @@ module _ (net : NodeArcs) (root : ℕ) (olds cells : List ℕ) (pending : List B
 
   pub look_less : left (length net.inst.tasks) root olds cells without
       < left (length net.inst.tasks) root olds cells pending
-  look_less = total-lt (left_of root olds cells without) (left_of root olds cells pending) (length net.inst.tasks) task
-      (λ j under. elim (cases_eq j task) [
-        | inl same ↦ subst (λ (x : ℕ). left_of root olds cells without x ≤ left_of root olds cells pending x) (sym same)
-            (omega (arith, ap one_of gone, ap one_of chosen))
-        | inr off ↦ omega (arith, ap one_of (kept j off))
-      ]) low (omega (arith, ap one_of gone, ap one_of chosen))
+  look_less =
+      let less = sum_raised (left_of root olds cells pending) (left_of root olds cells without) 1 task 0
+      (length net.inst.tasks) (omega arith) (omega (arith, low)) (omega (arith, ap one_of gone, ap one_of chosen))
+      (λ j off. omega (arith, ap one_of (kept j (λ e. off (sym e))))) in
+      omega (arith, less)
 
 -- ---- the arcs from a task, one after another
 
@@ -549,7 +547,7 @@ module _ (net : NodeArcs) (root task : ℕ) (olds cells : List ℕ) (pending : L
 pub spread_ends : (net : NodeArcs) (root : ℕ) (olds cells : List ℕ) (pending : List Bool) → IsSound net
     → ((j : ℕ) → j < length pending → is_pending pending j ≡ false)
     → IsSpreading net root olds cells pending [] → AreRest net.inst net.decisions cells
-spread_ends net root olds cells pending sound none is = rest_is net cells sound (record {
+spread_ends net root olds cells pending sound none is = record {
   count = is.raising.count;
   heads = λ j under. elim (cases_eq j root) [
     | inl same ↦ subst (λ (x : ℕ). head net.inst net.decisions x ≤ start_at cells x) (sym same) is.above
@@ -567,7 +565,7 @@ spread_ends net root olds cells pending sound none is = rest_is net cells sound 
     | inl same ↦ subst (λ (x : ℕ). head net.inst net.decisions x ≤ 2147483648) (sym same) is.low
     | inr other ↦ is.raising.low j under other
   ];
-})
+}
   where
     all_done : (j : ℕ) → is_pending pending j ≡ false
     all_done j = elim (cases_lt j (length pending)) [

@@ -1,4 +1,4 @@
--- The arcs of a node, newest first: which there are, and how many.
+-- public: the arcs of a node, newest first: which there are, and how many.
 use Rattle.std.specs.Prelude.{◌≡◌, ℕ, ◌+◌, ◌-◌, ◌*◌, ◌<◌, ◌≤◌, ◌^◌, Bool, ◌&&◌, ◌||◌, ◌==◌, if◌then◌else◌, List, [], ◌∷◌, ◌++◌, count_by, length, Option, None, Some}
 use Rattle.std.specs.List.{AllByRecursion}
 use Rattle.qc_arena.specs.Arcs.{Arcs}

@@ -1,4 +1,4 @@
--- The fields of the least starts of a node, as clauses see them and as they are kept.
+-- inner: the fields of the least starts of a node, as clauses see them and as they are kept.
 use Rattle.std.specs.Prelude.{◌≡◌, ℕ, ◌+◌, ◌-◌, ◌*◌, ◌≤◌, List, [], ◌∷◌, drop, length, reverse, take, vec_capacity}
 use Rattle.qc_model.specs.declared.decision.Decision.{Decision}
 use Rattle.qc_model.specs.Instance.{InstanceView}
@@ -37,7 +37,7 @@ IsStateOf net cells root Cycle = (olds : List ℕ) × IsBackAtRoot net root olds
 
 abbrev pub node_of : Inside → StartsNode
 node_of f = record {
-  inst = f.inst;
+  inst = f.network.inst;
   decisions = f.network.decisions;
   noted = counts_of (reverse f.marks.items) (length f.spread.values.trail.notes);
   cells = f.spread.values.cells;
@@ -46,11 +46,11 @@ node_of f = record {
 
 pub record IsKept (f : Inside) : Type 0 where
   pub sound : IsSound f.network
-  pub same : f.network.inst ≡ f.inst
-  pub in_reach : IsInReach f.inst f.network.decisions
-  pub sized : AreSized f.inst f.spread
-  pub few : length f.spread.values.trail.notes ≤ 2 * length f.inst.tasks * length f.network.decisions
+  pub in_reach : IsInReach f.network.inst f.network.decisions
+  pub sized : AreSized f.network.inst f.spread
+  pub few : length f.spread.values.trail.notes ≤ 2 * length f.network.inst.tasks * length f.network.decisions
   pub nested :
-      AreNested f.inst f.network.decisions (reverse f.marks.items) f.spread.values.trail.notes f.spread.values.cells
-  pub room : length f.inst.tasks + length f.inst.apart ≤ vec_capacity f.marks
+      AreNested f.network.inst f.network.decisions (reverse f.marks.items) f.spread.values.trail.notes
+      f.spread.values.cells
+  pub room : length f.network.inst.tasks + length f.network.inst.apart ≤ vec_capacity f.marks
   pub state : IsStateOf f.network f.spread.values.cells f.root f.step

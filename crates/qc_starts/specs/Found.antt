@@ -1,4 +1,4 @@
--- The task that ends last, and the way to it.
+-- inner: the task that ends last, and the way to it.
 use Rattle.std.specs.Prelude.{◌≡◌, ℕ, ◌+◌, ◌<◌, ◌≤◌, List, length, take, Option, None, Some}
 use Rattle.qc_model.specs.Instance.{InstanceView, ticks_of}
 use Rattle.qc_starts.specs.declared.latest.Last.{Last}

@@ -1,4 +1,5 @@
 pub mod Arcs
+pub mod Seen
 pub mod Fields
 pub mod Found
 pub mod Network
@@ -7,7 +8,6 @@ pub mod NodeArcs
 pub mod Opened
 pub mod Place
 pub mod Roots
-pub mod Seen
 pub mod Spread
 pub mod Values
 pub mod Ways

@@ -1,4 +1,4 @@
--- The arcs of a node, and how far they go back when decisions are taken back.
+-- inner: the arcs of a node, and how far they go back when decisions are taken back.
 use Rattle.std.specs.Prelude.{ℕ, ◌+◌, ◌-◌, ◌≤◌, List, [], ◌∷◌, drop, length, reverse, vec_capacity}
 use Rattle.qc_arena.specs.declared.edge.Edge.{Edge}
 use Rattle.qc_model.specs.declared.decision.Decision.{Decision}

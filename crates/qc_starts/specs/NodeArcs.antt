@@ -1,4 +1,4 @@
--- What contracts see of decisions with the arcs between their tasks.
+-- inner: what contracts see of decisions with the arcs between their tasks.
 use Rattle.std.specs.Prelude.{List}
 use Rattle.qc_arena.specs.declared.edge.Edge.{Edge}
 use Rattle.qc_model.specs.declared.decision.Decision.{Decision}

@@ -1,4 +1,4 @@
--- Notes of a decision: what writing them back leaves, and that there is room for them.
+-- inner: notes of a decision: what writing them back leaves, and that there is room for them.
 use Rattle.std.specs.Prelude.{◌≡◌, ℕ, ◌+◌, ◌<◌, ◌≤◌, Bool, true, false, List, ◌++◌, All, count_by, length, slice_index, slice_index_or}
 use Rattle.qc_trail.specs.declared.trail.Note.{Note}
 use Rattle.qc_trail.specs.Trails.{written_back}

@@ -1,4 +1,4 @@
--- Values before any decision, and when a decision begins.
+-- inner: values before any decision, and when a decision begins.
 use Rattle.std.specs.Prelude.{◌≡◌, ℕ, ◌+◌, ◌*◌, ◌<◌, [], All, length, replicate, false, true, slice_index_or}
 use Rattle.qc_model.specs.Instance.{InstanceView}
 use Rattle.qc_starts.specs.declared.spread.Spread.{Spread}

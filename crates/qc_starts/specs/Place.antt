@@ -1,4 +1,4 @@
--- Starts before any decision, placed one after another.
+-- inner: starts before any decision, placed one after another.
 use Rattle.std.specs.Prelude.{◌≡◌, ℕ, ◌+◌, ◌*◌, ◌^◌, ◌<◌, ◌≤◌, ◌⊎◌, Bool, true, false, List, length, Option, None, Some, slice_index}
 use Rattle.qc_arena.specs.declared.edge.Edge.{Edge}
 use Rattle.qc_model.specs.Nodes.{Meets, forced, head}

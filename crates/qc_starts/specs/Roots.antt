@@ -1,4 +1,4 @@
--- The task behind which a decision raises starts.
+-- inner: the task behind which a decision raises starts.
 use Rattle.std.specs.Prelude.{ℕ}
 use Rattle.qc_model.specs.declared.decision.Decision.{Decision}
 use Rattle.qc_model.specs.declared.decision.Decision.TheVariants.{Assign, Order}

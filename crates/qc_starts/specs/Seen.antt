@@ -1,4 +1,4 @@
--- What contracts see of the least starts of a node, and what is answered of it.
+-- public: what contracts see of the least starts of a node, and what is answered of it.
 use Rattle.std.specs.Prelude.{◌≡◌, ℕ, ◌+◌, ◌-◌, ◌*◌, ◌<◌, ◌≤◌, Bool, true, false, List, [], ◌∷◌, count_by, drop, length, nat_lt, sum, take, reverse, slice_index, IsSome, IsTrue, Some}
 use Rattle.qc_arena.specs.Arcs.{Arcs}
 use Rattle.qc_model.specs.declared.decision.Decision.{Decision}
@@ -103,8 +103,8 @@ abbrev pub count_raised : InstanceView → List ℕ → List ℕ → ℕ
 count_raised inst olds news =
     count_by (λ j. nat_lt (slice_index olds j) (slice_index news j)) (task_numbers inst)
 
--- how many cells were noted for one decision more: two a task at most, one for each task whose start it raised at
--- least, and no more than were steps taken
+-- how many cells were noted for one decision more: two a task at most, no more than were steps taken, and where it is
+-- answered by Raised at least one for each task whose start it raised
 pub record IsNoted (old new : StartsNode) (step : Step) (before after : ℕ) : Type 0 where
   pub count : ℕ
   pub is : new.noted ≡ count ∷ old.noted

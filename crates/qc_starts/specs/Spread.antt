@@ -1,5 +1,6 @@
--- Starts while they are raised behind a task, the root, that starts later than before or has new steps behind it.
-use Rattle.std.specs.Prelude.{◌≡◌, ◌≢◌, ℕ, zero, suc, ◌+◌, ◌-◌, ◌*◌, ◌^◌, ◌<◌, ◌≤◌, ◌⊎◌, Bool, true, false, cond, nat_lt, ◌==◌, List, [], ◌∷◌, filter, length, Option, None, Some, slice_index_or}
+-- inner: starts while they are raised behind a task, the root, that starts later than before or has new steps behind it.
+use Rattle.std.specs.Prelude.{◌≡◌, ◌≢◌, ℕ, ◌+◌, ◌-◌, ◌*◌, ◌^◌, ◌<◌, ◌≤◌, ◌⊎◌, Bool, true, false, cond, nat_lt, ◌==◌, List, [], ◌∷◌, filter, length, Option, None, Some, slice_index_or, sum_by}
+use Rattle.std.specs.List.{range_with_len}
 use Rattle.qc_arena.specs.declared.edge.Edge.{Edge}
 use Rattle.qc_model.specs.declared.limits.TheConstants.{MOST_START}
 use Rattle.qc_model.specs.Nodes.{head}
@@ -83,11 +84,6 @@ pub record IsBackAtRoot (net : NodeArcs) (root : ℕ) (olds cells : List ℕ) : 
   pub raising : IsRaising net root olds cells
   pub back : IsRaisedBy net root olds cells root
 
--- the sum of what a function gives for all numbers below this one
-abbrev pub total : (ℕ → ℕ) → ℕ → ℕ
-total f zero = 0
-total f (suc n) = total f n + f n
-
 abbrev pub one_of : Bool → ℕ
 one_of b = cond b 1 0
 
@@ -97,7 +93,7 @@ left_of root olds cells pending j =
     2 * (start_at olds j + (start_at cells root + 2 ^ 31) - start_at cells j) + one_of (is_pending pending j)
 
 abbrev pub left : ℕ → ℕ → List ℕ → List ℕ → List Bool → ℕ
-left count root olds cells pending = total (left_of root olds cells pending) count
+left count root olds cells pending = sum_by (left_of root olds cells pending) (range_with_len 0 count)
 
 -- of the arcs those from a task, and those into a task
 abbrev pub from_task : ℕ → List Edge → List Edge

@@ -1,8 +1,7 @@
--- Starts and what raised them, as cells hold them: the start of each task, and behind these for each task the one that
--- raised it.
+-- inner: starts and what raised them, as cells hold them: the start of each task, and behind these for each task the
+-- one that raised it.
 use Rattle.std.specs.Prelude.{◌≡◌, ℕ, ◌+◌, ◌-◌, ◌*◌, ◌^◌, ◌<◌, ◌≤◌, ◌==◌, if◌then◌else◌, List, length, Option, None, Some, slice_index, slice_set}
 use Rattle.qc_model.specs.declared.decision.Decision.{Decision}
-use Rattle.qc_model.specs.declared.limits.TheConstants.{MOST_START}
 use Rattle.qc_model.specs.Instance.{InstanceView}
 use Rattle.qc_model.specs.Nodes.{Meets, forced, head}
 
@@ -47,4 +46,3 @@ pub record AreRest (inst : InstanceView) (ds : List Decision) (cells : List ℕ)
   pub reasons : (j : ℕ) → j < length inst.tasks → IsReason inst ds cells j (raiser_at (length inst.tasks) cells j)
   pub least : AreAtMost inst ds cells
   pub low : (j : ℕ) → j < length inst.tasks → head inst ds j ≤ 2 ^ 31
-  pub soon : (j : ℕ) → j < length inst.tasks → start_at cells j ≤ MOST_START

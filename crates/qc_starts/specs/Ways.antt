@@ -1,4 +1,4 @@
--- Ways back from a task by what raised each.
+-- inner: ways back from a task by what raised each.
 use Rattle.std.specs.Prelude.{◌≡◌, ◌≢◌, ℕ, ◌<◌, nat_eq, List, [], ◌∷◌, length, Option, None, Some, slice_index}
 use Rattle.std.specs.List.{AllByRecursion, IsDistinct}
 

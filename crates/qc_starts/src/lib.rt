@@ -1,4 +1,6 @@
-//! the one before it, or a ring of such tasks where nothing meets the node.
+//! The earliest start times of a search node. A decision raises starts along arcs behind one task;
+//! undoing it restores them. Also the critical chain that shows the node's end, or the ring that shows
+//! that the node is infeasible.
 #![tactic(auto)]
 
 mod arcs;
@@ -10,7 +12,6 @@ mod place;
 mod spread;
 mod starts;
 mod step;
-mod tasks;
 mod walk;
 
 pub use starts::Starts;

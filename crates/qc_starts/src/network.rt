@@ -1,6 +1,7 @@
-// The decisions of a node, with the arcs between its tasks.
+//! The decisions of a node, with the arcs between its tasks.
 
 ghost use Rattle.std.specs.Prelude.{◌≡◌, ◌-◌, ◌<◌, ◌≤◌, [], ◌∷◌, IfOk, drop, length, reverse};
+ghost use Rattle.qc_model.specs.declared.limits.TheConstants.{MOST_TASKS};
 ghost use Rattle.qc_model.specs.Instance.{Valid};
 ghost use Rattle.qc_model.specs.Nodes.{Fits};
 ghost use Rattle.qc_dist.specs.Node.{IsOpen};
@@ -57,8 +58,8 @@ impl Network {
         ensures sound { IfOk result IsSound }
     {
         let decisions = Decisions::new(alloc, inst)?;
-        let arena = open_arena(alloc, inst, &decisions)?;
-        let room = inst.tasks().len() + inst.apart().len();
+        let arena = open_arena(alloc, &decisions)?;
+        let room = inst.task_count() as usize + inst.apart().len();
         Ok(Network {
             decisions,
             arena,
@@ -67,15 +68,14 @@ impl Network {
     }
 
     /// Decides one thing more.
-    pub(crate) fn add(&mut self, inst: &Instance, decision: Decision)
-        requires same { self.old.inst ≡ inst.now }
-        requires open { IsOpen inst.now self.old.decisions decision }
+    pub(crate) fn add(&mut self, decision: Decision)
+        requires { IsOpen self.old.inst self.old.decisions decision }
         ensures inst { self.new.inst ≡ self.old.inst }
         ensures decisions { self.new.decisions ≡ decision ∷ self.old.decisions }
         ensures sound { IsSound self.new }
     {
         let mark = self.arena.len();
-        decide(&mut self.decisions, inst, decision, &mut self.arena);
+        decide(&mut self.decisions, decision, &mut self.arena);
         self.marks.push_reserved(mark);
     }
 
@@ -98,6 +98,22 @@ impl Network {
         ensures { result ≡ length self.now.decisions }
     {
         self.marks.len() as u32
+    }
+
+    /// The instance.
+    pub(crate) fn instance(&self) -> &Instance
+        ensures same { result.now ≡ self.now.inst }
+        ensures valid { Valid self.now.inst }
+    {
+        self.decisions.instance()
+    }
+
+    /// How many tasks there are.
+    pub(crate) fn task_count(&self) -> u16
+        ensures count { result ≡ length self.now.inst.tasks }
+        ensures bound { result ≤ MOST_TASKS }
+    {
+        self.instance().task_count()
     }
 
     /// The decisions.

@@ -1,4 +1,4 @@
-// Starts before any decision: each task is placed once all that it waits for are.
+//! Starts before any decision: each task is placed once all that it waits for are.
 
 ghost use Rattle.std.specs.Prelude.{◌≡◌, ◌+◌, ◌*◌, ◌^◌, ◌<◌, ◌≤◌, [], true, Some, if◌then◌else◌, length, nat_lt};
 ghost use Rattle.qc_starts.specs.NodeArcs.{IsSound};
@@ -10,9 +10,7 @@ ghost use Rattle.qc_starts.specs.Values.{AreRest, start_at};
 
 use crate::network::Network;
 use crate::spread::Spread;
-use crate::tasks::task_count;
 use qc_arena::Edge;
-use qc_model::Instance;
 use qc_num::{Steps, Tick};
 use std::sync::ledger::Ledger;
 
@@ -31,12 +29,11 @@ impl Spread {
     }
 
     /// A task that isn't placed and is ready to be.
-    fn ready(&self, network: &Network, inst: &Instance) -> Option<u16>
-        requires same { network.now.inst ≡ inst.now }
+    fn ready(&self, network: &Network) -> Option<u16>
         requires size { length self.now.pending.items ≡ length network.now.inst.tasks }
         ensures { IsReadyPick network.now self.now.pending.items (length network.now.inst.tasks) result }
     {
-        for task in 0..task_count(inst) {
+        for task in 0..network.task_count() {
             if self.pending[task as usize] && self.is_ready(network, task) {
                 return Some(task);
             }
@@ -62,22 +59,16 @@ impl Spread {
         }
     }
 
-    /// When a task can start by its head and by the arcs into it, and the task behind it that asks for
-    /// this, if one does.
-    pub(crate) fn soonest(
-        &self,
-        network: &Network,
-        inst: &Instance,
-        task: u16,
-    ) -> (Tick, Option<u16>)
-        requires same { network.now.inst ≡ inst.now }
+    /// The earliest start of a task by its release time and the arcs into it, and the predecessor
+    /// that determines it, if one does.
+    pub(crate) fn soonest(&self, network: &Network, task: u16) -> (Tick, Option<u16>)
         requires task { task < length network.now.inst.tasks }
         requires count { length self.now.values.cells ≡ 2 * length network.now.inst.tasks }
         requires soon { (arc : Edge) → IsIn network.now.arcs arc → arc.to ≡ task
             → start_at self.now.values.cells arc.from ≤ 2 ^ 42 }
         ensures { IsSoonest network.now self.now.values.cells task result.0 result.1 [] }
     {
-        let mut start = network.decisions().lead(inst, task);
+        let mut start = network.decisions().lead(task);
         let mut raiser = None;
         for arc in network.arena().into_of(task) {
             self.wait_for(arc, &mut start, &mut raiser);
@@ -86,14 +77,7 @@ impl Spread {
     }
 
     /// Places a task as early as its head and the arcs into it allow.
-    fn place<L: Ledger>(
-        &mut self,
-        network: &Network,
-        inst: &Instance,
-        task: u16,
-        steps: &mut Steps<L>,
-    )
-        requires same { network.now.inst ≡ inst.now }
+    fn place<L: Ledger>(&mut self, network: &Network, task: u16, steps: &mut Steps<L>)
         requires sound { IsSound network.now }
         requires task { task < length network.now.inst.tasks }
         requires pending { is_pending self.old.pending.items task ≡ true }
@@ -105,20 +89,14 @@ impl Spread {
         ensures noted { self.new.values.noted.items ≡ self.old.values.noted.items }
         ensures olds { self.new.olds.items ≡ self.old.olds.items }
     {
-        let (start, raiser) = self.soonest(network, inst, task);
+        let (start, raiser) = self.soonest(network, task);
         self.values
-            .fill(task_count(inst), task, start, raiser, steps);
+            .fill(network.task_count(), task, start, raiser, steps);
         self.pending[task as usize] = false;
     }
 
     /// Places all tasks.
-    pub(crate) fn place_all<L: Ledger>(
-        &mut self,
-        network: &Network,
-        inst: &Instance,
-        steps: &mut Steps<L>,
-    )
-        requires same { network.now.inst ≡ inst.now }
+    pub(crate) fn place_all<L: Ledger>(&mut self, network: &Network, steps: &mut Steps<L>)
         requires sound { IsSound network.now }
         requires none { network.now.decisions ≡ [] }
         requires placed { ArePlaced network.now self.old.values.cells self.old.pending.items }
@@ -128,8 +106,8 @@ impl Spread {
         ensures olds { self.new.olds.items ≡ self.old.olds.items }
         ensures size { length self.new.pending.items ≡ length self.old.pending.items }
     {
-        while let Some(task) = self.ready(network, inst) {
-            self.place(network, inst, task, steps);
+        while let Some(task) = self.ready(network) {
+            self.place(network, task, steps);
         }
     }
 }

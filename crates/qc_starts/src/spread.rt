@@ -1,4 +1,4 @@
-// Starts that are raised behind a task, along the arcs, until none is too low.
+//! Starts that are raised behind a task, along the arcs, until none is too low.
 
 ghost use Rattle.std.specs.Prelude.{◌≡◌, ℕ, ◌+◌, ◌*◌, ◌^◌, ◌<◌, ◌≤◌, ◌&&◌, ◌==◌, true, false, [], if◌then◌else◌, IfOk, IfSome, IsTrue, MatchOption, None, Some, length, slice_index_or, slice_set};
 ghost use Rattle.qc_starts.specs.NodeArcs.{IsSound};
@@ -10,9 +10,7 @@ ghost use Rattle.qc_starts.specs.Values.{raised, start_at};
 use crate::network::Network;
 use crate::noted::{Noted, clear};
 use crate::step::Step;
-use crate::tasks::task_count;
 use qc_arena::Edge;
-use qc_model::Instance;
 use qc_num::{OutOfMemory, Steps, Tick};
 use std::alloc::Global;
 use std::sync::ledger::Ledger;
@@ -201,15 +199,8 @@ impl Spread {
     }
 
     /// Raises the root to its head, and along the arcs into it.
-    fn raise_root<L: Ledger>(
-        &mut self,
-        network: &Network,
-        inst: &Instance,
-        root: u16,
-        steps: &mut Steps<L>,
-    )
+    fn raise_root<L: Ledger>(&mut self, network: &Network, root: u16, steps: &mut Steps<L>)
         requires sound { IsSound network.now }
-        requires same { network.now.inst ≡ inst.now }
         requires rooting { IsRooting network.now root self.old.olds.items self.old.values.cells }
         requires only { IsOnly self.old.pending.items (length network.now.inst.tasks) root }
         requires notes { HasNotes self.old.values }
@@ -219,10 +210,10 @@ impl Spread {
         ensures spreading { IsSpreading network.now root self.new.olds.items self.new.values.cells
             self.new.pending.items [] }
     {
-        let (start, raiser) = self.soonest(network, inst, root);
+        let (start, raiser) = self.soonest(network, root);
         if self.values.start(root) < start {
             self.values
-                .raise(task_count(inst), root, start, raiser, steps);
+                .raise(network.task_count(), root, start, raiser, steps);
         }
     }
 
@@ -230,12 +221,10 @@ impl Spread {
     pub(crate) fn settle<L: Ledger>(
         &mut self,
         network: &Network,
-        inst: &Instance,
         root: u16,
         steps: &mut Steps<L>,
     ) -> Step
         requires sound { IsSound network.now }
-        requires same { network.now.inst ≡ inst.now }
         requires rooting { IsRooting network.now root self.old.olds.items self.old.values.cells }
         requires size { length self.old.olds.items ≡ length network.now.inst.tasks }
         requires only { IsOnly self.old.pending.items (length network.now.inst.tasks) root }
@@ -245,7 +234,7 @@ impl Spread {
         ensures wrote { Wrote self.old.values self.new.values steps.old steps.new }
         ensures settled { IsSettledTo network.now root self.new.olds.items self.new.values.cells result }
     {
-        self.raise_root(network, inst, root, steps);
+        self.raise_root(network, root, steps);
         if self.raise_behind(network, root, steps) {
             Step::Cycle
         } else {

@@ -1,7 +1,9 @@
+//! The earliest start times of a search node, kept while decisions are made and taken back.
+
 ghost use Rattle.std.specs.Prelude.{◌≡◌, ◌↔◌, ◌+◌, ◌*◌, ◌<◌, ◌≤◌, ◌⊎◌, None, [], ◌∷◌, IfOk, IfSome, IsTrue, drop, length, nat_lt, sum, take};
 ghost use Rattle.qc_model.specs.declared.decision.Decision.TheVariants.{Assign, Order};
 ghost use Rattle.qc_model.specs.declared.limits.TheConstants.{MOST_DISTANCE, MOST_READY, MOST_START, MOST_TASKS, MOST_WORK};
-ghost use Rattle.qc_model.specs.Instance.{IsApart};
+ghost use Rattle.qc_model.specs.Instance.{IsApart, Valid};
 ghost use Rattle.qc_model.specs.Leaves.{done_at, tasks_on};
 ghost use Rattle.qc_model.specs.Nodes.{Fits, HasStarts, IsComplete, IsInReach, IsNodeEnd, IsSettled, assigned, reaches};
 ghost use Rattle.qc_num.specs.Paths.{HasRoom};
@@ -18,10 +20,9 @@ use crate::latest::{last_end, latest};
 use crate::network::Network;
 use crate::spread::Spread;
 use crate::step::Step;
-use crate::tasks::task_count;
 use crate::walk::{chain_to, ring_behind};
 use qc_arena::ArcArena;
-use qc_model::{Decision, Instance, copy};
+use qc_model::{Decision, Instance};
 use qc_num::{OutOfMemory, Path, Steps, Tick};
 use qc_trail::{Cells, Trail};
 use std::alloc::Global;
@@ -38,12 +39,11 @@ fn root_of(decision: Decision) -> u16
     }
 }
 
-/// The least starts of a node of the search: of an instance, of which it keeps a copy, and a list of
-/// decisions. Where no starts meet the node it is stuck, until decisions are taken back. A decision
+/// The earliest start times of a search node: of a list of decisions, and of the instance that they are
+/// made for. Where no starts meet the node it is stuck, until decisions are taken back. A decision
 /// costs what it changes, and so does taking it back. All memory is taken by `open`.
 #[derive(Drop)]
 pub struct Starts {
-    inst: Instance,
     network: Network,
     spread: Spread,
     /// How many notes there were before each decision.
@@ -69,25 +69,23 @@ impl Model for Starts {
 /// The starts before any decision.
 fn open_spread<L: Ledger>(
     alloc: Global,
-    inst: &Instance,
     network: &Network,
     blank: Blank,
 ) -> Result<Spread, OutOfMemory>
     requires name { blank.name ≡ L.name }
     requires parts { blank.parts ≡ L.parts }
     requires some { 0 < L.parts }
-    requires same { network.now.inst ≡ inst.now }
     requires sound { IsSound network.now }
     requires none { network.now.decisions ≡ [] }
-    ensures rest { IfOk result (λ spread. AreRest inst.now [] spread.values.cells) }
-    ensures sized { IfOk result (AreSized inst.now) }
+    ensures rest { IfOk result (λ spread. AreRest network.now.inst [] spread.values.cells) }
+    ensures sized { IfOk result (AreSized network.now.inst) }
     ensures notes { IfOk result (λ spread. spread.values.trail.notes ≡ []) }
 {
     let mut steps = Steps::<L>::new(blank);
-    let count = task_count(inst);
-    let room = count as u32 + inst.apart().len() as u32;
+    let count = network.task_count();
+    let room = count as u32 + network.instance().apart().len() as u32;
     let mut spread = Spread::open(alloc, count, room)?;
-    spread.place_all(network, inst, &mut steps);
+    spread.place_all(network, &mut steps);
     Ok(spread)
 }
 
@@ -102,10 +100,9 @@ impl Starts {
         ensures noted { IfOk result (λ node. node.noted ≡ []) }
     {
         let network = Network::open(alloc, inst)?;
-        let spread = open_spread::<Brand>(alloc, inst, &network, Blank::new(1))?;
-        let room = inst.tasks().len() + inst.apart().len();
+        let spread = open_spread::<Brand>(alloc, &network, Blank::new(1))?;
+        let room = inst.task_count() as usize + inst.apart().len();
         Ok(Starts {
-            inst: copy(alloc, inst)?,
             network,
             spread,
             marks: Vec::with_capacity(alloc, room)?,
@@ -114,77 +111,65 @@ impl Starts {
         })
     }
 
+    /// The instance.
+    pub fn instance(&self) -> &Instance
+        ensures same { result.now ≡ self.now.inst }
+        ensures valid { Valid self.now.inst }
+    {
+        self.network.instance()
+    }
+
     /// Decides one thing more.
-    fn decide<L: Ledger>(
-        &mut self,
-        inst: &Instance,
-        decision: Decision,
-        steps: &mut Steps<L>,
-    ) -> Step
-        requires same { self.old.inst ≡ inst.now }
-        requires starts { HasStarts inst.now self.old.decisions }
-        requires open { IsOpen inst.now self.old.decisions decision }
-        requires reach { IsReached inst.now decision }
+    fn decide<L: Ledger>(&mut self, decision: Decision, steps: &mut Steps<L>) -> Step
+        requires starts { HasStarts self.old.inst self.old.decisions }
+        requires open { IsOpen self.old.inst self.old.decisions decision }
+        requires reach { IsReached self.old.inst decision }
         ensures inst { self.new.inst ≡ self.old.inst }
         ensures decisions { self.new.decisions ≡ decision ∷ self.old.decisions }
-        ensures step { IsStep inst.now self.new.decisions result }
+        ensures step { IsStep self.old.inst self.new.decisions result }
         ensures noted { IsNoted self.old self.new result steps.old steps.new }
         ensures back { taken_back (length self.old.decisions) self.new ≡ self.old }
         ensures steps { steps.old ≤ steps.new }
     {
         let mark = self.spread.values.trail.mark();
-        self.network.add(inst, decision);
+        self.network.add(decision);
         self.marks.push_reserved(mark);
         self.root = root_of(decision);
         self.spread.begin(self.root);
-        self.step = self.spread.settle(&self.network, inst, self.root, steps);
+        self.step = self.spread.settle(&self.network, self.root, steps);
         self.step
     }
 
     /// Puts a task on a crane that reaches it. `Cycle` exactly where no starts meet the node any more.
-    pub fn assign<L: Ledger>(
-        &mut self,
-        inst: &Instance,
-        task: u16,
-        crane: u16,
-        steps: &mut Steps<L>,
-    ) -> Step
-        requires same { self.old.inst ≡ inst.now }
-        requires starts { HasStarts inst.now self.old.decisions }
-        requires task { task < length inst.now.tasks }
-        requires crane { crane < length inst.now.cranes }
+    pub fn assign<L: Ledger>(&mut self, task: u16, crane: u16, steps: &mut Steps<L>) -> Step
+        requires starts { HasStarts self.old.inst self.old.decisions }
+        requires task { task < length self.old.inst.tasks }
+        requires crane { crane < length self.old.inst.cranes }
         requires none { assigned self.old.decisions task ≡ None }
-        requires reach { IsTrue (reaches inst.now task crane) }
+        requires reach { IsTrue (reaches self.old.inst task crane) }
         ensures inst { self.new.inst ≡ self.old.inst }
         ensures decisions { self.new.decisions ≡ Assign task crane ∷ self.old.decisions }
-        ensures step { IsStep inst.now self.new.decisions result }
+        ensures step { IsStep self.old.inst self.new.decisions result }
         ensures noted { IsNoted self.old self.new result steps.old steps.new }
         ensures back { taken_back (length self.old.decisions) self.new ≡ self.old }
         ensures steps { steps.old ≤ steps.new }
     {
-        self.decide(inst, Decision::Assign(task, crane), steps)
+        self.decide(Decision::Assign(task, crane), steps)
     }
 
     /// Puts one of two apart tasks first. `Cycle` exactly where no starts meet the node any more.
-    pub fn order<L: Ledger>(
-        &mut self,
-        inst: &Instance,
-        i: u16,
-        j: u16,
-        steps: &mut Steps<L>,
-    ) -> Step
-        requires same { self.old.inst ≡ inst.now }
-        requires starts { HasStarts inst.now self.old.decisions }
-        requires apart { IsApart inst.now i j ⊎ IsApart inst.now j i }
-        requires unsettled { ¬ IsSettled inst.now self.old.decisions i j }
+    pub fn order<L: Ledger>(&mut self, i: u16, j: u16, steps: &mut Steps<L>) -> Step
+        requires starts { HasStarts self.old.inst self.old.decisions }
+        requires apart { IsApart self.old.inst i j ⊎ IsApart self.old.inst j i }
+        requires unsettled { ¬ IsSettled self.old.inst self.old.decisions i j }
         ensures inst { self.new.inst ≡ self.old.inst }
         ensures decisions { self.new.decisions ≡ Order i j ∷ self.old.decisions }
-        ensures step { IsStep inst.now self.new.decisions result }
+        ensures step { IsStep self.old.inst self.new.decisions result }
         ensures noted { IsNoted self.old self.new result steps.old steps.new }
         ensures back { taken_back (length self.old.decisions) self.new ≡ self.old }
         ensures steps { steps.old ≤ steps.new }
     {
-        self.decide(inst, Decision::Order(i, j), steps)
+        self.decide(Decision::Order(i, j), steps)
     }
 
     /// Whether no starts meet the node.
@@ -258,7 +243,7 @@ impl Starts {
         }
     }
 
-    /// When a task starts at the least.
+    /// The earliest start time of a task, in ticks.
     pub fn start(&self, j: u16) -> Tick
         requires starts { HasStarts self.now.inst self.now.decisions }
         requires task { j < length self.now.inst.tasks }
@@ -268,13 +253,13 @@ impl Starts {
         self.spread.values.start(j)
     }
 
-    /// When the last task ends, if all start at the least; 0 where there is no task.
+    /// When the last task ends, if all start as early as they can; 0 where there is no task.
     pub fn ends(&self) -> Tick
         requires { HasStarts self.now.inst self.now.decisions }
         ensures end { IsNodeEnd self.now.inst self.now.decisions result }
         ensures bound { result ≤ MOST_START }
     {
-        last_end(&self.inst, &self.spread.values)
+        last_end(&self.network, &self.spread.values)
     }
 
     /// The crane of a task; `None` exactly where it has none.
@@ -301,7 +286,7 @@ impl Starts {
         ensures ticks { result ≡ done_at self.now.inst self.now.decisions k }
         ensures bound { result ≤ MOST_READY + MOST_TASKS * MOST_WORK + 2 * MOST_DISTANCE }
     {
-        self.network.decisions().done_at(&self.inst, k)
+        self.network.decisions().done_at(k)
     }
 
     /// The ticks of the tasks that no crane has.
@@ -316,7 +301,7 @@ impl Starts {
     pub fn complete(&self) -> bool
         ensures { IsTrue result ↔ IsComplete self.now.inst self.now.decisions }
     {
-        is_complete(self.network.decisions(), &self.inst)
+        is_complete(self.network.decisions())
     }
 
     /// Whether one of two tasks is forced to start after the other.
@@ -325,7 +310,7 @@ impl Starts {
         requires second { j < length self.now.inst.tasks }
         ensures { IsTrue result ↔ IsSettled self.now.inst self.now.decisions i j }
     {
-        self.network.decisions().settled(&self.inst, i, j)
+        self.network.decisions().settled(i, j)
     }
 
     /// The arcs between the tasks: from one to another where the second is forced to start after the
@@ -355,8 +340,8 @@ impl Starts {
         &self.spread.values.trail
     }
 
-    /// Writes a chain of tasks, each forced after the one before it, that ends when the node does;
-    /// an empty one where there is no task.
+    /// Writes a critical chain: tasks, each forced after the one before it, that end when the node
+    /// does; an empty one where there is no task.
     pub fn why_path(&self, path: &mut Path)
         requires starts { HasStarts self.now.inst self.now.decisions }
         requires room { HasRoom (length self.now.inst.tasks) path.old }
@@ -364,9 +349,9 @@ impl Starts {
         ensures count { length path.new.items ≤ length self.now.inst.tasks }
         ensures room { path.new.capacity ≡ path.old.capacity }
     {
-        match latest(&self.inst, &self.spread.values) {
+        match latest(&self.network, &self.spread.values) {
             None => path.clear(),
-            Some(last) => chain_to(&self.spread.values, task_count(&self.inst), last, path),
+            Some(last) => chain_to(&self.spread.values, self.network.task_count(), last, path),
         }
     }
 
@@ -378,6 +363,11 @@ impl Starts {
         ensures count { length path.new.items ≤ length self.now.inst.tasks }
         ensures room { path.new.capacity ≡ path.old.capacity }
     {
-        ring_behind(&self.spread.values, task_count(&self.inst), self.root, path);
+        ring_behind(
+            &self.spread.values,
+            self.network.task_count(),
+            self.root,
+            path,
+        );
     }
 }

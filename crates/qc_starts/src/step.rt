@@ -1,3 +1,5 @@
+//! What a decision leads to.
+
 /// What a decision leads to.
 #[derive(Clone, Copy, Debug, PartialEq, Eq)]
 pub enum Step {

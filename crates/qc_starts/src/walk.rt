@@ -1,4 +1,4 @@
-// The way back from a task by what raised each, to a task that nothing raised or around a ring.
+//! The way back from a task by what raised each, to a task that nothing raised or around a ring.
 
 ghost use Rattle.std.specs.Prelude.{◌≡◌, ◌*◌, ◌+◌, ◌<◌, ◌≤◌, ◌∷◌, length};
 ghost use Rattle.qc_num.specs.Paths.{HasRoom};

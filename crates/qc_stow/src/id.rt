@@ -24,18 +24,21 @@ impl Model for Id {
     ghost invariant = { λ id. IsTrue (is_id id.text) };
 }
 
+/// Whether the byte may stand in an id.
 fn is_id_byte(b: u8) -> bool
     ensures { result ≡ is_id_byte b }
 {
     b >= 0x21 && b <= 0x7E && b != b',' && b != b'"'
 }
 
+/// Whether each byte may stand in an id.
 fn has_id_bytes(bytes: &[u8]) -> bool
     ensures { result ≡ list_all is_id_byte bytes.now }
 {
     bytes.iter().all(|b| is_id_byte(*b))
 }
 
+/// Whether the bytes are an id.
 fn is_id(bytes: &[u8]) -> bool
     ensures { result ≡ is_id bytes.now }
 {
@@ -43,7 +46,7 @@ fn is_id(bytes: &[u8]) -> bool
 }
 
 impl Id {
-    // The id with these bytes; `None` exactly where they aren't an id.
+    /// The id with these bytes; `None` exactly where they aren't an id.
     pub(crate) fn of(bytes: &[u8]) -> Option<Id>
         ensures id { IsSome result ↔ IsTrue (is_id bytes.now) }
         ensures bytes { IfSome result (λ i. i ≡ bytes.now) }

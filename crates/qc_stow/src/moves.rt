@@ -29,6 +29,7 @@ impl Model for Moves {
 }
 
 impl Moves {
+    /// Moves of these rows.
     pub(crate) fn of(rows: Vec<Row>) -> Moves
         requires { AreMoves rows.items }
         ensures { result ≡ rows.items }

@@ -50,6 +50,7 @@ impl Row {
     ghost use Rattle.qc_cell.specs.Cells.{cell_in};
     ghost use Rattle.qc_num.specs.Reading.{with_fault};
 
+    /// The way that a field writes.
     fn move_in(field: &[u8]) -> Result<Move, StowKind>
         ensures { result ≡ move_in field.now }
     {
@@ -62,6 +63,7 @@ impl Row {
         }
     }
 
+    /// The cell that a field writes.
     fn cell_in(field: &[u8]) -> Result<Cell, StowKind>
         ensures { result ≡ with_fault StowKind.Cell (cell_in field.now) }
     {
@@ -71,7 +73,7 @@ impl Row {
         }
     }
 
-    // The row that the fields of a record write, or the first fault of them.
+    /// The row that the fields of a record write, or the first fault of them.
     pub(crate) fn read(fields: &ByteRecord) -> Result<Row, StowKind>
         ensures { result ≡ row_in (fields_of fields.now) }
     {

@@ -38,6 +38,7 @@ impl<'a> Model for Taken<'a> {
 }
 
 impl<'a> Taken<'a> {
+    /// Nothing is taken.
     pub(crate) fn new(alloc: Global) -> Taken<'a>
         ensures ids { result.ids ≡ [] }
         ensures slots { result.slots ≡ [] }
@@ -48,7 +49,7 @@ impl<'a> Taken<'a> {
         }
     }
 
-    // Takes an id for a kind of move; `false` where it is taken already.
+    /// Takes an id for a kind of move; `false` where it is taken already.
     pub(crate) fn take_id(&mut self, kind: Move, id: &'a [u8]) -> Result<bool, OutOfMemory>
         ensures new { IfOk result (λ new. new ≡ not (has_taken_id self.old.ids kind id.now)) }
         ensures ids { IfOk result (λ new. IsTrue new → self.new.ids ≡ self.old.ids
@@ -58,7 +59,7 @@ impl<'a> Taken<'a> {
         Ok(self.ids.insert((kind, id))?)
     }
 
-    // Takes a slot; `false` where it is taken already.
+    /// Takes a slot; `false` where it is taken already.
     fn take_slot(&mut self, kind: Move, slot: Slot) -> Result<bool, OutOfMemory>
         ensures new { IfOk result (λ new. new ≡ not (has_taken_slot self.old.slots kind slot)) }
         ensures slots { IfOk result
@@ -68,7 +69,7 @@ impl<'a> Taken<'a> {
         Ok(self.slots.insert((kind, slot))?)
     }
 
-    // Takes the slots of a cell; `false` where one of them is taken already.
+    /// Takes the slots of a cell; `false` where one of them is taken already.
     pub(crate) fn take_cell(&mut self, kind: Move, cell: Cell) -> Result<bool, OutOfMemory>
         ensures new { IfOk result (λ new. new ≡ not (has_taken_cell self.old.slots kind cell)) }
         ensures slots { IfOk result

@@ -1,5 +1,5 @@
 pub mod Digits
 pub mod OneSpelling
-pub mod Feeds
+pub mod NodeLemmas
 pub mod TreeBound
 pub mod LineInLemmas

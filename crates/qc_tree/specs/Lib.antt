@@ -1,5 +1,4 @@
 pub mod Fields
-pub mod Left
 pub mod Lines
 pub mod Trees
 pub mod LineIn

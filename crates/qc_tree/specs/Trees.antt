@@ -1,5 +1,5 @@
--- Bound trees: branchings over nodes, ended by leaves, that show an end which no one-way schedule beats.
-use Rattle.std.specs.Prelude.{◌≡◌, ℕ, ◌+◌, ◌<◌, ◌≤◌, List, [], ◌∷◌, ◌++◌, map, length, unwrap_or, None, IsSome, sum_by}
+-- public: bound trees: branchings over nodes, ended by leaves, that show an end which no one-way schedule beats.
+use Rattle.std.specs.Prelude.{◌≡◌, ℕ, ◌+◌, ◌<◌, ◌≤◌, Bool, true, false, List, [], ◌∷◌, ◌++◌, map, length, count_by, unwrap_or, None, IsSome}
 use Rattle.std.specs.List.{flat_map}
 use Rattle.qc_num.specs.declared.bound.Bound.{Bound}
 use Rattle.qc_num.specs.declared.bound.Bound.TheVariants.{Least, Never}
@@ -10,67 +10,90 @@ use Rattle.qc_model.specs.declared.schedule.Slot.{Slot}
 use Rattle.qc_model.specs.Instance.{InstanceView, IsApart}
 use Rattle.qc_model.specs.Leaves.{Leaf, Version, chain, ring, reach, work, without_berths, with_berths, crane_numbers, leaf_value}
 use Rattle.qc_model.specs.Nodes.{IsSettled, assigned}
+use Rattle.qc_model.specs.Numbers.{most_branchings}
 use Rattle.qc_model.specs.OneWay.{GoesOneWay, mirror}
 use Rattle.qc_model.specs.Rules.{ends}
-use Rattle.qc_tree.specs.declared.line.TheConstants.{MOST_BRANCHINGS}
 use Rattle.qc_tree.specs.declared.line.Line.{Line}
 use Rattle.qc_tree.specs.declared.line.Line.TheVariants.{Title, Title2, Up, Down, Assign, Order, Chain, Ring, Reach, Work, End}
 use Rattle.qc_tree.specs.Lines.{line_text}
 
--- a part of a tree; tasks and cranes are numbered from 0
-pub data Part : Type 0 where
+-- what the line of a node says; tasks are numbered from 0
+pub data Sign : Type 0 where
   -- nothing more is decided
-  leaf : (shows : Leaf) → Part
-  -- which crane does the task: a child for each crane
-  on_task : (task : ℕ) → (children : ℕ → Part) → Part
-  -- which of two apart tasks is first: a child for each order
-  on_pair : (first second : ℕ) → (in_order turned : Part) → Part
+  leaf : (shows : Leaf) → Sign
+  -- which crane does the task
+  on_task : (task : ℕ) → Sign
+  -- which of two apart tasks is first
+  on_pair : (first second : ℕ) → Sign
 
--- a part for the instance, and one for its mirror
+-- a node: its decisions, newest first, and what its line says
+pub record Node : Type 0 where
+  pub decisions : List Decision
+  pub sign : Sign
+
+-- the line holds where it stands: a leaf shows something, a branching is on what is open
+abbrev pub Holds : Version → InstanceView → List Decision → Sign → Type 0
+Holds version inst ds (leaf shows) = IsSome (leaf_value version inst ds shows)
+Holds version inst ds (on_task j) = (j < length inst.tasks) × (assigned ds j ≡ None)
+Holds version inst ds (on_pair i j) = IsApart inst i j × (¬ IsSettled inst ds i j)
+
+-- the decisions of a node's children, in the order of the file: one for each crane, or one for each order
+abbrev pub children : InstanceView → List Decision → Sign → List (List Decision)
+children inst ds (leaf shows) = []
+children inst ds (on_task j) = map (λ k. decide.Assign j k ∷ ds) (crane_numbers inst)
+children inst ds (on_pair i j) = (decide.Order i j ∷ ds) ∷ (decide.Order j i ∷ ds) ∷ []
+
+-- where nodes of these decisions must come, these nodes come, each before its children, and leave those others
+abbrev pub Leads : Version → InstanceView → List (List Decision) → List Node → List (List Decision) → Type 0
+Leads version inst due [] left = due ≡ left
+Leads version inst [] (node ∷ nodes) left = ⊥
+Leads version inst (ds ∷ more) (node ∷ nodes) left =
+    (node.decisions ≡ ds) × Holds version inst ds node.sign
+    × Leads version inst (children inst ds node.sign ++ more) nodes left
+
+-- the nodes are those of a whole part, from the node without decisions on
+abbrev pub IsPart : Version → InstanceView → List Node → Type 0
+IsPart version inst nodes = Leads version inst ([] ∷ []) nodes []
+
+-- a part for the instance, and one for its mirror, each as its nodes in the order of the file
 pub record Tree : Type 0 where
   pub version : Version
-  pub up : Part
-  pub down : Part
+  pub up : List Node
+  pub down : List Node
 
--- the part is one of this node: each leaf holds where it stands, each branching is on what is open there
-abbrev pub IsPart : Version → InstanceView → List Decision → Part → Type 0
-IsPart version inst ds (leaf shows) = IsSome (leaf_value version inst ds shows)
-IsPart version inst ds (on_task j children) =
-    (j < length inst.tasks) × (assigned ds j ≡ None)
-    × ((k : ℕ) → k < length inst.cranes → IsPart version inst (decide.Assign j k ∷ ds) (children k))
-IsPart version inst ds (on_pair i j in_order turned) =
-    IsApart inst i j × (¬ IsSettled inst ds i j)
-    × IsPart version inst (decide.Order i j ∷ ds) in_order
-    × IsPart version inst (decide.Order j i ∷ ds) turned
+-- what a leaf shows; a branching shows nothing by itself
+abbrev pub sign_value : Version → InstanceView → List Decision → Sign → Bound
+sign_value version inst ds (leaf shows) = unwrap_or (leaf_value version inst ds shows) Never
+sign_value version inst ds _ = Never
+
+abbrev pub node_value : Version → InstanceView → Node → Bound
+node_value version inst node = sign_value version inst node.decisions node.sign
 
 -- the least value of the leaves
-abbrev pub part_value : Version → InstanceView → List Decision → Part → Bound
-part_value version inst ds (leaf shows) = unwrap_or (leaf_value version inst ds shows) Never
-part_value version inst ds (on_task j children) =
-    least_bound (map (λ k. part_value version inst (decide.Assign j k ∷ ds) (children k)) (crane_numbers inst))
-part_value version inst ds (on_pair i j in_order turned) =
-    lesser (part_value version inst (decide.Order i j ∷ ds) in_order)
-    (part_value version inst (decide.Order j i ∷ ds) turned)
+abbrev pub part_value : Version → InstanceView → List Node → Bound
+part_value version inst nodes = least_bound (map (node_value version inst) nodes)
 
--- how many branchings a part of an instance with these cranes has
-abbrev pub branchings : List ℕ → Part → ℕ
-branchings cranes (leaf shows) = 0
-branchings cranes (on_task j children) = 1 + sum_by (λ k. branchings cranes (children k)) cranes
-branchings cranes (on_pair i j in_order turned) = 1 + (branchings cranes in_order + branchings cranes turned)
+-- the line branches on something
+abbrev pub branches : Sign → Bool
+branches (leaf shows) = false
+branches _ = true
 
-abbrev pub tree_branchings : InstanceView → Tree → ℕ
-tree_branchings inst tree = branchings (crane_numbers inst) tree.up + branchings (crane_numbers inst) tree.down
+abbrev pub branchings : List Node → ℕ
+branchings = count_by (λ node. branches node.sign)
+
+abbrev pub tree_branchings : Tree → ℕ
+tree_branchings tree = branchings tree.up + branchings tree.down
 
 -- the tree is one of the instance
 pub record IsTree (inst : InstanceView) (tree : Tree) : Type 0 where
-  pub up : IsPart tree.version inst [] tree.up
-  pub down : IsPart tree.version (mirror inst) [] tree.down
-  pub few : tree_branchings inst tree ≤ MOST_BRANCHINGS
+  pub up : IsPart tree.version inst tree.up
+  pub down : IsPart tree.version (mirror inst) tree.down
+  pub few : tree_branchings tree ≤ most_branchings
 
 -- what the tree shows: no one-way schedule of the instance ends earlier
 abbrev pub tree_value : InstanceView → Tree → Bound
 tree_value inst tree =
-    lesser (part_value tree.version inst [] tree.up) (part_value tree.version (mirror inst) [] tree.down)
+    lesser (part_value tree.version inst tree.up) (part_value tree.version (mirror inst) tree.down)
 
 -- a line as it stands in a file
 abbrev pub whole_line : Line → List ℕ → List ℕ
@@ -86,13 +109,15 @@ leaf_text (ring tasks) = whole_line Ring (in_file tasks)
 leaf_text reach = whole_line Reach []
 leaf_text (work end) = whole_line (Work end) []
 
--- a part as it stands in a file: each node before its children
-abbrev pub part_text : List ℕ → Part → List ℕ
-part_text cranes (leaf shows) = leaf_text shows
-part_text cranes (on_task j children) =
-    whole_line (Assign (j + 1)) [] ++ flat_map (λ k. part_text cranes (children k)) cranes
-part_text cranes (on_pair i j in_order turned) =
-    whole_line (Order (i + 1) (j + 1)) [] ++ part_text cranes in_order ++ part_text cranes turned
+-- the line of a node
+abbrev pub sign_text : Sign → List ℕ
+sign_text (leaf shows) = leaf_text shows
+sign_text (on_task j) = whole_line (Assign (j + 1)) []
+sign_text (on_pair i j) = whole_line (Order (i + 1) (j + 1)) []
+
+-- the lines of the nodes
+abbrev pub part_text : List Node → List ℕ
+part_text = flat_map (λ node. sign_text node.sign)
 
 abbrev pub title : Version → Line
 title without_berths = Title
@@ -102,9 +127,9 @@ title with_berths = Title2
 abbrev pub tree_text : InstanceView → Tree → List ℕ
 tree_text inst tree =
     whole_line (title tree.version) []
-    ++ whole_line Up [] ++ part_text (crane_numbers inst) tree.up
-    ++ whole_line Down [] ++ part_text (crane_numbers inst) tree.down
-    ++ whole_line (End (tree_branchings inst tree) (tree_value inst tree)) []
+    ++ whole_line Up [] ++ part_text tree.up
+    ++ whole_line Down [] ++ part_text tree.down
+    ++ whole_line (End (tree_branchings tree) (tree_value inst tree)) []
 
 -- no schedule that goes one way ends before the bound; where it is Never, there is none
 abbrev pub NoneEarlier : InstanceView → Bound → Type 0

@@ -3,11 +3,10 @@
 
 mod fields;
 mod line;
-mod reader;
 mod reading;
 mod writing;
 
-pub use line::{BadLine, Line, MOST_BRANCHINGS};
-pub use reader::{LineFault, LineOpen, LineReader};
+pub use line::{BadLine, Line, LineReader, MOST_BRANCHINGS};
+pub use qc_lines::{LineFault, LineOpen};
 pub use reading::read_line;
 pub use writing::write_line;

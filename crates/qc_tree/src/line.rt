@@ -1,4 +1,14 @@
+//! Lines of a tree.
+ghost use Rattle.std.specs.Prelude.{◌≡◌};
+ghost use Rattle.qc_model.specs.Numbers.{most_branchings};
+
 use qc_num::Bound;
+
+/// A line and its line feed have at most so many bytes.
+pub const MOST_BYTES: usize = 1200;
+
+/// Reads the file of a tree line by line.
+pub type LineReader = qc_lines::LineReader<MOST_BYTES>;
 
 /// How many branchings a tree has at most.
 pub const MOST_BRANCHINGS: u32 = 100_000;
@@ -34,3 +44,8 @@ pub enum Line {
 /// The text is no line of a tree.
 #[derive(Clone, Copy, Debug, PartialEq, Eq, Hash)]
 pub struct BadLine;
+
+/// The limit is the number of the definitions. Nobody calls it; a wrong limit fails its proof.
+fn limit_is_the_definition()
+    ensures { MOST_BRANCHINGS ≡ most_branchings }
+{}

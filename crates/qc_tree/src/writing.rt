@@ -13,7 +13,7 @@ const ROOM: usize = 1240;
 /// written, from its front, that isn't the whole.
 pub fn write_line<K: Sink>(line: &Line, path: &Path, sink: &mut K) -> Result<(), WriteFault>
     requires in_range { IsLine line.now path.now.items }
-    ensures writes { Writes K.written K.beside K.faults sink.old sink.new
+    ensures writes { Writes (K.view sink.old) (K.view sink.new)
         (line_text line.now path.now.items ++ 10 ∷ []) result }
 {
     put_all(sink, text_of(line, path.as_slice()).as_bytes())

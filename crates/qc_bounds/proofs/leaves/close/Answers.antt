@@ -9,26 +9,21 @@ use Rattle.qc_bounds.proofs.leaves.close.Goals.{then-is_late-via-then-is_late, t
 
 pub returns-then-is_late-clause-leaf : goal.returns-then-is_late-clause-leaf
 returns-then-is_late-clause-leaf c =
-    let inst = c.args.inst.now in
+    let inst = c.args.node.now.inst in
     let ds = c.args.node.now.decisions in
-    let why = rw c.requires.same at c.why_path.ensures.why in
-    let is = rw c.requires.same at c.ends.ensures.end in
     let due : IsComplete inst ds ⊎ IsAtMost c.args.best (Least c.ends.result) =
     elim c.then-is_late.branch [
       | then-is_late-via-then-is_late w ↦ inr (c.is_late.ensures.0 w.if-is_late.true)
       | then-is_late-via-else-is_late+then-complete w ↦
-          inl (rw c.requires.same at (w.complete.ensures.0 w.if-complete.true))
+          inl (w.complete.ensures.0 w.if-complete.true)
     ] in
-    chain_closes inst ds c.args.best c.why_path.new.path.items c.ends.result why is due
+    chain_closes inst ds c.args.best c.why_path.new.path.items c.ends.result c.why_path.ensures.why c.ends.ensures.end due
 
 pub returns-else-is_late-2-clause-closed : goal.returns-else-is_late-2-clause-closed
 returns-else-is_late-2-clause-closed c =
-    let reach = rw c.requires.same at c.if-stuck.ensures.in_reach in
-    let starts = rw c.requires.same at c.if-stuck.ensures.none in
-    let all = rw c.requires.same at c.complete.ensures in
-    let is = rw c.requires.same at c.ends.ensures.end in
-    let open_node = never_closable c.args.inst.now c.args.node.now.decisions c.args.best c.ends.result c.work_bound-bound.result
-    reach starts (λ every. false≢true (sym c.if-complete.false ∙ all.1 every)) is
+    let open_node = never_closable c.args.node.now.inst c.args.node.now.decisions c.args.best c.ends.result c.work_bound-bound.result
+    c.if-stuck.ensures.in_reach c.if-stuck.ensures.none
+    (λ every. false≢true (sym c.if-complete.false ∙ c.complete.ensures.1 every)) c.ends.ensures.end
     (λ late. false≢true (sym c.if-is_late.false ∙ c.is_late.ensures.1 late)) c.work_bound-bound.ensures.bound
     (λ late. false≢true (sym c.if-is_late-2.false ∙ c.is_late-2.ensures.1 late)) in
     (λ never. absurd (false≢true never), λ closed. absurd (open_node closed))

@@ -4,7 +4,7 @@ use Rattle.qc_bounds.proofs.work.all_shared.Given as goal
 
 abbrev pub invariant-loop-tick : goal.invariant-loop-tick
 invariant-loop-tick l = record {
-  fit : Fit l.inst l.node.decisions l.tick;
+  fit : Fit l.node.inst l.node.decisions l.tick;
   soon : l.tick ≤ 999999999999;
 }
 

@@ -1,6 +1,5 @@
-use Rattle.std.proofs.Common.{◌≡◌, ◌<◌, ◌≤◌, ℕ, true, false, ap, ◌∙◌, arith}
+use Rattle.std.proofs.Common.{◌≡◌, ◌<◌, ◌≤◌, ℕ, true, false, ap, arith}
 use Rattle.std.proofs.lemmas.Bool.{le-ltb, lt-ltb}
-use Rattle.qc_model.specs.Instance.{InstanceView}
 use Rattle.qc_bounds.specs.declared.work.Early.{Early}
 use Rattle.qc_model.specs.Leaves.{done_at}
 use Rattle.qc_bounds.proofs.Sharing.{next_by}
@@ -10,9 +9,8 @@ use Rattle.qc_bounds.proofs.work.early_by.Goals.{then-done-tick, else-done-tick}
 pub loop-k-preserved : goal.loop-k-preserved
 loop-k-preserved c =
     let k = c.loop-k.k in
-    let done : ℕ → ℕ = done_at c.args.inst.now c.args.node.now.decisions in
-    let same = ap (λ (i : InstanceView). done_at i c.args.node.now.decisions k) c.requires in
-    let is : c.done_at-done.result ≡ done k = c.done_at-done.ensures.ticks ∙ same in
+    let done : ℕ → ℕ = done_at c.args.node.now.inst c.args.node.now.decisions in
+    let is : c.done_at-done.result ≡ done k = c.done_at-done.ensures.ticks in
     elim c.if-done-tick.branch [
       | then-done-tick w ↦
           let low : done k < c.args.tick = omega arith in

@@ -5,8 +5,8 @@ use Rattle.qc_bounds.proofs.work.early_by.Given as goal
 
 abbrev pub invariant-loop-k : goal.invariant-loop-k
 invariant-loop-k l = record {
-  cranes : l.early.cranes ≡ early_cranes (done_at l.inst l.node.decisions) l.tick l.k;
-  ticks : l.early.ticks ≡ early_ticks (done_at l.inst l.node.decisions) l.tick l.k;
+  cranes : l.early.cranes ≡ early_cranes (done_at l.node.inst l.node.decisions) l.tick l.k;
+  ticks : l.early.ticks ≡ early_ticks (done_at l.node.inst l.node.decisions) l.tick l.k;
   few : l.early.cranes ≤ l.k;
   soon : l.early.ticks ≤ 999999999999 * l.k;
 }

@@ -1,6 +1,5 @@
-use Rattle.std.proofs.Common.{◌≡◌, ◌+◌, ◌*◌, ℕ, ap, ◌∙◌, arith}
+use Rattle.std.proofs.Common.{◌≡◌, ◌+◌, ◌*◌, ℕ, ap, arith}
 use Rattle.std.proofs.lemmas.Grind.{div_ceil_times}
-use Rattle.qc_model.specs.Instance.{InstanceView}
 use Rattle.qc_model.specs.Leaves.{crane_numbers}
 use Rattle.qc_model.specs.Leaves.{done_at}
 use Rattle.qc_dist.specs.Kept.{unassigned_ticks}
@@ -9,20 +8,19 @@ use Rattle.qc_bounds.proofs.work.shared_by.Goals as goal
 
 pub div_ceil-requires : goal.div_ceil-requires
 div_ceil-requires c =
-    let inst = c.args.inst.now in
+    let inst = c.args.node.now.inst in
     let done : ℕ → ℕ = done_at inst c.args.node.now.decisions in
     let some = some_early done c.args.tick (crane_numbers inst) _ c.requires.open c.requires.fit in
     omega (arith, some.1, c.early_by-early.ensures.cranes)
 
 pub returns : goal.returns
 returns c =
-    let inst = c.args.inst.now in
+    let inst = c.args.node.now.inst in
     let done : ℕ → ℕ = done_at inst c.args.node.now.decisions in
     let some = some_early done c.args.tick (crane_numbers inst) _ c.requires.open c.requires.fit in
     let early = c.early_by-early.result in
     let few = c.early_by-early.ensures in
-    let same = ap (λ (i : InstanceView). unassigned_ticks i c.args.node.now.decisions) c.requires.same in
-    let work : c.open_ticks.result ≡ unassigned_ticks inst c.args.node.now.decisions = c.open_ticks.ensures.ticks ∙ same in
+    let work : c.open_ticks.result ≡ unassigned_ticks inst c.args.node.now.decisions = c.open_ticks.ensures.ticks in
     let up = div_ceil_times (c.open_ticks.result + early.ticks) early.cranes (omega (arith, some.1, few.cranes)) in
     let product = ap (λ (n : ℕ). c.div_ceil.result * n) few.cranes in
     let quotient = ap (λ (n : ℕ). n * early.cranes) c.div_ceil.ensures in

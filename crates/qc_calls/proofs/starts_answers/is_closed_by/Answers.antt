@@ -18,7 +18,7 @@ closed_so inst ds u tasks (Some kind) closed by = record { tasks = tasks; closab
 
 pub returns : goal.returns
 returns c held =
-    let inst = c.args.inst.now in
+    let inst = c.args.starts.now.inst in
     let ds = c.args.starts.now.decisions in
     let u = c.args.bound in
     let same : c.close.result ≡ c.args.leaf = search (rules, held) in

@@ -8,9 +8,9 @@ pub returns-in-Some-clause-ticks : goal.returns-in-Some-clause-ticks
 returns-in-Some-clause-ticks c =
     let load = c.in-Some.load in
     let kept = rw c.in-Some.is at c.requires.load in
-    let post = c.post_at.ensures in
+    let post = c.post.ensures in
     let bay = (crane c.args.inst.now c.args.k).bay in
-    let berth = read_bay c.post_at.result.bay bay post.bay (rw post.bay at post.on_rail) in
+    let berth = read_bay c.post.result.bay bay post.bay (rw post.bay at post.on_rail) in
     let low = read_bay load.lowest load.lowest refl kept.1 in
     let high = read_bay load.highest load.highest refl kept.2 in
     let between : c.bays_between.result ≡ bays_between (crane c.args.inst.now c.args.k).bay load.lowest = cc in

@@ -10,7 +10,7 @@ travel_over-requires c =
     let gap = c.bays_up.ensures in
     let is = c.gap.ensures.gap in
     let bay = c.bays_up-2.ensures in
-    let high = c.task_at.ensures.on_rail.1 in
+    let high = c.task.ensures.on_rail.1 in
     let narrow : c.bays_up.result ≤ 2000 = omega (arith, bays, gap, is, limits.gap.1) in
     let gaps = mul-le c.bays_up.result c.from.result 2000 8 narrow (omega (arith, c.from.ensures)) in
     omega (arith, bays, bay, high, gaps)

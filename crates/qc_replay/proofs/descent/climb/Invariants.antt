@@ -5,9 +5,9 @@ use Rattle.qc_replay.proofs.descent.climb.Given as goal
 
 abbrev pub invariant-loop-decision : goal.invariant-loop-decision
 invariant-loop-decision l = record {
-  same : l.node.inst ≡ l.inst;
-  were_open : WereOpen l.inst l.node.decisions;
-  nodes : behind l.inst l.node.decisions ≡ behind l.inst l.initial.node.decisions;
+  inst : l.node.inst ≡ l.initial.node.inst;
+  were_open : WereOpen l.initial.node.inst l.node.decisions;
+  nodes : behind l.initial.node.inst l.node.decisions ≡ behind l.initial.node.inst l.initial.node.decisions;
 }
 
 abbrev pub decreases-loop-decision : goal.decreases-loop-decision

@@ -1,13 +1,14 @@
 use Rattle.std.proofs.Common.{length, ap, arith}
 use Rattle.std.proofs.lemmas.List.FromFn.{fill_by_all}
-use Rattle.qc_model.specs.declared.task.Task.{Task}
+use Rattle.qc_model.specs.Instance.{InstanceView}
 use Rattle.qc_model.specs.Nodes.{slot_with}
 use Rattle.qc_model.specs.Rules.{no_slot}
 use Rattle.qc_search.proofs.best.keep.Goals as goal
 
 pub returns : goal.returns
 returns c = λ begins least.
-    let count = ap (length {A = Task}) c.tasks.ensures.tasks in
-    fill_by_all (slot_with c.args.starts.now.decisions begins) c.loop-task.best (length c.args.inst.now.tasks) no_slot
+    let count = ap (λ (i : InstanceView). length i.tasks) c.instance.ensures.same in
+    fill_by_all (slot_with c.args.starts.now.decisions begins) c.loop-task.incumbent (length c.args.starts.now.inst.tasks) no_slot
     c.loop-task.invariant.count
-    (λ j low. c.loop-task.invariant.slots begins least j (omega (arith, low, count, c.loop-task-test.false)))
+    (λ j low. c.loop-task.invariant.slots begins least j
+    (omega (arith, low, count, c.task_count-task-end.ensures.count, c.loop-task-test.false)))

@@ -5,8 +5,8 @@ use Rattle.qc_search.proofs.best.keep.Given as goal
 
 abbrev pub invariant-loop-task : goal.invariant-loop-task
 invariant-loop-task l = record {
-  count : length l.best ≡ length l.inst.tasks;
+  count : length l.incumbent ≡ length l.starts.inst.tasks;
   slots :
-      (begins : List ℕ) → AreLeast l.inst l.starts.decisions begins → (j : ℕ) → j < l.task
-      → slice_index_or l.best j no_slot ≡ slot_with l.starts.decisions begins j;
+      (begins : List ℕ) → AreLeast l.starts.inst l.starts.decisions begins → (j : ℕ) → j < l.task
+      → slice_index_or l.incumbent j no_slot ≡ slot_with l.starts.decisions begins j;
 }

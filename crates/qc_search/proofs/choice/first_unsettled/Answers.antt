@@ -11,33 +11,30 @@ IsIn inst pair = (pair.first < length inst.tasks) × (pair.second < length inst.
 
 pub settled-requires : goal.settled-requires
 settled-requires c =
-    let inst = c.args.inst.now in
+    let inst = c.args.starts.now.inst in
     let k = c.loop-pair.pair-index in
-    let e = c.apart-pair-items.ensures.apart in
+    let e = rw c.instance.ensures.same at c.apart-pair-items.ensures.apart in
+    let v = rw c.instance.ensures.same at c.apart-pair-items.ensures.valid in
     let low : k < length inst.apart = omega (arith, c.loop-pair-test.true, ap (length {A = Pair}) e) in
-    let range = c.apart-pair-items.ensures.valid.apart.range _ _ (apart_at inst k (pair_of 0 0) low) in
+    let range = v.apart.range _ _ (apart_at inst k (pair_of 0 0) low) in
     let both =
-    subst (λ (i : InstanceView). IsIn i (get_or c.apart-pair-items.result.now k (pair_of 0 0))) (sym c.requires.same)
-    (subst (λ (pairs : List Pair). IsIn inst (get_or pairs k (pair_of 0 0))) (sym e) (omega (arith, range.0, range.1), range.1)) in
+    subst (λ (pairs : List Pair). IsIn inst (get_or pairs k (pair_of 0 0))) (sym e) (omega (arith, range.0, range.1), range.1) in
     record { first = both.0; second = both.1 }
 
 pub loop-pair-preserved : goal.loop-pair-preserved
 loop-pair-preserved c = λ k under. elim (cases_eq k c.loop-pair.pair-index) [
   | inl same ↦
       let pairs = c.apart-pair-items.result.now in
-      let ds = c.args.starts.now.decisions in
-      let here =
-      subst (λ (i : InstanceView). IsSettledPair i ds (get_or pairs c.loop-pair.pair-index (pair_of 0 0))) c.requires.same
-      (c.settled.ensures.0 c.if-not-settled.false) in
-      subst (λ (n : ℕ). IsSettledPair c.args.inst.now ds (get_or pairs n (pair_of 0 0))) (sym same) here
+      subst (λ (n : ℕ). IsSettledPair c.args.starts.now.inst c.args.starts.now.decisions (get_or pairs n (pair_of 0 0)))
+      (sym same) (c.settled.ensures.0 c.if-not-settled.false)
   | inr other ↦ c.loop-pair.invariant k (omega arith)
 ]
 
 pub unreachable-requires : goal.unreachable-requires
 unreachable-requires c =
-    let inst = c.args.inst.now in
+    let inst = c.args.starts.now.inst in
     let ds = c.args.starts.now.decisions in
-    let e = c.apart-pair-items.ensures.apart in
+    let e = rw c.instance.ensures.same at c.apart-pair-items.ensures.apart in
     c.requires.undecided (record {
       tasks = c.requires.assigned;
       pairs = λ i j a.

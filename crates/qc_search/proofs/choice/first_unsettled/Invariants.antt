@@ -5,4 +5,4 @@ use Rattle.qc_search.proofs.choice.first_unsettled.Given as goal
 
 abbrev pub invariant-loop-pair : goal.invariant-loop-pair
 invariant-loop-pair l = (k : ℕ) → k < l.pair-index
-    → IsSettledPair l.inst l.starts.decisions (slice_index_or l.pair-items k (pair_of 0 0))
+    → IsSettledPair l.starts.inst l.starts.decisions (slice_index_or l.pair-items k (pair_of 0 0))

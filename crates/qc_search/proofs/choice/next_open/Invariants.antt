@@ -5,6 +5,6 @@ use Rattle.qc_search.proofs.choice.next_open.Given as goal
 
 abbrev pub invariant-loop-task : goal.invariant-loop-task
 invariant-loop-task l = record {
-  is_open : IfSome l.next (IsOpenTask l.inst l.starts.decisions);
+  is_open : IfSome l.next (IsOpenTask l.starts.inst l.starts.decisions);
   none : l.last ≡ None → l.next ≡ None → (j : ℕ) → j < l.task → IsSome (assigned l.starts.decisions j);
 }

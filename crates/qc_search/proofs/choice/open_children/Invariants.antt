@@ -2,9 +2,8 @@ use Rattle.std.proofs.Common.{◌≡◌, ◌≤◌}
 use Rattle.qc_search.proofs.choice.open_children.Given as goal
 
 abbrev pub invariant-loop-crane : goal.invariant-loop-crane
-invariant-loop-crane g l = record {
+invariant-loop-crane l = record {
   stays : l.starts ≡ l.fn.starts;
   room : l.path.capacity ≡ l.fn.path.capacity;
-  steps : l.fn.steps ≤ l.steps;
   few : l.open ≤ 2;
 }

@@ -1,22 +1,21 @@
-use Rattle.std.proofs.Common.{◌≡◌, ◌+◌, ◌≤◌, IfSome, length}
+use Rattle.std.proofs.Common.{◌≡◌, ◌+◌, ◌≤◌, [], Ok, IfSome, length}
 use Rattle.qc_model.specs.declared.direction.Direction.{Direction}
-use Rattle.qc_search.specs.Course.{Went}
+use Rattle.qc_search.specs.Progress.{WritesNodes}
 use Rattle.qc_search.specs.Walk.{IsChild, WereMade, from_child}
 use Rattle.qc_search.proofs.part.advance.Given as goal
 
 abbrev pub invariant-loop-next : goal.invariant-loop-next
 invariant-loop-next g l = record {
-  same : l.starts.inst ≡ l.inst;
-  made : WereMade l.inst l.starts.decisions;
-  child : IfSome l.next (IsChild l.inst l.starts.decisions);
-  fewer : length (from_child l.inst l.starts.decisions l.next)
-      ≤ length (from_child l.inst l.fn.starts.decisions l.fn.child);
-  goes : (way : Direction) → Went g.K.Sink.written g.K.Sink.beside g.K.Sink.faults l.fn.sink l.sink l.inst way
-      (from_child l.inst l.fn.starts.decisions l.fn.child) (from_child l.inst l.starts.decisions l.next)
-      l.course l.course;
-  steps : l.fn.steps ≤ l.steps;
+  same : l.starts.inst ≡ l.fn.starts.inst;
+  made : WereMade l.fn.starts.inst l.starts.decisions;
+  child : IfSome l.next (IsChild l.fn.starts.inst l.starts.decisions);
+  fewer : length (from_child l.fn.starts.inst l.starts.decisions l.next)
+      ≤ length (from_child l.fn.starts.inst l.fn.starts.decisions l.fn.child);
+  goes : (way : Direction) → WritesNodes [] (g.K.Sink.view l.fn.sink) (g.K.Sink.view l.sink) l.fn.starts.inst way
+      (from_child l.fn.starts.inst l.fn.starts.decisions l.fn.child)
+      (from_child l.fn.starts.inst l.starts.decisions l.next) l.progress l.progress (Ok tt);
 }
 
 abbrev pub decreases-loop-next : goal.decreases-loop-next
 decreases-loop-next g l =
-    length (from_child l.inst l.starts.decisions l.next) + length l.starts.decisions
+    length (from_child l.fn.starts.inst l.starts.decisions l.next) + length l.starts.decisions

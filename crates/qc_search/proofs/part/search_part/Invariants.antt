@@ -1,21 +1,22 @@
-use Rattle.std.proofs.Common.{◌≡◌, [], ◌∷◌, ◌≤◌, length}
-use Rattle.qc_model.specs.declared.limits.TheConstants.{MOST_TASKS}
+use Rattle.std.proofs.Common.{◌≡◌, [], ◌∷◌, ◌≤◌, Ok, length}
+use Rattle.qc_model.specs.Instance.{Valid}
+use Rattle.qc_model.specs.Numbers.{most_tasks}
 use Rattle.qc_num.specs.Paths.{HasRoom}
-use Rattle.qc_search.specs.Course.{Went, steps_left}
-use Rattle.qc_search.specs.Walk.{WereMade, from_node}
+use Rattle.qc_search.specs.Progress.{WritesNodes}
+use Rattle.qc_search.specs.Walk.{WereMade, from_node, steps_left}
 use Rattle.qc_search.proofs.part.search_part.Given as goal
 
 abbrev pub invariant-loop-child : goal.invariant-loop-child
 invariant-loop-child g l = record {
-  same : l.starts.inst ≡ l.inst;
-  made : WereMade l.inst l.starts.decisions;
-  count : length l.course.best ≡ length l.inst.tasks;
-  room : HasRoom MOST_TASKS l.course.path;
-  few : l.course.branched ≤ l.course.nodes;
-  goes : Went g.K.Sink.written g.K.Sink.beside g.K.Sink.faults l.fn.sink l.sink l.inst l.fn.way
-      ([] ∷ []) (from_node l.inst l.starts.decisions) l.fn.course l.course;
-  steps : l.fn.steps ≤ l.steps;
+  same : l.starts.inst ≡ l.fn.starts.inst;
+  valid : Valid l.fn.starts.inst;
+  made : WereMade l.fn.starts.inst l.starts.decisions;
+  count : length l.progress.incumbent ≡ length l.fn.starts.inst.tasks;
+  room : HasRoom most_tasks l.progress.path;
+  few : l.progress.branched ≤ l.progress.limit;
+  goes : WritesNodes [] (g.K.Sink.view l.fn.sink) (g.K.Sink.view l.sink) l.fn.starts.inst l.fn.way
+      ([] ∷ []) (from_node l.fn.starts.inst l.starts.decisions) l.fn.progress l.progress (Ok tt);
 }
 
 abbrev pub decreases-loop-child : goal.decreases-loop-child
-decreases-loop-child g l = steps_left (from_node l.inst l.starts.decisions) l.course
+decreases-loop-child g l = steps_left (from_node l.fn.starts.inst l.starts.decisions) l.progress.limit l.progress.branched

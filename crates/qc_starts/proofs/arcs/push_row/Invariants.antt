@@ -4,7 +4,7 @@ use Rattle.qc_starts.proofs.arcs.push_row.Given as goal
 
 abbrev pub invariant-loop-to : goal.invariant-loop-to
 invariant-loop-to l = record {
-  room : IsRoomy l.inst l.arena;
+  room : IsRoomy l.decisions.inst l.arena;
   low : AreLow (reverse l.fn.arena.arcs) → AreLow (reverse l.arena.arcs);
-  opening : AreOpening l.inst (reverse l.arena.arcs) (240 * l.from + l.to);
+  opening : AreOpening l.decisions.inst (reverse l.arena.arcs) (240 * l.from + l.to);
 }

@@ -48,7 +48,7 @@ one_more inst cells t last is some =
 
 pub loop-task-preserved : goal.loop-task-preserved
 loop-task-preserved c =
-    let inst = c.args.inst.now in
+    let inst = c.args.network.now.inst in
     let cells = c.args.values.now.cells in
     let last = c.loop-task.last in
     let t = c.loop-task.task in

@@ -2,4 +2,4 @@ use Rattle.qc_starts.specs.Found.{IsLast}
 use Rattle.qc_starts.proofs.latest.last_of.Given as goal
 
 abbrev pub invariant-loop-task : goal.invariant-loop-task
-invariant-loop-task l = IsLast l.inst l.values.cells l.task l.last
+invariant-loop-task l = IsLast l.network.inst l.values.cells l.task l.last

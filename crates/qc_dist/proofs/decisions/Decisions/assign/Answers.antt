@@ -1,10 +1,8 @@
-use Rattle.std.proofs.Common.{◌≡◌, reverse, ◌∙◌, ap, sym, arith}
+use Rattle.std.proofs.Common.{reverse, ◌∙◌, ap, arith}
 use Rattle.qc_model.specs.declared.task.Task.{Task}
 use Rattle.qc_model.specs.declared.decision.Decision.TheVariants.{Assign}
-use Rattle.qc_model.specs.Instance.{InstanceView, task, ticks_of}
 use Rattle.qc_dist.specs.Fields.{beside}
 use Rattle.qc_dist.specs.Kept.{decisions_of}
-use Rattle.qc_dist.specs.Node.{Node}
 use Rattle.qc_dist.proofs.Bounds.{crane_load_bounded}
 use Rattle.qc_dist.proofs.Changes.{after_assign, can_assign, made_room}
 use Rattle.qc_dist.proofs.Assigned.{ticks_after}
@@ -14,8 +12,7 @@ pub push_reserved-requires : goal.push_reserved-requires
 push_reserved-requires c =
     let f = c.self.inside in
     let kept = c.self.invariant in
-    let r = c.requires in
-    let can = can_assign f _ _ c.args.task c.args.crane c.self.view_is r.same r.task r.crane r.none in
+    let can = can_assign f _ c.args.task c.args.crane c.self.view_is (record { task = c.requires.task; crane = c.requires.crane; none = c.requires.none }) in
     let room = made_room f.inst f.made.items _ (Assign c.args.task c.args.crane) (can.task, can.crane, can.none, kept.fits) kept.room in
     omega (arith, f.made.ok.0, room)
 
@@ -24,8 +21,7 @@ load_with-requires-clause-load c =
     let f = c.self.inside in
     let kept = c.self.invariant in
     let ds = decisions_of (reverse f.made.items) in
-    let r = c.requires in
-    let can = can_assign f _ _ c.args.task c.args.crane c.self.view_is r.same r.task r.crane r.none in
+    let can = can_assign f _ c.args.task c.args.crane c.self.view_is (record { task = c.requires.task; crane = c.requires.crane; none = c.requires.none }) in
     rw (c.index-load.ensures ∙ kept.loads.values c.args.crane c.index-load.result.now can.crane)
     (crane_load_bounded f.inst kept.valid ds kept.fits c.args.crane)
 
@@ -33,22 +29,16 @@ pub overflow_sub-self : goal.overflow_sub-self
 overflow_sub-self c =
     let f = c.self.inside in
     let kept = c.self.invariant in
-    let r = c.requires in
-    let can = can_assign f _ _ c.args.task c.args.crane c.self.view_is r.same r.task r.crane r.none in
-    let is = ap (λ (n : Node). n.inst) c.self.view_is ∙ c.requires.same in
-    let found = ap (λ (t : Task). t.ticks) c.task_at-job.ensures.task in
-    let job = found ∙ sym (ap (λ (i : InstanceView). ticks_of i c.args.task) is) in
+    let can = can_assign f _ c.args.task c.args.crane c.self.view_is (record { task = c.requires.task; crane = c.requires.crane; none = c.requires.none }) in
+    let job = ap (λ (t : Task). t.ticks) c.task-job.ensures.task in
     let ds = decisions_of (reverse f.made.items) in
     omega (arith, job, kept.unassigned, ticks_after f.inst ds c.args.task c.args.crane can.task can.none)
 
 pub invariant_of-self : goal.invariant_of-self
 invariant_of-self c =
     let f = c.self.inside in
-    let r = c.requires in
-    let can = can_assign f _ _ c.args.task c.args.crane c.self.view_is r.same r.task r.crane r.none in
-    let is = ap (λ (n : Node). n.inst) c.self.view_is ∙ c.requires.same in
-    let job : c.task_at-job.result ≡ task f.inst c.args.task = cc in
+    let can = can_assign f _ c.args.task c.args.crane c.self.view_is (record { task = c.requires.task; crane = c.requires.crane; none = c.requires.none }) in
     rw c.load_with.ensures
     (after_assign f.inst f.made.items c.push_reserved.new.self.items _ (beside f) c.args.task c.args.crane
-    c.index-load.result.now c.task_at-job.result c.self.invariant can c.index-load.ensures job
+    c.index-load.result.now c.task-job.result c.self.invariant can c.index-load.ensures c.task-job.ensures.task
     c.push_reserved.ensures.items c.push_reserved.ensures.capacity)

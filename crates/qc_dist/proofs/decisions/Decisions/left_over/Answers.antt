@@ -5,4 +5,4 @@ use Rattle.qc_dist.proofs.decisions.Decisions.left_over.Goals as goal
 
 pub loop-k-preserved : goal.loop-k-preserved
 loop-k-preserved c =
-    omega (arith, sum_more (spare c.args.inst.now c.args.self.now.decisions c.args.tick) c.loop-k.k)
+    omega (arith, sum_more (spare c.args.self.now.inst c.args.self.now.decisions c.args.tick) c.loop-k.k)

@@ -6,4 +6,4 @@ use Rattle.qc_dist.proofs.decisions.Decisions.left_over.Given as goal
 
 abbrev pub invariant-loop-k : goal.invariant-loop-k
 invariant-loop-k l =
-    l.left ≡ unassigned_ticks l.inst l.self.decisions - sum_by (spare l.inst l.self.decisions l.tick) (range_with_len 0 l.k)
+    l.left ≡ unassigned_ticks l.self.inst l.self.decisions - sum_by (spare l.self.inst l.self.decisions l.tick) (range_with_len 0 l.k)

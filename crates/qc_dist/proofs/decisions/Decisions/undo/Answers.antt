@@ -10,13 +10,13 @@ overflow_add-self c =
     let f = c.self.inside in
     let kept = c.self.invariant in
     let ds = decisions_of (reverse f.made.items) in
-    omega (arith, kept.unassigned, open_bounded f.inst kept.valid ds, c.task_at.ensures.bound)
+    omega (arith, kept.unassigned, open_bounded f.inst kept.valid ds, c.task.ensures.bound)
 
 pub invariant_of-self-in-Assign : goal.invariant_of-self-in-Assign
 invariant_of-self-in-Assign c =
     let f = c.self.inside in
     after_unassign f.inst f.made.items c.pop.new.self.items c.in_ok-made.made _ (beside f) c.in-Assign.task c.in-Assign.crane
-    c.task_at.result c.self.invariant c.in_ok-made.ensures.items c.in-Assign.is c.task_at.ensures.task
+    c.task.result c.self.invariant c.in_ok-made.ensures.items c.in-Assign.is c.task.ensures.task
     c.in_ok-made.ensures.capacity
 
 pub cell-requires-clause-first : goal.cell-requires-clause-first

@@ -7,7 +7,7 @@ use Rattle.qc_replay.proofs.descent.Descent.on_pair.Goals as goal
 
 pub returns-clause-nodes : goal.returns-clause-nodes
 returns-clause-nodes c =
-    pair_nodes c.args.inst.now c.args.self.now _ c.requires.same c.requires.live c.args.first c.args.second
+    pair_nodes c.args.self.now _ c.requires.live c.args.first c.args.second
     (c.requires.valid.apart.range c.args.first c.args.second c.requires.apart).0
     (ap (λ (n : Node). record { inst = n.inst; decisions = n.decisions; live = c.self.inside.live }) c.add.ensures.added
     ∙ ap (λ (s : Standing). record { inst = s.inst; decisions = Order c.args.first c.args.second ∷ s.decisions; live = s.live })
@@ -16,6 +16,6 @@ returns-clause-nodes c =
 pub invariant_of-self : goal.invariant_of-self
 invariant_of-self c =
     let d = Order c.args.first c.args.second in
-    let seen = subst (λ i. IsOpen i c.args.self.now.decisions d) (sym c.requires.same) (inl c.requires.apart, c.requires.unsettled) in
     were_open_more _ c.self.inside.node.inst c.self.inside.node.decisions d c.add.ensures.added
-    (subst (λ (s : Standing). IsOpen s.inst s.decisions d) (sym c.self.view_is) seen) c.self.invariant
+    (subst (λ (s : Standing). IsOpen s.inst s.decisions d) (sym c.self.view_is)
+    (inl c.requires.apart, c.requires.unsettled)) c.self.invariant

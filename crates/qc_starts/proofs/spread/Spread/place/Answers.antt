@@ -1,6 +1,5 @@
-use Rattle.std.proofs.Common.{ℕ, false, List, length, ap, sym, subst, ◌∙◌, arith}
+use Rattle.std.proofs.Common.{ℕ, false, List, ap, sym, subst, ◌∙◌, arith}
 use Rattle.std.specs.Prelude.{slice_set}
-use Rattle.qc_model.specs.Instance.{InstanceView}
 use Rattle.qc_starts.specs.Place.{ArePlaced}
 use Rattle.qc_starts.specs.Values.{raised}
 use Rattle.qc_starts.proofs.PlaceLemmas.{place_done, place_firm}
@@ -19,7 +18,7 @@ returns-clause-placed g c =
     let pending = c.args.self.now.pending.items in
     let s = c.soonest-start.result.0 in
     let why = c.soonest-start.result.1 in
-    let count = c.task_count.ensures.count ∙ sym (ap (λ (i : InstanceView). length i.tasks) c.requires.same) in
+    let count = c.task_count.ensures.count in
     let starts = c.fill.ensures.cells ∙ ap (λ (n : ℕ). raised n cells c.args.task s why) count in
     subst (λ (xs : List ℕ). ArePlaced net xs (slice_set pending c.args.task false)) (sym starts)
     (place_done net cells pending c.args.task s why c.requires.sound c.requires.task c.requires.pending c.requires.ready

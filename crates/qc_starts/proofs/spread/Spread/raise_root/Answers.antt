@@ -1,5 +1,4 @@
-use Rattle.std.proofs.Common.{ℕ, [], List, length, ap, sym, subst, ◌∙◌, arith}
-use Rattle.qc_model.specs.Instance.{InstanceView}
+use Rattle.std.proofs.Common.{ℕ, [], List, ap, sym, subst, ◌∙◌, arith}
 use Rattle.qc_starts.specs.Arcs.{IsArc}
 use Rattle.qc_starts.specs.Spread.{IsSpreading}
 use Rattle.qc_starts.specs.Values.{raised}
@@ -23,7 +22,7 @@ returns-then-start-clause-spreading g c =
     let pending = c.args.self.now.pending.items in
     let s = c.soonest-start.result.0 in
     let why = c.soonest-start.result.1 in
-    let count = c.task_count.ensures.count ∙ sym (ap (λ (i : InstanceView). length i.tasks) c.requires.same) in
+    let count = c.task_count.ensures.count in
     let starts = c.raise.ensures.cells ∙ ap (λ (n : ℕ). raised n cells c.args.root s why) count in
     subst (λ (xs : List ℕ). IsSpreading net c.args.root olds xs pending []) (sym starts)
     (root_rises net c.args.root olds cells c.requires.sound c.requires.rooting pending c.requires.only s why

@@ -1,6 +1,5 @@
-use Rattle.std.proofs.Common.{◌≡◌, inr, ap, sym, subst, ◌∙◌, arith}
+use Rattle.std.proofs.Common.{◌≡◌, inr, ap, subst, ◌∙◌, arith}
 use Rattle.qc_dist.specs.Node.{Node}
-use Rattle.qc_model.specs.Instance.{InstanceView}
 use Rattle.qc_model.specs.Nodes.{head}
 use Rattle.qc_starts.specs.Place.{IsSoonest}
 use Rattle.qc_starts.specs.Spread.{into_task}
@@ -14,8 +13,7 @@ loop-arc-init c =
     ∙ ap (into_task c.args.task) c.arena.ensures.arcs in
     let is : c.lead-start.result ≡ head net.inst net.decisions c.args.task =
     c.lead-start.ensures.ticks
-    ∙ ap (λ (i : InstanceView). head i c.decisions.result.now.decisions c.args.task) (sym c.requires.same)
-    ∙ ap (λ (n : Node). head net.inst n.decisions c.args.task) c.decisions.ensures.node in
+    ∙ ap (λ (n : Node). head n.inst n.decisions c.args.task) c.decisions.ensures.node in
     record {
       can = tt;
       finite = tt;

@@ -1,16 +1,15 @@
-use Rattle.std.proofs.Common.{◌≡◌, ◌+◌, length, refl, sym, ap, subst, ◌∙◌, arith}
+use Rattle.std.proofs.Common.{◌≡◌, ◌+◌, length, sym, ap, subst, ◌∙◌, arith}
 use Rattle.std.proofs.lemmas.List.{length-reverse}
 use Rattle.qc_dist.specs.Node.{IsOpen}
 use Rattle.qc_dist.proofs.Room.{fits_room}
 use Rattle.qc_model.specs.declared.decision.Decision.{Decision}
 use Rattle.qc_model.specs.Instance.{InstanceView}
-use Rattle.qc_model.specs.Nodes.{HasStarts}
 use Rattle.qc_starts.specs.declared.starts.Starts.TheInside.{Inside}
 use Rattle.qc_starts.specs.Fields.{IsKept, node_of}
 use Rattle.qc_starts.specs.Opened.{HasBegun}
 use Rattle.qc_starts.specs.Seen.{IsNoted, IsReached, IsStep, StartsNode, taken_back}
 use Rattle.qc_starts.proofs.DecideLemmas.{begun_notes, decided}
-use Rattle.qc_starts.proofs.KeptLemmas.{home_rest, nested_count, rooting_of, settled_step, step_of}
+use Rattle.qc_starts.proofs.KeptLemmas.{home_rest, nested_count, rooting_of, settled_step, soon_kept, step_of}
 use Rattle.qc_starts.proofs.starts.Starts.decide.Goals as goal
 use Rattle.qc_starts.proofs.starts.Starts.decide.Goals.{After-settle-self-inside}
 
@@ -21,23 +20,22 @@ push_reserved-requires g c =
     let count = nested_count _ _ _ _ _ is.nested in
     let fits = fits_room c.add.new.self.inst c.add.new.self.decisions c.add.ensures.sound.fits in
     let more = ap (length {A = Decision}) c.add.ensures.decisions in
-    let room = ap (λ (i : InstanceView). length i.tasks + length i.apart) (c.add.ensures.inst ∙ is.same) in
+    let room = ap (λ (i : InstanceView). length i.tasks + length i.apart) c.add.ensures.inst in
     omega (arith, count, length-reverse f.marks.items, fits, more, room, is.room)
 
 pub settle-self-inside-requires-clause-rooting : goal.settle-self-inside-requires-clause-rooting
 settle-self-inside-requires-clause-rooting g c =
     let f = c.self.inside in
     let is = c.self.invariant in
-    let starts = subst (λ (i : InstanceView). HasStarts i c.args.self.now.decisions) (sym c.requires.same) c.requires.starts in
-    let home = ap (λ (n : StartsNode). n.inst) c.self.view_is ∙ c.requires.same in
+    let home = ap (λ (n : StartsNode). n.inst) c.self.view_is in
     let reach = subst (λ (i : InstanceView). IsReached i c.args.decision) (sym home) c.requires.reach in
     let begun : HasBegun f.spread c.begin.new.self c.root_of-self-inside.result = c.begin.ensures.begun in
-    let open_ = subst (λ (n : StartsNode). IsOpen n.inst n.decisions c.args.decision) (sym c.self.view_is)
-    (subst (λ (i : InstanceView). IsOpen i c.args.self.now.decisions c.args.decision) (sym c.requires.same) c.requires.open) in
-    rooting_of c.add.new.self f.inst c.args.decision f.network.decisions c.root_of-self-inside.result
+    let open_ = subst (λ (n : StartsNode). IsOpen n.inst n.decisions c.args.decision) (sym c.self.view_is) c.requires.open in
+    rooting_of c.add.new.self f.network.inst c.args.decision f.network.decisions c.root_of-self-inside.result
     c.begin.new.self.olds.items f.spread.values.cells c.begin.new.self.values.cells c.add.ensures.sound
-    (c.add.ensures.inst ∙ is.same) c.add.ensures.decisions open_ reach
-    (home_rest f c.args.self.now is c.self.view_is starts) c.root_of-self-inside.ensures begun.cells
+    c.add.ensures.inst c.add.ensures.decisions open_ reach
+    (home_rest f c.args.self.now is c.self.view_is c.requires.starts)
+    (soon_kept f c.args.self.now is c.self.view_is c.requires.starts) c.root_of-self-inside.ensures begun.cells
     (begun.size ∙ is.sized.olds) begun.olds
 
 pub settle-self-inside-requires-clause-notes : goal.settle-self-inside-requires-clause-notes
@@ -47,12 +45,11 @@ settle-self-inside-requires-clause-notes g c =
       network = c.add.new.self;
       root = c.root_of-self-inside.result;
     }) c.begin.new.self c.args.decision c.mark-mark.result c.args.steps.now
-    c.args.steps.now refl c.add.ensures.inst c.add.ensures.decisions c.add.ensures.sound
+    c.args.steps.now c.add.ensures.inst c.add.ensures.decisions c.add.ensures.sound
     c.begin.ensures.begun
 
 abbrev after : (g : _) (c : After-settle-self-inside g) → Inside
 after g c = record {
-  inst = c.self.inside.inst;
   network = c.add.new.self;
   spread = c.settle-self-inside.new.self;
   marks = c.push_reserved.new.self;
@@ -67,12 +64,11 @@ all : (g : _) (c : After-settle-self-inside g)
     × (taken_back (length c.args.self.now.decisions) (node_of (after g c)) ≡ c.args.self.now)
 all g c =
     let f = c.self.inside in
-    let starts = subst (λ (i : InstanceView). HasStarts i c.args.self.now.decisions) (sym c.requires.same) c.requires.starts in
-    let home = ap (λ (n : StartsNode). n.inst) c.self.view_is ∙ c.requires.same in
+    let home = ap (λ (n : StartsNode). n.inst) c.self.view_is in
     let reach = subst (λ (i : InstanceView). IsReached i c.args.decision) (sym home) c.requires.reach in
     let are = decided f c.args.self.now c.self.invariant c.self.view_is (after g c) c.begin.new.self c.args.decision
-    c.mark-mark.result c.args.steps.now c.settle-self-inside.new.steps refl c.add.ensures.inst c.add.ensures.decisions
-    c.add.ensures.sound c.begin.ensures.begun starts reach
+    c.mark-mark.result c.args.steps.now c.settle-self-inside.new.steps c.add.ensures.inst c.add.ensures.decisions
+    c.add.ensures.sound c.begin.ensures.begun c.requires.starts reach
     c.push_reserved.ensures.items c.mark-mark.ensures (omega (arith, c.push_reserved.ensures.capacity))
     c.settle-self-inside.ensures.wrote c.settle-self-inside.ensures.olds c.settle-self-inside.ensures.size
     c.settle-self-inside.ensures.settled in (
@@ -94,7 +90,7 @@ returns-clause-step g c =
     c.settle-self-inside.new.self.values.cells c.settle-self-inside.result c.add.ensures.sound
     c.settle-self-inside.ensures.settled) in
     subst (λ (i : InstanceView). IsStep i net.decisions c.settle-self-inside.result)
-    (c.add.ensures.inst ∙ c.self.invariant.same ∙ ap (λ (n : StartsNode). n.inst) c.self.view_is ∙ c.requires.same) step
+    (c.add.ensures.inst ∙ ap (λ (n : StartsNode). n.inst) c.self.view_is) step
 
 pub returns-clause-noted : goal.returns-clause-noted
 returns-clause-noted g c = (all g (goal.at.returns-clause-noted g c).After-settle-self-inside).1

@@ -22,9 +22,9 @@ returns-clause-sound g c =
     let notes = f.spread.values.trail.notes in
     let cells = f.spread.values.cells in
     let marks = ap reverse c.in-Some.ensures.items ∙ reverse_push c.pop.new.self.items c.in-Some.mark in
-    let nested = subst (λ (ms : List ℕ). AreNested f.inst f.network.decisions ms notes cells) marks c.self.invariant.nested in
-    let less = nested_less f.inst f.network.decisions c.in-Some.mark (reverse c.pop.new.self.items) notes cells nested in
-    let sums = sum_counts f.inst _ (reverse c.pop.new.self.items) (take c.in-Some.mark notes)
+    let nested = subst (λ (ms : List ℕ). AreNested f.network.inst f.network.decisions ms notes cells) marks c.self.invariant.nested in
+    let less = nested_less f.network.inst f.network.decisions c.in-Some.mark (reverse c.pop.new.self.items) notes cells nested in
+    let sums = sum_counts f.network.inst _ (reverse c.pop.new.self.items) (take c.in-Some.mark notes)
     (written_back (drop c.in-Some.mark notes) cells) less.1.nested in
     subst (λ (t : Notes). sum (counts_of (reverse c.pop.new.self.items) (length t.notes)) ≡ length t.notes)
     (sym c.back.ensures.trail) sums

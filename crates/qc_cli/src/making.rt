@@ -1,0 +1,118 @@
+//! A file that is being made.
+ghost use Rattle.std.specs.Prelude.{◌≡◌, ◌↔◌, ◌≤◌, ◌<◌, length, Some, IsTrue, IsNone, IfOk, IfSome, Contains, string_bytes};
+ghost use Rattle.qc_io.specs.Writes.{Counts};
+ghost use Rattle.qc_cli.specs.Once.{WritesOnce};
+ghost use Rattle.qc_cli.specs.Used.{NotesOne};
+
+use crate::once::write_once;
+use crate::part::{Part, begin_part};
+use crate::same::{Identity, identity_of, is_among, note};
+use crate::target::{Found, Target};
+use qc_io::{Failed, fault};
+use std::fs::{self, OpenFile};
+use std::rt::Files;
+
+/// A file that is being made, by the name that was asked for.
+#[derive(Drop)]
+pub struct Making<'a, R: Files> {
+    rt: &'a R,
+    pub name: String,
+    /// The path that the links of the name lead to.
+    path: String,
+    /// The new file that takes the place of this path; None where the file is written as it stands.
+    part: Option<Part<'a, R>>,
+    /// What the bytes go into. A file that is written as it stands is opened at its first byte.
+    pub file: Option<R::File>,
+}
+
+/// Whether the file is there and in use.
+fn is_in_use(found: &Option<Found>, used: &[Identity]) -> bool
+    ensures { IfSome found.now (λ found. IsTrue result ↔ Contains used.now found.identity) }
+{
+    match found {
+        Some(found) => is_among(found.identity, used),
+        None => false,
+    }
+}
+
+/// Begins a file. None where it is in use, or can't be made.
+pub fn begun<'a, R: Files + AllocGlobal>(
+    rt: &'a R,
+    name: &str,
+    target: Target,
+    used: &[Identity],
+) -> Option<Making<'a, R>>
+    ensures named { IfSome result (λ making. string_bytes making.name ≡ name.now) }
+    ensures unused { IfSome target.found (λ found. Contains used.now found.identity → IsNone result) }
+{
+    let Target { path, found } = target;
+    if is_in_use(&found, used) {
+        return None;
+    }
+    let name = String::from_str(rt.alloc(), name).ok()?;
+    let (part, file) = match &found {
+        Some(found) if found.in_place => (None, None),
+        _ => {
+            let (part, file) = begin_part(rt, path.as_str(), &found).ok()?;
+            (Some(part), Some(file))
+        }
+    };
+    Some(Making {
+        rt,
+        name,
+        path,
+        part,
+        file,
+    })
+}
+
+impl<R: Files> Making<'_, R> {
+    /// Opens a file that is written as it stands. None where it can't be opened.
+    fn open(&mut self) -> Option<()>
+        ensures name_stays { self.new.name ≡ self.old.name }
+        ensures file_stays { IfSome self.old.file (λ file. self.new.file ≡ Some file) }
+    {
+        if self.file.is_none() {
+            self.file = Some(fs::create(self.rt, self.path.as_str()).ok()?);
+        }
+        Some(())
+    }
+
+    /// Writes once to the file.
+    pub fn write(&mut self, faults: &mut u64, piece: &[u8]) -> Result<usize, Failed>
+        ensures writes { IfSome self.old.file (λ before. IfSome self.new.file (λ after.
+            WritesOnce (R.File.contents before) (R.File.contents after) piece.now result)) }
+        ensures at_least { IfOk result (λ count. 0 < length piece.now → 0 < count) }
+        ensures at_most { IfOk result (λ count. count ≤ length piece.now) }
+        ensures counts { Counts faults.old faults.new result }
+        ensures name_stays { self.new.name ≡ self.old.name }
+    {
+        let _ = self.open();
+        match &mut self.file {
+            Some(file) => write_once(file, faults, piece),
+            None => Err(fault(faults)),
+        }
+    }
+
+    /// Puts the file in its place, with all its bytes stored, and notes that it is used. None where that
+    /// failed.
+    pub fn finish(mut self, used: &mut Vec<Identity>) -> Option<()>
+        ensures { IfSome result (λ _. NotesOne used.old.items used.new.items) }
+    {
+        self.open()?;
+        let Making {
+            rt: _,
+            name: _,
+            path,
+            part,
+            file,
+        } = self;
+        let file = file?;
+        note(identity_of(&file)?, used)?;
+        let Some(part) = part else {
+            return Some(());
+        };
+        file.sync_all().ok()?;
+        part.put(path.as_str()).ok()
+    }
+}

@@ -1,0 +1,83 @@
+//! A new file beside another, whose place it takes when it is whole.
+
+use crate::target::Found;
+use std::fs::{self, OpenFile, OpenOptions};
+use std::io::{self, ErrorKind};
+use std::os::unix::fs::{MetadataExt, OpenOptionsExt, chown};
+use std::rt::Files;
+
+/// How many names are tried for a new file.
+const MOST_PARTS: u32 = 10;
+
+/// A new file. It is removed where it is let go before it is put in its place.
+pub struct Part<'a, R: Files> {
+    rt: &'a R,
+    path: String,
+}
+
+impl<R: Files> Drop for Part<'_, R> {
+    fn drop(self) {
+        let Part { rt, path } = self;
+        let _ = fs::remove_file(rt, path.as_str());
+    }
+}
+
+impl<R: Files> Part<'_, R> {
+    /// Puts the file in its place, over the one that is there. After an error it is removed.
+    pub fn put(self, place: &str) -> io::Result<()> {
+        fs::rename(self.rt, self.path.as_str(), place)?;
+        let Part { rt: _, path: _ } = self;
+        Ok(())
+    }
+}
+
+/// A new file beside the place, open for writing, with rights and owner of the file that it is to
+/// replace: `PLACE.part`, or the first of `PLACE.part1` to `PLACE.part9` that isn't there.
+pub fn begin_part<'a, R: Files + AllocGlobal>(
+    rt: &'a R,
+    place: &str,
+    found: &Option<Found>,
+) -> io::Result<(Part<'a, R>, R::File)> {
+    for turn in 0..MOST_PARTS {
+        let path = part_path(rt, place, turn)?;
+        match new_file(found).open(rt, path.as_str()) {
+            Ok(file) => {
+                if let Some(found) = found {
+                    keep_rights(rt, path.as_str(), &file, found);
+                }
+                return Ok((Part { rt, path }, file));
+            }
+            Err(error) if error.kind() == ErrorKind::AlreadyExists => {}
+            Err(error) => return Err(error),
+        }
+    }
+    Err(io::Error::from(ErrorKind::AlreadyExists))
+}
+
+/// The path of the new file that is tried in this turn.
+fn part_path<R: AllocGlobal>(rt: &R, place: &str, turn: u32) -> io::Result<String> {
+    if turn == 0 {
+        return Ok(format!(in rt.alloc(); "{place}.part")?);
+    }
+    Ok(format!(in rt.alloc(); "{place}.part{turn}")?)
+}
+
+/// How a new file is opened. One that is to replace another is closed to all but its owner.
+fn new_file(found: &Option<Found>) -> OpenOptions {
+    let mut options = OpenOptions::new();
+    options.write(true);
+    options.create_new(true);
+    if found.is_some() {
+        options.mode(0o600);
+    }
+    options
+}
+
+/// Gives the new file owner, group and rights of the one that it is to replace, where the system allows it.
+fn keep_rights<R: Files>(rt: &R, path: &str, file: &R::File, found: &Found) {
+    let (user, group) = (found.metadata.uid(), found.metadata.gid());
+    if chown(rt, path, Some(user), Some(group)).is_err() {
+        let _ = chown(rt, path, None, Some(group));
+    }
+    let _ = file.set_permissions(found.metadata.permissions());
+}

@@ -1,0 +1,6 @@
+//! Files that are read line by line.
+#![tactic(auto)]
+
+mod reader;
+
+pub use reader::{LineFault, LineOpen, LineReader};

@@ -1,0 +1,43 @@
+//! How far a search has come.
+ghost use Rattle.std.specs.Prelude.{◌≡◌};
+ghost use Rattle.qc_search.specs.Progress.{begun};
+
+use qc_model::{Direction, Schedule};
+use qc_num::{Bound, Path};
+
+/// What a search carries through both parts of its tree.
+#[derive(Drop)]
+pub(crate) struct Progress {
+    /// How many branchings it may write.
+    pub(crate) limit: u32,
+    /// How many it has written.
+    pub(crate) branched: u32,
+    /// How many it has written since the incumbent last improved.
+    pub(crate) since_incumbent: u32,
+    /// The lower bound so far: the least value of the leaves written.
+    pub(crate) bound: Bound,
+    /// The end of the incumbent; `Never` where there is none yet.
+    pub(crate) incumbent_end: Bound,
+    /// The part in which the incumbent was met.
+    pub(crate) way: Direction,
+    /// The incumbent: the best schedule that was met, as it is seen in that part.
+    pub(crate) incumbent: Schedule,
+    /// Room for the tasks of a leaf.
+    pub(crate) path: Path,
+}
+
+/// The progress before the first line, with room for an incumbent and for a leaf's tasks.
+pub(crate) fn first_progress(incumbent: Schedule, path: Path, limit: u32) -> Progress
+    ensures { result ≡ begun limit incumbent path }
+{
+    Progress {
+        limit,
+        branched: 0,
+        since_incumbent: 0,
+        bound: Bound::Never,
+        incumbent_end: Bound::Never,
+        way: Direction::Up,
+        incumbent,
+        path,
+    }
+}

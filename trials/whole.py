@@ -1,0 +1,275 @@
+#!/usr/bin/env python3
+"""Tries that each file which the built program writes is whole or as it was, whatever stops a run.
+
+    trials/whole.py PROGRAM [--pairs N]
+
+prints a line for each kind of trial: `ok` or `WRONG`, what was tried, and what was seen. The kinds are
+
+- `plan` is killed at each call of the system by which it opens, writes, stores, renames or removes a file, without
+  older files and over older ones: TREE is as before or whole, and PLAN is as before, or TREE is whole and PLAN too;
+- two runs with different ships write the same TREE and PLAN at once, N times (300): each file is one of both, whole;
+- TREE or PLAN is a link to a file, to another link, to no file yet or to a device, `/dev/full`, `/dev/stdout`, a pipe;
+- rights and owner of the files that are replaced, parts that were left behind, long names.
+
+It needs Linux, strace and, for the owner, root. It ends with 1 where anything else came than was wanted.
+"""
+import argparse
+import collections
+import os
+import re
+import shutil
+import stat
+import subprocess
+import sys
+import tempfile
+import threading
+
+ROOT = os.path.dirname(os.path.dirname(os.path.abspath(__file__)))
+CALLS = ["openat", "write", "fsync", "rename", "unlink", "close", "statx", "chown", "fchmod"]
+PLANNED = ["plan", "s", "m", "p", "t"]
+OLDER = {"t": b"an older tree\n", "p": b"an older plan\n"}
+FAULT = b"WriteFault\n"
+wrong = 0
+
+
+def read(path):
+    try:
+        with open(path, "rb") as file:
+            return file.read()
+    except OSError:
+        return None
+
+
+def example(name):
+    return read(f"{ROOT}/examples/{name}/ship.toml"), read(f"{ROOT}/examples/{name}/stow.csv")
+
+
+class Room:
+    """A folder with the files of an example."""
+
+    def __init__(self, program, inputs, older=()):
+        base = "/dev/shm" if os.path.isdir("/dev/shm") else None
+        self.program, self.path = program, tempfile.mkdtemp(prefix="qc-whole-", dir=base)
+        self.write("s", inputs[0]), self.write("m", inputs[1])
+        for name in older:
+            self.write(name, OLDER[name])
+
+    def __enter__(self):
+        return self
+
+    def __exit__(self, *_):
+        shutil.rmtree(self.path)
+
+    def at(self, name):
+        return os.path.join(self.path, name)
+
+    def write(self, name, data):
+        with open(self.at(name), "wb") as file:
+            file.write(data)
+
+    def read(self, name):
+        return read(self.at(name))
+
+    def left(self):
+        return {name: self.read(name) for name in sorted(os.listdir(self.path)) if name not in ("s", "m", "log")}
+
+    def run(self, words=PLANNED, how=(), **more):
+        more.setdefault("stdout", subprocess.PIPE)
+        return subprocess.run([*how, self.program, *words], cwd=self.path, stdin=subprocess.DEVNULL,
+                              stderr=subprocess.DEVNULL, timeout=100, **more)
+
+
+def told(name, is_right, what):
+    global wrong
+    wrong += not is_right
+    print(f"{'ok   ' if is_right else 'WRONG'} {name}: {what}", flush=True)
+
+
+def planned(program, inputs, more=()):
+    """The files that a run makes which nothing stops."""
+    with Room(program, inputs) as room:
+        room.run([*PLANNED, *more])
+        return room.left()
+
+
+# ---------------------------------------------------------------- kills
+
+def calls_of(program, inputs, older, more):
+    """How often a run makes each call."""
+    with Room(program, inputs, older) as room:
+        room.run([*PLANNED, *more], ["strace", "-o", "log", "-e", "trace=" + ",".join(CALLS)])
+        return collections.Counter(re.findall(r"^(\w+)\(", room.read("log").decode(errors="replace"), re.MULTILINE))
+
+
+def judge(left, older, whole):
+    """What a stopped run left, or None where it may not be left."""
+    before = {name: OLDER[name] for name in older}
+    tree, plan = left.get("t"), left.get("p")
+    others = [name for name in left if name not in ("t", "p")]
+    if any(not re.fullmatch(r"[tp]\.part[1-9]?", name) for name in others):
+        return None
+    tree_is = "as before" if tree == before.get("t") else "whole" if tree == whole["t"] else None
+    plan_is = "as before" if plan == before.get("p") else "whole" if plan == whole["p"] and tree_is == "whole" else None
+    return None if tree_is is None or plan_is is None else f"tree {tree_is}, plan {plan_is}"
+
+
+def kills(program, name, inputs, more):
+    whole = planned(program, inputs, more)
+    for older in ((), ("p",), ("t", "p")):
+        seen, bad, kept = collections.Counter(), [], 0
+        for call, count in sorted(calls_of(program, inputs, older, more).items()):
+            for number in range(1, count + 1):
+                with Room(program, inputs, older) as room:
+                    inject = f"{call}:signal=KILL:when={number}"
+                    room.run([*PLANNED, *more], ["strace", "-o", "log", "-e", f"trace={call}", "-e", f"inject={inject}"])
+                    left = room.left()
+                    what = judge(left, older, whole)
+                    kept += any(".part" in one for one in left)
+                    seen[what] += 1
+                    if what is None:
+                        bad.append(f"{call} {number}: {sorted(left)}")
+        told(f"plan of the {name}, killed at each of {sum(seen.values())} calls, over {'and '.join(older) or 'no older files'}",
+             not bad, ", ".join(f"{count} times {what}" for what, count in sorted(seen.items(), key=str))
+             + f"; {kept} times a part was left behind" + (f"; {bad[:3]}" if bad else ""))
+
+
+# ---------------------------------------------------------------- two at once
+
+def pairs(program, count):
+    one, two = example("first"), example("restows")
+    wholes = [planned(program, one), planned(program, two)]
+    seen, bad = collections.Counter(), []
+    for _ in range(count):
+        with Room(program, one) as room:
+            room.write("s2", two[0]), room.write("m2", two[1])
+            runs = [subprocess.Popen([program, "plan", s, m, "p", "t"], cwd=room.path, stdout=subprocess.DEVNULL)
+                    for s, m in (("s", "m"), ("s2", "m2"))]
+            statuses = sorted(run.wait(100) for run in runs)
+            left = room.left()
+            which = [[index for index, whole in enumerate(wholes) if left.get(name) == whole[name]] for name in ("t", "p")]
+            if statuses != [0, 0] or not all(which) or set(left) != {"t", "p", "s2", "m2"}:
+                bad.append((statuses, which, sorted(left)))
+            else:
+                seen[f"tree of run {which[0][0] + 1}, plan of run {which[1][0] + 1}"] += 1
+    told(f"two runs at once on the same files, {count} times", not bad,
+         ", ".join(f"{times} times {what}" for what, times in sorted(seen.items())) + (f"; {bad[:3]}" if bad else ""))
+
+
+# ---------------------------------------------------------------- links, devices, pipes
+
+def facts(name, ran, status, report=None, **wanted):
+    failed = [fact.replace("_", " ") for fact, holds in wanted.items() if not holds]
+    right = ran.returncode == status and (report is None or ran.stdout == report) and not failed
+    told(name, right, f"status {ran.returncode}; " + (f"NOT {failed}" if failed else "; ".join(fact.replace("_", " ") for fact in wanted)))
+
+
+def links(program, inputs, whole):
+    for name, path in (("tree", "t"), ("plan", "p")):
+        for there in (True, False):
+            with Room(program, inputs) as room:
+                os.mkdir(room.at("folder"))
+                if there:
+                    room.write("folder/f", b"an older file\n")
+                os.symlink("folder/f", room.at("l"))
+                os.symlink("l", room.at(path))
+                ran = room.run()
+                facts(f"the {name} is a link to a link to {'an older file' if there else 'no file yet'} in a folder", ran, 0,
+                      the_link_stays=os.path.islink(room.at(path)), the_next_link_stays=os.readlink(room.at("l")) == "folder/f",
+                      the_file_is_whole=room.read("folder/f") == whole[path], nothing_else_is_left=os.listdir(room.at("folder")) == ["f"])
+    with Room(program, inputs) as room:
+        os.symlink("/dev/null", room.at("t"))
+        facts("the tree is a link to /dev/null", room.run(), 0, the_link_stays=os.readlink(room.at("t")) == "/dev/null",
+              dev_null_stays=stat.S_ISCHR(os.stat("/dev/null").st_mode), the_plan_is_whole=room.read("p") == whole["p"])
+
+
+def devices(program, inputs, whole):
+    for words, what in ((["plan", "s", "m", "p", "/dev/full"], "tree"), (["plan", "s", "m", "/dev/full", "t"], "plan")):
+        with Room(program, inputs) as room:
+            ran = room.run(words)
+            facts(f"the {what} is /dev/full", ran, 4, FAULT, no_plan=room.read("p") is None,
+                  tree_whole_or_none=room.read("t") == (whole["t"] if what == "plan" else None),
+                  dev_full_stays=stat.S_ISCHR(os.stat("/dev/full").st_mode))
+    with Room(program, inputs) as room:
+        report = room.run().stdout
+    for words, path in ((["plan", "s", "m", "p", "/dev/stdout"], "t"), (["plan", "s", "m", "/dev/stdout", "t"], "p")):
+        with Room(program, inputs) as room:
+            ran = room.run(words)
+            facts(f"the {'tree' if path == 't' else 'plan'} is /dev/stdout, a pipe", ran, 0, whole[path] + report)
+        with Room(program, inputs) as room:
+            with open(room.at("out"), "ab") as out:
+                ran = room.run(words, stdout=out)
+            facts(f"the {'tree' if path == 't' else 'plan'} is /dev/stdout, a file that is appended to", ran, 0,
+                  file_and_report_are_there=room.read("out") == whole[path] + report)
+    for words, path in ((["plan", "s", "m", "p", "pipe"], "t"), (["plan", "s", "m", "pipe", "t"], "p")):
+        with Room(program, inputs) as room:
+            os.mkfifo(room.at("pipe"))
+            got = []
+            reader = threading.Thread(target=lambda: got.append(room.read("pipe")))
+            reader.start()
+            ran = room.run(words)
+            reader.join(20)
+            facts(f"the {'tree' if path == 't' else 'plan'} is a named pipe", ran, 0, it_came_whole=got == [whole[path]],
+                  the_pipe_stays=stat.S_ISFIFO(os.stat(room.at("pipe")).st_mode))
+
+
+# ---------------------------------------------------------------- rights, parts, names
+
+def rights(program, inputs, whole):
+    with Room(program, inputs, ("t", "p")) as room:
+        modes = {"t": 0o640, "p": 0o664}
+        for name, mode in modes.items():
+            os.chmod(room.at(name), mode)
+            if os.getuid() == 0:
+                os.chown(room.at(name), 65534, 65534)
+        owner = os.stat(room.at("t")).st_uid
+        ran = room.run()
+        facts(f"older files with rights of their own{', of another user' if owner else ''}", ran, 0,
+              rights_kept=all(stat.S_IMODE(os.stat(room.at(name)).st_mode) == mode for name, mode in modes.items()),
+              owner_and_group_kept=all((os.stat(room.at(name)).st_uid, os.stat(room.at(name)).st_gid) in ((owner, owner), (owner, os.getgid()))
+                                       for name in modes),
+              both_whole=(room.read("t"), room.read("p")) == (whole["t"], whole["p"]))
+    with Room(program, inputs) as room:
+        old = os.umask(0o027)
+        ran = room.run()
+        os.umask(old)
+        facts("new files under a mask of 027", ran, 0, rights_are_640=all(stat.S_IMODE(os.stat(room.at(name)).st_mode) == 0o640 for name in "tp"))
+
+
+def parts(program, inputs, whole):
+    for count in (1, 10):
+        with Room(program, inputs) as room:
+            names = ["t.part"] + [f"t.part{number}" for number in range(1, count)]
+            for name in names:
+                room.write(name, b"left behind\n")
+            ran = room.run()
+            made = {"t": whole["t"], "p": whole["p"]} if count < 10 else {}
+            facts(f"{count} of the ten names of a part are taken", ran, 0 if count < 10 else 4,
+                  they_are_kept=room.left() == {**dict.fromkeys(names, b"left behind\n"), **made})
+    for length, status in ((250, 0), (251, 4)):
+        with Room(program, inputs) as room:
+            name = "t" * length
+            ran = room.run(["plan", "s", "m", "p", name])
+            facts(f"the tree has a name of {length} bytes", ran, status, nothing_but_whole_files=room.left() ==
+                  ({"p": whole["p"], name: whole["t"]} if status == 0 else {}))
+
+
+def main():
+    parser = argparse.ArgumentParser(description="files are whole or as they were")
+    parser.add_argument("program")
+    parser.add_argument("--pairs", type=int, default=300)
+    args = parser.parse_args()
+    program, inputs = os.path.abspath(args.program), example("first")
+    whole = planned(program, inputs)
+    links(program, inputs, whole)
+    devices(program, inputs, whole)
+    rights(program, inputs, whole)
+    parts(program, inputs, whole)
+    kills(program, "first example", inputs, [])
+    kills(program, "vessel, 30 branchings", example("vessel"), ["--nodes", "30"])
+    pairs(program, args.pairs)
+    print(f"{wrong} wrong")
+    return 1 if wrong else 0
+
+
+if __name__ == "__main__":
+    sys.exit(main())
