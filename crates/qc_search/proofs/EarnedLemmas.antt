@@ -6,7 +6,7 @@ use Rattle.std.proofs.lemmas.List.Sums.{sum_by-append, sum_by-cons}
 use Rattle.std.proofs.lemmas.Simd.{map-map}
 use Rattle.std.specs.Prelude.{All, Any, Contains}
 use Rattle.qc_num.specs.declared.bound.Bound.{Bound}
-use Rattle.qc_num.specs.declared.bound.Bound.TheVariants.{Least, Never}
+use Rattle.qc_num.specs.declared.bound.Bound.TheVariants.{Least}
 use Rattle.qc_num.specs.Bounds.{IsAtMost, least_bound, lesser}
 use Rattle.qc_model.specs.declared.direction.Direction.{Direction}
 use Rattle.qc_model.specs.Instance.{InstanceView}
@@ -99,10 +99,6 @@ module _ (home : InstanceView) (before : List TreeNode) (u : Bound) (met : IsMet
         (λ k d low s. at_most_through (Least end) u (Least other) sooner (met.least other k d low s))
         (all_one P node (λ s. omega (arith, one other s)));
   }
-
--- nothing is met yet
-pub none_met : (home : InstanceView) → IsMetEnd home [] Never
-none_met home = record { reached = λ end e. absurd (cc e); least = λ end k d low. absurd (omega arith) }
 
 -- ---- what nodes come to
 

@@ -13,8 +13,8 @@ use Rattle.qc_model.specs.Numbers.{most_tasks}
 use Rattle.qc_model.specs.Instance.{InstanceView}
 use Rattle.qc_model.specs.Leaves.{are_tasks, is_ring, work_holds}
 use Rattle.qc_tree.specs.Lines.{AreTasks, IsLine, IsTask}
-use Rattle.qc_tree.specs.Trees.{in_file, leaf_text, whole_line}
-use Rattle.qc_search.specs.Lines.{AreNumbers, IsLeafBy, IsWritable, leaf_line, leaf_of}
+use Rattle.qc_tree.specs.Trees.{in_file}
+use Rattle.qc_search.specs.Lines.{AreNumbers, IsLeafBy, IsWritable, leaf_line}
 
 -- tasks as they are numbered in a file
 named : (tasks : List ℕ) → AreNumbers tasks → AreTasks (in_file tasks)
@@ -24,11 +24,6 @@ pub written : (leaf : LeafKind) (tasks : List ℕ) → IsWritable leaf tasks →
 written kind.Chain tasks h = named tasks h
 written kind.Ring tasks h = (omega (arith, length-map tasks (λ j. j + 1), h.0), named tasks h.1)
 written (kind.Work end) tasks h = (h.1, omega (arith, h.2))
-
-pub leaf_line_text : (leaf : LeafKind) (tasks : List ℕ) → whole_line (leaf_line leaf) (in_file tasks) ≡ leaf_text (leaf_of leaf tasks)
-leaf_line_text kind.Chain tasks = refl
-leaf_line_text kind.Ring tasks = refl
-leaf_line_text (kind.Work end) tasks = refl
 
 -- ---- a leaf that holds
 
@@ -76,9 +71,3 @@ pub written_in : (leaf : LeafKind) (old new : List ℕ) → new ≡ in_file old 
 written_in leaf old new is can =
     let count : length new ≡ length old = ap (λ (l : List ℕ). length l) is ∙ length-map old (λ j. j + 1) in
     subst (IsLine (leaf_line leaf)) (sym (refilled old new count ∙ is)) (written leaf old can)
-
-pub text_in : (leaf : LeafKind) (old new : List ℕ) → new ≡ in_file old
-    → whole_line (leaf_line leaf) (refill (length old) old new) ≡ leaf_text (leaf_of leaf old)
-text_in leaf old new is =
-    let count : length new ≡ length old = ap (λ (l : List ℕ). length l) is ∙ length-map old (λ j. j + 1) in
-    ap (whole_line (leaf_line leaf)) (refilled old new count ∙ is) ∙ leaf_line_text leaf old

@@ -1,5 +1,5 @@
 -- A tree whose nodes are all earned is a run, and what is told of it.
-use Rattle.std.proofs.Common.{◌≡◌, ℕ, ◌<◌, ◌⊎◌, inl, inr, All, Bool, cond, List, [], length, refl, ap, sym, subst, ◌∙◌, arith}
+use Rattle.std.proofs.Common.{◌≡◌, ℕ, ◌<◌, ◌⊎◌, inl, inr, All, Bool, cond, List, length, ap, sym, subst, ◌∙◌, arith}
 use Rattle.std.proofs.Math.Nat.{eq-or-lt_of_le}
 use Rattle.std.proofs.lemmas.Bool.{le-leb}
 use Rattle.std.specs.Prelude.{MatchOption, Ok}
@@ -7,8 +7,6 @@ use Rattle.qc_io.specs.Outside.{View}
 use Rattle.qc_num.specs.declared.bound.Bound.{Bound}
 use Rattle.qc_num.specs.declared.bound.Bound.TheVariants.{Least, Never}
 use Rattle.qc_num.specs.Bounds.{IsAtMost}
-use Rattle.smallvec.specs.SmallVec.{SmallVec}
-use Rattle.qc_model.specs.declared.direction.Direction.TheVariants.{Up}
 use Rattle.qc_model.specs.declared.schedule.Slot.{Slot}
 use Rattle.qc_model.specs.Instance.{InstanceView, Valid}
 use Rattle.qc_model.specs.Seen.{seen_schedule}
@@ -17,10 +15,10 @@ use Rattle.qc_tree.proofs.TreeBound.{tree_bound}
 use Rattle.qc_search.specs.declared.progress.Progress.{Progress}
 use Rattle.qc_search.specs.declared.done.Kind.TheVariants.{Budget, Optimal}
 use Rattle.qc_search.specs.Earned.{IsMetEnd, tree_nodes}
-use Rattle.qc_search.specs.Progress.{IsProgress, WritesTree, begun, shown_best}
+use Rattle.qc_search.specs.Progress.{WritesTree, shown_best}
 use Rattle.qc_search.specs.Run.{DoneView, IsMetBest, IsRun, IsSearched, IsSound, outcome}
 use Rattle.qc_search.proofs.CountLemmas.{few_in_tree}
-use Rattle.qc_search.proofs.EarnedLemmas.{all_earned, none_met}
+use Rattle.qc_search.proofs.EarnedLemmas.{all_earned}
 use Rattle.qc_search.proofs.ShownLemmas.{best_shown, cranes_low, judgeable_is, tight_is}
 use Rattle.qc_search.proofs.TightLemmas.{best_end_is, best_soon}
 use Rattle.qc_search.proofs.TreeLemmas.{bound_is, branched_is}
@@ -31,18 +29,6 @@ decided Never met is late = cc is
 decided (Least value) Never is late = late
 decided (Least value) (Least end) is late =
     cc (sym is ∙ ap (λ (b : Bool). cond b Optimal Budget) (le-leb end value late))
-
--- no node came yet
-pub begun_progress : (home : InstanceView) (now : Progress) (limit : ℕ) (best : List Slot) (path : SmallVec ℕ)
-    → now ≡ begun limit best path → IsProgress home now []
-begun_progress home now limit best path is = subst (λ (c : Progress). IsProgress home c []) (sym is) (record {
-  few = omega arith;
-  branched = refl;
-  bound = refl;
-  met = none_met home;
-  best = λ end e. absurd (cc e);
-  late = λ left. tt;
-})
 
 -- what is told of a tree that was written
 abbrev pub told_with : ℕ → Progress → DoneView

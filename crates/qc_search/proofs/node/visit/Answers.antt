@@ -1,4 +1,4 @@
-use Rattle.std.proofs.Common.{arith, rules}
+use Rattle.std.proofs.Common.{arith}
 use Rattle.std.proofs.lemmas.Bool.{false≢true}
 use Rattle.qc_search.proofs.DescentLemmas.{has_starts, not_stuck}
 use Rattle.qc_search.proofs.NodesLemmas.{from_path, on_fault}

@@ -1,4 +1,3 @@
-use Rattle.std.proofs.Common.{rules}
 use Rattle.qc_search.proofs.TreeLemmas.{by_fault, down_cut, end_written, title_cut, up_cut}
 use Rattle.qc_search.proofs.tree.write_tree.Goals as goal
 
