@@ -19,7 +19,7 @@ use Rattle.qc_plan_command.specs.declared.answer.PlanAnswer.TheVariants as answe
 pub record IsFound (inst : InstanceView) (nodes : ℕ) (tree : Tree) (done : DoneView) : Type 0 where
   pub run : IsRun inst nodes tree done.best done.kind
   pub bound : done.bound ≡ tree_value inst tree
-  pub branched : done.branched ≡ tree_branchings inst tree
+  pub branched : done.branched ≡ tree_branchings tree
   pub sound : IsSound (record { inst = inst; nodes = nodes }) done
 
 -- the text of the schedule's plan is read as this schedule

@@ -1,6 +1,6 @@
 //! The command that plans.
 ghost use Rattle.std.specs.Prelude.{◌≡◌, ◌≤◌, IfOk, Ok, length};
-ghost use Rattle.qc_tree.specs.declared.line.TheConstants.{MOST_BRANCHINGS};
+ghost use Rattle.qc_model.specs.Numbers.{most_branchings};
 ghost use Rattle.qc_run.specs.Due.{instance_due};
 ghost use Rattle.qc_run.specs.Steps.{ComesTo};
 ghost use Rattle.qc_plan_command.specs.Account.{IsPlanRun, IsPlanning};
@@ -23,7 +23,7 @@ use std::alloc::Global;
 
 /// Opens the search, and makes the track for what it finds: all memory is taken before anything is written.
 fn open(alloc: Global, inst: &Instance, nodes: u32) -> Result<(Search, Track), OutOfMemory>
-    requires { nodes ≤ MOST_BRANCHINGS }
+    requires { nodes ≤ most_branchings }
     ensures search { IfOk result (λ opened. opened.0 ≡ record { inst = inst.now; nodes = nodes }) }
     ensures room { IfOk result (λ opened. opened.1.tasks ≡ length inst.now.tasks) }
 {
@@ -62,7 +62,7 @@ fn plan_instance<S: Shelf>(
 
 /// Reads the ship file and the stowage list, searches their instance, and writes the tree and the plan.
 fn serve<S: Shelf>(alloc: Global, asked: &PlanAsked<'_>, shelf: &mut S) -> Result<PlanAnswer, Stop>
-    requires { asked.now.nodes ≤ MOST_BRANCHINGS }
+    requires { asked.now.nodes ≤ most_branchings }
     ensures serves { IsPlanning (planning asked.now) (S.Sink.view shelf.old) (S.Sink.view shelf.new) result }
     ensures ready { IfOk result CanBeTold }
     ensures never_falls { (S.Sink.view shelf.old).faults ≤ (S.Sink.view shelf.new).faults }
@@ -75,7 +75,7 @@ fn serve<S: Shelf>(alloc: Global, asked: &PlanAsked<'_>, shelf: &mut S) -> Resul
 
 /// Plans, and reports to `out`.
 pub fn plan<S: Shelf, K: Sink>(alloc: Global, asked: &PlanAsked<'_>, shelf: &mut S, out: &mut K) -> Status
-    requires { asked.now.nodes ≤ MOST_BRANCHINGS }
+    requires { asked.now.nodes ≤ most_branchings }
     ensures account { IsPlanRun (planning asked.now) (S.Sink.view shelf.old) (S.Sink.view shelf.new)
         (K.Sink.view out.old) (K.Sink.view out.new) result }
     ensures promises { PlanPromises (planning asked.now) (S.Sink.view shelf.old) (S.Sink.view shelf.new)

@@ -5,6 +5,7 @@ use Rattle.qc_io.specs.Outside.{View}
 use Rattle.qc_judge_commands.specs.Promises.{PlanCheckPromises, ShowPromises, TasksPromises, TreePromises}
 use Rattle.qc_plan_command.specs.Asked.{plan_of}
 use Rattle.qc_plan_command.specs.Promises.{PlanPromises}
+use Rattle.qc_run.specs.declared.refusal.Stop.TheVariants as stop
 use Rattle.qc_run.specs.declared.status.Status.{Status}
 use Rattle.qc_run.specs.declared.status.Status.TheVariants as status
 use Rattle.qc_run.specs.Reports.{Prints}
@@ -13,7 +14,7 @@ use Rattle.qc_trial.specs.Account.{TrialPromises}
 use Rattle.qc_words.specs.Asked.{Asked, plan, check, tasks, show, make, usage}
 use Rattle.qc_words.specs.Commands.{named}
 use Rattle.qc_words.specs.Words.{Asks, Canonical}
-use Rattle.qc_top.specs.Account.{check_names, show_names, tasks_names}
+use Rattle.qc_top.specs.Account.{IsStopped, IsUsage, check_names, show_names, tasks_names}
 
 -- a plan is asked for
 abbrev pub IsPlan : Asked → Type 0
@@ -33,17 +34,16 @@ pub record Promises (words : List (List ℕ)) (before after out_before out_after
   pub shows : (s w p : List ℕ) → Asks words (show s w p)
       → ShowPromises (show_names s w p) before after out_before out_after ended
   pub makes : (n h c : ℕ) → Asks words (make n h c) → TrialPromises n h c out_before out_after ended
-  -- words of no command, and making, leave the shelf untouched; all but a plan leave the files
+  -- making leaves the shelf untouched, and all but a plan leave the files
   pub make_leaves : (n h c : ℕ) → Asks words (make n h c) → after ≡ before
-  pub usage_leaves : Asks words usage → after ≡ before
   pub files_stay : (asked : Asked) → Asks words asked → ¬ IsPlan asked → after.files ≡ before.files
   -- words in the plain form ask for what they spell, so they never are words of no command
   pub plain_words : (asked : Asked) → Canonical words asked → Asks words asked
   -- Usage comes only on words that ask for nothing, and there always, but that memory may be wanting for them; where
   -- no command begins them it is not
   pub usage_words : ended ≡ status.Usage → Asks words usage
-  pub usage_ends : Asks words usage → EndsWith status.Usage out_before out_after ended
-      ⊎ EndsWith status.OutOfMemory out_before out_after ended
+  pub refuses : Asks words usage → IsUsage before after out_before out_after ended
+      ⊎ IsStopped stop.OutOfMemory before after out_before out_after ended
   pub no_command : named words ≡ None → EndsWith status.Usage out_before out_after ended
   -- want of memory is told by its line alone
   pub out_of_memory :

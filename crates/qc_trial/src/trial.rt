@@ -8,7 +8,7 @@ ghost use Rattle.qc_model.specs.Judge.{IsJudgeable};
 ghost use Rattle.qc_model.specs.Rules.{ends};
 ghost use Rattle.qc_stow.specs.declared.row.Row.{Row};
 ghost use Rattle.qc_tasks.specs.InstanceOf.{instance_of};
-ghost use Rattle.qc_trial.specs.Account.{IsTrialRun};
+ghost use Rattle.qc_trial.specs.Account.{IsTrialRun, TrialPromises};
 ghost use Rattle.qc_trial.specs.Made.{IsMade, made_instance};
 
 use crate::made::Made;
@@ -115,7 +115,8 @@ fn try_out(alloc: Global, number: u32, hatches: u16, cranes: u16) -> Result<Made
 pub fn make<K: Sink>(alloc: Global, number: u32, hatches: u16, cranes: u16, out: &mut K) -> Status
     requires hatches { (1 ≤ hatches) × (hatches ≤ MOST_HATCHES) }
     requires cranes { (1 ≤ cranes) × (cranes ≤ MOST_CRANES) }
-    ensures { IsTrialRun number hatches cranes (K.view out.old) (K.view out.new) result }
+    ensures account { IsTrialRun number hatches cranes (K.view out.old) (K.view out.new) result }
+    ensures promises { TrialPromises number hatches cranes (K.view out.old) (K.view out.new) result }
 {
     match try_out(alloc, number, hatches, cranes) {
         Ok(told) => report_text(Status::Done, made_text(&told).as_bytes(), out),

@@ -2,8 +2,6 @@
 use Rattle.std.specs.Prelude.{ℕ, ◌≤◌, Bool, not, ◌||◌, IsTrue, List, Option, None, Some, option_map}
 use Rattle.std.specs.Str.{bytes_eq}
 use Rattle.qc_model.specs.Numbers.{most_branchings, most_cranes, most_hatches}
-use Rattle.qc_words.specs.declared.asked.Input.{Input}
-use Rattle.qc_words.specs.declared.asked.Input.TheVariants as input
 use Rattle.qc_words.specs.declared.asked.Request.{Request}
 use Rattle.qc_words.specs.declared.asked.Request.TheVariants as request
 
@@ -35,21 +33,6 @@ asked_for (request.Tasks ship stow) = tasks ship.now stow.now
 asked_for (request.Show ship stow plan_name) = show ship.now stow.now plan_name.now
 asked_for (request.Make number hatches cranes) = make number hatches cranes
 asked_for request.Usage = usage
-
--- the name of a file that is read on this request, by what the file is for
-abbrev pub name_of : Input → Asked → Option (List ℕ)
-name_of input.Ship (plan s w p t n) = Some s
-name_of input.Stow (plan s w p t n) = Some w
-name_of input.Ship (check s w p t) = Some s
-name_of input.Stow (check s w p t) = Some w
-name_of input.Plan (check s w p t) = p
-name_of input.Tree (check s w p t) = Some t
-name_of input.Ship (tasks s w) = Some s
-name_of input.Stow (tasks s w) = Some w
-name_of input.Ship (show s w p) = Some s
-name_of input.Stow (show s w p) = Some w
-name_of input.Plan (show s w p) = Some p
-name_of _ _ = None
 
 -- no two of a plan's four names are equal
 abbrev pub are_different : (ship stow plan tree : List ℕ) → Bool

@@ -1,19 +1,9 @@
 //! What the words ask for.
 
 ghost use Rattle.std.specs.Prelude.{◌≡◌, option_map};
-ghost use Rattle.qc_words.specs.Asked.{asked_for, name_of};
 
 /// The greatest number that a ship and a list are made from.
 pub const MOST_NUMBER: u32 = 2_147_483_647;
-
-/// A file that a command reads, by what it is for.
-#[derive(Clone, Copy, Debug, PartialEq, Eq)]
-pub enum Input {
-    Ship,
-    Stow,
-    Plan,
-    Tree,
-}
 
 /// What the words ask for, with the names of the files.
 #[derive(Clone, Copy, Debug, PartialEq, Eq)]
@@ -52,32 +42,4 @@ pub enum Request<'a> {
     },
     /// Words that are no command.
     Usage,
-}
-
-impl<'a> Request<'a> {
-    /// The name of a file that is read on this request, by what the file is for.
-    pub fn name_of(&self, file: Input) -> Option<&'a str>
-        ensures { option_map (λ name. name.now) result ≡ name_of file (asked_for self.now) }
-    {
-        match (file, *self) {
-            (
-                Input::Ship,
-                Request::Plan { ship, .. }
-                | Request::Check { ship, .. }
-                | Request::Tasks { ship, .. }
-                | Request::Show { ship, .. },
-            ) => Some(ship),
-            (
-                Input::Stow,
-                Request::Plan { stow, .. }
-                | Request::Check { stow, .. }
-                | Request::Tasks { stow, .. }
-                | Request::Show { stow, .. },
-            ) => Some(stow),
-            (Input::Plan, Request::Check { plan, .. }) => plan,
-            (Input::Plan, Request::Show { plan, .. }) => Some(plan),
-            (Input::Tree, Request::Check { tree, .. }) => Some(tree),
-            _ => None,
-        }
-    }
 }

@@ -5,5 +5,5 @@ mod asked;
 mod commands;
 mod words;
 
-pub use asked::{Input, MOST_NUMBER, Request};
+pub use asked::{MOST_NUMBER, Request};
 pub use words::{USUAL_BRANCHINGS, request_of};

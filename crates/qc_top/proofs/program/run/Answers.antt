@@ -1,42 +1,36 @@
-use Rattle.std.proofs.Common.{◌≡◌, ◌∙◌, refl, sym}
+use Rattle.std.proofs.Common.{◌≡◌, ◌∙◌, inl, inr, refl, subst, sym}
+use Rattle.qc_words.specs.declared.asked.Request.{Request}
 use Rattle.qc_words.specs.declared.asked.Request.TheVariants as request
 use Rattle.qc_words.specs.Asked.{asked_for}
 use Rattle.qc_words.specs.Words.{asked_by, texts}
-use Rattle.qc_top.proofs.RunLemmas.{promises, wanting_serves, wanting_tells}
+use Rattle.qc_top.specs.Account.{IsRunOf}
+use Rattle.qc_top.proofs.RunLemmas.{promises}
 use Rattle.qc_top.proofs.program.run.Goals as goal
 
 pub returns-in-Ok-clause-account : goal.returns-in-Ok-clause-account
 returns-in-Ok-clause-account g c = record {
   asked = asked_for c.in-Ok.request;
   asks = c.in-Ok.ensures.asked;
-  answer = c.serve-answer.result;
-  serves = c.serve-answer.ensures.serves;
-  may = c.serve-answer.ensures.may;
+  serves = inl c.serve.ensures.account;
   unnamed = λ none.
       let same = sym c.in-Ok.is ∙ c.request_of.ensures.no_command none in
       let is : c.in-Ok.request ≡ request.Usage = cc in
-      c.serve-answer.ensures.no_command is;
-  reports = c.report.ensures.reports;
+      subst (λ (r : Request). IsRunOf (asked_for r) _ _ _ _ _) is c.serve.ensures.account;
 }
 
 pub returns-in-Ok-clause-promises : goal.returns-in-Ok-clause-promises
 unfolding returns-in-Ok-clause-account
-returns-in-Ok-clause-promises g c =
-    promises _ _ _ _ _ _ (returns-in-Ok-clause-account g c) c.serve-answer.ensures.tells
+returns-in-Ok-clause-promises g c = promises _ _ _ _ _ _ (returns-in-Ok-clause-account g c)
 
 -- memory was wanting for the words
 pub returns-in-Err-clause-account : goal.returns-in-Err-clause-account
 returns-in-Err-clause-account g c = record {
   asked = asked_by (texts c.args.words.now);
   asks = refl;
-  answer = _;
-  serves = wanting_serves (asked_by (texts c.args.words.now)) _;
-  may = tt;
+  serves = inr (record { untouched = refl; reports = c.report_stop.ensures });
   unnamed = λ none. absurd (cc (sym c.in-Err.is ∙ c.request_of.ensures.no_command none));
-  reports = c.report-in-Err.ensures.reports;
 }
 
 pub returns-in-Err-clause-promises : goal.returns-in-Err-clause-promises
 unfolding returns-in-Err-clause-account
-returns-in-Err-clause-promises g c =
-    promises _ _ _ _ _ _ (returns-in-Err-clause-account g c) (wanting_tells (asked_by (texts c.args.words.now)) (g.S.Shelf.files c.args.shelf.now))
+returns-in-Err-clause-promises g c = promises _ _ _ _ _ _ (returns-in-Err-clause-account g c)
