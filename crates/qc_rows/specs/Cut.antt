@@ -1,4 +1,4 @@
--- What the runs of a case must come to in which a file is cut at every byte.
+-- inner: what the runs of a case must come to in which a file is cut at every byte.
 use Rattle.std.specs.Prelude.{List, Any}
 use Rattle.qc_rows.specs.declared.case.Outcome.{Outcome}
 use Rattle.qc_rows.specs.declared.cut.Trial.{Trial}

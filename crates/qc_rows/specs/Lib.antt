@@ -1,5 +1,6 @@
 pub mod Cut
 pub mod Outcome
+pub mod Runs
 pub mod Stores
 pub mod Sweep
 pub mod Verdict

@@ -1,4 +1,4 @@
--- What must come back from a run.
+-- inner: what must come back from a run.
 use Rattle.std.specs.Prelude.{◌≡◌, ◌⊎◌, ℕ, List, [], None, Some, Bool, IsTrue, IfSome, IsSomeAnd, All}
 use Rattle.std.specs.List.{list_any}
 use Rattle.std.specs.Str.{bytes_eq}

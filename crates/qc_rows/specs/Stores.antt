@@ -1,4 +1,4 @@
--- The stores that a run is given.
+-- inner: the stores that a run is given.
 use Rattle.std.specs.Prelude.{ℕ, ◌++◌, max, List, [], ◌∷◌, Option, None, Some}
 use Rattle.std.specs.List.{fold}
 use Rattle.std.specs.String.{string_bytes}
@@ -27,7 +27,7 @@ abbrev pub shelf_with : List Named → ℕ → List ℕ → Held
 shelf_with files most failing = record {
   files = files_of files;
   rest = None;
-  made = None;
+  making = None;
   faults = 0;
   read_faults = 0;
   calls = record { count = 0; failing = failing };

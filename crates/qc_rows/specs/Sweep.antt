@@ -1,4 +1,4 @@
--- What the runs of a sweep must come to.
+-- inner: what the runs of a sweep must come to.
 use Rattle.std.specs.Prelude.{ℕ, ◌+◌, ◌≤◌, ◌<◌, ◌⊎◌, List, [], ◌∷◌}
 use Rattle.qc_rows.specs.declared.case.Given.{Given}
 use Rattle.qc_rows.specs.declared.case.Outcome.{Outcome}

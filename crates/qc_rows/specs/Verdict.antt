@@ -1,4 +1,4 @@
--- What is printed of a case.
+-- inner: what is printed of a case.
 use Rattle.std.specs.Prelude.{ℕ, List, ◌++◌, codes, string_bytes}
 use Rattle.qc_rows.specs.declared.verdict.Verdict.{Verdict}
 use Rattle.qc_rows.specs.declared.verdict.Verdict.TheVariants.{Held, Failed, Malformed}

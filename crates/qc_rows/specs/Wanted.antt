@@ -1,4 +1,4 @@
--- What the bytes of a file or of a report must be.
+-- inner: what the bytes of a file or of a report must be.
 use Rattle.std.specs.Prelude.{◌≡◌, ℕ, ◌<◌, List, length, take, Option, None, Some}
 use Rattle.qc_rows.specs.declared.wanted.Wanted.{Wanted}
 use Rattle.qc_rows.specs.declared.wanted.Wanted.TheVariants.{Absent, Any, Whole, Front}

@@ -1,3 +1,5 @@
+//! The headings of a case file, each with its content.
+
 use crate::content::{add_line, is_content};
 use crate::flaw::{Fault, Flaw};
 use std::alloc::Global;
@@ -12,11 +14,12 @@ pub struct Block {
     pub has_content: bool,
 }
 
+/// Whether the line has a control character.
 fn has_control(line: &str) -> bool {
     line.bytes().any(|b| b < 32 || b == 127)
 }
 
-// A heading opens a block, and a content line goes into the block before it.
+/// A heading opens a block, and a content line goes into the block before it.
 fn take_line(
     alloc: Global,
     number: usize,

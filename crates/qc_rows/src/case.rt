@@ -1,3 +1,5 @@
+//! What a case tells: what its run is given, and what must come back.
+
 use crate::wanted::Wanted;
 use std::alloc::Global;
 

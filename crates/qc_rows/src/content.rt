@@ -1,4 +1,4 @@
-// The content lines of a case file: the bytes that they stand for.
+//! The content lines of a case file: the bytes that they stand for.
 
 use crate::flaw::Flaw;
 use std::alloc::Global;
@@ -19,6 +19,7 @@ pub fn number(text: &str) -> Option<u64> {
     text.parse::<u64>().ok()
 }
 
+/// The value of a hexadecimal digit.
 fn hex_digit(b: u8) -> Option<u8> {
     match b {
         b'0'..=b'9' => Some(b - b'0'),
@@ -27,7 +28,7 @@ fn hex_digit(b: u8) -> Option<u8> {
     }
 }
 
-// The bytes that pairs of hexadecimal digits write, with single spaces between them.
+/// The bytes that pairs of hexadecimal digits write, with single spaces between them.
 fn add_hex(text: &str, bytes: &mut Vec<u8>) -> Result<(), Flaw> {
     for pair in text.split(' ') {
         let [high, low] = pair.as_bytes() else {
@@ -41,7 +42,7 @@ fn add_hex(text: &str, bytes: &mut Vec<u8>) -> Result<(), Flaw> {
     Ok(())
 }
 
-// Texts, each with a line feed.
+/// Texts, each with a line feed.
 fn add_lines(texts: &str, bytes: &mut Vec<u8>) -> Result<(), Flaw> {
     for text in texts.split('/') {
         bytes.extend_from_slice(text.as_bytes())?;
@@ -50,7 +51,7 @@ fn add_lines(texts: &str, bytes: &mut Vec<u8>) -> Result<(), Flaw> {
     Ok(())
 }
 
-// A line without its repetition: text with a line feed, texts with one each, text without one, or bytes.
+/// A line without its repetition: text with a line feed, texts with one each, text without one, or bytes.
 fn add_plain(line: &str, bytes: &mut Vec<u8>) -> Result<(), Flaw> {
     if let Some(text) = line.strip_prefix('|') {
         bytes.extend_from_slice(text.as_bytes())?;
@@ -70,7 +71,7 @@ fn add_plain(line: &str, bytes: &mut Vec<u8>) -> Result<(), Flaw> {
     }
 }
 
-// The value of a hole with the numbers `divisor modulus factor first`.
+/// The value of a hole with the numbers `divisor modulus factor first`.
 fn hole_value(turn: u64, numbers: &[u64]) -> Option<u64> {
     match numbers {
         [divisor, modulus, factor, first, _] => turn
@@ -82,6 +83,7 @@ fn hole_value(turn: u64, numbers: &[u64]) -> Option<u64> {
     }
 }
 
+/// The numbers of a hole, with single spaces between them.
 fn numbers_of(alloc: Global, text: &str) -> Result<Vec<u64>, Flaw> {
     let mut numbers = Vec::new(alloc);
     for word in text.split(' ') {
@@ -93,7 +95,7 @@ fn numbers_of(alloc: Global, text: &str) -> Result<Vec<u64>, Flaw> {
     Ok(numbers)
 }
 
-// The number of a hole, filled with zeros to its width, and the text behind the hole.
+/// The number of a hole, filled with zeros to its width, and the text behind the hole.
 fn add_hole(alloc: Global, piece: &str, turn: u64, bytes: &mut Vec<u8>) -> Result<(), Flaw> {
     let Some((hole, text)) = piece.split_once('}') else {
         return Err(Flaw::Content);
@@ -111,7 +113,7 @@ fn add_hole(alloc: Global, piece: &str, turn: u64, bytes: &mut Vec<u8>) -> Resul
     Ok(())
 }
 
-// One turn of a repeated line with holes.
+/// One turn of a repeated line with holes.
 fn add_turn(alloc: Global, line: &str, turn: u64, bytes: &mut Vec<u8>) -> Result<(), Flaw> {
     let mut filled = Vec::new(alloc);
     for (at, piece) in line.split('{').enumerate() {
@@ -127,7 +129,7 @@ fn add_turn(alloc: Global, line: &str, turn: u64, bytes: &mut Vec<u8>) -> Result
     }
 }
 
-// A repeated line without holes.
+/// A repeated line without holes.
 fn add_copies(alloc: Global, line: &str, count: u64, bytes: &mut Vec<u8>) -> Result<(), Flaw> {
     let mut copy = Vec::new(alloc);
     add_plain(line, &mut copy)?;
@@ -137,6 +139,7 @@ fn add_copies(alloc: Global, line: &str, count: u64, bytes: &mut Vec<u8>) -> Res
     Ok(())
 }
 
+/// A repeated line, so many times.
 fn add_repeated(alloc: Global, line: &str, count: u64, bytes: &mut Vec<u8>) -> Result<(), Flaw> {
     if !line.contains('{') {
         return add_copies(alloc, line, count, bytes);

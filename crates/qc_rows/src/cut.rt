@@ -1,8 +1,9 @@
-// The runs of a case in which a file is cut at every byte.
-
-ghost use Rattle.std.specs.Prelude.{◌↔◌, IsTrue, All, Any};
+//! The runs of a case in which a file is cut at every byte.
+ghost use Rattle.std.specs.Prelude.{◌≡◌, ◌↔◌, IsTrue, IfOk, All, Any, map};
 ghost use Rattle.qc_rows.specs.Cut.{ComesInOne, ComesToOne};
+ghost use Rattle.qc_rows.specs.Runs.{IsCutTo, cut_text, text_of};
 ghost use Rattle.qc_rows.specs.Sweep.{CameTo};
+ghost use Rattle.qc_words.specs.Words.{texts};
 
 use crate::case::{Given, Named, Outcome};
 use crate::judge::{Ran, is_outcome};
@@ -28,7 +29,7 @@ pub fn is_any_met(given: &Given, outcomes: &[Outcome], ran: &Ran) -> bool
     false
 }
 
-// Whether some trial came to the outcome.
+/// Whether some trial came to the outcome.
 fn comes(outcome: &Outcome, trials: &[Trial]) -> bool
     ensures { IsTrue result ↔ Any (λ trial. CameTo trial.given outcome.now trial.ran) trials.now }
 {
@@ -40,12 +41,14 @@ fn comes(outcome: &Outcome, trials: &[Trial]) -> bool
     false
 }
 
+/// Whether the trial came to one of the outcomes.
 fn comes_to_one(outcomes: &[Outcome], trial: &Trial) -> bool
     ensures { IsTrue result ↔ ComesToOne outcomes.now trial.now }
 {
     is_any_met(&trial.given, outcomes, &trial.ran)
 }
 
+/// Whether the outcome came in one of the trials.
 fn comes_in_one(outcome: &Outcome, trials: &[Trial]) -> bool
     ensures { IsTrue result ↔ ComesInOne outcome.now trials.now }
 {
@@ -86,11 +89,13 @@ pub fn length_of(files: &[Named], name: &str) -> usize {
     0
 }
 
-// The file, with no more than so many bytes where it has the name.
-fn cut_file(alloc: Global, file: &Named, name: &str, length: usize) -> Result<Named, OutOfMemory> {
+/// The file, with no more than so many bytes where it has the name.
+fn cut_file(alloc: Global, file: &Named, name: &str, most: usize) -> Result<Named, OutOfMemory>
+    ensures { IfOk result (λ cut. text_of cut ≡ cut_text name.now most file.now) }
+{
     let bytes = file.bytes.as_slice();
-    let kept = if file.name.as_str() == name && length < bytes.len() {
-        &bytes[..length]
+    let kept = if file.name.as_str() == name && most < bytes.len() {
+        &bytes[..most]
     } else {
         bytes
     };
@@ -100,7 +105,26 @@ fn cut_file(alloc: Global, file: &Named, name: &str, length: usize) -> Result<Na
     })
 }
 
-fn copy_of(alloc: Global, words: &[String]) -> Result<Vec<String>, OutOfMemory> {
+/// The files, each with no more than so many bytes where it has the name.
+fn cut_files(
+    alloc: Global,
+    files: &[Named],
+    name: &str,
+    most: usize,
+) -> Result<Vec<Named>, OutOfMemory>
+    ensures { IfOk result (λ cut. map text_of cut.items ≡ map (cut_text name.now most) files.now) }
+{
+    let mut cut = Vec::new(alloc);
+    for file in files {
+        cut.push(cut_file(alloc, file, name, most)?)?;
+    }
+    Ok(cut)
+}
+
+/// A copy of the words.
+fn copy_of(alloc: Global, words: &[String]) -> Result<Vec<String>, OutOfMemory>
+    ensures { IfOk result (λ copy. texts copy.items ≡ texts words.now) }
+{
     let mut copy = Vec::new(alloc);
     for word in words {
         copy.push(String::from_str(alloc, word.as_str())?)?;
@@ -114,18 +138,16 @@ pub fn cut_to(
     given: &Given,
     name: &str,
     length: usize,
-) -> Result<Given, OutOfMemory> {
+) -> Result<Given, OutOfMemory>
+    ensures { IfOk result (λ cut. IsCutTo given.now name.now length cut) }
+{
     let words = match &given.words {
         Some(words) => Some(copy_of(alloc, words.as_slice())?),
         None => None,
     };
-    let mut files = Vec::new(alloc);
-    for file in &given.files {
-        files.push(cut_file(alloc, file, name, length)?)?;
-    }
     Ok(Given {
         words,
-        files,
+        files: cut_files(alloc, given.files.as_slice(), name, length)?,
         shelf_failures: Vec::new(alloc),
         sink_failures: Vec::new(alloc),
         sweep: None,

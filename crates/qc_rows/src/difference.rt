@@ -1,15 +1,16 @@
-// What came back in place of what, as text.
+//! What came back in place of what, as text.
 
 use crate::case::{Given, Named, Outcome};
 use crate::judge::{Ran, is_kept, is_no_file};
 use crate::wanted::{Wanted, is_met};
 use std::alloc::{AllocError, Global};
 
-// How many bytes are shown at most, and how many stand before the first difference.
+/// How many bytes are shown at most, and how many stand before the first difference.
 const SHOWN: usize = 120;
 
 const BEFORE: usize = 20;
 
+/// Puts a byte behind the text, as it is shown in quotes.
 fn add_byte(alloc: Global, text: &mut String, byte: u8) -> Result<(), AllocError> {
     match byte {
         b'\n' => text.push_str("\\n"),
@@ -22,7 +23,7 @@ fn add_byte(alloc: Global, text: &mut String, byte: u8) -> Result<(), AllocError
     }
 }
 
-// Some of the bytes, from a place on, in quotes.
+/// Some of the bytes, from a place on, in quotes.
 fn quoted(alloc: Global, bytes: &[u8], from: usize) -> Result<String, AllocError> {
     let mut text = String::from_str(alloc, "\"")?;
     for byte in bytes.iter().skip(from).take(SHOWN) {
@@ -36,7 +37,7 @@ fn quoted(alloc: Global, bytes: &[u8], from: usize) -> Result<String, AllocError
     Ok(text)
 }
 
-// Where to begin to show bytes that are compared: shortly before they differ.
+/// Where to begin to show bytes that are compared: shortly before they differ.
 fn start(wanted: &[u8], got: &[u8]) -> usize {
     let same = wanted
         .iter()
@@ -46,7 +47,7 @@ fn start(wanted: &[u8], got: &[u8]) -> usize {
     same.saturating_sub(BEFORE)
 }
 
-// What was wanted and what came, `None` standing for no such file.
+/// What was wanted and what came, `None` standing for no such file.
 fn compared(alloc: Global, wanted: &Wanted, got: Option<&[u8]>) -> Result<String, AllocError> {
     let got = got.unwrap_or(&[]);
     match wanted {
@@ -70,6 +71,7 @@ fn compared(alloc: Global, wanted: &Wanted, got: Option<&[u8]>) -> Result<String
     }
 }
 
+/// Puts a part behind the text, with a separator where it isn't the first.
 fn add_part(text: &mut String, part: &str) -> Result<(), AllocError> {
     if !text.is_empty() {
         text.push_str("; ")?;
@@ -77,6 +79,7 @@ fn add_part(text: &mut String, part: &str) -> Result<(), AllocError> {
     text.push_str(part)
 }
 
+/// Puts behind the text what became of a file of which the outcome speaks, where that isn't wanted.
 fn add_file(
     alloc: Global,
     name: &str,
@@ -91,7 +94,7 @@ fn add_file(
     add_part(text, format!(in alloc; "file {name} {what}")?.as_str())
 }
 
-// A given file that isn't as it was.
+/// A given file that isn't as it was.
 fn add_changed(
     alloc: Global,
     file: &Named,
@@ -102,7 +105,7 @@ fn add_changed(
     add_file(alloc, file.name.as_str(), &wanted, got, text)
 }
 
-// The files of which the outcome says nothing.
+/// The files of which the outcome says nothing.
 fn add_others(
     alloc: Global,
     given: &Given,
@@ -129,6 +132,7 @@ fn add_others(
     Ok(())
 }
 
+/// Puts behind the text what the report was, where that isn't wanted.
 fn add_report(
     alloc: Global,
     report: &Option<Wanted>,

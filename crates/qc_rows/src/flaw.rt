@@ -1,3 +1,5 @@
+//! Why a file tells no case.
+
 use qc_num::OutOfMemory;
 use std::alloc::{AllocError, AllocFailed};
 use std::fmt;
@@ -25,6 +27,7 @@ pub enum Flaw {
 }
 
 impl Flaw {
+    /// The flaw in words.
     fn text(self) -> &'static str {
         match self {
             Flaw::Control => "a control character",

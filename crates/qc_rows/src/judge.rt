@@ -1,5 +1,4 @@
-// Whether a run came to what was wanted.
-
+//! Whether a run came to what was wanted.
 ghost use Rattle.std.specs.Prelude.{◌≡◌, ◌↔◌, IsTrue, All, IfSome, IsSomeAnd, Some};
 ghost use Rattle.std.specs.String.{string_bytes};
 ghost use Rattle.std.specs.FinMap.{get};
@@ -32,6 +31,7 @@ pub fn is_wanted(files: &[WantedFile], name: &str) -> bool
     files.iter().any(|file| file.name.as_str() == name)
 }
 
+/// Whether each of these files is what is wanted.
 fn files_are_met(files: &[WantedFile], shelf: &MemShelf) -> bool
     ensures { IsTrue result
         ↔ All (λ file. IsMet file.wanted (get shelf.now.files (string_bytes file.name))) files.now }
@@ -39,6 +39,7 @@ fn files_are_met(files: &[WantedFile], shelf: &MemShelf) -> bool
     files.iter().all(|file| is_met(&file.wanted, shelf.bytes(file.name.as_str())))
 }
 
+/// Whether the report is what is wanted.
 fn report_is_met(report: &Option<Wanted>, sink: &MemSink) -> bool
     ensures { IsTrue result ↔ IsSomeAnd report.now (λ wanted. IsMet wanted (Some sink.now.bytes)) }
 {
@@ -48,6 +49,7 @@ fn report_is_met(report: &Option<Wanted>, sink: &MemSink) -> bool
     }
 }
 
+/// Whether the file is on the shelf with its bytes.
 fn is_unchanged(shelf: &MemShelf, file: &Named) -> bool
     ensures { IsTrue result ↔ (get shelf.now.files (string_bytes file.now.name) ≡ Some file.now.bytes.items) }
 {
@@ -74,12 +76,14 @@ pub fn is_no_file(given: &[Named], wanted: &[WantedFile], shelf: &MemShelf, word
         || shelf.bytes(word).is_none()
 }
 
+/// Whether each given file is as it was, or the outcome speaks of it.
 fn all_are_kept(given: &[Named], wanted: &[WantedFile], shelf: &MemShelf) -> bool
     ensures { IsTrue result ↔ All (λ file. IsKept wanted.now shelf.now.files file) given.now }
 {
     given.iter().all(|file| is_kept(wanted, shelf, file))
 }
 
+/// Whether no word names a file that is neither given nor spoken of.
 fn words_are_no_files(given: &Given, wanted: &[WantedFile], shelf: &MemShelf) -> bool
     ensures { IsTrue result ↔ IfSome given.now.words
         (λ words. All (λ word. IsNoFile given.now.files.items wanted.now shelf.now.files

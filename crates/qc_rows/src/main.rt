@@ -1,10 +1,10 @@
 //! Runs cases of the program and prints one line for each: whether what came back is what was wanted.
 //!
 //! A case is a file `NAME.case` in a folder of its command. Its headings are first what the run is given:
-//! `words`, `word`, `file`, `pieces`, `fail` and `cut`, then for each outcome `status`, `report` and what becomes of files: `left`,
-//! `left-front`, `left-any`, `absent`. Content lines follow a heading: `|TEXT` is a line, `>TEXT` text
-//! without a line feed, `=0D 0A` bytes, and `*N LINE` repeats one of these. `docs/ROWS.md` has the
-//! whole format.
+//! `words`, `word`, `file`, `pieces`, `fail` and `cut`, then for each outcome `status`, `report` and what
+//! becomes of files: `left`, `left-front`, `left-any`, `absent`. Content lines follow a heading: `|TEXT` is
+//! a line, `>TEXT` text without a line feed, `=0D 0A` bytes, and `*N LINE` repeats one of these.
+//! `docs/ROWS.md` has the whole format.
 #![tactic(auto)]
 
 mod block;
@@ -31,7 +31,7 @@ use std::rt::{Env, Files};
 use std::{env, fs};
 use verdict::{Verdict, is_held, line};
 
-// The folder of the cases: the first word of the command line, or where the program runs.
+/// The folder of the cases: the first word of the command line, or where the program runs.
 fn folder<R: Env + AllocGlobal>(rt: &R) -> Result<String> {
     match env::args(rt)?.nth(1) {
         Some(folder) => Ok(folder),
@@ -39,7 +39,7 @@ fn folder<R: Env + AllocGlobal>(rt: &R) -> Result<String> {
     }
 }
 
-// The names in the folder, each behind `front`.
+/// The names in the folder, each behind `front`.
 fn add_names<R: Files + AllocGlobal + Clone + Drop>(
     rt: &R,
     folder: &str,
@@ -54,7 +54,7 @@ fn add_names<R: Files + AllocGlobal + Clone + Drop>(
     Ok(())
 }
 
-// The names of all files of the folder and of the folders in it, sorted.
+/// The names of all files of the folder and of the folders in it, sorted.
 fn file_names<R: Files + AllocGlobal + Clone + Drop>(rt: &R, folder: &str) -> Result<Vec<String>> {
     let mut entries = Vec::new(rt.alloc());
     add_names(rt, folder, "", &mut entries)?;
@@ -72,11 +72,12 @@ fn file_names<R: Files + AllocGlobal + Clone + Drop>(rt: &R, folder: &str) -> Re
     Ok(names)
 }
 
+/// The verdict on a file that tells no case.
 fn malformed(alloc: Global, why: &str) -> Result<Verdict, OutOfMemory> {
     Ok(Verdict::Malformed(String::from_str(alloc, why)?))
 }
 
-// The verdict on the bytes of a case file.
+/// The verdict on the bytes of a case file.
 fn verdict_of(alloc: Global, bytes: &[u8]) -> Result<Verdict, OutOfMemory> {
     let Ok(text) = std::str::from_utf8(bytes) else {
         return malformed(alloc, "not UTF-8");
@@ -87,6 +88,7 @@ fn verdict_of(alloc: Global, bytes: &[u8]) -> Result<Verdict, OutOfMemory> {
     }
 }
 
+/// The verdict on a file of the folder.
 fn verdict_on<R: Files + AllocGlobal>(
     rt: &R,
     folder: &str,
@@ -102,6 +104,7 @@ fn verdict_on<R: Files + AllocGlobal>(
     }
 }
 
+/// Prints a line for each case of the folder, and ends with 0 where all held.
 fn main(rt: HostRuntime) -> Result<ExitCode> {
     let folder = folder(&rt)?;
     let files = file_names(&rt, folder.as_str())?;

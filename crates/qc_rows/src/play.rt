@@ -1,7 +1,7 @@
-// The runs of a case.
-
-ghost use Rattle.std.specs.Prelude.{◌↔◌, All, Any, IfOk, length, ◌<◌, ◌^◌};
+//! The runs of a case.
+ghost use Rattle.std.specs.Prelude.{◌↔◌, All, Any, IfOk, length, vec_len, ◌<◌, ◌^◌};
 ghost use Rattle.qc_rows.specs.Cut.{ComesInOne, ComesToOne};
+ghost use Rattle.qc_rows.specs.Runs.{AreRuns, AreTrials, IsRunOf, Shown};
 ghost use Rattle.qc_rows.specs.Sweep.{CameTo, IsSwept};
 ghost use Rattle.qc_rows.specs.Verdict.{IsHeld};
 
@@ -16,11 +16,13 @@ use qc_num::OutOfMemory;
 use qc_top::run;
 use std::alloc::Global;
 
-// The most calls of a store that a sweep lets fail, each in a run of its own.
+/// The most calls of a store that a sweep lets fail, each in a run of its own.
 const MOST_CALLS: u64 = 10_000;
 
-// One run, with one more call of a store that is to fail.
-fn run_once(alloc: Global, given: &Given, more: Option<(Store, u64)>) -> Result<Ran, OutOfMemory> {
+/// One run, with one more call of a store that is to fail.
+fn run_once(alloc: Global, given: &Given, more: Option<(Store, u64)>) -> Result<Ran, OutOfMemory>
+    ensures { IfOk result (λ ran. IsRunOf given.now more ran) }
+{
     let (shelf_call, sink_call) = match more {
         Some((Store::Shelf, call)) => (Some(call), None),
         Some((Store::Sink, call)) => (None, Some(call)),
@@ -40,7 +42,7 @@ fn run_once(alloc: Global, given: &Given, more: Option<(Store, u64)>) -> Result<
     })
 }
 
-// Whether the run came to one of the outcomes.
+/// Whether the run came to one of the outcomes.
 fn judged(
     alloc: Global,
     given: &Given,
@@ -59,7 +61,7 @@ fn judged(
     }
 }
 
-// How many outcomes came up to this run: it came to the newest of them or to the next.
+/// How many outcomes came up to this run: it came to the newest of them or to the next.
 fn reached_by(given: &Given, outcomes: &[Outcome], reached: usize, ran: &Ran) -> Option<usize> {
     if reached > 0 && reached <= outcomes.len() && is_outcome(given, &outcomes[reached - 1], ran) {
         return Some(reached);
@@ -70,7 +72,7 @@ fn reached_by(given: &Given, outcomes: &[Outcome], reached: usize, ran: &Ran) ->
     None
 }
 
-// The first run of a sweep that came to no outcome, as text.
+/// The first run of a sweep that came to no outcome, as text.
 fn first_miss(
     alloc: Global,
     given: &Given,
@@ -99,7 +101,7 @@ fn first_miss(
     Ok(format!(in alloc; "{count} runs came to {reached} of the outcomes")?)
 }
 
-// Whether the runs of a sweep came to the outcomes in their order.
+/// Whether the runs of a sweep came to the outcomes in their order.
 fn judged_sweep(
     alloc: Global,
     given: &Given,
@@ -116,8 +118,11 @@ fn judged_sweep(
     Ok(Verdict::Failed(first_miss(alloc, given, outcomes, runs)?))
 }
 
-// The runs in which one call of the store after the other fails, up to the first that meets no failure.
-fn swept_runs(alloc: Global, given: &Given, store: Store) -> Result<Vec<Ran>, OutOfMemory> {
+/// The runs in which one call of the store after the other fails, up to the first that meets no failure.
+fn swept_runs(alloc: Global, given: &Given, store: Store) -> Result<Vec<Ran>, OutOfMemory>
+    ensures few { IfOk result (λ runs. vec_len runs < 10000) }
+    ensures runs { IfOk result (λ runs. AreRuns given.now store 1 runs.items) }
+{
     let mut runs = Vec::new(alloc);
     for call in 1..MOST_CALLS {
         let ran = run_once(alloc, given, Some((store, call)))?;
@@ -130,8 +135,10 @@ fn swept_runs(alloc: Global, given: &Given, store: Store) -> Result<Vec<Ran>, Ou
     Ok(runs)
 }
 
-// One run for each length below that of the file, which is cut to it.
-fn cut_trials(alloc: Global, given: &Given, name: &str) -> Result<Vec<Trial>, OutOfMemory> {
+/// One run for each length below that of the file, which is cut to it.
+fn cut_trials(alloc: Global, given: &Given, name: &str) -> Result<Vec<Trial>, OutOfMemory>
+    ensures { IfOk result (λ trials. AreTrials given.now name.now 0 trials.items) }
+{
     let mut trials = Vec::new(alloc);
     for length in 0..length_of(given.files.as_slice(), name) {
         let given = cut_to(alloc, given, name, length)?;
@@ -141,7 +148,7 @@ fn cut_trials(alloc: Global, given: &Given, name: &str) -> Result<Vec<Trial>, Ou
     Ok(trials)
 }
 
-// The first trial that came to no outcome, as text.
+/// The first trial that came to no outcome, as text.
 fn first_untold(
     alloc: Global,
     outcomes: &[Outcome],
@@ -159,7 +166,7 @@ fn first_untold(
     Ok(String::from_str(alloc, "no trial")?)
 }
 
-// Whether the trials came to the outcomes.
+/// Whether the trials came to the outcomes.
 fn judged_cut(alloc: Global, outcomes: &[Outcome], trials: &[Trial]) -> Result<Verdict, OutOfMemory>
     ensures met { IfOk result (λ verdict. IsHeld verdict
         → All (λ trial. ComesToOne outcomes.now trial) trials.now) }
@@ -176,7 +183,10 @@ fn judged_cut(alloc: Global, outcomes: &[Outcome], trials: &[Trial]) -> Result<V
 }
 
 /// Runs the case.
-pub fn play(alloc: Global, case: &Case) -> Result<Verdict, OutOfMemory> {
+pub fn play(alloc: Global, case: &Case) -> Result<Verdict, OutOfMemory>
+    ensures { IfOk result (λ verdict. IsHeld verdict
+        → Shown case.now.given.cut case.now.given.sweep case.now.given case.now.outcomes.items) }
+{
     let outcomes = case.outcomes.as_slice();
     if let Some(name) = &case.given.cut {
         let trials = cut_trials(alloc, &case.given, name.as_str())?;

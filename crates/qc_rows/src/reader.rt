@@ -1,4 +1,4 @@
-// From the blocks of a case file to a case.
+//! From the blocks of a case file to a case.
 
 use crate::block::{Block, blocks_of};
 use crate::case::{Case, Given, Named, Outcome, Store, WantedFile};
@@ -8,7 +8,7 @@ use crate::judge::{is_given, is_wanted};
 use crate::wanted::Wanted;
 use std::alloc::Global;
 
-// The keyword of a heading and what stands behind it.
+/// The keyword of a heading and what stands behind it.
 fn split_heading(heading: &str) -> (&str, &str) {
     match heading.split_once(' ') {
         Some((keyword, value)) => (keyword, value),
@@ -16,6 +16,7 @@ fn split_heading(heading: &str) -> (&str, &str) {
     }
 }
 
+/// The words of a line, with single spaces between them.
 fn words_of(alloc: Global, text: &str) -> Result<Vec<String>, Flaw> {
     let mut words = Vec::new(alloc);
     if text.is_empty() {
@@ -30,6 +31,7 @@ fn words_of(alloc: Global, text: &str) -> Result<Vec<String>, Flaw> {
     Ok(words)
 }
 
+/// Takes the words of the command line.
 fn add_words(alloc: Global, text: &str, given: &mut Given) -> Result<(), Flaw> {
     if given.words.is_some() {
         return Err(Flaw::Twice);
@@ -39,6 +41,7 @@ fn add_words(alloc: Global, text: &str, given: &mut Given) -> Result<(), Flaw> {
     Ok(())
 }
 
+/// Takes one more word.
 fn add_word(alloc: Global, text: &str, given: &mut Given) -> Result<(), Flaw> {
     match &mut given.words {
         Some(words) => {
@@ -49,6 +52,7 @@ fn add_word(alloc: Global, text: &str, given: &mut Given) -> Result<(), Flaw> {
     }
 }
 
+/// Takes a file of the shelf.
 fn add_file(alloc: Global, name: &str, bytes: Vec<u8>, given: &mut Given) -> Result<(), Flaw> {
     if name.is_empty() {
         return Err(Flaw::Value);
@@ -61,6 +65,7 @@ fn add_file(alloc: Global, name: &str, bytes: Vec<u8>, given: &mut Given) -> Res
     Ok(())
 }
 
+/// The store of that name.
 fn store_of(text: &str) -> Option<Store> {
     match text {
         "shelf" => Some(Store::Shelf),
@@ -69,6 +74,7 @@ fn store_of(text: &str) -> Option<Store> {
     }
 }
 
+/// Takes the store whose calls fail one after the other.
 fn add_sweep(store: Store, given: &mut Given) -> Result<(), Flaw> {
     if given.sweep.is_some() {
         return Err(Flaw::Twice);
@@ -77,7 +83,7 @@ fn add_sweep(store: Store, given: &mut Given) -> Result<(), Flaw> {
     Ok(())
 }
 
-// The file that is cut, which stands above.
+/// The file that is cut, which stands above.
 fn add_cut(alloc: Global, name: &str, given: &mut Given) -> Result<(), Flaw> {
     if given.cut.is_some() {
         return Err(Flaw::Twice);
@@ -89,7 +95,7 @@ fn add_cut(alloc: Global, name: &str, given: &mut Given) -> Result<(), Flaw> {
     Ok(())
 }
 
-// A call that is to fail: the store, and the call's number or `each`.
+/// A call that is to fail: the store, and the call's number or `each`.
 fn add_failure(text: &str, given: &mut Given) -> Result<(), Flaw> {
     let Some((store, call)) = text.split_once(' ') else {
         return Err(Flaw::Value);
@@ -112,6 +118,7 @@ fn add_failure(text: &str, given: &mut Given) -> Result<(), Flaw> {
     }
 }
 
+/// Takes how many bytes a call moves at most.
 fn add_pieces(text: &str, given: &mut Given) -> Result<(), Flaw> {
     if given.pieces.is_some() {
         return Err(Flaw::Twice);
@@ -125,6 +132,7 @@ fn add_pieces(text: &str, given: &mut Given) -> Result<(), Flaw> {
     }
 }
 
+/// Takes a heading of what the run is given.
 fn add_given(
     alloc: Global,
     keyword: &str,
@@ -143,6 +151,7 @@ fn add_given(
     }
 }
 
+/// Begins an outcome with its status.
 fn add_status(alloc: Global, value: &str, outcomes: &mut Vec<Outcome>) -> Result<(), Flaw> {
     match number(value) {
         Some(status) if status < 256 => {
@@ -157,7 +166,7 @@ fn add_status(alloc: Global, value: &str, outcomes: &mut Vec<Outcome>) -> Result
     }
 }
 
-// What a heading of something wanted says of its bytes.
+/// What a heading of something wanted says of its bytes.
 fn wanted_of(keyword: &str, bytes: Vec<u8>) -> Option<Wanted> {
     match keyword {
         "report" | "left" => Some(Wanted::Whole(bytes)),
@@ -168,6 +177,7 @@ fn wanted_of(keyword: &str, bytes: Vec<u8>) -> Option<Wanted> {
     }
 }
 
+/// Takes what is wanted of the report.
 fn add_report(value: &str, wanted: Wanted, outcome: &mut Outcome) -> Result<(), Flaw> {
     if !value.is_empty() {
         return Err(Flaw::Value);
@@ -179,6 +189,7 @@ fn add_report(value: &str, wanted: Wanted, outcome: &mut Outcome) -> Result<(), 
     Ok(())
 }
 
+/// Takes what is wanted of a file.
 fn add_left(
     alloc: Global,
     name: &str,
@@ -196,6 +207,7 @@ fn add_left(
     Ok(())
 }
 
+/// Takes a heading of what must come back, for the newest outcome.
 fn add_wanted(
     alloc: Global,
     keyword: &str,
@@ -216,6 +228,7 @@ fn add_wanted(
     }
 }
 
+/// Whether content may stand below the heading.
 fn takes_content(keyword: &str) -> bool {
     match keyword {
         "file" | "report" | "report-front" | "left" | "left-front" => true,
@@ -223,6 +236,7 @@ fn takes_content(keyword: &str) -> bool {
     }
 }
 
+/// Whether the heading says what the run is given.
 fn is_said_of_the_run(keyword: &str) -> bool {
     match keyword {
         "words" | "word" | "file" | "fail" | "pieces" | "cut" => true,
@@ -230,6 +244,7 @@ fn is_said_of_the_run(keyword: &str) -> bool {
     }
 }
 
+/// Takes a block into the case.
 fn add_block(alloc: Global, block: Block, case: &mut Case) -> Result<(), Flaw> {
     let Block {
         line: _,
@@ -253,6 +268,7 @@ fn add_block(alloc: Global, block: Block, case: &mut Case) -> Result<(), Flaw> {
     add_wanted(alloc, keyword, value, bytes, &mut case.outcomes)
 }
 
+/// Whether the case has words and outcomes, each with its report.
 fn is_complete(case: &Case) -> bool {
     case.given.words.is_some()
         && !case.outcomes.is_empty()

@@ -1,5 +1,4 @@
-// The stores that a run is given.
-
+//! The stores that a run is given.
 ghost use Rattle.std.specs.Prelude.{◌≡◌, ◌++◌, [], IfOk, OnOk};
 ghost use Rattle.qc_io.specs.Outside.{most_count};
 ghost use Rattle.qc_rows.specs.Stores.{shelf_of, shelf_with, sink_of};
@@ -9,7 +8,7 @@ use qc_io::{MemShelf, MemSink};
 use qc_num::OutOfMemory;
 use std::alloc::Global;
 
-// A shelf that holds the files.
+/// A shelf that holds the files.
 fn with_files(alloc: Global, files: &[Named]) -> Result<MemShelf, OutOfMemory>
     ensures { IfOk result (λ shelf. shelf ≡ shelf_with files.now most_count []) }
 {
@@ -20,7 +19,7 @@ fn with_files(alloc: Global, files: &[Named]) -> Result<MemShelf, OutOfMemory>
     Ok(shelf)
 }
 
-// Sets the calls of the shelf to fail.
+/// Sets the calls of the shelf to fail.
 fn fail_shelf(shelf: &mut MemShelf, calls: &[u64]) -> Result<(), OutOfMemory>
     ensures { OnOk result (shelf.new ≡ record shelf.old {
       calls = record shelf.old.calls { failing = shelf.old.calls.failing ++ calls.now };
@@ -32,7 +31,7 @@ fn fail_shelf(shelf: &mut MemShelf, calls: &[u64]) -> Result<(), OutOfMemory>
     Ok(())
 }
 
-// Sets the calls of the sink to fail.
+/// Sets the calls of the sink to fail.
 fn fail_sink(sink: &mut MemSink, calls: &[u64]) -> Result<(), OutOfMemory>
     ensures { OnOk result (sink.new ≡ record sink.old {
       calls = record sink.old.calls { failing = sink.old.calls.failing ++ calls.now };

@@ -1,5 +1,4 @@
-// The runs of a case in which one call after the other fails.
-
+//! The runs of a case in which one call after the other fails.
 ghost use Rattle.std.specs.Prelude.{◌≡◌, ◌+◌, ◌<◌, ◌^◌, IsTrue, length};
 ghost use Rattle.qc_rows.specs.Sweep.{IsSwept, calls_of};
 

@@ -1,3 +1,4 @@
+//! What is printed of a case.
 ghost use Rattle.std.specs.Prelude.{◌≡◌, ◌↔◌, IsTrue, IfOk, string_bytes};
 ghost use Rattle.qc_rows.specs.Verdict.{IsHeld, line_of};
 
@@ -14,6 +15,7 @@ pub enum Verdict {
     Malformed(String),
 }
 
+/// Whether the case held.
 pub fn is_held(verdict: &Verdict) -> bool
     ensures { IsTrue result ↔ IsHeld verdict.now }
 {

@@ -1,3 +1,4 @@
+//! What the bytes of a file or of a report must be.
 ghost use Rattle.std.specs.Prelude.{◌↔◌, IsTrue, option_map};
 ghost use Rattle.qc_rows.specs.Wanted.{IsMet};
 
