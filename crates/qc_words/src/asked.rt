@@ -1,6 +1,5 @@
 //! What the words ask for.
 
-
 /// The greatest number that a ship and a list are made from.
 pub const MOST_NUMBER: u32 = 2_147_483_647;
 
