@@ -5,10 +5,9 @@ use Rattle.std.proofs.lemmas.Bool.{cond_both, leb-false, leb-true}
 use Rattle.qc_num.specs.declared.bound.Bound.TheVariants.{Least}
 use Rattle.qc_num.specs.Reading.{◌>>=◌, with_fault}
 use Rattle.qc_num.proofs.ReadingLemmas.{same_ok}
-use Rattle.qc_io.specs.Outside.{Files, View, Rose}
+use Rattle.qc_io.specs.Outside.{Files, View}
 use Rattle.qc_gantt.specs.declared.fault.PlanFault.{PlanFault}
 use Rattle.qc_model.specs.Instance.{InstanceView}
-use Rattle.qc_model.specs.OneWay.{GoesOneWay}
 use Rattle.qc_model.specs.Rules.{ends}
 use Rattle.qc_replay.specs.declared.fault.Replayed.{Replayed}
 use Rattle.qc_replay.specs.declared.fault.TreeFault.{TreeFault}
@@ -23,10 +22,10 @@ use Rattle.qc_run.specs.declared.status.Status.{Status}
 use Rattle.qc_run.specs.declared.status.Status.TheVariants as status
 use Rattle.qc_run.specs.Due.{contents_in, job_due, tree_due}
 use Rattle.qc_run.specs.Inputs.{Names}
-use Rattle.qc_run.specs.Reports.{IsRun, Printing, Prints, PrintsPart, answer_prints, answer_status}
+use Rattle.qc_run.specs.Reports.{Printing, Prints, PrintsPart, answer_prints, answer_status}
 use Rattle.qc_run.specs.Shown.{IsTreeShown}
-use Rattle.qc_run.specs.Steps.{ComesTo, Stops}
-use Rattle.qc_run.specs.Texts.{bad_plan_text, refusal_status}
+use Rattle.qc_run.specs.Steps.{ComesTo}
+use Rattle.qc_run.specs.Texts.{bad_plan_text}
 use Rattle.qc_run.specs.Told.{EndsBy, NoneFailed}
 use Rattle.qc_run.proofs.DueLemmas.{comes_due, stop_is}
 use Rattle.qc_run.proofs.StatusLemmas.{IsOwn, stop_is_not}
@@ -40,7 +39,7 @@ use Rattle.qc_judge_commands.specs.declared.answer.Showing.TheVariants as showin
 use Rattle.qc_judge_commands.specs.Account.{IsBroken, IsCompared, IsJudging, IsMoved, IsPlanCheckRun, IsShowing, IsShowRun, IsStoppedAtTree}
 use Rattle.qc_judge_commands.specs.Promises.{EndsJudged, EndsShown, IsBadPlanTold, IsBestTold, IsBrokenTold, IsComparedTold, IsMotionTold, IsWeakerTold, PlanCheckPromises, ShowPromises}
 use Rattle.qc_judge_commands.specs.Reports.{showing_prints, showing_prints_part, showing_status}
-use Rattle.qc_judge_commands.specs.Shown.{IsBoundShown, IsNoneShown}
+use Rattle.qc_judge_commands.specs.Shown.{IsNoneShown}
 use Rattle.qc_judge_commands.specs.Texts.{broken_text, compared_status, compared_text, compared_word, judged_status, judged_text}
 use Rattle.qc_judge_commands.proofs.ReadLemmas.{job_inst, read_promises}
 

@@ -1,11 +1,10 @@
 -- What a tree's file shows for the instance that is due, and what is promised of each command that only reads.
-use Rattle.std.proofs.Common.{◌≡◌, ◌≢◌, ◌≤◌, ℕ, List, Option, None, Some, Result, Ok, Err, sym, ap, subst, inl, inr, ◌∙◌}
+use Rattle.std.proofs.Common.{◌≡◌, ◌≢◌, ◌≤◌, ℕ, Option, None, Some, Result, Ok, Err, ap, subst, inl, inr, ◌∙◌}
 use Rattle.std.specs.Prelude.{IfSome}
 use Rattle.qc_num.specs.declared.bound.Bound.{Bound}
 use Rattle.qc_num.specs.Reading.{◌>>=◌}
 use Rattle.qc_num.proofs.ReadingLemmas.{bind_ok, same_ok}
 use Rattle.qc_io.specs.Outside.{Files, View}
-use Rattle.qc_model.specs.Instance.{InstanceView}
 use Rattle.qc_run.specs.declared.reading.Job.{Job}
 use Rattle.qc_run.specs.declared.refusal.Refusal.TheVariants as refusal
 use Rattle.qc_run.specs.declared.refusal.Stop.{Stop}

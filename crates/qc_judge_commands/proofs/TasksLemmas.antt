@@ -1,12 +1,11 @@
 -- What follows from the account of the tasks, and from that of a tree's check.
-use Rattle.std.proofs.Common.{◌≡◌, ◌≢◌, ◌⊎◌, ℕ, List, Option, None, Some, Result, Ok, Err, refl, sym, subst, inl, inr, ◌∙◌}
+use Rattle.std.proofs.Common.{◌≡◌, ◌≢◌, ◌⊎◌, Option, None, Some, Result, Ok, Err, refl, subst, inl, ◌∙◌}
 use Rattle.std.specs.Prelude.{IfSome}
 use Rattle.qc_num.specs.declared.bound.Bound.{Bound}
 use Rattle.qc_num.specs.declared.bound.Bound.TheVariants.{Least, Never}
 use Rattle.qc_io.specs.Outside.{Files, View}
 use Rattle.qc_model.specs.Instance.{InstanceView}
 use Rattle.qc_replay.specs.declared.fault.Replayed.{Replayed}
-use Rattle.qc_replay.specs.declared.fault.TreeFault.{TreeFault}
 use Rattle.qc_tasks.specs.TasksText.{tasks_text}
 use Rattle.qc_run.specs.declared.refusal.Refusal.{Refusal}
 use Rattle.qc_run.specs.declared.refusal.Refusal.TheVariants as refusal
@@ -16,9 +15,8 @@ use Rattle.qc_run.specs.declared.status.Status.{Status}
 use Rattle.qc_run.specs.declared.status.Status.TheVariants as status
 use Rattle.qc_run.specs.Due.{Contents, contents_in, instance_due, shown_due}
 use Rattle.qc_run.specs.Inputs.{Names}
-use Rattle.qc_run.specs.Reports.{IsRun, Printing, Prints, PrintsPart, answer_prints, answer_status}
+use Rattle.qc_run.specs.Reports.{Printing, Prints, PrintsPart, answer_prints, answer_status}
 use Rattle.qc_run.specs.Steps.{ComesTo, IsStep}
-use Rattle.qc_run.specs.Texts.{stop_status}
 use Rattle.qc_run.specs.Told.{EndsBy, NoneFailed}
 use Rattle.qc_run.proofs.DueLemmas.{comes_due}
 use Rattle.qc_run.proofs.StatusLemmas.{IsOwn, stop_is_not}

@@ -1,5 +1,5 @@
 -- public: what follows from the accounts of these commands, said by itself for whoever reads one status.
-use Rattle.std.specs.Prelude.{◌≡◌, ◌≢◌, ℕ, ◌≤◌, ◌<◌, ◌⊎◌, List, ◌++◌, codes, decimal, nat_le, if◌then◌else◌, Result, Ok, Err, Some, IfSome}
+use Rattle.std.specs.Prelude.{◌≡◌, ◌≢◌, ℕ, ◌≤◌, ◌<◌, ◌⊎◌, List, ◌++◌, codes, decimal, if◌then◌else◌, Result, Ok, Err, Some, IfSome}
 use Rattle.qc_num.specs.declared.bound.Bound.{Bound}
 use Rattle.qc_num.specs.declared.bound.Bound.TheVariants.{Least, Never}
 use Rattle.qc_io.specs.Outside.{Files, View}
@@ -20,7 +20,7 @@ use Rattle.qc_run.specs.Inputs.{Names}
 use Rattle.qc_run.specs.Reports.{Printing, Prints, PrintsPart}
 use Rattle.qc_run.specs.Shown.{IsTreeShown}
 use Rattle.qc_run.specs.Steps.{IsStep}
-use Rattle.qc_run.specs.Texts.{bad_plan_text, refusal_status}
+use Rattle.qc_run.specs.Texts.{bad_plan_text}
 use Rattle.qc_run.specs.Told.{EndsBy, IsBest, IsCutTold, IsRefusal, IsRefusalTold, NoneFailed}
 use Rattle.qc_judge_commands.specs.declared.answer.Broken.{Broken}
 use Rattle.qc_judge_commands.specs.declared.answer.Compared.{Compared}

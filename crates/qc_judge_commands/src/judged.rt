@@ -91,6 +91,10 @@ pub(crate) fn report<K: Sink>(answer: Judged, out: &mut K) -> Status
 {
     match answer {
         Judged::Broken(told) => report_broken(&told, out),
-        Judged::Compared(told) => report_text(compared_status(told), compared_text(told).as_bytes(), out),
+        Judged::Compared(told) => report_text(
+            compared_status(told),
+            compared_text(told).as_bytes(),
+            out,
+        ),
     }
 }

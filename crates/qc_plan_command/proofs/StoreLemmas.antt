@@ -1,11 +1,9 @@
 -- What a search leaves in its files, from what the shelf's calls say.
-use Rattle.std.proofs.Common.{◌≡◌, ℕ, List, Option, None, Some, Result, Ok, ◌⊎◌, ap, ◌∙◌, inl, inr, refl, subst, sym}
-use Rattle.std.specs.Prelude.{IfSome, MatchOption}
+use Rattle.std.proofs.Common.{◌≡◌, ℕ, List, Option, None, Some, Ok, ◌⊎◌, ap, ◌∙◌, inl, inr, refl, subst}
+use Rattle.std.specs.Prelude.{IfSome}
 use Rattle.std.specs.FinMap.{insert}
 use Rattle.std.specs.Io.KnownBytes.{append_known}
-use Rattle.qc_gantt.specs.PlanText.{plan_text}
 use Rattle.qc_io.specs.Outside.{Beside, Files, View, begun, beside, finished, with_file}
-use Rattle.qc_model.specs.declared.schedule.Slot.{Slot}
 use Rattle.qc_model.specs.Instance.{InstanceView}
 use Rattle.qc_search.specs.Run.{DoneView, IsSound, SearchView}
 use Rattle.qc_search.specs.Run.{IsSearched as Searched}
@@ -14,7 +12,7 @@ use Rattle.qc_run.specs.Due.{instance_due}
 use Rattle.qc_run.specs.Steps.{ComesTo}
 use Rattle.qc_plan_command.specs.declared.answer.PlanAnswer.{PlanAnswer}
 use Rattle.qc_plan_command.specs.declared.answer.PlanAnswer.TheVariants as answer
-use Rattle.qc_plan_command.specs.Account.{IsLeft, IsSearched, IsWritten, Writes, both_files, tree_files}
+use Rattle.qc_plan_command.specs.Account.{IsLeft, IsSearched, IsWritten, Writes}
 use Rattle.qc_plan_command.specs.Asked.{Planning}
 use Rattle.qc_plan_command.specs.Found.{Tells}
 use Rattle.qc_plan_command.specs.Stored.{IsTreeLeft, IsTreeStored, with_plan}

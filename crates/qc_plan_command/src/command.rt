@@ -74,7 +74,12 @@ fn serve<S: Shelf>(alloc: Global, asked: &PlanAsked<'_>, shelf: &mut S) -> Resul
 }
 
 /// Plans, and reports to `out`.
-pub fn plan<S: Shelf, K: Sink>(alloc: Global, asked: &PlanAsked<'_>, shelf: &mut S, out: &mut K) -> Status
+pub fn plan<S: Shelf, K: Sink>(
+    alloc: Global,
+    asked: &PlanAsked<'_>,
+    shelf: &mut S,
+    out: &mut K,
+) -> Status
     requires { asked.now.nodes ≤ most_branchings }
     ensures account { IsPlanRun (planning asked.now) (S.Sink.view shelf.old) (S.Sink.view shelf.new)
         (K.Sink.view out.old) (K.Sink.view out.new) result }

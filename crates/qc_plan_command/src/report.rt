@@ -113,10 +113,18 @@ pub(crate) fn report<K: Sink>(answer: PlanAnswer, out: &mut K) -> Status
         PlanAnswer::WriteFault => report_text(Status::WriteFault, b"WriteFault\n", out),
         PlanAnswer::Planned(told) => report_planned(told, out),
         PlanAnswer::Unplanned { bound, branched } => {
-            report_text(Status::BudgetNone, unplanned_text(bound, branched).as_bytes(), out)
+            report_text(
+                Status::BudgetNone,
+                unplanned_text(bound, branched).as_bytes(),
+                out,
+            )
         }
         PlanAnswer::Infeasible { branched } => {
-            report_text(Status::Infeasible, infeasible_text(branched).as_bytes(), out)
+            report_text(
+                Status::Infeasible,
+                infeasible_text(branched).as_bytes(),
+                out,
+            )
         }
     }
 }

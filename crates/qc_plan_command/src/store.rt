@@ -15,11 +15,7 @@ use qc_model::{Instance, Schedule};
 use qc_search::{Done, Search};
 
 /// Runs the search, and makes the tree's file of what it writes.
-pub fn store_tree<S: Shelf>(
-    search: Search,
-    name: &str,
-    shelf: &mut S,
-) -> Result<Done, WriteFault>
+pub fn store_tree<S: Shelf>(search: Search, name: &str, shelf: &mut S) -> Result<Done, WriteFault>
     ensures ok { IfOk result (λ done. IfSome (S.Sink.view shelf.old).files (λ held.
         IsTreeStored search name.now held (S.Sink.view shelf.new).files done)) }
     ensures err { OnErr result (IfSome (S.Sink.view shelf.old).files (λ held.

@@ -1,12 +1,11 @@
 -- Which statuses are whose.
 use Rattle.std.proofs.Common.{◌≡◌, subst, sym}
-use Rattle.qc_run.specs.declared.refusal.Refusal.{Refusal}
 use Rattle.qc_run.specs.declared.refusal.Refusal.TheVariants as refusal
 use Rattle.qc_run.specs.declared.refusal.Stop.{Stop}
 use Rattle.qc_run.specs.declared.refusal.Stop.TheVariants as stop
 use Rattle.qc_run.specs.declared.status.Status.{Status}
 use Rattle.qc_run.specs.declared.status.Status.TheVariants as status
-use Rattle.qc_run.specs.Texts.{refusal_status, stop_status}
+use Rattle.qc_run.specs.Texts.{stop_status}
 
 -- the status of an answer that a command gives itself, and of no refusal; nor is it want of memory
 abbrev pub IsOwn : Status → Type 0

@@ -1,5 +1,5 @@
 -- What follows from a run's status, whatever its command is.
-use Rattle.std.proofs.Common.{◌≡◌, ◌≢◌, ◌⊎◌, ℕ, List, Option, None, Some, Result, Ok, Err, refl, sym, subst, inl, inr, ◌∙◌}
+use Rattle.std.proofs.Common.{◌≡◌, ◌≢◌, ◌⊎◌, Some, Result, Ok, Err, refl, sym, subst, inl, inr, ◌∙◌}
 use Rattle.std.specs.Prelude.{codes}
 use Rattle.qc_io.specs.Outside.{Files, Rose, View}
 use Rattle.qc_run.specs.declared.refusal.Refusal.{Refusal}
@@ -10,10 +10,10 @@ use Rattle.qc_run.specs.declared.status.Status.{Status}
 use Rattle.qc_run.specs.declared.status.Status.TheVariants as status
 use Rattle.qc_run.specs.Due.{Contents, contents_in}
 use Rattle.qc_run.specs.Inputs.{Names}
-use Rattle.qc_run.specs.Reports.{IsRun, Printing, Prints, PrintsPart, answer_prints, answer_status}
+use Rattle.qc_run.specs.Reports.{IsRun, Printing, Prints, answer_prints, answer_status}
 use Rattle.qc_run.specs.Steps.{Stops}
 use Rattle.qc_run.specs.Texts.{refusal_status, stop_status}
-use Rattle.qc_run.specs.Told.{EndsBy, IsCutTold, IsRefusal, IsRefusalTold, NoneFailed}
+use Rattle.qc_run.specs.Told.{EndsBy, IsCutTold, IsRefusal, IsRefusalTold}
 use Rattle.qc_run.proofs.DueLemmas.{stop_is}
 use Rattle.qc_run.proofs.StatusLemmas.{IsOwn, stop_is_not}
 

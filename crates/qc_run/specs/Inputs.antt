@@ -1,5 +1,5 @@
 -- public: the names of the files that a command reads, by what each is for.
-use Rattle.std.specs.Prelude.{List, ℕ, Option, None, Some, IsSome, option_map}
+use Rattle.std.specs.Prelude.{List, ℕ, Option, Some, IsSome, option_map}
 use Rattle.qc_run.specs.declared.inputs.Input.{Input}
 use Rattle.qc_run.specs.declared.inputs.Input.TheVariants as input
 use Rattle.qc_run.specs.declared.inputs.Inputs.{Inputs}

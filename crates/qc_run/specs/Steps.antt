@@ -1,8 +1,7 @@
 -- public: what a step says that reads files. It comes to what is due of them, or it stops.
-use Rattle.std.specs.Prelude.{◌≡◌, ℕ, ◌≤◌, Option, Some, Result, Ok, Err, IfOk, IfErr, IfSome, IsSome, IsSomeAnd}
+use Rattle.std.specs.Prelude.{◌≡◌, ◌≤◌, Option, Result, Ok, Err, IfOk, IfErr, IfSome, IsSome, IsSomeAnd}
 use Rattle.qc_io.specs.Outside.{Files, View, ReadCause}
 use Rattle.qc_run.specs.declared.inputs.Input.{Input}
-use Rattle.qc_run.specs.declared.inputs.Input.TheVariants as input
 use Rattle.qc_run.specs.declared.refusal.Refusal.{Refusal}
 use Rattle.qc_run.specs.declared.refusal.Refusal.TheVariants as refusal
 use Rattle.qc_run.specs.declared.refusal.Stop.{Stop}

@@ -1,5 +1,5 @@
 -- public: what follows from a run's status, whatever its command is.
-use Rattle.std.specs.Prelude.{◌≡◌, ◌⊎◌, ℕ, ◌≤◌, List, Result, Ok, Err}
+use Rattle.std.specs.Prelude.{◌≡◌, ◌⊎◌, ◌≤◌, List, Result, Ok, Err}
 use Rattle.qc_io.specs.Outside.{Rose, View}
 use Rattle.qc_model.specs.declared.schedule.Slot.{Slot}
 use Rattle.qc_model.specs.Instance.{InstanceView}

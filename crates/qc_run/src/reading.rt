@@ -50,11 +50,7 @@ fn read_input<S: Shelf>(
 }
 
 /// The ship of the ship file.
-fn read_ship_file<S: Shelf>(
-    alloc: Global,
-    inputs: &Inputs<'_>,
-    shelf: &mut S,
-) -> Result<Ship, Stop>
+fn read_ship_file<S: Shelf>(alloc: Global, inputs: &Inputs<'_>, shelf: &mut S) -> Result<Ship, Stop>
     ensures { IsStep ship_due (names_of inputs.now)
         (S.Sink.view shelf.old) (S.Sink.view shelf.new) result }
 {
@@ -127,11 +123,7 @@ fn read_schedule<S: Shelf>(
 }
 
 /// The instance of the ship file and the stowage list, and the schedule of the plan's file.
-pub fn read_job<S: Shelf>(
-    alloc: Global,
-    inputs: &Inputs<'_>,
-    shelf: &mut S,
-) -> Result<Job, Stop>
+pub fn read_job<S: Shelf>(alloc: Global, inputs: &Inputs<'_>, shelf: &mut S) -> Result<Job, Stop>
     requires { IsSome (names_of inputs.now).plan }
     ensures step { IsStep job_due (names_of inputs.now)
         (S.Sink.view shelf.old) (S.Sink.view shelf.new) result }

@@ -1,5 +1,5 @@
 -- What follows from a run's account of itself.
-use Rattle.std.proofs.Common.{◌≡◌, ◌≢◌, ◌⊎◌, ℕ, List, Option, None, Some, Result, Err, arith, refl, sym, ap, ◌∙◌, subst, inl, inr}
+use Rattle.std.proofs.Common.{◌≡◌, ◌≢◌, ◌⊎◌, ℕ, List, None, Some, Result, Err, arith, refl, sym, ap, ◌∙◌, subst, inl, inr}
 use Rattle.std.specs.Prelude.{codes}
 use Rattle.qc_io.specs.Outside.{View}
 use Rattle.qc_judge_commands.specs.Account.{IsPlanCheckRun, IsShowRun, IsTasksRun, IsTreeRun}
@@ -18,15 +18,14 @@ use Rattle.qc_run.specs.declared.status.Status.{Status}
 use Rattle.qc_run.specs.declared.status.Status.TheVariants as status
 use Rattle.qc_run.specs.Due.{Contents, instance_due, shown_due}
 use Rattle.qc_run.specs.Inputs.{Names}
-use Rattle.qc_run.specs.Reports.{Prints, PrintsPart, Reports}
+use Rattle.qc_run.specs.Reports.{Prints}
 use Rattle.qc_run.specs.Steps.{IsStep}
-use Rattle.qc_run.specs.Texts.{stop_status, stop_text}
+use Rattle.qc_run.specs.Texts.{stop_status}
 use Rattle.qc_run.specs.Told.{EndsWith}
 use Rattle.qc_trial.specs.Account.{IsTrialRun, TrialPromises}
 use Rattle.qc_trial.proofs.MadeLemmas.{trial_promises}
 use Rattle.qc_words.proofs.PlainWords.{canonical_asked}
 use Rattle.qc_words.specs.Asked.{Asked, plan, check, tasks, show, make, usage}
-use Rattle.qc_words.specs.Commands.{named}
 use Rattle.qc_words.specs.Words.{Asks}
 use Rattle.qc_top.specs.Account.{IsRun, IsRunOf, IsStopped, IsUsage, check_names, show_names, tasks_names}
 use Rattle.qc_top.specs.Promises.{IsPlan, Promises}

@@ -25,10 +25,9 @@ use Rattle.qc_search.specs.Run.{DoneView, IsTight, best_end, outcome}
 use Rattle.qc_ship.specs.Ship.{ShipView}
 use Rattle.qc_stow.specs.Stow.{moves_in}
 use Rattle.qc_tree.specs.Trees.{Tree, tree_text}
-use Rattle.qc_plan_command.specs.Stored.{with_plan, with_tree}
+use Rattle.qc_plan_command.specs.Stored.{with_plan}
 use Rattle.qc_plan_command.specs.Stored.{IsTreeStored as IsSearchStored}
 use Rattle.qc_plan_command.proofs.FoundLemmas.{of_some, tight_goes}
-use Rattle.qc_run.specs.declared.refusal.Refusal.TheVariants as refusal
 use Rattle.qc_run.specs.declared.refusal.Stop.{Stop}
 use Rattle.qc_run.specs.declared.refusal.Stop.TheVariants as stop
 use Rattle.qc_run.specs.declared.status.Status.{Status}

@@ -1,5 +1,5 @@
 -- public: what a command line asks for, with the names of its files.
-use Rattle.std.specs.Prelude.{ℕ, ◌≤◌, Bool, not, ◌||◌, IsTrue, List, Option, None, Some, option_map}
+use Rattle.std.specs.Prelude.{ℕ, ◌≤◌, Bool, not, ◌||◌, IsTrue, List, Option, option_map}
 use Rattle.std.specs.Str.{bytes_eq}
 use Rattle.qc_model.specs.Numbers.{most_branchings, most_cranes, most_hatches}
 use Rattle.qc_words.specs.declared.asked.Request.{Request}

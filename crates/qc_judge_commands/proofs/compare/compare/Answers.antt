@@ -17,16 +17,19 @@ returns-in-Ok g c =
     let bound = c.compared_of.ensures.bound_told in
     let step = c.in-Ok.ensures.step in
     record {
-      ending = (step.ok.0, record {
-        job = job;
-        due = c.requires.due;
-        read = c.in-Ok.read;
-        tree = step.ok.1;
-        tells = c.compared_of.ensures;
-        none_earlier = subst (NoneEarlier job.inst) bound c.in-Ok.ensures.none_earlier;
-        shown = shown_bound names files job (Least c.compared_of.result.bound) c.requires.due
-            (subst (λ (b : Bound). IfSome files (λ held. IsTreeShown job.inst (contents_in held names).tree b)) bound c.in-Ok.ensures.shown);
-      });
+      ending = (
+        step.ok.0,
+        record {
+          job = job;
+          due = c.requires.due;
+          read = c.in-Ok.read;
+          tree = step.ok.1;
+          tells = c.compared_of.ensures;
+          none_earlier = subst (NoneEarlier job.inst) bound c.in-Ok.ensures.none_earlier;
+          shown = shown_bound names files job (Least c.compared_of.result.bound) c.requires.due
+              (subst (λ (b : Bound). IfSome files (λ held. IsTreeShown job.inst (contents_in held names).tree b)) bound c.in-Ok.ensures.shown);
+        },
+      );
       none = λ fault e. absurd (cc e);
       may = tt;
       files = step.files;
