@@ -133,12 +133,7 @@ fn copy_of(alloc: Global, words: &[String]) -> Result<Vec<String>, OutOfMemory>
 }
 
 /// What is given, with the file cut to the length, and no call that is to fail.
-pub fn cut_to(
-    alloc: Global,
-    given: &Given,
-    name: &str,
-    length: usize,
-) -> Result<Given, OutOfMemory>
+pub fn cut_to(alloc: Global, given: &Given, name: &str, length: usize) -> Result<Given, OutOfMemory>
     ensures { IfOk result (λ cut. IsCutTo given.now name.now length cut) }
 {
     let words = match &given.words {

@@ -1,7 +1,7 @@
 //! The runs of a case.
-ghost use Rattle.std.specs.Prelude.{◌↔◌, All, Any, IfOk, length, vec_len, ◌<◌, ◌^◌};
+ghost use Rattle.std.specs.Prelude.{◌≡◌, ◌↔◌, ◌+◌, ◌<◌, ◌^◌, All, Any, IfOk, OnOk, length, vec_len};
 ghost use Rattle.qc_rows.specs.Cut.{ComesInOne, ComesToOne};
-ghost use Rattle.qc_rows.specs.Runs.{AreRuns, AreTrials, IsRunOf, Shown};
+ghost use Rattle.qc_rows.specs.Runs.{AreRuns, AreTrials, IsRunOf, Shown, ShownByCut, ShownByRun, ShownBySweep};
 ghost use Rattle.qc_rows.specs.Sweep.{CameTo, IsSwept};
 ghost use Rattle.qc_rows.specs.Verdict.{IsHeld};
 
@@ -118,6 +118,26 @@ fn judged_sweep(
     Ok(Verdict::Failed(first_miss(alloc, given, outcomes, runs)?))
 }
 
+/// Puts the run behind the others in which this call fails, and answers whether it met no failure.
+#[tactic(auto, using(crate::proofs::RunsLemmas::runs_more))]
+fn run_next(
+    alloc: Global,
+    given: &Given,
+    store: Store,
+    call: u64,
+    runs: &mut Vec<Ran>,
+) -> Result<bool, OutOfMemory>
+    requires are_runs { AreRuns given.now store 1 runs.old.items }
+    requires next { 1 + vec_len runs.old ≡ call }
+    ensures are_runs { OnOk result (AreRuns given.now store 1 runs.new.items) }
+    ensures count { OnOk result (vec_len runs.new ≡ call) }
+{
+    let ran = run_once(alloc, given, Some((store, call)))?;
+    let met_none = calls_of(store, &ran) < call;
+    runs.push(ran)?;
+    Ok(met_none)
+}
+
 /// The runs in which one call of the store after the other fails, up to the first that meets no failure.
 fn swept_runs(alloc: Global, given: &Given, store: Store) -> Result<Vec<Ran>, OutOfMemory>
     ensures few { IfOk result (λ runs. vec_len runs < 10000) }
@@ -125,10 +145,7 @@ fn swept_runs(alloc: Global, given: &Given, store: Store) -> Result<Vec<Ran>, Ou
 {
     let mut runs = Vec::new(alloc);
     for call in 1..MOST_CALLS {
-        let ran = run_once(alloc, given, Some((store, call)))?;
-        let met_none = calls_of(store, &ran) < call;
-        runs.push(ran)?;
-        if met_none {
+        if run_next(alloc, given, store, call, &mut runs)? {
             break;
         }
     }
@@ -182,24 +199,50 @@ fn judged_cut(alloc: Global, outcomes: &[Outcome], trials: &[Trial]) -> Result<V
     Ok(Verdict::Held)
 }
 
+/// Runs a case without a sweep and a cut.
+fn play_once(alloc: Global, given: &Given, outcomes: &[Outcome]) -> Result<Verdict, OutOfMemory>
+    ensures { IfOk result (λ verdict. IsHeld verdict → ShownByRun given.now outcomes.now) }
+{
+    let ran = run_once(alloc, given, None)?;
+    judged(alloc, given, outcomes, &ran)
+}
+
+/// Runs a case in which the calls of a store fail one after the other.
+fn play_sweep(
+    alloc: Global,
+    given: &Given,
+    store: Store,
+    outcomes: &[Outcome],
+) -> Result<Verdict, OutOfMemory>
+    ensures { IfOk result (λ verdict. IsHeld verdict → ShownBySweep given.now store outcomes.now) }
+{
+    let runs = swept_runs(alloc, given, store)?;
+    judged_sweep(alloc, given, store, outcomes, runs.as_slice())
+}
+
+/// Runs a case in which a file is cut.
+fn play_cut(
+    alloc: Global,
+    given: &Given,
+    name: &str,
+    outcomes: &[Outcome],
+) -> Result<Verdict, OutOfMemory>
+    ensures { IfOk result (λ verdict. IsHeld verdict → ShownByCut given.now name.now outcomes.now) }
+{
+    let trials = cut_trials(alloc, given, name)?;
+    judged_cut(alloc, outcomes, trials.as_slice())
+}
+
 /// Runs the case.
 pub fn play(alloc: Global, case: &Case) -> Result<Verdict, OutOfMemory>
     ensures { IfOk result (λ verdict. IsHeld verdict
         → Shown case.now.given.cut case.now.given.sweep case.now.given case.now.outcomes.items) }
 {
+    let given = &case.given;
     let outcomes = case.outcomes.as_slice();
-    if let Some(name) = &case.given.cut {
-        let trials = cut_trials(alloc, &case.given, name.as_str())?;
-        return judged_cut(alloc, outcomes, trials.as_slice());
-    }
-    match case.given.sweep {
-        Some(store) => {
-            let runs = swept_runs(alloc, &case.given, store)?;
-            judged_sweep(alloc, &case.given, store, outcomes, runs.as_slice())
-        }
-        None => {
-            let ran = run_once(alloc, &case.given, None)?;
-            judged(alloc, &case.given, outcomes, &ran)
-        }
+    match (&given.cut, given.sweep) {
+        (Some(name), _) => play_cut(alloc, given, name.as_str(), outcomes),
+        (None, Some(store)) => play_sweep(alloc, given, store, outcomes),
+        (None, None) => play_once(alloc, given, outcomes),
     }
 }

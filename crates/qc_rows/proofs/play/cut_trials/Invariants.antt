@@ -1,4 +1,4 @@
-use Rattle.std.proofs.Common.{◌≡◌, vec_len}
+use Rattle.std.proofs.Common.{◌≡◌, length}
 use Rattle.qc_rows.specs.Runs.{AreTrials}
 use Rattle.qc_rows.proofs.play.cut_trials.Given as goal
 
@@ -6,5 +6,5 @@ use Rattle.qc_rows.proofs.play.cut_trials.Given as goal
 abbrev pub invariant-loop-length : goal.invariant-loop-length
 invariant-loop-length l = record {
   are_trials : AreTrials l.given l.name 0 l.trials.items;
-  count : vec_len l.trials ≡ l.length;
+  count : length l.trials.items ≡ l.length;
 }
