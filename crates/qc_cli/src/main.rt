@@ -38,7 +38,10 @@ fn words_or_none<R: Env + AllocGlobal>(rt: &R) -> Result<Vec<String>, OutOfMemor
 }
 
 /// The status of a run with these words over the files of the system and standard output.
-fn status_of<R: Files + Print + AllocGlobal>(rt: &R, words: &[String]) -> Result<Status, OutOfMemory> {
+fn status_of<R: Files + Print + AllocGlobal>(
+    rt: &R,
+    words: &[String],
+) -> Result<Status, OutOfMemory> {
     let mut out = Lines::new(rt.alloc(), Output::new(io::writer(rt)))?;
     let mut shelf = FileShelf::new(rt);
     let status = run(rt.alloc(), words, &mut shelf, &mut out);
