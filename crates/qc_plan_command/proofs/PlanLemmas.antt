@@ -24,7 +24,12 @@ use Rattle.qc_plan_command.specs.Asked.{Planning}
 use Rattle.qc_plan_command.specs.Promises.{IsBudgetTold, IsInfeasibleTold, IsOptimalTold, IsSearchEnd, IsStopTold, IsUnplannedTold, PlanPromises}
 use Rattle.qc_plan_command.specs.Reports.{found_status, plan_prints, plan_prints_part, plan_status}
 use Rattle.qc_plan_command.proofs.FoundLemmas.{found_is_not, in_time, is_best, kind_by, kind_none, none_goes, own_found, search_end, too_late}
-use Rattle.qc_plan_command.proofs.StoreLemmas.{as_it_was}
+
+-- what stays as it was is as it was, told or not
+as_it_was : (P : Files → Type 0) (before after : Option Files) → after ≡ before
+    → ((held : Files) → after ≡ Some held → P held) → IfSome before P
+as_it_was P None after same by = tt
+as_it_was P (Some held) after same by = by held same
 
 own : (a : PlanAnswer) → IsOwn (plan_status a)
 own answer.WriteFault = tt

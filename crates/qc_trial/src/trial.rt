@@ -1,5 +1,5 @@
 //! The command that makes a ship and a stowage list from numbers, and plans and checks them.
-ghost use Rattle.std.specs.Prelude.{◌≡◌, ◌≤◌, List, length, sum_by, OnOk, IfOk, IfSome, option_map};
+ghost use Rattle.std.specs.Prelude.{◌≡◌, ◌≤◌, List, length, OnOk, IfOk, IfSome, option_map};
 ghost use Rattle.qc_make.specs.MadeList.{made_rows};
 ghost use Rattle.qc_make.specs.MadeShip.{made_ship};
 ghost use Rattle.qc_make.specs.OneWayWork.{HasOneWay};
@@ -65,14 +65,6 @@ fn made_instance(
     Ok((moves.rows().len() as u64, inst))
 }
 
-/// The length of all tasks together, in ticks.
-fn total_ticks(inst: &Instance) -> Tick
-    ensures { result ≡ sum_by (λ t. t.ticks) inst.now.tasks }
-{
-    let tasks = inst.tasks();
-    tasks.iter().map(|task| task.ticks).sum()
-}
-
 /// The end of the best schedule, if one was met.
 fn end_of(inst: &Instance, done: &Done) -> Option<Tick>
     requires { IfSome done.now.best (IsJudgeable inst.now) }
@@ -103,7 +95,7 @@ fn try_out(alloc: Global, number: u32, hatches: u16, cranes: u16) -> Result<Made
         cranes,
         rows,
         tasks: inst.tasks().len() as u64,
-        work: total_ticks(&inst),
+        work: inst.work(),
         kind: done.kind(),
         end: end_of(&inst, &done),
         bound,
