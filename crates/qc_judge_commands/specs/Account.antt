@@ -1,7 +1,6 @@
 -- public: the accounts of the commands that judge and print: what their answers say of the files.
 use Rattle.std.specs.Prelude.{◌≡◌, ◌⊎◌, ◌≤◌, Option, Result, Ok, Err, IfOk, IfErr, IfSome}
 use Rattle.qc_io.specs.Outside.{Files, View}
-use Rattle.qc_num.specs.declared.bound.Bound.{Bound}
 use Rattle.qc_num.specs.declared.bound.Bound.TheVariants.{Least}
 use Rattle.qc_model.specs.Instance.{InstanceView}
 use Rattle.qc_model.specs.OneWay.{GoesOneWay}
@@ -41,18 +40,13 @@ IsTasksRun names before after out_before out_after ended =
 
 -- ---- a tree alone
 
--- no schedule of some instance that goes one way ends before the bound
-abbrev pub IsBoundOfSome : Bound → Type 0
-IsBoundOfSome bound = (inst : InstanceView) × NoneEarlier inst bound
-
 -- the fault was found in the tree's file
 abbrev pub IsTreeFault : {A : Type 0} → Result A Stop → TreeFault → Type 0
 IsTreeFault result fault = result ≡ Err (stop.Refused (refusal.BadTree fault))
 
--- what a check of a tree says: its value, which no schedule beats, whether the shelf tells its files or not
+-- what a check of a tree says: its value, which no schedule of the instance of the two files beats
 pub record IsTreeChecked (names : Names) (before after : View) (result : Result Replayed Stop) : Type 0 where
   pub step : IsStep shown_due names before after result
-  pub none_earlier : IfOk result (λ read. IsBoundOfSome read.bound)
   pub shown : IfOk result (λ read. IfSome before.files (λ held. IsBoundShown names held read.bound))
   pub none : (fault : TreeFault) → IsTreeFault result fault → IfSome before.files (λ held. IsNoneShown names held)
 

@@ -5,7 +5,7 @@ ghost use Rattle.qc_run.specs.Due.{shown_due};
 ghost use Rattle.qc_run.specs.Inputs.{names_of};
 ghost use Rattle.qc_run.specs.Reports.{Prints, PrintsPart, Reports};
 ghost use Rattle.qc_run.specs.Steps.{IsStep};
-ghost use Rattle.qc_judge_commands.specs.Account.{IsBoundOfSome, IsTreeFault, IsTreeRun};
+ghost use Rattle.qc_judge_commands.specs.Account.{IsTreeFault, IsTreeRun};
 ghost use Rattle.qc_judge_commands.specs.Promises.{TreePromises};
 ghost use Rattle.qc_judge_commands.specs.Shown.{IsBoundShown, IsNoneShown};
 ghost use Rattle.qc_judge_commands.specs.Texts.{bound_status, bound_text};
@@ -21,7 +21,6 @@ fn read_shown<S: Shelf>(alloc: Global, inputs: &Inputs<'_>, shelf: &mut S) -> Re
     requires { IsSome (names_of inputs.now).tree }
     ensures step { IsStep shown_due (names_of inputs.now)
         (S.Sink.view shelf.old) (S.Sink.view shelf.new) result }
-    ensures none_earlier { IfOk result (λ read. IsBoundOfSome read.bound) }
     ensures shown { IfOk result (λ read. IfSome (S.Sink.view shelf.old).files (λ held.
         IsBoundShown (names_of inputs.now) held read.bound)) }
     ensures none { (fault : TreeFault) → IsTreeFault result fault

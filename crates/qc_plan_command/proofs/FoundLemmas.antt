@@ -2,26 +2,30 @@
 use Rattle.std.proofs.Common.{◌≡◌, ◌≤◌, ℕ, Bool, true, false, arith, List, Option, None, Some, refl, sym, inl, inr, ap, ◌∙◌, subst}
 use Rattle.std.specs.Prelude.{IfSome, nat_le, if◌then◌else◌}
 use Rattle.std.proofs.lemmas.Bool.{leb-true}
+use Rattle.std.proofs.lemmas.List.{length-map}
 use Rattle.qc_num.specs.declared.bound.Bound.{Bound}
 use Rattle.qc_num.specs.declared.bound.Bound.TheVariants.{Least, Never}
 use Rattle.qc_model.specs.declared.direction.Direction.{Direction}
 use Rattle.qc_model.specs.declared.direction.Direction.TheVariants.{Up, Down}
 use Rattle.qc_model.specs.declared.schedule.Slot.{Slot}
 use Rattle.qc_model.specs.Instance.{InstanceView}
-use Rattle.qc_model.specs.Judge.{Goes}
+use Rattle.qc_model.specs.Judge.{Goes, IsJudgeable}
 use Rattle.qc_model.specs.OneWay.{GoesOneWay}
 use Rattle.qc_search.specs.declared.done.Kind.{Kind}
 use Rattle.qc_search.specs.declared.done.Kind.TheVariants as kind
 use Rattle.qc_search.specs.Run.{DoneView, IsTight, best_end, outcome}
 use Rattle.qc_tree.specs.Trees.{Tree}
 use Rattle.qc_num.specs.Bounds.{IsAtMost}
-use Rattle.qc_model.specs.Rules.{ends}
+use Rattle.qc_model.specs.Rules.{ends, starts}
+use Rattle.qc_model.specs.Numbers.{most_start}
+use Rattle.qc_model.proofs.NodeLemmas.{ends_by, start_at}
+use Rattle.qc_gantt.specs.Plan.{HasShortEnds}
 use Rattle.qc_plan_command.specs.declared.answer.Planned.{Planned}
 use Rattle.qc_run.specs.declared.status.Status.{Status}
 use Rattle.qc_run.specs.declared.status.Status.TheVariants as status
 use Rattle.qc_run.specs.Told.{IsBest}
 use Rattle.qc_run.proofs.StatusLemmas.{IsOwn}
-use Rattle.qc_plan_command.specs.Found.{IsFound, TellsPlan}
+use Rattle.qc_plan_command.specs.Found.{IsFound, IsReread, TellsPlan}
 use Rattle.qc_plan_command.specs.Promises.{IsSearchEnd}
 use Rattle.qc_plan_command.specs.Reports.{found_status}
 
@@ -92,3 +96,20 @@ is_best inst nodes tree done told found tells le = record {
 -- where no schedule ends before Never there is none
 pub none_goes : (inst : InstanceView) (nodes : ℕ) (tree : Tree) (done : DoneView) → IsFound inst nodes tree done → done.bound ≡ Never → (sched : List Slot) → ¬ GoesOneWay inst sched
 none_goes inst nodes tree done found never sched goes = subst (λ b. IsAtMost b (Least (ends inst sched))) never (found.sound.none_earlier sched goes)
+
+-- ---- what is written is read again
+
+-- where a schedule ends soon, each task does
+pub short_ends : (inst : InstanceView) (sched : List Slot) → IsJudgeable inst sched → ends inst sched ≤ most_start
+    → HasShortEnds inst sched
+short_ends inst sched judged soon = λ j low.
+    let size = length-map sched (λ (s : Slot). s.start) ∙ judged.all_tasks in
+    let by = ends_by inst.tasks (starts sched) j size low in
+    omega (arith, by, start_at sched j, soon)
+
+-- a best schedule ends soon, so its plan is read again
+pub rereads : (inst : InstanceView) (best : Option (List Slot)) → IfSome best (IsJudgeable inst)
+    → IfSome best (λ sched. ends inst sched ≤ most_start) → IfSome best (λ sched. HasShortEnds inst sched → IsReread inst sched)
+    → IfSome best (IsReread inst)
+rereads inst None judged soon reread = tt
+rereads inst (Some sched) judged soon reread = reread (short_ends inst sched judged soon)

@@ -19,17 +19,12 @@ use Rattle.qc_run.proofs.StatusLemmas.{IsOwn, stop_is_not}
 use Rattle.qc_run.proofs.ToldLemmas.{memory_told, never_usage, of_status, refused_told, stop_due, unfailed, whole_of}
 use Rattle.qc_plan_command.specs.declared.answer.PlanAnswer.{PlanAnswer}
 use Rattle.qc_plan_command.specs.declared.answer.PlanAnswer.TheVariants as answer
-use Rattle.qc_plan_command.specs.Account.{IsLeft, IsPlanRun, IsPlanning, IsWritten}
+use Rattle.qc_plan_command.specs.Account.{IsLeft, IsPlanRun, IsPlanning, IsStopped, IsWritten}
 use Rattle.qc_plan_command.specs.Asked.{Planning}
 use Rattle.qc_plan_command.specs.Promises.{IsBudgetTold, IsInfeasibleTold, IsOptimalTold, IsSearchEnd, IsStopTold, IsUnplannedTold, PlanPromises}
 use Rattle.qc_plan_command.specs.Reports.{found_status, plan_prints, plan_prints_part, plan_status}
 use Rattle.qc_plan_command.proofs.FoundLemmas.{found_is_not, in_time, is_best, kind_by, kind_none, none_goes, own_found, search_end, too_late}
-
--- what stays as it was is as it was, told or not
-as_it_was : (P : Files → Type 0) (before after : Option Files) → after ≡ before
-    → ((held : Files) → after ≡ Some held → P held) → IfSome before P
-as_it_was P None after same by = tt
-as_it_was P (Some held) after same by = by held same
+use Rattle.qc_plan_command.proofs.StoreLemmas.{as_it_was}
 
 own : (a : PlanAnswer) → IsOwn (plan_status a)
 own answer.WriteFault = tt
@@ -187,9 +182,14 @@ module _ (asked : Planning) (before after pb pa : View) (ended : Status) (run : 
   all_left a None h = tt
   all_left a (Some held) h = inr (h.search, inr h.files)
 
+  stopped_left : (files : Option Files) → IfSome files (λ held. IsStopped asked held after.files)
+      → IfSome files (λ held. IsLeft asked held after.files)
+  stopped_left None h = tt
+  stopped_left (Some held) h = h.left
+
   left : (r : Result PlanAnswer Stop) → account r → IfSome before.files (λ held. IsLeft asked held after.files)
   left (Err why) serves = as_it_was (λ held. IsLeft asked held after.files) before.files after.files serves.2 (λ held e. inl e)
-  left (Ok answer.WriteFault) serves = serves.0.1
+  left (Ok answer.WriteFault) serves = stopped_left before.files serves.0.1
   left (Ok (answer.Planned told)) serves = all_left (answer.Planned told) before.files serves.0.1
   left (Ok (answer.Unplanned bound branched)) serves = all_left (answer.Unplanned bound branched) before.files serves.0.1
   left (Ok (answer.Infeasible branched)) serves = all_left (answer.Infeasible branched) before.files serves.0.1

@@ -43,20 +43,26 @@ IsLeft asked held now =
     (now ≡ Some held)
     ⊎ ((s : IsSearched asked held) × ((now ≡ Some (tree_files asked held s)) ⊎ (now ≡ Some (both_files asked held s))))
 
+-- the instance of the two files was there to be searched, and the writing of that search was stopped
+pub record IsStopped (asked : Planning) (held : Files) (now : Option Files) : Type 0 where
+  pub inst : InstanceView
+  pub due : instance_due (contents_in held asked.inputs) ≡ Ok inst
+  pub left : IsLeft asked held now
+
 -- what an answer says of the files
 abbrev pub Writes : Planning → View → View → PlanAnswer → Type 0
 Writes asked before after answer.WriteFault =
-    Rose before.faults after.faults × IfSome before.files (λ held. IsLeft asked held after.files)
+    Rose before.faults after.faults × IfSome before.files (λ held. IsStopped asked held after.files)
 Writes asked before after a =
     (after.faults ≡ before.faults) × IfSome before.files (λ held. IsWritten asked held after.files a)
 
--- what a plan says of its answer and of the shelf
+-- what a plan says of its answer and of the shelf; where it stopped, no file was begun
 abbrev pub IsPlanning : Planning → View → View → Result PlanAnswer Stop → Type 0
 IsPlanning asked before after (Ok a) =
     Writes asked before after a × (after.read_faults ≡ before.read_faults)
 IsPlanning asked before after (Err why) =
     Stops instance_due asked.inputs before after why × MayStop asked.inputs why
-    × (after.files ≡ before.files) × (after.faults ≡ before.faults)
+    × (after.files ≡ before.files) × (after.faults ≡ before.faults) × (after.made ≡ before.made)
 
 -- a run of the command: it plans, and reports
 abbrev pub IsPlanRun : Planning → (before after out_before out_after : View) → Status → Type 0

@@ -37,6 +37,7 @@ module _ {A B : Type 0} (step : Contents → Result A Refusal) (next : A → Con
     err = tt;
     may = tt;
     files = first.files;
+    made = first.made;
     faults = first.faults;
     read_faults = first.read_faults;
   } where

@@ -50,7 +50,7 @@ abbrev pub MayStop : Names → Stop → Type 0
 MayStop names (stop.Refused why) = MayRefuse names why
 MayStop names stop.OutOfMemory = Unit {0}
 
--- a step that reads came to what is due of it, and left the files
+-- a step that reads came to what is due of it; it left the files, and began none
 pub record IsStep {A : Type 0} (step : Contents → Result A Refusal) (names : Names) (before after : View)
     (result : Result A Stop) : Type 0 where
   pub ok :
@@ -58,5 +58,6 @@ pub record IsStep {A : Type 0} (step : Contents → Result A Refusal) (names : N
   pub err : IfErr result (Stops step names before after)
   pub may : IfErr result (MayStop names)
   pub files : after.files ≡ before.files
+  pub made : after.made ≡ before.made
   pub faults : after.faults ≡ before.faults
   pub read_faults : before.read_faults ≤ after.read_faults

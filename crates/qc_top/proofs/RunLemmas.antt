@@ -33,13 +33,13 @@ use Rattle.qc_top.specs.Promises.{IsPlan, Promises}
 -- ---- want of memory for the words, as an answer of each command
 
 stopped : {A : Type 0} (step : Contents → Result A Refusal) (names : Names) (v : View) → IsStep step names v v (Err stop.OutOfMemory)
-stopped step names v = record { ok = tt; err = refl; may = tt; files = refl; faults = refl; read_faults = omega arith }
+stopped step names v = record { ok = tt; err = refl; may = tt; files = refl; made = refl; faults = refl; read_faults = omega arith }
 
 module _ (before after pb pa : View) (ended : Status) (h : IsStopped stop.OutOfMemory before after pb pa ended) where
   as_plan : (p : Planning) → IsPlanRun p before after pb pa ended
   as_plan p =
       subst (λ (v : View). IsPlanRun p before v pb pa ended) (sym h.untouched)
-      (record { answer = Err stop.OutOfMemory; serves = (refl, tt, refl, refl); reports = h.reports })
+      (record { answer = Err stop.OutOfMemory; serves = (refl, tt, refl, refl, refl); reports = h.reports })
 
   as_tasks : (names : Names) → IsTasksRun names before after pb pa ended
   as_tasks names =
@@ -51,7 +51,7 @@ module _ (before after pb pa : View) (ended : Status) (h : IsStopped stop.OutOfM
       subst (λ (v : View). IsTreeRun names before v pb pa ended) (sym h.untouched)
       (record {
         answer = Err stop.OutOfMemory;
-        serves = record { step = stopped shown_due names before; none_earlier = tt; shown = tt; none = λ fault e. absurd (cc e) };
+        serves = record { step = stopped shown_due names before; shown = tt; none = λ fault e. absurd (cc e) };
         reports = h.reports;
       })
 

@@ -1,6 +1,5 @@
 -- What a made ship and its list come to: the stored tree and plan, the check of both, and what is told.
 use Rattle.std.proofs.Common.{◌≡◌, ◌≤◌, ◌⊎◌, ℕ, Bool, true, false, List, Option, None, Some, Result, Ok, Err, arith, refl, sym, subst, ap, ap₂, inl, inr, ◌∙◌}
-use Rattle.std.proofs.lemmas.List.{length-map}
 use Rattle.std.specs.Prelude.{IfSome, IsSomeAnd, codes, nat_le, if◌then◌else◌}
 use Rattle.std.specs.Cmp.Lexicographic.{nat_list_cmp_total}
 use Rattle.std.specs.FinMap.{get, get-insert, insert}
@@ -18,8 +17,7 @@ use Rattle.qc_model.specs.declared.schedule.Slot.{Slot}
 use Rattle.qc_model.specs.Instance.{InstanceView}
 use Rattle.qc_model.specs.Judge.{IsJudgeable}
 use Rattle.qc_model.specs.OneWay.{GoesOneWay}
-use Rattle.qc_model.specs.Rules.{ends, starts}
-use Rattle.qc_model.proofs.NodeLemmas.{ends_by, start_at}
+use Rattle.qc_model.specs.Rules.{ends}
 use Rattle.qc_search.specs.declared.done.Kind.TheVariants as kind
 use Rattle.qc_search.specs.Run.{DoneView, IsTight, best_end, outcome}
 use Rattle.qc_ship.specs.Ship.{ShipView}
@@ -27,7 +25,7 @@ use Rattle.qc_stow.specs.Stow.{moves_in}
 use Rattle.qc_tree.specs.Trees.{Tree, tree_text}
 use Rattle.qc_plan_command.specs.Stored.{with_plan}
 use Rattle.qc_plan_command.specs.Stored.{IsTreeStored as IsSearchStored}
-use Rattle.qc_plan_command.proofs.FoundLemmas.{of_some, tight_goes}
+use Rattle.qc_plan_command.proofs.FoundLemmas.{of_some, short_ends, tight_goes}
 use Rattle.qc_run.specs.declared.refusal.Stop.{Stop}
 use Rattle.qc_run.specs.declared.refusal.Stop.TheVariants as stop
 use Rattle.qc_run.specs.declared.status.Status.{Status}
@@ -51,14 +49,6 @@ pub moves_read : (number hatches cranes : ℕ) (ship : ShipView) (text bytes : L
 moves_read number hatches cranes ship text bytes is same law = ap₂ moves_in is same ∙ law
 
 -- ---- the files
-
--- where a schedule ends soon, each task does
-short_ends : (inst : InstanceView) (sched : List Slot) → IsJudgeable inst sched → ends inst sched ≤ MOST_START
-    → HasShortEnds inst sched
-short_ends inst sched judged soon = λ j low.
-    let size = length-map sched (λ (s : Slot). s.start) ∙ judged.all_tasks in
-    let by = ends_by inst.tasks (starts sched) j size low in
-    omega (arith, by, start_at sched j, soon)
 
 module _ (inst : InstanceView) (tree : Tree) (held mid after : Files)
     (mid_is : mid ≡ insert held (codes "tree") (tree_text inst tree)) where

@@ -17,6 +17,7 @@ returns-in-Err-Tree-clause-step g c =
       );
       may = c.requires;
       files = c.replay.ensures.reads.files;
+      made = c.replay.ensures.reads.made;
       faults = c.replay.ensures.reads.faults;
       read_faults = c.replay.ensures.reads.never_falls;
     }

@@ -1,0 +1,211 @@
+-- What a search leaves in its files, from what the shelf's calls say.
+use Rattle.std.proofs.Common.{◌≡◌, ℕ, true, false, List, Option, None, Some, Result, Ok, Err, ◌⊎◌, ap, ◌∙◌, inl, inr, refl, subst}
+use Rattle.std.specs.Prelude.{IfSome, OnErr, OnOk, is_err}
+use Rattle.std.specs.FinMap.{insert}
+use Rattle.std.specs.Io.KnownBytes.{append_known}
+use Rattle.qc_io.specs.Outside.{Beside, Files, View, begun, beside, finished, with_file}
+use Rattle.qc_model.specs.Instance.{InstanceView}
+use Rattle.qc_search.specs.Run.{DoneView, IsSound, SearchView}
+use Rattle.qc_search.specs.Run.{IsSearched as Searched}
+use Rattle.qc_tree.specs.Trees.{tree_text}
+use Rattle.qc_run.specs.Due.{instance_due}
+use Rattle.qc_run.specs.Steps.{ComesTo}
+use Rattle.qc_plan_command.specs.declared.answer.PlanAnswer.{PlanAnswer}
+use Rattle.qc_plan_command.specs.declared.answer.PlanAnswer.TheVariants as answer
+use Rattle.qc_plan_command.specs.Account.{IsLeft, IsSearched, IsStopped, IsWritten, Writes}
+use Rattle.qc_plan_command.specs.Asked.{Planning}
+use Rattle.qc_plan_command.specs.Found.{Tells}
+use Rattle.qc_plan_command.specs.Stored.{IsTreeLeft, IsTreeStored, with_plan}
+
+-- ---- a file that is made
+
+finish_is : (files : Option Files) (name text : List ℕ)
+    → finished files (Some name) (append_known (begun files) text) ≡ with_file files name text
+finish_is None name text = refl
+finish_is (Some held) name text = refl
+
+-- where it is finished its name holds the text that was written since it was begun
+pub made_file : (before created wrote : View) (name text : List ℕ) → created.files ≡ before.files → created.made ≡ Some name
+    → created.written ≡ begun before.files → wrote.written ≡ append_known created.written text → beside wrote ≡ beside created
+    → finished wrote.files wrote.made wrote.written ≡ with_file before.files name text
+made_file before created wrote name text same made fresh whole stays =
+    ap (λ (f : Option Files). finished f wrote.made wrote.written) (ap (λ (b : Beside). b.files) stays ∙ same)
+    ∙ ap (λ (m : Option (List ℕ)). finished before.files m wrote.written) (ap (λ (b : Beside). b.made) stays ∙ made)
+    ∙ ap (finished before.files (Some name)) (whole ∙ ap (λ (w : Option (List ℕ)). append_known w text) fresh)
+    ∙ finish_is before.files name text
+
+-- a file that couldn't be finished is as it was, or whole
+pub left_file : (before created wrote after : View) (name text : List ℕ) → created.files ≡ before.files → created.made ≡ Some name
+    → created.written ≡ begun before.files → wrote.written ≡ append_known created.written text → beside wrote ≡ beside created
+    → (after.files ≡ wrote.files) ⊎ (after.files ≡ finished wrote.files wrote.made wrote.written)
+    → (after.files ≡ before.files) ⊎ (after.files ≡ with_file before.files name text)
+left_file before created wrote after name text same made fresh whole stays (inl kept) =
+    inl (kept ∙ ap (λ (b : Beside). b.files) stays ∙ same)
+left_file before created wrote after name text same made fresh whole stays (inr put) =
+    inr (put ∙ made_file before created wrote name text same made fresh whole stays)
+
+-- what stays as it was is as it was, told or not
+pub as_it_was : (P : Files → Type 0) (before after : Option Files) → after ≡ before → ((held : Files) → after ≡ Some held → P held) → IfSome before P
+as_it_was P None after same by = tt
+as_it_was P (Some held) after same by = by held same
+
+pub told_file : (before after : Option Files) (name text : List ℕ) → after ≡ with_file before name text
+    → IfSome before (λ held. after ≡ Some (insert held name text))
+told_file None after name text e = tt
+told_file (Some held) after name text e = e
+
+-- a file that wasn't finished is as it was, or whole
+pub told_either : (before after : Option Files) (name text : List ℕ) → (after ≡ before) ⊎ (after ≡ with_file before name text)
+    → IfSome before (λ held. (after ≡ Some held) ⊎ (after ≡ Some (insert held name text)))
+told_either None after name text e = tt
+told_either (Some held) after name text e = e
+
+-- ---- the tree's file
+
+-- the search ran, and its file was finished
+pub tree_stored : (search : SearchView) (name : List ℕ) (before after : Option Files) (written now : Option (List ℕ)) (done : DoneView)
+    → (ran : Searched search written now done) → IsSound search done → after ≡ with_file before name (tree_text search.inst ran.tree)
+    → IfSome before (λ held. IsTreeStored search name held after done)
+tree_stored search name None after written now done ran sound e = tt
+tree_stored search name (Some held) after written now done ran sound e = record {
+  tree = ran.tree;
+  found = record { run = ran.run; bound = ran.bound; branched = ran.branched; sound = sound };
+  files = e;
+}
+
+-- the search ran, and its file couldn't be finished
+pub tree_left : (search : SearchView) (name : List ℕ) (before after : Option Files) (written now : Option (List ℕ)) (done : DoneView)
+    → (ran : Searched search written now done) → IsSound search done
+    → (after ≡ before) ⊎ (after ≡ with_file before name (tree_text search.inst ran.tree))
+    → IfSome before (λ held. IsTreeLeft search name held after)
+tree_left search name None after written now done ran sound e = tt
+tree_left search name (Some held) after written now done ran sound (inl same) = inl same
+tree_left search name (Some held) after written now done ran sound (inr e) =
+    inr (done, tree_stored search name (Some held) after written now done ran sound e)
+
+-- ---- what the command comes to
+
+module _ (asked : Planning) (inst : InstanceView) (before mid after : Option Files)
+    (due_is : ComesTo instance_due asked.inputs before (Ok inst)) where
+  abbrev view : SearchView
+  view = record { inst = inst; nodes = asked.nodes }
+
+  -- the search that is due came to what is stored
+  abbrev searched : (held : Files) (done : DoneView) → ComesTo instance_due asked.inputs (Some held) (Ok inst)
+      → IsTreeStored view asked.tree held mid done → IsSearched asked held
+  searched held done due_is stored = record {
+    inst = inst;
+    due = due_is;
+    tree = stored.tree;
+    done = done;
+    found = stored.found;
+  }
+
+  -- the tree's file couldn't be made
+  pub left_tree : IfSome before (λ held. IsTreeLeft view asked.tree held mid) → IfSome before (λ held. IsLeft asked held mid)
+  left_tree = by before due_is
+    where
+      by : (files : Option Files) → ComesTo instance_due asked.inputs files (Ok inst) → IfSome files (λ held. IsTreeLeft view asked.tree held mid)
+          → IfSome files (λ held. IsLeft asked held mid)
+      by None due_is left = tt
+      by (Some held) due_is (inl same) = inl same
+      by (Some held) due_is (inr stored) = inr (searched held stored.0 due_is stored.1, inl stored.1.files)
+
+  -- what then holds of the files with the tree holds of those at entry
+  over : (P : Files → Type 0) (now files : Files) → mid ≡ Some now → IfSome mid P → now ≡ files → P files
+  over P now files is h same = subst P same (there mid is h)
+    where
+      there : (m : Option Files) → m ≡ Some now → IfSome m P → P now
+      there None is h = absurd (cc is)
+      there (Some other) is h = let e : other ≡ now = cc in subst P e h
+
+  -- the plan's file couldn't be made
+  pub left_plan : (done : DoneView) → IfSome before (λ held. IsTreeStored view asked.tree held mid done)
+      → IfSome mid (λ held. (after ≡ Some held) ⊎ (after ≡ Some (with_plan held asked.plan inst done.best)))
+      → IfSome before (λ held. IsLeft asked held after)
+  left_plan done = by before due_is
+    where
+      by : (files : Option Files) → ComesTo instance_due asked.inputs files (Ok inst) → IfSome files (λ held. IsTreeStored view asked.tree held mid done)
+          → IfSome mid (λ held. (after ≡ Some held) ⊎ (after ≡ Some (with_plan held asked.plan inst done.best)))
+          → IfSome files (λ held. IsLeft asked held after)
+      by None due_is stored left = tt
+      by (Some held) due_is stored left = inr (
+        searched held done due_is stored,
+        over (λ files. (after ≡ Some files) ⊎ (after ≡ Some (with_plan files asked.plan inst done.best))) _ _ stored.files left refl,
+      )
+
+  -- both are made, and the answer tells of the search
+  pub both_written : (done : DoneView) (a : PlanAnswer) → IfSome before (λ held. IsTreeStored view asked.tree held mid done)
+      → IfSome mid (λ held. after ≡ Some (with_plan held asked.plan inst done.best)) → Tells inst done a
+      → IfSome before (λ held. IsWritten asked held after a)
+  both_written done a = by before due_is
+    where
+      by : (files : Option Files) → ComesTo instance_due asked.inputs files (Ok inst) → IfSome files (λ held. IsTreeStored view asked.tree held mid done)
+          → IfSome mid (λ held. after ≡ Some (with_plan held asked.plan inst done.best)) → Tells inst done a
+          → IfSome files (λ held. IsWritten asked held after a)
+      by None due_is stored wrote told = tt
+      by (Some held) due_is stored wrote told = record {
+        search = searched held done due_is stored;
+        told = told;
+        files = over (λ files. after ≡ Some (with_plan files asked.plan inst done.best)) _ _ stored.files wrote refl;
+      }
+
+-- the writing of the search that is due was stopped
+stopped : (asked : Planning) (inst : InstanceView) (before now : Option Files) → ComesTo instance_due asked.inputs before (Ok inst)
+    → IfSome before (λ held. IsLeft asked held now) → IfSome before (λ held. IsStopped asked held now)
+stopped asked inst None now due left = tt
+stopped asked inst (Some held) now due left = record { inst = inst; due = due; left = left }
+
+-- where the plan's file was begun, which changed no file
+module _ (asked : Planning) (inst : InstanceView) (search : SearchView) (before created mid after : Option Files)
+    (is : search ≡ record { inst = inst; nodes = asked.nodes }) (due : ComesTo instance_due asked.inputs before (Ok inst))
+    (same : created ≡ before) where
+  -- it couldn't be begun
+  pub at_begin : IfSome before (λ held. IsStopped asked held created)
+  at_begin =
+      stopped asked inst before created due
+      (as_it_was (λ held. IsLeft asked held created) before created same (λ held e. inl e))
+
+  -- the tree's file couldn't be made
+  pub at_tree : IfSome created (λ held. IsTreeLeft search asked.tree held mid) → IfSome before (λ held. IsStopped asked held mid)
+  at_tree left =
+      stopped asked inst before mid due (left_tree asked inst before mid mid due
+      (subst (λ (f : Option Files). IfSome f (λ held. IsTreeLeft (record { inst = inst; nodes = asked.nodes }) asked.tree held mid)) same
+      (subst (λ (s : SearchView). IfSome created (λ held. IsTreeLeft s asked.tree held mid)) is left)))
+
+  stored_is : (done : DoneView) → IfSome created (λ held. IsTreeStored search asked.tree held mid done)
+      → IfSome before (λ held. IsTreeStored (record { inst = inst; nodes = asked.nodes }) asked.tree held mid done)
+  stored_is done stored =
+      subst (λ (f : Option Files). IfSome f (λ held. IsTreeStored (record { inst = inst; nodes = asked.nodes }) asked.tree held mid done)) same
+      (subst (λ (s : SearchView). IfSome created (λ held. IsTreeStored s asked.tree held mid done)) is stored)
+
+  -- the plan's file couldn't be made
+  pub at_plan : (done : DoneView) → IfSome created (λ held. IsTreeStored search asked.tree held mid done)
+      → IfSome mid (λ held. (after ≡ Some held) ⊎ (after ≡ Some (with_plan held asked.plan inst done.best)))
+      → IfSome before (λ held. IsStopped asked held after)
+  at_plan done stored left =
+      stopped asked inst before after due (left_plan asked inst before mid after due done (stored_is done stored) left)
+
+  -- both were made
+  pub at_end : (done : DoneView) (a : PlanAnswer) → IfSome created (λ held. IsTreeStored search asked.tree held mid done)
+      → IfSome mid (λ held. after ≡ Some (with_plan held asked.plan inst done.best)) → Tells inst done a
+      → IfSome before (λ held. IsWritten asked held after a)
+  at_end done a stored wrote told = both_written asked inst before mid after due done a (stored_is done stored) wrote told
+
+-- an answer that tells of a search wrote both files
+pub writes_told : (asked : Planning) (before after : View) (inst : InstanceView) (done : DoneView) (a : PlanAnswer) → Tells inst done a
+    → after.faults ≡ before.faults → IfSome before.files (λ held. IsWritten asked held after.files a) → Writes asked before after a
+writes_told asked before after inst done answer.WriteFault told faults written = absurd told
+writes_told asked before after inst done (answer.Planned found) told faults written = (faults, written)
+writes_told asked before after inst done (answer.Unplanned bound branched) told faults written = (faults, written)
+writes_told asked before after inst done (answer.Infeasible branched) told faults written = (faults, written)
+
+-- what holds of an error holds where the test for one says so
+pub by_err : {T E P : Type 0} (r : Result T E) → is_err r ≡ true → OnErr r P → P
+by_err (Ok x) e h = absurd (cc e)
+by_err (Err why) e h = h
+
+-- and what holds of a value where it says not
+pub by_ok : {T E P : Type 0} (r : Result T E) → is_err r ≡ false → OnOk r P → P
+by_ok (Ok x) e h = h
+by_ok (Err why) e h = absurd (cc e)
