@@ -17,14 +17,14 @@ use Rattle.qc_io.proofs.Pieces.{prepend_known-append}
 use Rattle.qc_lines.specs.Left.{HoldsLine, IsCut, IsTooLong, NoFeed, Takes}
 
 -- where a call came through, no read failed, whatever else it answers
-pub reads_when : {P Q : Type 0} (before after : View) → Reads before after P → (Q → P) → Reads before after Q
-reads_when before after r through = record {
+pub reads_through : {P Q : Type 0} (before after : View) → Reads before after P → P → Reads before after Q
+reads_through before after r p = record {
   written = r.written;
   faults = r.faults;
   files = r.files;
   made = r.made;
   never_falls = r.never_falls;
-  unfailed = λ q. r.unfailed (through q);
+  unfailed = λ _. r.unfailed p;
 }
 
 abbrev is_feed : ℕ → Bool

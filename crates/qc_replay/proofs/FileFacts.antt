@@ -203,3 +203,13 @@ reads_on x before mid after result first second =
 pub error_through : {A B E : Type 0} (r : Result A E) (s : Result B E) (x fault : E) → r ≡ Err x → s ≡ Err x
     → r ≡ Err fault → s ≡ Err fault
 error_through r s x fault e h is = cc
+
+pub reads_when : {P Q : Type 0} (before after : View) → Reads before after P → (Q → P) → Reads before after Q
+reads_when before after r through = record {
+  written = r.written;
+  faults = r.faults;
+  files = r.files;
+  made = r.made;
+  never_falls = r.never_falls;
+  unfailed = λ q. r.unfailed (through q);
+}

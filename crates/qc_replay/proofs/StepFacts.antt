@@ -89,6 +89,15 @@ over_now r over = by_coming r.coming over
     by_coming [] e = refl
     by_coming (c ∷ more) e = absurd (cc e)
 
+-- nothing is read yet
+pub leads_none : (inst : InstanceView) (n : ℕ) (r : Reading) (left : Option (List ℕ)) → Leads inst n r left n r left
+leads_none inst n r left = record { lines = []; reading = refl; taken = at_bytes left }
+  where
+    at_bytes : (o : Option (List ℕ))
+        → IfSome o (λ x. IsSomeAnd o (λ y. (x ≡ y) × (texts_from inst n r (texts x) ≡ texts_from inst n r (texts y))))
+    at_bytes None = tt
+    at_bytes (Some x) = (refl, refl)
+
 -- ---- some lines, one after the other
 
 goes_on : (inst : InstanceView) (mid : Reading) (front back : List Listed) (first : Result Reading TreeKind)

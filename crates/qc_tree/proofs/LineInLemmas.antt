@@ -282,10 +282,18 @@ one_spelling text l m p q a b =
     let same = same_Some _ _ (sym (line_in_of text l p a) ∙ line_in_of text m q b) in
     (ap (λ (x : Listed). x.line) same, ap (λ (x : Listed). x.list) same)
 
--- what is written is a line's text
+-- what is written is a line's text, and is read back as that line with its list
 pub is_text : (line : Line) (path : List ℕ) → IsLine line path → IsTextOf (line_text line path) line (line_list line path)
 is_text Chain path h = record { same = refl; in_range = h; list = refl }
 is_text line path h = record { same = refl; in_range = h; list = refl }
+
+pub reads_back :
+    (line : Line) (path after : List ℕ) (result : Result Line BadLine) → IsLine line path → Reads (line_text line path) after result
+    → (result ≡ Ok line) × (after ≡ line_list line path)
+reads_back line path after (Ok read) h reads =
+    let one = one_spelling (line_text line path) read line after (line_list line path) reads (is_text line path h) in
+    (ap Ok one.0, one.1)
+reads_back line path after (Err bad) h reads = absurd (reads line (line_list line path) (is_text line path h))
 
 -- ---- lines in a file
 

@@ -7,8 +7,7 @@ use Rattle.qc_replay.specs.Shown.{IsShown}
 use Rattle.qc_replay.specs.Stages.{WalkView}
 use Rattle.qc_replay.specs.Walk.{start, tree_in}
 use Rattle.qc_replay.specs.declared.fault.ReplayError.TheVariants.{ReadFault}
-use Rattle.qc_lines.proofs.Feeds.{reads_when}
-use Rattle.qc_replay.proofs.FileFacts.{error_through, never_failed, reads_then}
+use Rattle.qc_replay.proofs.FileFacts.{error_through, never_failed, reads_then, reads_when}
 use Rattle.qc_replay.proofs.OneTree.{one_tree}
 use Rattle.qc_replay.proofs.TreeFacts.{each_ok, never_faulty, no_earlier, one_value, read_in, shows, whatever_ok}
 use Rattle.qc_replay.proofs.tree_file.replay.Goals as goal
