@@ -1,5 +1,5 @@
 -- Runs and trials, one after the other, and what they show of a case.
-use Rattle.std.proofs.Common.{◌≡◌, ℕ, ◌+◌, ◌<◌, ◌++◌, ◌↔◌, List, [], ◌∷◌, length, None, Some, Result, Ok, Err, All, Any, IfOk, subst, sym, ◌∙◌, arith}
+use Rattle.std.proofs.Common.{◌≡◌, ℕ, ◌+◌, ◌<◌, ◌++◌, ◌↔◌, List, [], ◌∷◌, length, None, Some, Result, Ok, Err, All, Any, IfOk, subst, sym, arith}
 use Rattle.qc_num.specs.declared.memory.OutOfMemory.{OutOfMemory}
 use Rattle.qc_rows.specs.declared.case.Given.{Given}
 use Rattle.qc_rows.specs.declared.case.Outcome.{Outcome}

@@ -9,7 +9,6 @@ use Rattle.qc_run.specs.declared.status.Status.{Status}
 use Rattle.qc_run.specs.Texts.{status_code}
 use Rattle.qc_top.specs.Account.{IsRun}
 use Rattle.qc_words.specs.Words.{texts}
-use Rattle.qc_rows.specs.declared.case.Case.{Case}
 use Rattle.qc_rows.specs.declared.case.Given.{Given}
 use Rattle.qc_rows.specs.declared.case.Named.{Named}
 use Rattle.qc_rows.specs.declared.case.Outcome.{Outcome}
