@@ -8,10 +8,11 @@ prints a line for each kind of trial: `ok` or `WRONG`, what was tried, and what 
 - `plan` is killed at each call of the system by which it opens, writes, stores, renames or removes a file, without
   older files and over older ones: TREE is as before or whole, and PLAN is as before, or TREE is whole and PLAN too;
 - two runs with different ships write the same TREE and PLAN at once, N times (300): each file is one of both, whole;
-- TREE or PLAN is a link to a file, to another link, to no file yet or to a device, `/dev/full`, `/dev/stdout`, a pipe;
+- TREE or PLAN is a link to a file, to another link, to no file yet or to a device, `/dev/full`, `/dev/stdout`,
+  `/dev/fd/1`, a pipe, a `>(..)` of bash, a file below `/proc/self/cwd`, an empty name;
 - rights and owner of the files that are replaced, parts that were left behind, long names.
 
-It needs Linux, strace and, for the owner, root. It ends with 1 where anything else came than was wanted.
+It needs Linux, bash, strace and, for the owner, root. It ends with 1 where anything else came than was wanted.
 """
 import argparse
 import collections
@@ -23,12 +24,14 @@ import subprocess
 import sys
 import tempfile
 import threading
+import time
 
 ROOT = os.path.dirname(os.path.dirname(os.path.abspath(__file__)))
 CALLS = ["openat", "write", "fsync", "rename", "unlink", "close", "statx", "chown", "fchmod"]
 PLANNED = ["plan", "s", "m", "p", "t"]
 OLDER = {"t": b"an older tree\n", "p": b"an older plan\n"}
 FAULT = b"WriteFault\n"
+KINDS = {"t": "tree", "p": "plan"}
 wrong = 0
 
 
@@ -191,15 +194,16 @@ def devices(program, inputs, whole):
                   dev_full_stays=stat.S_ISCHR(os.stat("/dev/full").st_mode))
     with Room(program, inputs) as room:
         report = room.run().stdout
-    for words, path in ((["plan", "s", "m", "p", "/dev/stdout"], "t"), (["plan", "s", "m", "/dev/stdout", "t"], "p")):
-        with Room(program, inputs) as room:
-            ran = room.run(words)
-            facts(f"the {'tree' if path == 't' else 'plan'} is /dev/stdout, a pipe", ran, 0, whole[path] + report)
-        with Room(program, inputs) as room:
-            with open(room.at("out"), "ab") as out:
-                ran = room.run(words, stdout=out)
-            facts(f"the {'tree' if path == 't' else 'plan'} is /dev/stdout, a file that is appended to", ran, 0,
-                  file_and_report_are_there=room.read("out") == whole[path] + report)
+    for device in ("/dev/stdout", "/dev/fd/1", "/proc/self/fd/1"):
+        for words, path in ((["plan", "s", "m", "p", device], "t"), (["plan", "s", "m", device, "t"], "p")):
+            with Room(program, inputs) as room:
+                ran = room.run(words)
+                facts(f"the {KINDS[path]} is {device}, a pipe", ran, 0, whole[path] + report)
+            with Room(program, inputs) as room:
+                with open(room.at("out"), "ab") as out:
+                    ran = room.run(words, stdout=out)
+                facts(f"the {KINDS[path]} is {device}, a file that is appended to", ran, 0,
+                      file_and_report_are_there=room.read("out") == whole[path] + report)
     for words, path in ((["plan", "s", "m", "p", "pipe"], "t"), (["plan", "s", "m", "pipe", "t"], "p")):
         with Room(program, inputs) as room:
             os.mkfifo(room.at("pipe"))
@@ -208,8 +212,36 @@ def devices(program, inputs, whole):
             reader.start()
             ran = room.run(words)
             reader.join(20)
-            facts(f"the {'tree' if path == 't' else 'plan'} is a named pipe", ran, 0, it_came_whole=got == [whole[path]],
+            facts(f"the {KINDS[path]} is a named pipe", ran, 0, it_came_whole=got == [whole[path]],
                   the_pipe_stays=stat.S_ISFIFO(os.stat(room.at("pipe")).st_mode))
+
+
+def names_of_the_system(program, inputs, whole):
+    for words, path in ((["s", "m", "p", ">(cat >&3)"], "t"), (["s", "m", ">(cat >&3)", "t"], "p")):
+        with Room(program, inputs) as room:
+            line = f'exec 3>got; "$0" plan {" ".join(words)}; status=$?; exec 3>&-; wait; exit $status'
+            ran = subprocess.run(["bash", "-c", line, program], cwd=room.path, stdout=subprocess.PIPE,
+                                 stderr=subprocess.DEVNULL, timeout=100)
+            for _ in range(100):
+                if room.read("got") == whole[path]:
+                    break
+                time.sleep(0.05)
+            facts(f"the {KINDS[path]} is >(cat) of bash", ran, 0, it_came_whole=room.read("got") == whole[path])
+    for words, path in ((["plan", "s", "m", "p", "/proc/self/cwd/t"], "t"), (["plan", "s", "m", "/proc/self/cwd/p", "t"], "p")):
+        for older in ((), ("t", "p")):
+            with Room(program, inputs, older) as room:
+                held = room.at("held")
+                if older:
+                    os.link(room.at(path), held)
+                ran = room.run(words)
+                facts(f"the {KINDS[path]} is /proc/self/cwd/{path}, {'an older file' if older else 'no file yet'}", ran, 0,
+                      both_whole=(room.read("t"), room.read("p")) == (whole["t"], whole["p"]),
+                      an_older_file_is_replaced=read(held) == (OLDER[path] if older else None))
+    for words, path in ((["plan", "s", "m", "p", ""], "t"), (["plan", "s", "m", "", "t"], "p")):
+        with Room(program, inputs) as room:
+            ran = room.run(words)
+            facts(f"the {KINDS[path]} has an empty name", ran, 4, FAULT, nothing_is_left=all(
+                name in ("t", "p") and data == whole[name] for name, data in room.left().items()))
 
 
 # ---------------------------------------------------------------- rights, parts, names
@@ -262,6 +294,7 @@ def main():
     whole = planned(program, inputs)
     links(program, inputs, whole)
     devices(program, inputs, whole)
+    names_of_the_system(program, inputs, whole)
     rights(program, inputs, whole)
     parts(program, inputs, whole)
     kills(program, "first example", inputs, [])

@@ -1,5 +1,5 @@
 //! The files of the system as a shelf.
-ghost use Rattle.std.specs.Prelude.{◌≡◌, ◌≤◌, ◌<◌, None, Ok, true, length, is_some, option_map, IfOk, IfSome};
+ghost use Rattle.std.specs.Prelude.{◌≡◌, ◌≤◌, ◌<◌, [], None, IsNone, Ok, true, length, is_some, option_map, IfOk, IfSome};
 ghost use Rattle.std.specs.String.{string_bytes};
 ghost use Rattle.qc_io.specs.Writes.{Counts};
 ghost use Rattle.qc_cli.specs.Once.{ReadsOnce, WritesOnce};
@@ -11,6 +11,7 @@ use crate::same::{Identity, identity_of, note};
 use crate::target::target_of;
 use qc_io::{Failed, Shelf, Sink, fault};
 use std::fs;
+use std::os::fd::AsFd;
 use std::rt::Files;
 
 /// The files of the system as a shelf. It tells no file. Each error is a fault, and so is a write that
@@ -75,7 +76,10 @@ impl<R: Files> Sink for FileShelf<'_, R> {
     }
 }
 
-impl<R: Files + AllocGlobal> Shelf for FileShelf<'_, R> {
+impl<R: Files + AllocGlobal> Shelf for FileShelf<'_, R>
+where
+    R::File: AsFd,
+{
     ghost use Rattle.std.specs.Prelude.{refl};
 
     ghost rest_told = { λ _. refl };
@@ -144,7 +148,10 @@ fn made_by<'a, R: Files + AllocGlobal>(
     name: &str,
     used: &[Identity],
 ) -> Option<Making<'a, R>>
-    ensures { IfSome result (λ making. string_bytes making.name ≡ name.now) }
+where
+    R::File: AsFd,
+    ensures named { IfSome result (λ making. string_bytes making.name ≡ name.now) }
+    ensures nameless { name.now ≡ [] → IsNone result }
 {
     let target = target_of(rt, name).ok()?;
     begun(rt, name, target, used)

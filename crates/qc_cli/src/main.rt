@@ -17,6 +17,7 @@ use output::Output;
 use qc_io::WriteFault;
 use qc_num::OutOfMemory;
 use qc_top::{Status, run};
+use std::os::fd::AsFd;
 use std::process::ExitCode;
 use std::rt::{Env, Files};
 use std::{fs, io};
@@ -41,7 +42,10 @@ fn words_or_none<R: Env + AllocGlobal>(rt: &R) -> Result<Vec<String>, OutOfMemor
 fn status_of<R: Files + Print + AllocGlobal>(
     rt: &R,
     words: &[String],
-) -> Result<Status, OutOfMemory> {
+) -> Result<Status, OutOfMemory>
+where
+    R::File: AsFd,
+{
     let mut out = Lines::new(rt.alloc(), Output::new(io::writer(rt)))?;
     let mut shelf = FileShelf::new(rt);
     let status = run(rt.alloc(), words, &mut shelf, &mut out);

@@ -10,6 +10,7 @@ use crate::same::{Identity, identity_of, is_among, note};
 use crate::target::{Found, Target};
 use qc_io::{Failed, fault};
 use std::fs::{self, OpenFile};
+use std::os::fd::AsFd;
 use std::rt::Files;
 
 /// A file that is being made, by the name that was asked for.
@@ -42,6 +43,8 @@ pub fn begun<'a, R: Files + AllocGlobal>(
     target: Target,
     used: &[Identity],
 ) -> Option<Making<'a, R>>
+where
+    R::File: AsFd,
     ensures named { IfSome result (λ making. string_bytes making.name ≡ name.now) }
     ensures unused { IfSome target.found (λ found. Contains used.now found.identity → IsNone result) }
 {

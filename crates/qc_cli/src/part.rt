@@ -3,7 +3,8 @@
 use crate::target::Found;
 use std::fs::{self, OpenFile, OpenOptions};
 use std::io::{self, ErrorKind};
-use std::os::unix::fs::{MetadataExt, OpenOptionsExt, chown};
+use std::os::fd::AsFd;
+use std::os::unix::fs::{MetadataExt, OpenOptionsExt, fchown};
 use std::rt::Files;
 
 /// How many names are tried for a new file.
@@ -37,13 +38,16 @@ pub fn begin_part<'a, R: Files + AllocGlobal>(
     rt: &'a R,
     place: &str,
     found: &Option<Found>,
-) -> io::Result<(Part<'a, R>, R::File)> {
+) -> io::Result<(Part<'a, R>, R::File)>
+where
+    R::File: AsFd,
+{
     for turn in 0..MOST_PARTS {
         let path = part_path(rt, place, turn)?;
         match new_file(found).open(rt, path.as_str()) {
             Ok(file) => {
                 if let Some(found) = found {
-                    keep_rights(rt, path.as_str(), &file, found);
+                    keep_rights(&file, found);
                 }
                 return Ok((Part { rt, path }, file));
             }
@@ -74,10 +78,10 @@ fn new_file(found: &Option<Found>) -> OpenOptions {
 }
 
 /// Gives the new file owner, group and rights of the one that it is to replace, where the system allows it.
-fn keep_rights<R: Files>(rt: &R, path: &str, file: &R::File, found: &Found) {
+fn keep_rights<F: OpenFile + AsFd>(file: &F, found: &Found) {
     let (user, group) = (found.metadata.uid(), found.metadata.gid());
-    if chown(rt, path, Some(user), Some(group)).is_err() {
-        let _ = chown(rt, path, None, Some(group));
+    if fchown(file, Some(user), Some(group)).is_err() {
+        let _ = fchown(file, None, Some(group));
     }
     let _ = file.set_permissions(found.metadata.permissions());
 }

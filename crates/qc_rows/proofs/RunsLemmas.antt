@@ -1,5 +1,5 @@
 -- Runs and trials, one after the other, and what they show of a case.
-use Rattle.std.proofs.Common.{◌≡◌, ℕ, ◌+◌, ◌++◌, ◌↔◌, List, [], ◌∷◌, length, None, Some, Result, Ok, Err, All, Any, IfOk, subst, sym, ◌∙◌, arith}
+use Rattle.std.proofs.Common.{◌≡◌, ℕ, ◌+◌, ◌<◌, ◌++◌, ◌↔◌, List, [], ◌∷◌, length, None, Some, Result, Ok, Err, All, Any, IfOk, subst, sym, arith}
 use Rattle.qc_num.specs.declared.memory.OutOfMemory.{OutOfMemory}
 use Rattle.qc_rows.specs.declared.case.Given.{Given}
 use Rattle.qc_rows.specs.declared.case.Outcome.{Outcome}
@@ -8,7 +8,7 @@ use Rattle.qc_rows.specs.declared.cut.Trial.{Trial}
 use Rattle.qc_rows.specs.declared.judge.Ran.{Ran}
 use Rattle.qc_rows.specs.declared.verdict.Verdict.{Verdict}
 use Rattle.qc_rows.specs.Cut.{ComesInOne, ComesToOne}
-use Rattle.qc_rows.specs.Runs.{AreRuns, AreTrials, IsRunOf, IsTrial, ShownByCut, ShownByRun}
+use Rattle.qc_rows.specs.Runs.{AreRuns, AreTrials, IsAsLong, IsRunOf, IsTrial, ShownByCut, ShownByRun}
 use Rattle.qc_rows.specs.Sweep.{CameTo}
 use Rattle.qc_rows.specs.Verdict.{IsHeld}
 
@@ -64,10 +64,17 @@ shown_by_run given outcomes ran (Err refused) is judged = tt
 -- a case that was held by its trials is shown by them
 pub shown_by_cut :
     (given : Given) (name : List ℕ) (outcomes : List Outcome) (trials : List Trial) (result : Result Verdict OutOfMemory)
-    → AreTrials given name 0 trials
+    → AreTrials given name 0 trials → IsAsLong given.files.items name (length trials)
+    → IfOk result (λ verdict. IsHeld verdict → 0 < length outcomes)
     → IfOk result (λ verdict. IsHeld verdict → All (λ trial. ComesToOne outcomes trial) trials)
     → IfOk result (λ verdict. IsHeld verdict → All (λ outcome. ComesInOne outcome trials) outcomes)
     → IfOk result (λ verdict. IsHeld verdict → ShownByCut given name outcomes)
-shown_by_cut given name outcomes trials (Ok verdict) are met none_left =
-    λ held. record { trials = trials; are_trials = are; met = met held; none_left = none_left held }
-shown_by_cut given name outcomes trials (Err refused) are met none_left = tt
+shown_by_cut given name outcomes trials (Ok verdict) are all some met none_left = λ held. record {
+  trials = trials;
+  are_trials = are;
+  all = all;
+  some = some held;
+  met = met held;
+  none_left = none_left held;
+}
+shown_by_cut given name outcomes trials (Err refused) are all some met none_left = tt

@@ -1,5 +1,5 @@
 -- inner: the runs of a case, and that it is held only by what they came to.
-use Rattle.std.specs.Prelude.{◌≡◌, ℕ, ◌+◌, List, [], ◌∷◌, length, take, map, Option, None, Some, Vec, String, if◌then◌else◌, All, Any}
+use Rattle.std.specs.Prelude.{◌≡◌, ℕ, ◌+◌, ◌<◌, List, [], ◌∷◌, length, vec_len, take, map, Option, None, Some, Vec, String, if◌then◌else◌, All, Any}
 use Rattle.std.specs.Global.{Global}
 use Rattle.std.specs.Str.{bytes_eq}
 use Rattle.std.specs.String.{string_bytes}
@@ -9,7 +9,6 @@ use Rattle.qc_run.specs.declared.status.Status.{Status}
 use Rattle.qc_run.specs.Texts.{status_code}
 use Rattle.qc_top.specs.Account.{IsRun}
 use Rattle.qc_words.specs.Words.{texts}
-use Rattle.qc_rows.specs.declared.case.Case.{Case}
 use Rattle.qc_rows.specs.declared.case.Given.{Given}
 use Rattle.qc_rows.specs.declared.case.Named.{Named}
 use Rattle.qc_rows.specs.declared.case.Outcome.{Outcome}
@@ -87,6 +86,10 @@ abbrev pub AreTrials : Given → List ℕ → ℕ → List Trial → Type 0
 AreTrials given name most [] = Unit {0}
 AreTrials given name most (trial ∷ more) = IsTrial given name most trial × AreTrials given name (most + 1) more
 
+-- a file of the name has so many bytes
+pub record IsAsLong (files : List Named) (name : List ℕ) (count : ℕ) : Type 0 where
+  pub named : Any (λ file. (string_bytes file.name ≡ name) × (vec_len file.bytes ≡ count)) files
+
 -- a run came to one of the outcomes
 pub record ShownByRun (given : Given) (outcomes : List Outcome) : Type 0 where
   pub ran : Ran
@@ -99,10 +102,12 @@ pub record ShownBySweep (given : Given) (store : Store) (outcomes : List Outcome
   pub are_runs : AreRuns given store 1 runs
   pub swept : IsSwept given store 1 outcomes runs
 
--- the runs of a cut came each to one of the outcomes, and each outcome came
+-- the runs of a cut, one for each byte of the file, came each to one of the outcomes, and each outcome came
 pub record ShownByCut (given : Given) (name : List ℕ) (outcomes : List Outcome) : Type 0 where
   pub trials : List Trial
   pub are_trials : AreTrials given name 0 trials
+  pub all : IsAsLong given.files.items name (length trials)
+  pub some : 0 < length outcomes
   pub met : All (λ trial. ComesToOne outcomes trial) trials
   pub none_left : All (λ outcome. ComesInOne outcome trials) outcomes
 

@@ -1,7 +1,7 @@
 //! The runs of a case in which a file is cut at every byte.
-ghost use Rattle.std.specs.Prelude.{◌≡◌, ◌↔◌, IsTrue, IfOk, All, Any, map};
+ghost use Rattle.std.specs.Prelude.{◌≡◌, ◌↔◌, IsTrue, IfOk, IfSome, All, Any, map};
 ghost use Rattle.qc_rows.specs.Cut.{ComesInOne, ComesToOne};
-ghost use Rattle.qc_rows.specs.Runs.{IsCutTo, cut_text, text_of};
+ghost use Rattle.qc_rows.specs.Runs.{IsAsLong, IsCutTo, cut_text, text_of};
 ghost use Rattle.qc_rows.specs.Sweep.{CameTo};
 ghost use Rattle.qc_words.specs.Words.{texts};
 
@@ -79,14 +79,16 @@ pub fn each_comes(outcomes: &[Outcome], trials: &[Trial]) -> bool
     true
 }
 
-/// How many bytes the file has, and 0 where there is none of the name.
-pub fn length_of(files: &[Named], name: &str) -> usize {
+/// How many bytes the file of the name has. None where there is no such file.
+pub fn length_of(files: &[Named], name: &str) -> Option<usize>
+    ensures { IfSome result (λ count. IsAsLong files.now name.now count) }
+{
     for file in files {
         if file.name.as_str() == name {
-            return file.bytes.len();
+            return Some(file.bytes.len());
         }
     }
-    0
+    None
 }
 
 /// The file, with no more than so many bytes where it has the name.

@@ -19,6 +19,8 @@ pub enum Flaw {
     Early,
     /// The heading stands twice, or the file is named twice.
     Twice,
+    /// A cut beside a call that is set to fail.
+    Both,
     /// A content line where none may stand, or one that isn't written as it must be.
     Content,
     /// The end of the file, where words, a status or a report are still missing.
@@ -36,6 +38,7 @@ impl Flaw {
             Flaw::Late => "given after the first status",
             Flaw::Early => "wanted before the first status",
             Flaw::Twice => "said twice",
+            Flaw::Both => "a cut beside a failing call",
             Flaw::Content => "wrong content",
             Flaw::Missing => "words, a status or a report are missing",
             Flaw::OutOfMemory => "out of memory",

@@ -152,12 +152,18 @@ fn swept_runs(alloc: Global, given: &Given, store: Store) -> Result<Vec<Ran>, Ou
     Ok(runs)
 }
 
-/// One run for each length below that of the file, which is cut to it.
-fn cut_trials(alloc: Global, given: &Given, name: &str) -> Result<Vec<Trial>, OutOfMemory>
-    ensures { IfOk result (λ trials. AreTrials given.now name.now 0 trials.items) }
+/// One run for each length from 0 to one byte below the count, to which the file is cut.
+fn cut_trials(
+    alloc: Global,
+    given: &Given,
+    name: &str,
+    count: usize,
+) -> Result<Vec<Trial>, OutOfMemory>
+    ensures are_trials { IfOk result (λ trials. AreTrials given.now name.now 0 trials.items) }
+    ensures all { IfOk result (λ trials. length trials.items ≡ count) }
 {
     let mut trials = Vec::new(alloc);
-    for length in 0..length_of(given.files.as_slice(), name) {
+    for length in 0..count {
         let given = cut_to(alloc, given, name, length)?;
         let ran = run_once(alloc, &given, None)?;
         trials.push(Trial { given, ran })?;
@@ -183,13 +189,17 @@ fn first_untold(
     Ok(String::from_str(alloc, "no trial")?)
 }
 
-/// Whether the trials came to the outcomes.
+/// Whether the trials came to the outcomes, of which there is one at least.
 fn judged_cut(alloc: Global, outcomes: &[Outcome], trials: &[Trial]) -> Result<Verdict, OutOfMemory>
+    ensures some { IfOk result (λ verdict. IsHeld verdict → 0 < length outcomes.now) }
     ensures met { IfOk result (λ verdict. IsHeld verdict
         → All (λ trial. ComesToOne outcomes.now trial) trials.now) }
     ensures none_left { IfOk result (λ verdict. IsHeld verdict
         → All (λ outcome. ComesInOne outcome trials.now) outcomes.now) }
 {
+    if outcomes.is_empty() {
+        return Ok(Verdict::Failed(String::from_str(alloc, "no outcome")?));
+    }
     if !each_is_met(outcomes, trials) {
         return Ok(Verdict::Failed(first_untold(alloc, outcomes, trials)?));
     }
@@ -229,7 +239,10 @@ fn play_cut(
 ) -> Result<Verdict, OutOfMemory>
     ensures { IfOk result (λ verdict. IsHeld verdict → ShownByCut given.now name.now outcomes.now) }
 {
-    let trials = cut_trials(alloc, given, name)?;
+    let Some(count) = length_of(given.files.as_slice(), name) else {
+        return Ok(Verdict::Failed(String::from_str(alloc, "no file to cut")?));
+    };
+    let trials = cut_trials(alloc, given, name, count)?;
     judged_cut(alloc, outcomes, trials.as_slice())
 }
 

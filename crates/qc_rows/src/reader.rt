@@ -83,10 +83,18 @@ fn add_sweep(store: Store, given: &mut Given) -> Result<(), Flaw> {
     Ok(())
 }
 
+/// Whether some call is set to fail.
+fn has_failures(given: &Given) -> bool {
+    given.sweep.is_some() || !given.shelf_failures.is_empty() || !given.sink_failures.is_empty()
+}
+
 /// The file that is cut, which stands above.
 fn add_cut(alloc: Global, name: &str, given: &mut Given) -> Result<(), Flaw> {
     if given.cut.is_some() {
         return Err(Flaw::Twice);
+    }
+    if has_failures(given) {
+        return Err(Flaw::Both);
     }
     if !is_given(given.files.as_slice(), name) {
         return Err(Flaw::Value);
@@ -97,6 +105,9 @@ fn add_cut(alloc: Global, name: &str, given: &mut Given) -> Result<(), Flaw> {
 
 /// A call that is to fail: the store, and the call's number or `each`.
 fn add_failure(text: &str, given: &mut Given) -> Result<(), Flaw> {
+    if given.cut.is_some() {
+        return Err(Flaw::Both);
+    }
     let Some((store, call)) = text.split_once(' ') else {
         return Err(Flaw::Value);
     };
