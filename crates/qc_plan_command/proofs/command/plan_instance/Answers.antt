@@ -11,8 +11,7 @@ use Rattle.qc_plan_command.proofs.command.plan_instance.Goals as goal
 pub returns-then-is_err-clause-serves : goal.returns-then-is_err-clause-serves
 returns-then-is_err-clause-serves g c =
     let view = g.S.Sink.view in
-    let failed : is_err c.create.result ≡ true = sym c.is_err.ensures.value ∙ c.if-is_err.true in
-    (
+    let failed : is_err c.create.result ≡ true = sym c.is_err.ensures.value ∙ c.if-is_err.true in (
       (
         by_err c.create.result failed c.create.ensures.counts.rose,
         at_begin (planning c.args.asked.now) c.args.inst c.args.search (view c.args.shelf.now).files
@@ -24,8 +23,7 @@ returns-then-is_err-clause-serves g c =
 
 pub returns-in_default-clause-serves : goal.returns-in_default-clause-serves
 returns-in_default-clause-serves g c =
-    let view = g.S.Sink.view in
-    (
+    let view = g.S.Sink.view in (
       (
         omega (arith, c.create.ensures.counts.never_falls, c.in_default.ensures.counts.rose),
         at_tree (planning c.args.asked.now) c.args.inst c.args.search (view c.args.shelf.now).files
@@ -37,8 +35,7 @@ returns-in_default-clause-serves g c =
 
 pub returns-in-Err-clause-serves : goal.returns-in-Err-clause-serves
 returns-in-Err-clause-serves g c =
-    let view = g.S.Sink.view in
-    (
+    let view = g.S.Sink.view in (
       (
         omega (arith, c.create.ensures.counts.never_falls, c.in-Ok.ensures.counts.never_falls, c.in-Err.ensures.counts.rose),
         at_plan (planning c.args.asked.now) c.args.inst c.args.search (view c.args.shelf.now).files
@@ -51,8 +48,7 @@ returns-in-Err-clause-serves g c =
 pub returns-in-Ok-store_best-clause-serves : goal.returns-in-Ok-store_best-clause-serves
 returns-in-Ok-store_best-clause-serves g c =
     let view = g.S.Sink.view in
-    let came : is_err c.create.result ≡ false = sym c.is_err.ensures.value ∙ c.if-is_err.false in
-    (
+    let came : is_err c.create.result ≡ false = sym c.is_err.ensures.value ∙ c.if-is_err.false in (
       writes_told (planning c.args.asked.now) (view c.args.shelf.now) (view c.store_best.new.shelf) c.args.inst c.in-Ok.done
           c.answer_of.result c.answer_of.ensures.tells
           (c.in-Ok-store_best.ensures.counts.unfailed ∙ c.in-Ok.ensures.counts.unfailed
