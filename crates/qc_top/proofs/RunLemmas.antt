@@ -1,7 +1,7 @@
 -- What follows from a run's account of itself.
-use Rattle.std.proofs.Common.{◌≡◌, ◌≢◌, ◌⊎◌, ℕ, List, None, Some, Result, Err, arith, refl, sym, ap, ◌∙◌, subst, inl, inr}
+use Rattle.std.proofs.Common.{◌≡◌, ◌≢◌, ◌≤◌, ◌⊎◌, ℕ, List, None, Some, Result, Err, arith, refl, sym, ap, ◌∙◌, subst, inl, inr}
 use Rattle.std.specs.Prelude.{codes}
-use Rattle.qc_io.specs.Outside.{View}
+use Rattle.qc_io.specs.Outside.{View, beside}
 use Rattle.qc_judge_commands.specs.Account.{IsPlanCheckRun, IsShowRun, IsTasksRun, IsTreeRun}
 use Rattle.qc_judge_commands.specs.Promises.{PlanCheckPromises, ShowPromises, TasksPromises, TreePromises}
 use Rattle.qc_judge_commands.proofs.JudgedLemmas.{plan_check_promises, show_promises}
@@ -82,6 +82,19 @@ module _ (before after pb pa : View) (ended : Status) (h : IsStopped stop.OutOfM
 
   as_make : (n k c : ℕ) → IsTrialRun n k c pb pa ended
   as_make n k c = record { answer = Err stop.OutOfMemory; serves = tt; reports = h.reports }
+
+-- ---- the report
+
+-- beside the sink nothing changes, whatever is served
+pub out_kept : (asked : Asked) (before after pb pa : View) (ended : Status) → IsRunOf asked before after pb pa ended
+    → (beside pa ≡ beside pb) × (pb.faults ≤ pa.faults)
+out_kept (plan s w p t n) before after pb pa ended h = (h.reports.beside_stays, h.reports.never_falls)
+out_kept (check s w None t) before after pb pa ended h = (h.reports.beside_stays, h.reports.never_falls)
+out_kept (check s w (Some p) t) before after pb pa ended h = (h.reports.beside_stays, h.reports.never_falls)
+out_kept (tasks s w) before after pb pa ended h = (h.reports.beside_stays, h.reports.never_falls)
+out_kept (show s w p) before after pb pa ended h = (h.reports.beside_stays, h.reports.never_falls)
+out_kept (make n k c) before after pb pa ended h = (h.run.reports.beside_stays, h.run.reports.never_falls)
+out_kept usage before after pb pa ended h = (h.reports.beside_stays, h.reports.never_falls)
 
 -- ---- what follows
 

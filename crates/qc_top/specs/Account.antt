@@ -17,14 +17,14 @@ use Rattle.qc_words.specs.Commands.{named}
 use Rattle.qc_words.specs.Words.{Asks}
 
 -- the files that a check, the tasks and a plan that is shown read
-abbrev pub check_names : (ship stow : List ℕ) → (plan : Option (List ℕ)) → (tree : List ℕ) → Names
-check_names ship stow plan tree = record { ship = Some ship; stow = Some stow; plan = plan; tree = Some tree }
+abbrev pub check_names : (ship stow : List ℕ) → Option (List ℕ) → (tree : List ℕ) → Names
+check_names ship stow name tree = record { ship = Some ship; stow = Some stow; plan = name; tree = Some tree }
 
 abbrev pub tasks_names : (ship stow : List ℕ) → Names
 tasks_names ship stow = record { ship = Some ship; stow = Some stow; plan = None; tree = None }
 
-abbrev pub show_names : (ship stow plan : List ℕ) → Names
-show_names ship stow plan = record { ship = Some ship; stow = Some stow; plan = Some plan; tree = None }
+abbrev pub show_names : (ship stow name : List ℕ) → Names
+show_names ship stow name = record { ship = Some ship; stow = Some stow; plan = Some name; tree = None }
 
 -- the run stops before any command is served: nothing is read or written, and this is reported
 pub record IsStopped (why : Stop) (before after out_before out_after : View) (ended : Status) : Type 0 where

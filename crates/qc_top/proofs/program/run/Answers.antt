@@ -4,7 +4,7 @@ use Rattle.qc_words.specs.declared.asked.Request.TheVariants as request
 use Rattle.qc_words.specs.Asked.{asked_for}
 use Rattle.qc_words.specs.Words.{asked_by, texts}
 use Rattle.qc_top.specs.Account.{IsRunOf}
-use Rattle.qc_top.proofs.RunLemmas.{promises}
+use Rattle.qc_top.proofs.RunLemmas.{out_kept, promises}
 use Rattle.qc_top.proofs.program.run.Goals as goal
 
 pub returns-in-Ok-clause-account : goal.returns-in-Ok-clause-account
@@ -15,12 +15,25 @@ returns-in-Ok-clause-account g c = record {
   unnamed = λ none.
       let same = sym c.in-Ok.is ∙ c.request_of.ensures.no_command none in
       let is : c.in-Ok.request ≡ request.Usage = cc in
-      subst (λ (r : Request). IsRunOf (asked_for r) _ _ _ _ _) is c.serve.ensures.account;
+      subst (λ (r : Request). IsRunOf (asked_for r) (g.S.Sink.view c.args.shelf.now) (g.S.Sink.view c.serve.new.shelf)
+      (g.K.Sink.view c.args.out.now) (g.K.Sink.view c.serve.new.out) c.serve.result) is c.serve.ensures.account;
 }
 
 pub returns-in-Ok-clause-promises : goal.returns-in-Ok-clause-promises
 unfolding returns-in-Ok-clause-account
-returns-in-Ok-clause-promises g c = promises _ _ _ _ _ _ (returns-in-Ok-clause-account g c)
+returns-in-Ok-clause-promises g c =
+    promises (texts c.args.words.now) (g.S.Sink.view c.args.shelf.now) (g.S.Sink.view c.serve.new.shelf)
+    (g.K.Sink.view c.args.out.now) (g.K.Sink.view c.serve.new.out) c.serve.result (returns-in-Ok-clause-account g c)
+
+pub returns-in-Ok-clause-beside_stays : goal.returns-in-Ok-clause-beside_stays
+returns-in-Ok-clause-beside_stays g c =
+    (out_kept (asked_for c.in-Ok.request) (g.S.Sink.view c.args.shelf.now) (g.S.Sink.view c.serve.new.shelf)
+    (g.K.Sink.view c.args.out.now) (g.K.Sink.view c.serve.new.out) c.serve.result c.serve.ensures.account).0
+
+pub returns-in-Ok-clause-print_faults_never_fall : goal.returns-in-Ok-clause-print_faults_never_fall
+returns-in-Ok-clause-print_faults_never_fall g c =
+    (out_kept (asked_for c.in-Ok.request) (g.S.Sink.view c.args.shelf.now) (g.S.Sink.view c.serve.new.shelf)
+    (g.K.Sink.view c.args.out.now) (g.K.Sink.view c.serve.new.out) c.serve.result c.serve.ensures.account).1
 
 -- memory was wanting for the words
 pub returns-in-Err-clause-account : goal.returns-in-Err-clause-account

@@ -1,0 +1,8 @@
+use Rattle.std.proofs.Common.{refl}
+use Rattle.qc_top.proofs.program.serve.Goals as goal
+
+pub returns-in-Make-clause-account : goal.returns-in-Make-clause-account
+returns-in-Make-clause-account g c = rw c.in-Make.is (record { untouched = refl; run = c.make.ensures.account })
+
+pub returns-in-Usage-clause-account : goal.returns-in-Usage-clause-account
+returns-in-Usage-clause-account g c = rw c.in-Usage.is (record { untouched = refl; reports = c.report_stop.ensures })
