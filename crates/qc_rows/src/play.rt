@@ -1,7 +1,8 @@
 //! The runs of a case.
 ghost use Rattle.std.specs.Prelude.{◌≡◌, ◌↔◌, ◌+◌, ◌<◌, ◌^◌, All, Any, IfOk, OnOk, length, vec_len};
 ghost use Rattle.qc_rows.specs.Cut.{ComesInOne, ComesToOne};
-ghost use Rattle.qc_rows.specs.Runs.{AreRuns, AreTrials, IsRunOf, Shown, ShownByCut, ShownByRun, ShownBySweep};
+ghost use Rattle.qc_rows.specs.Runs.{AreRuns, AreTrials, IsRunOf, Shown, ShownByCut, ShownByRun, ShownBySweep, shelf_call, sink_call, words_of};
+ghost use Rattle.qc_words.specs.Words.{texts};
 ghost use Rattle.qc_rows.specs.Sweep.{CameTo, IsSwept};
 ghost use Rattle.qc_rows.specs.Verdict.{IsHeld};
 
@@ -19,22 +20,43 @@ use std::alloc::Global;
 /// The most calls of a store that a sweep lets fail, each in a run of its own.
 const MOST_CALLS: u64 = 10_000;
 
+/// The call that is to fail, where it is one of the shelf.
+fn shelf_call(more: Option<(Store, u64)>) -> Option<u64>
+    ensures { result ≡ shelf_call more }
+{
+    match more {
+        Some((Store::Shelf, call)) => Some(call),
+        Some((Store::Sink, _)) | None => None,
+    }
+}
+
+/// The call that is to fail, where it is one of the sink.
+fn sink_call(more: Option<(Store, u64)>) -> Option<u64>
+    ensures { result ≡ sink_call more }
+{
+    match more {
+        Some((Store::Sink, call)) => Some(call),
+        Some((Store::Shelf, _)) | None => None,
+    }
+}
+
+/// The words of the command line; none where none are given.
+fn words_of(given: &Given) -> &[String]
+    ensures { texts result.now ≡ words_of given.now.words }
+{
+    match &given.words {
+        Some(words) => words.as_slice(),
+        None => &[],
+    }
+}
+
 /// One run, with one more call of a store that is to fail.
 fn run_once(alloc: Global, given: &Given, more: Option<(Store, u64)>) -> Result<Ran, OutOfMemory>
     ensures { IfOk result (λ ran. IsRunOf given.now more ran) }
 {
-    let (shelf_call, sink_call) = match more {
-        Some((Store::Shelf, call)) => (Some(call), None),
-        Some((Store::Sink, call)) => (None, Some(call)),
-        None => (None, None),
-    };
-    let mut shelf = shelf_of(alloc, given, shelf_call)?;
-    let mut sink = sink_of(alloc, given, sink_call)?;
-    let words: &[String] = match &given.words {
-        Some(words) => words.as_slice(),
-        None => &[],
-    };
-    let status = run(alloc, words, &mut shelf, &mut sink).code();
+    let mut shelf = shelf_of(alloc, given, shelf_call(more))?;
+    let mut sink = sink_of(alloc, given, sink_call(more))?;
+    let status = run(alloc, words_of(given), &mut shelf, &mut sink).code();
     Ok(Ran {
         status,
         shelf,
