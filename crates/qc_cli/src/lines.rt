@@ -1,5 +1,5 @@
 //! A sink whose lines go out whole.
-ghost use Rattle.std.specs.Prelude.{◌≡◌, ◌↔◌, ◌<◌, ◌≤◌, [], IsTrue, length, take, vec_len, vec_capacity, OnOk, OnErr, IfOk};
+ghost use Rattle.std.specs.Prelude.{◌≡◌, ◌↔◌, ◌<◌, ◌≤◌, ◌+◌, [], IsTrue, Ok, length, take, vec_len, vec_capacity, OnOk, OnErr, IfOk};
 ghost use Rattle.std.specs.Io.KnownBytes.{append_known};
 ghost use Rattle.qc_io.specs.Writes.{Counts, Writes};
 ghost use Rattle.qc_cli.specs.Lines.{EndsLine};
@@ -44,6 +44,8 @@ impl<K: Sink + Drop> Lines<K> {
         requires { length piece.now ≤ 65536 }
         ensures takes { OnOk result (append_known (K.view self.new.to).written self.new.held.items
             ≡ append_known (append_known (K.view self.old.to).written self.old.held.items) piece.now) }
+        ensures waits { vec_len self.old.held + length piece.now ≤ 65536
+            → (result ≡ Ok tt) × (K.view self.new.to ≡ K.view self.old.to) }
         ensures counts { Counts (K.view self.old.to).faults (K.view self.new.to).faults result }
     {
         if piece.len() > ROOM - self.held.len() {
@@ -65,6 +67,9 @@ impl<K: Sink + Drop> Lines<K> {
             (take count piece.now)) }
         ensures lines_go_out { IfOk result (λ count.
             EndsLine (take count piece.now) → self.new.held.items ≡ []) }
+        // A piece without the end of a line waits, where all of it can be held.
+        ensures waits { IfOk result (λ count. ¬ EndsLine (take count piece.now)
+            → vec_len self.old.held + count ≤ 65536 → K.view self.new.to ≡ K.view self.old.to) }
         ensures counts { Counts (K.view self.old.to).faults (K.view self.new.to).faults result }
     {
         let end = line_end(piece).min(ROOM);

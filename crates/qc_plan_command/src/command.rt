@@ -16,21 +16,9 @@ use crate::store::{store_best, store_tree};
 use qc_io::{Shelf, Sink, WriteFault};
 use qc_model::Instance;
 use qc_motion::Track;
-use qc_num::OutOfMemory;
 use qc_run::{Status, Stop, read_instance, report_stop};
 use qc_search::Search;
 use std::alloc::Global;
-
-/// Opens the search, and makes the track for what it finds: all memory is taken before anything is written.
-fn open(alloc: Global, inst: &Instance, nodes: u32) -> Result<(Search, Track), OutOfMemory>
-    requires { nodes ≤ most_branchings }
-    ensures search { IfOk result (λ opened. opened.0 ≡ record { inst = inst.now; nodes = nodes }) }
-    ensures room { IfOk result (λ opened. opened.1.tasks ≡ length inst.now.tasks) }
-{
-    let track = Track::new(alloc, inst.tasks().len() as u16)?;
-    let search = Search::open(alloc, inst, nodes)?;
-    Ok((search, track))
-}
 
 /// Runs the search, writes its tree and the plan of the best schedule that it met, and answers what is told of
 /// it. The plan's file is begun first, so that one that can't be made is told before the search is run.
@@ -60,7 +48,8 @@ fn plan_instance<S: Shelf>(
     }
 }
 
-/// Reads the ship file and the stowage list, searches their instance, and writes the tree and the plan.
+/// Reads the ship file and the stowage list, searches their instance, and writes the tree and the plan. All
+/// memory is taken before anything is written.
 fn serve<S: Shelf>(alloc: Global, asked: &PlanAsked<'_>, shelf: &mut S) -> Result<PlanAnswer, Stop>
     requires { asked.now.nodes ≤ most_branchings }
     ensures serves { IsPlanning (planning asked.now) (S.Sink.view shelf.old) (S.Sink.view shelf.new) result }
@@ -69,7 +58,8 @@ fn serve<S: Shelf>(alloc: Global, asked: &PlanAsked<'_>, shelf: &mut S) -> Resul
     ensures reads_never_fall { (S.Sink.view shelf.old).read_faults ≤ (S.Sink.view shelf.new).read_faults }
 {
     let inst = read_instance(alloc, &asked.inputs(), shelf)?;
-    let (search, track) = open(alloc, &inst, asked.nodes)?;
+    let track = Track::new(alloc, inst.task_count())?;
+    let search = Search::open(alloc, &inst, asked.nodes)?;
     Ok(plan_instance(asked, inst, search, track, shelf))
 }
 

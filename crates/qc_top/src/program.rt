@@ -1,6 +1,7 @@
 //! One run of the program: from words to a status.
-ghost use Rattle.std.specs.Prelude.{◌≡◌, ◌≤◌};
+ghost use Rattle.std.specs.Prelude.{◌≡◌, ◌≤◌, Some, option_map};
 ghost use Rattle.qc_io.specs.Outside.{beside};
+ghost use Rattle.qc_run.specs.Inputs.{names_of};
 ghost use Rattle.qc_words.specs.Asked.{KeepsLimits, asked_for};
 ghost use Rattle.qc_words.specs.Words.{texts};
 ghost use Rattle.qc_top.specs.Account.{IsRun, IsRunOf};
@@ -14,6 +15,28 @@ use qc_run::{Inputs, Refusal, Status, Stop, report_stop};
 use qc_trial::make;
 use qc_words::{Request, request_of};
 use std::alloc::Global;
+
+/// The names of the files that a command reads: a plan's and a tree's where it reads one.
+fn inputs_of<'a>(
+    ship: &'a str,
+    stow: &'a str,
+    plan: Option<&'a str>,
+    tree: Option<&'a str>,
+) -> Inputs<'a>
+    ensures { names_of result ≡ record {
+      ship = Some ship.now;
+      stow = Some stow.now;
+      plan = option_map (λ name. name.now) plan.entry;
+      tree = option_map (λ name. name.now) tree.entry;
+    } }
+{
+    Inputs {
+        ship,
+        stow,
+        plan,
+        tree,
+    }
+}
 
 /// Runs the command that is asked for.
 fn serve<S: Shelf, K: Sink>(
@@ -51,34 +74,17 @@ fn serve<S: Shelf, K: Sink>(
             plan,
             tree,
         } => {
-            let inputs = Inputs {
-                ship,
-                stow,
-                plan,
-                tree: Some(tree),
-            };
+            let inputs = inputs_of(ship, stow, plan, Some(tree));
             match plan {
                 Some(_) => check_plan(alloc, &inputs, shelf, out),
                 None => check_tree(alloc, &inputs, shelf, out),
             }
         }
         Request::Tasks { ship, stow } => {
-            let inputs = Inputs {
-                ship,
-                stow,
-                plan: None,
-                tree: None,
-            };
-            list_tasks(alloc, &inputs, shelf, out)
+            list_tasks(alloc, &inputs_of(ship, stow, None, None), shelf, out)
         }
         Request::Show { ship, stow, plan } => {
-            let inputs = Inputs {
-                ship,
-                stow,
-                plan: Some(plan),
-                tree: None,
-            };
-            show(alloc, &inputs, shelf, out)
+            show(alloc, &inputs_of(ship, stow, Some(plan), None), shelf, out)
         }
         Request::Make {
             number,
