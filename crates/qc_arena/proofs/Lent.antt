@@ -1,7 +1,6 @@
 -- What a `&` to a block holds: its laws, how it is made of a borrow, and one value of it. Assumes `Logic`.
-use Rattle.std.proofs.Common.{ℕ, zero, suc, ◌+◌, ◌*◌, ◌^◌, ◌<◌, List, [], ◌∷◌, length, get_or, refl, arith}
+use Rattle.std.proofs.Common.{ℕ, zero, suc, ◌+◌, ◌*◌, ◌^◌, ◌<◌, List, [], ◌∷◌, length, get_or, refl, arith, zero-mul, suc-mul}
 use Rattle.std.specs.Mem.{type_size}
-use native.Mathlib.Nat.{zero-mul, suc-mul}
 use seplogic.Ra.Ura.{Ura}
 use base.Fml.{Lft, Incl, ftrue, ffalse, flt, fsep}
 use base.Logic.{ent}

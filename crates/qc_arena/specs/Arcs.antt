@@ -1,4 +1,4 @@
--- Arcs: what contracts see of an arena, and the arcs of a node.
+-- public: what contracts see of an arena, and the arcs of a node.
 use Rattle.std.specs.Prelude.{ℕ, List, ◌==◌, reverse}
 use Rattle.std.specs.List.{filter}
 use Rattle.qc_arena.specs.declared.edge.Edge.{Edge}

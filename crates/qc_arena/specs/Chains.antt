@@ -1,4 +1,4 @@
--- Chains: where the cells of a block lead. Cells are numbered from the oldest.
+-- inner: where the cells of a block lead. Cells are numbered from the oldest.
 use Rattle.std.specs.Prelude.{◌≡◌, ℕ, ◌<◌, ◌≤◌, ◌==◌, List, [], ◌∷◌, All, length, reverse, take, cond, Option, Some, None, option_map, slice_index_or}
 use denote.RawPtr.{Ptr}
 use Rattle.qc_arena.specs.declared.edge.Edge.{Edge}

@@ -1,4 +1,4 @@
--- Memory: what a block of raw memory owns and lends, for values of the row R.
+-- inner: what a block of raw memory owns and lends, for values of the row R.
 use Rattle.std.specs.Prelude.{ℕ, ◌+◌, ◌*◌, ◌^◌, ◌<◌, List, [], ◌∷◌, length}
 use Rattle.std.specs.Mem.{type_size}
 use base.Fraction.{full_share}

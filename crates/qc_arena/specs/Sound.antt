@@ -1,4 +1,4 @@
--- Sound: what holds of the fields of an arena.
+-- inner: what holds of the fields of an arena.
 use Rattle.std.specs.Prelude.{◌≡◌, ◌+◌, ◌<◌, ◌^◌, length, vec_len}
 use Rattle.qc_arena.specs.declared.arcs.ArcArena.TheInside.{Inside}
 use Rattle.qc_arena.specs.Chains.{at_origin, at_target, IsThreaded}

@@ -1,7 +1,9 @@
-ghost use Rattle.std.specs.Prelude.{◌≡◌, ◌↔◌, ◌<◌, [], ◌∷◌, ◌++◌, IfOk, IsSome, None, length, replicate};
+ghost use Rattle.std.specs.Prelude.{◌≡◌, ◌↔◌, ◌<◌, [], ◌∷◌, ◌++◌, IfOk, IsSome, None, length, replicate, map, vec_len};
 ghost use Rattle.std.specs.Option.{option_to_list};
-ghost use Rattle.qc_arena.specs.Arcs.{leaving, entering};
+ghost use Rattle.qc_arena.specs.Arcs.{leaving, entering, Arcs};
 ghost use Rattle.qc_arena.specs.declared.block.Link.{Link};
+ghost use Rattle.qc_arena.specs.Chains.{arc_of};
+ghost use Rattle.qc_arena.specs.Sound.{IsSound};
 
 use crate::block::{Block, Cell, Lease, Link, release, reserve};
 use crate::{Edge, In, Out};
@@ -22,13 +24,7 @@ pub struct ArcArena {
 }
 
 impl Model for ArcArena {
-    ghost use Rattle.std.specs.Prelude.{map, vec_len};
-    ghost use Rattle.qc_arena.specs.Arcs.{Arcs};
-
     ghost Value = { Arcs };
-
-    ghost use Rattle.qc_arena.specs.Chains.{arc_of};
-    ghost use Rattle.qc_arena.specs.Sound.{IsSound};
 
     ghost view = { λ a. record { arcs = map arc_of a.block.cells; nodes = vec_len a.newest_out; cap = a.cap } };
 

@@ -1,6 +1,7 @@
 //! Cells: bay, row and tier.
 
-ghost use Rattle.std.specs.Prelude.{◌≡◌, ◌≢◌, ◌<◌, ◌≤◌, length, ◌%◌, [], ◌∷◌};
+ghost use Rattle.std.specs.Prelude.{◌≡◌, ◌≢◌, ◌<◌, ◌≤◌, length, ◌%◌, [], ◌∷◌, Ok};
+ghost use Rattle.qc_cell.specs.Cells.{CellView, IsCell, fault_text, cell_in, cell_of, cell_text, is_on_deck, overlap, slots};
 
 use crate::digits::two_digits;
 use qc_num::{Text, are_digits, value_of_digits};
@@ -25,8 +26,6 @@ pub struct Cell {
 }
 
 impl Model for Cell {
-    ghost use Rattle.qc_cell.specs.Cells.{CellView, IsCell};
-
     ghost Value = { CellView };
 
     ghost view = { λ c. record { bay = c.bay; row = c.row; tier = c.tier } };
@@ -52,8 +51,6 @@ pub enum CellFault {
 }
 
 impl CellFault {
-    ghost use Rattle.qc_cell.specs.Cells.{fault_text};
-
     /// The fault as reports print it.
     pub fn text(self) -> &'static str
         ensures text { result.now ≡ fault_text self }
@@ -70,9 +67,6 @@ impl CellFault {
 }
 
 impl Cell {
-    ghost use Rattle.std.specs.Prelude.{Ok};
-    ghost use Rattle.qc_cell.specs.Cells.{IsCell, cell_in, cell_of, cell_text, is_on_deck, overlap, slots};
-
     /// The cell that six or seven digits write: the last two are the tier, the two before them the
     /// row, and the first two or three the bay.
     pub fn read(text: &[u8]) -> Result<Cell, CellFault>

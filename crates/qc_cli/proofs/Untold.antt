@@ -1,6 +1,5 @@
 -- What holds at each answer of a call.
-use Rattle.std.proofs.Common.{Result, Ok, Err, rules}
-use Rattle.std.specs.Prelude.{IfOk, IsOk, OnOk}
+use Rattle.std.proofs.Common.{Result, Ok, Err, rules, IfOk, IsOk, OnOk}
 
 pub at_ok : {T E : Type 0} (P : T → Type 0) (r : Result T E) → ((x : T) → P x) → IfOk r P
 at_ok P (Ok x) p = p x

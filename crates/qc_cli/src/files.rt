@@ -1,5 +1,5 @@
 //! The files of the system as a shelf.
-ghost use Rattle.std.specs.Prelude.{◌≡◌, ◌≤◌, ◌<◌, [], None, IsNone, Ok, true, length, is_some, option_map, IfOk, IfSome};
+ghost use Rattle.std.specs.Prelude.{◌≡◌, ◌≤◌, ◌<◌, [], None, IsNone, Ok, true, length, is_some, option_map, IfOk, IfSome, refl};
 ghost use Rattle.std.specs.String.{string_bytes};
 ghost use Rattle.qc_io.specs.Writes.{Counts};
 ghost use Rattle.qc_cli.specs.Once.{ReadsOnce, WritesOnce};
@@ -43,9 +43,6 @@ impl<'a, R: Files + AllocGlobal> FileShelf<'a, R> {
 }
 
 impl<R: Files> Sink for FileShelf<'_, R> {
-    ghost use Rattle.std.specs.Prelude.{None, is_some, option_map};
-    ghost use Rattle.std.specs.String.{string_bytes};
-
     ghost view = { λ shelf. record {
       written = None;
       faults = shelf.faults;
@@ -80,8 +77,6 @@ impl<R: Files + AllocGlobal> Shelf for FileShelf<'_, R>
 where
     R::File: AsFd,
 {
-    ghost use Rattle.std.specs.Prelude.{refl};
-
     ghost rest_told = { λ _. refl };
 
     ghost tells_alike = { λ _ _. refl };

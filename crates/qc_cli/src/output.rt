@@ -1,6 +1,8 @@
 //! A writer of the system as a sink.
 ghost use Rattle.qc_io.specs.Writes.{Counts};
 ghost use Rattle.qc_cli.specs.Once.{WritesOnce};
+ghost use Rattle.std.specs.Prelude.{None};
+ghost use Rattle.qc_io.specs.Outside.{sink_view};
 
 use crate::once::write_once;
 use qc_io::{Failed, Sink};
@@ -21,9 +23,6 @@ impl<W: Write> Output<W> {
 }
 
 impl<W: Write> Sink for Output<W> {
-    ghost use Rattle.std.specs.Prelude.{None};
-    ghost use Rattle.qc_io.specs.Outside.{sink_view};
-
     ghost view = { λ sink. sink_view None sink.faults };
 
     fn write(&mut self, piece: &[u8]) -> Result<usize, Failed>

@@ -1,9 +1,8 @@
 -- What cranes ask for by how far along the rail tasks lie for them.
-use Rattle.std.proofs.Common.{◌≡◌, ℕ, pos, ℤ, ◌+◌, ◌-◌, ◌*◌, ◌<◌, ◌≤◌, ◌⊎◌, inl, inr, true, false, ◌&&◌, eqb, None, Some, T, length, refl, sym, ap, ap₂, subst, ◌∙◌, ◌+ℤ◌, ◌<ℤ◌, arith}
+use Rattle.std.proofs.Common.{◌≡◌, ℕ, pos, ℤ, ◌+◌, ◌-◌, ◌*◌, ◌<◌, ◌≤◌, ◌⊎◌, inl, inr, true, false, ◌&&◌, eqb, None, Some, T, length, refl, sym, ap, ap₂, subst, ◌∙◌, ◌+ℤ◌, ◌<ℤ◌, arith, int_lt, nat_lt, slice_index}
 use Rattle.std.proofs.lemmas.Bool.{and_parts, cases_lt, cond_both, cond-false, cond-true, eq-eqb, eqb-true, false≢true, le-ltb, lt-ltb, ltb-true}
 use Rattle.std.proofs.lemmas.Nat.{mul-le}
 use Rattle.std.proofs.Math.Nat.{mul-le-mul_left, mul-sub}
-use Rattle.std.specs.Prelude.{int_lt, nat_lt, slice_index}
 use mathlib.Core.Logic.{∥∥₁_elim}
 use denote.Struct.Props.{props}
 use Rattle.qc_model.specs.Bays.{bays_up}

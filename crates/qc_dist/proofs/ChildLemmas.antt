@@ -35,17 +35,3 @@ module _ (inst : InstanceView) where
   pub last_crane : (ds : List Decision) (j k : ℕ) → length inst.cranes ≤ k + 1 → later inst ds (Assign j k) ≡ []
   last_crane ds j k high =
       ap (map (λ v. Assign j v ∷ ds)) (drop_of_length-le (crane_numbers inst) (omega (arith, high, cranes_count)))
-
-  other_way : {A B : Type 0} → A ⊎ B → B ⊎ A
-  other_way (inl a) = inr a
-  other_way (inr b) = inl b
-
-  -- a pair is turned
-  pub turned : (ds : List Decision) (i j : ℕ) → i < j → IsOpen inst ds (Order i j)
-      → IsOpen inst ds (Order j i)
-      × (later inst ds (Order i j) ≡ (Order j i ∷ ds) ∷ later inst ds (Order j i))
-  turned ds i j low is_open = (
-    (other_way is_open.0, λ settled. is_open.1 (other_way settled)),
-    ap (λ b. cond b ((Order j i ∷ ds) ∷ []) []) (lt-ltb i j low)
-        ∙ ap (λ b. (Order j i ∷ ds) ∷ cond b ((Order i j ∷ ds) ∷ []) []) (sym (le-ltb j i (omega (arith, low)))),
-  )

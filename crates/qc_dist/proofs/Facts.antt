@@ -1,6 +1,5 @@
 -- What decisions that fit an instance keep.
-use Rattle.std.proofs.Common.{ℕ, ◌<◌, ◌⊎◌, inl, inr, Bool, true, false, cond, nat_eq, Option, Some, List, [], ◌∷◌, length, arith}
-use Rattle.std.specs.Prelude.{IfSome}
+use Rattle.std.proofs.Common.{ℕ, ◌<◌, ◌⊎◌, inl, inr, Bool, true, false, cond, nat_eq, Option, Some, List, [], ◌∷◌, length, arith, IfSome}
 use Rattle.qc_model.specs.declared.decision.Decision.{Decision}
 use Rattle.qc_model.specs.declared.decision.Decision.TheVariants.{Assign, Order}
 use Rattle.qc_model.specs.Instance.{InstanceView, IsApart, Valid}

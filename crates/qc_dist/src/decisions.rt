@@ -8,6 +8,8 @@ ghost use Rattle.qc_model.specs.Nodes.{Fits, IsSettled, assigned, is_sooner};
 ghost use Rattle.qc_dist.specs.Heads.{IsHeads};
 ghost use Rattle.qc_dist.specs.Kept.{crane_load, unassigned_ticks};
 ghost use Rattle.qc_dist.specs.Loads.{IsLoad};
+ghost use Rattle.qc_dist.specs.Node.{Node, IsOpen, newest};
+ghost use Rattle.qc_dist.specs.Fields.{node_of, IsKept};
 
 use crate::grid::{before_marks, cell, no_marks};
 use crate::heads::{Heads, head_table};
@@ -41,11 +43,7 @@ pub struct Decisions {
 }
 
 impl Model for Decisions {
-    ghost use Rattle.qc_dist.specs.Node.{Node};
-
     ghost Value = { Node };
-
-    ghost use Rattle.qc_dist.specs.Fields.{node_of, IsKept};
 
     ghost view = { node_of };
 
@@ -60,8 +58,6 @@ fn all_ticks(inst: &Instance) -> Tick
 }
 
 impl Decisions {
-    ghost use Rattle.qc_dist.specs.Node.{IsOpen, newest};
-
     /// No decision for the instance, and room for one a task and one an apart pair.
     pub fn new(alloc: Global, inst: &Instance) -> Result<Decisions, OutOfMemory>
         ensures { IfOk result (λ made. made ≡ record { inst = inst.now; decisions = [] }) }

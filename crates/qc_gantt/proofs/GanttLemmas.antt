@@ -1,8 +1,7 @@
 -- A search along two lists, side by side.
-use Rattle.std.proofs.Common.{◌≡◌, ◌<◌, ◌+◌, ℕ, Bool, cond, List, Some, length, drop, get_or, ap, sym, ◌∙◌, arith}
+use Rattle.std.proofs.Common.{◌≡◌, ◌<◌, ◌+◌, ℕ, Bool, cond, List, Some, length, drop, get_or, ap, sym, ◌∙◌, arith, find}
 use Rattle.std.proofs.lemmas.List.{drop_more}
 use Rattle.std.proofs.lemmas.Slice.Zip.{get_or-zip, length-zip}
-use Rattle.std.specs.Prelude.{find}
 use Rattle.std.specs.List.{zip}
 
 -- the first pair from i on that passes is the one at i or, where that fails, the first of those behind it

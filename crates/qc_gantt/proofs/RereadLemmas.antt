@@ -1,6 +1,5 @@
 -- What was written is read as the schedule that it was.
-use Rattle.std.proofs.Common.{◌≡◌, ◌≢◌, ℕ, ◌+◌, ◌<◌, ◌≤◌, ◌^◌, ◌++◌, ◌∷◌, ◌==◌, List, [], zero, suc, Bool, true, false, cond, length, get_or, take, drop, map, All, ◌&&◌, nat_le, None, Some, Result, Ok, Err, refl, sym, ap, subst, inl, inr, ◌∙◌, arith, IsTrue}
-use Rattle.std.specs.Prelude.{OnOk, codes, decimal, nat_lt}
+use Rattle.std.proofs.Common.{◌≡◌, ◌≢◌, ℕ, ◌+◌, ◌<◌, ◌≤◌, ◌^◌, ◌++◌, ◌∷◌, ◌==◌, List, [], zero, suc, Bool, true, false, cond, length, get_or, take, drop, map, All, ◌&&◌, nat_le, None, Some, Result, Ok, Err, refl, sym, ap, subst, inl, inr, ◌∙◌, arith, IsTrue, OnOk, codes, decimal, nat_lt}
 use Rattle.std.specs.Char.{is_ascii_digit}
 use Rattle.std.specs.List.{flat_map, list_all, list_any, position_or_len, zip}
 use Rattle.std.proofs.lemmas.List.Sums.{position_or_len_is}

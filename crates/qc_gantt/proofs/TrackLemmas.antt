@@ -1,10 +1,10 @@
 -- The tracks of one crane more.
-use Rattle.std.proofs.Common.{◌≡◌, ℕ, ◌+◌, ◌<◌, ◌≤◌, ◌⊎◌, inl, inr, List, [], ◌∷◌, ◌++◌, length, get_or, Result, Ok, Err, refl, ap, sym, subst, ◌∙◌, arith}
+use Rattle.std.proofs.Common.{◌≡◌, ℕ, ◌+◌, ◌<◌, ◌≤◌, ◌⊎◌, inl, inr, List, [], ◌∷◌, ◌++◌, length, get_or, Result, Ok, Err, refl, ap, sym, subst, ◌∙◌, arith, IsErr, slice_index_or}
 use Rattle.std.proofs.Math.Nat.{eq-or-lt_of_le}
 use Rattle.std.proofs.Math.Seq.{get_or-append_seam}
 use Rattle.std.proofs.lemmas.List.{append-nil, get_or_append_left, length-append}
 use Rattle.std.proofs.lemmas.Grind.{flat_map-append}
-use Rattle.std.specs.Prelude.{⊤, IsErr, slice_index_or}
+use Rattle.std.specs.Prelude.{⊤}
 use Rattle.std.specs.List.{flat_map, zip}
 use Rattle.qc_io.specs.declared.writing.WriteFault.{WriteFault}
 use Rattle.qc_io.specs.Outside.{View}

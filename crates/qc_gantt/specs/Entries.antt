@@ -1,4 +1,4 @@
--- One record of a plan file, and the slots that some records give.
+-- public: one record of a plan file, and the slots that some records give.
 use Rattle.std.specs.Prelude.{ℕ, ◌+◌, List, length, not, Bool, ◌&&◌, ◌==◌, find, is_some, Option, None, option_map, ok_or, slice_index_or, Result, Ok, codes}
 use Rattle.std.specs.Str.{bytes_eq}
 use Rattle.qc_num.specs.Digits.{number_in}

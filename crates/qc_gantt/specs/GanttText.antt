@@ -1,4 +1,4 @@
--- The Gantt text of a schedule: which task each crane has, along a line of 60 characters.
+-- public: the Gantt text of a schedule: which task each crane has, along a line of 60 characters.
 use Rattle.std.specs.Prelude.{ℕ, ◌+◌, ◌-◌, ◌*◌, ◌/◌, Bool, ◌&&◌, ◌==◌, nat_le, nat_lt, List, ◌++◌, codes, decimal, find, length, map, take}
 use Rattle.std.specs.List.{flat_map, range_with_len, zip}
 use Rattle.std.specs.Option.{option_map_or}

@@ -1,4 +1,4 @@
--- Tasks and cranes by their names.
+-- public: tasks and cranes by their names.
 use Rattle.std.specs.Prelude.{◌≡◌, ℕ, List, map, Option, position}
 use Rattle.std.specs.Borrow.{Bor}
 use Rattle.std.specs.Str.{bytes_eq}

@@ -1,4 +1,4 @@
--- The text of a plan file.
+-- public: the text of a plan file.
 use Rattle.std.specs.Prelude.{ℕ, ◌+◌, List, ◌++◌, codes, decimal}
 use Rattle.std.specs.List.{flat_map, zip}
 use Rattle.qc_model.specs.declared.task.Task.{Task}

@@ -1,4 +1,4 @@
--- The crane lines of a schedule: where each crane stands, by its waypoints.
+-- public: the crane lines of a schedule: where each crane stands, by its waypoints.
 use Rattle.std.specs.Prelude.{◌≡◌, ℕ, ◌<◌, ◌≤◌, List, [], ◌++◌, codes, decimal, length, slice_index_or, Result, OnOk, ⊤}
 use Rattle.std.specs.Fmt.{signed_decimal}
 use Rattle.std.specs.List.{flat_map, zip}

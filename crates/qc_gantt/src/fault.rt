@@ -2,6 +2,7 @@
 
 ghost use Rattle.std.specs.Prelude.{◌≡◌, ◌≤◌, length};
 ghost use Rattle.qc_num.specs.declared.read_error.ReadError.TheVariants.{Fault};
+ghost use Rattle.qc_gantt.specs.Faults.{kind_text};
 
 use qc_num::ReadError;
 
@@ -27,8 +28,6 @@ pub enum PlanKind {
 }
 
 impl PlanKind {
-    ghost use Rattle.qc_gantt.specs.Faults.{kind_text};
-
     /// The kind as reports print it.
     pub fn text(self) -> &'static str
         ensures text { result.now ≡ kind_text self }

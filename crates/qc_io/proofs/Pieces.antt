@@ -1,8 +1,7 @@
 -- Pieces put behind bytes and taken off their front, one after another.
-use Rattle.std.proofs.Common.{◌≡◌, ℕ, ◌+◌, ◌≤◌, ◌++◌, List, length, take, drop, Option, None, Some, refl, sym, ap, ◌∙◌, append_assoc, append-nil, length-append, [], arith}
+use Rattle.std.proofs.Common.{◌≡◌, ℕ, ◌+◌, ◌≤◌, ◌++◌, List, length, take, drop, Option, None, Some, refl, sym, ap, ◌∙◌, append_assoc, append-nil, length-append, [], arith, IfSome, Result, Ok, Err, OnErr}
 use Rattle.std.proofs.Math.Seq.{take-add, take-append-add}
 use Rattle.std.proofs.lemmas.List.{take-append-le}
-use Rattle.std.specs.Prelude.{IfSome, Result, Ok, Err, OnErr}
 use Rattle.std.specs.Io.KnownBytes.{append_known, prepend_known}
 use Rattle.qc_io.specs.Outside.{Files, file_at, IsMissing, IsFile, TakesAtMost, GrewByPart}
 

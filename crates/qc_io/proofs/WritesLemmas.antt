@@ -1,6 +1,6 @@
 -- Texts written one behind another.
-use Rattle.std.proofs.Common.{◌≡◌, ℕ, ◌+◌, ◌<◌, ◌++◌, List, [], length, take, drop, get_or, Result, Ok, Err, sym, ap, ◌∙◌, subst, arith}
-use Rattle.std.specs.Prelude.{⊤, IsErr}
+use Rattle.std.proofs.Common.{◌≡◌, ℕ, ◌+◌, ◌<◌, ◌++◌, List, [], length, take, drop, get_or, Result, Ok, Err, sym, ap, ◌∙◌, subst, arith, IsErr}
+use Rattle.std.specs.Prelude.{⊤}
 use Rattle.std.specs.List.{flat_map}
 use Rattle.std.proofs.lemmas.List.{take-append-drop, take_more, drop_more, flat_map_more}
 use Rattle.std.proofs.lemmas.List.Concat.{flat_map-append}

@@ -1,4 +1,4 @@
--- What contracts see of the calls on a store in memory.
+-- public: what contracts see of the calls on a store in memory.
 use Rattle.std.specs.Prelude.{ℕ, List, Contains}
 use Rattle.qc_io.specs.Outside.{next_count}
 

@@ -1,6 +1,6 @@
 //! Calls that are set to fail.
 ghost use Rattle.std.specs.Prelude.{◌≡◌, ◌↔◌, [], ◌∷◌, ◌++◌, IsTrue, OnOk, OnErr};
-ghost use Rattle.qc_io.specs.Calls.{counted, NextFails};
+ghost use Rattle.qc_io.specs.Calls.{counted, NextFails, Counted};
 
 use std::alloc::{AllocError, Global};
 use std::marker::Model;
@@ -13,8 +13,6 @@ pub struct Calls {
 }
 
 impl Model for Calls {
-    ghost use Rattle.qc_io.specs.Calls.{Counted};
-
     ghost Value = { Counted };
 
     ghost view = { λ calls. record { count = calls.count; failing = calls.failing.items } };

@@ -1,9 +1,10 @@
 //! A shelf in memory.
-ghost use Rattle.std.specs.Prelude.{◌≡◌, ◌≤◌, ◌<◌, ◌↔◌, [], ◌∷◌, ◌++◌, None, Some, true, length, min, take, drop, is_some, unwrap_or, option_map, IsSome, IsErr, OnOk, OnErr, IfOk};
+ghost use Rattle.std.specs.Prelude.{◌≡◌, ◌≤◌, ◌<◌, ◌↔◌, [], ◌∷◌, ◌++◌, None, Some, true, length, min, take, drop, is_some, unwrap_or, option_map, IsSome, IsErr, OnOk, OnErr, IfOk, ℕ, List, refl};
 ghost use Rattle.std.specs.FinMap.{empty, get, insert};
 ghost use Rattle.qc_io.specs.Outside.{ReadCause, next_count};
 ghost use Rattle.qc_io.specs.Calls.{counted, NextFails};
-ghost use Rattle.qc_io.specs.Memory.{files_of, grown, held_view, with_made};
+ghost use Rattle.qc_io.specs.Memory.{files_of, grown, held_view, with_made, Held, held_code};
+ghost use Rattle.std.specs.String.{string_bytes};
 
 use crate::failing::Calls;
 use crate::rest::Rest;
@@ -22,9 +23,6 @@ struct Making {
 }
 
 impl Model for Making {
-    ghost use Rattle.std.specs.Prelude.{ℕ, List};
-    ghost use Rattle.std.specs.String.{string_bytes};
-
     ghost Value = { List ℕ × List ℕ };
 
     ghost view = { λ making. (string_bytes making.name, making.bytes.items) };
@@ -65,9 +63,6 @@ pub struct MemShelf {
 }
 
 impl Model for MemShelf {
-    ghost use Rattle.std.specs.Prelude.{◌<◌};
-    ghost use Rattle.qc_io.specs.Memory.{Held, held_code, files_of};
-
     ghost Value = { Held };
 
     ghost coded = { held_code };
@@ -157,8 +152,6 @@ impl MemShelf {
 }
 
 impl Sink for MemShelf {
-    ghost use Rattle.qc_io.specs.Memory.{held_view};
-
     ghost view = { held_view };
 
     /// Takes as much of the piece as `pieces` allows. It fails where the call is set to fail, or for want
@@ -195,8 +188,6 @@ impl Sink for MemShelf {
 }
 
 impl Shelf for MemShelf {
-    ghost use Rattle.std.specs.Prelude.{refl};
-
     ghost rest_told = { λ _. refl };
 
     ghost tells_alike = { λ _ _. refl };

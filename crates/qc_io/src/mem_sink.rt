@@ -1,7 +1,8 @@
 //! A sink in memory.
-ghost use Rattle.std.specs.Prelude.{◌≡◌, ◌≤◌, [], ◌∷◌, ◌++◌, length, OnOk, OnErr, IfOk, IsErr};
-ghost use Rattle.qc_io.specs.Outside.{next_count};
+ghost use Rattle.std.specs.Prelude.{◌≡◌, ◌≤◌, [], ◌∷◌, ◌++◌, length, OnOk, OnErr, IfOk, IsErr, Some};
+ghost use Rattle.qc_io.specs.Outside.{next_count, sink_view};
 ghost use Rattle.qc_io.specs.Calls.{counted, NextFails};
+ghost use Rattle.qc_io.specs.Memory.{Taken};
 
 use crate::failing::Calls;
 use crate::sink::{Failed, Sink, fault};
@@ -18,8 +19,6 @@ pub struct MemSink {
 }
 
 impl Model for MemSink {
-    ghost use Rattle.qc_io.specs.Memory.{Taken};
-
     ghost Value = { Taken };
 
     ghost view = { λ sink. record { bytes = sink.bytes.items; faults = sink.faults; calls = sink.calls } };
@@ -68,9 +67,6 @@ impl MemSink {
 }
 
 impl Sink for MemSink {
-    ghost use Rattle.std.specs.Prelude.{Some};
-    ghost use Rattle.qc_io.specs.Outside.{sink_view};
-
     ghost view = { λ sink. sink_view (Some sink.bytes) sink.faults };
 
     /// Takes the whole piece. It fails where the call is set to fail, or for want of memory.

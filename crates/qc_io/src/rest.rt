@@ -1,5 +1,5 @@
 //! What is left of a file.
-ghost use Rattle.std.specs.Prelude.{◌≡◌, min, take, drop, length};
+ghost use Rattle.std.specs.Prelude.{◌≡◌, min, take, drop, length, ℕ, ◌≤◌, List};
 
 use std::marker::Model;
 
@@ -11,8 +11,6 @@ pub struct Rest {
 }
 
 impl Model for Rest {
-    ghost use Rattle.std.specs.Prelude.{ℕ, ◌≤◌, List, drop, length};
-
     ghost Value = { List ℕ };
 
     ghost view = { λ rest. drop rest.taken rest.bytes.items };

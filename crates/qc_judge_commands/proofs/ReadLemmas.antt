@@ -1,6 +1,5 @@
 -- What a tree's file shows for the instance that is due, and what is promised of each command that only reads.
-use Rattle.std.proofs.Common.{◌≡◌, ◌≢◌, ◌≤◌, ℕ, Option, None, Some, Result, Ok, Err, ap, subst, inl, inr, ◌∙◌}
-use Rattle.std.specs.Prelude.{IfSome}
+use Rattle.std.proofs.Common.{◌≡◌, ◌≢◌, ◌≤◌, ℕ, Option, None, Some, Result, Ok, Err, ap, subst, inl, inr, ◌∙◌, IfSome}
 use Rattle.qc_num.specs.declared.bound.Bound.{Bound}
 use Rattle.qc_num.specs.Reading.{◌>>=◌}
 use Rattle.qc_num.proofs.ReadingLemmas.{bind_ok, same_ok}

@@ -1,6 +1,6 @@
 -- What goes out of the report of a plan that is shown, from what the calls say that write it.
-use Rattle.std.proofs.Common.{Result, Ok, Err, refl, inl, inr}
-use Rattle.std.specs.Prelude.{⊤, IsErr}
+use Rattle.std.proofs.Common.{Result, Ok, Err, refl, inl, inr, IsErr}
+use Rattle.std.specs.Prelude.{⊤}
 use Rattle.qc_gantt.specs.GanttText.{gantt_text}
 use Rattle.qc_io.specs.declared.writing.WriteFault.{WriteFault}
 use Rattle.qc_io.specs.Outside.{View}

@@ -1,5 +1,5 @@
 -- The first line feed of the bytes that are held.
-use Rattle.std.proofs.Common.{◌≡◌, ◌==◌, ℕ, ◌+◌, ◌-◌, ◌≤◌, ◌<◌, Bool, false, List, [], ◌∷◌, ◌++◌, length, take, drop, get_or, Option, None, Some, position, refl, sym, ap, subst, ◌∙◌, arith, suc, inl, inr, ◌⊎◌}
+use Rattle.std.proofs.Common.{◌≡◌, ◌==◌, ℕ, ◌+◌, ◌-◌, ◌≤◌, ◌<◌, Bool, false, List, [], ◌∷◌, ◌++◌, length, take, drop, get_or, Option, None, Some, position, refl, sym, ap, subst, ◌∙◌, arith, suc, inl, inr, ◌⊎◌, IfSome, nat_lt}
 use Rattle.std.proofs.Math.Seq.{drop-cons, take-append-add}
 use Rattle.std.proofs.lemmas.Bool.{cases_Bool}
 use Rattle.std.proofs.lemmas.Bool.Decides.{nat_tests}
@@ -10,7 +10,6 @@ use Rattle.std.proofs.lemmas.Slice.{take-put_mid}
 use borrow.Rule.Slice.PartMut.{put_mid}
 use Rattle.std.specs.Io.KnownBytes.{prepend_known}
 use Rattle.std.specs.List.{position_or_len}
-use Rattle.std.specs.Prelude.{IfSome, nat_lt}
 use Rattle.qc_io.specs.Outside.{View}
 use Rattle.qc_io.specs.Reads.{Reads}
 use Rattle.qc_io.proofs.Pieces.{prepend_known-append}

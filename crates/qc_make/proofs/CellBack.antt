@@ -1,5 +1,4 @@
-use Rattle.std.proofs.Common.{◌≡◌, ◌<◌, ◌+◌, ◌*◌, ◌/◌, ◌%◌, ◌==◌, ℕ, [], ◌∷◌, true, false, refl, inl, inr, ◌∙◌, arith, Ok}
-use Rattle.std.specs.Prelude.{nat_lt}
+use Rattle.std.proofs.Common.{◌≡◌, ◌<◌, ◌+◌, ◌*◌, ◌/◌, ◌%◌, ◌==◌, ℕ, [], ◌∷◌, true, false, refl, inl, inr, ◌∙◌, arith, Ok, nat_lt}
 use Rattle.std.specs.Char.{digit_value, is_ascii_digit}
 use Rattle.std.proofs.lemmas.Bool.{cases_Bool}
 use Rattle.std.proofs.lemmas.Bool.Decides.{nat_tests}

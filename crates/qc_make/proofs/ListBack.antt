@@ -1,6 +1,5 @@
 -- A made list is read back as its rows.
-use Rattle.std.proofs.Common.{◌≡◌, ◌<◌, ◌≤◌, ◌+◌, ◌*◌, ◌%◌, ◌&&◌, ℕ, List, [], ◌∷◌, ◌++◌, length, get_or, map, Bool, true, false, codes, take, refl, sym, ap, ◌∙◌, arith, Ok, append_assoc, append-nil, length-append, inl, inr}
-use Rattle.std.specs.Prelude.{is_some, Option, None, Some, Result, option_map, position, pos}
+use Rattle.std.proofs.Common.{◌≡◌, ◌<◌, ◌≤◌, ◌+◌, ◌*◌, ◌%◌, ◌&&◌, ℕ, List, [], ◌∷◌, ◌++◌, length, get_or, map, Bool, true, false, codes, take, refl, sym, ap, ◌∙◌, arith, Ok, append_assoc, append-nil, length-append, inl, inr, is_some, Option, None, Some, Result, option_map, position, pos}
 use Rattle.std.specs.List.{range_with_len, position_or_len, AllByRecursion as Each}
 use Rattle.std.specs.Str.{bytes_eq}
 use Rattle.std.proofs.lemmas.Bool.{cases_lt, false≢true, lt-ltb}

@@ -1,6 +1,5 @@
 -- The first crane of the made ship can do all tasks upward.
-use Rattle.std.proofs.Common.{◌≡◌, ◌≢◌, ◌<◌, ◌≤◌, ◌-◌, ◌==◌, ℕ, pos, ◌≤ℤ◌, true, false, List, [], length, get_or, map, sym, ap, inl, inr, ◌∙◌, arith}
-use Rattle.std.specs.Prelude.{nat_lt}
+use Rattle.std.proofs.Common.{◌≡◌, ◌≢◌, ◌<◌, ◌≤◌, ◌-◌, ◌==◌, ℕ, pos, ◌≤ℤ◌, true, false, List, [], length, get_or, map, sym, ap, inl, inr, ◌∙◌, arith, nat_lt}
 use Rattle.std.specs.List.{range_with_len}
 use Rattle.std.proofs.Math.Bool.{or-false}
 use Rattle.std.proofs.lemmas.Bool.{and_parts, cases_lt}

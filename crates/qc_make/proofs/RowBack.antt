@@ -1,6 +1,5 @@
 -- A made row is read back, and no two made rows have one id or overlapping cells.
-use Rattle.std.proofs.Common.{◌≡◌, ◌<◌, ◌≤◌, ◌^◌, ◌+◌, ◌-◌, ◌*◌, ◌/◌, ◌%◌, ◌==◌, ◌&&◌, ◌||◌, ℕ, List, [], ◌∷◌, ◌++◌, length, drop, get_or, Bool, true, false, cond, codes, refl, sym, ap, inl, inr, ◌∙◌, arith, Ok, lit≤, append_assoc, length-append}
-use Rattle.std.specs.Prelude.{◌⊎◌, decimal, nat_le, is_some}
+use Rattle.std.proofs.Common.{◌≡◌, ◌<◌, ◌≤◌, ◌^◌, ◌+◌, ◌-◌, ◌*◌, ◌/◌, ◌%◌, ◌==◌, ◌&&◌, ◌||◌, ℕ, List, [], ◌∷◌, ◌++◌, length, drop, get_or, Bool, true, false, cond, codes, refl, sym, ap, inl, inr, ◌∙◌, arith, Ok, lit≤, append_assoc, length-append, ◌⊎◌, decimal, nat_le, is_some}
 use Rattle.std.specs.Char.{is_ascii_digit}
 use Rattle.std.specs.List.{list_all, list_any}
 use Rattle.std.specs.Str.{bytes_eq}

@@ -1,6 +1,5 @@
 -- The table of the made ship reads as that ship.
-use Rattle.std.proofs.Common.{◌≡◌, ◌<◌, ◌≤◌, ◌+◌, ◌-◌, ◌*◌, ◌%◌, ◌==◌, ℕ, zero, suc, pos, List, [], ◌∷◌, length, get_or, map, true, false, Some, Ok, refl, ap, ◌∙◌, arith}
-use Rattle.std.specs.Prelude.{decimal, nat_le, nat_lt, slice_index}
+use Rattle.std.proofs.Common.{◌≡◌, ◌<◌, ◌≤◌, ◌+◌, ◌-◌, ◌*◌, ◌%◌, ◌==◌, ℕ, zero, suc, pos, List, [], ◌∷◌, length, get_or, map, true, false, Some, Ok, refl, ap, ◌∙◌, arith, decimal, nat_le, nat_lt, slice_index}
 use Rattle.std.specs.Fmt.{digits}
 use Rattle.std.specs.List.{range_with_len}
 use Rattle.std.proofs.lemmas.Bool.Decides.{nat_tests}

@@ -1,6 +1,5 @@
 -- For `omega`: a difference of bays read as `up` and `down`, the two parts of a whole number that std's `ints` speaks of.
-use Rattle.std.specs.Prelude.{◌≡◌, ℤ, pos, negsuc, ◌-ℤ◌, ◌+◌, ◌-◌}
-use Rattle.std.proofs.Common.{arith}
+use Rattle.std.proofs.Common.{arith, ◌≡◌, ℤ, pos, negsuc, ◌-ℤ◌, ◌+◌, ◌-◌}
 use Rattle.std.proofs.lemmas.Int.{ints}
 use borrow.Author.Differences.{up, down}
 use Rattle.qc_model.specs.Bays.{at_least_zero, bays_up}

@@ -1,7 +1,6 @@
 -- The greatest and the least of numbers that a function gives.
-use Rattle.std.proofs.Common.{◌≡◌, ℕ, zero, suc, ◌+◌, ◌<◌, ◌≤◌, Bool, true, inl, inr, List, [], ◌∷◌, length, map, ap, sym, ◌∙◌, arith}
+use Rattle.std.proofs.Common.{◌≡◌, ℕ, zero, suc, ◌+◌, ◌<◌, ◌≤◌, Bool, true, inl, inr, List, [], ◌∷◌, length, map, ap, sym, ◌∙◌, arith, filter}
 use Rattle.std.proofs.lemmas.Bool.{cond_both, cases_lt, false≢true}
-use Rattle.std.specs.Prelude.{filter}
 use Rattle.std.specs.List.{range_with_len}
 use Rattle.qc_model.specs.Nodes.{greatest, least}
 

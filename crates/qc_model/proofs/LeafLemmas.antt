@@ -1,8 +1,7 @@
 -- What leaves show holds: a ring has no solution, and the end that a leaf shows is at most that of every
 -- upward schedule that agrees with the node.
-use Rattle.std.proofs.Common.{◌≡◌, ℕ, ◌+◌, ◌<◌, ◌≤◌, Bool, true, ◌&&◌, leb, List, [], ◌∷◌, ◌++◌, length, Option, None, Some, IfSome, is_some, sym, subst, refl, ◌∙◌, arith}
+use Rattle.std.proofs.Common.{◌≡◌, ℕ, ◌+◌, ◌<◌, ◌≤◌, Bool, true, ◌&&◌, leb, List, [], ◌∷◌, ◌++◌, length, Option, None, Some, IfSome, is_some, sym, subst, refl, ◌∙◌, arith, nat_le, nat_lt, option_and_then, option_map, slice_index}
 use Rattle.std.proofs.lemmas.Bool.{and_parts, cond_both, false≢true, leb-true, ltb-true, not-true}
-use Rattle.std.specs.Prelude.{nat_le, nat_lt, option_and_then, option_map, slice_index}
 use Rattle.std.specs.List.{list_all}
 use Rattle.qc_num.specs.Bounds.{IsAtMost}
 use Rattle.qc_num.specs.declared.bound.Bound.{Bound}

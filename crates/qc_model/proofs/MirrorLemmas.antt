@@ -21,9 +21,6 @@ twice n x = omega (arith, ints)
 same_bay : (n : ℕ) (x y : ℤ) → (pos n -ℤ x) ≡ (pos n -ℤ y) → x ≡ y
 same_bay n x y e = omega (arith, ints)
 
-turned : (n : ℕ) (x y : ℤ) → x ≤ℤ y → (pos n -ℤ y) ≤ℤ (pos n -ℤ x)
-turned n x y h = omega (arith, ints)
-
 -- what holds within a ship holds within it from the other end
 within : (n : ℕ) (x : ℤ) → IsFrom (pos 1) (pos n) x → IsFrom (pos 1) (pos n) (pos (n + 1) -ℤ x)
 within n x h = (omega (arith, ints, h.1), omega (arith, ints, h.0))

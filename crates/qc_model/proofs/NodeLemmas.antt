@@ -1,9 +1,8 @@
 -- What a node asks for holds of every upward schedule that agrees with it.
-use Rattle.std.proofs.Common.{◌≡◌, ℕ, zero, suc, ◌+◌, ◌<◌, ◌≤◌, max, Bool, true, false, eqb, ◌&&◌, ◌==◌, inl, inr, T, List, [], ◌∷◌, length, get_or, map, Contains, Option, None, Some, IfSome, IsSome, ℤ, refl, ap, sym, subst, subst₂, ◌∙◌, arith, mul-zero, pos_of_ne-zero}
+use Rattle.std.proofs.Common.{◌≡◌, ℕ, zero, suc, ◌+◌, ◌<◌, ◌≤◌, max, Bool, true, false, eqb, ◌&&◌, ◌==◌, inl, inr, T, List, [], ◌∷◌, length, get_or, map, Contains, Option, None, Some, IfSome, IsSome, ℤ, refl, ap, sym, subst, subst₂, ◌∙◌, arith, mul-zero, pos_of_ne-zero, filter, int_lt, nat_lt, slice_index}
 use Rattle.std.proofs.lemmas.Bool.{and_from, and_parts, cases_lt, cond-true, cond_both, eq-eqb, eqb-false, eqb-true, false_from_ne_true, false≢true, le-ltb, ltb-true, or_cases, or_left, or_right}
 use Rattle.std.proofs.lemmas.List.{length-map}
 use Rattle.std.proofs.lemmas.List.Folds.{list_any_at}
-use Rattle.std.specs.Prelude.{filter, int_lt, nat_lt, slice_index}
 use Rattle.std.specs.List.{list_any, range_with_len}
 use Rattle.qc_model.specs.declared.decision.Decision.{Decision}
 use Rattle.qc_model.specs.declared.decision.Decision.TheVariants.{Assign, Order}

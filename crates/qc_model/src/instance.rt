@@ -3,7 +3,8 @@
 ghost use Rattle.std.specs.Prelude.{◌≡◌, ◌↔◌, ◌<◌, ◌≤◌, pos, AllPairs, Contains, IsTrue, length, sum_by};
 ghost use Rattle.qc_model.specs.declared.limits.TheConstants.{MOST_CRANES, MOST_READY, MOST_TASKS, MOST_WORK};
 ghost use Rattle.qc_model.specs.Bays.{at_least_zero};
-ghost use Rattle.qc_model.specs.Instance.{IsApart, IsBefore, IsEarlier, IsOnRail, Valid, crane, task};
+ghost use Rattle.qc_model.specs.Instance.{IsApart, IsBefore, IsEarlier, IsOnRail, Valid, crane, task, InstanceView};
+ghost use Rattle.qc_model.specs.InstanceFields.{view_of, IsKept};
 
 use crate::seen::seen_post;
 use crate::{Crane, Direction, Pair, Post, Task};
@@ -23,9 +24,6 @@ pub struct Instance {
 }
 
 impl Model for Instance {
-    ghost use Rattle.qc_model.specs.Instance.{InstanceView};
-    ghost use Rattle.qc_model.specs.InstanceFields.{view_of, IsKept};
-
     ghost Value = { InstanceView };
 
     ghost view = { view_of };

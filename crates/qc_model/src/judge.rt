@@ -6,9 +6,11 @@ ghost use Rattle.qc_model.specs.Numbers.{most_distance, most_end, most_ready};
 ghost use Rattle.qc_model.specs.Instance.{bay_of, crane, IsApart, IsBefore, IsOnRail, Valid};
 ghost use Rattle.qc_model.specs.Motion.{bay_ahead, bay_behind, scaled};
 ghost use Rattle.qc_model.specs.Limits.{IsNearRail, IsPlaceNear};
-ghost use Rattle.qc_model.specs.Judge.{IsJudgedAt};
+ghost use Rattle.qc_model.specs.Judge.{IsJudgedAt, IsJudgeable, FaultIs};
 ghost use Rattle.qc_model.specs.Rules.{crane_of, start_of, end_of};
 ghost use Rattle.qc_model.specs.Ticks.{distance, travel_between};
+ghost use Rattle.qc_model.specs.Judged.{Judged, IsFirstBeside, KeepsBeside};
+ghost use Rattle.qc_model.specs.Seen.{seen, seen_schedule};
 
 use crate::seen::{Post, seen_bay, seen_number, seen_post};
 use crate::ticks::{bays_between, distance, gap_over, place_of, travel_over};
@@ -42,11 +44,6 @@ pub struct Judge<'a> {
 }
 
 impl<'a> Model for Judge<'a> {
-    ghost use Rattle.std.specs.Prelude.{◌≡◌, length};
-    ghost use Rattle.qc_model.specs.Judge.{IsJudgeable};
-    ghost use Rattle.qc_model.specs.Judged.{Judged};
-    ghost use Rattle.qc_model.specs.Seen.{seen, seen_schedule};
-
     ghost Value = { Judged };
 
     ghost view = { λ j. record {
@@ -59,9 +56,6 @@ impl<'a> Model for Judge<'a> {
 }
 
 impl<'a> Judge<'a> {
-    ghost use Rattle.qc_model.specs.Judge.{IsJudgeable};
-    ghost use Rattle.qc_model.specs.Seen.{seen, seen_schedule};
-
     /// The schedule with that direction.
     pub fn new(inst: &'a Instance, sched: &'a Schedule, way: Direction) -> Judge<'a>
         requires { IsJudgeable inst.now sched.now }
@@ -205,9 +199,6 @@ fn is_judged_at(rule: Rule, first: u16, second: u16) -> bool
 }
 
 impl Judge<'_> {
-    ghost use Rattle.qc_model.specs.Judge.{FaultIs};
-    ghost use Rattle.qc_model.specs.Judged.{IsFirstBeside, KeepsBeside};
-
     /// The first task beside which the rule fails at the given one.
     fn first_beside(&self, rule: Rule, first: u16) -> Option<u16>
         requires { first < length self.now.inst.tasks }

@@ -1,6 +1,6 @@
 //! Names of cranes.
 
-ghost use Rattle.std.specs.Prelude.{◌≡◌, ◌↔◌, IfSome, IsSome, IsTrue};
+ghost use Rattle.std.specs.Prelude.{◌≡◌, ◌↔◌, IfSome, IsSome, IsTrue, ℕ, List};
 ghost use Rattle.std.specs.List.{list_all};
 ghost use Rattle.qc_model.specs.Names.{is_name, is_name_byte};
 
@@ -14,9 +14,6 @@ pub struct Name {
 }
 
 impl Model for Name {
-    ghost use Rattle.std.specs.Prelude.{ℕ, List, IsTrue};
-    ghost use Rattle.qc_model.specs.Names.{is_name};
-
     ghost Value = { List ℕ };
 
     ghost view = { λ n. n.text };

@@ -6,7 +6,7 @@ ghost use Rattle.qc_model.specs.Rules.{Feasible};
 ghost use Rattle.qc_model.specs.OneWay.{GoesOneWay};
 ghost use Rattle.qc_model.specs.Seen.{seen, seen_schedule};
 ghost use Rattle.qc_model.specs.Motion.{IsSafe};
-ghost use Rattle.qc_model.specs.Judge.{IsJudgeable, Goes, IsDirection, IsFirstBreak};
+ghost use Rattle.qc_model.specs.Judge.{IsJudgeable, Goes, IsDirection, IsFirstBreak, rule_text};
 
 use crate::judge::Judge;
 use crate::{Direction, Instance, Pair, Schedule};
@@ -45,8 +45,6 @@ pub struct Break {
 }
 
 impl Rule {
-    ghost use Rattle.qc_model.specs.Judge.{rule_text};
-
     /// How the rule is printed.
     pub fn text(self) -> &'static [u8]
         ensures { result.now ≡ rule_text self }

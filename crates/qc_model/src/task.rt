@@ -1,6 +1,7 @@
 //! Tasks and their phases.
 
 ghost use Rattle.std.specs.Prelude.{◌≡◌};
+ghost use Rattle.qc_model.specs.Tasks.{phase_rank, phase_text, task_text};
 
 use itoa::Buffer;
 use qc_num::{Bay, Text, Tick};
@@ -19,8 +20,6 @@ pub enum Phase {
 }
 
 impl Phase {
-    ghost use Rattle.qc_model.specs.Tasks.{phase_rank, phase_text};
-
     /// Its place in the order of the work at a hatch, from 0.
     pub fn rank(self) -> u8
         ensures { result ≡ phase_rank self }
@@ -62,8 +61,6 @@ pub struct Task {
 pub type TaskText = Text<8>;
 
 impl Task {
-    ghost use Rattle.qc_model.specs.Tasks.{task_text};
-
     /// The task's name: its hatch, `-` and its phase.
     pub fn text(&self) -> TaskText
         ensures { result ≡ task_text self.now }

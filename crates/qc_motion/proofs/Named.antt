@@ -1,10 +1,9 @@
 -- The waypoints that a sweep traced to the end are those of the crane.
-use Rattle.std.proofs.Common.{◌≡◌, ℕ, zero, suc, ◌+◌, ◌-◌, ◌<◌, ◌≤◌, ℤ, ◌-ℤ◌, ◌⊎◌, inl, inr, List, length, map, refl, sym, ap, subst, ◌∙◌, arith}
+use Rattle.std.proofs.Common.{◌≡◌, ℕ, zero, suc, ◌+◌, ◌-◌, ◌<◌, ◌≤◌, ℤ, ◌-ℤ◌, ◌⊎◌, inl, inr, List, length, map, refl, sym, ap, subst, ◌∙◌, arith, AllPairs, Contains}
 use Rattle.std.proofs.lemmas.Bool.{cases_lt}
 use Rattle.std.proofs.lemmas.Int.{ints}
 use Rattle.std.proofs.lemmas.List.{get_or-map, get_or_default, length-map}
 use Rattle.std.proofs.lemmas.List.Elements.{All-from_get_or}
-use Rattle.std.specs.Prelude.{AllPairs, Contains}
 use Rattle.std.specs.declared.cmp.Ordering.{Ordering}
 use Rattle.std.specs.declared.cmp.Ordering.TheVariants.{Less, Equal, Greater}
 use Rattle.qc_model.specs.declared.direction.Direction.{Direction}

@@ -1,3 +1,4 @@
+-- inner: what holds of the fields of a track.
 use Rattle.std.specs.Prelude.{◌+◌, ◌*◌, ◌≤◌, vec_capacity}
 use Rattle.qc_motion.specs.declared.track.Track.TheInside.{Inside}
 

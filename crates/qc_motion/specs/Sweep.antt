@@ -1,5 +1,5 @@
--- How a sweep over the motion of one crane sees it: from the end of the ship from which the schedule goes up, at
--- whole ticks.
+-- inner: how a sweep over the motion of one crane sees it: from the end of the ship from which the schedule
+-- goes up, at whole ticks.
 use Rattle.std.specs.Prelude.{◌≡◌, ℕ, ◌+◌, ◌-◌, ◌<◌, ◌≤◌, ℤ, pos, ◌+ℤ◌, ◌-ℤ◌, ◌<ℤ◌, ◌≤ℤ◌, ◌⊎◌, List, length}
 use Rattle.std.specs.declared.cmp.Ordering.{Ordering}
 use Rattle.std.specs.declared.cmp.Ordering.TheVariants.{Less, Equal, Greater}

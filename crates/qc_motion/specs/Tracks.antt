@@ -1,3 +1,4 @@
+-- public: what contracts see of a track.
 use Rattle.std.specs.Prelude.{ℕ, List}
 use Rattle.qc_motion.specs.declared.track.Waypoint.{Waypoint}
 

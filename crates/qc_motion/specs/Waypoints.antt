@@ -1,4 +1,4 @@
--- The ticks at which a crane starts, stops or turns, and where it stands then.
+-- public: the ticks at which a crane starts, stops or turns, and where it stands then.
 use Rattle.std.specs.Prelude.{◌≡◌, ◌≢◌, ℕ, ◌+◌, ◌-◌, ◌*◌, ◌<◌, ◌≤◌, ℤ, pos, ◌+ℤ◌, ◌-ℤ◌, ◌*ℤ◌, ◌⊎◌, ◌↔◌, List, length, map, slice_index_or, All, AllPairs, Contains}
 use Rattle.qc_model.specs.declared.direction.Direction.{Direction}
 use Rattle.qc_model.specs.declared.schedule.Slot.{Slot}

@@ -1,12 +1,13 @@
 ghost use Rattle.std.specs.Prelude.{◌≡◌, ◌+◌, ◌-◌, ◌≤◌, ◌<◌, ◌≤ℤ◌, ℕ, length, MatchOption};
 ghost use Rattle.qc_model.specs.declared.limits.TheConstants.{MOST_END};
 ghost use Rattle.qc_model.specs.Instance.{IsOnRail, Valid, crane as crane_at};
-ghost use Rattle.qc_model.specs.Limits.{IsPlaceNear};
+ghost use Rattle.qc_model.specs.Limits.{IsPlaceNear, IsNearRail};
 ghost use Rattle.qc_model.specs.Motion.{bay_ahead, scaled};
 ghost use Rattle.qc_model.specs.Judge.{IsJudgeable, Goes};
 ghost use Rattle.qc_model.specs.Motion.{LowPlace, scaled, task_place};
 ghost use Rattle.qc_model.specs.Rules.{crane_of, start_of};
 ghost use Rattle.qc_model.specs.Seen.{seen, seen_schedule, seen_number};
+ghost use Rattle.qc_motion.specs.Sweep.{IsSound, Swept, IsAt, IsFelt, IsHighest, berth_hold, floor_place, task_hold};
 
 use crate::floor::floor_of;
 use qc_model::{Direction, Instance, Judge, Schedule, seen_number};
@@ -31,10 +32,6 @@ pub(crate) struct Sweep<'a> {
 }
 
 impl<'a> Model for Sweep<'a> {
-    ghost use Rattle.std.specs.Prelude.{◌≡◌, length};
-    ghost use Rattle.qc_model.specs.Limits.{IsNearRail};
-    ghost use Rattle.qc_motion.specs.Sweep.{IsSound, Swept};
-
     ghost Value = { Swept };
 
     ghost view = { λ s. record {
@@ -53,8 +50,6 @@ impl<'a> Model for Sweep<'a> {
 }
 
 impl<'a> Sweep<'a> {
-    ghost use Rattle.qc_motion.specs.Sweep.{IsAt, IsFelt, IsHighest, IsSound, berth_hold, floor_place, task_hold};
-
     /// A sweep of the crane with that number in the instance.
     pub(crate) fn new(
         inst: &'a Instance,

@@ -1,4 +1,6 @@
 ghost use Rattle.std.specs.Prelude.{◌≡◌, ◌+◌, ◌*◌, ◌<◌, [], ◌∷◌, ◌++◌, length, IfOk};
+ghost use Rattle.qc_motion.specs.Tracks.{TrackView};
+ghost use Rattle.qc_motion.specs.Room.{HasRoom};
 
 use qc_num::{OutOfMemory, Tick};
 use std::alloc::Global;
@@ -20,11 +22,7 @@ pub struct Track {
 }
 
 impl Model for Track {
-    ghost use Rattle.qc_motion.specs.Tracks.{TrackView};
-
     ghost Value = { TrackView };
-
-    ghost use Rattle.qc_motion.specs.Room.{HasRoom};
 
     ghost view = { λ track. record { points = track.points.items; tasks = track.tasks } };
 

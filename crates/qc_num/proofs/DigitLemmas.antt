@@ -1,5 +1,5 @@
 -- Plain decimal, and the numbers that it writes.
-use Rattle.std.proofs.Common.{◌≡◌, ℕ, ◌≤◌, ◌<◌, ◌^◌, ◌+◌, ◌-◌, ◌*◌, ◌==◌, ◌&&◌, ◌||◌, inl, inr, zero, suc, lit≤, List, [], ◌∷◌, length, take, drop, get_or, true, false, not, nat_le, cond, Option, None, Some, refl, sym, ap, subst, ◌∙◌, rules, arith}
+use Rattle.std.proofs.Common.{◌≡◌, ℕ, ◌≤◌, ◌<◌, ◌^◌, ◌+◌, ◌-◌, ◌*◌, ◌==◌, ◌&&◌, ◌||◌, inl, inr, zero, suc, lit≤, List, [], ◌∷◌, length, take, drop, get_or, true, false, not, nat_le, cond, Option, None, Some, refl, sym, ap, subst, ◌∙◌, rules, arith, decimal}
 use Rattle.std.proofs.lemmas.Bool.{and_parts, cases_Bool}
 use Rattle.std.proofs.lemmas.Bool.Decides.{nat_tests}
 use Rattle.std.proofs.lemmas.Fmt.{decimal-digits_value, decimal_digit, decimal_is_IsNumeral, digits_decimal, digits_value-decimal, first_decimal, length-decimal-le}
@@ -13,7 +13,6 @@ use Rattle.std.proofs.Math.Nat.{pow-le-pow_right}
 use Rattle.std.specs.Char.{is_ascii_digit}
 use Rattle.std.specs.Int.{IsInRange}
 use Rattle.std.specs.List.{list_all}
-use Rattle.std.specs.Prelude.{decimal}
 use Rattle.std.specs.Str.Parse.{digits_value}
 use Rattle.qc_num.specs.Digits.{is_plain, number_in}
 

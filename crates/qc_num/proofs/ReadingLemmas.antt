@@ -1,6 +1,6 @@
 -- Readings, read backwards: what a reading that came through says of its steps.
-use Rattle.std.proofs.Common.{◌≡◌, ◌+◌, ◌++◌, ◌∷◌, List, [], length, length-append, Bool, true, false, cond, refl, ap, ◌∙◌, subst, arith}
-use Rattle.std.specs.Prelude.{Result, Ok, Err, ⊤}
+use Rattle.std.proofs.Common.{◌≡◌, ◌+◌, ◌++◌, ◌∷◌, List, [], length, length-append, Bool, true, false, cond, refl, ap, ◌∙◌, subst, arith, Result, Ok, Err}
+use Rattle.std.specs.Prelude.{⊤}
 use Rattle.qc_num.specs.declared.read_error.ReadError.{ReadError}
 use Rattle.qc_num.specs.declared.read_error.ReadError.TheVariants.{Fault, OutOfMemory}
 use Rattle.qc_num.specs.Reading.{◌>>=◌, IsReading, each, require, with_fault}

@@ -1,6 +1,6 @@
 //! Short texts that are held in place.
 
-ghost use Rattle.std.specs.Prelude.{◌≡◌, ◌+◌, ◌≤◌, ◌^◌, ◌<◌, ◌∷◌, [], ◌++◌, length, decimal};
+ghost use Rattle.std.specs.Prelude.{◌≡◌, ◌+◌, ◌≤◌, ◌^◌, ◌<◌, ◌∷◌, [], ◌++◌, length, decimal, ℕ, List, take};
 ghost use Rattle.std.specs.Fmt.{signed_decimal};
 
 use itoa::Buffer;
@@ -14,8 +14,6 @@ pub struct Text<const N: usize> {
 }
 
 impl<const N: usize> Model for Text<N> {
-    ghost use Rattle.std.specs.Prelude.{ℕ, List, take, ◌≤◌};
-
     ghost Value = { List ℕ };
 
     ghost view = { λ text. take text.len text.bytes };

@@ -1,6 +1,5 @@
 -- What is told of a search follows from what it came to.
-use Rattle.std.proofs.Common.{◌≡◌, ◌≤◌, ℕ, Bool, true, false, arith, List, Option, None, Some, refl, sym, inl, inr, ap, ◌∙◌, subst}
-use Rattle.std.specs.Prelude.{IfSome, nat_le, if◌then◌else◌}
+use Rattle.std.proofs.Common.{◌≡◌, ◌≤◌, ℕ, Bool, true, false, arith, List, Option, None, Some, refl, sym, inl, inr, ap, ◌∙◌, subst, IfSome, nat_le, if◌then◌else◌}
 use Rattle.std.proofs.lemmas.Bool.{leb-true}
 use Rattle.std.proofs.lemmas.List.{length-map}
 use Rattle.qc_num.specs.declared.bound.Bound.{Bound}

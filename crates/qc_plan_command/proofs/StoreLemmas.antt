@@ -1,6 +1,5 @@
 -- What a search leaves in its files, from what the shelf's calls say.
-use Rattle.std.proofs.Common.{◌≡◌, ℕ, true, false, List, Option, None, Some, Result, Ok, Err, ◌⊎◌, ap, ◌∙◌, inl, inr, refl, subst}
-use Rattle.std.specs.Prelude.{IfSome, OnErr, OnOk, is_err}
+use Rattle.std.proofs.Common.{◌≡◌, ℕ, true, false, List, Option, None, Some, Result, Ok, Err, ◌⊎◌, ap, ◌∙◌, inl, inr, refl, subst, IfSome, OnErr, OnOk, is_err}
 use Rattle.std.specs.FinMap.{insert}
 use Rattle.std.specs.Io.KnownBytes.{append_known}
 use Rattle.qc_io.specs.Outside.{Beside, Files, View, begun, beside, finished, with_file}
@@ -48,17 +47,6 @@ left_file before created wrote after name text same made fresh whole stays (inr 
 pub as_it_was : (P : Files → Type 0) (before after : Option Files) → after ≡ before → ((held : Files) → after ≡ Some held → P held) → IfSome before P
 as_it_was P None after same by = tt
 as_it_was P (Some held) after same by = by held same
-
-pub told_file : (before after : Option Files) (name text : List ℕ) → after ≡ with_file before name text
-    → IfSome before (λ held. after ≡ Some (insert held name text))
-told_file None after name text e = tt
-told_file (Some held) after name text e = e
-
--- a file that wasn't finished is as it was, or whole
-pub told_either : (before after : Option Files) (name text : List ℕ) → (after ≡ before) ⊎ (after ≡ with_file before name text)
-    → IfSome before (λ held. (after ≡ Some held) ⊎ (after ≡ Some (insert held name text)))
-told_either None after name text e = tt
-told_either (Some held) after name text e = e
 
 -- ---- the tree's file
 

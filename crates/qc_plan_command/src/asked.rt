@@ -1,5 +1,9 @@
 //! What a plan is asked for with.
 
+ghost use Rattle.std.specs.Prelude.{◌≡◌};
+ghost use Rattle.qc_run.specs.Inputs.{names_of};
+ghost use Rattle.qc_plan_command.specs.Asked.{planning};
+
 use qc_run::Inputs;
 
 /// The names of a plan's files, and its limit of branchings.
@@ -18,10 +22,6 @@ pub struct PlanAsked<'a> {
 }
 
 impl<'a> PlanAsked<'a> {
-    ghost use Rattle.std.specs.Prelude.{◌≡◌};
-    ghost use Rattle.qc_run.specs.Inputs.{names_of};
-    ghost use Rattle.qc_plan_command.specs.Asked.{planning};
-
     /// The files that are read.
     pub(crate) fn inputs(&self) -> Inputs<'a>
         ensures { names_of result ≡ (planning self.now).inputs }

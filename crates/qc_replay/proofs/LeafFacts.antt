@@ -1,16 +1,9 @@
 -- What chains and rings come to, step by step.
-use Rattle.std.proofs.Common.{◌≡◌, ℕ, ◌+◌, List, [], ◌∷◌, ◌++◌, Option, None, Some, false, refl, sym, ap, ◌∙◌, arith}
+use Rattle.std.proofs.Common.{◌≡◌, ℕ, ◌+◌, List, [], ◌∷◌, ◌++◌, Option, None, Some, false, refl, sym, ap, ◌∙◌, arith, option_and_then, option_map, is_some}
 use Rattle.std.proofs.lemmas.List.{append-nil}
-use Rattle.std.specs.Prelude.{option_and_then, option_map, is_some}
 use Rattle.qc_model.specs.declared.decision.Decision.{Decision}
 use Rattle.qc_model.specs.Instance.{InstanceView, ticks_of}
 use Rattle.qc_model.specs.Leaves.{Version, chain_end, chain_ticks, head_in, is_ring}
-
--- a step back to the first task closes a ring
-closes : (ticks end : ℕ) (step : Option ℕ)
-    → is_some (option_map (λ rest. ticks + rest) (option_and_then (λ n. option_map (λ rest. n + rest) (Some end)) step)) ≡ is_some step
-closes ticks end None = refl
-closes ticks end (Some n) = refl
 
 module _ (inst : InstanceView) (ds : List Decision) (first : ℕ) (tasks : List ℕ) where
   -- nothing leads along the tasks, whatever follows them
@@ -33,6 +26,3 @@ module _ (inst : InstanceView) (ds : List Decision) (first : ℕ) (tasks : List 
   end_is version last ticks end way sum =
       ap (option_map (λ ticks. head_in version inst ds first + ticks)) (ap (chain_ticks inst ds first) (sym (append-nil tasks)) ∙ way [])
       ∙ ap Some (omega (arith, sum))
-
-  pub no_ring : NoWay → is_ring inst ds (first ∷ tasks) ≡ false
-  no_ring none = ap is_some (none (first ∷ []))

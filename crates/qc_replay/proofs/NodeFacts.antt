@@ -1,7 +1,6 @@
 -- What the lines of nodes come to.
-use Rattle.std.proofs.Common.{◌≡◌, ◌↔◌, ℕ, ◌==◌, ◌+◌, ◌-◌, ◌≤◌, inl, inr, Bool, true, false, not, ◌&&◌, nat_lt, List, [], ◌∷◌, ◌++◌, length, map, drop, Option, None, Some, is_some, Result, Ok, Err, refl, sym, ap, subst, ◌∙◌, append_assoc, arith}
+use Rattle.std.proofs.Common.{◌≡◌, ◌↔◌, ℕ, ◌==◌, ◌+◌, ◌-◌, ◌≤◌, inl, inr, Bool, true, false, not, ◌&&◌, nat_lt, List, [], ◌∷◌, ◌++◌, length, map, drop, Option, None, Some, is_some, Result, Ok, Err, refl, sym, ap, subst, ◌∙◌, append_assoc, arith, IsTrue, eqb, is_none, nat_le, ok_or, option_map, if◌then◌else◌}
 use Rattle.std.proofs.lemmas.Simd.{map-map}
-use Rattle.std.specs.Prelude.{IsTrue, eqb, is_none, nat_le, ok_or, option_map, if◌then◌else◌}
 use Rattle.std.specs.List.{list_all}
 use Rattle.std.proofs.lemmas.Bool.{and_from, and_parts, cases_Bool, eq-eqb, false_from_ne_true, le-leb, leb-true, lt-ltb, ltb-true, or_from, true≢false}
 use Rattle.std.proofs.lemmas.List.Folds.{list_any_at}
@@ -159,13 +158,6 @@ module _ (version : TreeVersion) (before after : Standing) (live : before.live �
         ap (λ b. require b kind.Branchings >>= λ _. Ok (record here { coming = map (node way) made ++ drop 1 here.coming; branched = tally.branched + 1 })) one.0
         ∙ ap (λ cs. Ok (record here { coming = cs; branched = tally.branched + 1 })) (with_nodes made is)
         ∙ ap (λ t. Ok (within way version after more t)) one.1
-
-    not_branched : with_branching tally ≡ Err kind.Branchings → (children : List Coming)
-        → branched_to here children ≡ Err kind.Branchings
-    not_branched full children = elim (cases_Bool (nat_lt tally.branched most_branchings)) [
-      | inl low ↦ absurd (cc (full, low))
-      | inr high ↦ ap (λ b. require b kind.Branchings >>= λ _. Ok (record here { coming = children ++ drop 1 here.coming; branched = tally.branched + 1 })) high
-    ]
 
     -- a leaf in its place
     came_is : (now : Tally) → nodes after ≡ drop 1 (nodes before)

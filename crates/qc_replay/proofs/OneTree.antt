@@ -2,6 +2,7 @@
 use Rattle.std.proofs.Common.{◌≡◌, ℕ, ◌+◌, ◌-◌, ◌==◌, List, [], ◌∷◌, ◌++◌, Option, Some, refl, ap, ap₂, sym, subst, ◌∙◌, append_assoc, arith}
 use Rattle.std.specs.List.{slice_split}
 use Rattle.std.proofs.lemmas.List.{append_cancel_left}
+use Rattle.std.proofs.lemmas.Option.{same_Some}
 use Rattle.qc_model.specs.declared.decision.Decision.{Decision}
 use Rattle.qc_model.specs.declared.direction.Direction.TheVariants as way
 use Rattle.qc_model.specs.Instance.{InstanceView, Valid}
@@ -15,11 +16,9 @@ use Rattle.qc_tree.specs.Lines.{IsTextOf, line_text}
 use Rattle.qc_tree.specs.Trees.{IsTree, Leads, Node, Sign, Tree, children, leaf, on_pair, on_task, part_text, sign_text, title, tree_branchings, tree_text, tree_value, whole_line}
 use Rattle.qc_tree.proofs.LineInLemmas.{line_in_of, split_line}
 use Rattle.qc_replay.specs.Walk.{from_file}
+use Rattle.qc_replay.proofs.ReadLemmas.{texts_after}
 use Rattle.qc_replay.proofs.SignLemmas.{file_back, line_of, list_of, spelled, text_of}
-use Rattle.qc_replay.proofs.TreeTextLemmas.{AllFit, due_fit, regroup}
-
-some_same : {A : Type 0} {a b : A} → ◌≡◌ {A = Option A} (Some a) (Some b) → a ≡ b
-some_same e = cc
+use Rattle.qc_replay.proofs.TreeTextLemmas.{AllFit, due_fit}
 
 abbrev first : List (List ℕ) → List ℕ
 first [] = []
@@ -33,7 +32,7 @@ same_line l m xs ys r s p q e =
     let text : line_text l xs ≡ line_text m ys =
     ap first (sym (split_line l xs r p.in_range) ∙ ap (slice_split (λ b. b == 10)) e ∙ split_line m ys s q.in_range) in
     let one : ◌≡◌ {A = Listed} (record { line = l; list = xs }) (record { line = m; list = ys }) =
-    some_same (sym (line_in_of (line_text l xs) l xs p) ∙ ap line_in text ∙ line_in_of (line_text m ys) m ys q) in
+    same_Some _ _ (sym (line_in_of (line_text l xs) l xs p) ∙ ap line_in text ∙ line_in_of (line_text m ys) m ys q) in
     let front : whole_line m ys ≡ whole_line l xs = ap (λ (t : List ℕ). t ++ 10 ∷ []) (sym text) in
     (one, append_cancel_left (whole_line l xs) r s (e ∙ ap (λ (t : List ℕ). t ++ s) front))
 
@@ -109,7 +108,7 @@ behind_title inst t =
 
 text_is : (inst : InstanceView) (t : Tree) → tree_text inst t ≡ whole_line (title t.version) [] ++ behind_title inst t
 text_is inst t =
-    sym (regroup (whole_line (title t.version) []) (whole_line line.Up []) (part_text t.up) (whole_line line.Down [])
+    sym (texts_after (whole_line (title t.version) []) (whole_line line.Up []) (part_text t.up) (whole_line line.Down [])
     (part_text t.down) (whole_line (line.End (tree_branchings t) (tree_value inst t)) []))
 
 -- trees of an instance with one text are the same
@@ -133,4 +132,4 @@ same_tree inst valid t u is other e =
 -- a file is the text of one tree at most
 pub one_tree : (inst : InstanceView) → Valid inst → (file : Option (List ℕ)) (t u : Tree) → IsTree inst t → IsTree inst u
     → file ≡ Some (tree_text inst t) → file ≡ Some (tree_text inst u) → t ≡ u
-one_tree inst valid file t u is other e f = same_tree inst valid t u is other (some_same (sym e ∙ f))
+one_tree inst valid file t u is other e f = same_tree inst valid t u is other (same_Some _ _ (sym e ∙ f))

@@ -1,8 +1,7 @@
 -- Lines that are read without a fault are those of a tree.
-use Rattle.std.proofs.Common.{◌≡◌, ℕ, ◌+◌, ◌<◌, ◌≤◌, Bool, true, false, cond, ◌==◌, ◌&&◌, List, [], ◌∷◌, ◌++◌, map, Option, None, Some, IfSome, refl, ap, ap₂, sym, subst, ◌∙◌, append_assoc, arith}
+use Rattle.std.proofs.Common.{◌≡◌, ℕ, ◌+◌, ◌<◌, ◌≤◌, Bool, true, false, cond, ◌==◌, ◌&&◌, List, [], ◌∷◌, ◌++◌, map, Option, None, Some, IfSome, refl, ap, ap₂, sym, subst, ◌∙◌, append_assoc, arith, Ok}
 use Rattle.std.proofs.lemmas.Bool.{and_parts, eqb-true, false≢true}
 use Rattle.std.proofs.lemmas.List.{append-nil, map-append}
-use Rattle.std.specs.Prelude.{Ok}
 use Rattle.qc_num.specs.declared.bound.Bound.{Bound}
 use Rattle.qc_num.specs.declared.bound.Bound.TheVariants.{Least, Never}
 use Rattle.qc_num.specs.Bounds.{IsAtMost, is_bound, lesser}
@@ -251,7 +250,7 @@ none_counted : 0 ≤ most_branchings
 none_counted = omega arith
 
 -- texts, one after the other
-texts_after : (t a p d q e : List ℕ) → t ++ (a ++ (p ++ (d ++ (q ++ (e ++ []))))) ≡ t ++ a ++ p ++ d ++ q ++ e
+pub texts_after : (t a p d q e : List ℕ) → t ++ (a ++ (p ++ (d ++ (q ++ (e ++ []))))) ≡ t ++ a ++ p ++ d ++ q ++ e
 texts_after t a p d q e = simp (append_assoc, append-nil)
 
 -- the lines are those of this tree of the instance

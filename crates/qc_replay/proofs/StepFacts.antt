@@ -1,6 +1,5 @@
 -- Lines, taken from a file one after the other.
-use Rattle.std.proofs.Common.{◌≡◌, ℕ, ◌+◌, true, false, List, [], ◌∷◌, ◌++◌, length, Option, None, Some, IfSome, Result, Ok, Err, refl, sym, ap, ◌∙◌, append_assoc}
-use Rattle.std.specs.Prelude.{IsSomeAnd}
+use Rattle.std.proofs.Common.{◌≡◌, ℕ, ◌+◌, true, false, List, [], ◌∷◌, ◌++◌, length, Option, None, Some, IfSome, Result, Ok, Err, refl, sym, ap, ◌∙◌, append_assoc, IsSomeAnd}
 use Rattle.std.proofs.lemmas.Bool.{lt-ltb, true≢false}
 use Rattle.std.proofs.lemmas.List.{append-nil}
 use Rattle.std.proofs.lemmas.Grind.{flat_map-append}
@@ -88,15 +87,6 @@ over_now r over = by_coming r.coming over
     by_coming : (coming : List Coming) → none_due coming ≡ true → coming ≡ []
     by_coming [] e = refl
     by_coming (c ∷ more) e = absurd (cc e)
-
--- nothing is read yet
-pub leads_none : (inst : InstanceView) (n : ℕ) (r : Reading) (left : Option (List ℕ)) → Leads inst n r left n r left
-leads_none inst n r left = record { lines = []; reading = refl; taken = at_bytes left }
-  where
-    at_bytes : (o : Option (List ℕ))
-        → IfSome o (λ x. IsSomeAnd o (λ y. (x ≡ y) × (texts_from inst n r (texts x) ≡ texts_from inst n r (texts y))))
-    at_bytes None = tt
-    at_bytes (Some x) = (refl, refl)
 
 -- ---- some lines, one after the other
 

@@ -1,6 +1,5 @@
 -- The text of every tree is read, and shows the tree's value.
-use Rattle.std.proofs.Common.{◌≡◌, ℕ, zero, suc, ◌+◌, ◌<◌, ◌≤◌, ◌^◌, true, ◌==◌, inl, inr, List, [], ◌∷◌, ◌++◌, length, map, Option, None, Some, IfSome, refl, ap, ap₂, sym, subst, ◌∙◌, arith}
-use Rattle.std.specs.Prelude.{Ok, decimal, unwrap_or}
+use Rattle.std.proofs.Common.{◌≡◌, ℕ, zero, suc, ◌+◌, ◌<◌, ◌≤◌, ◌^◌, true, ◌==◌, inl, inr, List, [], ◌∷◌, ◌++◌, length, map, Option, None, Some, IfSome, refl, ap, ap₂, sym, subst, ◌∙◌, arith, Ok, decimal, unwrap_or}
 use Rattle.std.specs.List.{range_with_len, slice_split}
 use Rattle.std.proofs.lemmas.Bool.{eq-eqb, lt-ltb}
 use Rattle.std.proofs.lemmas.Fmt.{length-decimal-le}
@@ -33,7 +32,7 @@ use Rattle.qc_replay.specs.declared.fault.Replayed.{Replayed}
 use Rattle.qc_replay.specs.Walk.{Coming, Reading, at, at_text, down, end, most_bytes, next_of, node, numbered, start, texts_from, tree_in, up}
 use Rattle.qc_replay.specs.Walk as walk
 use Rattle.qc_replay.proofs.LeafBounds.{leaf_few}
-use Rattle.qc_replay.proofs.ReadLemmas.{branchings_more, children_due, reading}
+use Rattle.qc_replay.proofs.ReadLemmas.{branchings_more, children_due, reading, texts_after}
 use Rattle.qc_replay.proofs.SignLemmas.{accepts, behind_line, counts, line_of, list_of, spelled, text_of}
 
 -- ---- bounds
@@ -181,9 +180,6 @@ end_short b x small h =
     let digits = length-decimal-le 6 b (omega arith) small (omega (arith, small)) in
     omega (arith, digits, bound_short x h, length-append (decimal b) (bound_field x))
 
-pub regroup : (t u a d b e : List ℕ) → t ++ (u ++ (a ++ (d ++ (b ++ (e ++ []))))) ≡ t ++ u ++ a ++ d ++ b ++ e
-regroup t u a d b e = simp (append_assoc, append-nil)
-
 -- ---- a tree
 
 module _ (inst : InstanceView) (valid : Valid inst) (tree : Tree) (is_tree : IsTree inst tree) where
@@ -258,7 +254,7 @@ module _ (inst : InstanceView) (valid : Valid inst) (tree : Tree) (is_tree : IsT
   all_read : goes_on start (tree_text inst tree)
   all_read =
       subst (goes_on start)
-      (regroup (whole_line (title v) []) (whole_line line.Up []) (part_text tree.up) (whole_line line.Down [])
+      (texts_after (whole_line (title v) []) (whole_line line.Up []) (part_text tree.up) (whole_line line.Down [])
       (part_text tree.down) last)
       (titled v from_up up_on)
 

@@ -1,6 +1,5 @@
 -- A line that is taken at each stage.
-use Rattle.std.proofs.Common.{◌≡◌, ℕ, true, false, List, [], ◌∷◌, ◌++◌, map, Result, Err, refl, ap, sym, ◌∙◌}
-use Rattle.std.specs.Prelude.{if◌then◌else◌}
+use Rattle.std.proofs.Common.{◌≡◌, ℕ, true, false, List, [], ◌∷◌, ◌++◌, map, Result, Err, refl, ap, sym, ◌∙◌, if◌then◌else◌}
 use Rattle.qc_num.specs.Reading.{◌>>=◌}
 use Rattle.qc_dist.specs.Children.{behind}
 use Rattle.qc_model.specs.declared.direction.Direction.TheVariants as way

@@ -7,7 +7,7 @@ ghost use Rattle.qc_model.specs.Instance.{IsApart, Valid};
 ghost use Rattle.qc_model.specs.Leaves.{crane_numbers};
 ghost use Rattle.qc_model.specs.Nodes.{IsSettled, assigned};
 ghost use Rattle.qc_dist.specs.Children.{behind};
-ghost use Rattle.qc_replay.specs.Part.{WereOpen, nodes};
+ghost use Rattle.qc_replay.specs.Part.{WereOpen, nodes, Standing, standing_of, IsKept};
 
 use qc_dist::{Decisions, next_child};
 use qc_model::{Decision, Instance};
@@ -25,8 +25,6 @@ pub(crate) struct Descent {
 }
 
 impl Model for Descent {
-    ghost use Rattle.qc_replay.specs.Part.{Standing, standing_of, IsKept};
-
     ghost Value = { Standing };
 
     ghost view = { standing_of };

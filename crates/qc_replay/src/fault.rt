@@ -1,5 +1,6 @@
 //! Faults, and what a tree shows.
 ghost use Rattle.std.specs.Prelude.{◌≡◌, ◌≤◌, length};
+ghost use Rattle.qc_replay.specs.Faults.{kind_text};
 
 use qc_num::{Bound, OutOfMemory};
 use std::alloc::AllocError;
@@ -40,8 +41,6 @@ pub enum TreeKind {
 }
 
 impl TreeKind {
-    ghost use Rattle.qc_replay.specs.Faults.{kind_text};
-
     /// The kind as reports print it.
     pub fn text(self) -> &'static str
         ensures text { result.now ≡ kind_text self }

@@ -5,7 +5,7 @@ ghost use Rattle.qc_model.specs.Leaves.{with_berths};
 ghost use Rattle.qc_tree.specs.Lines.{IsLine};
 ghost use Rattle.qc_replay.specs.Part.{version_of};
 ghost use Rattle.qc_replay.specs.Read.{with_line};
-ghost use Rattle.qc_replay.specs.Stages.{is_over, leading, word_of};
+ghost use Rattle.qc_replay.specs.Stages.{is_over, leading, word_of, WalkView, IsKeptWalk, walk_of};
 ghost use Rattle.qc_replay.specs.Walk.{Reading, at, came, end, start, title, replayed};
 
 use crate::descent::Descent;
@@ -44,8 +44,6 @@ pub(crate) struct Walk {
 }
 
 impl Model for Walk {
-    ghost use Rattle.qc_replay.specs.Stages.{WalkView, IsKeptWalk, walk_of};
-
     ghost Value = { WalkView };
 
     ghost view = { walk_of };

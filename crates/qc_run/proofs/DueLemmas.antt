@@ -1,6 +1,5 @@
 -- What stopped is due where no call failed.
-use Rattle.std.proofs.Common.{◌≡◌, ℕ, List, Option, None, Some, Result, Err, refl, sym, ap, inl, inr, ◌∙◌, ◌⊎◌, subst, subst₂}
-use Rattle.std.specs.Prelude.{IfSome, IsSomeAnd, option_and_then}
+use Rattle.std.proofs.Common.{◌≡◌, ℕ, List, Option, None, Some, Result, Err, refl, sym, ap, inl, inr, ◌∙◌, ◌⊎◌, subst, subst₂, IfSome, IsSomeAnd, option_and_then}
 use Rattle.std.specs.FinMap.{get}
 use Rattle.qc_io.specs.Outside.{Files, View, IsMissing, Rose}
 use Rattle.qc_run.specs.declared.inputs.Input.{Input}

@@ -1,6 +1,6 @@
 -- What goes out of a text and the crane lines behind it, from what the calls say that write both.
-use Rattle.std.proofs.Common.{List, [], Result, Ok, Err, ℕ, refl, arith}
-use Rattle.std.specs.Prelude.{⊤, IsErr}
+use Rattle.std.proofs.Common.{List, [], Result, Ok, Err, ℕ, refl, arith, IsErr}
+use Rattle.std.specs.Prelude.{⊤}
 use Rattle.qc_gantt.specs.TracksText.{WritesTracks, tracks_text}
 use Rattle.qc_io.specs.declared.writing.WriteFault.{WriteFault}
 use Rattle.qc_io.specs.Outside.{View}

@@ -1,6 +1,5 @@
 -- Steps that read, one after the other: what is due of both.
-use Rattle.std.proofs.Common.{◌≡◌, ℕ, List, Option, None, Some, Result, Ok, Err, refl, sym, ap, subst, ◌∙◌}
-use Rattle.std.specs.Prelude.{IfErr, IfSome, length, nat_le, ok_or, option_and_then}
+use Rattle.std.proofs.Common.{◌≡◌, ℕ, List, Option, None, Some, Result, Ok, Err, refl, sym, ap, subst, ◌∙◌, IfErr, IfSome, length, nat_le, ok_or, option_and_then}
 use Rattle.std.proofs.lemmas.Bool.{cond_both}
 use Rattle.std.specs.FinMap.{get}
 use Rattle.qc_num.specs.Reading.{◌>>=◌, with_fault}

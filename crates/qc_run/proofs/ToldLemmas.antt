@@ -1,6 +1,5 @@
 -- What follows from a run's status, whatever its command is.
-use Rattle.std.proofs.Common.{◌≡◌, ◌≢◌, ◌⊎◌, Some, Result, Ok, Err, refl, sym, subst, inl, inr, ◌∙◌}
-use Rattle.std.specs.Prelude.{codes}
+use Rattle.std.proofs.Common.{◌≡◌, ◌≢◌, ◌⊎◌, Some, Result, Ok, Err, refl, sym, subst, inl, inr, ◌∙◌, codes}
 use Rattle.qc_io.specs.Outside.{Files, Rose, View}
 use Rattle.qc_run.specs.declared.refusal.Refusal.{Refusal}
 use Rattle.qc_run.specs.declared.refusal.Refusal.TheVariants as refusal

@@ -1,4 +1,4 @@
--- inner: what a call says that writes a text and the motion of every crane behind it.
+-- public: what a call says that writes a text and the motion of every crane behind it.
 use Rattle.std.specs.Prelude.{◌≡◌, ℕ, List, ◌++◌, length, Result, OnOk, ⊤}
 use Rattle.qc_gantt.specs.TracksText.{AreTracks, tracks_text}
 use Rattle.qc_io.specs.declared.writing.WriteFault.{WriteFault}

@@ -64,20 +64,21 @@ abbrev pub bad_ship_text : ShipKind → ShipFault → List ℕ
 bad_ship_text ship.NotToml fault = codes "BadShip NotToml\n"
 bad_ship_text kind fault = place_line kind fault
 
+-- the line of a fault: what is bad, how, and the number of its record or line
+abbrev pub fault_text : List ℕ → List ℕ → ℕ → List ℕ
+fault_text title kind number = title ++ kind ++ codes " " ++ decimal number ++ codes "\n"
+
 -- the line of a fault in the stowage list with its record
 abbrev pub bad_stow_text : StowFault → List ℕ
-bad_stow_text fault =
-    codes "BadStow " ++ stow_text fault.kind ++ codes " " ++ decimal fault.number ++ codes "\n"
+bad_stow_text fault = fault_text (codes "BadStow ") (stow_text fault.kind) fault.number
 
 -- the line of a fault in the plan's file with its record
 abbrev pub bad_plan_text : PlanFault → List ℕ
-bad_plan_text fault =
-    codes "BadPlan " ++ plan_kind_text fault.kind ++ codes " " ++ decimal fault.number ++ codes "\n"
+bad_plan_text fault = fault_text (codes "BadPlan ") (plan_kind_text fault.kind) fault.number
 
 -- the line of a fault in the tree's file with its line there
 abbrev pub bad_tree_text : TreeFault → List ℕ
-bad_tree_text fault =
-    codes "BadTree " ++ tree_text fault.kind ++ codes " " ++ decimal fault.line ++ codes "\n"
+bad_tree_text fault = fault_text (codes "BadTree ") (tree_text fault.kind) fault.line
 
 abbrev pub direction_text : Direction → List ℕ
 direction_text Up = codes "up"

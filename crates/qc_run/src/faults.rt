@@ -1,6 +1,6 @@
 //! The lines of faults in a ship file, in a stowage list, in a plan's file and in a tree's file.
-ghost use Rattle.std.specs.Prelude.{◌≡◌};
-ghost use Rattle.qc_run.specs.Texts.{bad_ship_text, place_line, bad_plan_text, bad_stow_text, bad_tree_text};
+ghost use Rattle.std.specs.Prelude.{◌≡◌, ◌≤◌, length};
+ghost use Rattle.qc_run.specs.Texts.{bad_ship_text, fault_text, place_line, bad_plan_text, bad_stow_text, bad_tree_text};
 
 use qc_gantt::PlanFault;
 use qc_num::Text;
@@ -32,38 +32,37 @@ pub(crate) fn ship_fault_line(fault: ShipFault) -> Text<192>
     }
 }
 
+/// The line of a fault with its place: what is bad, how, and the number of its record or line.
+fn fault_line(title: &[u8], kind: &str, number: u32) -> Text<192>
+    requires title { length title.now ≤ 8 }
+    requires kind { length kind.now ≤ 14 }
+    ensures { result ≡ fault_text title.now kind.now number }
+{
+    let mut line = Text::of(title);
+    line.push(kind.as_bytes());
+    line.push(b" ");
+    line.push_number(u64::from(number));
+    line.push(b"\n");
+    line
+}
+
 /// The line of a fault in the stowage list.
 pub(crate) fn stow_fault_line(fault: StowFault) -> Text<192>
     ensures { result ≡ bad_stow_text fault }
 {
-    let mut line = Text::of(b"BadStow ");
-    line.push(fault.kind.text().as_bytes());
-    line.push(b" ");
-    line.push_number(u64::from(fault.number));
-    line.push(b"\n");
-    line
+    fault_line(b"BadStow ", fault.kind.text(), fault.number)
 }
 
 /// The line of a fault in the plan's file.
 pub(crate) fn plan_fault_line(fault: PlanFault) -> Text<192>
     ensures { result ≡ bad_plan_text fault }
 {
-    let mut line = Text::of(b"BadPlan ");
-    line.push(fault.kind.text().as_bytes());
-    line.push(b" ");
-    line.push_number(u64::from(fault.number));
-    line.push(b"\n");
-    line
+    fault_line(b"BadPlan ", fault.kind.text(), fault.number)
 }
 
 /// The line of a fault in a tree's file.
 pub(crate) fn tree_fault_line(fault: TreeFault) -> Text<192>
     ensures { result ≡ bad_tree_text fault }
 {
-    let mut line = Text::of(b"BadTree ");
-    line.push(fault.kind.text().as_bytes());
-    line.push(b" ");
-    line.push_number(u64::from(fault.line));
-    line.push(b"\n");
-    line
+    fault_line(b"BadTree ", fault.kind.text(), fault.line)
 }

@@ -34,7 +34,6 @@ pub enum Stop {
 }
 
 impl From<OutOfMemory> for Stop {
-    ghost use Rattle.std.specs.Prelude.{◌≡◌};
     ghost use Rattle.qc_run.specs.declared.refusal.Stop.TheVariants as stop;
 
     ghost from_gives = { λ _ error. error ≡ stop.OutOfMemory };

@@ -1,5 +1,6 @@
 //! How a run ended.
 ghost use Rattle.std.specs.Prelude.{◌≡◌};
+ghost use Rattle.qc_run.specs.Texts.{status_code};
 
 /// How a run ended. Each status has a report, and `code` gives the exit status.
 #[derive(Clone, Copy, Debug, PartialEq, Eq)]
@@ -34,8 +35,6 @@ pub enum Status {
 }
 
 impl Status {
-    ghost use Rattle.qc_run.specs.Texts.{status_code};
-
     /// The exit status: 0 where the run came to what was asked for.
     pub fn code(&self) -> u8
         ensures { result ≡ status_code self.now }

@@ -1,9 +1,8 @@
 -- No tree has more branchings than what is left to decide allows.
-use Rattle.std.proofs.Common.{◌≡◌, ℕ, suc, ◌+◌, ◌-◌, ◌*◌, ◌^◌, ◌<◌, ◌≤◌, cond, max, List, [], ◌∷◌, ◌++◌, length, map, inl, inr, ap, ◌∙◌, arith, mul-le-mul_left}
+use Rattle.std.proofs.Common.{◌≡◌, ℕ, suc, ◌+◌, ◌-◌, ◌*◌, ◌^◌, ◌<◌, ◌≤◌, cond, max, List, [], ◌∷◌, ◌++◌, length, map, inl, inr, ap, ◌∙◌, arith, mul-le-mul_left, sum_by}
 use Rattle.std.proofs.Math.Nat.{mul_comm, one-le-pow, pow-le-pow_right, pow-suc, suc-mul}
 use Rattle.std.proofs.lemmas.List.FromFn.{length-range_with_len}
 use Rattle.std.proofs.lemmas.List.Sums.{sum_by-append, sum_by-cons}
-use Rattle.std.specs.Prelude.{sum_by}
 use Rattle.qc_model.proofs.NodeLemmas.{unsettled_unordered}
 use Rattle.qc_dist.proofs.Room.{assigned_less, counted, ordered_less, unassigned, unordered}
 use Rattle.qc_model.specs.declared.decision.Decision.{Decision}

@@ -1,7 +1,6 @@
 -- What a schedule decides asks for no less than a complete node that it is of.
-use Rattle.std.proofs.Common.{◌≡◌, ℕ, zero, suc, ◌+◌, ◌<◌, ◌≤◌, ◌⊎◌, inl, inr, true, false, eqb, ◌&&◌, List, [], ◌∷◌, ◌++◌, length, map, Contains, Option, None, Some, IfSome, IsSome, refl, ap, ap₂, sym, subst, subst₂, ◌∙◌, arith}
+use Rattle.std.proofs.Common.{◌≡◌, ℕ, zero, suc, ◌+◌, ◌<◌, ◌≤◌, ◌⊎◌, inl, inr, true, false, eqb, ◌&&◌, List, [], ◌∷◌, ◌++◌, length, map, Contains, Option, None, Some, IfSome, IsSome, refl, ap, ap₂, sym, subst, subst₂, ◌∙◌, arith, nat_le, slice_index, slice_index_or}
 use Rattle.std.proofs.lemmas.Bool.{and_from, and_parts, cond-true, cond_both, eq-eqb, eqb-true, false≢true, le-leb, leb-true, or_cases, or_left, or_right}
-use Rattle.std.specs.Prelude.{nat_le, slice_index, slice_index_or}
 use Rattle.std.specs.List.{range_with_len}
 use Rattle.qc_model.specs.declared.decision.Decision.{Decision}
 use Rattle.qc_model.specs.declared.decision.Decision.TheVariants.{Assign, Order}
@@ -14,6 +13,7 @@ use Rattle.qc_model.specs.OneWay.{GoesUp}
 use Rattle.qc_model.specs.Rules.{IsClear, crane_of, end_of, start_of, starts}
 use Rattle.qc_model.proofs.CompleteNodes.{agrees_with, goes_with, greater_first, greater_second, starts_with}
 use Rattle.qc_model.proofs.NodeLemmas.{IsStep, assigned_is, greater_keeps, if_some, meets_of, ordered_is}
+use Rattle.qc_dist.proofs.Assigned.{ordered_here}
 use Rattle.qc_search.specs.Run.{decided_by, order_in}
 
 some_is : (o : Option ℕ) (k : ℕ) → IsSome o → IfSome o (λ v. k ≡ v) → o ≡ Some k
@@ -24,10 +24,6 @@ some_is (Some v) k some is = ap Some (sym is)
 ordered_more : (d : Decision) (ds : List Decision) (i j : ℕ) → is_ordered ds i j ≡ true → is_ordered (d ∷ ds) i j ≡ true
 ordered_more (Assign h k) ds i j t = t
 ordered_more (Order h k) ds i j t = or_right (eqb h i && eqb k j) (is_ordered ds i j) t
-
-ordered_here : (ds : List Decision) (i j : ℕ) → is_ordered (Order i j ∷ ds) i j ≡ true
-ordered_here ds i j =
-    or_left (eqb i i && eqb j j) (is_ordered ds i j) (and_from (eqb i i) (eqb j j) (eq-eqb i i refl) (eq-eqb j j refl))
 
 module _ (inst : InstanceView) (sched : List Slot) where
   abbrev on_crane : ℕ → Decision

@@ -1,10 +1,10 @@
 -- Nodes that are written one after another, and where their lines are cut.
-use Rattle.std.proofs.Common.{◌≡◌, ℕ, ◌≤◌, List, [], ◌∷◌, ◌++◌, map, Option, None, Some, Result, Ok, Err, refl, ap, sym, subst, ◌∙◌, append_assoc, arith}
+use Rattle.std.proofs.Common.{◌≡◌, ℕ, ◌≤◌, List, [], ◌∷◌, ◌++◌, map, Option, None, Some, Result, Ok, Err, refl, ap, sym, subst, ◌∙◌, append_assoc, arith, IsErr, OnOk}
 use Rattle.std.proofs.lemmas.Bool.{false≢true}
 use Rattle.std.proofs.lemmas.List.{append-nil, map-append}
 use Rattle.std.proofs.lemmas.Grind.{flat_map-append}
 use Rattle.std.specs.Io.KnownBytes.{append_known}
-use Rattle.std.specs.Prelude.{⊤, IsErr, OnOk}
+use Rattle.std.specs.Prelude.{⊤}
 use Rattle.qc_io.specs.declared.writing.WriteFault.{WriteFault}
 use Rattle.qc_io.specs.Outside.{View}
 use Rattle.qc_io.specs.Writes.{Writes}

@@ -1,8 +1,7 @@
 -- A tree whose nodes are all earned is a run, and what is told of it.
-use Rattle.std.proofs.Common.{◌≡◌, ℕ, ◌<◌, ◌⊎◌, inl, inr, All, Bool, cond, List, length, ap, sym, subst, ◌∙◌, arith}
+use Rattle.std.proofs.Common.{◌≡◌, ℕ, ◌<◌, ◌⊎◌, inl, inr, All, Bool, cond, List, length, ap, sym, subst, ◌∙◌, arith, MatchOption, Ok}
 use Rattle.std.proofs.Math.Nat.{eq-or-lt_of_le}
 use Rattle.std.proofs.lemmas.Bool.{le-leb}
-use Rattle.std.specs.Prelude.{MatchOption, Ok}
 use Rattle.qc_io.specs.Outside.{View}
 use Rattle.qc_num.specs.declared.bound.Bound.{Bound}
 use Rattle.qc_num.specs.declared.bound.Bound.TheVariants.{Least, Never}

@@ -1,7 +1,6 @@
 -- The best schedule as it is answered: it can be judged, and is tight.
-use Rattle.std.proofs.Common.{◌≡◌, ℕ, ◌-◌, ◌<◌, ◌≤◌, All, List, length, get_or, map, Option, None, Some, refl, ap, sym, subst, ◌∙◌, ext_get_or, arith}
+use Rattle.std.proofs.Common.{◌≡◌, ℕ, ◌-◌, ◌<◌, ◌≤◌, All, List, length, get_or, map, Option, None, Some, refl, ap, sym, subst, ◌∙◌, ext_get_or, arith, IfSome, MatchOption}
 use Rattle.std.proofs.lemmas.List.{get_or-map, get_or_default, length-map}
-use Rattle.std.specs.Prelude.{IfSome, MatchOption}
 use Rattle.qc_num.specs.declared.bound.Bound.{Bound}
 use Rattle.qc_num.specs.declared.bound.Bound.TheVariants.{Least, Never}
 use Rattle.qc_model.specs.declared.direction.Direction.{Direction}

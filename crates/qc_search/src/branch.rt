@@ -1,4 +1,7 @@
 //! What a search branches on.
+ghost use Rattle.std.specs.Prelude.{◌≡◌};
+ghost use Rattle.qc_search.specs.Walk.{first_of};
+
 use qc_model::Decision;
 
 /// A branching.
@@ -11,9 +14,6 @@ pub(crate) enum Branch {
 }
 
 impl Branch {
-    ghost use Rattle.std.specs.Prelude.{◌≡◌};
-    ghost use Rattle.qc_search.specs.Walk.{first_of};
-
     /// The decision of its first child.
     pub(crate) fn first_child(self) -> Decision
         ensures { result ≡ first_of self }

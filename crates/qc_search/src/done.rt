@@ -1,5 +1,8 @@
 //! What a search came to.
 
+ghost use Rattle.qc_search.specs.Run.{DoneView};
+ghost use Rattle.std.specs.Prelude.{◌≡◌, option_map};
+
 use qc_model::Schedule;
 use qc_num::Bound;
 use std::marker::Model;
@@ -26,8 +29,6 @@ pub struct Done {
 }
 
 impl Model for Done {
-    ghost use Rattle.qc_search.specs.Run.{DoneView};
-
     ghost Value = { DoneView };
 
     ghost view = { λ done. record {
@@ -39,8 +40,6 @@ impl Model for Done {
 }
 
 impl Done {
-    ghost use Rattle.std.specs.Prelude.{◌≡◌, option_map};
-
     /// How the search came out.
     pub fn kind(&self) -> Kind
         ensures { result ≡ self.now.kind }

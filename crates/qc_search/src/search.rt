@@ -5,7 +5,8 @@ ghost use Rattle.qc_io.specs.Writes.{Counts};
 ghost use Rattle.qc_model.specs.Numbers.{most_branchings};
 ghost use Rattle.qc_num.specs.declared.bound.Bound.TheVariants.{Least};
 ghost use Rattle.qc_search.specs.Progress.{shown_best};
-ghost use Rattle.qc_search.specs.Run.{outcome};
+ghost use Rattle.qc_search.specs.Run.{outcome, SearchView, IsCutOff, IsSearched, IsSound};
+ghost use Rattle.qc_search.specs.Fields.{AreOpened, search_of};
 
 use crate::best::shown_best;
 use crate::done::Done;
@@ -32,9 +33,6 @@ pub struct Search {
 }
 
 impl Model for Search {
-    ghost use Rattle.qc_search.specs.Run.{SearchView};
-    ghost use Rattle.qc_search.specs.Fields.{AreOpened, search_of};
-
     ghost Value = { SearchView };
 
     ghost view = { search_of };
@@ -62,8 +60,6 @@ fn told(progress: Progress, cranes: u16) -> Done
 }
 
 impl Search {
-    ghost use Rattle.qc_search.specs.Run.{IsCutOff, IsSearched, IsSound};
-
     /// A search for the instance with at most so many branchings. All memory is taken here.
     pub fn open(alloc: Global, inst: &Instance, limit: u32) -> Result<Search, OutOfMemory>
         requires { limit ≤ most_branchings }

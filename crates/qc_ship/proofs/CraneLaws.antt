@@ -1,6 +1,5 @@
 -- What cranes that were read are.
-use Rattle.std.proofs.Common.{◌≡◌, ◌≢◌, ℕ, ◌-◌, ◌<◌, ◌≤◌, pos, ◌+ℤ◌, ◌≤ℤ◌, Bool, true, false, List, [], length, map, get_or, Contains, Some, Ok, sym, subst, ◌∙◌, inl, inr, arith, slice_index}
-use Rattle.std.specs.Prelude.{All, AllPairs, int_le, bytes_eq}
+use Rattle.std.proofs.Common.{◌≡◌, ◌≢◌, ℕ, ◌-◌, ◌<◌, ◌≤◌, pos, ◌+ℤ◌, ◌≤ℤ◌, Bool, true, false, List, [], length, map, get_or, Contains, Some, Ok, sym, subst, ◌∙◌, inl, inr, arith, slice_index, All, AllPairs, int_le, bytes_eq}
 use Rattle.std.specs.List.{list_any}
 use Rattle.std.proofs.lemmas.Bool.{cases_lt, false≢true}
 use Rattle.std.proofs.lemmas.Int.{ints}

@@ -1,6 +1,5 @@
 -- What hatches, places and pairs that were read are.
-use Rattle.std.proofs.Common.{◌≡◌, ◌≢◌, ℕ, ◌+◌, ◌%◌, ◌<◌, ◌≤◌, pos, Bool, true, false, List, [], ◌∷◌, length, Option, Some, None, Ok, subst, ap, inl, inr, arith, nat_lt, suc}
-use Rattle.std.specs.Prelude.{◌==◌, ok_or, All, AllPairs, Contains, find}
+use Rattle.std.proofs.Common.{◌≡◌, ◌≢◌, ℕ, ◌+◌, ◌%◌, ◌<◌, ◌≤◌, pos, Bool, true, false, List, [], ◌∷◌, length, Option, Some, None, Ok, subst, ap, inl, inr, arith, nat_lt, suc, ◌==◌, ok_or, All, AllPairs, Contains, find}
 use Rattle.std.specs.List.{range_with_len}
 use Rattle.std.specs.Ordering.{int_eq}
 use Rattle.std.specs.Option.{option_map_or}

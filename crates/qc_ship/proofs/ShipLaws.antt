@@ -1,6 +1,5 @@
 -- What the checks of a ship file leave: the ship keeps the limits of its type.
-use Rattle.std.proofs.Common.{map, ◌≡◌, ℕ, ◌+◌, ◌-◌, ◌<◌, ◌≤◌, ℤ, pos, negsuc, ◌≤ℤ◌, cond, List, [], ◌∷◌, ◌++◌, length, get_or, Some, Ok, Err, sym, subst, ◌∙◌, inl, inr, arith}
-use Rattle.std.specs.Prelude.{AllPairs, nat_le, ◌&&◌, unsigned_abs, ok_or, option_map}
+use Rattle.std.proofs.Common.{map, ◌≡◌, ℕ, ◌+◌, ◌-◌, ◌<◌, ◌≤◌, ℤ, pos, negsuc, ◌≤ℤ◌, cond, List, [], ◌∷◌, ◌++◌, length, get_or, Some, Ok, Err, sym, subst, ◌∙◌, inl, inr, arith, AllPairs, nat_le, ◌&&◌, unsigned_abs, ok_or, option_map}
 use Rattle.std.specs.List.{range_with_len}
 use Rattle.std.proofs.lemmas.Bool.{cases_lt}
 use Rattle.std.proofs.lemmas.Bool.Decides.{nat_tests}

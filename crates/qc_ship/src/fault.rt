@@ -2,6 +2,7 @@
 
 ghost use Rattle.std.specs.Prelude.{◌≡◌, ◌≤◌, length};
 ghost use Rattle.qc_num.specs.declared.read_error.ReadError.TheVariants.{Fault};
+ghost use Rattle.qc_ship.specs.Keys.{kind_text, key_text};
 
 use qc_num::ReadError;
 
@@ -27,8 +28,6 @@ pub enum ShipKind {
 }
 
 impl ShipKind {
-    ghost use Rattle.qc_ship.specs.Keys.{kind_text};
-
     /// The kind as reports print it.
     pub fn text(self) -> &'static str
         ensures text { result.now ≡ kind_text self }
@@ -71,8 +70,6 @@ pub enum Key {
 }
 
 impl Key {
-    ghost use Rattle.qc_ship.specs.Keys.{key_text};
-
     /// The key as the file has it; empty for the file itself.
     pub fn text(self) -> &'static str
         ensures text { result.now ≡ key_text self }

@@ -3,6 +3,7 @@
 ghost use Rattle.std.specs.Prelude.{◌≡◌, ◌-ℤ◌, pos, position};
 ghost use Rattle.qc_ship.specs.ShipFile.{ship_with};
 ghost use Rattle.qc_ship.specs.Ship.{ShipView, IsShip, takes, place_of_bay, greatest_place};
+ghost use Rattle.qc_ship.specs.ShipFields.{view_of};
 
 use qc_model::Crane;
 use qc_num::{Bay, Tick};
@@ -32,11 +33,7 @@ pub struct Ship {
 }
 
 impl Model for Ship {
-    ghost use Rattle.qc_ship.specs.Ship.{ShipView, IsShip};
-
     ghost Value = { ShipView };
-
-    ghost use Rattle.qc_ship.specs.ShipFields.{view_of};
 
     ghost view = { view_of };
 

@@ -1,8 +1,7 @@
 -- Arcs that are those of a node: what a push keeps, and that there are few.
-use Rattle.std.proofs.Common.{◌≡◌, ◌≢◌, ℕ, zero, suc, ◌+◌, ◌-◌, ◌*◌, ◌<◌, ◌≤◌, Bool, true, false, ◌||◌, cond, eqb, inl, inr, ◌⊎◌, List, [], ◌∷◌, ◌++◌, length, Option, None, Some, IfSome, refl, sym, ap, ap₂, subst, subst₂, ◌∙◌, append_assoc, arith}
+use Rattle.std.proofs.Common.{◌≡◌, ◌≢◌, ℕ, zero, suc, ◌+◌, ◌-◌, ◌*◌, ◌<◌, ◌≤◌, Bool, true, false, ◌||◌, cond, eqb, inl, inr, ◌⊎◌, List, [], ◌∷◌, ◌++◌, length, Option, None, Some, IfSome, refl, sym, ap, ap₂, subst, subst₂, ◌∙◌, append_assoc, arith, count_by}
 use Rattle.std.proofs.lemmas.Bool.{and_parts, cases_Bool, cases_eq, cases_lt, cases_order, cond-false, cond-true, cond_both, eqb-true}
-use Rattle.std.proofs.lemmas.Option.{same_Some}
-use Rattle.std.specs.Prelude.{count_by}
+use Rattle.std.proofs.lemmas.Option.{none-some, same_Some}
 use Rattle.std.specs.List.{AllByRecursion}
 use Rattle.qc_arena.specs.declared.edge.Edge.{Edge}
 use Rattle.qc_dist.specs.Added.{excess}
@@ -19,9 +18,6 @@ use Rattle.qc_starts.proofs.Counts.{IsBetween, arcs_few, count_cons}
 use Rattle.qc_starts.specs.Spread.{IsIn, one_of}
 use Rattle.qc_starts.proofs.Growth.{assigned_same, excess_by, forced_grows, greater_more, greater_same, one_way, open_from, open_to, ordered_here_is, ordered_same, unsettled_from, unsettled_to}
 use Rattle.qc_starts.proofs.SelfLemmas.{self_free}
-
-none_some : (n : ℕ) → ◌≡◌ {A = Option ℕ} None (Some n) → ⊥
-none_some n e = cc
 
 -- ---- arcs of a list
 
@@ -87,7 +83,7 @@ module _ (inst : InstanceView) (ds : List Decision) where
       apart = λ same.
           let loop : forced inst ds arc.from arc.from ≡ Some all.0.ticks =
           subst (λ (j : ℕ). forced inst ds arc.from j ≡ Some all.0.ticks) (sym same) all.0.is in
-          none_some all.0.ticks (sym (self_free inst ds valid fits arc.from) ∙ loop);
+          none-some all.0.ticks (sym (self_free inst ds valid fits arc.from) ∙ loop);
     },
     between valid fits arcs all.1,
   )
@@ -104,25 +100,6 @@ module _ (inst : InstanceView) (ds : List Decision) where
   arcs_fit valid fits arcs all few =
       arcs_few (length inst.tasks) arcs (between valid fits arcs all)
       (λ i j. omega (arith, few i j, most_two (assigned ds i) (assigned ds j)))
-
--- ---- cranes add nothing where a task has none
-
-excess_none : (o : Option ℕ) → excess o None ≡ None
-excess_none None = refl
-excess_none (Some n) = refl
-
-none_first : (inst : InstanceView) (i j : ℕ) (o : Option ℕ) → crane_ticks inst i j o None ≡ None
-none_first inst i j None = refl
-none_first inst i j (Some v) = refl
-
-pub none_pushed : (inst : InstanceView) (ds : List Decision) (i j : ℕ) (arcs : List Edge) → assigned ds j ≡ None
-    → with_added i j (added inst ds i j) (added inst ds j i) arcs ≡ arcs
-none_pushed inst ds i j arcs none =
-    let from = ap (crane_ticks inst i j (assigned ds i)) none ∙ none_first inst i j (assigned ds i) in
-    let to = ap (λ (o : Option ℕ). crane_ticks inst j i o (assigned ds i)) none in
-    ap₂ (λ (a b : Option ℕ). with_added i j a b arcs)
-    (ap (excess (sooner_ticks inst ds i j)) from ∙ excess_none (sooner_ticks inst ds i j))
-    (ap (excess (sooner_ticks inst ds j i)) to ∙ excess_none (sooner_ticks inst ds j i))
 
 -- ---- the newest arc
 
@@ -192,9 +169,9 @@ none_between : (i j : ℕ) (arcs : List Edge) → newest_length i j arcs ≡ Non
     → count_by (joins i j) arcs ≡ 0
 none_between i j [] one two = refl
 none_between i j (arc ∷ arcs) one two = elim (cases_Bool (leads i j arc)) [
-  | inl here ↦ absurd (none_some arc.len (sym one ∙ cond-true (leads i j arc) (Some arc.len) (newest_length i j arcs) here))
+  | inl here ↦ absurd (none-some arc.len (sym one ∙ cond-true (leads i j arc) (Some arc.len) (newest_length i j arcs) here))
   | inr away ↦ elim (cases_Bool (leads j i arc)) [
-    | inl here ↦ absurd (none_some arc.len (sym two ∙ cond-true (leads j i arc) (Some arc.len) (newest_length j i arcs) here))
+    | inl here ↦ absurd (none-some arc.len (sym two ∙ cond-true (leads j i arc) (Some arc.len) (newest_length j i arcs) here))
     | inr off ↦
         let rest = none_between i j arcs
         (sym (cond-false (leads i j arc) (Some arc.len) (newest_length i j arcs) away) ∙ one)
@@ -263,8 +240,8 @@ module _ (inst : InstanceView) (ds : List Decision) (t k : ℕ) (valid : Valid i
   one_for : (a b : Option ℕ) → (a ≡ None) ⊎ (b ≡ None) → most_arcs a b ≡ 1
   one_for None b h = refl
   one_for (Some v) None h = refl
-  one_for (Some v) (Some w) (inl e) = absurd (none_some v (sym e))
-  one_for (Some v) (Some w) (inr e) = absurd (none_some w (sym e))
+  one_for (Some v) (Some w) (inl e) = absurd (none-some v (sym e))
+  one_for (Some v) (Some w) (inr e) = absurd (none-some w (sym e))
 
   more_for : (i j : ℕ) → most_arcs (assigned ds i) (assigned ds j) ≤ most_arcs (assigned news i) (assigned news j)
   more_for i j =
@@ -323,8 +300,8 @@ module _ (inst : InstanceView) (ds : List Decision) (t k : ℕ) (valid : Valid i
 
   both_some : (i j n : ℕ) (a b : Option ℕ) → crane_ticks inst i j a b ≡ Some n
       → (most_arcs a b ≡ 2) × (most_arcs b a ≡ 2)
-  both_some i j n None b e = absurd (none_some n e)
-  both_some i j n (Some v) None e = absurd (none_some n e)
+  both_some i j n None b e = absurd (none-some n e)
+  both_some i j n (Some v) None e = absurd (none-some n e)
   both_some i j n (Some v) (Some w) e = (refl, refl)
 
   not_back : (i j n : ℕ) → added inst news i j ≡ Some n → (o : Option ℕ) → added inst news j i ≡ o → o ≡ None
@@ -401,7 +378,7 @@ module _ (inst : InstanceView) (ds : List Decision) (t k : ℕ) (valid : Valid i
     not_self : (o len : ℕ) (f g : ℕ) → f ≡ g → added inst news f g ≡ Some len → ⊥
     not_self o len f g same add =
         let loop = ap (λ (j : ℕ). forced inst news f j) same ∙ is_added f g len add in
-        none_some len (sym (self_free inst news valid fits f) ∙ loop)
+        none-some len (sym (self_free inst news valid fits f) ∙ loop)
 
     -- one more of the other tasks is looked at
     pub assign_step : (arcs : List Edge) (o : ℕ) (a b : Option ℕ) → o < length inst.tasks
@@ -443,7 +420,7 @@ module _ (inst : InstanceView) (valid : Valid inst) where
     | inl holds ↦ holds
     | inr fails ↦
         let none = ap (λ (b : Bool). greater (cond (b || false) (Some (ticks_of inst i)) None) None) fails in
-        absurd (none_some n (sym none ∙ is))
+        absurd (none-some n (sym none ∙ is))
   ]
 
   -- nothing is forced both ways

@@ -1,8 +1,7 @@
 -- How many elements there are, by how many fall into each of several classes.
-use Rattle.std.proofs.Common.{◌≡◌, ◌≢◌, inl, inr, ℕ, zero, suc, ◌+◌, ◌*◌, ◌<◌, ◌≤◌, max, min, Bool, true, ◌&&◌, eqb, List, [], ◌∷◌, length, refl, ap, add-one, arith}
+use Rattle.std.proofs.Common.{◌≡◌, ◌≢◌, inl, inr, ℕ, zero, suc, ◌+◌, ◌*◌, ◌<◌, ◌≤◌, max, min, Bool, true, ◌&&◌, eqb, List, [], ◌∷◌, length, refl, ap, add-one, arith, count_by, sum_by}
 use Rattle.std.proofs.lemmas.Bool.{cases_Bool, cases_lt, and_from, and_parts, eq-eqb, eqb-true, or_left, or_right}
 use Rattle.std.proofs.lemmas.List.Sums.{sum_by-cons}
-use Rattle.std.specs.Prelude.{count_by, sum_by}
 use Rattle.std.specs.List.{AllByRecursion, range_with_len}
 use Rattle.qc_model.proofs.Sums.{sum_both, sum_le, sum_raised}
 use Rattle.qc_dist.proofs.Ranges.{sum_more}

@@ -1,10 +1,9 @@
 -- What a decision leaves is kept, and its notes are counted.
-use Rattle.std.proofs.Common.{◌≡◌, ℕ, zero, suc, ◌+◌, ◌-◌, ◌*◌, ◌<◌, ◌≤◌, inl, inr, Bool, true, List, [], ◌∷◌, ◌++◌, All, length, drop, take, reverse, refl, sym, ap, subst, subst₂, ◌∙◌, length-append, vec_capacity, arith}
+use Rattle.std.proofs.Common.{◌≡◌, ℕ, zero, suc, ◌+◌, ◌-◌, ◌*◌, ◌<◌, ◌≤◌, inl, inr, Bool, true, List, [], ◌∷◌, ◌++◌, All, length, drop, take, reverse, refl, sym, ap, subst, subst₂, ◌∙◌, length-append, vec_capacity, arith, count_by, nat_lt, slice_index, slice_index_or, sum}
 use Rattle.std.proofs.lemmas.Bool.{cases_Bool, ltb-true}
 use Rattle.std.proofs.lemmas.List.Sums.{count_by-le-length, sum_by-cons}
 use Rattle.std.proofs.Math.Seq.{drop-append_seam, take-append_seam}
 use Rattle.std.proofs.Math.Nat.{mul-le-mul_left}
-use Rattle.std.specs.Prelude.{count_by, nat_lt, slice_index, slice_index_or, sum}
 use Rattle.std.specs.List.{range_with_len}
 use Rattle.qc_dist.proofs.Room.{fits_room}
 use Rattle.qc_model.specs.declared.decision.Decision.{Decision}

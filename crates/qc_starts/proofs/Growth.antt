@@ -1,9 +1,8 @@
 -- What a decision adds: nothing that is forced becomes less, and only what it names changes.
-use Rattle.std.proofs.Common.{◌≡◌, ◌≢◌, ℕ, ◌<◌, ◌≤◌, Bool, true, false, ◌&&◌, ◌||◌, cond, eqb, ltb, inl, inr, List, ◌∷◌, length, Option, None, Some, IsSome, IsTrue, T, ℤ, ◌<ℤ◌, refl, sym, ap, ap₂, subst, ◌∙◌, arith}
+use Rattle.std.proofs.Common.{◌≡◌, ◌≢◌, ℕ, ◌<◌, ◌≤◌, Bool, true, false, ◌&&◌, ◌||◌, cond, eqb, ltb, inl, inr, List, ◌∷◌, length, Option, None, Some, IsSome, IsTrue, T, ℤ, ◌<ℤ◌, refl, sym, ap, ap₂, subst, ◌∙◌, arith, int_lt, nat_lt}
 use Rattle.std.proofs.lemmas.Bool.{and_parts, cases_Bool, cases_eq, cond-false, cond-true, eq-eqb, ltb-true, ltb-false, ne_eqb, or_right}
 use Rattle.std.proofs.lemmas.Int.{ints}
-use Rattle.std.proofs.lemmas.Option.{same_Some}
-use Rattle.std.specs.Prelude.{int_lt, nat_lt}
+use Rattle.std.proofs.lemmas.Option.{none-some, same_Some}
 use Rattle.qc_dist.specs.Added.{excess}
 use Rattle.qc_dist.specs.Node.{IsOpen}
 use Rattle.qc_dist.proofs.Assigned.{assigned_here, assigned_other, ordered_here, ordered_other}
@@ -33,44 +32,41 @@ no_less_first None b m e = absurd (cc)
 no_less_first (Some k) None m e = (k, refl, omega (arith, same_Some _ _ e))
 no_less_first (Some k) (Some n) m e = (_, refl, omega (arith, same_Some _ _ e))
 
-none_some : (n : ℕ) → ◌≡◌ {A = Option ℕ} None (Some n) → ⊥
-none_some n e = cc
-
 -- what the greater of two numbers is, by what the second adds
 pub greater_more : (a b : Option ℕ) (n : ℕ) → excess a b ≡ Some n → greater a b ≡ Some n
-greater_more None None n e = absurd (none_some n e)
-greater_more (Some l) None n e = absurd (none_some n e)
+greater_more None None n e = absurd (none-some n e)
+greater_more (Some l) None n e = absurd (none-some n e)
 greater_more None (Some m) n e = e
 greater_more (Some l) (Some m) n e = elim (cases_Bool (ltb l m)) [
   | inl less ↦
       let same = same_Some _ _ (sym (cond-true (ltb l m) (Some m) None less) ∙ e) in
       ap Some (omega (arith, ltb-true l m less, same))
-  | inr other ↦ absurd (none_some n (sym (cond-false (ltb l m) (Some m) None other) ∙ e))
+  | inr other ↦ absurd (none-some n (sym (cond-false (ltb l m) (Some m) None other) ∙ e))
 ]
 
 pub greater_same : (a b : Option ℕ) → excess a b ≡ None → greater a b ≡ a
 greater_same a None e = greater_none a
-greater_same None (Some m) e = absurd (none_some m (sym e))
+greater_same None (Some m) e = absurd (none-some m (sym e))
 greater_same (Some l) (Some m) e = elim (cases_Bool (ltb l m)) [
-  | inl less ↦ absurd (none_some m (sym e ∙ cond-true (ltb l m) (Some m) None less))
+  | inl less ↦ absurd (none-some m (sym e ∙ cond-true (ltb l m) (Some m) None less))
   | inr other ↦ ap Some (omega (arith, ltb-false l m other))
 ]
 
 -- what is added is asked for by the second number
 pub excess_by : (a b : Option ℕ) (n : ℕ) → excess a b ≡ Some n → b ≡ Some n
-excess_by None None n e = absurd (none_some n e)
-excess_by (Some l) None n e = absurd (none_some n e)
+excess_by None None n e = absurd (none-some n e)
+excess_by (Some l) None n e = absurd (none-some n e)
 excess_by None (Some m) n e = e
 excess_by (Some l) (Some m) n e = elim (cases_Bool (ltb l m)) [
   | inl less ↦ sym (cond-true (ltb l m) (Some m) None less) ∙ e
-  | inr other ↦ absurd (none_some n (sym (cond-false (ltb l m) (Some m) None other) ∙ e))
+  | inr other ↦ absurd (none-some n (sym (cond-false (ltb l m) (Some m) None other) ∙ e))
 ]
 
 -- ---- what cranes ask for
 
 some_true : (b : Bool) (o : Option ℕ) (n : ℕ) → cond b o None ≡ Some n → b ≡ true
 some_true true o n e = refl
-some_true false o n e = absurd (none_some n e)
+some_true false o n e = absurd (none-some n e)
 
 rises : (x y : ℤ) → int_lt x y ≡ true → x <ℤ y
 rises x y t = record { lt = subst T (sym t) tt }
@@ -82,8 +78,8 @@ ticks_none inst i j (Some v) = refl
 -- cranes ask for something at most one way
 pub one_way : (inst : InstanceView) (i j n m : ℕ) (a b : Option ℕ) → crane_ticks inst i j a b ≡ Some n
     → crane_ticks inst j i b a ≡ Some m → ⊥
-one_way inst i j n m None b e f = none_some n e
-one_way inst i j n m (Some v) None e f = none_some n e
+one_way inst i j n m None b e f = none-some n e
+one_way inst i j n m (Some v) None e f = none-some n e
 one_way inst i j n m (Some v) (Some w) e f = elim (cases_eq v w) [
   | inl same ↦
       let up = some_true (int_lt (bay_of inst i) (bay_of inst j)) _ n (sym (cond-true (eqb v w) _ _ (eq-eqb v w same)) ∙ e) in
@@ -164,7 +160,7 @@ none_of (Some n) h = absurd (h refl)
 greater_parts : (a b : Option ℕ) → greater a b ≡ None → b ≡ None
 greater_parts None b e = e
 greater_parts (Some m) None e = refl
-greater_parts (Some m) (Some n) e = absurd (none_some _ (sym e))
+greater_parts (Some m) (Some n) e = absurd (none-some _ (sym e))
 
 module _ (inst : InstanceView) (ds : List Decision) (g h : ℕ) where
   pub ordered_same : (i j : ℕ) → (g ≡ i → h ≡ j → ⊥)
@@ -190,7 +186,7 @@ module _ (inst : InstanceView) (ds : List Decision) (g h : ℕ) where
     order_grows : (i j : ℕ) → IsNoLess (forced inst ds i j) (forced inst (Order g h ∷ ds) i j)
     order_grows i j = elim (cases_eq g i) [
       | inl first ↦ elim (cases_eq h j) [
-        | inl second ↦ λ m is. absurd (none_some m (sym unsettled_from ∙ ap₂ (forced inst ds) first second ∙ is))
+        | inl second ↦ λ m is. absurd (none-some m (sym unsettled_from ∙ ap₂ (forced inst ds) first second ∙ is))
         | inr second ↦ same_no_less (forced inst ds i j) _ (ordered_same i j (λ e f. second f))
       ]
       | inr first ↦ same_no_less (forced inst ds i j) _ (ordered_same i j (λ e f. first e))

@@ -1,7 +1,6 @@
 -- Arcs before each decision: a decision more, and one taken back.
-use Rattle.std.proofs.Common.{◌≡◌, ℕ, zero, suc, ◌+◌, ◌-◌, ◌<◌, List, [], ◌∷◌, ◌++◌, length, drop, reverse, Option, None, Some, IsSome, refl, sym, ap, ◌∙◌, length-append, arith}
+use Rattle.std.proofs.Common.{◌≡◌, ℕ, zero, suc, ◌+◌, ◌-◌, ◌<◌, List, [], ◌∷◌, ◌++◌, length, drop, reverse, Option, None, Some, IsSome, refl, sym, ap, ◌∙◌, length-append, arith, ◌↔◌}
 use Rattle.std.proofs.lemmas.List.{reverse-append}
-use Rattle.std.specs.Prelude.{◌↔◌}
 use Rattle.std.specs.Option.{option_to_list}
 use Rattle.qc_arena.specs.Arcs.{Arcs}
 use Rattle.qc_arena.specs.declared.edge.Edge.{Edge}

@@ -1,11 +1,10 @@
 -- Tasks that are placed one after another: what a task more keeps, and that all are placed at the end.
-use Rattle.std.proofs.Common.{◌≡◌, ◌≢◌, ℕ, zero, suc, ◌+◌, ◌-◌, ◌*◌, ◌<◌, ◌≤◌, ◌⊎◌, inl, inr, Bool, true, false, ◌||◌, eqb, List, [], ◌∷◌, length, Option, None, Some, sym, ap, subst, ◌∙◌, arith}
+use Rattle.std.proofs.Common.{◌≡◌, ◌≢◌, ℕ, zero, suc, ◌+◌, ◌-◌, ◌*◌, ◌<◌, ◌≤◌, ◌⊎◌, inl, inr, Bool, true, false, ◌||◌, eqb, List, [], ◌∷◌, length, Option, None, Some, sym, ap, subst, ◌∙◌, arith, slice_set}
 use Rattle.std.proofs.lemmas.Bool.{cases_Bool, cases_eq, eqb-true, or_cases, false≢true}
 use Rattle.std.proofs.lemmas.List.{get_or-set_other, get_or-set_same}
 use Rattle.std.proofs.lemmas.List.Sums.{count_by-le-length}
 use Rattle.std.proofs.lemmas.Map.Steps.{length-le_from_distinct_below}
 use Rattle.std.proofs.Math.ListN.{length-set}
-use Rattle.std.specs.Prelude.{slice_set}
 use Rattle.std.specs.List.{AllByRecursion, IsDistinct, list_any}
 use Rattle.qc_arena.specs.declared.edge.Edge.{Edge}
 use Rattle.qc_model.specs.declared.decision.Decision.{Decision}
@@ -21,6 +20,7 @@ use Rattle.qc_starts.specs.Values.{AreRest, IsReason, raised, raiser_at, start_a
 use Rattle.qc_starts.proofs.ArcLemmas.{arc_of, before_true, newest_in}
 use Rattle.qc_starts.proofs.NotingLemmas.{marks_less}
 use Rattle.qc_starts.proofs.RaisedLemmas.{raised_count, raised_here, raised_other, reason_of_here, reason_of_other}
+use Rattle.qc_starts.proofs.WayLemmas.{any_inside}
 
 -- ---- a task is placed
 
@@ -161,13 +161,6 @@ none_of q (k ∷ ks) e = elim (cases_Bool (eqb q k)) [
   | inr fails ↦ (fails, none_of q ks (sym (ap (λ (b : Bool). b || list_any (eqb q) ks) fails) ∙ e))
 ]
 
-all_below : (n : ℕ) (ks : List ℕ) → AllByRecursion (λ k. k < n) ks → (q : ℕ) → list_any (eqb q) ks ≡ true → q < n
-all_below n [] all q t = absurd (false≢true t)
-all_below n (k ∷ ks) all q t = elim (or_cases (eqb q k) (list_any (eqb q) ks) t) [
-  | inl e ↦ omega (arith, eqb-true q k e, all.0)
-  | inr e ↦ all_below n ks all.1 q e
-]
-
 -- tasks that each come after another of them are none
 module _ (inst : InstanceView) (valid : Valid inst) (P : ℕ → Type 0)
     (back : (j : ℕ) → P j → (i : ℕ) × P i × (i < length inst.tasks) × IsBefore inst i j) where
@@ -175,7 +168,7 @@ module _ (inst : InstanceView) (valid : Valid inst) (P : ℕ → Type 0)
       → AllByRecursion (λ k. k < length inst.tasks) (i ∷ ks) → length inst.tasks ≤ fuel + length ks → ⊥
   unfolding IsDistinct
   no_more zero i ks has chain distinct all room =
-      let fits = length-le_from_distinct_below (i ∷ ks) (length inst.tasks) distinct (all_below (length inst.tasks) (i ∷ ks) all) in
+      let fits = length-le_from_distinct_below (i ∷ ks) (length inst.tasks) distinct (any_inside (length inst.tasks) (i ∷ ks) all) in
       omega (arith, fits)
   no_more (suc fuel) i ks has chain distinct all room =
       let by = back i has in

@@ -1,9 +1,8 @@
 -- What is in cells once a start and its reason are written.
-use Rattle.std.proofs.Common.{◌≡◌, ◌≢◌, ℕ, ◌+◌, ◌-◌, ◌*◌, ◌<◌, eqb, List, length, Option, None, Some, refl, ap, ◌∙◌, arith}
+use Rattle.std.proofs.Common.{◌≡◌, ◌≢◌, ℕ, ◌+◌, ◌-◌, ◌*◌, ◌<◌, eqb, List, length, Option, None, Some, refl, ap, ◌∙◌, arith, slice_set}
 use Rattle.std.proofs.lemmas.Bool.{cond-false, ne_eqb}
 use Rattle.std.proofs.lemmas.List.{get_or-set_other, get_or-set_same}
 use Rattle.std.proofs.Math.ListN.{length-set}
-use Rattle.std.specs.Prelude.{slice_set}
 use Rattle.qc_starts.specs.Values.{code_of, raised, raiser_at, raiser_of, start_at}
 
 pub raiser_code : (why : Option ℕ) → raiser_of (code_of why) ≡ why

@@ -1,8 +1,7 @@
 -- Nothing is forced from a task to itself.
-use Rattle.std.proofs.Common.{◌≡◌, ℕ, true, ◌&&◌, eqb, inl, inr, ◌⊎◌, List, [], ◌∷◌, Option, None, Some, T, ℤ, ◌<ℤ◌, refl, sym, ap₂, subst, subst₂, arith}
+use Rattle.std.proofs.Common.{◌≡◌, ℕ, true, ◌&&◌, eqb, inl, inr, ◌⊎◌, List, [], ◌∷◌, Option, None, Some, T, ℤ, ◌<ℤ◌, refl, sym, ap₂, subst, subst₂, arith, int_lt, nat_lt}
 use Rattle.std.proofs.lemmas.Bool.{and_parts, or_cases, cond_both, cond-false, eqb-true, ltb-true, false≢true, false_from_ne_true}
 use Rattle.std.proofs.lemmas.Int.{ints}
-use Rattle.std.specs.Prelude.{int_lt, nat_lt}
 use Rattle.qc_model.specs.declared.decision.Decision.{Decision}
 use Rattle.qc_model.specs.declared.decision.Decision.TheVariants.{Assign, Order}
 use Rattle.qc_model.specs.Instance.{InstanceView, IsApart, Valid, bay_of, ticks_of}

@@ -1,7 +1,6 @@
 -- The start of a task by the arcs into it, one arc after another.
-use Rattle.std.proofs.Common.{◌≡◌, ℕ, ◌+◌, ◌≤◌, inl, inr, Bool, true, false, eqb, ltb, cond, List, ◌∷◌, Option, Some, refl, sym, ap, subst, subst₂, arith}
+use Rattle.std.proofs.Common.{◌≡◌, ℕ, ◌+◌, ◌≤◌, inl, inr, Bool, true, false, eqb, ltb, cond, List, ◌∷◌, Option, Some, refl, sym, ap, subst, subst₂, arith, slice_index}
 use Rattle.std.proofs.lemmas.Bool.{eqb-true, eq-eqb, ltb-false, ltb-true}
-use Rattle.std.specs.Prelude.{slice_index}
 use Rattle.qc_arena.specs.declared.edge.Edge.{Edge}
 use Rattle.qc_model.specs.Nodes.{forced}
 use Rattle.qc_starts.specs.Arcs.{IsArc}

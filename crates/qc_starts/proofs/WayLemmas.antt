@@ -1,14 +1,14 @@
 -- Ways back: they grow by a task that isn't on them, are no longer than there are tasks, and close.
-use Rattle.std.proofs.Common.{◌≡◌, ◌≢◌, ℕ, zero, suc, ◌+◌, ◌-◌, ◌<◌, ◌≤◌, true, false, inl, inr, List, [], ◌∷◌, take, length, Option, None, Some, is_some, refl, sym, ap, subst, ◌∙◌, add-one, eqb, arith}
+use Rattle.std.proofs.Common.{◌≡◌, ◌≢◌, ℕ, zero, suc, ◌+◌, ◌-◌, ◌<◌, ◌≤◌, true, false, inl, inr, List, [], ◌∷◌, take, length, Option, None, Some, is_some, refl, sym, ap, subst, ◌∙◌, add-one, eqb, arith, slice_index}
 use Rattle.std.proofs.lemmas.Bool.{cases_eq, cond-false, or_cases, eqb-true, ne_eqb, false≢true}
 use Rattle.std.proofs.lemmas.Map.Steps.{length-le_from_distinct_below}
 use Rattle.std.proofs.lemmas.Option.{same_Some}
-use Rattle.std.specs.Prelude.{slice_index}
 use Rattle.std.specs.List.{AllByRecursion, IsDistinct, list_any}
 use Rattle.qc_starts.specs.Found.{why_in}
 use Rattle.qc_starts.specs.Ways.{AreBacked, IsBackTo, IsLinked, IsPlace, IsRing, IsRising, IsWalked, IsWay, Why, last_of}
 
-any_inside : (n : ℕ) (xs : List ℕ) → AllByRecursion (λ j. j < n) xs → (q : ℕ)
+-- what is among numbers below n is below it
+pub any_inside : (n : ℕ) (xs : List ℕ) → AllByRecursion (λ j. j < n) xs → (q : ℕ)
     → list_any (eqb q) xs ≡ true → q < n
 any_inside n [] all q t = absurd (false≢true t)
 any_inside n (x ∷ xs) all q t = elim (or_cases (eqb q x) (list_any (eqb q) xs) t) [

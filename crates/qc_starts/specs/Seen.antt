@@ -21,11 +21,6 @@ pub record StartsNode : Type 0 where
   pub cells : List ℕ
   pub notes : List Note
 
--- the node without decisions
-pub record IsRoot (inst : InstanceView) (node : StartsNode) : Type 0 where
-  pub inst_is : node.inst ≡ inst
-  pub none : node.decisions ≡ []
-
 -- the first of these, of a list that is newest first
 abbrev pub first_of : {A : Type 0} → ℕ → List A → List A
 first_of mark xs = drop (length xs - mark) xs

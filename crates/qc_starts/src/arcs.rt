@@ -33,7 +33,7 @@ fn push_forced(decisions: &Decisions, from: u16, to: u16, arena: &mut ArcArena)
     }
 }
 
-/// Adds an arc for what the cranes of two tasks ask for, one way or the other.
+/// Adds an arc for what the cranes of two tasks ask for, one way or the other, where the second has one.
 fn push_between(decisions: &Decisions, one: u16, other: u16, arena: &mut ArcArena)
     requires one { one < length decisions.now.inst.tasks }
     requires other { other < length decisions.now.inst.tasks }
@@ -50,36 +50,13 @@ fn push_between(decisions: &Decisions, one: u16, other: u16, arena: &mut ArcAren
     ensures nodes { arena.new.nodes ≡ arena.old.nodes }
     ensures cap { arena.new.cap ≡ arena.old.cap }
 {
-    match decisions.forced_by_cranes(one, other) {
-        Some(len) => arena.push(one, other, len),
-        None => {
-            if let Some(len) = decisions.forced_by_cranes(other, one) {
-                arena.push(other, one, len);
-            }
-        }
+    if decisions.crane_of(other).is_none() {
+        return;
     }
-}
-
-/// Adds an arc for what the cranes of two tasks ask for, if the second has one.
-fn push_added(decisions: &Decisions, one: u16, other: u16, arena: &mut ArcArena)
-    requires one { one < length decisions.now.inst.tasks }
-    requires other { other < length decisions.now.inst.tasks }
-    requires nodes { arena.old.nodes ≡ length decisions.now.inst.tasks }
-    requires room { length (with_added one other
-        (added decisions.now.inst decisions.now.decisions one other)
-        (added decisions.now.inst decisions.now.decisions other one)
-        (reverse arena.old.arcs)) ≤ arena.old.cap }
-    ensures arcs { reverse arena.new.arcs ≡ with_added one other
-        (added decisions.now.inst decisions.now.decisions one other)
-        (added decisions.now.inst decisions.now.decisions other one)
-        (reverse arena.old.arcs) }
-    ensures low { AreLow (reverse arena.old.arcs) → AreLow (reverse arena.new.arcs) }
-    ensures nodes { arena.new.nodes ≡ arena.old.nodes }
-    ensures cap { arena.new.cap ≡ arena.old.cap }
-{
-    match decisions.crane_of(other) {
-        None => {}
-        Some(_) => push_between(decisions, one, other, arena),
+    if let Some(len) = decisions.forced_by_cranes(one, other) {
+        arena.push(one, other, len);
+    } else if let Some(len) = decisions.forced_by_cranes(other, one) {
+        arena.push(other, one, len);
     }
 }
 
@@ -101,7 +78,7 @@ fn assign(decisions: &mut Decisions, task: u16, crane: u16, arena: &mut ArcArena
     let count = decisions.instance().task_count();
     decisions.add(Decision::Assign(task, crane));
     for other in 0..count {
-        push_added(decisions, task, other, arena);
+        push_between(decisions, task, other, arena);
     }
 }
 

@@ -5,7 +5,8 @@ ghost use Rattle.qc_model.specs.declared.limits.TheConstants.{MOST_TASKS};
 ghost use Rattle.qc_model.specs.Instance.{Valid};
 ghost use Rattle.qc_model.specs.Nodes.{Fits};
 ghost use Rattle.qc_dist.specs.Node.{IsOpen};
-ghost use Rattle.qc_starts.specs.NodeArcs.{IsSound};
+ghost use Rattle.qc_starts.specs.NodeArcs.{IsSound, NodeArcs};
+ghost use Rattle.qc_starts.specs.Network.{IsKept, node_of};
 
 use crate::arcs::{decide, open_arena};
 use qc_arena::ArcArena;
@@ -39,11 +40,7 @@ pub(crate) struct Network {
 }
 
 impl Model for Network {
-    ghost use Rattle.qc_starts.specs.NodeArcs.{NodeArcs};
-
     ghost Value = { NodeArcs };
-
-    ghost use Rattle.qc_starts.specs.Network.{IsKept, node_of};
 
     ghost view = { node_of };
 

@@ -11,9 +11,11 @@ ghost use Rattle.qc_dist.specs.Kept.{unassigned_ticks};
 ghost use Rattle.qc_starts.specs.Opened.{AreSized};
 ghost use Rattle.qc_starts.specs.NodeArcs.{IsSound};
 ghost use Rattle.qc_starts.specs.Roots.{root_of};
-ghost use Rattle.qc_starts.specs.Seen.{AreNotes, HasNone, HoldsForced, HoldsStarts, IsCycle, IsNodeStart, IsWhy, first_of, taken_back};
+ghost use Rattle.qc_starts.specs.Seen.{AreNotes, HasNone, HoldsForced, HoldsStarts, IsCycle, IsNodeStart, IsWhy, first_of, taken_back, StartsNode, IsNoted, IsReached, IsStep};
 ghost use Rattle.qc_trail.specs.Trails.{written_back};
 ghost use Rattle.qc_starts.specs.Values.{AreRest};
+ghost use Rattle.qc_starts.specs.Fields.{node_of, IsKept};
+ghost use Rattle.qc_dist.specs.Node.{IsOpen, newest};
 
 use crate::complete::is_complete;
 use crate::latest::{last_end, latest};
@@ -55,11 +57,7 @@ pub struct Starts {
 }
 
 impl Model for Starts {
-    ghost use Rattle.qc_starts.specs.Seen.{StartsNode};
-
     ghost Value = { StartsNode };
-
-    ghost use Rattle.qc_starts.specs.Fields.{node_of, IsKept};
 
     ghost view = { node_of };
 
@@ -90,9 +88,6 @@ fn open_spread<L: Ledger>(
 }
 
 impl Starts {
-    ghost use Rattle.qc_dist.specs.Node.{IsOpen, newest};
-    ghost use Rattle.qc_starts.specs.Seen.{IsNoted, IsReached, IsStep};
-
     /// No decision for the instance.
     pub fn open(alloc: Global, inst: &Instance) -> Result<Starts, OutOfMemory>
         ensures inst { IfOk result (λ node. node.inst ≡ inst.now) }

@@ -1,6 +1,7 @@
 //! What may be wrong with a stowage list.
 
 ghost use Rattle.std.specs.Prelude.{◌≡◌, ◌≤◌, length};
+ghost use Rattle.qc_stow.specs.Faults.{kind_text};
 
 use qc_cell::CellFault;
 use qc_num::ReadError;
@@ -31,8 +32,6 @@ pub enum StowKind {
 }
 
 impl StowKind {
-    ghost use Rattle.qc_stow.specs.Faults.{kind_text};
-
     /// The kind as reports print it.
     pub fn text(self) -> &'static str
         ensures text { result.now ≡ kind_text self }

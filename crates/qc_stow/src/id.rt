@@ -1,6 +1,6 @@
 //! Ids of containers.
 
-ghost use Rattle.std.specs.Prelude.{◌≡◌, IfSome, IsSome, IsTrue, ◌↔◌};
+ghost use Rattle.std.specs.Prelude.{◌≡◌, IfSome, IsSome, IsTrue, ◌↔◌, ℕ, List};
 ghost use Rattle.std.specs.List.{list_all};
 ghost use Rattle.qc_stow.specs.Fields.{is_id, is_id_byte};
 
@@ -14,9 +14,6 @@ pub struct Id {
 }
 
 impl Model for Id {
-    ghost use Rattle.std.specs.Prelude.{ℕ, List, IsTrue};
-    ghost use Rattle.qc_stow.specs.Fields.{is_id};
-
     ghost Value = { List ℕ };
 
     ghost view = { λ id. id.text };

@@ -2,6 +2,10 @@
 
 ghost use Rattle.std.specs.Prelude.{◌≡◌};
 ghost use Rattle.csv.specs.Records.{fields_of};
+ghost use Rattle.qc_stow.specs.Moves.{is_discharge, is_load};
+ghost use Rattle.qc_stow.specs.Rows.{move_in, row_in};
+ghost use Rattle.qc_cell.specs.Cells.{cell_in};
+ghost use Rattle.qc_num.specs.Reading.{with_fault};
 
 use crate::fault::StowKind;
 use crate::fields::length_text;
@@ -20,8 +24,6 @@ pub enum Move {
 }
 
 impl Move {
-    ghost use Rattle.qc_stow.specs.Moves.{is_discharge, is_load};
-
     /// Whether the container goes off the ship.
     pub fn is_discharge(self) -> bool
         ensures { result ≡ is_discharge self }
@@ -46,10 +48,6 @@ pub struct Row {
 }
 
 impl Row {
-    ghost use Rattle.qc_stow.specs.Rows.{move_in, row_in};
-    ghost use Rattle.qc_cell.specs.Cells.{cell_in};
-    ghost use Rattle.qc_num.specs.Reading.{with_fault};
-
     /// The way that a field writes.
     fn move_in(field: &[u8]) -> Result<Move, StowKind>
         ensures { result ≡ move_in field.now }

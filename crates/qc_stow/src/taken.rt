@@ -1,7 +1,7 @@
 //! What the moves so far have taken.
 
 ghost use Rattle.std.specs.Prelude.{◌≡◌, [], ◌∷◌, ◌++◌, map, not, IfOk, IsTrue};
-ghost use Rattle.qc_stow.specs.Taken.{has_taken_cell, has_taken_id, has_taken_slot, slots_of};
+ghost use Rattle.qc_stow.specs.Taken.{has_taken_cell, has_taken_id, has_taken_slot, slots_of, TakenView};
 
 use crate::row::Move;
 use indexmap::IndexSet;
@@ -26,9 +26,6 @@ pub(crate) struct Taken<'a> {
 }
 
 impl<'a> Model for Taken<'a> {
-    ghost use Rattle.std.specs.Prelude.{map};
-    ghost use Rattle.qc_stow.specs.Taken.{TakenView};
-
     ghost Value = { TakenView };
 
     ghost view = { λ t. record {

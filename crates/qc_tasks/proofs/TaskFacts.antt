@@ -1,7 +1,6 @@
 -- The tasks of a ship keep what the tasks of an instance keep.
-use Rattle.std.proofs.Common.{◌≡◌, ◌⊎◌, ℕ, ◌+◌, ◌*◌, ◌%◌, ◌<◌, ◌≤◌, ◌==◌, Bool, true, false, cond, List, length, refl, sym, ap, inl, inr, ◌∙◌, arith, count_by, sum_by, pos, ◌<ℤ◌}
+use Rattle.std.proofs.Common.{◌≡◌, ◌⊎◌, ℕ, ◌+◌, ◌*◌, ◌%◌, ◌<◌, ◌≤◌, ◌==◌, Bool, true, false, cond, List, length, refl, sym, ap, inl, inr, ◌∙◌, arith, count_by, sum_by, pos, ◌<ℤ◌, ◌&&◌, nat_eq, nat_le}
 use Rattle.std.specs.List.{flat_map, zip, AllByRecursion as Each}
-use Rattle.std.specs.Prelude.{◌&&◌, nat_eq, nat_le}
 use Rattle.std.proofs.Math.Bool.{and-false}
 use Rattle.std.proofs.Math.Nat.{mul-le-mul_left}
 use Rattle.std.proofs.lemmas.Bool.{and_parts, cases_Bool}

@@ -1,7 +1,6 @@
 -- The instance of a ship and its moves is valid.
-use Rattle.std.proofs.Common.{◌≡◌, ◌≢◌, ◌↔◌, ℕ, ℤ, map, ◌+◌, ◌-◌, ◌<◌, ◌≤◌, ◌∷◌, ◌==◌, ◌&&◌, [], Bool, true, false, List, length, get_or, min, max, refl, sym, ap, inl, inr, ◌∙◌, arith, AllPairs, Contains, pos}
+use Rattle.std.proofs.Common.{◌≡◌, ◌≢◌, ◌↔◌, ℕ, ℤ, map, ◌+◌, ◌-◌, ◌<◌, ◌≤◌, ◌∷◌, ◌==◌, ◌&&◌, [], Bool, true, false, List, length, get_or, min, max, refl, sym, ap, inl, inr, ◌∙◌, arith, AllPairs, Contains, pos, nat_lt}
 use Rattle.std.specs.List.{flat_map, list_any, zip, AllByRecursion as Each}
-use Rattle.std.specs.Prelude.{nat_lt}
 use Rattle.std.specs.Str.{bytes_eq}
 use Rattle.std.proofs.lemmas.Bool.{and_parts, cases_Bool, cases_lt, or_cases, or_left}
 use Rattle.std.proofs.lemmas.Bool.Decides.{Decides-eqb, Decides-ltb}

@@ -1,5 +1,5 @@
 //! The report of an instance's tasks and of the rules between them.
-ghost use Rattle.std.specs.Prelude.{◌≡◌, ◌≤◌, ◌<◌, ℕ, ◌++◌, codes, length, sum_by, Contains};
+ghost use Rattle.std.specs.Prelude.{◌≡◌, ◌≤◌, ◌<◌, ℕ, ◌++◌, codes, length, Contains};
 ghost use Rattle.std.specs.List.{flat_map};
 ghost use Rattle.qc_io.specs.Writes.{Writes};
 ghost use Rattle.qc_model.specs.Instance.{pair_of};
@@ -7,7 +7,7 @@ ghost use Rattle.qc_tasks.specs.TasksText.{task_line, pair_line, total_line, tas
 
 use qc_io::{Sink, WriteFault, put_all};
 use qc_model::{Instance, Pair, Task};
-use qc_num::{Text, Tick};
+use qc_num::Text;
 
 /// The line of a task.
 fn task_line(task: &Task) -> Text<64>
@@ -39,20 +39,12 @@ fn pair_line(inst: &Instance, title: &[u8], pair: &Pair) -> Text<32>
     line
 }
 
-/// The length of all tasks together, in ticks.
-fn total_ticks(inst: &Instance) -> Tick
-    ensures { result ≡ sum_by (λ t. t.ticks) inst.now.tasks }
-{
-    let tasks = inst.tasks();
-    tasks.iter().map(|task| task.ticks).sum()
-}
-
 /// The line of the length of all tasks.
 fn total_line(inst: &Instance) -> Text<32>
     ensures { result ≡ total_line inst.now }
 {
     let mut line = Text::of(b"total ");
-    line.push_number(total_ticks(inst));
+    line.push_number(inst.work());
     line.push(b"\n");
     line
 }

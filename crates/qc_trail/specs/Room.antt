@@ -1,4 +1,4 @@
--- Room: what holds of the fields of a trail, so that a note takes no memory.
+-- inner: what holds of the fields of a trail, so that a note takes no memory.
 use Rattle.std.specs.Prelude.{◌≤◌, ◌<◌, ◌^◌, vec_len, vec_capacity}
 use Rattle.qc_trail.specs.declared.trail.Trail.TheInside.{Inside}
 

@@ -1,4 +1,4 @@
--- Trails: notes of what cells held, and what writing them back leaves.
+-- public: notes of what cells held, and what writing them back leaves.
 use Rattle.std.specs.Prelude.{ℕ, List, [], ◌∷◌, slice_set}
 use Rattle.qc_trail.specs.declared.trail.Note.{Note}
 

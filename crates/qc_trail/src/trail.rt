@@ -1,5 +1,6 @@
 ghost use Rattle.std.specs.Prelude.{◌≡◌, ◌+◌, ◌-◌, ◌<◌, ◌≤◌, [], ◌∷◌, ◌++◌, All, length, take, drop, IfOk};
-ghost use Rattle.qc_trail.specs.Trails.{written_back};
+ghost use Rattle.qc_trail.specs.Trails.{written_back, Notes};
+ghost use Rattle.qc_trail.specs.Room.{HasRoom};
 
 use crate::Cells;
 use qc_num::{OutOfMemory, Steps};
@@ -24,11 +25,7 @@ pub struct Trail {
 }
 
 impl Model for Trail {
-    ghost use Rattle.qc_trail.specs.Trails.{Notes};
-
     ghost Value = { Notes };
-
-    ghost use Rattle.qc_trail.specs.Room.{HasRoom};
 
     ghost view = { λ trail. record { notes = trail.notes.items; cap = trail.cap } };
 

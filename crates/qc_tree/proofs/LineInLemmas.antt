@@ -1,6 +1,5 @@
 -- The reading of a text as a value: it is the line whose text this is.
-use Rattle.std.proofs.Common.{◌≡◌, ℕ, ◌<◌, ◌^◌, Bool, true, false, ◌==◌, cond, List, [], ◌∷◌, ◌++◌, length, map, not, get_or, All, Option, None, Some, refl, sym, ap, subst, ◌∙◌, arith}
-use Rattle.std.specs.Prelude.{MatchResult, Ok, Err, Result, bytes_eq, codes, decimal, nat_le, nat_lt}
+use Rattle.std.proofs.Common.{◌≡◌, ℕ, ◌<◌, ◌^◌, Bool, true, false, ◌==◌, cond, List, [], ◌∷◌, ◌++◌, length, map, not, get_or, All, Option, None, Some, refl, sym, ap, subst, ◌∙◌, arith, MatchResult, Ok, Err, Result, bytes_eq, codes, decimal, nat_le, nat_lt}
 use Rattle.std.specs.Char.{is_ascii_digit}
 use Rattle.std.specs.List.{list_all, slice_split}
 use Rattle.std.specs.Str.Parse.{digits_value}
@@ -275,25 +274,6 @@ line_read text list (Err bad) reads = none (line_in text) refl
     none : (o : Option Listed) → line_in text ≡ o → line_in text ≡ None
     none None e = e
     none (Some seen) e = absurd (reads seen.line seen.list (is_text_of text seen e))
-
--- one text, one line, one list
-pub one_spelling : (text : List ℕ) (l m : Line) (p q : List ℕ) → IsTextOf text l p → IsTextOf text m q → (l ≡ m) × (p ≡ q)
-one_spelling text l m p q a b =
-    let same = same_Some _ _ (sym (line_in_of text l p a) ∙ line_in_of text m q b) in
-    (ap (λ (x : Listed). x.line) same, ap (λ (x : Listed). x.list) same)
-
--- what is written is a line's text, and is read back as that line with its list
-pub is_text : (line : Line) (path : List ℕ) → IsLine line path → IsTextOf (line_text line path) line (line_list line path)
-is_text Chain path h = record { same = refl; in_range = h; list = refl }
-is_text line path h = record { same = refl; in_range = h; list = refl }
-
-pub reads_back :
-    (line : Line) (path after : List ℕ) (result : Result Line BadLine) → IsLine line path → Reads (line_text line path) after result
-    → (result ≡ Ok line) × (after ≡ line_list line path)
-reads_back line path after (Ok read) h reads =
-    let one = one_spelling (line_text line path) read line after (line_list line path) reads (is_text line path h) in
-    (ap Ok one.0, one.1)
-reads_back line path after (Err bad) h reads = absurd (reads line (line_list line path) (is_text line path h))
 
 -- ---- lines in a file
 

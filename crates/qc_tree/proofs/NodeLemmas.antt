@@ -31,12 +31,5 @@ module _ (version : Version) (inst : InstanceView) where
   none_branched [] = refl
   none_branched (ds ∷ more) = omega (arith, none_branched more)
 
-  pub value_then : (one two : List Node)
-      → part_value version inst (one ++ two) ≡ lesser (part_value version inst one) (part_value version inst two)
-  value_then [] two = refl
-  value_then (node ∷ one) two =
-      ap (lesser (node_value version inst node)) (value_then one two)
-      ∙ sym (lesser_assoc (node_value version inst node) (part_value version inst one) (part_value version inst two))
-
 pub branchings_then : (one two : List Node) → branchings (one ++ two) ≡ branchings one + branchings two
 branchings_then = sum_by-append (λ (node : Node). cond (branches node.sign) 1 0)

@@ -1,8 +1,8 @@
 -- What a made ship and its list come to: the stored tree and plan, the check of both, and what is told.
-use Rattle.std.proofs.Common.{◌≡◌, ◌≤◌, ◌⊎◌, ℕ, Bool, true, false, List, Option, None, Some, Result, Ok, Err, arith, refl, sym, subst, ap, ap₂, inl, inr, ◌∙◌}
-use Rattle.std.specs.Prelude.{IfSome, IsSomeAnd, codes, nat_le, if◌then◌else◌}
+use Rattle.std.proofs.Common.{◌≡◌, ◌≤◌, ◌⊎◌, ℕ, Bool, true, false, List, Option, None, Some, Result, Ok, Err, arith, refl, sym, subst, ap, ap₂, inl, inr, ◌∙◌, IfSome, IsSomeAnd, codes, nat_le, if◌then◌else◌}
 use Rattle.std.specs.Cmp.Lexicographic.{nat_list_cmp_total}
 use Rattle.std.specs.FinMap.{get, get-insert, insert}
+use Rattle.std.proofs.lemmas.Option.{same_Some}
 use Rattle.qc_num.specs.Bounds.{IsAtMost}
 use Rattle.qc_num.specs.declared.bound.Bound.{Bound}
 use Rattle.qc_num.specs.declared.bound.Bound.TheVariants.{Least, Never}
@@ -74,9 +74,6 @@ module _ (inst : InstanceView) (tree : Tree) (held mid after : Files)
     reread = reread (short_ends inst sched judged soon);
   }
 
-pub same_some : {A : Type 0} {a b : A} → ◌≡◌ {A = Option A} (Some a) (Some b) → a ≡ b
-same_some e = cc
-
 -- the tree was stored, and then the plan
 pub are_stored : (inst : InstanceView) (before mid after : Option Files) (done : DoneView)
     → IfSome before (λ held. IsSearchStored (record { inst = inst; nodes = made_branchings }) (codes "tree") held mid done)
@@ -86,7 +83,7 @@ pub are_stored : (inst : InstanceView) (before mid after : Option Files) (done :
 are_stored inst None mid after done stored wrote reread = tt
 are_stored inst (Some held) None after done stored wrote reread = absurd (cc stored.files)
 are_stored inst (Some held) (Some now) after done stored wrote reread =
-    let is = same_some stored.files in
+    let is = same_Some _ _ stored.files in
     let sound = stored.found.sound in
     let files : Files = with_plan now (codes "plan") inst done.best in
     subst (λ (o : Option Files). IsSomeAnd o (λ files. AreStored inst files done)) (sym wrote) (record {

@@ -1,9 +1,8 @@
 -- What is asked for keeps the limits, whatever the words are.
-use Rattle.std.proofs.Common.{ℕ, ◌≤◌, ◌&&◌, IfSome, lit≤, nat_le, cond, List, Option, None, Some, codes, arith}
+use Rattle.std.proofs.Common.{ℕ, ◌≤◌, ◌&&◌, IfSome, lit≤, nat_le, cond, List, Option, None, Some, codes, arith, option_and_then}
 use Rattle.std.proofs.lemmas.Bool.{cond_both}
 use Rattle.std.proofs.lemmas.Bool.Decides.{nat_tests}
 use Rattle.std.specs.Option.{option_map_or}
-use Rattle.std.specs.Prelude.{option_and_then}
 use Rattle.clap.proofs.WalkLemmas.{both}
 use Rattle.clap.specs.Words.{Row, Text, first_of}
 use Rattle.qc_model.specs.Numbers.{most_branchings, most_cranes, most_hatches}

@@ -1,12 +1,11 @@
 -- Words in their plain form ask for what they say.
-use Rattle.std.proofs.Common.{◌≡◌, ◌∙◌, inl, inr, ℕ, ◌<◌, ◌≤◌, ◌^◌, lit<, lit≤, ap, ap₂, subst, sym, refl, cond, true, not, bytes_eq, nat_le, ◌&&◌, ◌||◌, ◌==◌, List, [], ◌∷◌, None, Some, codes, arith}
+use Rattle.std.proofs.Common.{◌≡◌, ◌∙◌, inl, inr, ℕ, ◌<◌, ◌≤◌, ◌^◌, lit<, lit≤, ap, ap₂, subst, sym, refl, cond, true, not, bytes_eq, nat_le, ◌&&◌, ◌||◌, ◌==◌, List, [], ◌∷◌, None, Some, codes, arith, decimal, option_and_then}
 use Rattle.std.proofs.lemmas.Bool.{cases_Bool}
 use Rattle.std.proofs.lemmas.Bool.Decides.{nat_tests}
 use Rattle.std.proofs.lemmas.Slice.Eq.{bytes_eq-Decides}
 use Rattle.std.specs.Char.{is_ascii_digit}
 use Rattle.std.specs.List.{list_all}
 use Rattle.std.specs.Option.{option_map_or}
-use Rattle.std.specs.Prelude.{decimal, option_and_then}
 use Rattle.clap.proofs.WalkLemmas.{both}
 use Rattle.clap.specs.Faults.{defaults_fault}
 use Rattle.clap.specs.Simple.{built}

@@ -1,5 +1,4 @@
-use Rattle.std.proofs.Common.{◌≡◌, ◌+◌, ◌≤◌, map}
-use Rattle.std.specs.Prelude.{IfSome}
+use Rattle.std.proofs.Common.{◌≡◌, ◌+◌, ◌≤◌, map, IfSome}
 use Rattle.std.specs.List.{filter, range_with_len}
 use Rattle.qc_model.specs.declared.limits.TheConstants.{MOST_DISTANCE, MOST_READY}
 use Rattle.qc_model.specs.Nodes.{reaches}

@@ -1,5 +1,4 @@
-use Rattle.std.proofs.Common.{◌≡◌, ◌∷◌, [], ℕ, true, false, length, drop, Option, ap, sym, subst, ◌∙◌, rules, arith, length-append}
-use Rattle.std.specs.Prelude.{find}
+use Rattle.std.proofs.Common.{◌≡◌, ◌∷◌, [], ℕ, true, false, length, drop, Option, ap, sym, subst, ◌∙◌, rules, arith, length-append, find}
 use Rattle.std.specs.List.{zip}
 use Rattle.std.specs.Option.{option_map_or}
 use Rattle.std.proofs.lemmas.Slice.Zip.{zip_turn, zip_end, length-zip}

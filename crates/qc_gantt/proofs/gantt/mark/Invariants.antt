@@ -1,5 +1,4 @@
-use Rattle.std.proofs.Common.{◌≡◌, length, drop}
-use Rattle.std.specs.Prelude.{find}
+use Rattle.std.proofs.Common.{◌≡◌, length, drop, find}
 use Rattle.std.specs.List.{zip}
 use Rattle.qc_gantt.specs.GanttText.{is_at}
 use Rattle.qc_gantt.proofs.gantt.mark.Given as goal

@@ -1,5 +1,4 @@
-use Rattle.std.proofs.Common.{◌≡◌, ◌∙◌, ◌+◌, List, ap, length, map, rules, subst, take}
-use Rattle.std.specs.Prelude.{Result}
+use Rattle.std.proofs.Common.{◌≡◌, ◌∙◌, ◌+◌, List, ap, length, map, rules, subst, take, Result}
 use Rattle.csv.specs.Records.{fields_of}
 use Rattle.qc_model.specs.declared.schedule.Slot.{Slot}
 use Rattle.qc_records.specs.Records.{records_of}

@@ -1,5 +1,4 @@
-use Rattle.std.proofs.Common.{◌++◌}
-use Rattle.std.specs.Prelude.{codes}
+use Rattle.std.proofs.Common.{◌++◌, codes}
 use Rattle.std.specs.List.{flat_map}
 use Rattle.qc_io.proofs.WritesLemmas.{writes_cut, writes_then}
 use Rattle.qc_gantt.specs.TracksText.{waypoint_text}

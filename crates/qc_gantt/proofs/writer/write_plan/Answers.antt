@@ -1,5 +1,4 @@
-use Rattle.std.proofs.Common.{rules}
-use Rattle.std.specs.Prelude.{codes}
+use Rattle.std.proofs.Common.{rules, codes}
 use Rattle.std.specs.List.{flat_map, zip}
 use Rattle.qc_io.proofs.WritesLemmas.{writes_then, writes_cut}
 use Rattle.qc_gantt.specs.PlanText.{plan_line}

@@ -1,5 +1,4 @@
-use Rattle.std.proofs.Common.{◌≡◌, ◌<◌, ◌∙◌, length, sym, subst, rules, Option, List, ℕ, Err}
-use Rattle.std.specs.Prelude.{IfSome}
+use Rattle.std.proofs.Common.{◌≡◌, ◌<◌, ◌∙◌, length, sym, subst, rules, Option, List, ℕ, Err, IfSome}
 use Rattle.qc_io.specs.Outside.{IsFile}
 use Rattle.qc_io.specs.declared.reading.ReadAll.TheVariants.{TooLarge}
 use Rattle.qc_io.proofs.Pieces.{whole_at_end}

@@ -1,5 +1,4 @@
-use Rattle.std.proofs.Common.{◌≡◌, true, false, ap, arith, subst, sym, ◌∙◌}
-use Rattle.std.specs.Prelude.{is_err}
+use Rattle.std.proofs.Common.{◌≡◌, true, false, ap, arith, subst, sym, ◌∙◌, is_err}
 use Rattle.qc_model.specs.Instance.{InstanceView}
 use Rattle.qc_search.specs.Run.{SearchView}
 use Rattle.qc_tree.specs.Trees.{NoneEarlier}

@@ -1,5 +1,4 @@
-use Rattle.std.proofs.Common.{◌≡◌, Ok, refl, rules, subst}
-use Rattle.std.specs.Prelude.{IfOk, IfSome, Some}
+use Rattle.std.proofs.Common.{◌≡◌, Ok, refl, rules, subst, IfOk, IfSome, Some}
 use Rattle.qc_io.specs.Outside.{file_at}
 use Rattle.qc_tree.specs.Trees.{IsTree, NoneEarlier, Tree, tree_branchings, tree_text, tree_value}
 use Rattle.qc_replay.specs.File.{Fails, IsReadThrough}

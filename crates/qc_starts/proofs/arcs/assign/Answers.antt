@@ -15,8 +15,8 @@ loop-other-init c = record {
   over = ([], refl);
 }
 
-pub push_added-requires-clause-room : goal.push_added-requires-clause-room
-push_added-requires-clause-room c =
+pub push_between-requires-clause-room : goal.push_between-requires-clause-room
+push_between-requires-clause-room c =
     let is = c.loop-other.invariant in
     let count = ap (λ (i : InstanceView). length i.tasks) c.instance.ensures.same in
     let news = c.add.new.self.decisions in
@@ -43,16 +43,16 @@ loop-other-preserved c =
     c.add.ensures.fits arcs t c.args.crane
     (ap (λ (n : Node). n.decisions) c.add.ensures.added) c.requires.open.2 c.requires.open.0
     o (omega (arith, count, c.task_count-count.ensures.count, c.loop-other-test.true)) is.so_far in
-    let same = c.push_added.ensures.arcs
+    let same = c.push_between.ensures.arcs
     ∙ ap (λ (n : Node). with_added t o (added n.inst news t o) (added n.inst news o t) arcs) c.add.ensures.added in
     record {
       room = record {
-        nodes = c.push_added.ensures.nodes ∙ is.room.nodes;
-        cap = c.push_added.ensures.cap ∙ is.room.cap;
+        nodes = c.push_between.ensures.nodes ∙ is.room.nodes;
+        cap = c.push_between.ensures.cap ∙ is.room.cap;
       };
       so_far = subst (λ (xs : List Edge). IsAssigning inst ds t c.args.crane xs (o + 1)) (sym same) after;
-      low = c.push_added.ensures.low is.low;
-      over = over_over (reverse c.args.arena.now.arcs) arcs (reverse c.push_added.new.arena.arcs) is.over
+      low = c.push_between.ensures.low is.low;
+      over = over_over (reverse c.args.arena.now.arcs) arcs (reverse c.push_between.new.arena.arcs) is.over
           (subst (IsOver arcs) (sym same) (over_added t o (added inst news t o) (added inst news o t) arcs));
     }
 

@@ -1,6 +1,5 @@
-use Rattle.std.proofs.Common.{ℕ, ◌+◌, ◌<◌, ◌≤◌, inl, inr, List, Option, None, Some, refl, ap, sym, subst, ◌∙◌, arith}
+use Rattle.std.proofs.Common.{ℕ, ◌+◌, ◌<◌, ◌≤◌, inl, inr, List, Option, None, Some, refl, ap, sym, subst, ◌∙◌, arith, cond, nat_lt}
 use Rattle.std.proofs.lemmas.Bool.{cases_eq, cond_both, ltb-false, ltb-true}
-use Rattle.std.specs.Prelude.{cond, nat_lt}
 use Rattle.qc_model.specs.Instance.{InstanceView}
 use Rattle.qc_starts.specs.declared.latest.Last.{Last}
 use Rattle.qc_starts.specs.Found.{IsLast, IsLatest, end_by, end_in}

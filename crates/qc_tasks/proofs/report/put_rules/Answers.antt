@@ -1,5 +1,4 @@
-use Rattle.std.proofs.Common.{List, subst, arith, rules}
-use Rattle.std.specs.Prelude.{Contains}
+use Rattle.std.proofs.Common.{List, subst, arith, rules, Contains}
 use Rattle.qc_io.proofs.WritesLemmas.{writes_cut, writes_then}
 use Rattle.qc_model.specs.declared.pair.Pair.{Pair}
 use Rattle.qc_model.specs.Instance.{pair_of}

@@ -1,7 +1,6 @@
-use Rattle.std.proofs.Common.{◌≡◌, arith, ap, length, not, rules, sym, ◌∙◌}
+use Rattle.std.proofs.Common.{◌≡◌, arith, ap, length, not, rules, sym, ◌∙◌, unwrap_or}
 use Rattle.std.specs.Char.{is_ascii_digit}
 use Rattle.std.specs.List.{position_or_len}
-use Rattle.std.specs.Prelude.{unwrap_or}
 use Rattle.qc_tree.proofs.Digits.{front_digits, len_le, len_of}
 use Rattle.qc_tree.proofs.fields.split_digits.Goals as goal
 

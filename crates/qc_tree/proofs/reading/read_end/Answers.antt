@@ -1,5 +1,4 @@
-use Rattle.std.proofs.Common.{◌≡◌, ◌∷◌, ◌++◌, ap, arith, drop, ◌∙◌}
-use Rattle.std.specs.Prelude.{decimal}
+use Rattle.std.proofs.Common.{◌≡◌, ◌∷◌, ◌++◌, ap, arith, drop, ◌∙◌, decimal}
 use Rattle.qc_tree.specs.Lines.{bound_field}
 use Rattle.qc_tree.proofs.OneSpelling.{end_only, ends_bound, field_is}
 use Rattle.qc_tree.proofs.reading.read_end.Goals as goal

@@ -1,5 +1,4 @@
-use Rattle.std.proofs.Common.{◌∙◌}
-use Rattle.std.specs.Prelude.{reverse}
+use Rattle.std.proofs.Common.{◌∙◌, reverse}
 use Rattle.qc_dist.specs.Kept.{decisions_of}
 use Rattle.qc_dist.proofs.Facts.{assigned_range}
 use Rattle.qc_dist.proofs.decisions.Decisions.crane_of.Goals as goal

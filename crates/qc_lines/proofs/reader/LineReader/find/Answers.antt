@@ -1,5 +1,4 @@
-use Rattle.std.proofs.Common.{◌≡◌, ◌-◌, Option, List, ℕ, ap, arith, length, subst, sym, ◌∙◌}
-use Rattle.std.specs.Prelude.{IfSome}
+use Rattle.std.proofs.Common.{◌≡◌, ◌-◌, Option, List, ℕ, ap, arith, length, subst, sym, ◌∙◌, IfSome}
 use Rattle.qc_lines.specs.Left.{IsCut, IsTooLong}
 use Rattle.qc_lines.proofs.Feeds.{cut_left, far_line, found_line, long_left, window_len}
 use Rattle.qc_lines.proofs.reader.LineReader.find.Goals as goal

@@ -1,8 +1,7 @@
-use Rattle.std.proofs.Common.{ℕ, Bool, true, false, List, length, ap, ◌∙◌, arith}
+use Rattle.std.proofs.Common.{ℕ, Bool, true, false, List, length, ap, ◌∙◌, arith, slice_index_or}
 use Rattle.std.proofs.lemmas.List.{get_or-set_other, get_or-set_same}
 use Rattle.std.proofs.Math.ListN.{length-set}
 use Rattle.qc_starts.specs.declared.noted.Noted.{Noted}
-use Rattle.std.specs.Prelude.{slice_index_or}
 use Rattle.qc_starts.specs.Noting.{marks}
 use Rattle.qc_starts.specs.Values.{start_at}
 use Rattle.qc_starts.proofs.NotingLemmas.{all_clear, marks_none}

@@ -1,5 +1,4 @@
-use Rattle.std.proofs.Common.{ℕ, false, List, ap, sym, subst, ◌∙◌, arith}
-use Rattle.std.specs.Prelude.{slice_set}
+use Rattle.std.proofs.Common.{ℕ, false, List, ap, sym, subst, ◌∙◌, arith, slice_set}
 use Rattle.qc_starts.specs.Place.{ArePlaced}
 use Rattle.qc_starts.specs.Values.{raised}
 use Rattle.qc_starts.proofs.PlaceLemmas.{place_done, place_firm}

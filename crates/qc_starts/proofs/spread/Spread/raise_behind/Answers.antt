@@ -1,6 +1,5 @@
-use Rattle.std.proofs.Common.{ℕ, [], ◌<◌, false, List, length, ap, sym, subst, ◌∙◌, arith}
+use Rattle.std.proofs.Common.{ℕ, [], ◌<◌, false, List, length, ap, sym, subst, ◌∙◌, arith, slice_set}
 use Rattle.std.proofs.Math.ListN.{length-set}
-use Rattle.std.specs.Prelude.{slice_set}
 use Rattle.qc_starts.specs.Spread.{IsLooked, IsPick, IsSpreading, from_task, left}
 use Rattle.qc_starts.proofs.NotingLemmas.{wrote_then}
 use Rattle.qc_starts.proofs.SpreadLemmas.{look_begins, look_from, look_less, spread_ends}
