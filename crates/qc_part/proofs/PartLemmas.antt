@@ -1,9 +1,9 @@
 -- Hatches and events of a part, as they are kept and as they are seen.
-use Rattle.std.proofs.Common.{◌≡◌, ℕ, ◌+◌, ◌-◌, ◌<◌, ◌≤◌, ◌≢◌, ◌⊎◌, inl, inr, ℤ, pos, negsuc, Bool, replicate, set, below_more, cond, ap₂, List, [], length, get_or, sym, ap, subst, ◌∙◌, arith}
+use Rattle.std.proofs.Common.{◌≡◌, ℕ, ◌+◌, ◌-◌, ◌<◌, ◌≤◌, ◌≢◌, ◌⊎◌, inl, inr, ℤ, pos, negsuc, Bool, replicate, set, below_more, cond, ap₂, List, [], length, get_or, sym, ap, subst, ◌∙◌, arith, ◌≤ℤ◌}
 use Rattle.std.specs.Prelude.{All}
 use Rattle.std.specs.Int.{int_max}
 use Rattle.std.proofs.lemmas.Bool.{cases_eq, cases_lt}
-use Rattle.std.proofs.lemmas.Int.{ints}
+use Rattle.std.proofs.lemmas.Int.{clamps, ints}
 use Rattle.std.proofs.lemmas.Grind.{get_or-set_at}
 use Rattle.std.proofs.lemmas.List.{get_or-map, get_or-replicate, get_or-set_other, get_or-set_same, get_or_past, length-map, length-replicate, length-set}
 use Rattle.std.proofs.lemmas.List.Elements.{All-get_or}
@@ -19,8 +19,8 @@ use Rattle.qc_part.specs.declared.state.State.{State}
 use Rattle.qc_part.specs.Children.{AreRaised, done_at, is_last, least_count, size_at, ticks_between}
 use Rattle.qc_part.specs.Hatches.{IsBlock, IsEventOf, blocks_of}
 use Rattle.qc_part.specs.PartFields.{view_of}
-use Rattle.qc_part.specs.Parts.{IsBlockOf, IsPart, PartView, no_block, no_event}
-use Rattle.qc_part.specs.Places.{IsFirstFront, IsFront}
+use Rattle.qc_part.specs.Parts.{IsBlockOf, IsPart, IsStateOf, PartView, block, no_block, no_event}
+use Rattle.qc_part.specs.Places.{IsFirstFront, IsFront, most_front}
 
 pub count_is : (hatches : List Hatch) → length (blocks_of hatches) ≡ length hatches
 count_is hatches = length-map hatches (λ (hatch : Hatch). hatch.block)
@@ -139,3 +139,29 @@ zeros n h = by_order (cases_lt h n)
 
 pub wider : (z : ℤ) → IsFirstFront z → IsFront z
 wider z near = (omega (arith, ints, near.0), omega (arith, ints, near.1))
+
+greater_fits : (a b : ℤ) → IsFront a → b ≤ℤ pos most_front → IsFront (int_max a b)
+greater_fits a b fits low = (omega (arith, ints, clamps, fits.0), omega (arith, ints, clamps, fits.1, low))
+
+-- the state in which a crane did its tasks is one of the part
+pub worked_fits : (part : PartView) (old new : State) (hatch m n : ℕ) (front : ℤ) → IsStateOf part old
+    → hatch < length old.done → m ≤ (block part hatch).count → new.done ≡ set old.done hatch m
+    → AreRaised old.fronts front new.fronts n → front ≤ℤ pos most_front → IsStateOf part new
+worked_fits part old new hatch m n front fits inside few done raised low = record {
+  done = λ h here.
+      subst (λ (xs : List ℕ). get_or xs h 0 ≤ (block part h).count) (sym done) (by_hatch h here (cases_eq h hatch));
+  fronts = λ k here. by_crane k here (cases_lt k n);
+}
+  where
+    by_hatch : (h : ℕ) → h < length part.hatches → (h ≡ hatch) ⊎ (h ≡ hatch → ⊥)
+        → get_or (set old.done hatch m) h 0 ≤ (block part h).count
+    by_hatch h here (inl same) =
+        let is = get_or-set_at old.done hatch h m 0 same inside in
+        let most = subst (λ (g : ℕ). m ≤ (block part g).count) (sym same) few in
+        omega (arith, is, most)
+    by_hatch h here (inr other) = omega (arith, get_or-set_other old.done hatch h m 0 other, fits.done h here)
+
+    by_crane : (k : ℕ) → k < 8 → (k < n) ⊎ (n ≤ k) → IsFront (get_or new.fronts k (pos 0))
+    by_crane k here (inl below) =
+        subst IsFront (sym (raised.below k below)) (greater_fits (get_or old.fronts k (pos 0)) front (fits.fronts k here) low)
+    by_crane k here (inr above) = subst IsFront (sym (raised.others k above)) (fits.fronts k here)

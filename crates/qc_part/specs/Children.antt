@@ -1,5 +1,5 @@
 -- public: the state before any event, and what a state becomes at an event.
-use Rattle.std.specs.Prelude.{◌≡◌, ℕ, ◌+◌, ◌-◌, ◌<◌, ◌≤◌, ℤ, pos, ◌+ℤ◌, ◌-ℤ◌, max, Bool, not, ◌==◌, if◌then◌else◌, List, length, drop, slice_index, slice_index_or, slice_set, sum_by, MatchOption}
+use Rattle.std.specs.Prelude.{◌≡◌, ℕ, ◌+◌, ◌-◌, ◌<◌, ◌≤◌, ℤ, pos, ◌+ℤ◌, ◌-ℤ◌, max, Bool, not, ◌==◌, if◌then◌else◌, List, length, drop, slice_index, slice_index_or, slice_set, sum_by, IfSome, MatchOption}
 use Rattle.std.specs.Int.{int_max}
 use Rattle.std.specs.List.{list_all, range_with_len}
 use Rattle.qc_model.specs.Bays.{at_least_zero}
@@ -70,3 +70,7 @@ pub record IsWorked (part : PartView) (state : State) (e m : ℕ) (worked : Stat
 abbrev pub IsChild : PartView → State → ℕ → ℕ → Child → Type 0
 IsChild part state e m child =
     MatchOption child.end ((child.state ≡ state) × (m ≡ done_at part state e)) (IsWorked part state e m child.state)
+
+-- the tasks that are done at the event end by this tick
+abbrev pub EndsBy : ℕ → Child → Type 0
+EndsBy tick child = IfSome child.end (λ end. end ≤ tick)

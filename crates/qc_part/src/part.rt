@@ -1,10 +1,10 @@
 //! A ship read upward.
 
-ghost use Rattle.std.specs.Prelude.{◌≡◌, ◌+◌, ◌*◌, ◌^◌, ◌<◌, ◌≤◌, drop, length, max, pos, ◌+ℤ◌, ◌-ℤ◌, slice_set, IfOk, IfSome};
+ghost use Rattle.std.specs.Prelude.{◌≡◌, ℕ, ◌+◌, ◌*◌, ◌^◌, ◌<◌, ◌≤◌, drop, length, max, pos, ◌+ℤ◌, ◌-ℤ◌, slice_set, IfOk, IfSome};
 ghost use Rattle.qc_model.specs.declared.limits.TheConstants.{MOST_DISTANCE, MOST_WORK};
 ghost use Rattle.qc_model.specs.Bays.{at_least_zero};
 ghost use Rattle.qc_model.specs.Numbers.{most_hatches};
-ghost use Rattle.qc_part.specs.Children.{AreRaised, IsChild, IsCount, IsRoot, is_absent, least_count, size_at, start_at, ticks_between};
+ghost use Rattle.qc_part.specs.Children.{AreRaised, EndsBy, IsChild, IsCount, IsRoot, is_absent, least_count, size_at, start_at, ticks_between};
 ghost use Rattle.qc_part.specs.Places.{IsFront, most_front};
 ghost use Rattle.qc_part.specs.Parts.{IsBlockOf, IsEvent, IsPart, IsPartOf, IsStateOf, block, event};
 
@@ -143,6 +143,8 @@ impl Part {
         requires state { IsStateOf self.now state.now }
         ensures least { result.0 ≡ least_count self.now state.now e }
         ensures most { result.1 ≡ size_at self.now e }
+        ensures all_left { (m : ℕ) → result.0 ≤ m → m ≤ result.1 → IsCount self.now state.now e m }
+        ensures few { result.1 ≤ 4 }
     {
         let hatch = self.event(e).hatch;
         let most = self.block(hatch).count as u8;
@@ -174,7 +176,8 @@ impl Part {
         requires event { e < length self.now.events }
         requires state { IsStateOf self.now state.now }
         requires count { IsCount self.now state.now e count }
-        ensures { IsChild self.now state.now e count result }
+        ensures child { IsChild self.now state.now e count result }
+        ensures fits { EndsBy most_front result → IsStateOf self.now result.state }
     {
         let event = self.event(e);
         let from = state.done[event.hatch as usize];
