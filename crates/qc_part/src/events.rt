@@ -1,0 +1,80 @@
+//! The events of a ship.
+
+ghost use Rattle.std.specs.Prelude.{◌≡◌, ◌+◌, ◌<◌, ◌≤◌, length, vec_len, All, IfOk};
+ghost use Rattle.qc_model.specs.Numbers.{most_hatches};
+ghost use Rattle.qc_part.specs.Hatches.{IsBlock, IsEventOf};
+
+use crate::event::Event;
+use crate::hatch::Hatch;
+use crate::places::along;
+use qc_dist::in_reach;
+use qc_model::{Instance, MOST_CRANES};
+use qc_num::OutOfMemory;
+use std::alloc::Global;
+
+/// Adds the events of a hatch.
+fn add_events(
+    inst: &Instance,
+    hatches: &[Hatch],
+    number: u8,
+    events: &mut Vec<Event>,
+) -> Result<(), OutOfMemory>
+    requires hatch { number < length hatches.now }
+    requires blocks { All (IsBlock inst.now) hatches.now }
+    requires events { All (IsEventOf inst.now hatches.now) events.old.items }
+    ensures events { All (IsEventOf inst.now hatches.now) events.new.items }
+    ensures few { vec_len events.new ≤ vec_len events.old + 8 }
+{
+    let first_task = hatches[number as usize].block.first;
+    for crane in 0..inst.crane_count() {
+        if in_reach(inst, first_task, crane) {
+            events.push(Event {
+                along: along(inst, first_task, crane),
+                crane,
+                hatch: number,
+                first_task,
+            })?;
+        }
+    }
+    Ok(())
+}
+
+/// The events in their order.
+pub(crate) fn events_of(
+    alloc: Global,
+    inst: &Instance,
+    hatches: &[Hatch],
+) -> Result<Vec<Event>, OutOfMemory>
+    requires few { length hatches.now ≤ most_hatches }
+    requires blocks { All (IsBlock inst.now) hatches.now }
+    ensures events { IfOk result (λ events. All (IsEventOf inst.now hatches.now) events.items) }
+    ensures few { IfOk result (λ events. vec_len events ≤ 480) }
+{
+    let mut events = Vec::new(alloc);
+    for number in 0..hatches.len() as u8 {
+        add_events(inst, hatches, number, &mut events)?;
+    }
+    events.sort_unstable();
+    Ok(events)
+}
+
+/// Of each hatch one more than the number of its event with each crane, and 0 where there is none.
+pub(crate) fn numbers_of(
+    alloc: Global,
+    hatches: usize,
+    events: &[Event],
+) -> Result<Vec<[u32; MOST_CRANES as usize]>, OutOfMemory>
+    requires few { length events.now ≤ 480 }
+    ensures { IfOk result (λ numbers. vec_len numbers ≡ hatches) }
+{
+    let mut numbers = vec![in alloc; [0; MOST_CRANES as usize]; hatches]?;
+    for (number, event) in events.iter().enumerate() {
+        let hatch = event.hatch as usize;
+        if hatch < numbers.len() && event.crane < MOST_CRANES {
+            let mut row = numbers[hatch];
+            row[event.crane as usize] = number as u32 + 1;
+            numbers[hatch] = row;
+        }
+    }
+    Ok(numbers)
+}

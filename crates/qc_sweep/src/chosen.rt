@@ -1,0 +1,39 @@
+//! Which crane does a task, by the states that led to the last one.
+
+use crate::node::Step;
+use crate::trail::Trail;
+use qc_num::OutOfMemory;
+use qc_part::{Event, Part};
+use std::alloc::Global;
+
+/// Gives the tasks that were done at an event its crane.
+fn give(cranes: &mut Vec<Option<u16>>, event: Event, step: Step) {
+    for number in step.from..step.to {
+        let task = event.first_task as usize + number as usize;
+        if task < cranes.len() {
+            cranes[task] = Some(event.crane);
+        }
+    }
+}
+
+/// The crane of each task, from how the last state was come to back to the first one.
+pub(crate) fn cranes_of(
+    alloc: Global,
+    part: &Part,
+    trail: &Trail,
+    last: Step,
+) -> Result<Vec<Option<u16>>, OutOfMemory> {
+    let mut cranes = vec![in alloc; None; part.instance().task_count() as usize]?;
+    let mut step = last;
+    for e in (0..part.events()).rev() {
+        give(&mut cranes, part.event(e), step);
+        if e == 0 {
+            break;
+        }
+        let Some(before) = trail.step(e - 1, step.parent) else {
+            break;
+        };
+        step = before;
+    }
+    Ok(cranes)
+}

@@ -1,0 +1,197 @@
+//! A first plan.
+
+ghost use Rattle.std.specs.Prelude.{◌≡◌, ◌≤◌, ◌<◌, ◌^◌, length, IfOk, IfSome};
+ghost use Rattle.qc_model.specs.Seen.{seen};
+ghost use Rattle.qc_sweep.specs.Hunts.{AreParts, IsHunt, latest_end};
+ghost use Rattle.qc_sweep.specs.Plans.{IsFirstPlan};
+
+use crate::grain::{grain, up_to_grain};
+use crate::hunt::{Hunt, Parts, trial};
+use crate::schedule::{better, schedule_of};
+use crate::split::split;
+use qc_dist::in_reach;
+use qc_model::{Direction, Instance, Schedule, mirror};
+use qc_num::{OutOfMemory, Tick};
+use qc_part::Part;
+use std::alloc::Global;
+
+/// No sweep is asked for a later end.
+const LATEST: Tick = 68_719_476_736;
+
+/// At the beginning a later end isn't looked at.
+const MOST_LOW: Tick = 17_179_869_184;
+
+/// How many states a layer keeps, round by round.
+const WIDTHS: [usize; 4] = [16, 64, 256, 1024];
+
+/// Whether each task lies in some crane's reach.
+fn are_reached(inst: &Instance) -> bool {
+    for task in 0..inst.task_count() {
+        if !is_reached(inst, task) {
+            return false;
+        }
+    }
+    true
+}
+
+/// Whether a task lies in some crane's reach.
+fn is_reached(inst: &Instance, task: u16) -> bool
+    requires { task < length inst.now.tasks }
+{
+    for crane in 0..inst.crane_count() {
+        if in_reach(inst, task, crane) {
+            return true;
+        }
+    }
+    false
+}
+
+/// The greatest tick before which no slack is left at the beginning, found by halving.
+fn low_end(part: &Part) -> Tick
+    ensures { result ≤ latest_end }
+{
+    let root = part.root();
+    let mut low = 0;
+    let mut high = MOST_LOW;
+    for _ in 0..34 {
+        let middle = low + (high - low) / 2;
+        if part.slack(&root, 0, middle).is_some() {
+            high = middle;
+        } else {
+            low = middle;
+        }
+    }
+    low
+}
+
+/// Both parts; `None` where there are more than 60 hatches.
+fn parts_of(alloc: Global, inst: &Instance) -> Result<Option<Parts>, OutOfMemory>
+    ensures { IfOk result (λ found. IfSome found (AreParts inst.now)) }
+{
+    let turned = mirror(alloc, inst)?;
+    let up = Part::open(alloc, inst)?;
+    let down = Part::open(alloc, &turned)?;
+    match (up, down) {
+        (Some(up), Some(down)) => Ok(Some(Parts { up, down })),
+        _ => Ok(None),
+    }
+}
+
+/// The split of whole hatches as a schedule that goes this way.
+fn split_plan(
+    alloc: Global,
+    inst: &Instance,
+    part: &Part,
+    way: Direction,
+) -> Result<Option<Schedule>, OutOfMemory>
+    requires { part.now.inst ≡ seen inst.now way }
+    ensures { IfOk result (λ found. IfSome found (IsFirstPlan inst.now)) }
+{
+    let cranes = split(alloc, part)?;
+    schedule_of(alloc, inst, way, part.instance(), cranes.as_slice())
+}
+
+/// What is known before any sweep.
+fn begin(alloc: Global, inst: &Instance, parts: &Parts, effort: usize) -> Result<Hunt, OutOfMemory>
+    requires { AreParts inst.now parts.now }
+    ensures { IfOk result (IsHunt inst.now) }
+{
+    let up = split_plan(alloc, inst, &parts.up, Direction::Up)?;
+    let down = split_plan(alloc, inst, &parts.down, Direction::Down)?;
+    Ok(Hunt {
+        low_up: low_end(&parts.up),
+        low_down: low_end(&parts.down),
+        cap: None,
+        best: better(inst, up, down),
+        effort,
+    })
+}
+
+/// Tries ends that are later and later until something is found.
+fn climb(
+    alloc: Global,
+    inst: &Instance,
+    parts: &Parts,
+    hunt: &mut Hunt,
+    width: usize,
+) -> Result<(), OutOfMemory>
+    requires parts { AreParts inst.now parts.now }
+    requires hunt { IsHunt inst.now hunt.old }
+    requires width { width ≤ 1024 }
+    ensures { IsHunt inst.now hunt.new }
+{
+    let low = hunt.low();
+    let mut more = (low / 512).max(1);
+    for _ in 0..33 {
+        trial(alloc, inst, parts, hunt, (low + more).min(LATEST), width)?;
+        if hunt.cap.is_some() || more >= 1 << 32 {
+            break;
+        }
+        more *= 2;
+    }
+    Ok(())
+}
+
+/// One round with so many states a layer: before what was found, and halfway down from there.
+fn round(
+    alloc: Global,
+    inst: &Instance,
+    parts: &Parts,
+    hunt: &mut Hunt,
+    grain: Tick,
+    width: usize,
+) -> Result<(), OutOfMemory>
+    requires parts { AreParts inst.now parts.now }
+    requires hunt { IsHunt inst.now hunt.old }
+    requires width { width ≤ 1024 }
+    requires grain { grain ≤ 2 ^ 62 }
+    ensures { IsHunt inst.now hunt.new }
+{
+    match hunt.cap {
+        None => climb(alloc, inst, parts, hunt, width)?,
+        Some(cap) => trial(alloc, inst, parts, hunt, cap, width)?,
+    }
+    let Some(cap) = hunt.cap else {
+        return Ok(());
+    };
+    let low = hunt.low();
+    let middle = up_to_grain((low + cap) / 2, grain);
+    if low < cap && middle < cap {
+        trial(alloc, inst, parts, hunt, middle, width)?;
+    }
+    Ok(())
+}
+
+/// Whether the least end that was found isn't known to be the best.
+fn is_open(hunt: &Hunt) -> bool {
+    match hunt.cap {
+        Some(cap) => hunt.low() < cap,
+        None => true,
+    }
+}
+
+/// A schedule for a search to begin with, found with at most so much effort: of so many states of the
+/// sweeps the children are made. It goes one way. `None` says nothing.
+pub fn first_plan(
+    alloc: Global,
+    inst: &Instance,
+    effort: u32,
+) -> Result<Option<Schedule>, OutOfMemory>
+    requires { effort ≤ 10000000 }
+    ensures { IfOk result (λ found. IfSome found (IsFirstPlan inst.now)) }
+{
+    if !are_reached(inst) {
+        return Ok(None);
+    }
+    let Some(parts) = parts_of(alloc, inst)? else {
+        return Ok(None);
+    };
+    let mut hunt = begin(alloc, inst, &parts, effort as usize)?;
+    let grain = grain(inst);
+    for width in WIDTHS {
+        if is_open(&hunt) {
+            round(alloc, inst, &parts, &mut hunt, grain, width)?;
+        }
+    }
+    Ok(hunt.best)
+}

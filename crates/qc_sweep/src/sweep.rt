@@ -1,0 +1,98 @@
+//! One sweep over the events of a part.
+
+ghost use Rattle.std.specs.Prelude.{◌≤◌, ◌^◌, All, IfOk};
+ghost use Rattle.qc_sweep.specs.Nodes.{IsNodeOf};
+
+use crate::chosen::cranes_of;
+use crate::layer::{choose, expand};
+use crate::node::{Node, Step};
+use crate::trail::Trail;
+use qc_num::{OutOfMemory, Tick};
+use qc_part::Part;
+use std::alloc::Global;
+
+/// A crane for each task, as a sweep found it.
+#[derive(Drop)]
+pub(crate) struct Found {
+    /// When the last task ends, where pairs that are apart or ordered don't count.
+    pub(crate) latest: Tick,
+    pub(crate) cranes: Vec<Option<u16>>,
+}
+
+/// What a sweep came to.
+#[derive(Drop)]
+pub(crate) struct Swept {
+    pub(crate) found: Option<Found>,
+    /// Whether states were left out for want of width.
+    pub(crate) cut: bool,
+    /// Of how many states the children were made.
+    pub(crate) effort: usize,
+}
+
+/// The node that ends first; `None` where there is none.
+fn earliest(nodes: &[Node]) -> Option<&Node> {
+    let mut best = nodes.first()?;
+    for node in nodes {
+        if node.latest < best.latest {
+            best = node;
+        }
+    }
+    Some(best)
+}
+
+/// The layer before any event.
+fn first_layer(alloc: Global, part: &Part, end: Tick) -> Result<Vec<Node>, OutOfMemory>
+    requires { end ≤ 2 ^ 50 }
+    ensures { IfOk result (λ layer. All (IsNodeOf part.now) layer.items) }
+{
+    let mut layer = Vec::new(alloc);
+    let state = part.root();
+    if let Some(slack) = part.slack(&state, 0, end) {
+        let step = Step {
+            parent: 0,
+            from: 0,
+            to: 0,
+        };
+        layer.push(Node {
+            state,
+            latest: 0,
+            slack,
+            step,
+        })?;
+    }
+    Ok(layer)
+}
+
+/// Looks for a crane for each task so that all end before the tick, with at most so many states a
+/// layer.
+pub(crate) fn sweep(
+    alloc: Global,
+    part: &Part,
+    end: Tick,
+    width: usize,
+) -> Result<Swept, OutOfMemory>
+    requires { end ≤ 2 ^ 50 }
+{
+    let mut layer = first_layer(alloc, part, end)?;
+    let mut children = Vec::new(alloc);
+    let mut trail = Trail::new(alloc);
+    let mut cut = false;
+    let mut effort: usize = 0;
+    for e in 0..part.events() {
+        effort = effort.saturating_add(layer.len());
+        expand(part, layer.as_slice(), e, end, &mut children)?;
+        if e + 1 < part.events() {
+            let more = choose(part, &mut children, width, &mut layer)?;
+            cut = cut || more;
+            trail.add(layer.as_slice())?;
+        }
+    }
+    let found = match earliest(children.as_slice()) {
+        None => None,
+        Some(node) => Some(Found {
+            latest: node.latest,
+            cranes: cranes_of(alloc, part, &trail, node.step)?,
+        }),
+    };
+    Ok(Swept { found, cut, effort })
+}
