@@ -1,0 +1,9 @@
+pub mod Even
+pub mod Standing
+pub mod Safety
+pub mod AtTick
+pub mod Computed
+pub mod Arrays
+pub mod Soonest
+pub mod Judged
+pub mod LogFacts
