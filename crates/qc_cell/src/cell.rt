@@ -71,7 +71,7 @@ impl CellFault {
 
 impl Cell {
     ghost use Rattle.std.specs.Prelude.{Ok};
-    ghost use Rattle.qc_cell.specs.Cells.{IsCell, cell_in, cell_of, cell_text, is_on_deck, overlap, slots};
+    ghost use Rattle.qc_cell.specs.Cells.{IsCell, cell_in, cell_of, cell_text, is_forty, is_on_deck, overlap, slots};
 
     /// The cell that six or seven digits write: the last two are the tier, the two before them the
     /// row, and the first two or three the bay.
@@ -137,6 +137,14 @@ impl Cell {
         ensures { result ≡ is_on_deck self.now }
     {
         self.tier >= 70
+    }
+
+    /// Whether the cell is one of 40 feet, and not of 20.
+    pub fn is_forty(&self) -> bool
+        ensures forty { result ≡ is_forty self.now }
+        ensures cell { IsCell self.now }
+    {
+        self.bay % 2 == 0
     }
 
     /// The first and the last 20-foot bay that the cell covers: at an odd bay that bay twice.
