@@ -1,8 +1,7 @@
 -- Each move of the list stands once in the sheet.
-use Rattle.std.proofs.Common.{◌≡◌, ◌⊎◌, ℕ, zero, suc, ◌+◌, ◌<◌, ◌≤◌, ◌==◌, ◌&&◌, ◌||◌, Bool, true, false, cond, List, [], ◌∷◌, length, get_or, Option, None, Some, refl, sym, ap, subst, inl, inr, ◌∙◌, arith, All, AllPairs, Contains, IsSome, count_by, position, sum_by}
-use Rattle.std.specs.Prelude.{nat_lt, option_map}
+use Rattle.std.proofs.Common.{◌≡◌, ℕ, ◌+◌, ◌<◌, ◌≤◌, ◌==◌, ◌&&◌, Bool, true, false, cond, List, [], ◌∷◌, length, get_or, Option, None, Some, refl, ap, subst, ◌∙◌, arith, Contains, IsSome, count_by, position, sum_by}
+use Rattle.std.specs.Prelude.{option_map}
 use Rattle.std.specs.List.{filter, flat_map, range_with_len, zip, AllByRecursion as Each}
-use Rattle.std.specs.List.Sorted.{IsPermutation}
 use Rattle.std.proofs.Math.Bool.{and-false}
 use Rattle.std.proofs.lemmas.Bool.{and_from, eq-eqb, le-ltb, ne_eqb}
 use Rattle.std.proofs.lemmas.Cmp.{nat_eq_equiv}
@@ -19,15 +18,14 @@ use Rattle.qc_model.specs.declared.task.Phase.TheVariants.{DeckOut, HoldOut, Hol
 use Rattle.qc_model.specs.declared.task.Task.{Task}
 use Rattle.qc_model.specs.Instance.{InstanceView, no_task}
 use Rattle.qc_model.specs.Rules.{crane_of, start_of}
-use Rattle.qc_model.specs.Tasks.{phase_rank}
 use Rattle.qc_ship.specs.Ship.{IsShip, ShipView, place_of_bay, takes}
 use Rattle.qc_stow.specs.declared.row.Row.{Row}
 use Rattle.qc_tasks.specs.InstanceOf.{instance_of, is_move_at, is_move_of, moves_at, phase_with, phases, tasks_at, tasks_of}
 use Rattle.qc_tasks.proofs.Lists.{contains_flat_map, contains_range, count_one, each_range, each_weaker, pairs_from_index, pair_weaker, sum_by-flat_map, sum_by-same, tally}
 use Rattle.qc_tasks.proofs.TaskFacts.{share_no_move}
 use Rattle.qc_sheet.specs.Kept.{moves_told}
-use Rattle.qc_sheet.specs.Order.{AreOrders, IsOrder, moves_of, no_row, order_of, row_at}
-use Rattle.qc_sheet.specs.SheetText.{WorkView, comes_before, crane_tasks, has_turn, turn_of}
+use Rattle.qc_sheet.specs.Order.{AreOrders, moves_of, no_row, order_of, row_at}
+use Rattle.qc_sheet.specs.SheetText.{comes_before, crane_tasks, has_turn, turn_of}
 use Rattle.qc_sheet.proofs.CountLemmas.{count_among, count_less, sum_at, sum_by-filter, sum_by_places, sums_swapped}
 
 -- sums of functions that agree at each element

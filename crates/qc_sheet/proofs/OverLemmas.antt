@@ -1,6 +1,6 @@
 -- Which of two moves of a task must be made first, by their rows, bays and heights.
-use Rattle.std.proofs.Common.{◌≡◌, ◌≢◌, ◌⊎◌, ℕ, ◌+◌, ◌-◌, ◌%◌, ◌<◌, ◌≤◌, ◌==◌, ◌&&◌, ◌||◌, Bool, true, false, List, [], ◌∷◌, length, get_or, refl, sym, ap, inl, inr, ◌∙◌, arith}
-use Rattle.std.specs.Prelude.{nat_le, nat_lt, if◌then◌else◌, Contains}
+use Rattle.std.proofs.Common.{◌≡◌, ◌⊎◌, ℕ, ◌+◌, ◌-◌, ◌%◌, ◌<◌, ◌≤◌, ◌==◌, ◌&&◌, ◌||◌, Bool, true, false, List, length, refl, sym, ap, inl, inr, ◌∙◌, arith}
+use Rattle.std.specs.Prelude.{nat_lt}
 use Rattle.std.specs.List.{list_any}
 use Rattle.std.proofs.lemmas.Bool.{and_from, and_parts, cases_Bool, cases_order, eq-eqb, eqb-false, eqb-true, leb-true, lt-ltb, ltb-true, or_left, or_right}
 use Rattle.qc_cell.specs.Cells.{CellView, IsCell, is_forty, is_on_deck, overlap, slots}
@@ -13,7 +13,7 @@ use Rattle.qc_stow.specs.declared.row.Move.TheVariants.{Discharge, Load}
 use Rattle.qc_stow.specs.declared.row.Row.{Row}
 use Rattle.qc_tasks.specs.InstanceOf.{is_move_of, phase_with}
 use Rattle.qc_sheet.specs.Entries.{height, height_of}
-use Rattle.qc_sheet.specs.Order.{cell_at, goes_first, holds_up, lane, no_row, row_at}
+use Rattle.qc_sheet.specs.Order.{cell_at, goes_first, lane, no_row, row_at}
 
 -- ---- lanes
 

@@ -1,6 +1,6 @@
 -- What the work sheet of a feasible plan keeps.
-use Rattle.std.proofs.Common.{◌≡◌, ◌⊎◌, ℕ, zero, suc, ◌+◌, ◌-◌, ◌*◌, ◌<◌, ◌≤◌, ◌==◌, ◌&&◌, Bool, true, false, cond, List, [], ◌∷◌, length, get_or, drop, refl, sym, ap, subst, inl, inr, ◌∙◌, arith, All, Contains, IsSome, count_by}
-use Rattle.std.specs.Prelude.{nat_eq, nat_le}
+use Rattle.std.proofs.Common.{◌≡◌, ℕ, zero, suc, ◌+◌, ◌-◌, ◌<◌, ◌≤◌, Bool, true, false, List, [], ◌∷◌, length, get_or, drop, refl, sym, ap, subst, inl, inr, ◌∙◌, arith, All, Contains, IsSome}
+use Rattle.std.specs.Prelude.{nat_eq}
 use Rattle.std.specs.List.{flat_map, zip, AllByRecursion as Each}
 use Rattle.std.proofs.Math.Nat.{mul-le-mul_right}
 use Rattle.std.proofs.lemmas.Bool.{cases_Bool, cases_lt, cases_order, le-leb, leb-true}
@@ -11,20 +11,20 @@ use Rattle.qc_model.specs.declared.schedule.Slot.{Slot}
 use Rattle.qc_model.specs.declared.task.Phase.{Phase}
 use Rattle.qc_model.specs.declared.task.Phase.TheVariants.{DeckOut, HoldOut, HoldIn, DeckIn}
 use Rattle.qc_model.specs.declared.task.Task.{Task}
-use Rattle.qc_model.specs.Instance.{IsBefore, Valid, no_task, task}
-use Rattle.qc_model.specs.Rules.{Feasible, crane_of, end_of, start_of}
-use Rattle.qc_model.specs.Tasks.{phase_rank, task_rank}
+use Rattle.qc_model.specs.Instance.{Valid, no_task, task}
+use Rattle.qc_model.specs.Rules.{Feasible, end_of, start_of}
+use Rattle.qc_model.specs.Tasks.{phase_rank}
 use Rattle.qc_ship.specs.Ship.{IsShip, ShipView, place_of_bay}
-use Rattle.qc_stow.specs.Moves.{AreMoves, is_discharge, is_load, most_moves}
+use Rattle.qc_stow.specs.Moves.{AreMoves, is_discharge, is_load}
 use Rattle.qc_stow.specs.declared.row.Move.{Move}
 use Rattle.qc_stow.specs.declared.row.Move.TheVariants.{Discharge, Load}
 use Rattle.qc_stow.specs.declared.row.Row.{Row}
-use Rattle.qc_tasks.specs.InstanceOf.{instance_of, is_move_of, moves_at, phase_with, phases, tasks_at, tasks_of, ticks_in}
+use Rattle.qc_tasks.specs.InstanceOf.{instance_of, moves_at, phase_with, phases, tasks_at, tasks_of, ticks_in}
 use Rattle.qc_tasks.proofs.Lists.{each_flat_map, each_from}
 use Rattle.qc_tasks.proofs.ValidInstance.{valid_instance}
 use Rattle.qc_sheet.specs.Kept.{BeginBoth, Begins, IsDischarge, IsLoad, IsOver, IsWorkable}
 use Rattle.qc_sheet.specs.Order.{AreOrders, AreTurns, IsNext, cell_at, goes_first, holds_up, is_over, no_row, order_of, row_at}
-use Rattle.qc_sheet.specs.SheetText.{WorkView, move_ticks, opening_ticks, tick_at}
+use Rattle.qc_sheet.specs.SheetText.{WorkView, move_ticks, tick_at}
 use Rattle.qc_sheet.proofs.OnceLemmas.{told_once}
 use Rattle.qc_sheet.proofs.OrderLemmas.{in_order, order_long}
 use Rattle.qc_sheet.proofs.OverLemmas.{IsMove, over_gives, rank_of}

@@ -2,7 +2,6 @@
 
 ghost use Rattle.std.specs.Prelude.{◌≡◌, ◌<◌, ◌≤◌, length, map, All, IfOk};
 ghost use Rattle.qc_model.specs.Instance.{task};
-ghost use Rattle.qc_ship.specs.Ship.{IsShip};
 ghost use Rattle.qc_stow.specs.Moves.{AreMoves};
 ghost use Rattle.qc_tasks.specs.InstanceOf.{instance_of};
 ghost use Rattle.qc_sheet.specs.Entries.{Marks};
@@ -102,13 +101,10 @@ impl Sheet {
         moves: &Moves,
     ) -> Result<Sheet, OutOfMemory>
         requires { inst.now ≡ instance_of ship.now moves.now }
-        ensures orders { IfOk result (λ sheet. AreOrders moves.now inst.now.tasks sheet) }
-        ensures ship { IsShip ship.now }
-        ensures moves { AreMoves moves.now }
+        ensures { IfOk result (λ sheet. AreOrders moves.now inst.now.tasks sheet) }
     {
         let rows = moves.rows();
-        // A hatch has a task for each of the four phases at most.
-        let mut orders = Vec::with_capacity(alloc, 4 * ship.hatches().len())?;
+        let mut orders = Vec::new(alloc);
         for task in inst.tasks() {
             orders.push(order_of(alloc, rows, task)?)?;
         }

@@ -1,5 +1,5 @@
 -- A feasible schedule keeps every rule but that of one way.
-use Rattle.std.proofs.Common.{◌≡◌, ◌≢◌, ◌<◌, ◌≤◌, ℕ, length, refl, arith}
+use Rattle.std.proofs.Common.{◌≢◌, ◌<◌, length, refl, arith}
 use Rattle.qc_model.specs.declared.rules.Break.{Break}
 use Rattle.qc_model.specs.declared.rules.Rule.{Rule}
 use Rattle.qc_model.specs.declared.rules.Rule.TheVariants.{Reach, Ready, Travel, Before, Apart, Margin, Berth, OneWay}

@@ -1,10 +1,7 @@
 -- What follows from the account of a work sheet.
-use Rattle.std.proofs.Common.{◌≡◌, ◌≢◌, ◌⊎◌, Option, None, Some, Result, Ok, Err, refl, inl, inr, subst}
+use Rattle.std.proofs.Common.{◌≡◌, ◌≢◌, ◌⊎◌, Option, None, Some, Result, Ok, Err, refl, inl, subst}
 use Rattle.std.specs.Prelude.{IfSome}
-use Rattle.qc_gantt.specs.declared.fault.PlanFault.{PlanFault}
 use Rattle.qc_io.specs.Outside.{Files, View}
-use Rattle.qc_judge_commands.specs.declared.answer.Broken.{Broken}
-use Rattle.qc_judge_commands.specs.Texts.{broken_text}
 use Rattle.qc_judge_commands.proofs.ReadLemmas.{read_promises}
 use Rattle.qc_run.specs.declared.refusal.Refusal.TheVariants as refusal
 use Rattle.qc_run.specs.declared.refusal.Stop.{Stop}
@@ -15,19 +12,15 @@ use Rattle.qc_run.specs.Due.{contents_in}
 use Rattle.qc_run.specs.Inputs.{Names}
 use Rattle.qc_run.specs.Reports.{Printing, Prints, PrintsPart, answer_prints, answer_status}
 use Rattle.qc_run.specs.Steps.{ComesTo}
-use Rattle.qc_run.specs.Texts.{bad_plan_text}
 use Rattle.qc_run.specs.Told.{EndsBy, NoneFailed}
 use Rattle.qc_run.proofs.DueLemmas.{comes_due}
 use Rattle.qc_run.proofs.StatusLemmas.{IsOwn, stop_is_not}
 use Rattle.qc_run.proofs.ToldLemmas.{of_status, stop_due, unfailed}
-use Rattle.qc_sheet.specs.SheetText.{sheet_text}
-use Rattle.qc_sheet_command.specs.declared.load.Load.{Load}
-use Rattle.qc_sheet_command.specs.declared.answer.Listed.{Listed}
 use Rattle.qc_sheet_command.specs.declared.answer.Listing.{Listing}
 use Rattle.qc_sheet_command.specs.declared.answer.Listing.TheVariants as listing
 use Rattle.qc_sheet_command.specs.Account.{IsListed, IsListing, IsNotListed, IsSheetRun}
 use Rattle.qc_sheet_command.specs.Due.{load_due}
-use Rattle.qc_sheet_command.specs.Listed.{listing_status, listing_text, work_of}
+use Rattle.qc_sheet_command.specs.Listed.{listing_status, listing_text}
 use Rattle.qc_sheet_command.specs.Promises.{EndsListed, IsPlanFaultTold, IsRuleTold, IsSheetTold, SheetPromises}
 
 listing_own : (a : Listing) → IsOwn (listing_status a)

@@ -18,7 +18,7 @@ use Rattle.qc_sheet_command.specs.Listed.{TellsRule, TellsSheet, listing_status,
 pub record IsNotListed (names : Names) (files : Option Files) (told : Broken) : Type 0 where
   pub load : Load
   pub due : ComesTo load_due names files (Ok load)
-  pub tells : TellsRule load.inst load.sched told
+  pub tells : TellsRule load.cargo.inst load.sched told
 
 -- the schedule of the plan is feasible, and its work sheet is told
 pub record IsListed (names : Names) (files : Option Files) (told : Listed) : Type 0 where

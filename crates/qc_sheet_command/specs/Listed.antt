@@ -1,5 +1,5 @@
 -- public: what is told of a plan whose work sheet is asked for, and what is printed.
-use Rattle.std.specs.Prelude.{◌≡◌, ℕ, List, length, All, IsSome}
+use Rattle.std.specs.Prelude.{◌≡◌, ℕ, List, All, IsSome}
 use Rattle.qc_model.specs.declared.rules.Break.{Break}
 use Rattle.qc_model.specs.declared.schedule.Slot.{Slot}
 use Rattle.qc_model.specs.Instance.{InstanceView, task}
@@ -16,18 +16,23 @@ use Rattle.qc_judge_commands.specs.declared.answer.Broken.{Broken}
 use Rattle.qc_judge_commands.specs.Texts.{broken_text}
 use Rattle.qc_run.specs.declared.status.Status.{Status}
 use Rattle.qc_run.specs.declared.status.Status.TheVariants as status
+use Rattle.qc_sheet_command.specs.declared.load.Cargo.{Cargo}
 use Rattle.qc_sheet_command.specs.declared.load.Load.{Load}
 use Rattle.qc_sheet_command.specs.declared.answer.Listed.{Listed}
 use Rattle.qc_sheet_command.specs.declared.answer.Listing.{Listing}
 use Rattle.qc_sheet_command.specs.declared.answer.Listing.TheVariants as listing
 
--- what is known of all that was read
+-- what is known of a ship and its moves that were read: a hatch takes the bay of each move
+pub record IsCargo (cargo : Cargo) : Type 0 where
+  pub ship : IsShip cargo.ship
+  pub moves : AreMoves cargo.moves
+  pub hatches : All (λ row. IsSome (place_of_bay cargo.ship row.cell.bay)) cargo.moves
+  pub instance : cargo.inst ≡ instance_of cargo.ship cargo.moves
+
+-- and of a schedule beside them
 pub record IsLoad (load : Load) : Type 0 where
-  pub ship : IsShip load.ship
-  pub moves : AreMoves load.moves
-  pub hatches : All (λ row. IsSome (place_of_bay load.ship row.cell.bay)) load.moves
-  pub instance : load.inst ≡ instance_of load.ship load.moves
-  pub judgeable : IsJudgeable load.inst load.sched
+  pub cargo : IsCargo load.cargo
+  pub judgeable : IsJudgeable load.cargo.inst load.sched
 
 -- the schedule breaks a rule other than that of one way, and this is the first that it breaks
 pub record IsRuleBroken (inst : InstanceView) (sched : List Slot) (broken : Break) : Type 0 where
@@ -45,19 +50,19 @@ pub record TellsRule (inst : InstanceView) (sched : List Slot) (told : Broken) :
 -- what the sheet is written from
 abbrev pub work_of : Listed → WorkView
 work_of told = record {
-  ship = told.load.ship;
-  inst = told.load.inst;
-  rows = told.load.moves;
+  ship = told.load.cargo.ship;
+  inst = told.load.cargo.inst;
+  rows = told.load.cargo.moves;
   sched = told.load.sched;
   orders = told.sheet;
 }
 
 -- the plan is feasible, the sheet gives the order of each task's moves, and the work can be done so
 pub record TellsSheet (told : Listed) : Type 0 where
-  pub feasible : Feasible told.load.inst told.load.sched
-  pub instance : told.load.inst ≡ instance_of told.load.ship told.load.moves
-  pub judgeable : IsJudgeable told.load.inst told.load.sched
-  pub orders : AreOrders told.load.moves told.load.inst.tasks told.sheet
+  pub feasible : Feasible told.load.cargo.inst told.load.sched
+  pub instance : told.load.cargo.inst ≡ instance_of told.load.cargo.ship told.load.cargo.moves
+  pub judgeable : IsJudgeable told.load.cargo.inst told.load.sched
+  pub orders : AreOrders told.load.cargo.moves told.load.cargo.inst.tasks told.sheet
   pub workable : IsWorkable (work_of told)
 
 abbrev pub CanBeListed : Listing → Type 0

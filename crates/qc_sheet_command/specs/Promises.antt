@@ -34,7 +34,7 @@ pub record IsRuleTold (names : Names) (held : Files) (before after : View) : Typ
   pub load : Load
   pub due : load_due (contents_in held names) ≡ Ok load
   pub told : Broken
-  pub tells : TellsRule load.inst load.sched told
+  pub tells : TellsRule load.cargo.inst load.sched told
   pub report : Prints (broken_text told) before.written after.written
 
 -- the plan's file has a fault, which was printed
@@ -45,8 +45,8 @@ pub record IsPlanFaultTold (names : Names) (held : Files) (before after : View) 
 
 -- a plan ends so where nothing fails
 pub record EndsListed (load : Load) (ended : Status) : Type 0 where
-  pub infeasible : ¬ Feasible load.inst load.sched → ended ≡ status.Broken
-  pub feasible : Feasible load.inst load.sched → ended ≡ status.Done
+  pub infeasible : ¬ Feasible load.cargo.inst load.sched → ended ≡ status.Broken
+  pub feasible : Feasible load.cargo.inst load.sched → ended ≡ status.Done
 
 pub record SheetPromises (names : Names) (before after out_before out_after : View) (ended : Status) : Type 0 where
   pub reads : ReadPromises (IsListing names before after) (λ a. PrintsPart (listing_text a))

@@ -8,5 +8,5 @@ mod rules;
 mod sheet;
 
 pub use answer::{Listed, Listing};
-pub use load::{Load, read_load};
+pub use load::{Cargo, Load, read_cargo, read_load};
 pub use sheet::print_sheet;

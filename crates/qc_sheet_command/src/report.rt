@@ -16,8 +16,16 @@ fn report_sheet<K: Sink>(told: &Listed, out: &mut K) -> Status
     ensures { Reports (Prints (sheet_text (work_of told.now))) (PrintsPart (sheet_text (work_of told.now)))
         status.Done (K.view out.old) (K.view out.new) result }
 {
-    let load = &told.load;
-    match write_sheet(&load.inst, &load.ship, &load.moves, &load.sched, &told.sheet, out) {
+    let Listed { load, sheet } = told;
+    let cargo = &load.cargo;
+    match write_sheet(
+        &cargo.inst,
+        &cargo.ship,
+        &cargo.moves,
+        &load.sched,
+        sheet,
+        out,
+    ) {
         Ok(()) => Status::Done,
         Err(WriteFault) => Status::WriteFault,
     }

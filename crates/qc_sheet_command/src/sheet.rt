@@ -27,10 +27,11 @@ fn list<S: Shelf>(alloc: Global, inputs: &Inputs<'_>, shelf: &mut S) -> Result<L
         Ok(load) => load,
         Err(stop) => return Err(stop),
     };
-    if let Some(broken) = broken_rule(&load.inst, &load.sched) {
-        return Ok(Listing::Broken(broken_of(&load.inst, broken)));
+    let cargo = &load.cargo;
+    if let Some(broken) = broken_rule(&cargo.inst, &load.sched) {
+        return Ok(Listing::Broken(broken_of(&cargo.inst, broken)));
     }
-    match Sheet::new(alloc, &load.inst, &load.ship, &load.moves) {
+    match Sheet::new(alloc, &cargo.inst, &cargo.ship, &cargo.moves) {
         Ok(sheet) => Ok(Listing::Listed(Listed { load, sheet })),
         Err(OutOfMemory) => Err(Stop::OutOfMemory),
     }

@@ -1,6 +1,5 @@
-use Rattle.std.proofs.Common.{◌≡◌, length, take}
+use Rattle.std.proofs.Common.{take}
 use Rattle.qc_sheet.specs.Entries.{Marks}
-use Rattle.qc_sheet.specs.declared.forties.TheConstants.{SPOTS}
 use Rattle.qc_sheet.proofs.forties.mark_forties.Given as goal
 
 -- the moves so far are marked
