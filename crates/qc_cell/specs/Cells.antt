@@ -62,6 +62,10 @@ cell_text cell =
 abbrev pub is_on_deck : CellView → Bool
 is_on_deck cell = nat_le 70 cell.tier
 
+-- a cell at an even bay is one of 40 feet
+abbrev pub is_forty : CellView → Bool
+is_forty cell = cell.bay % 2 == 0
+
 -- the bays of 20 feet that a bay covers: an odd one itself, an even one those on both sides of it
 abbrev pub slots : ℕ → List ℕ
 slots bay = if bay % 2 == 0 then (bay - 1) ∷ (bay + 1) ∷ [] else bay ∷ []

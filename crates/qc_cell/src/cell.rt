@@ -1,7 +1,7 @@
 //! Cells: bay, row and tier.
 
 ghost use Rattle.std.specs.Prelude.{◌≡◌, ◌≢◌, ◌<◌, ◌≤◌, length, ◌%◌, [], ◌∷◌, Ok};
-ghost use Rattle.qc_cell.specs.Cells.{CellView, IsCell, fault_text, cell_in, cell_of, cell_text, is_on_deck, overlap, slots};
+ghost use Rattle.qc_cell.specs.Cells.{CellView, IsCell, fault_text, cell_in, cell_of, cell_text, is_on_deck, overlap, slots, is_forty};
 
 use crate::digits::two_digits;
 use qc_num::{Text, are_digits, value_of_digits};
@@ -131,6 +131,14 @@ impl Cell {
         ensures { result ≡ is_on_deck self.now }
     {
         self.tier >= 70
+    }
+
+    /// Whether the cell is one of 40 feet, and not of 20.
+    pub fn is_forty(&self) -> bool
+        ensures forty { result ≡ is_forty self.now }
+        ensures cell { IsCell self.now }
+    {
+        self.bay % 2 == 0
     }
 
     /// The first and the last 20-foot bay that the cell covers: at an odd bay that bay twice.

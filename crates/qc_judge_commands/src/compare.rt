@@ -22,7 +22,7 @@ use qc_run::{Inputs, Job, Status, Stop, read_job, read_tree, report_stop};
 use std::alloc::Global;
 
 /// What is told of a break.
-pub(crate) fn broken_of(inst: &Instance, broken: Break) -> Broken
+pub fn broken_of(inst: &Instance, broken: Break) -> Broken
     requires first { broken.first < length inst.now.tasks }
     requires second { broken.second < length inst.now.tasks }
     ensures rule { result.rule ≡ broken.rule }

@@ -39,7 +39,7 @@ fn broken_text(told: &Broken) -> Text<64>
 }
 
 /// Prints what is told of a plan that breaks a rule.
-pub(crate) fn report_broken<K: Sink>(told: &Broken, out: &mut K) -> Status
+pub fn report_broken<K: Sink>(told: &Broken, out: &mut K) -> Status
     ensures { Reports (Prints (broken_text told.now)) (PrintsPart (broken_text told.now)) status.Broken
         (K.view out.old) (K.view out.new) result }
 {

@@ -11,6 +11,7 @@ mod tasks;
 
 pub use answer::{Broken, Compared, Judged, Showing, Shown};
 pub use check::check_tree;
-pub use compare::check_plan;
+pub use compare::{broken_of, check_plan};
+pub use judged::report_broken;
 pub use motion::show;
 pub use tasks::list_tasks;

@@ -10,7 +10,9 @@ mod report;
 mod status;
 
 pub use inputs::{Input, Inputs};
-pub use reading::{Job, read_instance, read_job, read_tree};
+pub use reading::{
+    Job, read_instance, read_job, read_moves, read_schedule, read_ship_file, read_tree,
+};
 pub use refusal::{Refusal, Stop};
 pub use report::{direction_text, report_stop, report_text};
 pub use status::Status;

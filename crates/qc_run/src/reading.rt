@@ -50,7 +50,7 @@ fn read_input<S: Shelf>(
 }
 
 /// The ship of the ship file.
-fn read_ship_file<S: Shelf>(alloc: Global, inputs: &Inputs<'_>, shelf: &mut S) -> Result<Ship, Stop>
+pub fn read_ship_file<S: Shelf>(alloc: Global, inputs: &Inputs<'_>, shelf: &mut S) -> Result<Ship, Stop>
     ensures { IsStep ship_due (names_of inputs.now)
         (S.Sink.view shelf.old) (S.Sink.view shelf.new) result }
 {
@@ -62,8 +62,8 @@ fn read_ship_file<S: Shelf>(alloc: Global, inputs: &Inputs<'_>, shelf: &mut S) -
     }
 }
 
-/// The moves of the stowage list.
-fn read_moves<S: Shelf>(
+/// The moves of the stowage list, each at a bay that a hatch of the ship takes.
+pub fn read_moves<S: Shelf>(
     alloc: Global,
     inputs: &Inputs<'_>,
     ship: &Ship,
@@ -103,7 +103,7 @@ pub struct Job {
 }
 
 /// The schedule of the plan's file.
-fn read_schedule<S: Shelf>(
+pub fn read_schedule<S: Shelf>(
     alloc: Global,
     inputs: &Inputs<'_>,
     inst: &Instance,

@@ -9,4 +9,5 @@ mod report;
 mod tasks;
 
 pub use instance::tasks_of;
+pub use moves::is_move_of;
 pub use report::write_tasks;

@@ -34,8 +34,8 @@ pub(crate) fn moves_at(rows: &[Row], hatch: u16, phase: Phase) -> usize
         .count()
 }
 
-/// Whether a move is one of a task's moves.
-pub(crate) fn is_move_of(task: &Task, row: &Row) -> bool
+/// Whether a move is one of a task's moves: those of its hatch and phase.
+pub fn is_move_of(task: &Task, row: &Row) -> bool
     ensures { result ≡ is_move_of task.now row.now }
 {
     is_move_at(task.hatch, task.phase, row)

@@ -1,0 +1,8 @@
+pub mod OverLemmas
+pub mod TurnLemmas
+pub mod SortLemmas
+pub mod CountLemmas
+pub mod OnceLemmas
+pub mod WorkLemmas
+pub mod OrderLemmas
+pub mod PartLemmas

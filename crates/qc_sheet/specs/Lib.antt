@@ -1,0 +1,5 @@
+pub mod Order
+pub mod SheetText
+pub mod Kept
+pub mod Entries
+pub mod Works

@@ -1,0 +1,4 @@
+pub mod Due
+pub mod Listed
+pub mod Account
+pub mod Promises
