@@ -1,12 +1,10 @@
 -- A given schedule, its tight form, and the search that begins with it.
-use Rattle.std.proofs.Common.{◌≡◌, ℕ, zero, suc, ◌+◌, ◌-◌, ◌<◌, ◌≤◌, ◌⊎◌, inl, inr, true, false, All, List, [], ◌∷◌, ◌++◌, length, map, get_or, Contains, Option, None, Some, IfSome, IsSome, refl, ap, ap₂, sym, subst, ◌∙◌, arith}
+use Rattle.std.proofs.Common.{◌≡◌, ℕ, zero, suc, ◌+◌, ◌<◌, ◌≤◌, inl, inr, List, [], ◌∷◌, ◌++◌, length, map, Contains, Option, None, Some, IfSome, IsSome, refl, ap, ap₂, sym, subst, ◌∙◌, arith}
 use Rattle.std.proofs.lemmas.Bool.{cond-true, cond_both, false≢true, le-leb, leb-true}
-use Rattle.std.specs.Prelude.{nat_le, slice_index}
+use Rattle.std.specs.Prelude.{nat_le}
 use Rattle.std.specs.List.{range_with_len}
 use Rattle.smallvec.specs.SmallVec.{SmallVec}
-use Rattle.qc_num.specs.declared.bound.Bound.{Bound}
-use Rattle.qc_num.specs.declared.bound.Bound.TheVariants.{Least, Never}
-use Rattle.qc_num.specs.Bounds.{IsAtMost}
+use Rattle.qc_num.specs.declared.bound.Bound.TheVariants.{Least}
 use Rattle.qc_num.specs.Paths.{HasRoom}
 use Rattle.qc_num.proofs.BoundLemmas.{same_least}
 use Rattle.qc_model.specs.declared.decision.Decision.{Decision}
@@ -17,23 +15,21 @@ use Rattle.qc_model.specs.declared.pair.Pair.{Pair}
 use Rattle.qc_model.specs.declared.schedule.Slot.{Slot}
 use Rattle.qc_model.specs.Instance.{InstanceView, IsApart, Valid, ticks_of}
 use Rattle.qc_model.specs.Judge.{IsDirection, IsJudgeable}
-use Rattle.qc_model.specs.Leaves.{task_numbers}
-use Rattle.qc_model.specs.Nodes.{Agrees, AreLeast, Fits, IsComplete, IsInReach, IsSettled, Meets, assigned, forced, schedule_with}
-use Rattle.qc_model.specs.Numbers.{most_tasks}
-use Rattle.qc_model.specs.OneWay.{GoesUp, mirror}
-use Rattle.qc_model.specs.Rules.{crane_of, end_of, ends, last_end, no_slot, start_of, starts}
+use Rattle.qc_model.specs.Nodes.{Agrees, AreLeast, IsComplete, IsSettled, Meets, assigned, forced, schedule_with}
+use Rattle.qc_model.specs.Numbers.{most_start, most_tasks}
+use Rattle.qc_model.specs.OneWay.{GoesUp, mirror, mirror_schedule}
+use Rattle.qc_model.specs.Rules.{crane_of, end_of, ends, start_of, starts}
 use Rattle.qc_model.specs.Seen.{seen, seen_number, seen_schedule}
 use Rattle.qc_model.proofs.Bounded.{last_end_le}
-use Rattle.qc_model.proofs.CompleteNodes.{agrees_with, ends_with, forced_ticks, goes_with, starts_with}
+use Rattle.qc_model.proofs.CompleteNodes.{agrees_with, ends_with, forced_ticks, goes_with}
 use Rattle.qc_model.proofs.MirrorLemmas.{seen_valid}
 use Rattle.qc_model.proofs.NodeLemmas.{assigned_is, ends_by, meets_of, start_at}
 use Rattle.qc_model.proofs.SeenLemmas.{seen-crane_count, seen-crane_of, seen-ends, seen-start_of, seen-task_count}
 use Rattle.qc_starts.specs.Tight.{IsTight, IsTightForm, decided_by, order_in}
 use Rattle.qc_search.specs.declared.progress.Progress.{Progress}
-use Rattle.qc_search.specs.Earned.{IsKnownEnd, IsSolved, node_at}
+use Rattle.qc_search.specs.Earned.{IsKnownEnd, node_at}
 use Rattle.qc_search.specs.Progress.{IsBegun, IsBegunWith, IsKept, IsProgress, IsTightened, begun}
-use Rattle.qc_search.specs.Run.{IsFirst, best_end}
-use Rattle.qc_search.proofs.DecidedLemmas.{decided_least, some_is}
+use Rattle.qc_search.proofs.DecidedLemmas.{decided_least}
 use Rattle.qc_search.proofs.ShownLemmas.{shown_tight, turned_as_met}
 use Rattle.qc_search.proofs.TightLemmas.{seen_end}
 use Rattle.qc_tree.specs.Trees.{on_task}
@@ -204,15 +200,18 @@ module _ (home : InstanceView) (v : Valid home) (given : List Slot) (way : Direc
   pub no_later : end ≤ ends home given
   no_later =
       let late = last_end_le inst.tasks t.begins (ends inst turned) (λ j low there.
-      omega (arith, t.least.least (starts turned) given_meets j low,
-      ends_by inst.tasks (starts turned) j given_meets.all_tasks low)) in
+      omega (
+        arith,
+        t.least.least (starts turned) given_meets j low,
+        ends_by inst.tasks (starts turned) j given_meets.all_tasks low,
+      )) in
       omega (arith, late, t.ends, seen-ends home given way)
 
   -- the progress that begins with it is that of no nodes
   abbrev progress_of : ℕ → SmallVec ℕ → Progress
   progress_of limit path = record (begun limit kept path) { incumbent_end = Least end; way = way }
 
-  first_kept : (limit : ℕ) (path : SmallVec ℕ) → IsKept home (Some form) (progress_of limit path) [] end
+  abbrev first_kept : (limit : ℕ) (path : SmallVec ℕ) → IsKept home (Some form) (progress_of limit path) [] end
   first_kept limit path = record {
     node = node_at way t.decisions (on_task 0);
     from = inr refl;
@@ -248,7 +247,8 @@ module _ (home : InstanceView) (v : Valid home) (given : List Slot) (way : Direc
   begins_with limit path direction room = record {
     first = Some form;
     begins = form_is direction;
-    tight = shown_tight home (Some form) v (progress_of limit path) [] end (first_kept limit path);
+    tight = subst (λ (s : List Slot). IsTight home (seen_schedule home s way)) (sym t.is)
+        (shown_tight home (Some form) v (progress_of limit path) [] end (first_kept limit path));
     no_later = omega (arith, no_later, end_is);
     progress = first_progress limit path;
     known = ap Least end_is;
@@ -291,6 +291,17 @@ pub goes_seen : (home : InstanceView) (given : List Slot) (way : Direction) → 
     → GoesUp (seen home way) (seen_schedule home given way)
 goes_seen home given Up direction = direction
 goes_seen home given Down direction = direction.0.mirrored
+
+pub mirrored_goes : (home : InstanceView) (given : List Slot) → IsDirection home given Down
+    → GoesUp (mirror home) (mirror_schedule home given)
+mirrored_goes home given direction = direction.0.mirrored
+
+pub mirrored_soon : (home : InstanceView) (given : List Slot) → IsJudgeable home given
+    → (j : ℕ) → j < length (mirror home).tasks → start_of (mirror_schedule home given) j ≤ most_start
+mirrored_soon home given judgeable j low =
+    let n = seen-task_count home Down in
+    let here : j < length home.tasks = omega (arith, n, low) in
+    omega (arith, seen-start_of home given Down j (omega (arith, judgeable.all_tasks, here)), judgeable.start_range j here)
 
 -- a search that begins with a schedule
 pub begun_with : (home : InstanceView) (v : Valid home) (given : List Slot) (limit : ℕ) (path : SmallVec ℕ) (now : Progress)

@@ -1,6 +1,6 @@
 -- Decisions as a schedule has them: what they are open for, and what they settle.
-use Rattle.std.proofs.Common.{◌≡◌, ℕ, ◌+◌, ◌-◌, ◌<◌, ◌≤◌, ◌⊎◌, inl, inr, true, false, List, [], ◌∷◌, length, get_or, drop, Option, None, Some, IfSome, IsSome, refl, ap, sym, subst, ◌∙◌, arith}
-use Rattle.std.proofs.lemmas.Bool.{cases_eq, cond_both, false≢true, le-leb, leb-true}
+use Rattle.std.proofs.Common.{◌≡◌, ℕ, ◌+◌, ◌-◌, ◌<◌, inl, inr, Bool, true, false, List, [], ◌∷◌, length, get_or, Option, None, Some, IsSome, refl, ap, subst, ◌∙◌, arith}
+use Rattle.std.proofs.lemmas.Bool.{and_from, cases_eq, cond_both, false≢true}
 use Rattle.std.proofs.lemmas.List.{drop_all}
 use Rattle.std.specs.Prelude.{is_some, nat_le}
 use Rattle.qc_dist.specs.Node.{IsOpen}
@@ -9,12 +9,12 @@ use Rattle.qc_model.specs.declared.decision.Decision.{Decision}
 use Rattle.qc_model.specs.declared.decision.Decision.TheVariants.{Assign, Order}
 use Rattle.qc_model.specs.declared.pair.Pair.{Pair}
 use Rattle.qc_model.specs.declared.schedule.Slot.{Slot}
-use Rattle.qc_model.specs.Instance.{InstanceView, IsApart, Valid, pair_of, ticks_of}
-use Rattle.qc_model.specs.Nodes.{Agrees, HasStarts, IsComplete, IsSettled, assigned, forced, reaches}
+use Rattle.qc_model.specs.Instance.{InstanceView, IsApart, Valid, pair_of}
+use Rattle.qc_model.specs.Nodes.{Agrees, HasStarts, IsComplete, IsSettled, assigned, reaches}
 use Rattle.qc_model.specs.OneWay.{GoesUp}
-use Rattle.qc_model.specs.Rules.{IsClear, crane_of, end_of, start_of, starts}
-use Rattle.qc_model.proofs.NodeLemmas.{meets_of, within_reach}
-use Rattle.qc_starts.specs.Seen.{AreAssigned, IsReached, first_of}
+use Rattle.qc_model.specs.Rules.{crane_of, end_of, start_of, starts}
+use Rattle.qc_model.proofs.NodeLemmas.{T_true, meets_of}
+use Rattle.qc_starts.specs.Seen.{AreAssigned, HasNone, IsReached, first_of}
 use Rattle.qc_starts.specs.Tight.{order_in}
 use Rattle.qc_starts.proofs.Growth.{IsNoLess, forced_grows, ordered_here_is}
 use Rattle.qc_starts.proofs.KeptLemmas.{IsSettledPair, settled_at}
@@ -28,11 +28,18 @@ has_starts_of inst ds sched goes agrees =
 
 pub reached_of : (inst : InstanceView) (sched : List Slot) (j : ℕ) → GoesUp inst sched → j < length inst.tasks
     → reaches inst j (crane_of sched j) ≡ true
-reached_of inst sched j goes low = within_reach inst sched j (goes.feasible.reach j low)
+reached_of inst sched j goes low =
+    let r = goes.feasible.reach j low in and_from _ _ (T_true r.0.le) (T_true r.1.le)
 
 -- nothing is left of what is taken back whole
 pub all_gone : (ds : List Decision) → first_of 0 ds ≡ []
 all_gone ds = drop_all (length ds - 0) ds (omega arith)
+
+-- such a node isn't stuck
+pub unstuck : (inst : InstanceView) (ds : List Decision) (sched : List Slot) → GoesUp inst sched → Agrees inst ds sched
+    → (stuck : Bool) → HasNone inst ds stuck → stuck ≡ true → ⊥
+unstuck inst ds sched goes agrees true none is = none (has_starts_of inst ds sched goes agrees)
+unstuck inst ds sched goes agrees false none is = absurd (false≢true is)
 
 -- ---- tasks that get their cranes one after another
 

@@ -1,8 +1,8 @@
 -- A tree whose nodes are all earned is a run, and what is told of it.
 use Rattle.std.proofs.Common.{◌≡◌, ℕ, ◌<◌, ◌⊎◌, inl, inr, All, Bool, cond, List, ◌∷◌, ◌++◌, length, Option, None, Some, refl, ap, sym, subst, ◌∙◌, arith}
 use Rattle.std.proofs.Math.Nat.{eq-or-lt_of_le}
-use Rattle.std.proofs.lemmas.Bool.{le-leb}
-use Rattle.std.specs.Prelude.{IfSome, MatchOption, Ok, option_map}
+use Rattle.std.proofs.lemmas.Bool.{false≢true, le-leb}
+use Rattle.std.specs.Prelude.{IfSome, IsErr, MatchOption, OnOk, Result, Ok, Err, option_map}
 use Rattle.qc_io.specs.Outside.{View}
 use Rattle.qc_num.specs.declared.bound.Bound.{Bound}
 use Rattle.qc_num.specs.declared.bound.Bound.TheVariants.{Least, Never}
@@ -31,6 +31,11 @@ decided Never met is late = cc is
 decided (Least value) Never is late = late
 decided (Least value) (Least end) is late =
     cc (sym is ∙ ap (λ (b : Bool). cond b Optimal Budget) (le-leb end value late))
+
+-- what holds of a value holds of no error
+pub not_ok : {T E : Type 0} (P : Type 0) (r : Result T E) → IsErr r → OnOk r P
+not_ok P (Ok x) e = absurd (false≢true e)
+not_ok P (Err why) e = tt
 
 -- what is told of a tree that was written, by a search that began with this end
 abbrev pub told_with : ℕ → Bound → Progress → DoneView
@@ -144,7 +149,7 @@ module _ (home : InstanceView) (v : Valid home) (given : Option (List Slot)) {be
         soon = best_soon home b.first now _ w.progress _ ends_is;
         kind = ap (outcome now.bound) (sym ends_is);
         spent = spent_is;
-        given = given_told home given b.first (told_of home old.incumbent_end now) b.begins b.no_later
+        begins = given_told home given b.first (told_of home old.incumbent_end now) b.begins b.no_later
             (ap bound_end b.known ∙ told_end home b.first)
             (subst (λ (e : Bound). IsAtMost e (best_end home b.first)) (sym ends_is) w.progress.known.given);
         decides = λ enough kind. omega (arith, enough, spent_is kind, branched_told, few_in_tree home w.tree w.is_tree);

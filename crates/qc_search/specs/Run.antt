@@ -109,7 +109,7 @@ pub record IsSound (search : SearchView) (given : Option (List Slot)) (done : Do
   -- under Budget exactly as many branchings are written as may be
   pub spent : done.kind ≡ Budget → done.branched ≡ search.nodes
   -- a given schedule is told, and the best one is no worse
-  pub given : MatchOption given (done.given ≡ None) (λ sched. IsGivenTold search.inst sched done)
+  pub begins : MatchOption given (done.given ≡ None) (λ sched. IsGivenTold search.inst sched done)
   -- with so many branchings the search comes to a decision
   pub decides : branching_limit search.inst ≤ search.nodes → done.kind ≢ Budget
 

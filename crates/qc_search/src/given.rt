@@ -3,7 +3,7 @@
 ghost use Rattle.std.specs.Prelude.{◌≡◌, ℕ, ◌<◌, ◌≤◌, [], ◌∷◌, None, IfSome, IsTrue, All, length, option_map, slice_index_or};
 ghost use Rattle.qc_dist.specs.Node.{IsOpen};
 ghost use Rattle.qc_model.specs.declared.decision.Decision.TheVariants.{Assign};
-ghost use Rattle.qc_model.specs.Instance.{pair_of};
+ghost use Rattle.qc_model.specs.Instance.{IsApart, Valid, pair_of};
 ghost use Rattle.qc_model.specs.Judge.{IsJudgeable};
 ghost use Rattle.qc_model.specs.Nodes.{Agrees, HasStarts, IsComplete, IsSettled, assigned};
 ghost use Rattle.qc_model.specs.Numbers.{most_branchings, most_start, most_tasks};
@@ -63,6 +63,18 @@ fn order_of(inst: &Instance, sched: &Schedule, pair: Pair) -> Decision
     }
 }
 
+/// An apart pair by its number.
+fn apart_at(starts: &Starts, number: usize) -> Pair
+    requires { number < length starts.now.inst.apart }
+    ensures is { result ≡ slice_index_or starts.now.inst.apart number (pair_of 0 0) }
+    ensures apart { IsApart starts.now.inst result.first result.second }
+    ensures first { result.first < length starts.now.inst.tasks }
+    ensures second { result.second < length starts.now.inst.tasks }
+    ensures valid { Valid starts.now.inst }
+{
+    starts.instance().apart()[number]
+}
+
 /// Orders an apart pair, by its number, as the schedule has it, where it isn't settled yet.
 fn order_as(starts: &mut Starts, sched: &Schedule, number: usize)
     requires goes { GoesUp starts.old.inst sched.now }
@@ -77,7 +89,7 @@ fn order_as(starts: &mut Starts, sched: &Schedule, number: usize)
     ensures stays { (i j : ℕ) → IsSettled starts.old.inst starts.old.decisions i j
         → IsSettled starts.old.inst starts.new.decisions i j }
 {
-    let pair = starts.instance().apart()[number];
+    let pair = apart_at(starts, number);
     if starts.settled(pair.first, pair.second) {
         return;
     }
@@ -150,6 +162,7 @@ fn begin_with(
     ensures down_inst { down.new.inst ≡ down.old.inst }
     ensures up_root { up.new.decisions ≡ [] }
     ensures down_root { down.new.decisions ≡ [] }
+    ensures valid { Valid up.old.inst }
     ensures begins { IsBegunWith up.old.inst given.now limit path result }
 {
     let Ok(way) = direction_of(up.instance(), given) else {
@@ -190,7 +203,7 @@ pub(crate) fn begin(
     ensures down_inst { down.new.inst ≡ down.old.inst }
     ensures up_root { up.new.decisions ≡ [] }
     ensures down_root { down.new.decisions ≡ [] }
-    ensures begins { IsBegun up.old.inst (option_map (λ sched. sched.now) given) limit result }
+    ensures begins { IsBegun up.old.inst (option_map (λ sched. sched.now) given.entry) limit result }
 {
     match given {
         None => first_progress(incumbent, path, limit),

@@ -95,10 +95,10 @@ impl Search {
         requires judgeable { IfSome given (λ sched. IsJudgeable self.inst sched.now) }
         requires goes { IfSome given (λ sched. GoesOneWay self.inst sched.now) }
         ensures searched { IfOk result
-            (IsSearched self (option_map (λ sched. sched.now) given) (K.view sink.old).written (K.view sink.new).written) }
+            (IsSearched self (option_map (λ sched. sched.now) given.entry) (K.view sink.old).written (K.view sink.new).written) }
 
         // What holds whether the sink tells its bytes or not.
-        ensures sound { IfOk result (IsSound self (option_map (λ sched. sched.now) given)) }
+        ensures sound { IfOk result (IsSound self (option_map (λ sched. sched.now) given.entry)) }
 
         ensures cut { OnErr result
             (IsCutOff self.inst (K.view sink.old).written (K.view sink.new).written) }

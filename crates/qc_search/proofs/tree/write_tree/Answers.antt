@@ -1,5 +1,22 @@
+use Rattle.std.proofs.Common.{[], refl, arith}
+use Rattle.qc_model.specs.declared.direction.Direction.TheVariants.{Up}
+use Rattle.qc_search.specs.Earned.{part_nodes}
 use Rattle.qc_search.proofs.TreeLemmas.{by_fault, down_cut, end_written, title_cut, up_cut}
 use Rattle.qc_search.proofs.tree.write_tree.Goals as goal
+
+pub put_part-requires-2-clause-few : goal.put_part-requires-2-clause-few
+put_part-requires-2-clause-few g c =
+    (c.in_ok-put_part.ensures.comes.earned c.args.up.now.inst c.requires.begun.0 [] refl c.requires.begun.1).1.few
+
+pub put_end-requires-clause-few : goal.put_end-requires-clause-few
+put_end-requires-clause-few g c =
+    let home = c.args.up.now.inst in
+    let first = c.requires.begun.0 in
+    let up = c.in_ok-put_part.ensures in
+    let down = rw c.requires.turned at c.in_ok-put_part-2.ensures in
+    let told = up.comes.earned home first [] refl c.requires.begun.1 in
+    let end = down.comes.earned home first (part_nodes Up up.nodes) refl told.1 in
+    omega (arith, end.1.few, down.comes.along.limit, up.comes.along.limit, c.requires.few)
 
 pub returns-in_err-write_line : goal.returns-in_err-write_line
 returns-in_err-write_line g c = λ first begun.
