@@ -35,6 +35,7 @@ fn serve<S: Shelf, K: Sink>(
             plan: name,
             tree,
             nodes,
+            own,
         } => {
             let asked = PlanAsked {
                 ship,
@@ -42,6 +43,7 @@ fn serve<S: Shelf, K: Sink>(
                 plan: name,
                 tree,
                 nodes,
+                own,
             };
             plan(alloc, &asked, shelf, out)
         }
@@ -56,6 +58,7 @@ fn serve<S: Shelf, K: Sink>(
                 stow,
                 plan,
                 tree: Some(tree),
+                own: None,
             };
             match plan {
                 Some(_) => check_plan(alloc, &inputs, shelf, out),
@@ -68,6 +71,7 @@ fn serve<S: Shelf, K: Sink>(
                 stow,
                 plan: None,
                 tree: None,
+                own: None,
             };
             list_tasks(alloc, &inputs, shelf, out)
         }
@@ -77,6 +81,7 @@ fn serve<S: Shelf, K: Sink>(
                 stow,
                 plan: Some(plan),
                 tree: None,
+                own: None,
             };
             show(alloc, &inputs, shelf, out)
         }
