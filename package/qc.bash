@@ -1,4 +1,4 @@
-# Completion of qc for bash: its commands, the names of files, and --nodes of plan.
+# Completion of qc for bash: its commands, the names of files, and --nodes and --from of plan.
 
 _qc() {
     local word=${COMP_WORDS[COMP_CWORD]} before=${COMP_WORDS[COMP_CWORD - 1]}
@@ -7,14 +7,20 @@ _qc() {
         mapfile -t COMPREPLY < <(compgen -W 'plan check tasks show make' -- "$word")
         return
     fi
+    # behind an equals sign the option is the word before it
+    if [ "$before" = = ]; then
+        before=${COMP_WORDS[COMP_CWORD - 2]}
+    fi
     case ${COMP_WORDS[1]}:$before:$word in
         make:*) return ;;
-        plan:--nodes:= | plan:=:* | plan:--nodes:*)
+        plan:--from:=) word= ;;
+        plan:--from:*) ;;
+        plan:--nodes:= | plan:--nodes:*)
             mapfile -t COMPREPLY < <(compgen -W '0 1000 20000 100000' -- "${word#=}")
             return
             ;;
         plan:*:-*)
-            mapfile -t COMPREPLY < <(compgen -W '--nodes' -- "$word")
+            mapfile -t COMPREPLY < <(compgen -W '--nodes --from' -- "$word")
             return
             ;;
     esac

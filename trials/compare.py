@@ -24,7 +24,7 @@ sys.dont_write_bytecode = True  # no folder of compiled files beside the scripts
 
 from reference import (NEVER, PHASES, Node, TreeFault, TreeReader, arcs_up, bound_text, breaks_up, check_report,
                        crane_lines, direction_of, end_of, instance_of, least_end, least_starts, motion_of, plan_text,
-                       read_plan, read_ship, show_report, tasks_report)
+                       read_plan, read_ship, refusal, show_report, tasks_report)
 
 
 # ---------------------------------------------------------------- random ships and lists
@@ -322,11 +322,13 @@ def random_ring(node, rng):
 # ---------------------------------------------------------------- what the search may write
 
 class SearchJudge:
-    """Whether a tree is one that a search with at most `nodes` branchings may write; the best that it meets."""
+    """Whether a tree is one that a search with at most `nodes` branchings may write that begins with a given plan, or with
+    none; the best that it knows."""
 
-    def __init__(self, inst, nodes):
-        self.inst, self.nodes = inst, nodes
-        self.branched, self.leaves, self.met, self.best = 0, 0, NEVER, []
+    def __init__(self, inst, nodes, given=None):
+        self.inst, self.nodes, self.is_given = inst, nodes, given is not None
+        self.branched, self.leaves = 0, 0
+        self.met, self.best = (end_of(inst, given), [given]) if given is not None else (NEVER, [])
         self.complaints = []
 
     def visit(self, node, kind, value):
@@ -357,8 +359,8 @@ class SearchJudge:
         plan = list(zip(node.crane, node.starts))
         plan = plan if node.inst is self.inst else node.inst.mirrored(plan)
         if node.end < self.met:
-            self.met, self.best = node.end, []
-        if node.end == self.met:
+            self.met, self.best, self.is_given = node.end, [], False
+        if node.end == self.met and not self.is_given:
             self.best.append(plan)
 
     def expect(self, holds, node, text):
@@ -374,8 +376,8 @@ class SearchJudge:
         return "Budget", 11 if self.best else 12
 
 
-def is_tight(inst, plan):
-    """Whether no task could start earlier with the same cranes and orders, in a direction in which the plan goes."""
+def tight_starts(inst, plan):
+    """The least starts with the plan's cranes and orders, in each direction in which it goes, the way up first."""
     for seen, slots in ((inst, plan), (inst.mirror, inst.mirrored(plan))):
         if next(breaks_up(seen, slots), None) is None:
             arcs = arcs_up(seen, [crane for crane, _ in slots])
@@ -383,9 +385,23 @@ def is_tight(inst, plan):
                 first, second = (i, j) if slots[i][1] + seen.tasks[i].ticks <= slots[j][1] else (j, i)
                 arcs.append((first, second, seen.tasks[first].ticks))
             heads = [seen.free_table[j][crane] for j, (crane, _) in enumerate(slots)]
-            if least_starts(seen, heads, arcs) == [start for _, start in slots]:
-                return True
-    return False
+            yield least_starts(seen, heads, arcs)
+
+
+def is_tight(inst, plan):
+    """Whether no task could start earlier with the same cranes and orders, in a direction in which the plan goes."""
+    return [start for _, start in plan] in tight_starts(inst, plan)
+
+
+def tight_form(inst, plan):
+    """The plan with the least starts in its direction."""
+    return [(crane, start) for (crane, _), start in zip(plan, next(tight_starts(inst, plan)))]
+
+
+def slowed(plan, rng):
+    """The plan with its tasks from some moment on begun later."""
+    moment, more = rng.choice([0] + [start for _, start in plan]), rng.randint(0, 30)
+    return [(crane, start + more if start >= moment else start) for crane, start in plan]
 
 
 def first_unsafe(motion, parts):
@@ -458,6 +474,8 @@ class Case:
             self.plan(nodes, least)
             if nodes in (150, None) or self.rng.random() < 0.2:
                 self.check("plan.csv" if self.read("plan.csv") else "-")
+            if self.read("plan.csv") and self.rng.random() < 0.5:
+                self.plan_from(nodes, least)
         plan, tree = self.read("plan.csv"), self.read("tree.txt")
         slots = read_plan(self.inst, plan)[0] if plan else None
         if plan:
@@ -475,14 +493,33 @@ class Case:
         shutil.rmtree(self.folder)
         return self.differences
 
-    def plan(self, nodes, least):
+    def plan_from(self, nodes, least):
+        """One run of `plan` that begins with the plan that is there, slowed down, or with one that breaks a rule."""
+        own = slowed(read_plan(self.inst, self.read("plan.csv"))[0], self.rng)
+        self.write("own.csv", plan_text(self.inst, own).encode())
+        self.plan(nodes, least, own)
+        broken = [(crane, max(0, start - self.rng.randint(0, 3))) for crane, start in own]
+        if own and direction_of(self.inst, broken)[1]:
+            self.write("own.csv", plan_text(self.inst, broken).encode())
+            due = refusal(self.inst, self.read("own.csv"))[2]
+            before = self.read("plan.csv"), self.read("tree.txt")
+            seen = self.run("plan", "ship", "stow", "plan.csv", "tree.txt", "--from", "own.csv")
+            self.expect("plan from a broken plan", seen, due)
+            self.expect("plan from a broken plan: files", (self.read("plan.csv"), self.read("tree.txt")), before)
+
+    def plan(self, nodes, least, own=None):
         """One run of `plan`; None branchings stand for those that it takes by itself."""
         for name in ("plan.csv", "tree.txt"):
             (self.folder / name).unlink(missing_ok=True)
         option = [] if nodes is None else ["--nodes", str(nodes)]
+        option += [] if own is None else ["--from", "own.csv"]
         seen = self.run("plan", "ship", "stow", "plan.csv", "tree.txt", *option)
         name, nodes = f"plan {option}", 20_000 if nodes is None else nodes
-        judge = SearchJudge(self.inst, nodes)
+        given = None if own is None else tight_form(self.inst, own)
+        judge = SearchJudge(self.inst, nodes, given)
+        if own is not None:
+            self.counts["plans from one's own"] += 1
+            self.expect(f"{name}: no later", judge.met <= end_of(self.inst, own), True)
         try:
             reader = TreeReader(self.inst, self.read("tree.txt"), judge.visit).read()
         except TreeFault as fault:
@@ -499,6 +536,7 @@ class Case:
         plan = self.read("plan.csv")
         self.expect(f"{name}: a plan is written", plan is not None, bool(judge.best))
         if plan:
+            lines.append("given none" if given is None else f"given {end_of(self.inst, given)}")
             lines += self.written(name, plan, judge)
         self.expect(f"{name}: report", seen, (status, lines))
         if word == "Budget":

@@ -5,6 +5,7 @@ use Rattle.qc_num.specs.Reading.{◌>>=◌}
 use Rattle.qc_num.proofs.ReadingLemmas.{bind_ok, same_ok}
 use Rattle.qc_io.specs.Outside.{Files, View}
 use Rattle.qc_run.specs.declared.reading.Job.{Job}
+use Rattle.qc_run.specs.declared.inputs.Input.TheVariants as input
 use Rattle.qc_run.specs.declared.refusal.Refusal.TheVariants as refusal
 use Rattle.qc_run.specs.declared.refusal.Stop.{Stop}
 use Rattle.qc_run.specs.declared.refusal.Stop.TheVariants as stop
@@ -28,8 +29,8 @@ use Rattle.qc_judge_commands.specs.Shown.{IsBoundShown, IsNoneShown}
 
 pub job_inst : (contents : Contents) (job : Job) → job_due contents ≡ Ok job → instance_due contents ≡ Ok job.inst
 job_inst contents job e =
-    let (inst, first, rest) = bind_ok (instance_due contents) (λ inst. schedule_due inst contents >>= λ sched. Ok (record { inst = inst; sched = sched })) job e in
-    let (sched, second, made) = bind_ok (schedule_due inst contents) (λ sched. Ok (record { inst = inst; sched = sched })) job rest in
+    let (inst, first, rest) = bind_ok (instance_due contents) (λ inst. schedule_due input.Plan inst contents >>= λ sched. Ok (record { inst = inst; sched = sched })) job e in
+    let (sched, second, made) = bind_ok (schedule_due input.Plan inst contents) (λ sched. Ok (record { inst = inst; sched = sched })) job rest in
     first ∙ ap (λ (j : Job). Ok j.inst) (same_ok made)
 
 -- what a tree's file shows is shown for that instance

@@ -14,18 +14,19 @@ use Rattle.qc_run.specs.declared.refusal.Stop.{Stop}
 use Rattle.qc_run.specs.declared.refusal.Stop.TheVariants as stop
 use Rattle.qc_run.specs.declared.status.Status.{Status}
 use Rattle.qc_run.specs.declared.status.Status.TheVariants as status
+use Rattle.qc_run.specs.Broken.{TellsBreak}
 use Rattle.qc_run.specs.Due.{instance_due, job_due, shown_due, tree_due}
 use Rattle.qc_run.specs.Inputs.{Names}
 use Rattle.qc_run.specs.Reports.{IsRun, Prints, PrintsPart}
 use Rattle.qc_run.specs.Steps.{ComesTo, IsStep, MayStop, Stops}
-use Rattle.qc_judge_commands.specs.declared.answer.Broken.{Broken}
+use Rattle.qc_run.specs.declared.broken.Broken.{Broken}
 use Rattle.qc_judge_commands.specs.declared.answer.Compared.{Compared}
 use Rattle.qc_judge_commands.specs.declared.answer.Judged.{Judged}
 use Rattle.qc_judge_commands.specs.declared.answer.Judged.TheVariants as judged
 use Rattle.qc_judge_commands.specs.declared.answer.Shown.{Shown}
 use Rattle.qc_judge_commands.specs.declared.answer.Showing.{Showing}
 use Rattle.qc_judge_commands.specs.declared.answer.Showing.TheVariants as showing
-use Rattle.qc_judge_commands.specs.Held.{TellsBreak, TellsHeld, TellsShown}
+use Rattle.qc_judge_commands.specs.Held.{TellsHeld, TellsShown}
 use Rattle.qc_judge_commands.specs.Reports.{showing_prints, showing_prints_part, showing_status}
 use Rattle.qc_judge_commands.specs.Shown.{IsBoundShown, IsNoneShown}
 use Rattle.qc_judge_commands.specs.Texts.{bound_status, bound_text, judged_status, judged_text}

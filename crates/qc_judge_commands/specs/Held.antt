@@ -2,26 +2,14 @@
 use Rattle.std.specs.Prelude.{◌≡◌, List}
 use Rattle.qc_num.specs.declared.bound.Bound.{Bound}
 use Rattle.qc_num.specs.declared.bound.Bound.TheVariants.{Least}
-use Rattle.qc_model.specs.declared.rules.Break.{Break}
 use Rattle.qc_model.specs.declared.schedule.Slot.{Slot}
-use Rattle.qc_model.specs.Instance.{InstanceView, task}
-use Rattle.qc_model.specs.Judge.{IsDirection, IsFirstBreak}
+use Rattle.qc_model.specs.Instance.{InstanceView}
+use Rattle.qc_model.specs.Judge.{IsDirection}
 use Rattle.qc_model.specs.Motion.{IsSafe}
 use Rattle.qc_model.specs.OneWay.{GoesOneWay}
 use Rattle.qc_model.specs.Rules.{ends}
-use Rattle.qc_model.specs.Tasks.{task_text}
-use Rattle.qc_judge_commands.specs.declared.answer.Broken.{Broken}
 use Rattle.qc_judge_commands.specs.declared.answer.Compared.{Compared}
 use Rattle.qc_judge_commands.specs.declared.answer.Shown.{Shown}
-
--- the schedule goes neither way; the first rule that it breaks on the way up is told, with the names of the tasks
-pub record TellsBreak (inst : InstanceView) (sched : List Slot) (told : Broken) : Type 0 where
-  pub broken : Break
-  pub neither : ¬ GoesOneWay inst sched
-  pub first : IsFirstBreak inst sched broken
-  pub rule_told : told.rule ≡ broken.rule
-  pub first_told : told.first ≡ task_text (task inst broken.first)
-  pub second_told : told.second ≡ task_text (task inst broken.second)
 
 -- the schedule goes one way; its end and the tree's value are told
 pub record TellsHeld (inst : InstanceView) (sched : List Slot) (bound : Bound) (told : Compared) : Type 0 where

@@ -15,6 +15,7 @@ use Rattle.qc_run.specs.declared.refusal.Refusal.TheVariants as refusal
 use Rattle.qc_run.specs.declared.refusal.Stop.{Stop}
 use Rattle.qc_run.specs.declared.status.Status.{Status}
 use Rattle.qc_run.specs.declared.status.Status.TheVariants as status
+use Rattle.qc_run.specs.Broken.{TellsBreak, broken_text}
 use Rattle.qc_run.specs.Due.{contents_in, instance_due, job_due, shown_due, tree_due}
 use Rattle.qc_run.specs.Inputs.{Names}
 use Rattle.qc_run.specs.Reports.{Printing, Prints, PrintsPart}
@@ -22,14 +23,13 @@ use Rattle.qc_run.specs.Shown.{IsTreeShown}
 use Rattle.qc_run.specs.Steps.{IsStep}
 use Rattle.qc_run.specs.Texts.{bad_plan_text}
 use Rattle.qc_run.specs.Told.{EndsBy, IsBest, IsCutTold, IsRefusal, IsRefusalTold, NoneFailed}
-use Rattle.qc_judge_commands.specs.declared.answer.Broken.{Broken}
+use Rattle.qc_run.specs.declared.broken.Broken.{Broken}
 use Rattle.qc_judge_commands.specs.declared.answer.Compared.{Compared}
 use Rattle.qc_judge_commands.specs.declared.answer.Shown.{Shown}
 use Rattle.qc_judge_commands.specs.Account.{IsJudging, IsMoved, IsShowing, IsTreeChecked}
-use Rattle.qc_judge_commands.specs.Held.{TellsBreak}
 use Rattle.qc_judge_commands.specs.Reports.{IsShownPrinted, showing_prints_part}
 use Rattle.qc_judge_commands.specs.Shown.{IsBoundShown, IsNoneShown}
-use Rattle.qc_judge_commands.specs.Texts.{bound_status, bound_text, broken_text, compared_status, compared_text, compared_word, judged_text}
+use Rattle.qc_judge_commands.specs.Texts.{bound_status, bound_text, compared_status, compared_text, compared_word, judged_text}
 
 -- ---- what each of them promises
 

@@ -14,7 +14,8 @@ use Rattle.qc_run.specs.Reports.{Printing, Prints, PrintsPart}
 use Rattle.qc_judge_commands.specs.declared.answer.Shown.{Shown}
 use Rattle.qc_judge_commands.specs.declared.answer.Showing.{Showing}
 use Rattle.qc_judge_commands.specs.declared.answer.Showing.TheVariants as showing
-use Rattle.qc_judge_commands.specs.Texts.{broken_text, shown_head}
+use Rattle.qc_run.specs.Broken.{broken_text}
+use Rattle.qc_judge_commands.specs.Texts.{shown_head}
 
 -- the plan's motion can be told: it goes its way, and the track has room for it
 pub record IsShowReady (told : Shown) : Type 0 where

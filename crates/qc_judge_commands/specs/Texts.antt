@@ -3,16 +3,13 @@ use Rattle.std.specs.Prelude.{ℕ, nat_le, if◌then◌else◌, List, ◌++◌, 
 use Rattle.qc_num.specs.declared.bound.Bound.{Bound}
 use Rattle.qc_num.specs.declared.bound.Bound.TheVariants.{Least, Never}
 use Rattle.qc_model.specs.declared.direction.Direction.{Direction}
-use Rattle.qc_model.specs.declared.rules.Rule.{Rule}
-use Rattle.qc_model.specs.declared.rules.Rule.TheVariants as rule
 use Rattle.qc_model.specs.declared.schedule.Slot.{Slot}
 use Rattle.qc_model.specs.Instance.{InstanceView}
-use Rattle.qc_model.specs.Judge.{rule_text}
 use Rattle.qc_model.specs.Rules.{ends}
 use Rattle.qc_run.specs.declared.status.Status.{Status}
 use Rattle.qc_run.specs.declared.status.Status.TheVariants as status
+use Rattle.qc_run.specs.Broken.{broken_text}
 use Rattle.qc_run.specs.Texts.{direction_text}
-use Rattle.qc_judge_commands.specs.declared.answer.Broken.{Broken}
 use Rattle.qc_judge_commands.specs.declared.answer.Compared.{Compared}
 use Rattle.qc_judge_commands.specs.declared.answer.Judged.{Judged}
 use Rattle.qc_judge_commands.specs.declared.answer.Judged.TheVariants as judged
@@ -25,23 +22,6 @@ bound_text Never = codes "Infeasible\n"
 abbrev pub bound_status : Bound → Status
 bound_status (Least end) = status.Done
 bound_status Never = status.Infeasible
-
--- the names of the task or of the two tasks at which a rule is broken
-abbrev pub tasks_named : Rule → List ℕ → List ℕ → List ℕ
-tasks_named rule.Reach first second = first
-tasks_named rule.Ready first second = first
-tasks_named rule.Travel first second = first ++ codes " " ++ second
-tasks_named rule.Before first second = first ++ codes " " ++ second
-tasks_named rule.Apart first second = first ++ codes " " ++ second
-tasks_named rule.Margin first second = first ++ codes " " ++ second
-tasks_named rule.Berth first second = first
-tasks_named rule.OneWay first second = first ++ codes " " ++ second
-
--- what is printed for a plan that breaks a rule
-abbrev pub broken_text : Broken → List ℕ
-broken_text told =
-    codes "Broken " ++ rule_text told.rule ++ codes " " ++ tasks_named told.rule told.first told.second
-    ++ codes "\n"
 
 -- a plan that holds is a best one where its end is at most the tree's value
 abbrev pub compared_status : Compared → Status

@@ -1,18 +1,9 @@
 //! What a plan that is judged comes to.
 
-use qc_model::{Direction, Instance, Rule, Schedule, TaskText};
+use qc_model::{Direction, Instance, Schedule};
 use qc_motion::Track;
 use qc_num::Tick;
-
-/// What is told of a plan that breaks a rule.
-#[derive(Drop)]
-pub struct Broken {
-    pub rule: Rule,
-    /// The name of the task, or of the lower one of the two.
-    pub first: TaskText,
-    /// The name of the higher task; the same name where the rule speaks of one task.
-    pub second: TaskText,
-}
+use qc_run::Broken;
 
 /// What is told of a plan that holds.
 #[derive(Clone, Copy, Debug, PartialEq, Eq)]

@@ -1,10 +1,8 @@
 //! The command that checks a plan beside a tree.
-ghost use Rattle.std.specs.Prelude.{◌≡◌, ◌<◌, ◌≤◌, Ok, IsSome, length};
+ghost use Rattle.std.specs.Prelude.{◌≡◌, ◌≤◌, Ok, IsSome};
 ghost use Rattle.qc_num.specs.declared.bound.Bound.{Bound};
-ghost use Rattle.qc_model.specs.Instance.{task};
 ghost use Rattle.qc_model.specs.Judge.{IsJudgeable};
 ghost use Rattle.qc_model.specs.OneWay.{GoesOneWay};
-ghost use Rattle.qc_model.specs.Tasks.{task_text};
 ghost use Rattle.qc_tree.specs.Trees.{NoneEarlier};
 ghost use Rattle.qc_run.specs.Due.{job_due};
 ghost use Rattle.qc_run.specs.Inputs.{names_of};
@@ -13,29 +11,13 @@ ghost use Rattle.qc_judge_commands.specs.Account.{IsJudging, IsPlanCheckRun};
 ghost use Rattle.qc_judge_commands.specs.Promises.{PlanCheckPromises};
 ghost use Rattle.qc_judge_commands.specs.Held.{TellsHeld};
 
-use crate::answer::{Broken, Compared, Judged};
+use crate::answer::{Compared, Judged};
 use crate::judged::report;
 use qc_io::{Shelf, Sink};
-use qc_model::{Break, Instance, Schedule, direction_of, ends};
+use qc_model::{Instance, Schedule, direction_of, ends};
 use qc_num::Bound;
-use qc_run::{Inputs, Job, Status, Stop, read_job, read_tree, report_stop};
+use qc_run::{Inputs, Job, Status, Stop, broken_of, read_job, read_tree, report_stop};
 use std::alloc::Global;
-
-/// What is told of a break.
-pub fn broken_of(inst: &Instance, broken: Break) -> Broken
-    requires first { broken.first < length inst.now.tasks }
-    requires second { broken.second < length inst.now.tasks }
-    ensures rule { result.rule ≡ broken.rule }
-    ensures first { result.first ≡ task_text (task inst.now broken.first) }
-    ensures second { result.second ≡ task_text (task inst.now broken.second) }
-{
-    let tasks = inst.tasks();
-    Broken {
-        rule: broken.rule,
-        first: tasks[broken.first as usize].text(),
-        second: tasks[broken.second as usize].text(),
-    }
-}
 
 /// What is told of a schedule that goes one way, beside what a tree shows.
 fn compared_of(inst: &Instance, sched: &Schedule, bound: Bound) -> Compared

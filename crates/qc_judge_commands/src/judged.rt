@@ -1,50 +1,12 @@
 //! The reports of a plan that was judged.
-ghost use Rattle.std.specs.Prelude.{◌≡◌, ◌≤◌, ◌+◌, ◌++◌, nat_le, length};
-ghost use Rattle.qc_run.specs.declared.status.Status.TheVariants as status;
+ghost use Rattle.std.specs.Prelude.{◌≡◌, ◌≤◌, nat_le, length};
 ghost use Rattle.qc_run.specs.Reports.{Prints, PrintsPart, Reports};
-ghost use Rattle.qc_judge_commands.specs.Texts.{broken_text, compared_status, compared_text, compared_word, judged_status, judged_text, tasks_named};
+ghost use Rattle.qc_judge_commands.specs.Texts.{compared_status, compared_text, compared_word, judged_status, judged_text};
 
-use crate::answer::{Broken, Compared, Judged};
+use crate::answer::{Compared, Judged};
 use qc_io::Sink;
-use qc_model::Rule;
 use qc_num::{Bound, Text};
-use qc_run::{Status, report_text};
-
-/// Puts the names of the task or of the two tasks at which the rule is broken behind the text.
-fn push_tasks(told: &Broken, text: &mut Text<64>)
-    requires { length text.old ≤ 32 }
-    ensures text { text.new ≡ text.old ++ tasks_named told.now.rule told.now.first told.now.second }
-    ensures length { length text.new ≤ length text.old + 17 }
-{
-    match told.rule {
-        Rule::Reach | Rule::Ready | Rule::Berth => text.push(told.first.as_bytes()),
-        Rule::Travel | Rule::Before | Rule::Apart | Rule::Margin | Rule::OneWay => {
-            text.push(told.first.as_bytes());
-            text.push(b" ");
-            text.push(told.second.as_bytes());
-        }
-    }
-}
-
-/// What is told of a plan that breaks a rule.
-fn broken_text(told: &Broken) -> Text<64>
-    ensures { result ≡ broken_text told.now }
-{
-    let mut text = Text::of(b"Broken ");
-    text.push(told.rule.text());
-    text.push(b" ");
-    push_tasks(told, &mut text);
-    text.push(b"\n");
-    text
-}
-
-/// Prints what is told of a plan that breaks a rule.
-pub fn report_broken<K: Sink>(told: &Broken, out: &mut K) -> Status
-    ensures { Reports (Prints (broken_text told.now)) (PrintsPart (broken_text told.now)) status.Broken
-        (K.view out.old) (K.view out.new) result }
-{
-    report_text(Status::Broken, broken_text(told).as_bytes(), out)
-}
+use qc_run::{Status, report_broken, report_text};
 
 /// Whether no schedule that goes one way ends before the plan.
 fn is_best(told: Compared) -> bool

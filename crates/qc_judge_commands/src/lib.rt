@@ -9,7 +9,7 @@ mod motion;
 mod shown;
 mod tasks;
 
-pub use answer::{Broken, Compared, Judged, Showing, Shown};
+pub use answer::{Compared, Judged, Showing, Shown};
 pub use check::check_tree;
 pub use compare::{broken_of, check_plan};
 pub use judged::report_broken;

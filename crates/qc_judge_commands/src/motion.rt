@@ -6,13 +6,12 @@ ghost use Rattle.qc_judge_commands.specs.Promises.{ShowPromises};
 ghost use Rattle.qc_judge_commands.specs.Reports.{CanBeShown};
 
 use crate::answer::{Showing, Shown};
-use crate::compare::broken_of;
 use crate::shown::report;
 use qc_io::{Shelf, Sink};
 use qc_model::direction_of;
 use qc_motion::Track;
 use qc_num::OutOfMemory;
-use qc_run::{Inputs, Job, Status, Stop, read_job, report_stop};
+use qc_run::{Inputs, Job, Status, Stop, broken_of, read_job, report_stop};
 use std::alloc::Global;
 
 /// Reads the ship file, the stowage list and the plan's file and judges the plan; where it holds its

@@ -8,13 +8,12 @@ ghost use Rattle.qc_judge_commands.specs.Reports.{CanBeShown, IsShownCut, IsShow
 ghost use Rattle.qc_judge_commands.specs.Texts.{head_text, shown_head};
 
 use crate::answer::{Showing, Shown};
-use crate::judged::report_broken;
 use qc_gantt::{write_gantt, write_tracks};
 use qc_io::{Sink, WriteFault, put_all};
 use qc_model::{Direction, Instance, Schedule, ends};
 use qc_motion::Track;
 use qc_num::{Text, Tick};
-use qc_run::{Status, direction_text};
+use qc_run::{Status, direction_text, report_broken};
 
 /// The lines ahead of a plan's motion.
 fn head_text(direction: Direction, end: Tick) -> Text<64>

@@ -1,8 +1,7 @@
 -- The first place at which a test passes, and what stands before and behind it; the first line of a text.
-use Rattle.std.proofs.Common.{◌≡◌, ◌<◌, ◌≤◌, ◌+◌, ◌-◌, ◌∷◌, ℕ, suc, List, [], length, take, drop, Bool, Option, None, Some, nat_lt, refl, sym, ◌∙◌, inl, inr, arith}
+use Rattle.std.proofs.Common.{◌≡◌, ◌<◌, ◌≤◌, ◌+◌, ◌-◌, ◌∷◌, ℕ, suc, List, [], length, take, drop, Bool, Option, None, Some, nat_lt, refl, sym, ◌∙◌, inl, inr, arith, position}
 use Rattle.std.proofs.lemmas.Bool.{cases_Bool, ltb-true, ltb-false}
 use Rattle.std.proofs.lemmas.List.{drop_all, take_all, take_rest}
-use Rattle.std.specs.Prelude.{position}
 use Rattle.std.specs.List.{after_first, before_first, onto_first, position_or_len}
 use Rattle.qc_log.specs.Lines.{is_feed, lines_of}
 

@@ -1,6 +1,5 @@
 -- Hatches and events of a part, as they are kept and as they are seen.
-use Rattle.std.proofs.Common.{◌≡◌, ℕ, ◌+◌, ◌-◌, ◌<◌, ◌≤◌, ◌≢◌, ◌⊎◌, inl, inr, ℤ, pos, negsuc, Bool, replicate, set, below_more, cond, ap₂, List, [], length, get_or, sym, ap, subst, ◌∙◌, arith, ◌≤ℤ◌}
-use Rattle.std.specs.Prelude.{All}
+use Rattle.std.proofs.Common.{◌≡◌, ℕ, ◌+◌, ◌-◌, ◌<◌, ◌≤◌, ◌≢◌, ◌⊎◌, inl, inr, ℤ, pos, negsuc, Bool, replicate, set, below_more, cond, ap₂, List, [], length, get_or, sym, ap, subst, ◌∙◌, arith, ◌≤ℤ◌, All}
 use Rattle.std.specs.Int.{int_max}
 use Rattle.std.proofs.lemmas.Bool.{cases_eq, cases_lt}
 use Rattle.std.proofs.lemmas.Int.{clamps, ints}

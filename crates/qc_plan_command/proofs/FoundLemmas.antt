@@ -1,5 +1,5 @@
 -- What is told of a search follows from what it came to.
-use Rattle.std.proofs.Common.{◌≡◌, ◌≤◌, ℕ, Bool, true, false, arith, List, Option, None, Some, refl, sym, inl, inr, ap, ◌∙◌, subst, IfSome, nat_le, if◌then◌else◌}
+use Rattle.std.proofs.Common.{◌≡◌, ◌≤◌, ℕ, Bool, true, false, arith, List, Option, None, Some, refl, sym, inl, inr, ap, ◌∙◌, subst, IfSome, IsSomeAnd, MatchOption, nat_le, if◌then◌else◌}
 use Rattle.std.proofs.lemmas.Bool.{leb-true}
 use Rattle.std.proofs.lemmas.List.{length-map}
 use Rattle.qc_num.specs.declared.bound.Bound.{Bound}
@@ -12,9 +12,11 @@ use Rattle.qc_model.specs.Judge.{Goes, IsJudgeable}
 use Rattle.qc_model.specs.OneWay.{GoesOneWay}
 use Rattle.qc_search.specs.declared.done.Kind.{Kind}
 use Rattle.qc_search.specs.declared.done.Kind.TheVariants as kind
-use Rattle.qc_search.specs.Run.{DoneView, IsTight, best_end, outcome}
+use Rattle.qc_search.specs.Run.{DoneView, IsGivenTold, best_end, outcome}
+use Rattle.qc_starts.specs.Tight.{IsTight}
 use Rattle.qc_tree.specs.Trees.{Tree}
 use Rattle.qc_num.specs.Bounds.{IsAtMost}
+use Rattle.qc_num.proofs.BoundLemmas.{at_most_through}
 use Rattle.qc_model.specs.Rules.{ends, starts}
 use Rattle.qc_model.specs.Numbers.{most_start}
 use Rattle.qc_model.proofs.NodeLemmas.{ends_by, start_at}
@@ -81,9 +83,10 @@ of_some P None a e h = absurd (cc e)
 of_some P (Some b) a e h = let same : b ≡ a = cc in subst P same h
 
 pub is_best :
-    (inst : InstanceView) (nodes : ℕ) (tree : Tree) (done : DoneView) (told : Planned) → IsFound inst nodes tree done → (tells : TellsPlan inst done told)
+    (inst : InstanceView) (nodes : ℕ) (own : Option (List Slot)) (tree : Tree) (done : DoneView) (told : Planned)
+    → IsFound inst nodes own tree done → (tells : TellsPlan inst done told)
     → nat_le told.end told.bound ≡ true → IsBest inst tells.sched
-is_best inst nodes tree done told found tells le = record {
+is_best inst nodes own tree done told found tells le = record {
   goes = tight_goes inst tells.sched (of_some (IsTight inst) done.best tells.sched tells.best found.sound.tight);
   least = λ other goes.
       let late : told.bound ≤ ends inst other = subst (λ b. IsAtMost b (Least (ends inst other))) tells.bound (found.sound.none_earlier other goes) in
@@ -93,8 +96,53 @@ is_best inst nodes tree done told found tells le = record {
 }
 
 -- where no schedule ends before Never there is none
-pub none_goes : (inst : InstanceView) (nodes : ℕ) (tree : Tree) (done : DoneView) → IsFound inst nodes tree done → done.bound ≡ Never → (sched : List Slot) → ¬ GoesOneWay inst sched
-none_goes inst nodes tree done found never sched goes = subst (λ b. IsAtMost b (Least (ends inst sched))) never (found.sound.none_earlier sched goes)
+pub none_goes : (inst : InstanceView) (nodes : ℕ) (own : Option (List Slot)) (tree : Tree) (done : DoneView)
+    → IsFound inst nodes own tree done → done.bound ≡ Never → (sched : List Slot) → ¬ GoesOneWay inst sched
+none_goes inst nodes own tree done found never sched goes = subst (λ b. IsAtMost b (Least (ends inst sched))) never (found.sound.none_earlier sched goes)
+
+-- ---- the planner's own schedule
+
+-- where it is there, the best schedule ends no later
+pub own_end : (inst : InstanceView) (nodes : ℕ) (own : Option (List Slot)) (tree : Tree) (done : DoneView)
+    → IsFound inst nodes own tree done → IfSome own (λ sched. IsAtMost (best_end inst done.best) (Least (ends inst sched)))
+own_end inst nodes own tree done found = by_own own found.given found.no_worse found.sound.begins
+  where
+    by_given : (sched : List Slot) (given : Option (List Slot)) → IsSomeAnd given (λ other. ends inst other ≤ ends inst sched)
+        → MatchOption given (done.given ≡ None) (λ one. IsGivenTold inst one done)
+        → IsAtMost (best_end inst done.best) (Least (ends inst sched))
+    by_given sched None worse told = absurd worse
+    by_given sched (Some one) worse told =
+        at_most_through (best_end inst done.best) (Least (ends inst told.first)) (Least (ends inst sched)) told.best
+        (omega (arith, told.no_later, worse))
+
+    by_own : (own given : Option (List Slot)) → IfSome own (λ sched. IsSomeAnd given (λ other. ends inst other ≤ ends inst sched))
+        → MatchOption given (done.given ≡ None) (λ one. IsGivenTold inst one done)
+        → IfSome own (λ sched. IsAtMost (best_end inst done.best) (Least (ends inst sched)))
+    by_own None given worse told = tt
+    by_own (Some sched) given worse told = by_given sched given worse told
+
+-- so is the end that is told
+pub own_no_later : (inst : InstanceView) (nodes : ℕ) (own : Option (List Slot)) (tree : Tree) (done : DoneView) (told : Planned)
+    → IsFound inst nodes own tree done → TellsPlan inst done told → IfSome own (λ sched. told.end ≤ ends inst sched)
+own_no_later inst nodes own tree done told found tells = by own (own_end inst nodes own tree done found)
+  where
+    by : (own : Option (List Slot)) → IfSome own (λ sched. IsAtMost (best_end inst done.best) (Least (ends inst sched)))
+        → IfSome own (λ sched. told.end ≤ ends inst sched)
+    by None late = tt
+    by (Some sched) late =
+        let best = subst (λ (o : Option (List Slot)). IsAtMost (best_end inst o) (Least (ends inst sched))) tells.best late in
+        omega (arith, best, tells.end)
+
+-- and where no schedule is known there was none
+pub own_none : (inst : InstanceView) (nodes : ℕ) (own : Option (List Slot)) (tree : Tree) (done : DoneView)
+    → IsFound inst nodes own tree done → done.best ≡ None → own ≡ None
+own_none inst nodes own tree done found none = by own (own_end inst nodes own tree done found)
+  where
+    by : (own : Option (List Slot)) → IfSome own (λ sched. IsAtMost (best_end inst done.best) (Least (ends inst sched)))
+        → own ≡ None
+    by None late = refl
+    by (Some sched) late =
+        absurd (subst (λ (o : Option (List Slot)). IsAtMost (best_end inst o) (Least (ends inst sched))) none late)
 
 -- ---- what is written is read again
 

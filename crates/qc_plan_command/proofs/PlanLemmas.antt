@@ -1,32 +1,38 @@
 -- What follows from a plan's account of itself.
-use Rattle.std.proofs.Common.{◌≡◌, ◌≢◌, ◌≤◌, ◌⊎◌, Bool, Option, None, Some, Result, Ok, Err, refl, sym, ap, ◌∙◌, subst, inl, inr, IfSome, nat_le, if◌then◌else◌}
+use Rattle.std.proofs.Common.{◌≡◌, ◌≢◌, ◌≤◌, ◌⊎◌, Bool, List, Option, None, Some, Result, Ok, Err, refl, sym, ap, ◌∙◌, subst, inl, inr, IfSome, nat_le, if◌then◌else◌}
 use Rattle.std.proofs.lemmas.Bool.{leb-true}
 use Rattle.qc_num.specs.declared.bound.Bound.TheVariants.{Least, Never}
 use Rattle.qc_num.proofs.ReadingLemmas.{same_ok}
 use Rattle.qc_io.specs.Outside.{Files, View}
-use Rattle.qc_model.specs.Instance.{InstanceView}
+use Rattle.qc_model.specs.declared.schedule.Slot.{Slot}
+use Rattle.qc_model.specs.OneWay.{GoesOneWay}
 use Rattle.qc_search.specs.declared.done.Kind.{Kind}
 use Rattle.qc_search.specs.declared.done.Kind.TheVariants as kind
 use Rattle.qc_search.specs.Run.{branching_limit}
 use Rattle.qc_run.specs.declared.refusal.Stop.{Stop}
 use Rattle.qc_run.specs.declared.status.Status.{Status}
 use Rattle.qc_run.specs.declared.status.Status.TheVariants as status
-use Rattle.qc_run.specs.Due.{contents_in, instance_due}
+use Rattle.qc_run.specs.declared.broken.Broken.{Broken}
+use Rattle.qc_run.specs.declared.reading.OwnJob.{OwnJob}
+use Rattle.qc_run.specs.Broken.{broken_text}
+use Rattle.qc_run.specs.Due.{contents_in, own_job_due}
+use Rattle.qc_run.proofs.DueLemmas.{comes_due}
 use Rattle.qc_run.specs.Reports.{Prints, answer_prints, answer_status}
 use Rattle.qc_run.specs.Told.{EndsBy, IsCutTold, NoneFailed}
 use Rattle.qc_run.proofs.StatusLemmas.{IsOwn, stop_is_not}
 use Rattle.qc_run.proofs.ToldLemmas.{memory_told, never_usage, of_status, refused_told, stop_due, unfailed, whole_of}
 use Rattle.qc_plan_command.specs.declared.answer.PlanAnswer.{PlanAnswer}
 use Rattle.qc_plan_command.specs.declared.answer.PlanAnswer.TheVariants as answer
-use Rattle.qc_plan_command.specs.Account.{IsLeft, IsPlanRun, IsPlanning, IsStopped, IsWritten}
+use Rattle.qc_plan_command.specs.Account.{IsLeft, IsOwnBroken, IsPlanRun, IsPlanning, IsStopped, IsWritten}
 use Rattle.qc_plan_command.specs.Asked.{Planning}
-use Rattle.qc_plan_command.specs.Promises.{IsBudgetTold, IsInfeasibleTold, IsOptimalTold, IsSearchEnd, IsStopTold, IsUnplannedTold, PlanPromises}
+use Rattle.qc_plan_command.specs.Promises.{EndsPlanned, IsBudgetTold, IsInfeasibleTold, IsOptimalTold, IsOwnBrokenTold, IsSearchEnd, IsStopTold, IsUnplannedTold, PlanPromises}
 use Rattle.qc_plan_command.specs.Reports.{found_status, plan_prints, plan_prints_part, plan_status}
-use Rattle.qc_plan_command.proofs.FoundLemmas.{found_is_not, in_time, is_best, kind_by, kind_none, none_goes, own_found, search_end, too_late}
+use Rattle.qc_plan_command.proofs.FoundLemmas.{found_is_not, in_time, is_best, kind_by, kind_none, none_goes, of_some, own_found, own_no_later, own_none, search_end, too_late}
 use Rattle.qc_plan_command.proofs.StoreLemmas.{as_it_was}
 
 own : (a : PlanAnswer) → IsOwn (plan_status a)
 own answer.WriteFault = tt
+own (answer.Broken told) = tt
 own (answer.Planned told) = own_found told.kind
 own (answer.Unplanned bound branched) = tt
 own (answer.Infeasible branched) = tt
@@ -47,11 +53,12 @@ module _ (asked : Planning) (before after pb pa : View) (ended : Status) (run : 
           let le = in_time (nat_le told.end told.bound) (sym (ap found_status k) ∙ e) in
           let is : told.kind ≡ kind.Optimal = k ∙ ap (λ (b : Bool). if b then kind.Optimal else kind.Budget) le in
           record {
-            plan = record { told = told; written = h; kind = sym h.told.kind_told ∙ is; word = is; report = report };
+            plan = record { told = told; written = h; kind = sym h.told.kind_told ∙ is; word = is; report = report; no_later = own_no_later h.search.inst asked.nodes h.search.own h.search.tree h.search.done told h.search.found h.told };
             enough = leb-true told.end told.bound le;
-            best = is_best h.search.inst asked.nodes h.search.tree h.search.done told h.search.found h.told le;
+            best = is_best h.search.inst asked.nodes h.search.own h.search.tree h.search.done told h.search.found h.told le;
           }
   optimal_told (Ok answer.WriteFault) serves e report = absurd (cc e)
+  optimal_told (Ok (answer.Broken broken)) serves e report = absurd (cc e)
   optimal_told (Ok (answer.Unplanned bound branched)) serves e report = absurd (cc e)
   optimal_told (Ok (answer.Infeasible branched)) serves e report = absurd (cc e)
   optimal_told (Err why) serves e report = absurd (stop_is_not why status.Optimal e tt)
@@ -68,10 +75,11 @@ module _ (asked : Planning) (before after pb pa : View) (ended : Status) (run : 
           let is : told.kind ≡ kind.Budget = k ∙ ap (λ (b : Bool). if b then kind.Optimal else kind.Budget) less in
           let budget : h.search.done.kind ≡ kind.Budget = sym h.told.kind_told ∙ is in
           record {
-            plan = record { told = told; written = h; kind = budget; word = is; report = report };
+            plan = record { told = told; written = h; kind = budget; word = is; report = report; no_later = own_no_later h.search.inst asked.nodes h.search.own h.search.tree h.search.done told h.search.found h.told };
             spent = h.told.branched ∙ h.search.found.sound.spent budget;
           }
   budget_told (Ok answer.WriteFault) serves e report = absurd (cc e)
+  budget_told (Ok (answer.Broken broken)) serves e report = absurd (cc e)
   budget_told (Ok (answer.Unplanned bound branched)) serves e report = absurd (cc e)
   budget_told (Ok (answer.Infeasible branched)) serves e report = absurd (cc e)
   budget_told (Err why) serves e report = absurd (stop_is_not why status.BudgetPlan e tt)
@@ -89,6 +97,7 @@ module _ (asked : Planning) (before after pb pa : View) (ended : Status) (run : 
             branched = branched;
             written = h;
             kind = budget;
+            no_own = own_none h.search.inst asked.nodes h.search.own h.search.tree h.search.done h.search.found h.told.0;
             report = report;
             spent = h.told.2 ∙ h.search.found.sound.spent budget;
           }
@@ -99,6 +108,7 @@ module _ (asked : Planning) (before after pb pa : View) (ended : Status) (run : 
       not_found kind.Infeasible e = cc e
       not_found kind.Budget e = cc e
   unplanned_told (Ok answer.WriteFault) serves e report = absurd (cc e)
+  unplanned_told (Ok (answer.Broken broken)) serves e report = absurd (cc e)
   unplanned_told (Ok (answer.Infeasible branched)) serves e report = absurd (cc e)
   unplanned_told (Err why) serves e report = absurd (stop_is_not why status.BudgetNone e tt)
 
@@ -112,7 +122,7 @@ module _ (asked : Planning) (before after pb pa : View) (ended : Status) (run : 
         branched = branched;
         written = h;
         kind = kind_none h.search.inst h.search.done Never h.search.found.sound.kind h.told.0 h.told.1;
-        none = none_goes h.search.inst asked.nodes h.search.tree h.search.done h.search.found h.told.1;
+        none = none_goes h.search.inst asked.nodes h.search.own h.search.tree h.search.done h.search.found h.told.1;
         report = report;
       }
   infeasible_told (Ok (answer.Planned told)) serves e report = absurd (not_found told.kind e)
@@ -122,8 +132,30 @@ module _ (asked : Planning) (before after pb pa : View) (ended : Status) (run : 
       not_found kind.Infeasible e = cc e
       not_found kind.Budget e = cc e
   infeasible_told (Ok answer.WriteFault) serves e report = absurd (cc e)
+  infeasible_told (Ok (answer.Broken broken)) serves e report = absurd (cc e)
   infeasible_told (Ok (answer.Unplanned bound branched)) serves e report = absurd (cc e)
   infeasible_told (Err why) serves e report = absurd (stop_is_not why status.Infeasible e tt)
+
+  own_broken : (told : Broken) (files : Option Files) → before.files ≡ files → IsOwnBroken asked before after told
+      → Prints (broken_text told) pb.written pa.written → IfSome files (λ held. IsOwnBrokenTold asked held pb pa)
+  own_broken told None is b report = tt
+  own_broken told (Some held) is b report = record {
+    job = b.job;
+    due = comes_due (own_job_due asked.inputs.own) asked.inputs held before.files is (Ok b.job) b.due;
+    sched = b.sched;
+    own = b.own;
+    told = told;
+    tells = b.tells;
+    report = report;
+  }
+
+  broken_told : Tells (λ s. s ≡ status.Broken) (λ held. IsOwnBrokenTold asked held pb pa)
+  broken_told (Ok (answer.Broken told)) serves e report = own_broken told before.files refl serves.0.1 report
+  broken_told (Ok answer.WriteFault) serves e report = absurd (cc e)
+  broken_told (Ok (answer.Planned told)) serves e report = absurd (found_is_not told.kind status.Broken e)
+  broken_told (Ok (answer.Unplanned bound branched)) serves e report = absurd (cc e)
+  broken_told (Ok (answer.Infeasible branched)) serves e report = absurd (cc e)
+  broken_told (Err why) serves e report = absurd (stop_is_not why status.Broken e tt)
 
   abbrev account : Result PlanAnswer Stop → Type 0
   account = IsPlanning asked before after
@@ -140,25 +172,30 @@ module _ (asked : Planning) (before after pb pa : View) (ended : Status) (run : 
   plan_infeasible : ended ≡ status.Infeasible → IfSome before.files (λ held. IsInfeasibleTold asked held after.files pb pa)
   plan_infeasible e = of_status account plan_prints plan_prints_part plan_status pb pa ended run status.Infeasible e (λ f. cc f) infeasible_told
 
+  plan_broken : ended ≡ status.Broken → IfSome before.files (λ held. IsOwnBrokenTold asked held pb pa)
+  plan_broken e = of_status account plan_prints plan_prints_part plan_status pb pa ended run status.Broken e (λ f. cc f) broken_told
+
   -- a search that ends with Budget had fewer branchings than the limit
   undecided : (held : Files) (a : PlanAnswer) → (w : IsWritten asked held after.files a) → w.search.done.kind ≡ kind.Budget
-      → (inst : InstanceView) → instance_due (contents_in held asked.inputs) ≡ Ok inst → branching_limit inst ≤ asked.nodes → ⊥
-  undecided held a w budget inst is enough =
+      → (job : OwnJob) → own_job_due asked.inputs.own (contents_in held asked.inputs) ≡ Ok job
+      → branching_limit job.inst ≤ asked.nodes → ⊥
+  undecided held a w budget job is enough =
       w.search.found.sound.decides
-      (subst (λ (i : InstanceView). branching_limit i ≤ asked.nodes) (same_ok (sym is ∙ w.search.due)) enough) budget
+      (subst (λ (j : OwnJob). branching_limit j.inst ≤ asked.nodes) (same_ok (sym is ∙ w.search.due)) enough) budget
 
-  plan_decides : IfSome before.files (λ held. (inst : InstanceView) → instance_due (contents_in held asked.inputs) ≡ Ok inst
-      → branching_limit inst ≤ asked.nodes → (ended ≢ status.BudgetPlan) × (ended ≢ status.BudgetNone))
+  plan_decides : IfSome before.files (λ held. (job : OwnJob)
+      → own_job_due asked.inputs.own (contents_in held asked.inputs) ≡ Ok job
+      → branching_limit job.inst ≤ asked.nodes → (ended ≢ status.BudgetPlan) × (ended ≢ status.BudgetNone))
   plan_decides = by before.files plan_budget plan_none
     where
       by : (files : Option Files) → (ended ≡ status.BudgetPlan → IfSome files (λ held. IsBudgetTold asked held after.files pb pa))
           → (ended ≡ status.BudgetNone → IfSome files (λ held. IsUnplannedTold asked held after.files pb pa))
-          → IfSome files (λ held. (inst : InstanceView) → instance_due (contents_in held asked.inputs) ≡ Ok inst
-          → branching_limit inst ≤ asked.nodes → (ended ≢ status.BudgetPlan) × (ended ≢ status.BudgetNone))
+          → IfSome files (λ held. (job : OwnJob) → own_job_due asked.inputs.own (contents_in held asked.inputs) ≡ Ok job
+          → branching_limit job.inst ≤ asked.nodes → (ended ≢ status.BudgetPlan) × (ended ≢ status.BudgetNone))
       by None budget none = tt
-      by (Some held) budget none = λ inst is enough. (
-        λ e. let b = (budget e).plan in undecided held (answer.Planned b.told) b.written b.kind inst is enough,
-        λ e. let b = none e in undecided held (answer.Unplanned b.bound b.branched) b.written b.kind inst is enough,
+      by (Some held) budget none = λ job is enough. (
+        λ e. let b = (budget e).plan in undecided held (answer.Planned b.told) b.written b.kind job is enough,
+        λ e. let b = none e in undecided held (answer.Unplanned b.bound b.branched) b.written b.kind job is enough,
       )
 
   -- ---- what is left in the files
@@ -167,6 +204,7 @@ module _ (asked : Planning) (before after pb pa : View) (ended : Status) (run : 
       → answer_status plan_status r ≢ status.WriteFault → after.files ≡ before.files
   stays (Err why) serves one two = serves.2
   stays (Ok answer.WriteFault) serves one two = absurd (two refl)
+  stays (Ok (answer.Broken told)) serves one two = serves.0.1.files
   stays (Ok (answer.Planned told)) serves one two = absurd (one (search_end told.kind))
   stays (Ok (answer.Unplanned bound branched)) serves one two = absurd (one tt)
   stays (Ok (answer.Infeasible branched)) serves one two = absurd (one tt)
@@ -189,6 +227,8 @@ module _ (asked : Planning) (before after pb pa : View) (ended : Status) (run : 
   left : (r : Result PlanAnswer Stop) → account r → IfSome before.files (λ held. IsLeft asked held after.files)
   left (Err why) serves = as_it_was (λ held. IsLeft asked held after.files) before.files after.files serves.2 (λ held e. inl e)
   left (Ok answer.WriteFault) serves = stopped_left before.files serves.0.1
+  left (Ok (answer.Broken told)) serves =
+      as_it_was (λ held. IsLeft asked held after.files) before.files after.files serves.0.1.files (λ held e. inl e)
   left (Ok (answer.Planned told)) serves = all_left (answer.Planned told) before.files serves.0.1
   left (Ok (answer.Unplanned bound branched)) serves = all_left (answer.Unplanned bound branched) before.files serves.0.1
   left (Ok (answer.Infeasible branched)) serves = all_left (answer.Infeasible branched) before.files serves.0.1
@@ -198,6 +238,7 @@ module _ (asked : Planning) (before after pb pa : View) (ended : Status) (run : 
   stop_told : (r : Result PlanAnswer Stop) → account r → answer_status plan_status r ≡ status.WriteFault → pa.faults ≡ pb.faults
       → answer_prints Prints plan_prints r pb.written pa.written → IsStopTold asked before after pb pa
   stop_told (Ok answer.WriteFault) serves e faults report = record { rose = serves.0.0; serves = serves; faults = faults; report = report }
+  stop_told (Ok (answer.Broken told)) serves e faults report = absurd (cc e)
   stop_told (Ok (answer.Planned told)) serves e faults report = absurd (found_is_not told.kind status.WriteFault e)
   stop_told (Ok (answer.Unplanned bound branched)) serves e faults report = absurd (cc e)
   stop_told (Ok (answer.Infeasible branched)) serves e faults report = absurd (cc e)
@@ -213,19 +254,45 @@ module _ (asked : Planning) (before after pb pa : View) (ended : Status) (run : 
 
   module _ (none : NoneFailed before after pb pa) where
     abbrev Ends : Files → Status → Type 0
-    Ends held s = EndsBy (λ (inst : InstanceView) end. IsSearchEnd end) (instance_due (contents_in held asked.inputs)) s ⊎ (s ≡ status.OutOfMemory)
+    Ends held s = EndsBy EndsPlanned (own_job_due asked.inputs.own (contents_in held asked.inputs)) s ⊎ (s ≡ status.OutOfMemory)
+
+    -- a schedule of the planner's own that goes one way leaves a search its end
+    one_way_ends : (job : OwnJob) (s : Status) → IfSome job.own (GoesOneWay job.inst) → IsSearchEnd s → EndsPlanned job s
+    one_way_ends job s goes end = record { neither = never job.own goes; one_way = λ _. end }
+      where
+        never : (own : Option (List Slot)) → IfSome own (GoesOneWay job.inst)
+            → IfSome own (λ sched. ¬ GoesOneWay job.inst sched → s ≡ status.Broken)
+        never None goes = tt
+        never (Some sched) goes = λ none. absurd (none goes)
+
+    -- one that goes neither way ends it with Broken
+    neither_ends : (job : OwnJob) (sched : List Slot) → job.own ≡ Some sched → ¬ GoesOneWay job.inst sched
+        → EndsPlanned job status.Broken
+    neither_ends job sched is neither =
+        record { neither = all job.own; one_way = λ goes. absurd (neither (of_some (GoesOneWay job.inst) job.own sched is goes)) }
+      where
+        all : (own : Option (List Slot)) → IfSome own (λ sched. ¬ GoesOneWay job.inst sched → status.Broken ≡ status.Broken)
+        all None = tt
+        all (Some sched) = λ _. refl
+
+    broken_ends : (held : Files) → before.files ≡ Some held → (told : Broken) → IsOwnBroken asked before after told
+        → Ends held status.Broken
+    broken_ends held is told b =
+        inl (rw (comes_due (own_job_due asked.inputs.own) asked.inputs held before.files is (Ok b.job) b.due)
+        (neither_ends b.job b.sched b.own b.tells.neither))
 
     searched_ends : (held : Files) (a : PlanAnswer) (files : Option Files) → files ≡ Some held → IfSome files (λ held. IsWritten asked held after.files a)
         → (s : Status) → IsSearchEnd s → Ends held s
     searched_ends held a None told h s end = absurd (cc told)
     searched_ends held a (Some other) told h s end =
         let same : other ≡ held = cc in
-        inl (subst (λ files. EndsBy (λ (inst : InstanceView) end. IsSearchEnd end) (instance_due (contents_in files asked.inputs)) s) same
-        (rw (h.search.due) end))
+        inl (subst (λ files. EndsBy EndsPlanned (own_job_due asked.inputs.own (contents_in files asked.inputs)) s) same
+        (rw (h.search.due) (one_way_ends (record { inst = h.search.inst; own = h.search.own }) s h.search.goes end)))
 
     answer_ends : (held : Files) → before.files ≡ Some held → (r : Result PlanAnswer Stop) → account r → Ends held (answer_status plan_status r)
-    answer_ends held told (Err why) serves = stop_due instance_due (λ inst end. IsSearchEnd end) asked.inputs before after held told none.reading why serves.0
+    answer_ends held told (Err why) serves = stop_due (own_job_due asked.inputs.own) EndsPlanned asked.inputs before after held told none.reading why serves.0
     answer_ends held told (Ok answer.WriteFault) serves = absurd (none.writing serves.0.0)
+    answer_ends held told (Ok (answer.Broken broken)) serves = broken_ends held told broken serves.0.1
     answer_ends held told (Ok (answer.Planned found)) serves = searched_ends held (answer.Planned found) before.files told serves.0.1 _ (search_end found.kind)
     answer_ends held told (Ok (answer.Unplanned bound branched)) serves = searched_ends held (answer.Unplanned bound branched) before.files told serves.0.1 _ tt
     answer_ends held told (Ok (answer.Infeasible branched)) serves = searched_ends held (answer.Infeasible branched) before.files told serves.0.1 _ tt
@@ -241,6 +308,7 @@ module _ (asked : Planning) (before after pb pa : View) (ended : Status) (run : 
     plan_infeasible = plan_infeasible;
     plan_budget = plan_budget;
     plan_none = plan_none;
+    plan_broken = plan_broken;
     plan_decides = plan_decides;
     plan_leaves = plan_leaves;
     plan_stopped = left run.answer run.serves;

@@ -1,17 +1,24 @@
 -- What a search leaves in its files, from what the shelf's calls say.
-use Rattle.std.proofs.Common.{◌≡◌, ℕ, true, false, List, Option, None, Some, Result, Ok, Err, ◌⊎◌, ap, ◌∙◌, inl, inr, refl, subst, IfSome, OnErr, OnOk, is_err}
+use Rattle.std.proofs.Common.{◌≡◌, ℕ, true, false, List, Option, None, Some, Result, Ok, Err, ◌⊎◌, ap, ◌∙◌, inl, inr, refl, subst, ◌≤◌, arith, IfSome, IsSomeAnd, OnErr, OnOk, is_err}
 use Rattle.std.specs.FinMap.{insert}
 use Rattle.std.specs.Io.KnownBytes.{append_known}
 use Rattle.qc_io.specs.Outside.{Beside, Files, View, begun, beside, finished, with_file}
+use Rattle.qc_model.specs.declared.schedule.Slot.{Slot}
 use Rattle.qc_model.specs.Instance.{InstanceView}
+use Rattle.qc_model.specs.OneWay.{GoesOneWay}
+use Rattle.qc_model.specs.Rules.{ends}
 use Rattle.qc_search.specs.Run.{DoneView, IsSound, SearchView}
 use Rattle.qc_search.specs.Run.{IsSearched as Searched}
 use Rattle.qc_tree.specs.Trees.{tree_text}
-use Rattle.qc_run.specs.Due.{instance_due}
-use Rattle.qc_run.specs.Steps.{ComesTo}
+use Rattle.qc_run.specs.declared.reading.OwnJob.{OwnJob}
+use Rattle.qc_run.specs.Due.{own_job_due}
+use Rattle.qc_run.specs.declared.broken.Broken.{Broken}
+use Rattle.qc_run.specs.Broken.{TellsBreak}
+use Rattle.qc_run.specs.Inputs.{Names}
+use Rattle.qc_run.specs.Steps.{ComesTo, IsStep}
 use Rattle.qc_plan_command.specs.declared.answer.PlanAnswer.{PlanAnswer}
 use Rattle.qc_plan_command.specs.declared.answer.PlanAnswer.TheVariants as answer
-use Rattle.qc_plan_command.specs.Account.{IsLeft, IsSearched, IsStopped, IsWritten, Writes}
+use Rattle.qc_plan_command.specs.Account.{IsLeft, IsPlanning, IsSearched, IsStopped, IsWritten, Writes}
 use Rattle.qc_plan_command.specs.Asked.{Planning}
 use Rattle.qc_plan_command.specs.Found.{Tells}
 use Rattle.qc_plan_command.specs.Stored.{IsTreeLeft, IsTreeStored, with_plan}
@@ -50,50 +57,71 @@ as_it_was P (Some held) after same by = by held same
 
 -- ---- the tree's file
 
+-- a schedule ends no later than itself
+no_worse : (inst : InstanceView) (given : Option (List Slot))
+    → IfSome given (λ sched. IsSomeAnd given (λ other. ends inst other ≤ ends inst sched))
+no_worse inst None = tt
+no_worse inst (Some sched) = omega arith
+
 -- the search ran, and its file was finished
-pub tree_stored : (search : SearchView) (name : List ℕ) (before after : Option Files) (written now : Option (List ℕ)) (done : DoneView)
-    → (ran : Searched search written now done) → IsSound search done → after ≡ with_file before name (tree_text search.inst ran.tree)
-    → IfSome before (λ held. IsTreeStored search name held after done)
-tree_stored search name None after written now done ran sound e = tt
-tree_stored search name (Some held) after written now done ran sound e = record {
+pub tree_stored : (search : SearchView) (given : Option (List Slot)) (name : List ℕ) (before after : Option Files)
+    (written now : Option (List ℕ)) (done : DoneView)
+    → (ran : Searched search given written now done) → IsSound search given done
+    → after ≡ with_file before name (tree_text search.inst ran.tree)
+    → IfSome before (λ held. IsTreeStored search given name held after done)
+tree_stored search given name None after written now done ran sound e = tt
+tree_stored search given name (Some held) after written now done ran sound e = record {
   tree = ran.tree;
-  found = record { run = ran.run; bound = ran.bound; branched = ran.branched; sound = sound };
+  found = record {
+    given = given;
+    no_worse = no_worse search.inst given;
+    first = ran.first;
+    begins = ran.begins;
+    given_told = ran.told;
+    run = ran.run;
+    bound = ran.bound;
+    branched = ran.branched;
+    sound = sound;
+  };
   files = e;
 }
 
 -- the search ran, and its file couldn't be finished
-pub tree_left : (search : SearchView) (name : List ℕ) (before after : Option Files) (written now : Option (List ℕ)) (done : DoneView)
-    → (ran : Searched search written now done) → IsSound search done
+pub tree_left : (search : SearchView) (given : Option (List Slot)) (name : List ℕ) (before after : Option Files)
+    (written now : Option (List ℕ)) (done : DoneView)
+    → (ran : Searched search given written now done) → IsSound search given done
     → (after ≡ before) ⊎ (after ≡ with_file before name (tree_text search.inst ran.tree))
-    → IfSome before (λ held. IsTreeLeft search name held after)
-tree_left search name None after written now done ran sound e = tt
-tree_left search name (Some held) after written now done ran sound (inl same) = inl same
-tree_left search name (Some held) after written now done ran sound (inr e) =
-    inr (done, tree_stored search name (Some held) after written now done ran sound e)
+    → IfSome before (λ held. IsTreeLeft search given name held after)
+tree_left search given name None after written now done ran sound e = tt
+tree_left search given name (Some held) after written now done ran sound (inl same) = inl same
+tree_left search given name (Some held) after written now done ran sound (inr e) =
+    inr (done, tree_stored search given name (Some held) after written now done ran sound e)
 
 -- ---- what the command comes to
 
-module _ (asked : Planning) (inst : InstanceView) (before mid after : Option Files)
-    (due_is : ComesTo instance_due asked.inputs before (Ok inst)) where
+module _ (asked : Planning) (job : OwnJob) (goes : IfSome job.own (GoesOneWay job.inst)) (before mid after : Option Files)
+    (due_is : ComesTo (own_job_due asked.inputs.own) asked.inputs before (Ok job)) where
   abbrev view : SearchView
-  view = record { inst = inst; nodes = asked.nodes }
+  view = record { inst = job.inst; nodes = asked.nodes }
 
   -- the search that is due came to what is stored
-  abbrev searched : (held : Files) (done : DoneView) → ComesTo instance_due asked.inputs (Some held) (Ok inst)
-      → IsTreeStored view asked.tree held mid done → IsSearched asked held
+  abbrev searched : (held : Files) (done : DoneView) → ComesTo (own_job_due asked.inputs.own) asked.inputs (Some held) (Ok job)
+      → IsTreeStored view job.own asked.tree held mid done → IsSearched asked held
   searched held done due_is stored = record {
-    inst = inst;
+    inst = job.inst;
+    own = job.own;
     due = due_is;
+    goes = goes;
     tree = stored.tree;
     done = done;
     found = stored.found;
   }
 
   -- the tree's file couldn't be made
-  pub left_tree : IfSome before (λ held. IsTreeLeft view asked.tree held mid) → IfSome before (λ held. IsLeft asked held mid)
+  pub left_tree : IfSome before (λ held. IsTreeLeft view job.own asked.tree held mid) → IfSome before (λ held. IsLeft asked held mid)
   left_tree = by before due_is
     where
-      by : (files : Option Files) → ComesTo instance_due asked.inputs files (Ok inst) → IfSome files (λ held. IsTreeLeft view asked.tree held mid)
+      by : (files : Option Files) → ComesTo (own_job_due asked.inputs.own) asked.inputs files (Ok job) → IfSome files (λ held. IsTreeLeft view job.own asked.tree held mid)
           → IfSome files (λ held. IsLeft asked held mid)
       by None due_is left = tt
       by (Some held) due_is (inl same) = inl same
@@ -108,82 +136,112 @@ module _ (asked : Planning) (inst : InstanceView) (before mid after : Option Fil
       there (Some other) is h = let e : other ≡ now = cc in subst P e h
 
   -- the plan's file couldn't be made
-  pub left_plan : (done : DoneView) → IfSome before (λ held. IsTreeStored view asked.tree held mid done)
-      → IfSome mid (λ held. (after ≡ Some held) ⊎ (after ≡ Some (with_plan held asked.plan inst done.best)))
+  pub left_plan : (done : DoneView) → IfSome before (λ held. IsTreeStored view job.own asked.tree held mid done)
+      → IfSome mid (λ held. (after ≡ Some held) ⊎ (after ≡ Some (with_plan held asked.plan job.inst done.best)))
       → IfSome before (λ held. IsLeft asked held after)
   left_plan done = by before due_is
     where
-      by : (files : Option Files) → ComesTo instance_due asked.inputs files (Ok inst) → IfSome files (λ held. IsTreeStored view asked.tree held mid done)
-          → IfSome mid (λ held. (after ≡ Some held) ⊎ (after ≡ Some (with_plan held asked.plan inst done.best)))
+      by : (files : Option Files) → ComesTo (own_job_due asked.inputs.own) asked.inputs files (Ok job) → IfSome files (λ held. IsTreeStored view job.own asked.tree held mid done)
+          → IfSome mid (λ held. (after ≡ Some held) ⊎ (after ≡ Some (with_plan held asked.plan job.inst done.best)))
           → IfSome files (λ held. IsLeft asked held after)
       by None due_is stored left = tt
       by (Some held) due_is stored left = inr (
         searched held done due_is stored,
-        over (λ files. (after ≡ Some files) ⊎ (after ≡ Some (with_plan files asked.plan inst done.best))) _ _ stored.files left refl,
+        over (λ files. (after ≡ Some files) ⊎ (after ≡ Some (with_plan files asked.plan job.inst done.best))) _ _ stored.files left refl,
       )
 
   -- both are made, and the answer tells of the search
-  pub both_written : (done : DoneView) (a : PlanAnswer) → IfSome before (λ held. IsTreeStored view asked.tree held mid done)
-      → IfSome mid (λ held. after ≡ Some (with_plan held asked.plan inst done.best)) → Tells inst done a
+  pub both_written : (done : DoneView) (a : PlanAnswer) → IfSome before (λ held. IsTreeStored view job.own asked.tree held mid done)
+      → IfSome mid (λ held. after ≡ Some (with_plan held asked.plan job.inst done.best)) → Tells job.inst done a
       → IfSome before (λ held. IsWritten asked held after a)
   both_written done a = by before due_is
     where
-      by : (files : Option Files) → ComesTo instance_due asked.inputs files (Ok inst) → IfSome files (λ held. IsTreeStored view asked.tree held mid done)
-          → IfSome mid (λ held. after ≡ Some (with_plan held asked.plan inst done.best)) → Tells inst done a
+      by : (files : Option Files) → ComesTo (own_job_due asked.inputs.own) asked.inputs files (Ok job) → IfSome files (λ held. IsTreeStored view job.own asked.tree held mid done)
+          → IfSome mid (λ held. after ≡ Some (with_plan held asked.plan job.inst done.best)) → Tells job.inst done a
           → IfSome files (λ held. IsWritten asked held after a)
       by None due_is stored wrote told = tt
       by (Some held) due_is stored wrote told = record {
         search = searched held done due_is stored;
         told = told;
-        files = over (λ files. after ≡ Some (with_plan files asked.plan inst done.best)) _ _ stored.files wrote refl;
+        files = over (λ files. after ≡ Some (with_plan files asked.plan job.inst done.best)) _ _ stored.files wrote refl;
       }
 
 -- the writing of the search that is due was stopped
-stopped : (asked : Planning) (inst : InstanceView) (before now : Option Files) → ComesTo instance_due asked.inputs before (Ok inst)
+stopped : (asked : Planning) (job : OwnJob) → IfSome job.own (GoesOneWay job.inst) → (before now : Option Files)
+    → ComesTo (own_job_due asked.inputs.own) asked.inputs before (Ok job)
     → IfSome before (λ held. IsLeft asked held now) → IfSome before (λ held. IsStopped asked held now)
-stopped asked inst None now due left = tt
-stopped asked inst (Some held) now due left = record { inst = inst; due = due; left = left }
+stopped asked job goes None now due left = tt
+stopped asked job goes (Some held) now due left = record { job = job; due = due; goes = goes; left = left }
 
 -- where the plan's file was begun, which changed no file
-module _ (asked : Planning) (inst : InstanceView) (search : SearchView) (before created mid after : Option Files)
-    (is : search ≡ record { inst = inst; nodes = asked.nodes }) (due : ComesTo instance_due asked.inputs before (Ok inst))
-    (same : created ≡ before) where
+module _ (asked : Planning) (job : OwnJob) (goes : IfSome job.own (GoesOneWay job.inst)) (search : SearchView)
+    (before created mid after : Option Files) (is : search ≡ record { inst = job.inst; nodes = asked.nodes })
+    (due : ComesTo (own_job_due asked.inputs.own) asked.inputs before (Ok job)) (same : created ≡ before) where
   -- it couldn't be begun
   pub at_begin : IfSome before (λ held. IsStopped asked held created)
   at_begin =
-      stopped asked inst before created due
+      stopped asked job goes before created due
       (as_it_was (λ held. IsLeft asked held created) before created same (λ held e. inl e))
 
   -- the tree's file couldn't be made
-  pub at_tree : IfSome created (λ held. IsTreeLeft search asked.tree held mid) → IfSome before (λ held. IsStopped asked held mid)
+  pub at_tree : IfSome created (λ held. IsTreeLeft search job.own asked.tree held mid) → IfSome before (λ held. IsStopped asked held mid)
   at_tree left =
-      stopped asked inst before mid due (left_tree asked inst before mid mid due
-      (subst (λ (f : Option Files). IfSome f (λ held. IsTreeLeft (record { inst = inst; nodes = asked.nodes }) asked.tree held mid)) same
-      (subst (λ (s : SearchView). IfSome created (λ held. IsTreeLeft s asked.tree held mid)) is left)))
+      stopped asked job goes before mid due (left_tree asked job goes before mid mid due
+      (subst (λ (f : Option Files). IfSome f (λ held. IsTreeLeft (record { inst = job.inst; nodes = asked.nodes }) job.own asked.tree held mid)) same
+      (subst (λ (s : SearchView). IfSome created (λ held. IsTreeLeft s job.own asked.tree held mid)) is left)))
 
-  stored_is : (done : DoneView) → IfSome created (λ held. IsTreeStored search asked.tree held mid done)
-      → IfSome before (λ held. IsTreeStored (record { inst = inst; nodes = asked.nodes }) asked.tree held mid done)
+  stored_is : (done : DoneView) → IfSome created (λ held. IsTreeStored search job.own asked.tree held mid done)
+      → IfSome before (λ held. IsTreeStored (record { inst = job.inst; nodes = asked.nodes }) job.own asked.tree held mid done)
   stored_is done stored =
-      subst (λ (f : Option Files). IfSome f (λ held. IsTreeStored (record { inst = inst; nodes = asked.nodes }) asked.tree held mid done)) same
-      (subst (λ (s : SearchView). IfSome created (λ held. IsTreeStored s asked.tree held mid done)) is stored)
+      subst (λ (f : Option Files). IfSome f (λ held. IsTreeStored (record { inst = job.inst; nodes = asked.nodes }) job.own asked.tree held mid done)) same
+      (subst (λ (s : SearchView). IfSome created (λ held. IsTreeStored s job.own asked.tree held mid done)) is stored)
 
   -- the plan's file couldn't be made
-  pub at_plan : (done : DoneView) → IfSome created (λ held. IsTreeStored search asked.tree held mid done)
-      → IfSome mid (λ held. (after ≡ Some held) ⊎ (after ≡ Some (with_plan held asked.plan inst done.best)))
+  pub at_plan : (done : DoneView) → IfSome created (λ held. IsTreeStored search job.own asked.tree held mid done)
+      → IfSome mid (λ held. (after ≡ Some held) ⊎ (after ≡ Some (with_plan held asked.plan job.inst done.best)))
       → IfSome before (λ held. IsStopped asked held after)
   at_plan done stored left =
-      stopped asked inst before after due (left_plan asked inst before mid after due done (stored_is done stored) left)
+      stopped asked job goes before after due (left_plan asked job goes before mid after due done (stored_is done stored) left)
 
   -- both were made
-  pub at_end : (done : DoneView) (a : PlanAnswer) → IfSome created (λ held. IsTreeStored search asked.tree held mid done)
-      → IfSome mid (λ held. after ≡ Some (with_plan held asked.plan inst done.best)) → Tells inst done a
+  pub at_end : (done : DoneView) (a : PlanAnswer) → IfSome created (λ held. IsTreeStored search job.own asked.tree held mid done)
+      → IfSome mid (λ held. after ≡ Some (with_plan held asked.plan job.inst done.best)) → Tells job.inst done a
       → IfSome before (λ held. IsWritten asked held after a)
-  at_end done a stored wrote told = both_written asked inst before mid after due done a (stored_is done stored) wrote told
+  at_end done a stored wrote told = both_written asked job goes before mid after due done a (stored_is done stored) wrote told
+
+-- the planner's own plan was read, and breaks a rule
+pub own_broken : (asked : Planning) (names : Names) (before after : View) (job : OwnJob) (told : Broken) → names ≡ asked.inputs
+    → IsStep (own_job_due names.own) names before after (Ok job)
+    → IsSomeAnd job.own (λ sched. TellsBreak job.inst sched told)
+    → IsPlanning asked before after (Ok (answer.Broken told))
+own_broken asked names before after job told same step tells =
+    by job.own refl tells (subst (λ (n : Names). IsStep (own_job_due n.own) n before after (Ok job)) same step)
+  where
+    by : (own : Option (List Slot)) → job.own ≡ own → IsSomeAnd own (λ sched. TellsBreak job.inst sched told)
+        → IsStep (own_job_due asked.inputs.own) asked.inputs before after (Ok job)
+        → IsPlanning asked before after (Ok (answer.Broken told))
+    by None is tells read = absurd tells
+    by (Some sched) is tells read = (
+      (
+        read.faults,
+        record {
+          job = job;
+          due = read.ok.1;
+          sched = sched;
+          own = is;
+          tells = tells;
+          files = read.files;
+          made = read.made;
+        },
+      ),
+      read.ok.0,
+    )
 
 -- an answer that tells of a search wrote both files
 pub writes_told : (asked : Planning) (before after : View) (inst : InstanceView) (done : DoneView) (a : PlanAnswer) → Tells inst done a
     → after.faults ≡ before.faults → IfSome before.files (λ held. IsWritten asked held after.files a) → Writes asked before after a
 writes_told asked before after inst done answer.WriteFault told faults written = absurd told
+writes_told asked before after inst done (answer.Broken broken) told faults written = absurd told
 writes_told asked before after inst done (answer.Planned found) told faults written = (faults, written)
 writes_told asked before after inst done (answer.Unplanned bound branched) told faults written = (faults, written)
 writes_told asked before after inst done (answer.Infeasible branched) told faults written = (faults, written)

@@ -1,14 +1,19 @@
 -- public: the account of a plan: what its answer says of the files.
-use Rattle.std.specs.Prelude.{◌≡◌, ◌⊎◌, Option, Some, Result, Ok, Err, IfSome}
+use Rattle.std.specs.Prelude.{◌≡◌, ◌⊎◌, List, Option, Some, Result, Ok, Err, IfSome}
 use Rattle.qc_io.specs.Outside.{Files, Rose, View}
+use Rattle.qc_model.specs.declared.schedule.Slot.{Slot}
 use Rattle.qc_model.specs.Instance.{InstanceView}
+use Rattle.qc_model.specs.OneWay.{GoesOneWay}
 use Rattle.qc_search.specs.Run.{DoneView}
 use Rattle.qc_tree.specs.Trees.{Tree}
 use Rattle.qc_run.specs.declared.refusal.Stop.{Stop}
 use Rattle.qc_run.specs.declared.status.Status.{Status}
-use Rattle.qc_run.specs.Due.{contents_in, instance_due}
+use Rattle.qc_run.specs.declared.broken.Broken.{Broken}
+use Rattle.qc_run.specs.declared.reading.OwnJob.{OwnJob}
+use Rattle.qc_run.specs.Broken.{TellsBreak}
+use Rattle.qc_run.specs.Due.{contents_in, own_job_due}
 use Rattle.qc_run.specs.Reports.{IsRun}
-use Rattle.qc_run.specs.Steps.{MayStop, Stops}
+use Rattle.qc_run.specs.Steps.{ComesTo, MayStop, Stops}
 use Rattle.qc_plan_command.specs.declared.answer.PlanAnswer.{PlanAnswer}
 use Rattle.qc_plan_command.specs.declared.answer.PlanAnswer.TheVariants as answer
 use Rattle.qc_plan_command.specs.Asked.{Planning}
@@ -16,13 +21,15 @@ use Rattle.qc_plan_command.specs.Found.{IsFound, Tells}
 use Rattle.qc_plan_command.specs.Reports.{plan_prints, plan_prints_part, plan_status}
 use Rattle.qc_plan_command.specs.Stored.{with_plan, with_tree}
 
--- the search of the instance of the two files came to this
+-- the search of the instance of the two files came to this; a plan of the planner's own, where one is named, goes one way
 pub record IsSearched (asked : Planning) (held : Files) : Type 0 where
   pub inst : InstanceView
-  pub due : instance_due (contents_in held asked.inputs) ≡ Ok inst
+  pub own : Option (List Slot)
+  pub due : own_job_due asked.inputs.own (contents_in held asked.inputs) ≡ Ok (record { inst = inst; own = own })
+  pub goes : IfSome own (GoesOneWay inst)
   pub tree : Tree
   pub done : DoneView
-  pub found : IsFound inst asked.nodes tree done
+  pub found : IsFound inst asked.nodes own tree done
 
 -- the files with its tree alone, and with the plan of its best schedule too
 abbrev pub tree_files : (asked : Planning) (held : Files) → IsSearched asked held → Files
@@ -43,16 +50,30 @@ IsLeft asked held now =
     (now ≡ Some held)
     ⊎ ((s : IsSearched asked held) × ((now ≡ Some (tree_files asked held s)) ⊎ (now ≡ Some (both_files asked held s))))
 
--- the instance of the two files was there to be searched, and the writing of that search was stopped
+-- the instance of the two files was there to be searched, and a plan of the planner's own, where one is named, goes one
+-- way; the writing of that search was stopped
 pub record IsStopped (asked : Planning) (held : Files) (now : Option Files) : Type 0 where
-  pub inst : InstanceView
-  pub due : instance_due (contents_in held asked.inputs) ≡ Ok inst
+  pub job : OwnJob
+  pub due : own_job_due asked.inputs.own (contents_in held asked.inputs) ≡ Ok job
+  pub goes : IfSome job.own (GoesOneWay job.inst)
   pub left : IsLeft asked held now
+
+-- the planner's own plan breaks a rule, and no file was begun
+pub record IsOwnBroken (asked : Planning) (before after : View) (told : Broken) : Type 0 where
+  pub job : OwnJob
+  pub due : ComesTo (own_job_due asked.inputs.own) asked.inputs before.files (Ok job)
+  pub sched : List Slot
+  pub own : job.own ≡ Some sched
+  pub tells : TellsBreak job.inst sched told
+  pub files : after.files ≡ before.files
+  pub made : after.made ≡ before.made
 
 -- what an answer says of the files
 abbrev pub Writes : Planning → View → View → PlanAnswer → Type 0
 Writes asked before after answer.WriteFault =
     Rose before.faults after.faults × IfSome before.files (λ held. IsStopped asked held after.files)
+Writes asked before after (answer.Broken told) =
+    (after.faults ≡ before.faults) × IsOwnBroken asked before after told
 Writes asked before after a =
     (after.faults ≡ before.faults) × IfSome before.files (λ held. IsWritten asked held after.files a)
 
@@ -61,7 +82,7 @@ abbrev pub IsPlanning : Planning → View → View → Result PlanAnswer Stop �
 IsPlanning asked before after (Ok a) =
     Writes asked before after a × (after.read_faults ≡ before.read_faults)
 IsPlanning asked before after (Err why) =
-    Stops instance_due asked.inputs before after why × MayStop asked.inputs why
+    Stops (own_job_due asked.inputs.own) asked.inputs before after why × MayStop asked.inputs why
     × (after.files ≡ before.files) × (after.faults ≡ before.faults) × (after.made ≡ before.made)
 
 -- a run of the command: it plans, and reports

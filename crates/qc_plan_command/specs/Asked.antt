@@ -1,5 +1,5 @@
 -- public: what a plan is asked for with.
-use Rattle.std.specs.Prelude.{ℕ, List, None, Some}
+use Rattle.std.specs.Prelude.{ℕ, List, Option, None, Some, option_map}
 use Rattle.qc_run.specs.Inputs.{Names}
 use Rattle.qc_plan_command.specs.declared.asked.PlanAsked.{PlanAsked}
 
@@ -10,14 +10,16 @@ pub record Planning : Type 0 where
   pub tree : List ℕ
   pub nodes : ℕ
 
--- a plan reads a ship file and a stowage list
-abbrev pub plan_of : (ship stow plan tree : List ℕ) (nodes : ℕ) → Planning
-plan_of ship stow plan tree nodes = record {
-  inputs = record { ship = Some ship; stow = Some stow; plan = None; tree = None };
+-- a plan reads a ship file and a stowage list, and a plan of the planner's own where one is named
+abbrev pub plan_of : (ship stow plan tree : List ℕ) (nodes : ℕ) (own : Option (List ℕ)) → Planning
+plan_of ship stow plan tree nodes own = record {
+  inputs = record { ship = Some ship; stow = Some stow; plan = None; tree = None; own = own };
   plan = plan;
   tree = tree;
   nodes = nodes;
 }
 
 abbrev pub planning : PlanAsked → Planning
-planning asked = plan_of asked.ship.now asked.stow.now asked.plan.now asked.tree.now asked.nodes
+planning asked =
+    plan_of asked.ship.now asked.stow.now asked.plan.now asked.tree.now asked.nodes
+    (option_map (λ name. name.now) asked.own)

@@ -1,5 +1,5 @@
 -- public: what a search came to, and what an answer tells of it.
-use Rattle.std.specs.Prelude.{◌≡◌, ℕ, List, None, Some, Ok}
+use Rattle.std.specs.Prelude.{◌≡◌, ℕ, ◌≤◌, List, Option, None, Some, Ok, IfSome, IsSomeAnd, option_map}
 use Rattle.qc_num.specs.declared.bound.Bound.TheVariants.{Least, Never}
 use Rattle.qc_gantt.specs.Plan.{plan_in}
 use Rattle.qc_gantt.specs.PlanText.{plan_text}
@@ -9,25 +9,32 @@ use Rattle.qc_model.specs.Judge.{IsDirection}
 use Rattle.qc_model.specs.Motion.{IsSafe}
 use Rattle.qc_model.specs.Rules.{ends}
 use Rattle.qc_tree.specs.Trees.{Tree, tree_branchings, tree_value}
-use Rattle.qc_search.specs.Run.{DoneView, IsRun, IsSound}
+use Rattle.qc_search.specs.Run.{DoneView, IsFirst, IsRun, IsSound}
 use Rattle.qc_plan_command.specs.declared.answer.Planned.{Planned}
 use Rattle.qc_plan_command.specs.declared.answer.PlanAnswer.{PlanAnswer}
 use Rattle.qc_plan_command.specs.declared.answer.PlanAnswer.TheVariants as answer
 
--- what a search with so many branchings came to: its tree is one of the instance that is earned, its schedule, if any,
--- a best one that the tree meets, and what holds of each search
-pub record IsFound (inst : InstanceView) (nodes : ℕ) (tree : Tree) (done : DoneView) : Type 0 where
-  pub run : IsRun inst nodes tree done.best done.kind
+-- what a search with so many branchings came to: it was given a schedule that ends no later than the planner's own, where
+-- there is one; it began with the tight form of that; its tree is one of the instance that is earned, its schedule, if
+-- any, a best one that it knows, and what holds of each search
+pub record IsFound (inst : InstanceView) (nodes : ℕ) (own : Option (List Slot)) (tree : Tree) (done : DoneView)
+    : Type 0 where
+  pub given : Option (List Slot)
+  pub no_worse : IfSome own (λ sched. IsSomeAnd given (λ other. ends inst other ≤ ends inst sched))
+  pub first : Option (List Slot)
+  pub begins : IsFirst inst given first
+  pub given_told : done.given ≡ option_map (ends inst) first
+  pub run : IsRun inst nodes first tree done.best done.kind
   pub bound : done.bound ≡ tree_value inst tree
   pub branched : done.branched ≡ tree_branchings tree
-  pub sound : IsSound (record { inst = inst; nodes = nodes }) done
+  pub sound : IsSound (record { inst = inst; nodes = nodes }) given done
 
 -- the text of the schedule's plan is read as this schedule
 abbrev pub IsReread : InstanceView → List Slot → Type 0
 IsReread inst sched = plan_in inst (plan_text inst sched) ≡ Ok sched
 
--- the schedule that was met is told, its end, the bound, the number of branchings and the schedule's direction; in
--- that direction its motion is safe, and its plan is read as this schedule
+-- the best schedule is told, its end, the bound, the number of branchings, the end of the schedule that the search began
+-- with, if any, and the best schedule's direction; in that direction its motion is safe, and its plan is read as this schedule
 pub record TellsPlan (inst : InstanceView) (done : DoneView) (told : Planned) : Type 0 where
   pub sched : List Slot
   pub best : done.best ≡ Some sched
@@ -37,6 +44,7 @@ pub record TellsPlan (inst : InstanceView) (done : DoneView) (told : Planned) : 
   pub end : told.end ≡ ends inst sched
   pub bound : done.bound ≡ Least told.bound
   pub branched : told.branched ≡ done.branched
+  pub given : told.given ≡ done.given
   pub direction : IsDirection inst sched told.direction
   pub safe : IsSafe inst sched told.direction
   pub reread : IsReread inst sched
@@ -44,6 +52,7 @@ pub record TellsPlan (inst : InstanceView) (done : DoneView) (told : Planned) : 
 -- what an answer tells of a search
 abbrev pub Tells : InstanceView → DoneView → PlanAnswer → Type 0
 Tells inst done answer.WriteFault = ⊥
+Tells inst done (answer.Broken told) = ⊥
 Tells inst done (answer.Planned told) = TellsPlan inst done told
 Tells inst done (answer.Unplanned bound branched) =
     (done.best ≡ None) × (done.bound ≡ Least bound) × (branched ≡ done.branched)

@@ -1,15 +1,18 @@
 -- public: what follows from a plan's account, said by itself for whoever reads one status.
-use Rattle.std.specs.Prelude.{◌≡◌, ◌≢◌, ℕ, ◌≤◌, ◌⊎◌, List, Option, Ok, codes, IfSome}
+use Rattle.std.specs.Prelude.{◌≡◌, ◌≢◌, ℕ, ◌≤◌, ◌⊎◌, List, Option, None, Some, Ok, codes, IfSome}
 use Rattle.qc_io.specs.Outside.{Files, Rose, View}
 use Rattle.qc_model.specs.declared.schedule.Slot.{Slot}
-use Rattle.qc_model.specs.Instance.{InstanceView}
 use Rattle.qc_model.specs.OneWay.{GoesOneWay}
+use Rattle.qc_model.specs.Rules.{ends}
 use Rattle.qc_search.specs.declared.done.Kind.{Kind}
 use Rattle.qc_search.specs.declared.done.Kind.TheVariants as kind
 use Rattle.qc_search.specs.Run.{branching_limit}
 use Rattle.qc_run.specs.declared.status.Status.{Status}
 use Rattle.qc_run.specs.declared.status.Status.TheVariants as status
-use Rattle.qc_run.specs.Due.{contents_in, instance_due}
+use Rattle.qc_run.specs.declared.broken.Broken.{Broken}
+use Rattle.qc_run.specs.declared.reading.OwnJob.{OwnJob}
+use Rattle.qc_run.specs.Broken.{TellsBreak, broken_text}
+use Rattle.qc_run.specs.Due.{contents_in, own_job_due}
 use Rattle.qc_run.specs.Reports.{Prints}
 use Rattle.qc_run.specs.Told.{EndsBy, IsBest, IsCutTold, IsRefusal, IsRefusalTold, NoneFailed}
 use Rattle.qc_plan_command.specs.declared.answer.Planned.{Planned}
@@ -18,7 +21,7 @@ use Rattle.qc_plan_command.specs.Account.{IsLeft, IsPlanning, IsWritten}
 use Rattle.qc_plan_command.specs.Asked.{Planning}
 use Rattle.qc_plan_command.specs.Reports.{IsPlanPrinted, infeasible_text, plan_prints_part, unplanned_text}
 
--- the search that is due met a schedule: its tree and the plan of that schedule are written, all other files are as
+-- the search that is due knows a schedule: its tree and the plan of that schedule are written, all other files are as
 -- they were, and both are told, with the motion of every crane, which is safe
 pub record IsPlanTold (asked : Planning) (held : Files) (now : Option Files) (before after : View) (wanted : Kind)
     : Type 0 where
@@ -27,6 +30,8 @@ pub record IsPlanTold (asked : Planning) (held : Files) (now : Option Files) (be
   pub kind : written.search.done.kind ≡ wanted
   pub word : told.kind ≡ wanted
   pub report : IsPlanPrinted told before.written after.written
+  -- it ends no later than the planner's own
+  pub no_later : IfSome written.search.own (λ own. told.end ≤ ends written.search.inst own)
 
 -- the same, and all branchings that were asked for are spent
 pub record IsBudgetTold (asked : Planning) (held : Files) (now : Option Files) (before after : View) : Type 0 where
@@ -39,13 +44,14 @@ pub record IsOptimalTold (asked : Planning) (held : Files) (now : Option Files) 
   pub enough : plan.told.end ≤ plan.told.bound
   pub best : IsBest plan.written.search.inst plan.written.told.sched
 
--- the search that is due met no schedule and spent all branchings that were asked for: its tree is written, all other
+-- the search that is due knows no schedule, so it was given none, and spent all branchings that were asked for: its tree is written, all other
 -- files are as they were, and its bound is told
 pub record IsUnplannedTold (asked : Planning) (held : Files) (now : Option Files) (before after : View) : Type 0 where
   pub bound : ℕ
   pub branched : ℕ
   pub written : IsWritten asked held now (answer.Unplanned bound branched)
   pub kind : written.search.done.kind ≡ kind.Budget
+  pub no_own : written.search.own ≡ None
   pub report : Prints (unplanned_text bound branched) before.written after.written
   pub spent : branched ≡ asked.nodes
 
@@ -57,6 +63,16 @@ pub record IsInfeasibleTold (asked : Planning) (held : Files) (now : Option File
   pub none : (sched : List Slot) → ¬ GoesOneWay written.search.inst sched
   pub report : Prints (infeasible_text branched) before.written after.written
 
+-- the planner's own plan breaks a rule, which is told
+pub record IsOwnBrokenTold (asked : Planning) (held : Files) (before after : View) : Type 0 where
+  pub job : OwnJob
+  pub due : own_job_due asked.inputs.own (contents_in held asked.inputs) ≡ Ok job
+  pub sched : List Slot
+  pub own : job.own ≡ Some sched
+  pub told : Broken
+  pub tells : TellsBreak job.inst sched told
+  pub report : Prints (broken_text told) before.written after.written
+
 -- a search ends with this status
 abbrev pub IsSearchEnd : Status → Type 0
 IsSearchEnd status.Optimal = Unit {0}
@@ -64,6 +80,11 @@ IsSearchEnd status.Infeasible = Unit {0}
 IsSearchEnd status.BudgetPlan = Unit {0}
 IsSearchEnd status.BudgetNone = Unit {0}
 IsSearchEnd _ = ⊥
+
+-- how a plan ends where no call failed: Broken exactly where the planner's own plan goes neither way
+pub record EndsPlanned (job : OwnJob) (ended : Status) : Type 0 where
+  pub neither : IfSome job.own (λ sched. ¬ GoesOneWay job.inst sched → ended ≡ status.Broken)
+  pub one_way : IfSome job.own (GoesOneWay job.inst) → IsSearchEnd ended
 
 -- the shelf failed while the plan was written, and the sink got the line of that
 pub record IsStopTold (asked : Planning) (before after out_before out_after : View) : Type 0 where
@@ -82,9 +103,12 @@ pub record PlanPromises (asked : Planning) (before after out_before out_after : 
       → IfSome before.files (λ held. IsBudgetTold asked held after.files out_before out_after)
   pub plan_none : ended ≡ status.BudgetNone
       → IfSome before.files (λ held. IsUnplannedTold asked held after.files out_before out_after)
+  -- Broken
+  pub plan_broken : ended ≡ status.Broken
+      → IfSome before.files (λ held. IsOwnBrokenTold asked held out_before out_after)
   -- with enough branchings a plan isn't given up
-  pub plan_decides : IfSome before.files (λ held. (inst : InstanceView)
-      → instance_due (contents_in held asked.inputs) ≡ Ok inst → branching_limit inst ≤ asked.nodes
+  pub plan_decides : IfSome before.files (λ held. (job : OwnJob)
+      → own_job_due asked.inputs.own (contents_in held asked.inputs) ≡ Ok job → branching_limit job.inst ≤ asked.nodes
       → (ended ≢ status.BudgetPlan) × (ended ≢ status.BudgetNone))
   -- the files stay where a plan was neither written nor stopped
   pub plan_leaves : ¬ IsSearchEnd ended → ended ≢ status.WriteFault → after.files ≡ before.files
@@ -101,5 +125,5 @@ pub record PlanPromises (asked : Planning) (before after out_before out_after : 
       → Prints (codes "OutOfMemory\n") out_before.written out_after.written
   -- what is due of the files comes where no call failed, or want of memory does
   pub complete : NoneFailed before after out_before out_after → IfSome before.files (λ held.
-      EndsBy (λ inst end. IsSearchEnd end) (instance_due (contents_in held asked.inputs)) ended
+      EndsBy EndsPlanned (own_job_due asked.inputs.own (contents_in held asked.inputs)) ended
       ⊎ (ended ≡ status.OutOfMemory))

@@ -1,5 +1,5 @@
 -- public: what a plan prints, and the status that it ends with.
-use Rattle.std.specs.Prelude.{◌≡◌, ◌≤◌, ℕ, List, ◌++◌, length, Option, codes, decimal}
+use Rattle.std.specs.Prelude.{◌≡◌, ◌≤◌, ℕ, List, ◌++◌, length, Option, None, Some, codes, decimal}
 use Rattle.std.specs.Io.KnownBytes.{append_known}
 use Rattle.qc_gantt.specs.TracksText.{AreTracks, tracks_text}
 use Rattle.qc_io.specs.Outside.{GrewByPart}
@@ -9,6 +9,7 @@ use Rattle.qc_search.specs.declared.done.Kind.{Kind}
 use Rattle.qc_search.specs.declared.done.Kind.TheVariants as kind
 use Rattle.qc_run.specs.declared.status.Status.{Status}
 use Rattle.qc_run.specs.declared.status.Status.TheVariants as status
+use Rattle.qc_run.specs.Broken.{broken_text}
 use Rattle.qc_run.specs.Reports.{Printing, Prints, PrintsPart}
 use Rattle.qc_run.specs.Texts.{direction_text}
 use Rattle.qc_plan_command.specs.declared.answer.Planned.{Planned}
@@ -21,11 +22,16 @@ kind_word kind.Optimal = codes "Optimal"
 kind_word kind.Infeasible = codes "Infeasible"
 kind_word kind.Budget = codes "Budget"
 
+-- the end of a given schedule, and what is printed where none was given
+abbrev pub given_text : Option ℕ → List ℕ
+given_text None = codes "none"
+given_text (Some end) = decimal end
+
 -- what is printed for a plan that was found
 abbrev pub planned_text : Planned → List ℕ
 planned_text told =
     kind_word told.kind ++ codes "\nend " ++ decimal told.end ++ codes "\nbound " ++ decimal told.bound
-    ++ codes "\nbranched " ++ decimal told.branched ++ codes "\ndirection " ++ direction_text told.direction
+    ++ codes "\nbranched " ++ decimal told.branched ++ codes "\ngiven " ++ given_text told.given ++ codes "\ndirection " ++ direction_text told.direction
     ++ codes "\n"
 
 -- what is printed where all branchings are spent and no plan was found
@@ -67,12 +73,14 @@ pub record IsPlanCut (told : Planned) (before after : Option (List ℕ)) : Type 
 -- what is printed for an answer, and what where the sink failed on the way
 abbrev pub plan_prints : PlanAnswer → Printing
 plan_prints answer.WriteFault = Prints (codes "WriteFault\n")
+plan_prints (answer.Broken told) = Prints (broken_text told)
 plan_prints (answer.Planned told) = IsPlanPrinted told
 plan_prints (answer.Unplanned bound branched) = Prints (unplanned_text bound branched)
 plan_prints (answer.Infeasible branched) = Prints (infeasible_text branched)
 
 abbrev pub plan_prints_part : PlanAnswer → Printing
 plan_prints_part answer.WriteFault = PrintsPart (codes "WriteFault\n")
+plan_prints_part (answer.Broken told) = PrintsPart (broken_text told)
 plan_prints_part (answer.Planned told) = IsPlanCut told
 plan_prints_part (answer.Unplanned bound branched) = PrintsPart (unplanned_text bound branched)
 plan_prints_part (answer.Infeasible branched) = PrintsPart (infeasible_text branched)
@@ -85,6 +93,7 @@ found_status kind.Budget = status.BudgetPlan
 
 abbrev pub plan_status : PlanAnswer → Status
 plan_status answer.WriteFault = status.WriteFault
+plan_status (answer.Broken told) = status.Broken
 plan_status (answer.Planned told) = found_status told.kind
 plan_status (answer.Unplanned bound branched) = status.BudgetNone
 plan_status (answer.Infeasible branched) = status.Infeasible

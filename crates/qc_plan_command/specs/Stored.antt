@@ -13,19 +13,19 @@ use Rattle.qc_plan_command.specs.Found.{IsFound}
 abbrev pub with_tree : Files → List ℕ → InstanceView → Tree → Files
 with_tree held name inst tree = insert held name (tree_text inst tree)
 
--- the files with the plan of the best schedule in the file of this name; where none was met, as they were
+-- the files with the plan of the best schedule in the file of this name; where there is none, as they were
 abbrev pub with_plan : Files → List ℕ → InstanceView → Option (List Slot) → Files
 with_plan held name inst None = held
 with_plan held name inst (Some sched) = insert held name (plan_text inst sched)
 
--- the search came to this, and the file of this name holds its tree
-pub record IsTreeStored (search : SearchView) (name : List ℕ) (held : Files) (now : Option Files) (done : DoneView)
-    : Type 0 where
+-- the search came to this, where the planner has this schedule already, and the file of this name holds its tree
+pub record IsTreeStored (search : SearchView) (own : Option (List Slot)) (name : List ℕ) (held : Files)
+    (now : Option Files) (done : DoneView) : Type 0 where
   pub tree : Tree
-  pub found : IsFound search.inst search.nodes tree done
+  pub found : IsFound search.inst search.nodes own tree done
   pub files : now ≡ Some (with_tree held name search.inst tree)
 
 -- the files are as they were, or the tree of what the search came to is stored
-abbrev pub IsTreeLeft : SearchView → List ℕ → Files → Option Files → Type 0
-IsTreeLeft search name held now =
-    (now ≡ Some held) ⊎ ((done : DoneView) × IsTreeStored search name held now done)
+abbrev pub IsTreeLeft : SearchView → Option (List Slot) → List ℕ → Files → Option Files → Type 0
+IsTreeLeft search own name held now =
+    (now ≡ Some held) ⊎ ((done : DoneView) × IsTreeStored search own name held now done)

@@ -3,9 +3,10 @@
 use qc_model::{Direction, Instance, Schedule};
 use qc_motion::Track;
 use qc_num::Tick;
+use qc_run::Broken;
 use qc_search::Kind;
 
-/// What is told of a search that met a schedule.
+/// What is told of a search that knows a schedule.
 #[derive(Drop)]
 pub struct Planned {
     pub inst: Instance,
@@ -21,18 +22,22 @@ pub struct Planned {
     pub bound: Tick,
     /// The tree's number of branchings.
     pub branched: u64,
+    /// When the schedule ends that the search began with, in ticks; none where it was given none.
+    pub given: Option<Tick>,
     /// The way in which the plan goes.
     pub direction: Direction,
 }
 
-/// What a plan comes to once its search is run.
+/// What a plan comes to once its files are read.
 #[derive(Drop)]
 pub enum PlanAnswer {
     /// A file couldn't be made or written.
     WriteFault,
-    /// The search's tree and the plan of the best schedule that it met are written.
+    /// The planner's own plan breaks a rule.
+    Broken(Broken),
+    /// The search's tree and the plan of the best schedule that it knows are written.
     Planned(Planned),
-    /// The search's tree is written. It met no schedule, and none that goes one way ends before `bound`, in ticks.
+    /// The search's tree is written. It knows no schedule, and none that goes one way ends before `bound`, in ticks.
     Unplanned { bound: Tick, branched: u64 },
     /// The search's tree is written. No schedule goes one way.
     Infeasible { branched: u64 },

@@ -19,6 +19,8 @@ pub struct PlanAsked<'a> {
     pub tree: &'a str,
     /// How many branchings the search takes at most.
     pub nodes: u32,
+    /// A plan that the planner has already, which is read; none where there is none.
+    pub own: Option<&'a str>,
 }
 
 impl<'a> PlanAsked<'a> {
@@ -31,6 +33,7 @@ impl<'a> PlanAsked<'a> {
             stow: self.stow,
             plan: None,
             tree: None,
+            own: self.own,
         }
     }
 }

@@ -1,7 +1,10 @@
 //! The command that plans.
-ghost use Rattle.std.specs.Prelude.{◌≡◌, ◌≤◌, IfOk, Ok, length};
+ghost use Rattle.std.specs.Prelude.{◌≡◌, ◌≤◌, IfOk, IfSome, IsSomeAnd, None, Ok, length};
+ghost use Rattle.qc_model.specs.Judge.{IsJudgeable};
 ghost use Rattle.qc_model.specs.Numbers.{most_branchings};
-ghost use Rattle.qc_run.specs.Due.{instance_due};
+ghost use Rattle.qc_model.specs.OneWay.{GoesOneWay};
+ghost use Rattle.qc_run.specs.Broken.{TellsBreak};
+ghost use Rattle.qc_run.specs.Due.{own_job_due};
 ghost use Rattle.qc_run.specs.Steps.{ComesTo};
 ghost use Rattle.qc_plan_command.specs.Account.{IsPlanRun, IsPlanning};
 ghost use Rattle.qc_plan_command.specs.Asked.{planning};
@@ -14,32 +17,36 @@ use crate::found::answer_of;
 use crate::report::report;
 use crate::store::{store_best, store_tree};
 use qc_io::{Shelf, Sink, WriteFault};
-use qc_model::Instance;
+use qc_model::{Instance, direction_of};
 use qc_motion::Track;
-use qc_run::{Status, Stop, read_instance, report_stop};
+use qc_run::{Broken, OwnJob, Status, Stop, broken_of, read_own_job, report_stop};
 use qc_search::Search;
 use std::alloc::Global;
 
-/// Runs the search, writes its tree and the plan of the best schedule that it met, and answers what is told of
-/// it. The plan's file is begun first, so that one that can't be made is told before the search is run.
+/// Runs the search, writes its tree and the plan of the best schedule that it knows, and answers what is told of
+/// it. A schedule of the planner's own goes one way; the search begins with it. The plan's file is begun first, so that one that can't be made is told before the search is run.
 fn plan_instance<S: Shelf>(
     asked: &PlanAsked<'_>,
-    inst: Instance,
+    job: OwnJob,
     search: Search,
     track: Track,
     shelf: &mut S,
 ) -> PlanAnswer
-    requires search { search ≡ record { inst = inst; nodes = asked.now.nodes } }
-    requires room { length inst.tasks ≤ track.tasks }
-    requires due { ComesTo instance_due (planning asked.now).inputs (S.Sink.view shelf.old).files (Ok inst) }
+    requires search { search ≡ record { inst = job.inst; nodes = asked.now.nodes } }
+    requires room { length job.inst.tasks ≤ track.tasks }
+    requires due { ComesTo (own_job_due (planning asked.now).inputs.own) (planning asked.now).inputs
+        (S.Sink.view shelf.old).files (Ok job) }
+    requires judgeable { IfSome job.own (IsJudgeable job.inst) }
+    requires goes { IfSome job.own (GoesOneWay job.inst) }
     ensures serves { IsPlanning (planning asked.now) (S.Sink.view shelf.old) (S.Sink.view shelf.new) (Ok result) }
     ensures ready { CanBeTold result }
     ensures never_falls { (S.Sink.view shelf.old).faults ≤ (S.Sink.view shelf.new).faults }
 {
+    let OwnJob { inst, own } = job;
     if shelf.create(asked.plan).is_err() {
         return PlanAnswer::WriteFault;
     }
-    let Ok(done) = store_tree(search, asked.tree, shelf) else {
+    let Ok(done) = store_tree(search, own.as_ref(), asked.tree, shelf) else {
         return PlanAnswer::WriteFault;
     };
     match store_best(&inst, &done, asked.plan, shelf) {
@@ -48,8 +55,23 @@ fn plan_instance<S: Shelf>(
     }
 }
 
-/// Reads the ship file and the stowage list, searches their instance, and writes the tree and the plan. All
-/// memory is taken before anything is written.
+/// What is told of the planner's own schedule where it breaks a rule; none where it goes one way or there is none.
+fn break_of(job: &OwnJob) -> Option<Broken>
+    requires { IfSome job.now.own (IsJudgeable job.now.inst) }
+    ensures none { result ≡ None → IfSome job.now.own (GoesOneWay job.now.inst) }
+    ensures some { IfSome result (λ told. IsSomeAnd job.now.own (λ sched. TellsBreak job.now.inst sched told)) }
+{
+    match &job.own {
+        None => None,
+        Some(sched) => match direction_of(&job.inst, sched) {
+            Ok(_) => None,
+            Err(broken) => Some(broken_of(&job.inst, broken)),
+        },
+    }
+}
+
+/// Reads the ship file and the stowage list, and the planner's own plan where one is named, which must go one way;
+/// searches their instance, and writes the tree and the plan. All memory is taken before anything is written.
 fn serve<S: Shelf>(alloc: Global, asked: &PlanAsked<'_>, shelf: &mut S) -> Result<PlanAnswer, Stop>
     requires { asked.now.nodes ≤ most_branchings }
     ensures serves { IsPlanning (planning asked.now) (S.Sink.view shelf.old) (S.Sink.view shelf.new) result }
@@ -57,10 +79,13 @@ fn serve<S: Shelf>(alloc: Global, asked: &PlanAsked<'_>, shelf: &mut S) -> Resul
     ensures never_falls { (S.Sink.view shelf.old).faults ≤ (S.Sink.view shelf.new).faults }
     ensures reads_never_fall { (S.Sink.view shelf.old).read_faults ≤ (S.Sink.view shelf.new).read_faults }
 {
-    let inst = read_instance(alloc, &asked.inputs(), shelf)?;
-    let track = Track::new(alloc, inst.task_count())?;
-    let search = Search::open(alloc, &inst, asked.nodes)?;
-    Ok(plan_instance(asked, inst, search, track, shelf))
+    let job = read_own_job(alloc, &asked.inputs(), shelf)?;
+    if let Some(broken) = break_of(&job) {
+        return Ok(PlanAnswer::Broken(broken));
+    }
+    let track = Track::new(alloc, job.inst.task_count())?;
+    let search = Search::open(alloc, &job.inst, asked.nodes)?;
+    Ok(plan_instance(asked, job, search, track, shelf))
 }
 
 /// Plans, and reports to `out`.

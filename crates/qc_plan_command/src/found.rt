@@ -2,7 +2,7 @@
 ghost use Rattle.std.specs.Prelude.{◌≤◌, IfSome, length};
 ghost use Rattle.qc_model.specs.Judge.{IsJudgeable};
 ghost use Rattle.qc_tree.specs.Trees.{NoneEarlier};
-ghost use Rattle.qc_search.specs.Run.{IsTight};
+ghost use Rattle.qc_starts.specs.Tight.{IsTight};
 ghost use Rattle.qc_plan_command.specs.Found.{IsReread, Tells};
 ghost use Rattle.qc_plan_command.specs.Reports.{CanBeTold};
 
@@ -27,6 +27,7 @@ pub(crate) fn answer_of(inst: Instance, done: Done, track: Track) -> PlanAnswer
     let Bound::Least(bound) = done.bound() else {
         return PlanAnswer::Infeasible { branched };
     };
+    let given = done.given();
     let Some(sched) = done.into_best() else {
         return PlanAnswer::Unplanned { bound, branched };
     };
@@ -38,6 +39,7 @@ pub(crate) fn answer_of(inst: Instance, done: Done, track: Track) -> PlanAnswer
         end: ends(&inst, &sched),
         bound,
         branched,
+        given,
         direction,
         inst,
         sched,

@@ -2,13 +2,13 @@
 ghost use Rattle.std.specs.Prelude.{◌≡◌, ◌≤◌, length};
 ghost use Rattle.qc_run.specs.Moved.{WritesMoved};
 ghost use Rattle.qc_run.specs.Reports.{Reports};
-ghost use Rattle.qc_plan_command.specs.Reports.{CanBeTold, IsPlanCut, IsPlanPrinted, IsReady, found_status, infeasible_text, kind_word, plan_prints, plan_prints_part, plan_status, planned_text, unplanned_text};
+ghost use Rattle.qc_plan_command.specs.Reports.{CanBeTold, IsPlanCut, IsPlanPrinted, IsReady, found_status, given_text, infeasible_text, kind_word, plan_prints, plan_prints_part, plan_status, planned_text, unplanned_text};
 
 use crate::answer::{PlanAnswer, Planned};
 use qc_gantt::write_tracks;
 use qc_io::{Sink, WriteFault, put_all};
 use qc_num::{Text, Tick};
-use qc_run::{Status, direction_text, report_text};
+use qc_run::{Status, direction_text, report_broken, report_text};
 use qc_search::Kind;
 
 /// The word for how a search came out.
@@ -23,7 +23,22 @@ pub fn kind_word(kind: Kind) -> &'static [u8]
     }
 }
 
-/// The summary of a search that met a schedule.
+/// The end of a given schedule, or that none was given.
+fn given_text(given: Option<Tick>) -> Text<32>
+    ensures text { result ≡ given_text given }
+    ensures short { length result ≤ 20 }
+{
+    match given {
+        Some(end) => {
+            let mut text = Text::new();
+            text.push_number(end);
+            text
+        }
+        None => Text::of(b"none"),
+    }
+}
+
+/// The summary of a search that knows a schedule.
 fn planned_text(told: &Planned) -> Text<160>
     ensures { result ≡ planned_text told.now }
 {
@@ -35,13 +50,15 @@ fn planned_text(told: &Planned) -> Text<160>
     text.push_number(told.bound);
     text.push(b"\nbranched ");
     text.push_number(told.branched);
+    text.push(b"\ngiven ");
+    text.push(given_text(told.given).as_bytes());
     text.push(b"\ndirection ");
     text.push(direction_text(told.direction));
     text.push(b"\n");
     text
 }
 
-/// What is told of a search that spent its branchings and met no schedule.
+/// What is told of a search that spent its branchings and knows no schedule.
 fn unplanned_text(bound: Tick, branched: u64) -> Text<64>
     ensures { result ≡ unplanned_text bound branched }
 {
@@ -63,7 +80,7 @@ fn infeasible_text(branched: u64) -> Text<64>
     text
 }
 
-/// Writes the summary of a search that met a schedule, and the motion of each crane.
+/// Writes the summary of a search that knows a schedule, and the motion of each crane.
 fn put_moved<K: Sink>(told: Planned, out: &mut K) -> Result<(), WriteFault>
     requires { IsReady told }
     ensures { WritesMoved (K.view out.old) (K.view out.new) (planned_text told)
@@ -111,6 +128,7 @@ pub(crate) fn report<K: Sink>(answer: PlanAnswer, out: &mut K) -> Status
 {
     match answer {
         PlanAnswer::WriteFault => report_text(Status::WriteFault, b"WriteFault\n", out),
+        PlanAnswer::Broken(told) => report_broken(&told, out),
         PlanAnswer::Planned(told) => report_planned(told, out),
         PlanAnswer::Unplanned { bound, branched } => {
             report_text(

@@ -105,8 +105,8 @@ instance_early contents =
 
 pub job_early : (contents : Contents) → IfErr (job_due contents) IsEarly
 job_early contents =
-    then_early (instance_due contents) (λ inst. schedule_due inst contents >>= λ sched. Ok (record { inst = inst; sched = sched })) (instance_early contents)
-    (λ inst. then_early (schedule_due inst contents) (λ sched. Ok (record { inst = inst; sched = sched }))
+    then_early (instance_due contents) (λ inst. schedule_due input.Plan inst contents >>= λ sched. Ok (record { inst = inst; sched = sched })) (instance_early contents)
+    (λ inst. then_early (schedule_due input.Plan inst contents) (λ sched. Ok (record { inst = inst; sched = sched }))
     (then_early (input_due input.Plan contents) (λ bytes. with_fault refusal.BadPlan (plan_in inst bytes)) (input_early input.Plan contents.plan)
     (λ bytes. fault_early refusal.BadPlan (λ _. tt) (plan_in inst bytes)))
     (λ sched. tt))

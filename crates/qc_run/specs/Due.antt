@@ -19,6 +19,7 @@ use Rattle.qc_run.specs.Inputs.{Names, name_of}
 use Rattle.qc_run.specs.declared.refusal.Refusal.{Refusal}
 use Rattle.qc_run.specs.declared.refusal.Refusal.TheVariants as refusal
 use Rattle.qc_run.specs.declared.reading.Job.{Job}
+use Rattle.qc_run.specs.declared.reading.OwnJob.{OwnJob}
 
 -- the bytes of the files that are read, by what each is for; none where it isn't held or isn't read
 pub record Contents : Type 0 where
@@ -26,12 +27,14 @@ pub record Contents : Type 0 where
   pub stow : Option (List ℕ)
   pub plan : Option (List ℕ)
   pub tree : Option (List ℕ)
+  pub own : Option (List ℕ)
 
 abbrev pub bytes_of : Input → Contents → Option (List ℕ)
 bytes_of input.Ship contents = contents.ship
 bytes_of input.Stow contents = contents.stow
 bytes_of input.Plan contents = contents.plan
 bytes_of input.Tree contents = contents.tree
+bytes_of input.Own contents = contents.own
 
 -- the same, as if one of the files weren't held
 abbrev pub without : Input → Contents → Contents
@@ -39,6 +42,7 @@ without input.Ship contents = record contents { ship = None }
 without input.Stow contents = record contents { stow = None }
 without input.Plan contents = record contents { plan = None }
 without input.Tree contents = record contents { tree = None }
+without input.Own contents = record contents { own = None }
 
 -- what a command finds in these files
 abbrev pub contents_in : Files → Names → Contents
@@ -47,6 +51,7 @@ contents_in held names = record {
   stow = option_and_then (get held) (name_of input.Stow names);
   plan = option_and_then (get held) (name_of input.Plan names);
   tree = option_and_then (get held) (name_of input.Tree names);
+  own = option_and_then (get held) (name_of input.Own names);
 }
 
 -- the greatest length of a file that is read whole, in bytes
@@ -81,18 +86,32 @@ instance_due contents = do
   rows ← moves_due ship contents
   Ok (instance_of ship rows)
 
--- the schedule of the plan's file, or the first refusal of that file
-abbrev pub schedule_due : InstanceView → Contents → Result (List Slot) Refusal
-schedule_due inst contents = do
-  bytes ← input_due input.Plan contents
+-- the schedule of the plan in a file, or the first refusal of that file
+abbrev pub schedule_due : Input → InstanceView → Contents → Result (List Slot) Refusal
+schedule_due file inst contents = do
+  bytes ← input_due file contents
   with_fault refusal.BadPlan (plan_in inst bytes)
 
 -- the instance and the schedule of the files, or the first refusal: the plan's file comes last
 abbrev pub job_due : Contents → Result Job Refusal
 job_due contents = do
   inst ← instance_due contents
-  sched ← schedule_due inst contents
+  sched ← schedule_due input.Plan inst contents
   Ok (record { inst = inst; sched = sched })
+
+-- the schedule of the planner's own plan, or the first refusal of its file; none where no such file is named
+abbrev pub own_due : Option (List ℕ) → InstanceView → Contents → Result (Option (List Slot)) Refusal
+own_due None inst contents = Ok None
+own_due (Some name) inst contents = do
+  sched ← schedule_due input.Own inst contents
+  Ok (Some sched)
+
+-- the instance of the files and the planner's own schedule, or the first refusal: the own plan's file comes last
+abbrev pub own_job_due : Option (List ℕ) → Contents → Result OwnJob Refusal
+own_job_due name contents = do
+  inst ← instance_due contents
+  own ← own_due name inst contents
+  Ok (record { inst = inst; own = own })
 
 -- what the tree of the tree's file shows for the instance, or the first refusal of that file
 abbrev pub tree_due : InstanceView → Contents → Result Replayed Refusal

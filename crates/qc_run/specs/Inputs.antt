@@ -10,6 +10,7 @@ pub record Names : Type 0 where
   pub stow : Option (List ℕ)
   pub plan : Option (List ℕ)
   pub tree : Option (List ℕ)
+  pub own : Option (List ℕ)
 
 abbrev pub names_of : Inputs → Names
 names_of inputs = record {
@@ -17,6 +18,7 @@ names_of inputs = record {
   stow = Some inputs.stow.now;
   plan = option_map (λ name. name.now) inputs.plan;
   tree = option_map (λ name. name.now) inputs.tree;
+  own = option_map (λ name. name.now) inputs.own;
 }
 
 abbrev pub name_of : Input → Names → Option (List ℕ)
@@ -24,6 +26,7 @@ name_of input.Ship names = names.ship
 name_of input.Stow names = names.stow
 name_of input.Plan names = names.plan
 name_of input.Tree names = names.tree
+name_of input.Own names = names.own
 
 -- the command reads the file whole; a tree's file is read line by line
 abbrev pub IsWhole : Input → Names → Type 0

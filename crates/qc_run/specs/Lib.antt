@@ -5,4 +5,5 @@ pub mod Texts
 pub mod Reports
 pub mod Told
 pub mod Shown
+pub mod Broken
 pub mod Moved

@@ -1,5 +1,5 @@
 -- public: what a step says that reads files. It comes to what is due of them, or it stops.
-use Rattle.std.specs.Prelude.{◌≡◌, ◌≤◌, Option, Result, Ok, Err, IfOk, IfErr, IfSome, IsSome, IsSomeAnd}
+use Rattle.std.specs.Prelude.{◌≡◌, ◌≤◌, ◌⊎◌, Option, Result, Ok, Err, IfOk, IfErr, IfSome, IsSome, IsSomeAnd}
 use Rattle.qc_io.specs.Outside.{Files, View, ReadCause}
 use Rattle.qc_run.specs.declared.inputs.Input.{Input}
 use Rattle.qc_run.specs.declared.refusal.Refusal.{Refusal}
@@ -42,7 +42,7 @@ MayRefuse names (refusal.ReadFault file) = IsSome (name_of file names)
 MayRefuse names (refusal.TooLarge file) = IsWhole file names
 MayRefuse names (refusal.BadShip fault) = IsSome names.ship
 MayRefuse names (refusal.BadStow fault) = IsSome names.stow
-MayRefuse names (refusal.BadPlan fault) = IsSome names.plan
+MayRefuse names (refusal.BadPlan fault) = IsSome names.plan ⊎ IsSome names.own
 MayRefuse names (refusal.BadTree fault) = IsSome names.tree
 
 -- want of memory comes of any command

@@ -45,9 +45,10 @@ input_text input.Ship = codes "ship"
 input_text input.Stow = codes "stow"
 input_text input.Plan = codes "plan"
 input_text input.Tree = codes "tree"
+input_text input.Own = codes "own"
 
 abbrev pub usage_text : List ℕ
-usage_text = codes "Usage\nqc plan SHIP STOW PLAN TREE [--nodes N]\nqc check SHIP STOW PLAN TREE\nqc tasks SHIP STOW\nqc show SHIP STOW PLAN\nqc make NUMBER HATCHES CRANES\n"
+usage_text = codes "Usage\nqc plan SHIP STOW PLAN TREE [--nodes N] [--from OWN]\nqc check SHIP STOW PLAN TREE\nqc tasks SHIP STOW\nqc show SHIP STOW PLAN\nqc make NUMBER HATCHES CRANES\n"
 
 -- a line: the text and a line feed
 abbrev pub line : List ℕ → List ℕ

@@ -2,22 +2,24 @@
 ghost use Rattle.std.specs.Prelude.{◌≡◌, option_map};
 ghost use Rattle.qc_run.specs.Inputs.{name_of, names_of};
 
-/// A file that a command reads, by what it is for.
+/// A file that a command reads, by what it is for. `Own` is a plan that the planner has already.
 #[derive(Clone, Copy, Debug, PartialEq, Eq)]
 pub enum Input {
     Ship,
     Stow,
     Plan,
     Tree,
+    Own,
 }
 
-/// The names of the files that a command reads: a plan's and a tree's where it reads one.
+/// The names of the files that a command reads: a plan's, a tree's and that of a planner's own plan where it reads one.
 #[derive(Clone, Copy, Debug)]
 pub struct Inputs<'a> {
     pub ship: &'a str,
     pub stow: &'a str,
     pub plan: Option<&'a str>,
     pub tree: Option<&'a str>,
+    pub own: Option<&'a str>,
 }
 
 impl<'a> Inputs<'a> {
@@ -30,6 +32,7 @@ impl<'a> Inputs<'a> {
             Input::Stow => Some(self.stow),
             Input::Plan => self.plan,
             Input::Tree => self.tree,
+            Input::Own => self.own,
         }
     }
 }

@@ -2,6 +2,7 @@
 //! it ends with, and how its report goes out.
 #![tactic(auto)]
 
+mod broken;
 mod faults;
 mod inputs;
 mod reading;
@@ -9,9 +10,11 @@ mod refusal;
 mod report;
 mod status;
 
+pub use broken::{Broken, broken_of, report_broken};
 pub use inputs::{Input, Inputs};
 pub use reading::{
-    Job, read_instance, read_job, read_moves, read_schedule, read_ship_file, read_tree,
+    Job, OwnJob, read_instance, read_job, read_moves, read_own_job, read_schedule, read_ship_file,
+    read_tree,
 };
 pub use refusal::{Refusal, Stop};
 pub use report::{direction_text, report_stop, report_text};

@@ -1,5 +1,5 @@
 //! The files that a command reads.
-ghost use Rattle.std.specs.Prelude.{◌≡◌, Err, IfOk, IfSome, Some, All, IsSome};
+ghost use Rattle.std.specs.Prelude.{◌≡◌, ◌⊎◌, Err, IfOk, IfSome, Some, All, IsSome};
 ghost use Rattle.qc_model.specs.Judge.{IsJudgeable};
 ghost use Rattle.qc_ship.specs.Ship.{place_of_bay};
 ghost use Rattle.qc_tree.specs.Trees.{NoneEarlier};
@@ -7,7 +7,7 @@ ghost use Rattle.qc_replay.specs.declared.fault.TreeFault.{TreeFault};
 ghost use Rattle.qc_run.specs.declared.refusal.Refusal.TheVariants as refusal;
 ghost use Rattle.qc_run.specs.declared.refusal.Stop.TheVariants as stop;
 ghost use Rattle.qc_run.specs.Inputs.{IsWhole, name_of, names_of};
-ghost use Rattle.qc_run.specs.Due.{input_due, ship_due, moves_due, instance_due, schedule_due, job_due, tree_due, contents_in};
+ghost use Rattle.qc_run.specs.Due.{input_due, ship_due, moves_due, instance_due, schedule_due, job_due, own_due, own_job_due, tree_due, contents_in};
 ghost use Rattle.qc_run.specs.Steps.{IsStep};
 ghost use Rattle.qc_run.specs.Shown.{IsTreeShown, IsNoTree};
 
@@ -102,19 +102,22 @@ pub struct Job {
     pub sched: Schedule,
 }
 
-/// The schedule of the plan's file.
+/// The schedule of the plan in a file.
 pub fn read_schedule<S: Shelf>(
     alloc: Global,
     inputs: &Inputs<'_>,
+    file: Input,
     inst: &Instance,
     shelf: &mut S,
 ) -> Result<Schedule, Stop>
-    requires { IsSome (names_of inputs.now).plan }
-    ensures step { IsStep (schedule_due inst.now) (names_of inputs.now)
+    requires named { IsSome (name_of file (names_of inputs.now)) }
+    requires whole { IsWhole file (names_of inputs.now) }
+    requires may { IsSome (names_of inputs.now).plan ⊎ IsSome (names_of inputs.now).own }
+    ensures step { IsStep (schedule_due file inst.now) (names_of inputs.now)
         (S.Sink.view shelf.old) (S.Sink.view shelf.new) result }
     ensures judgeable { IfOk result (λ sched. IsJudgeable inst.now sched) }
 {
-    let bytes = read_input(alloc, inputs, Input::Plan, shelf)?;
+    let bytes = read_input(alloc, inputs, file, shelf)?;
     match read_plan(alloc, bytes.as_slice(), inst) {
         Ok(sched) => Ok(sched),
         Err(PlanError::Fault(fault)) => Err(Stop::Refused(Refusal::BadPlan(fault))),
@@ -130,8 +133,49 @@ pub fn read_job<S: Shelf>(alloc: Global, inputs: &Inputs<'_>, shelf: &mut S) -> 
     ensures judgeable { IfOk result (λ job. IsJudgeable job.inst job.sched) }
 {
     let inst = read_instance(alloc, inputs, shelf)?;
-    let sched = read_schedule(alloc, inputs, &inst, shelf)?;
+    let sched = read_schedule(alloc, inputs, Input::Plan, &inst, shelf)?;
     Ok(Job { inst, sched })
+}
+
+/// An instance, and the schedule that the planner has for it already, if any.
+#[derive(Drop)]
+pub struct OwnJob {
+    pub inst: Instance,
+    pub own: Option<Schedule>,
+}
+
+/// The schedule of the planner's own plan, where its file is named.
+fn read_own<S: Shelf>(
+    alloc: Global,
+    inputs: &Inputs<'_>,
+    inst: &Instance,
+    shelf: &mut S,
+) -> Result<Option<Schedule>, Stop>
+    ensures step { IsStep (own_due (names_of inputs.now).own inst.now) (names_of inputs.now)
+        (S.Sink.view shelf.old) (S.Sink.view shelf.new) result }
+    ensures judgeable { IfOk result (λ own. IfSome own (IsJudgeable inst.now)) }
+{
+    if inputs.own.is_none() {
+        return Ok(None);
+    }
+    let sched = read_schedule(alloc, inputs, Input::Own, inst, shelf)?;
+    Ok(Some(sched))
+}
+
+/// The instance of the ship file and the stowage list, and the schedule of the planner's own plan, where its file is
+/// named.
+pub fn read_own_job<S: Shelf>(
+    alloc: Global,
+    inputs: &Inputs<'_>,
+    shelf: &mut S,
+) -> Result<OwnJob, Stop>
+    ensures step { IsStep (own_job_due (names_of inputs.now).own) (names_of inputs.now)
+        (S.Sink.view shelf.old) (S.Sink.view shelf.new) result }
+    ensures judgeable { IfOk result (λ job. IfSome job.own (IsJudgeable job.inst)) }
+{
+    let inst = read_instance(alloc, inputs, shelf)?;
+    let own = read_own(alloc, inputs, &inst, shelf)?;
+    Ok(OwnJob { inst, own })
 }
 
 /// What the tree of the tree's file shows for the instance.

@@ -44,7 +44,7 @@ impl From<OutOfMemory> for Stop {
 }
 
 const USAGE: &[u8] = b"Usage
-qc plan SHIP STOW PLAN TREE [--nodes N]
+qc plan SHIP STOW PLAN TREE [--nodes N] [--from OWN]
 qc check SHIP STOW PLAN TREE
 qc tasks SHIP STOW
 qc show SHIP STOW PLAN
@@ -60,6 +60,7 @@ fn unread_line(file: Input) -> Text<192>
         Input::Stow => Text::of(b"ReadFault stow\n"),
         Input::Plan => Text::of(b"ReadFault plan\n"),
         Input::Tree => Text::of(b"ReadFault tree\n"),
+        Input::Own => Text::of(b"ReadFault own\n"),
     }
 }
 
@@ -72,6 +73,7 @@ fn large_line(file: Input) -> Text<192>
         Input::Stow => Text::of(b"TooLarge stow\n"),
         Input::Plan => Text::of(b"TooLarge plan\n"),
         Input::Tree => Text::of(b"TooLarge tree\n"),
+        Input::Own => Text::of(b"TooLarge own\n"),
     }
 }
 

@@ -15,9 +15,14 @@ use Rattle.qc_model.specs.Rules.{last_end}
 use Rattle.qc_search.specs.declared.progress.Progress.{Progress}
 use Rattle.qc_search.specs.Progress.{IsPassed, Improves, IsTaken}
 
-at_most_of : (n : ℕ) (met : Bound) → Improves n met → IsAtMost (Least n) met
+pub at_most_of : (n : ℕ) (met : Bound) → Improves n met → IsAtMost (Least n) met
 at_most_of n (Least m) h = omega arith
 at_most_of n Never h = tt
+
+-- an end that improves on a bound isn't at least that
+pub not_late : (n : ℕ) (met : Bound) → Improves n met → ¬ IsAtMost met (Least n)
+not_late n (Least m) h = λ k. omega (arith, h, k)
+not_late n Never h = λ k. k
 
 late_of : (n : ℕ) (met : Bound) → ¬ Improves n met → IsAtMost met (Least n)
 late_of n (Least m) h = by_order (cases_lt n m)
@@ -39,7 +44,7 @@ module _ (inst : InstanceView) (way : Direction) (ds : List Decision) (old : Pro
     complete = complete;
     in_reach = reach;
     least = end.least;
-    sooner = subst (λ (k : ℕ). IsAtMost (Least k) old.incumbent_end) end.ends (at_most_of n old.incumbent_end sooner);
+    sooner = subst (λ (k : ℕ). Improves k old.incumbent_end) end.ends sooner;
     soon = omega (arith, end.ends, soon);
     is = ap₂ (λ (k : ℕ) (best : List Slot). record old { incumbent_end = Least k; way = way; incumbent = best; since_incumbent = 0 }) end.ends is;
   }

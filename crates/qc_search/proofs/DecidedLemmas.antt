@@ -14,9 +14,9 @@ use Rattle.qc_model.specs.Rules.{IsClear, crane_of, end_of, start_of, starts}
 use Rattle.qc_model.proofs.CompleteNodes.{agrees_with, goes_with, greater_first, greater_second, starts_with}
 use Rattle.qc_model.proofs.NodeLemmas.{IsStep, assigned_is, greater_keeps, if_some, meets_of, ordered_is}
 use Rattle.qc_dist.proofs.Assigned.{ordered_here}
-use Rattle.qc_search.specs.Run.{decided_by, order_in}
+use Rattle.qc_starts.specs.Tight.{decided_by, order_in}
 
-some_is : (o : Option ℕ) (k : ℕ) → IsSome o → IfSome o (λ v. k ≡ v) → o ≡ Some k
+pub some_is : (o : Option ℕ) (k : ℕ) → IsSome o → IfSome o (λ v. k ≡ v) → o ≡ Some k
 some_is None k some is = absurd (false≢true some)
 some_is (Some v) k some is = ap Some (sym is)
 
@@ -34,7 +34,7 @@ module _ (inst : InstanceView) (sched : List Slot) where
 
   -- ---- the schedule agrees with what it decides
 
-  order_agrees : (p : Pair) (ds : List Decision) → IsClear inst sched 0 p.first p.second → Agrees inst ds sched
+  pub order_agrees : (p : Pair) (ds : List Decision) → IsClear inst sched 0 p.first p.second → Agrees inst ds sched
       → Agrees inst (order_in inst sched p ∷ ds) sched
   order_agrees p ds clear rest =
       cond_both (nat_le (end_of inst sched p.first) (start_of sched p.second)) (Order p.first p.second)

@@ -1,5 +1,5 @@
 -- Nodes that are earned one behind the other.
-use Rattle.std.proofs.Common.{◌≡◌, ℕ, ◌+◌, cond, List, [], ◌∷◌, ◌++◌, drop, get_or, refl, ap, sym, subst, ◌∙◌, append_assoc, arith, All, Any, Contains}
+use Rattle.std.proofs.Common.{◌≡◌, ℕ, ◌+◌, ◌⊎◌, inl, inr, cond, List, [], ◌∷◌, ◌++◌, drop, get_or, refl, ap, sym, subst, ◌∙◌, append_assoc, arith}
 use Rattle.std.proofs.lemmas.List.{append-nil}
 use Rattle.std.proofs.lemmas.List.Elements.{All-append, All-cons, Contains-append_left, Contains-push}
 use Rattle.std.proofs.lemmas.List.Sums.{sum_by-append, sum_by-cons}
@@ -12,7 +12,7 @@ use Rattle.qc_model.specs.Instance.{InstanceView}
 use Rattle.qc_model.specs.Leaves.{with_berths}
 use Rattle.qc_model.specs.Seen.{seen}
 use Rattle.qc_tree.specs.Trees.{Node, branches, branchings, part_value}
-use Rattle.qc_search.specs.Earned.{IsEarnedBehind, IsMetEnd, IsSolvedBy, TreeNode, branchings_in, node_at, part_nodes}
+use Rattle.qc_search.specs.Earned.{IsEarnedBehind, IsKnownEnd, IsSolvedBy, TreeNode, branchings_in, node_at, part_nodes}
 use Rattle.qc_search.specs.Progress.{AreEarned, value_at, value_in}
 use Rattle.qc_num.proofs.BoundLemmas.{at_most_through, lesser_assoc, lesser_never, same_least}
 
@@ -41,61 +41,69 @@ all_one P x p = All-cons P x [] p (λ k d low. absurd (omega arith))
 
 -- ---- one behind the other
 
-module _ (home : InstanceView) (most : ℕ) where
-  pub earned_then : (before one two : List TreeNode) → AreEarned home most before one
-      → AreEarned home most (before ++ one) two → AreEarned home most before (one ++ two)
-  earned_then before [] two h k = subst (λ (b : List TreeNode). AreEarned home most b two) (append-nil before) k
+module _ (home : InstanceView) (most : ℕ) (first : Bound) where
+  pub earned_then : (before one two : List TreeNode) → AreEarned home most first before one
+      → AreEarned home most first (before ++ one) two → AreEarned home most first before (one ++ two)
+  earned_then before [] two h k = subst (λ (b : List TreeNode). AreEarned home most first b two) (append-nil before) k
   earned_then before (node ∷ one) two h k = (
     h.0,
     earned_then (before ++ node ∷ []) one two h.1
-        (subst (λ (b : List TreeNode). AreEarned home most b two) (sym (append_assoc before (node ∷ []) one)) k),
+        (subst (λ (b : List TreeNode). AreEarned home most first b two) (sym (append_assoc before (node ∷ []) one)) k),
   )
 
-  each_earned : (nodes before : List TreeNode) → AreEarned home most before nodes
+  each_earned : (nodes before : List TreeNode) → AreEarned home most first before nodes
       → (front : List TreeNode) (node : TreeNode) (rest : List TreeNode) → nodes ≡ front ++ node ∷ rest
-      → IsEarnedBehind home most (before ++ front) node
+      → IsEarnedBehind home most first (before ++ front) node
   each_earned [] before h front node rest e = absurd (no_cons front node rest e)
   each_earned (n ∷ nodes) before h [] node rest e =
-      subst (λ (b : List TreeNode). IsEarnedBehind home most b node) (sym (append-nil before))
-      (subst (IsEarnedBehind home most before) (cons_head n node nodes rest e) h.0)
+      subst (λ (b : List TreeNode). IsEarnedBehind home most first b node) (sym (append-nil before))
+      (subst (IsEarnedBehind home most first before) (cons_head n node nodes rest e) h.0)
   each_earned (n ∷ nodes) before h (x ∷ front) node rest e =
       let below = each_earned nodes (before ++ n ∷ []) h.1 front node rest (cons_tail n x nodes (front ++ node ∷ rest) e) in
-      subst (λ (b : List TreeNode). IsEarnedBehind home most b node)
+      subst (λ (b : List TreeNode). IsEarnedBehind home most first b node)
       (append_assoc before (n ∷ []) front
       ∙ ap (λ (y : TreeNode). before ++ y ∷ front) (cons_head n x nodes (front ++ node ∷ rest) e))
       below
 
-  pub all_earned : (nodes : List TreeNode) → AreEarned home most [] nodes
+  pub all_earned : (nodes : List TreeNode) → AreEarned home most first [] nodes
       → (front : List TreeNode) (node : TreeNode) (rest : List TreeNode) → nodes ≡ front ++ node ∷ rest
-      → IsEarnedBehind home most front node
+      → IsEarnedBehind home most first front node
   all_earned nodes h = each_earned nodes [] h
 
--- ---- the least end that was met
+-- ---- the least end that is known
 
-module _ (home : InstanceView) (before : List TreeNode) (u : Bound) (met : IsMetEnd home before u)
+module _ (home : InstanceView) (first : Bound) (before : List TreeNode) (u : Bound) (known : IsKnownEnd home first before u)
     (node : TreeNode) where
+  -- an end that is reached is among more nodes too
+  still_reached : (end : ℕ) → (first ≡ Least end) ⊎ Any (IsSolvedBy home end) before
+      → (first ≡ Least end) ⊎ Any (IsSolvedBy home end) (before ++ node ∷ [])
+  still_reached end (inl e) = inl e
+  still_reached end (inr a) = inr (any_before (IsSolvedBy home end) before (node ∷ []) a)
+
   -- a node that is not solved sooner
   pub met_passed : ((end : ℕ) → IsSolvedBy home end node → IsAtMost u (Least end))
-      → IsMetEnd home (before ++ node ∷ []) u
+      → IsKnownEnd home first (before ++ node ∷ []) u
   met_passed late = record {
-    reached = λ end is. any_before (IsSolvedBy home end) before (node ∷ []) (met.reached end is);
+    reached = λ end is. still_reached end (known.reached end is);
+    given = known.given;
     least = λ end.
         let P = λ (n : TreeNode). IsSolvedBy home end n → IsAtMost u (Least end) in
-        All-append P before (node ∷ []) (met.least end) (all_one P node (late end));
+        All-append P before (node ∷ []) (known.least end) (all_one P node (late end));
   }
 
   -- a node that is
   pub met_taken : (end : ℕ) → IsSolvedBy home end node
       → ((other : ℕ) → IsSolvedBy home other node → other ≡ end) → IsAtMost (Least end) u
-      → IsMetEnd home (before ++ node ∷ []) (Least end)
+      → IsKnownEnd home first (before ++ node ∷ []) (Least end)
   met_taken end solved one sooner = record {
     reached = λ other is.
-        subst (λ (n : ℕ). Any (IsSolvedBy home n) (before ++ node ∷ [])) (same_least end other is)
-        (any_of (IsSolvedBy home end) (before ++ node ∷ []) node (Contains-push before node) solved);
+        inr (subst (λ (n : ℕ). Any (IsSolvedBy home n) (before ++ node ∷ [])) (same_least end other is)
+        (any_of (IsSolvedBy home end) (before ++ node ∷ []) node (Contains-push before node) solved));
+    given = at_most_through (Least end) u first sooner known.given;
     least = λ other.
         let P = λ (n : TreeNode). IsSolvedBy home other n → IsAtMost (Least end) (Least other) in
         All-append P before (node ∷ [])
-        (λ k d low s. at_most_through (Least end) u (Least other) sooner (met.least other k d low s))
+        (λ k d low s. at_most_through (Least end) u (Least other) sooner (known.least other k d low s))
         (all_one P node (λ s. omega (arith, one other s)));
   }
 

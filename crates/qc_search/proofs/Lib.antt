@@ -7,7 +7,9 @@ pub mod CountLemmas
 pub mod BestLemmas
 pub mod LineLemmas
 pub mod DecidedLemmas
+pub mod OrderLemmas
 pub mod ShownLemmas
 pub mod TightLemmas
+pub mod GivenLemmas
 pub mod TreeLemmas
 pub mod RunLemmas

@@ -13,6 +13,7 @@ use Rattle.qc_num.specs.Paths.{HasRoom}
 use Rattle.smallvec.specs.SmallVec.{SmallVec}
 use Rattle.qc_model.specs.declared.decision.Decision.{Decision}
 use Rattle.qc_model.specs.declared.direction.Direction.{Direction}
+use Rattle.qc_model.specs.declared.schedule.Slot.{Slot}
 use Rattle.qc_model.specs.Instance.{InstanceView}
 use Rattle.qc_model.specs.Leaves.{with_berths}
 use Rattle.qc_model.specs.Numbers.{most_tasks}
@@ -21,6 +22,7 @@ use Rattle.qc_tree.specs.Trees.{Node, Sign, branchings, children, part_text, sig
 use Rattle.qc_tree.proofs.NodeLemmas.{all_given_up, given_up, leads_then, none_branched}
 use Rattle.qc_search.specs.declared.progress.Progress.{Progress}
 use Rattle.qc_search.specs.Earned.{TreeNode, branchings_in, node_at, part_nodes}
+use Rattle.qc_search.specs.Run.{best_end}
 use Rattle.qc_search.specs.Progress.{AreEarned, Comes, IsAlong, IsKept, IsProgress, IsStep, WritesNodes, emptied, left_by}
 use Rattle.qc_search.proofs.EarnedLemmas.{branched_in, branchings-append, earned_then}
 
@@ -48,18 +50,18 @@ same_bytes None = refl
 same_bytes (Some b) = ap Some (sym (append-nil b))
 
 -- another path changes nothing
-by_path : (home : InstanceView) (now : Progress) (path : SmallVec ℕ) (nodes : List TreeNode)
-    → IsProgress home now nodes → IsProgress home (record now { path = path }) nodes
-by_path home now path nodes p = record {
+by_path : (home : InstanceView) (first : Option (List Slot)) (now : Progress) (path : SmallVec ℕ) (nodes : List TreeNode)
+    → IsProgress home first now nodes → IsProgress home first (record now { path = path }) nodes
+by_path home first now path nodes p = record {
   few = p.few;
   branched = p.branched;
   bound = p.bound;
-  met = p.met;
+  known = p.known;
   best = λ end e.
-      let k : IsKept home now nodes end = p.best end e in
+      let k : IsKept home first now nodes end = p.best end e in
       record {
         node = k.node;
-        stands = k.stands;
+        from = k.from;
         begins = k.begins;
         fits = k.fits;
         solved = k.solved;
@@ -76,16 +78,16 @@ module _ {inst : InstanceView} {way : Direction} where
       → Comes inst way (one ++ two) a c
   comes_then one two a b c f g = record {
     along = along_then inst a b c f.along g.along;
-    earned = λ home before seen_so now.
-        let p = f.earned home before seen_so now in
+    earned = λ home first before seen_so now.
+        let p = f.earned home first before seen_so now in
         let mine = part_nodes way one in
-        let q = g.earned home (before ++ mine) seen_so p.1 in
+        let q = g.earned home first (before ++ mine) seen_so p.1 in
         let both : part_nodes way (one ++ two) ≡ mine ++ part_nodes way two =
         map-append (λ (node : Node). node_at way node.decisions node.sign) one two in
-        let after = subst (λ (n : ℕ). AreEarned home n (before ++ mine) (part_nodes way two)) f.along.limit q.0 in (
-          subst (AreEarned home a.limit before) (sym both)
-              (earned_then home a.limit before mine (part_nodes way two) p.0 after),
-          subst (IsProgress home c)
+        let after = subst (λ (n : ℕ). AreEarned home n (best_end home first) (before ++ mine) (part_nodes way two)) f.along.limit q.0 in (
+          subst (AreEarned home a.limit (best_end home first) before) (sym both)
+              (earned_then home a.limit (best_end home first) before mine (part_nodes way two) p.0 after),
+          subst (IsProgress home first c)
               (append_assoc before mine (part_nodes way two) ∙ ap (λ (r : List TreeNode). before ++ r) (sym both))
               q.1,
         );
@@ -105,11 +107,11 @@ module _ {inst : InstanceView} {way : Direction} where
       beside_stays = refl;
       never_falls = omega arith;
     };
-    few = λ home first seen_so p.
-        omega (arith, p.few, p.branched, ap branchings_in (append-nil first));
+    few = λ home first earlier seen_so p.
+        omega (arith, p.few, p.branched, ap branchings_in (append-nil earlier));
     comes = record {
       along = record { limit = refl; count = λ h. h; room = λ h. h; soon = λ h. h };
-      earned = λ home before seen_so p. (tt, subst (IsProgress home now) (sym (append-nil before)) p);
+      earned = λ home first before seen_so p. (tt, subst (IsProgress home first now) (sym (append-nil before)) p);
     };
   }
 
@@ -130,13 +132,13 @@ module _ {inst : InstanceView} {way : Direction} where
             (append_assoc front (part_text one.nodes) (part_text two.nodes)
             ∙ ap (λ (x : List ℕ). front ++ x) (sym (flat_map-append (λ (node : Node). sign_text node.sign) one.nodes two.nodes)))
             (writes_then before now after (front ++ part_text one.nodes) (part_text two.nodes) result one.writes two.writes);
-        few = λ home first seen_so p.
-            let q = one.comes.earned home first seen_so p in
+        few = λ home first earlier seen_so p.
+            let q = one.comes.earned home first earlier seen_so p in
             omega (
               arith,
-              two.few home (first ++ mine) seen_so q.1,
-              ap branchings_in (append_assoc first mine (part_nodes way two.nodes)),
-              ap (λ (r : List TreeNode). branchings_in (first ++ r)) both,
+              two.few home first (earlier ++ mine) seen_so q.1,
+              ap branchings_in (append_assoc earlier mine (part_nodes way two.nodes)),
+              ap (λ (r : List TreeNode). branchings_in (earlier ++ r)) both,
               one.comes.along.limit,
             );
         comes = on_ok result (Comes inst way two.nodes b c) (Comes inst way (one.nodes ++ two.nodes) a c)
@@ -164,11 +166,11 @@ module _ {inst : InstanceView} {way : Direction} where
     nodes = all_up inst due;
     leads = all_given_up with_berths inst due;
     writes = writes_cut before after front (part_text (all_up inst due)) fault (Err fault) refl w;
-    few = λ home first seen_so p. omega (
+    few = λ home first earlier seen_so p. omega (
       arith,
       p.few,
       p.branched,
-      branchings-append first (part_nodes way (all_up inst due)),
+      branchings-append earlier (part_nodes way (all_up inst due)),
       branched_in way (all_up inst due),
       none_branched with_berths inst due,
     );
@@ -178,17 +180,17 @@ module _ {inst : InstanceView} {way : Direction} where
   -- ---- the line of one node
 
   step_few : (ds : List Decision) (sign : Sign) (old new : Progress) → IsStep inst way ds sign old new
-      → (rest : List Node) → branchings rest ≡ 0 → (home : InstanceView) (first : List TreeNode)
-      → seen home way ≡ inst → IsProgress home old first
-      → branchings_in (first ++ part_nodes way (record { decisions = ds; sign = sign } ∷ rest)) ≤ old.limit
-  step_few ds sign old new step rest none home first seen_so p =
-      let told = (step.earned home first seen_so p).1 in
+      → (rest : List Node) → branchings rest ≡ 0 → (home : InstanceView) (first : Option (List Slot))
+      (earlier : List TreeNode) → seen home way ≡ inst → IsProgress home first old earlier
+      → branchings_in (earlier ++ part_nodes way (record { decisions = ds; sign = sign } ∷ rest)) ≤ old.limit
+  step_few ds sign old new step rest none home first earlier seen_so p =
+      let told = (step.earned home first earlier seen_so p).1 in
       let here = node_at way ds sign ∷ [] in
       omega (
         arith,
-        branchings-append first (here ++ part_nodes way rest),
+        branchings-append earlier (here ++ part_nodes way rest),
         branchings-append here (part_nodes way rest),
-        branchings-append first here,
+        branchings-append earlier here,
         branched_in way rest,
         none,
         told.branched,
@@ -207,8 +209,8 @@ module _ {inst : InstanceView} {way : Direction} where
     few = step_few ds sign old new step [] refl;
     comes = record {
       along = step.along;
-      earned = λ home first seen_so p.
-          let s = step.earned home first seen_so p in ((s.0, tt), s.1);
+      earned = λ home first before seen_so p.
+          let s = step.earned home first before seen_so p in ((s.0, tt), s.1);
     };
   }
   step_written {before} {after} ds more sign old new (Err fault) step w =
@@ -250,7 +252,7 @@ module _ {inst : InstanceView} {way : Direction} where
     nodes = n.nodes;
     leads = n.leads;
     writes = n.writes;
-    few = λ home first seen_so p. n.few home first seen_so (by_path home old path first p);
+    few = λ home first earlier seen_so p. n.few home first earlier seen_so (by_path home first old path earlier p);
     comes = on_ok result (Comes inst way n.nodes (record old { path = path }) new) (Comes inst way n.nodes old new)
         (λ c. record {
           along = record {
@@ -259,6 +261,6 @@ module _ {inst : InstanceView} {way : Direction} where
             room = λ h. c.along.room (room h);
             soon = c.along.soon;
           };
-          earned = λ home first seen_so p. c.earned home first seen_so (by_path home old path first p);
+          earned = λ home first before seen_so p. c.earned home first before seen_so (by_path home first old path before p);
         }) n.comes;
   }

@@ -1,25 +1,27 @@
 -- A tree whose nodes are all earned is a run, and what is told of it.
-use Rattle.std.proofs.Common.{◌≡◌, ℕ, ◌<◌, ◌⊎◌, inl, inr, All, Bool, cond, List, length, ap, sym, subst, ◌∙◌, arith, MatchOption, Ok}
+use Rattle.std.proofs.Common.{◌≡◌, ℕ, ◌<◌, ◌⊎◌, inl, inr, All, Bool, cond, List, ◌∷◌, ◌++◌, length, Option, None, Some, refl, ap, sym, subst, ◌∙◌, arith, IfSome, IsErr, MatchOption, OnOk, Result, Ok, Err, option_map}
 use Rattle.std.proofs.Math.Nat.{eq-or-lt_of_le}
-use Rattle.std.proofs.lemmas.Bool.{le-leb}
+use Rattle.std.proofs.lemmas.Bool.{false≢true, le-leb}
 use Rattle.qc_io.specs.Outside.{View}
 use Rattle.qc_num.specs.declared.bound.Bound.{Bound}
 use Rattle.qc_num.specs.declared.bound.Bound.TheVariants.{Least, Never}
 use Rattle.qc_num.specs.Bounds.{IsAtMost}
+use Rattle.qc_model.specs.declared.direction.Direction.{Direction}
 use Rattle.qc_model.specs.declared.schedule.Slot.{Slot}
 use Rattle.qc_model.specs.Instance.{InstanceView, Valid}
+use Rattle.qc_model.specs.Rules.{ends}
 use Rattle.qc_model.specs.Seen.{seen_schedule}
 use Rattle.qc_tree.specs.Trees.{NoneEarlier, tree_branchings, tree_value}
 use Rattle.qc_tree.proofs.TreeBound.{tree_bound}
 use Rattle.qc_search.specs.declared.progress.Progress.{Progress}
 use Rattle.qc_search.specs.declared.done.Kind.TheVariants.{Budget, Optimal}
-use Rattle.qc_search.specs.Earned.{IsMetEnd, tree_nodes}
-use Rattle.qc_search.specs.Progress.{WritesTree, shown_best}
-use Rattle.qc_search.specs.Run.{DoneView, IsMetBest, IsRun, IsSearched, IsSound, outcome}
+use Rattle.qc_search.specs.Earned.{IsEarnedBehind, IsKnownEnd, TreeNode, tree_nodes}
+use Rattle.qc_search.specs.Progress.{IsBegun, IsFrom, IsKept, WritesTree, bound_end, shown_best}
+use Rattle.qc_search.specs.Run.{DoneView, IsBestKnown, IsFirst, IsGivenTold, IsRun, IsSearched, IsSound, best_end, outcome}
 use Rattle.qc_search.proofs.CountLemmas.{few_in_tree}
 use Rattle.qc_search.proofs.EarnedLemmas.{all_earned}
 use Rattle.qc_search.proofs.ShownLemmas.{best_shown, cranes_low, judgeable_is, tight_is}
-use Rattle.qc_search.proofs.TightLemmas.{best_end_is, best_soon}
+use Rattle.qc_search.proofs.TightLemmas.{best_end_is, best_soon, kept_end}
 use Rattle.qc_search.proofs.TreeLemmas.{bound_is, branched_is}
 
 -- where no leaf shows an end before that of the incumbent, the outcome isn't Budget
@@ -29,64 +31,103 @@ decided (Least value) Never is late = late
 decided (Least value) (Least end) is late =
     cc (sym is ∙ ap (λ (b : Bool). cond b Optimal Budget) (le-leb end value late))
 
--- what is told of a tree that was written
-abbrev pub told_with : ℕ → Progress → DoneView
-told_with cranes now = record {
+-- what holds of a value holds of no error
+pub not_ok : {T E : Type 0} (P : Type 0) (r : Result T E) → IsErr r → OnOk r P
+not_ok P (Ok x) e = absurd (false≢true e)
+not_ok P (Err why) e = tt
+
+-- what is told of a tree that was written, by a search that began with this end
+abbrev pub told_with : ℕ → Bound → Progress → DoneView
+told_with cranes first now = record {
   kind = outcome now.bound now.incumbent_end;
   bound = now.bound;
   branched = now.branched;
+  given = bound_end first;
   best = shown_best cranes now.incumbent_end now.way now.incumbent;
 }
 
-abbrev pub told_of : InstanceView → Progress → DoneView
-told_of home now = told_with (length home.cranes) now
+abbrev pub told_of : InstanceView → Bound → Progress → DoneView
+told_of home first now = told_with (length home.cranes) first now
 
-module _ (home : InstanceView) (v : Valid home) {before after : View} (old now : Progress)
-    (w : WritesTree before after home old now (Ok tt)) where
+-- the end of the schedule that the search began with, as it is told
+told_end : (home : InstanceView) (first : Option (List Slot)) → bound_end (best_end home first) ≡ option_map (ends home) first
+told_end home None = refl
+told_end home (Some sched) = refl
+
+-- what is told of a given schedule
+given_told : (home : InstanceView) (given first : Option (List Slot)) (done : DoneView) → IsFirst home given first
+    → IfSome given (λ sched. IsAtMost (best_end home first) (Least (ends home sched)))
+    → done.given ≡ option_map (ends home) first → IsAtMost (best_end home done.best) (best_end home first)
+    → MatchOption given (done.given ≡ None) (λ sched. IsGivenTold home sched done)
+given_told home None first done none no_later is best = is ∙ ap (option_map (ends home)) none
+given_told home (Some given) None done form no_later is best = absurd form
+given_told home (Some given) (Some sched) done form no_later is best =
+    record { first = sched; form = form; told = is; no_later = no_later; best = best }
+
+module _ (home : InstanceView) (v : Valid home) (given : Option (List Slot)) {before after : View} (old now : Progress)
+    (limit : ℕ) (b : IsBegun home given limit old) (w : WritesTree before after home b.first old now (Ok tt)) where
   -- the best schedule as it is answered, and its end
   best_is : MatchOption (shown_best (length home.cranes) now.incumbent_end now.way now.incumbent)
-      (now.incumbent_end ≡ Never) (IsMetBest home w.tree)
-  best_is = best_shown home now _ w.progress (IsMetBest home w.tree) (λ end met_is k. record {
-    node = k.node;
-    stands = k.stands;
-    begins = k.begins;
-    solved = k.solved;
-    earliest = subst (IsMetEnd home (tree_nodes w.tree)) (met_is ∙ ap Least k.ends) w.progress.met;
-    is = ap (λ (s : List Slot). seen_schedule home s k.node.way) k.is;
-  })
+      (now.incumbent_end ≡ Never) (IsBestKnown home b.first w.tree)
+  best_is = best_shown home b.first now _ w.progress (IsBestKnown home b.first w.tree) (λ end known_is k. by_origin end known_is k k.from)
+    where
+      by_origin : (end : ℕ) → now.incumbent_end ≡ Least end → (k : IsKept home b.first now (tree_nodes w.tree) end)
+          → IsFrom home b.first now (tree_nodes w.tree) end k.node
+          → IsBestKnown home b.first w.tree (seen_schedule home now.incumbent k.node.way)
+      by_origin end known_is k (inl met) = inr (record {
+        node = k.node;
+        stands = met.0;
+        begins = k.begins;
+        solved = k.solved;
+        sooner = subst (λ (n : ℕ). ¬ IsAtMost (best_end home b.first) (Least n)) k.ends met.1;
+        earliest = subst (IsKnownEnd home (best_end home b.first) (tree_nodes w.tree)) (known_is ∙ ap Least k.ends) w.progress.known;
+        is = ap (λ (s : List Slot). seen_schedule home s k.node.way) k.is;
+      })
+      by_origin end known_is k (inr e) = inl (record {
+        is = e ∙ ap (λ (way : Direction). Some (seen_schedule home now.incumbent way)) (sym k.way);
+        earliest = subst (IsKnownEnd home (best_end home b.first) (tree_nodes w.tree))
+            (known_is ∙ ap Least (kept_end home b.first now _ w.progress end k)) w.progress.known;
+      })
 
   branched_told : now.branched ≡ tree_branchings w.tree
-  branched_told = branched_is home w.tree now w.progress
+  branched_told = branched_is home b.first w.tree now w.progress
 
   bound_told : now.bound ≡ tree_value home w.tree
-  bound_told = bound_is home w.tree now w.progress w.version
+  bound_told = bound_is home b.first w.tree now w.progress w.version
 
   -- under Budget all branchings are spent
-  spent_is : outcome now.bound now.incumbent_end ≡ Budget → now.branched ≡ old.limit
+  spent_is : outcome now.bound now.incumbent_end ≡ Budget → now.branched ≡ limit
   spent_is kind = by_left (eq-or-lt_of_le w.progress.few)
     where
-      by_left : (now.branched ≡ now.limit) ⊎ (now.branched < now.limit) → now.branched ≡ old.limit
-      by_left (inl all) = all ∙ w.limit
+      by_left : (now.branched ≡ now.limit) ⊎ (now.branched < now.limit) → now.branched ≡ limit
+      by_left (inl all) = all ∙ w.limit ∙ b.limit_is
       by_left (inr left) = absurd (decided now.bound now.incumbent_end kind (w.progress.late left))
 
-  run_is : IsRun home old.limit w.tree (shown_best (length home.cranes) now.incumbent_end now.way now.incumbent)
+  run_is : IsRun home limit b.first w.tree (shown_best (length home.cranes) now.incumbent_end now.way now.incumbent)
       (outcome now.bound now.incumbent_end)
   run_is = record {
+    tight = b.tight;
     is_tree = w.is_tree;
     earned = record {
       version = w.version;
-      few = omega (arith, branched_told, w.progress.few, w.limit);
-      each = all_earned home old.limit (tree_nodes w.tree) w.earned;
+      few = omega (arith, branched_told, w.progress.few, w.limit, b.limit_is);
+      each = subst (λ (n : ℕ). (before : List TreeNode) (node : TreeNode) (behind : List TreeNode)
+          → tree_nodes w.tree ≡ before ++ node ∷ behind → IsEarnedBehind home n (best_end home b.first) before node) b.limit_is
+          (all_earned home old.limit (best_end home b.first) (tree_nodes w.tree) w.earned);
     };
-    met = now.incumbent_end;
-    ends = w.progress.met;
+    known = now.incumbent_end;
+    ends = w.progress.known;
     is_best = best_is;
     is_kind = ap (λ (b : Bound). outcome b now.incumbent_end) bound_told;
     spent = λ kind. sym branched_told ∙ spent_is kind;
   }
 
-  pub went_searched : IsSearched (record { inst = home; nodes = old.limit }) before.written after.written (told_of home now)
+  pub went_searched : IsSearched (record { inst = home; nodes = limit }) given before.written after.written
+      (told_of home old.incumbent_end now)
   went_searched = record {
+    first = b.first;
+    begins = b.begins;
+    told = ap bound_end b.known ∙ told_end home b.first;
     tree = w.tree;
     run = run_is;
     bound = bound_told;
@@ -95,15 +136,20 @@ module _ (home : InstanceView) (v : Valid home) {before after : View} (old now :
   }
 
   pub went_cranes : (end : ℕ) → now.incumbent_end ≡ Least end → All (λ (s : Slot). s.crane < length home.cranes) now.incumbent
-  went_cranes = cranes_low home v now _ w.progress
+  went_cranes = cranes_low home b.first v now _ w.progress
 
-  pub went_sound : IsSound (record { inst = home; nodes = old.limit }) (told_of home now)
-  went_sound = record {
-    none_earlier = subst (NoneEarlier home) (sym bound_told) (tree_bound home v w.tree w.is_tree);
-    judgeable = judgeable_is home v now _ w.progress;
-    tight = tight_is home v now _ w.progress;
-    soon = best_soon home now _ w.progress _ (best_end_is home now _ w.progress);
-    kind = ap (outcome now.bound) (sym (best_end_is home now _ w.progress));
-    spent = spent_is;
-    decides = λ enough kind. omega (arith, enough, spent_is kind, branched_told, few_in_tree home w.tree w.is_tree);
-  }
+  pub went_sound : IsSound (record { inst = home; nodes = limit }) given (told_of home old.incumbent_end now)
+  went_sound =
+      let ends_is = best_end_is home b.first now _ w.progress in
+      record {
+        none_earlier = subst (NoneEarlier home) (sym bound_told) (tree_bound home v w.tree w.is_tree);
+        judgeable = judgeable_is home b.first v now _ w.progress;
+        tight = tight_is home b.first v now _ w.progress;
+        soon = best_soon home b.first now _ w.progress _ ends_is;
+        kind = ap (outcome now.bound) (sym ends_is);
+        spent = spent_is;
+        begins = given_told home given b.first (told_of home old.incumbent_end now) b.begins b.no_later
+            (ap bound_end b.known ∙ told_end home b.first)
+            (subst (λ (e : Bound). IsAtMost e (best_end home b.first)) (sym ends_is) w.progress.known.given);
+        decides = λ enough kind. omega (arith, enough, spent_is kind, branched_told, few_in_tree home w.tree w.is_tree);
+      }

@@ -20,7 +20,7 @@ use Rattle.qc_model.proofs.SeenLemmas.{seen-crane_count, seen-crane_of, seen-sta
 use Rattle.qc_search.specs.declared.progress.Progress.{Progress}
 use Rattle.qc_search.specs.Progress.{IsProgress, IsKept, shown_best}
 use Rattle.qc_search.specs.Earned.{TreeNode}
-use Rattle.qc_search.specs.Run.{IsTight, decided_by}
+use Rattle.qc_starts.specs.Tight.{IsTight, decided_by}
 use Rattle.qc_search.proofs.DecidedLemmas.{decided_least}
 
 -- turned twice, a schedule is as it was
@@ -45,31 +45,31 @@ turned_back cranes sched low =
         let same : cranes - 1 - (cranes - 1 - s.crane) ≡ s.crane = omega (arith, h) in
         ap (λ (k : ℕ). record s { crane = k }) same
 
-turned_as_met : (home : InstanceView) (way : Direction) (sched : List Slot)
+pub turned_as_met : (home : InstanceView) (way : Direction) (sched : List Slot)
     → ((j : ℕ) → j < length sched → crane_of sched j < length home.cranes)
     → seen_schedule home (seen_schedule home sched way) way ≡ sched
 turned_as_met home Up sched low = refl
 turned_as_met home Down sched low = turned_back (length home.cranes) sched low
 
-seen_low : (home : InstanceView) (way : Direction) (sched : List Slot) (j : ℕ) → j < length sched
+pub seen_low : (home : InstanceView) (way : Direction) (sched : List Slot) (j : ℕ) → j < length sched
     → crane_of sched j < length home.cranes → crane_of (seen_schedule home sched way) j < length home.cranes
 seen_low home Up sched j at low = low
 seen_low home Down sched j at low = omega (arith, seen-crane_of home sched Down j at, low)
 
-seen_count : (home : InstanceView) (way : Direction) (sched : List Slot)
+pub seen_count : (home : InstanceView) (way : Direction) (sched : List Slot)
     → length (seen_schedule home sched way) ≡ length sched
 seen_count home Up sched = refl
 seen_count home Down sched = length-map sched (flipped (length home.cranes))
 
-goes_as : (home : InstanceView) (way : Direction) (sched met : List Slot) → seen_schedule home sched way ≡ met
+pub goes_as : (home : InstanceView) (way : Direction) (sched met : List Slot) → seen_schedule home sched way ≡ met
     → ((j : ℕ) → j < length home.tasks → crane_of sched j < length home.cranes) → GoesUp (seen home way) met
     → Goes home sched way
 goes_as home Up sched met same low goes = subst (GoesUp home) (sym same) goes
 goes_as home Down sched met same low goes =
     record { crane_range = low; mirrored = subst (GoesUp (mirror home)) (sym same) goes }
 
-module _ (home : InstanceView) (v : Valid home) (done : Progress) (nodes : List TreeNode) (end : ℕ)
-    (k : IsKept home done nodes end) where
+module _ (home : InstanceView) (first : Option (List Slot)) (v : Valid home) (done : Progress) (nodes : List TreeNode)
+    (end : ℕ) (k : IsKept home first done nodes end) where
   abbrev inst : InstanceView
   inst = seen home k.node.way
 
@@ -136,9 +136,9 @@ module _ (home : InstanceView) (v : Valid home) (done : Progress) (nodes : List 
       }
 
 -- what is answered is nothing where no end was met, and else the schedule that is kept, as it is seen
-module _ (home : InstanceView) (done : Progress) (nodes : List TreeNode) (course : IsProgress home done nodes)
-    (P : List Slot → Type 0)
-    (shown_is : (end : ℕ) → done.incumbent_end ≡ Least end → (k : IsKept home done nodes end)
+module _ (home : InstanceView) (first : Option (List Slot)) (done : Progress) (nodes : List TreeNode)
+    (course : IsProgress home first done nodes) (P : List Slot → Type 0)
+    (shown_is : (end : ℕ) → done.incumbent_end ≡ Least end → (k : IsKept home first done nodes end)
     → P (seen_schedule home done.incumbent k.node.way)) where
   by_met : (met : Bound) (way : Direction) → done.incumbent_end ≡ met → done.way ≡ way
       → MatchOption (shown_best (length home.cranes) met way done.incumbent) (done.incumbent_end ≡ Never) P
@@ -157,17 +157,17 @@ some_shown : (N : Type 0) (P : List Slot → Type 0) (o : Option (List Slot)) �
 some_shown N P None h = tt
 some_shown N P (Some s) h = h
 
-module _ (home : InstanceView) (v : Valid home) (done : Progress) (nodes : List TreeNode)
-    (course : IsProgress home done nodes) where
+module _ (home : InstanceView) (first : Option (List Slot)) (v : Valid home) (done : Progress) (nodes : List TreeNode)
+    (course : IsProgress home first done nodes) where
   pub cranes_low : (end : ℕ) → done.incumbent_end ≡ Least end → All (λ (s : Slot). s.crane < length home.cranes) done.incumbent
-  cranes_low end e = kept_cranes home v done nodes end (course.best end e)
+  cranes_low end e = kept_cranes home first v done nodes end (course.best end e)
 
   pub judgeable_is : IfSome (shown_best (length home.cranes) done.incumbent_end done.way done.incumbent) (IsJudgeable home)
-  judgeable_is = some_shown _ (IsJudgeable home) _ (best_shown home done nodes course (IsJudgeable home) (λ end e k.
+  judgeable_is = some_shown _ (IsJudgeable home) _ (best_shown home first done nodes course (IsJudgeable home) (λ end e k.
       subst (λ (s : List Slot). IsJudgeable home (seen_schedule home s k.node.way)) (sym k.is)
-      (shown_judgeable home v done nodes end k)))
+      (shown_judgeable home first v done nodes end k)))
 
   pub tight_is : IfSome (shown_best (length home.cranes) done.incumbent_end done.way done.incumbent) (IsTight home)
-  tight_is = some_shown _ (IsTight home) _ (best_shown home done nodes course (IsTight home) (λ end e k.
+  tight_is = some_shown _ (IsTight home) _ (best_shown home first done nodes course (IsTight home) (λ end e k.
       subst (λ (s : List Slot). IsTight home (seen_schedule home s k.node.way)) (sym k.is)
-      (shown_tight home v done nodes end k)))
+      (shown_tight home first v done nodes end k)))

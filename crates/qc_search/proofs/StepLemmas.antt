@@ -1,5 +1,5 @@
 -- The line of one node as a step of the search: a leaf, or a branching.
-use Rattle.std.proofs.Common.{Contains, ◌≡◌, ℕ, ◌+◌, ◌<◌, ◌⊎◌, inl, inr, List, [], ◌∷◌, ◌++◌, length, IsSome, refl, ap, sym, subst, ◌∙◌, arith}
+use Rattle.std.proofs.Common.{Contains, ◌≡◌, ℕ, ◌+◌, ◌<◌, ◌⊎◌, inl, inr, List, [], ◌∷◌, ◌++◌, length, IsSome, Option, Some, refl, ap, ap₂, sym, subst, ◌∙◌, arith}
 use Rattle.std.proofs.lemmas.List.Elements.{Contains-append_left, Contains-push}
 use Rattle.std.proofs.lemmas.List.FromFn.{length-map-range_with_len}
 use Rattle.qc_num.specs.declared.bound.Bound.{Bound}
@@ -11,18 +11,21 @@ use Rattle.qc_bounds.proofs.ClosedLemmas.{one_end}
 use Rattle.qc_model.specs.declared.decision.Decision.{Decision}
 use Rattle.qc_model.specs.declared.direction.Direction.{Direction}
 use Rattle.qc_model.specs.Closing.{IsClosable, complete}
+use Rattle.qc_model.specs.declared.schedule.Slot.{Slot}
 use Rattle.qc_model.specs.Instance.{InstanceView}
 use Rattle.qc_model.specs.Leaves.{Leaf, leaf_value, with_berths}
 use Rattle.qc_model.specs.Nodes.{IsComplete, IsNodeEnd, slot_with}
 use Rattle.qc_model.specs.Rules.{last_end}
-use Rattle.qc_model.specs.Seen.{seen}
+use Rattle.qc_model.specs.Seen.{seen, seen_schedule}
 use Rattle.qc_tree.specs.Trees.{Sign, leaf, on_pair, on_task, sign_value}
 use Rattle.qc_search.specs.declared.branch.Branch.{Branch}
 use Rattle.qc_search.specs.declared.branch.Branch.TheVariants.{Pair, Task}
 use Rattle.qc_search.specs.declared.progress.Progress.{Progress}
-use Rattle.qc_search.specs.Earned.{IsClosedAt, IsEarnedBehind, IsGivenUp, IsMetEnd, IsSolvedBy, MayStand, TreeNode, branchings_in, node_at}
-use Rattle.qc_search.specs.Progress.{IsAlong, IsKept, IsPassed, IsProgress, IsSoon, IsStep, IsTaken, value_in}
+use Rattle.qc_search.specs.Earned.{IsClosedAt, IsEarnedBehind, IsGivenUp, IsKnownEnd, IsSolvedBy, MayStand, TreeNode, branchings_in, node_at}
+use Rattle.qc_search.specs.Progress.{Improves, IsAlong, IsFrom, IsKept, IsPassed, IsProgress, IsSoon, IsStep, IsTaken, value_in}
+use Rattle.qc_search.specs.Run.{best_end}
 use Rattle.qc_search.specs.Walk.{IsOpenBranch, sign_of}
+use Rattle.qc_search.proofs.BestLemmas.{at_most_of, not_late}
 use Rattle.qc_search.proofs.EarnedLemmas.{branchings-append, met_passed, met_taken, value_push}
 
 -- ---- the incumbent
@@ -48,13 +51,13 @@ same_but inst way ds old mid (inr t) = subst (IsSameBut inst old) (sym t.is) (re
 })
 
 -- an incumbent stays one by the same way and schedule, among more nodes
-pub kept_as : (home : InstanceView) (old new : Progress) (nodes more : List TreeNode) (end : ℕ)
+pub kept_as : (home : InstanceView) (first : Option (List Slot)) (old new : Progress) (nodes more : List TreeNode) (end : ℕ)
     → new.way ≡ old.way → new.incumbent ≡ old.incumbent
     → ((n : TreeNode) → Contains nodes n → Contains more n)
-    → IsKept home old nodes end → IsKept home new more end
-kept_as home old new nodes more end way same on k = record {
+    → IsKept home first old nodes end → IsKept home first new more end
+kept_as home first old new nodes more end way same on k = record {
   node = k.node;
-  stands = on k.node k.stands;
+  from = still k.from;
   begins = k.begins;
   fits = k.fits;
   solved = k.solved;
@@ -63,12 +66,17 @@ kept_as home old new nodes more end way same on k = record {
   way = k.way ∙ sym way;
   is = same ∙ k.is;
 }
+  where
+    still : IsFrom home first old nodes end k.node → IsFrom home first new more end k.node
+    still (inl met) = inl (on k.node met.0, met.1)
+    still (inr e) =
+        inr (e ∙ sym (ap₂ (λ (s : List Slot) (w : Direction). Some (seen_schedule home s w)) same way))
 
-kept_on : (home : InstanceView) (old new : Progress) (before : List TreeNode) (node : TreeNode) (end : ℕ)
-    → new.way ≡ old.way → new.incumbent ≡ old.incumbent
-    → IsKept home old before end → IsKept home new (before ++ node ∷ []) end
-kept_on home old new before node end way same =
-    kept_as home old new before (before ++ node ∷ []) end way same (Contains-append_left before (node ∷ []))
+kept_on : (home : InstanceView) (first : Option (List Slot)) (old new : Progress) (before : List TreeNode) (node : TreeNode)
+    (end : ℕ) → new.way ≡ old.way → new.incumbent ≡ old.incumbent
+    → IsKept home first old before end → IsKept home first new (before ++ node ∷ []) end
+kept_on home first old new before node end way same =
+    kept_as home first old new before (before ++ node ∷ []) end way same (Contains-append_left before (node ∷ []))
 
 -- a later incumbent ends no later
 pub met_before : (inst : InstanceView) (way : Direction) (ds : List Decision) (old mid : Progress)
@@ -76,7 +84,8 @@ pub met_before : (inst : InstanceView) (way : Direction) (ds : List Decision) (o
 met_before inst way ds old mid (inl p) =
     subst (λ (c : Progress). IsAtMost c.incumbent_end old.incumbent_end) (sym p.same) (at_most_same old.incumbent_end)
 met_before inst way ds old mid (inr t) =
-    subst (λ (c : Progress). IsAtMost c.incumbent_end old.incumbent_end) (sym t.is) t.sooner
+    subst (λ (c : Progress). IsAtMost c.incumbent_end old.incumbent_end) (sym t.is)
+    (at_most_of _ old.incumbent_end t.sooner)
 
 -- ---- a leaf
 
@@ -89,7 +98,8 @@ pub record IsLeafStep
   pub meets : IsPassed inst ds old mid ⊎ IsTaken inst way ds old mid
   pub late : old.branched < old.limit → IsAtMost mid.incumbent_end (sign_value with_berths inst ds (leaf shows))
 
-module _ (home : InstanceView) (way : Direction) (ds : List Decision) (before : List TreeNode) where
+module _ (home : InstanceView) (first : Option (List Slot)) (way : Direction) (ds : List Decision)
+    (before : List TreeNode) where
   module _ (sign : Sign) where
     abbrev here : TreeNode
     here = node_at way ds sign
@@ -97,12 +107,12 @@ module _ (home : InstanceView) (way : Direction) (ds : List Decision) (before : 
     solved_node_end : (end : ℕ) → IsSolvedBy home end here → IsNodeEnd (seen home way) ds end
     solved_node_end end s = record { starts = s.starts; least = s.solved.least; ends = s.ends }
 
-    met_mid : (old mid : Progress) → IsMetEnd home before old.incumbent_end
+    met_mid : (old mid : Progress) → IsKnownEnd home (best_end home first) before old.incumbent_end
         → IsPassed (seen home way) ds old mid ⊎ IsTaken (seen home way) way ds old mid
-        → IsMetEnd home (before ++ here ∷ []) mid.incumbent_end
+        → IsKnownEnd home (best_end home first) (before ++ here ∷ []) mid.incumbent_end
     met_mid old mid met (inl p) =
-        subst (λ (c : Progress). IsMetEnd home (before ++ here ∷ []) c.incumbent_end) (sym p.same)
-        (met_passed home before old.incumbent_end met here (λ end s.
+        subst (λ (c : Progress). IsKnownEnd home (best_end home first) (before ++ here ∷ []) c.incumbent_end) (sym p.same)
+        (met_passed home (best_end home first) before old.incumbent_end met here (λ end s.
         subst (λ (n : ℕ). IsAtMost old.incumbent_end (Least n)) (sym s.ends)
         (p.late s.starts s.solved.complete s.solved.in_reach s.solved.least)))
     met_mid old mid met (inr t) =
@@ -112,24 +122,28 @@ module _ (home : InstanceView) (way : Direction) (ds : List Decision) (before : 
           solved = record { complete = t.complete; in_reach = t.in_reach; least = t.least };
           ends = refl;
         } in
-        subst (λ (c : Progress). IsMetEnd home (before ++ here ∷ []) c.incumbent_end) (sym t.is)
-        (met_taken home before old.incumbent_end met here end solved
+        subst (λ (c : Progress). IsKnownEnd home (best_end home first) (before ++ here ∷ []) c.incumbent_end) (sym t.is)
+        (met_taken home (best_end home first) before old.incumbent_end met here end solved
         (λ other s. one_end (seen home way) ds other end (solved_node_end other s) (solved_node_end end solved))
-        t.sooner)
+        (at_most_of end old.incumbent_end t.sooner))
 
-    kept_mid : (old mid : Progress)
-        → ((end : ℕ) → old.incumbent_end ≡ Least end → IsKept home old before end)
+    kept_mid : (old mid : Progress) → IsAtMost old.incumbent_end (best_end home first)
+        → ((end : ℕ) → old.incumbent_end ≡ Least end → IsKept home first old before end)
         → IsPassed (seen home way) ds old mid ⊎ IsTaken (seen home way) way ds old mid
-        → (end : ℕ) → mid.incumbent_end ≡ Least end → IsKept home mid (before ++ here ∷ []) end
-    kept_mid old mid best (inl p) end e =
-        kept_on home old mid before here end (ap (λ (c : Progress). c.way) p.same)
+        → (end : ℕ) → mid.incumbent_end ≡ Least end → IsKept home first mid (before ++ here ∷ []) end
+    kept_mid old mid given best (inl p) end e =
+        kept_on home first old mid before here end (ap (λ (c : Progress). c.way) p.same)
         (ap (λ (c : Progress). c.incumbent) p.same) (best end (sym (ap (λ (c : Progress). c.incumbent_end) p.same) ∙ e))
-    kept_mid old mid best (inr t) end e =
+    kept_mid old mid given best (inr t) end e =
         let is = same_least end (last_end (seen home way).tasks t.begins)
         (sym e ∙ ap (λ (c : Progress). c.incumbent_end) t.is) in
         record {
           node = here;
-          stands = Contains-push before here;
+          from = inl (
+            Contains-push before here,
+            λ late. not_late end old.incumbent_end (subst (λ (n : ℕ). Improves n old.incumbent_end) (sym is) t.sooner)
+                (at_most_through old.incumbent_end (best_end home first) (Least end) given late),
+          );
           begins = t.begins;
           fits = t.fits;
           solved = record { complete = t.complete; in_reach = t.in_reach; least = t.least };
@@ -139,10 +153,10 @@ module _ (home : InstanceView) (way : Direction) (ds : List Decision) (before : 
           is = ap (λ (c : Progress). c.incumbent) t.is;
         }
 
-  leaf_earned : (shows : Leaf) (old mid : Progress) (path : SmallVec ℕ) → IsProgress home old before
+  leaf_earned : (shows : Leaf) (old mid : Progress) (path : SmallVec ℕ) → IsProgress home first old before
       → IsLeafStep (seen home way) way ds shows old mid
-      → IsEarnedBehind home old.limit before (node_at way ds (leaf shows))
-      × IsProgress home (record mid {
+      → IsEarnedBehind home old.limit (best_end home first) before (node_at way ds (leaf shows))
+      × IsProgress home first (record mid {
         bound = lesser mid.bound (sign_value with_berths (seen home way) ds (leaf shows));
         path = path;
       }) (before ++ node_at way ds (leaf shows) ∷ [])
@@ -152,16 +166,16 @@ module _ (home : InstanceView) (way : Direction) (ds : List Decision) (before : 
       let value = sign_value with_berths (seen home way) ds (leaf shows) in (
         record {
           u = old.incumbent_end;
-          met = now.met;
+          known = now.known;
           stands = (s.closed, λ open_node. let g = s.given_up open_node in (sym now.branched ∙ g.0, g.1));
         },
         record {
           few = omega (arith, now.few, same.branched, same.limit);
           branched = omega (arith, now.branched, same.branched, branchings-append before (node ∷ []));
           bound = ap (λ (b : Bound). lesser b value) (same.bound ∙ now.bound) ∙ sym (value_push home before node);
-          met = met_mid (leaf shows) old mid now.met s.meets;
-          best = λ end e. kept_as home mid _ (before ++ node ∷ []) (before ++ node ∷ []) end refl refl (λ n c. c)
-              (kept_mid (leaf shows) old mid now.best s.meets end e);
+          known = met_mid (leaf shows) old mid now.known s.meets;
+          best = λ end e. kept_as home first mid _ (before ++ node ∷ []) (before ++ node ∷ []) end refl refl (λ n c. c)
+              (kept_mid (leaf shows) old mid now.known.given now.best s.meets end e);
           late = λ left.
               let less : old.branched < old.limit = omega (arith, left, same.branched, same.limit) in
               at_most_lesser mid.incumbent_end mid.bound value
@@ -189,13 +203,13 @@ leaf_step inst way ds shows old mid path capacity soon s =
         room = λ h. omega (arith, capacity, ap (λ (p : SmallVec ℕ). p.capacity) same.path, h);
         soon = λ h. soon (subst IsSoon (sym same.bound) h);
       };
-      earned = λ home before seen_so now.
-          subst (λ (i : InstanceView). IsEarnedBehind home old.limit before (node_at way ds (leaf shows))
-          × IsProgress home (record mid {
+      earned = λ home first before seen_so now.
+          subst (λ (i : InstanceView). IsEarnedBehind home old.limit (best_end home first) before (node_at way ds (leaf shows))
+          × IsProgress home first (record mid {
             bound = lesser mid.bound (sign_value with_berths i ds (leaf shows));
             path = path;
           }) (before ++ node_at way ds (leaf shows) ∷ [])) seen_so
-          (leaf_earned home way ds before shows old mid path now
+          (leaf_earned home first way ds before shows old mid path now
           (subst (λ (i : InstanceView). IsLeafStep i way ds shows old mid) (sym seen_so) s));
     }
 
@@ -207,24 +221,25 @@ module _ (inst : InstanceView) (way : Direction) (ds : List Decision) (old : Pro
   abbrev branched : Progress
   branched = record old { branched = old.branched + 1; since_incumbent = since; path = path }
 
-  branch_earned : (sign : Sign) (home : InstanceView) (before : List TreeNode) → seen home way ≡ inst
+  branch_earned : (sign : Sign) (home : InstanceView) (first : Option (List Slot)) (before : List TreeNode)
+      → seen home way ≡ inst
       → branchings_in (node_at way ds sign ∷ []) ≡ 1
       → sign_value with_berths (seen home way) ds sign ≡ Never
       → MayStand (seen home way) ds old.incumbent_end (branchings_in before) old.limit sign
-      → IsProgress home old before
-      → IsEarnedBehind home old.limit before (node_at way ds sign)
-      × IsProgress home branched (before ++ node_at way ds sign ∷ [])
-  branch_earned sign home before seen_so one worthless stands now =
+      → IsProgress home first old before
+      → IsEarnedBehind home old.limit (best_end home first) before (node_at way ds sign)
+      × IsProgress home first branched (before ++ node_at way ds sign ∷ [])
+  branch_earned sign home first before seen_so one worthless stands now =
       let node = node_at way ds sign in (
-        record { u = old.incumbent_end; met = now.met; stands = stands },
+        record { u = old.incumbent_end; known = now.known; stands = stands },
         record {
           few = omega (arith, left);
           branched = omega (arith, now.branched, branchings-append before (node ∷ []), one);
           bound = now.bound ∙ sym (lesser_never (value_in home before))
               ∙ ap (lesser (value_in home before)) (sym worthless) ∙ sym (value_push home before node);
-          met = met_passed home before old.incumbent_end now.met node (λ end by. absurd (unclosed (complete
+          known = met_passed home (best_end home first) before old.incumbent_end now.known node (λ end by. absurd (unclosed (complete
               (subst (λ (i : InstanceView). IsComplete i ds) seen_so by.solved.complete))));
-          best = λ end e. kept_on home old branched before node end refl refl (now.best end e);
+          best = λ end e. kept_on home first old branched before node end refl refl (now.best end e);
           late = λ more. now.late left;
         },
       )
@@ -240,12 +255,12 @@ module _ (inst : InstanceView) (way : Direction) (ds : List Decision) (old : Pro
   branch_step (Task j) is_open = record {
     holds = is_open;
     along = along;
-    earned = λ home before seen_so now.
-        branch_earned (on_task j) home before seen_so refl refl (stands_open home seen_so) now;
+    earned = λ home first before seen_so now.
+        branch_earned (on_task j) home first before seen_so refl refl (stands_open home seen_so) now;
   }
   branch_step (Pair i j) is_open = record {
     holds = (is_open.0, is_open.1);
     along = along;
-    earned = λ home before seen_so now.
-        branch_earned (on_pair i j) home before seen_so refl refl (stands_open home seen_so) now;
+    earned = λ home first before seen_so now.
+        branch_earned (on_pair i j) home first before seen_so refl refl (stands_open home seen_so) now;
   }

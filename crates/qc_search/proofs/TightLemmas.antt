@@ -1,4 +1,4 @@
--- The end of a schedule that was met, whichever way it goes.
+-- The end of the best schedule, whichever way it goes.
 use Rattle.std.proofs.Common.{◌≡◌, ℕ, ◌+◌, ◌≤◌, List, [], ◌∷◌, length, map, max, Option, None, Some, refl, ap, sym, ◌∙◌, IfSome, MatchOption}
 use Rattle.qc_num.specs.declared.bound.Bound.TheVariants.{Least, Never}
 use Rattle.qc_model.specs.declared.direction.Direction.{Direction}
@@ -29,8 +29,9 @@ pub seen_end : (inst : InstanceView) (sched : List Slot) (way : Direction)
 seen_end inst sched Up = refl
 seen_end inst sched Down = turned_end inst inst.tasks sched
 
-module _ (home : InstanceView) (done : Progress) (nodes : List TreeNode) (course : IsProgress home done nodes) where
-  kept_end : (end : ℕ) (k : IsKept home done nodes end) → end ≡ ends home (seen_schedule home done.incumbent k.node.way)
+module _ (home : InstanceView) (first : Option (List Slot)) (done : Progress) (nodes : List TreeNode)
+    (course : IsProgress home first done nodes) where
+  pub kept_end : (end : ℕ) (k : IsKept home first done nodes end) → end ≡ ends home (seen_schedule home done.incumbent k.node.way)
   kept_end end k =
       let begins = ends_with (seen home k.node.way) k.node.decisions k.begins k.solved.least.meets in
       k.ends ∙ sym begins ∙ ap (ends (seen home k.node.way)) (sym k.is) ∙ sym (seen_end home done.incumbent k.node.way)
@@ -40,9 +41,9 @@ module _ (home : InstanceView) (done : Progress) (nodes : List TreeNode) (course
   end_of_best None h = sym h
   end_of_best (Some s) h = sym h
 
-  -- the end of the best schedule as it is answered is the least end that was met
+  -- the end of the best schedule as it is answered is the least end that is known
   pub best_end_is : best_end home (shown_best (length home.cranes) done.incumbent_end done.way done.incumbent) ≡ done.incumbent_end
-  best_end_is = end_of_best _ (best_shown home done nodes course (λ s. done.incumbent_end ≡ Least (ends home s))
+  best_end_is = end_of_best _ (best_shown home first done nodes course (λ s. done.incumbent_end ≡ Least (ends home s))
       (λ end e k. e ∙ ap Least (kept_end end k)))
 
   -- and no task of it ends at a tick of more digits than a start has

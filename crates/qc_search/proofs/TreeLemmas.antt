@@ -1,5 +1,5 @@
 -- The lines of a whole tree, and where they are cut.
-use Rattle.std.proofs.Common.{◌≡◌, ℕ, ◌≤◌, List, [], ◌∷◌, ◌++◌, Result, Ok, Err, refl, ap, ap₂, sym, subst, ◌∙◌, append_assoc, arith, IsErr, OnOk}
+use Rattle.std.proofs.Common.{◌≡◌, ℕ, ◌≤◌, List, [], ◌∷◌, ◌++◌, Option, Result, Ok, Err, refl, ap, ap₂, sym, subst, ◌∙◌, append_assoc, arith}
 use Rattle.std.proofs.lemmas.Bool.{false≢true}
 use Rattle.std.specs.Prelude.{⊤}
 use Rattle.qc_io.specs.declared.writing.WriteFault.{WriteFault}
@@ -9,6 +9,7 @@ use Rattle.qc_io.proofs.WritesLemmas.{writes_cut, writes_then}
 use Rattle.qc_num.specs.declared.bound.Bound.{Bound}
 use Rattle.qc_num.specs.Bounds.{lesser}
 use Rattle.qc_model.specs.declared.direction.Direction.TheVariants.{Up, Down}
+use Rattle.qc_model.specs.declared.schedule.Slot.{Slot}
 use Rattle.qc_model.specs.Instance.{InstanceView}
 use Rattle.qc_model.specs.Leaves.{Version, with_berths}
 use Rattle.qc_model.specs.Numbers.{most_branchings}
@@ -18,13 +19,15 @@ use Rattle.qc_tree.specs.Trees.{IsTree, Node, Tree, part_text, part_value, tree_
 use Rattle.qc_tree.proofs.NodeLemmas.{all_given_up, none_branched}
 use Rattle.qc_search.specs.declared.progress.Progress.{Progress}
 use Rattle.qc_search.specs.Earned.{TreeNode, part_nodes, tree_nodes}
+use Rattle.qc_search.specs.Run.{best_end}
 use Rattle.qc_search.specs.Progress.{AreEarned, IsProgress, WritesNodes, WritesTree}
 use Rattle.qc_search.proofs.EarnedLemmas.{branched_in, branchings-append, earned_then, value-append, valued_in}
 use Rattle.qc_search.proofs.NodesLemmas.{all_up}
 
 -- ---- what the nodes of a tree come to
 
-module _ (home : InstanceView) (tree : Tree) (now : Progress) (p : IsProgress home now (tree_nodes tree)) where
+module _ (home : InstanceView) (first : Option (List Slot)) (tree : Tree) (now : Progress)
+    (p : IsProgress home first now (tree_nodes tree)) where
   pub branched_is : now.branched ≡ tree_branchings tree
   branched_is = omega (
     arith,
@@ -60,9 +63,9 @@ given (Ok x) P p = p
 given (Err fault) P p = tt
 
 -- an answer that is a fault
-pub by_fault : {before after : View} {home : InstanceView} {old new : Progress} (end : Progress)
-    (result : Result ⊤ WriteFault) → IsErr result → WritesTree before after home old new (Err (record {}))
-    → WritesTree before after home old end result
+pub by_fault : {before after : View} {home : InstanceView} {first : Option (List Slot)} {old new : Progress}
+    (end : Progress) (result : Result ⊤ WriteFault) → IsErr result
+    → WritesTree before after home first old new (Err (record {})) → WritesTree before after home first old end result
 by_fault end (Ok x) is w = absurd (false≢true is)
 by_fault end (Err fault) is w = record {
   tree = w.tree;
@@ -93,12 +96,13 @@ end_line home tree = whole_line (line.End (tree_branchings tree) (tree_value hom
 abbrev root : InstanceView → List Node
 root inst = all_up inst ([] ∷ [])
 
-module _ (home : InstanceView) (before : View) (old new : Progress) (begun : IsProgress home old [])
+module _ (home : InstanceView) (first : Option (List Slot)) (before : View) (old new : Progress)
+    (begun : IsProgress home first old [])
     (most : old.limit ≤ most_branchings) where
   -- a front part of the text that was cut
   cut_at : {after : View} (up down : List Node) → IsTree home (tree_of up down) → (front rest : List ℕ) (fault : WriteFault)
       → Writes before after front (Err fault) → front ++ rest ≡ tree_text home (tree_of up down)
-      → WritesTree before after home old new (Err fault)
+      → WritesTree before after home first old new (Err fault)
   cut_at {after} up down is front rest fault w same = record {
     tree = tree_of up down;
     version = refl;
@@ -111,7 +115,7 @@ module _ (home : InstanceView) (before : View) (old new : Progress) (begun : IsP
   }
 
   pub title_cut : {after : View} (fault : WriteFault) → Writes before after title (Err fault)
-      → WritesTree before after home old new (Err fault)
+      → WritesTree before after home first old new (Err fault)
   title_cut {after} fault w =
       let up = root home in
       let down = root (mirror home) in
@@ -127,10 +131,10 @@ module _ (home : InstanceView) (before : View) (old new : Progress) (begun : IsP
       cut_at up down is title _ fault w
       (after_title title up_line (part_text up) down_line (part_text down) (end_line home (tree_of up down)))
 
-  module _ {titled : View} (first : Writes before titled title (Ok tt)) where
+  module _ {titled : View} (head : Writes before titled title (Ok tt)) where
     pub up_cut : {after : View} (mid : Progress) (fault : WriteFault)
         → WritesNodes up_line titled after home Up ([] ∷ []) [] old mid (Err fault)
-        → WritesTree before after home old new (Err fault)
+        → WritesTree before after home first old new (Err fault)
     up_cut {after} mid fault n =
         let down = root (mirror home) in
         let is : IsTree home (tree_of n.nodes down) = record {
@@ -138,7 +142,7 @@ module _ (home : InstanceView) (before : View) (old new : Progress) (begun : IsP
           down = all_given_up with_berths (mirror home) ([] ∷ []);
           few = omega (
             arith,
-            n.few home [] refl begun,
+            n.few home first [] refl begun,
             branched_in Up n.nodes,
             none_branched with_berths (mirror home) ([] ∷ []),
             most,
@@ -146,19 +150,19 @@ module _ (home : InstanceView) (before : View) (old new : Progress) (begun : IsP
         } in
         let a = part_text n.nodes in
         cut_at n.nodes down is (title ++ (up_line ++ a)) _ fault
-        (writes_then before titled after title (up_line ++ a) (Err fault) first n.writes)
+        (writes_then before titled after title (up_line ++ a) (Err fault) head n.writes)
         (after_up title up_line a down_line (part_text down) (end_line home (tree_of n.nodes down)))
 
     module _ {upped : View} (mid : Progress)
         (up : WritesNodes up_line titled upped home Up ([] ∷ []) [] old mid (Ok tt)) where
       up_written : Writes before upped (title ++ (up_line ++ part_text up.nodes)) (Ok tt)
-      up_written = writes_then before titled upped title (up_line ++ part_text up.nodes) (Ok tt) first up.writes
+      up_written = writes_then before titled upped title (up_line ++ part_text up.nodes) (Ok tt) head up.writes
 
       abbrev up_nodes : List TreeNode
       up_nodes = part_nodes Up up.nodes
 
-      up_told : AreEarned home old.limit [] up_nodes × IsProgress home mid up_nodes
-      up_told = up.comes.earned home [] refl begun
+      up_told : AreEarned home old.limit (best_end home first) [] up_nodes × IsProgress home first mid up_nodes
+      up_told = up.comes.earned home first [] refl begun
 
       -- the down part, whole or cut, makes a tree
       down_tree : {end : Progress} {there : View} {result : Result ⊤ WriteFault}
@@ -169,7 +173,7 @@ module _ (home : InstanceView) (before : View) (old new : Progress) (begun : IsP
         down = n.leads;
         few = omega (
           arith,
-          n.few home up_nodes refl up_told.1,
+          n.few home first up_nodes refl up_told.1,
           branchings-append up_nodes (part_nodes Down n.nodes),
           branched_in Up up.nodes,
           branched_in Down n.nodes,
@@ -180,7 +184,7 @@ module _ (home : InstanceView) (before : View) (old new : Progress) (begun : IsP
 
       pub down_cut : {after : View} (end : Progress) (fault : WriteFault)
           → WritesNodes down_line upped after (mirror home) Down ([] ∷ []) [] mid end (Err fault)
-          → WritesTree before after home old new (Err fault)
+          → WritesTree before after home first old new (Err fault)
       down_cut {after} end fault n =
           let a = part_text up.nodes in
           let b = part_text n.nodes in
@@ -193,19 +197,19 @@ module _ (home : InstanceView) (before : View) (old new : Progress) (begun : IsP
       pub end_written : {downed after : View} (down : WritesNodes down_line upped downed (mirror home) Down ([] ∷ []) [] mid new (Ok tt))
           → (result : Result ⊤ WriteFault)
           → Writes downed after (whole_line (line.End new.branched new.bound) []) result
-          → WritesTree before after home old new result
+          → WritesTree before after home first old new result
       end_written {downed} {after} down result last =
           let a = part_text up.nodes in
           let b = part_text down.nodes in
           let tree = tree_of up.nodes down.nodes in
           let front = (title ++ (up_line ++ a)) ++ (down_line ++ b) in
-          let told = down.comes.earned home up_nodes refl up_told.1 in
-          let second = subst (λ (n : ℕ). AreEarned home n up_nodes (part_nodes Down down.nodes)) up.comes.along.limit told.0 in
-          let all = earned_then home old.limit [] up_nodes (part_nodes Down down.nodes) up_told.0 second in
+          let told = down.comes.earned home first up_nodes refl up_told.1 in
+          let second = subst (λ (n : ℕ). AreEarned home n (best_end home first) up_nodes (part_nodes Down down.nodes)) up.comes.along.limit told.0 in
+          let all = earned_then home old.limit (best_end home first) [] up_nodes (part_nodes Down down.nodes) up_told.0 second in
           let limit : new.limit ≡ old.limit = down.comes.along.limit ∙ up.comes.along.limit in
           let text : front ++ whole_line (line.End new.branched new.bound) [] ≡ tree_text home tree =
-          ap₂ (λ (n : ℕ) (v : Bound). front ++ whole_line (line.End n v) []) (branched_is home tree new told.1)
-          (bound_is home tree new told.1 refl)
+          ap₂ (λ (n : ℕ) (v : Bound). front ++ whole_line (line.End n v) []) (branched_is home first tree new told.1)
+          (bound_is home first tree new told.1 refl)
           ∙ after_down title up_line a down_line b (end_line home tree) in
           record {
             tree = tree;
@@ -215,7 +219,7 @@ module _ (home : InstanceView) (before : View) (old new : Progress) (begun : IsP
                 (writes_then before downed after front (whole_line (line.End new.branched new.bound) []) result
                 (writes_then before upped downed (title ++ (up_line ++ a)) (down_line ++ b) (Ok tt) up_written down.writes)
                 last);
-            earned = given result (AreEarned home old.limit [] (tree_nodes tree)) all;
-            progress = given result (IsProgress home new (tree_nodes tree)) told.1;
+            earned = given result (AreEarned home old.limit (best_end home first) [] (tree_nodes tree)) all;
+            progress = given result (IsProgress home first new (tree_nodes tree)) told.1;
             limit = given result (new.limit ≡ old.limit) limit;
           }

@@ -1,5 +1,5 @@
 -- public: which bound trees a search with a budget of branchings may write.
-use Rattle.std.specs.Prelude.{◌≡◌, ℕ, ◌<◌, ◌≤◌, IsTrue, List, ◌∷◌, ◌++◌, map, Some, All, Any, count_by}
+use Rattle.std.specs.Prelude.{◌≡◌, ℕ, ◌<◌, ◌≤◌, ◌⊎◌, IsTrue, List, ◌∷◌, ◌++◌, map, Some, All, Any, count_by}
 use Rattle.qc_num.specs.declared.bound.Bound.{Bound}
 use Rattle.qc_num.specs.declared.bound.Bound.TheVariants.{Least}
 use Rattle.qc_num.specs.Bounds.{IsAtMost}
@@ -47,11 +47,12 @@ pub record IsSolvedBy (inst : InstanceView) (end : ℕ) (node : TreeNode) : Type
   pub solved : IsSolved inst node starts
   pub ends : end ≡ solved_end inst node starts
 
--- the end of the incumbent behind these nodes: the least end of the complete ones with a solution; Never where there is
--- none
-pub record IsMetEnd (inst : InstanceView) (nodes : List TreeNode) (met : Bound) : Type 0 where
-  pub reached : (end : ℕ) → met ≡ Least end → Any (IsSolvedBy inst end) nodes
-  pub least : (end : ℕ) → All (λ node. IsSolvedBy inst end node → IsAtMost met (Least end)) nodes
+-- the end of the incumbent behind these nodes: the least of the end that the search begins with, which is that of a given
+-- schedule or Never, and of the ends of the complete nodes with a solution
+pub record IsKnownEnd (inst : InstanceView) (first : Bound) (nodes : List TreeNode) (known : Bound) : Type 0 where
+  pub reached : (end : ℕ) → known ≡ Least end → (first ≡ Least end) ⊎ Any (IsSolvedBy inst end) nodes
+  pub given : IsAtMost known first
+  pub least : (end : ℕ) → All (λ node. IsSolvedBy inst end node → IsAtMost known (Least end)) nodes
 
 -- how many branchings are among these nodes
 abbrev pub branchings_in : List TreeNode → ℕ
@@ -101,18 +102,18 @@ MayStand inst ds u branched most (leaf shows) =
     × (¬ (IsClosable inst ds u) → (branched ≡ most) × IsGivenUp inst ds shows)
 MayStand inst ds u branched most branching = ¬ (IsClosable inst ds u)
 
--- the node is justified behind those before it in the file
+-- the node is justified behind those before it in the file, where the search begins with this end
 pub record IsEarnedBehind
-    (inst : InstanceView) (most : ℕ) (before : List TreeNode) (node : TreeNode) : Type 0 where
+    (inst : InstanceView) (most : ℕ) (first : Bound) (before : List TreeNode) (node : TreeNode) : Type 0 where
   pub u : Bound
-  pub met : IsMetEnd inst before u
+  pub known : IsKnownEnd inst first before u
   pub stands : MayStand (seen inst node.way) node.decisions u (branchings_in before) most node.sign
 
 -- the tree is of the second version and has at most so many branchings, and each of its nodes is justified by what the
 -- search knew when it wrote the line
-pub record IsEarned (inst : InstanceView) (most : ℕ) (tree : Tree) : Type 0 where
+pub record IsEarned (inst : InstanceView) (most : ℕ) (first : Bound) (tree : Tree) : Type 0 where
   pub version : tree.version ≡ with_berths
   pub few : tree_branchings tree ≤ most
   pub each :
       (before : List TreeNode) (node : TreeNode) (behind : List TreeNode)
-      → tree_nodes tree ≡ before ++ node ∷ behind → IsEarnedBehind inst most before node
+      → tree_nodes tree ≡ before ++ node ∷ behind → IsEarnedBehind inst most first before node

@@ -1,6 +1,6 @@
 -- inner: how far a search has come, and what its steps write and leave. A bound is a lower bound on the ends of
--- schedules; the incumbent is the best schedule that was met.
-use Rattle.std.specs.Prelude.{◌≡◌, ℕ, ◌<◌, ◌≤◌, List, [], ◌∷◌, ◌++◌, map, length, Option, None, Some, Result, Ok, Err, ⊤, OnOk, Contains}
+-- schedules; the incumbent is the best schedule that is known.
+use Rattle.std.specs.Prelude.{◌≡◌, ℕ, ◌<◌, ◌≤◌, ◌⊎◌, List, [], ◌∷◌, ◌++◌, map, length, Option, None, Some, Result, Ok, Err, ⊤, IfSome, OnOk, Contains}
 use Rattle.qc_io.specs.declared.writing.WriteFault.{WriteFault}
 use Rattle.qc_io.specs.Outside.{View}
 use Rattle.qc_io.specs.Writes.{Writes}
@@ -15,14 +15,17 @@ use Rattle.qc_model.specs.declared.direction.Direction.TheVariants.{Up, Down}
 use Rattle.qc_model.specs.declared.schedule.Slot.{Slot}
 use Rattle.qc_model.specs.Instance.{InstanceView}
 use Rattle.qc_model.specs.Leaves.{with_berths}
-use Rattle.qc_model.specs.Nodes.{AreLeast, Fits, IsComplete, IsInReach, schedule_with}
+use Rattle.qc_model.specs.Nodes.{Agrees, AreLeast, Fits, IsComplete, IsInReach, schedule_with}
 use Rattle.qc_model.specs.Numbers.{most_start, most_tasks}
 use Rattle.qc_model.specs.OneWay.{flipped}
-use Rattle.qc_model.specs.Rules.{last_end}
-use Rattle.qc_model.specs.Seen.{seen}
+use Rattle.qc_model.specs.Judge.{IsDirection}
+use Rattle.qc_model.specs.Rules.{ends, last_end}
+use Rattle.qc_model.specs.Seen.{seen, seen_schedule}
 use Rattle.qc_tree.specs.Trees.{Holds, IsTree, Leads, Node, Sign, Tree, part_text, sign_value, tree_text}
 use Rattle.qc_search.specs.declared.progress.Progress.{Progress}
-use Rattle.qc_search.specs.Earned.{IsEarnedBehind, IsMetEnd, IsSolved, TreeNode, branchings_in, node_at, part_nodes, solved_end, tree_nodes}
+use Rattle.qc_search.specs.Earned.{IsEarnedBehind, IsKnownEnd, IsSolved, TreeNode, branchings_in, node_at, part_nodes, solved_end, tree_nodes}
+use Rattle.qc_search.specs.Run.{IsFirst, best_end}
+use Rattle.qc_starts.specs.Tight.{IsTight}
 
 -- the progress before the first line
 abbrev pub begun : (limit : ℕ) → List Slot → SmallVec ℕ → Progress
@@ -45,10 +48,17 @@ value_at home node = sign_value with_berths (seen home node.way) node.decisions 
 abbrev pub value_in : InstanceView → List TreeNode → Bound
 value_in home nodes = least_bound (map (value_at home) nodes)
 
--- the incumbent is the schedule of one of these nodes, with this end
-pub record IsKept (home : InstanceView) (now : Progress) (nodes : List TreeNode) (end : ℕ) : Type 0 where
+-- the node is one of these and ends before the schedule that the search began with, or it is that of this schedule
+abbrev pub IsFrom : InstanceView → Option (List Slot) → Progress → List TreeNode → ℕ → TreeNode → Type 0
+IsFrom home first now nodes end node =
+    (Contains nodes node × (¬ IsAtMost (best_end home first) (Least end)))
+    ⊎ (first ≡ Some (seen_schedule home now.incumbent now.way))
+
+-- the incumbent is the schedule of one of these nodes or the one that the search began with, with this end
+pub record IsKept (home : InstanceView) (first : Option (List Slot)) (now : Progress) (nodes : List TreeNode) (end : ℕ)
+    : Type 0 where
   pub node : TreeNode
-  pub stands : Contains nodes node
+  pub from : IsFrom home first now nodes end node
   pub begins : List ℕ
   pub fits : Fits (seen home node.way) node.decisions
   pub solved : IsSolved home node begins
@@ -57,21 +67,22 @@ pub record IsKept (home : InstanceView) (now : Progress) (nodes : List TreeNode)
   pub way : node.way ≡ now.way
   pub is : now.incumbent ≡ schedule_with (seen home node.way) node.decisions begins
 
--- this is what the nodes come to
-pub record IsProgress (home : InstanceView) (now : Progress) (nodes : List TreeNode) : Type 0 where
+-- this is what the nodes come to, behind the schedule that the search began with
+pub record IsProgress (home : InstanceView) (first : Option (List Slot)) (now : Progress) (nodes : List TreeNode)
+    : Type 0 where
   pub few : now.branched ≤ now.limit
   pub branched : now.branched ≡ branchings_in nodes
   pub bound : now.bound ≡ value_in home nodes
-  pub met : IsMetEnd home nodes now.incumbent_end
-  pub best : (end : ℕ) → now.incumbent_end ≡ Least end → IsKept home now nodes end
+  pub known : IsKnownEnd home (best_end home first) nodes now.incumbent_end
+  pub best : (end : ℕ) → now.incumbent_end ≡ Least end → IsKept home first now nodes end
   -- no leaf shows an end before that of the incumbent while branchings are left
   pub late : now.branched < now.limit → IsAtMost now.incumbent_end now.bound
 
 -- each node is earned behind those before it
-abbrev pub AreEarned : InstanceView → ℕ → List TreeNode → List TreeNode → Type 0
-AreEarned home most before [] = Unit {0}
-AreEarned home most before (node ∷ nodes) =
-    IsEarnedBehind home most before node × AreEarned home most (before ++ node ∷ []) nodes
+abbrev pub AreEarned : InstanceView → ℕ → Bound → List TreeNode → List TreeNode → Type 0
+AreEarned home most first before [] = Unit {0}
+AreEarned home most first before (node ∷ nodes) =
+    IsEarnedBehind home most first before node × AreEarned home most first (before ++ node ∷ []) nodes
 
 -- a value is an end that a schedule may have
 abbrev pub IsSoon : Bound → Type 0
@@ -91,17 +102,19 @@ pub record IsStep
   pub holds : Holds with_berths inst ds sign
   pub along : IsAlong inst old new
   pub earned :
-      (home : InstanceView) (before : List TreeNode) → seen home way ≡ inst → IsProgress home old before
-      → IsEarnedBehind home old.limit before (node_at way ds sign)
-      × IsProgress home new (before ++ node_at way ds sign ∷ [])
+      (home : InstanceView) (first : Option (List Slot)) (before : List TreeNode) → seen home way ≡ inst
+      → IsProgress home first old before
+      → IsEarnedBehind home old.limit (best_end home first) before (node_at way ds sign)
+      × IsProgress home first new (before ++ node_at way ds sign ∷ [])
 
 -- nodes of a part lead from one progress to another, and each is earned
 pub record Comes (inst : InstanceView) (way : Direction) (nodes : List Node) (old new : Progress) : Type 0 where
   pub along : IsAlong inst old new
   pub earned :
-      (home : InstanceView) (before : List TreeNode) → seen home way ≡ inst → IsProgress home old before
-      → AreEarned home old.limit before (part_nodes way nodes)
-      × IsProgress home new (before ++ part_nodes way nodes)
+      (home : InstanceView) (first : Option (List Slot)) (before : List TreeNode) → seen home way ≡ inst
+      → IsProgress home first old before
+      → AreEarned home old.limit (best_end home first) before (part_nodes way nodes)
+      × IsProgress home first new (before ++ part_nodes way nodes)
 
 -- a text and the lines of nodes were written, or a front part of them: of the nodes that were due these came and leave
 -- those others. Where the lines were cut, whatever was still due stands as given up, and nothing is left.
@@ -112,19 +125,20 @@ pub record WritesNodes
   pub leads : Leads with_berths inst due nodes left
   pub writes : Writes before after (front ++ part_text nodes) result
   pub few :
-      (home : InstanceView) (first : List TreeNode) → seen home way ≡ inst → IsProgress home old first
-      → branchings_in (first ++ part_nodes way nodes) ≤ old.limit
+      (home : InstanceView) (first : Option (List Slot)) (earlier : List TreeNode) → seen home way ≡ inst
+      → IsProgress home first old earlier → branchings_in (earlier ++ part_nodes way nodes) ≤ old.limit
   pub comes : OnOk result (Comes inst way nodes old new)
 
 -- a tree was written, or a front part of its text; where it is whole, each of its nodes is earned
 pub record WritesTree
-    (before after : View) (home : InstanceView) (old new : Progress) (result : Result ⊤ WriteFault) : Type 0 where
+    (before after : View) (home : InstanceView) (first : Option (List Slot)) (old new : Progress)
+    (result : Result ⊤ WriteFault) : Type 0 where
   pub tree : Tree
   pub version : tree.version ≡ with_berths
   pub is_tree : IsTree home tree
   pub writes : Writes before after (tree_text home tree) result
-  pub earned : OnOk result (AreEarned home old.limit [] (tree_nodes tree))
-  pub progress : OnOk result (IsProgress home new (tree_nodes tree))
+  pub earned : OnOk result (AreEarned home old.limit (best_end home first) [] (tree_nodes tree))
+  pub progress : OnOk result (IsProgress home first new (tree_nodes tree))
   pub limit : OnOk result (new.limit ≡ old.limit)
 
 -- the answer of a call that writes, without its value
@@ -157,7 +171,7 @@ pub record IsTaken
   pub complete : IsComplete inst ds
   pub in_reach : IsInReach inst ds
   pub least : AreLeast inst ds begins
-  pub sooner : IsAtMost (Least (last_end inst.tasks begins)) old.incumbent_end
+  pub sooner : Improves (last_end inst.tasks begins) old.incumbent_end
   pub soon : last_end inst.tasks begins ≤ most_start
   pub is : new ≡ record old {
     incumbent_end = Least (last_end inst.tasks begins);
@@ -166,8 +180,48 @@ pub record IsTaken
     since_incumbent = 0;
   }
 
+-- the number of a bound; none of Never
+abbrev pub bound_end : Bound → Option ℕ
+bound_end Never = None
+bound_end (Least end) = Some end
+
 -- the best schedule as it is answered: turned back where it was met in the down part
 abbrev pub shown_best : ℕ → Bound → Direction → List Slot → Option (List Slot)
 shown_best cranes Never way best = None
 shown_best cranes (Least end) Up best = Some best
 shown_best cranes (Least end) Down best = Some (map (flipped cranes) best)
+
+-- the starts of a schedule were made the least ones of a node that it agrees with, and it ends then
+pub record IsTightened (inst : InstanceView) (old new : List Slot) (end : ℕ) : Type 0 where
+  pub decisions : List Decision
+  pub agrees : Agrees inst decisions old
+  pub fits : Fits inst decisions
+  pub complete : IsComplete inst decisions
+  pub in_reach : IsInReach inst decisions
+  pub begins : List ℕ
+  pub least : AreLeast inst decisions begins
+  pub is : new ≡ schedule_with inst decisions begins
+  pub ends : end ≡ last_end inst.tasks begins
+  pub soon : end ≤ most_start
+
+-- the progress before the first line where a schedule is given: its tight form is the incumbent
+pub record IsBegunWith (home : InstanceView) (given : List Slot) (limit : ℕ) (path : SmallVec ℕ) (now : Progress)
+    : Type 0 where
+  pub way : Direction
+  pub direction : IsDirection home given way
+  pub end : ℕ
+  pub tightened : IsTightened (seen home way) (seen_schedule home given way) now.incumbent end
+  pub is : now ≡ record (begun limit now.incumbent path) { incumbent_end = Least end; way = way }
+
+-- the progress before the first line, which is that of no nodes behind the schedule with which the search begins
+pub record IsBegun (home : InstanceView) (given : Option (List Slot)) (limit : ℕ) (now : Progress) : Type 0 where
+  pub first : Option (List Slot)
+  pub begins : IsFirst home given first
+  pub tight : IfSome first (IsTight home)
+  pub no_later : IfSome given (λ sched. IsAtMost (best_end home first) (Least (ends home sched)))
+  pub progress : IsProgress home first now []
+  pub known : now.incumbent_end ≡ best_end home first
+  pub limit_is : now.limit ≡ limit
+  pub bound : now.bound ≡ Never
+  pub count : length now.incumbent ≡ length home.tasks
+  pub room : HasRoom most_tasks now.path

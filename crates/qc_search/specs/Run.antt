@@ -1,56 +1,47 @@
--- public: what a search comes to: a tree that is earned, the best schedule that it met, and how both stand to each other.
-use Rattle.std.specs.Prelude.{◌≡◌, ◌≢◌, ℕ, ◌+◌, ◌*◌, ◌^◌, ◌≤◌, max, nat_le, if◌then◌else◌, List, ◌++◌, length, map, Option, None, Some, IfSome, MatchOption, Contains}
+-- public: what a search comes to: a tree that is earned, the best schedule that it knows, and how both stand to each other.
+use Rattle.std.specs.Prelude.{◌≡◌, ◌≢◌, ℕ, ◌+◌, ◌*◌, ◌^◌, ◌≤◌, ◌⊎◌, max, nat_le, if◌then◌else◌, List, length, Option, None, Some, IfSome, IsSomeAnd, MatchOption, Contains, option_map}
 use Rattle.std.specs.Io.KnownBytes.{append_known}
 use Rattle.qc_io.specs.Outside.{GrewByPart}
 use Rattle.qc_num.specs.declared.bound.Bound.{Bound}
 use Rattle.qc_num.specs.declared.bound.Bound.TheVariants.{Least, Never}
-use Rattle.qc_model.specs.declared.decision.Decision.{Decision}
-use Rattle.qc_model.specs.declared.decision.Decision.TheVariants.{Assign, Order}
-use Rattle.qc_model.specs.declared.direction.Direction.{Direction}
-use Rattle.qc_model.specs.declared.pair.Pair.{Pair}
+use Rattle.qc_num.specs.Bounds.{IsAtMost}
 use Rattle.qc_model.specs.declared.schedule.Slot.{Slot}
 use Rattle.qc_model.specs.Instance.{InstanceView}
-use Rattle.qc_model.specs.Judge.{Goes, IsJudgeable}
-use Rattle.qc_model.specs.Leaves.{task_numbers}
-use Rattle.qc_model.specs.Nodes.{AreLeast, schedule_with}
+use Rattle.qc_model.specs.Judge.{IsJudgeable}
+use Rattle.qc_model.specs.Nodes.{schedule_with}
 use Rattle.qc_model.specs.Numbers.{most_start}
-use Rattle.qc_model.specs.Rules.{crane_of, end_of, ends, start_of, starts}
+use Rattle.qc_model.specs.Rules.{ends}
 use Rattle.qc_model.specs.Seen.{seen, seen_schedule}
+use Rattle.qc_starts.specs.Tight.{IsTight, IsTightForm}
 use Rattle.qc_tree.specs.Trees.{NoneEarlier, Tree, IsTree, tree_branchings, tree_text, tree_value}
 use Rattle.qc_search.specs.declared.done.Kind.{Kind}
 use Rattle.qc_search.specs.declared.done.Kind.TheVariants.{Budget, Infeasible, Optimal}
-use Rattle.qc_search.specs.Earned.{TreeNode, IsEarned, IsMetEnd, IsSolved, solved_end, tree_nodes}
+use Rattle.qc_search.specs.Earned.{TreeNode, IsEarned, IsKnownEnd, IsSolved, solved_end, tree_nodes}
 
--- the two tasks of an apart pair in the order that the schedule has
-abbrev pub order_in : InstanceView → List Slot → Pair → Decision
-order_in inst sched pair =
-    if nat_le (end_of inst sched pair.first) (start_of sched pair.second)
-    then Order pair.first pair.second
-    else Order pair.second pair.first
+-- the end of a schedule, if one is given; else Never
+abbrev pub best_end : InstanceView → Option (List Slot) → Bound
+best_end inst None = Never
+best_end inst (Some sched) = Least (ends inst sched)
 
--- what a schedule decides: each task's crane, and the order of each apart pair
-abbrev pub decided_by : InstanceView → List Slot → List Decision
-decided_by inst sched =
-    map (λ j. Assign j (crane_of sched j)) (task_numbers inst) ++ map (order_in inst sched) inst.apart
+-- the schedule is the one that the search began with, and no complete node of the tree ends before it
+pub record IsFirstBest (inst : InstanceView) (first : Option (List Slot)) (tree : Tree) (sched : List Slot) : Type 0 where
+  pub is : first ≡ Some sched
+  pub earliest : IsKnownEnd inst (best_end inst first) (tree_nodes tree) (Least (ends inst sched))
 
--- the schedule is semi-active: it goes one way, and no task of it could start earlier with the same cranes, the same order
--- of apart tasks and the same way
-pub record IsTight (inst : InstanceView) (sched : List Slot) : Type 0 where
-  pub way : Direction
-  pub goes : Goes inst sched way
-  pub least :
-      AreLeast (seen inst way) (decided_by (seen inst way) (seen_schedule inst sched way))
-      (starts (seen_schedule inst sched way))
-
--- the schedule has the least starts of a complete node of the tree, and ends as early as any such node; one of the
--- down part is turned back by the mirror
-pub record IsMetBest (inst : InstanceView) (tree : Tree) (sched : List Slot) : Type 0 where
+-- the schedule has the least starts of a complete node of the tree, which ends before the one that the search began with,
+-- and as early as any such node; one of the down part is turned back by the mirror
+pub record IsMetBest (inst : InstanceView) (first : Option (List Slot)) (tree : Tree) (sched : List Slot) : Type 0 where
   pub node : TreeNode
   pub stands : Contains (tree_nodes tree) node
   pub begins : List ℕ
   pub solved : IsSolved inst node begins
-  pub earliest : IsMetEnd inst (tree_nodes tree) (Least (solved_end inst node begins))
+  pub sooner : ¬ IsAtMost (best_end inst first) (Least (solved_end inst node begins))
+  pub earliest : IsKnownEnd inst (best_end inst first) (tree_nodes tree) (Least (solved_end inst node begins))
   pub is : sched ≡ seen_schedule inst (schedule_with (seen inst node.way) node.decisions begins) node.way
+
+-- the schedule is a best one that the search knew
+abbrev pub IsBestKnown : InstanceView → Option (List Slot) → Tree → List Slot → Type 0
+IsBestKnown inst first tree sched = IsFirstBest inst first tree sched ⊎ IsMetBest inst first tree sched
 
 -- how a tree's value, the lower bound, and the end of the incumbent stand to each other
 abbrev pub outcome : Bound → Bound → Kind
@@ -58,14 +49,17 @@ outcome Never met = Infeasible
 outcome (Least value) Never = Budget
 outcome (Least value) (Least end) = if nat_le end value then Optimal else Budget
 
--- a tree that is earned with so many branchings, the best schedule that it meets, if it meets any, and its outcome
-pub record IsRun (inst : InstanceView) (most : ℕ) (tree : Tree) (best : Option (List Slot)) (kind : Kind) : Type 0 where
+-- a tree that is earned with so many branchings by a search that begins with this tight schedule, or with none, the best
+-- schedule that is known behind it, if any is, and its outcome
+pub record IsRun (inst : InstanceView) (most : ℕ) (first : Option (List Slot)) (tree : Tree) (best : Option (List Slot))
+    (kind : Kind) : Type 0 where
+  pub tight : IfSome first (IsTight inst)
   pub is_tree : IsTree inst tree
-  pub earned : IsEarned inst most tree
-  pub met : Bound
-  pub ends : IsMetEnd inst (tree_nodes tree) met
-  pub is_best : MatchOption best (met ≡ Never) (IsMetBest inst tree)
-  pub is_kind : kind ≡ outcome (tree_value inst tree) met
+  pub earned : IsEarned inst most (best_end inst first) tree
+  pub known : Bound
+  pub ends : IsKnownEnd inst (best_end inst first) (tree_nodes tree) known
+  pub is_best : MatchOption best (known ≡ Never) (IsBestKnown inst first tree)
+  pub is_kind : kind ≡ outcome (tree_value inst tree) known
   -- under Budget all branchings are spent
   pub spent : kind ≡ Budget → tree_branchings tree ≡ most
 
@@ -83,15 +77,26 @@ pub record DoneView : Type 0 where
   pub kind : Kind
   pub bound : Bound
   pub branched : ℕ
+  -- when the schedule that it began with ends; none where it was given none
+  pub given : Option ℕ
   pub best : Option (List Slot)
 
--- the end of a schedule, if one is given; else Never
-abbrev pub best_end : InstanceView → Option (List Slot) → Bound
-best_end inst None = Never
-best_end inst (Some sched) = Least (ends inst sched)
+-- the schedule with which a search begins: the tight form of the one that it is given; none where it is given none
+abbrev pub IsFirst : InstanceView → Option (List Slot) → Option (List Slot) → Type 0
+IsFirst inst None first = first ≡ None
+IsFirst inst (Some given) first = IsSomeAnd first (IsTightForm inst given)
+
+-- what a search tells of a schedule that it was given: when its tight form ends, which is no later; and its best schedule
+-- ends no later than that
+pub record IsGivenTold (inst : InstanceView) (given : List Slot) (done : DoneView) : Type 0 where
+  pub first : List Slot
+  pub form : IsTightForm inst given first
+  pub told : done.given ≡ Some (ends inst first)
+  pub no_later : ends inst first ≤ ends inst given
+  pub best : IsAtMost (best_end inst done.best) (Least (ends inst first))
 
 -- what holds of each search that comes to its end, whether the sink tells its bytes or not
-pub record IsSound (search : SearchView) (done : DoneView) : Type 0 where
+pub record IsSound (search : SearchView) (given : Option (List Slot)) (done : DoneView) : Type 0 where
   -- no schedule that goes one way ends before the bound; where it is Never, there is none
   pub none_earlier : NoneEarlier search.inst done.bound
   -- the best schedule can be judged, and is semi-active
@@ -103,13 +108,20 @@ pub record IsSound (search : SearchView) (done : DoneView) : Type 0 where
   pub kind : done.kind ≡ outcome done.bound (best_end search.inst done.best)
   -- under Budget exactly as many branchings are written as may be
   pub spent : done.kind ≡ Budget → done.branched ≡ search.nodes
+  -- a given schedule is told, and the best one is no worse
+  pub begins : MatchOption given (done.given ≡ None) (λ sched. IsGivenTold search.inst sched done)
   -- with so many branchings the search comes to a decision
   pub decides : branching_limit search.inst ≤ search.nodes → done.kind ≢ Budget
 
--- the bytes grew by the text of a tree that is a run, and what is told is told of that tree
-pub record IsSearched (search : SearchView) (before after : Option (List ℕ)) (done : DoneView) : Type 0 where
+-- the bytes grew by the text of a tree that is a run which began with the given schedule, and what is told is told of
+-- that tree
+pub record IsSearched (search : SearchView) (given : Option (List Slot)) (before after : Option (List ℕ)) (done : DoneView)
+    : Type 0 where
+  pub first : Option (List Slot)
+  pub begins : IsFirst search.inst given first
+  pub told : done.given ≡ option_map (ends search.inst) first
   pub tree : Tree
-  pub run : IsRun search.inst search.nodes tree done.best done.kind
+  pub run : IsRun search.inst search.nodes first tree done.best done.kind
   pub bound : done.bound ≡ tree_value search.inst tree
   pub branched : done.branched ≡ tree_branchings tree
   pub written : after ≡ append_known before (tree_text search.inst tree)

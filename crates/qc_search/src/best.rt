@@ -1,4 +1,4 @@
-//! The incumbent: the best schedule that was met.
+//! The incumbent: the best schedule that is known.
 ghost use Rattle.std.specs.Prelude.{◌≡◌, ◌↔◌, ◌<◌, ◌≤◌, ◌⊎◌, ℕ, List, All, IsTrue, length};
 ghost use Rattle.qc_model.specs.Nodes.{AreLeast, HasStarts, IsNodeEnd, schedule_with};
 ghost use Rattle.qc_model.specs.Numbers.{most_start};
@@ -21,7 +21,7 @@ fn improves(end: Tick, incumbent_end: Bound) -> bool
 }
 
 /// Writes the schedule of a node with a solution: each task with its crane and earliest start.
-fn keep(starts: &Starts, incumbent: &mut Schedule)
+pub(crate) fn keep(starts: &Starts, incumbent: &mut Schedule)
     requires starts { HasStarts starts.now.inst starts.now.decisions }
     requires count { length incumbent.old ≡ length starts.now.inst.tasks }
     ensures { (begins : List ℕ) → AreLeast starts.now.inst starts.now.decisions begins

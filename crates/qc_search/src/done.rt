@@ -4,7 +4,7 @@ ghost use Rattle.qc_search.specs.Run.{DoneView};
 ghost use Rattle.std.specs.Prelude.{◌≡◌, option_map};
 
 use qc_model::Schedule;
-use qc_num::Bound;
+use qc_num::{Bound, Tick};
 use std::marker::Model;
 
 /// How a search came out.
@@ -25,6 +25,7 @@ pub struct Done {
     pub(crate) kind: Kind,
     pub(crate) bound: Bound,
     pub(crate) branched: u32,
+    pub(crate) given: Option<Tick>,
     pub(crate) best: Option<Schedule>,
 }
 
@@ -35,6 +36,7 @@ impl Model for Done {
       kind = done.kind;
       bound = done.bound;
       branched = done.branched;
+      given = done.given;
       best = done.best;
     } };
 }
@@ -61,7 +63,16 @@ impl Done {
         self.branched
     }
 
-    /// The best schedule that was met; `None` exactly where none was.
+    /// When the schedule that the search began with ends, in ticks: the tight form of the given one; `None` exactly where
+    /// none was given.
+    pub fn given(&self) -> Option<Tick>
+        ensures { result ≡ self.now.given }
+    {
+        self.given
+    }
+
+    /// The best schedule that is known: one that was met, or the one that the search began with where none ends before
+    /// it; `None` exactly where there is neither.
     pub fn best(&self) -> Option<&Schedule>
         ensures { option_map (λ sched. sched.now) result ≡ self.now.best }
     {

@@ -1,9 +1,10 @@
 //! How a search came out.
 ghost use Rattle.std.specs.Prelude.{◌≡◌};
+ghost use Rattle.qc_search.specs.Progress.{bound_end};
 ghost use Rattle.qc_search.specs.Run.{outcome};
 
 use crate::done::Kind;
-use qc_num::Bound;
+use qc_num::{Bound, Tick};
 
 /// Compares the lower bound with the end of the incumbent.
 pub(crate) fn outcome(bound: Bound, incumbent_end: Bound) -> Kind
@@ -19,5 +20,15 @@ pub(crate) fn outcome(bound: Bound, incumbent_end: Bound) -> Kind
                 Kind::Budget
             }
         }
+    }
+}
+
+/// The end of an incumbent, if there is one.
+pub(crate) fn end_of(incumbent_end: Bound) -> Option<Tick>
+    ensures { result ≡ bound_end incumbent_end }
+{
+    match incumbent_end {
+        Bound::Never => None,
+        Bound::Least(end) => Some(end),
     }
 }

@@ -18,9 +18,9 @@ pub(crate) struct Progress {
     pub(crate) bound: Bound,
     /// The end of the incumbent; `Never` where there is none yet.
     pub(crate) incumbent_end: Bound,
-    /// The part in which the incumbent was met.
+    /// The part in which the incumbent was met, or to which a given one belongs.
     pub(crate) way: Direction,
-    /// The incumbent: the best schedule that was met, as it is seen in that part.
+    /// The incumbent: the best schedule that is known, as it is seen in that part.
     pub(crate) incumbent: Schedule,
     /// Room for the tasks of a leaf.
     pub(crate) path: Path,

@@ -1,21 +1,24 @@
 //! A search of both parts of a tree.
-ghost use Rattle.std.specs.Prelude.{◌≡◌, ◌<◌, ◌≤◌, ℕ, All, OnErr, IfOk};
+ghost use Rattle.std.specs.Prelude.{◌≡◌, ◌<◌, ◌≤◌, ℕ, All, OnErr, IfOk, IfSome, option_map};
 ghost use Rattle.qc_io.specs.Outside.{beside};
 ghost use Rattle.qc_io.specs.Writes.{Counts};
+ghost use Rattle.qc_model.specs.Judge.{IsJudgeable};
 ghost use Rattle.qc_model.specs.Numbers.{most_branchings};
+ghost use Rattle.qc_model.specs.OneWay.{GoesOneWay};
 ghost use Rattle.qc_num.specs.declared.bound.Bound.TheVariants.{Least};
-ghost use Rattle.qc_search.specs.Progress.{shown_best};
+ghost use Rattle.qc_search.specs.Progress.{bound_end, shown_best};
 ghost use Rattle.qc_search.specs.Run.{outcome, SearchView, IsCutOff, IsSearched, IsSound};
 ghost use Rattle.qc_search.specs.Fields.{AreOpened, search_of};
 
 use crate::best::shown_best;
 use crate::done::Done;
-use crate::outcome::outcome;
-use crate::progress::{Progress, first_progress};
+use crate::given::begin;
+use crate::outcome::{end_of, outcome};
+use crate::progress::Progress;
 use crate::tree::write_tree;
 use qc_io::{Sink, WriteFault};
 use qc_model::{Instance, MOST_TASKS, Schedule, mirror};
-use qc_num::{OutOfMemory, Path};
+use qc_num::{Bound, OutOfMemory, Path};
 use qc_starts::Starts;
 use std::alloc::Global;
 use std::marker::Model;
@@ -40,14 +43,15 @@ impl Model for Search {
     ghost invariant = { AreOpened };
 }
 
-/// What a search came to, for an instance with so many cranes.
-fn told(progress: Progress, cranes: u16) -> Done
+/// What a search came to that began with this end, for an instance with so many cranes.
+fn told(progress: Progress, first: Bound, cranes: u16) -> Done
     requires { (end : ℕ) → progress.incumbent_end ≡ Least end
         → All (λ slot. slot.crane < cranes) progress.incumbent }
     ensures { result ≡ record {
       kind = outcome progress.bound progress.incumbent_end;
       bound = progress.bound;
       branched = progress.branched;
+      given = bound_end first;
       best = shown_best cranes progress.incumbent_end progress.way progress.incumbent;
     } }
 {
@@ -55,6 +59,7 @@ fn told(progress: Progress, cranes: u16) -> Done
         kind: outcome(progress.bound, progress.incumbent_end),
         bound: progress.bound,
         branched: progress.branched,
+        given: end_of(first),
         best: shown_best(progress, cranes),
     }
 }
@@ -80,13 +85,16 @@ impl Search {
     }
 
     /// Searches, and writes the tree to the sink, each line when its node is met and by a `put_all` of
-    /// its own. After `WriteFault` a part of a tree's text was written, from its front.
-    pub fn run<K: Sink>(self, sink: &mut K) -> Result<Done, WriteFault>
+    /// its own. Where a schedule that goes one way is given, its tight form is the first incumbent: no answer ends
+    /// later. After `WriteFault` a part of a tree's text was written, from its front.
+    pub fn run<K: Sink>(self, given: Option<&Schedule>, sink: &mut K) -> Result<Done, WriteFault>
+        requires judgeable { IfSome given (λ sched. IsJudgeable self.inst sched.now) }
+        requires goes { IfSome given (λ sched. GoesOneWay self.inst sched.now) }
         ensures searched { IfOk result
-            (IsSearched self (K.view sink.old).written (K.view sink.new).written) }
+            (IsSearched self (option_map (λ sched. sched.now) given.entry) (K.view sink.old).written (K.view sink.new).written) }
 
         // What holds whether the sink tells its bytes or not.
-        ensures sound { IfOk result (IsSound self) }
+        ensures sound { IfOk result (IsSound self (option_map (λ sched. sched.now) given.entry)) }
 
         ensures cut { OnErr result
             (IsCutOff self.inst (K.view sink.old).written (K.view sink.new).written) }
@@ -101,8 +109,9 @@ impl Search {
             limit,
         } = self;
         let cranes = up.instance().crane_count();
-        let mut progress = first_progress(incumbent, path, limit);
+        let mut progress = begin(given, &mut up, &mut down, incumbent, path, limit);
+        let first = progress.incumbent_end;
         write_tree(&mut up, &mut down, &mut progress, sink)?;
-        Ok(told(progress, cranes))
+        Ok(told(progress, first, cranes))
     }
 }

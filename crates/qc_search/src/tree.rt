@@ -1,6 +1,7 @@
 //! The lines of a whole tree.
-ghost use Rattle.std.specs.Prelude.{◌≡◌, ◌≤◌, [], ◌∷◌, length};
+ghost use Rattle.std.specs.Prelude.{◌≡◌, ◌≤◌, List, Option, [], ◌∷◌, length};
 ghost use Rattle.qc_io.specs.Writes.{Writes};
+ghost use Rattle.qc_model.specs.declared.schedule.Slot.{Slot};
 ghost use Rattle.qc_model.specs.Numbers.{most_branchings, most_tasks};
 ghost use Rattle.qc_model.specs.OneWay.{mirror};
 ghost use Rattle.qc_num.specs.Paths.{HasRoom};
@@ -71,10 +72,11 @@ pub(crate) fn write_tree<K: Sink>(
     requires down { down.old.decisions ≡ [] }
     requires count { length progress.old.incumbent ≡ length up.old.inst.tasks }
     requires room { HasRoom most_tasks progress.old.path }
-    requires begun { IsProgress up.old.inst progress.old [] }
+    requires begun { (first : Option (List Slot)) × IsProgress up.old.inst first progress.old [] }
     requires few { progress.old.limit ≤ most_branchings }
     requires soon { IsSoon progress.old.bound }
-    ensures { WritesTree (K.view sink.old) (K.view sink.new) up.old.inst progress.old progress.new
+    ensures { (first : Option (List Slot)) → IsProgress up.old.inst first progress.old []
+        → WritesTree (K.view sink.old) (K.view sink.new) up.old.inst first progress.old progress.new
         result }
 {
     write_line(&Line::Title2, &progress.path, sink)?;

@@ -1,6 +1,5 @@
 -- Each move of the list stands once in the sheet.
-use Rattle.std.proofs.Common.{◌≡◌, ℕ, ◌+◌, ◌<◌, ◌≤◌, ◌==◌, ◌&&◌, Bool, true, false, cond, List, [], ◌∷◌, length, get_or, Option, None, Some, refl, ap, subst, ◌∙◌, arith, Contains, IsSome, count_by, position, sum_by}
-use Rattle.std.specs.Prelude.{option_map}
+use Rattle.std.proofs.Common.{◌≡◌, ℕ, ◌+◌, ◌<◌, ◌≤◌, ◌==◌, ◌&&◌, Bool, true, false, cond, List, [], ◌∷◌, length, get_or, Option, None, Some, refl, ap, subst, ◌∙◌, arith, Contains, IsSome, count_by, position, sum_by, option_map}
 use Rattle.std.specs.List.{filter, flat_map, range_with_len, zip, AllByRecursion as Each}
 use Rattle.std.proofs.Math.Bool.{and-false}
 use Rattle.std.proofs.lemmas.Bool.{and_from, eq-eqb, le-ltb, ne_eqb}

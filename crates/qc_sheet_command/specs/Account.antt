@@ -1,7 +1,7 @@
 -- public: the account of the command that prints a work sheet: what its answer says of the files.
 use Rattle.std.specs.Prelude.{◌≡◌, ◌≤◌, Option, Result, Ok, Err, IfErr}
 use Rattle.qc_io.specs.Outside.{Files, View}
-use Rattle.qc_judge_commands.specs.declared.answer.Broken.{Broken}
+use Rattle.qc_run.specs.declared.broken.Broken.{Broken}
 use Rattle.qc_run.specs.declared.refusal.Stop.{Stop}
 use Rattle.qc_run.specs.declared.status.Status.{Status}
 use Rattle.qc_run.specs.Inputs.{Names}

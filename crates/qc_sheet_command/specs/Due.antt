@@ -2,6 +2,7 @@
 use Rattle.std.specs.Prelude.{Result, Ok}
 use Rattle.qc_num.specs.Reading.{◌>>=◌}
 use Rattle.qc_tasks.specs.InstanceOf.{instance_of}
+use Rattle.qc_run.specs.declared.inputs.Input.TheVariants as input
 use Rattle.qc_run.specs.declared.refusal.Refusal.{Refusal}
 use Rattle.qc_run.specs.Due.{Contents, moves_due, schedule_due, ship_due}
 use Rattle.qc_sheet_command.specs.declared.load.Cargo.{Cargo}
@@ -18,5 +19,5 @@ cargo_due contents = do
 abbrev pub load_due : Contents → Result Load Refusal
 load_due contents = do
   cargo ← cargo_due contents
-  sched ← schedule_due cargo.inst contents
+  sched ← schedule_due input.Plan cargo.inst contents
   Ok (record { cargo = cargo; sched = sched })

@@ -12,8 +12,8 @@ use Rattle.qc_tasks.specs.InstanceOf.{instance_of}
 use Rattle.qc_sheet.specs.Kept.{IsWorkable}
 use Rattle.qc_sheet.specs.Order.{AreOrders}
 use Rattle.qc_sheet.specs.SheetText.{WorkView, sheet_text}
-use Rattle.qc_judge_commands.specs.declared.answer.Broken.{Broken}
-use Rattle.qc_judge_commands.specs.Texts.{broken_text}
+use Rattle.qc_run.specs.declared.broken.Broken.{Broken}
+use Rattle.qc_run.specs.Broken.{broken_text}
 use Rattle.qc_run.specs.declared.status.Status.{Status}
 use Rattle.qc_run.specs.declared.status.Status.TheVariants as status
 use Rattle.qc_sheet_command.specs.declared.load.Cargo.{Cargo}

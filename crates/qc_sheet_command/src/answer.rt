@@ -1,7 +1,7 @@
 //! What a plan comes to whose work sheet is asked for.
 
 use crate::load::Load;
-use qc_judge_commands::Broken;
+use qc_run::Broken;
 use qc_sheet::Sheet;
 
 /// A feasible plan, whose work sheet is to be printed.

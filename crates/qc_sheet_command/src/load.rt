@@ -7,7 +7,7 @@ ghost use Rattle.qc_sheet_command.specs.Listed.{IsCargo, IsLoad};
 
 use qc_io::Shelf;
 use qc_model::{Instance, Schedule};
-use qc_run::{Inputs, Stop, read_moves, read_schedule, read_ship_file};
+use qc_run::{Input, Inputs, Stop, read_moves, read_schedule, read_ship_file};
 use qc_ship::Ship;
 use qc_stow::Moves;
 use qc_tasks::tasks_of;
@@ -52,6 +52,6 @@ pub fn read_load<S: Shelf>(alloc: Global, inputs: &Inputs<'_>, shelf: &mut S) ->
     ensures load { IfOk result IsLoad }
 {
     let cargo = read_cargo(alloc, inputs, shelf)?;
-    let sched = read_schedule(alloc, inputs, &cargo.inst, shelf)?;
+    let sched = read_schedule(alloc, inputs, Input::Plan, &cargo.inst, shelf)?;
     Ok(Load { cargo, sched })
 }

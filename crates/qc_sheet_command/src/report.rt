@@ -6,8 +6,7 @@ ghost use Rattle.qc_sheet_command.specs.Listed.{CanBeListed, TellsSheet, listing
 
 use crate::answer::{Listed, Listing};
 use qc_io::{Sink, WriteFault};
-use qc_judge_commands::report_broken;
-use qc_run::Status;
+use qc_run::{Status, report_broken};
 use qc_sheet::write_sheet;
 
 /// Prints a work sheet.

@@ -10,9 +10,8 @@ use crate::load::read_load;
 use crate::report::report;
 use crate::rules::broken_rule;
 use qc_io::{Shelf, Sink};
-use qc_judge_commands::broken_of;
 use qc_num::OutOfMemory;
-use qc_run::{Inputs, Status, Stop, report_stop};
+use qc_run::{Inputs, Status, Stop, broken_of, report_stop};
 use qc_sheet::Sheet;
 use std::alloc::Global;
 

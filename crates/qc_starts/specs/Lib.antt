@@ -1,5 +1,6 @@
 pub mod Arcs
 pub mod Seen
+pub mod Tight
 pub mod Fields
 pub mod Found
 pub mod Network

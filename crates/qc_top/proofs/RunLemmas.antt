@@ -1,13 +1,21 @@
 -- What follows from a run's account of itself.
-use Rattle.std.proofs.Common.{◌≡◌, ◌≢◌, ◌≤◌, ◌⊎◌, ℕ, List, None, Some, Result, Err, arith, refl, sym, ap, ◌∙◌, subst, inl, inr, codes}
-use Rattle.qc_io.specs.Outside.{View, beside}
+use Rattle.std.proofs.Common.{◌≡◌, ◌≢◌, ◌≤◌, ◌⊎◌, Bool, true, false, cond, not, bytes_eq, ◌||◌, IfSome, ℕ, List, Option, None, Some, Result, Err, arith, refl, sym, ap, ◌∙◌, subst, inl, inr, codes}
+use Rattle.std.proofs.lemmas.Bool.{and_parts, false_from_ne_true, false≢true, or_left, or_right}
+use Rattle.std.proofs.lemmas.Map.Text.{is_eq-slice_cmp}
+use Rattle.std.specs.Cmp.Lexicographic.{nat_list_cmp_total}
+use Rattle.std.specs.FinMap.{get, get-insert, insert}
+use Rattle.qc_gantt.specs.PlanText.{plan_text}
+use Rattle.qc_io.specs.Outside.{Files, View, beside}
 use Rattle.qc_judge_commands.specs.Account.{IsPlanCheckRun, IsShowRun, IsTasksRun, IsTreeRun}
 use Rattle.qc_judge_commands.specs.Promises.{PlanCheckPromises, ShowPromises, TasksPromises, TreePromises}
 use Rattle.qc_judge_commands.proofs.JudgedLemmas.{plan_check_promises, show_promises}
 use Rattle.qc_judge_commands.proofs.TasksLemmas.{tasks_promises, tree_promises}
-use Rattle.qc_plan_command.specs.Account.{IsPlanRun}
+use Rattle.qc_model.specs.declared.schedule.Slot.{Slot}
+use Rattle.qc_model.specs.Instance.{InstanceView}
+use Rattle.qc_plan_command.specs.Account.{IsLeft, IsPlanRun, both_files, tree_files}
 use Rattle.qc_plan_command.specs.Asked.{Planning, plan_of}
 use Rattle.qc_plan_command.specs.Promises.{PlanPromises}
+use Rattle.qc_plan_command.specs.Stored.{with_plan}
 use Rattle.qc_plan_command.proofs.PlanLemmas.{plan_promises}
 use Rattle.qc_run.specs.declared.refusal.Refusal.{Refusal}
 use Rattle.qc_run.specs.declared.refusal.Refusal.TheVariants as refusal
@@ -23,8 +31,10 @@ use Rattle.qc_run.specs.Texts.{stop_status}
 use Rattle.qc_run.specs.Told.{EndsWith}
 use Rattle.qc_trial.specs.Account.{IsTrialRun, TrialPromises}
 use Rattle.qc_trial.proofs.MadeLemmas.{trial_promises}
+use Rattle.qc_tree.specs.Trees.{tree_text}
+use Rattle.qc_words.proofs.LimitLemmas.{asked_kept}
 use Rattle.qc_words.proofs.PlainWords.{canonical_asked}
-use Rattle.qc_words.specs.Asked.{Asked, plan, check, tasks, show, make, usage}
+use Rattle.qc_words.specs.Asked.{Asked, KeepsLimits, are_different, check, is_own, make, plan, show, tasks, usage}
 use Rattle.qc_words.specs.Words.{Asks}
 use Rattle.qc_top.specs.Account.{IsRun, IsRunOf, IsStopped, IsUsage, check_names, show_names, tasks_names}
 use Rattle.qc_top.specs.Promises.{IsPlan, Promises}
@@ -87,13 +97,58 @@ module _ (before after pb pa : View) (ended : Status) (h : IsStopped stop.OutOfM
 -- beside the sink nothing changes, whatever is served
 pub out_kept : (asked : Asked) (before after pb pa : View) (ended : Status) → IsRunOf asked before after pb pa ended
     → (beside pa ≡ beside pb) × (pb.faults ≤ pa.faults)
-out_kept (plan s w p t n) before after pb pa ended h = (h.reports.beside_stays, h.reports.never_falls)
+out_kept (plan s w p t n o) before after pb pa ended h = (h.reports.beside_stays, h.reports.never_falls)
 out_kept (check s w None t) before after pb pa ended h = (h.reports.beside_stays, h.reports.never_falls)
 out_kept (check s w (Some p) t) before after pb pa ended h = (h.reports.beside_stays, h.reports.never_falls)
 out_kept (tasks s w) before after pb pa ended h = (h.reports.beside_stays, h.reports.never_falls)
 out_kept (show s w p) before after pb pa ended h = (h.reports.beside_stays, h.reports.never_falls)
 out_kept (make n k c) before after pb pa ended h = (h.run.reports.beside_stays, h.run.reports.never_falls)
 out_kept usage before after pb pa ended h = (h.reports.beside_stays, h.reports.never_falls)
+
+-- ---- the planner's own plan
+
+-- a test of four that fails
+third_fails : (a b c d : Bool) → not (a || b || c || d) ≡ true → c ≡ false
+third_fails a b c d h =
+    false_from_ne_true c (λ t. false≢true (sym (ap not (or_left (a || b || c) d (or_right (a || b) c t))) ∙ h))
+
+fourth_fails : (a b c d : Bool) → not (a || b || c || d) ≡ true → d ≡ false
+fourth_fails a b c d h =
+    false_from_ne_true d (λ t. false≢true (sym (ap not (or_right (a || b || c) d t)) ∙ h))
+
+-- a file of another name is as it was
+get_other : (files : Files) (name bytes other : List ℕ) → bytes_eq other name ≡ false
+    → get (insert files name bytes) other ≡ get files other
+get_other files name bytes other differs =
+    get-insert nat_list_cmp_total files name bytes other
+    ∙ ap (λ (b : Bool). cond b (Some bytes) (get files other)) (is_eq-slice_cmp other name ∙ differs)
+
+module _ (asked : Planning) (o : List ℕ) (no_plan : bytes_eq o asked.plan ≡ false) (no_tree : bytes_eq o asked.tree ≡ false)
+    (held : Files) where
+  plan_other : (mid : Files) (inst : InstanceView) (best : Option (List Slot)) → get mid o ≡ get held o
+      → get (with_plan mid asked.plan inst best) o ≡ get held o
+  plan_other mid inst None same = same
+  plan_other mid inst (Some sched) same = get_other mid asked.plan (plan_text inst sched) o no_plan ∙ same
+
+  now_other : (now : Option Files) (files : Files) → now ≡ Some files → get files o ≡ get held o
+      → IfSome now (λ f. get f o ≡ get held o)
+  now_other now files is same = subst (λ (m : Option Files). IfSome m (λ f. get f o ≡ get held o)) (sym is) same
+
+  left_other : (now : Option Files) → IsLeft asked held now → IfSome now (λ f. get f o ≡ get held o)
+  left_other now (inl is) = now_other now held is refl
+  left_other now (inr left) =
+      let s = left.0 in
+      let tree = get_other held asked.tree (tree_text s.inst s.tree) o no_tree in
+      elim left.1 [
+        | inl is ↦ now_other now (tree_files asked held s) is tree
+        | inr is ↦ now_other now (both_files asked held s) is (plan_other (tree_files asked held s) s.inst s.done.best tree)
+      ]
+
+all_other : (asked : Planning) (o : List ℕ) → bytes_eq o asked.plan ≡ false → bytes_eq o asked.tree ≡ false
+    → (before now : Option Files) → IfSome before (λ held. IsLeft asked held now)
+    → IfSome before (λ held. IfSome now (λ f. get f o ≡ get held o))
+all_other asked o no_plan no_tree None now left = tt
+all_other asked o no_plan no_tree (Some held) now left = left_other asked o no_plan no_tree held now left
 
 -- ---- what follows
 
@@ -105,11 +160,22 @@ module _ (words : List (List ℕ)) (before after pb pa : View) (ended : Status) 
       subst (λ (a : Asked). IsRunOf a before after pb pa ended ⊎ IsStopped stop.OutOfMemory before after pb pa ended)
       (sym run.asks ∙ asks) run.serves
 
-  plans : (s w p t : List ℕ) (n : ℕ) → Asks words (plan s w p t n) → PlanPromises (plan_of s w p t n) before after pb pa ended
-  plans s w p t n asks = plan_promises (plan_of s w p t n) before after pb pa ended (elim (serves (plan s w p t n) asks) [
+  plans : (s w p t : List ℕ) (n : ℕ) (o : Option (List ℕ)) → Asks words (plan s w p t n o)
+      → PlanPromises (plan_of s w p t n o) before after pb pa ended
+  plans s w p t n o asks = plan_promises (plan_of s w p t n o) before after pb pa ended (elim (serves (plan s w p t n o) asks) [
     | inl is ↦ is
-    | inr h ↦ as_plan before after pb pa ended h (plan_of s w p t n)
+    | inr h ↦ as_plan before after pb pa ended h (plan_of s w p t n o)
   ])
+
+  own_stays : (s w p t : List ℕ) (n : ℕ) (o : List ℕ) → Asks words (plan s w p t n (Some o))
+      → IfSome before.files (λ held. IfSome after.files (λ now. get now o ≡ get held o))
+  own_stays s w p t n o asks =
+      let limits = subst KeepsLimits asks (asked_kept words) in
+      let apart = (and_parts (are_different s w p t) (is_own (Some o) s w p t) limits.0).1 in
+      all_other (plan_of s w p t n (Some o)) o
+      (third_fails (bytes_eq o s) (bytes_eq o w) (bytes_eq o p) (bytes_eq o t) apart)
+      (fourth_fails (bytes_eq o s) (bytes_eq o w) (bytes_eq o p) (bytes_eq o t) apart)
+      before.files after.files (plans s w p t n (Some o) asks).plan_stopped
 
   checks_tree : (s w t : List ℕ) → Asks words (check s w None t) → TreePromises (check_names s w None t) before after pb pa ended
   checks_tree s w t asks = tree_promises (check_names s w None t) before after pb pa ended (elim (serves (check s w None t) asks) [
@@ -148,7 +214,7 @@ module _ (words : List (List ℕ)) (before after pb pa : View) (ended : Status) 
   refuses asks = serves usage asks
 
   files_stay : (asked : Asked) → Asks words asked → ¬ IsPlan asked → after.files ≡ before.files
-  files_stay (plan s w p t n) asks never = absurd (never tt)
+  files_stay (plan s w p t n o) asks never = absurd (never tt)
   files_stay (check s w None t) asks never = (checks_tree s w t asks).reads.files_stay
   files_stay (check s w (Some p) t) asks never = (checks_plan s w p t asks).reads.files_stay
   files_stay (tasks s w) asks never = (lists_tasks s w asks).reads.files_stay
@@ -161,7 +227,7 @@ module _ (words : List (List ℕ)) (before after pb pa : View) (ended : Status) 
 
   -- only words that are no command are answered by Usage
   usage_by : (asked : Asked) → Asks words asked → ended ≡ status.Usage → Asks words usage
-  usage_by (plan s w p t n) asks e = absurd ((plans s w p t n asks).no_usage e)
+  usage_by (plan s w p t n o) asks e = absurd ((plans s w p t n o asks).no_usage e)
   usage_by (check s w None t) asks e = absurd ((checks_tree s w t asks).reads.no_usage e)
   usage_by (check s w (Some p) t) asks e = absurd ((checks_plan s w p t asks).reads.no_usage e)
   usage_by (tasks s w) asks e = absurd ((lists_tasks s w asks).reads.no_usage e)
@@ -188,7 +254,7 @@ module _ (words : List (List ℕ)) (before after pb pa : View) (ended : Status) 
   ]
 
   memory_by : (asked : Asked) → Asks words asked → ended ≡ status.OutOfMemory → Prints (codes "OutOfMemory\n") pb.written pa.written
-  memory_by (plan s w p t n) asks e = (plans s w p t n asks).out_of_memory e
+  memory_by (plan s w p t n o) asks e = (plans s w p t n o asks).out_of_memory e
   memory_by (check s w None t) asks e = (checks_tree s w t asks).reads.out_of_memory e
   memory_by (check s w (Some p) t) asks e = (checks_plan s w p t asks).reads.out_of_memory e
   memory_by (tasks s w) asks e = (lists_tasks s w asks).reads.out_of_memory e
@@ -199,6 +265,7 @@ module _ (words : List (List ℕ)) (before after pb pa : View) (ended : Status) 
   pub promises : Promises words before after pb pa ended
   promises = record {
     plans = plans;
+    own_stays = own_stays;
     checks_tree = checks_tree;
     checks_plan = checks_plan;
     lists_tasks = lists_tasks;

@@ -18,13 +18,13 @@ use Rattle.qc_words.specs.Words.{Asks}
 
 -- the files that a check, the tasks and a plan that is shown read
 abbrev pub check_names : (ship stow : List ℕ) → Option (List ℕ) → (tree : List ℕ) → Names
-check_names ship stow name tree = record { ship = Some ship; stow = Some stow; plan = name; tree = Some tree }
+check_names ship stow name tree = record { ship = Some ship; stow = Some stow; plan = name; tree = Some tree; own = None }
 
 abbrev pub tasks_names : (ship stow : List ℕ) → Names
-tasks_names ship stow = record { ship = Some ship; stow = Some stow; plan = None; tree = None }
+tasks_names ship stow = record { ship = Some ship; stow = Some stow; plan = None; tree = None; own = None }
 
 abbrev pub show_names : (ship stow name : List ℕ) → Names
-show_names ship stow name = record { ship = Some ship; stow = Some stow; plan = Some name; tree = None }
+show_names ship stow name = record { ship = Some ship; stow = Some stow; plan = Some name; tree = None; own = None }
 
 -- the run stops before any command is served: nothing is read or written, and this is reported
 pub record IsStopped (why : Stop) (before after out_before out_after : View) (ended : Status) : Type 0 where
@@ -42,7 +42,7 @@ pub record IsMakeRun (number hatches cranes : ℕ) (before after out_before out_
 
 -- what is asked for is served by its command
 abbrev pub IsRunOf : Asked → (before after out_before out_after : View) → Status → Type 0
-IsRunOf (plan s w p t n) = IsPlanRun (plan_of s w p t n)
+IsRunOf (plan s w p t n o) = IsPlanRun (plan_of s w p t n o)
 IsRunOf (check s w None t) = IsTreeRun (check_names s w None t)
 IsRunOf (check s w (Some p) t) = IsPlanCheckRun (check_names s w (Some p) t)
 IsRunOf (tasks s w) = IsTasksRun (tasks_names s w)

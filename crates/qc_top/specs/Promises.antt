@@ -1,6 +1,7 @@
 -- public: what follows from a run's account, said by itself for whoever reads one status: a record a command, and what
 -- holds whatever is asked for.
-use Rattle.std.specs.Prelude.{◌≡◌, ◌⊎◌, ℕ, List, None, Some, codes}
+use Rattle.std.specs.Prelude.{◌≡◌, ◌⊎◌, ℕ, List, Option, None, Some, IfSome, codes}
+use Rattle.std.specs.FinMap.{get}
 use Rattle.qc_io.specs.Outside.{View}
 use Rattle.qc_judge_commands.specs.Promises.{PlanCheckPromises, ShowPromises, TasksPromises, TreePromises}
 use Rattle.qc_plan_command.specs.Asked.{plan_of}
@@ -18,13 +19,13 @@ use Rattle.qc_top.specs.Account.{IsStopped, IsUsage, check_names, show_names, ta
 
 -- a plan is asked for
 abbrev pub IsPlan : Asked → Type 0
-IsPlan (plan s w p t n) = Unit {0}
+IsPlan (plan s w p t n o) = Unit {0}
 IsPlan _ = ⊥
 
 pub record Promises (words : List (List ℕ)) (before after out_before out_after : View) (ended : Status) : Type 0 where
   -- what each command promises
-  pub plans : (s w p t : List ℕ) (n : ℕ) → Asks words (plan s w p t n)
-      → PlanPromises (plan_of s w p t n) before after out_before out_after ended
+  pub plans : (s w p t : List ℕ) (n : ℕ) (o : Option (List ℕ)) → Asks words (plan s w p t n o)
+      → PlanPromises (plan_of s w p t n o) before after out_before out_after ended
   pub checks_tree : (s w t : List ℕ) → Asks words (check s w None t)
       → TreePromises (check_names s w None t) before after out_before out_after ended
   pub checks_plan : (s w p t : List ℕ) → Asks words (check s w (Some p) t)
@@ -34,6 +35,9 @@ pub record Promises (words : List (List ℕ)) (before after out_before out_after
   pub shows : (s w p : List ℕ) → Asks words (show s w p)
       → ShowPromises (show_names s w p) before after out_before out_after ended
   pub makes : (n h c : ℕ) → Asks words (make n h c) → TrialPromises n h c out_before out_after ended
+  -- a plan leaves the planner's own plan as it is
+  pub own_stays : (s w p t : List ℕ) (n : ℕ) (o : List ℕ) → Asks words (plan s w p t n (Some o))
+      → IfSome before.files (λ held. IfSome after.files (λ now. get now o ≡ get held o))
   -- making leaves the shelf untouched, and all but a plan leave the files
   pub make_leaves : (n h c : ℕ) → Asks words (make n h c) → after ≡ before
   pub files_stay : (asked : Asked) → Asks words asked → ¬ IsPlan asked → after.files ≡ before.files

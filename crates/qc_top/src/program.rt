@@ -1,5 +1,5 @@
 //! One run of the program: from words to a status.
-ghost use Rattle.std.specs.Prelude.{◌≡◌, ◌≤◌, Some, option_map};
+ghost use Rattle.std.specs.Prelude.{◌≡◌, ◌≤◌, None, Some, option_map};
 ghost use Rattle.qc_io.specs.Outside.{beside};
 ghost use Rattle.qc_run.specs.Inputs.{names_of};
 ghost use Rattle.qc_words.specs.Asked.{KeepsLimits, asked_for};
@@ -28,6 +28,7 @@ fn inputs_of<'a>(
       stow = Some stow.now;
       plan = option_map (λ name. name.now) plan.entry;
       tree = option_map (λ name. name.now) tree.entry;
+      own = None;
     } }
 {
     Inputs {
@@ -35,6 +36,7 @@ fn inputs_of<'a>(
         stow,
         plan,
         tree,
+        own: None,
     }
 }
 
@@ -58,6 +60,7 @@ fn serve<S: Shelf, K: Sink>(
             plan: name,
             tree,
             nodes,
+            own,
         } => {
             let asked = PlanAsked {
                 ship,
@@ -65,6 +68,7 @@ fn serve<S: Shelf, K: Sink>(
                 plan: name,
                 tree,
                 nodes,
+                own,
             };
             plan(alloc, &asked, shelf, out)
         }

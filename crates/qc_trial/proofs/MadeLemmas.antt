@@ -19,7 +19,8 @@ use Rattle.qc_model.specs.Judge.{IsJudgeable}
 use Rattle.qc_model.specs.OneWay.{GoesOneWay}
 use Rattle.qc_model.specs.Rules.{ends}
 use Rattle.qc_search.specs.declared.done.Kind.TheVariants as kind
-use Rattle.qc_search.specs.Run.{DoneView, IsTight, best_end, outcome}
+use Rattle.qc_search.specs.Run.{DoneView, best_end, outcome}
+use Rattle.qc_starts.specs.Tight.{IsTight}
 use Rattle.qc_ship.specs.Ship.{ShipView}
 use Rattle.qc_stow.specs.Stow.{moves_in}
 use Rattle.qc_tree.specs.Trees.{Tree, tree_text}
@@ -76,7 +77,7 @@ module _ (inst : InstanceView) (tree : Tree) (held mid after : Files)
 
 -- the tree was stored, and then the plan
 pub are_stored : (inst : InstanceView) (before mid after : Option Files) (done : DoneView)
-    → IfSome before (λ held. IsSearchStored (record { inst = inst; nodes = made_branchings }) (codes "tree") held mid done)
+    → IfSome before (λ held. IsSearchStored (record { inst = inst; nodes = made_branchings }) None (codes "tree") held mid done)
     → IfSome mid (λ held. after ≡ Some (with_plan held (codes "plan") inst done.best))
     → IfSome done.best (λ sched. HasShortEnds inst sched → plan_in inst (plan_text inst sched) ≡ Ok sched)
     → IfSome before (λ held. IsSomeAnd after (λ files. AreStored inst files done))

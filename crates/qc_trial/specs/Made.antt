@@ -24,7 +24,7 @@ made_instance number hatches cranes = instance_of (made_ship hatches cranes) (ma
 abbrev pub made_branchings : ℕ
 made_branchings = 500
 
--- what a check says of a search: of its best schedule and its tree, or of its tree alone where it met no schedule
+-- what a check says of a search: of its best schedule and its tree, or of its tree alone where it knows no schedule
 abbrev pub verdict_of : Kind → Option (List Slot) → Verdict
 verdict_of k None = verdict.Bound
 verdict_of kind.Optimal (Some sched) = verdict.Optimal
@@ -48,5 +48,5 @@ pub record TellsMade (number hatches cranes : ℕ) (done : DoneView) (told : Mad
 pub record IsMade (number hatches cranes : ℕ) (told : Made) : Type 0 where
   pub tree : Tree
   pub done : DoneView
-  pub found : IsFound (made_instance number hatches cranes) made_branchings tree done
+  pub found : IsFound (made_instance number hatches cranes) made_branchings None tree done
   pub tells : TellsMade number hatches cranes done told

@@ -1,5 +1,5 @@
 -- inner: what a search stores on a shelf of its own, and what a check of that says.
-use Rattle.std.specs.Prelude.{◌≡◌, ℕ, List, Some, IfSome, codes, nat_le, if◌then◌else◌}
+use Rattle.std.specs.Prelude.{◌≡◌, ℕ, List, None, Some, IfSome, codes, nat_le, if◌then◌else◌}
 use Rattle.std.specs.FinMap.{get}
 use Rattle.qc_gantt.specs.PlanText.{plan_text}
 use Rattle.qc_io.specs.Outside.{Files}
@@ -24,10 +24,10 @@ pub record IsPlanStored (inst : InstanceView) (files : Files) (sched : List Slot
   pub text : get files (codes "plan") ≡ Some (plan_text inst sched)
   pub reread : IsReread inst sched
 
--- the tree of a search stands in its file, and the plan of its best schedule, if it met any
+-- the tree of a search stands in its file, and the plan of its best schedule, if it knows any
 pub record AreStored (inst : InstanceView) (files : Files) (done : DoneView) : Type 0 where
   pub tree : Tree
-  pub found : IsFound inst made_branchings tree done
+  pub found : IsFound inst made_branchings None tree done
   pub tree_stored : IsTreeStored inst files tree
   pub plan_stored : IfSome done.best (IsPlanStored inst files)
 

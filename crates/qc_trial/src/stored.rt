@@ -38,7 +38,7 @@ pub(crate) fn store_search<S: Shelf>(
         IsSomeAnd (S.Sink.view shelf.new).files (λ files. AreStored inst.now files done))) }
 {
     let search = Search::open(alloc, inst, BRANCHINGS)?;
-    let Ok(done) = store_tree(search, TREE, shelf) else {
+    let Ok(done) = store_tree(search, None, TREE, shelf) else {
         return Err(OutOfMemory);
     };
     match store_best(inst, &done, PLAN, shelf) {

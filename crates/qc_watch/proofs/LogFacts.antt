@@ -1,6 +1,5 @@
 -- What the reports of a log keep, from how its lines are read.
-use Rattle.std.proofs.Common.{◌≡◌, ℕ, zero, suc, ◌+◌, ◌^◌, ◌<◌, ◌≤◌, ◌++◌, ◌∷◌, ◌==◌, ◌&&◌, ℤ, pos, negsuc, List, [], length, map, drop, get_or, true, false, nat_le, nat_lt, Option, None, Some, Ok, All, AllPairs, ◌≤ℤ◌, refl, sym, ap, subst, ◌∙◌, inl, inr, arith}
-use Rattle.std.specs.Prelude.{ok_or, option_and_then, option_map, sum_by}
+use Rattle.std.proofs.Common.{◌≡◌, ℕ, zero, suc, ◌+◌, ◌^◌, ◌<◌, ◌≤◌, ◌++◌, ◌∷◌, ◌==◌, ◌&&◌, ℤ, pos, negsuc, List, [], length, map, drop, get_or, true, false, nat_le, nat_lt, Option, None, Some, Ok, All, AllPairs, ◌≤ℤ◌, refl, sym, ap, subst, ◌∙◌, inl, inr, arith, ok_or, option_and_then, option_map, sum_by}
 use Rattle.std.specs.List.{filter, range_with_len}
 use Rattle.std.specs.Str.{bytes_eq}
 use Rattle.std.proofs.lemmas.Bool.{and_from, cases_Bool, cases_order, eq-eqb, eqb-true, false≢true, leb-false, le-ltb, lt-ltb, ltb-true, ne_eqb}

@@ -1,6 +1,5 @@
 -- The first time at which any crane has a report that isn't passed.
-use Rattle.std.proofs.Common.{◌≡◌, ℕ, ◌+◌, ◌<◌, ◌≤◌, min, List, [], length, Option, None, Some, sym, subst, ◌∙◌, inl, inr, get_or, arith}
-use Rattle.std.specs.Prelude.{Any, MatchOption}
+use Rattle.std.proofs.Common.{◌≡◌, ℕ, ◌+◌, ◌<◌, ◌≤◌, min, List, [], length, Option, None, Some, sym, subst, ◌∙◌, inl, inr, get_or, arith, Any, MatchOption}
 use Rattle.std.proofs.lemmas.Bool.{cases_lt}
 use Rattle.std.proofs.lemmas.List.{get_or_default}
 use Rattle.qc_watch.specs.declared.report.Report.{Report}

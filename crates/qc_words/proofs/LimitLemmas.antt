@@ -9,8 +9,9 @@ use Rattle.qc_model.specs.Numbers.{most_branchings, most_cranes, most_hatches}
 use Rattle.qc_num.specs.Digits.{number_in}
 use Rattle.qc_words.specs.declared.commands.CommandName.{CommandName}
 use Rattle.qc_words.specs.declared.commands.CommandName.TheVariants as name
-use Rattle.qc_words.specs.Asked.{KeepsLimits, are_different, most_number, plan, usage}
-use Rattle.qc_words.specs.Words.{asked_in, make_of, nodes_in, number_between, plan_of, value_of}
+use Rattle.qc_words.specs.Asked.{KeepsLimits, are_different, is_own, most_number, plan, usage}
+use Rattle.qc_words.specs.Commands.{command_of, named, read_by}
+use Rattle.qc_words.specs.Words.{asked_by, asked_in, make_of, nodes_in, number_between, plan_of, value_of}
 
 abbrev IsBetween : ℕ → ℕ → Option ℕ → Type 0
 IsBetween least most number = IfSome number (λ n. (least ≤ n) × (n ≤ most))
@@ -27,9 +28,11 @@ nodes_kept : (text : Option Text) → IsBetween 0 most_branchings (nodes_in text
 nodes_kept None = (lit≤ tt, lit≤ tt)
 nodes_kept (Some text) = number_kept 0 most_branchings text
 
-plan_kept : (s w p t : Text) (nodes : Option ℕ) → IsBetween 0 most_branchings nodes → KeepsLimits (plan_of s w p t nodes)
-plan_kept s w p t None few = tt
-plan_kept s w p t (Some n) few = cond_both (are_different s w p t) (plan s w p t n) usage KeepsLimits (λ yes. (yes, few.1)) (λ _. tt)
+plan_kept : (s w p t : Text) (nodes : Option ℕ) (own : Option Text) → IsBetween 0 most_branchings nodes
+    → KeepsLimits (plan_of s w p t nodes own)
+plan_kept s w p t None own few = tt
+plan_kept s w p t (Some n) own few =
+    cond_both (are_different s w p t && is_own own s w p t) (plan s w p t n own) usage KeepsLimits (λ yes. (yes, few.1)) (λ _. tt)
 
 make_kept : (number hatches cranes : Option ℕ) → IsBetween 0 most_number number → IsBetween 1 most_hatches hatches → IsBetween 1 most_cranes cranes
     → KeepsLimits (make_of number hatches cranes)
@@ -40,7 +43,7 @@ make_kept (Some k) (Some h) (Some c) n few fewer = (n.1, few.0, few.1, fewer.0, 
 
 command_kept : (n : CommandName) (rows : List Row) → KeepsLimits (asked_in n rows)
 command_kept name.Plan rows =
-    plan_kept (value_of (codes "ship") rows) (value_of (codes "stow") rows) (value_of (codes "plan") rows) (value_of (codes "tree") rows) _
+    plan_kept (value_of (codes "ship") rows) (value_of (codes "stow") rows) (value_of (codes "plan") rows) (value_of (codes "tree") rows) _ _
     (nodes_kept (first_of (codes "nodes") rows))
 command_kept name.Check rows = tt
 command_kept name.Tasks rows = tt
@@ -51,3 +54,12 @@ command_kept name.Make rows = make_kept _ _ _ (number_kept 0 most_number (value_
 pub limits_kept : (n : CommandName) (rows : Option (List Row)) → KeepsLimits (option_map_or (asked_in n) rows usage)
 limits_kept n None = tt
 limits_kept n (Some rows) = command_kept n rows
+
+-- and so does what words ask for
+pub asked_kept : (words : List Text) → KeepsLimits (asked_by words)
+asked_kept words = by (named words)
+  where
+    by : (n : Option CommandName)
+        → KeepsLimits (option_map_or (λ name. option_map_or (asked_in name) (read_by (command_of name) words) usage) n usage)
+    by None = tt
+    by (Some n) = limits_kept n (read_by (command_of n) words)

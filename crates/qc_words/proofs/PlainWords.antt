@@ -1,5 +1,5 @@
 -- Words in their plain form ask for what they say.
-use Rattle.std.proofs.Common.{◌≡◌, ◌∙◌, inl, inr, ℕ, ◌<◌, ◌≤◌, ◌^◌, lit<, lit≤, ap, ap₂, subst, sym, refl, cond, true, not, bytes_eq, nat_le, ◌&&◌, ◌||◌, ◌==◌, List, [], ◌∷◌, None, Some, codes, arith, decimal, option_and_then}
+use Rattle.std.proofs.Common.{◌≡◌, ◌∙◌, inl, inr, ℕ, ◌<◌, ◌≤◌, ◌^◌, lit<, lit≤, ap, ap₂, subst, sym, refl, cond, true, not, bytes_eq, nat_le, ◌&&◌, ◌||◌, ◌==◌, List, [], ◌∷◌, Option, None, Some, IfSome, codes, arith}
 use Rattle.std.proofs.lemmas.Bool.{cases_Bool}
 use Rattle.std.proofs.lemmas.Bool.Decides.{nat_tests}
 use Rattle.std.proofs.lemmas.Slice.Eq.{bytes_eq-Decides}
@@ -19,7 +19,7 @@ use Rattle.qc_words.specs.declared.commands.CommandName.{CommandName}
 use Rattle.qc_words.specs.declared.commands.CommandName.TheVariants as name
 use Rattle.qc_words.specs.Asked.{Asked, plan, check, tasks, show, make, most_number, usage}
 use Rattle.qc_words.specs.Commands.{command_of}
-use Rattle.qc_words.specs.Words.{Canonical, asked_by, asked_in, is_check_word, is_file_word, make_of, number_between, plan_name, plan_of, usual_branchings}
+use Rattle.qc_words.specs.Words.{Canonical, asked_by, asked_in, is_check_word, is_file_word, make_of, number_between, own_words, plan_name, plan_of, usual_branchings}
 use Rattle.qc_words.proofs.WordWalk.{Goes, IsOperand, at, goes_nowhere, goes_on, goes_past, lone_dash, other_first, read_along}
 
 file_operand : (word : Text) → is_file_word word ≡ true → IsOperand word
@@ -127,7 +127,7 @@ plan_goes s w p t words end is iw ip it more =
     (goes_past c (held (row (codes "ship") s ∷ row (codes "stow") w ∷ []) (codes "plan") p) idle 4 t words end it refl more)))
 
 plan_asked : (s w p t : Text) → IsOperand s → IsOperand w → IsOperand p → IsOperand t
-    → asked_by (codes "plan" ∷ s ∷ w ∷ p ∷ t ∷ []) ≡ plan_of s w p t (Some usual_branchings)
+    → asked_by (codes "plan" ∷ s ∷ w ∷ p ∷ t ∷ []) ≡ plan_of s w p t (Some usual_branchings) None
 unfolding defaults_fault
 plan_asked s w p t is iw ip it =
     let c = shape name.Plan in
@@ -138,7 +138,7 @@ plan_asked s w p t is iw ip it =
 
 nodes_asked : (s w p t n : Text) → IsOperand s → IsOperand w → IsOperand p → IsOperand t → IsOperand n
     → asked_by (codes "plan" ∷ s ∷ w ∷ p ∷ t ∷ codes "--nodes" ∷ n ∷ [])
-    ≡ plan_of s w p t (number_between 0 most_branchings n)
+    ≡ plan_of s w p t (number_between 0 most_branchings n) None
 unfolding defaults_fault walked
 nodes_asked s w p t n is iw ip it number =
     let c = shape name.Plan in
@@ -153,6 +153,61 @@ nodes_asked s w p t n is iw ip it number =
     (goes_past c waiting (option (codes "nodes")) 5 n [] _ number refl
     (goes_nowhere c (at after idle 5))))) refl)
 
+own_asked : (s w p t o : Text) → IsOperand s → IsOperand w → IsOperand p → IsOperand t → IsOperand o
+    → asked_by (codes "plan" ∷ s ∷ w ∷ p ∷ t ∷ codes "--from" ∷ o ∷ [])
+    ≡ plan_of s w p t (Some usual_branchings) (Some o)
+unfolding defaults_fault walked
+own_asked s w p t o is iw ip it own =
+    let c = shape name.Plan in
+    let before = held (row (codes "ship") s ∷ row (codes "stow") w ∷ row (codes "plan") p ∷ []) (codes "tree") t in
+    let rows = row (codes "ship") s ∷ row (codes "stow") w ∷ row (codes "plan") p ∷ row (codes "tree") t ∷ [] in
+    let waiting : Held = record { rows = rows; pending = Some (codes "from", []); skip = 0 } in
+    let after = held rows (codes "from") o in
+    ap (λ read. option_map_or (asked_in name.Plan) read usage)
+    (read_along c (command_of name.Plan) (codes "plan") (s ∷ w ∷ p ∷ t ∷ codes "--from" ∷ o ∷ []) after 5 refl refl
+    (plan_goes s w p t (codes "--from" ∷ o ∷ []) _ is iw ip it
+    (goes_on c (at before idle 5) (codes "--from") (o ∷ []) _ refl
+    (goes_past c waiting (option (codes "from")) 5 o [] _ own refl
+    (goes_nowhere c (at after idle 5))))) refl)
+
+both_asked : (s w p t n o : Text) → IsOperand s → IsOperand w → IsOperand p → IsOperand t → IsOperand n → IsOperand o
+    → asked_by (codes "plan" ∷ s ∷ w ∷ p ∷ t ∷ codes "--nodes" ∷ n ∷ codes "--from" ∷ o ∷ [])
+    ≡ plan_of s w p t (number_between 0 most_branchings n) (Some o)
+unfolding defaults_fault walked
+both_asked s w p t n o is iw ip it number own =
+    let c = shape name.Plan in
+    let before = held (row (codes "ship") s ∷ row (codes "stow") w ∷ row (codes "plan") p ∷ []) (codes "tree") t in
+    let rows = row (codes "ship") s ∷ row (codes "stow") w ∷ row (codes "plan") p ∷ row (codes "tree") t ∷ [] in
+    let waiting : Held = record { rows = rows; pending = Some (codes "nodes", []); skip = 0 } in
+    let between = held rows (codes "nodes") n in
+    let more = row (codes "ship") s ∷ row (codes "stow") w ∷ row (codes "plan") p ∷ row (codes "tree") t
+        ∷ row (codes "nodes") n ∷ [] in
+    let last : Held = record { rows = more; pending = Some (codes "from", []); skip = 0 } in
+    let after = held more (codes "from") o in
+    ap (λ read. option_map_or (asked_in name.Plan) read usage)
+    (read_along c (command_of name.Plan) (codes "plan")
+    (s ∷ w ∷ p ∷ t ∷ codes "--nodes" ∷ n ∷ codes "--from" ∷ o ∷ []) after 5 refl refl
+    (plan_goes s w p t (codes "--nodes" ∷ n ∷ codes "--from" ∷ o ∷ []) _ is iw ip it
+    (goes_on c (at before idle 5) (codes "--nodes") (n ∷ codes "--from" ∷ o ∷ []) _ refl
+    (goes_past c waiting (option (codes "nodes")) 5 n (codes "--from" ∷ o ∷ []) _ number refl
+    (goes_on c (at between idle 5) (codes "--from") (o ∷ []) _ refl
+    (goes_past c last (option (codes "from")) 5 o [] _ own refl
+    (goes_nowhere c (at after idle 5))))))) refl)
+
+-- with the usual branchings, and with those that are said
+usual_asked : (s w p t : Text) (own : Option Text) → IfSome own (λ o. is_file_word o ≡ true)
+    → IsOperand s → IsOperand w → IsOperand p → IsOperand t
+    → asked_by (codes "plan" ∷ s ∷ w ∷ p ∷ t ∷ own_words own) ≡ plan_of s w p t (Some usual_branchings) own
+usual_asked s w p t None e is iw ip it = plan_asked s w p t is iw ip it
+usual_asked s w p t (Some o) e is iw ip it = own_asked s w p t o is iw ip it (file_operand o e)
+
+said_asked : (s w p t n : Text) (own : Option Text) → IfSome own (λ o. is_file_word o ≡ true)
+    → IsOperand s → IsOperand w → IsOperand p → IsOperand t → IsOperand n
+    → asked_by (codes "plan" ∷ s ∷ w ∷ p ∷ t ∷ codes "--nodes" ∷ n ∷ own_words own)
+    ≡ plan_of s w p t (number_between 0 most_branchings n) own
+said_asked s w p t n None e is iw ip it number = nodes_asked s w p t n is iw ip it number
+said_asked s w p t n (Some o) e is iw ip it number = both_asked s w p t n o is iw ip it number (file_operand o e)
+
 named_plan : (p : Text) → is_file_word p ≡ true → plan_name p ≡ Some p
 named_plan [] e = cc
 named_plan (b ∷ bs) e = elim (cases_Bool (b == 45)) [
@@ -161,7 +216,7 @@ named_plan (b ∷ bs) e = elim (cases_Bool (b == 45)) [
 ]
 
 pub canonical_asked : (words : List Text) (asked : Asked) → Canonical words asked → asked_by words ≡ asked
-canonical_asked words (plan s w p t n) h =
+canonical_asked words (plan s w p t n own) h =
     let fs = both (is_file_word s) _ h.0.0 in
     let fw = both (is_file_word w) _ fs.1 in
     let fp = both (is_file_word p) _ fw.1 in
@@ -171,12 +226,12 @@ canonical_asked words (plan s w p t n) h =
     let ip = file_operand p fp.0 in
     let it = file_operand t ft.0 in
     let small : n < 10 ^ 10 = omega (arith, h.1.1) in
-    let as_plan : plan_of s w p t (Some n) ≡ plan s w p t n = ap (λ b. cond b (plan s w p t n) usage) h.1.0 in
-    elim h.0.1 [
-      | inl plain ↦ ap asked_by plain.0 ∙ plan_asked s w p t is iw ip it
-          ∙ ap (λ k. plan_of s w p t (Some k)) (sym plain.1) ∙ as_plan
-      | inr said ↦ ap asked_by said ∙ nodes_asked s w p t (decimal n) is iw ip it (number_operand n small)
-          ∙ ap (λ o. plan_of s w p t o) (number_asked_for 0 most_branchings n (omega arith) h.1.1 small) ∙ as_plan
+    let as_plan : plan_of s w p t (Some n) own ≡ plan s w p t n own = ap (λ b. cond b (plan s w p t n own) usage) h.1.0 in
+    elim h.0.2 [
+      | inl plain ↦ ap asked_by plain.0 ∙ usual_asked s w p t own h.0.1 is iw ip it
+          ∙ ap (λ k. plan_of s w p t (Some k) own) (sym plain.1) ∙ as_plan
+      | inr said ↦ ap asked_by said ∙ said_asked s w p t (decimal n) own h.0.1 is iw ip it (number_operand n small)
+          ∙ ap (λ o. plan_of s w p t o own) (number_asked_for 0 most_branchings n (omega arith) h.1.1 small) ∙ as_plan
     ]
 canonical_asked words (check s w None t) h =
     let fs = both (is_check_word s) _ h.0.0 in

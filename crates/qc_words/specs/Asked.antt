@@ -1,5 +1,5 @@
 -- public: what a command line asks for, with the names of its files.
-use Rattle.std.specs.Prelude.{ℕ, ◌≤◌, Bool, not, ◌||◌, IsTrue, List, Option, option_map}
+use Rattle.std.specs.Prelude.{ℕ, ◌≤◌, Bool, true, not, ◌&&◌, ◌||◌, IsTrue, List, Option, None, Some, option_map}
 use Rattle.std.specs.Str.{bytes_eq}
 use Rattle.qc_model.specs.Numbers.{most_branchings, most_cranes, most_hatches}
 use Rattle.qc_words.specs.declared.asked.Request.{Request}
@@ -10,8 +10,9 @@ abbrev pub most_number : ℕ
 most_number = 2147483647
 
 pub data Asked : Type 0 where
-  -- a plan and its tree, for a ship file and a stowage list, with at most so many branchings
-  plan : (ship stow plan tree : List ℕ) (nodes : ℕ) → Asked
+  -- a plan and its tree, for a ship file and a stowage list, with at most so many branchings, beside the planner's own
+  -- plan where one is named
+  plan : (ship stow plan tree : List ℕ) (nodes : ℕ) (own : Option (List ℕ)) → Asked
   -- what a tree shows for a ship file and a stowage list, and of a plan where one is named
   check : (ship stow : List ℕ) (plan : Option (List ℕ)) (tree : List ℕ) → Asked
   -- the tasks of a ship file and a stowage list
@@ -25,8 +26,8 @@ pub data Asked : Type 0 where
 
 -- what a request of the program asks for
 abbrev pub asked_for : Request → Asked
-asked_for (request.Plan ship stow plan_name tree nodes) =
-    plan ship.now stow.now plan_name.now tree.now nodes
+asked_for (request.Plan ship stow plan_name tree nodes own) =
+    plan ship.now stow.now plan_name.now tree.now nodes (option_map (λ name. name.now) own)
 asked_for (request.Check ship stow plan_name tree) =
     check ship.now stow.now (option_map (λ name. name.now) plan_name) tree.now
 asked_for (request.Tasks ship stow) = tasks ship.now stow.now
@@ -40,9 +41,15 @@ are_different s w p t =
     not (bytes_eq s w || bytes_eq s p || bytes_eq s t
     || bytes_eq w p || bytes_eq w t || bytes_eq p t)
 
+-- the name of the planner's own plan, if there is one, is none of the four
+abbrev pub is_own : Option (List ℕ) → (ship stow plan tree : List ℕ) → Bool
+is_own None s w p t = true
+is_own (Some own) s w p t = not (bytes_eq own s || bytes_eq own w || bytes_eq own p || bytes_eq own t)
+
 -- a plan's names are different, and each number that is asked for is in its range
 abbrev pub KeepsLimits : Asked → Type 0
-KeepsLimits (plan s w p t nodes) = IsTrue (are_different s w p t) × (nodes ≤ most_branchings)
+KeepsLimits (plan s w p t nodes own) =
+    IsTrue (are_different s w p t && is_own own s w p t) × (nodes ≤ most_branchings)
 KeepsLimits (make number hatches cranes) =
     (number ≤ most_number) × (1 ≤ hatches) × (hatches ≤ most_hatches)
     × (1 ≤ cranes) × (cranes ≤ most_cranes)

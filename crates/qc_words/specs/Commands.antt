@@ -30,11 +30,13 @@ abbrev pub command_with : List ℕ → List (List ℕ) → App
 command_with name operands =
     record (new_app name) { top = record (new_shape name) { rules = map operand operands } }
 
--- the operands of each command, and of a plan the option `--nodes`
+-- the operands of each command, and of a plan the options `--nodes` and `--from`
 abbrev pub command_of : CommandName → App
 command_of name.Plan = with_rule
-    (command_with (codes "plan") (codes "ship" ∷ codes "stow" ∷ codes "plan" ∷ codes "tree" ∷ []))
-    (record (new_rule (codes "nodes")) { long = Some (codes "nodes") })
+    (with_rule
+        (command_with (codes "plan") (codes "ship" ∷ codes "stow" ∷ codes "plan" ∷ codes "tree" ∷ []))
+        (record (new_rule (codes "nodes")) { long = Some (codes "nodes") }))
+    (record (new_rule (codes "from")) { long = Some (codes "from") })
 command_of name.Check =
     command_with (codes "check") (codes "ship" ∷ codes "stow" ∷ codes "plan" ∷ codes "tree" ∷ [])
 command_of name.Tasks = command_with (codes "tasks") (codes "ship" ∷ codes "stow" ∷ [])

@@ -1,5 +1,5 @@
 -- public: the words of a command line, and what they ask for.
-use Rattle.std.specs.Prelude.{◌≡◌, ◌⊎◌, ℕ, Bool, false, not, ◌&&◌, ◌||◌, ◌==◌, nat_le, if◌then◌else◌, IsTrue, List, [], ◌∷◌, map, Option, None, Some, option_and_then, unwrap_or, codes, decimal, string_bytes, String}
+use Rattle.std.specs.Prelude.{◌≡◌, ◌⊎◌, ℕ, Bool, false, not, ◌&&◌, ◌||◌, ◌==◌, nat_le, if◌then◌else◌, IsTrue, IfSome, List, [], ◌∷◌, map, Option, None, Some, option_and_then, unwrap_or, codes, decimal, string_bytes, String}
 use Rattle.std.specs.declared.alloc.Global.{Global}
 use Rattle.std.specs.List.{list_all}
 use Rattle.std.specs.Option.{option_map_or}
@@ -7,7 +7,7 @@ use Rattle.std.specs.Str.{bytes_eq}
 use Rattle.clap.specs.Words.{Row, first_of}
 use Rattle.qc_model.specs.Numbers.{most_branchings, most_cranes, most_hatches}
 use Rattle.qc_num.specs.Digits.{number_in}
-use Rattle.qc_words.specs.Asked.{Asked, plan, check, tasks, show, make, usage, KeepsLimits, are_different, most_number}
+use Rattle.qc_words.specs.Asked.{Asked, plan, check, tasks, show, make, usage, KeepsLimits, are_different, is_own, most_number}
 use Rattle.qc_words.specs.Commands.{command_of, named, read_by}
 use Rattle.qc_words.specs.declared.commands.CommandName.{CommandName}
 use Rattle.qc_words.specs.declared.commands.CommandName.TheVariants as name
@@ -35,12 +35,17 @@ AreFileWords names = IsTrue (list_all is_file_word names)
 abbrev pub usual_branchings : ℕ
 usual_branchings = 20000
 
+-- the words that name the planner's own plan, if there is one
+abbrev pub own_words : Option (List ℕ) → List (List ℕ)
+own_words None = []
+own_words (Some own) = codes "--from" ∷ own ∷ []
+
 -- the words are a command's name and its operands in order, which say this; in `check` a word may be
 -- `-`, which as PLAN stands for no plan
 abbrev pub Spell : List (List ℕ) → Asked → Type 0
-Spell words (plan s w p t n) = AreFileWords (s ∷ w ∷ p ∷ t ∷ [])
-    × (((words ≡ codes "plan" ∷ s ∷ w ∷ p ∷ t ∷ []) × (n ≡ usual_branchings))
-    ⊎ (words ≡ codes "plan" ∷ s ∷ w ∷ p ∷ t ∷ codes "--nodes" ∷ decimal n ∷ []))
+Spell words (plan s w p t n own) = AreFileWords (s ∷ w ∷ p ∷ t ∷ []) × IfSome own (λ o. IsTrue (is_file_word o))
+    × (((words ≡ codes "plan" ∷ s ∷ w ∷ p ∷ t ∷ own_words own) × (n ≡ usual_branchings))
+    ⊎ (words ≡ codes "plan" ∷ s ∷ w ∷ p ∷ t ∷ codes "--nodes" ∷ decimal n ∷ own_words own))
 Spell words (check s w None t) =
     IsTrue (list_all is_check_word (s ∷ w ∷ t ∷ []))
     × (words ≡ codes "check" ∷ s ∷ w ∷ codes "-" ∷ t ∷ [])
@@ -76,9 +81,9 @@ nodes_in None = Some usual_branchings
 nodes_in (Some text) = number_between 0 most_branchings text
 
 -- a plan with so many branchings, where its names are different
-abbrev pub plan_of : (ship stow plan tree : List ℕ) → Option ℕ → Asked
-plan_of s w p t None = usage
-plan_of s w p t (Some n) = if are_different s w p t then plan s w p t n else usage
+abbrev pub plan_of : (ship stow plan tree : List ℕ) → Option ℕ → Option (List ℕ) → Asked
+plan_of s w p t None own = usage
+plan_of s w p t (Some n) own = if are_different s w p t && is_own own s w p t then plan s w p t n own else usage
 
 -- the plan that `check` is asked about: none for `-`
 abbrev pub plan_name : List ℕ → Option (List ℕ)
@@ -93,7 +98,7 @@ make_of _ _ _ = usage
 abbrev pub asked_in : CommandName → List Row → Asked
 asked_in name.Plan rows =
     plan_of (value_of (codes "ship") rows) (value_of (codes "stow") rows) (value_of (codes "plan") rows)
-    (value_of (codes "tree") rows) (nodes_in (first_of (codes "nodes") rows))
+    (value_of (codes "tree") rows) (nodes_in (first_of (codes "nodes") rows)) (first_of (codes "from") rows)
 asked_in name.Check rows = check (value_of (codes "ship") rows) (value_of (codes "stow") rows)
     (plan_name (value_of (codes "plan") rows)) (value_of (codes "tree") rows)
 asked_in name.Tasks rows =

@@ -62,7 +62,10 @@ pub fn command_of<'a>(alloc: Global, name: CommandName) -> Result<Command<'a>, A
     match name {
         CommandName::Plan => {
             let nodes = Arg::new(alloc, "nodes").long("nodes");
-            command_with(alloc, "plan", &["ship", "stow", "plan", "tree"])?.arg(nodes)
+            let from = Arg::new(alloc, "from").long("from");
+            command_with(alloc, "plan", &["ship", "stow", "plan", "tree"])?
+                .arg(nodes)?
+                .arg(from)
         }
         CommandName::Check => command_with(alloc, "check", &["ship", "stow", "plan", "tree"]),
         CommandName::Tasks => command_with(alloc, "tasks", &["ship", "stow"]),

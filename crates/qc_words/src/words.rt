@@ -3,7 +3,7 @@
 ghost use Rattle.std.specs.Prelude.{◌≡◌, IfOk, IsTrue, option_map};
 ghost use Rattle.std.specs.Option.{option_map_or};
 ghost use Rattle.clap.specs.Words.{app_of, found_of, rows_of, first_of, is_simple_and_free};
-ghost use Rattle.qc_words.specs.Asked.{Asked, asked_for, usage, KeepsLimits, are_different};
+ghost use Rattle.qc_words.specs.Asked.{Asked, asked_for, usage, KeepsLimits, are_different, is_own};
 ghost use Rattle.qc_words.specs.Commands.{command_of, named, read_by};
 ghost use Rattle.qc_words.specs.declared.commands.CommandName.TheVariants as name;
 ghost use Rattle.qc_words.specs.Words.{Asks, Canonical, asked_in, make_of, nodes_in, number_between, plan_name, plan_of, texts, value_of};
@@ -88,6 +88,16 @@ fn are_different(s: &str, w: &str, p: &str, t: &str) -> bool
     !(s == w || s == p || s == t || w == p || w == t || p == t)
 }
 
+/// Whether the name of the planner's own plan, if there is one, is none of a plan's four names.
+fn is_own(own: Option<&str>, s: &str, w: &str, p: &str, t: &str) -> bool
+    ensures { result ≡ is_own (option_map (λ name. name.now) own.entry) s.now w.now p.now t.now }
+{
+    match own {
+        None => true,
+        Some(own) => !(own == s || own == w || own == p || own == t),
+    }
+}
+
 /// A plan with so many branchings, where its names are different.
 fn plan_of<'a>(
     ship: &'a str,
@@ -95,18 +105,21 @@ fn plan_of<'a>(
     plan: &'a str,
     tree: &'a str,
     nodes: Option<u32>,
+    own: Option<&'a str>,
 ) -> Request<'a>
-    ensures { asked_for result ≡ plan_of ship.now stow.now plan.now tree.now nodes }
+    ensures { asked_for result ≡ plan_of ship.now stow.now plan.now tree.now nodes
+        (option_map (λ name. name.now) own.entry) }
 {
     match nodes {
         Some(nodes) => {
-            if are_different(ship, stow, plan, tree) {
+            if are_different(ship, stow, plan, tree) && is_own(own, ship, stow, plan, tree) {
                 Request::Plan {
                     ship,
                     stow,
                     plan,
                     tree,
                     nodes,
+                    own,
                 }
             } else {
                 Request::Usage
@@ -152,6 +165,7 @@ fn asked_in<'a>(name: CommandName, matches: &ArgMatches<'a>) -> Request<'a>
             value_of(matches, "plan"),
             value_of(matches, "tree"),
             nodes_in(text_of(matches, "nodes")),
+            text_of(matches, "from"),
         ),
         CommandName::Check => Request::Check {
             ship: value_of(matches, "ship"),

@@ -1,5 +1,4 @@
-use Rattle.std.proofs.Common.{◌+◌, ◌≤◌, vec_len}
-use Rattle.std.specs.Prelude.{All}
+use Rattle.std.proofs.Common.{◌+◌, ◌≤◌, vec_len, All}
 use Rattle.qc_part.specs.Hatches.{IsEventOf}
 use Rattle.qc_part.proofs.events.add_events.Given as goal
 

@@ -1,5 +1,4 @@
-use Rattle.std.proofs.Common.{◌-◌, ◌≤◌, length}
-use Rattle.std.specs.Prelude.{All}
+use Rattle.std.proofs.Common.{◌-◌, ◌≤◌, length, All}
 use Rattle.qc_part.specs.Hatches.{IsBlock}
 use Rattle.qc_part.proofs.hatch.hatches_of.Given as goal
 

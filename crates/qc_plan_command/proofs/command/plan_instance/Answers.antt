@@ -13,7 +13,7 @@ returns-then-is_err-clause-serves g c =
     let failed : is_err c.create.result ≡ true = sym c.is_err.ensures.value ∙ c.if-is_err.true in (
       (
         by_err c.create.result failed c.create.ensures.counts.rose,
-        at_begin (planning c.args.asked.now) c.args.inst c.args.search (view c.args.shelf.now).files
+        at_begin (planning c.args.asked.now) c.args.job c.requires.goes c.args.search (view c.args.shelf.now).files
             (view c.create.new.self).files (view c.create.new.self).files (view c.create.new.self).files
             c.requires.search c.requires.due c.create.ensures.files_stay,
       ),
@@ -25,9 +25,10 @@ returns-in_default-clause-serves g c =
     let view = g.S.Sink.view in (
       (
         omega (arith, c.create.ensures.counts.never_falls, c.in_default.ensures.counts.rose),
-        at_tree (planning c.args.asked.now) c.args.inst c.args.search (view c.args.shelf.now).files
+        at_tree (planning c.args.asked.now) c.args.job c.requires.goes c.args.search (view c.args.shelf.now).files
             (view c.create.new.self).files (view c.store_tree.new.shelf).files (view c.store_tree.new.shelf).files
-            c.requires.search c.requires.due c.create.ensures.files_stay c.in_default.ensures.err,
+            c.requires.search c.requires.due c.create.ensures.files_stay
+            (rw c.as_ref.ensures.value at c.in_default.ensures.err),
       ),
       c.in_default.ensures.read_faults ∙ c.create.ensures.read_faults_stay,
     )
@@ -37,9 +38,10 @@ returns-in-Err-clause-serves g c =
     let view = g.S.Sink.view in (
       (
         omega (arith, c.create.ensures.counts.never_falls, c.in-Ok.ensures.counts.never_falls, c.in-Err.ensures.counts.rose),
-        at_plan (planning c.args.asked.now) c.args.inst c.args.search (view c.args.shelf.now).files
+        at_plan (planning c.args.asked.now) c.args.job c.requires.goes c.args.search (view c.args.shelf.now).files
             (view c.create.new.self).files (view c.store_tree.new.shelf).files (view c.store_best.new.shelf).files
-            c.requires.search c.requires.due c.create.ensures.files_stay c.in-Ok.done c.in-Ok.ensures.ok c.in-Err.ensures.err,
+            c.requires.search c.requires.due c.create.ensures.files_stay c.in-Ok.done
+            (rw c.as_ref.ensures.value at c.in-Ok.ensures.ok) c.in-Err.ensures.err,
       ),
       c.in-Err.ensures.read_faults ∙ c.in-Ok.ensures.read_faults ∙ c.create.ensures.read_faults_stay,
     )
@@ -48,13 +50,14 @@ pub returns-in-Ok-store_best-clause-serves : goal.returns-in-Ok-store_best-claus
 returns-in-Ok-store_best-clause-serves g c =
     let view = g.S.Sink.view in
     let came : is_err c.create.result ≡ false = sym c.is_err.ensures.value ∙ c.if-is_err.false in (
-      writes_told (planning c.args.asked.now) (view c.args.shelf.now) (view c.store_best.new.shelf) c.args.inst c.in-Ok.done
+      writes_told (planning c.args.asked.now) (view c.args.shelf.now) (view c.store_best.new.shelf) c.args.job.inst c.in-Ok.done
           c.answer_of.result c.answer_of.ensures.tells
           (c.in-Ok-store_best.ensures.counts.unfailed ∙ c.in-Ok.ensures.counts.unfailed
           ∙ by_ok c.create.result came c.create.ensures.counts.unfailed)
-          (at_end (planning c.args.asked.now) c.args.inst c.args.search (view c.args.shelf.now).files
+          (at_end (planning c.args.asked.now) c.args.job c.requires.goes c.args.search (view c.args.shelf.now).files
           (view c.create.new.self).files (view c.store_tree.new.shelf).files (view c.store_best.new.shelf).files
-          c.requires.search c.requires.due c.create.ensures.files_stay c.in-Ok.done c.answer_of.result c.in-Ok.ensures.ok
+          c.requires.search c.requires.due c.create.ensures.files_stay c.in-Ok.done c.answer_of.result
+          (rw c.as_ref.ensures.value at c.in-Ok.ensures.ok)
           c.in-Ok-store_best.ensures.ok c.answer_of.ensures.tells),
       c.in-Ok-store_best.ensures.read_faults ∙ c.in-Ok.ensures.read_faults ∙ c.create.ensures.read_faults_stay,
     )
@@ -67,4 +70,4 @@ answer_of-requires-clause-none_earlier g c =
 pub answer_of-requires-clause-reread : goal.answer_of-requires-clause-reread
 answer_of-requires-clause-reread g c =
     let is = rw c.requires.search at c.in-Ok.ensures.sound in
-    rereads c.args.inst c.in-Ok.done.best is.judgeable is.soon c.in-Ok-store_best.ensures.reread
+    rereads c.args.job.inst c.in-Ok.done.best is.judgeable is.soon c.in-Ok-store_best.ensures.reread

@@ -1,5 +1,4 @@
-use Rattle.std.proofs.Common.{◌≡◌, ◌<◌, ◌∙◌, ℕ, Bool, List, Result, Ok, Err, length, map, sym, subst, All}
-use Rattle.std.specs.Prelude.{IfOk}
+use Rattle.std.proofs.Common.{◌≡◌, ◌<◌, ◌∙◌, ℕ, Bool, List, Result, Ok, Err, length, map, sym, subst, All, IfOk}
 use Rattle.qc_model.specs.declared.task.Task.{Task}
 use Rattle.qc_stow.specs.declared.row.Row.{Row}
 use Rattle.qc_sheet.specs.declared.entry.Entry.{Entry}

@@ -1,0 +1,312 @@
+-- A given schedule, its tight form, and the search that begins with it.
+use Rattle.std.proofs.Common.{◌≡◌, ℕ, zero, suc, ◌+◌, ◌<◌, ◌≤◌, inl, inr, List, [], ◌∷◌, ◌++◌, length, map, Contains, Option, None, Some, IfSome, IsSome, refl, ap, ap₂, sym, subst, ◌∙◌, arith, nat_le}
+use Rattle.std.proofs.lemmas.Bool.{cond-true, cond_both, false≢true, le-leb, leb-true}
+use Rattle.std.specs.List.{range_with_len}
+use Rattle.smallvec.specs.SmallVec.{SmallVec}
+use Rattle.qc_num.specs.declared.bound.Bound.TheVariants.{Least}
+use Rattle.qc_num.specs.Paths.{HasRoom}
+use Rattle.qc_num.proofs.BoundLemmas.{same_least}
+use Rattle.qc_model.specs.declared.decision.Decision.{Decision}
+use Rattle.qc_model.specs.declared.decision.Decision.TheVariants.{Assign, Order}
+use Rattle.qc_model.specs.declared.direction.Direction.{Direction}
+use Rattle.qc_model.specs.declared.direction.Direction.TheVariants.{Up, Down}
+use Rattle.qc_model.specs.declared.pair.Pair.{Pair}
+use Rattle.qc_model.specs.declared.schedule.Slot.{Slot}
+use Rattle.qc_model.specs.Instance.{InstanceView, IsApart, Valid, ticks_of}
+use Rattle.qc_model.specs.Judge.{IsDirection, IsJudgeable}
+use Rattle.qc_model.specs.Nodes.{Agrees, AreLeast, IsComplete, IsSettled, Meets, assigned, forced, schedule_with}
+use Rattle.qc_model.specs.Numbers.{most_start, most_tasks}
+use Rattle.qc_model.specs.OneWay.{GoesUp, mirror, mirror_schedule}
+use Rattle.qc_model.specs.Rules.{crane_of, end_of, ends, start_of, starts}
+use Rattle.qc_model.specs.Seen.{seen, seen_number, seen_schedule}
+use Rattle.qc_model.proofs.Bounded.{last_end_le}
+use Rattle.qc_model.proofs.CompleteNodes.{agrees_with, ends_with, forced_ticks, goes_with}
+use Rattle.qc_model.proofs.MirrorLemmas.{seen_valid}
+use Rattle.qc_model.proofs.NodeLemmas.{assigned_is, ends_by, meets_of, start_at}
+use Rattle.qc_model.proofs.SeenLemmas.{seen-crane_count, seen-crane_of, seen-ends, seen-start_of, seen-task_count}
+use Rattle.qc_starts.specs.Tight.{IsTight, IsTightForm, decided_by, order_in}
+use Rattle.qc_search.specs.declared.progress.Progress.{Progress}
+use Rattle.qc_search.specs.Earned.{IsKnownEnd, node_at}
+use Rattle.qc_search.specs.Progress.{IsBegun, IsBegunWith, IsKept, IsProgress, IsTightened, begun}
+use Rattle.qc_search.proofs.DecidedLemmas.{decided_least}
+use Rattle.qc_search.proofs.ShownLemmas.{shown_tight, turned_as_met}
+use Rattle.qc_search.proofs.TightLemmas.{seen_end}
+use Rattle.qc_tree.specs.Trees.{on_task}
+
+-- ---- the order of an apart pair
+
+module _ (inst : InstanceView) (v : Valid inst) (sched : List Slot) (p : Pair) (apart : IsApart inst p.first p.second) where
+  first_in : end_of inst sched p.first ≤ start_of sched p.second → order_in inst sched p ≡ Order p.first p.second
+  first_in first =
+      cond-true (nat_le (end_of inst sched p.first) (start_of sched p.second)) (Order p.first p.second)
+      (Order p.second p.first) (le-leb (end_of inst sched p.first) (start_of sched p.second) first)
+
+  second_in : end_of inst sched p.second ≤ start_of sched p.first → order_in inst sched p ≡ Order p.second p.first
+  second_in second =
+      cond_both (nat_le (end_of inst sched p.first) (start_of sched p.second)) (Order p.first p.second)
+      (Order p.second p.first) (λ (d : Decision). d ≡ Order p.second p.first)
+      (λ t. absurd (both_first (leb-true _ _ t)))
+      (λ f. refl)
+    where
+      both_first : end_of inst sched p.first ≤ start_of sched p.second → ⊥
+      both_first first =
+          let r = v.apart.range p.first p.second apart in
+          let one = v.tasks.ticks p.second r.1 in
+          omega (arith, first, second, one)
+
+-- what is forced is kept by the schedule whose starts meet the node
+kept_order : (inst : InstanceView) (ds : List Decision) (sched : List Slot) → Meets inst ds (starts sched)
+    → (i j : ℕ) → i < length inst.tasks → j < length inst.tasks → IsSome (forced inst ds i j)
+    → end_of inst sched i ≤ start_of sched j
+kept_order inst ds sched meets i j low high some =
+    by (forced inst ds i j) refl some (forced_ticks inst ds i j)
+  where
+    by : (o : Option ℕ) → forced inst ds i j ≡ o → IsSome o → IfSome o (λ n. ticks_of inst i ≤ n)
+        → end_of inst sched i ≤ start_of sched j
+    by None is some long = absurd (false≢true some)
+    by (Some n) is some long =
+        omega (arith, meets.steps i j n low high is, start_at sched i, start_at sched j, long)
+
+-- ---- two schedules that agree with a complete node decide the same
+
+module _ (inst : InstanceView) (ds : List Decision) (v : Valid inst) (complete : IsComplete inst ds)
+    (one two : List Slot) (one_meets : Meets inst ds (starts one)) (two_meets : Meets inst ds (starts two))
+    (one_agrees : Agrees inst ds one) (two_agrees : Agrees inst ds two) where
+  pub same_crane : (j : ℕ) → j < length inst.tasks → crane_of one j ≡ crane_of two j
+  same_crane j low =
+      by (assigned ds j) (complete.tasks j low) (assigned_is inst one ds one_agrees j) (assigned_is inst two ds two_agrees j)
+    where
+      by : (o : Option ℕ) → IsSome o → IfSome o (λ k. crane_of one j ≡ k) → IfSome o (λ k. crane_of two j ≡ k)
+          → crane_of one j ≡ crane_of two j
+      by None some a b = absurd (false≢true some)
+      by (Some k) some a b = a ∙ sym b
+
+  same_order : (p : Pair) → IsApart inst p.first p.second → order_in inst one p ≡ order_in inst two p
+  same_order p apart = by (complete.pairs p.first p.second apart)
+    where
+      by : IsSettled inst ds p.first p.second → order_in inst one p ≡ order_in inst two p
+      by (inl some) =
+          let r = v.apart.range p.first p.second apart in
+          let low : p.first < length inst.tasks = omega (arith, r.0, r.1) in
+          first_in inst v one p apart (kept_order inst ds one one_meets p.first p.second low r.1 some)
+          ∙ sym (first_in inst v two p apart (kept_order inst ds two two_meets p.first p.second low r.1 some))
+      by (inr some) =
+          let r = v.apart.range p.first p.second apart in
+          let low : p.first < length inst.tasks = omega (arith, r.0, r.1) in
+          second_in inst v one p apart (kept_order inst ds one one_meets p.second p.first r.1 low some)
+          ∙ sym (second_in inst v two p apart (kept_order inst ds two two_meets p.second p.first r.1 low some))
+
+  same_cranes : (a n : ℕ) → a + n ≤ length inst.tasks
+      → map (λ j. Assign j (crane_of one j)) (range_with_len a n) ≡ map (λ j. Assign j (crane_of two j)) (range_with_len a n)
+  same_cranes a zero few = refl
+  same_cranes a (suc n) few =
+      ap₂ (λ (k : ℕ) (more : List Decision). Assign a k ∷ more) (same_crane a (omega (arith, few)))
+      (same_cranes (a + 1) n (omega (arith, few)))
+
+  same_orders : (pairs : List Pair) → ((p : Pair) → Contains pairs p → IsApart inst p.first p.second)
+      → map (order_in inst one) pairs ≡ map (order_in inst two) pairs
+  same_orders [] are = refl
+  same_orders (p ∷ pairs) are =
+      ap₂ (λ (d : Decision) (more : List Decision). d ∷ more) (same_order p (are p (0, omega arith, refl)))
+      (same_orders pairs (λ q c. are q (suc c.0, omega (arith, c.1), c.2)))
+
+  pub same_decided : decided_by inst one ≡ decided_by inst two
+  same_decided =
+      ap₂ (λ (cranes orders : List Decision). cranes ++ orders) (same_cranes 0 (length inst.tasks) (omega arith))
+      (same_orders inst.apart (λ p c. c))
+
+-- ---- the tight form of a given schedule
+
+-- a crane that is turned twice has its number again
+number_back : (home : InstanceView) (way : Direction) (k : ℕ) → k < length home.cranes
+    → seen_number home way (seen_number home way k) ≡ k
+number_back home Up k low = refl
+number_back home Down k low = omega (arith, low)
+
+module _ (home : InstanceView) (v : Valid home) (given : List Slot) (way : Direction) (kept : List Slot) (end : ℕ)
+    (judgeable : IsJudgeable home given) (goes : GoesUp (seen home way) (seen_schedule home given way))
+    (t : IsTightened (seen home way) (seen_schedule home given way) kept end) where
+  abbrev inst : InstanceView
+  inst = seen home way
+
+  abbrev turned : List Slot
+  turned = seen_schedule home given way
+
+  -- what it comes to, as it is answered
+  abbrev form : List Slot
+  form = seen_schedule home kept way
+
+  valid : Valid inst
+  valid = seen_valid home v way
+
+  given_meets : Meets inst t.decisions (starts turned)
+  given_meets = meets_of inst t.decisions turned goes t.agrees
+
+  abbrev made : List Slot
+  made = schedule_with inst t.decisions t.begins
+
+  made_goes : GoesUp inst made
+  made_goes = goes_with inst t.decisions t.begins valid t.fits t.complete t.in_reach t.least.meets
+
+  made_agrees : Agrees inst t.decisions made
+  made_agrees = agrees_with inst t.decisions t.begins valid t.fits t.complete t.in_reach t.least.meets
+
+  made_meets : Meets inst t.decisions (starts made)
+  made_meets = meets_of inst t.decisions made made_goes made_agrees
+
+  pub kept_count : length kept ≡ length home.tasks
+  kept_count = ap (λ (s : List Slot). length s) t.is ∙ made_goes.feasible.all_tasks ∙ seen-task_count home way
+
+  crane_same : (j : ℕ) → j < length home.tasks → crane_of kept j ≡ crane_of turned j
+  crane_same j low =
+      let n = seen-task_count home way in
+      ap (λ (s : List Slot). crane_of s j) t.is
+      ∙ same_crane inst t.decisions valid t.complete made turned made_meets given_meets made_agrees t.agrees j (omega (arith, n, low))
+
+  kept_low : (j : ℕ) → j < length home.tasks → crane_of kept j < length home.cranes
+  kept_low j low =
+      let n = seen-task_count home way in
+      let c = goes.feasible.crane_range j (omega (arith, n, low)) in
+      omega (arith, c, seen-crane_count home way, crane_same j low)
+
+  back : seen_schedule home form way ≡ kept
+  back = turned_as_met home way kept (λ j low. kept_low j (omega (arith, kept_count, low)))
+
+  -- turned back, each task has the crane that it was given
+  crane_back : (j : ℕ) → j < length home.tasks → crane_of form j ≡ crane_of given j
+  crane_back j low =
+      seen-crane_of home kept way j (omega (arith, kept_count, low))
+      ∙ ap (seen_number home way) (crane_same j low ∙ seen-crane_of home given way j (omega (arith, judgeable.all_tasks, low)))
+      ∙ number_back home way (crane_of given j) (judgeable.crane_range j low)
+
+  pub form_is : IsDirection home given way → IsTightForm home given form
+  form_is direction = record {
+    way = way;
+    direction = direction;
+    cranes = crane_back;
+    least = subst (λ (s : List Slot). AreLeast inst (decided_by inst turned) (starts s)) (sym (back ∙ t.is))
+        (subst (λ (ds : List Decision). AreLeast inst ds (starts made))
+        (same_decided inst t.decisions valid t.complete made turned made_meets given_meets made_agrees t.agrees)
+        (decided_least inst t.decisions t.begins valid t.fits t.complete t.in_reach t.least));
+  }
+
+  end_is : end ≡ ends home form
+  end_is =
+      t.ends ∙ sym (ends_with inst t.decisions t.begins t.least.meets) ∙ ap (ends inst) (sym t.is)
+      ∙ sym (seen_end home kept way)
+
+  -- it ends no later
+  pub no_later : end ≤ ends home given
+  no_later =
+      let late = last_end_le inst.tasks t.begins (ends inst turned) (λ j low there.
+      omega (
+        arith,
+        t.least.least (starts turned) given_meets j low,
+        ends_by inst.tasks (starts turned) j given_meets.all_tasks low,
+      )) in
+      omega (arith, late, t.ends, seen-ends home given way)
+
+  -- the progress that begins with it is that of no nodes
+  abbrev progress_of : ℕ → SmallVec ℕ → Progress
+  progress_of limit path = record (begun limit kept path) { incumbent_end = Least end; way = way }
+
+  abbrev first_kept : (limit : ℕ) (path : SmallVec ℕ) → IsKept home (Some form) (progress_of limit path) [] end
+  first_kept limit path = record {
+    node = node_at way t.decisions (on_task 0);
+    from = inr refl;
+    begins = t.begins;
+    fits = t.fits;
+    solved = record { complete = t.complete; in_reach = t.in_reach; least = t.least };
+    ends = t.ends;
+    soon = t.soon;
+    way = refl;
+    is = t.is;
+  }
+
+  first_known : IsKnownEnd home (Least (ends home form)) [] (Least end)
+  first_known = record {
+    reached = λ other e. inl (ap Least (sym end_is) ∙ e);
+    given = omega (arith, end_is);
+    least = λ other k d low. absurd (omega (arith, low));
+  }
+
+  first_progress : (limit : ℕ) (path : SmallVec ℕ) → IsProgress home (Some form) (progress_of limit path) []
+  first_progress limit path = record {
+    few = omega arith;
+    branched = refl;
+    bound = refl;
+    known = first_known;
+    best = λ other e.
+        subst (IsKept home (Some form) (progress_of limit path) []) (same_least end other e) (first_kept limit path);
+    late = λ left. tt;
+  }
+
+  pub begins_with : (limit : ℕ) (path : SmallVec ℕ) → IsDirection home given way → HasRoom most_tasks path
+      → IsBegun home (Some given) limit (progress_of limit path)
+  begins_with limit path direction room = record {
+    first = Some form;
+    begins = form_is direction;
+    tight = subst (λ (s : List Slot). IsTight home (seen_schedule home s way)) (sym t.is)
+        (shown_tight home (Some form) v (progress_of limit path) [] end (first_kept limit path));
+    no_later = omega (arith, no_later, end_is);
+    progress = first_progress limit path;
+    known = ap Least end_is;
+    limit_is = refl;
+    bound = refl;
+    count = kept_count;
+    room = room;
+  }
+
+-- where none is given, nothing is known before the first line
+pub begins_without : (home : InstanceView) (limit : ℕ) (incumbent : List Slot) (path : SmallVec ℕ)
+    → length incumbent ≡ length home.tasks → HasRoom most_tasks path
+    → IsBegun home None limit (begun limit incumbent path)
+begins_without home limit incumbent path count room = record {
+  first = None;
+  begins = refl;
+  tight = tt;
+  no_later = tt;
+  progress = record {
+    few = omega arith;
+    branched = refl;
+    bound = refl;
+    known = record {
+      reached = λ end e. absurd (cc e);
+      given = tt;
+      least = λ end k d low. absurd (omega (arith, low));
+    };
+    best = λ end e. absurd (cc e);
+    late = λ left. tt;
+  };
+  known = refl;
+  limit_is = refl;
+  bound = refl;
+  count = count;
+  room = room;
+}
+
+-- what goes one way in its direction goes up as it is seen there
+pub goes_seen : (home : InstanceView) (given : List Slot) (way : Direction) → IsDirection home given way
+    → GoesUp (seen home way) (seen_schedule home given way)
+goes_seen home given Up direction = direction
+goes_seen home given Down direction = direction.0.mirrored
+
+pub mirrored_goes : (home : InstanceView) (given : List Slot) → IsDirection home given Down
+    → GoesUp (mirror home) (mirror_schedule home given)
+mirrored_goes home given direction = direction.0.mirrored
+
+pub mirrored_soon : (home : InstanceView) (given : List Slot) → IsJudgeable home given
+    → (j : ℕ) → j < length (mirror home).tasks → start_of (mirror_schedule home given) j ≤ most_start
+mirrored_soon home given judgeable j low =
+    let n = seen-task_count home Down in
+    let here : j < length home.tasks = omega (arith, n, low) in
+    omega (arith, seen-start_of home given Down j (omega (arith, judgeable.all_tasks, here)), judgeable.start_range j here)
+
+-- a search that begins with a schedule
+pub begun_with : (home : InstanceView) (v : Valid home) (given : List Slot) (limit : ℕ) (path : SmallVec ℕ) (now : Progress)
+    → IsJudgeable home given → IsBegunWith home given limit path now → HasRoom most_tasks path
+    → IsBegun home (Some given) limit now
+begun_with home v given limit path now judgeable b room =
+    subst (IsBegun home (Some given) limit) (sym b.is)
+    (begins_with home v given b.way now.incumbent b.end judgeable (goes_seen home given b.way b.direction) b.tightened limit
+    path b.direction room)

@@ -1,0 +1,32 @@
+use Rattle.std.proofs.Common.{List, ◌∷◌, ap, sym, subst, ◌∙◌}
+use Rattle.std.proofs.lemmas.Bool.{false≢true}
+use Rattle.qc_dist.specs.Node.{IsOpen}
+use Rattle.qc_model.specs.declared.decision.Decision.{Decision}
+use Rattle.qc_model.specs.declared.pair.Pair.{Pair}
+use Rattle.qc_starts.proofs.KeptLemmas.{IsSettledPair}
+use Rattle.qc_search.proofs.OrderLemmas.{has_starts_of, order_open, order_settles}
+use Rattle.qc_search.proofs.given.order_as.Goals as goal
+
+pub go-requires-clause-starts : goal.go-requires-clause-starts
+go-requires-clause-starts c =
+    has_starts_of c.args.starts.now.inst c.args.starts.now.decisions c.args.sched.now c.requires.goes c.requires.agrees
+
+pub go-requires-clause-open : goal.go-requires-clause-open
+go-requires-clause-open c =
+    let inst = c.args.starts.now.inst in
+    let ds = c.args.starts.now.decisions in
+    let is = rw c.instance.ensures.same at c.order_of-order.ensures in
+    subst (IsOpen inst ds) (sym is)
+    (order_open inst c.args.sched.now c.apart_at-pair.result ds c.apart_at-pair.ensures.apart
+    (λ s. false≢true (sym c.if-settled.false ∙ c.settled.ensures.1 s)))
+
+pub returns-clause-settled : goal.returns-clause-settled
+returns-clause-settled c =
+    let inst = c.args.starts.now.inst in
+    let ds = c.args.starts.now.decisions in
+    let pair = c.apart_at-pair.result in
+    let is = rw c.instance.ensures.same at c.order_of-order.ensures in
+    subst (λ (p : Pair). IsSettledPair inst c.go.new.starts.decisions p) c.apart_at-pair.ensures.is
+    (subst (λ (es : List Decision). IsSettledPair inst es pair)
+    (sym (c.go.ensures.decisions ∙ ap (λ (d : Decision). d ∷ ds) is))
+    (order_settles inst c.args.sched.now pair ds (λ s. false≢true (sym c.if-settled.false ∙ c.settled.ensures.1 s))))
