@@ -63,12 +63,6 @@ pub fails : (result : Result Verdict OutOfMemory) (P : Type 0) → IfOk result (
 fails (Ok verdict) P failed none = (λ held. absurd (failed held), λ p. absurd (none p))
 fails (Err e) P failed none = tt
 
--- a verdict that is held just where the one holds, where that is just where the other does
-pub passes : (result : Result Verdict OutOfMemory) (P Q : Type 0) → P ↔ Q
-    → IfOk result (λ verdict. IsHeld verdict ↔ P) → IfOk result (λ verdict. IsHeld verdict ↔ Q)
-passes (Ok verdict) P Q same held = (λ h. same.0 (held.0 h), λ q. held.1 (same.1 q))
-passes (Err e) P Q same held = tt
-
 -- two tasks that are apart may be ordered just where they aren't settled
 pub order_open : (inst : InstanceView) (ds : List Decision) (i j : ℕ) (settled : Bool)
     → IsApart inst i j ⊎ IsApart inst j i → IsTrue settled ↔ IsSettled inst ds i j
