@@ -28,9 +28,10 @@ impl<'a> PlanAsked<'a> {
     {
         Inputs {
             ship: self.ship,
-            stow: self.stow,
+            stow: Some(self.stow),
             plan: None,
             tree: None,
+            log: None,
         }
     }
 }

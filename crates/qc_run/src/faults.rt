@@ -1,7 +1,8 @@
-//! The lines of faults in a ship file, in a stowage list, in a plan's file and in a tree's file.
-ghost use Rattle.std.specs.Prelude.{◌≡◌};
-ghost use Rattle.qc_run.specs.Texts.{bad_ship_text, place_line, bad_plan_text, bad_stow_text, bad_tree_text};
+//! The lines of faults in a ship file, in a stowage list, in a plan's file, in a tree's file and in a log.
+ghost use Rattle.std.specs.Prelude.{◌≡◌, ◌≤◌, length};
+ghost use Rattle.qc_run.specs.Texts.{bad_log_text, bad_ship_text, log_line, place_line, bad_plan_text, bad_stow_text, bad_tree_text};
 
+use crate::refusal::LogFault;
 use qc_gantt::PlanFault;
 use qc_num::Text;
 use qc_replay::TreeFault;
@@ -66,4 +67,26 @@ pub(crate) fn tree_fault_line(fault: TreeFault) -> Text<192>
     line.push_number(u64::from(fault.line));
     line.push(b"\n");
     line
+}
+
+/// The line of a fault in a log, by the text of its kind and its line there.
+fn log_line(kind: &[u8], number: u32) -> Text<192>
+    requires { length kind.now ≤ 12 }
+    ensures { result ≡ log_line kind.now number }
+{
+    let mut line = Text::of(b"BadLog ");
+    line.push(kind);
+    line.push(b" ");
+    line.push_number(u64::from(number));
+    line.push(b"\n");
+    line
+}
+
+/// The line of a fault in a log.
+pub(crate) fn log_fault_line(fault: LogFault) -> Text<192>
+    ensures { result ≡ bad_log_text fault }
+{
+    match fault {
+        LogFault::Watch(fault) => log_line(fault.kind.text().as_bytes(), fault.line),
+    }
 }

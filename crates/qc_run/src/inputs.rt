@@ -9,15 +9,18 @@ pub enum Input {
     Stow,
     Plan,
     Tree,
+    Log,
 }
 
-/// The names of the files that a command reads: a plan's and a tree's where it reads one.
+/// The names of the files that a command reads, of which every one reads a ship file: the others where it reads
+/// them.
 #[derive(Clone, Copy, Debug)]
 pub struct Inputs<'a> {
     pub ship: &'a str,
-    pub stow: &'a str,
+    pub stow: Option<&'a str>,
     pub plan: Option<&'a str>,
     pub tree: Option<&'a str>,
+    pub log: Option<&'a str>,
 }
 
 impl<'a> Inputs<'a> {
@@ -27,9 +30,10 @@ impl<'a> Inputs<'a> {
     {
         match file {
             Input::Ship => Some(self.ship),
-            Input::Stow => Some(self.stow),
+            Input::Stow => self.stow,
             Input::Plan => self.plan,
             Input::Tree => self.tree,
+            Input::Log => self.log,
         }
     }
 }

@@ -8,9 +8,11 @@ mod reading;
 mod refusal;
 mod report;
 mod status;
+mod watched;
 
 pub use inputs::{Input, Inputs};
 pub use reading::{Job, read_instance, read_job, read_tree};
-pub use refusal::{Refusal, Stop};
+pub use refusal::{LogFault, Refusal, Stop};
 pub use report::{direction_text, report_stop, report_text};
 pub use status::Status;
+pub use watched::{Watched, read_watched};
