@@ -28,7 +28,7 @@ use Rattle.qc_run.specs.Texts.{bad_plan_text}
 use Rattle.qc_run.specs.Told.{EndsBy, NoneFailed}
 use Rattle.qc_run.proofs.DueLemmas.{comes_due, stop_is}
 use Rattle.qc_run.proofs.StatusLemmas.{IsOwn, stop_is_not}
-use Rattle.qc_run.proofs.ToldLemmas.{of_status, stop_due, unfailed}
+use Rattle.qc_run.proofs.ToldLemmas.{of_status, read_promises, stop_due, unfailed}
 use Rattle.qc_run.specs.declared.broken.Broken.{Broken}
 use Rattle.qc_judge_commands.specs.declared.answer.Compared.{Compared}
 use Rattle.qc_judge_commands.specs.declared.answer.Judged.{Judged}
@@ -41,7 +41,7 @@ use Rattle.qc_judge_commands.specs.Promises.{EndsJudged, EndsShown, IsBadPlanTol
 use Rattle.qc_judge_commands.specs.Reports.{showing_prints, showing_prints_part, showing_status}
 use Rattle.qc_judge_commands.specs.Shown.{IsNoneShown}
 use Rattle.qc_judge_commands.specs.Texts.{compared_status, compared_text, compared_word, judged_status, judged_text}
-use Rattle.qc_judge_commands.proofs.ReadLemmas.{job_inst, read_promises}
+use Rattle.qc_judge_commands.proofs.ReadLemmas.{job_inst}
 
 -- ---- statuses
 

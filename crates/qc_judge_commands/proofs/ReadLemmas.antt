@@ -1,4 +1,4 @@
--- What a tree's file shows for the instance that is due, and what is promised of each command that only reads.
+-- What a tree's file shows for the instance that is due.
 use Rattle.std.proofs.Common.{◌≡◌, ◌≢◌, ◌≤◌, ℕ, Option, None, Some, Result, Ok, Err, ap, subst, inl, inr, ◌∙◌, IfSome}
 use Rattle.qc_num.specs.declared.bound.Bound.{Bound}
 use Rattle.qc_num.specs.Reading.{◌>>=◌}
@@ -8,21 +8,14 @@ use Rattle.qc_run.specs.declared.reading.Job.{Job}
 use Rattle.qc_run.specs.declared.inputs.Input.TheVariants as input
 use Rattle.qc_run.specs.declared.refusal.Refusal.TheVariants as refusal
 use Rattle.qc_run.specs.declared.refusal.Stop.{Stop}
-use Rattle.qc_run.specs.declared.refusal.Stop.TheVariants as stop
-use Rattle.qc_run.specs.declared.status.Status.{Status}
-use Rattle.qc_run.specs.declared.status.Status.TheVariants as status
 use Rattle.qc_run.specs.Due.{Contents, contents_in, instance_due, job_due, schedule_due, tree_due}
 use Rattle.qc_run.specs.Inputs.{Names}
-use Rattle.qc_run.specs.Reports.{IsRun, Printing}
 use Rattle.qc_run.specs.Shown.{IsNoTree, IsTreeShown}
 use Rattle.qc_run.specs.Steps.{ComesTo}
 use Rattle.qc_run.proofs.DueLemmas.{stops_from}
-use Rattle.qc_run.proofs.StatusLemmas.{IsOwn}
-use Rattle.qc_run.proofs.ToldLemmas.{cut_told, memory_told, never_usage, refused_told}
 use Rattle.qc_judge_commands.specs.declared.answer.Judged.{Judged}
 use Rattle.qc_judge_commands.specs.declared.answer.Judged.TheVariants as judged
 use Rattle.qc_judge_commands.specs.Account.{ComesOf, IsBroken, IsCompared, IsJudging}
-use Rattle.qc_judge_commands.specs.Promises.{ReadPromises}
 use Rattle.qc_judge_commands.specs.Shown.{IsBoundShown, IsNoneShown}
 
 -- ---- the instance that is due
@@ -74,17 +67,3 @@ judging_from names before mid after r files faults reads is = record {
         tree = stops_from (tree_due late.job.inst) names before mid after files reads why late.tree;
       })
     ]
-
--- ---- what each command promises that only reads
-
-module _ {A : Type 0} (account : Result A Stop → Type 0) (whole part : A → Printing) (status_of : A → Status)
-    (before after pb pa : View) (ended : Status) (run : IsRun account whole part status_of pb pa ended) where
-  pub read_promises : ((answer : A) → IsOwn (status_of answer)) → ((answer : A) → status_of answer ≢ status.WriteFault)
-      → ¬ account (Err (stop.Refused refusal.Usage)) → after.files ≡ before.files → ReadPromises account part before after pb pa ended
-  read_promises own no_fault no_usage files = record {
-    refused = refused_told account whole part status_of pb pa ended run own;
-    no_usage = never_usage account whole part status_of pb pa ended run own no_usage;
-    out_of_memory = memory_told account whole part status_of pb pa ended run own;
-    files_stay = files;
-    write_fault = cut_told account whole part status_of pb pa ended run no_fault;
-  }

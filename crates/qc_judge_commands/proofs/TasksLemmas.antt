@@ -19,12 +19,11 @@ use Rattle.qc_run.specs.Steps.{ComesTo, IsStep}
 use Rattle.qc_run.specs.Told.{EndsBy, NoneFailed}
 use Rattle.qc_run.proofs.DueLemmas.{comes_due}
 use Rattle.qc_run.proofs.StatusLemmas.{IsOwn, stop_is_not}
-use Rattle.qc_run.proofs.ToldLemmas.{of_status, stop_due, unfailed}
+use Rattle.qc_run.proofs.ToldLemmas.{of_status, read_promises, stop_due, unfailed}
 use Rattle.qc_judge_commands.specs.Account.{IsTasksRun, IsTreeChecked, IsTreeRun}
 use Rattle.qc_judge_commands.specs.Promises.{AreTasksTold, IsEndTold, IsNoneTold, TasksPromises, TreePromises}
 use Rattle.qc_judge_commands.specs.Shown.{IsBoundShown, IsNoneShown}
 use Rattle.qc_judge_commands.specs.Texts.{bound_status, bound_text}
-use Rattle.qc_judge_commands.proofs.ReadLemmas.{read_promises}
 
 -- what a step comes to where no call failed
 step_ends : {A : Type 0} (step : Contents → Result A Refusal) (status_of : A → Status) (names : Names) (before after pb pa : View)

@@ -1,5 +1,5 @@
 -- public: what follows from the accounts of these commands, said by itself for whoever reads one status.
-use Rattle.std.specs.Prelude.{◌≡◌, ◌≢◌, ℕ, ◌≤◌, ◌<◌, ◌⊎◌, List, ◌++◌, codes, decimal, if◌then◌else◌, Result, Ok, Err, Some, IfSome}
+use Rattle.std.specs.Prelude.{◌≡◌, ℕ, ◌≤◌, ◌<◌, ◌⊎◌, List, ◌++◌, codes, decimal, if◌then◌else◌, Result, Ok, Err, Some, IfSome}
 use Rattle.qc_num.specs.declared.bound.Bound.{Bound}
 use Rattle.qc_num.specs.declared.bound.Bound.TheVariants.{Least, Never}
 use Rattle.qc_io.specs.Outside.{Files, View}
@@ -12,17 +12,16 @@ use Rattle.qc_tasks.specs.TasksText.{tasks_text}
 use Rattle.qc_run.specs.declared.reading.Job.{Job}
 use Rattle.qc_run.specs.declared.refusal.Refusal.{Refusal}
 use Rattle.qc_run.specs.declared.refusal.Refusal.TheVariants as refusal
-use Rattle.qc_run.specs.declared.refusal.Stop.{Stop}
 use Rattle.qc_run.specs.declared.status.Status.{Status}
 use Rattle.qc_run.specs.declared.status.Status.TheVariants as status
 use Rattle.qc_run.specs.Broken.{TellsBreak, broken_text}
 use Rattle.qc_run.specs.Due.{contents_in, instance_due, job_due, shown_due, tree_due}
 use Rattle.qc_run.specs.Inputs.{Names}
-use Rattle.qc_run.specs.Reports.{Printing, Prints, PrintsPart}
+use Rattle.qc_run.specs.Reports.{Prints, PrintsPart}
 use Rattle.qc_run.specs.Shown.{IsTreeShown}
 use Rattle.qc_run.specs.Steps.{IsStep}
 use Rattle.qc_run.specs.Texts.{bad_plan_text}
-use Rattle.qc_run.specs.Told.{EndsBy, IsBest, IsCutTold, IsRefusal, IsRefusalTold, NoneFailed}
+use Rattle.qc_run.specs.Told.{EndsBy, IsBest, NoneFailed, ReadPromises}
 use Rattle.qc_run.specs.declared.broken.Broken.{Broken}
 use Rattle.qc_judge_commands.specs.declared.answer.Compared.{Compared}
 use Rattle.qc_judge_commands.specs.declared.answer.Shown.{Shown}
@@ -30,18 +29,6 @@ use Rattle.qc_judge_commands.specs.Account.{IsJudging, IsMoved, IsShowing, IsTre
 use Rattle.qc_judge_commands.specs.Reports.{IsShownPrinted, showing_prints_part}
 use Rattle.qc_judge_commands.specs.Shown.{IsBoundShown, IsNoneShown}
 use Rattle.qc_judge_commands.specs.Texts.{bound_status, bound_text, compared_status, compared_text, compared_word, judged_text}
-
--- ---- what each of them promises
-
--- each command that only reads: refusals, want of memory, and the files stay
-pub record ReadPromises {A : Type 0} (account : Result A Stop → Type 0) (part : A → Printing)
-    (before after out_before out_after : View) (ended : Status) : Type 0 where
-  pub refused : IsRefusal ended → IsRefusalTold account out_before out_after ended
-  pub no_usage : ended ≢ status.Usage
-  pub out_of_memory : ended ≡ status.OutOfMemory
-      → Prints (codes "OutOfMemory\n") out_before.written out_after.written
-  pub files_stay : after.files ≡ before.files
-  pub write_fault : ended ≡ status.WriteFault → IsCutTold account part out_before out_after
 
 -- ---- the tasks
 

@@ -18,7 +18,8 @@ use std::alloc::Global;
 
 /// What the tree shows for the instance of the ship file and the stowage list.
 fn read_shown<S: Shelf>(alloc: Global, inputs: &Inputs<'_>, shelf: &mut S) -> Result<Replayed, Stop>
-    requires { IsSome (names_of inputs.now).tree }
+    requires stow { IsSome (names_of inputs.now).stow }
+    requires tree { IsSome (names_of inputs.now).tree }
     ensures step { IsStep shown_due (names_of inputs.now)
         (S.Sink.view shelf.old) (S.Sink.view shelf.new) result }
     ensures shown { IfOk result (λ read. IfSome (S.Sink.view shelf.old).files (λ held.
@@ -69,7 +70,8 @@ pub fn check_tree<S: Shelf, K: Sink>(
     shelf: &mut S,
     out: &mut K,
 ) -> Status
-    requires { IsSome (names_of inputs.now).tree }
+    requires stow { IsSome (names_of inputs.now).stow }
+    requires tree { IsSome (names_of inputs.now).tree }
     ensures account { IsTreeRun (names_of inputs.now) (S.Sink.view shelf.old) (S.Sink.view shelf.new)
         (K.Sink.view out.old) (K.Sink.view out.new) result }
     ensures promises { TreePromises (names_of inputs.now) (S.Sink.view shelf.old) (S.Sink.view shelf.new)

@@ -57,6 +57,7 @@ fn compare<S: Shelf>(
 /// Reads the ship file, the stowage list and the plan's file and judges the plan; the tree's file is
 /// opened only where the plan holds.
 fn judge<S: Shelf>(alloc: Global, inputs: &Inputs<'_>, shelf: &mut S) -> Result<Judged, Stop>
+    requires stow { IsSome (names_of inputs.now).stow }
     requires plan { IsSome (names_of inputs.now).plan }
     requires tree { IsSome (names_of inputs.now).tree }
     ensures { IsJudging (names_of inputs.now) (S.Sink.view shelf.old) (S.Sink.view shelf.new) result }
@@ -78,6 +79,7 @@ pub fn check_plan<S: Shelf, K: Sink>(
     shelf: &mut S,
     out: &mut K,
 ) -> Status
+    requires stow { IsSome (names_of inputs.now).stow }
     requires plan { IsSome (names_of inputs.now).plan }
     requires tree { IsSome (names_of inputs.now).tree }
     ensures account { IsPlanCheckRun (names_of inputs.now) (S.Sink.view shelf.old) (S.Sink.view shelf.new)

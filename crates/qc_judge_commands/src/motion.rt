@@ -17,7 +17,8 @@ use std::alloc::Global;
 /// Reads the ship file, the stowage list and the plan's file and judges the plan; where it holds its
 /// motion is to be printed.
 fn judge<S: Shelf>(alloc: Global, inputs: &Inputs<'_>, shelf: &mut S) -> Result<Showing, Stop>
-    requires { IsSome (names_of inputs.now).plan }
+    requires stow { IsSome (names_of inputs.now).stow }
+    requires plan { IsSome (names_of inputs.now).plan }
     ensures serves { IsShowing (names_of inputs.now) (S.Sink.view shelf.old) (S.Sink.view shelf.new) result }
     ensures ready { IfOk result CanBeShown }
 {
@@ -47,7 +48,8 @@ pub fn show<S: Shelf, K: Sink>(
     shelf: &mut S,
     out: &mut K,
 ) -> Status
-    requires { IsSome (names_of inputs.now).plan }
+    requires stow { IsSome (names_of inputs.now).stow }
+    requires plan { IsSome (names_of inputs.now).plan }
     ensures account { IsShowRun (names_of inputs.now) (S.Sink.view shelf.old) (S.Sink.view shelf.new)
         (K.Sink.view out.old) (K.Sink.view out.new) result }
     ensures promises { ShowPromises (names_of inputs.now) (S.Sink.view shelf.old) (S.Sink.view shelf.new)

@@ -1,5 +1,5 @@
 //! The command that prints the tasks.
-ghost use Rattle.std.specs.Prelude.{◌≤◌};
+ghost use Rattle.std.specs.Prelude.{◌≤◌, IsSome};
 ghost use Rattle.qc_tasks.specs.TasksText.{tasks_text};
 ghost use Rattle.qc_run.specs.Inputs.{names_of};
 ghost use Rattle.qc_run.specs.Reports.{Prints, PrintsPart, Reports};
@@ -31,6 +31,7 @@ pub fn list_tasks<S: Shelf, K: Sink>(
     shelf: &mut S,
     out: &mut K,
 ) -> Status
+    requires { IsSome (names_of inputs.now).stow }
     ensures account { IsTasksRun (names_of inputs.now) (S.Sink.view shelf.old) (S.Sink.view shelf.new)
         (K.Sink.view out.old) (K.Sink.view out.new) result }
     ensures promises { TasksPromises (names_of inputs.now) (S.Sink.view shelf.old) (S.Sink.view shelf.new)

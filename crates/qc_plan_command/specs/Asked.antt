@@ -1,6 +1,6 @@
 -- public: what a plan is asked for with.
-use Rattle.std.specs.Prelude.{ℕ, List, Option, None, Some, option_map}
-use Rattle.qc_run.specs.Inputs.{Names}
+use Rattle.std.specs.Prelude.{ℕ, List, Option, Some, option_map}
+use Rattle.qc_run.specs.Inputs.{Names, no_names}
 use Rattle.qc_plan_command.specs.declared.asked.PlanAsked.{PlanAsked}
 
 -- the files that are read, the names of the plan's file and of the tree's, and at most how many branchings
@@ -13,7 +13,7 @@ pub record Planning : Type 0 where
 -- a plan reads a ship file and a stowage list, and a plan of the planner's own where one is named
 abbrev pub plan_of : (ship stow plan tree : List ℕ) (nodes : ℕ) (own : Option (List ℕ)) → Planning
 plan_of ship stow plan tree nodes own = record {
-  inputs = record { ship = Some ship; stow = Some stow; plan = None; tree = None; own = own };
+  inputs = record no_names { ship = Some ship; stow = Some stow; own = own };
   plan = plan;
   tree = tree;
   nodes = nodes;

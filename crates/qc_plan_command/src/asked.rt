@@ -30,10 +30,11 @@ impl<'a> PlanAsked<'a> {
     {
         Inputs {
             ship: self.ship,
-            stow: self.stow,
+            stow: Some(self.stow),
             plan: None,
             tree: None,
             own: self.own,
+            log: None,
         }
     }
 }

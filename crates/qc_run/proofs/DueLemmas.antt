@@ -23,6 +23,7 @@ without_missing input.Stow held names name named missing = let contents = conten
 without_missing input.Plan held names name named missing = let contents = contents_in held names in ap (λ (o : Option (List ℕ)). record contents { plan = o }) (sym (ap (option_and_then (get held)) named ∙ missing))
 without_missing input.Tree held names name named missing = let contents = contents_in held names in ap (λ (o : Option (List ℕ)). record contents { tree = o }) (sym (ap (option_and_then (get held)) named ∙ missing))
 without_missing input.Own held names name named missing = let contents = contents_in held names in ap (λ (o : Option (List ℕ)). record contents { own = o }) (sym (ap (option_and_then (get held)) named ∙ missing))
+without_missing input.Log held names name named missing = let contents = contents_in held names in ap (λ (o : Option (List ℕ)). record contents { log = o }) (sym (ap (option_and_then (get held)) named ∙ missing))
 
 module _ {A : Type 0} (step : Contents → Result A Refusal) (names : Names) where
   -- what comes of told files is due of them
@@ -51,6 +52,7 @@ module _ {A : Type 0} (step : Contents → Result A Refusal) (names : Names) whe
   stop_is before after held told none (refusal.BadStow fault) h = comes_due held before.files told (Err (refusal.BadStow fault)) h.1
   stop_is before after held told none (refusal.BadPlan fault) h = comes_due held before.files told (Err (refusal.BadPlan fault)) h.1
   stop_is before after held told none (refusal.BadTree fault) h = comes_due held before.files told (Err (refusal.BadTree fault)) h.1
+  stop_is before after held told none (refusal.BadLog fault) h = comes_due held before.files told (Err (refusal.BadLog fault)) h.1
 
   -- what stopped behind calls that left the files and came through stopped as from their beginning
   pub stops_from : (before mid after : View) → mid.files ≡ before.files → mid.read_faults ≡ before.read_faults → (why : Stop)
@@ -72,3 +74,5 @@ module _ {A : Type 0} (step : Contents → Result A Refusal) (names : Names) whe
       (h.0 ∙ reads, subst (λ (f : Option Files). ComesTo step names f (Err (refusal.BadPlan fault))) files h.1)
   stops_from before mid after files reads (stop.Refused (refusal.BadTree fault)) h =
       (h.0 ∙ reads, subst (λ (f : Option Files). ComesTo step names f (Err (refusal.BadTree fault))) files h.1)
+  stops_from before mid after files reads (stop.Refused (refusal.BadLog fault)) h =
+      (h.0 ∙ reads, subst (λ (f : Option Files). ComesTo step names f (Err (refusal.BadLog fault))) files h.1)

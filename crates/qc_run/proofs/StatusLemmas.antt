@@ -17,6 +17,7 @@ IsOwn status.BudgetPlan = Unit {0}
 IsOwn status.BudgetNone = Unit {0}
 IsOwn status.Broken = Unit {0}
 IsOwn status.Weaker = Unit {0}
+IsOwn status.Breach = Unit {0}
 IsOwn _ = ⊥
 
 -- a command that stops ends with none of these
@@ -32,3 +33,4 @@ stop_is_not why s e own = by why (subst IsOwn (sym e) own)
     by (stop.Refused (refusal.BadStow fault)) own = own
     by (stop.Refused (refusal.BadPlan fault)) own = own
     by (stop.Refused (refusal.BadTree fault)) own = own
+    by (stop.Refused (refusal.BadLog fault)) own = own

@@ -12,7 +12,7 @@ use Rattle.qc_run.specs.Inputs.{Names}
 use Rattle.qc_run.specs.Reports.{IsRun, Printing, Prints, answer_prints, answer_status}
 use Rattle.qc_run.specs.Steps.{Stops}
 use Rattle.qc_run.specs.Texts.{refusal_status, stop_status}
-use Rattle.qc_run.specs.Told.{EndsBy, IsCutTold, IsRefusal, IsRefusalTold}
+use Rattle.qc_run.specs.Told.{EndsBy, IsCutTold, IsRefusal, IsRefusalTold, ReadPromises}
 use Rattle.qc_run.proofs.DueLemmas.{stop_is}
 use Rattle.qc_run.proofs.StatusLemmas.{IsOwn, stop_is_not}
 
@@ -25,6 +25,7 @@ refusal_not_own status.BadShip is own = own
 refusal_not_own status.BadStow is own = own
 refusal_not_own status.BadPlan is own = own
 refusal_not_own status.BadTree is own = own
+refusal_not_own status.BadLog is own = own
 refusal_not_own other is own = is
 
 module _ {A : Type 0} (account : Result A Stop → Type 0) (whole part : A → Printing) (status_of : A → Status)
@@ -74,6 +75,7 @@ module _ {A : Type 0} (account : Result A Stop → Type 0) (whole part : A → P
         no_memory (refusal.BadStow fault) e = cc e
         no_memory (refusal.BadPlan fault) e = cc e
         no_memory (refusal.BadTree fault) e = cc e
+        no_memory (refusal.BadLog fault) e = cc e
 
     -- want of memory is told by its line alone
     pub memory_told : ended ≡ status.OutOfMemory → Prints (codes "OutOfMemory\n") before.written after.written
@@ -90,6 +92,7 @@ module _ {A : Type 0} (account : Result A Stop → Type 0) (whole part : A → P
     usage_by none (Err (stop.Refused (refusal.BadStow fault))) serves e = cc e
     usage_by none (Err (stop.Refused (refusal.BadPlan fault))) serves e = cc e
     usage_by none (Err (stop.Refused (refusal.BadTree fault))) serves e = cc e
+    usage_by none (Err (stop.Refused (refusal.BadLog fault))) serves e = cc e
 
     -- a command whose account has no Usage doesn't end with it
     pub never_usage : ¬ account (Err (stop.Refused refusal.Usage)) → ended ≢ status.Usage
@@ -114,6 +117,20 @@ module _ {A : Type 0} (account : Result A Stop → Type 0) (whole part : A → P
     | inl told ↦ subst P (sym told.status) holds
     | inr cut ↦ absurd (none cut.rose)
   ]
+
+-- ---- what each command promises that only reads
+
+module _ {A : Type 0} (account : Result A Stop → Type 0) (whole part : A → Printing) (status_of : A → Status)
+    (before after pb pa : View) (ended : Status) (run : IsRun account whole part status_of pb pa ended) where
+  pub read_promises : ((answer : A) → IsOwn (status_of answer)) → ((answer : A) → status_of answer ≢ status.WriteFault)
+      → ¬ account (Err (stop.Refused refusal.Usage)) → after.files ≡ before.files → ReadPromises account part before after pb pa ended
+  read_promises own no_fault no_usage files = record {
+    refused = refused_told account whole part status_of pb pa ended run own;
+    no_usage = never_usage account whole part status_of pb pa ended run own no_usage;
+    out_of_memory = memory_told account whole part status_of pb pa ended run own;
+    files_stay = files;
+    write_fault = cut_told account whole part status_of pb pa ended run no_fault;
+  }
 
 -- what stopped is due where no call failed, or it is want of memory
 pub stop_due : {A : Type 0} (step : Contents → Result A Refusal) (own : A → Status → Type 0) (names : Names) (before after : View) (held : Files)

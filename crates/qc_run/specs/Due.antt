@@ -13,6 +13,8 @@ use Rattle.qc_ship.specs.ShipFile.{ship_file}
 use Rattle.qc_stow.specs.declared.row.Row.{Row}
 use Rattle.qc_stow.specs.Stow.{moves_in}
 use Rattle.qc_tasks.specs.InstanceOf.{instance_of}
+use Rattle.qc_watch.specs.declared.report.Report.{Report}
+use Rattle.qc_watch.specs.Log.{reports_in}
 use Rattle.qc_run.specs.declared.inputs.Input.{Input}
 use Rattle.qc_run.specs.declared.inputs.Input.TheVariants as input
 use Rattle.qc_run.specs.Inputs.{Names, name_of}
@@ -20,6 +22,8 @@ use Rattle.qc_run.specs.declared.refusal.Refusal.{Refusal}
 use Rattle.qc_run.specs.declared.refusal.Refusal.TheVariants as refusal
 use Rattle.qc_run.specs.declared.reading.Job.{Job}
 use Rattle.qc_run.specs.declared.reading.OwnJob.{OwnJob}
+use Rattle.qc_run.specs.declared.refusal.LogFault.TheVariants as log
+use Rattle.qc_run.specs.declared.watched.Watched.{Watched}
 
 -- the bytes of the files that are read, by what each is for; none where it isn't held or isn't read
 pub record Contents : Type 0 where
@@ -28,6 +32,7 @@ pub record Contents : Type 0 where
   pub plan : Option (List ℕ)
   pub tree : Option (List ℕ)
   pub own : Option (List ℕ)
+  pub log : Option (List ℕ)
 
 abbrev pub bytes_of : Input → Contents → Option (List ℕ)
 bytes_of input.Ship contents = contents.ship
@@ -35,6 +40,7 @@ bytes_of input.Stow contents = contents.stow
 bytes_of input.Plan contents = contents.plan
 bytes_of input.Tree contents = contents.tree
 bytes_of input.Own contents = contents.own
+bytes_of input.Log contents = contents.log
 
 -- the same, as if one of the files weren't held
 abbrev pub without : Input → Contents → Contents
@@ -43,6 +49,7 @@ without input.Stow contents = record contents { stow = None }
 without input.Plan contents = record contents { plan = None }
 without input.Tree contents = record contents { tree = None }
 without input.Own contents = record contents { own = None }
+without input.Log contents = record contents { log = None }
 
 -- what a command finds in these files
 abbrev pub contents_in : Files → Names → Contents
@@ -52,6 +59,7 @@ contents_in held names = record {
   plan = option_and_then (get held) (name_of input.Plan names);
   tree = option_and_then (get held) (name_of input.Tree names);
   own = option_and_then (get held) (name_of input.Own names);
+  log = option_and_then (get held) (name_of input.Log names);
 }
 
 -- the greatest length of a file that is read whole, in bytes
@@ -124,3 +132,16 @@ abbrev pub shown_due : Contents → Result Replayed Refusal
 shown_due contents = do
   inst ← instance_due contents
   tree_due inst contents
+
+-- the reports of the log for a ship, or the first refusal of that file
+abbrev pub reports_due : ShipView → Contents → Result (List (List Report)) Refusal
+reports_due ship contents = do
+  bytes ← input_due input.Log contents
+  with_fault (λ fault. refusal.BadLog (log.Watch fault)) (reports_in ship bytes)
+
+-- the ship and the reports of the files, or the first refusal: the log comes last
+abbrev pub watched_due : Contents → Result Watched Refusal
+watched_due contents = do
+  ship ← ship_due contents
+  reports ← reports_due ship contents
+  Ok (record { ship = ship; reports = reports })

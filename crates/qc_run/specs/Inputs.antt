@@ -1,5 +1,5 @@
 -- public: the names of the files that a command reads, by what each is for.
-use Rattle.std.specs.Prelude.{List, ℕ, Option, Some, IsSome, option_map}
+use Rattle.std.specs.Prelude.{List, ℕ, Option, None, Some, IsSome, option_map}
 use Rattle.qc_run.specs.declared.inputs.Input.{Input}
 use Rattle.qc_run.specs.declared.inputs.Input.TheVariants as input
 use Rattle.qc_run.specs.declared.inputs.Inputs.{Inputs}
@@ -11,14 +11,20 @@ pub record Names : Type 0 where
   pub plan : Option (List ℕ)
   pub tree : Option (List ℕ)
   pub own : Option (List ℕ)
+  pub log : Option (List ℕ)
+
+-- the command reads no file
+abbrev pub no_names : Names
+no_names = record { ship = None; stow = None; plan = None; tree = None; own = None; log = None }
 
 abbrev pub names_of : Inputs → Names
 names_of inputs = record {
   ship = Some inputs.ship.now;
-  stow = Some inputs.stow.now;
+  stow = option_map (λ name. name.now) inputs.stow;
   plan = option_map (λ name. name.now) inputs.plan;
   tree = option_map (λ name. name.now) inputs.tree;
   own = option_map (λ name. name.now) inputs.own;
+  log = option_map (λ name. name.now) inputs.log;
 }
 
 abbrev pub name_of : Input → Names → Option (List ℕ)
@@ -27,6 +33,7 @@ name_of input.Stow names = names.stow
 name_of input.Plan names = names.plan
 name_of input.Tree names = names.tree
 name_of input.Own names = names.own
+name_of input.Log names = names.log
 
 -- the command reads the file whole; a tree's file is read line by line
 abbrev pub IsWhole : Input → Names → Type 0

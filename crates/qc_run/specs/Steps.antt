@@ -44,6 +44,7 @@ MayRefuse names (refusal.BadShip fault) = IsSome names.ship
 MayRefuse names (refusal.BadStow fault) = IsSome names.stow
 MayRefuse names (refusal.BadPlan fault) = IsSome names.plan ⊎ IsSome names.own
 MayRefuse names (refusal.BadTree fault) = IsSome names.tree
+MayRefuse names (refusal.BadLog fault) = IsSome names.log
 
 -- want of memory comes of any command
 abbrev pub MayStop : Names → Stop → Type 0

@@ -14,6 +14,9 @@ use Rattle.qc_stow.specs.Faults.{kind_text as stow_text}
 use Rattle.qc_stow.specs.declared.fault.StowFault.{StowFault}
 use Rattle.qc_run.specs.declared.inputs.Input.{Input}
 use Rattle.qc_run.specs.declared.inputs.Input.TheVariants as input
+use Rattle.qc_watch.specs.Faults.{kind_text as watch_text}
+use Rattle.qc_run.specs.declared.refusal.LogFault.{LogFault}
+use Rattle.qc_run.specs.declared.refusal.LogFault.TheVariants as log
 use Rattle.qc_run.specs.declared.refusal.Refusal.{Refusal}
 use Rattle.qc_run.specs.declared.refusal.Refusal.TheVariants as refusal
 use Rattle.qc_run.specs.declared.refusal.Stop.{Stop}
@@ -39,6 +42,8 @@ status_code status.BudgetNone = 12
 status_code status.Broken = 13
 status_code status.Weaker = 14
 status_code status.TooLarge = 15
+status_code status.BadLog = 17
+status_code status.Breach = 18
 
 abbrev pub input_text : Input → List ℕ
 input_text input.Ship = codes "ship"
@@ -46,9 +51,10 @@ input_text input.Stow = codes "stow"
 input_text input.Plan = codes "plan"
 input_text input.Tree = codes "tree"
 input_text input.Own = codes "own"
+input_text input.Log = codes "log"
 
 abbrev pub usage_text : List ℕ
-usage_text = codes "Usage\nqc plan SHIP STOW PLAN TREE [--nodes N] [--from OWN]\nqc check SHIP STOW PLAN TREE\nqc tasks SHIP STOW\nqc show SHIP STOW PLAN\nqc make NUMBER HATCHES CRANES\n"
+usage_text = codes "Usage\nqc plan SHIP STOW PLAN TREE [--nodes N] [--from OWN]\nqc check SHIP STOW PLAN TREE\nqc tasks SHIP STOW\nqc show SHIP STOW PLAN\nqc make NUMBER HATCHES CRANES\nqc watch SHIP LOG\n"
 
 -- a line: the text and a line feed
 abbrev pub line : List ℕ → List ℕ
@@ -81,6 +87,10 @@ bad_plan_text fault = fault_text (codes "BadPlan ") (plan_kind_text fault.kind) 
 abbrev pub bad_tree_text : TreeFault → List ℕ
 bad_tree_text fault = fault_text (codes "BadTree ") (tree_text fault.kind) fault.line
 
+-- the line of a fault in a log with its line there
+abbrev pub bad_log_text : LogFault → List ℕ
+bad_log_text (log.Watch fault) = fault_text (codes "BadLog ") (watch_text fault.kind) fault.line
+
 abbrev pub direction_text : Direction → List ℕ
 direction_text Up = codes "up"
 direction_text Down = codes "down"
@@ -94,6 +104,7 @@ refusal_text (refusal.BadShip fault) = bad_ship_text fault.kind fault
 refusal_text (refusal.BadStow fault) = bad_stow_text fault
 refusal_text (refusal.BadPlan fault) = bad_plan_text fault
 refusal_text (refusal.BadTree fault) = bad_tree_text fault
+refusal_text (refusal.BadLog fault) = bad_log_text fault
 
 abbrev pub refusal_status : Refusal → Status
 refusal_status refusal.Usage = status.Usage
@@ -103,6 +114,7 @@ refusal_status (refusal.BadShip fault) = status.BadShip
 refusal_status (refusal.BadStow fault) = status.BadStow
 refusal_status (refusal.BadPlan fault) = status.BadPlan
 refusal_status (refusal.BadTree fault) = status.BadTree
+refusal_status (refusal.BadLog fault) = status.BadLog
 
 -- what is printed where a request stops
 abbrev pub stop_text : Stop → List ℕ

@@ -1,5 +1,5 @@
 -- public: what follows from a run's status, whatever its command is.
-use Rattle.std.specs.Prelude.{◌≡◌, ◌⊎◌, ◌≤◌, List, Result, Ok, Err}
+use Rattle.std.specs.Prelude.{◌≡◌, ◌≢◌, ◌⊎◌, ◌≤◌, List, codes, Result, Ok, Err}
 use Rattle.qc_io.specs.Outside.{Rose, View}
 use Rattle.qc_model.specs.declared.schedule.Slot.{Slot}
 use Rattle.qc_model.specs.Instance.{InstanceView}
@@ -27,6 +27,7 @@ IsRefusal status.BadShip = Unit {0}
 IsRefusal status.BadStow = Unit {0}
 IsRefusal status.BadPlan = Unit {0}
 IsRefusal status.BadTree = Unit {0}
+IsRefusal status.BadLog = Unit {0}
 IsRefusal _ = ⊥
 
 -- a refusal with this status was printed, and the account of the command says why it came
@@ -44,6 +45,16 @@ pub record IsCutTold {A : Type 0} (account : Result A Stop → Type 0) (part : A
   pub answer : Result A Stop
   pub serves : account answer
   pub report : answer_prints PrintsPart part answer before.written after.written
+
+-- each command that only reads: refusals, want of memory, and the files stay
+pub record ReadPromises {A : Type 0} (account : Result A Stop → Type 0) (part : A → Printing)
+    (before after out_before out_after : View) (ended : Status) : Type 0 where
+  pub refused : IsRefusal ended → IsRefusalTold account out_before out_after ended
+  pub no_usage : ended ≢ status.Usage
+  pub out_of_memory : ended ≡ status.OutOfMemory
+      → Prints (codes "OutOfMemory\n") out_before.written out_after.written
+  pub files_stay : after.files ≡ before.files
+  pub write_fault : ended ≡ status.WriteFault → IsCutTold account part out_before out_after
 
 -- no call on the shelf or on the sink failed
 pub record NoneFailed (before after out_before out_after : View) : Type 0 where

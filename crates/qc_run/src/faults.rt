@@ -1,7 +1,8 @@
-//! The lines of faults in a ship file, in a stowage list, in a plan's file and in a tree's file.
+//! The lines of faults in a ship file, in a stowage list, in a plan's file, in a tree's file and in a log.
 ghost use Rattle.std.specs.Prelude.{◌≡◌, ◌≤◌, length};
-ghost use Rattle.qc_run.specs.Texts.{bad_ship_text, fault_text, place_line, bad_plan_text, bad_stow_text, bad_tree_text};
+ghost use Rattle.qc_run.specs.Texts.{bad_log_text, bad_ship_text, fault_text, place_line, bad_plan_text, bad_stow_text, bad_tree_text};
 
+use crate::refusal::LogFault;
 use qc_gantt::PlanFault;
 use qc_num::Text;
 use qc_replay::TreeFault;
@@ -65,4 +66,13 @@ pub(crate) fn tree_fault_line(fault: TreeFault) -> Text<192>
     ensures { result ≡ bad_tree_text fault }
 {
     fault_line(b"BadTree ", fault.kind.text(), fault.line)
+}
+
+/// The line of a fault in a log.
+pub(crate) fn log_fault_line(fault: LogFault) -> Text<192>
+    ensures { result ≡ bad_log_text fault }
+{
+    match fault {
+        LogFault::Watch(fault) => fault_line(b"BadLog ", fault.kind.text(), fault.line),
+    }
 }

@@ -10,16 +10,19 @@ pub enum Input {
     Plan,
     Tree,
     Own,
+    Log,
 }
 
-/// The names of the files that a command reads: a plan's, a tree's and that of a planner's own plan where it reads one.
+/// The names of the files that a command reads, of which every one reads a ship file: the others where it reads
+/// them. `own` is a plan that the planner has already.
 #[derive(Clone, Copy, Debug)]
 pub struct Inputs<'a> {
     pub ship: &'a str,
-    pub stow: &'a str,
+    pub stow: Option<&'a str>,
     pub plan: Option<&'a str>,
     pub tree: Option<&'a str>,
     pub own: Option<&'a str>,
+    pub log: Option<&'a str>,
 }
 
 impl<'a> Inputs<'a> {
@@ -29,10 +32,11 @@ impl<'a> Inputs<'a> {
     {
         match file {
             Input::Ship => Some(self.ship),
-            Input::Stow => Some(self.stow),
+            Input::Stow => self.stow,
             Input::Plan => self.plan,
             Input::Tree => self.tree,
             Input::Own => self.own,
+            Input::Log => self.log,
         }
     }
 }

@@ -9,6 +9,7 @@ mod reading;
 mod refusal;
 mod report;
 mod status;
+mod watched;
 
 pub use broken::{Broken, broken_of, report_broken};
 pub use inputs::{Input, Inputs};
@@ -16,6 +17,7 @@ pub use reading::{
     Job, OwnJob, read_instance, read_job, read_moves, read_own_job, read_schedule, read_ship_file,
     read_tree,
 };
-pub use refusal::{Refusal, Stop};
+pub use refusal::{LogFault, Refusal, Stop};
 pub use report::{direction_text, report_stop, report_text};
 pub use status::Status;
+pub use watched::{Watched, read_watched};

@@ -27,7 +27,7 @@ use std::alloc::Global;
 const FILE_LIMIT: usize = 8_388_608;
 
 /// The bytes of a file that the command reads.
-fn read_input<S: Shelf>(
+pub(crate) fn read_input<S: Shelf>(
     alloc: Global,
     inputs: &Inputs<'_>,
     file: Input,
@@ -50,7 +50,11 @@ fn read_input<S: Shelf>(
 }
 
 /// The ship of the ship file.
-pub fn read_ship_file<S: Shelf>(alloc: Global, inputs: &Inputs<'_>, shelf: &mut S) -> Result<Ship, Stop>
+pub fn read_ship_file<S: Shelf>(
+    alloc: Global,
+    inputs: &Inputs<'_>,
+    shelf: &mut S,
+) -> Result<Ship, Stop>
     ensures { IsStep ship_due (names_of inputs.now)
         (S.Sink.view shelf.old) (S.Sink.view shelf.new) result }
 {
@@ -69,6 +73,7 @@ pub fn read_moves<S: Shelf>(
     ship: &Ship,
     shelf: &mut S,
 ) -> Result<Moves, Stop>
+    requires { IsSome (names_of inputs.now).stow }
     ensures step { IsStep (moves_due ship.now) (names_of inputs.now)
         (S.Sink.view shelf.old) (S.Sink.view shelf.new) result }
     ensures hatches { IfOk result (All (λ row. IsSome (place_of_bay ship.now row.cell.bay))) }
@@ -87,6 +92,7 @@ pub fn read_instance<S: Shelf>(
     inputs: &Inputs<'_>,
     shelf: &mut S,
 ) -> Result<Instance, Stop>
+    requires { IsSome (names_of inputs.now).stow }
     ensures { IsStep instance_due (names_of inputs.now)
         (S.Sink.view shelf.old) (S.Sink.view shelf.new) result }
 {
@@ -127,7 +133,8 @@ pub fn read_schedule<S: Shelf>(
 
 /// The instance of the ship file and the stowage list, and the schedule of the plan's file.
 pub fn read_job<S: Shelf>(alloc: Global, inputs: &Inputs<'_>, shelf: &mut S) -> Result<Job, Stop>
-    requires { IsSome (names_of inputs.now).plan }
+    requires stow { IsSome (names_of inputs.now).stow }
+    requires plan { IsSome (names_of inputs.now).plan }
     ensures step { IsStep job_due (names_of inputs.now)
         (S.Sink.view shelf.old) (S.Sink.view shelf.new) result }
     ensures judgeable { IfOk result (λ job. IsJudgeable job.inst job.sched) }

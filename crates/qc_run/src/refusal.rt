@@ -2,7 +2,9 @@
 ghost use Rattle.std.specs.Prelude.{◌≡◌, ◌++◌, codes};
 ghost use Rattle.qc_run.specs.Texts.{input_text, line, refusal_status, refusal_text, stop_status, stop_text};
 
-use crate::faults::{plan_fault_line, ship_fault_line, stow_fault_line, tree_fault_line};
+use crate::faults::{
+    log_fault_line, plan_fault_line, ship_fault_line, stow_fault_line, tree_fault_line,
+};
 use crate::inputs::Input;
 use crate::status::Status;
 use qc_gantt::PlanFault;
@@ -10,6 +12,13 @@ use qc_num::{OutOfMemory, Text};
 use qc_replay::TreeFault;
 use qc_ship::ShipFault;
 use qc_stow::StowFault;
+use qc_watch::WatchFault;
+
+/// The first fault of a log, by the command that reads it.
+#[derive(Clone, Copy, Debug, PartialEq, Eq)]
+pub enum LogFault {
+    Watch(WatchFault),
+}
 
 /// Why a command isn't served.
 #[derive(Clone, Copy, Debug)]
@@ -24,6 +33,7 @@ pub enum Refusal {
     BadStow(StowFault),
     BadPlan(PlanFault),
     BadTree(TreeFault),
+    BadLog(LogFault),
 }
 
 /// Why a command was given up before anything was written.
@@ -49,6 +59,7 @@ qc check SHIP STOW PLAN TREE
 qc tasks SHIP STOW
 qc show SHIP STOW PLAN
 qc make NUMBER HATCHES CRANES
+qc watch SHIP LOG
 ";
 
 /// The line of a file that couldn't be read.
@@ -61,6 +72,7 @@ fn unread_line(file: Input) -> Text<192>
         Input::Plan => Text::of(b"ReadFault plan\n"),
         Input::Tree => Text::of(b"ReadFault tree\n"),
         Input::Own => Text::of(b"ReadFault own\n"),
+        Input::Log => Text::of(b"ReadFault log\n"),
     }
 }
 
@@ -74,6 +86,7 @@ fn large_line(file: Input) -> Text<192>
         Input::Plan => Text::of(b"TooLarge plan\n"),
         Input::Tree => Text::of(b"TooLarge tree\n"),
         Input::Own => Text::of(b"TooLarge own\n"),
+        Input::Log => Text::of(b"TooLarge log\n"),
     }
 }
 
@@ -89,6 +102,7 @@ fn refusal_text(why: Refusal) -> Text<192>
         Refusal::BadStow(fault) => stow_fault_line(fault),
         Refusal::BadPlan(fault) => plan_fault_line(fault),
         Refusal::BadTree(fault) => tree_fault_line(fault),
+        Refusal::BadLog(fault) => log_fault_line(fault),
     }
 }
 
@@ -103,6 +117,7 @@ fn refusal_status(why: Refusal) -> Status
         Refusal::BadStow(_) => Status::BadStow,
         Refusal::BadPlan(_) => Status::BadPlan,
         Refusal::BadTree(_) => Status::BadTree,
+        Refusal::BadLog(_) => Status::BadLog,
     }
 }
 

@@ -32,6 +32,9 @@ pub enum Status {
     Weaker,
     /// A file has more than 8,388,608 bytes.
     TooLarge,
+    BadLog,
+    /// Two cranes were too near.
+    Breach,
 }
 
 impl Status {
@@ -55,6 +58,8 @@ impl Status {
             Status::Broken => 13,
             Status::Weaker => 14,
             Status::TooLarge => 15,
+            Status::BadLog => 17,
+            Status::Breach => 18,
         }
     }
 }

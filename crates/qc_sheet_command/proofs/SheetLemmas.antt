@@ -1,7 +1,7 @@
 -- What follows from the account of a work sheet.
 use Rattle.std.proofs.Common.{◌≡◌, ◌≢◌, ◌⊎◌, Option, None, Some, Result, Ok, Err, refl, inl, subst, IfSome}
 use Rattle.qc_io.specs.Outside.{Files, View}
-use Rattle.qc_judge_commands.proofs.ReadLemmas.{read_promises}
+use Rattle.qc_run.proofs.ToldLemmas.{read_promises}
 use Rattle.qc_run.specs.declared.refusal.Refusal.TheVariants as refusal
 use Rattle.qc_run.specs.declared.refusal.Stop.{Stop}
 use Rattle.qc_run.specs.declared.refusal.Stop.TheVariants as stop

@@ -3,7 +3,7 @@ use Rattle.std.specs.Prelude.{◌≡◌, ◌⊎◌, Ok, Err, IfSome}
 use Rattle.qc_gantt.specs.declared.fault.PlanFault.{PlanFault}
 use Rattle.qc_io.specs.Outside.{Files, View}
 use Rattle.qc_run.specs.declared.broken.Broken.{Broken}
-use Rattle.qc_judge_commands.specs.Promises.{ReadPromises}
+use Rattle.qc_run.specs.Told.{ReadPromises}
 use Rattle.qc_run.specs.Broken.{broken_text}
 use Rattle.qc_model.specs.Rules.{Feasible}
 use Rattle.qc_run.specs.declared.refusal.Refusal.TheVariants as refusal

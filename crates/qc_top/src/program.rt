@@ -1,7 +1,7 @@
 //! One run of the program: from words to a status.
-ghost use Rattle.std.specs.Prelude.{◌≡◌, ◌≤◌, None, Some, option_map};
+ghost use Rattle.std.specs.Prelude.{◌≡◌, ◌≤◌, Some, option_map};
 ghost use Rattle.qc_io.specs.Outside.{beside};
-ghost use Rattle.qc_run.specs.Inputs.{names_of};
+ghost use Rattle.qc_run.specs.Inputs.{names_of, no_names};
 ghost use Rattle.qc_words.specs.Asked.{KeepsLimits, asked_for};
 ghost use Rattle.qc_words.specs.Words.{texts};
 ghost use Rattle.qc_top.specs.Account.{IsRun, IsRunOf};
@@ -23,20 +23,20 @@ fn inputs_of<'a>(
     plan: Option<&'a str>,
     tree: Option<&'a str>,
 ) -> Inputs<'a>
-    ensures { names_of result ≡ record {
+    ensures { names_of result ≡ record no_names {
       ship = Some ship.now;
       stow = Some stow.now;
       plan = option_map (λ name. name.now) plan.entry;
       tree = option_map (λ name. name.now) tree.entry;
-      own = None;
     } }
 {
     Inputs {
         ship,
-        stow,
+        stow: Some(stow),
         plan,
         tree,
         own: None,
+        log: None,
     }
 }
 
