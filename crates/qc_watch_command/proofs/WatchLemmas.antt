@@ -1,6 +1,5 @@
 -- What follows from the account of a log that was judged.
-use Rattle.std.proofs.Common.{◌≡◌, ◌≢◌, ◌⊎◌, ◌++◌, ℕ, Option, None, Some, Result, Ok, Err, refl, ap, subst, inl, inr}
-use Rattle.std.specs.Prelude.{IfSome}
+use Rattle.std.proofs.Common.{◌≡◌, ◌≢◌, ◌⊎◌, ◌++◌, ℕ, Option, None, Some, Result, Ok, Err, refl, ap, subst, inl, inr, IfSome}
 use Rattle.qc_io.specs.Outside.{Files, View}
 use Rattle.qc_run.specs.declared.refusal.LogFault.{LogFault}
 use Rattle.qc_run.specs.declared.refusal.Refusal.{Refusal}
