@@ -1,13 +1,15 @@
 #!/usr/bin/env python3
 """Plans ships that are made from numbers, and prints what it took.
 
-    bench/bench.py [KIND ..]      KIND is made, kim or vessel; all of them where none is named
+    bench/bench.py [KIND ..]      KIND is made, kim, vessel or sheet; all of them where none is named
 
 For each ship: tasks, cranes, how the plan ended, its end and bound in ticks, the gap between them, branchings,
-seconds, microseconds a branching, and the most memory in MB. Only Python's standard library is needed; `./qc` is
+seconds, microseconds a branching, and the most memory in MB. For sheet: what `tasks` and `sheet` of a full ship
+take, in processor seconds, the least of five runs. Only Python's standard library is needed; `./qc` is
 built first where it isn't.
 """
 import os
+import resource
 import subprocess
 import sys
 import tempfile
@@ -74,6 +76,59 @@ def vessel(number, hatches, cranes):
     return ship([4 * k + 2 for k in range(hatches)], places, 1, 30, 100, 120, 300), rows
 
 
+def layered(hatch, phase, count):
+    """Moves of 40 feet over pairs of 20 feet and under them, in 14 rows, every third tier of 40 feet."""
+    kind, tier = PHASES[phase]
+    rows = []
+    for i in range(count):
+        high, row = divmod(i, 14)
+        for bay in [hatch] if high % 3 == 2 else [hatch - 1, hatch + 1]:
+            rows.append(f"{bay}-{phase}-{i},{kind},{bay:03}{row:02}{int(tier) + 2 * high - 10 * (phase in (0, 3)):02},"
+                        f"{20 if bay % 2 else 40}")
+    return rows[:count]
+
+
+def full():
+    """60 hatches of four phases, each of 208 moves, and a plan of one crane that goes from bow to stern."""
+    hatches = [4 * k + 2 for k in range(60)]
+    rows, plan, tick = ["id,move,cell,length"], ["task,crane,start,end"], 0
+    for hatch in hatches:
+        for phase, name in enumerate(("DD", "DH", "LH", "LD")):
+            rows += layered(hatch, phase, 208)
+            end = tick + 208 * (120 if phase in (0, 3) else 110) + (240 if phase in (1, 2) else 0)
+            plan.append(f"{hatch}-{name},C1,{tick},{end}")
+            tick = end
+        tick += 60
+    return ship(hatches, [("C1", 1)], 1, 60, 120, 110, 240), rows, plan
+
+
+def processor(*words):
+    """The least processor seconds of five runs, and the lines of the report."""
+    least = None
+    for _ in range(5):
+        before = resource.getrusage(resource.RUSAGE_CHILDREN)
+        report = subprocess.run([PROGRAM, *words], capture_output=True, text=True, check=True).stdout
+        after = resource.getrusage(resource.RUSAGE_CHILDREN)
+        took = after.ru_utime + after.ru_stime - before.ru_utime - before.ru_stime
+        least = took if least is None else min(least, took)
+    return least, report.splitlines()
+
+
+def sheet():
+    """Prints what the work sheet of a full ship takes."""
+    with tempfile.TemporaryDirectory() as folder:
+        files = []
+        for name, text in zip(("ship.toml", "stow.csv", "plan.csv"), full()):
+            files.append(os.path.join(folder, name))
+            with open(files[-1], "w", encoding="ascii") as file:
+                file.write(text if isinstance(text, str) else "\n".join(text) + "\n")
+        tasks, told = processor("tasks", *files[:2])
+        sheets, lines = processor("sheet", *files)
+    count = sum(line.startswith("task ") for line in told)
+    print("\n| Moves | Tasks | `tasks`, seconds | `sheet`, seconds |\n|---|---|---|---|")
+    print(f"| {len(lines) - count - 1:,} | {count} | {tasks:.3f} | {sheets:.3f} |", flush=True)
+
+
 SHIPS = {
     "made": (made, [(7, 4, 2), (1, 8, 2), (1, 15, 2), (3, 10, 3), (2, 10, 3)]),
     "kim": (kim, [(1, 10, 2), (2, 15, 2), (3, 20, 3), (4, 25, 3), (5, 30, 4), (6, 35, 4)]),
@@ -117,9 +172,11 @@ def plan(kind, numbers, nodes):
 
 def main(words):
     subprocess.run([os.path.join(ROOT, "qc")], capture_output=True, check=False)
-    print("| Ship | Tasks | Cranes | Ended | End | Bound | Gap % | Branched | Seconds | µs a branching | MB |")
-    print("|---|---|---|---|---|---|---|---|---|---|---|")
-    for kind in words or SHIPS:
+    kinds = [kind for kind in words or SHIPS if kind != "sheet"]
+    if kinds:
+        print("| Ship | Tasks | Cranes | Ended | End | Bound | Gap % | Branched | Seconds | µs a branching | MB |")
+        print("|---|---|---|---|---|---|---|---|---|---|---|")
+    for kind in kinds:
         for numbers in SHIPS[kind][1]:
             tasks, cranes, ended, told, seconds, memory = plan(kind, numbers, 20000)
             end, bound = int(told.get("end", 0)), int(told.get("bound", 0))
@@ -129,6 +186,8 @@ def main(words):
             name = f"{kind} " + " ".join(map(str, numbers))
             print(f"| `{name}` | {tasks} | {cranes} | {ended} | {end:,} | {bound:,} | {gap:.1f} | {branched:,} "
                   f"| {seconds:.2f} | {each:.0f} | {memory:.1f} |", flush=True)
+    if not words or "sheet" in words:
+        sheet()
 
 
 if __name__ == "__main__":

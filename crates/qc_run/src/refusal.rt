@@ -59,6 +59,7 @@ qc check SHIP STOW PLAN TREE
 qc tasks SHIP STOW
 qc show SHIP STOW PLAN
 qc make NUMBER HATCHES CRANES
+qc sheet SHIP STOW PLAN
 qc watch SHIP LOG
 ";
 

@@ -29,12 +29,15 @@ use Rattle.qc_run.specs.Reports.{Prints}
 use Rattle.qc_run.specs.Steps.{IsStep}
 use Rattle.qc_run.specs.Texts.{stop_status}
 use Rattle.qc_run.specs.Told.{EndsWith}
+use Rattle.qc_sheet_command.specs.Account.{IsSheetRun}
+use Rattle.qc_sheet_command.specs.Promises.{SheetPromises}
+use Rattle.qc_sheet_command.proofs.SheetLemmas.{sheet_promises}
 use Rattle.qc_trial.specs.Account.{IsTrialRun, TrialPromises}
 use Rattle.qc_trial.proofs.MadeLemmas.{trial_promises}
 use Rattle.qc_tree.specs.Trees.{tree_text}
 use Rattle.qc_words.proofs.LimitLemmas.{asked_kept}
 use Rattle.qc_words.proofs.PlainWords.{canonical_asked}
-use Rattle.qc_words.specs.Asked.{Asked, KeepsLimits, are_different, check, is_own, make, plan, show, tasks, usage}
+use Rattle.qc_words.specs.Asked.{Asked, KeepsLimits, are_different, check, is_own, make, plan, sheet, show, tasks, usage}
 use Rattle.qc_words.specs.Words.{Asks}
 use Rattle.qc_top.specs.Account.{IsRun, IsRunOf, IsStopped, IsUsage, check_names, show_names, tasks_names}
 use Rattle.qc_top.specs.Promises.{IsPlan, Promises}
@@ -89,6 +92,15 @@ module _ (before after pb pa : View) (ended : Status) (h : IsStopped stop.OutOfM
         reports = h.reports;
       })
 
+  as_sheet : (names : Names) → IsSheetRun names before after pb pa ended
+  as_sheet names =
+      subst (λ (v : View). IsSheetRun names before v pb pa ended) (sym h.untouched)
+      (record {
+        answer = Err stop.OutOfMemory;
+        serves = record { ending = refl; may = tt; files = refl; faults = refl; read_faults = omega arith };
+        reports = h.reports;
+      })
+
   as_make : (n k c : ℕ) → IsTrialRun n k c pb pa ended
   as_make n k c = record { answer = Err stop.OutOfMemory; serves = tt; reports = h.reports }
 
@@ -103,6 +115,7 @@ out_kept (check s w (Some p) t) before after pb pa ended h = (h.reports.beside_s
 out_kept (tasks s w) before after pb pa ended h = (h.reports.beside_stays, h.reports.never_falls)
 out_kept (show s w p) before after pb pa ended h = (h.reports.beside_stays, h.reports.never_falls)
 out_kept (make n k c) before after pb pa ended h = (h.run.reports.beside_stays, h.run.reports.never_falls)
+out_kept (sheet s w p) before after pb pa ended h = (h.reports.beside_stays, h.reports.never_falls)
 out_kept usage before after pb pa ended h = (h.reports.beside_stays, h.reports.never_falls)
 
 -- ---- the planner's own plan
@@ -201,6 +214,12 @@ module _ (words : List (List ℕ)) (before after pb pa : View) (ended : Status) 
     | inr h ↦ as_show before after pb pa ended h (show_names s w p)
   ])
 
+  sheets : (s w p : List ℕ) → Asks words (sheet s w p) → SheetPromises (show_names s w p) before after pb pa ended
+  sheets s w p asks = sheet_promises (show_names s w p) before after pb pa ended (elim (serves (sheet s w p) asks) [
+    | inl is ↦ is
+    | inr h ↦ as_sheet before after pb pa ended h (show_names s w p)
+  ])
+
   makes : (n k c : ℕ) → Asks words (make n k c) → TrialPromises n k c pb pa ended
   makes n k c asks = trial_promises n k c pb pa ended (elim (serves (make n k c) asks) [
     | inl is ↦ is.run
@@ -220,6 +239,7 @@ module _ (words : List (List ℕ)) (before after pb pa : View) (ended : Status) 
   files_stay (tasks s w) asks never = (lists_tasks s w asks).reads.files_stay
   files_stay (show s w p) asks never = (shows s w p asks).reads.files_stay
   files_stay (make n k c) asks never = ap (λ (v : View). v.files) (make_leaves n k c asks)
+  files_stay (sheet s w p) asks never = (sheets s w p asks).reads.files_stay
   files_stay usage asks never = elim (refuses asks) [
     | inl is ↦ ap (λ (v : View). v.files) is.untouched
     | inr h ↦ ap (λ (v : View). v.files) h.untouched
@@ -233,6 +253,7 @@ module _ (words : List (List ℕ)) (before after pb pa : View) (ended : Status) 
   usage_by (tasks s w) asks e = absurd ((lists_tasks s w asks).reads.no_usage e)
   usage_by (show s w p) asks e = absurd ((shows s w p asks).reads.no_usage e)
   usage_by (make n k c) asks e = absurd ((makes n k c asks).no_usage e)
+  usage_by (sheet s w p) asks e = absurd ((sheets s w p asks).reads.no_usage e)
   usage_by usage asks e = asks
 
   -- a stop is reported, or the sink failed
@@ -260,6 +281,7 @@ module _ (words : List (List ℕ)) (before after pb pa : View) (ended : Status) 
   memory_by (tasks s w) asks e = (lists_tasks s w asks).reads.out_of_memory e
   memory_by (show s w p) asks e = (shows s w p asks).reads.out_of_memory e
   memory_by (make n k c) asks e = (makes n k c asks).out_of_memory e
+  memory_by (sheet s w p) asks e = (sheets s w p asks).reads.out_of_memory e
   memory_by usage asks e = usage_memory (refuses asks) e
 
   pub promises : Promises words before after pb pa ended
@@ -271,6 +293,7 @@ module _ (words : List (List ℕ)) (before after pb pa : View) (ended : Status) 
     lists_tasks = lists_tasks;
     shows = shows;
     makes = makes;
+    sheets = sheets;
     make_leaves = make_leaves;
     files_stay = files_stay;
     plain_words = canonical_asked words;

@@ -11,12 +11,13 @@ use Rattle.qc_run.specs.declared.status.Status.{Status}
 use Rattle.qc_run.specs.Inputs.{Names}
 use Rattle.qc_run.specs.Reports.{Prints, PrintsPart, Reports}
 use Rattle.qc_run.specs.Texts.{stop_status, stop_text}
+use Rattle.qc_sheet_command.specs.Account.{IsSheetRun}
 use Rattle.qc_trial.specs.Account.{IsTrialRun}
-use Rattle.qc_words.specs.Asked.{Asked, plan, check, tasks, show, make, usage}
+use Rattle.qc_words.specs.Asked.{Asked, plan, check, tasks, show, make, sheet, usage}
 use Rattle.qc_words.specs.Commands.{named}
 use Rattle.qc_words.specs.Words.{Asks}
 
--- the files that a check, the tasks and a plan that is shown read
+-- the files that a check, the tasks, and a plan that is shown or put on a sheet read
 abbrev pub check_names : (ship stow : List ℕ) → Option (List ℕ) → (tree : List ℕ) → Names
 check_names ship stow name tree = record { ship = Some ship; stow = Some stow; plan = name; tree = Some tree; own = None }
 
@@ -48,6 +49,7 @@ IsRunOf (check s w (Some p) t) = IsPlanCheckRun (check_names s w (Some p) t)
 IsRunOf (tasks s w) = IsTasksRun (tasks_names s w)
 IsRunOf (show s w p) = IsShowRun (show_names s w p)
 IsRunOf (make n h c) = IsMakeRun n h c
+IsRunOf (sheet s w p) = IsSheetRun (show_names s w p)
 IsRunOf usage = IsUsage
 
 -- a run: the words ask for something, which is served, or memory is wanting for the words; where no command begins

@@ -11,8 +11,9 @@ use Rattle.qc_run.specs.declared.status.Status.{Status}
 use Rattle.qc_run.specs.declared.status.Status.TheVariants as status
 use Rattle.qc_run.specs.Reports.{Prints}
 use Rattle.qc_run.specs.Told.{EndsWith}
+use Rattle.qc_sheet_command.specs.Promises.{SheetPromises}
 use Rattle.qc_trial.specs.Account.{TrialPromises}
-use Rattle.qc_words.specs.Asked.{Asked, plan, check, tasks, show, make, usage}
+use Rattle.qc_words.specs.Asked.{Asked, plan, check, tasks, show, make, sheet, usage}
 use Rattle.qc_words.specs.Commands.{named}
 use Rattle.qc_words.specs.Words.{Asks, Canonical}
 use Rattle.qc_top.specs.Account.{IsStopped, IsUsage, check_names, show_names, tasks_names}
@@ -38,6 +39,8 @@ pub record Promises (words : List (List ℕ)) (before after out_before out_after
   -- a plan leaves the planner's own plan as it is
   pub own_stays : (s w p t : List ℕ) (n : ℕ) (o : List ℕ) → Asks words (plan s w p t n (Some o))
       → IfSome before.files (λ held. IfSome after.files (λ now. get now o ≡ get held o))
+  pub sheets : (s w p : List ℕ) → Asks words (sheet s w p)
+      → SheetPromises (show_names s w p) before after out_before out_after ended
   -- making leaves the shelf untouched, and all but a plan leave the files
   pub make_leaves : (n h c : ℕ) → Asks words (make n h c) → after ≡ before
   pub files_stay : (asked : Asked) → Asks words asked → ¬ IsPlan asked → after.files ≡ before.files

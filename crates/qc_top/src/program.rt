@@ -12,6 +12,7 @@ use qc_judge_commands::{check_plan, check_tree, list_tasks, show};
 use qc_num::OutOfMemory;
 use qc_plan_command::{PlanAsked, plan};
 use qc_run::{Inputs, Refusal, Status, Stop, report_stop};
+use qc_sheet_command::print_sheet;
 use qc_trial::make;
 use qc_words::{Request, request_of};
 use std::alloc::Global;
@@ -95,6 +96,9 @@ fn serve<S: Shelf, K: Sink>(
             hatches,
             cranes,
         } => make(alloc, number, hatches, cranes, out),
+        Request::Sheet { ship, stow, plan } => {
+            print_sheet(alloc, &inputs_of(ship, stow, Some(plan), None), shelf, out)
+        }
         Request::Usage => report_stop(Stop::Refused(Refusal::Usage), out),
     }
 }

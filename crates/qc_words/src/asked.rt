@@ -40,6 +40,12 @@ pub enum Request<'a> {
         hatches: u16,
         cranes: u16,
     },
+    /// The work sheet of a plan.
+    Sheet {
+        ship: &'a str,
+        stow: &'a str,
+        plan: &'a str,
+    },
     /// Words that are no command.
     Usage,
 }

@@ -183,6 +183,11 @@ fn asked_in<'a>(name: CommandName, matches: &ArgMatches<'a>) -> Request<'a>
             plan: value_of(matches, "plan"),
         },
         CommandName::Make => make_from(matches),
+        CommandName::Sheet => Request::Sheet {
+            ship: value_of(matches, "ship"),
+            stow: value_of(matches, "stow"),
+            plan: value_of(matches, "plan"),
+        },
     }
 }
 
