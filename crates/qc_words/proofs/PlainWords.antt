@@ -18,7 +18,7 @@ use Rattle.qc_model.specs.Numbers.{most_branchings, most_cranes, most_hatches}
 use Rattle.qc_num.proofs.DigitLemmas.{decimal_digits, fits, number_in-decimal}
 use Rattle.qc_words.specs.declared.commands.CommandName.{CommandName}
 use Rattle.qc_words.specs.declared.commands.CommandName.TheVariants as name
-use Rattle.qc_words.specs.Asked.{Asked, plan, check, tasks, show, make, most_number, usage}
+use Rattle.qc_words.specs.Asked.{Asked, plan, check, tasks, show, make, watch, most_number, usage}
 use Rattle.qc_words.specs.Commands.{command_of}
 use Rattle.qc_words.specs.Words.{Canonical, asked_by, asked_in, is_check_word, is_file_word, make_of, number_between, plan_name, plan_of, usual_branchings}
 use Rattle.qc_words.proofs.WordWalk.{Goes, IsOperand, at, goes_nowhere, goes_on, goes_past, lone_dash, other_first, read_along}
@@ -73,6 +73,17 @@ tasks_asked s w is iw =
     (read_along c (command_of name.Tasks) (codes "tasks") (s ∷ w ∷ []) after 3 refl refl
     (goes_past c nothing_held idle 1 s (w ∷ []) _ is refl
     (goes_past c (held [] (codes "ship") s) idle 2 w [] _ iw refl
+    (goes_nowhere c (at after idle 3)))) refl)
+
+watch_asked : (s l : Text) → IsOperand s → IsOperand l → asked_by (codes "watch" ∷ s ∷ l ∷ []) ≡ watch s l
+unfolding defaults_fault
+watch_asked s l is il =
+    let c = shape name.Watch in
+    let after = held (row (codes "ship") s ∷ []) (codes "log") l in
+    ap (λ o. option_map_or (asked_in name.Watch) o usage)
+    (read_along c (command_of name.Watch) (codes "watch") (s ∷ l ∷ []) after 3 refl refl
+    (goes_past c nothing_held idle 1 s (l ∷ []) _ is refl
+    (goes_past c (held [] (codes "ship") s) idle 2 l [] _ il refl
     (goes_nowhere c (at after idle 3)))) refl)
 
 show_asked : (s w p : Text) → IsOperand s → IsOperand w → IsOperand p → asked_by (codes "show" ∷ s ∷ w ∷ p ∷ []) ≡ show s w p
@@ -208,4 +219,8 @@ canonical_asked words (make n hs k) h =
     ∙ ap₂ (λ o q. make_of o q (number_between 1 most_cranes (decimal k))) (number_asked_for 0 most_number n (omega arith) h.1.0 small)
     (number_asked_for 1 most_hatches hs h.1.1 h.1.2 few)
     ∙ ap (λ o. make_of (Some n) (Some hs) o) (number_asked_for 1 most_cranes k h.1.3 h.1.4 fewer)
+canonical_asked words (watch s l) h =
+    let fs = both (is_file_word s) _ h.0.0 in
+    let fl = both (is_file_word l) _ fs.1 in
+    ap asked_by h.0.1 ∙ watch_asked s l (file_operand s fs.0) (file_operand l fl.0)
 canonical_asked words usage h = absurd h.0

@@ -20,6 +20,8 @@ pub data Asked : Type 0 where
   show : (ship stow plan : List ℕ) → Asked
   -- a ship and a list made from a number, planned and checked
   make : (number hatches cranes : ℕ) → Asked
+  -- whether cranes were too near, by a ship file and a log of reported places
+  watch : (ship log : List ℕ) → Asked
   -- words that are no command
   usage : Asked
 
@@ -32,6 +34,7 @@ asked_for (request.Check ship stow plan_name tree) =
 asked_for (request.Tasks ship stow) = tasks ship.now stow.now
 asked_for (request.Show ship stow plan_name) = show ship.now stow.now plan_name.now
 asked_for (request.Make number hatches cranes) = make number hatches cranes
+asked_for (request.Watch ship log) = watch ship.now log.now
 asked_for request.Usage = usage
 
 -- no two of a plan's four names are equal

@@ -1,4 +1,4 @@
--- public: the five commands as `clap` is told them, and what it reads by one of them.
+-- public: the commands as `clap` is told them, and what it reads by one of them.
 use Rattle.std.specs.Prelude.{ℕ, true, List, [], ◌∷◌, map, Option, None, Some, codes, if◌then◌else◌, option_and_then, slice_get}
 use Rattle.std.specs.Str.{bytes_eq}
 use Rattle.clap.specs.Simple.{new_shape}
@@ -15,7 +15,8 @@ command_name word =
     else (if bytes_eq word (codes "tasks") then Some name.Tasks
     else (if bytes_eq word (codes "show") then Some name.Show
     else (if bytes_eq word (codes "make") then Some name.Make
-    else None))))
+    else (if bytes_eq word (codes "watch") then Some name.Watch
+    else None)))))
 
 -- and that of a command line
 abbrev pub named : List (List ℕ) → Option CommandName
@@ -41,6 +42,7 @@ command_of name.Tasks = command_with (codes "tasks") (codes "ship" ∷ codes "st
 command_of name.Show = command_with (codes "show") (codes "ship" ∷ codes "stow" ∷ codes "plan" ∷ [])
 command_of name.Make =
     command_with (codes "make") (codes "number" ∷ codes "hatches" ∷ codes "cranes" ∷ [])
+command_of name.Watch = command_with (codes "watch") (codes "ship" ∷ codes "log" ∷ [])
 
 -- what the command reads from the words, or nothing where it refuses them
 abbrev pub read_by : App → List (List ℕ) → Option (List Row)

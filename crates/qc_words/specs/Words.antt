@@ -7,7 +7,7 @@ use Rattle.std.specs.Str.{bytes_eq}
 use Rattle.clap.specs.Words.{Row, first_of}
 use Rattle.qc_model.specs.Numbers.{most_branchings, most_cranes, most_hatches}
 use Rattle.qc_num.specs.Digits.{number_in}
-use Rattle.qc_words.specs.Asked.{Asked, plan, check, tasks, show, make, usage, KeepsLimits, are_different, most_number}
+use Rattle.qc_words.specs.Asked.{Asked, plan, check, tasks, show, make, watch, usage, KeepsLimits, are_different, most_number}
 use Rattle.qc_words.specs.Commands.{command_of, named, read_by}
 use Rattle.qc_words.specs.declared.commands.CommandName.{CommandName}
 use Rattle.qc_words.specs.declared.commands.CommandName.TheVariants as name
@@ -52,6 +52,7 @@ Spell words (show s w p) =
     AreFileWords (s ∷ w ∷ p ∷ []) × (words ≡ codes "show" ∷ s ∷ w ∷ p ∷ [])
 Spell words (make number hatches cranes) =
     words ≡ codes "make" ∷ decimal number ∷ decimal hatches ∷ decimal cranes ∷ []
+Spell words (watch s l) = AreFileWords (s ∷ l ∷ []) × (words ≡ codes "watch" ∷ s ∷ l ∷ [])
 Spell words usage = ⊥
 
 -- the words say this in the plain form, and it keeps the limits
@@ -105,6 +106,7 @@ asked_in name.Make rows = make_of
     (number_between 0 most_number (value_of (codes "number") rows))
     (number_between 1 most_hatches (value_of (codes "hatches") rows))
     (number_between 1 most_cranes (value_of (codes "cranes") rows))
+asked_in name.Watch rows = watch (value_of (codes "ship") rows) (value_of (codes "log") rows)
 
 -- what the words ask for: Usage where no command begins them, where `clap` refuses them, where a
 -- number isn't one in plain decimal and in range, and where a plan's names aren't different

@@ -38,6 +38,11 @@ pub enum Request<'a> {
         hatches: u16,
         cranes: u16,
     },
+    /// Whether cranes were too near, by a log of reported places.
+    Watch {
+        ship: &'a str,
+        log: &'a str,
+    },
     /// Words that are no command.
     Usage,
 }

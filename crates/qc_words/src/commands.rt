@@ -1,4 +1,4 @@
-//! The five commands, as `clap` is told them.
+//! The commands, as `clap` is told them.
 
 ghost use Rattle.std.specs.Prelude.{◌≡◌, IfOk, map};
 ghost use Rattle.qc_words.specs.Words.{texts};
@@ -16,6 +16,7 @@ pub enum CommandName {
     Tasks,
     Show,
     Make,
+    Watch,
 }
 
 /// The command with this name.
@@ -28,6 +29,7 @@ fn command_name(word: &str) -> Option<CommandName>
         "tasks" => Some(CommandName::Tasks),
         "show" => Some(CommandName::Show),
         "make" => Some(CommandName::Make),
+        "watch" => Some(CommandName::Watch),
         _ => None,
     }
 }
@@ -68,5 +70,6 @@ pub fn command_of<'a>(alloc: Global, name: CommandName) -> Result<Command<'a>, A
         CommandName::Tasks => command_with(alloc, "tasks", &["ship", "stow"]),
         CommandName::Show => command_with(alloc, "show", &["ship", "stow", "plan"]),
         CommandName::Make => command_with(alloc, "make", &["number", "hatches", "cranes"]),
+        CommandName::Watch => command_with(alloc, "watch", &["ship", "log"]),
     }
 }

@@ -169,6 +169,10 @@ fn asked_in<'a>(name: CommandName, matches: &ArgMatches<'a>) -> Request<'a>
             plan: value_of(matches, "plan"),
         },
         CommandName::Make => make_from(matches),
+        CommandName::Watch => Request::Watch {
+            ship: value_of(matches, "ship"),
+            log: value_of(matches, "log"),
+        },
     }
 }
 
