@@ -1,11 +1,12 @@
 #!/usr/bin/env python3
 """Plans ships that are made from numbers, and prints what it took.
 
-    bench/bench.py [KIND ..]      KIND is made, kim, vessel or sheet; all of them where none is named
+    bench/bench.py [KIND ..]      KIND is made, kim, vessel, sheet or watch; all of them where none is named
 
 For each ship: tasks, cranes, how the plan ended, its end and bound in ticks, the gap between them, branchings,
 seconds, microseconds a branching, and the most memory in MB. For sheet: what `tasks` and `sheet` of a full ship
-take, in processor seconds, the least of five runs. Only Python's standard library is needed; `./qc` is
+take, in processor seconds, the least of five runs. For watch a log of 200,000 reported places of eight cranes is
+judged: what came of it, seconds, and the most memory in MB. Only Python's standard library is needed; `./qc` is
 built first where it isn't.
 """
 import os
@@ -170,9 +171,29 @@ def plan(kind, numbers, nodes):
         return count, numbers[2], lines[0], told, seconds, memory
 
 
+def watch(lines, cranes):
+    """Cranes side by side that go to and fro together: none is too near to another, so that all is judged."""
+    toml = ship([4 * k + 2 for k in range(60)], [(f"C{k + 1}", 2 * k + 1) for k in range(cranes)], 1, 1, 10, 10, 0)
+    with tempfile.TemporaryDirectory() as folder:
+        names = [os.path.join(folder, name) for name in ("ship.toml", "log.txt")]
+        with open(names[0], "w", encoding="ascii") as file:
+            file.write(toml)
+        with open(names[1], "w", encoding="ascii") as file:
+            for i in range(lines):
+                time_at, crane = divmod(i, cranes)
+                file.write(f"{time_at} C{crane + 1} {2 * crane + time_at % 2}\n")
+        start = time.perf_counter()
+        child = subprocess.Popen([PROGRAM, "watch", *names], stdout=subprocess.PIPE, text=True)
+        memory = most_memory(child)
+        return child.stdout.read().strip(), time.perf_counter() - start, memory
+
+
 def main(words):
     subprocess.run([os.path.join(ROOT, "qc")], capture_output=True, check=False)
-    kinds = [kind for kind in words or SHIPS if kind != "sheet"]
+    if not words or "watch" in words:
+        told, seconds, memory = watch(200_000, 8)
+        print(f"`watch`, 200,000 lines of 8 cranes: {told}, {seconds:.2f} s, {memory:.1f} MB\n", flush=True)
+    kinds = [kind for kind in words or SHIPS if kind not in ("sheet", "watch")]
     if kinds:
         print("| Ship | Tasks | Cranes | Ended | End | Bound | Gap % | Branched | Seconds | µs a branching | MB |")
         print("|---|---|---|---|---|---|---|---|---|---|---|")

@@ -35,11 +35,14 @@ use Rattle.qc_sheet_command.proofs.SheetLemmas.{sheet_promises}
 use Rattle.qc_trial.specs.Account.{IsTrialRun, TrialPromises}
 use Rattle.qc_trial.proofs.MadeLemmas.{trial_promises}
 use Rattle.qc_tree.specs.Trees.{tree_text}
+use Rattle.qc_watch_command.specs.Account.{IsWatchRun}
+use Rattle.qc_watch_command.specs.Promises.{WatchPromises}
+use Rattle.qc_watch_command.proofs.WatchLemmas.{watch_promises}
 use Rattle.qc_words.proofs.LimitLemmas.{asked_kept}
 use Rattle.qc_words.proofs.PlainWords.{canonical_asked}
-use Rattle.qc_words.specs.Asked.{Asked, KeepsLimits, are_different, check, is_own, make, plan, sheet, show, tasks, usage}
+use Rattle.qc_words.specs.Asked.{Asked, KeepsLimits, are_different, check, is_own, make, plan, sheet, show, tasks, usage, watch}
 use Rattle.qc_words.specs.Words.{Asks}
-use Rattle.qc_top.specs.Account.{IsRun, IsRunOf, IsStopped, IsUsage, check_names, show_names, tasks_names}
+use Rattle.qc_top.specs.Account.{IsRun, IsRunOf, IsStopped, IsUsage, check_names, show_names, tasks_names, watch_names}
 use Rattle.qc_top.specs.Promises.{IsPlan, Promises}
 
 -- ---- want of memory for the words, as an answer of each command
@@ -101,6 +104,15 @@ module _ (before after pb pa : View) (ended : Status) (h : IsStopped stop.OutOfM
         reports = h.reports;
       })
 
+  as_watch : (names : Names) → IsWatchRun names before after pb pa ended
+  as_watch names =
+      subst (λ (v : View). IsWatchRun names before v pb pa ended) (sym h.untouched)
+      (record {
+        answer = Err stop.OutOfMemory;
+        serves = record { ending = refl; may = tt; files = refl; faults = refl; read_faults = omega arith };
+        reports = h.reports;
+      })
+
   as_make : (n k c : ℕ) → IsTrialRun n k c pb pa ended
   as_make n k c = record { answer = Err stop.OutOfMemory; serves = tt; reports = h.reports }
 
@@ -114,6 +126,7 @@ out_kept (check s w None t) before after pb pa ended h = (h.reports.beside_stays
 out_kept (check s w (Some p) t) before after pb pa ended h = (h.reports.beside_stays, h.reports.never_falls)
 out_kept (tasks s w) before after pb pa ended h = (h.reports.beside_stays, h.reports.never_falls)
 out_kept (show s w p) before after pb pa ended h = (h.reports.beside_stays, h.reports.never_falls)
+out_kept (watch s l) before after pb pa ended h = (h.reports.beside_stays, h.reports.never_falls)
 out_kept (make n k c) before after pb pa ended h = (h.run.reports.beside_stays, h.run.reports.never_falls)
 out_kept (sheet s w p) before after pb pa ended h = (h.reports.beside_stays, h.reports.never_falls)
 out_kept usage before after pb pa ended h = (h.reports.beside_stays, h.reports.never_falls)
@@ -220,6 +233,12 @@ module _ (words : List (List ℕ)) (before after pb pa : View) (ended : Status) 
     | inr h ↦ as_sheet before after pb pa ended h (show_names s w p)
   ])
 
+  watches : (s l : List ℕ) → Asks words (watch s l) → WatchPromises (watch_names s l) before after pb pa ended
+  watches s l asks = watch_promises (watch_names s l) before after pb pa ended (elim (serves (watch s l) asks) [
+    | inl is ↦ is
+    | inr h ↦ as_watch before after pb pa ended h (watch_names s l)
+  ])
+
   makes : (n k c : ℕ) → Asks words (make n k c) → TrialPromises n k c pb pa ended
   makes n k c asks = trial_promises n k c pb pa ended (elim (serves (make n k c) asks) [
     | inl is ↦ is.run
@@ -238,6 +257,7 @@ module _ (words : List (List ℕ)) (before after pb pa : View) (ended : Status) 
   files_stay (check s w (Some p) t) asks never = (checks_plan s w p t asks).reads.files_stay
   files_stay (tasks s w) asks never = (lists_tasks s w asks).reads.files_stay
   files_stay (show s w p) asks never = (shows s w p asks).reads.files_stay
+  files_stay (watch s l) asks never = (watches s l asks).reads.files_stay
   files_stay (make n k c) asks never = ap (λ (v : View). v.files) (make_leaves n k c asks)
   files_stay (sheet s w p) asks never = (sheets s w p asks).reads.files_stay
   files_stay usage asks never = elim (refuses asks) [
@@ -252,6 +272,7 @@ module _ (words : List (List ℕ)) (before after pb pa : View) (ended : Status) 
   usage_by (check s w (Some p) t) asks e = absurd ((checks_plan s w p t asks).reads.no_usage e)
   usage_by (tasks s w) asks e = absurd ((lists_tasks s w asks).reads.no_usage e)
   usage_by (show s w p) asks e = absurd ((shows s w p asks).reads.no_usage e)
+  usage_by (watch s l) asks e = absurd ((watches s l asks).reads.no_usage e)
   usage_by (make n k c) asks e = absurd ((makes n k c asks).no_usage e)
   usage_by (sheet s w p) asks e = absurd ((sheets s w p asks).reads.no_usage e)
   usage_by usage asks e = asks
@@ -280,6 +301,7 @@ module _ (words : List (List ℕ)) (before after pb pa : View) (ended : Status) 
   memory_by (check s w (Some p) t) asks e = (checks_plan s w p t asks).reads.out_of_memory e
   memory_by (tasks s w) asks e = (lists_tasks s w asks).reads.out_of_memory e
   memory_by (show s w p) asks e = (shows s w p asks).reads.out_of_memory e
+  memory_by (watch s l) asks e = (watches s l asks).reads.out_of_memory e
   memory_by (make n k c) asks e = (makes n k c asks).out_of_memory e
   memory_by (sheet s w p) asks e = (sheets s w p asks).reads.out_of_memory e
   memory_by usage asks e = usage_memory (refuses asks) e
@@ -292,6 +314,7 @@ module _ (words : List (List ℕ)) (before after pb pa : View) (ended : Status) 
     checks_plan = checks_plan;
     lists_tasks = lists_tasks;
     shows = shows;
+    watches = watches;
     makes = makes;
     sheets = sheets;
     make_leaves = make_leaves;

@@ -8,24 +8,28 @@ use Rattle.qc_run.specs.declared.refusal.Refusal.TheVariants as refusal
 use Rattle.qc_run.specs.declared.refusal.Stop.{Stop}
 use Rattle.qc_run.specs.declared.refusal.Stop.TheVariants as stop
 use Rattle.qc_run.specs.declared.status.Status.{Status}
-use Rattle.qc_run.specs.Inputs.{Names}
+use Rattle.qc_run.specs.Inputs.{Names, no_names}
 use Rattle.qc_run.specs.Reports.{Prints, PrintsPart, Reports}
 use Rattle.qc_run.specs.Texts.{stop_status, stop_text}
 use Rattle.qc_sheet_command.specs.Account.{IsSheetRun}
 use Rattle.qc_trial.specs.Account.{IsTrialRun}
-use Rattle.qc_words.specs.Asked.{Asked, plan, check, tasks, show, make, sheet, usage}
+use Rattle.qc_watch_command.specs.Account.{IsWatchRun}
+use Rattle.qc_words.specs.Asked.{Asked, plan, check, tasks, show, make, sheet, watch, usage}
 use Rattle.qc_words.specs.Commands.{named}
 use Rattle.qc_words.specs.Words.{Asks}
 
--- the files that a check, the tasks, and a plan that is shown or put on a sheet read
+-- the files that a check, the tasks, a plan that is shown or put on a sheet, and a log that is judged read
 abbrev pub check_names : (ship stow : List ℕ) → Option (List ℕ) → (tree : List ℕ) → Names
-check_names ship stow name tree = record { ship = Some ship; stow = Some stow; plan = name; tree = Some tree; own = None }
+check_names ship stow name tree = record no_names { ship = Some ship; stow = Some stow; plan = name; tree = Some tree }
 
 abbrev pub tasks_names : (ship stow : List ℕ) → Names
-tasks_names ship stow = record { ship = Some ship; stow = Some stow; plan = None; tree = None; own = None }
+tasks_names ship stow = record no_names { ship = Some ship; stow = Some stow }
 
 abbrev pub show_names : (ship stow name : List ℕ) → Names
-show_names ship stow name = record { ship = Some ship; stow = Some stow; plan = Some name; tree = None; own = None }
+show_names ship stow name = record no_names { ship = Some ship; stow = Some stow; plan = Some name }
+
+abbrev pub watch_names : (ship log : List ℕ) → Names
+watch_names ship log = record no_names { ship = Some ship; log = Some log }
 
 -- the run stops before any command is served: nothing is read or written, and this is reported
 pub record IsStopped (why : Stop) (before after out_before out_after : View) (ended : Status) : Type 0 where
@@ -50,6 +54,7 @@ IsRunOf (tasks s w) = IsTasksRun (tasks_names s w)
 IsRunOf (show s w p) = IsShowRun (show_names s w p)
 IsRunOf (make n h c) = IsMakeRun n h c
 IsRunOf (sheet s w p) = IsSheetRun (show_names s w p)
+IsRunOf (watch s l) = IsWatchRun (watch_names s l)
 IsRunOf usage = IsUsage
 
 -- a run: the words ask for something, which is served, or memory is wanting for the words; where no command begins

@@ -13,10 +13,11 @@ use Rattle.qc_run.specs.Reports.{Prints}
 use Rattle.qc_run.specs.Told.{EndsWith}
 use Rattle.qc_sheet_command.specs.Promises.{SheetPromises}
 use Rattle.qc_trial.specs.Account.{TrialPromises}
-use Rattle.qc_words.specs.Asked.{Asked, plan, check, tasks, show, make, sheet, usage}
+use Rattle.qc_watch_command.specs.Promises.{WatchPromises}
+use Rattle.qc_words.specs.Asked.{Asked, plan, check, tasks, show, make, sheet, watch, usage}
 use Rattle.qc_words.specs.Commands.{named}
 use Rattle.qc_words.specs.Words.{Asks, Canonical}
-use Rattle.qc_top.specs.Account.{IsStopped, IsUsage, check_names, show_names, tasks_names}
+use Rattle.qc_top.specs.Account.{IsStopped, IsUsage, check_names, show_names, tasks_names, watch_names}
 
 -- a plan is asked for
 abbrev pub IsPlan : Asked → Type 0
@@ -35,6 +36,8 @@ pub record Promises (words : List (List ℕ)) (before after out_before out_after
       → TasksPromises (tasks_names s w) before after out_before out_after ended
   pub shows : (s w p : List ℕ) → Asks words (show s w p)
       → ShowPromises (show_names s w p) before after out_before out_after ended
+  pub watches : (s l : List ℕ) → Asks words (watch s l)
+      → WatchPromises (watch_names s l) before after out_before out_after ended
   pub makes : (n h c : ℕ) → Asks words (make n h c) → TrialPromises n h c out_before out_after ended
   -- a plan leaves the planner's own plan as it is
   pub own_stays : (s w p t : List ℕ) (n : ℕ) (o : List ℕ) → Asks words (plan s w p t n (Some o))

@@ -14,6 +14,7 @@ use qc_plan_command::{PlanAsked, plan};
 use qc_run::{Inputs, Refusal, Status, Stop, report_stop};
 use qc_sheet_command::print_sheet;
 use qc_trial::make;
+use qc_watch_command::watch;
 use qc_words::{Request, request_of};
 use std::alloc::Global;
 
@@ -98,6 +99,17 @@ fn serve<S: Shelf, K: Sink>(
         } => make(alloc, number, hatches, cranes, out),
         Request::Sheet { ship, stow, plan } => {
             print_sheet(alloc, &inputs_of(ship, stow, Some(plan), None), shelf, out)
+        }
+        Request::Watch { ship, log } => {
+            let inputs = Inputs {
+                ship,
+                stow: None,
+                plan: None,
+                tree: None,
+                own: None,
+                log: Some(log),
+            };
+            watch(alloc, &inputs, shelf, out)
         }
         Request::Usage => report_stop(Stop::Refused(Refusal::Usage), out),
     }

@@ -17,7 +17,7 @@ use Rattle.qc_model.specs.Numbers.{most_branchings, most_cranes, most_hatches}
 use Rattle.qc_num.proofs.DigitLemmas.{decimal_digits, fits, number_in-decimal}
 use Rattle.qc_words.specs.declared.commands.CommandName.{CommandName}
 use Rattle.qc_words.specs.declared.commands.CommandName.TheVariants as name
-use Rattle.qc_words.specs.Asked.{Asked, plan, check, tasks, show, make, sheet, most_number, usage}
+use Rattle.qc_words.specs.Asked.{Asked, plan, check, tasks, show, make, sheet, watch, most_number, usage}
 use Rattle.qc_words.specs.Commands.{command_of}
 use Rattle.qc_words.specs.Words.{Canonical, asked_by, asked_in, is_check_word, is_file_word, make_of, number_between, own_words, plan_name, plan_of, usual_branchings}
 use Rattle.qc_words.proofs.WordWalk.{Goes, IsOperand, at, goes_nowhere, goes_on, goes_past, lone_dash, other_first, read_along}
@@ -72,6 +72,17 @@ tasks_asked s w is iw =
     (read_along c (command_of name.Tasks) (codes "tasks") (s ∷ w ∷ []) after 3 refl refl
     (goes_past c nothing_held idle 1 s (w ∷ []) _ is refl
     (goes_past c (held [] (codes "ship") s) idle 2 w [] _ iw refl
+    (goes_nowhere c (at after idle 3)))) refl)
+
+watch_asked : (s l : Text) → IsOperand s → IsOperand l → asked_by (codes "watch" ∷ s ∷ l ∷ []) ≡ watch s l
+unfolding defaults_fault
+watch_asked s l is il =
+    let c = shape name.Watch in
+    let after = held (row (codes "ship") s ∷ []) (codes "log") l in
+    ap (λ o. option_map_or (asked_in name.Watch) o usage)
+    (read_along c (command_of name.Watch) (codes "watch") (s ∷ l ∷ []) after 3 refl refl
+    (goes_past c nothing_held idle 1 s (l ∷ []) _ is refl
+    (goes_past c (held [] (codes "ship") s) idle 2 l [] _ il refl
     (goes_nowhere c (at after idle 3)))) refl)
 
 show_asked : (s w p : Text) → IsOperand s → IsOperand w → IsOperand p → asked_by (codes "show" ∷ s ∷ w ∷ p ∷ []) ≡ show s w p
@@ -280,4 +291,8 @@ canonical_asked words (sheet s w p) h =
     let fw = both (is_file_word w) _ fs.1 in
     let fp = both (is_file_word p) _ fw.1 in
     ap asked_by h.0.1 ∙ sheet_asked s w p (file_operand s fs.0) (file_operand w fw.0) (file_operand p fp.0)
+canonical_asked words (watch s l) h =
+    let fs = both (is_file_word s) _ h.0.0 in
+    let fl = both (is_file_word l) _ fs.1 in
+    ap asked_by h.0.1 ∙ watch_asked s l (file_operand s fs.0) (file_operand l fl.0)
 canonical_asked words usage h = absurd h.0

@@ -23,6 +23,8 @@ pub data Asked : Type 0 where
   make : (number hatches cranes : ℕ) → Asked
   -- the work sheet of a plan for a ship file and a stowage list
   sheet : (ship stow plan : List ℕ) → Asked
+  -- whether cranes were too near, by a ship file and a log of reported places
+  watch : (ship log : List ℕ) → Asked
   -- words that are no command
   usage : Asked
 
@@ -36,6 +38,7 @@ asked_for (request.Tasks ship stow) = tasks ship.now stow.now
 asked_for (request.Show ship stow plan_name) = show ship.now stow.now plan_name.now
 asked_for (request.Make number hatches cranes) = make number hatches cranes
 asked_for (request.Sheet ship stow plan_name) = sheet ship.now stow.now plan_name.now
+asked_for (request.Watch ship log) = watch ship.now log.now
 asked_for request.Usage = usage
 
 -- no two of a plan's four names are equal

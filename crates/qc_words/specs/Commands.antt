@@ -16,7 +16,8 @@ command_name word =
     else (if bytes_eq word (codes "show") then Some name.Show
     else (if bytes_eq word (codes "make") then Some name.Make
     else (if bytes_eq word (codes "sheet") then Some name.Sheet
-    else None)))))
+    else (if bytes_eq word (codes "watch") then Some name.Watch
+    else None))))))
 
 -- and that of a command line
 abbrev pub named : List (List ℕ) → Option CommandName
@@ -45,6 +46,7 @@ command_of name.Show = command_with (codes "show") (codes "ship" ∷ codes "stow
 command_of name.Make =
     command_with (codes "make") (codes "number" ∷ codes "hatches" ∷ codes "cranes" ∷ [])
 command_of name.Sheet = command_with (codes "sheet") (codes "ship" ∷ codes "stow" ∷ codes "plan" ∷ [])
+command_of name.Watch = command_with (codes "watch") (codes "ship" ∷ codes "log" ∷ [])
 
 -- what the command reads from the words, or nothing where it refuses them
 abbrev pub read_by : App → List (List ℕ) → Option (List Row)

@@ -46,6 +46,11 @@ pub enum Request<'a> {
         stow: &'a str,
         plan: &'a str,
     },
+    /// Whether cranes were too near, by a log of reported places.
+    Watch {
+        ship: &'a str,
+        log: &'a str,
+    },
     /// Words that are no command.
     Usage,
 }

@@ -17,6 +17,7 @@ pub enum CommandName {
     Show,
     Make,
     Sheet,
+    Watch,
 }
 
 /// The command with this name.
@@ -30,6 +31,7 @@ fn command_name(word: &str) -> Option<CommandName>
         "show" => Some(CommandName::Show),
         "make" => Some(CommandName::Make),
         "sheet" => Some(CommandName::Sheet),
+        "watch" => Some(CommandName::Watch),
         _ => None,
     }
 }
@@ -74,5 +76,6 @@ pub fn command_of<'a>(alloc: Global, name: CommandName) -> Result<Command<'a>, A
         CommandName::Show => command_with(alloc, "show", &["ship", "stow", "plan"]),
         CommandName::Make => command_with(alloc, "make", &["number", "hatches", "cranes"]),
         CommandName::Sheet => command_with(alloc, "sheet", &["ship", "stow", "plan"]),
+        CommandName::Watch => command_with(alloc, "watch", &["ship", "log"]),
     }
 }

@@ -188,6 +188,10 @@ fn asked_in<'a>(name: CommandName, matches: &ArgMatches<'a>) -> Request<'a>
             stow: value_of(matches, "stow"),
             plan: value_of(matches, "plan"),
         },
+        CommandName::Watch => Request::Watch {
+            ship: value_of(matches, "ship"),
+            log: value_of(matches, "log"),
+        },
     }
 }
 
