@@ -1,5 +1,5 @@
 -- Words in their plain form ask for what they say.
-use Rattle.std.proofs.Common.{◌≡◌, ◌∙◌, inl, inr, ℕ, ◌<◌, ◌≤◌, ◌^◌, lit<, lit≤, ap, ap₂, subst, sym, refl, cond, true, not, bytes_eq, nat_le, ◌&&◌, ◌||◌, ◌==◌, List, [], ◌∷◌, Option, None, Some, IfSome, codes, arith}
+use Rattle.std.proofs.Common.{◌≡◌, ◌∙◌, inl, inr, ℕ, ◌<◌, ◌≤◌, ◌^◌, lit<, lit≤, ap, ap₂, subst, sym, refl, cond, true, not, bytes_eq, nat_le, ◌&&◌, ◌||◌, ◌==◌, List, [], ◌∷◌, Option, None, Some, IfSome, codes, arith, decimal, option_and_then}
 use Rattle.std.proofs.lemmas.Bool.{cases_Bool}
 use Rattle.std.proofs.lemmas.Bool.Decides.{nat_tests}
 use Rattle.std.proofs.lemmas.Slice.Eq.{bytes_eq-Decides}
