@@ -1,24 +1,33 @@
 -- Hatches and events of a part, as they are kept and as they are seen.
-use Rattle.std.proofs.Common.{◌≡◌, ℕ, ◌+◌, ◌-◌, ◌<◌, ◌≤◌, ◌≢◌, ◌⊎◌, inl, inr, ℤ, pos, negsuc, Bool, replicate, set, below_more, cond, ap₂, List, [], length, get_or, sym, ap, subst, ◌∙◌, arith, ◌≤ℤ◌, All}
+use Rattle.std.proofs.Common.{◌≡◌, ℕ, ◌+◌, ◌-◌, ◌<◌, ◌≤◌, ◌≢◌, ◌⊎◌, inl, inr, ℤ, pos, negsuc, Bool, replicate, set, below_more, cond, ap₂, List, [], length, get_or, sym, ap, subst, ◌∙◌, arith, ◌≤ℤ◌, false, true, ◌∷◌, ◌++◌}
+use Rattle.std.specs.Prelude.{All, Contains}
+use Rattle.std.specs.List.Sorted.{IsPermutation}
+use Rattle.std.proofs.Common.{Ordering, Less, Equal, Greater, nat_cmp, is_lt, refl}
+use Rattle.std.specs.Ordering.{ordering_then}
+use Rattle.std.specs.Cmp.{nat_cmp_is}
+use Rattle.std.proofs.lemmas.Map.Keys.{ge_from_not_lt}
 use Rattle.std.specs.Int.{int_max}
-use Rattle.std.proofs.lemmas.Bool.{cases_eq, cases_lt}
+use Rattle.std.proofs.lemmas.Bool.{cases_eq, cases_lt, true≢false}
 use Rattle.std.proofs.lemmas.Int.{clamps, ints}
 use Rattle.std.proofs.lemmas.Grind.{get_or-set_at}
 use Rattle.std.proofs.lemmas.List.{get_or-map, get_or-replicate, get_or-set_other, get_or-set_same, get_or_past, length-map, length-replicate, length-set}
-use Rattle.std.proofs.lemmas.List.Elements.{All-get_or}
+use Rattle.std.proofs.lemmas.List.Elements.{All-get_or, Contains-append_left, Contains-push}
+use Rattle.std.proofs.lemmas.List.Sorted.{Contains-permutation}
 use Rattle.std.specs.List.{range_with_len, sum_by}
 use borrow.Author.Differences.{up, down}
 use Rattle.qc_dist.proofs.Ranges.{sum_more}
 use Rattle.qc_model.specs.Bays.{at_least_zero}
 use Rattle.qc_model.specs.Instance.{InstanceView, Valid, ticks_of}
+use Rattle.qc_part.specs.declared.block.Block.{Block}
 use Rattle.qc_part.specs.declared.event.Event.{Event}
 use Rattle.qc_part.specs.declared.hatch.Hatch.{Hatch}
 use Rattle.qc_part.specs.declared.part.Part.TheInside.{Inside}
 use Rattle.qc_part.specs.declared.state.State.{State}
 use Rattle.qc_part.specs.Children.{AreRaised, done_at, is_last, least_count, size_at, ticks_between}
-use Rattle.qc_part.specs.Hatches.{IsBlock, IsEventOf, blocks_of}
+use Rattle.qc_part.specs.Hatches.{AreComplete, AreInOrder, HasEvents, IsBlock, IsEventOf, IsInOne, blocks_of, first_of}
 use Rattle.qc_part.specs.PartFields.{view_of}
-use Rattle.qc_part.specs.Parts.{IsBlockOf, IsPart, IsStateOf, PartView, block, no_block, no_event}
+use Rattle.qc_part.specs.Parts.{HasEvent, IsNoLater, IsBlockOf, IsInBlock, IsPart, IsStateOf, PartView, block, no_block, no_event}
+use Rattle.qc_model.specs.Nodes.{reaches}
 use Rattle.qc_part.specs.Places.{IsFirstFront, IsFront, most_front}
 
 pub count_is : (hatches : List Hatch) → length (blocks_of hatches) ≡ length hatches
@@ -41,29 +50,111 @@ is_block_at f part same is h x low at =
     (subst (IsBlockOf f.inst) (block_is f.hatches.items h x inside at) (is.blocks h here))
 
 -- hatches and events that fit each other are a part
-pub part_of : (inst : InstanceView) (hatches : List Hatch) (events : List Event) → Valid inst
-    → All (IsBlock inst) hatches → length hatches ≤ 60 → All (IsEventOf inst hatches) events → length events ≤ 480
-    → IsPart (record { inst = inst; hatches = blocks_of hatches; events = events })
-part_of inst hatches events valid blocks few all fewer = record {
-  valid = valid;
-  hatch_count = omega (arith, few, count_is hatches);
-  event_count = fewer;
-  blocks = λ h low.
-      let inside : h < length hatches = omega (arith, low, count_is hatches) in
-      let x = get_or hatches h (record { block = no_block; place = pos 0; work = []; free = [] }) in
-      subst (IsBlockOf inst) (sym (get_or-map (λ (hatch : Hatch). hatch.block) hatches h x no_block inside))
-      (All-get_or (IsBlock inst) hatches h x inside blocks);
-  events = λ e low.
-      let ev = All-get_or (IsEventOf inst hatches) events e no_event low all in
+module _ (inst : InstanceView) (hatches : List Hatch) (events : List Event) where
+  abbrev made : PartView
+  made = record { inst = inst; hatches = blocks_of hatches; events = events }
+
+  in_block : (j : ℕ) → IsInOne hatches j → IsInBlock made j
+  in_block j one =
+      let k = one.stands.0 in
+      let inside : k < length hatches = one.stands.1 in
+      let is = block_is hatches k one.hatch inside (sym one.stands.2) in
       record {
-        hatch = omega (arith, ev.hatch, count_is hatches);
-        crane = ev.crane;
-        first_task = ev.first_task;
-        reached = ev.reached;
-        along = ev.along;
-        near = ev.near;
-      };
+        hatch = k;
+        low = omega (arith, inside, count_is hatches);
+        from = subst (λ (b : Block). b.first ≤ j) (sym is) one.from;
+        to = subst (λ (b : Block). j < b.first + b.count) (sym is) one.to;
+      }
+
+  pub part_of : Valid inst → All (IsBlock inst) hatches → length hatches ≤ 60 → All (IsEventOf inst hatches) events
+      → length events ≤ 480 → AreComplete inst hatches events (length hatches) → AreInOrder events
+      → ((j : ℕ) → j < length inst.tasks → IsInOne hatches j) → IsPart made
+  part_of valid blocks few all fewer complete order covers = record {
+    valid = valid;
+    hatch_count = omega (arith, few, count_is hatches);
+    event_count = fewer;
+    blocks = λ h low.
+        let inside : h < length hatches = omega (arith, low, count_is hatches) in
+        let x = get_or hatches h (record { block = no_block; place = pos 0; work = []; free = [] }) in
+        subst (IsBlockOf inst) (sym (get_or-map (λ (hatch : Hatch). hatch.block) hatches h x no_block inside))
+        (All-get_or (IsBlock inst) hatches h x inside blocks);
+    events = λ e low.
+        let ev = All-get_or (IsEventOf inst hatches) events e no_event low all in
+        record {
+          hatch = omega (arith, ev.hatch, count_is hatches);
+          crane = ev.crane;
+          first_task = ev.first_task;
+          reached = ev.reached;
+          along = ev.along;
+          near = ev.near;
+        };
+    complete = λ h k low here reached. complete h (omega (arith, low, count_is hatches)) k here reached;
+    order = order;
+    covers = λ j low. in_block j (covers j low);
+  }
+
+-- the tasks of one hatch more
+pub in_one_more : (hatches : List Hatch) (x : Hatch) (n m : ℕ) → x.block.first ≡ n → m ≡ n + x.block.count
+    → ((j : ℕ) → j < n → IsInOne hatches j) → (j : ℕ) → j < m → IsInOne (hatches ++ x ∷ []) j
+in_one_more hatches x n m first count before j low = by_order (cases_lt j n)
+  where
+    by_order : (j < n) ⊎ (n ≤ j) → IsInOne (hatches ++ x ∷ []) j
+    by_order (inl old) =
+        let one = before j old in
+        record {
+          hatch = one.hatch;
+          stands = Contains-append_left hatches (x ∷ []) one.hatch one.stands;
+          from = one.from;
+          to = one.to;
+        }
+    by_order (inr new) = record {
+      hatch = x;
+      stands = Contains-push hatches x;
+      from = omega (arith, first, new);
+      to = omega (arith, first, count, low);
+    }
+
+pub in_one_moved : (xs ys : List Hatch) (j : ℕ) → IsPermutation xs ys → IsInOne xs j → IsInOne ys j
+in_one_moved xs ys j moved one = record {
+  hatch = one.hatch;
+  stands = Contains-permutation xs ys one.hatch moved one.stands;
+  from = one.from;
+  to = one.to;
 }
+
+-- events that stay
+pub has_kept : (xs ys : List Event) (h k : ℕ) → ((ev : Event) → Contains xs ev → Contains ys ev) → HasEvent xs h k
+    → HasEvent ys h k
+has_kept xs ys h k kept one =
+    record { event = one.event; stands = kept one.event one.stands; hatch = one.hatch; crane = one.crane }
+
+pub pushed : (xs : List Event) (x ev : Event) → Contains xs ev → Contains (xs ++ x ∷ []) ev
+pushed xs x ev h = Contains-append_left xs (x ∷ []) ev h
+
+-- one crane more, which reaches the hatch or doesn't
+pub events_in : (inst : InstanceView) (xs ys : List Event) (h first k : ℕ)
+    → ((ev : Event) → Contains xs ev → Contains ys ev) → HasEvent ys h k
+    → HasEvents inst xs h first k → HasEvents inst ys h first (k + 1)
+events_in inst xs ys h first k kept one before =
+    below_more _ _ (λ v low reached. has_kept xs ys h v kept (before v low reached)) (λ reached. one)
+
+pub events_out : (inst : InstanceView) (xs : List Event) (h first k : ℕ) → reaches inst first k ≡ false
+    → HasEvents inst xs h first k → HasEvents inst xs h first (k + 1)
+events_out inst xs h first k out before =
+    below_more _ _ before (λ reached. absurd (true≢false (sym reached ∙ out)))
+
+-- the events of one hatch more
+pub complete_more : (inst : InstanceView) (hatches : List Hatch) (xs ys : List Event) (n : ℕ)
+    → ((ev : Event) → Contains xs ev → Contains ys ev)
+    → HasEvents inst ys n (first_of hatches n) (length inst.cranes)
+    → AreComplete inst hatches xs n → AreComplete inst hatches ys (n + 1)
+complete_more inst hatches xs ys n kept added before =
+    below_more _ _ (λ h low v here reached. has_kept xs ys h v kept (before h low v here reached)) added
+
+pub complete_moved : (inst : InstanceView) (hatches : List Hatch) (xs ys : List Event) (n : ℕ) → IsPermutation xs ys
+    → AreComplete inst hatches xs n → AreComplete inst hatches ys n
+complete_moved inst hatches xs ys n moved before = λ h low v here reached.
+    has_kept xs ys h v (λ ev. Contains-permutation xs ys ev moved) (before h low v here reached)
 
 -- one task more
 pub ticks_more : (inst : InstanceView) (first from task ticks t : ℕ) → from ≤ task
@@ -164,3 +255,32 @@ worked_fits part old new hatch m n front fits inside few done raised low = recor
     by_crane k here (inl below) =
         subst IsFront (sym (raised.below k below)) (greater_fits (get_or old.fronts k (pos 0)) front (fits.fronts k here) low)
     by_crane k here (inr above) = subst IsFront (sym (raised.others k above)) (fits.fronts k here)
+
+-- the first task of a hatch as it is read
+pub first_is : (hatches : List Hatch) (h : ℕ) (d : Hatch) → h < length hatches
+    → (get_or hatches h d).block.first ≡ first_of hatches h
+first_is hatches h d low =
+    sym (ap (λ (b : Block). b.first) (get_or-map (λ (hatch : Hatch). hatch.block) hatches h d no_block low))
+
+then_not_lt : (o p : Ordering) → is_lt (ordering_then o p) ≡ false
+    → (is_lt o ≡ false) × (o ≡ Equal → is_lt p ≡ false)
+then_not_lt Less p h = absurd (true≢false h)
+then_not_lt Equal p h = (refl, λ _. h)
+then_not_lt Greater p h = (refl, λ e. absurd (true≢false (ap is_greater e)))
+  where
+    is_greater : Ordering → Bool
+    is_greater Less = false
+    is_greater Equal = false
+    is_greater Greater = true
+
+-- two neighbours after a sort
+pub no_later : (x y : Event) (rest : Ordering)
+    → is_lt (ordering_then (nat_cmp y.along x.along) (ordering_then (nat_cmp y.crane x.crane) rest)) ≡ false
+    → IsNoLater x y
+no_later x y rest h =
+    let first = then_not_lt (nat_cmp y.along x.along) (ordering_then (nat_cmp y.crane x.crane) rest) h in (
+      ge_from_not_lt y.along x.along first.0,
+      λ level.
+          let then = first.1 (sym (nat_cmp_is y.along x.along Equal (sym level))) in
+          ge_from_not_lt y.crane x.crane (then_not_lt (nat_cmp y.crane x.crane) rest then).0,
+    )

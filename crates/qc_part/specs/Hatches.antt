@@ -1,12 +1,12 @@
 -- inner: hatches and events as they are kept.
-use Rattle.std.specs.Prelude.{◌≡◌, ◌<◌, ◌≤◌, List, map, length, slice_index_or, IsTrue}
+use Rattle.std.specs.Prelude.{◌≡◌, ℕ, ◌+◌, ◌<◌, ◌≤◌, List, map, length, slice_index_or, Contains, IsTrue}
 use Rattle.qc_model.specs.Instance.{InstanceView}
 use Rattle.qc_model.specs.Nodes.{reaches}
 use Rattle.qc_model.specs.Numbers.{most_distance}
 use Rattle.qc_part.specs.declared.block.Block.{Block}
 use Rattle.qc_part.specs.declared.event.Event.{Event}
 use Rattle.qc_part.specs.declared.hatch.Hatch.{Hatch}
-use Rattle.qc_part.specs.Parts.{IsBlockOf, no_block}
+use Rattle.qc_part.specs.Parts.{HasEvent, IsBlockOf, IsNoLater, no_block, no_event}
 use Rattle.qc_part.specs.Places.{along}
 
 -- the hatch is one of the instance
@@ -24,3 +24,28 @@ pub record IsEventOf (inst : InstanceView) (hatches : List Hatch) (ev : Event) :
   pub reached : IsTrue (reaches inst ev.first_task ev.crane)
   pub along : ev.along ≡ along inst ev.first_task ev.crane
   pub near : ev.along ≤ most_distance
+
+-- of these hatches one has the task
+pub record IsInOne (hatches : List Hatch) (j : ℕ) : Type 0 where
+  pub hatch : Hatch
+  pub stands : Contains hatches hatch
+  pub from : hatch.block.first ≤ j
+  pub to : j < hatch.block.first + hatch.block.count
+
+-- the first task of hatch h
+abbrev pub first_of : List Hatch → ℕ → ℕ
+first_of hatches h = (slice_index_or (blocks_of hatches) h no_block).first
+
+-- each crane below k that reaches the task has an event at hatch h
+abbrev pub HasEvents : InstanceView → List Event → ℕ → ℕ → ℕ → Type 0
+HasEvents inst events h first k = (v : ℕ) → v < k → IsTrue (reaches inst first v) → HasEvent events h v
+
+-- each crane that reaches one of the first n hatches has an event there
+abbrev pub AreComplete : InstanceView → List Hatch → List Event → ℕ → Type 0
+AreComplete inst hatches events n = (h : ℕ) → h < n
+    → HasEvents inst events h (first_of hatches h) (length inst.cranes)
+
+-- no event is before the one ahead of it
+abbrev pub AreInOrder : List Event → Type 0
+AreInOrder events = (e : ℕ) → e + 1 < length events
+    → IsNoLater (slice_index_or events e no_event) (slice_index_or events (e + 1) no_event)

@@ -1,6 +1,6 @@
 -- public: a ship read upward: its hatches, and its events, which are the pairs of a hatch and a crane that reaches it.
-use Rattle.std.specs.Prelude.{◌≡◌, ℕ, ◌+◌, ◌<◌, ◌≤◌, pos, List, length, slice_index, slice_index_or, IsTrue}
-use Rattle.qc_model.specs.Instance.{InstanceView, Valid}
+use Rattle.std.specs.Prelude.{◌≡◌, ℕ, ◌+◌, ◌<◌, ◌≤◌, pos, List, length, slice_index, slice_index_or, Contains, IsTrue}
+use Rattle.qc_model.specs.Instance.{InstanceView, Valid, task}
 use Rattle.qc_model.specs.Nodes.{reaches}
 use Rattle.qc_model.specs.Numbers.{most_distance, most_hatches}
 use Rattle.qc_part.specs.declared.block.Block.{Block}
@@ -27,11 +27,12 @@ block part h = slice_index_or part.hatches h no_block
 abbrev pub event : PartView → ℕ → Event
 event part e = slice_index_or part.events e no_event
 
--- a hatch has one to four tasks of the instance
+-- one to four tasks of one hatch of the instance, which follow one another
 pub record IsBlockOf (inst : InstanceView) (b : Block) : Type 0 where
   pub some : 1 ≤ b.count
   pub few : b.count ≤ 4
   pub inside : b.first + b.count ≤ length inst.tasks
+  pub same : (i : ℕ) → i < b.count → (task inst (b.first + i)).hatch ≡ (task inst b.first).hatch
 
 -- a hatch of the part and a crane that reaches its tasks, and how far along the rail these lie for it
 pub record IsEvent (part : PartView) (ev : Event) : Type 0 where
@@ -42,6 +43,24 @@ pub record IsEvent (part : PartView) (ev : Event) : Type 0 where
   pub along : ev.along ≡ along part.inst ev.first_task ev.crane
   pub near : ev.along ≤ most_distance
 
+-- the task is one of a hatch of the part
+pub record IsInBlock (part : PartView) (j : ℕ) : Type 0 where
+  pub hatch : ℕ
+  pub low : hatch < length part.hatches
+  pub from : (block part hatch).first ≤ j
+  pub to : j < (block part hatch).first + (block part hatch).count
+
+-- one of the events is that of hatch h and crane k
+pub record HasEvent (events : List Event) (h k : ℕ) : Type 0 where
+  pub event : Event
+  pub stands : Contains events event
+  pub hatch : event.hatch ≡ h
+  pub crane : event.crane ≡ k
+
+-- the event lies less far along the rail than the other, or as far and its crane isn't above that of the other
+abbrev pub IsNoLater : Event → Event → Type 0
+IsNoLater ev other = (ev.along ≤ other.along) × (ev.along ≡ other.along → ev.crane ≤ other.crane)
+
 -- what every part keeps
 pub record IsPart (part : PartView) : Type 0 where
   pub valid : Valid part.inst
@@ -49,6 +68,12 @@ pub record IsPart (part : PartView) : Type 0 where
   pub event_count : length part.events ≤ 480
   pub blocks : (h : ℕ) → h < length part.hatches → IsBlockOf part.inst (block part h)
   pub events : (e : ℕ) → e < length part.events → IsEvent part (event part e)
+  -- each crane that reaches a hatch has an event there
+  pub complete : (h k : ℕ) → h < length part.hatches → k < length part.inst.cranes
+      → IsTrue (reaches part.inst (block part h).first k) → HasEvent part.events h k
+  pub order : (e : ℕ) → e + 1 < length part.events → IsNoLater (event part e) (event part (e + 1))
+  -- each task is one of a hatch, and the tasks of a hatch have its number in the ship file
+  pub covers : (j : ℕ) → j < length part.inst.tasks → IsInBlock part j
 
 -- the part of an instance
 pub record IsPartOf (inst : InstanceView) (part : PartView) : Type 0 where

@@ -1,8 +1,11 @@
 //! The events of a ship.
 
-ghost use Rattle.std.specs.Prelude.{◌≡◌, ◌+◌, ◌<◌, ◌≤◌, length, vec_len, All, IfOk};
+ghost use Rattle.std.specs.Prelude.{◌≡◌, ◌+◌, ◌<◌, ◌≤◌, length, vec_len, All, Contains, IfOk, IsTrue, OnOk};
 ghost use Rattle.qc_model.specs.Numbers.{most_hatches};
-ghost use Rattle.qc_part.specs.Hatches.{IsBlock, IsEventOf};
+ghost use Rattle.qc_part.specs.declared.event.Event.{Event};
+ghost use Rattle.qc_part.specs.Hatches.{AreComplete, AreInOrder, HasEvents, IsBlock, IsEventOf, first_of};
+ghost use Rattle.qc_part.specs.Parts.{HasEvent};
+ghost use Rattle.qc_model.specs.Nodes.{reaches};
 
 use crate::event::Event;
 use crate::hatch::Hatch;
@@ -11,6 +14,35 @@ use qc_dist::in_reach;
 use qc_model::{Instance, MOST_CRANES};
 use qc_num::OutOfMemory;
 use std::alloc::Global;
+
+/// Adds the event of a hatch and of a crane that reaches it.
+fn add_event(
+    inst: &Instance,
+    hatches: &[Hatch],
+    number: u8,
+    crane: u16,
+    events: &mut Vec<Event>,
+) -> Result<(), OutOfMemory>
+    requires hatch { number < length hatches.now }
+    requires blocks { All (IsBlock inst.now) hatches.now }
+    requires crane { crane < length inst.now.cranes }
+    requires reached { IsTrue (reaches inst.now (first_of hatches.now number) crane) }
+    requires events { All (IsEventOf inst.now hatches.now) events.old.items }
+    ensures events { All (IsEventOf inst.now hatches.now) events.new.items }
+    ensures few { vec_len events.new ≤ vec_len events.old + 1 }
+    ensures kept { (ev : Event) → Contains events.old.items ev → Contains events.new.items ev }
+    ensures added { OnOk result (HasEvent events.new.items number crane) }
+{
+    let first_task = hatches[number as usize].block.first;
+    let event = Event {
+        along: along(inst, first_task, crane),
+        crane,
+        hatch: number,
+        first_task,
+    };
+    events.push(event)?;
+    Ok(())
+}
 
 /// Adds the events of a hatch.
 fn add_events(
@@ -24,16 +56,14 @@ fn add_events(
     requires events { All (IsEventOf inst.now hatches.now) events.old.items }
     ensures events { All (IsEventOf inst.now hatches.now) events.new.items }
     ensures few { vec_len events.new ≤ vec_len events.old + 8 }
+    ensures kept { (ev : Event) → Contains events.old.items ev → Contains events.new.items ev }
+    ensures added { OnOk result (HasEvents inst.now events.new.items number
+        (first_of hatches.now number) (length inst.now.cranes)) }
 {
     let first_task = hatches[number as usize].block.first;
     for crane in 0..inst.crane_count() {
         if in_reach(inst, first_task, crane) {
-            events.push(Event {
-                along: along(inst, first_task, crane),
-                crane,
-                hatch: number,
-                first_task,
-            })?;
+            add_event(inst, hatches, number, crane, events)?;
         }
     }
     Ok(())
@@ -49,6 +79,9 @@ pub(crate) fn events_of(
     requires blocks { All (IsBlock inst.now) hatches.now }
     ensures events { IfOk result (λ events. All (IsEventOf inst.now hatches.now) events.items) }
     ensures few { IfOk result (λ events. vec_len events ≤ 480) }
+    ensures complete { IfOk result
+        (λ events. AreComplete inst.now hatches.now events.items (length hatches.now)) }
+    ensures order { IfOk result (λ events. AreInOrder events.items) }
 {
     let mut events = Vec::new(alloc);
     for number in 0..hatches.len() as u8 {

@@ -1,8 +1,8 @@
 //! Hatches, and what the estimates of a state read of each.
 
-ghost use Rattle.std.specs.Prelude.{◌≡◌, ◌+◌, ◌<◌, ◌≤◌, length, All, IfOk};
-ghost use Rattle.qc_model.specs.Instance.{Valid};
-ghost use Rattle.qc_part.specs.Hatches.{IsBlock};
+ghost use Rattle.std.specs.Prelude.{◌≡◌, ℕ, ◌+◌, ◌<◌, ◌≤◌, length, All, IfOk};
+ghost use Rattle.qc_model.specs.Instance.{Valid, task};
+ghost use Rattle.qc_part.specs.Hatches.{IsBlock, IsInOne};
 
 use crate::block::Block;
 use qc_dist::head;
@@ -31,6 +31,8 @@ fn count_from(inst: &Instance, first: u16) -> u16
     ensures some { 1 ≤ result }
     ensures few { result ≤ 4 }
     ensures inside { first + result ≤ length inst.now.tasks }
+    ensures same { (i : ℕ) → i < result
+        → (task inst.now (first + i)).hatch ≡ (task inst.now first).hatch }
     ensures all { length inst.now.tasks ≤ 240 }
 {
     let tasks = inst.tasks();
@@ -90,6 +92,8 @@ fn hatch_from(inst: &Instance, first: u16) -> Hatch
 /// The hatches along the ship.
 pub(crate) fn hatches_of(alloc: Global, inst: &Instance) -> Result<Vec<Hatch>, OutOfMemory>
     ensures blocks { IfOk result (λ hatches. All (IsBlock inst.now) hatches.items) }
+    ensures covers { IfOk result (λ hatches. (j : ℕ) → j < length inst.now.tasks
+        → IsInOne hatches.items j) }
     ensures valid { IfOk result (λ _. Valid inst.now) }
 {
     let mut hatches = Vec::new(alloc);

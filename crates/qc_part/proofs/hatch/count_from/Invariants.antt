@@ -1,4 +1,5 @@
-use Rattle.std.proofs.Common.{◌+◌, ◌≤◌, length}
+use Rattle.std.proofs.Common.{◌≡◌, ℕ, ◌+◌, ◌<◌, ◌≤◌, length}
+use Rattle.qc_model.specs.Instance.{task}
 use Rattle.qc_part.proofs.hatch.count_from.Given as goal
 
 abbrev pub invariant-loop-next : goal.invariant-loop-next
@@ -6,4 +7,5 @@ invariant-loop-next l = record {
   some : 1 ≤ l.count;
   few : l.count ≤ l._next;
   inside : l.first + l.count ≤ length l.tasks;
+  same : (i : ℕ) → i < l.count → (task l.inst (l.first + i)).hatch ≡ (task l.inst l.first).hatch;
 }

@@ -2,7 +2,7 @@ use Rattle.std.proofs.Common.{◌≤◌, List, length, sym, subst, ◌∙◌, ar
 use Rattle.qc_model.specs.Instance.{InstanceView}
 use Rattle.qc_part.specs.declared.event.Event.{Event}
 use Rattle.qc_part.specs.declared.hatch.Hatch.{Hatch}
-use Rattle.qc_part.specs.Hatches.{IsEventOf, blocks_of}
+use Rattle.qc_part.specs.Hatches.{AreComplete, IsEventOf, blocks_of}
 use Rattle.qc_part.specs.Parts.{IsPart, PartView}
 use Rattle.qc_part.proofs.PartLemmas.{part_of}
 use Rattle.qc_part.proofs.part.Part.open.Goals as goal
@@ -23,7 +23,9 @@ made c =
     (part_of inst c.in_ok-hatches.hatches.items events c.in_ok-hatches.ensures.valid c.in_ok-hatches.ensures.blocks
     (subst (λ (xs : List Hatch). length xs ≤ 60) same few)
     (subst (λ (xs : List Hatch). All (IsEventOf inst xs) events) same c.in_ok-events.ensures.events)
-    (subst (λ (xs : List Event). length xs ≤ 480) c.as_slice-2.ensures.value fewer))
+    (subst (λ (xs : List Event). length xs ≤ 480) c.as_slice-2.ensures.value fewer)
+    (subst (λ (xs : List Hatch). AreComplete inst xs events (length xs)) same c.in_ok-events.ensures.complete)
+    c.in_ok-events.ensures.order c.in_ok-hatches.ensures.covers)
 
 pub invariant_of-result : goal.invariant_of-result
 invariant_of-result c = record { is_part = made c; numbers = c.in_ok-numbers.ensures ∙ c.len-2.ensures }

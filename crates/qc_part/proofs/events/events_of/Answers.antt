@@ -1,0 +1,35 @@
+use Rattle.std.proofs.Common.{get_or, ◌≡◌, ◌+◌, length, subst, arith}
+use Rattle.std.proofs.lemmas.List.Sorted.{All-permutation}
+use Rattle.qc_part.specs.Hatches.{AreComplete, IsEventOf}
+use Rattle.qc_part.specs.Parts.{no_event}
+use Rattle.qc_part.proofs.PartLemmas.{complete_more, complete_moved, no_later}
+use Rattle.qc_part.proofs.events.events_of.Goals as goal
+
+pub loop-number-preserved : goal.loop-number-preserved
+loop-number-preserved c =
+    let made = c.add_events.ensures in
+    let before = c.loop-number.invariant in
+    record {
+      events = made.events;
+      few = omega (arith, made.few, before.few);
+      complete = complete_more c.args.inst.now c.args.hatches.now c.loop-number.events.items _ c.loop-number.number made.kept
+          c.in_ok-add_events.ensures.added before.complete;
+    }
+
+pub returns-clause-events : goal.returns-clause-events
+returns-clause-events c =
+    All-permutation (IsEventOf c.args.inst.now c.args.hatches.now) _ _ c.sort_unstable.ensures.permutation c.loop-number.invariant.events
+
+pub returns-clause-complete : goal.returns-clause-complete
+returns-clause-complete c =
+    let inst = c.args.inst.now in
+    let hatches = c.args.hatches.now in
+    let all : c.loop-number.number ≡ length hatches = omega arith in
+    complete_moved inst hatches _ _ (length hatches) c.sort_unstable.ensures.permutation
+    (subst (AreComplete inst hatches c.loop-number.events.items) all c.loop-number.invariant.complete)
+
+pub returns-clause-order : goal.returns-clause-order
+returns-clause-order c = λ e low.
+    let sorted = c.sort_unstable.new.self.items in
+    no_later (get_or sorted e no_event) (get_or sorted (e + 1) no_event) _
+    (c.sort_unstable.ensures.sorted e no_event (omega arith) low)
