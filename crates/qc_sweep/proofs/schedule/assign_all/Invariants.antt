@@ -1,4 +1,5 @@
-use Rattle.std.proofs.Common.{◌≡◌, ℕ, ◌≤◌, None}
+use Rattle.std.proofs.Common.{◌≡◌, ℕ, ◌≤◌}
+use Rattle.std.specs.Prelude.{None}
 use Rattle.qc_model.specs.Nodes.{assigned}
 use Rattle.qc_sweep.proofs.schedule.assign_all.Given as goal
 

@@ -1,4 +1,5 @@
-use Rattle.std.proofs.Common.{◌<◌, length, IfSome}
+use Rattle.std.proofs.Common.{◌<◌, length}
+use Rattle.std.specs.Prelude.{IfSome}
 use Rattle.qc_sweep.proofs.split.try_runs.Given as goal
 
 abbrev pub invariant-loop-hatch : goal.invariant-loop-hatch

@@ -1,4 +1,5 @@
-use Rattle.std.proofs.Common.{◌≡◌, ◌+◌, true, false, drop, sym, ap, ◌∙◌, slice_index}
+use Rattle.std.proofs.Common.{◌≡◌, ◌+◌, true, false, drop, sym, ap, ◌∙◌}
+use Rattle.std.specs.Prelude.{slice_index}
 use Rattle.qc_part.specs.declared.block.Block.{Block}
 use Rattle.qc_part.specs.declared.event.Event.{Event}
 use Rattle.qc_part.specs.Children.{is_absent, is_last}

@@ -1,4 +1,5 @@
-use Rattle.std.proofs.Common.{◌≤◌, List, length, sym, subst, ◌∙◌, arith, All}
+use Rattle.std.proofs.Common.{◌≤◌, List, length, sym, subst, ◌∙◌, arith}
+use Rattle.std.specs.Prelude.{All}
 use Rattle.qc_model.specs.Instance.{InstanceView}
 use Rattle.qc_part.specs.declared.event.Event.{Event}
 use Rattle.qc_part.specs.declared.hatch.Hatch.{Hatch}
