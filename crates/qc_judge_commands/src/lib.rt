@@ -11,7 +11,6 @@ mod tasks;
 
 pub use answer::{Compared, Judged, Showing, Shown};
 pub use check::check_tree;
-pub use compare::{broken_of, check_plan};
-pub use judged::report_broken;
+pub use compare::check_plan;
 pub use motion::show;
 pub use tasks::list_tasks;

@@ -176,6 +176,7 @@ pub fn read_own_job<S: Shelf>(
     inputs: &Inputs<'_>,
     shelf: &mut S,
 ) -> Result<OwnJob, Stop>
+    requires { IsSome (names_of inputs.now).stow }
     ensures step { IsStep (own_job_due (names_of inputs.now).own) (names_of inputs.now)
         (S.Sink.view shelf.old) (S.Sink.view shelf.new) result }
     ensures judgeable { IfOk result (λ job. IfSome job.own (IsJudgeable job.inst)) }

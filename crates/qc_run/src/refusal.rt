@@ -64,7 +64,7 @@ qc watch SHIP LOG
 ";
 
 /// The line of a file that couldn't be read.
-fn unread_line(file: Input) -> Text<192>
+fn unread_line(file: Input) -> Text<256>
     ensures { result ≡ codes "ReadFault " ++ line (input_text file) }
 {
     match file {
@@ -78,7 +78,7 @@ fn unread_line(file: Input) -> Text<192>
 }
 
 /// The line of a file that is too large.
-fn large_line(file: Input) -> Text<192>
+fn large_line(file: Input) -> Text<256>
     ensures { result ≡ codes "TooLarge " ++ line (input_text file) }
 {
     match file {
@@ -92,7 +92,7 @@ fn large_line(file: Input) -> Text<192>
 }
 
 /// What is printed for a refusal.
-fn refusal_text(why: Refusal) -> Text<192>
+fn refusal_text(why: Refusal) -> Text<256>
     ensures { result ≡ refusal_text why }
 {
     match why {
@@ -123,7 +123,7 @@ fn refusal_status(why: Refusal) -> Status
 }
 
 /// What is printed where a command stops.
-pub(crate) fn stop_text(why: Stop) -> Text<192>
+pub(crate) fn stop_text(why: Stop) -> Text<256>
     ensures { result ≡ stop_text why }
 {
     match why {

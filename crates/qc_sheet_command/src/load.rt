@@ -34,6 +34,7 @@ pub fn read_cargo<S: Shelf>(
     inputs: &Inputs<'_>,
     shelf: &mut S,
 ) -> Result<Cargo, Stop>
+    requires { IsSome (names_of inputs.now).stow }
     ensures step { IsStep cargo_due (names_of inputs.now)
         (S.Sink.view shelf.old) (S.Sink.view shelf.new) result }
     ensures cargo { IfOk result IsCargo }
@@ -46,7 +47,8 @@ pub fn read_cargo<S: Shelf>(
 
 /// The same, and the schedule of the plan's file.
 pub fn read_load<S: Shelf>(alloc: Global, inputs: &Inputs<'_>, shelf: &mut S) -> Result<Load, Stop>
-    requires { IsSome (names_of inputs.now).plan }
+    requires stow { IsSome (names_of inputs.now).stow }
+    requires plan { IsSome (names_of inputs.now).plan }
     ensures step { IsStep load_due (names_of inputs.now)
         (S.Sink.view shelf.old) (S.Sink.view shelf.new) result }
     ensures load { IfOk result IsLoad }

@@ -18,7 +18,8 @@ use std::alloc::Global;
 /// Reads the ship file, the stowage list and the plan's file and judges the plan; where it is feasible
 /// its work sheet is to be printed.
 fn list<S: Shelf>(alloc: Global, inputs: &Inputs<'_>, shelf: &mut S) -> Result<Listing, Stop>
-    requires { IsSome (names_of inputs.now).plan }
+    requires stow { IsSome (names_of inputs.now).stow }
+    requires plan { IsSome (names_of inputs.now).plan }
     ensures serves { IsListing (names_of inputs.now) (S.Sink.view shelf.old) (S.Sink.view shelf.new) result }
     ensures ready { IfOk result CanBeListed }
 {
@@ -44,7 +45,8 @@ pub fn print_sheet<S: Shelf, K: Sink>(
     shelf: &mut S,
     out: &mut K,
 ) -> Status
-    requires { IsSome (names_of inputs.now).plan }
+    requires stow { IsSome (names_of inputs.now).stow }
+    requires plan { IsSome (names_of inputs.now).plan }
     ensures account { IsSheetRun (names_of inputs.now) (S.Sink.view shelf.old) (S.Sink.view shelf.new)
         (K.Sink.view out.old) (K.Sink.view out.new) result }
     ensures promises { SheetPromises (names_of inputs.now) (S.Sink.view shelf.old) (S.Sink.view shelf.new)
