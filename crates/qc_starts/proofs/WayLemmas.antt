@@ -1,9 +1,10 @@
 -- Ways back: they grow by a task that isn't on them, are no longer than there are tasks, and close.
-use Rattle.std.proofs.Common.{◌≡◌, ◌≢◌, ℕ, zero, suc, ◌+◌, ◌-◌, ◌<◌, ◌≤◌, true, false, inl, inr, List, [], ◌∷◌, take, length, Option, None, Some, is_some, refl, sym, ap, subst, ◌∙◌, add-one, eqb, arith, slice_index}
+use Rattle.std.proofs.Common.{◌≡◌, ◌≢◌, ℕ, zero, suc, ◌+◌, ◌-◌, ◌<◌, ◌≤◌, true, false, inl, inr, List, [], ◌∷◌, ◌++◌, drop, take, length, reverse, Option, None, Some, refl, sym, ap, subst, ◌∙◌, add-one, eqb, arith, slice_index}
 use Rattle.std.proofs.lemmas.Bool.{cases_eq, cond-false, or_cases, eqb-true, ne_eqb, false≢true}
+use Rattle.std.proofs.lemmas.List.{length-reverse, reverse-append, take_at}
 use Rattle.std.proofs.lemmas.Map.Steps.{length-le_from_distinct_below}
 use Rattle.std.proofs.lemmas.Option.{same_Some}
-use Rattle.std.specs.List.{AllByRecursion, IsDistinct, list_any}
+use Rattle.std.specs.List.{AllByRecursion, IsDistinct, list_any, refill}
 use Rattle.qc_starts.specs.Found.{why_in}
 use Rattle.qc_starts.specs.Ways.{AreBacked, IsBackTo, IsLinked, IsPlace, IsRing, IsRising, IsWalked, IsWay, Why, last_of}
 
@@ -54,26 +55,24 @@ starts_rise why i [] rising linked all (suc k) low = absurd (omega arith)
 starts_rise why i (j ∷ js) rising linked all (suc k) low =
     omega (arith, rising i j all.0 linked.0, starts_rise why j js rising linked.1 all.1 k (omega arith))
 
--- where starts rise, no way closes
-no_ring : (why : Why) (last : ℕ) (path : List ℕ) (place : ℕ) → IsRising why
-    → IsWalked why last path (Some place) → ⊥
-no_ring why last [] place rising walked = walked
-no_ring why last (i ∷ js) place rising walked =
-    let way = walked.0 in
-    let up = starts_rise why i js rising way.linked way.inside.1 place walked.1 in
-    let down = rising (slice_index (i ∷ js) place) i way.inside.0 walked.2 in
-    omega (arith, up, down)
+-- where starts rise, what raised the first task of a way isn't on it
+pub away_from : (why : Why) (last i h : ℕ) (js : List ℕ) → IsRising why → IsWay why last i js → why.of i ≡ Some h
+    → IsPlace (i ∷ js) h None
+away_from why last i h js rising way back = λ k low same.
+    let up = starts_rise why i js rising way.linked way.inside.1 k low in
+    let less = rising h i way.inside.0 back in
+    omega (arith, up, less, ap why.start same)
 
-pub no_ring_some : (why : Why) (last : ℕ) (path : List ℕ) (o : Option ℕ) → IsRising why
-    → IsWalked why last path o → is_some o ≡ true → ⊥
-no_ring_some why last path None rising walked some = false≢true some
-no_ring_some why last path (Some place) rising walked some = no_ring why last path place rising walked
+-- ---- ways that are written from their end on
 
-pub chain_found : (why : Why) (last : ℕ) (path : List ℕ) (o : Option ℕ)
-    → IsWalked why last path o → is_some o ≡ false → IsBackTo why last path
-chain_found why last [] o walked none = walked
-chain_found why last (i ∷ js) None walked none = walked
-chain_found why last (i ∷ js) (Some place) walked none = absurd (false≢true (sym none))
+pub reverse_push : (tasks : List ℕ) (task : ℕ) → reverse (tasks ++ task ∷ []) ≡ (task ∷ reverse tasks)
+reverse_push tasks task = reverse-append tasks (task ∷ [])
+
+-- a list that is turned round in its place
+pub turned_in : (tasks news : List ℕ) → news ≡ reverse tasks → refill (length tasks) tasks news ≡ reverse tasks
+turned_in tasks news is =
+    let same : length news ≡ length tasks = ap (λ (l : List ℕ). length l) is ∙ length-reverse tasks in
+    take_at news (drop (length news) tasks) (length tasks) same ∙ is
 
 -- ---- reasons that never end
 
@@ -112,12 +111,7 @@ chain_more why backed rising (suc fuel) last i js way room =
         → (path : List ℕ) × IsBackTo why last path
     go None none more = (i ∷ js, (way, none))
     go (Some h) back more =
-        let less = rising h i way.inside.0 back in
-        let away = λ (k : ℕ) (low : k < length (i ∷ js)) (same : slice_index (i ∷ js) k ≡ h).
-        let up = starts_rise why i js rising way.linked way.inside.1 k low in
-        let e = ap why.start same in
-        absurd (omega (arith, up, less, e)) in
-        more h (way_more why last i h js way back (backed i h way.inside.0 back) away)
+        more h (way_more why last i h js way back (backed i h way.inside.0 back) (away_from why last i h js rising way back))
 
 pub chain_exists : (why : Why) → AreBacked why → IsRising why → (last : ℕ) → last < why.count
     → (path : List ℕ) × IsBackTo why last path

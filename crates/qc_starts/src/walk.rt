@@ -1,6 +1,7 @@
-//! The way back from a task by what raised each, to a task that nothing raised or around a ring.
+//! The way back from a task by what raised each, to a task that nothing raised or around a ring. A ring is rare, so
+//! only its walk looks at each task for whether it was met before.
 
-ghost use Rattle.std.specs.Prelude.{◌≡◌, ◌*◌, ◌+◌, ◌<◌, ◌≤◌, ◌∷◌, length};
+ghost use Rattle.std.specs.Prelude.{◌≡◌, ◌*◌, ◌+◌, ◌<◌, ◌≤◌, ◌∷◌, length, reverse};
 ghost use Rattle.qc_num.specs.Paths.{HasRoom};
 ghost use Rattle.qc_model.specs.declared.limits.TheConstants.{MOST_TASKS};
 ghost use Rattle.qc_starts.specs.Found.{why_in};
@@ -55,6 +56,28 @@ fn walk_back(values: &Noted, count: u16, last: u16, path: &mut Path) -> Option<u
     }
 }
 
+/// The way back from a task to one that nothing raised, where each task starts after the one that raised it.
+fn chain_back(values: &Noted, count: u16, last: u16, path: &mut Path)
+    requires cells { length values.now.cells ≡ 2 * count }
+    requires few { count ≤ MOST_TASKS }
+    requires backed { AreBacked (why_in count values.now.cells) }
+    requires rising { IsRising (why_in count values.now.cells) }
+    requires task { last < count }
+    requires room { count ≤ path.old.capacity }
+    ensures chain { IsBackTo (why_in count values.now.cells) last (reverse path.new.items) }
+    ensures room { path.new.capacity ≡ path.old.capacity }
+{
+    path.clear();
+    let mut task = last;
+    'walk: loop {
+        path.push_reserved(task);
+        let Some(raiser) = values.raiser(count, task) else {
+            return;
+        };
+        task = raiser;
+    }
+}
+
 /// The way to a task from one that nothing raised, where each task starts after the one before it.
 pub(crate) fn chain_to(values: &Noted, count: u16, last: u16, path: &mut Path)
     requires cells { length values.now.cells ≡ 2 * count }
@@ -66,9 +89,8 @@ pub(crate) fn chain_to(values: &Noted, count: u16, last: u16, path: &mut Path)
     ensures chain { IsBackTo (why_in count values.now.cells) last path.new.items }
     ensures room { path.new.capacity ≡ path.old.capacity }
 {
-    if walk_back(values, count, last, path).is_some() {
-        unreachable!();
-    }
+    chain_back(values, count, last, path);
+    path.as_mut_slice().reverse();
 }
 
 /// A ring, on the way back from a task where each task on it was raised by another.

@@ -1,10 +1,11 @@
-use Rattle.std.proofs.Common.{sym, ◌∙◌}
-use Rattle.qc_starts.proofs.WayLemmas.{chain_found, no_ring_some}
+use Rattle.std.proofs.Common.{reverse, ap, sym, subst, ◌∙◌}
+use Rattle.qc_starts.specs.Found.{why_in}
+use Rattle.qc_starts.specs.Ways.{IsBackTo}
+use Rattle.qc_starts.proofs.WayLemmas.{turned_in}
 use Rattle.qc_starts.proofs.walk.chain_to.Goals as goal
 
-pub unreachable-requires : goal.unreachable-requires
-unreachable-requires c =
-    no_ring_some _ _ _ _ c.requires.rising c.walk_back.ensures.way (sym c.is_some.ensures ∙ c.if-is_some.true)
-
 pub returns-clause-chain : goal.returns-clause-chain
-returns-clause-chain c = chain_found _ _ _ _ c.walk_back.ensures.way (sym c.is_some.ensures ∙ c.if-is_some.false)
+returns-clause-chain c =
+    let turned = turned_in c.chain_back.new.path.items c.reverse.new.self
+    (c.reverse.ensures.after ∙ ap reverse c.as_mut_slice.ensures.value) in
+    subst (IsBackTo (why_in c.args.count c.args.values.now.cells) c.args.last) (sym turned) c.chain_back.ensures.chain
