@@ -3,11 +3,12 @@
 
     compare.py PROGRAM KEPT [--first SEED] [--count SHIPS] [--minutes M] [--wide]
 
-Each seed makes one ship and its list. `plan` runs with several numbers of branchings, `check`, `show` and `tasks` on
-what it wrote, then `check` and `show` on plans and trees that were changed, and on trees that were made here. Every
-report and every file is compared with what reference.py works out from the definitions. Of each difference the
-files and the two answers are kept in a folder under KEPT. Prints counts and the first differences; status 1 where
-there is any. With `--wide` the ships have 8 to 18 tasks, so that the trees are large, and the least end isn't known.
+Each seed makes one ship and its list. `plan` runs with several numbers of branchings, `check`, `show`, `sheet` and
+`tasks` on what it wrote, then `check`, `show` and `sheet` on plans that were changed, `check` on trees that were
+changed, and on trees that were made here. Every report and every file is compared with what reference.py works out
+from the definitions. Of each difference the files and the two answers are kept in a folder under KEPT. Prints counts
+and the first differences; status 1 where there is any. With `--wide` the ships have 8 to 18 tasks, so that the trees
+are large, and the least end isn't known.
 """
 import argparse
 import itertools
@@ -24,7 +25,7 @@ sys.dont_write_bytecode = True  # no folder of compiled files beside the scripts
 
 from reference import (NEVER, PHASES, Node, TreeFault, TreeReader, arcs_up, bound_text, breaks_up, check_report,
                        crane_lines, direction_of, end_of, instance_of, least_end, least_starts, motion_of, plan_text,
-                       read_plan, read_ship, refusal, show_report, tasks_report)
+                       read_plan, read_ship, refusal, sheet_report, show_report, tasks_report)
 
 
 # ---------------------------------------------------------------- random ships and lists
@@ -439,7 +440,8 @@ class Case:
         maker = Maker(self.rng, wide)
         self.write("ship", maker.ship().encode())
         self.write("stow", maker.stowage().encode())
-        self.inst = instance_of(read_ship(self.read("ship")), self.read("stow"))
+        self.ship = read_ship(self.read("ship"))
+        self.inst = instance_of(self.ship, self.read("stow"))
 
     def write(self, name, data):
         (self.folder / name).write_bytes(data)
@@ -577,6 +579,8 @@ class Case:
     def show(self):
         due = show_report(self.inst, self.read("plan.csv"))
         self.expect("show", self.run("show", "ship", "stow", "plan.csv"), due)
+        due = sheet_report(self.ship, self.read("stow"), self.inst, self.read("plan.csv"))
+        self.expect("sheet", self.run("sheet", "ship", "stow", "plan.csv"), due)
 
 
 def main():

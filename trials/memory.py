@@ -63,6 +63,7 @@ def inputs(program, nodes):
         ("check of a tree alone", ["check", "s", "m", "-", "t"], judged),
         ("tasks", ["tasks", "s", "m"], four),
         ("show", ["show", "s", "m", "p"], judged),
+        ("sheet", ["sheet", "s", "m", "p"], judged),
         ("make, one hatch", ["make", "0", "1", "1"], {}),
         ("make, three hatches", ["make", "7", "3", "2"], {}),
         ("unknown word", ["work", "s"], {}),
@@ -71,6 +72,7 @@ def inputs(program, nodes):
         ("check, vessel", ["check", "s", "m", "p", "t"], vessel_judged),
         ("check of a tree alone, vessel", ["check", "s", "m", "-", "t"], vessel_judged),
         ("show, vessel", ["show", "s", "m", "p"], vessel_judged),
+        ("sheet, vessel", ["sheet", "s", "m", "p"], vessel_judged),
     ]
 
 

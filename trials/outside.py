@@ -251,7 +251,7 @@ def same_files():
 
 def output():
     judged = [("plan", PLANNED), ("check", ["check", "s", "m", "p", "t"]), ("tasks", ["tasks", "s", "m"]), ("show", ["show", "s", "m", "p"]),
-              ("usage", [])]
+              ("sheet", ["sheet", "s", "m", "p"]), ("usage", [])]
     for name, words in judged:
         for how in ("/dev/full", "a pipe that nobody reads", "closed"):
             room = Room()

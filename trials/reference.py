@@ -3,10 +3,11 @@
 
     reference.py tasks SHIP STOW
     reference.py show SHIP STOW PLAN
+    reference.py sheet SHIP STOW PLAN
     reference.py check SHIP STOW PLAN TREE      (PLAN may be `-`)
     reference.py least SHIP STOW
 
-The first three print what `qc` must print; `least` tries every choice of cranes and orders and prints the least end
+The first four print what `qc` must print; `least` tries every choice of cranes and orders and prints the least end
 of all schedules that go one way, or `none`. Nothing here is taken from the program or from its specifications:
 it is a second opinion, meant to be short and slow. Ship files and lists must be good ones.
 
@@ -654,6 +655,51 @@ def show_report(inst, data):
     return 0, lines
 
 
+def slots_of(bay):
+    """The 20-foot places of a bay."""
+    return {bay} if bay % 2 else {bay - 1, bay + 1}
+
+
+def is_over(cell, other):
+    return cell[1] == other[1] and bool(slots_of(cell[0]) & slots_of(other[0])) and cell[2] > other[2]
+
+
+def turns(moves, lifted):
+    """Moves of one task, each an id and a cell, in the order in which they are made."""
+    left, made = list(moves), []
+    while left:
+        free = [(ident, cell) for ident, cell in left
+                if not any(is_over(other, cell) if lifted else is_over(cell, other) for _, other in left)]
+        made.append(min(free, key=lambda move: ((-1) ** (move[1][1] + 1) * move[1][1], move[1][0])))
+        left.remove(made[-1])
+    return made
+
+
+def sheet_report(ship, stow, inst, data):
+    plan, fault = read_plan(inst, data)
+    if fault:
+        return 8, [f"BadPlan {fault[0]} {fault[1]}"]
+    broken = next(breaks_up(inst, plan), ("OneWay",))
+    if broken[0] != "OneWay":
+        return 13, [" ".join(["Broken", broken[0]] + [inst.tasks[j].name for j in broken[1:]])]
+    moves = {}
+    for ident, kind, text, _ in records_of(stow)[1:]:
+        cell = int(text[:-4]), int(text[-4:-2]), int(text[-2:])
+        phase = kind + ("D" if cell[2] >= 70 else "H")
+        moves.setdefault((ship.hatch_of(cell[0]), phase), []).append((ident, cell))
+    lines = []
+    for k, crane in enumerate(inst.cranes):
+        lines.append(f"sheet {crane.name}")
+        for start, j in sorted((start, j) for j, (v, start) in enumerate(plan) if v == k):
+            task = inst.tasks[j]
+            lines.append(f"task {task.name} {start} {start + task.ticks}")
+            tick = start + (ship.cover if task.phase == "DH" else 0)
+            for ident, (bay, row, tier) in turns(moves[task.hatch, task.phase], task.phase[0] == "D"):
+                lines.append(f"{tick} {ident} {task.phase[0]} {bay:02}{row:02}{tier:02}")
+                tick += ship.hold_move if task.phase[1] == "H" else ship.deck_move
+    return 0, lines
+
+
 def check_report(inst, data, tree):
     """The report on a plan's file, or None for `-`, with a tree."""
     if data is not None:
@@ -674,7 +720,8 @@ def check_report(inst, data, tree):
 def main():
     command, *paths = sys.argv[1:]
     files = [None if path == "-" else open(path, "rb").read() for path in paths]
-    inst = instance_of(read_ship(files[0]), files[1])
+    ship = read_ship(files[0])
+    inst = instance_of(ship, files[1])
     if command == "least":
         end = least_end(inst)
         status, lines = 0, ["none" if end == NEVER else str(end)]
@@ -682,6 +729,8 @@ def main():
         status, lines = tasks_report(inst)
     elif command == "show":
         status, lines = show_report(inst, files[2])
+    elif command == "sheet":
+        status, lines = sheet_report(ship, files[1], inst, files[2])
     else:
         status, lines = check_report(inst, files[2], files[3])
     print("\n".join(lines))

@@ -1,4 +1,8 @@
-use Rattle.qc_run.specs.Inputs.{names_of}
+use Rattle.std.proofs.Common.{Ok, Option, sym, subst}
+use Rattle.qc_io.specs.Outside.{Files}
+use Rattle.qc_run.specs.Due.{own_job_due}
+use Rattle.qc_run.specs.Inputs.{Names, names_of}
+use Rattle.qc_run.specs.Steps.{ComesTo, IsStep}
 use Rattle.qc_plan_command.specs.Asked.{planning}
 use Rattle.qc_plan_command.proofs.StoreLemmas.{own_broken}
 use Rattle.qc_plan_command.proofs.command.serve.Goals as goal
@@ -9,3 +13,11 @@ returns-in-Some-clause-serves g c =
     own_broken (planning c.args.asked.now) (names_of c.inputs.result) (view c.args.shelf.now)
     (view c.read_own_job.new.shelf) c.in_ok-job.job c.in-Some.broken c.inputs.ensures c.in_ok-job.ensures.step
     c.in-Some.ensures.some
+
+pub plan_instance-requires-clause-due : goal.plan_instance-requires-clause-due
+plan_instance-requires-clause-due g c =
+    let view = g.S.Sink.view in
+    let step = subst (λ (n : Names). IsStep (own_job_due n.own) n (view c.args.shelf.now) (view c.read_own_job.new.shelf)
+        (Ok c.in_ok-job.job)) c.inputs.ensures c.in_ok-job.ensures.step in
+    let asked = (planning c.args.asked.now).inputs in
+    subst (λ (files : Option Files). ComesTo (own_job_due asked.own) asked files (Ok c.in_ok-job.job)) (sym step.files) step.ok.1
