@@ -205,7 +205,7 @@ both_asked s w p t n o is iw ip it number own =
     let waiting : Held = record { rows = rows; pending = Some (codes "nodes", []); skip = 0 } in
     let between = held rows (codes "nodes") n in
     let more = row (codes "ship") s ∷ row (codes "stow") w ∷ row (codes "plan") p ∷ row (codes "tree") t
-        ∷ row (codes "nodes") n ∷ [] in
+    ∷ row (codes "nodes") n ∷ [] in
     let last : Held = record { rows = more; pending = Some (codes "from", []); skip = 0 } in
     let after = held more (codes "from") o in
     ap (λ read. option_map_or (asked_in name.Plan) read usage)

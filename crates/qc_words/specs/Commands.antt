@@ -36,8 +36,8 @@ command_with name operands =
 abbrev pub command_of : CommandName → App
 command_of name.Plan = with_rule
     (with_rule
-        (command_with (codes "plan") (codes "ship" ∷ codes "stow" ∷ codes "plan" ∷ codes "tree" ∷ []))
-        (record (new_rule (codes "nodes")) { long = Some (codes "nodes") }))
+    (command_with (codes "plan") (codes "ship" ∷ codes "stow" ∷ codes "plan" ∷ codes "tree" ∷ []))
+    (record (new_rule (codes "nodes")) { long = Some (codes "nodes") }))
     (record (new_rule (codes "from")) { long = Some (codes "from") })
 command_of name.Check =
     command_with (codes "check") (codes "ship" ∷ codes "stow" ∷ codes "plan" ∷ codes "tree" ∷ [])

@@ -18,6 +18,6 @@ pub plan_instance-requires-clause-due : goal.plan_instance-requires-clause-due
 plan_instance-requires-clause-due g c =
     let view = g.S.Sink.view in
     let step = subst (λ (n : Names). IsStep (own_job_due n.own) n (view c.args.shelf.now) (view c.read_own_job.new.shelf)
-        (Ok c.in_ok-job.job)) c.inputs.ensures c.in_ok-job.ensures.step in
+    (Ok c.in_ok-job.job)) c.inputs.ensures c.in_ok-job.ensures.step in
     let asked = (planning c.args.asked.now).inputs in
     subst (λ (files : Option Files). ComesTo (own_job_due asked.own) asked files (Ok c.in_ok-job.job)) (sym step.files) step.ok.1
