@@ -21,7 +21,8 @@ use Rattle.qc_plan_command.specs.Found.{IsFound, Tells}
 use Rattle.qc_plan_command.specs.Reports.{plan_prints, plan_prints_part, plan_status}
 use Rattle.qc_plan_command.specs.Stored.{with_plan, with_tree}
 
--- the search of the instance of the two files came to this; a plan of the planner's own, where one is named, goes one way
+-- the search of the instance of the two files came to this; a plan of the planner's own, where one is named, goes
+-- one way
 pub record IsSearched (asked : Planning) (held : Files) : Type 0 where
   pub inst : InstanceView
   pub own : Option (List Slot)
@@ -50,8 +51,8 @@ IsLeft asked held now =
     (now ≡ Some held)
     ⊎ ((s : IsSearched asked held) × ((now ≡ Some (tree_files asked held s)) ⊎ (now ≡ Some (both_files asked held s))))
 
--- the instance of the two files was there to be searched, and a plan of the planner's own, where one is named, goes one
--- way; the writing of that search was stopped
+-- the instance of the two files was there to be searched, and a plan of the planner's own, where one is named, goes
+-- one way; the writing of that search was stopped
 pub record IsStopped (asked : Planning) (held : Files) (now : Option Files) : Type 0 where
   pub job : OwnJob
   pub due : own_job_due asked.inputs.own (contents_in held asked.inputs) ≡ Ok job

@@ -14,9 +14,9 @@ use Rattle.qc_plan_command.specs.declared.answer.Planned.{Planned}
 use Rattle.qc_plan_command.specs.declared.answer.PlanAnswer.{PlanAnswer}
 use Rattle.qc_plan_command.specs.declared.answer.PlanAnswer.TheVariants as answer
 
--- what a search with so many branchings came to: it was given a schedule that ends no later than the planner's own, where
--- there is one; it began with the tight form of that; its tree is one of the instance that is earned, its schedule, if
--- any, a best one that it knows, and what holds of each search
+-- what a search with so many branchings came to: it was given a schedule that ends no later than the planner's own,
+-- where there is one; it began with the tight form of that; its tree is one of the instance that is earned, its
+-- schedule, if any, a best one that it knows, and what holds of each search
 pub record IsFound (inst : InstanceView) (nodes : ℕ) (own : Option (List Slot)) (tree : Tree) (done : DoneView)
     : Type 0 where
   pub given : Option (List Slot)
@@ -33,8 +33,9 @@ pub record IsFound (inst : InstanceView) (nodes : ℕ) (own : Option (List Slot)
 abbrev pub IsReread : InstanceView → List Slot → Type 0
 IsReread inst sched = plan_in inst (plan_text inst sched) ≡ Ok sched
 
--- the best schedule is told, its end, the bound, the number of branchings, the end of the schedule that the search began
--- with, if any, and the best schedule's direction; in that direction its motion is safe, and its plan is read as this schedule
+-- the best schedule is told, its end, the bound, the number of branchings, the end of the schedule that the search
+-- began with, if any, and the best schedule's direction; in that direction its motion is safe, and its plan is read
+-- as this schedule
 pub record TellsPlan (inst : InstanceView) (done : DoneView) (told : Planned) : Type 0 where
   pub sched : List Slot
   pub best : done.best ≡ Some sched

@@ -44,8 +44,8 @@ pub record IsOptimalTold (asked : Planning) (held : Files) (now : Option Files) 
   pub enough : plan.told.end ≤ plan.told.bound
   pub best : IsBest plan.written.search.inst plan.written.told.sched
 
--- the search that is due knows no schedule, so it was given none, and spent all branchings that were asked for: its tree is written, all other
--- files are as they were, and its bound is told
+-- the search that is due knows no schedule, so it was given none, and spent all branchings that were asked for: its
+-- tree is written, all other files are as they were, and its bound is told
 pub record IsUnplannedTold (asked : Planning) (held : Files) (now : Option Files) (before after : View) : Type 0 where
   pub bound : ℕ
   pub branched : ℕ

@@ -24,7 +24,8 @@ use qc_search::Search;
 use std::alloc::Global;
 
 /// Runs the search, writes its tree and the plan of the best schedule that it knows, and answers what is told of
-/// it. A schedule of the planner's own goes one way; the search begins with it. The plan's file is begun first, so that one that can't be made is told before the search is run.
+/// it. A schedule of the planner's own goes one way; the search begins with it. The plan's file is begun first, so
+/// that one that can't be made is told before the search is run.
 fn plan_instance<S: Shelf>(
     asked: &PlanAsked<'_>,
     job: OwnJob,

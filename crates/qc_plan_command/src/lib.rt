@@ -1,6 +1,6 @@
 //! The command that plans: it searches the instance of a ship file and a stowage list, and writes the search's
-//! tree and the plan of the best schedule that it knows. A plan that the planner has already is never beaten by a worse
-//! one.
+//! tree and the plan of the best schedule that it knows. A plan that the planner has already is never beaten by a
+//! worse one.
 #![tactic(auto)]
 
 mod answer;

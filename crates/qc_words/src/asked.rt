@@ -6,8 +6,8 @@ pub const MOST_NUMBER: u32 = 2_147_483_647;
 /// What the words ask for, with the names of the files.
 #[derive(Clone, Copy, Debug, PartialEq, Eq)]
 pub enum Request<'a> {
-    /// A plan and its tree, with at most so many branchings, that ends no later than the planner's own plan where one is
-    /// named.
+    /// A plan and its tree, with at most so many branchings, that ends no later than the planner's own plan where
+    /// one is named.
     Plan {
         ship: &'a str,
         stow: &'a str,
