@@ -1,7 +1,7 @@
-use Rattle.std.proofs.Common.{◌≡◌, ℕ, [], ◌∷◌, List, length, reverse, Some, ap, sym, subst, ◌∙◌, arith}
+use Rattle.std.proofs.Common.{◌≡◌, ℕ, [], ◌∷◌, length, reverse, Some, ap, sym, subst, ◌∙◌, arith}
 use Rattle.std.proofs.lemmas.List.{length-append, length-reverse}
 use Rattle.qc_starts.specs.Found.{why_in}
-use Rattle.qc_starts.specs.Ways.{IsBackTo, IsWay}
+use Rattle.qc_starts.specs.Ways.{IsWay}
 use Rattle.qc_starts.proofs.WayLemmas.{away_from, code_small, reverse_push, way_begins, way_length, way_more}
 use Rattle.qc_starts.proofs.walk.chain_back.Goals as goal
 
