@@ -57,16 +57,26 @@ fn comes_in_one(outcome: &Outcome, trials: &[Trial]) -> bool
 
 /// Whether each trial came to one of the outcomes.
 pub fn each_is_met(outcomes: &[Outcome], trials: &[Trial]) -> bool
-    ensures { IsTrue result ↔ All (λ trial. ComesToOne outcomes.now trial) trials.now }
+    ensures { IsTrue result → All (λ trial. ComesToOne outcomes.now trial) trials.now }
 {
-    trials.iter().all(|trial| comes_to_one(outcomes, trial))
+    for trial in trials {
+        if !comes_to_one(outcomes, trial) {
+            return false;
+        }
+    }
+    true
 }
 
 /// Whether each outcome came in some trial.
 pub fn each_comes(outcomes: &[Outcome], trials: &[Trial]) -> bool
-    ensures { IsTrue result ↔ All (λ outcome. ComesInOne outcome trials.now) outcomes.now }
+    ensures { IsTrue result → All (λ outcome. ComesInOne outcome trials.now) outcomes.now }
 {
-    outcomes.iter().all(|outcome| comes_in_one(outcome, trials))
+    for outcome in outcomes {
+        if !comes_in_one(outcome, trials) {
+            return false;
+        }
+    }
+    true
 }
 
 /// How many bytes the file of the name has. None where there is no such file.
