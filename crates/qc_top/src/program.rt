@@ -2,6 +2,7 @@
 ghost use Rattle.std.specs.Prelude.{◌≡◌, ◌≤◌, Some, option_map};
 ghost use Rattle.qc_io.specs.Outside.{beside};
 ghost use Rattle.qc_run.specs.Inputs.{names_of, no_names};
+ghost use Rattle.qc_plan_command.specs.Asked.{plan_of, planning};
 ghost use Rattle.qc_words.specs.Asked.{KeepsLimits, asked_for};
 ghost use Rattle.qc_words.specs.Words.{texts};
 ghost use Rattle.qc_top.specs.Account.{IsRun, IsRunOf};
@@ -42,6 +43,43 @@ fn inputs_of<'a>(
     }
 }
 
+/// The names of the files that a watch reads.
+fn log_of<'a>(ship: &'a str, log: &'a str) -> Inputs<'a>
+    ensures { names_of result ≡ record no_names { ship = Some ship.now; log = Some log.now } }
+{
+    Inputs {
+        ship,
+        stow: None,
+        plan: None,
+        tree: None,
+        own: None,
+        log: Some(log),
+    }
+}
+
+/// What a plan is asked for with.
+fn asked_of<'a>(
+    ship: &'a str,
+    stow: &'a str,
+    plan: &'a str,
+    tree: &'a str,
+    nodes: u32,
+    own: Option<&'a str>,
+) -> PlanAsked<'a>
+    ensures asked { planning result ≡ plan_of ship.now stow.now plan.now tree.now nodes
+        (option_map (λ name. name.now) own.entry) }
+    ensures nodes { result.nodes ≡ nodes }
+{
+    PlanAsked {
+        ship,
+        stow,
+        plan,
+        tree,
+        nodes,
+        own,
+    }
+}
+
 /// Runs the command that is asked for.
 fn serve<S: Shelf, K: Sink>(
     alloc: Global,
@@ -64,14 +102,7 @@ fn serve<S: Shelf, K: Sink>(
             nodes,
             own,
         } => {
-            let asked = PlanAsked {
-                ship,
-                stow,
-                plan: name,
-                tree,
-                nodes,
-                own,
-            };
+            let asked = asked_of(ship, stow, name, tree, nodes, own);
             plan(alloc, &asked, shelf, out)
         }
         Request::Check {
@@ -100,17 +131,7 @@ fn serve<S: Shelf, K: Sink>(
         Request::Sheet { ship, stow, plan } => {
             print_sheet(alloc, &inputs_of(ship, stow, Some(plan), None), shelf, out)
         }
-        Request::Watch { ship, log } => {
-            let inputs = Inputs {
-                ship,
-                stow: None,
-                plan: None,
-                tree: None,
-                own: None,
-                log: Some(log),
-            };
-            watch(alloc, &inputs, shelf, out)
-        }
+        Request::Watch { ship, log } => watch(alloc, &log_of(ship, log), shelf, out),
         Request::Usage => report_stop(Stop::Refused(Refusal::Usage), out),
     }
 }
