@@ -6,7 +6,7 @@ use Rattle.std.specs.Cmp.Lexicographic.{nat_list_cmp_total}
 use Rattle.std.specs.FinMap.{get, get-insert, insert}
 use Rattle.qc_gantt.specs.PlanText.{plan_text}
 use Rattle.qc_io.specs.Outside.{Files, View, beside}
-use Rattle.qc_judge_commands.specs.Account.{IsPlanCheckRun, IsShowRun, IsTasksRun, IsTreeRun}
+use Rattle.qc_judge_commands.specs.Account.{IsJudged, IsPlanCheckRun, IsTreeFound, IsTreeRun, StopsPlan, StopsTree, show_reader, tasks_reader}
 use Rattle.qc_judge_commands.specs.Promises.{PlanCheckPromises, ShowPromises, TasksPromises, TreePromises}
 use Rattle.qc_judge_commands.proofs.JudgedLemmas.{plan_check_promises, show_promises}
 use Rattle.qc_judge_commands.proofs.TasksLemmas.{tasks_promises, tree_promises}
@@ -17,25 +17,24 @@ use Rattle.qc_plan_command.specs.Asked.{Planning, plan_of}
 use Rattle.qc_plan_command.specs.Promises.{PlanPromises}
 use Rattle.qc_plan_command.specs.Stored.{with_plan}
 use Rattle.qc_plan_command.proofs.PlanLemmas.{plan_promises}
-use Rattle.qc_run.specs.declared.refusal.Refusal.{Refusal}
 use Rattle.qc_run.specs.declared.refusal.Refusal.TheVariants as refusal
 use Rattle.qc_run.specs.declared.refusal.Stop.{Stop}
 use Rattle.qc_run.specs.declared.refusal.Stop.TheVariants as stop
 use Rattle.qc_run.specs.declared.status.Status.{Status}
 use Rattle.qc_run.specs.declared.status.Status.TheVariants as status
-use Rattle.qc_run.specs.Due.{Contents, instance_due, shown_due}
+use Rattle.qc_run.specs.Account.{IsFound, IsReaderRun, IsReading, Reader}
 use Rattle.qc_run.specs.Inputs.{Names}
 use Rattle.qc_run.specs.Reports.{Prints}
-use Rattle.qc_run.specs.Steps.{IsStep}
+use Rattle.qc_run.specs.Steps.{Stops}
 use Rattle.qc_run.specs.Texts.{stop_status}
 use Rattle.qc_run.specs.Told.{EndsWith}
-use Rattle.qc_sheet_command.specs.Account.{IsSheetRun}
+use Rattle.qc_sheet_command.specs.Account.{sheet_reader}
 use Rattle.qc_sheet_command.specs.Promises.{SheetPromises}
 use Rattle.qc_sheet_command.proofs.SheetLemmas.{sheet_promises}
 use Rattle.qc_trial.specs.Account.{IsTrialRun, TrialPromises}
 use Rattle.qc_trial.proofs.MadeLemmas.{trial_promises}
 use Rattle.qc_tree.specs.Trees.{tree_text}
-use Rattle.qc_watch_command.specs.Account.{IsWatchRun}
+use Rattle.qc_watch_command.specs.Account.{watch_reader}
 use Rattle.qc_watch_command.specs.Promises.{WatchPromises}
 use Rattle.qc_watch_command.proofs.WatchLemmas.{watch_promises}
 use Rattle.qc_words.proofs.LimitLemmas.{asked_kept}
@@ -47,8 +46,11 @@ use Rattle.qc_top.specs.Promises.{IsPlan, Promises}
 
 -- ---- want of memory for the words, as an answer of each command
 
-stopped : {A : Type 0} (step : Contents → Result A Refusal) (names : Names) (v : View) → IsStep step names v v (Err stop.OutOfMemory)
-stopped step names v = record { ok = tt; err = refl; may = tt; files = refl; made = refl; faults = refl; read_faults = omega arith }
+-- a command that only reads stopped so before it read anything
+stopped : {A : Type 0} (found : A → Type 0) (stops : Stop → Type 0) (names : Names) (v : View) → stops stop.OutOfMemory
+    → IsReading found stops names v v (Err stop.OutOfMemory)
+stopped found stops names v is =
+    record { ok = tt; err = is; may = tt; files = refl; made = refl; faults = refl; read_faults = omega arith }
 
 module _ (before after pb pa : View) (ended : Status) (h : IsStopped stop.OutOfMemory before after pb pa ended) where
   as_plan : (p : Planning) → IsPlanRun p before after pb pa ended
@@ -56,17 +58,21 @@ module _ (before after pb pa : View) (ended : Status) (h : IsStopped stop.OutOfM
       subst (λ (v : View). IsPlanRun p before v pb pa ended) (sym h.untouched)
       (record { answer = Err stop.OutOfMemory; serves = (refl, tt, refl, refl, refl); reports = h.reports })
 
-  as_tasks : (names : Names) → IsTasksRun names before after pb pa ended
-  as_tasks names =
-      subst (λ (v : View). IsTasksRun names before v pb pa ended) (sym h.untouched)
-      (record { answer = Err stop.OutOfMemory; serves = stopped instance_due names before; reports = h.reports })
+  as_reader : {X A : Type 0} (reader : Reader X A) (names : Names) → IsReaderRun reader names before after pb pa ended
+  as_reader reader names =
+      subst (λ (v : View). IsReaderRun reader names before v pb pa ended) (sym h.untouched)
+      (record {
+        answer = Err stop.OutOfMemory;
+        serves = stopped (IsFound reader.due reader.tells names before.files) (Stops reader.due names before before) names before refl;
+        reports = h.reports;
+      })
 
   as_tree : (names : Names) → IsTreeRun names before after pb pa ended
   as_tree names =
       subst (λ (v : View). IsTreeRun names before v pb pa ended) (sym h.untouched)
       (record {
         answer = Err stop.OutOfMemory;
-        serves = record { step = stopped shown_due names before; shown = tt; none = λ fault e. absurd (cc e) };
+        serves = stopped (IsTreeFound names before.files) (StopsTree names before before) names before (refl, λ fault e. absurd (cc e));
         reports = h.reports;
       })
 
@@ -75,41 +81,7 @@ module _ (before after pb pa : View) (ended : Status) (h : IsStopped stop.OutOfM
       subst (λ (v : View). IsPlanCheckRun names before v pb pa ended) (sym h.untouched)
       (record {
         answer = Err stop.OutOfMemory;
-        serves = record {
-          ending = inl refl;
-          none = λ fault e. absurd (cc e);
-          may = tt;
-          files = refl;
-          faults = refl;
-          read_faults = omega arith;
-        };
-        reports = h.reports;
-      })
-
-  as_show : (names : Names) → IsShowRun names before after pb pa ended
-  as_show names =
-      subst (λ (v : View). IsShowRun names before v pb pa ended) (sym h.untouched)
-      (record {
-        answer = Err stop.OutOfMemory;
-        serves = record { ending = refl; may = tt; files = refl; faults = refl; read_faults = omega arith };
-        reports = h.reports;
-      })
-
-  as_sheet : (names : Names) → IsSheetRun names before after pb pa ended
-  as_sheet names =
-      subst (λ (v : View). IsSheetRun names before v pb pa ended) (sym h.untouched)
-      (record {
-        answer = Err stop.OutOfMemory;
-        serves = record { ending = refl; may = tt; files = refl; faults = refl; read_faults = omega arith };
-        reports = h.reports;
-      })
-
-  as_watch : (names : Names) → IsWatchRun names before after pb pa ended
-  as_watch names =
-      subst (λ (v : View). IsWatchRun names before v pb pa ended) (sym h.untouched)
-      (record {
-        answer = Err stop.OutOfMemory;
-        serves = record { ending = refl; may = tt; files = refl; faults = refl; read_faults = omega arith };
+        serves = stopped (IsJudged names before.files) (StopsPlan names before before) names before (inl refl, λ fault e. absurd (cc e));
         reports = h.reports;
       })
 
@@ -218,25 +190,25 @@ module _ (words : List (List ℕ)) (before after pb pa : View) (ended : Status) 
   lists_tasks : (s w : List ℕ) → Asks words (tasks s w) → TasksPromises (tasks_names s w) before after pb pa ended
   lists_tasks s w asks = tasks_promises (tasks_names s w) before after pb pa ended (elim (serves (tasks s w) asks) [
     | inl is ↦ is
-    | inr h ↦ as_tasks before after pb pa ended h (tasks_names s w)
+    | inr h ↦ as_reader before after pb pa ended h tasks_reader (tasks_names s w)
   ])
 
   shows : (s w p : List ℕ) → Asks words (show s w p) → ShowPromises (show_names s w p) before after pb pa ended
   shows s w p asks = show_promises (show_names s w p) before after pb pa ended (elim (serves (show s w p) asks) [
     | inl is ↦ is
-    | inr h ↦ as_show before after pb pa ended h (show_names s w p)
+    | inr h ↦ as_reader before after pb pa ended h show_reader (show_names s w p)
   ])
 
   sheets : (s w p : List ℕ) → Asks words (sheet s w p) → SheetPromises (show_names s w p) before after pb pa ended
   sheets s w p asks = sheet_promises (show_names s w p) before after pb pa ended (elim (serves (sheet s w p) asks) [
     | inl is ↦ is
-    | inr h ↦ as_sheet before after pb pa ended h (show_names s w p)
+    | inr h ↦ as_reader before after pb pa ended h sheet_reader (show_names s w p)
   ])
 
   watches : (s l : List ℕ) → Asks words (watch s l) → WatchPromises (watch_names s l) before after pb pa ended
   watches s l asks = watch_promises (watch_names s l) before after pb pa ended (elim (serves (watch s l) asks) [
     | inl is ↦ is
-    | inr h ↦ as_watch before after pb pa ended h (watch_names s l)
+    | inr h ↦ as_reader before after pb pa ended h watch_reader (watch_names s l)
   ])
 
   makes : (n k c : ℕ) → Asks words (make n k c) → TrialPromises n k c pb pa ended
