@@ -15,6 +15,7 @@ use Rattle.qc_run.specs.Due.{Contents, contents_in, instance_due, job_due, sched
 use Rattle.qc_run.specs.Inputs.{Names}
 use Rattle.qc_run.specs.Shown.{IsNoTree, IsTreeShown}
 use Rattle.qc_run.specs.Steps.{ComesTo, IsStep, Stops}
+use Rattle.qc_run.proofs.AccountLemmas.{reads_found, reads_stopped}
 use Rattle.qc_run.proofs.DueLemmas.{stops_from}
 use Rattle.qc_judge_commands.specs.declared.answer.Judged.{Judged}
 use Rattle.qc_judge_commands.specs.Account.{IsJudged, IsJudging, IsStoppedAtTree, IsTreeChecked, ShowsNone, StopsPlan}
@@ -46,24 +47,8 @@ pub tree_checked : (names : Names) (before after : View) (r : Result Replayed St
     → IfOk r (λ read. IfSome before.files (λ held. IsBoundShown names held read.bound))
     → ((fault : TreeFault) → r ≡ Err (stop.Refused (refusal.BadTree fault)) → IfSome before.files (λ held. IsNoneShown names held))
     → IsTreeChecked names before after r
-tree_checked names before after (Ok read) step shown none = record {
-  ok = (step.ok.0, record { due = step.ok.1; shown = shown });
-  err = tt;
-  may = tt;
-  files = step.files;
-  made = step.made;
-  faults = step.faults;
-  read_faults = step.read_faults;
-}
-tree_checked names before after (Err why) step shown none = record {
-  ok = tt;
-  err = (step.err, λ fault e. none fault (ap Err e));
-  may = step.may;
-  files = step.files;
-  made = step.made;
-  faults = step.faults;
-  read_faults = step.read_faults;
-}
+tree_checked names before after (Ok read) step shown none = reads_found step (record { due = step.ok.1; shown = shown })
+tree_checked names before after (Err why) step shown none = reads_stopped step (step.err, λ fault e. none fault (ap Err e))
 
 -- ---- a check of a plan
 

@@ -93,21 +93,12 @@ fault_due : {X : Type 0} (step : Contents → Result X Refusal) (names : Names) 
     → IsFault (refusal_status why) → Stops step names before after (stop.Refused why) → ComesTo step names before.files (Err why)
 fault_due step names before after refusal.Usage is h = absurd is
 fault_due step names before after (refusal.ReadFault file) is h = absurd is
-fault_due step names before after (refusal.TooLarge file) is h = h.1
-fault_due step names before after (refusal.BadShip fault) is h = h.1
-fault_due step names before after (refusal.BadStow fault) is h = h.1
-fault_due step names before after (refusal.BadPlan fault) is h = h.1
-fault_due step names before after (refusal.BadTree fault) is h = h.1
-fault_due step names before after (refusal.BadLog fault) is h = h.1
+fault_due step names before after why is h = h.1
 
 is_refusal : (s : Status) → IsFault s → IsRefusal s
-is_refusal status.TooLarge is = is
-is_refusal status.BadShip is = is
-is_refusal status.BadStow is = is
-is_refusal status.BadPlan is = is
-is_refusal status.BadTree is = is
-is_refusal status.BadLog is = is
-is_refusal other is = absurd is
+is_refusal status.Usage is = absurd is
+is_refusal status.ReadFault is = absurd is
+is_refusal other is = is
 
 -- what is known whether or not the shelf tells its files, as it is told where it does
 pub told_of : {X A : Type 0} (step : Contents → Result X Refusal) (tell : X → A → Type 0) (print : A → Printing) (names : Names) (pb pa : View)
@@ -123,12 +114,13 @@ pub fault_of : {X F : Type 0} (step : Contents → Result X Refusal) (kind : F �
 fault_of step kind names pb pa None fault due printed = tt
 fault_of step kind names pb pa (Some held) fault due printed = record { fault = fault; due = due; report = printed }
 
--- the account of a step whose value is told as it is
-pub step_account : {A : Type 0} (step : Contents → Result A Refusal) (names : Names) (before after : View) (r : Result A Stop)
-    → IsStep step names before after r
-    → IsReading (IsFound step (λ read told. told ≡ read) names before.files) (Stops step names before after) names before after r
-step_account step names before after (Ok x) is = record {
-  ok = (is.ok.0, record { read = x; due = is.ok.1; tells = refl });
+-- ---- the account, from that of the last step
+
+pub reads_found : {X A : Type 0} {step : Contents → Result X Refusal} {names : Names} {before after : View} {found : A → Type 0}
+    {stops : Stop → Type 0} {x : X} {answer : A} → IsStep step names before after (Ok x) → found answer
+    → IsReading found stops names before after (Ok answer)
+reads_found is found = record {
+  ok = (is.ok.0, found);
   err = tt;
   may = tt;
   files = is.files;
@@ -136,15 +128,28 @@ step_account step names before after (Ok x) is = record {
   faults = is.faults;
   read_faults = is.read_faults;
 }
-step_account step names before after (Err why) is = record {
+
+pub reads_stopped : {X A : Type 0} {step : Contents → Result X Refusal} {names : Names} {before after : View} {found : A → Type 0}
+    {stops : Stop → Type 0} {why : Stop} → IsStep step names before after (Err why) → stops why
+    → IsReading found stops names before after (Err why)
+reads_stopped is stops = record {
   ok = tt;
-  err = is.err;
+  err = stops;
   may = is.may;
   files = is.files;
   made = is.made;
   faults = is.faults;
   read_faults = is.read_faults;
 }
+
+-- where the value of the step is told as it is
+pub step_account : {A : Type 0} (step : Contents → Result A Refusal) (names : Names) (before after : View) (r : Result A Stop)
+    → IsStep step names before after r
+    → IsReading (IsFound step (λ read told. told ≡ read) names before.files) (Stops step names before after) names before after r
+step_account step names before after (Ok x) is = reads_found is (record { read = x; due = is.ok.1; tells = refl })
+step_account step names before after (Err why) is = reads_stopped is is.err
+
+-- ---- what follows
 
 module _ {X A : Type 0} (reader : Reader X A) (answers : (answer : A) → IsAnswer (reader.report.status answer)) (names : Names)
     (before after pb pa : View) (ended : Status) (run : IsReaderRun reader names before after pb pa ended) where

@@ -47,12 +47,7 @@ module _ {A : Type 0} (step : Contents → Result A Refusal) (names : Names) whe
       → Stops step names before after (stop.Refused why) → step (contents_in held names) ≡ Err why
   stop_is before after held told none refusal.Usage h = absurd h
   stop_is before after held told none (refusal.ReadFault file) h = unread_due held before.files told file before.read_faults after.read_faults none h.cause h.turn
-  stop_is before after held told none (refusal.TooLarge file) h = comes_due held before.files told (Err (refusal.TooLarge file)) h.1
-  stop_is before after held told none (refusal.BadShip fault) h = comes_due held before.files told (Err (refusal.BadShip fault)) h.1
-  stop_is before after held told none (refusal.BadStow fault) h = comes_due held before.files told (Err (refusal.BadStow fault)) h.1
-  stop_is before after held told none (refusal.BadPlan fault) h = comes_due held before.files told (Err (refusal.BadPlan fault)) h.1
-  stop_is before after held told none (refusal.BadTree fault) h = comes_due held before.files told (Err (refusal.BadTree fault)) h.1
-  stop_is before after held told none (refusal.BadLog fault) h = comes_due held before.files told (Err (refusal.BadLog fault)) h.1
+  stop_is before after held told none why h = comes_due held before.files told (Err why) h.1
 
   -- what stopped behind calls that left the files and came through stopped as from their beginning
   pub stops_from : (before mid after : View) → mid.files ≡ before.files → mid.read_faults ≡ before.read_faults → (why : Stop)
@@ -64,15 +59,5 @@ module _ {A : Type 0} (step : Contents → Result A Refusal) (names : Names) whe
         files reads h.cause;
     turn = subst (λ (f : Option Files). IfSome f (λ held. step (without file (contents_in held names)) ≡ Err (refusal.ReadFault file))) files h.turn;
   }
-  stops_from before mid after files reads (stop.Refused (refusal.TooLarge file)) h =
-      (h.0 ∙ reads, subst (λ (f : Option Files). ComesTo step names f (Err (refusal.TooLarge file))) files h.1)
-  stops_from before mid after files reads (stop.Refused (refusal.BadShip fault)) h =
-      (h.0 ∙ reads, subst (λ (f : Option Files). ComesTo step names f (Err (refusal.BadShip fault))) files h.1)
-  stops_from before mid after files reads (stop.Refused (refusal.BadStow fault)) h =
-      (h.0 ∙ reads, subst (λ (f : Option Files). ComesTo step names f (Err (refusal.BadStow fault))) files h.1)
-  stops_from before mid after files reads (stop.Refused (refusal.BadPlan fault)) h =
-      (h.0 ∙ reads, subst (λ (f : Option Files). ComesTo step names f (Err (refusal.BadPlan fault))) files h.1)
-  stops_from before mid after files reads (stop.Refused (refusal.BadTree fault)) h =
-      (h.0 ∙ reads, subst (λ (f : Option Files). ComesTo step names f (Err (refusal.BadTree fault))) files h.1)
-  stops_from before mid after files reads (stop.Refused (refusal.BadLog fault)) h =
-      (h.0 ∙ reads, subst (λ (f : Option Files). ComesTo step names f (Err (refusal.BadLog fault))) files h.1)
+  stops_from before mid after files reads (stop.Refused why) h =
+      (h.0 ∙ reads, subst (λ (f : Option Files). ComesTo step names f (Err why)) files h.1)

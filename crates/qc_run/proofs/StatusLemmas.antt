@@ -36,10 +36,4 @@ stop_is_not why s e own = by why (subst IsOwn (sym e) own)
     by : (why : Stop) → IsOwn (stop_status why) → ⊥
     by stop.OutOfMemory own = own
     by (stop.Refused refusal.Usage) own = own
-    by (stop.Refused (refusal.ReadFault file)) own = own
-    by (stop.Refused (refusal.TooLarge file)) own = own
-    by (stop.Refused (refusal.BadShip fault)) own = own
-    by (stop.Refused (refusal.BadStow fault)) own = own
-    by (stop.Refused (refusal.BadPlan fault)) own = own
-    by (stop.Refused (refusal.BadTree fault)) own = own
-    by (stop.Refused (refusal.BadLog fault)) own = own
+    by other own = own

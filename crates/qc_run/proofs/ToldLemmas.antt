@@ -19,14 +19,7 @@ use Rattle.qc_run.proofs.StatusLemmas.{IsOwn, stop_is_not}
 -- a refusal's status is none of an own answer
 refusal_not_own : (s : Status) → IsRefusal s → IsOwn s → ⊥
 refusal_not_own status.Usage is own = own
-refusal_not_own status.ReadFault is own = own
-refusal_not_own status.TooLarge is own = own
-refusal_not_own status.BadShip is own = own
-refusal_not_own status.BadStow is own = own
-refusal_not_own status.BadPlan is own = own
-refusal_not_own status.BadTree is own = own
-refusal_not_own status.BadLog is own = own
-refusal_not_own other is own = is
+refusal_not_own other is own = assumption (is, own)
 
 module _ {A : Type 0} (account : Result A Stop → Type 0) (whole part : A → Printing) (status_of : A → Status)
     (before after : View) (ended : Status) (run : IsRun account whole part status_of before after ended) where
@@ -69,13 +62,7 @@ module _ {A : Type 0} (account : Result A Stop → Type 0) (whole part : A → P
       where
         no_memory : (why : Refusal) → refusal_status why ≡ status.OutOfMemory → ⊥
         no_memory refusal.Usage e = cc e
-        no_memory (refusal.ReadFault file) e = cc e
-        no_memory (refusal.TooLarge file) e = cc e
-        no_memory (refusal.BadShip fault) e = cc e
-        no_memory (refusal.BadStow fault) e = cc e
-        no_memory (refusal.BadPlan fault) e = cc e
-        no_memory (refusal.BadTree fault) e = cc e
-        no_memory (refusal.BadLog fault) e = cc e
+        no_memory other e = cc e
 
     -- want of memory is told by its line alone
     pub memory_told : ended ≡ status.OutOfMemory → Prints (codes "OutOfMemory\n") before.written after.written
@@ -84,15 +71,8 @@ module _ {A : Type 0} (account : Result A Stop → Type 0) (whole part : A → P
     usage_by : ¬ account (Err (stop.Refused refusal.Usage)) → (answer : Result A Stop) → account answer
         → answer_status status_of answer ≢ status.Usage
     usage_by none (Ok answer) serves e = subst IsOwn e (own answer)
-    usage_by none (Err stop.OutOfMemory) serves e = cc e
     usage_by none (Err (stop.Refused refusal.Usage)) serves e = none serves
-    usage_by none (Err (stop.Refused (refusal.ReadFault file))) serves e = cc e
-    usage_by none (Err (stop.Refused (refusal.TooLarge file))) serves e = cc e
-    usage_by none (Err (stop.Refused (refusal.BadShip fault))) serves e = cc e
-    usage_by none (Err (stop.Refused (refusal.BadStow fault))) serves e = cc e
-    usage_by none (Err (stop.Refused (refusal.BadPlan fault))) serves e = cc e
-    usage_by none (Err (stop.Refused (refusal.BadTree fault))) serves e = cc e
-    usage_by none (Err (stop.Refused (refusal.BadLog fault))) serves e = cc e
+    usage_by none (Err other) serves e = cc e
 
     -- a command whose account has no Usage doesn't end with it
     pub never_usage : ¬ account (Err (stop.Refused refusal.Usage)) → ended ≢ status.Usage

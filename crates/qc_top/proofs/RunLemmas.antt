@@ -93,15 +93,10 @@ reader_named {reader = reader} {before = before} {after = after} {pb = pb} {pa =
 -- beside the sink nothing changes, whatever is served
 pub out_kept : (asked : Asked) (before after pb pa : View) (ended : Status) → IsRunOf asked before after pb pa ended
     → (beside pa ≡ beside pb) × (pb.faults ≤ pa.faults)
-out_kept (plan s w p t n o) before after pb pa ended h = (h.reports.beside_stays, h.reports.never_falls)
 out_kept (check s w None t) before after pb pa ended h = (h.reports.beside_stays, h.reports.never_falls)
 out_kept (check s w (Some p) t) before after pb pa ended h = (h.reports.beside_stays, h.reports.never_falls)
-out_kept (tasks s w) before after pb pa ended h = (h.reports.beside_stays, h.reports.never_falls)
-out_kept (show s w p) before after pb pa ended h = (h.reports.beside_stays, h.reports.never_falls)
-out_kept (watch s l) before after pb pa ended h = (h.reports.beside_stays, h.reports.never_falls)
 out_kept (make n k c) before after pb pa ended h = (h.run.reports.beside_stays, h.run.reports.never_falls)
-out_kept (sheet s w p) before after pb pa ended h = (h.reports.beside_stays, h.reports.never_falls)
-out_kept usage before after pb pa ended h = (h.reports.beside_stays, h.reports.never_falls)
+out_kept other before after pb pa ended h = (h.reports.beside_stays, h.reports.never_falls)
 
 -- ---- the planner's own plan
 
