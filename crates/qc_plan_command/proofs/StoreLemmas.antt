@@ -1,12 +1,10 @@
 -- What a search leaves in its files, from what the shelf's calls say.
-use Rattle.std.proofs.Common.{◌≡◌, ℕ, true, false, List, Option, None, Some, Result, Ok, Err, ◌⊎◌, ap, ◌∙◌, inl, inr, refl, subst, ◌≤◌, arith, IfSome, IsSomeAnd, OnErr, OnOk, is_err}
-use Rattle.std.specs.FinMap.{insert}
+use Rattle.std.proofs.Common.{◌≡◌, ℕ, true, false, List, Option, None, Some, Result, Ok, Err, ◌⊎◌, ap, ◌∙◌, inl, inr, refl, subst, arith, IfSome, IsSomeAnd, OnErr, OnOk, is_err}
 use Rattle.std.specs.Io.KnownBytes.{append_known}
-use Rattle.qc_io.specs.Outside.{Beside, Files, View, begun, beside, finished, with_file}
+use Rattle.qc_io.specs.Outside.{Beside, Files, Rose, View, begun, beside, finished, with_file}
 use Rattle.qc_model.specs.declared.schedule.Slot.{Slot}
 use Rattle.qc_model.specs.Instance.{InstanceView}
 use Rattle.qc_model.specs.OneWay.{GoesOneWay}
-use Rattle.qc_model.specs.Rules.{ends}
 use Rattle.qc_search.specs.Run.{DoneView, IsSound, SearchView}
 use Rattle.qc_search.specs.Run.{IsSearched as Searched}
 use Rattle.qc_tree.specs.Trees.{tree_text}
@@ -286,6 +284,44 @@ own_broken asked names before after job told same step tells =
       ),
       read.ok.0,
     )
+
+-- what is planned behind a reading is planned behind what was there before it
+module _ (asked : Planning) (before mid after : View) (files : mid.files ≡ before.files) (made : mid.made ≡ before.made)
+    (faults : mid.faults ≡ before.faults) (reads : mid.read_faults ≡ before.read_faults) where
+  written_over : (a : PlanAnswer) → IfSome mid.files (λ held. IsWritten asked held after.files a)
+      → IfSome before.files (λ held. IsWritten asked held after.files a)
+  written_over a = subst (λ (f : Option Files). IfSome f (λ held. IsWritten asked held after.files a)) files
+
+  pub over_read : (a : PlanAnswer) → IsPlanning asked mid after (Ok a) → IsPlanning asked before after (Ok a)
+  over_read answer.WriteFault told = (
+    (
+      subst (λ (n : ℕ). Rose n after.faults) faults told.0.0,
+      subst (λ (f : Option Files). IfSome f (λ held. IsStopped asked held after.files)) files told.0.1,
+    ),
+    told.1 ∙ reads,
+  )
+  over_read (answer.Broken broken) told = (
+    (
+      told.0.0 ∙ faults,
+      record {
+        job = told.0.1.job;
+        due = subst (λ (f : Option Files). ComesTo (own_job_due asked.inputs.own) asked.inputs f (Ok told.0.1.job)) files
+            told.0.1.due;
+        sched = told.0.1.sched;
+        own = told.0.1.own;
+        tells = told.0.1.tells;
+        files = told.0.1.files ∙ files;
+        made = told.0.1.made ∙ made;
+      },
+    ),
+    told.1 ∙ reads,
+  )
+  over_read (answer.Planned found) told =
+      ((told.0.0 ∙ faults, written_over (answer.Planned found) told.0.1), told.1 ∙ reads)
+  over_read (answer.Unplanned bound branched) told =
+      ((told.0.0 ∙ faults, written_over (answer.Unplanned bound branched) told.0.1), told.1 ∙ reads)
+  over_read (answer.Infeasible branched) told =
+      ((told.0.0 ∙ faults, written_over (answer.Infeasible branched) told.0.1), told.1 ∙ reads)
 
 -- an answer that tells of a search wrote both files
 pub writes_told : (asked : Planning) (before after : View) (inst : InstanceView) (done : DoneView) (a : PlanAnswer) → Tells inst done a
