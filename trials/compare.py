@@ -13,6 +13,7 @@ are large, and the least end isn't known.
 import argparse
 import itertools
 import random
+import re
 import shutil
 import subprocess
 import sys
@@ -323,13 +324,13 @@ def random_ring(node, rng):
 # ---------------------------------------------------------------- what the search may write
 
 class SearchJudge:
-    """Whether a tree is one that a search with at most `nodes` branchings may write that begins with a given plan, or with
-    none; the best that it knows."""
+    """Whether a tree is one that a search with at most `nodes` branchings may write that begins with a plan that ends
+    then, or with none; the best that it meets where that is better."""
 
-    def __init__(self, inst, nodes, given=None):
+    def __init__(self, inst, nodes, given):
         self.inst, self.nodes, self.is_given = inst, nodes, given is not None
         self.branched, self.leaves = 0, 0
-        self.met, self.best = (end_of(inst, given), [given]) if given is not None else (NEVER, [])
+        self.met, self.best = given if self.is_given else NEVER, []
         self.complaints = []
 
     def visit(self, node, kind, value):
@@ -372,9 +373,9 @@ class SearchJudge:
         """The outcome and exit status that go with the tree's value."""
         if value == NEVER:
             return "Infeasible", 10
-        if self.best and value >= self.met:
+        if value >= self.met:
             return "Optimal", 0
-        return "Budget", 11 if self.best else 12
+        return "Budget", 11 if self.met < NEVER else 12
 
 
 def tight_starts(inst, plan):
@@ -397,6 +398,11 @@ def is_tight(inst, plan):
 def tight_form(inst, plan):
     """The plan with the least starts in its direction."""
     return [(crane, start) for (crane, _), start in zip(plan, next(tight_starts(inst, plan)))]
+
+
+def given_told(lines):
+    """The end of the plan that the search began with, as the report tells it, or None."""
+    return next((int(line.removeprefix("given ")) for line in lines if re.fullmatch("given [0-9]+", line)), None)
 
 
 def slowed(plan, rng):
@@ -517,11 +523,14 @@ class Case:
         option += [] if own is None else ["--from", "own.csv"]
         seen = self.run("plan", "ship", "stow", "plan.csv", "tree.txt", *option)
         name, nodes = f"plan {option}", 20_000 if nodes is None else nodes
-        given = None if own is None else tight_form(self.inst, own)
+        given = given_told(seen[1])
         judge = SearchJudge(self.inst, nodes, given)
         if own is not None:
             self.counts["plans from one's own"] += 1
-            self.expect(f"{name}: no later", judge.met <= end_of(self.inst, own), True)
+            self.expect(f"{name}: given no later", judge.met <= end_of(self.inst, tight_form(self.inst, own)), True)
+        if not self.wide and judge.met < NEVER:
+            self.counts[f"given {'the least end' if given == least else 'a later end'}"] += 1
+            self.expect(f"{name}: given a plan", least <= given, True)
         try:
             reader = TreeReader(self.inst, self.read("tree.txt"), judge.visit).read()
         except TreeFault as fault:
@@ -533,12 +542,12 @@ class Case:
         word, status = judge.status(reader.value)
         lines = [word]
         if word != "Infeasible":
-            lines += [f"end {judge.met}"] * bool(judge.best) + [f"bound {reader.value}"]
+            lines += [f"end {judge.met}"] * (judge.met < NEVER) + [f"bound {reader.value}"]
         lines.append(f"branched {reader.branched}")
         plan = self.read("plan.csv")
-        self.expect(f"{name}: a plan is written", plan is not None, bool(judge.best))
+        self.expect(f"{name}: a plan is written", plan is not None, judge.met < NEVER)
         if plan:
-            lines.append("given none" if given is None else f"given {end_of(self.inst, given)}")
+            lines.append("given none" if given is None else f"given {given}")
             lines += self.written(name, plan, judge)
         self.expect(f"{name}: report", seen, (status, lines))
         if word == "Budget":
@@ -558,7 +567,7 @@ class Case:
             self.expect(f"{name}: plan file", fault, None)
             return []
         self.expect(f"{name}: plan text", plan.decode(), plan_text(self.inst, slots))
-        self.expect(f"{name}: one of the best met", slots in judge.best, True)
+        self.expect(f"{name}: the given one or one of the best met", judge.is_given or slots in judge.best, True)
         self.expect(f"{name}: end", end_of(self.inst, slots), judge.met)
         way, broken = direction_of(self.inst, slots)
         self.expect(f"{name}: goes one way", broken, None)

@@ -1,12 +1,10 @@
 -- What a search leaves in its files, from what the shelf's calls say.
-use Rattle.std.proofs.Common.{◌≡◌, ℕ, true, false, List, Option, None, Some, Result, Ok, Err, ◌⊎◌, ap, ◌∙◌, inl, inr, refl, subst, ◌≤◌, arith, IfSome, IsSomeAnd, OnErr, OnOk, is_err}
-use Rattle.std.specs.FinMap.{insert}
+use Rattle.std.proofs.Common.{◌≡◌, ℕ, true, false, List, Option, None, Some, Result, Ok, Err, ◌⊎◌, ap, ◌∙◌, inl, inr, refl, subst, arith, IfSome, IsSomeAnd, OnErr, OnOk, is_err}
 use Rattle.std.specs.Io.KnownBytes.{append_known}
-use Rattle.qc_io.specs.Outside.{Beside, Files, View, begun, beside, finished, with_file}
+use Rattle.qc_io.specs.Outside.{Beside, Files, Rose, View, begun, beside, finished, with_file}
 use Rattle.qc_model.specs.declared.schedule.Slot.{Slot}
 use Rattle.qc_model.specs.Instance.{InstanceView}
 use Rattle.qc_model.specs.OneWay.{GoesOneWay}
-use Rattle.qc_model.specs.Rules.{ends}
 use Rattle.qc_search.specs.Run.{DoneView, IsSound, SearchView}
 use Rattle.qc_search.specs.Run.{IsSearched as Searched}
 use Rattle.qc_tree.specs.Trees.{tree_text}
@@ -20,7 +18,7 @@ use Rattle.qc_plan_command.specs.declared.answer.PlanAnswer.{PlanAnswer}
 use Rattle.qc_plan_command.specs.declared.answer.PlanAnswer.TheVariants as answer
 use Rattle.qc_plan_command.specs.Account.{IsLeft, IsPlanning, IsSearched, IsStopped, IsWritten, Writes}
 use Rattle.qc_plan_command.specs.Asked.{Planning}
-use Rattle.qc_plan_command.specs.Found.{Tells}
+use Rattle.qc_plan_command.specs.Found.{IsNoLater, Tells}
 use Rattle.qc_plan_command.specs.Stored.{IsTreeLeft, IsTreeStored, with_plan}
 
 -- ---- a file that is made
@@ -58,8 +56,7 @@ as_it_was P (Some held) after same by = by held same
 -- ---- the tree's file
 
 -- a schedule ends no later than itself
-no_worse : (inst : InstanceView) (given : Option (List Slot))
-    → IfSome given (λ sched. IsSomeAnd given (λ other. ends inst other ≤ ends inst sched))
+no_worse : (inst : InstanceView) (given : Option (List Slot)) → IsNoLater inst given given
 no_worse inst None = tt
 no_worse inst (Some sched) = omega arith
 
@@ -96,6 +93,46 @@ tree_left search given name None after written now done ran sound e = tt
 tree_left search given name (Some held) after written now done ran sound (inl same) = inl same
 tree_left search given name (Some held) after written now done ran sound (inr e) =
     inr (done, tree_stored search given name (Some held) after written now done ran sound e)
+
+-- what ends no later than a schedule that ends no later than the planner's own
+through : (inst : InstanceView) (own given other : Option (List Slot)) → IsNoLater inst own given → IsNoLater inst given other
+    → IsNoLater inst own other
+through inst None given other first second = tt
+through inst (Some sched) None other first second = absurd first
+through inst (Some sched) (Some one) None first second = absurd second
+through inst (Some sched) (Some one) (Some two) first second = omega (arith, first, second)
+
+-- what a search stores that is given no later a schedule than the planner's own
+module _ (search : SearchView) (own given : Option (List Slot)) (name : List ℕ) (late : IsNoLater search.inst own given) where
+  stored_for : (held : Files) (after : Option Files) (done : DoneView) → IsTreeStored search given name held after done
+      → IsTreeStored search own name held after done
+  stored_for held after done stored = record {
+    tree = stored.tree;
+    found = record {
+      given = stored.found.given;
+      no_worse = through search.inst own given stored.found.given late stored.found.no_worse;
+      first = stored.found.first;
+      begins = stored.found.begins;
+      given_told = stored.found.given_told;
+      run = stored.found.run;
+      bound = stored.found.bound;
+      branched = stored.found.branched;
+      sound = stored.found.sound;
+    };
+    files = stored.files;
+  }
+
+  pub tree_for : (before after : Option Files) (done : DoneView)
+      → IfSome before (λ held. IsTreeStored search given name held after done)
+      → IfSome before (λ held. IsTreeStored search own name held after done)
+  tree_for None after done stored = tt
+  tree_for (Some held) after done stored = stored_for held after done stored
+
+  pub left_for : (before after : Option Files) → IfSome before (λ held. IsTreeLeft search given name held after)
+      → IfSome before (λ held. IsTreeLeft search own name held after)
+  left_for None after left = tt
+  left_for (Some held) after (inl same) = inl same
+  left_for (Some held) after (inr stored) = inr (stored.0, stored_for held after stored.0 stored.1)
 
 -- ---- what the command comes to
 
@@ -183,31 +220,42 @@ module _ (asked : Planning) (job : OwnJob) (goes : IfSome job.own (GoesOneWay jo
       stopped asked job goes before created due
       (as_it_was (λ held. IsLeft asked held created) before created same (λ held e. inl e))
 
-  -- the tree's file couldn't be made
-  pub at_tree : IfSome created (λ held. IsTreeLeft search job.own asked.tree held mid) → IfSome before (λ held. IsStopped asked held mid)
-  at_tree left =
-      stopped asked job goes before mid due (left_tree asked job goes before mid mid due
-      (subst (λ (f : Option Files). IfSome f (λ held. IsTreeLeft (record { inst = job.inst; nodes = asked.nodes }) job.own asked.tree held mid)) same
-      (subst (λ (s : SearchView). IfSome created (λ held. IsTreeLeft s job.own asked.tree held mid)) is left)))
+  abbrev due_search : SearchView
+  due_search = record { inst = job.inst; nodes = asked.nodes }
 
-  stored_is : (done : DoneView) → IfSome created (λ held. IsTreeStored search job.own asked.tree held mid done)
-      → IfSome before (λ held. IsTreeStored (record { inst = job.inst; nodes = asked.nodes }) job.own asked.tree held mid done)
-  stored_is done stored =
-      subst (λ (f : Option Files). IfSome f (λ held. IsTreeStored (record { inst = job.inst; nodes = asked.nodes }) job.own asked.tree held mid done)) same
-      (subst (λ (s : SearchView). IfSome created (λ held. IsTreeStored s job.own asked.tree held mid done)) is stored)
+  -- the tree's file couldn't be made
+  pub at_tree : (given : Option (List Slot)) → IsNoLater job.inst job.own given
+      → IfSome created (λ held. IsTreeLeft search given asked.tree held mid) → IfSome before (λ held. IsStopped asked held mid)
+  at_tree given late left =
+      stopped asked job goes before mid due (left_tree asked job goes before mid mid due
+      (left_for due_search job.own given asked.tree late before mid
+      (subst (λ (f : Option Files). IfSome f (λ held. IsTreeLeft due_search given asked.tree held mid)) same
+      (subst (λ (s : SearchView). IfSome created (λ held. IsTreeLeft s given asked.tree held mid)) is left))))
+
+  stored_is : (given : Option (List Slot)) → IsNoLater job.inst job.own given → (done : DoneView)
+      → IfSome created (λ held. IsTreeStored search given asked.tree held mid done)
+      → IfSome before (λ held. IsTreeStored due_search job.own asked.tree held mid done)
+  stored_is given late done stored =
+      tree_for due_search job.own given asked.tree late before mid done
+      (subst (λ (f : Option Files). IfSome f (λ held. IsTreeStored due_search given asked.tree held mid done)) same
+      (subst (λ (s : SearchView). IfSome created (λ held. IsTreeStored s given asked.tree held mid done)) is stored))
 
   -- the plan's file couldn't be made
-  pub at_plan : (done : DoneView) → IfSome created (λ held. IsTreeStored search job.own asked.tree held mid done)
+  pub at_plan : (given : Option (List Slot)) → IsNoLater job.inst job.own given → (done : DoneView)
+      → IfSome created (λ held. IsTreeStored search given asked.tree held mid done)
       → IfSome mid (λ held. (after ≡ Some held) ⊎ (after ≡ Some (with_plan held asked.plan job.inst done.best)))
       → IfSome before (λ held. IsStopped asked held after)
-  at_plan done stored left =
-      stopped asked job goes before after due (left_plan asked job goes before mid after due done (stored_is done stored) left)
+  at_plan given late done stored left =
+      stopped asked job goes before after due
+      (left_plan asked job goes before mid after due done (stored_is given late done stored) left)
 
   -- both were made
-  pub at_end : (done : DoneView) (a : PlanAnswer) → IfSome created (λ held. IsTreeStored search job.own asked.tree held mid done)
+  pub at_end : (given : Option (List Slot)) → IsNoLater job.inst job.own given → (done : DoneView) (a : PlanAnswer)
+      → IfSome created (λ held. IsTreeStored search given asked.tree held mid done)
       → IfSome mid (λ held. after ≡ Some (with_plan held asked.plan job.inst done.best)) → Tells job.inst done a
       → IfSome before (λ held. IsWritten asked held after a)
-  at_end done a stored wrote told = both_written asked job goes before mid after due done a (stored_is done stored) wrote told
+  at_end given late done a stored wrote told =
+      both_written asked job goes before mid after due done a (stored_is given late done stored) wrote told
 
 -- the planner's own plan was read, and breaks a rule
 pub own_broken : (asked : Planning) (names : Names) (before after : View) (job : OwnJob) (told : Broken) → names ≡ asked.inputs
@@ -236,6 +284,44 @@ own_broken asked names before after job told same step tells =
       ),
       read.ok.0,
     )
+
+-- what is planned behind a reading is planned behind what was there before it
+module _ (asked : Planning) (before mid after : View) (files : mid.files ≡ before.files) (made : mid.made ≡ before.made)
+    (faults : mid.faults ≡ before.faults) (reads : mid.read_faults ≡ before.read_faults) where
+  written_over : (a : PlanAnswer) → IfSome mid.files (λ held. IsWritten asked held after.files a)
+      → IfSome before.files (λ held. IsWritten asked held after.files a)
+  written_over a = subst (λ (f : Option Files). IfSome f (λ held. IsWritten asked held after.files a)) files
+
+  pub over_read : (a : PlanAnswer) → IsPlanning asked mid after (Ok a) → IsPlanning asked before after (Ok a)
+  over_read answer.WriteFault told = (
+    (
+      subst (λ (n : ℕ). Rose n after.faults) faults told.0.0,
+      subst (λ (f : Option Files). IfSome f (λ held. IsStopped asked held after.files)) files told.0.1,
+    ),
+    told.1 ∙ reads,
+  )
+  over_read (answer.Broken broken) told = (
+    (
+      told.0.0 ∙ faults,
+      record {
+        job = told.0.1.job;
+        due = subst (λ (f : Option Files). ComesTo (own_job_due asked.inputs.own) asked.inputs f (Ok told.0.1.job)) files
+            told.0.1.due;
+        sched = told.0.1.sched;
+        own = told.0.1.own;
+        tells = told.0.1.tells;
+        files = told.0.1.files ∙ files;
+        made = told.0.1.made ∙ made;
+      },
+    ),
+    told.1 ∙ reads,
+  )
+  over_read (answer.Planned found) told =
+      ((told.0.0 ∙ faults, written_over (answer.Planned found) told.0.1), told.1 ∙ reads)
+  over_read (answer.Unplanned bound branched) told =
+      ((told.0.0 ∙ faults, written_over (answer.Unplanned bound branched) told.0.1), told.1 ∙ reads)
+  over_read (answer.Infeasible branched) told =
+      ((told.0.0 ∙ faults, written_over (answer.Infeasible branched) told.0.1), told.1 ∙ reads)
 
 -- an answer that tells of a search wrote both files
 pub writes_told : (asked : Planning) (before after : View) (inst : InstanceView) (done : DoneView) (a : PlanAnswer) → Tells inst done a

@@ -14,13 +14,17 @@ use Rattle.qc_plan_command.specs.declared.answer.Planned.{Planned}
 use Rattle.qc_plan_command.specs.declared.answer.PlanAnswer.{PlanAnswer}
 use Rattle.qc_plan_command.specs.declared.answer.PlanAnswer.TheVariants as answer
 
+-- where the planner has a schedule, this one is there and ends no later
+abbrev pub IsNoLater : InstanceView → (own given : Option (List Slot)) → Type 0
+IsNoLater inst own given = IfSome own (λ sched. IsSomeAnd given (λ other. ends inst other ≤ ends inst sched))
+
 -- what a search with so many branchings came to: it was given a schedule that ends no later than the planner's own,
 -- where there is one; it began with the tight form of that; its tree is one of the instance that is earned, its
 -- schedule, if any, a best one that it knows, and what holds of each search
 pub record IsFound (inst : InstanceView) (nodes : ℕ) (own : Option (List Slot)) (tree : Tree) (done : DoneView)
     : Type 0 where
   pub given : Option (List Slot)
-  pub no_worse : IfSome own (λ sched. IsSomeAnd given (λ other. ends inst other ≤ ends inst sched))
+  pub no_worse : IsNoLater inst own given
   pub first : Option (List Slot)
   pub begins : IsFirst inst given first
   pub given_told : done.given ≡ option_map (ends inst) first

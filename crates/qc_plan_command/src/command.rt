@@ -6,6 +6,7 @@ ghost use Rattle.qc_model.specs.OneWay.{GoesOneWay};
 ghost use Rattle.qc_run.specs.Broken.{TellsBreak};
 ghost use Rattle.qc_run.specs.Due.{own_job_due};
 ghost use Rattle.qc_run.specs.Steps.{ComesTo};
+ghost use Rattle.qc_sweep.specs.Plans.{IsFirstPlan};
 ghost use Rattle.qc_plan_command.specs.Account.{IsPlanRun, IsPlanning};
 ghost use Rattle.qc_plan_command.specs.Asked.{planning};
 ghost use Rattle.qc_plan_command.specs.Promises.{PlanPromises};
@@ -14,22 +15,26 @@ ghost use Rattle.qc_plan_command.specs.Reports.{CanBeTold};
 use crate::answer::PlanAnswer;
 use crate::asked::PlanAsked;
 use crate::found::answer_of;
+use crate::given::{EFFORT, earlier};
 use crate::report::report;
 use crate::store::{store_best, store_tree};
 use qc_io::{Shelf, Sink, WriteFault};
-use qc_model::{Instance, direction_of};
+use qc_model::{Instance, Schedule, direction_of};
 use qc_motion::Track;
 use qc_run::{Broken, OwnJob, Status, Stop, broken_of, read_own_job, report_stop};
 use qc_search::Search;
+use qc_sweep::first_plan;
 use std::alloc::Global;
 
 /// Runs the search, writes its tree and the plan of the best schedule that it knows, and answers what is told of
-/// it. A schedule of the planner's own goes one way; the search begins with it. The plan's file is begun first, so
-/// that one that can't be made is told before the search is run.
+/// it. A schedule of the planner's own goes one way; the search begins with it, or with one that the sweeps found
+/// and that ends earlier. The plan's file is begun first, so that one that can't be made is told before the search
+/// is run.
 fn plan_instance<S: Shelf>(
     asked: &PlanAsked<'_>,
     job: OwnJob,
-    search: Search,
+    swept: Option<Schedule>,
+    mut search: Search,
     track: Track,
     shelf: &mut S,
 ) -> PlanAnswer
@@ -39,6 +44,7 @@ fn plan_instance<S: Shelf>(
         (S.Sink.view shelf.old).files (Ok job) }
     requires judgeable { IfSome job.own (IsJudgeable job.inst) }
     requires goes { IfSome job.own (GoesOneWay job.inst) }
+    requires swept { IfSome swept (IsFirstPlan job.inst) }
     ensures serves { IsPlanning (planning asked.now) (S.Sink.view shelf.old) (S.Sink.view shelf.new) (Ok result) }
     ensures ready { CanBeTold result }
     ensures never_falls { (S.Sink.view shelf.old).faults ≤ (S.Sink.view shelf.new).faults }
@@ -47,7 +53,8 @@ fn plan_instance<S: Shelf>(
     if shelf.create(asked.plan).is_err() {
         return PlanAnswer::WriteFault;
     }
-    let Ok(done) = store_tree(search, own.as_ref(), asked.tree, shelf) else {
+    let given = earlier(&mut search, &inst, own.as_ref(), swept.as_ref());
+    let Ok(done) = store_tree(search, given, asked.tree, shelf) else {
         return PlanAnswer::WriteFault;
     };
     match store_best(&inst, &done, asked.plan, shelf) {
@@ -72,7 +79,8 @@ fn break_of(job: &OwnJob) -> Option<Broken>
 }
 
 /// Reads the ship file and the stowage list, and the planner's own plan where one is named, which must go one way;
-/// searches their instance, and writes the tree and the plan. All memory is taken before anything is written.
+/// looks for a first plan of their instance, searches it, and writes the tree and the plan. All memory is taken
+/// before anything is written.
 fn serve<S: Shelf>(alloc: Global, asked: &PlanAsked<'_>, shelf: &mut S) -> Result<PlanAnswer, Stop>
     requires { asked.now.nodes ≤ most_branchings }
     ensures serves { IsPlanning (planning asked.now) (S.Sink.view shelf.old) (S.Sink.view shelf.new) result }
@@ -85,8 +93,9 @@ fn serve<S: Shelf>(alloc: Global, asked: &PlanAsked<'_>, shelf: &mut S) -> Resul
         return Ok(PlanAnswer::Broken(broken));
     }
     let track = Track::new(alloc, job.inst.task_count())?;
+    let swept = first_plan(alloc, &job.inst, EFFORT)?;
     let search = Search::open(alloc, &job.inst, asked.nodes)?;
-    Ok(plan_instance(asked, job, search, track, shelf))
+    Ok(plan_instance(asked, job, swept, search, track, shelf))
 }
 
 /// Plans, and reports to `out`.

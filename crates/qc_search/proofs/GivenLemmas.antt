@@ -28,6 +28,7 @@ use Rattle.qc_starts.specs.Tight.{IsTight, IsTightForm, decided_by, order_in}
 use Rattle.qc_search.specs.declared.progress.Progress.{Progress}
 use Rattle.qc_search.specs.Earned.{IsKnownEnd, node_at}
 use Rattle.qc_search.specs.Progress.{IsBegun, IsBegunWith, IsKept, IsProgress, IsTightened, begun}
+use Rattle.qc_search.specs.Run.{IsTightEnd}
 use Rattle.qc_search.proofs.DecidedLemmas.{decided_least}
 use Rattle.qc_search.proofs.ShownLemmas.{shown_tight, turned_as_met}
 use Rattle.qc_search.proofs.TightLemmas.{seen_end}
@@ -205,6 +206,14 @@ module _ (home : InstanceView) (v : Valid home) (given : List Slot) (way : Direc
         ends_by inst.tasks (starts turned) j given_meets.all_tasks low,
       )) in
       omega (arith, late, t.ends, seen-ends home given way)
+
+  pub tight_end_is : IsDirection home given way → IsTightEnd home given end
+  tight_end_is direction = record {
+    first = form;
+    form = form_is direction;
+    is = end_is;
+    no_later = no_later;
+  }
 
   -- the progress that begins with it is that of no nodes
   abbrev progress_of : ℕ → SmallVec ℕ → Progress

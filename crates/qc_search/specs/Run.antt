@@ -86,6 +86,13 @@ abbrev pub IsFirst : InstanceView → Option (List Slot) → Option (List Slot) 
 IsFirst inst None first = first ≡ None
 IsFirst inst (Some given) first = IsSomeAnd first (IsTightForm inst given)
 
+-- the tight form of a schedule ends then, which is no later than the schedule does
+pub record IsTightEnd (inst : InstanceView) (given : List Slot) (end : ℕ) : Type 0 where
+  pub first : List Slot
+  pub form : IsTightForm inst given first
+  pub is : end ≡ ends inst first
+  pub no_later : end ≤ ends inst given
+
 -- what a search tells of a schedule that it was given: when its tight form ends, which is no later; and its best schedule
 -- ends no later than that
 pub record IsGivenTold (inst : InstanceView) (given : List Slot) (done : DoneView) : Type 0 where

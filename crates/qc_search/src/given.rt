@@ -4,15 +4,17 @@ ghost use Rattle.std.specs.Prelude.{◌≡◌, ℕ, ◌<◌, ◌≤◌, [], ◌�
 ghost use Rattle.qc_dist.specs.Node.{IsOpen};
 ghost use Rattle.qc_model.specs.declared.decision.Decision.TheVariants.{Assign};
 ghost use Rattle.qc_model.specs.Instance.{IsApart, Valid, pair_of};
-ghost use Rattle.qc_model.specs.Judge.{IsJudgeable};
+ghost use Rattle.qc_model.specs.Judge.{IsDirection, IsJudgeable};
 ghost use Rattle.qc_model.specs.Nodes.{Agrees, HasStarts, IsComplete, IsSettled, assigned};
 ghost use Rattle.qc_model.specs.Numbers.{most_branchings, most_start, most_tasks};
 ghost use Rattle.qc_model.specs.OneWay.{GoesOneWay, GoesUp, mirror};
 ghost use Rattle.qc_model.specs.Rules.{crane_of, start_of};
+ghost use Rattle.qc_model.specs.Seen.{seen, seen_schedule};
 ghost use Rattle.qc_num.specs.Paths.{HasRoom};
 ghost use Rattle.qc_starts.specs.Seen.{AreAssigned};
 ghost use Rattle.qc_starts.specs.Tight.{order_in};
 ghost use Rattle.qc_search.specs.Progress.{IsBegun, IsBegunWith, IsTightened};
+ghost use Rattle.qc_search.specs.Run.{IsTightEnd};
 
 use crate::best::keep;
 use crate::moves::{go, go_back};
@@ -143,6 +145,68 @@ fn copy_slots(from: &Schedule, tasks: u16, to: &mut Schedule)
     }
 }
 
+/// Writes the tight form of a schedule that goes one way, as it is seen that way, over another of as many tasks, and
+/// answers that way and when it ends.
+fn tighten_given(
+    given: &Schedule,
+    up: &mut Starts,
+    down: &mut Starts,
+    tight: &mut Schedule,
+) -> (Direction, Tick)
+    requires turned { down.old.inst ≡ mirror up.old.inst }
+    requires up { up.old.decisions ≡ [] }
+    requires down { down.old.decisions ≡ [] }
+    requires judgeable { IsJudgeable up.old.inst given.now }
+    requires goes { GoesOneWay up.old.inst given.now }
+    requires count { length tight.old ≡ length up.old.inst.tasks }
+    ensures up_inst { up.new.inst ≡ up.old.inst }
+    ensures down_inst { down.new.inst ≡ down.old.inst }
+    ensures up_root { up.new.decisions ≡ [] }
+    ensures down_root { down.new.decisions ≡ [] }
+    ensures valid { Valid up.old.inst }
+    ensures direction { IsDirection up.old.inst given.now result.0 }
+    ensures tightened { IsTightened (seen up.old.inst result.0) (seen_schedule up.old.inst given.now result.0)
+        tight.new result.1 }
+{
+    let Ok(way) = direction_of(up.instance(), given) else {
+        unreachable!()
+    };
+    copy_slots(given, up.instance().task_count(), tight);
+    let end = match way {
+        Direction::Up => tighten(up, tight),
+        Direction::Down => {
+            tight.flip(up.instance().crane_count());
+            tighten(down, tight)
+        }
+    };
+    (way, end)
+}
+
+/// When the tight form of a schedule that goes one way ends; its slots are written over those of another of as many
+/// tasks.
+pub(crate) fn tight_end(
+    given: &Schedule,
+    up: &mut Starts,
+    down: &mut Starts,
+    tight: &mut Schedule,
+) -> Tick
+    requires turned { down.old.inst ≡ mirror up.old.inst }
+    requires up { up.old.decisions ≡ [] }
+    requires down { down.old.decisions ≡ [] }
+    requires judgeable { IsJudgeable up.old.inst given.now }
+    requires goes { GoesOneWay up.old.inst given.now }
+    requires count { length tight.old ≡ length up.old.inst.tasks }
+    ensures up_inst { up.new.inst ≡ up.old.inst }
+    ensures down_inst { down.new.inst ≡ down.old.inst }
+    ensures up_root { up.new.decisions ≡ [] }
+    ensures down_root { down.new.decisions ≡ [] }
+    ensures count { length tight.new ≡ length up.old.inst.tasks }
+    ensures is { IsTightEnd up.old.inst given.now result }
+{
+    let (_, end) = tighten_given(given, up, down, tight);
+    end
+}
+
 /// The progress before the first line where a schedule is given that goes one way.
 fn begin_with(
     given: &Schedule,
@@ -165,17 +229,7 @@ fn begin_with(
     ensures valid { Valid up.old.inst }
     ensures begins { IsBegunWith up.old.inst given.now limit path result }
 {
-    let Ok(way) = direction_of(up.instance(), given) else {
-        unreachable!()
-    };
-    copy_slots(given, up.instance().task_count(), &mut incumbent);
-    let end = match way {
-        Direction::Up => tighten(up, &mut incumbent),
-        Direction::Down => {
-            incumbent.flip(up.instance().crane_count());
-            tighten(down, &mut incumbent)
-        }
-    };
+    let (way, end) = tighten_given(given, up, down, &mut incumbent);
     Progress {
         incumbent_end: Bound::Least(end),
         way,

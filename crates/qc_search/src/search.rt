@@ -7,18 +7,18 @@ ghost use Rattle.qc_model.specs.Numbers.{most_branchings};
 ghost use Rattle.qc_model.specs.OneWay.{GoesOneWay};
 ghost use Rattle.qc_num.specs.declared.bound.Bound.TheVariants.{Least};
 ghost use Rattle.qc_search.specs.Progress.{bound_end, shown_best};
-ghost use Rattle.qc_search.specs.Run.{outcome, SearchView, IsCutOff, IsSearched, IsSound};
+ghost use Rattle.qc_search.specs.Run.{outcome, SearchView, IsCutOff, IsSearched, IsSound, IsTightEnd};
 ghost use Rattle.qc_search.specs.Fields.{AreOpened, search_of};
 
 use crate::best::shown_best;
 use crate::done::Done;
-use crate::given::begin;
+use crate::given::{begin, tight_end};
 use crate::outcome::{end_of, outcome};
 use crate::progress::Progress;
 use crate::tree::write_tree;
 use qc_io::{Sink, WriteFault};
 use qc_model::{Instance, MOST_TASKS, Schedule, mirror};
-use qc_num::{Bound, OutOfMemory, Path};
+use qc_num::{Bound, OutOfMemory, Path, Tick};
 use qc_starts::Starts;
 use std::alloc::Global;
 use std::marker::Model;
@@ -82,6 +82,17 @@ impl Search {
             path,
             limit,
         })
+    }
+
+    /// When the tight form of a schedule that goes one way ends: with its cranes, its order of apart tasks and its
+    /// direction no task starts earlier.
+    pub fn tight_end(&mut self, given: &Schedule) -> Tick
+        requires judgeable { IsJudgeable self.old.inst given.now }
+        requires goes { GoesOneWay self.old.inst given.now }
+        ensures stays { self.new ≡ self.old }
+        ensures is { IsTightEnd self.old.inst given.now result }
+    {
+        tight_end(given, &mut self.up, &mut self.down, &mut self.incumbent)
     }
 
     /// Searches, and writes the tree to the sink, each line when its node is met and by a `put_all` of

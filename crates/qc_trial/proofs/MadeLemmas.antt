@@ -1,5 +1,5 @@
 -- What a made ship and its list come to: the stored tree and plan, the check of both, and what is told.
-use Rattle.std.proofs.Common.{◌≡◌, ◌≤◌, ◌⊎◌, ℕ, Bool, true, false, List, Option, None, Some, Result, Ok, Err, arith, refl, sym, subst, ap, ap₂, inl, inr, ◌∙◌, IfSome, IsSomeAnd, codes, nat_le, if◌then◌else◌}
+use Rattle.std.proofs.Common.{◌≡◌, ◌≤◌, ◌⊎◌, ℕ, Bool, true, false, List, Option, None, Some, Result, Ok, Err, refl, sym, subst, ap, ap₂, inl, inr, ◌∙◌, IfSome, IsSomeAnd, codes, nat_le, if◌then◌else◌}
 use Rattle.std.specs.Cmp.Lexicographic.{nat_list_cmp_total}
 use Rattle.std.specs.FinMap.{get, get-insert, insert}
 use Rattle.std.proofs.lemmas.Option.{same_Some}

@@ -15,9 +15,10 @@ use qc_gantt::{PlanError, read_plan};
 use qc_io::{MemShelf, ReadAll, Shelf, WriteFault, read_all};
 use qc_model::{Instance, Schedule, direction_of, ends};
 use qc_num::{Bound, Bytes, OutOfMemory, Tick};
-use qc_plan_command::{store_best, store_tree};
+use qc_plan_command::{EFFORT, store_best, store_tree};
 use qc_replay::{ReplayError, replay};
 use qc_search::{Done, Search};
+use qc_sweep::first_plan;
 use std::alloc::Global;
 
 /// The most branchings of the search.
@@ -28,7 +29,7 @@ const PLAN: &str = "plan";
 
 const TREE: &str = "tree";
 
-/// Searches the instance, and stores its tree and the plan of the best schedule.
+/// Looks for a first plan of the instance and searches it, and stores its tree and the plan of the best schedule.
 pub(crate) fn store_search<S: Shelf>(
     alloc: Global,
     inst: &Instance,
@@ -37,8 +38,9 @@ pub(crate) fn store_search<S: Shelf>(
     ensures { IfOk result (λ done. IfSome (S.Sink.view shelf.old).files (λ held.
         IsSomeAnd (S.Sink.view shelf.new).files (λ files. AreStored inst.now files done))) }
 {
+    let swept = first_plan(alloc, inst, EFFORT)?;
     let search = Search::open(alloc, inst, BRANCHINGS)?;
-    let Ok(done) = store_tree(search, None, TREE, shelf) else {
+    let Ok(done) = store_tree(search, swept.as_ref(), TREE, shelf) else {
         return Err(OutOfMemory);
     };
     match store_best(inst, &done, PLAN, shelf) {

@@ -1,4 +1,4 @@
-use Rattle.std.proofs.Common.{◌≡◌, true, false, ap, arith, subst, sym, ◌∙◌, is_err}
+use Rattle.std.proofs.Common.{◌≡◌, true, false, ap, arith, option_map, subst, sym, ◌∙◌, is_err}
 use Rattle.qc_model.specs.Instance.{InstanceView}
 use Rattle.qc_search.specs.Run.{SearchView}
 use Rattle.qc_tree.specs.Trees.{NoneEarlier}
@@ -25,23 +25,25 @@ returns-in_default-clause-serves g c =
     let view = g.S.Sink.view in (
       (
         omega (arith, c.create.ensures.counts.never_falls, c.in_default.ensures.counts.rose),
-        at_tree (planning c.args.asked.now) c.args.job c.requires.goes c.args.search (view c.args.shelf.now).files
+        at_tree (planning c.args.asked.now) c.args.job c.requires.goes c.earlier-given.new.search (view c.args.shelf.now).files
             (view c.create.new.self).files (view c.store_tree.new.shelf).files (view c.store_tree.new.shelf).files
-            c.requires.search c.requires.due c.create.ensures.files_stay
-            (rw c.as_ref.ensures.value at c.in_default.ensures.err),
+            (c.earlier-given.ensures.stays ∙ c.requires.search) c.requires.due c.create.ensures.files_stay
+            (option_map (λ sched. sched.now) c.earlier-given.result)
+            (rw c.as_ref.ensures.value at c.earlier-given.ensures.no_later) c.in_default.ensures.err,
       ),
       c.in_default.ensures.read_faults ∙ c.create.ensures.read_faults_stay,
     )
 
-pub returns-in-Err-clause-serves : goal.returns-in-Err-clause-serves
-returns-in-Err-clause-serves g c =
+pub returns-clause-serves : goal.returns-clause-serves
+returns-clause-serves g c =
     let view = g.S.Sink.view in (
       (
         omega (arith, c.create.ensures.counts.never_falls, c.in-Ok.ensures.counts.never_falls, c.in-Err.ensures.counts.rose),
-        at_plan (planning c.args.asked.now) c.args.job c.requires.goes c.args.search (view c.args.shelf.now).files
+        at_plan (planning c.args.asked.now) c.args.job c.requires.goes c.earlier-given.new.search (view c.args.shelf.now).files
             (view c.create.new.self).files (view c.store_tree.new.shelf).files (view c.store_best.new.shelf).files
-            c.requires.search c.requires.due c.create.ensures.files_stay c.in-Ok.done
-            (rw c.as_ref.ensures.value at c.in-Ok.ensures.ok) c.in-Err.ensures.err,
+            (c.earlier-given.ensures.stays ∙ c.requires.search) c.requires.due c.create.ensures.files_stay
+            (option_map (λ sched. sched.now) c.earlier-given.result)
+            (rw c.as_ref.ensures.value at c.earlier-given.ensures.no_later) c.in-Ok.done c.in-Ok.ensures.ok c.in-Err.ensures.err,
       ),
       c.in-Err.ensures.read_faults ∙ c.in-Ok.ensures.read_faults ∙ c.create.ensures.read_faults_stay,
     )
@@ -54,20 +56,22 @@ returns-in-Ok-store_best-clause-serves g c =
           c.answer_of.result c.answer_of.ensures.tells
           (c.in-Ok-store_best.ensures.counts.unfailed ∙ c.in-Ok.ensures.counts.unfailed
           ∙ by_ok c.create.result came c.create.ensures.counts.unfailed)
-          (at_end (planning c.args.asked.now) c.args.job c.requires.goes c.args.search (view c.args.shelf.now).files
+          (at_end (planning c.args.asked.now) c.args.job c.requires.goes c.earlier-given.new.search (view c.args.shelf.now).files
           (view c.create.new.self).files (view c.store_tree.new.shelf).files (view c.store_best.new.shelf).files
-          c.requires.search c.requires.due c.create.ensures.files_stay c.in-Ok.done c.answer_of.result
-          (rw c.as_ref.ensures.value at c.in-Ok.ensures.ok)
+          (c.earlier-given.ensures.stays ∙ c.requires.search) c.requires.due c.create.ensures.files_stay
+          (option_map (λ sched. sched.now) c.earlier-given.result)
+          (rw c.as_ref.ensures.value at c.earlier-given.ensures.no_later) c.in-Ok.done c.answer_of.result c.in-Ok.ensures.ok
           c.in-Ok-store_best.ensures.ok c.answer_of.ensures.tells),
       c.in-Ok-store_best.ensures.read_faults ∙ c.in-Ok.ensures.read_faults ∙ c.create.ensures.read_faults_stay,
     )
 
 pub answer_of-requires-clause-none_earlier : goal.answer_of-requires-clause-none_earlier
 answer_of-requires-clause-none_earlier g c =
-    subst (λ (i : InstanceView). NoneEarlier i c.in-Ok.done.bound) (ap (λ (s : SearchView). s.inst) c.requires.search)
+    subst (λ (i : InstanceView). NoneEarlier i c.in-Ok.done.bound)
+    (ap (λ (s : SearchView). s.inst) (c.earlier-given.ensures.stays ∙ c.requires.search))
     c.in-Ok.ensures.sound.none_earlier
 
 pub answer_of-requires-clause-reread : goal.answer_of-requires-clause-reread
 answer_of-requires-clause-reread g c =
-    let is = rw c.requires.search at c.in-Ok.ensures.sound in
+    let is = rw (c.earlier-given.ensures.stays ∙ c.requires.search) at c.in-Ok.ensures.sound in
     rereads c.args.job.inst c.in-Ok.done.best is.judgeable is.soon c.in-Ok-store_best.ensures.reread

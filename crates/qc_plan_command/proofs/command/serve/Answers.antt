@@ -4,7 +4,7 @@ use Rattle.qc_run.specs.Due.{own_job_due}
 use Rattle.qc_run.specs.Inputs.{Names, names_of}
 use Rattle.qc_run.specs.Steps.{ComesTo, IsStep}
 use Rattle.qc_plan_command.specs.Asked.{planning}
-use Rattle.qc_plan_command.proofs.StoreLemmas.{own_broken}
+use Rattle.qc_plan_command.proofs.StoreLemmas.{over_read, own_broken}
 use Rattle.qc_plan_command.proofs.command.serve.Goals as goal
 
 pub returns-in-Some-clause-serves : goal.returns-in-Some-clause-serves
@@ -21,3 +21,11 @@ plan_instance-requires-clause-due g c =
     (Ok c.in_ok-job.job)) c.inputs.ensures c.in_ok-job.ensures.step in
     let asked = (planning c.args.asked.now).inputs in
     subst (λ (files : Option Files). ComesTo (own_job_due asked.own) asked files (Ok c.in_ok-job.job)) (sym step.files) step.ok.1
+
+pub returns-clause-serves : goal.returns-clause-serves
+returns-clause-serves g c =
+    let view = g.S.Sink.view in
+    let step = c.in_ok-job.ensures.step in
+    over_read (planning c.args.asked.now) (view c.args.shelf.now) (view c.read_own_job.new.shelf)
+    (view c.plan_instance.new.shelf) step.files step.made step.faults step.ok.0 c.plan_instance.result
+    c.plan_instance.ensures.serves

@@ -2,7 +2,7 @@ use Rattle.std.proofs.Common.{◌≡◌, ℕ, List, map, ap₂, sym, subst₂, �
 use Rattle.qc_model.specs.declared.schedule.Slot.{Slot}
 use Rattle.qc_model.specs.OneWay.{GoesUp, flipped, mirror_schedule}
 use Rattle.qc_search.proofs.GivenLemmas.{mirrored_goes, mirrored_soon}
-use Rattle.qc_search.proofs.given.begin_with.Goals as goal
+use Rattle.qc_search.proofs.given.tighten_given.Goals as goal
 
 pub tighten-end-requires-in-Down-clause-goes : goal.tighten-end-requires-in-Down-clause-goes
 tighten-end-requires-in-Down-clause-goes c =
