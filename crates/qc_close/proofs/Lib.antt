@@ -1,0 +1,3 @@
+mod Members
+mod Rows
+pub mod PackLemmas
