@@ -57,14 +57,16 @@ module _ {X : Type 0} (p : X → Bool) where
 
   pub filter_among : (xs : List X) (x : X) → Among (filter p xs) x → Among xs x × (p x ≡ true)
   filter_among [] x a = absurd a
-  filter_among (y ∷ ys) x =
+  filter_among (y ∷ ys) x a =
+      let rest = λ (b : Among (filter p ys) x). filter_among ys x b in
       cond_both (p y) (y ∷ filter p ys) (filter p ys) (λ zs. Among zs x → Among (y ∷ ys) x × (p x ≡ true))
-      (λ passes a. first passes a)
-      (λ _ a. let r = filter_among ys x a in (inr r.0, r.1))
+      (λ passes b. first ys y x passes rest b)
+      (λ _ b. let r = rest b in (inr r.0, r.1)) a
     where
-      first : p y ≡ true → Among (y ∷ filter p ys) x → Among (y ∷ ys) x × (p x ≡ true)
-      first passes (inl e) = (inl e, ap p (sym e) ∙ passes)
-      first passes (inr a) = let r = filter_among ys x a in (inr r.0, r.1)
+      first : (ys : List X) (y x : X) → p y ≡ true → (Among (filter p ys) x → Among ys x × (p x ≡ true))
+          → Among (y ∷ filter p ys) x → Among (y ∷ ys) x × (p x ≡ true)
+      first ys y x passes rest (inl e) = (inl e, ap p (sym e) ∙ passes)
+      first ys y x passes rest (inr a) = let r = rest a in (inr r.0, r.1)
 
 module _ {X Y : Type 0} where
   pub among_map : (f : X → Y) (xs : List X) (x : X) → Among xs x → Among (map f xs) (f x)

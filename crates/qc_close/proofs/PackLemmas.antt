@@ -16,7 +16,7 @@ use Rattle.qc_model.specs.Nodes.{Agrees, assigned, least, reaches}
 use Rattle.qc_model.specs.Rules.{Feasible, crane_of, end_of, ends, start_of, starts}
 use Rattle.qc_model.specs.Ticks.{task_distance, travel_between}
 use Rattle.qc_model.proofs.Bays.{bays}
-use Rattle.qc_model.proofs.NodeLemmas.{T_true, assigned_is, ends_by, if_some, start_at, true_T, within_reach}
+use Rattle.qc_model.proofs.NodeLemmas.{T_true, assigned_is, ends_by, if_some, start_at}
 use Rattle.qc_close.specs.Assignments.{Follows, cranes_of, crane_in, cranes_by, cranes_for, place}
 use Rattle.qc_close.specs.Packs.{all_clash, all_differ, clash, is_doable, is_packed, may_lie, pack, places, span, stretches}
 use Rattle.qc_close.proofs.Members.{Among, all_at, all_from, among_filter, among_flat, among_map, among_range, any_from, first_of, least_at}
@@ -153,7 +153,7 @@ module _ (inst : InstanceView) (sched : List Slot) (f : Feasible inst sched) (cr
       by None same =
           among_filter (reaches inst j) (range_with_len 0 (length inst.cranes)) (crane_of sched j)
           (among_range (crane_of sched j) 0 (length inst.cranes) (omega arith) (omega (arith, f.crane_range j low)))
-          (within_reach inst sched j (f.reach j low))
+          (let r = f.reach j low in and_from _ _ (T_true r.0.le) (T_true r.1.le))
 
   too_near : (i j : ℕ) → i < length inst.tasks → j < length inst.tasks → clash inst cranes i j ≡ true
       → (crane_of sched i ≡ crane_of sched j) ⊎ (0 < task_distance inst i (crane_of sched i) j (crane_of sched j))

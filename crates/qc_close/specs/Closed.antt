@@ -1,6 +1,7 @@
 -- public: when an assignment is closed at an end: no schedule that keeps it ends earlier, since too few cranes can come
 -- to where tasks have no crane yet, and work there, by then.
-use Rattle.std.specs.Prelude.{◌≡◌, ℕ, zero, suc, ◌+◌, ◌-◌, ◌*◌, ◌/◌, ◌<◌, ◌≤◌, ◌∣◌, max, ℤ, pos, Bool, true, ◌&&◌, ◌==◌, nat_lt, ◌⊎◌, List, [], ◌∷◌, map, filter, length, slice_index, sum, sum_by, is_none}
+use Rattle.std.specs.Prelude.{◌≡◌, ℕ, zero, suc, ◌+◌, ◌-◌, ◌*◌, ◌/◌, ◌<◌, ◌≤◌, max, ℤ, pos, Bool, true, ◌&&◌, ◌==◌, nat_lt, ◌⊎◌, List, [], ◌∷◌, map, filter, length, slice_index, sum, sum_by, is_none, Option}
+use Prim.Native.Nat.{◌∣◌}
 use Rattle.std.specs.List.{range_with_len}
 use Rattle.qc_model.specs.Bays.{at_least_zero, bays_up}
 use Rattle.qc_model.specs.Instance.{InstanceView, bay_of, crane, ticks_of}

@@ -1,5 +1,5 @@
 -- public: frames: what of each crane's time is spent on the tasks that it has, whatever else comes.
-use Rattle.std.specs.Prelude.{ℕ, ◌+◌, ◌*◌, min, ℤ, Bool, true, false, ◌==◌, List, [], ◌∷◌, filter}
+use Rattle.std.specs.Prelude.{ℕ, ◌+◌, ◌*◌, min, ℤ, Bool, true, false, ◌==◌, List, [], ◌∷◌, filter, Option}
 use Rattle.std.specs.Int.{int_max, int_min}
 use Rattle.std.specs.Option.{option_map_or}
 use Rattle.qc_model.specs.Bays.{bays_between, bays_up}
@@ -19,7 +19,7 @@ pub record Frame : Type 0 where
 
 -- the tasks that crane w has
 abbrev pub own : InstanceView → List (Option ℕ) → ℕ → List ℕ
-own inst cranes w = filter (λ j. option_map_or (λ k. k == w) false (crane_in cranes j)) (task_numbers inst)
+own inst cranes w = filter (λ j. option_map_or (λ k. k == w) (crane_in cranes j) false) (task_numbers inst)
 
 -- the bays that a crane at bay b goes to come to bays low and high: down to low and from there up, or to whichever is
 -- nearer first
