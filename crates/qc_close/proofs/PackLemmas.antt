@@ -41,7 +41,7 @@ module _ (inst : InstanceView) (i v j w : ℕ) where
       cond-false (nat_lt v w) _ _ (le-ltb v w (omega arith)) ∙ cond-true (nat_lt w v) _ _ (lt-ltb w v high) in
       ap (λ n. inst.travel * n) (bays_are ∙ place_gap inst.gap w v (bay_of inst j) (bay_of inst i) (omega arith))
 
-some_bays : (t n : ℕ) → 0 < t * n → 0 < n
+pub some_bays : (t n : ℕ) → 0 < t * n → 0 < n
 some_bays t zero h = absurd (omega (arith, mul-zero t))
 some_bays t (suc n) h = omega arith
 
@@ -113,7 +113,7 @@ module _ (inst : InstanceView) (sched : List Slot) (f : Feasible inst sched) whe
       too_near other (inl same) = absurd (other same)
       too_near other (inr far) = far
 
-  ends_in : (j : ℕ) → j < length inst.tasks → starts_at j + lasts j ≤ ends inst sched
+  pub ends_in : (j : ℕ) → j < length inst.tasks → starts_at j + lasts j ≤ ends inst sched
   ends_in j low =
       let count = length-map sched (λ slot. slot.start) ∙ f.all_tasks in
       omega (arith, start_at sched j, ends_by inst.tasks (starts sched) j count low)

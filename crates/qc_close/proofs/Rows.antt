@@ -131,3 +131,12 @@ module _ (place : ℕ → ℤ) where
         let rest = row_fits (start j + long j) (place j) js (ends j (inl refl)) row.1 (λ k a. ends k (inr a)) in
         let parts = mul-add travel (bays_between x (place j)) (way (place j) js) in
         omega (arith, sum_by-cons long j js, parts, rest, row.0)
+
+    -- each starts no earlier than the first of them could
+    pub row_after : (at : ℕ) (x : ℤ) (js : List ℕ) → Row start long apart (λ k. at + travel * bays_between x (place k)) js
+        → (k : ℕ) → Among js k → at ≤ start k
+    row_after at x [] row k a = absurd a
+    row_after at x (j ∷ js) row k (inl e) = omega (arith, row.0, ap start e)
+    row_after at x (j ∷ js) row k (inr a) =
+        let later = row_after (start j + long j) (place j) js row.1 k a in
+        omega (arith, later, row.0)

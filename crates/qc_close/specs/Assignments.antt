@@ -15,6 +15,10 @@ crane_in cranes j = slice_index_or cranes j None
 abbrev pub no_cranes : InstanceView → List (Option ℕ)
 no_cranes inst = replicate (length inst.tasks) None
 
+-- all cranes in the list are those of the instance
+abbrev pub AreInRange : InstanceView → List (Option ℕ) → Type 0
+AreInRange inst cranes = (j k : ℕ) → crane_in cranes j ≡ Some k → k < length inst.cranes
+
 -- what decisions say of cranes
 abbrev pub cranes_of : InstanceView → List Decision → List (Option ℕ)
 cranes_of inst ds = map (assigned ds) (task_numbers inst)

@@ -1,8 +1,8 @@
 -- inner: the fields of a crew, as clauses see them and as they are kept.
-use Rattle.std.specs.Prelude.{◌≡◌, ℕ, ◌<◌, length, Some}
+use Rattle.std.specs.Prelude.{◌≡◌, length}
 use Rattle.qc_model.specs.Instance.{Valid}
 use Rattle.qc_close.specs.declared.crew.Crew.TheInside.{Inside}
-use Rattle.qc_close.specs.Assignments.{crane_in}
+use Rattle.qc_close.specs.Assignments.{AreInRange}
 use Rattle.qc_close.specs.Crews.{CrewView}
 
 abbrev pub view_of : Inside → CrewView
@@ -11,4 +11,4 @@ view_of f = record { inst = f.inst; turn = f.turn; cranes = f.cranes.items }
 pub record IsKept (f : Inside) : Type 0 where
   pub valid : Valid f.inst
   pub count : length f.cranes.items ≡ length f.inst.tasks
-  pub range : (j k : ℕ) → crane_in f.cranes.items j ≡ Some k → k < length f.inst.cranes
+  pub range : AreInRange f.inst f.cranes.items

@@ -4,3 +4,4 @@ pub mod Frames
 pub mod Closed
 pub mod Crews
 pub mod CrewFields
+pub mod Bands

@@ -2,7 +2,7 @@
 
 ghost use Rattle.std.specs.Prelude.{◌≡◌, ◌<◌, None, Some, IfOk, IsSome, length, slice_set};
 ghost use Rattle.qc_model.specs.Instance.{Valid};
-ghost use Rattle.qc_close.specs.Assignments.{crane_in, no_cranes};
+ghost use Rattle.qc_close.specs.Assignments.{AreInRange, crane_in, no_cranes};
 ghost use Rattle.qc_close.specs.Crews.{CrewView};
 ghost use Rattle.qc_close.specs.CrewFields.{view_of, IsKept};
 
@@ -51,6 +51,7 @@ impl Crew {
     pub fn instance(&self) -> &Instance
         ensures same { result.now ≡ self.now.inst }
         ensures valid { Valid self.now.inst }
+        ensures range { AreInRange self.now.inst self.now.cranes }
     {
         &self.inst
     }
