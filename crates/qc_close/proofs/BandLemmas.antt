@@ -39,18 +39,20 @@ module _ (inst : InstanceView) (cranes : List (Option ℕ)) (tasks : List ℕ) (
     high = one_more n b.high before.high;
     within =
         before_more _ n before.within (λ t. absurd (false≢true (sym fails ∙ t)));
+    near = before.near;
   }
 
   pub band_takes : (n : ℕ) (o : Option Band) (x : ℤ) → IsBandOf inst cranes tasks v n o
       → may inst cranes (get_or tasks n 0) v ≡ true → place inst (get_or tasks n 0) v ≡ x
-      → IsBand inst cranes tasks v (n + 1) (widened o x)
-  band_takes n None x before t at = record {
+      → IsPlace x → IsBand inst cranes tasks v (n + 1) (widened o x)
+  band_takes n None x before t at near = record {
     low = record { index = n; before = omega arith; may = t; place = at };
     high = record { index = n; before = omega arith; may = t; place = at };
     within = before_more _ n (λ i low u. absurd (false≢true (sym (before i low) ∙ u)))
         (λ u. (omega (arith, ints, at), omega (arith, ints, at)));
+    near = (near, near);
   }
-  band_takes n (Some b) x before t at = record {
+  band_takes n (Some b) x before t at near = record {
     low = by_lt_z {P = IsOne inst cranes tasks v (n + 1) (int_min x b.low)} b.low x
         (λ less. subst (IsOne inst cranes tasks v (n + 1)) (low_is less) (one_more n b.low before.low))
         (λ over. record { index = n; before = omega arith; may = t; place = at ∙ low_here over });
@@ -60,6 +62,12 @@ module _ (inst : InstanceView) (cranes : List (Option ℕ)) (tasks : List ℕ) (
     within = before_more _ n
         (λ i low u. let w = before.within i low u in (omega (arith, ints, clamps, w.0), omega (arith, ints, clamps, w.1)))
         (λ u. (omega (arith, ints, clamps, at), omega (arith, ints, clamps, at)));
+    near =
+        let was = before.near in
+        (
+          (omega (arith, ints, clamps, near.0, was.0), omega (arith, ints, clamps, near.1, was.0)),
+          (omega (arith, ints, clamps, near.0, was.1), omega (arith, ints, clamps, near.1, was.1)),
+        );
   }
     where
       low_is : b.low <ℤ x → b.low ≡ int_min x b.low
@@ -190,7 +198,7 @@ module _ (inst : InstanceView) (cranes : List (Option ℕ)) where
         )
   ]
 
-  abbrev IsNearestOf : ℕ → ℤ → ℕ → Option ℤ → Type 0
+  abbrev pub IsNearestOf : ℕ → ℤ → ℕ → Option ℤ → Type 0
   IsNearestOf n low j o =
       MatchOption o ((high : ℤ) → ¬ Lies inst cranes n low high j) (IsNearest inst cranes n low j)
 
@@ -362,3 +370,63 @@ module _ (inst : InstanceView) (cranes : List (Option ℕ)) where
     pub found_later : (a b : Option ℕ) (low : ℤ) → IsFinding inst cranes tasks a b → IsFoundFrom inst cranes tasks a low
         → IsFoundFrom inst cranes tasks b low
     found_later a b low f found high up lie = f.kept (bays_up low high) (found high up lie)
+
+-- ---- the same as the code comes to it, where a signed number is read back
+
+test_moved : (o : Option ℤ) (y z : ℤ) (b : Bool) → option_map_or (λ x. int_le x y) o false ≡ b → y ≡ z
+    → option_map_or (λ x. int_le x z) o false ≡ b
+test_moved o y z b h e = sym (ap (λ y. option_map_or (λ x. int_le x y) o false) e) ∙ h
+
+-- a stand of the bands: the floor so far, and that those so far are stacked
+module _ (inst : InstanceView) (cranes : List (Option ℕ)) (tasks : List ℕ) (w : ℕ) (o : Option ℤ)
+    (below : IsFloorOf inst cranes tasks w o) (so_far : AreStacked inst cranes tasks w) where
+  pub record AreStackedTo (r : Option ℤ) : Type 0 where
+    pub floor : IsFloorOf inst cranes tasks (w + 1) r
+    pub stacked : AreStacked inst cranes tasks (w + 1)
+
+  pub stand_skips : (r : Option ℤ) → r ≡ o → HasNone inst cranes tasks w (length tasks) → AreStackedTo r
+  stand_skips r e none = subst AreStackedTo (sym e) (record {
+    floor = floor_skips inst cranes tasks w o below none;
+    stacked = stacked_skips inst cranes tasks w so_far none;
+  })
+
+  pub stand_takes : (b : Band) → IsBand inst cranes tasks w (length tasks) b → (r : Option ℤ) (y z : ℤ) → r ≡ Some z
+      → option_map_or (λ x. int_le x y) o false ≡ false → y ≡ b.high → z ≡ b.low → AreStackedTo r
+  stand_takes b band r y z e under high low =
+      let fails = test_moved o y b.high false under high in
+      subst AreStackedTo (sym (e ∙ ap Some low)) (record {
+        floor = floor_takes inst cranes tasks w b band o below fails;
+        stacked = stacked_takes inst cranes tasks w b band o so_far below fails;
+      })
+
+  pub not_stacked_at : (b : Band) → IsBand inst cranes tasks w (length tasks) b → (n : ℕ) → w < n → (y : ℤ)
+      → option_map_or (λ x. int_le x y) o false ≡ true → y ≡ b.high → ¬ AreStacked inst cranes tasks n
+  not_stacked_at b band n low y over high =
+      not_stacked inst cranes tasks w b band o n low below (test_moved o y b.high true over high)
+
+module _ (inst : InstanceView) (cranes : List (Option ℕ)) (n : ℕ) (low : ℤ) (j : ℕ) (o : Option ℤ)
+    (before : IsNearestOf inst cranes n low j o) where
+  pub nearest_step : (x : ℤ) → may inst cranes j n ≡ true → x ≡ place inst j n → IsPlace x → (r : Option ℤ) (y z : ℤ)
+      → r ≡ nearer o y z → y ≡ low → z ≡ x → IsNearestOf inst cranes (n + 1) low j r
+  nearest_step x t at near r y z e is_low is_x =
+      subst (IsNearestOf inst cranes (n + 1) low j)
+      (sym (e ∙ ap (λ y. nearer o y z) is_low ∙ ap (nearer o low) is_x))
+      (nearest_takes inst cranes n low j o x before t (sym at) near)
+
+  pub nearest_stays : (r : Option ℤ) → r ≡ o → may inst cranes j n ≡ false → IsNearestOf inst cranes (n + 1) low j r
+  nearest_stays r e fails =
+      subst (IsNearestOf inst cranes (n + 1) low j) (sym e)
+      (nearest_skips inst cranes n low j o before (λ t. absurd (false≢true (sym fails ∙ t))))
+
+pub nearest_at : (inst : InstanceView) (cranes : List (Option ℕ)) (n k : ℕ) (low y : ℤ) (j : ℕ) (o : Option ℤ)
+    → IsNearestOf inst cranes n y j o → n ≡ k → y ≡ low → IsNearestOf inst cranes k low j o
+nearest_at inst cranes n k low y j o h e is =
+    subst (λ (n : ℕ). IsNearestOf inst cranes n low j o) e (subst (λ (y : ℤ). IsNearestOf inst cranes n y j o) is h)
+
+pub reach_at : (inst : InstanceView) (cranes : List (Option ℕ)) (tasks : List ℕ) (n : ℕ) (low high x y z : ℤ)
+    → IsReach inst cranes tasks n low high → IsNearest inst cranes (length inst.cranes) y (get_or tasks n 0) x → y ≡ low
+    → z ≡ int_max high x → IsReach inst cranes tasks (n + 1) low z
+reach_at inst cranes tasks n low high x y z before one is e =
+    subst (IsReach inst cranes tasks (n + 1) low) (sym e)
+    (reach_more inst cranes tasks n low high x before
+    (subst (λ (y : ℤ). IsNearest inst cranes (length inst.cranes) y (get_or tasks n 0) x) is one))

@@ -1,26 +1,28 @@
 -- No schedule that follows an assignment ends before an end at which it is closed.
 use Rattle.std.proofs.Common.{◌≡◌, ℕ, zero, suc, ◌+◌, ◌-◌, ◌*◌, ◌/◌, ◌<◌, ◌≤◌, ◌⊎◌, inl, inr, Bool, true, false, ◌&&◌, eqb, leb, cond, List, [], ◌∷◌, length, get_or, map, replicate, Option, None, Some, ℤ, pos, ◌≤ℤ◌, refl, ap, sym, subst, ◌∙◌, arith, filter, is_none, nat_le, nat_lt, sum, sum_by, count_by, slice_index}
 use Prim.Native.Nat.{◌∣◌}
-use Rattle.std.proofs.Math.Nat.{mul-add, mul-le-mul_left, mul-zero}
-use Rattle.std.proofs.lemmas.Bool.{and_from, and_parts, cases_Bool, cases_lt, cond_both, eq-eqb, eqb-true, false≢true, le-leb, leb-true, lt-ltb, ltb-false, ltb-true}
+use Rattle.std.proofs.Math.Nat.{dvd-add, dvd-mul_right_of_dvd, dvd-zero, pos_of_dvd_of_pos, le-div_iff_mul-le, mul-add, mul-div_cancel', mul-le-mul_left, mul-zero, mul_comm}
+use Rattle.std.proofs.lemmas.Bool.{and_from, and_parts, cases_Bool, cases_lt, cond_both, eq-eqb, eqb-true, false≢true, le-leb, le-ltb, leb-true, lt-ltb, ltb-false, ltb-true}
 use Rattle.std.proofs.lemmas.Int.{ints}
-use Rattle.std.proofs.lemmas.List.{get_or-replicate}
+use Rattle.std.proofs.lemmas.List.{get_or_past}
+use Rattle.std.specs.Option.{option_map_or}
 use Rattle.std.proofs.lemmas.List.FromFn.{length-range_with_len}
 use Rattle.std.proofs.lemmas.List.Sums.{count_by-le-length, sum-map, sum_by-cons}
 use Rattle.std.specs.List.{range_with_len}
 use Rattle.qc_dist.proofs.Ranges.{sum_more}
 use Rattle.qc_model.specs.declared.schedule.Slot.{Slot}
 use Rattle.qc_model.specs.Bays.{at_least_zero, bays_up}
-use Rattle.qc_model.specs.Instance.{InstanceView, Valid, bay_of, ticks_of}
+use Rattle.qc_model.specs.Instance.{InstanceView, Valid, bay_of, crane, no_crane, ticks_of}
 use Rattle.qc_model.specs.Leaves.{crane_numbers, task_numbers}
 use Rattle.qc_model.specs.Rules.{crane_of, ends}
 use Rattle.qc_model.proofs.Bays.{bays}
 use Rattle.qc_close.specs.declared.turn.Turn.{Turn}
-use Rattle.qc_close.specs.Assignments.{Follows, crane_in}
-use Rattle.qc_close.specs.Closed.{IsShort, Serves, Try, bay, by_crane, down, fewest, from_on, left_at, left_bays, lift, load, most, rise, room, sink, up, up_to, work_at}
-use Rattle.qc_close.specs.Frames.{Frame, GoesBy, frame}
+use Rattle.qc_close.specs.Assignments.{Follows, crane_in, no_cranes}
+use Rattle.qc_close.specs.Closed.{IsClosed, IsGrain, IsShort, last_before, Serves, Try, bay, by_crane, down, fewest, from_on, left_at, left_bays, lift, load, most, rise, room, sink, up, up_to, work_at}
+use Rattle.qc_close.specs.Frames.{Frame, GoesBy, frame, frame_of, own}
 use Rattle.qc_close.proofs.CountLemmas.{fewest_le, passing, passing_le, shared, sum_le, times_sum}
 use Rattle.qc_close.proofs.FrameLemmas.{HasTime, at_bay, bay_at, beside, does_open, feasible_by, has_time, some_term, sum_filter, sums_within}
+use Rattle.qc_close.proofs.LoopLemmas.{least_steps}
 use Rattle.qc_close.proofs.Members.{Among, among_filter, among_range, filter_among, range_among}
 
 -- ---- a list in rising order
@@ -375,3 +377,259 @@ module _ (inst : InstanceView) (turn : Turn) (cranes : List (Option ℕ)) (sched
         let both = sums_within (under (x i)) (here (x (i + 1))) (under (x (i + 1))) ws (λ w _. under_next (x i) (x (i + 1)) w less) in
         subst (λ (k : ℕ). sum_by (λ k. work_at inst cranes (x k)) (range_with_len 0 (k + 1)) ≤ sum_by (under (x k)) ws) e
         (omega (arith, rest, both, work_shared (x (i + 1)), sum_more (λ k. work_at inst cranes (x k)) (i + 1)))
+
+  -- ---- where the tick leaves each crane the time that it needs, these numbers serve
+
+  module _ (tick : ℕ) (done : (w : ℕ) → (fr w).works ≡ true → (fr w).gone ≤ tick)
+      (fits : (w : ℕ) → 0 < all_ticks w → (fr w).gone + all_ticks w + inst.travel * (far w + deep w) ≤ tick) where
+    abbrev t : Try
+    t = tried tick
+
+    -- so many ticks are left to crane w once it has gone so many bays
+    abbrev left : ℕ → ℕ → ℕ
+    left way w = tick - (fr w).gone - inst.travel * way
+
+    -- a part of what it goes, and the rest
+    part_of : (part whole : ℕ) → part ≤ whole → inst.travel * whole ≡ inst.travel * part + inst.travel * (whole - part)
+    part_of part whole le =
+        let e : whole ≡ part + (whole - part) = omega arith in
+        ap (λ n. inst.travel * n) e ∙ mul-add inst.travel part (whole - part)
+
+    over_fits : (i w : ℕ) → over (x i) w + inst.travel * cond (nat_lt 0 (over (x i) w)) (ahead i w) 0
+        ≤ cond (nat_lt 0 (over (x i) w)) (left (up (fr w) (x i)) w) 0
+    over_fits i w = elim (cases_lt 0 (over (x i) w)) [
+      | inl some ↦
+          let yes_is = lt-ltb 0 (over (x i) w) some in
+          let near = comes_up (x i) w some in
+          let one = ap (λ b. cond b (left (up (fr w) (x i)) w) 0) yes_is in
+          let two = ap (λ b. inst.travel * cond b (ahead i w) 0) yes_is in
+          let part = part_le (λ j. leb (x i) (at j)) w in
+          let all = fits w (omega (arith, some, part)) in
+          omega (arith, one, two, part, all, part_of (up (fr w) (x i)) (far w) near, mul-add inst.travel (far w) (deep w))
+      | inr none ↦
+          let no_is = le-ltb 0 (over (x i) w) none in
+          let one = ap (λ b. cond b (left (up (fr w) (x i)) w) 0) no_is in
+          let two = ap (λ b. inst.travel * cond b (ahead i w) 0) no_is in
+          omega (arith, one, two, none, mul-zero inst.travel)
+    ]
+
+    under_fits : (i w : ℕ) → under (x i) w + inst.travel * cond (nat_lt 0 (under (x i) w)) (below i w) 0
+        ≤ cond (nat_lt 0 (under (x i) w)) (left (down (fr w) (x i)) w) 0
+    under_fits i w = elim (cases_lt 0 (under (x i) w)) [
+      | inl some ↦
+          let yes_is = lt-ltb 0 (under (x i) w) some in
+          let near = comes_down (x i) w some in
+          let one = ap (λ b. cond b (left (down (fr w) (x i)) w) 0) yes_is in
+          let two = ap (λ b. inst.travel * cond b (below i w) 0) yes_is in
+          let part = part_le (λ j. leb (at j) (x i)) w in
+          let all = fits w (omega (arith, some, part)) in
+          omega (arith, one, two, part, all, part_of (down (fr w) (x i)) (deep w) near, mul-add inst.travel (far w) (deep w))
+      | inr none ↦
+          let no_is = le-ltb 0 (under (x i) w) none in
+          let one = ap (λ b. cond b (left (down (fr w) (x i)) w) 0) no_is in
+          let two = ap (λ b. inst.travel * cond b (below i w) 0) no_is in
+          omega (arith, one, two, none, mul-zero inst.travel)
+    ]
+
+    from_above : (i : ℕ) → i < length xs → load t n i ≤ most (n i) (by_crane t (room t (λ f. up f (bay t i))))
+    from_above i low =
+        let k = length xs - suc i in
+        let count : i + suc k ≡ length xs = omega arith in
+        let first : length xs - i ≡ suc k = omega arith in
+        let next : length xs - (i + 1) ≡ k = omega arith in
+        let works = works_over tick k i count in
+        let ways = rises_le tick k i count in
+        let times = times_sum inst.travel (λ w. cond (nat_lt 0 (over (x i) w)) (ahead i w) 0) ws in
+        let both =
+        sums_within (over (x i)) (λ w. inst.travel * cond (nat_lt 0 (over (x i) w)) (ahead i w) 0)
+        (λ w. cond (nat_lt 0 (over (x i) w)) (left (up (fr w) (x i)) w) 0) ws (λ w _. over_fits i w) in
+        let greatest = passing_le (λ w. left (up (fr w) (x i)) w) (λ w. nat_lt 0 (over (x i) w)) ws in
+        let one = ap (λ c. sum_by (λ k. work_at inst cranes (x k)) (range_with_len i c)) first in
+        let two = ap (λ c. inst.travel * sum_by (rise t n) (range_with_len (i + 1) c)) next in
+        omega (arith, one, two, works, mul-le-mul_left inst.travel ways, times, both, greatest)
+
+    from_below : (i : ℕ) → i < length xs → lift t m i ≤ most (m i) (by_crane t (room t (λ f. down f (bay t i))))
+    from_below i low =
+        let works = works_under tick i low in
+        let ways = sinks_le tick i low in
+        let times = times_sum inst.travel (λ w. cond (nat_lt 0 (under (x i) w)) (below i w) 0) ws in
+        let both =
+        sums_within (under (x i)) (λ w. inst.travel * cond (nat_lt 0 (under (x i) w)) (below i w) 0)
+        (λ w. cond (nat_lt 0 (under (x i) w)) (left (down (fr w) (x i)) w) 0) ws (λ w _. under_fits i w) in
+        let greatest = passing_le (λ w. left (down (fr w) (x i)) w) (λ w. nat_lt 0 (under (x i) w)) ws in
+        omega (arith, works, mul-le-mul_left inst.travel ways, times, both, greatest)
+
+    all_fit : (last w : ℕ) → length xs ≡ suc last
+        → all_ticks w
+        + inst.travel * (cond (nat_lt 0 (over (x 0) w)) (ahead 0 w) 0 + cond (nat_lt 0 (under (x last) w)) (below last w) 0)
+        ≤ left (up (fr w) (x 0) + down (fr w) (x last)) w
+    all_fit last w count = elim (cases_lt 0 (all_ticks w)) [
+      | inl some ↦
+          let over_all : 0 < over (x 0) w = omega (arith, some, all_over w) in
+          let under_all : 0 < under (x last) w = omega (arith, some, all_under w last count) in
+          let one = ap (λ b. cond b (ahead 0 w) 0) (lt-ltb 0 (over (x 0) w) over_all) in
+          let two = ap (λ b. cond b (below last w) 0) (lt-ltb 0 (under (x last) w) under_all) in
+          let goes_up = part_of (up (fr w) (x 0)) (far w) (comes_up (x 0) w over_all) in
+          let goes_down = part_of (down (fr w) (x last)) (deep w) (comes_down (x last) w under_all) in
+          let whole = mul-add inst.travel (far w) (deep w) in
+          let parts = mul-add inst.travel (up (fr w) (x 0)) (down (fr w) (x last)) in
+          let beyond = mul-add inst.travel (ahead 0 w) (below last w) in
+          let is =
+          ap (λ n. inst.travel * n)
+          (ap (λ a. a + cond (nat_lt 0 (under (x last) w)) (below last w) 0) one ∙ ap (λ b. ahead 0 w + b) two) in
+          omega (arith, fits w some, goes_up, goes_down, whole, parts, beyond, is)
+      | inr none ↦
+          let over_none = le-ltb 0 (over (x 0) w) (omega (arith, none, part_le (λ j. leb (x 0) (at j)) w)) in
+          let under_none = le-ltb 0 (under (x last) w) (omega (arith, none, part_le (λ j. leb (at j) (x last)) w)) in
+          let is =
+          ap (λ n. inst.travel * n)
+          (ap (λ b. cond b (ahead 0 w) 0 + cond (nat_lt 0 (under (x last) w)) (below last w) 0) over_none
+          ∙ ap (λ b. 0 + cond b (below last w) 0) under_none) in
+          omega (arith, none, is, mul-zero inst.travel)
+    ]
+
+    together : (last : ℕ) → length xs ≡ suc last
+        → sum_by (λ k. work_at inst cranes (x k)) (range_with_len 0 (suc last))
+        + inst.travel * (sum_by (rise t n) (range_with_len 1 last) + sum_by (sink t m) (range_with_len 0 last))
+        ≤ sum (by_crane t (room t (λ f. up f (bay t 0) + down f (bay t last))))
+    together last count =
+        let works = works_over tick last 0 (omega (arith, count)) in
+        let all = sum_le (over (x 0)) all_ticks ws (λ w _. part_le (λ j. leb (x 0) (at j)) w) in
+        let ways_up = rises_le tick last 0 (omega (arith, count)) in
+        let ways_down = sinks_le tick last (omega (arith, count)) in
+        let a = λ (w : ℕ). cond (nat_lt 0 (over (x 0) w)) (ahead 0 w) 0 in
+        let b = λ (w : ℕ). cond (nat_lt 0 (under (x last) w)) (below last w) 0 in
+        let sides = sums_within a b (λ w. a w + b w) ws (λ w _. omega arith) in
+        let times = times_sum inst.travel (λ w. a w + b w) ws in
+        let both =
+        sums_within all_ticks (λ w. inst.travel * (a w + b w)) (λ w. left (up (fr w) (x 0) + down (fr w) (x last)) w) ws
+        (λ w _. all_fit last w count) in
+        let ways : sum_by (rise t n) (range_with_len 1 last) + sum_by (sink t m) (range_with_len 0 last) ≤ sum_by (λ w. a w + b w) ws = omega (arith, ways_up, ways_down, sides) in
+        let is = sum-map (λ w. left (up (fr w) (x 0) + down (fr w) (x last)) w) ws in
+        omega (arith, works, all, mul-le-mul_left inst.travel ways, times, both, is)
+
+    few : (p : ℕ → Bool) → count_by p ws ≤ length inst.cranes
+    few p = omega (arith, count_by-le-length p ws, length-range_with_len 0 (length inst.cranes))
+
+    serve : 0 < length xs → Serves t n m
+    serve some = record {
+      few = λ i low. (few (λ w. nat_lt 0 (over (x i) w)), few (λ w. nat_lt 0 (under (x i) w)));
+      from_above = from_above;
+      from_below = from_below;
+      together =
+          let last = length xs - 1 in
+          let count : length xs ≡ suc last = omega arith in
+          let all = together last count in
+          let whole : length xs - 0 ≡ suc last = omega arith in
+          let one = ap (λ c. sum_by (λ k. work_at inst cranes (x k)) (range_with_len 0 c)) whole in
+          omega (arith, one, all);
+    }
+
+    -- so not too little time is left
+    pub not_short : ¬ IsShort t
+    not_short (inl late) = let is = late.1 in omega (arith, is.late, done late.0 is.works)
+    not_short (inr none) = none.1 n m (serve none.0)
+
+-- ---- multiples of the grain
+
+multiple_to : (g n x : ℕ) → 0 < g → g ∣ x → x ≤ n → x ≤ n / g * g
+multiple_to g n x some divides low =
+    let parts : g * (x / g) ≡ x = mul-div_cancel' g divides in
+    let swapped = mul_comm (x / g) g in
+    let fewer : x / g ≤ n / g = (le-div_iff_mul-le some).1 (omega (arith, parts, swapped)) in
+    omega (arith, parts, mul-le-mul_left g fewer, mul_comm (n / g) g)
+
+dvd_sum : (g : ℕ) (f : ℕ → ℕ) (xs : List ℕ) → ((x : ℕ) → Among xs x → g ∣ f x) → g ∣ sum_by f xs
+dvd_sum g f [] h = dvd-zero g
+dvd_sum g f (x ∷ xs) h =
+    subst (λ (n : ℕ). g ∣ n) (sym (sum_by-cons f x xs)) (dvd-add g (h x (inl refl)) (dvd_sum g f xs (λ y a. h y (inr a))))
+
+module _ (inst : InstanceView) (g : ℕ) (grain : IsGrain inst g) where
+  dvd_ready : (w : ℕ) → g ∣ (crane inst w).ready
+  dvd_ready w = elim (cases_lt w (length inst.cranes)) [
+    | inl low ↦ grain.ready w low
+    | inr high ↦ subst (λ c. g ∣ c.ready) (sym (get_or_past inst.cranes w no_crane high)) (dvd-zero g)
+  ]
+
+  dvd_gone : (turn : Turn) (w : ℕ) (os : List ℕ) → ((j : ℕ) → Among os j → j < length inst.tasks)
+      → g ∣ (frame_of inst turn w os).gone
+  dvd_gone turn w [] range = dvd_ready w
+  dvd_gone turn w (j ∷ js) range =
+      dvd-add g (dvd-add g (dvd_ready w) (dvd_sum g (ticks_of inst) (j ∷ js) (λ k a. grain.tasks k (range k a))))
+      (dvd-mul_right_of_dvd g grain.travel _)
+
+  dvd_cond : (b : Bool) (n : ℕ) → g ∣ n → g ∣ cond b n 0
+  dvd_cond true n d = d
+  dvd_cond false n d = dvd-zero g
+
+module _ (inst : InstanceView) (turn : Turn) (cranes : List (Option ℕ)) (sched : List Slot) (valid : Valid inst)
+    (goes : GoesBy turn inst sched) (follows : Follows inst cranes sched) (g : ℕ) (grain : IsGrain inst g)
+    (travel : 1 ≤ inst.travel) (end : ℕ) (early : ends inst sched < end) where
+  abbrev tick : ℕ
+  tick = last_before g end
+
+  abbrev work : ℕ → ℕ
+  work w = beside inst turn cranes sched valid goes follows w
+
+  abbrev has : (w : ℕ) → HasTime inst turn cranes sched valid goes follows w (frame inst turn cranes w)
+  has w = has_time inst turn cranes sched valid goes follows w
+
+  -- what is a multiple and over when the schedule ends is so by the tick
+  by_tick : (n : ℕ) → g ∣ n → n ≤ ends inst sched → n ≤ tick
+  by_tick n divides low = multiple_to g (end - 1) n (pos_of_dvd_of_pos grain.travel travel) divides (omega (arith, low, early))
+
+  in_range : (w j : ℕ) → Among (own inst cranes w) j → j < length inst.tasks
+  in_range w j a =
+      let r = filter_among (λ j. option_map_or (λ k. eqb k w) (crane_in cranes j) false) (task_numbers inst) j a in
+      omega (arith, (range_among j 0 (length inst.tasks) r.0).1)
+
+  gone_divides : (w : ℕ) → g ∣ (frame inst turn cranes w).gone
+  gone_divides w = dvd_gone inst g grain turn w (own inst cranes w) (in_range w)
+
+  done_by : (w : ℕ) → (frame inst turn cranes w).works ≡ true → (frame inst turn cranes w).gone ≤ tick
+  done_by w works = by_tick (frame inst turn cranes w).gone (gone_divides w) ((has w).done works)
+
+  fits_by : (w : ℕ) → 0 < work w
+      → (frame inst turn cranes w).gone + work w + inst.travel * ((has w).far + (has w).deep) ≤ tick
+  fits_by w some =
+      by_tick ((frame inst turn cranes w).gone + work w + inst.travel * ((has w).far + (has w).deep))
+      (dvd-add g (dvd-add g (gone_divides w) work_divides) (dvd-mul_right_of_dvd g grain.travel ((has w).far + (has w).deep)))
+      ((has w).fits some)
+    where
+      work_divides : g ∣ work w
+      work_divides =
+          dvd_sum g (λ j. cond (does_open inst turn cranes sched valid goes follows w j) (ticks_of inst j) 0) (task_numbers inst)
+          (λ j a. dvd_cond inst g grain (does_open inst turn cranes sched valid goes follows w j) (ticks_of inst j)
+          (grain.tasks j (omega (arith, (range_among j 0 (length inst.tasks) a).1))))
+
+  -- the cranes have the time by the greatest multiple of the grain before an end that comes later
+  long_enough : ¬ IsShort (record { inst = inst; cranes = cranes; frames = frame inst turn cranes; tick = tick })
+  long_enough = not_short inst turn cranes sched valid goes follows tick done_by fits_by
+
+none_there : (n j : ℕ) → crane_in (replicate n None) j ≡ None
+none_there zero j = refl
+none_there (suc n) zero = refl
+none_there (suc n) (suc j) = none_there n j
+
+-- every schedule follows the assignment in which no task has a crane
+bare_follows : (inst : InstanceView) (sched : List Slot) → Follows inst (no_cranes inst) sched
+bare_follows inst sched j k low e = absurd (other (sym (none_there (length inst.tasks) j) ∙ e))
+  where
+    other : None ≡ Some k → ⊥
+    other e = cc
+
+-- an end at which an assignment is closed is at most that of each schedule that follows it and that cranes which turn so
+-- can keep
+pub closed_end_le : (inst : InstanceView) (turn : Turn) (cranes : List (Option ℕ)) (sched : List Slot) → Valid inst
+    → GoesBy turn inst sched → Follows inst cranes sched → (end : ℕ) → IsClosed inst turn cranes end
+    → end ≤ ends inst sched
+closed_end_le inst turn cranes sched valid goes follows end closed = elim (cases_lt (ends inst sched) end) [
+  | inl early ↦
+      let travel = (least_steps inst valid).0 in
+      absurd (elim closed.short [
+        | inl bare ↦
+            long_enough inst turn (no_cranes inst) sched valid goes (bare_follows inst sched) closed.grain closed.is_grain travel end early bare
+        | inr own ↦ long_enough inst turn cranes sched valid goes follows closed.grain closed.is_grain travel end early own
+      ])
+  | inr long ↦ long
+]

@@ -40,6 +40,7 @@ pub record IsBand (inst : InstanceView) (cranes : List (Option ℕ)) (tasks : Li
   pub high : IsOne inst cranes tasks v n b.high
   pub within : (i : ℕ) → i < n → may inst cranes (slice_index tasks i) v ≡ true
       → (b.low ≤ℤ place inst (slice_index tasks i) v) × (place inst (slice_index tasks i) v ≤ℤ b.high)
+  pub near : IsPlace b.low × IsPlace b.high
 
 -- crane v may do none of them
 abbrev pub HasNone : InstanceView → List (Option ℕ) → List ℕ → ℕ → ℕ → Type 0

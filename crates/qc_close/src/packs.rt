@@ -1,6 +1,6 @@
 //! Tasks of which no two can run together.
 
-ghost use Rattle.std.specs.Prelude.{◌≡◌, ◌*◌, ◌<◌, ◌≤◌, ℕ, ℤ, All, IfSome, MatchBool, MatchOption, length, slice_index, true, false, int_le, min};
+ghost use Rattle.std.specs.Prelude.{◌≡◌, ◌==◌, ◌*◌, ◌<◌, ◌≤◌, ℕ, ℤ, drop, All, IfSome, MatchBool, MatchOption, length, slice_index, true, false, int_le, min};
 ghost use Rattle.std.specs.List.{list_all, list_any};
 ghost use Rattle.std.specs.Option.{option_map_or};
 ghost use Rattle.qc_model.specs.declared.limits.TheConstants.{MOST_TASKS, MOST_WORK};
@@ -48,12 +48,27 @@ fn is_as_high(floor: Option<Bay>, place: Bay) -> bool
     }
 }
 
+/// Whether a task is one of these.
+fn is_among(tasks: &[u16], task: u16) -> bool
+    ensures { result ≡ list_any (λ j. j == task) tasks.now }
+{
+    tasks.contains(&task)
+}
+
+/// The tasks behind so many.
+fn behind(tasks: &[u16], count: usize) -> &[u16]
+    requires { count ≤ length tasks.now }
+    ensures { result.now ≡ drop count tasks.now }
+{
+    &tasks[count..]
+}
+
 /// Whether all tasks of a list are different.
 fn all_differ(tasks: &[u16]) -> bool
     ensures { result ≡ all_differ tasks.now }
 {
     for (index, task) in tasks.iter().enumerate() {
-        if tasks[index + 1..].contains(task) {
+        if is_among(behind(tasks, index + 1), *task) {
             return false;
         }
     }

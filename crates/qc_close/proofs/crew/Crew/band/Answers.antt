@@ -1,4 +1,4 @@
-use Rattle.std.proofs.Common.{sym, subst, ◌∙◌, length}
+use Rattle.std.proofs.Common.{◌+◌, sym, subst, ◌∙◌, length}
 use Rattle.qc_close.specs.Bands.{IsBand, IsBandOf}
 use Rattle.qc_close.proofs.BandLemmas.{band_skips, band_takes}
 use Rattle.qc_close.proofs.crew.Crew.band.Goals.{then-may, else-may}
@@ -14,7 +14,7 @@ loop-task-preserved c =
       | then-may w ↦
           let takes =
           band_takes inst cranes tasks c.args.crane n c.loop-task.band w.place.result c.loop-task.invariant
-          (sym c.may.ensures ∙ w.if-may.true) (sym w.place.ensures.place) in
+          (sym c.may.ensures ∙ w.if-may.true) (sym w.place.ensures.place) w.place.ensures.near in
           rw w.band-is (subst (IsBand inst cranes tasks c.args.crane (n + 1)) (sym w.widened.ensures) takes)
       | else-may w ↦
           rw w.band-is
