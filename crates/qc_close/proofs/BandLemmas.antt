@@ -333,7 +333,7 @@ module _ (inst : InstanceView) (cranes : List (Option ℕ)) where
         from a b (Some n) one (inl e) = subst (From a) e one
 
     -- the lesser of what was before and the bays of a stretch
-    abbrev lesser : Option ℕ → ℕ → ℕ
+    abbrev pub lesser : Option ℕ → ℕ → ℕ
     lesser o n = option_map_or (λ m. min m n) o n
 
     pub found_closer : (o : Option ℕ) (low high : ℤ) → IsReach inst cranes tasks (length tasks) low high → IsPlace low
@@ -430,3 +430,55 @@ reach_at inst cranes tasks n low high x y z before one is e =
     subst (IsReach inst cranes tasks (n + 1) low) (sym e)
     (reach_more inst cranes tasks n low high x before
     (subst (λ (y : ℤ). IsNearest inst cranes (length inst.cranes) y (get_or tasks n 0) x) is one))
+
+pub band_step : (inst : InstanceView) (cranes : List (Option ℕ)) (tasks : List ℕ) (v n : ℕ) (o : Option Band) (x : ℤ)
+    → IsBandOf inst cranes tasks v n o → may inst cranes (get_or tasks n 0) v ≡ true → x ≡ place inst (get_or tasks n 0) v
+    → IsPlace x → (r : Band) (y : ℤ) → r ≡ widened o y → y ≡ x → IsBand inst cranes tasks v (n + 1) r
+band_step inst cranes tasks v n o x before t at near r y e is =
+    subst (IsBand inst cranes tasks v (n + 1)) (sym (e ∙ ap (widened o) is)) (band_takes inst cranes tasks v n o x before t (sym at) near)
+
+module _ (inst : InstanceView) (cranes : List (Option ℕ)) (tasks : List ℕ) where
+  pub closer_step : (o : Option ℕ) (low high : ℤ) → IsReach inst cranes tasks (length tasks) low high → IsPlace low
+      → (r n : ℕ) (z : ℤ) → r ≡ lesser inst cranes tasks o n → n ≡ bays_up low z → z ≡ high
+      → IsFinding inst cranes tasks o (Some r)
+  closer_step o low high reach near r n z e is same =
+      subst (λ (m : ℕ). IsFinding inst cranes tasks o (Some m)) (sym (e ∙ ap (lesser inst cranes tasks o) (is ∙ ap (bays_up low) same)))
+      (found_closer inst cranes tasks o low high reach near)
+
+  -- what is found from each place of task j on the first n cranes
+  pub record IsClosest (j n : ℕ) (before o : Option ℕ) : Type 0 where
+    pub finding : IsFinding inst cranes tasks before o
+    pub found : (v : ℕ) → v < n → may inst cranes j v ≡ true → IsFoundFrom inst cranes tasks o (place inst j v)
+
+  pub closest_takes : (j n : ℕ) (before o r : Option ℕ) (y : ℤ) → IsFinding inst cranes tasks before o
+      → ((v : ℕ) → v < n → may inst cranes j v ≡ true → IsFoundFrom inst cranes tasks o (place inst j v))
+      → IsFinding inst cranes tasks o r → IsFoundFrom inst cranes tasks r y → y ≡ place inst j n
+      → IsClosest j (n + 1) before r
+  closest_takes j n before o r y finding found more here at = record {
+    finding = found_through inst cranes tasks before o r finding more;
+    found = before_more (λ v. may inst cranes j v ≡ true → IsFoundFrom inst cranes tasks r (place inst j v)) n
+        (λ v low t. found_later inst cranes tasks o r (place inst j v) more (found v low t))
+        (λ _. subst (IsFoundFrom inst cranes tasks r) at here);
+  }
+
+  pub closest_skips : (j n : ℕ) (before o : Option ℕ) → IsFinding inst cranes tasks before o
+      → ((v : ℕ) → v < n → may inst cranes j v ≡ true → IsFoundFrom inst cranes tasks o (place inst j v))
+      → may inst cranes j n ≡ false → IsClosest j (n + 1) before o
+  closest_skips j n before o finding found fails = record {
+    finding = finding;
+    found = before_more (λ v. may inst cranes j v ≡ true → IsFoundFrom inst cranes tasks o (place inst j v)) n found
+        (λ t. absurd (false≢true (sym fails ∙ t)));
+  }
+
+  pub span_step : (n k : ℕ) (o r : Option ℕ)
+      → ((i v : ℕ) → i < n → v < k → may inst cranes (get_or tasks i 0) v ≡ true
+          → IsFoundFrom inst cranes tasks o (place inst (get_or tasks i 0) v))
+      → IsFinding inst cranes tasks o r
+      → ((v : ℕ) → v < k → may inst cranes (get_or tasks n 0) v ≡ true
+          → IsFoundFrom inst cranes tasks r (place inst (get_or tasks n 0) v))
+      → (i v : ℕ) → i < n + 1 → v < k → may inst cranes (get_or tasks i 0) v ≡ true
+      → IsFoundFrom inst cranes tasks r (place inst (get_or tasks i 0) v)
+  span_step n k o r found more here i v low low_v t =
+      before_more (λ i. may inst cranes (get_or tasks i 0) v ≡ true → IsFoundFrom inst cranes tasks r (place inst (get_or tasks i 0) v)) n
+      (λ i low t. found_later inst cranes tasks o r (place inst (get_or tasks i 0) v) more (found i v low low_v t))
+      (λ t. here v low_v t) i low t

@@ -1,21 +1,23 @@
 -- What is told of packed tasks by where they lie is what their definition says.
-use Rattle.std.proofs.Common.{◌≡◌, ◌≢◌, ℕ, zero, suc, ◌+◌, ◌-◌, ◌*◌, ◌<◌, ◌≤◌, ◌⊎◌, inl, inr, Bool, true, false, ◌&&◌, ◌||◌, eqb, not, List, [], ◌∷◌, length, get_or, map, Option, None, Some, IfSome, is_some, ℤ, pos, ◌-ℤ◌, ◌≤ℤ◌, ◌<ℤ◌, refl, ap, sym, subst, ◌∙◌, arith, filter, int_le, nat_lt}
+use Rattle.std.proofs.Common.{◌≡◌, ◌≢◌, All, MatchBool, ℕ, zero, suc, ◌+◌, ◌-◌, ◌*◌, ◌<◌, ◌≤◌, ◌⊎◌, inl, inr, Bool, true, false, ◌&&◌, ◌||◌, eqb, not, List, [], ◌∷◌, length, get_or, map, Option, None, Some, IfSome, is_some, ℤ, pos, ◌-ℤ◌, ◌≤ℤ◌, ◌<ℤ◌, refl, ap, sym, subst, ◌∙◌, arith, filter, int_le, nat_lt}
 use Rattle.std.specs.List.{AllByRecursion, IsDistinct, list_all, list_any, range_with_len}
 use Rattle.std.proofs.Math.Nat.{mul-le-mul_left, mul-sub}
-use Rattle.std.proofs.lemmas.Bool.{and_from, and_parts, cases_eq, cases_lt, cond_both, eq-eqb, eqb-true, false≢true, lt-ltb, ltb-true, not-true, or_cases, or_left, or_right}
+use Rattle.std.proofs.lemmas.Bool.{and_from, and_parts, cases_eq, cases_lt, cond-true, cond_both, false_from_ne_true, eq-eqb, eqb-true, false≢true, lt-ltb, ltb-true, not-true, or_cases, or_left, or_right}
 use Rattle.std.proofs.lemmas.Int.{by_lt_z, ints}
+use Rattle.std.proofs.lemmas.List.Elements.{All-from_recursion}
 use Rattle.std.proofs.lemmas.Map.Keys.{IsDistinct-cons}
 use Rattle.std.proofs.lemmas.Map.Steps.{length-le_from_distinct_below}
 use Rattle.std.proofs.lemmas.Nat.{mul-le}
 use Rattle.qc_model.specs.Bays.{bays_up}
 use Rattle.qc_model.specs.Instance.{InstanceView, Valid}
+use Rattle.qc_model.specs.Leaves.{ticks_over}
 use Rattle.qc_model.specs.Nodes.{reaches}
 use Rattle.qc_model.specs.Ticks.{task_distance}
 use Rattle.qc_model.proofs.Bays.{bays}
 use Rattle.qc_model.proofs.NodeLemmas.{T_true, if_some, true_T}
 use Rattle.qc_close.specs.Assignments.{AreInRange, crane_in, cranes_by, cranes_for, place}
 use Rattle.qc_close.specs.Bands.{AllLie, AreStacked, IsFound, IsFoundFrom, IsStretch, Lies, may, may_by}
-use Rattle.qc_close.specs.Packs.{all_clash, all_differ, clash, is_doable, may_lie, places, span, stretches}
+use Rattle.qc_close.specs.Packs.{all_clash, all_differ, clash, is_doable, is_packed, may_lie, pack, places, span, stretches}
 use Rattle.qc_close.proofs.Members.{Among, all_at, all_from, among_filter, among_flat, among_map, among_range, any_at, any_from, filter_among, flat_among, least_at, least_from, map_among, range_among}
 use Rattle.qc_close.proofs.PackLemmas.{higher_distance, lower_distance, some_bays}
 
@@ -452,3 +454,60 @@ module _ (inst : InstanceView) (cranes : List (Option ℕ)) (range : AreInRange 
       let some = some_stretch (j ∷ js) doable in
       let one = stretch_of j js some.0 some.1 some.2 in
       found_all j js None found one.0 one.1
+
+-- ---- what is answered
+
+pub clash_is : (inst : InstanceView) (cranes : List (Option ℕ)) (tasks : List ℕ) → AreInRange inst cranes → 1 ≤ inst.travel
+    → 1 ≤ inst.gap → (b : Bool) (n : ℕ) → n ≡ length inst.cranes
+    → MatchBool b (AreStacked inst cranes tasks n) (¬ AreStacked inst cranes tasks n)
+    → b ≡ all_clash inst cranes tasks
+clash_is inst cranes tasks range travel gap true n e h =
+    sym (clash_from inst cranes tasks range travel gap (subst (AreStacked inst cranes tasks) e h))
+clash_is inst cranes tasks range travel gap false n e h =
+    sym (false_from_ne_true (all_clash inst cranes tasks) (λ t.
+    h (subst (AreStacked inst cranes tasks) (sym e) (stacked_from inst cranes tasks range travel gap t))))
+
+module _ (inst : InstanceView) (cranes : List (Option ℕ)) (tasks : List ℕ) (t : is_packed inst cranes tasks ≡ true) where
+  parts : (nat_lt 0 (length tasks) ≡ true) × (list_all (is_doable inst cranes) tasks ≡ true) × (all_differ tasks ≡ true)
+  parts =
+      let one = and_parts (nat_lt 0 (length tasks) && list_all (is_doable inst cranes) tasks && all_differ tasks) (all_clash inst cranes tasks) t in
+      let two = and_parts (nat_lt 0 (length tasks) && list_all (is_doable inst cranes) tasks) (all_differ tasks) one.0 in
+      let three = and_parts (nat_lt 0 (length tasks)) (list_all (is_doable inst cranes) tasks) two.0 in
+      (three.0, three.1, two.1)
+
+  in_range : (j : ℕ) → Among tasks j → j < length inst.tasks
+  in_range j a =
+      let doable = all_at (is_doable inst cranes) tasks j a parts.1 in
+      ltb-true j (length inst.tasks) (and_parts (nat_lt j (length inst.tasks)) (nat_lt 0 (length (cranes_for inst cranes j))) doable).0
+
+  pub packed_few : length tasks ≤ length inst.tasks
+  packed_few = few_differ tasks (length inst.tasks) parts.2 in_range
+
+  pub packed_range : All (λ j. j < length inst.tasks) tasks
+  packed_range = All-from_recursion (λ j. j < length inst.tasks) tasks (each_of (λ j. j < length inst.tasks) tasks in_range)
+
+-- each place of the tasks is found from
+abbrev pub FoundAll : InstanceView → List (Option ℕ) → List ℕ → Option ℕ → Type 0
+FoundAll inst cranes tasks o = (i v : ℕ) → i < length tasks → v < length inst.cranes
+    → may inst cranes (get_or tasks i 0) v ≡ true → IsFoundFrom inst cranes tasks o (place inst (get_or tasks i 0) v)
+
+module _ (inst : InstanceView) (cranes : List (Option ℕ)) (range : AreInRange inst cranes) where
+  pub pack_found : (tasks : List ℕ) → is_packed inst cranes tasks ≡ true → FoundAll inst cranes tasks None → ⊥
+  pack_found [] t found = absurd (omega (arith, ltb-true 0 0 (parts inst cranes [] t).0))
+  pack_found (j ∷ js) t found =
+      span_some inst cranes range j js (λ k a. all_at (is_doable inst cranes) (j ∷ js) k a (parts inst cranes (j ∷ js) t).1) found
+
+  pub pack_is : (tasks : List ℕ) (n : ℕ) → is_packed inst cranes tasks ≡ true → IsStretch inst cranes tasks n
+      → FoundAll inst cranes tasks (Some n) → pack inst cranes tasks ≡ Some (ticks_over inst tasks + inst.travel * n)
+  pack_is [] n t s found = absurd (omega (arith, ltb-true 0 0 (parts inst cranes [] t).0))
+  pack_is (j ∷ js) n t s found =
+      cond-true (is_packed inst cranes (j ∷ js)) _ None t
+      ∙ ap (λ m. Some (ticks_over inst (j ∷ js) + inst.travel * m)) (span_is inst cranes range j js n s found)
+
+-- a stretch is no longer than the ship and the gaps
+pub stretch_few : (inst : InstanceView) (cranes : List (Option ℕ)) (tasks : List ℕ) (n : ℕ) → IsStretch inst cranes tasks n
+    → n ≤ 60000
+stretch_few inst cranes tasks n s =
+    let near = s.near in
+    let is = s.is in
+    omega (arith, bays, near.0.0, near.0.1, near.1.0, near.1.1, is)

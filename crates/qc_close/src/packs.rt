@@ -8,7 +8,7 @@ ghost use Rattle.qc_model.specs.Leaves.{crane_numbers, ticks_over};
 ghost use Rattle.qc_model.specs.Nodes.{reaches};
 ghost use Rattle.qc_close.specs.Assignments.{place};
 ghost use Rattle.qc_close.specs.Bands.{AllLie, AreStacked, IsBandOf, IsFinding, IsFoundFrom, IsNearest, IsPlace, IsReach, IsStretch, Lies, may, nearer, widened};
-ghost use Rattle.qc_close.specs.Packs.{all_differ, is_doable, pack};
+ghost use Rattle.qc_close.specs.Packs.{all_clash, all_differ, is_doable, is_packed, pack};
 
 use crate::Crew;
 use qc_dist::in_reach;
@@ -173,15 +173,16 @@ impl Crew {
         band
     }
 
-    /// Whether the tasks of each crane lie below those of each crane below it.
-    fn are_stacked(&self, tasks: &[u16]) -> bool
-        requires { All (λ j. j < length self.now.inst.tasks) tasks.now }
+    /// Whether the tasks of each of so many cranes lie below those of each crane below it.
+    fn are_stacked(&self, tasks: &[u16], count: u16) -> bool
+        requires tasks { All (λ j. j < length self.now.inst.tasks) tasks.now }
+        requires count { count ≤ length self.now.inst.cranes }
         ensures { MatchBool result
-            (AreStacked self.now.inst self.now.cranes tasks.now (length self.now.inst.cranes))
-            (¬ AreStacked self.now.inst self.now.cranes tasks.now (length self.now.inst.cranes)) }
+            (AreStacked self.now.inst self.now.cranes tasks.now count)
+            (¬ AreStacked self.now.inst self.now.cranes tasks.now count) }
     {
         let mut floor: Option<Bay> = None;
-        for crane in 0..self.instance().crane_count() {
+        for crane in 0..count {
             if let Some(band) = self.band(tasks, crane) {
                 if is_as_high(floor, band.high) {
                     return false;
@@ -192,9 +193,28 @@ impl Crew {
         true
     }
 
+    /// Whether each task clashes with those behind it.
+    fn all_clash(&self, tasks: &[u16]) -> bool
+        requires { All (λ j. j < length self.now.inst.tasks) tasks.now }
+        ensures { result ≡ all_clash self.now.inst self.now.cranes tasks.now }
+    {
+        self.are_stacked(tasks, self.instance().crane_count())
+    }
+
+    /// Whether the tasks are packed.
+    fn is_packed(&self, tasks: &[u16]) -> bool
+        ensures { result ≡ is_packed self.now.inst self.now.cranes tasks.now }
+    {
+        !tasks.is_empty()
+            && self.are_doable(tasks)
+            && all_differ(tasks)
+            && self.all_clash(tasks)
+    }
+
     /// The nearest place of a task at this one or above.
     fn nearest(&self, task: u16, low: Bay) -> Option<Bay>
-        requires { task < length self.now.inst.tasks }
+        requires task { task < length self.now.inst.tasks }
+        requires near { IsPlace low }
         ensures { MatchOption result
             ((high : ℤ) → ¬ Lies self.now.inst self.now.cranes (length self.now.inst.cranes) low high task)
             (IsNearest self.now.inst self.now.cranes (length self.now.inst.cranes) low task) }
@@ -277,13 +297,14 @@ impl Crew {
     /// The ticks of the tasks.
     fn ticks(&self, tasks: &[u16]) -> Tick
         requires tasks { All (λ j. j < length self.now.inst.tasks) tasks.now }
-        requires few { length tasks.now ≤ MOST_TASKS }
+        requires few { length tasks.now ≤ length self.now.inst.tasks }
         ensures ticks { result ≡ ticks_over self.now.inst tasks.now }
         ensures bound { result ≤ MOST_TASKS * MOST_WORK }
     {
+        let inst = self.instance();
         let mut ticks = 0;
         for task in tasks {
-            ticks += self.instance().task(*task).ticks;
+            ticks += inst.task(*task).ticks;
         }
         ticks
     }
@@ -293,10 +314,13 @@ impl Crew {
     pub fn pack(&self, tasks: &[u16]) -> Option<Tick>
         ensures { result ≡ pack self.now.inst self.now.cranes tasks.now }
     {
-        if tasks.is_empty() || !self.are_doable(tasks) || !all_differ(tasks) || !self.are_stacked(tasks) {
+        let inst = self.instance();
+        if !self.is_packed(tasks) {
             return None;
         }
-        let span = self.span(tasks)?;
-        Some(self.ticks(tasks) + travel_over(self.instance(), span))
+        match self.span(tasks) {
+            None => None,
+            Some(span) => Some(self.ticks(tasks) + travel_over(inst, span)),
+        }
     }
 }

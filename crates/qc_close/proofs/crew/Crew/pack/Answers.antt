@@ -1,14 +1,23 @@
-use Rattle.std.proofs.Common.{sym, subst, ◌∙◌, length, arith, ap}
+use Rattle.std.proofs.Common.{◌≡◌, ◌+◌, ◌*◌, Some, ap, sym, ◌∙◌, arith}
+use Rattle.qc_model.specs.Instance.{InstanceView}
+use Rattle.qc_model.specs.Leaves.{ticks_over}
+use Rattle.qc_close.proofs.SpanLemmas.{pack_found, pack_is, packed_few}
 use Rattle.qc_close.proofs.crew.Crew.pack.Goals as goal
 
-pub returns-then-is_empty : goal.returns-then-is_empty
-returns-then-is_empty c = ?
-
-pub returns-in_err-span : goal.returns-in_err-span
-returns-in_err-span c = ?
-
 pub ticks-requires-clause-few : goal.ticks-requires-clause-few
-ticks-requires-clause-few c = ?
+ticks-requires-clause-few c =
+    packed_few c.args.self.now.inst c.args.self.now.cranes c.args.tasks.now (sym c.is_packed.ensures ∙ c.if-not-is_packed.false)
 
-pub returns : goal.returns
-returns c = ?
+pub returns-in-None : goal.returns-in-None
+returns-in-None c =
+    absurd (pack_found c.args.self.now.inst c.args.self.now.cranes c.instance-inst.ensures.range c.args.tasks.now
+    (sym c.is_packed.ensures ∙ c.if-not-is_packed.false) c.in-None.ensures.found)
+
+pub returns-in-Some : goal.returns-in-Some
+returns-in-Some c =
+    let inst = c.args.self.now.inst in
+    let travel = ap (λ (i : InstanceView). i.travel * c.in-Some.span) c.instance-inst.ensures.same in
+    let sum : c.ticks.result + c.travel_over.result ≡ ticks_over inst c.args.tasks.now + inst.travel * c.in-Some.span = omega (arith, travel, c.ticks.ensures.ticks, c.travel_over.ensures.ticks) in
+    ap Some sum
+    ∙ sym (pack_is inst c.args.self.now.cranes c.instance-inst.ensures.range c.args.tasks.now c.in-Some.span
+    (sym c.is_packed.ensures ∙ c.if-not-is_packed.false) c.in-Some.ensures.stretch c.in-Some.ensures.found)
