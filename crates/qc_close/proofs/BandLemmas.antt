@@ -1,23 +1,17 @@
 -- Packed tasks are told by where they lie for each crane: those of a crane lie below those of each crane below it, and
 -- their span is the least stretch among which each may lie.
-use Rattle.std.proofs.Common.{◌≡◌, ◌≢◌, ℕ, zero, suc, ◌+◌, ◌-◌, ◌*◌, ◌<◌, ◌≤◌, ◌⊎◌, inl, inr, Bool, true, false, ◌&&◌, ◌||◌, eqb, not, List, [], ◌∷◌, length, get_or, map, min, Option, None, Some, IfSome, MatchBool, MatchOption, ℤ, pos, ◌-ℤ◌, ◌≤ℤ◌, ◌<ℤ◌, refl, ap, sym, subst, ◌∙◌, arith, filter, int_le, int_lt, nat_lt, slice_index, All, below_more}
+use Rattle.std.proofs.Common.{◌≡◌, ℕ, ◌+◌, ◌<◌, ◌≤◌, ◌⊎◌, inl, inr, Bool, true, false, List, length, get_or, min, Option, None, Some, MatchOption, ℤ, ◌≤ℤ◌, ◌<ℤ◌, refl, ap, sym, subst, ◌∙◌, arith, int_le, int_lt, below_more}
 use Rattle.std.specs.Int.{int_max, int_min}
 use Rattle.std.specs.Option.{option_map_or}
-use Rattle.std.specs.List.{list_all, list_any, range_with_len}
-use Rattle.std.proofs.Math.Nat.{mul-le-mul_left, mul-sub, mul-zero}
-use Rattle.std.proofs.lemmas.Bool.{and_from, and_parts, cases_Bool, cases_eq, cases_lt, cond-false, cond-true, cond_both, eq-eqb, eqb-true, false≢true, lt-ltb, ltb-true, not_from_false, or_cases, or_left, or_right, false_from_ne_true}
+use Rattle.std.proofs.lemmas.Bool.{cases_lt, cond_both, false≢true}
 use Rattle.std.proofs.lemmas.Int.{by_lt_z, clamps, ints}
 use Rattle.qc_model.specs.Bays.{bays_up}
-use Rattle.qc_model.specs.Instance.{InstanceView, Valid, bay_of}
-use Rattle.qc_model.specs.Nodes.{least, reaches}
-use Rattle.qc_model.specs.Leaves.{ticks_over}
-use Rattle.qc_model.specs.Ticks.{task_distance}
+use Rattle.qc_model.specs.Instance.{InstanceView}
 use Rattle.qc_model.proofs.Bays.{bays}
 use Rattle.qc_model.proofs.NodeLemmas.{T_true, true_T}
-use Rattle.qc_close.specs.Assignments.{AreInRange, crane_in, cranes_by, cranes_for, place}
-use Rattle.qc_close.specs.Bands.{AllLie, AreStacked, HasNone, IsBand, IsBandOf, IsFinding, IsFloor, IsFloorOf, IsFound, IsFoundFrom, IsNearest, IsOne, IsPlace, IsReach, IsStretch, Lies, may, may_by, nearer, widened}
+use Rattle.qc_close.specs.Assignments.{place}
+use Rattle.qc_close.specs.Bands.{AreStacked, HasNone, IsBand, IsBandOf, IsFinding, IsFloor, IsFloorOf, IsFoundFrom, IsNearest, IsOne, IsPlace, IsReach, IsStretch, Lies, may, nearer, widened}
 use Rattle.qc_close.specs.declared.packs.Band.{Band}
-use Rattle.qc_close.proofs.Members.{Among, all_at, all_from, among_filter, among_flat, among_map, among_range, any_at, any_from, filter_among, flat_among, least_at, least_from, map_among, range_among}
 
 -- a number is one of the first n and one more
 before_more : (P : ℕ → Type 0) (n : ℕ) → ((i : ℕ) → i < n → P i) → P n → (i : ℕ) → i < n + 1 → P i
@@ -63,8 +57,7 @@ module _ (inst : InstanceView) (cranes : List (Option ℕ)) (tasks : List ℕ) (
         (λ i low u. let w = before.within i low u in (omega (arith, ints, clamps, w.0), omega (arith, ints, clamps, w.1)))
         (λ u. (omega (arith, ints, clamps, at), omega (arith, ints, clamps, at)));
     near =
-        let was = before.near in
-        (
+        let was = before.near in (
           (omega (arith, ints, clamps, near.0, was.0), omega (arith, ints, clamps, near.1, was.0)),
           (omega (arith, ints, clamps, near.0, was.1), omega (arith, ints, clamps, near.1, was.1)),
         );
@@ -472,10 +465,10 @@ module _ (inst : InstanceView) (cranes : List (Option ℕ)) (tasks : List ℕ) w
 
   pub span_step : (n k : ℕ) (o r : Option ℕ)
       → ((i v : ℕ) → i < n → v < k → may inst cranes (get_or tasks i 0) v ≡ true
-          → IsFoundFrom inst cranes tasks o (place inst (get_or tasks i 0) v))
+      → IsFoundFrom inst cranes tasks o (place inst (get_or tasks i 0) v))
       → IsFinding inst cranes tasks o r
       → ((v : ℕ) → v < k → may inst cranes (get_or tasks n 0) v ≡ true
-          → IsFoundFrom inst cranes tasks r (place inst (get_or tasks n 0) v))
+      → IsFoundFrom inst cranes tasks r (place inst (get_or tasks n 0) v))
       → (i v : ℕ) → i < n + 1 → v < k → may inst cranes (get_or tasks i 0) v ≡ true
       → IsFoundFrom inst cranes tasks r (place inst (get_or tasks i 0) v)
   span_step n k o r found more here i v low low_v t =

@@ -1,8 +1,8 @@
 -- No schedule that follows an assignment ends before an end at which it is closed.
-use Rattle.std.proofs.Common.{◌≡◌, ℕ, zero, suc, ◌+◌, ◌-◌, ◌*◌, ◌/◌, ◌<◌, ◌≤◌, ◌⊎◌, inl, inr, Bool, true, false, ◌&&◌, eqb, leb, cond, List, [], ◌∷◌, length, get_or, map, replicate, Option, None, Some, ℤ, pos, ◌≤ℤ◌, refl, ap, sym, subst, ◌∙◌, arith, filter, is_none, nat_le, nat_lt, sum, sum_by, count_by, slice_index}
+use Rattle.std.proofs.Common.{◌≡◌, ℕ, zero, suc, ◌+◌, ◌-◌, ◌*◌, ◌/◌, ◌<◌, ◌≤◌, inl, inr, Bool, true, false, ◌&&◌, eqb, leb, cond, List, [], ◌∷◌, length, get_or, map, replicate, Option, None, Some, refl, ap, sym, subst, ◌∙◌, arith, filter, is_none, nat_lt, sum, sum_by, count_by}
 use Prim.Native.Nat.{◌∣◌}
 use Rattle.std.proofs.Math.Nat.{dvd-add, dvd-mul_right_of_dvd, dvd-zero, pos_of_dvd_of_pos, le-div_iff_mul-le, mul-add, mul-div_cancel', mul-le-mul_left, mul-zero, mul_comm}
-use Rattle.std.proofs.lemmas.Bool.{and_from, and_parts, cases_Bool, cases_lt, cond_both, eq-eqb, eqb-true, false≢true, le-leb, le-ltb, leb-true, lt-ltb, ltb-false, ltb-true}
+use Rattle.std.proofs.lemmas.Bool.{and_from, and_parts, cases_Bool, cases_lt, cond_both, eq-eqb, eqb-true, le-leb, le-ltb, leb-true, lt-ltb, ltb-true}
 use Rattle.std.proofs.lemmas.Int.{ints}
 use Rattle.std.proofs.lemmas.List.{get_or_past}
 use Rattle.std.specs.Option.{option_map_or}
@@ -11,14 +11,13 @@ use Rattle.std.proofs.lemmas.List.Sums.{count_by-le-length, sum-map, sum_by-cons
 use Rattle.std.specs.List.{range_with_len}
 use Rattle.qc_dist.proofs.Ranges.{sum_more}
 use Rattle.qc_model.specs.declared.schedule.Slot.{Slot}
-use Rattle.qc_model.specs.Bays.{at_least_zero, bays_up}
-use Rattle.qc_model.specs.Instance.{InstanceView, Valid, bay_of, crane, no_crane, ticks_of}
+use Rattle.qc_model.specs.Instance.{InstanceView, Valid, crane, no_crane, ticks_of}
 use Rattle.qc_model.specs.Leaves.{crane_numbers, task_numbers}
 use Rattle.qc_model.specs.Rules.{crane_of, ends}
 use Rattle.qc_model.proofs.Bays.{bays}
 use Rattle.qc_close.specs.declared.turn.Turn.{Turn}
 use Rattle.qc_close.specs.Assignments.{Follows, crane_in, no_cranes}
-use Rattle.qc_close.specs.Closed.{IsClosed, IsGrain, IsShort, last_before, Serves, Try, bay, by_crane, down, fewest, from_on, left_at, left_bays, lift, load, most, rise, room, sink, up, up_to, work_at}
+use Rattle.qc_close.specs.Closed.{IsClosed, IsClosedBound, IsGrain, IsShort, last_before, Serves, Try, bay, by_crane, down, fewest, left_at, left_bays, lift, load, most, rise, room, sink, up, work_at}
 use Rattle.qc_close.specs.Frames.{Frame, GoesBy, frame, frame_of, own}
 use Rattle.qc_close.proofs.CountLemmas.{fewest_le, passing, passing_le, shared, sum_le, times_sum}
 use Rattle.qc_close.proofs.FrameLemmas.{HasTime, at_bay, bay_at, beside, does_open, feasible_by, has_time, some_term, sum_filter, sums_within}
@@ -187,8 +186,7 @@ module _ (inst : InstanceView) (turn : Turn) (cranes : List (Option ℕ)) (sched
       (λ j a t.
       let low : j < length inst.tasks = omega (arith, (range_among j 0 (length inst.tasks) a).1) in
       let parts = and_parts (is_none (crane_in cranes j)) (eqb (at j) x) t in
-      let there = (feasible_by turn inst sched g).crane_range j low in
-      (
+      let there = (feasible_by turn inst sched g).crane_range j low in (
         crane_of sched j,
         among_range (crane_of sched j) 0 (length inst.cranes) (omega arith) (omega arith),
         and_from (opens (crane_of sched j) j) (eqb (at j) x)
@@ -243,7 +241,7 @@ module _ (inst : InstanceView) (turn : Turn) (cranes : List (Option ℕ)) (sched
       let on_ship = valid.tasks.bays j low in
       let is = at_bay inst turn cranes sched valid g follows 0 j low in
       let found =
-      among_filter (λ j' . is_none (crane_in cranes j') && eqb (at j') (at j)) js j (among_range j 0 (length inst.tasks) (omega arith) (omega arith))
+      among_filter (λ j'. is_none (crane_in cranes j') && eqb (at j') (at j)) js j (among_range j 0 (length inst.tasks) (omega arith) (omega arith))
       (and_from (is_none (crane_in cranes j)) (eqb (at j) (at j)) none (eq-eqb (at j) (at j) refl)) in
       among_filter (λ y. nat_lt 0 (length (left_at inst cranes y))) (range_with_len 1 inst.bays) (at j)
       (among_range (at j) 1 inst.bays (omega (arith, ints, is, on_ship.0)) (omega (arith, ints, is, on_ship.1)))
@@ -290,7 +288,7 @@ module _ (inst : InstanceView) (turn : Turn) (cranes : List (Option ℕ)) (sched
     rise_le i =
         let e : i ≡ i + 1 - 1 = omega arith in
         subst (λ (k : ℕ). fewest (n (i + 1)) (map (λ w. up (fr w) (x (i + 1)) - up (fr w) (x k)) ws)
-            ≤ passing (λ w. up (fr w) (x (i + 1)) - up (fr w) (x i)) (λ w. nat_lt 0 (over (x (i + 1)) w)) ws) e
+        ≤ passing (λ w. up (fr w) (x (i + 1)) - up (fr w) (x i)) (λ w. nat_lt 0 (over (x (i + 1)) w)) ws) e
         (fewest_le (λ w. up (fr w) (x (i + 1)) - up (fr w) (x i)) (λ w. nat_lt 0 (over (x (i + 1)) w)) ws)
 
     rises_le : (k i : ℕ) → i + suc k ≡ length xs
@@ -620,10 +618,9 @@ bare_follows inst sched j k low e = absurd (other (sym (none_there (length inst.
 
 -- an end at which an assignment is closed is at most that of each schedule that follows it and that cranes which turn so
 -- can keep
-pub closed_end_le : (inst : InstanceView) (turn : Turn) (cranes : List (Option ℕ)) (sched : List Slot) → Valid inst
-    → GoesBy turn inst sched → Follows inst cranes sched → (end : ℕ) → IsClosed inst turn cranes end
-    → end ≤ ends inst sched
-closed_end_le inst turn cranes sched valid goes follows end closed = elim (cases_lt (ends inst sched) end) [
+pub closed_end_le : (inst : InstanceView) (turn : Turn) (cranes : List (Option ℕ)) (end : ℕ) → Valid inst
+    → IsClosed inst turn cranes end → IsClosedBound inst turn cranes end
+closed_end_le inst turn cranes end valid closed sched goes follows = elim (cases_lt (ends inst sched) end) [
   | inl early ↦
       let travel = (least_steps inst valid).0 in
       absurd (elim closed.short [

@@ -1,9 +1,9 @@
 -- A crane has had the time, when a schedule ends, for what it has spent on its own tasks, for the others that it does,
 -- and for the way that it goes beyond its own for these.
-use Rattle.std.proofs.Common.{◌≡◌, ◌≢◌, ℕ, zero, suc, ◌+◌, ◌-◌, ◌*◌, ◌<◌, ◌≤◌, min, ◌⊎◌, inl, inr, Bool, true, false, ◌&&◌, eqb, cond, List, [], ◌∷◌, length, Option, None, Some, ℤ, pos, ◌≤ℤ◌, ◌<ℤ◌, refl, ap, sym, subst, ◌∙◌, arith, filter, is_none, sum_by}
+use Rattle.std.proofs.Common.{◌≡◌, ◌≢◌, ℕ, zero, suc, ◌+◌, ◌*◌, ◌<◌, ◌≤◌, ◌⊎◌, inl, inr, Bool, true, false, ◌&&◌, eqb, cond, List, [], ◌∷◌, length, Option, None, Some, ℤ, pos, ◌≤ℤ◌, refl, ap, sym, subst, ◌∙◌, arith, filter, is_none, sum_by}
 use Rattle.std.proofs.Math.Nat.{mul-add, mul-le-mul_left}
-use Rattle.std.proofs.lemmas.Bool.{and_from, and_parts, cases_Bool, cases_lt, cond-true, cond_both, eq-eqb, eqb-true, false≢true}
-use Rattle.std.proofs.lemmas.Int.{by_lt_z, clamps, int_max_is, int_min_is, ints}
+use Rattle.std.proofs.lemmas.Bool.{and_parts, cases_Bool, cases_lt, cond-true, cond_both, eq-eqb, eqb-true, false≢true}
+use Rattle.std.proofs.lemmas.Int.{by_lt_z, int_max_is, int_min_is, ints}
 use Rattle.std.proofs.lemmas.List.Sums.{sum_by-cons}
 use Rattle.std.specs.Int.{int_max, int_min}
 use Rattle.std.specs.List.{list_any, range_with_len}
@@ -13,8 +13,8 @@ use Rattle.qc_model.specs.Bays.{at_least_zero, bays_between, bays_up}
 use Rattle.qc_model.specs.Instance.{InstanceView, Valid, bay_of, crane, ticks_of}
 use Rattle.qc_model.specs.Leaves.{highest, lowest, task_numbers, ticks_over}
 use Rattle.qc_model.specs.OneWay.{GoesUp}
-use Rattle.qc_model.specs.Rules.{Feasible, crane_of, end_of, ends, start_of}
-use Rattle.qc_model.specs.Ticks.{arrival, travel_between}
+use Rattle.qc_model.specs.Rules.{Feasible, crane_of, ends, start_of}
+use Rattle.qc_model.specs.Ticks.{arrival}
 use Rattle.qc_model.proofs.Bays.{bays}
 use Rattle.qc_model.proofs.LimitsOf.{counted}
 use Rattle.qc_close.specs.declared.turn.Turn.{Turn}
@@ -22,9 +22,9 @@ use Rattle.qc_close.specs.declared.turn.Turn.TheVariants.{OneWay, Free}
 use Rattle.qc_close.specs.Assignments.{Follows, crane_in}
 use Rattle.qc_close.specs.Closed.{down, up}
 use Rattle.qc_close.specs.Frames.{Frame, GoesBy, frame, frame_of, own, turn_bays, turn_high}
-use Rattle.qc_close.proofs.Members.{Among, First, among_filter, among_range, any_at, any_from, filter_among, first_of, range_among}
+use Rattle.qc_close.proofs.Members.{Among, among_filter, among_range, any_at, any_from, filter_among, first_of, range_among}
 use Rattle.qc_close.proofs.PackLemmas.{ends_in}
-use Rattle.qc_close.proofs.Rows.{AllClear, AreClear, HasRow, Row, row_after, row_fits, row_of, way, way_between, way_to}
+use Rattle.qc_close.proofs.Rows.{AllClear, AreClear, Row, row_after, row_fits, row_of, way, way_between, way_to}
 
 pub feasible_by : (turn : Turn) (inst : InstanceView) (sched : List Slot) → GoesBy turn inst sched → Feasible inst sched
 feasible_by OneWay inst sched g = g.feasible

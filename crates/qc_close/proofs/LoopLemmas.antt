@@ -1,17 +1,15 @@
 -- Steps of the loops over tasks.
-use Rattle.std.proofs.Common.{◌≡◌, ◌⊎◌, ◌≤ℤ◌, Option, is_some, nat_lt, to_z, of_z, w32, inl, inr, ℕ, zero, suc, ◌+◌, ◌*◌, ◌<◌, ◌≤◌, Bool, true, false, ◌||◌, ◌&&◌, eqb, not, List, [], ◌∷◌, length, drop, get_or, refl, ap, sym, ◌∙◌, arith, add-one, drop-cons, ℤ, pos, ◌-ℤ◌}
+use Rattle.std.proofs.Common.{◌≡◌, ◌⊎◌, ◌≤ℤ◌, Option, is_some, nat_lt, to_z, of_z, w32, inl, inr, ℕ, ◌+◌, ◌*◌, ◌<◌, ◌≤◌, Bool, true, false, ◌||◌, ◌&&◌, eqb, not, List, [], ◌∷◌, length, drop, get_or, refl, ap, sym, ◌∙◌, arith, add-one, drop-cons, ℤ, pos, ◌-ℤ◌}
 use Rattle.std.specs.List.{list_all, list_any}
-use Rattle.std.proofs.Math.Nat.{mul-le-mul_left}
-use Rattle.std.proofs.lemmas.Bool.{and_from, and_left, cases_Bool, eqb-false, eqb-true, eq-eqb, lt-ltb, ne_eqb, not_from_false, not_from_true, or_cases, or_parts}
+use Rattle.std.proofs.lemmas.Bool.{and_from, and_left, eqb-false, eqb-true, eq-eqb, lt-ltb, ne_eqb, not_from_false, not_from_true, or_cases, or_parts}
 use Rattle.std.proofs.lemmas.Int.{ints}
 use mathlib.Core.Logic.{∥∥₁_elim}
 use denote.Struct.Props.{props}
 use Rattle.qc_model.specs.declared.task.Task.{Task}
 use Rattle.qc_model.specs.Leaves.{crane_numbers}
 use Rattle.qc_model.specs.Nodes.{reaches}
-use Rattle.qc_model.specs.Instance.{task, HasBayLimits, HasPlaceLimits, InstanceView, Valid, bay_of}
+use Rattle.qc_model.specs.Instance.{task, HasBayLimits, HasPlaceLimits, InstanceView, Valid}
 use Rattle.qc_model.proofs.LimitsOf.{limits_of}
-use Rattle.qc_model.proofs.Bays.{bays}
 use Rattle.qc_close.specs.Assignments.{crane_in, cranes_for, place}
 use Rattle.qc_close.specs.Bands.{IsPlace}
 use Rattle.qc_close.proofs.SpanLemmas.{doable_is}

@@ -1,5 +1,5 @@
 -- What a list holds, by recursion on it.
-use Rattle.std.proofs.Common.{◌≡◌, ℕ, zero, suc, ◌+◌, ◌<◌, ◌≤◌, ◌⊎◌, inl, inr, Bool, true, false, ◌&&◌, ◌||◌, cond, List, [], ◌∷◌, ◌++◌, map, refl, ap, sym, subst, ◌∙◌, arith, filter}
+use Rattle.std.proofs.Common.{◌≡◌, ℕ, zero, suc, ◌+◌, ◌<◌, ◌≤◌, ◌⊎◌, inl, inr, Bool, true, List, [], ◌∷◌, ◌++◌, Contains, map, refl, ap, sym, subst, ◌∙◌, arith, filter}
 use Rattle.std.proofs.lemmas.Bool.{and_parts, and_from, cases_lt, cond_both, false≢true, or_cases, or_left, or_right}
 use Rattle.std.specs.List.{flat_map, list_all, list_any, range_with_len}
 use Rattle.qc_model.specs.Nodes.{least}
@@ -106,6 +106,12 @@ module _ {X Y : Type 0} (f : X → List Y) where
     | inl here ↦ (z, inl refl, here)
     | inr there ↦ let r = flat_among zs y there in (r.0, inr r.1, r.2)
   ]
+
+-- as std says it
+pub contains_of : (xs : List ℕ) (x : ℕ) → Among xs x → Contains xs x
+contains_of [] x a = absurd a
+contains_of (y ∷ ys) x (inl e) = (0, omega arith, e)
+contains_of (y ∷ ys) x (inr a) = let c = contains_of ys x a in (suc c.0, omega (arith, c.1), c.2)
 
 -- the least of some numbers is at most each of them, and at least what all are at least
 pub least_at : (xs : List ℕ) (x : ℕ) → Among xs x → least xs ≤ x

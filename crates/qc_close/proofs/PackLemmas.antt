@@ -1,12 +1,12 @@
 -- No feasible schedule that follows an assignment ends packed tasks in less than their ticks and their span.
-use Rattle.std.proofs.Common.{◌≡◌, ◌≢◌, ℕ, zero, suc, ◌+◌, ◌-◌, ◌*◌, ◌<◌, ◌≤◌, ◌⊎◌, inl, inr, Bool, true, false, ◌&&◌, ◌||◌, eqb, not, List, [], ◌∷◌, length, get_or, map, Option, None, Some, IfSome, ℤ, pos, ◌+ℤ◌, ◌-ℤ◌, ◌≤ℤ◌, ◌<ℤ◌, refl, ap, sym, subst, subst₂, ◌∙◌, arith, filter, int_le, sum_by, nat_lt, option_map}
+use Rattle.std.proofs.Common.{◌≡◌, ◌≢◌, Contains, ℕ, zero, suc, ◌+◌, ◌-◌, ◌*◌, ◌<◌, ◌≤◌, ◌⊎◌, inl, inr, true, ◌&&◌, ◌||◌, eqb, not, List, [], ◌∷◌, length, map, Option, None, Some, IfSome, ℤ, pos, ◌+ℤ◌, ◌-ℤ◌, ◌≤ℤ◌, refl, ap, sym, subst, ◌∙◌, arith, filter, int_le, sum_by, nat_lt}
 use Rattle.std.proofs.Math.Nat.{mul-le-mul_left, mul-sub, mul-zero}
 use Rattle.std.proofs.lemmas.Bool.{and_from, and_parts, cases_eq, cases_lt, cond-false, cond-true, cond_both, eqb-false, eqb-true, false≢true, le-ltb, lt-ltb, ltb-true, not-true, or_cases}
 use Rattle.std.proofs.lemmas.Int.{by_lt_z, ints}
 use Rattle.std.proofs.lemmas.List.{length-map}
 use Rattle.std.proofs.lemmas.List.FromFn.{get_or-map-range_with_len}
 use Rattle.std.proofs.lemmas.List.Sums.{sum_by-cons}
-use Rattle.std.specs.List.{list_all, list_any, range_with_len}
+use Rattle.std.specs.List.{list_all, range_with_len}
 use Rattle.qc_model.specs.declared.decision.Decision.{Decision}
 use Rattle.qc_model.specs.declared.schedule.Slot.{Slot}
 use Rattle.qc_model.specs.Bays.{bays_between, bays_up}
@@ -18,9 +18,9 @@ use Rattle.qc_model.specs.Ticks.{task_distance, travel_between}
 use Rattle.qc_model.proofs.Bays.{bays}
 use Rattle.qc_model.proofs.NodeLemmas.{T_true, assigned_is, ends_by, if_some, start_at}
 use Rattle.qc_close.specs.Assignments.{Follows, cranes_of, crane_in, cranes_by, cranes_for, place}
-use Rattle.qc_close.specs.Packs.{all_clash, all_differ, clash, is_doable, is_packed, may_lie, pack, places, span, stretches}
-use Rattle.qc_close.proofs.Members.{Among, all_at, all_from, among_filter, among_flat, among_map, among_range, any_from, first_of, least_at}
-use Rattle.qc_close.proofs.Rows.{AllClear, AreClear, HasRow, Row, row_fits, row_of, way, way_between}
+use Rattle.qc_close.specs.Packs.{IsPackBound, all_clash, all_differ, clash, is_doable, is_packed, may_lie, pack, places, span, stretches}
+use Rattle.qc_close.proofs.Members.{Among, contains_of, all_at, all_from, among_filter, among_flat, among_map, among_range, any_from, first_of, least_at}
+use Rattle.qc_close.proofs.Rows.{AllClear, AreClear, Row, row_fits, row_of, way, way_between}
 
 -- ---- distances as differences of places
 
@@ -173,8 +173,7 @@ module _ (inst : InstanceView) (sched : List Slot) (f : Feasible inst sched) (cr
   all_clear [] range differ clash_all = tt
   all_clear (i ∷ is) range differ clash_all =
       let others = and_parts (list_all (λ j. not (eqb i j)) is) (all_differ is) differ in
-      let clashes = and_parts (list_all (clash inst cranes i) is) (all_clash inst cranes is) clash_all in
-      (
+      let clashes = and_parts (list_all (clash inst cranes i) is) (all_clash inst cranes is) clash_all in (
         λ j a.
             let other = not-true (eqb i j) (all_at (λ j. not (eqb i j)) is j a others.0) in
             let near = too_near i j (range i (inl refl)) (range j (inr a)) (all_at (clash inst cranes i) is j a clashes.0) in
@@ -217,12 +216,12 @@ module _ (inst : InstanceView) (sched : List Slot) (f : Feasible inst sched) (cr
   either_way : (i j : ℕ) → (lies i ≤ℤ lies j) ⊎ (lies j ≤ℤ lies i)
   either_way i j = by_lt_z (lies i) (lies j) (λ h. inl (omega (arith, ints))) (λ h. inr h)
 
-  packed_end : (early : ℕ → ℕ) → ((j : ℕ) → j < length inst.tasks → early j ≤ start_of sched j) → (tasks : List ℕ)
+  packed_end : (early : ℕ → ℕ) (tasks : List ℕ) → ((j : ℕ) → Contains tasks j → early j ≤ start_of sched j)
       → is_packed inst cranes tasks ≡ true
       → least (map early tasks) + (ticks_over inst tasks + inst.travel * span inst cranes tasks) ≤ ends inst sched
-  packed_end early first [] t =
+  packed_end early [] first t =
       let some = and_parts (nat_lt 0 0) true t in absurd (false≢true some.0)
-  packed_end early first (j ∷ js) t =
+  packed_end early (j ∷ js) first t =
       let tasks = j ∷ js in
       let clashing = and_parts (nat_lt 0 (length tasks) && list_all (is_doable inst cranes) tasks && all_differ tasks) (all_clash inst cranes tasks) t in
       let differing = and_parts (nat_lt 0 (length tasks) && list_all (is_doable inst cranes) tasks) (all_differ tasks) clashing.0 in
@@ -232,7 +231,7 @@ module _ (inst : InstanceView) (sched : List Slot) (f : Feasible inst sched) (cr
       let high = first_of (λ i k. lies k ≤ℤ lies i) (λ i k. either_way k i) (λ i k l p q. omega (arith, ints)) j js in
       let so_long =
       take_so_long inst sched f tasks (least (map early tasks)) range
-      (λ i a. omega (arith, least_at (map early tasks) (early i) (among_map early tasks i a), first i (range i a)))
+      (λ i a. omega (arith, least_at (map early tasks) (early i) (among_map early tasks i a), first i (contains_of tasks i a)))
       (all_clear tasks range differing.1 clashing.1) low.one high.one low.is_one high.is_one in
       let narrow = span_le tasks low.one high.one range low.is_one high.is_one low.first high.first in
       omega (arith, so_long, mul-le-mul_left inst.travel narrow)
@@ -240,13 +239,13 @@ module _ (inst : InstanceView) (sched : List Slot) (f : Feasible inst sched) (cr
       in_range : (i : ℕ) → is_doable inst cranes i ≡ true → i < length inst.tasks
       in_range i t = ltb-true i (length inst.tasks) (and_parts (nat_lt i (length inst.tasks)) (nat_lt 0 (length (cranes_for inst cranes i))) t).0
 
-  -- where packed tasks start no earlier than these ticks, the schedule ends no earlier than the least of them and what
-  -- the tasks need
-  pub pack_end_le : (early : ℕ → ℕ) → ((j : ℕ) → j < length inst.tasks → early j ≤ start_of sched j) → (tasks : List ℕ)
-      → (ticks : ℕ) → pack inst cranes tasks ≡ Some ticks → least (map early tasks) + ticks ≤ ends inst sched
-  pack_end_le early first tasks ticks e =
-      let Shows : Option ℕ → Type 0 = λ o. IfSome o (λ n. least (map early tasks) + n ≤ ends inst sched) in
-      subst Shows e (cond_both (is_packed inst cranes tasks) _ None Shows (λ t. packed_end early first tasks t) (λ _. tt))
+-- a schedule ends no earlier than packed tasks allow
+pub pack_end_le : (inst : InstanceView) (cranes : List (Option ℕ)) (tasks : List ℕ) (ticks : ℕ)
+    → pack inst cranes tasks ≡ Some ticks → IsPackBound inst cranes tasks ticks
+pack_end_le inst cranes tasks ticks e sched f follows early first =
+    let Shows : Option ℕ → Type 0 = λ o. IfSome o (λ n. least (map early tasks) + n ≤ ends inst sched) in
+    subst Shows e
+    (cond_both (is_packed inst cranes tasks) _ None Shows (λ t. packed_end inst sched f cranes follows early tasks first t) (λ _. tt))
 
 -- a schedule that agrees with decisions follows what they say of cranes
 pub follows_of : (inst : InstanceView) (ds : List Decision) (sched : List Slot) → Agrees inst ds sched

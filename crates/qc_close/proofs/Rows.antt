@@ -1,8 +1,8 @@
 -- Tasks of which each two are clear of each other stand in a row, and take as long together as all of them and the way
 -- through their places.
-use Rattle.std.proofs.Common.{◌≡◌, ℕ, zero, suc, ◌+◌, ◌-◌, ◌*◌, ◌<◌, ◌≤◌, min, ◌⊎◌, inl, inr, List, [], ◌∷◌, ℤ, refl, ap, sym, subst, ◌∙◌, arith, mul-add, sum_by}
+use Rattle.std.proofs.Common.{◌≡◌, ℕ, ◌+◌, ◌*◌, ◌≤◌, min, ◌⊎◌, inl, inr, List, [], ◌∷◌, ℤ, refl, ap, sym, ◌∙◌, arith, mul-add, sum_by}
 use Rattle.std.proofs.lemmas.List.Sums.{sum_by-cons}
-use Rattle.qc_model.specs.Bays.{bays_between, bays_up}
+use Rattle.qc_model.specs.Bays.{bays_between}
 use Rattle.qc_model.proofs.Bays.{bays}
 use Rattle.qc_close.proofs.Members.{Among}
 

@@ -1,15 +1,15 @@
 -- What is told of packed tasks by where they lie is what their definition says.
-use Rattle.std.proofs.Common.{◌≡◌, ◌≢◌, All, MatchBool, ℕ, zero, suc, ◌+◌, ◌-◌, ◌*◌, ◌<◌, ◌≤◌, ◌⊎◌, inl, inr, Bool, true, false, ◌&&◌, ◌||◌, eqb, not, List, [], ◌∷◌, length, get_or, map, Option, None, Some, IfSome, is_some, ℤ, pos, ◌-ℤ◌, ◌≤ℤ◌, ◌<ℤ◌, refl, ap, sym, subst, ◌∙◌, arith, filter, int_le, nat_lt}
+use Rattle.std.proofs.Common.{◌≡◌, ◌≢◌, All, MatchBool, ℕ, zero, suc, ◌+◌, ◌-◌, ◌*◌, ◌<◌, ◌≤◌, inl, inr, Bool, true, false, ◌&&◌, ◌||◌, eqb, not, List, [], ◌∷◌, length, get_or, map, Option, None, Some, IfSome, is_some, ℤ, pos, ◌≤ℤ◌, ◌<ℤ◌, refl, ap, sym, subst, ◌∙◌, arith, filter, int_le, nat_lt}
 use Rattle.std.specs.List.{AllByRecursion, IsDistinct, list_all, list_any, range_with_len}
-use Rattle.std.proofs.Math.Nat.{mul-le-mul_left, mul-sub}
-use Rattle.std.proofs.lemmas.Bool.{and_from, and_parts, cases_eq, cases_lt, cond-true, cond_both, false_from_ne_true, eq-eqb, eqb-true, false≢true, lt-ltb, ltb-true, not-true, or_cases, or_left, or_right}
+use Rattle.std.proofs.Math.Nat.{mul-sub}
+use Rattle.std.proofs.lemmas.Bool.{and_from, and_parts, cases_eq, cases_lt, cond-true, cond_both, false_from_ne_true, eq-eqb, eqb-true, lt-ltb, ltb-true, not-true, or_cases, or_left, or_right}
 use Rattle.std.proofs.lemmas.Int.{by_lt_z, ints}
 use Rattle.std.proofs.lemmas.List.Elements.{All-from_recursion}
 use Rattle.std.proofs.lemmas.Map.Keys.{IsDistinct-cons}
 use Rattle.std.proofs.lemmas.Map.Steps.{length-le_from_distinct_below}
 use Rattle.std.proofs.lemmas.Nat.{mul-le}
 use Rattle.qc_model.specs.Bays.{bays_up}
-use Rattle.qc_model.specs.Instance.{InstanceView, Valid}
+use Rattle.qc_model.specs.Instance.{InstanceView}
 use Rattle.qc_model.specs.Leaves.{ticks_over}
 use Rattle.qc_model.specs.Nodes.{reaches}
 use Rattle.qc_model.specs.Ticks.{task_distance}
@@ -369,8 +369,7 @@ module _ (inst : InstanceView) (cranes : List (Option ℕ)) (range : AreInRange 
       let last = has_high j js first.x high first.all in
       let here = places inst cranes tasks in
       let above = first.above in
-      let below = last.below in
-      (
+      let below = last.below in (
         bays_up first.x last.x,
         among_flat
             (λ low. map (λ high. bays_up low high) (filter (λ high. list_all (may_lie inst cranes low high) tasks) here))
@@ -405,7 +404,7 @@ module _ (inst : InstanceView) (cranes : List (Option ℕ)) (range : AreInRange 
 
   module _ (j : ℕ) (js : List ℕ) (o : Option ℕ)
       (found : (i v : ℕ) → i < length (j ∷ js) → v < length inst.cranes → may inst cranes (get_or (j ∷ js) i 0) v ≡ true
-          → IsFoundFrom inst cranes (j ∷ js) o (place inst (get_or (j ∷ js) i 0) v)) where
+      → IsFoundFrom inst cranes (j ∷ js) o (place inst (get_or (j ∷ js) i 0) v)) where
     abbrev tasks : List ℕ
     tasks = j ∷ js
 
@@ -435,7 +434,7 @@ module _ (inst : InstanceView) (cranes : List (Option ℕ)) (range : AreInRange 
   -- what is found is the span
   pub span_is : (j : ℕ) (js : List ℕ) (n : ℕ) → IsStretch inst cranes (j ∷ js) n
       → ((i v : ℕ) → i < length (j ∷ js) → v < length inst.cranes → may inst cranes (get_or (j ∷ js) i 0) v ≡ true
-          → IsFoundFrom inst cranes (j ∷ js) (Some n) (place inst (get_or (j ∷ js) i 0) v))
+      → IsFoundFrom inst cranes (j ∷ js) (Some n) (place inst (get_or (j ∷ js) i 0) v))
       → span inst cranes (j ∷ js) ≡ n
   span_is j js n s found =
       let all = all_of (Lies inst cranes (length inst.cranes) s.low s.high) (j ∷ js) s.lie in
@@ -448,7 +447,7 @@ module _ (inst : InstanceView) (cranes : List (Option ℕ)) (range : AreInRange 
   -- and something is found
   pub span_some : (j : ℕ) (js : List ℕ) → ((k : ℕ) → Among (j ∷ js) k → is_doable inst cranes k ≡ true)
       → ((i v : ℕ) → i < length (j ∷ js) → v < length inst.cranes → may inst cranes (get_or (j ∷ js) i 0) v ≡ true
-          → IsFoundFrom inst cranes (j ∷ js) None (place inst (get_or (j ∷ js) i 0) v))
+      → IsFoundFrom inst cranes (j ∷ js) None (place inst (get_or (j ∷ js) i 0) v))
       → ⊥
   span_some j js doable found =
       let some = some_stretch (j ∷ js) doable in

@@ -1,14 +1,16 @@
 -- public: when an assignment is closed at an end: no schedule that keeps it ends earlier, since too few cranes can come
 -- to where tasks have no crane yet, and work there, by then.
-use Rattle.std.specs.Prelude.{◌≡◌, ℕ, zero, suc, ◌+◌, ◌-◌, ◌*◌, ◌/◌, ◌<◌, ◌≤◌, max, ℤ, pos, Bool, true, ◌&&◌, ◌==◌, nat_lt, ◌⊎◌, List, [], ◌∷◌, map, filter, length, slice_index, sum, sum_by, is_none, Option}
+use Rattle.std.specs.Prelude.{◌≡◌, ℕ, zero, suc, ◌+◌, ◌-◌, ◌*◌, ◌/◌, ◌<◌, ◌≤◌, max, pos, true, ◌&&◌, ◌==◌, nat_lt, ◌⊎◌, List, [], ◌∷◌, map, filter, length, slice_index, sum, sum_by, is_none, Option}
 use Prim.Native.Nat.{◌∣◌}
 use Rattle.std.specs.List.{range_with_len}
 use Rattle.qc_model.specs.Bays.{at_least_zero, bays_up}
 use Rattle.qc_model.specs.Instance.{InstanceView, bay_of, crane, ticks_of}
 use Rattle.qc_model.specs.Leaves.{crane_numbers, task_numbers, ticks_over}
+use Rattle.qc_model.specs.declared.schedule.Slot.{Slot}
+use Rattle.qc_model.specs.Rules.{ends}
 use Rattle.qc_close.specs.declared.turn.Turn.{Turn}
-use Rattle.qc_close.specs.Assignments.{crane_in, no_cranes}
-use Rattle.qc_close.specs.Frames.{Frame, frame}
+use Rattle.qc_close.specs.Assignments.{Follows, crane_in, no_cranes}
+use Rattle.qc_close.specs.Frames.{Frame, GoesBy, frame}
 
 -- the greatest sum of n of these numbers: of all where there are fewer
 abbrev pub most : ℕ → List ℕ → ℕ
@@ -137,3 +139,8 @@ pub record IsClosed (inst : InstanceView) (turn : Turn) (cranes : List (Option �
   pub short :
       IsShortBefore inst turn (no_cranes inst) (last_before grain end)
       ⊎ IsShortBefore inst turn cranes (last_before grain end)
+
+-- no schedule that follows the assignment, and that cranes which turn so can keep, ends before this end
+abbrev pub IsClosedBound : InstanceView → Turn → List (Option ℕ) → ℕ → Type 0
+IsClosedBound inst turn cranes end =
+    (sched : List Slot) → GoesBy turn inst sched → Follows inst cranes sched → end ≤ ends inst sched

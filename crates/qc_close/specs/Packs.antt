@@ -1,13 +1,15 @@
 -- public: packed tasks: tasks of which no two can run together, whichever cranes do them, and the ticks that they
 -- need from the start of the first to the end of the last.
-use Rattle.std.specs.Prelude.{ℕ, ◌+◌, ◌*◌, ℤ, Bool, true, not, ◌&&◌, ◌||◌, ◌==◌, nat_lt, int_le, if◌then◌else◌, List, [], ◌∷◌, map, filter, length, Option, None, Some}
+use Rattle.std.specs.Prelude.{ℕ, ◌+◌, ◌*◌, ◌≤◌, ℤ, Contains, Bool, true, not, ◌&&◌, ◌||◌, ◌==◌, nat_lt, int_le, if◌then◌else◌, List, [], ◌∷◌, map, filter, length, Option, None, Some}
 use Rattle.std.specs.List.{flat_map, list_all, list_any}
+use Rattle.qc_model.specs.declared.schedule.Slot.{Slot}
 use Rattle.qc_model.specs.Bays.{bays_up}
 use Rattle.qc_model.specs.Instance.{InstanceView}
 use Rattle.qc_model.specs.Leaves.{ticks_over}
 use Rattle.qc_model.specs.Nodes.{least}
+use Rattle.qc_model.specs.Rules.{Feasible, ends, start_of}
 use Rattle.qc_model.specs.Ticks.{task_distance}
-use Rattle.qc_close.specs.Assignments.{cranes_for, place}
+use Rattle.qc_close.specs.Assignments.{Follows, cranes_for, place}
 
 -- whichever cranes do tasks i and j, it is one crane, or the two come too near
 abbrev pub clash : InstanceView → List (Option ℕ) → ℕ → ℕ → Bool
@@ -61,3 +63,11 @@ pack inst cranes tasks =
     if is_packed inst cranes tasks
     then Some (ticks_over inst tasks + inst.travel * span inst cranes tasks)
     else None
+
+-- no feasible schedule that follows the assignment, and in which each of these tasks starts no earlier than these ticks,
+-- ends before so many ticks after the least of them
+abbrev pub IsPackBound : InstanceView → List (Option ℕ) → List ℕ → ℕ → Type 0
+IsPackBound inst cranes tasks ticks =
+    (sched : List Slot) → Feasible inst sched → Follows inst cranes sched
+    → (early : ℕ → ℕ) → ((j : ℕ) → Contains tasks j → early j ≤ start_of sched j)
+    → least (map early tasks) + ticks ≤ ends inst sched

@@ -2,6 +2,7 @@
 //! whatever the order of tasks: tasks of which no two can run together.
 #![tactic(auto)]
 
+mod closed;
 mod crew;
 mod packs;
 mod turn;

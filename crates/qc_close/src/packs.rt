@@ -8,7 +8,7 @@ ghost use Rattle.qc_model.specs.Leaves.{crane_numbers, ticks_over};
 ghost use Rattle.qc_model.specs.Nodes.{reaches};
 ghost use Rattle.qc_close.specs.Assignments.{place};
 ghost use Rattle.qc_close.specs.Bands.{AllLie, AreStacked, IsBandOf, IsFinding, IsFoundFrom, IsNearest, IsPlace, IsReach, IsStretch, Lies, may, nearer, widened};
-ghost use Rattle.qc_close.specs.Packs.{all_clash, all_differ, is_doable, is_packed, pack};
+ghost use Rattle.qc_close.specs.Packs.{IsPackBound, all_clash, all_differ, is_doable, is_packed, pack};
 
 use crate::Crew;
 use qc_dist::in_reach;
@@ -205,10 +205,7 @@ impl Crew {
     fn is_packed(&self, tasks: &[u16]) -> bool
         ensures { result ≡ is_packed self.now.inst self.now.cranes tasks.now }
     {
-        !tasks.is_empty()
-            && self.are_doable(tasks)
-            && all_differ(tasks)
-            && self.all_clash(tasks)
+        !tasks.is_empty() && self.are_doable(tasks) && all_differ(tasks) && self.all_clash(tasks)
     }
 
     /// The nearest place of a task at this one or above.
@@ -285,7 +282,7 @@ impl Crew {
         ensures found { (i v : ℕ) → i < length tasks.now → v < length self.now.inst.cranes
             → may self.now.inst self.now.cranes (slice_index tasks.now i) v ≡ true
             → IsFoundFrom self.now.inst self.now.cranes tasks.now result
-                (place self.now.inst (slice_index tasks.now i) v) }
+            (place self.now.inst (slice_index tasks.now i) v) }
     {
         let mut least = None;
         for task in tasks {
@@ -312,7 +309,8 @@ impl Crew {
     /// The ticks that packed tasks need from the start of the first to the end of the last: their own,
     /// and the travel between them. `None` exactly where they aren't packed.
     pub fn pack(&self, tasks: &[u16]) -> Option<Tick>
-        ensures { result ≡ pack self.now.inst self.now.cranes tasks.now }
+        ensures ticks { result ≡ pack self.now.inst self.now.cranes tasks.now }
+        ensures bound { IfSome result (IsPackBound self.now.inst self.now.cranes tasks.now) }
     {
         let inst = self.instance();
         if !self.is_packed(tasks) {
