@@ -1,0 +1,34 @@
+use Rattle.std.proofs.Common.{◌≡◌, ◌+◌, ◌*◌, Some, ap, sym, ◌∙◌, arith}
+use Rattle.qc_model.specs.Instance.{InstanceView}
+use Rattle.qc_model.specs.Leaves.{ticks_over}
+use Rattle.qc_close.specs.Packs.{pack}
+use Rattle.qc_close.proofs.PackLemmas.{pack_end_le}
+use Rattle.qc_close.proofs.SpanLemmas.{pack_found, pack_is, packed_few}
+use Rattle.qc_close.proofs.crew.Crew.pack.Goals.{After-travel_over}
+use Rattle.qc_close.proofs.crew.Crew.pack.Goals as goal
+
+pub ticks-requires-clause-few : goal.ticks-requires-clause-few
+ticks-requires-clause-few c =
+    packed_few c.args.self.now.inst c.args.self.now.cranes c.args.tasks.now (sym c.is_packed.ensures ∙ c.if-not-is_packed.false)
+
+pub returns-in-None-clause-ticks : goal.returns-in-None-clause-ticks
+returns-in-None-clause-ticks c =
+    absurd (pack_found c.args.self.now.inst c.args.self.now.cranes c.instance-inst.ensures.range c.args.tasks.now
+    (sym c.is_packed.ensures ∙ c.if-not-is_packed.false) c.in-None.ensures.found)
+
+answered : (c : After-travel_over)
+    → Some (c.ticks.result + c.travel_over.result) ≡ pack c.args.self.now.inst c.args.self.now.cranes c.args.tasks.now
+answered c =
+    let inst = c.args.self.now.inst in
+    let travel = ap (λ (i : InstanceView). i.travel * c.in-Some.span) c.instance-inst.ensures.same in
+    let sum : c.ticks.result + c.travel_over.result ≡ ticks_over inst c.args.tasks.now + inst.travel * c.in-Some.span = omega (arith, travel, c.ticks.ensures.ticks, c.travel_over.ensures.ticks) in
+    ap Some sum
+    ∙ sym (pack_is inst c.args.self.now.cranes c.instance-inst.ensures.range c.args.tasks.now c.in-Some.span
+    (sym c.is_packed.ensures ∙ c.if-not-is_packed.false) c.in-Some.ensures.stretch c.in-Some.ensures.found)
+
+pub returns-in-Some-clause-ticks : goal.returns-in-Some-clause-ticks
+returns-in-Some-clause-ticks c = answered c
+
+pub returns-in-Some-clause-bound : goal.returns-in-Some-clause-bound
+returns-in-Some-clause-bound c =
+    pack_end_le c.args.self.now.inst c.args.self.now.cranes c.args.tasks.now (c.ticks.result + c.travel_over.result) (sym (answered c))

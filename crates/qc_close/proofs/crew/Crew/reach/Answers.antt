@@ -1,0 +1,18 @@
+use Rattle.std.proofs.Common.{◌≡◌, ◌∙◌, ap, arith, of_z, to_z, w32}
+use Rattle.std.specs.Int.{int_max}
+use Rattle.std.proofs.lemmas.Int.{int_max_is, ints}
+use Rattle.qc_close.proofs.BandLemmas.{reach_at}
+use Rattle.qc_close.proofs.crew.Crew.reach.Goals as goal
+
+pub loop-task-preserved : goal.loop-task-preserved
+loop-task-preserved c =
+    let near = c.in-Some.ensures.near in
+    let was = c.loop-task.invariant.near in
+    let low = c.requires.near in
+    let high = to_z w32 c.loop-task.high-bits in
+    let place_is : to_z w32 (of_z w32 c.in-Some.place) ≡ c.in-Some.place = omega (arith, ints, near.0, near.1) in
+    let most_is = c.max-high.ensures.value ∙ ap (int_max high) place_is in
+    let back : to_z w32 (of_z w32 c.max-high.result) ≡ c.max-high.result = omega (arith, ints, int_max_is high c.in-Some.place, most_is, near.0, near.1, was.0, was.1) in
+    reach_at c.args.self.now.inst c.args.self.now.cranes c.args.tasks.now c.loop-task.task-index (to_z w32 (of_z w32 c.args.low))
+    high c.in-Some.place _ (to_z w32 (of_z w32 c.max-high.result)) c.loop-task.invariant c.in-Some.ensures
+    (omega (arith, ints, low.0, low.1)) (back ∙ most_is)

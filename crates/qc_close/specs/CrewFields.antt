@@ -1,0 +1,14 @@
+-- inner: the fields of a crew, as clauses see them and as they are kept.
+use Rattle.std.specs.Prelude.{◌≡◌, length}
+use Rattle.qc_model.specs.Instance.{Valid}
+use Rattle.qc_close.specs.declared.crew.Crew.TheInside.{Inside}
+use Rattle.qc_close.specs.Assignments.{AreInRange}
+use Rattle.qc_close.specs.Crews.{CrewView}
+
+abbrev pub view_of : Inside → CrewView
+view_of f = record { inst = f.inst; turn = f.turn; cranes = f.cranes.items }
+
+pub record IsKept (f : Inside) : Type 0 where
+  pub valid : Valid f.inst
+  pub count : length f.cranes.items ≡ length f.inst.tasks
+  pub range : AreInRange f.inst f.cranes.items

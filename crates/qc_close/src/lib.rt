@@ -1,0 +1,11 @@
+//! Assignments of tasks to cranes, and what shows of every schedule that keeps one how early it can end,
+//! whatever the order of tasks: tasks of which no two can run together.
+#![tactic(auto)]
+
+mod closed;
+mod crew;
+mod packs;
+mod turn;
+
+pub use crew::Crew;
+pub use turn::Turn;

@@ -1,0 +1,324 @@
+//! Tasks of which no two can run together.
+
+ghost use Rattle.std.specs.Prelude.{◌≡◌, ◌==◌, ◌*◌, ◌<◌, ◌≤◌, ℕ, ℤ, drop, All, IfSome, MatchBool, MatchOption, length, slice_index, true, false, int_le, min};
+ghost use Rattle.std.specs.List.{list_all, list_any};
+ghost use Rattle.std.specs.Option.{option_map_or};
+ghost use Rattle.qc_model.specs.declared.limits.TheConstants.{MOST_TASKS, MOST_WORK};
+ghost use Rattle.qc_model.specs.Leaves.{crane_numbers, ticks_over};
+ghost use Rattle.qc_model.specs.Nodes.{reaches};
+ghost use Rattle.qc_close.specs.Assignments.{place};
+ghost use Rattle.qc_close.specs.Bands.{AllLie, AreStacked, IsBandOf, IsFinding, IsFoundFrom, IsNearest, IsPlace, IsReach, IsStretch, Lies, may, nearer, widened};
+ghost use Rattle.qc_close.specs.Packs.{IsPackBound, all_clash, all_differ, is_doable, is_packed, pack};
+
+use crate::Crew;
+use qc_dist::in_reach;
+use qc_model::{bays_up, travel_over};
+use qc_num::{Bay, Tick};
+
+/// Places along the rail from one to another.
+#[derive(Clone, Copy)]
+pub(crate) struct Band {
+    pub(crate) low: Bay,
+    pub(crate) high: Bay,
+}
+
+/// A band with one place more.
+fn widened(band: Option<Band>, place: Bay) -> Band
+    ensures { result ≡ widened band place }
+{
+    match band {
+        None => Band {
+            low: place,
+            high: place,
+        },
+        Some(band) => Band {
+            low: place.min(band.low),
+            high: place.max(band.high),
+        },
+    }
+}
+
+/// Whether a place lies as high as a floor, if there is one.
+fn is_as_high(floor: Option<Bay>, place: Bay) -> bool
+    ensures { result ≡ option_map_or (λ x. int_le x place) floor false }
+{
+    match floor {
+        None => false,
+        Some(floor) => floor <= place,
+    }
+}
+
+/// Whether a task is one of these.
+fn is_among(tasks: &[u16], task: u16) -> bool
+    ensures { result ≡ list_any (λ j. j == task) tasks.now }
+{
+    tasks.contains(&task)
+}
+
+/// The tasks behind so many.
+fn behind(tasks: &[u16], count: usize) -> &[u16]
+    requires { count ≤ length tasks.now }
+    ensures { result.now ≡ drop count tasks.now }
+{
+    &tasks[count..]
+}
+
+/// Whether all tasks of a list are different.
+fn all_differ(tasks: &[u16]) -> bool
+    ensures { result ≡ all_differ tasks.now }
+{
+    for (index, task) in tasks.iter().enumerate() {
+        if is_among(behind(tasks, index + 1), *task) {
+            return false;
+        }
+    }
+    true
+}
+
+/// The nearest place at a low one or above: a place, or that before it, if there was one.
+fn nearer(before: Option<Bay>, low: Bay, place: Bay) -> Option<Bay>
+    ensures { result ≡ nearer before low place }
+{
+    if place < low {
+        return before;
+    }
+    match before {
+        None => Some(place),
+        Some(other) => Some(other.min(place)),
+    }
+}
+
+/// The lesser of a number and that before it, if there was one.
+fn lesser(before: Option<Tick>, number: Tick) -> Tick
+    ensures { result ≡ option_map_or (λ other. min other number) before number }
+{
+    before.map_or(number, |other| other.min(number))
+}
+
+impl Crew {
+    /// Whether a crane may do a task: it has it, or no crane has it and this one reaches it.
+    fn may(&self, task: u16, crane: u16) -> bool
+        requires task { task < length self.now.inst.tasks }
+        requires crane { crane < length self.now.inst.cranes }
+        ensures { result ≡ may self.now.inst self.now.cranes task crane }
+    {
+        match self.crane_of(task) {
+            Some(own) => own == crane,
+            None => in_reach(self.instance(), task, crane),
+        }
+    }
+
+    /// The gaps of so many cranes, in bays.
+    fn gaps(&self, cranes: u16) -> Tick
+        requires { cranes < length self.now.inst.cranes }
+        ensures bays { result ≡ self.now.inst.gap * cranes }
+        ensures bound { result ≤ 16000 }
+    {
+        let gap = bays_up(0, self.instance().gap());
+        gap * Tick::from(cranes)
+    }
+
+    /// Where a task lies for a crane.
+    fn place(&self, task: u16, crane: u16) -> Bay
+        requires task { task < length self.now.inst.tasks }
+        requires crane { crane < length self.now.inst.cranes }
+        ensures place { result ≡ place self.now.inst task crane }
+        ensures near { IsPlace result }
+    {
+        let bay = self.instance().task(task).bay;
+        bay - self.gaps(crane) as Bay
+    }
+
+    /// Whether some crane reaches a task.
+    fn is_in_reach(&self, task: u16) -> bool
+        requires { task < length self.now.inst.tasks }
+        ensures { result ≡ list_any (reaches self.now.inst task) (crane_numbers self.now.inst) }
+    {
+        let inst = self.instance();
+        for crane in 0..inst.crane_count() {
+            if in_reach(inst, task, crane) {
+                return true;
+            }
+        }
+        false
+    }
+
+    /// Whether it is a task that some crane may do.
+    fn is_doable(&self, task: u16) -> bool
+        ensures { result ≡ is_doable self.now.inst self.now.cranes task }
+    {
+        task < self.instance().task_count()
+            && (self.crane_of(task).is_some() || self.is_in_reach(task))
+    }
+
+    /// Whether some crane may do each of the tasks.
+    fn are_doable(&self, tasks: &[u16]) -> bool
+        ensures { result ≡ list_all (is_doable self.now.inst self.now.cranes) tasks.now }
+    {
+        tasks.iter().all(|task| self.is_doable(*task))
+    }
+
+    /// From where to where those of the tasks lie that a crane may do.
+    fn band(&self, tasks: &[u16], crane: u16) -> Option<Band>
+        requires tasks { All (λ j. j < length self.now.inst.tasks) tasks.now }
+        requires crane { crane < length self.now.inst.cranes }
+        ensures { IsBandOf self.now.inst self.now.cranes tasks.now crane (length tasks.now) result }
+    {
+        let mut band: Option<Band> = None;
+        for task in tasks {
+            if self.may(*task, crane) {
+                band = Some(widened(band, self.place(*task, crane)));
+            }
+        }
+        band
+    }
+
+    /// Whether the tasks of each of so many cranes lie below those of each crane below it.
+    fn are_stacked(&self, tasks: &[u16], count: u16) -> bool
+        requires tasks { All (λ j. j < length self.now.inst.tasks) tasks.now }
+        requires count { count ≤ length self.now.inst.cranes }
+        ensures { MatchBool result
+            (AreStacked self.now.inst self.now.cranes tasks.now count)
+            (¬ AreStacked self.now.inst self.now.cranes tasks.now count) }
+    {
+        let mut floor: Option<Bay> = None;
+        for crane in 0..count {
+            if let Some(band) = self.band(tasks, crane) {
+                if is_as_high(floor, band.high) {
+                    return false;
+                }
+                floor = Some(band.low);
+            }
+        }
+        true
+    }
+
+    /// Whether each task clashes with those behind it.
+    fn all_clash(&self, tasks: &[u16]) -> bool
+        requires { All (λ j. j < length self.now.inst.tasks) tasks.now }
+        ensures { result ≡ all_clash self.now.inst self.now.cranes tasks.now }
+    {
+        self.are_stacked(tasks, self.instance().crane_count())
+    }
+
+    /// Whether the tasks are packed.
+    fn is_packed(&self, tasks: &[u16]) -> bool
+        ensures { result ≡ is_packed self.now.inst self.now.cranes tasks.now }
+    {
+        !tasks.is_empty() && self.are_doable(tasks) && all_differ(tasks) && self.all_clash(tasks)
+    }
+
+    /// The nearest place of a task at this one or above.
+    fn nearest(&self, task: u16, low: Bay) -> Option<Bay>
+        requires task { task < length self.now.inst.tasks }
+        requires near { IsPlace low }
+        ensures { MatchOption result
+            ((high : ℤ) → ¬ Lies self.now.inst self.now.cranes (length self.now.inst.cranes) low high task)
+            (IsNearest self.now.inst self.now.cranes (length self.now.inst.cranes) low task) }
+    {
+        let mut nearest = None;
+        for crane in 0..self.instance().crane_count() {
+            if self.may(task, crane) {
+                nearest = nearer(nearest, low, self.place(task, crane));
+            }
+        }
+        nearest
+    }
+
+    /// The nearest place up to which each of the tasks may lie from this one on.
+    fn reach(&self, tasks: &[u16], low: Bay) -> Option<Bay>
+        requires tasks { All (λ j. j < length self.now.inst.tasks) tasks.now }
+        requires near { IsPlace low }
+        ensures { MatchOption result
+            ((high : ℤ) → ¬ AllLie self.now.inst self.now.cranes tasks.now (length tasks.now) low high)
+            (IsReach self.now.inst self.now.cranes tasks.now (length tasks.now) low) }
+    {
+        let mut high = low;
+        for task in tasks {
+            match self.nearest(*task, low) {
+                None => return None,
+                Some(place) => high = high.max(place),
+            }
+        }
+        Some(high)
+    }
+
+    /// The bays from a place up to where each of the tasks may lie, or what was found where that is no
+    /// more.
+    fn closer(&self, tasks: &[u16], low: Bay, before: Option<Tick>) -> Option<Tick>
+        requires tasks { All (λ j. j < length self.now.inst.tasks) tasks.now }
+        requires near { IsPlace low }
+        ensures finding { IsFinding self.now.inst self.now.cranes tasks.now before result }
+        ensures found { IsFoundFrom self.now.inst self.now.cranes tasks.now result low }
+    {
+        match self.reach(tasks, low) {
+            None => before,
+            Some(high) => Some(lesser(before, bays_up(low, high))),
+        }
+    }
+
+    /// The same from each place of a task on.
+    fn closest(&self, tasks: &[u16], task: u16, before: Option<Tick>) -> Option<Tick>
+        requires tasks { All (λ j. j < length self.now.inst.tasks) tasks.now }
+        requires task { task < length self.now.inst.tasks }
+        ensures finding { IsFinding self.now.inst self.now.cranes tasks.now before result }
+        ensures found { (v : ℕ) → v < length self.now.inst.cranes
+            → may self.now.inst self.now.cranes task v ≡ true
+            → IsFoundFrom self.now.inst self.now.cranes tasks.now result (place self.now.inst task v) }
+    {
+        let mut least = before;
+        for crane in 0..self.instance().crane_count() {
+            if self.may(task, crane) {
+                least = self.closer(tasks, self.place(task, crane), least);
+            }
+        }
+        least
+    }
+
+    /// The fewest bays among which each of the tasks may lie.
+    fn span(&self, tasks: &[u16]) -> Option<Tick>
+        requires { All (λ j. j < length self.now.inst.tasks) tasks.now }
+        ensures stretch { IfSome result (IsStretch self.now.inst self.now.cranes tasks.now) }
+        ensures found { (i v : ℕ) → i < length tasks.now → v < length self.now.inst.cranes
+            → may self.now.inst self.now.cranes (slice_index tasks.now i) v ≡ true
+            → IsFoundFrom self.now.inst self.now.cranes tasks.now result
+            (place self.now.inst (slice_index tasks.now i) v) }
+    {
+        let mut least = None;
+        for task in tasks {
+            least = self.closest(tasks, *task, least);
+        }
+        least
+    }
+
+    /// The ticks of the tasks.
+    fn ticks(&self, tasks: &[u16]) -> Tick
+        requires tasks { All (λ j. j < length self.now.inst.tasks) tasks.now }
+        requires few { length tasks.now ≤ length self.now.inst.tasks }
+        ensures ticks { result ≡ ticks_over self.now.inst tasks.now }
+        ensures bound { result ≤ MOST_TASKS * MOST_WORK }
+    {
+        let inst = self.instance();
+        let mut ticks = 0;
+        for task in tasks {
+            ticks += inst.task(*task).ticks;
+        }
+        ticks
+    }
+
+    /// The ticks that packed tasks need from the start of the first to the end of the last: their own,
+    /// and the travel between them. `None` exactly where they aren't packed.
+    pub fn pack(&self, tasks: &[u16]) -> Option<Tick>
+        ensures ticks { result ≡ pack self.now.inst self.now.cranes tasks.now }
+        ensures bound { IfSome result (IsPackBound self.now.inst self.now.cranes tasks.now) }
+    {
+        let inst = self.instance();
+        if !self.is_packed(tasks) {
+            return None;
+        }
+        match self.span(tasks) {
+            None => None,
+            Some(span) => Some(self.ticks(tasks) + travel_over(inst, span)),
+        }
+    }
+}
