@@ -476,7 +476,7 @@ MISTAKES = [
     plan("a task twice", [("6-DD,C1,21,31\n", "6-DD,C1,21,31\n6-DD,C1,41,51\n")], "BadPlan TaskTwice 4",
          ['qc: plan.csv, line 4, record 4: the task "6-DD" stands in line 3 already; each task has one record']),
     plan("a task missing", [("6-DD,C1,21,31\n", "")], "BadPlan TaskMissing 3",
-         ["qc: plan.csv: 1 of the tasks have no record: 6-DD; a plan has one for each task that qc tasks SHIP STOW prints"]),
+         ["qc: plan.csv: 1 task has no record: 6-DD; a plan has one for each task that qc tasks SHIP STOW prints"]),
     ("a plan of one's own with a wrong end", "first", PLAN + " --from plan.csv",
      {"plan.csv": [("6-DD,C1,21,31", "6-DD,C1,21,32")]}, 8, "BadPlan EndWrong 3",
      ["qc: plan.csv, line 3, record 3: the task takes 10 ticks, so from 21 on it ends at 31, and not at 32"]),
@@ -485,10 +485,10 @@ MISTAKES = [
          ["qc: plan.csv, line 3, record 3: 6-DD stands at crane bay 2, and C1 reaches 1 to 1; no crane reaches it, by from and "
           "to of the ship file"]),
     plan("Ready", [("6-DD,C1,21,31", "6-DD,C1,0,10"), ("2-DD,C1,0,20", "2-DD,C1,11,31")], "Broken Ready 6-DD",
-         ["qc: plan.csv, line 3, record 3: 6-DD starts at 0; C1 is ready at 0 and goes 1 bay in 1 ticks: 6-DD may start at 1, "
+         ["qc: plan.csv, line 3, record 3: 6-DD starts at 0; C1 is ready at 0 and goes 1 bay in 1 tick: 6-DD may start at 1, "
           "and ends at 11 then"], status=13),
     plan("Travel", [("6-DD,C1,21,31", "6-DD,C1,20,30")], "Broken Travel 2-DD 6-DD",
-         ["qc: plan.csv, line 3, record 3: C1 does 2-DD to 20 and 6-DD from 20, and goes 1 bay in 1 ticks between: 6-DD may "
+         ["qc: plan.csv, line 3, record 3: C1 does 2-DD to 20 and 6-DD from 20, and goes 1 bay in 1 tick between: 6-DD may "
           "start at 21, and ends at 31 then"], status=13),
     plan("Before", [("10-LD,C1,22,42", "10-LD,C2,2,22")], "Broken Before 2-DD 10-LD",
          ["qc: plan.csv, line 3, record 3: 10-LD starts at 2, and 2-DD is before it and ends at 20: 10-LD may start at 20, and "

@@ -3,7 +3,7 @@
 use crate::doing::{Doing, bays_needed, bays_short, done_by, travel};
 use crate::page::Page;
 use crate::place::Place;
-use crate::shown::{Bays, Word, text_of};
+use crate::shown::{Bays, Ticks, Word, text_of};
 use crate::table::{Table, table_of};
 use qc_gantt::read_plan;
 use qc_model::{Break, Crane, Direction, Instance, Rule, Schedule, first_break};
@@ -157,9 +157,14 @@ fn say_ready(page: &mut Page, story: &Story<'_>) -> Result<(), OutOfMemory> {
         task.start,
         task.crane_name(),
     );
-    let (ready, end, bays) = (crane.ready, task.end_from(least), story.bays(bays));
+    let (ready, end, bays, way) = (
+        crane.ready,
+        task.end_from(least),
+        story.bays(bays),
+        Ticks(way),
+    );
     page.say(format_args!(
-        "{place}: {name} starts at {start}; {crane_name} is ready at {ready} and goes {bays} in {way} ticks: {name} may start at {least}, and ends at {end} then"
+        "{place}: {name} starts at {start}; {crane_name} is ready at {ready} and goes {bays} in {way}: {name} may start at {least}, and ends at {end} then"
     ))
 }
 
@@ -181,8 +186,9 @@ fn say_travel(page: &mut Page, story: &Story<'_>) -> Result<(), OutOfMemory> {
         late.end_from(least),
         story.bays(bays),
     );
+    let way = Ticks(way);
     page.say(format_args!(
-        "{place}: {crane} does {first} to {first_end} and {second} from {start}, and goes {bays} in {way} ticks between: {second} may start at {least}, and ends at {end} then"
+        "{place}: {crane} does {first} to {first_end} and {second} from {start}, and goes {bays} in {way} between: {second} may start at {least}, and ends at {end} then"
     ))
 }
 
@@ -228,14 +234,13 @@ fn say_margin(page: &mut Page, story: &Story<'_>) -> Result<(), OutOfMemory> {
     let (second_crane, start) = (late.crane_name(), late.start);
     let bays = story.bays(Tick::from(early.bay.abs_diff(late.bay)));
     let needed = bays_needed(story.inst, early.crane, late.crane);
-    let stand = if bays.count == 1 { "stand" } else { "stand" };
     if are_crossed(early, late) {
         return page.say(format_args!(
-            "{place}: {second} ({second_crane}, from {start}) and {first} ({first_crane}, to {first_end}) {stand} {bays} apart in the wrong order, and cranes can't pass each other: {second} may start at {least}, and ends at {end} then"
+            "{place}: {second} ({second_crane}, from {start}) and {first} ({first_crane}, to {first_end}) stand {bays} apart in the wrong order, and cranes can't pass each other: {second} may start at {least}, and ends at {end} then"
         ));
     }
     page.say(format_args!(
-        "{place}: {second} ({second_crane}, from {start}) and {first} ({first_crane}, to {first_end}) {stand} {bays} apart, {needed} are needed: {second} may start at {least}, and ends at {end} then"
+        "{place}: {second} ({second_crane}, from {start}) and {first} ({first_crane}, to {first_end}) stand {bays} apart, {needed} are needed: {second} may start at {least}, and ends at {end} then"
     ))
 }
 

@@ -3,7 +3,7 @@
 use crate::cranes::say_no_crane;
 use crate::form::Sort;
 use crate::page::Page;
-use crate::shown::{Shown, Word, text_of};
+use crate::shown::{Shown, Ticks, Word, text_of};
 use crate::table::{Table, is_blank, say_fields, say_header, table_of};
 use qc_gantt::{PlanError, PlanFault, PlanKind, read_plan};
 use qc_model::{Instance, Task};
@@ -147,10 +147,10 @@ fn say_end(
     ) else {
         return Ok(());
     };
-    let (end, ticks) = (Word(text_of(table.field(number, 3))), task.ticks);
-    let wanted = start.saturating_add(ticks);
+    let (end, ticks) = (Word(text_of(table.field(number, 3))), Ticks(task.ticks));
+    let wanted = start.saturating_add(task.ticks);
     page.say(format_args!(
-        "{place}: the task takes {ticks} ticks, so from {start} on it ends at {wanted}, and not at {end}"
+        "{place}: the task takes {ticks}, so from {start} on it ends at {wanted}, and not at {end}"
     ))
 }
 
@@ -194,8 +194,9 @@ fn say_missing(page: &mut Page, table: &Table<'_>, inst: &Instance) -> Result<()
         }
     }
     let more = if count > 5 { " .." } else { "" };
+    let have = if count == 1 { "task has" } else { "tasks have" };
     let file = Word(table.file);
     page.say(format_args!(
-        "{file}: {count} of the tasks have no record:{list}{more}; a plan has one for each task that qc tasks SHIP STOW prints"
+        "{file}: {count} {have} no record:{list}{more}; a plan has one for each task that qc tasks SHIP STOW prints"
     ))
 }

@@ -78,6 +78,21 @@ impl fmt::Display for Bays {
     }
 }
 
+/// An amount of ticks.
+#[derive(Clone, Copy)]
+pub(crate) struct Ticks(pub(crate) u64);
+
+impl fmt::Display for Ticks {
+    fn fmt<W: fmt::Write>(&self, f: &mut fmt::Formatter<W>) -> fmt::Result {
+        let count = self.0;
+        if count == 1 {
+            f.write_str("1 tick")
+        } else {
+            write!(f, "{count} ticks")
+        }
+    }
+}
+
 /// A number that counts cranes, as first.
 pub(crate) fn ordinal(number: u32) -> &'static str {
     match number {
