@@ -44,6 +44,9 @@ const FORMS: [Form; 7] = [
     },
 ];
 
+/// The names of the commands.
+const NAMES: [&str; 7] = ["plan", "check", "tasks", "show", "make", "sheet", "watch"];
+
 const OPTIONS: [&str; 2] = ["--nodes", "--from"];
 
 /// The words behind a command's name, told apart.
@@ -63,15 +66,16 @@ struct Sorted<'a> {
 impl<'a> Sorted<'a> {
     /// Takes the value of an option.
     fn take_value(&mut self, option: &'a str, value: &'a str) {
-        let place = if option == "--nodes" {
-            &mut self.nodes
+        if option == "--nodes" {
+            if self.nodes.is_some() {
+                self.twice = Some(option);
+            }
+            self.nodes = Some(value);
         } else {
-            &mut self.from
-        };
-        if place.is_some() {
-            self.twice = Some(option);
-        } else {
-            *place = Some(value);
+            if self.from.is_some() {
+                self.twice = Some(option);
+            }
+            self.from = Some(value);
         }
     }
 
@@ -274,11 +278,7 @@ fn say_behind(page: &mut Page, form: &Form, words: &[String]) -> Result<(), OutO
 
 /// Says that a word is no command.
 fn say_no_command(page: &mut Page, word: &str) -> Result<(), OutOfMemory> {
-    let mut names = [""; FORMS.len()];
-    for (name, form) in names.iter_mut().zip(FORMS.iter()) {
-        *name = form.name;
-    }
-    let near = nearest(page.alloc(), word, &names)?;
+    let near = nearest(page.alloc(), word, &NAMES)?;
     let word = Word(word);
     match near {
         Some(near) => page.say(format_args!("\"{word}\" is no command; the nearest is {near}")),

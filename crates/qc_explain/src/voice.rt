@@ -58,48 +58,45 @@ fn instance_of(alloc: Global, texts: &Texts) -> Result<Option<Instance>, OutOfMe
     }
 }
 
-/// The files of a command by their words in the usage text, with what was read of them.
-fn read_files<'a>(
-    names: &Names<'a>,
-    texts: &'a Texts,
-) -> [(&'static str, Option<&'a str>, &'a Text); 5] {
-    [
-        ("SHIP", names.ship, &texts.ship),
-        ("STOW", names.stow, &texts.stow),
-        ("PLAN", names.plan, &texts.plan),
-        ("OWN", names.own, &texts.plan),
-        ("LOG", names.log, &texts.log),
-    ]
+/// Says that a file couldn't be read or is too large, and answers whether it was so. The word is that of the usage
+/// text.
+fn say_if_unread(
+    page: &mut Page,
+    word: &str,
+    name: Option<&str>,
+    text: &Text,
+) -> Result<bool, OutOfMemory> {
+    let Some(name) = name else {
+        return Ok(false);
+    };
+    let name = Word(name);
+    match text {
+        Text::Unread => {
+            page.say(format_args!("{name}: this file, {word}, isn't there or can't be read"))?;
+            Ok(true)
+        }
+        Text::TooLarge => {
+            page.say(format_args!(
+                "{name}: this file, {word}, has more than 8388608 bytes, and may have no more"
+            ))?;
+            Ok(true)
+        }
+        _ => Ok(false),
+    }
 }
 
-/// Says which file couldn't be read, or is too large.
+/// Says which file couldn't be read, or is too large: where the others can be read again, a tree's.
 fn say_unread(page: &mut Page, names: &Names<'_>, texts: &Texts) -> Result<(), OutOfMemory> {
-    for (word, name, text) in read_files(names, texts) {
-        let Some(name) = name else {
-            continue;
-        };
-        let name = Word(name);
-        match text {
-            Text::Unread => {
-                return page.say(format_args!(
-                    "{name}: this file, {word}, isn't there or can't be read"
-                ));
-            }
-            Text::TooLarge => {
-                return page.say(format_args!(
-                    "{name}: this file, {word}, has more than 8388608 bytes, and may have no more"
-                ));
-            }
-            _ => {}
-        }
+    if say_if_unread(page, "SHIP", names.ship, &texts.ship)?
+        || say_if_unread(page, "STOW", names.stow, &texts.stow)?
+        || say_if_unread(page, "PLAN", names.plan, &texts.plan)?
+        || say_if_unread(page, "OWN", names.own, &texts.plan)?
+        || say_if_unread(page, "LOG", names.log, &texts.log)?
+    {
+        return Ok(());
     }
-    match names.tree {
-        Some(name) => {
-            let name = Word(name);
-            page.say(format_args!("{name}: this file, TREE, isn't there or can't be read"))
-        }
-        None => Ok(()),
-    }
+    say_if_unread(page, "TREE", names.tree, &Text::Unread)?;
+    Ok(())
 }
 
 /// Says what is wrong with the list.
