@@ -169,6 +169,21 @@ fn are_empty_behind(fields: &ByteRecord) -> bool {
     true
 }
 
+/// Why a record hasn't four fields.
+fn why_not_four(fields: &ByteRecord) -> &'static str {
+    if fields.len() > 4 && are_empty_behind(fields) {
+        "those behind the fourth are empty: delete their columns"
+    } else if fields.len() > 4 {
+        "delete further columns; a field that has a comma stands between double quotes"
+    } else if let Some(signs) = other_signs(fields.as_slice()) {
+        signs
+    } else if fields.as_slice().trim_ascii().is_empty() {
+        "the line has only spaces: delete it"
+    } else {
+        "some are missing, or the line is no record of the table"
+    }
+}
+
 /// Says what is wrong with the fields of a record that hasn't four.
 pub(crate) fn say_fields(
     page: &mut Page,
@@ -179,16 +194,7 @@ pub(crate) fn say_fields(
     let Some(fields) = table.record(number) else {
         return Ok(());
     };
-    let (place, count) = (table.place(number), fields.len());
-    let why = match other_signs(fields.as_slice()) {
-        Some(signs) if count < 4 => signs,
-        _ if count > 4 && are_empty_behind(fields) =>
-            "those behind the fourth are empty: delete their columns",
-        _ if count > 4 =>
-            "delete further columns; a field that has a comma stands between double quotes",
-        _ if fields.as_slice().trim_ascii().is_empty() => "the line has only spaces: delete it",
-        _ => "some are missing, or the line is no record of the table",
-    };
+    let (place, count, why) = (table.place(number), fields.len(), why_not_four(fields));
     let fields = if count == 1 { "field" } else { "fields" };
     page.say(format_args!(
         "{place}: the record has {count} {fields}, and needs four, {header}: {why}"
