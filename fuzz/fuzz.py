@@ -8,7 +8,7 @@ plain names), spoils one of its files or two by bytes, slices, lines, numbers, r
 runs `plan` with few branchings, `check`, `tasks` or `show` on it. What a trial does depends on the seed and N
 alone: `--only N` runs it again and prints its files. Reported are
 
-- a run that ends by a signal, writes on standard error, or takes more than ten seconds;
+- a run that ends by a signal, writes a line on standard error that doesn't begin with `qc: `, or takes more than ten seconds;
 - a status that the command hasn't, or a report whose first line isn't one of that status;
 - a file changed or made where the status doesn't allow it;
 - `plan` whose files `check` doesn't judge alike (Optimal, Weaker with the same numbers, Infeasible, Bound).
@@ -287,7 +287,7 @@ class Trials:
             status, wrong = ran.returncode, None
             if status < 0:
                 wrong = f"ended by signal {-status}"
-            elif ran.stderr:
+            elif any(not line.startswith(b"qc: ") for line in ran.stderr.splitlines()):
                 wrong = f"standard error: {ran.stderr[:300]!r}"
             elif status not in STATUSES[command]:
                 wrong = f"status {status}"

@@ -1,17 +1,21 @@
-# Completion of qc for bash: its commands, the names of files, and --nodes and --from of plan.
+# Completion of qc for bash: its commands, the names of files, -q ahead of a command, and --nodes and --from of plan.
 
 _qc() {
     local word=${COMP_WORDS[COMP_CWORD]} before=${COMP_WORDS[COMP_CWORD - 1]}
     COMPREPLY=()
-    if [ "$COMP_CWORD" -eq 1 ]; then
-        mapfile -t COMPREPLY < <(compgen -W 'plan check tasks show make sheet watch' -- "$word")
+    local first=1
+    [ "${COMP_WORDS[1]}" != -q ] || [ "$COMP_CWORD" -eq 1 ] || first=2
+    if [ "$COMP_CWORD" -eq "$first" ]; then
+        local words='plan check tasks show make sheet watch'
+        [ "$first" -eq 2 ] || words="$words -q"
+        mapfile -t COMPREPLY < <(compgen -W "$words" -- "$word")
         return
     fi
     # behind an equals sign the option is the word before it
     if [ "$before" = = ]; then
         before=${COMP_WORDS[COMP_CWORD - 2]}
     fi
-    case ${COMP_WORDS[1]}:$before:$word in
+    case ${COMP_WORDS[first]}:$before:$word in
         make:*) return ;;
         plan:--from:=) word= ;;
         plan:--from:*) ;;

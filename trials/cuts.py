@@ -208,7 +208,7 @@ class Runner:
         for name, data in case.files.items():
             if held.get(name) != data:
                 Path(self.folder.name, name).write_bytes(data)
-        done = subprocess.run([self.program, *case.words], cwd=self.folder.name, stdin=subprocess.DEVNULL,
+        done = subprocess.run([self.program, "-q", *case.words], cwd=self.folder.name, stdin=subprocess.DEVNULL,
                               capture_output=True, timeout=60, close_fds=False, check=False)
         wrong = "words on standard error" if done.stderr else None
         lines = done.stdout.decode("latin-1").split("\n")

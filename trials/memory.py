@@ -91,7 +91,7 @@ class Runs:
             with open(f"{self.room}/{name}", "wb") as file:
                 file.write(data)
         settings = {"LD_PRELOAD": self.library, **{name: str(value) for name, value in refused.items()}}
-        ran = subprocess.run([self.program] + words, cwd=self.room, env=settings, capture_output=True, timeout=100)
+        ran = subprocess.run([self.program, "-q"] + words, cwd=self.room, env=settings, capture_output=True, timeout=100)
         left = {}
         for name in os.listdir(self.room):
             with open(f"{self.room}/{name}", "rb") as file:

@@ -67,7 +67,7 @@ class Room:
 
     def run(self, words, before=None, how=None, **more):
         more.setdefault("stdout", subprocess.PIPE)
-        return subprocess.run((how or []) + [PROGRAM] + words, cwd=self.path, stderr=subprocess.PIPE,
+        return subprocess.run((how or []) + [PROGRAM, "-q"] + words, cwd=self.path, stderr=subprocess.PIPE,
                               stdin=subprocess.DEVNULL, preexec_fn=before, timeout=100, **more)
 
 

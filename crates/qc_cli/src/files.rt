@@ -1,5 +1,5 @@
 //! The files of the system as a shelf.
-ghost use Rattle.std.specs.Prelude.{◌≡◌, ◌≤◌, ◌<◌, [], None, IsNone, Ok, true, length, is_some, option_map, IfOk, IfSome, refl};
+ghost use Rattle.std.specs.Prelude.{◌≡◌, ◌≤◌, ◌<◌, [], None, IsErr, Ok, true, length, is_some, option_map, IfOk, IfSome, refl};
 ghost use Rattle.std.specs.String.{string_bytes};
 ghost use Rattle.qc_io.specs.Writes.{Counts};
 ghost use Rattle.qc_cli.specs.Once.{ReadsOnce, WritesOnce};
@@ -11,6 +11,7 @@ use crate::same::{Identity, identity_of, note};
 use crate::target::target_of;
 use qc_io::{Failed, Shelf, Sink, fault};
 use std::fs;
+use std::io::{self, ErrorKind};
 use std::os::fd::AsFd;
 use std::rt::Files;
 
@@ -26,6 +27,12 @@ pub struct FileShelf<'a, R: Files> {
     used: Vec<Identity>,
     faults: u64,
     read_faults: u64,
+    /// Whether only files are opened that can be read twice, as no pipe can.
+    again: bool,
+    /// The name that was opened or begun last.
+    named: Option<String>,
+    /// What the system said last of a call that failed.
+    why: Option<io::Error>,
 }
 
 impl<'a, R: Files + AllocGlobal> FileShelf<'a, R> {
@@ -38,7 +45,20 @@ impl<'a, R: Files + AllocGlobal> FileShelf<'a, R> {
             used: Vec::new(rt.alloc()),
             faults: 0,
             read_faults: 0,
+            again: false,
+            named: None,
+            why: None,
         }
+    }
+
+    /// From now on only files are opened that can be read twice.
+    pub fn read_again(&mut self) {
+        self.again = true;
+    }
+
+    /// The name of the file whose call failed last, and what the system said.
+    pub fn trouble(&mut self) -> Option<(String, io::Error)> {
+        Some((self.named.take()?, self.why?))
     }
 }
 
@@ -67,7 +87,7 @@ impl<R: Files> Sink for FileShelf<'_, R> {
         ensures read_faults_stay { self.new.read_faults ≡ self.old.read_faults }
     {
         match &mut self.making {
-            Some(making) => making.write(&mut self.faults, piece),
+            Some(making) => making.write(&mut self.faults, &mut self.why, piece),
             None => Ok(piece.len()),
         }
     }
@@ -83,9 +103,13 @@ where
 
     fn open(&mut self, name: &str) -> Result<(), Failed> {
         self.reading = None;
-        self.reading = opened(self.rt, name, &mut self.used);
-        if self.reading.is_none() {
-            return Err(fault(&mut self.read_faults));
+        self.named = String::from_str(self.rt.alloc(), name).ok();
+        match opened(self.rt, name, self.again, &mut self.used) {
+            Ok(file) => self.reading = Some(file),
+            Err(error) => {
+                self.why = Some(error);
+                return Err(fault(&mut self.read_faults));
+            }
         }
         Ok(())
     }
@@ -103,16 +127,20 @@ where
         ensures faults_stay { self.new.faults ≡ self.old.faults }
     {
         match &mut self.reading {
-            Some(file) => read_once(file, &mut self.read_faults, buf),
+            Some(file) => read_once(file, &mut self.read_faults, &mut self.why, buf),
             None => unreachable!(),
         }
     }
 
     fn create(&mut self, name: &str) -> Result<(), Failed> {
         self.making = None;
-        self.making = made_by(self.rt, name, self.used.as_slice());
-        if self.making.is_none() {
-            return Err(fault(&mut self.faults));
+        self.named = String::from_str(self.rt.alloc(), name).ok();
+        match made_by(self.rt, name, self.used.as_slice()) {
+            Ok(making) => self.making = Some(making),
+            Err(error) => {
+                self.why = Some(error);
+                return Err(fault(&mut self.faults));
+            }
         }
         Ok(())
     }
@@ -122,32 +150,43 @@ where
             return Ok(());
         };
         match making.finish(&mut self.used) {
-            Some(()) => Ok(()),
-            None => Err(fault(&mut self.faults)),
+            Ok(()) => Ok(()),
+            Err(error) => {
+                self.why = Some(error);
+                Err(fault(&mut self.faults))
+            }
         }
     }
 }
 
-/// The file of that name, which is used from now on. None where it can't be opened.
-fn opened<R: Files>(rt: &R, name: &str, used: &mut Vec<Identity>) -> Option<R::File>
-    ensures { IfSome result (λ _. NotesOne used.old.items used.new.items) }
+/// The file of that name, which is used from now on. With `again` only a file that can be read twice is opened.
+fn opened<R: Files>(
+    rt: &R,
+    name: &str,
+    again: bool,
+    used: &mut Vec<Identity>,
+) -> io::Result<R::File>
+    ensures { IfOk result (λ _. NotesOne used.old.items used.new.items) }
 {
-    let file = fs::open(rt, name).ok()?;
+    if again && !fs::metadata(rt, name)?.is_file() {
+        return Err(io::Error::from(ErrorKind::Unsupported));
+    }
+    let file = fs::open(rt, name)?;
     note(identity_of(&file)?, used)?;
-    Some(file)
+    Ok(file)
 }
 
-/// A file of that name that is being made. None where it is in use, or can't be made.
+/// A file of that name that is being made. It fails where it is in use, or can't be made.
 fn made_by<'a, R: Files + AllocGlobal>(
     rt: &'a R,
     name: &str,
     used: &[Identity],
-) -> Option<Making<'a, R>>
+) -> io::Result<Making<'a, R>>
 where
     R::File: AsFd,
-    ensures named { IfSome result (λ making. string_bytes making.name ≡ name.now) }
-    ensures nameless { name.now ≡ [] → IsNone result }
+    ensures named { IfOk result (λ making. string_bytes making.name ≡ name.now) }
+    ensures nameless { name.now ≡ [] → IsErr result }
 {
-    let target = target_of(rt, name).ok()?;
+    let target = target_of(rt, name)?;
     begun(rt, name, target, used)
 }

@@ -29,6 +29,11 @@ impl<K: Sink + Drop> Lines<K> {
         Ok(Lines { to, held })
     }
 
+    /// What the lines go to.
+    pub fn to(&self) -> &K {
+        &self.to
+    }
+
     /// Writes out what is held.
     pub fn flush(&mut self) -> Result<(), WriteFault>
         ensures writes { Writes (K.view self.old.to) (K.view self.new.to) self.old.held.items result }

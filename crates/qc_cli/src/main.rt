@@ -9,6 +9,7 @@ mod output;
 mod part;
 mod same;
 mod target;
+mod voice;
 mod words;
 
 use files::FileShelf;
@@ -21,6 +22,7 @@ use std::os::fd::AsFd;
 use std::process::ExitCode;
 use std::rt::{Env, Files};
 use std::{fs, io};
+use voice::say_after;
 use words::words_of;
 
 /// The root folder, opened for reading as often as there are standard descriptors. Those that are
@@ -38,21 +40,35 @@ fn words_or_none<R: Env + AllocGlobal>(rt: &R) -> Result<Vec<String>, OutOfMemor
     }
 }
 
-/// The status of a run with these words over the files of the system and standard output.
-fn status_of<R: Files + Print + AllocGlobal>(
+/// The words behind `-q`, and whether it stands first.
+fn behind_quiet(words: &[String]) -> (bool, &[String]) {
+    match words.split_first() {
+        Some((first, rest)) if first.as_str() == "-q" => (true, rest),
+        _ => (false, words),
+    }
+}
+
+/// The status of a run with these words over the files of the system and standard output. What is to be mended is said
+/// on standard error, unless `-q` stands first.
+fn status_of<R: Files + Print + Eprint + AllocGlobal>(
     rt: &R,
     words: &[String],
 ) -> Result<Status, OutOfMemory>
 where
     R::File: AsFd,
 {
+    let (is_quiet, words) = behind_quiet(words);
     let mut out = Lines::new(rt.alloc(), Output::new(io::writer(rt)))?;
     let mut shelf = FileShelf::new(rt);
-    let status = run(rt.alloc(), words, &mut shelf, &mut out);
-    match out.flush() {
-        Ok(()) => Ok(status),
-        Err(WriteFault) => Ok(Status::WriteFault),
+    let ended = run(rt.alloc(), words, &mut shelf, &mut out);
+    let status = match out.flush() {
+        Ok(()) => ended,
+        Err(WriteFault) => Status::WriteFault,
+    };
+    if !is_quiet {
+        say_after(rt, words, status, &mut shelf, out.to().why());
     }
+    Ok(status)
 }
 
 /// Runs the program. The status of the run is the program's own.

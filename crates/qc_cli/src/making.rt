@@ -1,5 +1,5 @@
 //! A file that is being made.
-ghost use Rattle.std.specs.Prelude.{◌≡◌, ◌↔◌, ◌≤◌, ◌<◌, length, Some, IsTrue, IsNone, IfOk, IfSome, Contains, string_bytes};
+ghost use Rattle.std.specs.Prelude.{◌≡◌, ◌↔◌, ◌≤◌, ◌<◌, length, Some, IsTrue, IsErr, IfOk, IfSome, Contains, string_bytes};
 ghost use Rattle.qc_io.specs.Writes.{Counts};
 ghost use Rattle.qc_cli.specs.Once.{WritesOnce};
 ghost use Rattle.qc_cli.specs.Used.{NotesOne};
@@ -10,6 +10,7 @@ use crate::same::{Identity, identity_of, is_among, note};
 use crate::target::{Found, Target};
 use qc_io::{Failed, fault};
 use std::fs::{self, OpenFile};
+use std::io::{self, ErrorKind};
 use std::os::fd::AsFd;
 use std::rt::Files;
 
@@ -36,31 +37,31 @@ fn is_in_use(found: &Option<Found>, used: &[Identity]) -> bool
     }
 }
 
-/// Begins a file. None where it is in use, or can't be made.
+/// Begins a file. It fails where it is in use, or can't be made.
 pub fn begun<'a, R: Files + AllocGlobal>(
     rt: &'a R,
     name: &str,
     target: Target,
     used: &[Identity],
-) -> Option<Making<'a, R>>
+) -> io::Result<Making<'a, R>>
 where
     R::File: AsFd,
-    ensures named { IfSome result (λ making. string_bytes making.name ≡ name.now) }
-    ensures unused { IfSome target.found (λ found. Contains used.now found.identity → IsNone result) }
+    ensures named { IfOk result (λ making. string_bytes making.name ≡ name.now) }
+    ensures unused { IfSome target.found (λ found. Contains used.now found.identity → IsErr result) }
 {
     let Target { path, found } = target;
     if is_in_use(&found, used) {
-        return None;
+        return Err(io::Error::from(ErrorKind::ResourceBusy));
     }
-    let name = String::from_str(rt.alloc(), name).ok()?;
+    let name = String::from_str(rt.alloc(), name)?;
     let (part, file) = match &found {
         Some(found) if found.in_place => (None, None),
         _ => {
-            let (part, file) = begin_part(rt, path.as_str(), &found).ok()?;
+            let (part, file) = begin_part(rt, path.as_str(), &found)?;
             (Some(part), Some(file))
         }
     };
-    Some(Making {
+    Ok(Making {
         rt,
         name,
         path,
@@ -70,19 +71,24 @@ where
 }
 
 impl<R: Files> Making<'_, R> {
-    /// Opens a file that is written as it stands. None where it can't be opened.
-    fn open(&mut self) -> Option<()>
+    /// Opens a file that is written as it stands.
+    fn open(&mut self) -> io::Result<()>
         ensures name_stays { self.new.name ≡ self.old.name }
         ensures file_stays { IfSome self.old.file (λ file. self.new.file ≡ Some file) }
     {
         if self.file.is_none() {
-            self.file = Some(fs::create(self.rt, self.path.as_str()).ok()?);
+            self.file = Some(fs::create(self.rt, self.path.as_str())?);
         }
-        Some(())
+        Ok(())
     }
 
     /// Writes once to the file.
-    pub fn write(&mut self, faults: &mut u64, piece: &[u8]) -> Result<usize, Failed>
+    pub fn write(
+        &mut self,
+        faults: &mut u64,
+        why: &mut Option<io::Error>,
+        piece: &[u8],
+    ) -> Result<usize, Failed>
         ensures writes { IfSome self.old.file (λ before. IfSome self.new.file (λ after.
             WritesOnce (R.File.contents before) (R.File.contents after) piece.now result)) }
         ensures at_least { IfOk result (λ count. 0 < length piece.now → 0 < count) }
@@ -90,17 +96,16 @@ impl<R: Files> Making<'_, R> {
         ensures counts { Counts faults.old faults.new result }
         ensures name_stays { self.new.name ≡ self.old.name }
     {
-        let _ = self.open();
+        *why = self.open().err();
         match &mut self.file {
-            Some(file) => write_once(file, faults, piece),
+            Some(file) => write_once(file, faults, why, piece),
             None => Err(fault(faults)),
         }
     }
 
-    /// Puts the file in its place, with all its bytes stored, and notes that it is used. None where that
-    /// failed.
-    pub fn finish(mut self, used: &mut Vec<Identity>) -> Option<()>
-        ensures { IfSome result (λ _. NotesOne used.old.items used.new.items) }
+    /// Puts the file in its place, with all its bytes stored, and notes that it is used.
+    pub fn finish(mut self, used: &mut Vec<Identity>) -> io::Result<()>
+        ensures { IfOk result (λ _. NotesOne used.old.items used.new.items) }
     {
         self.open()?;
         let Making {
@@ -110,12 +115,14 @@ impl<R: Files> Making<'_, R> {
             part,
             file,
         } = self;
-        let file = file?;
+        let Some(file) = file else {
+            return Err(io::Error::from(ErrorKind::NotFound));
+        };
         note(identity_of(&file)?, used)?;
         let Some(part) = part else {
-            return Some(());
+            return Ok(());
         };
-        file.sync_all().ok()?;
-        part.put(path.as_str()).ok()
+        file.sync_all()?;
+        part.put(path.as_str())
     }
 }

@@ -1,7 +1,8 @@
 //! Which file of the system an open file or a name is.
-ghost use Rattle.std.specs.Prelude.{◌≡◌, ◌↔◌, ◌++◌, ◌∷◌, [], None, IfSome, IsTrue, Contains};
+ghost use Rattle.std.specs.Prelude.{◌≡◌, ◌↔◌, ◌++◌, ◌∷◌, [], OnOk, OnErr, IsTrue, Contains};
 
 use std::fs::{Metadata, OpenFile};
+use std::io::{self, ErrorKind};
 use std::os::unix::fs::MetadataExt;
 
 /// A file of the system, whatever its names are: its device and its number there.
@@ -21,17 +22,20 @@ impl Identity {
     }
 }
 
-/// Which file this is. None where the system doesn't tell.
-pub fn identity_of<F: OpenFile>(file: &F) -> Option<Identity> {
-    Some(Identity::of(&file.metadata().ok()?))
+/// Which file this is. It fails where the system doesn't tell.
+pub fn identity_of<F: OpenFile>(file: &F) -> io::Result<Identity> {
+    Ok(Identity::of(&file.metadata()?))
 }
 
-/// Adds a file to the files. None, and nothing added, where it can't be kept.
-pub fn note(file: Identity, files: &mut Vec<Identity>) -> Option<()>
-    ensures added { IfSome result (λ _. files.new.items ≡ files.old.items ++ file ∷ []) }
-    ensures none { result ≡ None → files.new.items ≡ files.old.items }
+/// Adds a file to the files. Nothing is added where it can't be kept.
+pub fn note(file: Identity, files: &mut Vec<Identity>) -> io::Result<()>
+    ensures added { OnOk result (files.new.items ≡ files.old.items ++ file ∷ []) }
+    ensures none { OnErr result (files.new.items ≡ files.old.items) }
 {
-    files.push(file).ok()
+    match files.push(file) {
+        Ok(()) => Ok(()),
+        Err(_) => Err(io::Error::from(ErrorKind::OutOfMemory)),
+    }
 }
 
 /// Whether the file is one of the files.

@@ -1,0 +1,102 @@
+//! A ship file's keys: their values, and where they stand.
+
+use crate::place::Place;
+use crate::toml_lines::{KeyLine, find_key, key_lines};
+use qc_num::OutOfMemory;
+use std::alloc::Global;
+use toml::{Table, Value, table_from_str};
+
+/// The keys of a ship file that is a text in TOML.
+#[derive(Drop)]
+pub(crate) struct Facts<'a> {
+    pub(crate) file: &'a str,
+    pub(crate) lines: Vec<KeyLine<'a>>,
+    pub(crate) table: Table,
+}
+
+/// The keys of a ship file; none where it is no text in TOML.
+pub(crate) fn facts_of<'a>(
+    alloc: Global,
+    file: &'a str,
+    bytes: &'a [u8],
+) -> Result<Option<Facts<'a>>, OutOfMemory> {
+    let Ok(text) = std::str::from_utf8(bytes) else {
+        return Ok(None);
+    };
+    match table_from_str(alloc, text) {
+        Ok(table) => Ok(Some(Facts {
+            file,
+            lines: key_lines(alloc, text)?,
+            table,
+        })),
+        Err(error) => {
+            if error.is_memory() {
+                Err(OutOfMemory)
+            } else {
+                Ok(None)
+            }
+        }
+    }
+}
+
+impl<'a> Facts<'a> {
+    /// Whether places are in decimetres.
+    pub(crate) fn in_decimetres(&self) -> bool {
+        self.table.contains_key("places")
+    }
+
+    /// The elements of an array of the ship; none where the key has no array.
+    pub(crate) fn elements(&self, key: &str) -> &[Value] {
+        match self.table.get(key) {
+            Some(Value::Array(array)) => array.as_slice(),
+            _ => &[],
+        }
+    }
+
+    /// An element of an array by its number, from 1.
+    pub(crate) fn element(&self, key: &str, number: u32) -> Option<&Value> {
+        self.elements(key).get((number as usize).checked_sub(1)?)
+    }
+
+    /// A whole number at a key of the ship.
+    pub(crate) fn number(&self, key: &str) -> Option<i64> {
+        self.table.get(key)?.as_integer()
+    }
+
+    /// A whole number at a key of a crane.
+    pub(crate) fn crane_number(&self, crane: u32, key: &str) -> Option<i64> {
+        self.element("crane", crane)?
+            .as_table()?
+            .get(key)?
+            .as_integer()
+    }
+
+    /// The line of a key, of a crane or, with 0, of the ship.
+    pub(crate) fn line(&self, crane: u32, key: &str) -> Option<KeyLine<'a>> {
+        let lines = self.lines.as_slice();
+        match find_key(lines, crane, key) {
+            None if key == "crane" && crane == 0 => find_key(lines, 1, key),
+            found => found,
+        }
+    }
+
+    /// Where a key stands, of a crane or, with 0, of the ship; else where its crane begins.
+    pub(crate) fn place(&self, crane: u32, key: &str) -> Place<'a> {
+        let line = match self.line(crane, key) {
+            Some(found) => found.line,
+            None => match self.line(crane, "crane") {
+                Some(found) if crane > 0 => found.line,
+                _ => 0,
+            },
+        };
+        Place::at_line(self.file, line)
+    }
+
+    /// What is written at a key; empty where that isn't on one line.
+    pub(crate) fn value(&self, crane: u32, key: &str) -> &'a str {
+        match self.line(crane, key) {
+            Some(found) => found.value,
+            None => "",
+        }
+    }
+}

@@ -1,0 +1,26 @@
+//! The keys of a ship file.
+
+use qc_ship::Key;
+
+/// The keys of the ship.
+pub(crate) const SHIP_KEYS: [&str; 11] = [
+    "hatches",
+    "places",
+    "margin",
+    "clear",
+    "travel",
+    "deck_move",
+    "hold_move",
+    "cover",
+    "restows",
+    "apart",
+    "crane",
+];
+
+/// The keys of a crane.
+pub(crate) const CRANE_KEYS: [&str; 5] = ["name", "ready", "bay", "from", "to"];
+
+/// Whether a key is one of a crane.
+pub(crate) fn is_of_crane(key: Key) -> bool {
+    CRANE_KEYS.contains(&key.text())
+}

@@ -1,0 +1,126 @@
+//! Faults of a log of places.
+
+use crate::cranes::say_no_crane;
+use crate::page::Page;
+use crate::place::{Place, line_of, raw_line};
+use crate::shown::Shown;
+use qc_num::OutOfMemory;
+use qc_ship::Ship;
+use qc_watch::{WatchError, WatchFault, WatchKind, read_reports};
+use std::alloc::Global;
+
+/// The first fault of a log.
+fn fault_of(alloc: Global, bytes: &[u8], ship: &Ship) -> Result<Option<WatchFault>, OutOfMemory> {
+    match read_reports(alloc, bytes, ship) {
+        Ok(_) => Ok(None),
+        Err(WatchError::Fault(fault)) => Ok(Some(fault)),
+        Err(WatchError::OutOfMemory) => Err(OutOfMemory),
+    }
+}
+
+/// Says what is wrong with a log of a ship's cranes.
+pub(crate) fn say_log(
+    page: &mut Page,
+    file: &str,
+    bytes: &[u8],
+    ship: &Ship,
+) -> Result<(), OutOfMemory> {
+    let Some(fault) = fault_of(page.alloc(), bytes, ship)? else {
+        return Ok(());
+    };
+    let number = fault.line as usize;
+    let place = Place::at_line(file, number);
+    match fault.kind {
+        WatchKind::TooMany => {
+            page.say(format_args!(
+                "{place}: this is a line behind the 200000th, and a log has no more"
+            ))
+        }
+        WatchKind::Line => say_line(page, place, bytes),
+        WatchKind::UnknownCrane => {
+            let name = word(line_of(bytes, number), 1);
+            say_no_crane(page, place, name, ship.cranes())
+        }
+        WatchKind::TimeBack => say_time(page, place, bytes),
+    }
+}
+
+/// A word of a line, from 0, where single spaces stand between words.
+fn word(line: &[u8], at: usize) -> &[u8] {
+    let mut number = 0usize;
+    for word in line.split(|byte| *byte == b' ') {
+        if number == at {
+            return word;
+        }
+        number = number.saturating_add(1);
+    }
+    &[]
+}
+
+/// Whether the line with a number is the last one, and no line feed ends it.
+fn is_open(bytes: &[u8], number: usize) -> bool {
+    let lines = bytes.split(|byte| *byte == b'\n').count();
+    number == lines && bytes.last() != Some(&b'\n')
+}
+
+/// Why a line is none of a log.
+fn why_no_line(line: &[u8]) -> &'static str {
+    let places = word(line, 2);
+    if line.trim_ascii().is_empty() {
+        "the line is empty: delete it"
+    } else if line.ends_with(b"\r") {
+        "the lines end with a carriage return, as on Windows: they end with a line feed alone"
+    } else if line.contains(&b',') || line.contains(&b';') || line.contains(&b'\t') {
+        "single spaces stand between the three, and no commas, semicolons or tabs"
+    } else if line.starts_with(b" ")
+        || line.ends_with(b" ")
+        || word(line, 1).is_empty()
+        || places.is_empty()
+    {
+        "there is one space between the three and none besides"
+    } else if word(line, 0).contains(&b':') {
+        "times are counted in ticks, and not by a clock"
+    } else if places.contains(&b'.') || word(line, 0).contains(&b'.') {
+        "times and places are whole numbers"
+    } else if !word(line, 0).iter().all(|byte| byte.is_ascii_digit()) {
+        "the time stands first, then the crane and its place"
+    } else {
+        "it isn't a time, a crane's name and a place"
+    }
+}
+
+/// Says what is wrong with a line.
+fn say_line(page: &mut Page, place: Place<'_>, bytes: &[u8]) -> Result<(), OutOfMemory> {
+    let raw = raw_line(bytes, place.line);
+    let shown = Shown(line_of(bytes, place.line));
+    let why = if is_open(bytes, place.line) {
+        "no line feed ends it: the log was cut off, or its last line has none"
+    } else {
+        why_no_line(raw)
+    };
+    page.say(format_args!("{place}: {shown}: {why}; a line is TIME NAME PLACE, as 10 C1 5"))
+}
+
+/// Says which earlier line of the crane has a time that isn't lower.
+fn say_time(page: &mut Page, place: Place<'_>, bytes: &[u8]) -> Result<(), OutOfMemory> {
+    let line = line_of(bytes, place.line);
+    let (time, name) = (word(line, 0), word(line, 1));
+    let mut at = 0usize;
+    let mut last = None;
+    for other in bytes.split(|byte| *byte == b'\n') {
+        at = at.saturating_add(1);
+        if at == place.line {
+            break;
+        }
+        if word(other, 1) == name {
+            last = Some((at, word(other, 0)));
+        }
+    }
+    let Some((earlier, before)) = last else {
+        return Ok(());
+    };
+    let (time, name, before) = (Shown(time), Shown(name), Shown(before));
+    page.say(format_args!(
+        "{place}: the time of {name} is {time}, and in line {earlier} it was {before} already; the lines of each crane stand in order of time"
+    ))
+}

@@ -1,0 +1,85 @@
+//! Where something stands in a file.
+
+use crate::shown::Word;
+use std::fmt;
+
+/// Where something stands: the file's name as it was typed, the line from 1, and the record of a table from 1. A
+/// number that isn't known is 0 and isn't told.
+#[derive(Clone, Copy)]
+pub(crate) struct Place<'a> {
+    pub(crate) file: &'a str,
+    pub(crate) line: usize,
+    pub(crate) record: u32,
+}
+
+impl<'a> Place<'a> {
+    /// The file itself.
+    pub(crate) fn whole(file: &'a str) -> Place<'a> {
+        Place {
+            file,
+            line: 0,
+            record: 0,
+        }
+    }
+
+    /// A line of a file.
+    pub(crate) fn at_line(file: &'a str, line: usize) -> Place<'a> {
+        Place {
+            file,
+            line,
+            record: 0,
+        }
+    }
+}
+
+impl fmt::Display for Place<'_> {
+    fn fmt<W: fmt::Write>(&self, f: &mut fmt::Formatter<W>) -> fmt::Result {
+        let (file, line, record) = (Word(self.file), self.line, self.record);
+        write!(f, "{file}")?;
+        if line > 0 {
+            write!(f, ", line {line}")?;
+        }
+        if record > 0 {
+            write!(f, ", record {record}")?;
+        }
+        Ok(())
+    }
+}
+
+/// The line of a text, from 1, in which the byte at an offset stands.
+pub(crate) fn line_at(text: &[u8], offset: usize) -> usize {
+    let front = text.get(..offset).unwrap_or(text);
+    let mut line = 1usize;
+    for byte in front {
+        if *byte == b'\n' {
+            line = line.saturating_add(1);
+        }
+    }
+    line
+}
+
+/// A line of a text by its number, from 1, without its line feed; empty where there is none.
+pub(crate) fn raw_line(text: &[u8], number: usize) -> &[u8] {
+    let mut at = 0usize;
+    for line in text.split(|byte| *byte == b'\n') {
+        at = at.saturating_add(1);
+        if at == number {
+            return line;
+        }
+    }
+    &[]
+}
+
+/// A line of a text by its number, from 1, without what ends it.
+pub(crate) fn line_of(text: &[u8], number: usize) -> &[u8] {
+    let line = raw_line(text, number);
+    line.strip_suffix(b"\r").unwrap_or(line)
+}
+
+/// Whether a text has a piece.
+pub(crate) fn has(text: &[u8], piece: &[u8]) -> bool {
+    if piece.is_empty() {
+        return true;
+    }
+    text.windows(piece.len()).any(|window| window == piece)
+}

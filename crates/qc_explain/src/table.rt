@@ -1,0 +1,210 @@
+//! Tables: where their records stand, and what is wrong with their headers and columns.
+
+use crate::form::{Sort, behind_mark, say_form};
+use crate::page::Page;
+use crate::place::{Place, line_at, line_of};
+use crate::shown::Shown;
+use csv::ByteRecord;
+use qc_num::OutOfMemory;
+use qc_records::first_records;
+use std::alloc::Global;
+
+/// The records of a table, with the text in which they stand.
+#[derive(Drop)]
+pub(crate) struct Table<'a> {
+    pub(crate) file: &'a str,
+    text: &'a [u8],
+    records: Vec<ByteRecord>,
+}
+
+/// The first records of a table, up to the one with a number.
+pub(crate) fn table_of<'a>(
+    alloc: Global,
+    file: &'a str,
+    bytes: &'a [u8],
+    most: u32,
+) -> Result<Table<'a>, OutOfMemory> {
+    Ok(Table {
+        file,
+        text: behind_mark(bytes),
+        records: first_records(alloc, bytes, most as usize)?,
+    })
+}
+
+/// The bytes of a text ahead of a record that a reader began at an offset: the reader skips line ends ahead of it.
+fn start_from(text: &[u8], offset: usize) -> usize {
+    let rest = text.get(offset..).unwrap_or(&[]);
+    let skipped = rest
+        .iter()
+        .position(|byte| *byte != b'\n' && *byte != b'\r');
+    offset.saturating_add(skipped.unwrap_or(0))
+}
+
+impl<'a> Table<'a> {
+    /// A record by its number, from 1.
+    pub(crate) fn record(&self, number: u32) -> Option<&ByteRecord> {
+        self.records.get((number as usize).checked_sub(1)?)
+    }
+
+    /// How many records were read.
+    pub(crate) fn count(&self) -> u32 {
+        u32::try_from(self.records.len()).unwrap_or(u32::MAX)
+    }
+
+    /// Where a record stands.
+    pub(crate) fn place(&self, number: u32) -> Place<'a> {
+        let line = match self.record(number).and_then(|record| record.position()) {
+            Some(at) => {
+                let offset = usize::try_from(at.byte()).unwrap_or(0);
+                line_at(self.text, start_from(self.text, offset))
+            }
+            None => 0,
+        };
+        Place {
+            file: self.file,
+            line,
+            record: number,
+        }
+    }
+
+    /// A field of a record, from 0; empty where there is none.
+    pub(crate) fn field(&self, number: u32, at: usize) -> &[u8] {
+        match self.record(number).and_then(|record| record.get(at)) {
+            Some(field) => field,
+            None => &[],
+        }
+    }
+
+    /// The first line of the text that has more than spaces.
+    fn first_line(&self) -> &'a [u8] {
+        line_of(self.text, line_at(self.text, start_from(self.text, 0)))
+    }
+}
+
+/// A line in small letters, with commas for semicolons and tabs, and without spaces and quotes.
+fn plain_line(alloc: Global, line: &[u8]) -> Result<Vec<u8>, OutOfMemory> {
+    let mut plain = Vec::new(alloc);
+    for byte in line {
+        match *byte {
+            b';' | b'\t' => plain.push(b',')?,
+            b' ' | b'"' => {}
+            other => plain.push(other.to_ascii_lowercase())?,
+        }
+    }
+    Ok(plain)
+}
+
+/// Which signs stand between columns in place of commas.
+fn other_signs(line: &[u8]) -> Option<&'static str> {
+    if line.contains(&b';') {
+        Some("semicolons stand between the columns: save the table with commas between them")
+    } else if line.contains(&b'\t') {
+        Some("tabs stand between the columns: save the table with commas between them")
+    } else {
+        None
+    }
+}
+
+/// How many of the names in a header, which has commas between them, a line has too.
+fn has_names(plain: &[u8], header: &str) -> usize {
+    let mut count = 0usize;
+    for name in header.as_bytes().split(|byte| *byte == b',') {
+        if plain.split(|byte| *byte == b',').any(|field| field == name) {
+            count = count.saturating_add(1);
+        }
+    }
+    count
+}
+
+/// Why a line isn't the header.
+fn why_no_header(alloc: Global, line: &[u8], header: &str) -> Result<&'static str, OutOfMemory> {
+    let plain = plain_line(alloc, line)?;
+    let plain = plain.as_slice();
+    let named = has_names(plain, header);
+    if plain.starts_with(b"sep=") {
+        return Ok("this line is the spreadsheet's own: delete it");
+    }
+    if named == 4
+        && let Some(signs) = other_signs(line)
+    {
+        return Ok(signs);
+    }
+    let columns = plain.split(|byte| *byte == b',').count();
+    Ok(if plain == header.as_bytes() {
+        "it has small letters alone, and no spaces"
+    } else if named == 4 && columns > 4 {
+        "it has these four columns alone: delete the others"
+    } else if named == 4 {
+        "the columns stand in this order"
+    } else if named > 0 {
+        "a column is missing or has another name"
+    } else {
+        "the header is missing"
+    })
+}
+
+/// Says what is wrong with the header of a table.
+pub(crate) fn say_header(
+    page: &mut Page,
+    table: &Table<'_>,
+    header: &str,
+    wanted: Sort,
+) -> Result<(), OutOfMemory> {
+    if say_form(page, table.file, table.text, wanted)? {
+        return Ok(());
+    }
+    let line = table.first_line();
+    let why = why_no_header(page.alloc(), line, header)?;
+    let (place, shown) = (table.place(1), Shown(line));
+    page.say(format_args!("{place}: {shown} isn't the header {header}: {why}"))
+}
+
+/// Whether each field behind the fourth is empty.
+fn are_empty_behind(fields: &ByteRecord) -> bool {
+    for field in fields.iter().skip(4) {
+        if !field.trim_ascii().is_empty() {
+            return false;
+        }
+    }
+    true
+}
+
+/// Why a record hasn't four fields.
+fn why_not_four(fields: &ByteRecord) -> &'static str {
+    if fields.len() > 4 && are_empty_behind(fields) {
+        "those behind the fourth are empty: delete their columns"
+    } else if fields.len() > 4 {
+        "delete further columns; a field that has a comma stands between double quotes"
+    } else if let Some(signs) = other_signs(fields.as_slice()) {
+        signs
+    } else if fields.as_slice().trim_ascii().is_empty() {
+        "the line has only spaces: delete it"
+    } else {
+        "some are missing, or the line is no record of the table"
+    }
+}
+
+/// Says what is wrong with the fields of a record that hasn't four.
+pub(crate) fn say_fields(
+    page: &mut Page,
+    table: &Table<'_>,
+    number: u32,
+    header: &str,
+) -> Result<(), OutOfMemory> {
+    let Some(fields) = table.record(number) else {
+        return Ok(());
+    };
+    let (place, count, why) = (table.place(number), fields.len(), why_not_four(fields));
+    let fields = if count == 1 { "field" } else { "fields" };
+    page.say(format_args!(
+        "{place}: the record has {count} {fields}, and needs four, {header}: {why}"
+    ))
+}
+
+/// Whether a record has no more than empty fields.
+pub(crate) fn is_blank(table: &Table<'_>, number: u32) -> bool {
+    match table.record(number) {
+        Some(fields) => fields.as_slice().trim_ascii().is_empty(),
+        None => false,
+    }
+}

@@ -1,0 +1,142 @@
+//! The files that a command was given, read again.
+ghost use Rattle.qc_explain.specs.Frame.{LeavesFiles};
+
+use qc_io::{ReadAll, Shelf, read_all};
+use qc_num::{Bytes, OutOfMemory};
+use qc_words::Request;
+use std::alloc::Global;
+
+/// The greatest length of a file that is read whole, in bytes.
+const FILE_LIMIT: usize = 8_388_608;
+
+/// The names of the files that a command reads, and of the plan that it writes.
+#[derive(Clone, Copy)]
+pub(crate) struct Names<'a> {
+    pub(crate) ship: Option<&'a str>,
+    pub(crate) stow: Option<&'a str>,
+    pub(crate) plan: Option<&'a str>,
+    pub(crate) own: Option<&'a str>,
+    pub(crate) tree: Option<&'a str>,
+    pub(crate) log: Option<&'a str>,
+    pub(crate) written: Option<&'a str>,
+}
+
+/// The names of a command that reads a ship file and these.
+fn names_with<'a>(ship: &'a str, stow: Option<&'a str>, plan: Option<&'a str>) -> Names<'a> {
+    Names {
+        ship: Some(ship),
+        stow,
+        plan,
+        own: None,
+        tree: None,
+        log: None,
+        written: None,
+    }
+}
+
+/// The names of the files of a request.
+pub(crate) fn names_of<'a>(request: &Request<'a>) -> Names<'a> {
+    match *request {
+        Request::Plan {
+            ship,
+            stow,
+            plan,
+            own,
+            ..
+        } => Names {
+            own,
+            written: Some(plan),
+            ..names_with(ship, Some(stow), None)
+        },
+        Request::Check {
+            ship,
+            stow,
+            plan,
+            tree,
+        } => Names {
+            tree: Some(tree),
+            ..names_with(ship, Some(stow), plan)
+        },
+        Request::Tasks { ship, stow } => names_with(ship, Some(stow), None),
+        Request::Show { ship, stow, plan } => names_with(ship, Some(stow), Some(plan)),
+        Request::Sheet { ship, stow, plan } => names_with(ship, Some(stow), Some(plan)),
+        Request::Watch { ship, log } => Names {
+            log: Some(log),
+            ..names_with(ship, None, None)
+        },
+        Request::Make { .. } | Request::Usage => Names {
+            ship: None,
+            ..names_with("", None, None)
+        },
+    }
+}
+
+/// A file read again.
+#[derive(Drop)]
+pub(crate) enum Text {
+    /// The command reads no such file.
+    Unnamed,
+    /// It isn't there, or can't be read again.
+    Unread,
+    TooLarge,
+    Read(Bytes),
+}
+
+impl Text {
+    /// The bytes, where it was read.
+    pub(crate) fn bytes(&self) -> Option<&[u8]> {
+        match self {
+            Text::Read(bytes) => Some(bytes.as_slice()),
+            _ => None,
+        }
+    }
+}
+
+/// Reads a file again.
+pub(crate) fn read_text<S: Shelf>(
+    alloc: Global,
+    shelf: &mut S,
+    name: Option<&str>,
+) -> Result<Text, OutOfMemory>
+    ensures { LeavesFiles (S.Sink.view shelf.old) (S.Sink.view shelf.new) }
+{
+    let Some(name) = name else {
+        return Ok(Text::Unnamed);
+    };
+    match read_all(alloc, shelf, name, FILE_LIMIT) {
+        Ok(bytes) => Ok(Text::Read(bytes)),
+        Err(ReadAll::ReadFault) => Ok(Text::Unread),
+        Err(ReadAll::TooLarge) => Ok(Text::TooLarge),
+        Err(ReadAll::OutOfMemory) => Err(OutOfMemory),
+    }
+}
+
+/// The files of a command, but for a tree's.
+#[derive(Drop)]
+pub(crate) struct Texts {
+    pub(crate) ship: Text,
+    pub(crate) stow: Text,
+    /// The plan, or the one that the planner has already.
+    pub(crate) plan: Text,
+    pub(crate) log: Text,
+}
+
+/// Reads the files of a command again, but for a tree's.
+pub(crate) fn read_texts<S: Shelf>(
+    alloc: Global,
+    shelf: &mut S,
+    names: &Names<'_>,
+) -> Result<Texts, OutOfMemory>
+    ensures { LeavesFiles (S.Sink.view shelf.old) (S.Sink.view shelf.new) }
+{
+    let ship = read_text(alloc, shelf, names.ship)?;
+    let stow = read_text(alloc, shelf, names.stow)?;
+    let plan = read_text(alloc, shelf, names.plan.or(names.own))?;
+    let log = read_text(alloc, shelf, names.log)?;
+    Ok(Texts {
+        ship,
+        stow,
+        plan,
+        log,
+    })
+}

@@ -1,0 +1,71 @@
+//! Faults of a bound tree's file.
+
+use crate::form::{Sort, say_form};
+use crate::page::Page;
+use crate::place::{Place, line_of, raw_line};
+use crate::shown::Shown;
+use qc_num::OutOfMemory;
+use qc_replay::{TreeFault, TreeKind};
+
+/// What is wrong with a line of a tree, and what to do.
+fn why(kind: TreeKind) -> &'static str {
+    match kind {
+        TreeKind::LineTooLong => "the line has more than 1200 bytes, so it is none of a tree",
+        TreeKind::Cut =>
+            "the file ends here, and a tree goes on: it was cut off; copy it again, or plan again",
+        TreeKind::Spelling =>
+            "no line of a tree looks like this: the file was changed, or is no tree",
+        TreeKind::Place =>
+            "another line is due here: the file was changed, or is no tree of this ship and list",
+        TreeKind::UnknownTask => "it names a task that the ship file and the list haven't",
+        TreeKind::NotApart => "it branches on two tasks that no pair of apart keeps apart",
+        TreeKind::Decided => "it branches on what is decided above it",
+        TreeKind::Branchings => "this is a branching behind the 100000th, and a tree has no more",
+        TreeKind::NotForced => "its tasks don't wait for each other as it says",
+        TreeKind::NotCycle => "its tasks are no ring, as it says",
+        TreeKind::InReach => "the crane reaches the task, and it says otherwise",
+        TreeKind::WorkShort => "the work fits before that tick, and it says otherwise",
+        TreeKind::Counts => "the tree has another number of branchings or another value",
+        TreeKind::After =>
+            "the file goes on behind its last line: delete what stands there, or plan again",
+    }
+}
+
+/// Whether a fault is likely one of a tree for another ship file or list.
+fn is_of_others(kind: TreeKind) -> bool {
+    !matches!(
+        kind,
+        TreeKind::LineTooLong
+            | TreeKind::Cut
+            | TreeKind::Spelling
+            | TreeKind::Branchings
+            | TreeKind::After
+    )
+}
+
+/// Says what is wrong with a tree. The bytes are those of a front part of its file.
+pub(crate) fn say_tree(
+    page: &mut Page,
+    file: &str,
+    bytes: &[u8],
+    fault: TreeFault,
+) -> Result<(), OutOfMemory> {
+    if say_form(page, file, bytes, Sort::Tree)? {
+        return Ok(());
+    }
+    let number = fault.line as usize;
+    let (place, line) = (Place::at_line(file, number), line_of(bytes, number));
+    let (shown, why) = (Shown(line), why(fault.kind));
+    if raw_line(bytes, number).ends_with(b"\r") {
+        return page.say(format_args!(
+            "{place}: the lines end with a carriage return, as on Windows: a tree's end with a line feed alone; plan again"
+        ));
+    }
+    page.say(format_args!("{place}: {shown}: {why}"))?;
+    if is_of_others(fault.kind) {
+        page.say(
+            "a tree belongs to its ship file and its list: where one of them changed, plan again",
+        )?;
+    }
+    Ok(())
+}

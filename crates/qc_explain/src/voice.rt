@@ -1,0 +1,312 @@
+//! What is said after a run.
+ghost use Rattle.std.specs.Prelude.{◌≡◌};
+ghost use Rattle.qc_io.specs.Outside.{beside};
+ghost use Rattle.qc_explain.specs.Frame.{LeavesFiles};
+
+use crate::broken::say_broken;
+use crate::facts::facts_of;
+use crate::log::say_log;
+use crate::notes::say_notes;
+use crate::page::Page;
+use crate::plan::say_plan;
+use crate::ship::say_ship;
+use crate::shown::Word;
+use crate::stow::say_stow;
+use crate::texts::{Names, Text, Texts, names_of, read_text, read_texts};
+use crate::tree::say_tree;
+use crate::usage::say_usage;
+use qc_io::{Shelf, Sink, put_all};
+use qc_model::Instance;
+use qc_num::OutOfMemory;
+use qc_replay::{ReplayError, TreeFault, replay};
+use qc_run::Status;
+use qc_ship::{Ship, ShipError, read_ship};
+use qc_stow::{StowError, read_stow};
+use qc_tasks::tasks_of;
+use qc_words::{Request, request_of};
+use std::alloc::Global;
+
+/// The ship of a file; none where it has a fault.
+fn ship_in(alloc: Global, text: &Text) -> Result<Option<Ship>, OutOfMemory> {
+    let Some(bytes) = text.bytes() else {
+        return Ok(None);
+    };
+    match read_ship(alloc, bytes) {
+        Ok(ship) => Ok(Some(ship)),
+        Err(ShipError::Fault(_)) => Ok(None),
+        Err(ShipError::OutOfMemory) => Err(OutOfMemory),
+    }
+}
+
+/// The instance of a ship and its list; none where the list has a fault.
+fn instance_in(alloc: Global, ship: &Ship, text: &Text) -> Result<Option<Instance>, OutOfMemory> {
+    let Some(bytes) = text.bytes() else {
+        return Ok(None);
+    };
+    match read_stow(alloc, bytes, ship) {
+        Ok(moves) => Ok(Some(tasks_of(alloc, ship, &moves)?)),
+        Err(StowError::Fault(_)) => Ok(None),
+        Err(StowError::OutOfMemory) => Err(OutOfMemory),
+    }
+}
+
+/// The instance of the ship file and the list; none where one of them has a fault.
+fn instance_of(alloc: Global, texts: &Texts) -> Result<Option<Instance>, OutOfMemory> {
+    match ship_in(alloc, &texts.ship)? {
+        Some(ship) => instance_in(alloc, &ship, &texts.stow),
+        None => Ok(None),
+    }
+}
+
+/// Says that a file couldn't be read or is too large, and answers whether it was so. The word is that of the usage
+/// text.
+fn say_if_unread(
+    page: &mut Page,
+    word: &str,
+    name: Option<&str>,
+    text: &Text,
+) -> Result<bool, OutOfMemory> {
+    let Some(name) = name else {
+        return Ok(false);
+    };
+    let name = Word(name);
+    match text {
+        Text::Unread => {
+            page.say(format_args!("{name}: this file, {word}, isn't there or can't be read"))?;
+            Ok(true)
+        }
+        Text::TooLarge => {
+            page.say(format_args!(
+                "{name}: this file, {word}, has more than 8388608 bytes, and may have no more"
+            ))?;
+            Ok(true)
+        }
+        _ => Ok(false),
+    }
+}
+
+/// Says which file couldn't be read, or is too large: where the others can be read again, a tree's.
+fn say_unread(page: &mut Page, names: &Names<'_>, texts: &Texts) -> Result<(), OutOfMemory> {
+    if say_if_unread(page, "SHIP", names.ship, &texts.ship)?
+        || say_if_unread(page, "STOW", names.stow, &texts.stow)?
+        || say_if_unread(page, "PLAN", names.plan, &texts.plan)?
+        || say_if_unread(page, "OWN", names.own, &texts.plan)?
+        || say_if_unread(page, "LOG", names.log, &texts.log)?
+    {
+        return Ok(());
+    }
+    say_if_unread(page, "TREE", names.tree, &Text::Unread)?;
+    Ok(())
+}
+
+/// Says what is wrong with the list.
+fn say_bad_stow(page: &mut Page, names: &Names<'_>, texts: &Texts) -> Result<(), OutOfMemory> {
+    let (Some(name), Some(bytes)) = (names.stow, texts.stow.bytes()) else {
+        return Ok(());
+    };
+    match ship_in(page.alloc(), &texts.ship)? {
+        Some(ship) => say_stow(page, name, bytes, &ship),
+        None => Ok(()),
+    }
+}
+
+/// Says what is wrong with the log.
+fn say_bad_log(page: &mut Page, names: &Names<'_>, texts: &Texts) -> Result<(), OutOfMemory> {
+    let (Some(name), Some(bytes)) = (names.log, texts.log.bytes()) else {
+        return Ok(());
+    };
+    match ship_in(page.alloc(), &texts.ship)? {
+        Some(ship) => say_log(page, name, bytes, &ship),
+        None => Ok(()),
+    }
+}
+
+/// Says what is wrong with the plan, as a table or, where that is in order, as a plan that is worked.
+fn say_bad_plan(
+    page: &mut Page,
+    names: &Names<'_>,
+    texts: &Texts,
+    ended: Status,
+) -> Result<(), OutOfMemory> {
+    let (Some(name), Some(bytes)) = (names.plan.or(names.own), texts.plan.bytes()) else {
+        return Ok(());
+    };
+    let Some(inst) = instance_of(page.alloc(), texts)? else {
+        return Ok(());
+    };
+    if ended == Status::BadPlan {
+        return say_plan(page, name, bytes, &inst);
+    }
+    let in_decimetres = is_in_decimetres(page.alloc(), &texts.ship)?;
+    say_broken(page, name, bytes, &inst, in_decimetres)
+}
+
+/// Whether a ship file counts places in decimetres.
+fn is_in_decimetres(alloc: Global, text: &Text) -> Result<bool, OutOfMemory> {
+    let Some(bytes) = text.bytes() else {
+        return Ok(false);
+    };
+    match facts_of(alloc, "", bytes)? {
+        Some(facts) => Ok(facts.in_decimetres()),
+        None => Ok(false),
+    }
+}
+
+/// Says what is wrong with the ship file.
+fn say_bad_ship(page: &mut Page, names: &Names<'_>, texts: &Texts) -> Result<(), OutOfMemory> {
+    match (names.ship, texts.ship.bytes()) {
+        (Some(name), Some(bytes)) => say_ship(page, name, bytes),
+        _ => Ok(()),
+    }
+}
+
+/// Says the notes on the ship file.
+fn say_ship_notes(page: &mut Page, names: &Names<'_>, texts: &Texts) -> Result<(), OutOfMemory> {
+    match (names.ship, texts.ship.bytes()) {
+        (Some(name), Some(bytes)) => say_notes(page, name, bytes),
+        _ => Ok(()),
+    }
+}
+
+/// Says what there is to say of the files that are read whole.
+fn say_texts(
+    page: &mut Page,
+    names: &Names<'_>,
+    texts: &Texts,
+    ended: Status,
+) -> Result<(), OutOfMemory> {
+    match ended {
+        Status::ReadFault | Status::TooLarge => say_unread(page, names, texts),
+        Status::BadShip => say_bad_ship(page, names, texts),
+        Status::BadStow => say_bad_stow(page, names, texts),
+        Status::BadPlan => say_bad_plan(page, names, texts, ended),
+        Status::BadLog => say_bad_log(page, names, texts),
+        Status::Broken => {
+            say_bad_plan(page, names, texts, ended)?;
+            say_ship_notes(page, names, texts)
+        }
+        Status::OutOfMemory => page.say("the system gave no more memory; no file was changed"),
+        Status::Usage | Status::WriteFault | Status::BadTree => Ok(()),
+        Status::Optimal
+        | Status::Done
+        | Status::Infeasible
+        | Status::BudgetPlan
+        | Status::BudgetNone
+        | Status::Weaker
+        | Status::Breach => say_ship_notes(page, names, texts),
+    }
+}
+
+/// The first fault of a tree's file; none where it has none or can't be read again.
+fn tree_fault<S: Shelf>(
+    alloc: Global,
+    inst: &Instance,
+    shelf: &mut S,
+    name: &str,
+) -> Option<TreeFault>
+    ensures { LeavesFiles (S.Sink.view shelf.old) (S.Sink.view shelf.new) }
+{
+    match replay(alloc, inst, shelf, name) {
+        Err(ReplayError::Tree(fault)) => Some(fault),
+        _ => None,
+    }
+}
+
+/// Says what is wrong with a tree's file.
+fn say_bad_tree<S: Shelf>(
+    page: &mut Page,
+    shelf: &mut S,
+    name: &str,
+    inst: &Instance,
+) -> Result<(), OutOfMemory>
+    ensures { LeavesFiles (S.Sink.view shelf.old) (S.Sink.view shelf.new) }
+{
+    let Some(fault) = tree_fault(page.alloc(), inst, shelf, name) else {
+        return Ok(());
+    };
+    let text = read_text(page.alloc(), shelf, Some(name))?;
+    say_tree(page, name, text.bytes().unwrap_or(&[]), fault)
+}
+
+/// Says that a plan isn't of this run, where there is one.
+fn say_stale<S: Shelf>(page: &mut Page, shelf: &mut S, name: &str) -> Result<(), OutOfMemory>
+    ensures { LeavesFiles (S.Sink.view shelf.old) (S.Sink.view shelf.new) }
+{
+    if shelf.open(name).is_err() {
+        return Ok(());
+    }
+    let name = Word(name);
+    page.say(format_args!("note: {name}: this plan was there before and isn't of this run"))
+}
+
+/// Says what there is to say of the files that are read otherwise: a tree's, and a plan that wasn't written.
+fn say_others<S: Shelf>(
+    page: &mut Page,
+    shelf: &mut S,
+    names: &Names<'_>,
+    inst: Option<Instance>,
+    ended: Status,
+) -> Result<(), OutOfMemory>
+    ensures { LeavesFiles (S.Sink.view shelf.old) (S.Sink.view shelf.new) }
+{
+    match (ended, names.tree, names.written, &inst) {
+        (Status::BadTree, Some(name), _, Some(inst)) => say_bad_tree(page, shelf, name, inst),
+        (Status::Infeasible | Status::BudgetNone, _, Some(name), _) => say_stale(page, shelf, name),
+        _ => Ok(()),
+    }
+}
+
+/// Says what there is to say of a run with these files.
+fn say_files<S: Shelf>(
+    page: &mut Page,
+    shelf: &mut S,
+    names: &Names<'_>,
+    ended: Status,
+) -> Result<(), OutOfMemory>
+    ensures { LeavesFiles (S.Sink.view shelf.old) (S.Sink.view shelf.new) }
+{
+    let texts = read_texts(page.alloc(), shelf, names)?;
+    say_texts(page, names, &texts, ended)?;
+    let inst = if ended == Status::BadTree {
+        instance_of(page.alloc(), &texts)?
+    } else {
+        None
+    };
+    say_others(page, shelf, names, inst, ended)
+}
+
+/// Says what there is to say of a run with these words.
+fn say_all<S: Shelf>(
+    page: &mut Page,
+    words: &[String],
+    ended: Status,
+    shelf: &mut S,
+) -> Result<(), OutOfMemory>
+    ensures { LeavesFiles (S.Sink.view shelf.old) (S.Sink.view shelf.new) }
+{
+    if ended == Status::Usage {
+        return say_usage(page, words);
+    }
+    let request: Request<'_> = request_of(page.alloc(), words)?;
+    let names = names_of(&request);
+    say_files(page, shelf, &names, ended)
+}
+
+/// Says on `err`, for people, what is to be mended after a run with these words that ended so, and what in its
+/// files is worth a note. It reads the files again and changes none. Where it can't read one again, where they have
+/// changed since, or where memory is wanting, it says nothing.
+pub fn explain<S: Shelf, K: Sink>(
+    alloc: Global,
+    words: &[String],
+    ended: Status,
+    shelf: &mut S,
+    err: &mut K,
+)
+    ensures files { LeavesFiles (S.Sink.view shelf.old) (S.Sink.view shelf.new) }
+    ensures beside { beside (K.Sink.view err.new) ≡ beside (K.Sink.view err.old) }
+{
+    let mut page = Page::new(alloc);
+    if say_all(&mut page, words, ended, shelf).is_ok() {
+        let _ = put_all(err, page.as_bytes());
+    }
+}
