@@ -97,6 +97,7 @@ module _ (c : Course) (valid : Valid c.inst) (feasible : Feasible c.inst c.plan)
     feasible = feasible;
     stages = same;
     keeps = record {
+      stages = same;
       starts = starts;
       order = order;
       before = λ i j is. if_then (start_at c j) (IsOver c i (gap c.inst c.plan i j)) (IsOver c i 0)

@@ -6,3 +6,4 @@ pub mod NextLemmas
 pub mod CallLemmas
 pub mod TableLemmas
 pub mod KeptLemmas
+pub mod LogLemmas

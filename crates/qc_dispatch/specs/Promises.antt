@@ -34,6 +34,8 @@ pub record GoesOn (c : Course) : Type 0 where
 
 -- the rules of a feasible plan, with the lengths that tasks really take
 pub record Keeps (c : Course) : Type 0 where
+  -- each task has a stage
+  pub stages : length c.stages ≡ length c.inst.tasks
   -- a task starts once its crane can be there and all berths are clear
   pub starts : (j : ℕ) → IfSome (start_at c j) (λ start. free_of c.inst c.plan j ≤ start)
   -- it starts once all that lead it have ended, by the gap at the least

@@ -71,6 +71,13 @@ impl Dispatch {
         })
     }
 
+    /// The instance that it was opened for.
+    pub fn instance(&self) -> &Instance
+        ensures { result.now ≡ self.now.inst }
+    {
+        &self.inst
+    }
+
     /// The next start, if one comes by this tick.
     fn next_by(&self, to: Tick) -> Option<Next>
         ensures { ComesBy self.now to result }
