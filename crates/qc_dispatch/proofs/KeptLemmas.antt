@@ -14,12 +14,18 @@ use Rattle.qc_dispatch.proofs.CourseLemmas.{end_started, goes_ended, goes_later,
 use Rattle.qc_dispatch.proofs.WaitLemmas.{waits_after, waits_same}
 use Rattle.qc_model.specs.declared.schedule.Slot.{Slot}
 use Rattle.qc_model.specs.Instance.{InstanceView, Valid}
-use Rattle.qc_model.specs.Rules.{Feasible}
+use Rattle.qc_model.specs.Rules.{Feasible, crane_of, no_slot}
 
 -- the stage that was read
 pub stage_read : (stages : List Stage) (task : ℕ) (read stage : Stage) → task < length stages
     → read ≡ slice_index_or stages task read → read ≡ stage → slice_index_or stages task Waiting ≡ stage
 stage_read stages task read stage inside is same = get_or_default stages task Waiting read inside ∙ sym is ∙ same
+
+-- the crane that was read
+pub crane_read : (slots : List Slot) (task cranes : ℕ) (read : Slot) → task < length slots → read ≡ slice_index_or slots task read
+    → crane_of slots task < cranes → read.crane < cranes
+crane_read slots task cranes read inside is low =
+    subst (λ (s : Slot). s.crane < cranes) (get_or_default slots task no_slot read inside ∙ sym is) low
 
 -- at the opening
 pub kept_opening : (inst : InstanceView) (plan : List Slot) → Valid inst → Feasible inst plan → (marks : List Bool) → AreMarks inst plan marks

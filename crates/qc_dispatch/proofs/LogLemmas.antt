@@ -4,7 +4,6 @@ use Rattle.std.specs.List.{count_by, sum_by}
 use Rattle.std.proofs.lemmas.List.{append-nil, length-set}
 use Rattle.std.proofs.lemmas.List.Sums.{sum_by-set}
 use Rattle.qc_dispatch.specs.declared.event.Event.{Event}
-use Rattle.qc_dispatch.specs.declared.event.Event.TheVariants.{Started, Finished}
 use Rattle.qc_dispatch.specs.declared.fault.DispatchFault.{DispatchFault}
 use Rattle.qc_dispatch.specs.declared.grant.Grant.{Grant}
 use Rattle.qc_dispatch.specs.declared.fault.DispatchKind.TheVariants as kind
@@ -13,6 +12,7 @@ use Rattle.qc_dispatch.specs.declared.report.Report.TheVariants.{Passed, Done}
 use Rattle.qc_dispatch.specs.declared.stage.Stage.{Stage}
 use Rattle.qc_dispatch.specs.declared.stage.Stage.TheVariants.{Waiting, Running}
 use Rattle.qc_dispatch.specs.Course.{Course, IsGranted, IsPassed, IsQuiet, is_waiting, left, stage_of}
+use Rattle.qc_dispatch.specs.Events.{started_event}
 use Rattle.qc_dispatch.specs.Following.{IsIdle, most_passed}
 use Rattle.qc_dispatch.specs.Journal.{HasFault, HasFirstFault, Journal, TakesAll, TakesLine, WentOn}
 use Rattle.qc_dispatch.specs.Log.{most_lines, report_in}
@@ -29,14 +29,17 @@ pub at_start : (start : Journal) (to : ℕ) → start.course.clock ≤ to → Is
 at_start start to from = record { from = from; same = λ new went. went }
 
 -- one start more
-pub one_start : (start here : Journal) (to : ℕ) (grant : Grant) (next : Course) → IsOnWay start to here → IsGranted here.course to grant next
-    → IsOnWay start to (record { course = next; events = here.events ++ Started grant ∷ [] })
-one_start start here to grant next way granted = record {
-  from = rw granted.after (granted.by);
+pub one_start : (start here : Journal) (to : ℕ) (grant : Grant) (next : Course) (events : List Event) → IsOnWay start to here
+    → IsGranted here.course to grant next → events ≡ here.events ++ started_event next.inst grant ∷ []
+    → IsOnWay start to (record { course = next; events = events })
+one_start start here to grant next events way granted are = record {
+  from = rw granted.after granted.by;
   same = λ new went. way.same new (record {
     grants = grant ∷ went.grants;
     goes = (next, granted, went.goes);
-    events = went.events ∙ append_assoc here.events (Started grant ∷ []) (map Started went.grants);
+    events = went.events ∙ ap (λ (es : List Event). es ++ map (started_event next.inst) went.grants) are
+        ∙ append_assoc here.events (started_event next.inst grant ∷ []) (map (started_event next.inst) went.grants)
+        ∙ ap (λ (c : Course). here.events ++ started_event c.inst grant ∷ map (started_event c.inst) went.grants) granted.after;
   });
 }
 

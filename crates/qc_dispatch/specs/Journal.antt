@@ -1,7 +1,6 @@
 -- public: what comes of the lines of a log, one after the other.
 use Rattle.std.specs.Prelude.{◌≡◌, ◌≢◌, ℕ, ◌+◌, ◌<◌, ◌≤◌, ◌⊎◌, List, [], ◌∷◌, ◌++◌, map, Result, Ok, Err}
 use Rattle.qc_dispatch.specs.declared.event.Event.{Event}
-use Rattle.qc_dispatch.specs.declared.event.Event.TheVariants.{Started, Finished}
 use Rattle.qc_dispatch.specs.declared.fault.DispatchFault.{DispatchFault}
 use Rattle.qc_dispatch.specs.declared.fault.DispatchKind.{DispatchKind}
 use Rattle.qc_dispatch.specs.declared.fault.DispatchKind.TheVariants as kind
@@ -11,6 +10,7 @@ use Rattle.qc_dispatch.specs.declared.report.Report.TheVariants.{Passed, Done}
 use Rattle.qc_dispatch.specs.declared.stage.Stage.TheVariants.{Running}
 use Rattle.qc_dispatch.specs.Calls.{opening}
 use Rattle.qc_dispatch.specs.Course.{Course, IsEnded, IsGranted, IsPassed, stage_of}
+use Rattle.qc_dispatch.specs.Events.{finished_event, started_event}
 use Rattle.qc_dispatch.specs.Log.{most_lines, report_in}
 use Rattle.qc_log.specs.Lines.{lines_of}
 use Rattle.qc_model.specs.declared.schedule.Slot.{Slot}
@@ -30,13 +30,13 @@ pub record Journal : Type 0 where
 pub record WentOn (old : Journal) (to : ℕ) (new : Journal) : Type 0 where
   pub grants : List Grant
   pub goes : Goes old.course to grants new.course
-  pub events : new.events ≡ old.events ++ map Started grants
+  pub events : new.events ≡ old.events ++ map (started_event old.course.inst) grants
 
 -- this task ended, and what may start then did
 pub record TookEnd (old : Journal) (task : ℕ) (new : Journal) : Type 0 where
   pub after : Course
   pub ended : IsEnded old.course task after
-  pub went : WentOn (record { course = after; events = old.events ++ Finished task after.clock ∷ [] }) after.clock new
+  pub went : WentOn (record { course = after; events = old.events ++ finished_event after.inst task after.clock ∷ [] }) after.clock new
 
 -- a report was followed
 abbrev pub Follows : Journal → Report → Journal → Type 0

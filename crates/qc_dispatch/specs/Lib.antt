@@ -3,6 +3,7 @@ pub mod Course
 pub mod Promises
 pub mod Calls
 pub mod Faults
+pub mod Events
 pub mod Log
 pub mod Journal
 pub mod Following

@@ -1,6 +1,6 @@
 //! The dispatcher: it follows the order of a plan while tasks take as long as they do.
 
-ghost use Rattle.std.specs.Prelude.{◌≡◌, ◌<◌, ◌≤◌, IfNone, IfOk, List, length, replicate};
+ghost use Rattle.std.specs.Prelude.{◌≡◌, ◌<◌, ◌≤◌, IfNone, IfOk, IfSome, List, length, replicate};
 ghost use Rattle.qc_model.specs.Rules.{Feasible};
 ghost use Rattle.qc_dispatch.specs.declared.stage.Stage.TheVariants.{Waiting};
 ghost use Rattle.qc_dispatch.specs.Calls.{Call, Reaches, opening};
@@ -98,6 +98,8 @@ impl Dispatch {
         requires from { self.old.clock ≤ to }
         requires by { to < past_moments }
         ensures advanced { IsAdvanced self.old to result self.new }
+        ensures inside { IfSome result (λ grant. (grant.task < length self.new.inst.tasks)
+            × (grant.crane < length self.new.inst.cranes)) }
         ensures keeps { Keeps self.new }
         ensures goes_on { IfNone result (0 < left self.new → running self.new ≡ 0 → GoesOn self.new) }
     {

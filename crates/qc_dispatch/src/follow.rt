@@ -12,7 +12,7 @@ ghost use Rattle.qc_dispatch.specs.Log.{most_lines};
 ghost use Rattle.qc_dispatch.specs.Promises.{Keeps};
 
 use crate::dispatch::Dispatch;
-use crate::event::Event;
+use crate::event::{Event, finished, started};
 use crate::fault::{DispatchError, DispatchFault, DispatchKind};
 use crate::grant::NotRunning;
 use crate::report::{Report, report_in};
@@ -59,7 +59,8 @@ impl Followed {
         ensures clock { IfOk result (λ _. self.new.dispatch.clock ≡ to) }
     {
         while let Some(grant) = self.dispatch.advance(to) {
-            self.events.push(Event::Started(grant))?;
+            let start = started(self.dispatch.instance(), grant);
+            self.events.push(start)?;
         }
         Ok(())
     }
@@ -77,7 +78,8 @@ impl Followed {
             Err(NotRunning) => return Err(Refused::NotRunning),
         }
         let now = self.dispatch.now();
-        match self.events.push(Event::Finished(task, now)) {
+        let end = finished(self.dispatch.instance(), task, now);
+        match self.events.push(end) {
             Ok(()) => {}
             Err(_) => return Err(Refused::OutOfMemory),
         }

@@ -3,7 +3,7 @@ use Rattle.qc_dispatch.specs.Course.{Course}
 use Rattle.qc_dispatch.specs.Fields.{course_of}
 use Rattle.qc_dispatch.specs.Kept.{ComesBy, IsSoonest}
 use Rattle.qc_dispatch.proofs.CourseLemmas.{goes_later, goes_started}
-use Rattle.qc_dispatch.proofs.KeptLemmas.{goes_on_later, kept_later, kept_started}
+use Rattle.qc_dispatch.proofs.KeptLemmas.{crane_read, goes_on_later, kept_later, kept_started}
 use Rattle.std.proofs.Common.{None}
 use Rattle.qc_dispatch.proofs.dispatch.Dispatch.advance.Goals as goal
 
@@ -34,3 +34,13 @@ returns-in-None-clause-goes_on c =
     let none = subst (λ (x : Course). ComesBy x c.args.to None) (sym c.self.view_is) c.in-None.ensures in
     let from = rw (← c.self.view_is) at c.requires.from in
     goes_on_later (course_of f) f.marks.items f.waits.items.items c.self.invariant c.args.to from none
+
+pub returns-in-Some-clause-inside : goal.returns-in-Some-clause-inside
+returns-in-Some-clause-inside c =
+    let f = c.self.inside in
+    let soonest = subst (λ (x : Course). IsSoonest x c.args.to c.in-Some.next) (sym c.self.view_is) c.in-Some.ensures in
+    let feasible = c.self.invariant.course.feasible in (
+      soonest.may.task,
+      crane_read f.slots.items c.in-Some.next.task _ c.index.result.now (omega (arith, soonest.may.task, feasible.all_tasks)) c.index.ensures
+          (feasible.crane_range c.in-Some.next.task soonest.may.task),
+    )
