@@ -7,3 +7,4 @@ pub mod CallLemmas
 pub mod TableLemmas
 pub mod KeptLemmas
 pub mod LogLemmas
+pub mod OneWayLemmas

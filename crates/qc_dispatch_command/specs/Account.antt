@@ -7,7 +7,6 @@ use Rattle.qc_dispatch.specs.Journal.{IsFaulty, IsFollowed}
 use Rattle.qc_dispatch.specs.Promises.{Keeps}
 use Rattle.qc_io.specs.Outside.{Files, View}
 use Rattle.qc_model.specs.Rules.{Feasible}
-use Rattle.qc_run.specs.declared.broken.Broken.{Broken}
 use Rattle.qc_run.specs.declared.inputs.Input.TheVariants as input
 use Rattle.qc_run.specs.declared.reading.Job.{Job}
 use Rattle.qc_run.specs.declared.refusal.LogFault.TheVariants as log
@@ -40,11 +39,17 @@ pub record IsLogFaulty (job : Job) (names : Names) (files : Option Files) (fault
   pub due : ComesTo (input_due input.Log) names files (Ok text)
   pub faulty : IsFaulty job.inst job.sched text fault
 
--- the log couldn't be read, or its first faulty line has this fault
+-- its first faulty line was refused
+pub record IsLogRefused (job : Job) (names : Names) (before after : View) (why : Stop) : Type 0 where
+  pub fault : DispatchFault
+  pub refused : why ≡ stop.Refused (refusal.BadLog (log.Dispatch fault))
+  pub reads : after.read_faults ≡ before.read_faults
+  pub faulty : IsLogFaulty job names before.files fault
+
+-- the log couldn't be read, or a line of it is faulty
 abbrev pub StopsLog : Job → Names → View → View → Stop → Type 0
-StopsLog job names before after (stop.Refused (refusal.BadLog (log.Dispatch fault))) =
-    (after.read_faults ≡ before.read_faults) × IsLogFaulty job names before.files fault
-StopsLog job names before after why = Stops (input_due input.Log) names before after why
+StopsLog job names before after why =
+    Stops (input_due input.Log) names before after why ⊎ IsLogRefused job names before after why
 
 -- ---- the command
 

@@ -1,13 +1,9 @@
 -- public: what is told of a plan whose order is followed by a log.
-use Rattle.std.specs.Prelude.{◌≡◌, ℕ, ◌<◌, List, All, length}
-use Rattle.qc_dispatch.specs.declared.event.Event.{Event}
-use Rattle.qc_dispatch.specs.declared.event.Event.TheVariants.{Started, Finished}
+use Rattle.std.specs.Prelude.{ℕ, List}
 use Rattle.qc_dispatch.specs.Following.{journal_of}
 use Rattle.qc_dispatch.specs.Journal.{IsFollowed}
 use Rattle.qc_dispatch.specs.Promises.{Keeps}
-use Rattle.qc_model.specs.Instance.{InstanceView}
 use Rattle.qc_model.specs.Rules.{Feasible}
-use Rattle.qc_run.specs.declared.reading.Job.{Job}
 use Rattle.qc_run.specs.declared.status.Status.{Status}
 use Rattle.qc_run.specs.declared.status.Status.TheVariants as status
 use Rattle.qc_run.specs.Broken.{broken_text}
@@ -24,7 +20,7 @@ pub record TellsCourse (text : List ℕ) (told : Dispatched) : Type 0 where
 
 -- what is printed, and the status
 abbrev pub dispatched_text : Dispatched → List ℕ
-dispatched_text told = journal_text told.job.inst (journal_of told.followed)
+dispatched_text told = journal_text (journal_of told.followed)
 
 abbrev pub dispatching_text : Dispatching → List ℕ
 dispatching_text (dispatching.Broken told) = broken_text told

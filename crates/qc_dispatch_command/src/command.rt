@@ -1,8 +1,7 @@
 //! The command that follows the order of a plan by a log.
-ghost use Rattle.std.specs.Prelude.{◌≤◌, IfOk, IsSome};
+ghost use Rattle.std.specs.Prelude.{◌≤◌, IsSome};
 ghost use Rattle.qc_run.specs.Inputs.{names_of};
 ghost use Rattle.qc_dispatch_command.specs.Account.{IsDispatchAccount, IsDispatchRun};
-ghost use Rattle.qc_dispatch_command.specs.Told.{CanBeTold};
 ghost use Rattle.qc_dispatch_command.specs.Promises.{DispatchPromises};
 
 use crate::answer::{Dispatched, Dispatching};
@@ -19,9 +18,8 @@ fn follow<S: Shelf>(alloc: Global, inputs: &Inputs<'_>, shelf: &mut S) -> Result
     requires stow { IsSome (names_of inputs.now).stow }
     requires plan { IsSome (names_of inputs.now).plan }
     requires log { IsSome (names_of inputs.now).log }
-    ensures serves { IsDispatchAccount (names_of inputs.now)
+    ensures { IsDispatchAccount (names_of inputs.now)
         (S.Sink.view shelf.old) (S.Sink.view shelf.new) result }
-    ensures ready { IfOk result CanBeTold }
 {
     let job = match read_job(alloc, inputs, shelf) {
         Ok(job) => job,
