@@ -85,12 +85,12 @@ follows_one : (old a b : Journal) (report : Report) → Follows old report a →
 follows_one old a b (Passed ticks) p q = went_one old a b (old.course.clock + ticks) p q
 follows_one old a b (Done task) p q = took_one old a b task p q
 
-same_report : (r s : Report) → Ok {E = DispatchKind} r ≡ Ok s → r ≡ s
-same_report r s e = cc
+same_report : (read : Result Report DispatchKind) (r s : Report) → read ≡ Ok r → read ≡ Ok s → r ≡ s
+same_report read r s one other = cc
 
 takes_one : (old a b : Journal) (before : ℕ) (line : List ℕ) → TakesLine old before line a → TakesLine old before line b → a ≡ b
 takes_one old a b before line p q =
-    let e = same_report p.report q.report (sym p.read ∙ q.read) in
+    let e = same_report (report_in old.course.inst line) p.report q.report p.read q.read in
     follows_one old a b q.report (subst (λ (r : Report). Follows old r a) e p.follows) q.follows
 
 ok_or_err : (r : Result Report DispatchKind) (report : Report) (why : DispatchKind) → r ≡ Ok report → r ≡ Err why → ⊥
@@ -99,7 +99,7 @@ ok_or_err r report why ok err = cc
 no_fault : (old a : Journal) (before : ℕ) (line : List ℕ) (why : DispatchKind) → TakesLine old before line a → HasFault old before line why → ⊥
 no_fault old a before line kind.TooMany takes fault = omega (arith, takes.few, fault)
 no_fault old a before line kind.NotRunning takes fault =
-    let e = same_report takes.report (Done fault.1.task) (sym takes.read ∙ fault.1.read) in
+    let e = same_report (report_in old.course.inst line) takes.report (Done fault.1.task) takes.read fault.1.read in
     let took = subst (λ (r : Report). Follows old r a) e takes.follows in
     fault.1.idle took.ended.start took.ended.ran
 no_fault old a before line kind.Line takes fault = ok_or_err (report_in old.course.inst line) takes.report kind.Line takes.read fault.1
