@@ -73,13 +73,14 @@ no_tree inst names name named None is_held none = tt
 no_tree inst names name named (Some held) is_held none =
     subst (IsNoTree inst) (sym (ap (option_and_then (get held)) named)) (no_tree_in inst (get held name) is_held none)
 
--- ---- no fault of a tree comes of the other two files
+-- ---- no fault of a tree or of a log comes of the other files
 
 abbrev pub IsEarly : Refusal → Type 0
 IsEarly (refusal.BadTree fault) = ⊥
+IsEarly (refusal.BadLog fault) = ⊥
 IsEarly why = Unit {0}
 
-input_early : (file : Input) (bytes : Option (List ℕ)) → IfErr (within_limit file bytes) IsEarly
+pub input_early : (file : Input) (bytes : Option (List ℕ)) → IfErr (within_limit file bytes) IsEarly
 input_early file None = tt
 input_early file (Some bytes) =
     cond_both (nat_le (length bytes) file_limit) (Ok bytes) (Err (refusal.TooLarge file)) (λ r. IfErr r IsEarly) (λ _. tt) (λ _. tt)

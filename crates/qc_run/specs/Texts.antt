@@ -14,6 +14,7 @@ use Rattle.qc_stow.specs.Faults.{kind_text as stow_text}
 use Rattle.qc_stow.specs.declared.fault.StowFault.{StowFault}
 use Rattle.qc_run.specs.declared.inputs.Input.{Input}
 use Rattle.qc_run.specs.declared.inputs.Input.TheVariants as input
+use Rattle.qc_dispatch.specs.Faults.{kind_text as dispatch_text}
 use Rattle.qc_watch.specs.Faults.{kind_text as watch_text}
 use Rattle.qc_run.specs.declared.refusal.LogFault.{LogFault}
 use Rattle.qc_run.specs.declared.refusal.LogFault.TheVariants as log
@@ -54,7 +55,7 @@ input_text input.Own = codes "own"
 input_text input.Log = codes "log"
 
 abbrev pub usage_text : List ℕ
-usage_text = codes "Usage\nqc plan SHIP STOW PLAN TREE [--nodes N] [--from OWN]\nqc check SHIP STOW PLAN TREE\nqc tasks SHIP STOW\nqc show SHIP STOW PLAN\nqc make NUMBER HATCHES CRANES\nqc sheet SHIP STOW PLAN\nqc watch SHIP LOG\n"
+usage_text = codes "Usage\nqc plan SHIP STOW PLAN TREE [--nodes N] [--from OWN]\nqc check SHIP STOW PLAN TREE\nqc tasks SHIP STOW\nqc show SHIP STOW PLAN\nqc make NUMBER HATCHES CRANES\nqc sheet SHIP STOW PLAN\nqc dispatch SHIP STOW PLAN LOG\nqc watch SHIP LOG\n"
 
 -- a line: the text and a line feed
 abbrev pub line : List ℕ → List ℕ
@@ -90,6 +91,7 @@ bad_tree_text fault = fault_text (codes "BadTree ") (tree_text fault.kind) fault
 -- the line of a fault in a log with its line there
 abbrev pub bad_log_text : LogFault → List ℕ
 bad_log_text (log.Watch fault) = fault_text (codes "BadLog ") (watch_text fault.kind) fault.line
+bad_log_text (log.Dispatch fault) = fault_text (codes "BadLog ") (dispatch_text fault.kind) fault.line
 
 abbrev pub direction_text : Direction → List ℕ
 direction_text Up = codes "up"

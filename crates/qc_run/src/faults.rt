@@ -74,5 +74,6 @@ pub(crate) fn log_fault_line(fault: LogFault) -> Text<256>
 {
     match fault {
         LogFault::Watch(fault) => fault_line(b"BadLog ", fault.kind.text(), fault.line),
+        LogFault::Dispatch(fault) => fault_line(b"BadLog ", fault.kind.text(), fault.line),
     }
 }

@@ -27,7 +27,7 @@ use std::alloc::Global;
 const FILE_LIMIT: usize = 8_388_608;
 
 /// The bytes of a file that the command reads.
-pub(crate) fn read_input<S: Shelf>(
+pub fn read_input<S: Shelf>(
     alloc: Global,
     inputs: &Inputs<'_>,
     file: Input,

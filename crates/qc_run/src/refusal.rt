@@ -7,6 +7,7 @@ use crate::faults::{
 };
 use crate::inputs::Input;
 use crate::status::Status;
+use qc_dispatch::DispatchFault;
 use qc_gantt::PlanFault;
 use qc_num::{OutOfMemory, Text};
 use qc_replay::TreeFault;
@@ -18,6 +19,7 @@ use qc_watch::WatchFault;
 #[derive(Clone, Copy, Debug, PartialEq, Eq)]
 pub enum LogFault {
     Watch(WatchFault),
+    Dispatch(DispatchFault),
 }
 
 /// Why a command isn't served.
@@ -60,6 +62,7 @@ qc tasks SHIP STOW
 qc show SHIP STOW PLAN
 qc make NUMBER HATCHES CRANES
 qc sheet SHIP STOW PLAN
+qc dispatch SHIP STOW PLAN LOG
 qc watch SHIP LOG
 ";
 

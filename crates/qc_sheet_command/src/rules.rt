@@ -8,7 +8,7 @@ use qc_model::{Break, Direction, Instance, Rule, Schedule, first_break};
 
 /// The first rule that the schedule breaks, but for that of one way, and where; `None` exactly where
 /// the schedule is feasible.
-pub(crate) fn broken_rule(inst: &Instance, sched: &Schedule) -> Option<Break>
+pub fn broken_rule(inst: &Instance, sched: &Schedule) -> Option<Break>
     requires { IsJudgeable inst.now sched.now }
     ensures feasible { IfNone result (Feasible inst.now sched.now) }
     ensures broken { IfSome result (IsRuleBroken inst.now sched.now) }

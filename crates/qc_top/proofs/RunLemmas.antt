@@ -6,6 +6,9 @@ use Rattle.std.specs.Cmp.Lexicographic.{nat_list_cmp_total}
 use Rattle.std.specs.FinMap.{get, get-insert, insert}
 use Rattle.qc_gantt.specs.PlanText.{plan_text}
 use Rattle.qc_io.specs.Outside.{Files, View, beside}
+use Rattle.qc_dispatch_command.specs.Account.{IsDispatching, IsDispatchRun, StopsDispatch}
+use Rattle.qc_dispatch_command.specs.Promises.{DispatchPromises}
+use Rattle.qc_dispatch_command.proofs.DispatchLemmas.{dispatch_promises}
 use Rattle.qc_judge_commands.specs.Account.{IsJudged, IsPlanCheckRun, IsTreeFound, IsTreeRun, StopsPlan, StopsTree, show_reader, tasks_reader}
 use Rattle.qc_judge_commands.specs.Promises.{PlanCheckPromises, ShowPromises, TasksPromises, TreePromises}
 use Rattle.qc_judge_commands.proofs.JudgedLemmas.{plan_check_promises, show_promises}
@@ -39,9 +42,9 @@ use Rattle.qc_watch_command.specs.Promises.{WatchPromises}
 use Rattle.qc_watch_command.proofs.WatchLemmas.{watch_promises}
 use Rattle.qc_words.proofs.LimitLemmas.{asked_kept}
 use Rattle.qc_words.proofs.PlainWords.{canonical_asked}
-use Rattle.qc_words.specs.Asked.{Asked, KeepsLimits, are_different, check, is_own, make, plan, sheet, show, tasks, usage, watch}
+use Rattle.qc_words.specs.Asked.{Asked, KeepsLimits, are_different, check, dispatch, is_own, make, plan, sheet, show, tasks, usage, watch}
 use Rattle.qc_words.specs.Words.{Asks}
-use Rattle.qc_top.specs.Account.{IsRun, IsRunOf, IsStopped, IsUsage, check_names, show_names, tasks_names, watch_names}
+use Rattle.qc_top.specs.Account.{IsRun, IsRunOf, IsStopped, IsUsage, check_names, dispatch_names, show_names, tasks_names, watch_names}
 use Rattle.qc_top.specs.Promises.{IsPlan, Promises}
 
 -- ---- want of memory for the words, as an answer of each command
@@ -75,6 +78,13 @@ module _ (v pb pa : View) (ended : Status)
   as_check names = record {
     answer = Err stop.OutOfMemory;
     serves = stopped (IsJudged names v.files) (StopsPlan names v v) names v (inl refl, λ fault e. absurd (cc e));
+    reports = reports;
+  }
+
+  as_dispatch : (names : Names) → IsDispatchRun names v v pb pa ended
+  as_dispatch names = record {
+    answer = Err stop.OutOfMemory;
+    serves = stopped (IsDispatching names v.files) (StopsDispatch names v v) names v (inl refl);
     reports = reports;
   }
 
@@ -211,6 +221,12 @@ module _ (words : List (List ℕ)) (before after pb pa : View) (ended : Status) 
   watches s l asks =
       watch_promises (watch_names s l) before after pb pa ended (read watch_reader (watch_names s l) (serves (watch s l) asks))
 
+  dispatches : (s w p l : List ℕ) → Asks words (dispatch s w p l) → DispatchPromises (dispatch_names s w p l) before after pb pa ended
+  dispatches s w p l asks =
+      let names = dispatch_names s w p l in
+      dispatch_promises names before after pb pa ended
+      (served (λ v. IsDispatchRun names before v pb pa ended) (λ reports. as_dispatch before pb pa ended reports names) (serves (dispatch s w p l) asks))
+
   makes : (n k c : ℕ) → Asks words (make n k c) → TrialPromises n k c pb pa ended
   makes n k c asks = trial_promises n k c pb pa ended (elim (serves (make n k c) asks) [
     | inl is ↦ is.run
@@ -262,6 +278,7 @@ module _ (words : List (List ℕ)) (before after pb pa : View) (ended : Status) 
   whatever (show s w p) asks = by_reads (show s w p) (shows s w p asks).reads
   whatever (sheet s w p) asks = by_reads (sheet s w p) (sheets s w p asks).reads
   whatever (watch s l) asks = by_reads (watch s l) (watches s l asks).reads
+  whatever (dispatch s w p l) asks = by_reads (dispatch s w p l) (dispatches s w p l asks).reads
   whatever (make n k c) asks = record {
     stays = λ never. ap (λ (v : View). v.files) (make_leaves n k c asks);
     usage_words = λ e. absurd ((makes n k c asks).no_usage e);
@@ -285,6 +302,7 @@ module _ (words : List (List ℕ)) (before after pb pa : View) (ended : Status) 
     lists_tasks = lists_tasks;
     shows = shows;
     watches = watches;
+    dispatches = dispatches;
     makes = makes;
     sheets = sheets;
     make_leaves = make_leaves;

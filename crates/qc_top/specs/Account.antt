@@ -1,6 +1,7 @@
 -- public: the account of a run, by what the words ask for.
 use Rattle.std.specs.Prelude.{◌≡◌, ◌⊎◌, ℕ, List, Option, None, Some}
 use Rattle.qc_io.specs.Outside.{View}
+use Rattle.qc_dispatch_command.specs.Account.{IsDispatchRun}
 use Rattle.qc_judge_commands.specs.Account.{IsPlanCheckRun, IsTreeRun, show_reader, tasks_reader}
 use Rattle.qc_plan_command.specs.Account.{IsPlanRun}
 use Rattle.qc_plan_command.specs.Asked.{plan_of}
@@ -15,11 +16,11 @@ use Rattle.qc_run.specs.Texts.{stop_status, stop_text}
 use Rattle.qc_sheet_command.specs.Account.{sheet_reader}
 use Rattle.qc_trial.specs.Account.{IsTrialRun}
 use Rattle.qc_watch_command.specs.Account.{watch_reader}
-use Rattle.qc_words.specs.Asked.{Asked, plan, check, tasks, show, make, sheet, watch, usage}
+use Rattle.qc_words.specs.Asked.{Asked, plan, check, tasks, show, make, sheet, watch, dispatch, usage}
 use Rattle.qc_words.specs.Commands.{named}
 use Rattle.qc_words.specs.Words.{Asks}
 
--- the files that a check, the tasks, a plan that is shown or put on a sheet, and a log that is judged read
+-- the files that a check, the tasks, a plan that is shown or put on a sheet, a log that is judged, and a plan that is followed by one read
 abbrev pub check_names : (ship stow : List ℕ) → Option (List ℕ) → (tree : List ℕ) → Names
 check_names ship stow name tree = record no_names { ship = Some ship; stow = Some stow; plan = name; tree = Some tree }
 
@@ -31,6 +32,10 @@ show_names ship stow name = record no_names { ship = Some ship; stow = Some stow
 
 abbrev pub watch_names : (ship log : List ℕ) → Names
 watch_names ship log = record no_names { ship = Some ship; log = Some log }
+
+abbrev pub dispatch_names : (ship stow name log : List ℕ) → Names
+dispatch_names ship stow name log =
+    record no_names { ship = Some ship; stow = Some stow; plan = Some name; log = Some log }
 
 -- the run stops before any command is served: nothing is read or written, and this is reported
 pub record IsStopped (why : Stop) (before after out_before out_after : View) (ended : Status) : Type 0 where
@@ -56,6 +61,7 @@ IsRunOf (show s w p) = IsReaderRun show_reader (show_names s w p)
 IsRunOf (make n h c) = IsMakeRun n h c
 IsRunOf (sheet s w p) = IsReaderRun sheet_reader (show_names s w p)
 IsRunOf (watch s l) = IsReaderRun watch_reader (watch_names s l)
+IsRunOf (dispatch s w p l) = IsDispatchRun (dispatch_names s w p l)
 IsRunOf usage = IsUsage
 
 -- a run: the words ask for something, which is served, or memory is wanting for the words; where no command begins

@@ -3,6 +3,7 @@
 use Rattle.std.specs.Prelude.{◌≡◌, ◌⊎◌, ℕ, List, Option, None, Some, IfSome, codes}
 use Rattle.std.specs.FinMap.{get}
 use Rattle.qc_io.specs.Outside.{View}
+use Rattle.qc_dispatch_command.specs.Promises.{DispatchPromises}
 use Rattle.qc_judge_commands.specs.Promises.{PlanCheckPromises, ShowPromises, TasksPromises, TreePromises}
 use Rattle.qc_plan_command.specs.Asked.{plan_of}
 use Rattle.qc_plan_command.specs.Promises.{PlanPromises}
@@ -14,10 +15,10 @@ use Rattle.qc_run.specs.Told.{EndsWith}
 use Rattle.qc_sheet_command.specs.Promises.{SheetPromises}
 use Rattle.qc_trial.specs.Account.{TrialPromises}
 use Rattle.qc_watch_command.specs.Promises.{WatchPromises}
-use Rattle.qc_words.specs.Asked.{Asked, plan, check, tasks, show, make, sheet, watch, usage}
+use Rattle.qc_words.specs.Asked.{Asked, plan, check, tasks, show, make, sheet, watch, dispatch, usage}
 use Rattle.qc_words.specs.Commands.{named}
 use Rattle.qc_words.specs.Words.{Asks, Canonical}
-use Rattle.qc_top.specs.Account.{IsStopped, IsUsage, check_names, show_names, tasks_names, watch_names}
+use Rattle.qc_top.specs.Account.{IsStopped, IsUsage, check_names, dispatch_names, show_names, tasks_names, watch_names}
 
 -- a plan is asked for
 abbrev pub IsPlan : Asked → Type 0
@@ -38,6 +39,8 @@ pub record Promises (words : List (List ℕ)) (before after out_before out_after
       → ShowPromises (show_names s w p) before after out_before out_after ended
   pub watches : (s l : List ℕ) → Asks words (watch s l)
       → WatchPromises (watch_names s l) before after out_before out_after ended
+  pub dispatches : (s w p l : List ℕ) → Asks words (dispatch s w p l)
+      → DispatchPromises (dispatch_names s w p l) before after out_before out_after ended
   pub makes : (n h c : ℕ) → Asks words (make n h c) → TrialPromises n h c out_before out_after ended
   -- a plan leaves the planner's own plan as it is
   pub own_stays : (s w p t : List ℕ) (n : ℕ) (o : List ℕ) → Asks words (plan s w p t n (Some o))

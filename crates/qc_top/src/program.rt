@@ -8,6 +8,7 @@ ghost use Rattle.qc_words.specs.Words.{texts};
 ghost use Rattle.qc_top.specs.Account.{IsRun, IsRunOf};
 ghost use Rattle.qc_top.specs.Promises.{Promises};
 
+use qc_dispatch_command::dispatch;
 use qc_io::{Shelf, Sink};
 use qc_judge_commands::{check_plan, check_tree, list_tasks, show};
 use qc_num::OutOfMemory;
@@ -51,6 +52,25 @@ fn log_of<'a>(ship: &'a str, log: &'a str) -> Inputs<'a>
         ship,
         stow: None,
         plan: None,
+        tree: None,
+        own: None,
+        log: Some(log),
+    }
+}
+
+/// The names of the files that following a plan reads.
+fn dispatch_of<'a>(ship: &'a str, stow: &'a str, plan: &'a str, log: &'a str) -> Inputs<'a>
+    ensures { names_of result ≡ record no_names {
+      ship = Some ship.now;
+      stow = Some stow.now;
+      plan = Some plan.now;
+      log = Some log.now;
+    } }
+{
+    Inputs {
+        ship,
+        stow: Some(stow),
+        plan: Some(plan),
         tree: None,
         own: None,
         log: Some(log),
@@ -132,6 +152,12 @@ fn serve<S: Shelf, K: Sink>(
             print_sheet(alloc, &inputs_of(ship, stow, Some(plan), None), shelf, out)
         }
         Request::Watch { ship, log } => watch(alloc, &log_of(ship, log), shelf, out),
+        Request::Dispatch {
+            ship,
+            stow,
+            plan,
+            log,
+        } => dispatch(alloc, &dispatch_of(ship, stow, plan, log), shelf, out),
         Request::Usage => report_stop(Stop::Refused(Refusal::Usage), out),
     }
 }

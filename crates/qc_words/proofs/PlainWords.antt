@@ -17,7 +17,7 @@ use Rattle.qc_model.specs.Numbers.{most_branchings, most_cranes, most_hatches}
 use Rattle.qc_num.proofs.DigitLemmas.{decimal_digits, fits, number_in-decimal}
 use Rattle.qc_words.specs.declared.commands.CommandName.{CommandName}
 use Rattle.qc_words.specs.declared.commands.CommandName.TheVariants as name
-use Rattle.qc_words.specs.Asked.{Asked, plan, check, tasks, show, make, sheet, watch, most_number, usage}
+use Rattle.qc_words.specs.Asked.{Asked, plan, check, tasks, show, make, sheet, watch, dispatch, most_number, usage}
 use Rattle.qc_words.specs.Commands.{command_of}
 use Rattle.qc_words.specs.Words.{Canonical, asked_by, asked_in, is_check_word, is_file_word, make_of, number_between, own_words, plan_name, plan_of, usual_branchings}
 use Rattle.qc_words.proofs.WordWalk.{Goes, IsOperand, at, goes_nowhere, goes_on, goes_past, lone_dash, other_first, read_along}
@@ -84,6 +84,22 @@ watch_asked s l is il =
     (goes_past c nothing_held idle 1 s (l ∷ []) _ is refl
     (goes_past c (held [] (codes "ship") s) idle 2 l [] _ il refl
     (goes_nowhere c (at after idle 3)))) refl)
+
+dispatch_asked : (s w p l : Text) → IsOperand s → IsOperand w → IsOperand p → IsOperand l
+    → asked_by (codes "dispatch" ∷ s ∷ w ∷ p ∷ l ∷ []) ≡ dispatch s w p l
+unfolding defaults_fault
+dispatch_asked s w p l is iw ip il =
+    let c = shape name.Dispatch in
+    let two = row (codes "ship") s ∷ row (codes "stow") w ∷ [] in
+    let rows = row (codes "ship") s ∷ row (codes "stow") w ∷ row (codes "plan") p ∷ [] in
+    let after = held rows (codes "log") l in
+    ap (λ o. option_map_or (asked_in name.Dispatch) o usage)
+    (read_along c (command_of name.Dispatch) (codes "dispatch") (s ∷ w ∷ p ∷ l ∷ []) after 5 refl refl
+    (goes_past c nothing_held idle 1 s (w ∷ p ∷ l ∷ []) _ is refl
+    (goes_past c (held [] (codes "ship") s) idle 2 w (p ∷ l ∷ []) _ iw refl
+    (goes_past c (held (row (codes "ship") s ∷ []) (codes "stow") w) idle 3 p (l ∷ []) _ ip refl
+    (goes_past c (held two (codes "plan") p) idle 4 l [] _ il refl
+    (goes_nowhere c (at after idle 5)))))) refl)
 
 show_asked : (s w p : Text) → IsOperand s → IsOperand w → IsOperand p → asked_by (codes "show" ∷ s ∷ w ∷ p ∷ []) ≡ show s w p
 unfolding defaults_fault
@@ -295,4 +311,10 @@ canonical_asked words (watch s l) h =
     let fs = both (is_file_word s) _ h.0.0 in
     let fl = both (is_file_word l) _ fs.1 in
     ap asked_by h.0.1 ∙ watch_asked s l (file_operand s fs.0) (file_operand l fl.0)
+canonical_asked words (dispatch s w p l) h =
+    let fs = both (is_file_word s) _ h.0.0 in
+    let fw = both (is_file_word w) _ fs.1 in
+    let fp = both (is_file_word p) _ fw.1 in
+    let fl = both (is_file_word l) _ fp.1 in
+    ap asked_by h.0.1 ∙ dispatch_asked s w p l (file_operand s fs.0) (file_operand w fw.0) (file_operand p fp.0) (file_operand l fl.0)
 canonical_asked words usage h = absurd h.0

@@ -25,6 +25,8 @@ pub data Asked : Type 0 where
   sheet : (ship stow plan : List ℕ) → Asked
   -- whether cranes were too near, by a ship file and a log of reported places
   watch : (ship log : List ℕ) → Asked
+  -- the course of the work, by a plan for a ship file and a stowage list and a log of ticks and of tasks that are done
+  dispatch : (ship stow plan log : List ℕ) → Asked
   -- words that are no command
   usage : Asked
 
@@ -39,6 +41,7 @@ asked_for (request.Show ship stow plan_name) = show ship.now stow.now plan_name.
 asked_for (request.Make number hatches cranes) = make number hatches cranes
 asked_for (request.Sheet ship stow plan_name) = sheet ship.now stow.now plan_name.now
 asked_for (request.Watch ship log) = watch ship.now log.now
+asked_for (request.Dispatch ship stow plan_name log) = dispatch ship.now stow.now plan_name.now log.now
 asked_for request.Usage = usage
 
 -- no two of a plan's four names are equal

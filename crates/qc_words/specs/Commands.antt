@@ -17,7 +17,8 @@ command_name word =
     else (if bytes_eq word (codes "make") then Some name.Make
     else (if bytes_eq word (codes "sheet") then Some name.Sheet
     else (if bytes_eq word (codes "watch") then Some name.Watch
-    else None))))))
+    else (if bytes_eq word (codes "dispatch") then Some name.Dispatch
+    else None)))))))
 
 -- and that of a command line
 abbrev pub named : List (List ℕ) → Option CommandName
@@ -47,6 +48,8 @@ command_of name.Make =
     command_with (codes "make") (codes "number" ∷ codes "hatches" ∷ codes "cranes" ∷ [])
 command_of name.Sheet = command_with (codes "sheet") (codes "ship" ∷ codes "stow" ∷ codes "plan" ∷ [])
 command_of name.Watch = command_with (codes "watch") (codes "ship" ∷ codes "log" ∷ [])
+command_of name.Dispatch =
+    command_with (codes "dispatch") (codes "ship" ∷ codes "stow" ∷ codes "plan" ∷ codes "log" ∷ [])
 
 -- what the command reads from the words, or nothing where it refuses them
 abbrev pub read_by : App → List (List ℕ) → Option (List Row)

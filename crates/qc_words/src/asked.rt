@@ -51,6 +51,13 @@ pub enum Request<'a> {
         ship: &'a str,
         log: &'a str,
     },
+    /// The course of the work, by a plan and a log of ticks and of tasks that are done.
+    Dispatch {
+        ship: &'a str,
+        stow: &'a str,
+        plan: &'a str,
+        log: &'a str,
+    },
     /// Words that are no command.
     Usage,
 }

@@ -18,6 +18,7 @@ pub enum CommandName {
     Make,
     Sheet,
     Watch,
+    Dispatch,
 }
 
 /// The command with this name.
@@ -32,6 +33,7 @@ fn command_name(word: &str) -> Option<CommandName>
         "make" => Some(CommandName::Make),
         "sheet" => Some(CommandName::Sheet),
         "watch" => Some(CommandName::Watch),
+        "dispatch" => Some(CommandName::Dispatch),
         _ => None,
     }
 }
@@ -77,5 +79,6 @@ pub fn command_of<'a>(alloc: Global, name: CommandName) -> Result<Command<'a>, A
         CommandName::Make => command_with(alloc, "make", &["number", "hatches", "cranes"]),
         CommandName::Sheet => command_with(alloc, "sheet", &["ship", "stow", "plan"]),
         CommandName::Watch => command_with(alloc, "watch", &["ship", "log"]),
+        CommandName::Dispatch => command_with(alloc, "dispatch", &["ship", "stow", "plan", "log"]),
     }
 }

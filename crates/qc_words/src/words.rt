@@ -192,6 +192,12 @@ fn asked_in<'a>(name: CommandName, matches: &ArgMatches<'a>) -> Request<'a>
             ship: value_of(matches, "ship"),
             log: value_of(matches, "log"),
         },
+        CommandName::Dispatch => Request::Dispatch {
+            ship: value_of(matches, "ship"),
+            stow: value_of(matches, "stow"),
+            plan: value_of(matches, "plan"),
+            log: value_of(matches, "log"),
+        },
     }
 }
 

@@ -1,4 +1,5 @@
 use Rattle.std.proofs.Common.{refl, subst}
+use Rattle.qc_dispatch_command.specs.Account.{IsDispatchRun}
 use Rattle.qc_judge_commands.specs.Account.{IsPlanCheckRun, IsTreeRun, show_reader, tasks_reader}
 use Rattle.qc_run.specs.Inputs.{Names}
 use Rattle.qc_sheet_command.specs.Account.{sheet_reader}
@@ -33,3 +34,8 @@ pub returns-in-None-clause-account : goal.returns-in-None-clause-account
 returns-in-None-clause-account g c =
     rw (c.in-Check.is, c.in-None.is) (subst (λ (names : Names). IsTreeRun names (g.S.Sink.view c.args.shelf.now) (g.S.Sink.view c.check_tree.new.shelf)
     (g.K.Sink.view c.args.out.now) (g.K.Sink.view c.check_tree.new.out) c.check_tree.result) (rw c.in-None.is at c.inputs_of-inputs.ensures) c.check_tree.ensures.account)
+
+pub returns-in-Dispatch-clause-account : goal.returns-in-Dispatch-clause-account
+returns-in-Dispatch-clause-account g c =
+    rw c.in-Dispatch.is (subst (λ (names : Names). IsDispatchRun names (g.S.Sink.view c.args.shelf.now) (g.S.Sink.view c.dispatch.new.shelf)
+    (g.K.Sink.view c.args.out.now) (g.K.Sink.view c.dispatch.new.out) c.dispatch.result) c.dispatch_of.ensures c.dispatch.ensures.account)

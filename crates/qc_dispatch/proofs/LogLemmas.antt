@@ -1,0 +1,107 @@
+-- What comes of a log, one event and one line more.
+use Rattle.std.proofs.Common.{◌≡◌, ◌≢◌, ℕ, ◌+◌, ◌*◌, ◌<◌, ◌≤◌, ◌⊎◌, inl, inr, ◌++◌, true, false, List, [], ◌∷◌, length, map, slice_set, refl, ap, sym, subst, ◌∙◌, Result, Ok, append_assoc, arith}
+use Rattle.std.specs.List.{count_by, sum_by}
+use Rattle.std.proofs.lemmas.List.{append-nil, length-set}
+use Rattle.std.proofs.lemmas.List.Sums.{sum_by-set}
+use Rattle.qc_dispatch.specs.declared.event.Event.{Event}
+use Rattle.qc_dispatch.specs.declared.fault.DispatchFault.{DispatchFault}
+use Rattle.qc_dispatch.specs.declared.grant.Grant.{Grant}
+use Rattle.qc_dispatch.specs.declared.fault.DispatchKind.TheVariants as kind
+use Rattle.qc_dispatch.specs.declared.report.Report.{Report}
+use Rattle.qc_dispatch.specs.declared.report.Report.TheVariants.{Passed, Done}
+use Rattle.qc_dispatch.specs.declared.stage.Stage.{Stage}
+use Rattle.qc_dispatch.specs.declared.stage.Stage.TheVariants.{Waiting, Running}
+use Rattle.qc_dispatch.specs.Course.{Course, IsGranted, IsPassed, IsQuiet, is_waiting, left, stage_of}
+use Rattle.qc_dispatch.specs.Events.{started_event}
+use Rattle.qc_dispatch.specs.Following.{IsIdle, most_passed}
+use Rattle.qc_dispatch.specs.Journal.{HasFault, HasFirstFault, Journal, TakesAll, TakesLine, WentOn}
+use Rattle.qc_dispatch.specs.Log.{most_lines, report_in}
+use Rattle.qc_dispatch.proofs.Counts.{tally}
+
+-- ---- events until a tick
+
+-- what is still to come until this tick, from here on, comes to the same as from the start on
+pub record IsOnWay (start : Journal) (to : ℕ) (here : Journal) : Type 0 where
+  pub from : here.course.clock ≤ to
+  pub same : (new : Journal) → WentOn here to new → WentOn start to new
+
+pub at_start : (start : Journal) (to : ℕ) → start.course.clock ≤ to → IsOnWay start to start
+at_start start to from = record { from = from; same = λ new went. went }
+
+-- one start more
+pub one_start : (start here : Journal) (to : ℕ) (grant : Grant) (next : Course) (events : List Event) → IsOnWay start to here
+    → IsGranted here.course to grant next → events ≡ here.events ++ started_event next.inst grant ∷ []
+    → IsOnWay start to (record { course = next; events = events })
+one_start start here to grant next events way granted are = record {
+  from = rw granted.after granted.by;
+  same = λ new went. way.same new (record {
+    grants = grant ∷ went.grants;
+    goes = (next, granted, went.goes);
+    events = went.events ∙ ap (λ (es : List Event). es ++ map (started_event next.inst) went.grants) are
+        ∙ append_assoc here.events (started_event next.inst grant ∷ []) (map (started_event next.inst) went.grants)
+        ∙ ap (λ (c : Course). here.events ++ started_event c.inst grant ∷ map (started_event c.inst) went.grants) granted.after;
+  });
+}
+
+-- none more
+pub no_start : (start here : Journal) (to : ℕ) (next : Course) → IsOnWay start to here → IsPassed here.course to next
+    → WentOn start to (record { course = next; events = here.events })
+no_start start here to next way passed =
+    way.same (record { course = next; events = here.events }) (record { grants = []; goes = passed; events = sym (append-nil here.events) })
+
+-- no task may start now
+pub quiet_then : (old new : Course) (to : ℕ) → old.clock ≤ to → IsPassed old to new → IsQuiet new
+quiet_then old new to from passed =
+    subst IsQuiet (sym passed.after) (λ j may. passed.none to j from (omega arith) (record { task = may.task; waits = may.waits; free = may.free; clear = may.clear }))
+
+-- a start leaves one task fewer
+pub one_left : (old new : Course) (to : ℕ) (grant : Grant) → length new.stages ≡ length new.inst.tasks → IsGranted old to grant new → left new + 1 ≡ left old
+one_left old new to grant same granted =
+    let p = λ (s : Stage). tally (is_waiting s) in
+    let after : length (slice_set old.stages grant.task (Running grant.at)) ≡ length old.inst.tasks =
+    subst (λ (c : Course). length c.stages ≡ length c.inst.tasks) granted.after same in
+    let before : length old.stages ≡ length old.inst.tasks = sym (length-set old.stages grant.task (Running grant.at)) ∙ after in
+    let moved = sum_by-set p old.stages grant.task (Running grant.at) Waiting (omega (arith, granted.may.task, before)) in
+    rw granted.after (omega (arith, moved, ap p granted.may.waits))
+
+-- the task that is reported to be done doesn't run
+pub done_idle : (old : Journal) (before : ℕ) (line : List ℕ) (report : Report) → before < most_lines → report_in old.course.inst line ≡ Ok report
+    → IsIdle old report → HasFault old before line kind.NotRunning
+done_idle old before line (Passed ticks) few read idle = absurd idle
+done_idle old before line (Done task) few read idle = (few, record { task = task; read = read; idle = idle })
+
+-- ---- lines
+
+-- what the lines from here on come to is what all lines come to
+pub record AreOnWay (start : Journal) (all : List (List ℕ)) (here : Journal) (before : ℕ) (rest : List (List ℕ)) : Type 0 where
+  pub quiet : IsQuiet here.course
+  pub early : here.course.clock ≤ most_passed * before
+  pub few : before ≤ most_lines
+  pub same : (new : Journal) → TakesAll here before rest new → TakesAll start 0 all new
+  pub faults : (fault : DispatchFault) → HasFirstFault here before rest fault → HasFirstFault start 0 all fault
+
+pub first_line : (start : Journal) (all : List (List ℕ)) → IsQuiet start.course → start.course.clock ≡ 0 → AreOnWay start all start 0 all
+first_line start all quiet early = record {
+  quiet = quiet;
+  early = omega (arith, early);
+  few = omega arith;
+  same = λ new takes. takes;
+  faults = λ fault has. has;
+}
+
+pub one_line : (start : Journal) (all : List (List ℕ)) (here : Journal) (before : ℕ) (line : List ℕ) (lines rest : List (List ℕ)) (next : Journal)
+    → lines ≡ line ∷ rest → AreOnWay start all here before lines → TakesLine here before line next → IsQuiet next.course
+    → next.course.clock ≤ most_passed * (before + 1) → AreOnWay start all next (before + 1) rest
+one_line start all here before line lines rest next e way takes quiet early = record {
+  quiet = quiet;
+  early = early;
+  few = omega (arith, takes.few);
+  same = λ new more. way.same new (subst (λ (ls : List (List ℕ)). TakesAll here before ls new) (sym e) (next, takes, more));
+  faults = λ fault has. way.faults fault (subst (λ (ls : List (List ℕ)). HasFirstFault here before ls fault) (sym e) (inr (next, takes, has)));
+}
+
+pub fault_here : (start : Journal) (all : List (List ℕ)) (here : Journal) (before : ℕ) (line : List ℕ) (lines rest : List (List ℕ)) (fault : DispatchFault)
+    → lines ≡ line ∷ rest → AreOnWay start all here before lines → HasFault here before line fault.kind → fault.line ≡ before + 1
+    → HasFirstFault start 0 all fault
+fault_here start all here before line lines rest fault e way has at =
+    way.faults fault (subst (λ (ls : List (List ℕ)). HasFirstFault here before ls fault) (sym e) (inl (has, at)))

@@ -1,0 +1,12 @@
+pub mod Order
+pub mod Course
+pub mod Promises
+pub mod Calls
+pub mod Faults
+pub mod Events
+pub mod Log
+pub mod Journal
+pub mod Following
+pub mod Waits
+pub mod Kept
+pub mod Fields

@@ -1,0 +1,89 @@
+-- public: the account of the command that follows a plan by a log: what its answer tells of the files.
+use Rattle.std.specs.Prelude.{◌≡◌, ◌⊎◌, ℕ, List, Option, Result, Ok}
+use Rattle.qc_dispatch.specs.declared.fault.DispatchFault.{DispatchFault}
+use Rattle.qc_dispatch.specs.declared.follow.Followed.{Followed}
+use Rattle.qc_dispatch.specs.Following.{journal_of}
+use Rattle.qc_dispatch.specs.Journal.{IsFaulty, IsFollowed}
+use Rattle.qc_dispatch.specs.Promises.{Keeps}
+use Rattle.qc_io.specs.Outside.{Files, View}
+use Rattle.qc_model.specs.Rules.{Feasible}
+use Rattle.qc_run.specs.declared.inputs.Input.TheVariants as input
+use Rattle.qc_run.specs.declared.reading.Job.{Job}
+use Rattle.qc_run.specs.declared.refusal.LogFault.TheVariants as log
+use Rattle.qc_run.specs.declared.refusal.Refusal.TheVariants as refusal
+use Rattle.qc_run.specs.declared.refusal.Stop.{Stop}
+use Rattle.qc_run.specs.declared.refusal.Stop.TheVariants as stop
+use Rattle.qc_run.specs.declared.status.Status.{Status}
+use Rattle.qc_run.specs.Account.{IsFound, IsReading, IsRunWith, Reporting, texts}
+use Rattle.qc_run.specs.Due.{input_due, job_due}
+use Rattle.qc_run.specs.Inputs.{Names}
+use Rattle.qc_run.specs.Steps.{ComesTo, Stops}
+use Rattle.qc_sheet_command.specs.Listed.{TellsRule}
+use Rattle.qc_dispatch_command.specs.declared.answer.Dispatched.{Dispatched}
+use Rattle.qc_dispatch_command.specs.declared.answer.Dispatching.{Dispatching}
+use Rattle.qc_dispatch_command.specs.declared.answer.Dispatching.TheVariants as dispatching
+use Rattle.qc_dispatch_command.specs.Told.{TellsCourse, dispatching_status, dispatching_text}
+
+-- ---- the log
+
+-- the log was read and followed
+pub record IsLogFollowed (job : Job) (names : Names) (files : Option Files) (followed : Followed) : Type 0 where
+  pub text : List ℕ
+  pub due : ComesTo (input_due input.Log) names files (Ok text)
+  pub followed : IsFollowed job.inst job.sched text (journal_of followed)
+  pub keeps : Keeps followed.dispatch
+
+-- some line of the log is faulty
+pub record IsLogFaulty (job : Job) (names : Names) (files : Option Files) (fault : DispatchFault) : Type 0 where
+  pub text : List ℕ
+  pub due : ComesTo (input_due input.Log) names files (Ok text)
+  pub faulty : IsFaulty job.inst job.sched text fault
+
+-- its first faulty line was refused
+pub record IsLogRefused (job : Job) (names : Names) (before after : View) (why : Stop) : Type 0 where
+  pub fault : DispatchFault
+  pub refused : why ≡ stop.Refused (refusal.BadLog (log.Dispatch fault))
+  pub reads : after.read_faults ≡ before.read_faults
+  pub faulty : IsLogFaulty job names before.files fault
+
+-- the log couldn't be read, or a line of it is faulty
+abbrev pub StopsLog : Job → Names → View → View → Stop → Type 0
+StopsLog job names before after why =
+    Stops (input_due input.Log) names before after why ⊎ IsLogRefused job names before after why
+
+-- ---- the command
+
+-- the plan is feasible, and its order was followed by the log
+pub record IsDispatched (names : Names) (files : Option Files) (job : Job) (told : Dispatched) : Type 0 where
+  pub job_told : told.job ≡ job
+  pub text : List ℕ
+  pub log : ComesTo (input_due input.Log) names files (Ok text)
+  pub tells : TellsCourse text told
+
+abbrev pub TellsDispatching : Names → Option Files → Job → Dispatching → Type 0
+TellsDispatching names files job (dispatching.Broken told) = TellsRule job.inst job.sched told
+TellsDispatching names files job (dispatching.Dispatched told) = IsDispatched names files job told
+
+abbrev pub IsDispatching : Names → Option Files → Dispatching → Type 0
+IsDispatching names files = IsFound job_due (TellsDispatching names files) names files
+
+-- the plan is feasible, and it stopped at the log
+pub record IsStoppedAtLog (names : Names) (before after : View) (why : Stop) : Type 0 where
+  pub job : Job
+  pub due : ComesTo job_due names before.files (Ok job)
+  pub feasible : Feasible job.inst job.sched
+  pub log : StopsLog job names before after why
+
+-- a refusal comes before the plan is judged, or of the log where the plan is feasible
+abbrev pub StopsDispatch : Names → View → View → Stop → Type 0
+StopsDispatch names before after why = Stops job_due names before after why ⊎ IsStoppedAtLog names before after why
+
+abbrev pub IsDispatchAccount : Names → View → View → Result Dispatching Stop → Type 0
+IsDispatchAccount names before after =
+    IsReading (IsDispatching names before.files) (StopsDispatch names before after) names before after
+
+abbrev pub dispatch_report : Reporting Dispatching
+dispatch_report = texts dispatching_text dispatching_status
+
+abbrev pub IsDispatchRun : Names → (before after out_before out_after : View) → Status → Type 0
+IsDispatchRun names before after = IsRunWith (IsDispatchAccount names before after) dispatch_report

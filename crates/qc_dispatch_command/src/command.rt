@@ -1,0 +1,58 @@
+//! The command that follows the order of a plan by a log.
+ghost use Rattle.std.specs.Prelude.{◌≤◌, IsSome};
+ghost use Rattle.qc_run.specs.Inputs.{names_of};
+ghost use Rattle.qc_dispatch_command.specs.Account.{IsDispatchAccount, IsDispatchRun};
+ghost use Rattle.qc_dispatch_command.specs.Promises.{DispatchPromises};
+
+use crate::answer::{Dispatched, Dispatching};
+use crate::log::read_log;
+use crate::report::report;
+use qc_io::{Shelf, Sink};
+use qc_run::{Inputs, Status, Stop, broken_of, read_job, report_stop};
+use qc_sheet_command::broken_rule;
+use std::alloc::Global;
+
+/// Reads the ship file, the stowage list and the plan's file and judges the plan; where it is feasible the log
+/// is opened and followed.
+fn follow<S: Shelf>(alloc: Global, inputs: &Inputs<'_>, shelf: &mut S) -> Result<Dispatching, Stop>
+    requires stow { IsSome (names_of inputs.now).stow }
+    requires plan { IsSome (names_of inputs.now).plan }
+    requires log { IsSome (names_of inputs.now).log }
+    ensures { IsDispatchAccount (names_of inputs.now)
+        (S.Sink.view shelf.old) (S.Sink.view shelf.new) result }
+{
+    let job = match read_job(alloc, inputs, shelf) {
+        Ok(job) => job,
+        Err(stop) => return Err(stop),
+    };
+    if let Some(broken) = broken_rule(&job.inst, &job.sched) {
+        return Ok(Dispatching::Broken(broken_of(&job.inst, broken)));
+    }
+    match read_log(alloc, inputs, &job, shelf) {
+        Ok(followed) => Ok(Dispatching::Dispatched(Dispatched { job, followed })),
+        Err(stop) => Err(stop),
+    }
+}
+
+/// Follows the order of a plan by a log of what happens: reads the ship file, the stowage list, the plan's file and
+/// the log, and prints which task starts and ends when.
+pub fn dispatch<S: Shelf, K: Sink>(
+    alloc: Global,
+    inputs: &Inputs<'_>,
+    shelf: &mut S,
+    out: &mut K,
+) -> Status
+    requires stow { IsSome (names_of inputs.now).stow }
+    requires plan { IsSome (names_of inputs.now).plan }
+    requires log { IsSome (names_of inputs.now).log }
+    ensures account { IsDispatchRun (names_of inputs.now) (S.Sink.view shelf.old) (S.Sink.view shelf.new)
+        (K.Sink.view out.old) (K.Sink.view out.new) result }
+    ensures promises { DispatchPromises (names_of inputs.now) (S.Sink.view shelf.old) (S.Sink.view shelf.new)
+        (K.Sink.view out.old) (K.Sink.view out.new) result }
+    ensures reads_never_fall { (S.Sink.view shelf.old).read_faults ≤ (S.Sink.view shelf.new).read_faults }
+{
+    match follow(alloc, inputs, shelf) {
+        Ok(answer) => report(answer, out),
+        Err(stop) => report_stop(stop, out),
+    }
+}
