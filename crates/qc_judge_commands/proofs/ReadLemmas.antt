@@ -1,21 +1,23 @@
 -- What a tree's file shows for the instance that is due.
-use Rattle.std.proofs.Common.{◌≡◌, ◌≢◌, ◌≤◌, ℕ, Option, None, Some, Result, Ok, Err, ap, subst, inl, inr, ◌∙◌, IfSome}
+use Rattle.std.proofs.Common.{◌≡◌, ◌≤◌, ◌⊎◌, ℕ, Option, None, Some, Result, Ok, Err, ap, subst, inl, inr, ◌∙◌, IfErr, IfOk, IfSome}
 use Rattle.qc_num.specs.declared.bound.Bound.{Bound}
 use Rattle.qc_num.specs.Reading.{◌>>=◌}
 use Rattle.qc_num.proofs.ReadingLemmas.{bind_ok, same_ok}
 use Rattle.qc_io.specs.Outside.{Files, View}
+use Rattle.qc_replay.specs.declared.fault.Replayed.{Replayed}
+use Rattle.qc_replay.specs.declared.fault.TreeFault.{TreeFault}
 use Rattle.qc_run.specs.declared.reading.Job.{Job}
 use Rattle.qc_run.specs.declared.inputs.Input.TheVariants as input
 use Rattle.qc_run.specs.declared.refusal.Refusal.TheVariants as refusal
 use Rattle.qc_run.specs.declared.refusal.Stop.{Stop}
-use Rattle.qc_run.specs.Due.{Contents, contents_in, instance_due, job_due, schedule_due, tree_due}
+use Rattle.qc_run.specs.declared.refusal.Stop.TheVariants as stop
+use Rattle.qc_run.specs.Due.{Contents, contents_in, instance_due, job_due, schedule_due, shown_due, tree_due}
 use Rattle.qc_run.specs.Inputs.{Names}
 use Rattle.qc_run.specs.Shown.{IsNoTree, IsTreeShown}
-use Rattle.qc_run.specs.Steps.{ComesTo}
+use Rattle.qc_run.specs.Steps.{ComesTo, IsStep, Stops}
 use Rattle.qc_run.proofs.DueLemmas.{stops_from}
 use Rattle.qc_judge_commands.specs.declared.answer.Judged.{Judged}
-use Rattle.qc_judge_commands.specs.declared.answer.Judged.TheVariants as judged
-use Rattle.qc_judge_commands.specs.Account.{ComesOf, IsBroken, IsCompared, IsJudging}
+use Rattle.qc_judge_commands.specs.Account.{IsJudged, IsJudging, IsStoppedAtTree, IsTreeChecked, ShowsNone, StopsPlan}
 use Rattle.qc_judge_commands.specs.Shown.{IsBoundShown, IsNoneShown}
 
 -- ---- the instance that is due
@@ -37,28 +39,55 @@ pub shown_none : (names : Names) (files : Option Files) (job : Job) → ComesTo 
 shown_none names None job h none = tt
 shown_none names (Some held) job h none = record { inst = job.inst; due = job_inst (contents_in held names) job h; none = none }
 
+-- ---- a check of a tree
+
+-- what the steps of the check say, as its account
+pub tree_checked : (names : Names) (before after : View) (r : Result Replayed Stop) → IsStep shown_due names before after r
+    → IfOk r (λ read. IfSome before.files (λ held. IsBoundShown names held read.bound))
+    → ((fault : TreeFault) → r ≡ Err (stop.Refused (refusal.BadTree fault)) → IfSome before.files (λ held. IsNoneShown names held))
+    → IsTreeChecked names before after r
+tree_checked names before after (Ok read) step shown none = record {
+  ok = (step.ok.0, record { due = step.ok.1; shown = shown });
+  err = tt;
+  may = tt;
+  files = step.files;
+  made = step.made;
+  faults = step.faults;
+  read_faults = step.read_faults;
+}
+tree_checked names before after (Err why) step shown none = record {
+  ok = tt;
+  err = (step.err, λ fault e. none fault (ap Err e));
+  may = step.may;
+  files = step.files;
+  made = step.made;
+  faults = step.faults;
+  read_faults = step.read_faults;
+}
+
 -- ---- a check of a plan
 
--- two errors that are the same, of results with other values
-pub err_of : {A B : Type 0} {a b : Stop} → ◌≡◌ {A = Result A Stop} (Err a) (Err b) → ◌≡◌ {A = Result B Stop} (Err a) (Err b)
-err_of {a = a} {b = b} e = let same : a ≡ b = cc in ap Err same
-
 -- what it says behind calls that only read and came through, it says from their beginning
-pub judging_from : (names : Names) (before mid after : View) (r : Result Judged Stop) → mid.files ≡ before.files
+pub judging_from : (names : Names) (before mid after : View) (r : Result Judged Stop) → mid.files ≡ before.files → mid.made ≡ before.made
     → mid.faults ≡ before.faults → mid.read_faults ≡ before.read_faults → IsJudging names mid after r → IsJudging names before after r
-judging_from names before mid after r files faults reads is = record {
-  ending = by r is.ending;
-  none = λ fault e. subst (λ (f : Option Files). IfSome f (λ held. IsNoneShown names held)) files (is.none fault e);
+judging_from names before mid after r files made faults reads is = record {
+  ok = found r is.ok;
+  err = stopped r is.err;
   may = is.may;
   files = is.files ∙ files;
+  made = is.made ∙ made;
   faults = is.faults ∙ faults;
   read_faults = subst (λ (n : ℕ). n ≤ after.read_faults) reads is.read_faults;
 }
   where
-    by : (r : Result Judged Stop) → ComesOf names mid after r → ComesOf names before after r
-    by (Ok (judged.Broken told)) h = (h.0 ∙ reads, subst (λ (f : Option Files). IsBroken names f told) files h.1)
-    by (Ok (judged.Compared told)) h = (h.0 ∙ reads, subst (λ (f : Option Files). IsCompared names f told) files h.1)
-    by (Err why) h = elim h [
+    found : (r : Result Judged Stop) → IfOk r (λ told. (after.read_faults ≡ mid.read_faults) × IsJudged names mid.files told)
+        → IfOk r (λ told. (after.read_faults ≡ before.read_faults) × IsJudged names before.files told)
+    found (Ok told) h = (h.0 ∙ reads, subst (λ (f : Option Files). IsJudged names f told) files h.1)
+    found (Err why) h = tt
+
+    early_or_late : (why : Stop) → Stops job_due names mid after why ⊎ IsStoppedAtTree names mid after why
+        → Stops job_due names before after why ⊎ IsStoppedAtTree names before after why
+    early_or_late why h = elim h [
       | inl early ↦ inl (stops_from job_due names before mid after files reads why early)
       | inr late ↦ inr (record {
         job = late.job;
@@ -67,3 +96,7 @@ judging_from names before mid after r files faults reads is = record {
         tree = stops_from (tree_due late.job.inst) names before mid after files reads why late.tree;
       })
     ]
+
+    stopped : (r : Result Judged Stop) → IfErr r (StopsPlan names mid after) → IfErr r (StopsPlan names before after)
+    stopped (Ok told) h = tt
+    stopped (Err why) h = (early_or_late why h.0, subst (λ (f : Option Files). ShowsNone names f why) files h.1)

@@ -1,9 +1,8 @@
 -- public: what follows from the accounts of these commands, said by itself for whoever reads one status.
-use Rattle.std.specs.Prelude.{◌≡◌, ℕ, ◌≤◌, ◌<◌, ◌⊎◌, List, ◌++◌, codes, decimal, if◌then◌else◌, Result, Ok, Err, Some, IfSome}
+use Rattle.std.specs.Prelude.{◌≡◌, ℕ, ◌≤◌, ◌<◌, List, ◌++◌, codes, decimal, Result, Ok, IfSome}
 use Rattle.qc_num.specs.declared.bound.Bound.{Bound}
 use Rattle.qc_num.specs.declared.bound.Bound.TheVariants.{Least, Never}
 use Rattle.qc_io.specs.Outside.{Files, View}
-use Rattle.qc_gantt.specs.declared.fault.PlanFault.{PlanFault}
 use Rattle.qc_model.specs.Instance.{InstanceView}
 use Rattle.qc_model.specs.OneWay.{GoesOneWay}
 use Rattle.qc_model.specs.Rules.{ends}
@@ -17,35 +16,28 @@ use Rattle.qc_run.specs.declared.status.Status.TheVariants as status
 use Rattle.qc_run.specs.Broken.{TellsBreak, broken_text}
 use Rattle.qc_run.specs.Due.{contents_in, instance_due, job_due, shown_due, tree_due}
 use Rattle.qc_run.specs.Inputs.{Names}
-use Rattle.qc_run.specs.Reports.{Prints, PrintsPart}
+use Rattle.qc_run.specs.Reports.{Prints}
 use Rattle.qc_run.specs.Shown.{IsTreeShown}
-use Rattle.qc_run.specs.Steps.{IsStep}
-use Rattle.qc_run.specs.Texts.{bad_plan_text}
-use Rattle.qc_run.specs.Told.{EndsBy, IsBest, NoneFailed, ReadPromises}
-use Rattle.qc_run.specs.declared.broken.Broken.{Broken}
+use Rattle.qc_run.specs.Told.{EndsAsDue, EndsBy, IsBest, IsFaultTold, IsTold, ReadPromises, ReaderPromises}
 use Rattle.qc_judge_commands.specs.declared.answer.Compared.{Compared}
-use Rattle.qc_judge_commands.specs.declared.answer.Shown.{Shown}
-use Rattle.qc_judge_commands.specs.Account.{IsJudging, IsMoved, IsShowing, IsTreeChecked}
-use Rattle.qc_judge_commands.specs.Reports.{IsShownPrinted, showing_prints_part}
+use Rattle.qc_judge_commands.specs.Account.{IsJudging, IsTreeChecked, judged_report, show_reader, tasks_reader, tree_report}
+use Rattle.qc_judge_commands.specs.Held.{TellsShown}
+use Rattle.qc_judge_commands.specs.Reports.{IsShownPrinted}
 use Rattle.qc_judge_commands.specs.Shown.{IsBoundShown, IsNoneShown}
-use Rattle.qc_judge_commands.specs.Texts.{bound_status, bound_text, compared_status, compared_text, compared_word, judged_text}
+use Rattle.qc_judge_commands.specs.Texts.{bound_status, compared_status, compared_text, compared_word}
 
 -- ---- the tasks
 
 -- the tasks of the instance of the two files were printed
-pub record AreTasksTold (names : Names) (held : Files) (before after : View) : Type 0 where
-  pub inst : InstanceView
-  pub due : instance_due (contents_in held names) ≡ Ok inst
-  pub report : Prints (tasks_text inst) before.written after.written
+abbrev pub AreTasksTold : Names → (held : Files) → (before after : View) → Type 0
+AreTasksTold = IsTold instance_due (λ (inst told : InstanceView). told ≡ inst) (λ told. Prints (tasks_text told))
 
 pub record TasksPromises (names : Names) (before after out_before out_after : View) (ended : Status) : Type 0 where
-  pub reads : ReadPromises (IsStep instance_due names before after) (λ inst. PrintsPart (tasks_text inst))
-      before after out_before out_after ended
+  pub reads : ReaderPromises tasks_reader names before after out_before out_after ended
   pub tasks_done : ended ≡ status.Done → IfSome before.files (λ held. AreTasksTold names held out_before out_after)
   -- what is due of the files comes where no call failed, or want of memory does
-  pub complete : NoneFailed before after out_before out_after → IfSome before.files (λ held.
-      EndsBy (λ inst end. end ≡ status.Done) (instance_due (contents_in held names)) ended
-      ⊎ (ended ≡ status.OutOfMemory))
+  pub complete : EndsAsDue (λ contents. EndsBy (λ inst end. end ≡ status.Done) (instance_due contents))
+      names before after out_before out_after ended
 
 -- ---- a tree alone
 
@@ -61,16 +53,15 @@ pub record IsNoneTold (names : Names) (held : Files) (before after : View) : Typ
   pub report : Prints (codes "Infeasible\n") before.written after.written
 
 pub record TreePromises (names : Names) (before after out_before out_after : View) (ended : Status) : Type 0 where
-  pub reads : ReadPromises (IsTreeChecked names before after) (λ read. PrintsPart (bound_text read.bound))
+  pub reads : ReadPromises (IsTreeChecked names before after) tree_report.part
       before after out_before out_after ended
   -- Done, Infeasible and BadTree
   pub check_done : ended ≡ status.Done → IfSome before.files (λ held. IsEndTold names held out_before out_after)
   pub check_infeasible :
       ended ≡ status.Infeasible → IfSome before.files (λ held. IsNoneTold names held out_before out_after)
   pub check_bad_tree : ended ≡ status.BadTree → IfSome before.files (λ held. IsNoneShown names held)
-  pub complete : NoneFailed before after out_before out_after → IfSome before.files (λ held.
-      EndsBy (λ read end. end ≡ bound_status read.bound) (shown_due (contents_in held names)) ended
-      ⊎ (ended ≡ status.OutOfMemory))
+  pub complete : EndsAsDue (λ contents. EndsBy (λ read end. end ≡ bound_status read.bound) (shown_due contents))
+      names before after out_before out_after ended
 
 -- ---- a plan
 
@@ -98,18 +89,12 @@ pub record IsWeakerTold (names : Names) (held : Files) (before after : View) : T
   pub weaker : plan.told.bound < plan.told.end
 
 -- the plan goes neither way, and the first rule that it breaks was printed
-pub record IsBrokenTold (names : Names) (held : Files) (before after : View) : Type 0 where
-  pub job : Job
-  pub due : job_due (contents_in held names) ≡ Ok job
-  pub told : Broken
-  pub tells : TellsBreak job.inst job.sched told
-  pub report : Prints (broken_text told) before.written after.written
+abbrev pub IsBrokenTold : Names → (held : Files) → (before after : View) → Type 0
+IsBrokenTold = IsTold job_due (λ job. TellsBreak job.inst job.sched) (λ told. Prints (broken_text told))
 
 -- the plan's file has a fault, which was printed
-pub record IsBadPlanTold (names : Names) (held : Files) (before after : View) : Type 0 where
-  pub fault : PlanFault
-  pub due : job_due (contents_in held names) ≡ Err (refusal.BadPlan fault)
-  pub report : Prints (bad_plan_text fault) before.written after.written
+abbrev pub IsBadPlanTold : Names → (held : Files) → (before after : View) → Type 0
+IsBadPlanTold = IsFaultTold job_due refusal.BadPlan
 
 -- a plan that goes one way ends so, by what its tree's file comes to
 abbrev pub held_status : ℕ → Bound → Status
@@ -124,7 +109,7 @@ pub record EndsJudged (job : Job) (tree : Result Replayed Refusal) (ended : Stat
 
 pub record PlanCheckPromises (names : Names) (before after out_before out_after : View) (ended : Status)
     : Type 0 where
-  pub reads : ReadPromises (IsJudging names before after) (λ a. PrintsPart (judged_text a))
+  pub reads : ReadPromises (IsJudging names before after) judged_report.part
       before after out_before out_after ended
   -- Optimal, Weaker, Broken, BadPlan and BadTree
   pub check_optimal : ended ≡ status.Optimal → IfSome before.files (λ held. IsBestTold names held out_before out_after)
@@ -134,18 +119,16 @@ pub record PlanCheckPromises (names : Names) (before after out_before out_after 
       ended ≡ status.BadPlan → IfSome before.files (λ held. IsBadPlanTold names held out_before out_after)
   pub check_plan_bad_tree : ended ≡ status.BadTree → IfSome before.files (λ held. IsNoneShown names held)
   -- where no call failed: Broken exactly where the plan goes neither way, and else what its tree's file comes to
-  pub check_complete : NoneFailed before after out_before out_after → IfSome before.files (λ held.
-      EndsBy (λ job end. EndsJudged job (tree_due job.inst (contents_in held names)) end)
-      (job_due (contents_in held names)) ended ⊎ (ended ≡ status.OutOfMemory))
+  pub check_complete :
+      EndsAsDue (λ contents. EndsBy (λ job. EndsJudged job (tree_due job.inst contents)) (job_due contents))
+      names before after out_before out_after ended
 
 -- ---- the motion of a plan
 
 -- the plan goes one way, and its direction, its end, the motion of every crane, which is safe, and the Gantt text
 -- were printed
-pub record IsMotionTold (names : Names) (held : Files) (before after : View) : Type 0 where
-  pub told : Shown
-  pub moved : IsMoved names (Some held) told
-  pub report : IsShownPrinted told before.written after.written
+abbrev pub IsMotionTold : Names → (held : Files) → (before after : View) → Type 0
+IsMotionTold = IsTold job_due (λ job. TellsShown job.inst job.sched) IsShownPrinted
 
 -- a plan that is shown ends so where nothing fails
 pub record EndsShown (job : Job) (ended : Status) : Type 0 where
@@ -153,12 +136,12 @@ pub record EndsShown (job : Job) (ended : Status) : Type 0 where
   pub one_way : GoesOneWay job.inst job.sched → ended ≡ status.Done
 
 pub record ShowPromises (names : Names) (before after out_before out_after : View) (ended : Status) : Type 0 where
-  pub reads : ReadPromises (IsShowing names before after) showing_prints_part before after out_before out_after ended
+  pub reads : ReaderPromises show_reader names before after out_before out_after ended
   -- Done, Broken and BadPlan
   pub show_done : ended ≡ status.Done → IfSome before.files (λ held. IsMotionTold names held out_before out_after)
   pub show_broken : ended ≡ status.Broken → IfSome before.files (λ held. IsBrokenTold names held out_before out_after)
   pub show_bad_plan :
       ended ≡ status.BadPlan → IfSome before.files (λ held. IsBadPlanTold names held out_before out_after)
   -- where no call failed it is Broken exactly where the plan goes neither way
-  pub show_complete : NoneFailed before after out_before out_after → IfSome before.files (λ held.
-      EndsBy EndsShown (job_due (contents_in held names)) ended ⊎ (ended ≡ status.OutOfMemory))
+  pub show_complete :
+      EndsAsDue (λ contents. EndsBy EndsShown (job_due contents)) names before after out_before out_after ended

@@ -10,6 +10,7 @@ use Rattle.qc_model.specs.Judge.{Goes, IsJudgeable}
 use Rattle.qc_motion.specs.declared.track.Waypoint.{Waypoint}
 use Rattle.qc_run.specs.declared.status.Status.{Status}
 use Rattle.qc_run.specs.declared.status.Status.TheVariants as status
+use Rattle.qc_run.specs.Account.{Reporting}
 use Rattle.qc_run.specs.Reports.{Printing, Prints, PrintsPart}
 use Rattle.qc_judge_commands.specs.declared.answer.Shown.{Shown}
 use Rattle.qc_judge_commands.specs.declared.answer.Showing.{Showing}
@@ -66,6 +67,9 @@ showing_prints_part (showing.Shown told) = IsShownCut told
 abbrev pub showing_status : Showing → Status
 showing_status (showing.Broken told) = status.Broken
 showing_status (showing.Shown told) = status.Done
+
+abbrev pub showing_report : Reporting Showing
+showing_report = record { whole = showing_prints; part = showing_prints_part; status = showing_status }
 
 -- what a call says that writes the report of a plan that is shown
 pub record WritesShown (before after : View) (told : Shown) (result : Result ⊤ WriteFault) : Type 0 where

@@ -1,11 +1,13 @@
 //! The command that checks a tree.
-ghost use Rattle.std.specs.Prelude.{◌≡◌, ◌≤◌, IfOk, IfSome, IsSome};
+ghost use Rattle.std.specs.Prelude.{◌≡◌, ◌≤◌, Err, IfOk, IfSome, IsSome};
 ghost use Rattle.qc_replay.specs.declared.fault.TreeFault.{TreeFault};
+ghost use Rattle.qc_run.specs.declared.refusal.Refusal.TheVariants as refusal;
+ghost use Rattle.qc_run.specs.declared.refusal.Stop.TheVariants as stop;
 ghost use Rattle.qc_run.specs.Due.{shown_due};
 ghost use Rattle.qc_run.specs.Inputs.{names_of};
 ghost use Rattle.qc_run.specs.Reports.{Prints, PrintsPart, Reports};
 ghost use Rattle.qc_run.specs.Steps.{IsStep};
-ghost use Rattle.qc_judge_commands.specs.Account.{IsTreeFault, IsTreeRun};
+ghost use Rattle.qc_judge_commands.specs.Account.{IsTreeRun};
 ghost use Rattle.qc_judge_commands.specs.Promises.{TreePromises};
 ghost use Rattle.qc_judge_commands.specs.Shown.{IsBoundShown, IsNoneShown};
 ghost use Rattle.qc_judge_commands.specs.Texts.{bound_status, bound_text};
@@ -24,7 +26,7 @@ fn read_shown<S: Shelf>(alloc: Global, inputs: &Inputs<'_>, shelf: &mut S) -> Re
         (S.Sink.view shelf.old) (S.Sink.view shelf.new) result }
     ensures shown { IfOk result (λ read. IfSome (S.Sink.view shelf.old).files (λ held.
         IsBoundShown (names_of inputs.now) held read.bound)) }
-    ensures none { (fault : TreeFault) → IsTreeFault result fault
+    ensures none { (fault : TreeFault) → result ≡ Err (stop.Refused (refusal.BadTree fault))
         → IfSome (S.Sink.view shelf.old).files (λ held. IsNoneShown (names_of inputs.now) held) }
 {
     let inst = read_instance(alloc, inputs, shelf)?;

@@ -1,7 +1,8 @@
 //! The command that shows the motion of a plan.
 ghost use Rattle.std.specs.Prelude.{◌≤◌, IfOk, IsSome};
 ghost use Rattle.qc_run.specs.Inputs.{names_of};
-ghost use Rattle.qc_judge_commands.specs.Account.{IsShowing, IsShowRun};
+ghost use Rattle.qc_run.specs.Account.{Account, IsReaderRun};
+ghost use Rattle.qc_judge_commands.specs.Account.{show_reader};
 ghost use Rattle.qc_judge_commands.specs.Promises.{ShowPromises};
 ghost use Rattle.qc_judge_commands.specs.Reports.{CanBeShown};
 
@@ -19,7 +20,8 @@ use std::alloc::Global;
 fn judge<S: Shelf>(alloc: Global, inputs: &Inputs<'_>, shelf: &mut S) -> Result<Showing, Stop>
     requires stow { IsSome (names_of inputs.now).stow }
     requires plan { IsSome (names_of inputs.now).plan }
-    ensures serves { IsShowing (names_of inputs.now) (S.Sink.view shelf.old) (S.Sink.view shelf.new) result }
+    ensures serves { Account show_reader (names_of inputs.now)
+        (S.Sink.view shelf.old) (S.Sink.view shelf.new) result }
     ensures ready { IfOk result CanBeShown }
 {
     let Job { inst, sched } = match read_job(alloc, inputs, shelf) {
@@ -50,8 +52,8 @@ pub fn show<S: Shelf, K: Sink>(
 ) -> Status
     requires stow { IsSome (names_of inputs.now).stow }
     requires plan { IsSome (names_of inputs.now).plan }
-    ensures account { IsShowRun (names_of inputs.now) (S.Sink.view shelf.old) (S.Sink.view shelf.new)
-        (K.Sink.view out.old) (K.Sink.view out.new) result }
+    ensures account { IsReaderRun show_reader (names_of inputs.now)
+        (S.Sink.view shelf.old) (S.Sink.view shelf.new) (K.Sink.view out.old) (K.Sink.view out.new) result }
     ensures promises { ShowPromises (names_of inputs.now) (S.Sink.view shelf.old) (S.Sink.view shelf.new)
         (K.Sink.view out.old) (K.Sink.view out.new) result }
     ensures reads_never_fall { (S.Sink.view shelf.old).read_faults ≤ (S.Sink.view shelf.new).read_faults }

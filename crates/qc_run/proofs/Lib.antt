@@ -3,3 +3,4 @@ pub mod DueLemmas
 pub mod StatusLemmas
 pub mod ReportLemmas
 pub mod ToldLemmas
+pub mod AccountLemmas

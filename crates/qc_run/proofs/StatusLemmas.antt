@@ -20,6 +20,15 @@ IsOwn status.Weaker = Unit {0}
 IsOwn status.Breach = Unit {0}
 IsOwn _ = ⊥
 
+-- the same but WriteFault: the status of an answer of a command that only reads
+abbrev pub IsAnswer : Status → Type 0
+IsAnswer status.WriteFault = ⊥
+IsAnswer other = IsOwn other
+
+pub is_own : (s : Status) → IsAnswer s → IsOwn s
+is_own status.WriteFault is = absurd is
+is_own other is = is
+
 -- a command that stops ends with none of these
 pub stop_is_not : (why : Stop) (s : Status) → stop_status why ≡ s → IsOwn s → ⊥
 stop_is_not why s e own = by why (subst IsOwn (sym e) own)

@@ -17,7 +17,7 @@ use Rattle.qc_watch.specs.declared.report.Report.{Report}
 use Rattle.qc_watch.specs.Log.{reports_in}
 use Rattle.qc_run.specs.declared.inputs.Input.{Input}
 use Rattle.qc_run.specs.declared.inputs.Input.TheVariants as input
-use Rattle.qc_run.specs.Inputs.{Names, name_of}
+use Rattle.qc_run.specs.Inputs.{Names, PerInput, of_input}
 use Rattle.qc_run.specs.declared.refusal.Refusal.{Refusal}
 use Rattle.qc_run.specs.declared.refusal.Refusal.TheVariants as refusal
 use Rattle.qc_run.specs.declared.reading.Job.{Job}
@@ -25,22 +25,9 @@ use Rattle.qc_run.specs.declared.reading.OwnJob.{OwnJob}
 use Rattle.qc_run.specs.declared.refusal.LogFault.TheVariants as log
 use Rattle.qc_run.specs.declared.watched.Watched.{Watched}
 
--- the bytes of the files that are read, by what each is for; none where it isn't held or isn't read
-pub record Contents : Type 0 where
-  pub ship : Option (List ℕ)
-  pub stow : Option (List ℕ)
-  pub plan : Option (List ℕ)
-  pub tree : Option (List ℕ)
-  pub own : Option (List ℕ)
-  pub log : Option (List ℕ)
-
-abbrev pub bytes_of : Input → Contents → Option (List ℕ)
-bytes_of input.Ship contents = contents.ship
-bytes_of input.Stow contents = contents.stow
-bytes_of input.Plan contents = contents.plan
-bytes_of input.Tree contents = contents.tree
-bytes_of input.Own contents = contents.own
-bytes_of input.Log contents = contents.log
+-- the bytes of the files that are read; none where one isn't held or isn't read
+abbrev pub Contents : Type 0
+Contents = PerInput
 
 -- the same, as if one of the files weren't held
 abbrev pub without : Input → Contents → Contents
@@ -54,12 +41,12 @@ without input.Log contents = record contents { log = None }
 -- what a command finds in these files
 abbrev pub contents_in : Files → Names → Contents
 contents_in held names = record {
-  ship = option_and_then (get held) (name_of input.Ship names);
-  stow = option_and_then (get held) (name_of input.Stow names);
-  plan = option_and_then (get held) (name_of input.Plan names);
-  tree = option_and_then (get held) (name_of input.Tree names);
-  own = option_and_then (get held) (name_of input.Own names);
-  log = option_and_then (get held) (name_of input.Log names);
+  ship = option_and_then (get held) names.ship;
+  stow = option_and_then (get held) names.stow;
+  plan = option_and_then (get held) names.plan;
+  tree = option_and_then (get held) names.tree;
+  own = option_and_then (get held) names.own;
+  log = option_and_then (get held) names.log;
 }
 
 -- the greatest length of a file that is read whole, in bytes
@@ -73,7 +60,7 @@ within_limit file (Some bytes) =
     if nat_le (length bytes) file_limit then Ok bytes else Err (refusal.TooLarge file)
 
 abbrev pub input_due : Input → Contents → Result (List ℕ) Refusal
-input_due file contents = within_limit file (bytes_of file contents)
+input_due file contents = within_limit file (of_input file contents)
 
 -- the ship, or the first refusal of its file
 abbrev pub ship_due : Contents → Result ShipView Refusal

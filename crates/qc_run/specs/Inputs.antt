@@ -4,14 +4,29 @@ use Rattle.qc_run.specs.declared.inputs.Input.{Input}
 use Rattle.qc_run.specs.declared.inputs.Input.TheVariants as input
 use Rattle.qc_run.specs.declared.inputs.Inputs.{Inputs}
 
--- each name, and none where the command reads no such file
-pub record Names : Type 0 where
+-- one for each file, by what it is for; none where the command reads no such file
+pub record PerInput : Type 0 where
   pub ship : Option (List ℕ)
   pub stow : Option (List ℕ)
   pub plan : Option (List ℕ)
   pub tree : Option (List ℕ)
   pub own : Option (List ℕ)
   pub log : Option (List ℕ)
+
+abbrev pub of_input : Input → PerInput → Option (List ℕ)
+of_input input.Ship each = each.ship
+of_input input.Stow each = each.stow
+of_input input.Plan each = each.plan
+of_input input.Tree each = each.tree
+of_input input.Own each = each.own
+of_input input.Log each = each.log
+
+-- the names
+abbrev pub Names : Type 0
+Names = PerInput
+
+abbrev pub name_of : Input → Names → Option (List ℕ)
+name_of = of_input
 
 -- the command reads no file
 abbrev pub no_names : Names
@@ -26,14 +41,6 @@ names_of inputs = record {
   own = option_map (λ name. name.now) inputs.own;
   log = option_map (λ name. name.now) inputs.log;
 }
-
-abbrev pub name_of : Input → Names → Option (List ℕ)
-name_of input.Ship names = names.ship
-name_of input.Stow names = names.stow
-name_of input.Plan names = names.plan
-name_of input.Tree names = names.tree
-name_of input.Own names = names.own
-name_of input.Log names = names.log
 
 -- the command reads the file whole; a tree's file is read line by line
 abbrev pub IsWhole : Input → Names → Type 0

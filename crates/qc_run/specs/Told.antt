@@ -1,6 +1,6 @@
 -- public: what follows from a run's status, whatever its command is.
-use Rattle.std.specs.Prelude.{◌≡◌, ◌≢◌, ◌⊎◌, ◌≤◌, List, codes, Result, Ok, Err}
-use Rattle.qc_io.specs.Outside.{Rose, View}
+use Rattle.std.specs.Prelude.{◌≡◌, ◌≢◌, ◌⊎◌, ◌≤◌, List, codes, Result, Ok, Err, IfSome}
+use Rattle.qc_io.specs.Outside.{Files, Rose, View}
 use Rattle.qc_model.specs.declared.schedule.Slot.{Slot}
 use Rattle.qc_model.specs.Instance.{InstanceView}
 use Rattle.qc_model.specs.OneWay.{GoesOneWay}
@@ -10,6 +10,9 @@ use Rattle.qc_run.specs.declared.refusal.Stop.{Stop}
 use Rattle.qc_run.specs.declared.refusal.Stop.TheVariants as stop
 use Rattle.qc_run.specs.declared.status.Status.{Status}
 use Rattle.qc_run.specs.declared.status.Status.TheVariants as status
+use Rattle.qc_run.specs.Account.{Account, Reader}
+use Rattle.qc_run.specs.Due.{Contents, contents_in}
+use Rattle.qc_run.specs.Inputs.{Names}
 use Rattle.qc_run.specs.Reports.{Printing, Prints, PrintsPart, answer_prints}
 use Rattle.qc_run.specs.Texts.{refusal_status, refusal_text}
 
@@ -56,6 +59,28 @@ pub record ReadPromises {A : Type 0} (account : Result A Stop → Type 0) (part 
   pub files_stay : after.files ≡ before.files
   pub write_fault : ended ≡ status.WriteFault → IsCutTold account part out_before out_after
 
+-- a command that says no more of the shelf than its account
+abbrev pub ReaderPromises : {X A : Type 0} → Reader X A → Names → (before after out_before out_after : View) → Status
+    → Type 0
+ReaderPromises reader names before after =
+    ReadPromises (Account reader names before after) reader.report.part before after
+
+-- the files come to what is read, something is told of that, and it was printed
+pub record IsTold {X A : Type 0} (step : Contents → Result X Refusal) (tell : X → A → Type 0) (print : A → Printing)
+    (names : Names) (held : Files) (before after : View) : Type 0 where
+  pub read : X
+  pub due : step (contents_in held names) ≡ Ok read
+  pub told : A
+  pub tells : tell read told
+  pub report : print told before.written after.written
+
+-- a file has a fault, for which the refusal is due, and it was printed
+pub record IsFaultTold {X F : Type 0} (step : Contents → Result X Refusal) (refuse : F → Refusal) (names : Names)
+    (held : Files) (before after : View) : Type 0 where
+  pub fault : F
+  pub due : step (contents_in held names) ≡ Err (refuse fault)
+  pub report : Prints (refusal_text (refuse fault)) before.written after.written
+
 -- no call on the shelf or on the sink failed
 pub record NoneFailed (before after out_before out_after : View) : Type 0 where
   pub writing : ¬ Rose before.faults after.faults
@@ -71,3 +96,10 @@ EndsWith wanted before after ended =
 abbrev pub EndsBy : {A : Type 0} → (A → Status → Type 0) → Result A Refusal → Status → Type 0
 EndsBy own (Ok x) ended = own x ended
 EndsBy own (Err why) ended = ended ≡ refusal_status why
+
+-- where no call failed the run ends as is due of the files, or memory was wanting
+abbrev pub EndsAsDue : (Contents → Status → Type 0) → Names → (before after out_before out_after : View) → Status
+    → Type 0
+EndsAsDue ends names before after out_before out_after ended =
+    NoneFailed before after out_before out_after → IfSome before.files (λ held.
+    ends (contents_in held names) ended ⊎ (ended ≡ status.OutOfMemory))

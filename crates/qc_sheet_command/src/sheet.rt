@@ -1,7 +1,8 @@
 //! The command that prints the work sheet of a plan.
 ghost use Rattle.std.specs.Prelude.{◌≤◌, IfOk, IsSome};
 ghost use Rattle.qc_run.specs.Inputs.{names_of};
-ghost use Rattle.qc_sheet_command.specs.Account.{IsListing, IsSheetRun};
+ghost use Rattle.qc_run.specs.Account.{Account, IsReaderRun};
+ghost use Rattle.qc_sheet_command.specs.Account.{sheet_reader};
 ghost use Rattle.qc_sheet_command.specs.Listed.{CanBeListed};
 ghost use Rattle.qc_sheet_command.specs.Promises.{SheetPromises};
 
@@ -20,7 +21,8 @@ use std::alloc::Global;
 fn list<S: Shelf>(alloc: Global, inputs: &Inputs<'_>, shelf: &mut S) -> Result<Listing, Stop>
     requires stow { IsSome (names_of inputs.now).stow }
     requires plan { IsSome (names_of inputs.now).plan }
-    ensures serves { IsListing (names_of inputs.now) (S.Sink.view shelf.old) (S.Sink.view shelf.new) result }
+    ensures serves { Account sheet_reader (names_of inputs.now)
+        (S.Sink.view shelf.old) (S.Sink.view shelf.new) result }
     ensures ready { IfOk result CanBeListed }
 {
     let load = match read_load(alloc, inputs, shelf) {
@@ -47,8 +49,8 @@ pub fn print_sheet<S: Shelf, K: Sink>(
 ) -> Status
     requires stow { IsSome (names_of inputs.now).stow }
     requires plan { IsSome (names_of inputs.now).plan }
-    ensures account { IsSheetRun (names_of inputs.now) (S.Sink.view shelf.old) (S.Sink.view shelf.new)
-        (K.Sink.view out.old) (K.Sink.view out.new) result }
+    ensures account { IsReaderRun sheet_reader (names_of inputs.now)
+        (S.Sink.view shelf.old) (S.Sink.view shelf.new) (K.Sink.view out.old) (K.Sink.view out.new) result }
     ensures promises { SheetPromises (names_of inputs.now) (S.Sink.view shelf.old) (S.Sink.view shelf.new)
         (K.Sink.view out.old) (K.Sink.view out.new) result }
     ensures reads_never_fall { (S.Sink.view shelf.old).read_faults ≤ (S.Sink.view shelf.new).read_faults }

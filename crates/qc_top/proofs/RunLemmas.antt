@@ -6,7 +6,7 @@ use Rattle.std.specs.Cmp.Lexicographic.{nat_list_cmp_total}
 use Rattle.std.specs.FinMap.{get, get-insert, insert}
 use Rattle.qc_gantt.specs.PlanText.{plan_text}
 use Rattle.qc_io.specs.Outside.{Files, View, beside}
-use Rattle.qc_judge_commands.specs.Account.{IsPlanCheckRun, IsShowRun, IsTasksRun, IsTreeRun}
+use Rattle.qc_judge_commands.specs.Account.{IsJudged, IsPlanCheckRun, IsTreeFound, IsTreeRun, StopsPlan, StopsTree, show_reader, tasks_reader}
 use Rattle.qc_judge_commands.specs.Promises.{PlanCheckPromises, ShowPromises, TasksPromises, TreePromises}
 use Rattle.qc_judge_commands.proofs.JudgedLemmas.{plan_check_promises, show_promises}
 use Rattle.qc_judge_commands.proofs.TasksLemmas.{tasks_promises, tree_promises}
@@ -17,25 +17,24 @@ use Rattle.qc_plan_command.specs.Asked.{Planning, plan_of}
 use Rattle.qc_plan_command.specs.Promises.{PlanPromises}
 use Rattle.qc_plan_command.specs.Stored.{with_plan}
 use Rattle.qc_plan_command.proofs.PlanLemmas.{plan_promises}
-use Rattle.qc_run.specs.declared.refusal.Refusal.{Refusal}
 use Rattle.qc_run.specs.declared.refusal.Refusal.TheVariants as refusal
 use Rattle.qc_run.specs.declared.refusal.Stop.{Stop}
 use Rattle.qc_run.specs.declared.refusal.Stop.TheVariants as stop
 use Rattle.qc_run.specs.declared.status.Status.{Status}
 use Rattle.qc_run.specs.declared.status.Status.TheVariants as status
-use Rattle.qc_run.specs.Due.{Contents, instance_due, shown_due}
+use Rattle.qc_run.specs.Account.{IsFound, IsReaderRun, IsReading, Reader}
 use Rattle.qc_run.specs.Inputs.{Names}
-use Rattle.qc_run.specs.Reports.{Prints}
-use Rattle.qc_run.specs.Steps.{IsStep}
-use Rattle.qc_run.specs.Texts.{stop_status}
-use Rattle.qc_run.specs.Told.{EndsWith}
-use Rattle.qc_sheet_command.specs.Account.{IsSheetRun}
+use Rattle.qc_run.specs.Reports.{Printing, Prints, PrintsPart, Reports}
+use Rattle.qc_run.specs.Steps.{Stops}
+use Rattle.qc_run.specs.Texts.{stop_status, stop_text}
+use Rattle.qc_run.specs.Told.{EndsWith, ReadPromises}
+use Rattle.qc_sheet_command.specs.Account.{sheet_reader}
 use Rattle.qc_sheet_command.specs.Promises.{SheetPromises}
 use Rattle.qc_sheet_command.proofs.SheetLemmas.{sheet_promises}
 use Rattle.qc_trial.specs.Account.{IsTrialRun, TrialPromises}
 use Rattle.qc_trial.proofs.MadeLemmas.{trial_promises}
 use Rattle.qc_tree.specs.Trees.{tree_text}
-use Rattle.qc_watch_command.specs.Account.{IsWatchRun}
+use Rattle.qc_watch_command.specs.Account.{watch_reader}
 use Rattle.qc_watch_command.specs.Promises.{WatchPromises}
 use Rattle.qc_watch_command.proofs.WatchLemmas.{watch_promises}
 use Rattle.qc_words.proofs.LimitLemmas.{asked_kept}
@@ -47,74 +46,40 @@ use Rattle.qc_top.specs.Promises.{IsPlan, Promises}
 
 -- ---- want of memory for the words, as an answer of each command
 
-stopped : {A : Type 0} (step : Contents → Result A Refusal) (names : Names) (v : View) → IsStep step names v v (Err stop.OutOfMemory)
-stopped step names v = record { ok = tt; err = refl; may = tt; files = refl; made = refl; faults = refl; read_faults = omega arith }
+-- a command that only reads stopped so before it read anything
+stopped : {A : Type 0} (found : A → Type 0) (stops : Stop → Type 0) (names : Names) (v : View) → stops stop.OutOfMemory
+    → IsReading found stops names v v (Err stop.OutOfMemory)
+stopped found stops names v is =
+    record { ok = tt; err = is; may = tt; files = refl; made = refl; faults = refl; read_faults = omega arith }
 
-module _ (before after pb pa : View) (ended : Status) (h : IsStopped stop.OutOfMemory before after pb pa ended) where
-  as_plan : (p : Planning) → IsPlanRun p before after pb pa ended
-  as_plan p =
-      subst (λ (v : View). IsPlanRun p before v pb pa ended) (sym h.untouched)
-      (record { answer = Err stop.OutOfMemory; serves = (refl, tt, refl, refl, refl); reports = h.reports })
+module _ (v pb pa : View) (ended : Status)
+    (reports : Reports (Prints (stop_text stop.OutOfMemory)) (PrintsPart (stop_text stop.OutOfMemory)) (stop_status stop.OutOfMemory) pb pa ended) where
+  as_plan : (p : Planning) → IsPlanRun p v v pb pa ended
+  as_plan p = record { answer = Err stop.OutOfMemory; serves = (refl, tt, refl, refl, refl); reports = reports }
 
-  as_tasks : (names : Names) → IsTasksRun names before after pb pa ended
-  as_tasks names =
-      subst (λ (v : View). IsTasksRun names before v pb pa ended) (sym h.untouched)
-      (record { answer = Err stop.OutOfMemory; serves = stopped instance_due names before; reports = h.reports })
+  as_reader : {X A : Type 0} (reader : Reader X A) (names : Names) → IsReaderRun reader names v v pb pa ended
+  as_reader reader names = record {
+    answer = Err stop.OutOfMemory;
+    serves = stopped (IsFound reader.due reader.tells names v.files) (Stops reader.due names v v) names v refl;
+    reports = reports;
+  }
 
-  as_tree : (names : Names) → IsTreeRun names before after pb pa ended
-  as_tree names =
-      subst (λ (v : View). IsTreeRun names before v pb pa ended) (sym h.untouched)
-      (record {
-        answer = Err stop.OutOfMemory;
-        serves = record { step = stopped shown_due names before; shown = tt; none = λ fault e. absurd (cc e) };
-        reports = h.reports;
-      })
+  as_tree : (names : Names) → IsTreeRun names v v pb pa ended
+  as_tree names = record {
+    answer = Err stop.OutOfMemory;
+    serves = stopped (IsTreeFound names v.files) (StopsTree names v v) names v (refl, λ fault e. absurd (cc e));
+    reports = reports;
+  }
 
-  as_check : (names : Names) → IsPlanCheckRun names before after pb pa ended
-  as_check names =
-      subst (λ (v : View). IsPlanCheckRun names before v pb pa ended) (sym h.untouched)
-      (record {
-        answer = Err stop.OutOfMemory;
-        serves = record {
-          ending = inl refl;
-          none = λ fault e. absurd (cc e);
-          may = tt;
-          files = refl;
-          faults = refl;
-          read_faults = omega arith;
-        };
-        reports = h.reports;
-      })
-
-  as_show : (names : Names) → IsShowRun names before after pb pa ended
-  as_show names =
-      subst (λ (v : View). IsShowRun names before v pb pa ended) (sym h.untouched)
-      (record {
-        answer = Err stop.OutOfMemory;
-        serves = record { ending = refl; may = tt; files = refl; faults = refl; read_faults = omega arith };
-        reports = h.reports;
-      })
-
-  as_sheet : (names : Names) → IsSheetRun names before after pb pa ended
-  as_sheet names =
-      subst (λ (v : View). IsSheetRun names before v pb pa ended) (sym h.untouched)
-      (record {
-        answer = Err stop.OutOfMemory;
-        serves = record { ending = refl; may = tt; files = refl; faults = refl; read_faults = omega arith };
-        reports = h.reports;
-      })
-
-  as_watch : (names : Names) → IsWatchRun names before after pb pa ended
-  as_watch names =
-      subst (λ (v : View). IsWatchRun names before v pb pa ended) (sym h.untouched)
-      (record {
-        answer = Err stop.OutOfMemory;
-        serves = record { ending = refl; may = tt; files = refl; faults = refl; read_faults = omega arith };
-        reports = h.reports;
-      })
+  as_check : (names : Names) → IsPlanCheckRun names v v pb pa ended
+  as_check names = record {
+    answer = Err stop.OutOfMemory;
+    serves = stopped (IsJudged names v.files) (StopsPlan names v v) names v (inl refl, λ fault e. absurd (cc e));
+    reports = reports;
+  }
 
   as_make : (n k c : ℕ) → IsTrialRun n k c pb pa ended
-  as_make n k c = record { answer = Err stop.OutOfMemory; serves = tt; reports = h.reports }
+  as_make n k c = record { answer = Err stop.OutOfMemory; serves = tt; reports = reports }
 
 -- ---- the report
 
@@ -186,12 +151,25 @@ module _ (words : List (List ℕ)) (before after pb pa : View) (ended : Status) 
       subst (λ (a : Asked). IsRunOf a before after pb pa ended ⊎ IsStopped stop.OutOfMemory before after pb pa ended)
       (sym run.asks ∙ asks) run.serves
 
+  -- a command's run, also where memory was wanting for the words
+  served : (Run : View → Type 0)
+      → ((reports : Reports (Prints (stop_text stop.OutOfMemory)) (PrintsPart (stop_text stop.OutOfMemory)) (stop_status stop.OutOfMemory) pb pa ended) → Run before)
+      → Run after ⊎ IsStopped stop.OutOfMemory before after pb pa ended → Run after
+  served Run memory (inl is) = is
+  served Run memory (inr h) = subst Run (sym h.untouched) (memory h.reports)
+
+  read : {X A : Type 0} (reader : Reader X A) (names : Names)
+      → IsReaderRun reader names before after pb pa ended ⊎ IsStopped stop.OutOfMemory before after pb pa ended
+      → IsReaderRun reader names before after pb pa ended
+  read reader names =
+      served (λ v. IsReaderRun reader names before v pb pa ended) (λ reports. as_reader before pb pa ended reports reader names)
+
   plans : (s w p t : List ℕ) (n : ℕ) (o : Option (List ℕ)) → Asks words (plan s w p t n o)
       → PlanPromises (plan_of s w p t n o) before after pb pa ended
-  plans s w p t n o asks = plan_promises (plan_of s w p t n o) before after pb pa ended (elim (serves (plan s w p t n o) asks) [
-    | inl is ↦ is
-    | inr h ↦ as_plan before after pb pa ended h (plan_of s w p t n o)
-  ])
+  plans s w p t n o asks =
+      let asked = plan_of s w p t n o in
+      plan_promises asked before after pb pa ended
+      (served (λ v. IsPlanRun asked before v pb pa ended) (λ reports. as_plan before pb pa ended reports asked) (serves (plan s w p t n o) asks))
 
   own_stays : (s w p t : List ℕ) (n : ℕ) (o : List ℕ) → Asks words (plan s w p t n (Some o))
       → IfSome before.files (λ held. IfSome after.files (λ now. get now o ≡ get held o))
@@ -204,45 +182,37 @@ module _ (words : List (List ℕ)) (before after pb pa : View) (ended : Status) 
       before.files after.files (plans s w p t n (Some o) asks).plan_stopped
 
   checks_tree : (s w t : List ℕ) → Asks words (check s w None t) → TreePromises (check_names s w None t) before after pb pa ended
-  checks_tree s w t asks = tree_promises (check_names s w None t) before after pb pa ended (elim (serves (check s w None t) asks) [
-    | inl is ↦ is
-    | inr h ↦ as_tree before after pb pa ended h (check_names s w None t)
-  ])
+  checks_tree s w t asks =
+      let names = check_names s w None t in
+      tree_promises names before after pb pa ended
+      (served (λ v. IsTreeRun names before v pb pa ended) (λ reports. as_tree before pb pa ended reports names) (serves (check s w None t) asks))
 
   checks_plan : (s w p t : List ℕ) → Asks words (check s w (Some p) t) → PlanCheckPromises (check_names s w (Some p) t) before after pb pa ended
-  checks_plan s w p t asks = plan_check_promises (check_names s w (Some p) t) before after pb pa ended (elim (serves (check s w (Some p) t) asks) [
-    | inl is ↦ is
-    | inr h ↦ as_check before after pb pa ended h (check_names s w (Some p) t)
-  ])
+  checks_plan s w p t asks =
+      let names = check_names s w (Some p) t in
+      plan_check_promises names before after pb pa ended
+      (served (λ v. IsPlanCheckRun names before v pb pa ended) (λ reports. as_check before pb pa ended reports names) (serves (check s w (Some p) t) asks))
 
   lists_tasks : (s w : List ℕ) → Asks words (tasks s w) → TasksPromises (tasks_names s w) before after pb pa ended
-  lists_tasks s w asks = tasks_promises (tasks_names s w) before after pb pa ended (elim (serves (tasks s w) asks) [
-    | inl is ↦ is
-    | inr h ↦ as_tasks before after pb pa ended h (tasks_names s w)
-  ])
+  lists_tasks s w asks =
+      tasks_promises (tasks_names s w) before after pb pa ended (read tasks_reader (tasks_names s w) (serves (tasks s w) asks))
 
   shows : (s w p : List ℕ) → Asks words (show s w p) → ShowPromises (show_names s w p) before after pb pa ended
-  shows s w p asks = show_promises (show_names s w p) before after pb pa ended (elim (serves (show s w p) asks) [
-    | inl is ↦ is
-    | inr h ↦ as_show before after pb pa ended h (show_names s w p)
-  ])
+  shows s w p asks =
+      show_promises (show_names s w p) before after pb pa ended (read show_reader (show_names s w p) (serves (show s w p) asks))
 
   sheets : (s w p : List ℕ) → Asks words (sheet s w p) → SheetPromises (show_names s w p) before after pb pa ended
-  sheets s w p asks = sheet_promises (show_names s w p) before after pb pa ended (elim (serves (sheet s w p) asks) [
-    | inl is ↦ is
-    | inr h ↦ as_sheet before after pb pa ended h (show_names s w p)
-  ])
+  sheets s w p asks =
+      sheet_promises (show_names s w p) before after pb pa ended (read sheet_reader (show_names s w p) (serves (sheet s w p) asks))
 
   watches : (s l : List ℕ) → Asks words (watch s l) → WatchPromises (watch_names s l) before after pb pa ended
-  watches s l asks = watch_promises (watch_names s l) before after pb pa ended (elim (serves (watch s l) asks) [
-    | inl is ↦ is
-    | inr h ↦ as_watch before after pb pa ended h (watch_names s l)
-  ])
+  watches s l asks =
+      watch_promises (watch_names s l) before after pb pa ended (read watch_reader (watch_names s l) (serves (watch s l) asks))
 
   makes : (n k c : ℕ) → Asks words (make n k c) → TrialPromises n k c pb pa ended
   makes n k c asks = trial_promises n k c pb pa ended (elim (serves (make n k c) asks) [
     | inl is ↦ is.run
-    | inr h ↦ as_make before after pb pa ended h n k c
+    | inr h ↦ as_make before pb pa ended h.reports n k c
   ])
 
   make_leaves : (n k c : ℕ) → Asks words (make n k c) → after ≡ before
@@ -250,32 +220,6 @@ module _ (words : List (List ℕ)) (before after pb pa : View) (ended : Status) 
 
   refuses : Asks words usage → IsUsage before after pb pa ended ⊎ IsStopped stop.OutOfMemory before after pb pa ended
   refuses asks = serves usage asks
-
-  files_stay : (asked : Asked) → Asks words asked → ¬ IsPlan asked → after.files ≡ before.files
-  files_stay (plan s w p t n o) asks never = absurd (never tt)
-  files_stay (check s w None t) asks never = (checks_tree s w t asks).reads.files_stay
-  files_stay (check s w (Some p) t) asks never = (checks_plan s w p t asks).reads.files_stay
-  files_stay (tasks s w) asks never = (lists_tasks s w asks).reads.files_stay
-  files_stay (show s w p) asks never = (shows s w p asks).reads.files_stay
-  files_stay (watch s l) asks never = (watches s l asks).reads.files_stay
-  files_stay (make n k c) asks never = ap (λ (v : View). v.files) (make_leaves n k c asks)
-  files_stay (sheet s w p) asks never = (sheets s w p asks).reads.files_stay
-  files_stay usage asks never = elim (refuses asks) [
-    | inl is ↦ ap (λ (v : View). v.files) is.untouched
-    | inr h ↦ ap (λ (v : View). v.files) h.untouched
-  ]
-
-  -- only words that are no command are answered by Usage
-  usage_by : (asked : Asked) → Asks words asked → ended ≡ status.Usage → Asks words usage
-  usage_by (plan s w p t n o) asks e = absurd ((plans s w p t n o asks).no_usage e)
-  usage_by (check s w None t) asks e = absurd ((checks_tree s w t asks).reads.no_usage e)
-  usage_by (check s w (Some p) t) asks e = absurd ((checks_plan s w p t asks).reads.no_usage e)
-  usage_by (tasks s w) asks e = absurd ((lists_tasks s w asks).reads.no_usage e)
-  usage_by (show s w p) asks e = absurd ((shows s w p asks).reads.no_usage e)
-  usage_by (watch s l) asks e = absurd ((watches s l asks).reads.no_usage e)
-  usage_by (make n k c) asks e = absurd ((makes n k c asks).no_usage e)
-  usage_by (sheet s w p) asks e = absurd ((sheets s w p asks).reads.no_usage e)
-  usage_by usage asks e = asks
 
   -- a stop is reported, or the sink failed
   stop_ends : (why : Stop) → IsStopped why before after pb pa ended → EndsWith (stop_status why) pb pa ended
@@ -295,16 +239,40 @@ module _ (words : List (List ℕ)) (before after pb pa : View) (ended : Status) 
     | inr cut ↦ absurd (cc (cut.status, e))
   ]
 
-  memory_by : (asked : Asked) → Asks words asked → ended ≡ status.OutOfMemory → Prints (codes "OutOfMemory\n") pb.written pa.written
-  memory_by (plan s w p t n o) asks e = (plans s w p t n o asks).out_of_memory e
-  memory_by (check s w None t) asks e = (checks_tree s w t asks).reads.out_of_memory e
-  memory_by (check s w (Some p) t) asks e = (checks_plan s w p t asks).reads.out_of_memory e
-  memory_by (tasks s w) asks e = (lists_tasks s w asks).reads.out_of_memory e
-  memory_by (show s w p) asks e = (shows s w p asks).reads.out_of_memory e
-  memory_by (watch s l) asks e = (watches s l asks).reads.out_of_memory e
-  memory_by (make n k c) asks e = (makes n k c asks).out_of_memory e
-  memory_by (sheet s w p) asks e = (sheets s w p asks).reads.out_of_memory e
-  memory_by usage asks e = usage_memory (refuses asks) e
+  -- what holds whatever is asked for
+  record Whatever (asked : Asked) : Type 0 where
+    stays : ¬ IsPlan asked → after.files ≡ before.files
+    usage_words : ended ≡ status.Usage → Asks words usage
+    memory : ended ≡ status.OutOfMemory → Prints (codes "OutOfMemory\n") pb.written pa.written
+
+  by_reads : {A : Type 0} {account : Result A Stop → Type 0} {part : A → Printing} (asked : Asked)
+      → ReadPromises account part before after pb pa ended → Whatever asked
+  by_reads asked reads =
+      record { stays = λ never. reads.files_stay; usage_words = λ e. absurd (reads.no_usage e); memory = reads.out_of_memory }
+
+  whatever : (asked : Asked) → Asks words asked → Whatever asked
+  whatever (plan s w p t n o) asks =
+      let p = plans s w p t n o asks in
+      record { stays = λ never. absurd (never tt); usage_words = λ e. absurd (p.no_usage e); memory = p.out_of_memory }
+  whatever (check s w None t) asks = by_reads (check s w None t) (checks_tree s w t asks).reads
+  whatever (check s w (Some p) t) asks = by_reads (check s w (Some p) t) (checks_plan s w p t asks).reads
+  whatever (tasks s w) asks = by_reads (tasks s w) (lists_tasks s w asks).reads
+  whatever (show s w p) asks = by_reads (show s w p) (shows s w p asks).reads
+  whatever (sheet s w p) asks = by_reads (sheet s w p) (sheets s w p asks).reads
+  whatever (watch s l) asks = by_reads (watch s l) (watches s l asks).reads
+  whatever (make n k c) asks = record {
+    stays = λ never. ap (λ (v : View). v.files) (make_leaves n k c asks);
+    usage_words = λ e. absurd ((makes n k c asks).no_usage e);
+    memory = (makes n k c asks).out_of_memory;
+  }
+  whatever usage asks = record {
+    stays = λ never. elim (refuses asks) [
+      | inl is ↦ ap (λ (v : View). v.files) is.untouched
+      | inr h ↦ ap (λ (v : View). v.files) h.untouched
+    ];
+    usage_words = λ e. asks;
+    memory = usage_memory (refuses asks);
+  }
 
   pub promises : Promises words before after pb pa ended
   promises = record {
@@ -318,10 +286,10 @@ module _ (words : List (List ℕ)) (before after pb pa : View) (ended : Status) 
     makes = makes;
     sheets = sheets;
     make_leaves = make_leaves;
-    files_stay = files_stay;
+    files_stay = λ asked asks. (whatever asked asks).stays;
     plain_words = canonical_asked words;
-    usage_words = usage_by run.asked run.asks;
+    usage_words = (whatever run.asked run.asks).usage_words;
     refuses = refuses;
     no_command = λ none. stop_ends (stop.Refused refusal.Usage) (run.unnamed none);
-    out_of_memory = memory_by run.asked run.asks;
+    out_of_memory = (whatever run.asked run.asks).memory;
   }

@@ -1,19 +1,20 @@
 -- public: the account of a run, by what the words ask for.
 use Rattle.std.specs.Prelude.{◌≡◌, ◌⊎◌, ℕ, List, Option, None, Some}
 use Rattle.qc_io.specs.Outside.{View}
-use Rattle.qc_judge_commands.specs.Account.{IsPlanCheckRun, IsShowRun, IsTasksRun, IsTreeRun}
+use Rattle.qc_judge_commands.specs.Account.{IsPlanCheckRun, IsTreeRun, show_reader, tasks_reader}
 use Rattle.qc_plan_command.specs.Account.{IsPlanRun}
 use Rattle.qc_plan_command.specs.Asked.{plan_of}
 use Rattle.qc_run.specs.declared.refusal.Refusal.TheVariants as refusal
 use Rattle.qc_run.specs.declared.refusal.Stop.{Stop}
 use Rattle.qc_run.specs.declared.refusal.Stop.TheVariants as stop
 use Rattle.qc_run.specs.declared.status.Status.{Status}
+use Rattle.qc_run.specs.Account.{IsReaderRun}
 use Rattle.qc_run.specs.Inputs.{Names, no_names}
 use Rattle.qc_run.specs.Reports.{Prints, PrintsPart, Reports}
 use Rattle.qc_run.specs.Texts.{stop_status, stop_text}
-use Rattle.qc_sheet_command.specs.Account.{IsSheetRun}
+use Rattle.qc_sheet_command.specs.Account.{sheet_reader}
 use Rattle.qc_trial.specs.Account.{IsTrialRun}
-use Rattle.qc_watch_command.specs.Account.{IsWatchRun}
+use Rattle.qc_watch_command.specs.Account.{watch_reader}
 use Rattle.qc_words.specs.Asked.{Asked, plan, check, tasks, show, make, sheet, watch, usage}
 use Rattle.qc_words.specs.Commands.{named}
 use Rattle.qc_words.specs.Words.{Asks}
@@ -50,11 +51,11 @@ abbrev pub IsRunOf : Asked → (before after out_before out_after : View) → St
 IsRunOf (plan s w p t n o) = IsPlanRun (plan_of s w p t n o)
 IsRunOf (check s w None t) = IsTreeRun (check_names s w None t)
 IsRunOf (check s w (Some p) t) = IsPlanCheckRun (check_names s w (Some p) t)
-IsRunOf (tasks s w) = IsTasksRun (tasks_names s w)
-IsRunOf (show s w p) = IsShowRun (show_names s w p)
+IsRunOf (tasks s w) = IsReaderRun tasks_reader (tasks_names s w)
+IsRunOf (show s w p) = IsReaderRun show_reader (show_names s w p)
 IsRunOf (make n h c) = IsMakeRun n h c
-IsRunOf (sheet s w p) = IsSheetRun (show_names s w p)
-IsRunOf (watch s l) = IsWatchRun (watch_names s l)
+IsRunOf (sheet s w p) = IsReaderRun sheet_reader (show_names s w p)
+IsRunOf (watch s l) = IsReaderRun watch_reader (watch_names s l)
 IsRunOf usage = IsUsage
 
 -- a run: the words ask for something, which is served, or memory is wanting for the words; where no command begins

@@ -2,7 +2,8 @@
 ghost use Rattle.std.specs.Prelude.{◌≡◌, ◌<◌, ◌≤◌, IsSome, length};
 ghost use Rattle.qc_run.specs.Inputs.{names_of};
 ghost use Rattle.qc_watch.specs.Breach.{IsFirstBreach};
-ghost use Rattle.qc_watch_command.specs.Account.{IsWatching, IsWatchRun};
+ghost use Rattle.qc_run.specs.Account.{Account, IsReaderRun};
+ghost use Rattle.qc_watch_command.specs.Account.{watch_reader};
 ghost use Rattle.qc_watch_command.specs.Held.{TellsNear, crane_name};
 ghost use Rattle.qc_watch_command.specs.Promises.{WatchPromises};
 
@@ -39,7 +40,8 @@ fn near_of(ship: &Ship, breach: Breach) -> Near
 /// Reads the ship file and the log, and judges the log.
 fn judge<S: Shelf>(alloc: Global, inputs: &Inputs<'_>, shelf: &mut S) -> Result<Watching, Stop>
     requires { IsSome (names_of inputs.now).log }
-    ensures { IsWatching (names_of inputs.now) (S.Sink.view shelf.old) (S.Sink.view shelf.new) result }
+    ensures { Account watch_reader (names_of inputs.now)
+        (S.Sink.view shelf.old) (S.Sink.view shelf.new) result }
 {
     let read = match read_watched(alloc, inputs, shelf) {
         Ok(read) => read,
@@ -60,8 +62,8 @@ pub fn watch<S: Shelf, K: Sink>(
     out: &mut K,
 ) -> Status
     requires { IsSome (names_of inputs.now).log }
-    ensures account { IsWatchRun (names_of inputs.now) (S.Sink.view shelf.old) (S.Sink.view shelf.new)
-        (K.Sink.view out.old) (K.Sink.view out.new) result }
+    ensures account { IsReaderRun watch_reader (names_of inputs.now)
+        (S.Sink.view shelf.old) (S.Sink.view shelf.new) (K.Sink.view out.old) (K.Sink.view out.new) result }
     ensures promises { WatchPromises (names_of inputs.now) (S.Sink.view shelf.old) (S.Sink.view shelf.new)
         (K.Sink.view out.old) (K.Sink.view out.new) result }
     ensures reads_never_fall { (S.Sink.view shelf.old).read_faults ≤ (S.Sink.view shelf.new).read_faults }

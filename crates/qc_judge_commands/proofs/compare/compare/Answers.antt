@@ -1,11 +1,11 @@
-use Rattle.std.proofs.Common.{inr, subst, IfSome}
+use Rattle.std.proofs.Common.{Err, ap, inr, subst, IfSome}
 use Rattle.qc_tree.specs.Trees.{NoneEarlier}
 use Rattle.qc_num.specs.declared.bound.Bound.{Bound}
 use Rattle.qc_num.specs.declared.bound.Bound.TheVariants.{Least}
 use Rattle.qc_run.specs.Due.{contents_in}
 use Rattle.qc_run.specs.Inputs.{names_of}
 use Rattle.qc_run.specs.Shown.{IsTreeShown}
-use Rattle.qc_judge_commands.proofs.ReadLemmas.{err_of, shown_bound, shown_none}
+use Rattle.qc_judge_commands.proofs.ReadLemmas.{shown_bound, shown_none}
 use Rattle.qc_judge_commands.proofs.compare.compare.Goals as goal
 
 pub returns-in-Ok : goal.returns-in-Ok
@@ -16,22 +16,22 @@ returns-in-Ok g c =
     let bound = c.compared_of.ensures.bound_told in
     let step = c.in-Ok.ensures.step in
     record {
-      ending = (
-        step.ok.0,
-        record {
-          job = job;
-          due = c.requires.due;
+      ok = (step.ok.0, record {
+        read = job;
+        due = c.requires.due;
+        tells = record {
           read = c.in-Ok.read;
           tree = step.ok.1;
           tells = c.compared_of.ensures;
           none_earlier = subst (NoneEarlier job.inst) bound c.in-Ok.ensures.none_earlier;
           shown = shown_bound names files job (Least c.compared_of.result.bound) c.requires.due
               (subst (λ (b : Bound). IfSome files (λ held. IsTreeShown job.inst (contents_in held names).tree b)) bound c.in-Ok.ensures.shown);
-        },
-      );
-      none = λ fault e. absurd (cc e);
+        };
+      });
+      err = tt;
       may = tt;
       files = step.files;
+      made = step.made;
       faults = step.faults;
       read_faults = step.read_faults;
     }
@@ -41,11 +41,15 @@ returns-in-Err g c =
     let names = names_of c.args.inputs.now in
     let step = c.in-Err.ensures.step in
     record {
-      ending = inr (record { job = c.args.job.now; due = c.requires.due; goes = c.requires.goes; tree = step.err });
-      none = λ fault e. shown_none names (g.S.Sink.view c.args.shelf.now).files c.args.job.now c.requires.due
-          (c.in-Err.ensures.none fault (err_of e));
+      ok = tt;
+      err = (
+        inr (record { job = c.args.job.now; due = c.requires.due; goes = c.requires.goes; tree = step.err }),
+        λ fault e. shown_none names (g.S.Sink.view c.args.shelf.now).files c.args.job.now c.requires.due
+            (c.in-Err.ensures.none fault (ap Err e)),
+      );
       may = step.may;
       files = step.files;
+      made = step.made;
       faults = step.faults;
       read_faults = step.read_faults;
     }

@@ -1,9 +1,9 @@
-use Rattle.std.proofs.Common.{Err, inl}
+use Rattle.std.proofs.Common.{Err, ap, inl}
 use Rattle.qc_run.specs.Due.{job_due}
 use Rattle.qc_run.specs.Inputs.{names_of}
 use Rattle.qc_run.proofs.StepLemmas.{job_early, no_fault_yet}
 use Rattle.qc_judge_commands.specs.Shown.{IsNoneShown}
-use Rattle.qc_judge_commands.proofs.ReadLemmas.{err_of, judging_from}
+use Rattle.qc_judge_commands.proofs.ReadLemmas.{judging_from}
 use Rattle.qc_judge_commands.proofs.compare.judge.Goals as goal
 
 pub returns-in-Err : goal.returns-in-Err
@@ -11,11 +11,15 @@ returns-in-Err g c =
     let names = names_of c.args.inputs.now in
     let step = c.in-Err.ensures.step in
     record {
-      ending = inl step.err;
-      none = λ fault e. no_fault_yet job_due job_early names (g.S.Sink.view c.args.shelf.now) (g.S.Sink.view c.read_job.new.shelf)
-          (Err c.in-Err.stop) step.err fault (err_of e) (λ held. IsNoneShown names held);
+      ok = tt;
+      err = (
+        inl step.err,
+        λ fault e. no_fault_yet job_due job_early names (g.S.Sink.view c.args.shelf.now) (g.S.Sink.view c.read_job.new.shelf)
+            (Err c.in-Err.stop) step.err fault (ap Err e) (λ held. IsNoneShown names held),
+      );
       may = step.may;
       files = step.files;
+      made = step.made;
       faults = step.faults;
       read_faults = step.read_faults;
     }
@@ -24,4 +28,4 @@ pub returns-in-Ok-direction_of : goal.returns-in-Ok-direction_of
 returns-in-Ok-direction_of g c =
     let step = c.in-Ok.ensures.step in
     judging_from (names_of c.args.inputs.now) (g.S.Sink.view c.args.shelf.now) (g.S.Sink.view c.read_job.new.shelf)
-    (g.S.Sink.view c.compare.new.shelf) c.compare.result step.files step.faults step.ok.0 c.compare.ensures
+    (g.S.Sink.view c.compare.new.shelf) c.compare.result step.files step.made step.faults step.ok.0 c.compare.ensures
