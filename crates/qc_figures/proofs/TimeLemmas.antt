@@ -1,6 +1,6 @@
 -- The tasks of a crane and its way take no more than the time from when it is ready to its last end: while it does a
 -- task it stands, so at each tick it does one task, or goes, or neither.
-use Rattle.std.proofs.Common.{◌≡◌, ◌≢◌, ℕ, zero, suc, ◌+◌, ◌-◌, ◌*◌, ◌<◌, ◌≤◌, min, max, ◌⊎◌, inl, inr, Bool, true, false, cond, not, ◌==◌, eqb, ltb, ℤ, pos, ◌+ℤ◌, ◌-ℤ◌, ◌*ℤ◌, unsigned_abs, List, [], ◌∷◌, length, refl, ap, sym, subst, ◌∙◌, arith, sum_by, le_of_eq}
+use Rattle.std.proofs.Common.{◌≡◌, ◌≢◌, ℕ, zero, suc, ◌+◌, ◌-◌, ◌*◌, ◌<◌, ◌≤◌, min, max, ◌⊎◌, inl, inr, Bool, true, false, cond, not, ◌==◌, eqb, ltb, ℤ, pos, ◌+ℤ◌, ◌-ℤ◌, ◌*ℤ◌, unsigned_abs, List, [], ◌∷◌, length, refl, ap, sym, zero-add, add-zero, subst, ◌∙◌, arith, sum_by, le_of_eq}
 use Rattle.std.specs.List.{range_with_len}
 use Rattle.std.proofs.lemmas.Bool.{cases_lt, cond-false, cond-true, eq-eqb, eqb-true, le-ltb, lt-ltb}
 use Rattle.std.proofs.lemmas.Int.{ints}
@@ -33,7 +33,7 @@ use Rattle.qc_figures.proofs.WayLemmas.{rises}
 
 sum_split : (f : ℕ → ℕ) (a n m : ℕ)
     → sum_by f (range_with_len a (n + m)) ≡ sum_by f (range_with_len a n) + sum_by f (range_with_len (a + n) m)
-sum_split f a zero m = omega arith
+sum_split f a zero m = omega (arith, ap (λ (x : ℕ). sum_by f (range_with_len a x)) (zero-add m), ap (λ (x : ℕ). sum_by f (range_with_len x m)) (add-zero a))
 sum_split f a (suc n) m =
     let rest = sum_split f (a + 1) n m in
     let all = sum_by-cons f a (range_with_len (a + 1) (n + m)) in
@@ -146,7 +146,8 @@ stands : (q p r : ℤ) (l a b : ℕ) → b ≡ a + 1
     → p ≡ r
 stands q p r l a b e one two =
     let same : ((r -ℤ p) *ℤ pos a) ≡ ((r -ℤ p) *ℤ pos b) = omega (arith, ints, one, two) in
-    flat (r -ℤ p) a b e same
+    let none = flat (r -ℤ p) a b e same in
+    omega (arith, ints, none)
   where
     flat : (z : ℤ) (a b : ℕ) → b ≡ a + 1 → (z *ℤ pos a) ≡ (z *ℤ pos b) → z ≡ pos 0
     flat z a b e same =

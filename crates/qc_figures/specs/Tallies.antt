@@ -1,7 +1,7 @@
 -- inner: what some tasks of a crane come to.
 use Rattle.std.specs.Prelude.{◌≡◌, ℕ, ◌*◌, ◌≤◌}
 use Rattle.qc_model.specs.Instance.{ticks_of, task}
-use Rattle.qc_model.specs.Numbers.{most_work}
+use Rattle.qc_model.specs.Numbers.{most_end, most_work}
 use Rattle.qc_stow.specs.Moves.{most_moves}
 use Rattle.qc_figures.specs.declared.tally.Tally.{Tally}
 use Rattle.qc_figures.specs.Figures.{PlanView, last_end_of, moves_in, together}
@@ -15,3 +15,4 @@ pub record IsTally (p : PlanView) (k n : ℕ) (tally : Tally) : Type 0 where
   pub few_tasks : tally.tasks ≤ n
   pub few_moves : tally.moves ≤ most_moves * n
   pub short : tally.work ≤ most_work * n
+  pub soon : tally.end ≤ most_end

@@ -6,7 +6,7 @@ ghost use Rattle.qc_figures.specs.Figures.{does, greatest, moves_in, of_crane};
 ghost use Rattle.qc_figures.specs.Tallies.{IsTally};
 ghost use Rattle.qc_figures.specs.Views.{IsReady, view_of};
 ghost use Rattle.qc_model.specs.declared.limits.TheConstants.{MOST_END, MOST_WORK};
-ghost use Rattle.qc_model.specs.Instance.{task as task_at, ticks_of};
+ghost use Rattle.qc_model.specs.Instance.{Valid, task as task_at, ticks_of};
 ghost use Rattle.qc_model.specs.Rules.{end_of};
 ghost use Rattle.qc_stow.specs.Moves.{most_moves};
 ghost use Rattle.qc_tasks.specs.InstanceOf.{is_move_of};
@@ -57,6 +57,7 @@ impl Figured<'_> {
         ensures few { result.moves ≤ most_moves }
         ensures short { result.work ≤ MOST_WORK }
         ensures soon { result.end ≤ MOST_END }
+        ensures valid { Valid (view_of self.now).inst }
     {
         let number = task;
         let task = self.inst.task(number);

@@ -1,4 +1,4 @@
-use Rattle.std.proofs.Common.{◌≡◌, ◌∷◌, ◌++◌, [], List, ℕ, length, slice_index_or, ap, sym, subst, ◌∙◌, arith}
+use Rattle.std.proofs.Common.{◌≡◌, ◌∷◌, ◌++◌, [], List, ℕ, length, slice_index_or, ap, sym, subst, ◌∙◌, ◌+◌, refl, arith}
 use Rattle.std.proofs.lemmas.List.{length_push}
 use Rattle.qc_gantt.specs.TracksText.{AreTracks, IsTrack}
 use Rattle.qc_gantt.proofs.TrackLemmas.{tracks_more}
@@ -9,7 +9,7 @@ use Rattle.qc_figures.proofs.tracks.tracks_of.Goals as goal
 pub loop-crane-init : goal.loop-crane-init
 loop-crane-init c = record {
   are = record { few = omega arith; each = λ k below. absurd (omega (arith, below)) };
-  count = refl;
+  count = ap (λ (ps : List (List Waypoint)). length ps) c.new-paths.ensures.items;
   room = ap (λ (t : TrackView). t.tasks) c.in_ok-track.ensures ∙ c.task_count.ensures.count;
 }
 
