@@ -1,5 +1,6 @@
 -- public: where places and ticks stand on paper, in tenths of a pixel.
-use Rattle.std.specs.Prelude.{ℕ, ◌+◌, ◌-◌, ◌*◌, ◌/◌, ℤ, pos, ◌+ℤ◌, ◌-ℤ◌, int_min, int_max, min, max, nat_le, nat_lt, Bool, if◌then◌else◌, List, [], ◌∷◌, length, slice_index, Option, find}
+use Rattle.std.specs.Prelude.{ℕ, ◌+◌, ◌-◌, ◌*◌, ◌/◌, ℤ, pos, ◌+ℤ◌, ◌-ℤ◌, min, max, nat_lt, Bool, if◌then◌else◌, List, [], ◌∷◌, length, slice_index, Option, find}
+use Rattle.std.specs.Int.{int_max, int_min}
 use Rattle.std.specs.List.{range_with_len}
 use Rattle.std.specs.Option.{unwrap_or}
 use Rattle.qc_model.specs.declared.direction.Direction.{Direction}
@@ -94,9 +95,9 @@ time_steps =
     ∷ 100000000 ∷ 200000000 ∷ 500000000 ∷ 1000000000 ∷ 2000000000 ∷ 5000000000
     ∷ 10000000000 ∷ 20000000000 ∷ 50000000000 ∷ []
 
--- the least step that fits at most twelve times into so many ticks
+-- the least step that fits at most twelve times into so many ticks: 13 steps are more
 abbrev pub time_step : ℕ → ℕ
-time_step end = unwrap_or (find (λ step. nat_le (end / step) 12) time_steps) 100000000000
+time_step end = unwrap_or (find (λ step. nat_lt (end / 13) step) time_steps) 100000000000
 
 -- what is drawn, with the sizes of the paper
 pub record PaperView : Type 0 where

@@ -2,6 +2,7 @@
 use Rattle.std.specs.Prelude.{ℕ, ◌+◌, ◌-◌, ◌*◌, ◌/◌, ◌%◌, ◌==◌, min, nat_le, if◌then◌else◌, pos, List, [], ◌++◌, codes, decimal, length, slice_index, Option, None, Some}
 use Rattle.std.specs.List.{flat_map, range_with_len}
 use Rattle.qc_model.specs.declared.direction.Direction.{Direction}
+use Rattle.qc_model.specs.declared.direction.Direction.TheVariants.{Up, Down}
 use Rattle.qc_model.specs.declared.task.Task.{Task}
 use Rattle.qc_model.specs.Bays.{bays_up}
 use Rattle.qc_model.specs.Instance.{crane, task}
@@ -10,7 +11,6 @@ use Rattle.qc_model.specs.Tasks.{phase_text, task_text}
 use Rattle.qc_motion.specs.declared.track.Waypoint.{Waypoint}
 use Rattle.qc_motion.specs.Waypoints.{waypoint}
 use Rattle.qc_figures.specs.Figures.{figure_list, figures, track}
-use Rattle.qc_run.specs.Texts.{direction_text}
 use Rattle.qc_picture.specs.Elements.{colour, colour_of, ink, label_text, legend_text, line_text, point_text, rect_text, table_head, tints}
 use Rattle.qc_picture.specs.Paper.{DrawnView, PaperView, across, bow_edge, bow_side, down, half, paper_of, stern_edge, stern_side}
 
@@ -38,9 +38,11 @@ ground_text p = rect_text 0 0 16200 (height p) (codes "fill=\"#ffffff\"/>\n")
 abbrev pub title_text : PaperView → List ℕ
 title_text p = label_text 900 330 (codes "font-size=\"260\"") (codes "end " ++ decimal p.end)
 
+-- the way in which the plan goes, where it goes one
 abbrev pub way_text : Option Direction → List ℕ
 way_text None = []
-way_text (Some way) = label_text 4300 330 (codes "font-size=\"260\"") (codes "direction " ++ direction_text way)
+way_text (Some Up) = label_text 4300 330 (codes "font-size=\"260\"") (codes "direction up")
+way_text (Some Down) = label_text 4300 330 (codes "font-size=\"260\"") (codes "direction down")
 
 -- ---- the hatches
 
@@ -69,14 +71,19 @@ hatch_label p i y =
     label_text (middle p (slice_index p.drawn.places i)) y (codes "text-anchor=\"middle\"")
     (decimal (slice_index p.drawn.hatches i))
 
--- the column of hatch i, its number above and below, and its bay under that
-abbrev pub column_text : PaperView → ℕ → List ℕ
-column_text p i =
+abbrev pub column_ground : PaperView → ℕ → List ℕ
+column_ground p i =
     rect_text (column_from p (slice_index p.drawn.places i)) 1500 (column_wide p (slice_index p.drawn.places i)) 9600
     (shade i)
-    ++ hatch_label p i 1130 ++ hatch_label p i 11500
-    ++ label_text (middle p (slice_index p.drawn.places i)) 11680
+
+abbrev pub bay_label : PaperView → ℕ → List ℕ
+bay_label p i =
+    label_text (middle p (slice_index p.drawn.places i)) 11680
     (codes "font-size=\"120\" fill=\"#666666\" text-anchor=\"middle\"") (decimal (slice_index p.drawn.places i))
+
+-- the column of hatch i, its number above and below, and its bay under that
+abbrev pub column_text : PaperView → ℕ → List ℕ
+column_text p i = column_ground p i ++ hatch_label p i 1130 ++ hatch_label p i 11500 ++ bay_label p i
 
 -- ---- time
 

@@ -1,6 +1,6 @@
 -- public: what contracts see of a plan that is drawn, and of its paper.
 use Rattle.std.specs.Prelude.{◌≡◌, ℕ, ◌<◌, ◌≤◌, ◌^◌, ℤ, unsigned_abs, length}
-use Rattle.qc_model.specs.Limits.{HasLimits}
+use Rattle.qc_model.specs.Numbers.{most_end}
 use Rattle.qc_figures.specs.Views.{IsReady}
 use Rattle.qc_figures.specs.Views as plan
 use Rattle.qc_picture.specs.declared.drawn.Drawn.{Drawn}
@@ -49,3 +49,4 @@ pub record HasPaper (p : PaperView) : Type 0 where
   pub wide : p.half_wide ≤ 1000000000
   pub gap : p.half_gap ≤ 1000000000
   pub step : 1 ≤ p.step
+  pub end : p.end ≤ most_end

@@ -4,7 +4,7 @@ ghost use Rattle.std.specs.Prelude.{◌≡◌, ◌≤◌, ◌<◌, ◌+◌, ◌-
 ghost use Rattle.std.specs.List.{flat_map, range_with_len};
 ghost use Rattle.qc_figures.specs.Figures.{track};
 ghost use Rattle.qc_motion.specs.Waypoints.{waypoint};
-ghost use Rattle.qc_picture.specs.PictureText.{band_head, band_text, bow_text, cranes, dashes_text, end_text, here_text, line_head, line_of, name_label, names_text, stern_text, stroke_text};
+ghost use Rattle.qc_picture.specs.PictureText.{band_head, band_text, bow_text, cranes, dashes_text, end_text, here_text, line_head, line_of, name_label, name_style, names_text, stern_text, stroke_text};
 ghost use Rattle.qc_picture.specs.Views.{HasPaper, paper_view};
 
 use crate::elements::{ink, label, line, tint};
@@ -109,10 +109,7 @@ impl Paper<'_> {
         requires crane { crane < cranes (paper_view self.now) }
         ensures { result ≡ dashes_text (paper_view self.now) crane }
     {
-        let x = match self.points(crane).first() {
-            Some(point) => self.at(point),
-            None => 0,
-        };
+        let x = self.at(&point_at(self.points(crane), 0));
         let ready = self.drawn.plan.inst.crane(crane).ready.min(self.end);
         let style = b"stroke=\"#ffffff\" stroke-width=\"36\" stroke-dasharray=\"70 70\"";
         line((x, 1_500), (x, self.down(ready)), style)
@@ -148,12 +145,8 @@ impl Paper<'_> {
         ensures text { result ≡ name_label (paper_view self.now) crane y at.now }
         ensures length { length result ≤ 256 }
     {
-        let mut style: Text<100> =
-            Text::of(b"font-size=\"170\" font-weight=\"bold\" text-anchor=\"middle\" fill=\"");
-        style.push(ink(crane));
-        style.push(b"\"");
         let name = &self.drawn.plan.inst.crane(crane).name;
-        label(self.at(at), y, style.as_bytes(), name.as_bytes())
+        label(self.at(at), y, name_style(crane).as_bytes(), name.as_bytes())
     }
 
     /// The name of a crane above tick 0 and below the end.
@@ -162,11 +155,11 @@ impl Paper<'_> {
         requires crane { crane < cranes (paper_view self.now) }
         ensures { result ≡ names_text (paper_view self.now) crane }
     {
-        let mut text: Text<512> = Text::new();
-        if let (Some(first), Some(last)) = (self.points(crane).first(), self.points(crane).last()) {
-            text.push(self.name(crane, 1_440, first).as_bytes());
-            text.push(self.name(crane, 11_290, last).as_bytes());
-        }
+        let points = self.points(crane);
+        let first = point_at(points, 0);
+        let last = point_at(points, points.len().saturating_sub(1));
+        let mut text: Text<512> = Text::of(self.name(crane, 1_440, &first).as_bytes());
+        text.push(self.name(crane, 11_290, &last).as_bytes());
         text
     }
 
@@ -189,6 +182,29 @@ impl Paper<'_> {
         let y = self.down(self.end);
         line((900, y), (15_300, y), b"stroke=\"#000000\" stroke-width=\"20\"")
     }
+}
+
+/// A waypoint by its number; where there is none, tick and place 0.
+fn point_at(points: &[Waypoint], number: usize) -> Waypoint
+    ensures { result ≡ waypoint points.now number }
+{
+    if number < points.len() {
+        points[number]
+    } else {
+        Waypoint { at: 0, place: 0 }
+    }
+}
+
+/// How the name of a crane is written.
+fn name_style(crane: u16) -> Text<96>
+    ensures text { result ≡ name_style crane }
+    ensures length { length result ≤ 96 }
+{
+    let mut style: Text<96> =
+        Text::of(b"font-size=\"170\" font-weight=\"bold\" text-anchor=\"middle\" fill=\"");
+    style.push(ink(crane));
+    style.push(b"\"");
+    style
 }
 
 /// The head of a band.

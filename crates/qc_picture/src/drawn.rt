@@ -1,9 +1,9 @@
 //! What is drawn, and the scale of its paper.
 
-ghost use Rattle.std.specs.Prelude.{◌≡◌, ◌≤◌, length};
+ghost use Rattle.std.specs.Prelude.{◌≡◌, ◌+◌, ◌*◌, ◌≤◌, ◌<◌, ◌^◌, unsigned_abs, length};
 ghost use Rattle.std.specs.List.{range_with_len};
-ghost use Rattle.qc_picture.specs.Paper.{half, paper_of, reach, time_step, wide_of, widened, with_hatch, with_point, with_track};
-ghost use Rattle.qc_picture.specs.Views.{HasPaper, IsDrawable, IsFar, IsFarSpan, drawn_of, paper_view};
+ghost use Rattle.qc_picture.specs.Paper.{half, paper_of, reach, step_at, time_step, wide_of, widened, with_hatch, with_point, with_track};
+ghost use Rattle.qc_picture.specs.Views.{HasPaper, IsDrawable, IsFarSpan, drawn_of, paper_view};
 
 use crate::paper::Paper;
 use crate::span::Span;
@@ -23,6 +23,24 @@ pub struct Drawn<'a> {
     pub fine: bool,
 }
 
+/// How far the next hatch lies behind a hatch.
+fn step_at(places: &[u16], number: usize) -> u16
+    requires { number + 1 < length places.now }
+    ensures { result ≡ step_at places.now number }
+{
+    places[number + 1].saturating_sub(places[number])
+}
+
+/// The middle of the column of a hatch at a bay, in halves of a bay times travel.
+pub(crate) fn middle_of(bay: u64, travel: u64) -> u64
+    requires bay { bay ≤ 65535 }
+    requires travel { travel ≤ 10000 }
+    ensures middle { result ≡ 2 * bay * travel }
+    ensures bound { result ≤ 1310700000 }
+{
+    2 * bay * travel
+}
+
 /// The least step from one hatch to the next, and 1 with one hatch.
 fn wide_of(places: &[u16]) -> u64
     ensures wide { result ≡ wide_of places.now }
@@ -31,9 +49,9 @@ fn wide_of(places: &[u16]) -> u64
     if places.len() < 2 {
         return 1;
     }
-    let mut wide = 6000;
+    let mut wide: u16 = 6000;
     for number in 1..places.len() {
-        wide = wide.min(places[number].saturating_sub(places[number - 1]));
+        wide = wide.min(step_at(places, number - 1));
     }
     u64::from(wide)
 }
@@ -42,13 +60,13 @@ impl<'a> Drawn<'a> {
     /// A crane's place at a waypoint, in halves of a bay times travel.
     pub(crate) fn half(&self, point: &Waypoint) -> i128
         ensures place { result ≡ half self.now.fine point.now }
-        ensures far { IsFar result }
+        ensures near { unsigned_abs result ≤ 2 ^ 65 }
     {
         let place = i128::from(point.place);
         if self.fine { place } else { place + place }
     }
 
-    fn travel(&self) -> u64
+    pub(crate) fn travel(&self) -> u64
         ensures travel { result ≡ (drawn_of self.now).plan.inst.travel }
         ensures bound { result ≤ 10000 }
     {
@@ -70,7 +88,7 @@ impl<'a> Drawn<'a> {
         ensures span { result ≡ with_hatch (drawn_of self.now).plan.inst.travel wide span bay }
         ensures far { IsFarSpan result }
     {
-        let middle = 2 * i128::from(bay) * i128::from(self.travel());
+        let middle = i128::from(middle_of(u64::from(bay), self.travel()));
         let wide = i128::from(wide);
         span.wider(middle - wide, middle + wide)
     }
@@ -122,11 +140,11 @@ impl<'a> Drawn<'a> {
     /// The scale of the paper.
     pub(crate) fn paper(self) -> Paper<'a>
         requires { IsDrawable (drawn_of self) }
-        ensures paper { paper_view result ≡ paper_of (drawn_of self) }
+        ensures paper { paper_view result ≡ paper_of (drawn_of self.entry) }
         ensures has { HasPaper (paper_view result) }
     {
         let half_wide = wide_of(self.places) * self.travel();
-        let middle = 2 * i128::from(self.places[0]) * i128::from(self.travel());
+        let middle = i128::from(middle_of(u64::from(self.places[0]), self.travel()));
         let first = Span {
             low: middle - i128::from(half_wide),
             high: middle + i128::from(half_wide),
@@ -186,7 +204,7 @@ fn time_step(end: Tick) -> Tick
     ensures some { 1 ≤ result }
 {
     for step in STEPS {
-        if end / step <= 12 {
+        if end / 13 < step {
             return step;
         }
     }

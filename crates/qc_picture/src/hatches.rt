@@ -3,7 +3,7 @@
 ghost use Rattle.std.specs.Prelude.{◌≡◌, ◌≤◌, ◌<◌, ◌+◌, ◌/◌, ◌++◌, decimal, length, OnOk};
 ghost use Rattle.std.specs.List.{flat_map, range_with_len};
 ghost use Rattle.qc_picture.specs.Elements.{legend_text};
-ghost use Rattle.qc_picture.specs.PictureText.{column_text, front_text, ground_text, hatch_label, head_text, height, shade, tick_text, ticks_text, title_text, way_text};
+ghost use Rattle.qc_picture.specs.PictureText.{bay_label, column_ground, column_text, front_text, ground_text, hatch_label, head_text, height, shade, tick_text, ticks_text, title_text, way_text};
 ghost use Rattle.qc_picture.specs.Views.{HasPaper, paper_view};
 
 use crate::elements::{label, line, rect};
@@ -11,13 +11,12 @@ use crate::paper::Paper;
 use qc_figures::Page;
 use qc_model::Direction;
 use qc_num::{OutOfMemory, Text};
-use qc_run::direction_text;
 
 /// The colours, lines and bands that stand for something, the ends of the ship, and what stands in the rows.
 pub(crate) fn legend() -> &'static [u8]
     ensures { result.now ≡ legend_text }
 {
-    br#"<rect x="900" y="560" width="180" height="180" fill="#9ecae1" stroke="#333333" stroke-width="16"/>
+    br##"<rect x="900" y="560" width="180" height="180" fill="#9ecae1" stroke="#333333" stroke-width="16"/>
 <text x="1140" y="705" fill="#000000">DD deck discharge</text>
 <rect x="2700" y="560" width="180" height="180" fill="#3182bd" stroke="#333333" stroke-width="16"/>
 <text x="2940" y="705" fill="#000000">DH hold discharge</text>
@@ -36,7 +35,7 @@ pub(crate) fn legend() -> &'static [u8]
 <text x="840" y="1130" text-anchor="end" fill="#666666">hatch</text>
 <text x="840" y="11500" text-anchor="end" fill="#666666">hatch</text>
 <text x="840" y="11680" text-anchor="end" fill="#666666">place</text>
-"#
+"##
 }
 
 /// A number in plain decimal.
@@ -54,11 +53,8 @@ fn way_text(way: Option<Direction>) -> Text<256>
     ensures { result ≡ way_text way }
 {
     match way {
-        Some(way) => {
-            let mut words: Text<24> = Text::of(b"direction ");
-            words.push(direction_text(way));
-            label(4_300, 330, b"font-size=\"260\"", words.as_bytes())
-        }
+        Some(Direction::Up) => label(4_300, 330, b"font-size=\"260\"", b"direction up"),
+        Some(Direction::Down) => label(4_300, 330, b"font-size=\"260\"", b"direction down"),
         None => Text::new(),
     }
 }
@@ -117,20 +113,38 @@ impl Paper<'_> {
         label(x, y, b"text-anchor=\"middle\"", number_text(number).as_bytes())
     }
 
+    /// The shade of the column of a hatch.
+    fn column_ground(&self, hatch: u16) -> Text<512>
+        requires has { HasPaper (paper_view self.now) }
+        requires hatch { hatch < length (paper_view self.now).drawn.hatches }
+        ensures { result ≡ column_ground (paper_view self.now) hatch }
+    {
+        let bay = u64::from(self.drawn.places[hatch as usize]);
+        let from = self.column_from(bay);
+        rect(from, 1_500, self.column_wide(bay), 9_600, shade(hatch))
+    }
+
+    /// The bay of a hatch, under its column.
+    fn bay_label(&self, hatch: u16) -> Text<256>
+        requires has { HasPaper (paper_view self.now) }
+        requires hatch { hatch < length (paper_view self.now).drawn.hatches }
+        ensures { result ≡ bay_label (paper_view self.now) hatch }
+    {
+        let bay = u64::from(self.drawn.places[hatch as usize]);
+        let style = b"font-size=\"120\" fill=\"#666666\" text-anchor=\"middle\"";
+        label(self.middle(bay), 11_680, style, number_text(bay).as_bytes())
+    }
+
     /// The column of a hatch, with its number above and below and its bay.
-    fn column(&self, hatch: u16) -> Text<1024>
+    fn column(&self, hatch: u16) -> Text<1280>
         requires has { HasPaper (paper_view self.now) }
         requires hatch { hatch < length (paper_view self.now).drawn.hatches }
         ensures { result ≡ column_text (paper_view self.now) hatch }
     {
-        let bay = u64::from(self.drawn.places[hatch as usize]);
-        let from = self.column_from(bay);
-        let mut text: Text<1024> =
-            Text::of(rect(from, 1_500, self.column_wide(bay), 9_600, shade(hatch)).as_bytes());
+        let mut text: Text<1280> = Text::of(self.column_ground(hatch).as_bytes());
         text.push(self.hatch_label(hatch, 1_130).as_bytes());
         text.push(self.hatch_label(hatch, 11_500).as_bytes());
-        let style = b"font-size=\"120\" fill=\"#666666\" text-anchor=\"middle\"";
-        text.push(label(self.middle(bay), 11_680, style, number_text(bay).as_bytes()).as_bytes());
+        text.push(self.bay_label(hatch).as_bytes());
         text
     }
 
@@ -173,7 +187,7 @@ impl Paper<'_> {
 }
 
 /// Columns are shaded by turns.
-fn shade(hatch: u16) -> &'static [u8; 18]
+fn shade(hatch: u16) -> &'static [u8; 17]
     ensures { result.now ≡ shade hatch }
 {
     if hatch % 2 == 0 {

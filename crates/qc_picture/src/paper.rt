@@ -5,7 +5,7 @@ ghost use Rattle.qc_picture.specs.Paper.{across, down, half};
 ghost use Rattle.qc_picture.specs.PictureText.{bow_text, column_from, column_to, column_wide, here_text, middle, ship_travel, stern_text};
 ghost use Rattle.qc_picture.specs.Views.{HasPaper, paper_view};
 
-use crate::drawn::Drawn;
+use crate::drawn::{Drawn, middle_of};
 use crate::elements::point;
 use crate::span::{Span, across, down};
 use qc_motion::Waypoint;
@@ -49,7 +49,7 @@ impl Paper<'_> {
         ensures place { result ≡ pos (2 * bay * ship_travel (paper_view self.now)) }
         ensures bound { result ≤ℤ pos 1310700000 }
     {
-        2 * i128::from(bay) * i128::from(self.drawn.plan.inst.travel())
+        i128::from(middle_of(bay, self.drawn.travel()))
     }
 
     /// Where the column of a hatch at a bay begins.

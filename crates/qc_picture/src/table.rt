@@ -16,7 +16,7 @@ use qc_num::{OutOfMemory, Text, Tick};
 pub(crate) fn table_head() -> &'static [u8]
     ensures { result.now ≡ table_head }
 {
-    br#"<text x="900" y="12190" fill="#666666">crane</text>
+    br##"<text x="900" y="12190" fill="#666666">crane</text>
 <text x="3300" y="12190" text-anchor="end" fill="#666666">tasks</text>
 <text x="4800" y="12190" text-anchor="end" fill="#666666">moves</text>
 <text x="6300" y="12190" text-anchor="end" fill="#666666">not ready</text>
@@ -26,7 +26,7 @@ pub(crate) fn table_head() -> &'static [u8]
 <text x="12300" y="12190" text-anchor="end" fill="#666666">idle</text>
 <text x="13800" y="12190" text-anchor="end" fill="#666666">end</text>
 <text x="15300" y="12190" text-anchor="end" fill="#666666">share, 0.1 %</text>
-"#
+"##
 }
 
 /// A figure in its row and column.

@@ -11,6 +11,8 @@ use Rattle.qc_sheet_command.specs.declared.load.Load.{Load}
 use Rattle.qc_figures.specs.Figures.{PlanView}
 use Rattle.qc_figures.specs.FiguresText.{figures_text}
 use Rattle.qc_figures.specs.Whole.{IsWhole}
+use Rattle.qc_picture.specs.Paper.{DrawnView}
+use Rattle.qc_picture.specs.PictureText.{picture_text}
 use Rattle.qc_picture_command.specs.declared.answer.Printed.{Printed}
 use Rattle.qc_picture_command.specs.declared.answer.Printed.TheVariants as printed
 
@@ -36,6 +38,23 @@ pub record TellsFigures (load : Load) (text : List ℕ) : Type 0 where
   pub planned : IsPlanned load way tracks
   pub text_is : text ≡ figures_text (plan_with load tracks)
   pub whole : (k : ℕ) → k < length load.cargo.inst.cranes → IsWhole (plan_with load tracks) k
+
+-- what is drawn of a plan with these waypoints, with the hatches of its ship
+abbrev pub drawn_with : Load → Direction → List (List Waypoint) → DrawnView
+drawn_with load way tracks = record {
+  plan = plan_with load tracks;
+  hatches = load.cargo.ship.hatches;
+  places = load.cargo.ship.places;
+  way = Some way;
+  fine = false;
+}
+
+-- the text is the drawing of the plan
+pub record TellsPicture (load : Load) (text : List ℕ) : Type 0 where
+  pub way : Direction
+  pub tracks : List (List Waypoint)
+  pub planned : IsPlanned load way tracks
+  pub text_is : text ≡ picture_text (drawn_with load way tracks)
 
 -- what is printed, and the status
 abbrev pub printed_text : Printed → List ℕ

@@ -61,6 +61,8 @@ qc show SHIP STOW PLAN
 qc make NUMBER HATCHES CRANES
 qc sheet SHIP STOW PLAN
 qc watch SHIP LOG
+qc picture SHIP STOW PLAN
+qc report SHIP STOW PLAN
 ";
 
 /// The line of a file that couldn't be read.

@@ -51,6 +51,18 @@ pub enum Request<'a> {
         ship: &'a str,
         log: &'a str,
     },
+    /// The drawing of a plan.
+    Picture {
+        ship: &'a str,
+        stow: &'a str,
+        plan: &'a str,
+    },
+    /// The figures of each crane of a plan.
+    Report {
+        ship: &'a str,
+        stow: &'a str,
+        plan: &'a str,
+    },
     /// Words that are no command.
     Usage,
 }

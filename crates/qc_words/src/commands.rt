@@ -18,6 +18,8 @@ pub enum CommandName {
     Make,
     Sheet,
     Watch,
+    Picture,
+    Report,
 }
 
 /// The command with this name.
@@ -32,6 +34,8 @@ fn command_name(word: &str) -> Option<CommandName>
         "make" => Some(CommandName::Make),
         "sheet" => Some(CommandName::Sheet),
         "watch" => Some(CommandName::Watch),
+        "picture" => Some(CommandName::Picture),
+        "report" => Some(CommandName::Report),
         _ => None,
     }
 }
@@ -77,5 +81,7 @@ pub fn command_of<'a>(alloc: Global, name: CommandName) -> Result<Command<'a>, A
         CommandName::Make => command_with(alloc, "make", &["number", "hatches", "cranes"]),
         CommandName::Sheet => command_with(alloc, "sheet", &["ship", "stow", "plan"]),
         CommandName::Watch => command_with(alloc, "watch", &["ship", "log"]),
+        CommandName::Picture => command_with(alloc, "picture", &["ship", "stow", "plan"]),
+        CommandName::Report => command_with(alloc, "report", &["ship", "stow", "plan"]),
     }
 }

@@ -192,6 +192,16 @@ fn asked_in<'a>(name: CommandName, matches: &ArgMatches<'a>) -> Request<'a>
             ship: value_of(matches, "ship"),
             log: value_of(matches, "log"),
         },
+        CommandName::Picture => Request::Picture {
+            ship: value_of(matches, "ship"),
+            stow: value_of(matches, "stow"),
+            plan: value_of(matches, "plan"),
+        },
+        CommandName::Report => Request::Report {
+            ship: value_of(matches, "ship"),
+            stow: value_of(matches, "stow"),
+            plan: value_of(matches, "plan"),
+        },
     }
 }
 
