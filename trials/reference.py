@@ -5,9 +5,10 @@
     reference.py show SHIP STOW PLAN
     reference.py sheet SHIP STOW PLAN
     reference.py check SHIP STOW PLAN TREE      (PLAN may be `-`)
+    reference.py watch SHIP LOG
     reference.py least SHIP STOW
 
-The first four print what `qc` must print; `least` tries every choice of cranes and orders and prints the least end
+All but the last print what `qc` must print; `least` tries every choice of cranes and orders and prints the least end
 of all schedules that go one way, or `none`. Nothing here is taken from the program or from its specifications:
 it is a second opinion, meant to be short and slow. Ship files and lists must be good ones.
 
@@ -21,6 +22,7 @@ import re
 import sys
 import tomllib
 from dataclasses import dataclass
+from fractions import Fraction
 from functools import cache, cached_property
 
 PHASES = ("DD", "DH", "LH", "LD")
@@ -717,11 +719,65 @@ def check_report(inst, data, tree):
     return status, [word, f"end {ends}", f"bound {bound_text(value)}"]
 
 
+# ---------------------------------------------------------------- logs of reported places
+
+REPORT = re.compile(rb"(0|[1-9][0-9]{0,11}) ([^ \n]+) (0|-?[1-9][0-9]{0,5})")
+
+
+def read_log(ship, data):
+    """A list of (time, place) for each crane, or the kind and line of the first fault."""
+    lists = {crane.name.encode(): [] for crane in ship.cranes}
+    *lines, cut = data.split(b"\n")
+    for number, line in enumerate(lines + [cut] * (cut != b""), 1):
+        parts = REPORT.fullmatch(line) if number <= len(lines) else None
+        if number > 200_000:
+            return None, ("TooMany", number)
+        if parts is None:
+            return None, ("Line", number)
+        time, name, place = int(parts[1]), parts[2], int(parts[3])
+        if name not in lists:
+            return None, ("UnknownCrane", number)
+        if any(earlier >= time for earlier, _ in lists[name]):
+            return None, ("TimeBack", number)
+        lists[name].append((time, place))
+    return list(lists.values()), None
+
+
+def place_at(reports, moment):
+    """Where a crane is at a moment, whole or not; None where it isn't known."""
+    before = [report for report in reports if report[0] <= moment]
+    after = [report for report in reports if report[0] >= moment]
+    if not before or not after:
+        return None
+    (a, x), (b, y) = max(before), min(after)
+    return Fraction(x) if a == b else x + Fraction((y - x) * (moment - a), b - a)
+
+
+def too_near(ship, lists, moment):
+    """The pair of lowest cranes that fails at a moment, or None."""
+    places = [place_at(reports, moment) for reports in lists]
+    for v, w in itertools.combinations(range(len(lists)), 2):
+        if None not in (places[v], places[w]) and places[w] - places[v] < ship.gap * (w - v):
+            return v, w
+    return None
+
+
+def watch_report(ship, data):
+    lists, fault = read_log(ship, data)
+    if fault:
+        return 17, [f"BadLog {fault[0]} {fault[1]}"]
+    for moment in sorted({time for reports in lists for time, _ in reports}):
+        pair = too_near(ship, lists, moment)
+        if pair:
+            return 18, [f"Breach {moment} {ship.cranes[pair[0]].name} {ship.cranes[pair[1]].name}"]
+    return 0, [f"Safe {sum(map(len, lists))}"]
+
+
 def main():
     command, *paths = sys.argv[1:]
     files = [None if path == "-" else open(path, "rb").read() for path in paths]
     ship = read_ship(files[0])
-    inst = instance_of(ship, files[1])
+    inst = instance_of(ship, files[1]) if command != "watch" else None
     if command == "least":
         end = least_end(inst)
         status, lines = 0, ["none" if end == NEVER else str(end)]
@@ -731,6 +787,8 @@ def main():
         status, lines = show_report(inst, files[2])
     elif command == "sheet":
         status, lines = sheet_report(ship, files[1], inst, files[2])
+    elif command == "watch":
+        status, lines = watch_report(ship, files[1])
     else:
         status, lines = check_report(inst, files[2], files[3])
     print("\n".join(lines))

@@ -10,7 +10,7 @@ use Rattle.qc_run.specs.declared.refusal.Stop.TheVariants as stop
 use Rattle.qc_run.specs.declared.status.Status.{Status}
 use Rattle.qc_run.specs.declared.status.Status.TheVariants as status
 use Rattle.qc_run.specs.Account.{IsReaderRun}
-use Rattle.qc_run.specs.Due.{contents_in, shown_due}
+use Rattle.qc_run.specs.Due.{shown_due}
 use Rattle.qc_run.specs.Inputs.{Names}
 use Rattle.qc_run.specs.Reports.{Prints}
 use Rattle.qc_run.specs.Texts.{refusal_status}

@@ -1,5 +1,5 @@
 -- What follows from the account of a command that only reads.
-use Rattle.std.proofs.Common.{◌≡◌, ◌≢◌, ◌⊎◌, Option, None, Some, Result, Ok, Err, refl, sym, ap, subst, inl, inr, ◌∙◌, IfSome}
+use Rattle.std.proofs.Common.{◌≡◌, ◌⊎◌, Option, None, Some, Result, Ok, Err, refl, sym, subst, inl, ◌∙◌, IfSome}
 use Rattle.qc_io.specs.Outside.{Files, View}
 use Rattle.qc_run.specs.declared.refusal.LogFault.{LogFault}
 use Rattle.qc_run.specs.declared.refusal.Refusal.{Refusal}
@@ -9,7 +9,7 @@ use Rattle.qc_run.specs.declared.refusal.Stop.TheVariants as stop
 use Rattle.qc_run.specs.declared.status.Status.{Status}
 use Rattle.qc_run.specs.declared.status.Status.TheVariants as status
 use Rattle.qc_gantt.specs.declared.fault.PlanFault.{PlanFault}
-use Rattle.qc_run.specs.Account.{Account, IsFound, IsReaderRun, IsReading, IsRunWith, Reader, Reporting}
+use Rattle.qc_run.specs.Account.{IsFound, IsReaderRun, IsReading, IsRunWith, Reader, Reporting}
 use Rattle.qc_run.specs.Due.{Contents, contents_in}
 use Rattle.qc_run.specs.Inputs.{Names}
 use Rattle.qc_run.specs.Reports.{Printing, Prints, answer_prints, answer_status}
