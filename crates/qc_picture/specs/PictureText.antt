@@ -174,8 +174,8 @@ abbrev pub words_text : PaperView → ℕ → List ℕ
 words_text p j =
     if nat_le 110 (box_high p j)
     then label_text (middle p (bay_at p j)) (box_top p j + box_high p j / 2 + 45)
-        (codes "font-size=\"130\" text-anchor=\"middle\" stroke=\"#ffffff\" stroke-width=\"30\" paint-order=\"stroke\"")
-        (box_words p j)
+    (codes "font-size=\"130\" text-anchor=\"middle\" stroke=\"#ffffff\" stroke-width=\"30\" paint-order=\"stroke\"")
+    (box_words p j)
     else []
 
 -- ---- the lines of the cranes

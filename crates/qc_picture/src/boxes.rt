@@ -153,9 +153,15 @@ impl Paper<'_> {
         if high < 110 {
             return Text::new();
         }
-        let style = b"font-size=\"130\" text-anchor=\"middle\" stroke=\"#ffffff\" stroke-width=\"30\" paint-order=\"stroke\"";
+        let style =
+            b"font-size=\"130\" text-anchor=\"middle\" stroke=\"#ffffff\" stroke-width=\"30\" paint-order=\"stroke\"";
         let y = self.box_top(task) + high / 2 + 45;
-        label(self.middle(self.bay_at(task)), y, style, self.box_words(task).as_bytes())
+        label(
+            self.middle(self.bay_at(task)),
+            y,
+            style,
+            self.box_words(task).as_bytes(),
+        )
     }
 
     /// Puts the words of all boxes behind the page.

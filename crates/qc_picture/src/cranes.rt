@@ -42,7 +42,10 @@ impl Paper<'_> {
             (range_with_len 0 (length points.now))) }
     {
         for number in 0..points.len() {
-            page.put(self.stern_side(&points[points.len() - 1 - number]).as_bytes())?;
+            page.put(
+                self.stern_side(&points[points.len() - 1 - number])
+                    .as_bytes(),
+            )?;
         }
         Ok(())
     }
@@ -146,7 +149,12 @@ impl Paper<'_> {
         ensures length { length result ≤ 256 }
     {
         let name = &self.drawn.plan.inst.crane(crane).name;
-        label(self.at(at), y, name_style(crane).as_bytes(), name.as_bytes())
+        label(
+            self.at(at),
+            y,
+            name_style(crane).as_bytes(),
+            name.as_bytes(),
+        )
     }
 
     /// The name of a crane above tick 0 and below the end.
@@ -180,7 +188,11 @@ impl Paper<'_> {
         ensures { result ≡ end_text (paper_view self.now) }
     {
         let y = self.down(self.end);
-        line((900, y), (15_300, y), b"stroke=\"#000000\" stroke-width=\"20\"")
+        line(
+            (900, y),
+            (15_300, y),
+            b"stroke=\"#000000\" stroke-width=\"20\"",
+        )
     }
 }
 
@@ -200,8 +212,9 @@ fn name_style(crane: u16) -> Text<96>
     ensures text { result ≡ name_style crane }
     ensures length { length result ≤ 96 }
 {
-    let mut style: Text<96> =
-        Text::of(b"font-size=\"170\" font-weight=\"bold\" text-anchor=\"middle\" fill=\"");
+    let mut style: Text<96> = Text::of(
+        b"font-size=\"170\" font-weight=\"bold\" text-anchor=\"middle\" fill=\"",
+    );
     style.push(ink(crane));
     style.push(b"\"");
     style

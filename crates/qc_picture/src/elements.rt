@@ -101,7 +101,10 @@ pub(crate) fn ink(crane: u16) -> &'static [u8]
     ensures colour { result.now ≡ colour_of inks crane }
     ensures length { length result.now ≡ 7 }
 {
-    colour_of(b"#1f3a93#b3261e#1b7837#762a83#8c510a#01665e#c51b7d#333333", crane)
+    colour_of(
+        b"#1f3a93#b3261e#1b7837#762a83#8c510a#01665e#c51b7d#333333",
+        crane,
+    )
 }
 
 /// The pale tint of a crane's band.
@@ -109,5 +112,8 @@ pub(crate) fn tint(crane: u16) -> &'static [u8]
     ensures colour { result.now ≡ colour_of tints crane }
     ensures length { length result.now ≡ 7 }
 {
-    colour_of(b"#c6d2f2#f4c7c9#c9e8cf#e3cfe8#ecd9bd#c3e6e2#f6cfe4#d9d9d9", crane)
+    colour_of(
+        b"#c6d2f2#f4c7c9#c9e8cf#e3cfe8#ecd9bd#c3e6e2#f6cfe4#d9d9d9",
+        crane,
+    )
 }

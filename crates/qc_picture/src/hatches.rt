@@ -69,8 +69,9 @@ impl Paper<'_> {
     fn head(&self) -> Text<256>
         ensures { result ≡ head_text (paper_view self.now) }
     {
-        let mut text: Text<256> =
-            Text::of(b"<svg xmlns=\"http://www.w3.org/2000/svg\" viewBox=\"0 0 16200 ");
+        let mut text: Text<256> = Text::of(
+            b"<svg xmlns=\"http://www.w3.org/2000/svg\" viewBox=\"0 0 16200 ",
+        );
         text.push_number(self.height());
         text.push(b"\" font-family=\"sans-serif\" font-size=\"150\">\n");
         text
@@ -110,7 +111,12 @@ impl Paper<'_> {
     {
         let x = self.middle(u64::from(self.drawn.places[hatch as usize]));
         let number = u64::from(self.drawn.hatches[hatch as usize]);
-        label(x, y, b"text-anchor=\"middle\"", number_text(number).as_bytes())
+        label(
+            x,
+            y,
+            b"text-anchor=\"middle\"",
+            number_text(number).as_bytes(),
+        )
     }
 
     /// The shade of the column of a hatch.
@@ -167,10 +173,19 @@ impl Paper<'_> {
     {
         let at = number * self.step;
         let y = self.down(at);
-        let mut text: Text<512> = Text::of(
-            line((900, y), (15_300, y), b"stroke=\"#c4c4c4\" stroke-width=\"8\"").as_bytes(),
-        );
-        text.push(label(840, y + 50, b"text-anchor=\"end\"", number_text(at).as_bytes()).as_bytes());
+        let mut text: Text<512> = Text::of(line(
+            (900, y),
+            (15_300, y),
+            b"stroke=\"#c4c4c4\" stroke-width=\"8\"",
+        )
+        .as_bytes());
+        text.push(label(
+            840,
+            y + 50,
+            b"text-anchor=\"end\"",
+            number_text(at).as_bytes(),
+        )
+        .as_bytes());
         text
     }
 

@@ -59,7 +59,10 @@ impl Paper<'_> {
         ensures from { result ≡ column_from (paper_view self.now) bay }
         ensures bound { result ≤ 15300 }
     {
-        across(self.span, self.middle_place(bay) - i128::from(self.half_wide))
+        across(
+            self.span,
+            self.middle_place(bay) - i128::from(self.half_wide),
+        )
     }
 
     /// Where it ends.
@@ -69,7 +72,10 @@ impl Paper<'_> {
         ensures to { result ≡ column_to (paper_view self.now) bay }
         ensures bound { result ≤ 15300 }
     {
-        across(self.span, self.middle_place(bay) + i128::from(self.half_wide))
+        across(
+            self.span,
+            self.middle_place(bay) + i128::from(self.half_wide),
+        )
     }
 
     /// How wide it is.

@@ -37,7 +37,12 @@ fn cell(row: u64, column: u64, figure: Tick) -> Text<256>
 {
     let mut words: Text<24> = Text::new();
     words.push_number(figure);
-    label(3_300 + 1_500 * column, 12_190 + 200 * row, b"text-anchor=\"end\"", words.as_bytes())
+    label(
+        3_300 + 1_500 * column,
+        12_190 + 200 * row,
+        b"text-anchor=\"end\"",
+        words.as_bytes(),
+    )
 }
 
 /// Puts the figures of a row behind the page.
@@ -61,7 +66,12 @@ impl Paper<'_> {
         style.push(ink(crane));
         style.push(b"\"");
         let name = &self.drawn.plan.inst.crane(crane).name;
-        label(900, 12_190 + 200 * (u64::from(crane) + 1), style.as_bytes(), name.as_bytes())
+        label(
+            900,
+            12_190 + 200 * (u64::from(crane) + 1),
+            style.as_bytes(),
+            name.as_bytes(),
+        )
     }
 
     /// Puts the row of a crane behind the page.
