@@ -4,7 +4,7 @@ _qc() {
     local word=${COMP_WORDS[COMP_CWORD]} before=${COMP_WORDS[COMP_CWORD - 1]}
     COMPREPLY=()
     if [ "$COMP_CWORD" -eq 1 ]; then
-        mapfile -t COMPREPLY < <(compgen -W 'plan check tasks show make sheet watch' -- "$word")
+        mapfile -t COMPREPLY < <(compgen -W 'plan check tasks show make sheet watch picture report' -- "$word")
         return
     fi
     # behind an equals sign the option is the word before it
