@@ -10,7 +10,7 @@ use qc_ship::{ShipFault, ShipKind};
 use qc_stow::StowFault;
 
 /// The line of a fault of the ship file with its place: the key and the number of its element.
-fn place_line(fault: ShipFault) -> Text<256>
+fn place_line(fault: ShipFault) -> Text<512>
     ensures { result ≡ place_line fault.kind fault }
 {
     let mut line = Text::of(b"BadShip ");
@@ -24,7 +24,7 @@ fn place_line(fault: ShipFault) -> Text<256>
 }
 
 /// The line of a fault in the ship file; a text that is no TOML has no place.
-pub(crate) fn ship_fault_line(fault: ShipFault) -> Text<256>
+pub(crate) fn ship_fault_line(fault: ShipFault) -> Text<512>
     ensures { result ≡ bad_ship_text fault.kind fault }
 {
     match fault.kind {
@@ -34,7 +34,7 @@ pub(crate) fn ship_fault_line(fault: ShipFault) -> Text<256>
 }
 
 /// The line of a fault with its place: what is bad, how, and the number of its record or line.
-fn fault_line(title: &[u8], kind: &str, number: u32) -> Text<256>
+fn fault_line(title: &[u8], kind: &str, number: u32) -> Text<512>
     requires title { length title.now ≤ 8 }
     requires kind { length kind.now ≤ 14 }
     ensures { result ≡ fault_text title.now kind.now number }
@@ -48,28 +48,28 @@ fn fault_line(title: &[u8], kind: &str, number: u32) -> Text<256>
 }
 
 /// The line of a fault in the stowage list.
-pub(crate) fn stow_fault_line(fault: StowFault) -> Text<256>
+pub(crate) fn stow_fault_line(fault: StowFault) -> Text<512>
     ensures { result ≡ bad_stow_text fault }
 {
     fault_line(b"BadStow ", fault.kind.text(), fault.number)
 }
 
 /// The line of a fault in the plan's file.
-pub(crate) fn plan_fault_line(fault: PlanFault) -> Text<256>
+pub(crate) fn plan_fault_line(fault: PlanFault) -> Text<512>
     ensures { result ≡ bad_plan_text fault }
 {
     fault_line(b"BadPlan ", fault.kind.text(), fault.number)
 }
 
 /// The line of a fault in a tree's file.
-pub(crate) fn tree_fault_line(fault: TreeFault) -> Text<256>
+pub(crate) fn tree_fault_line(fault: TreeFault) -> Text<512>
     ensures { result ≡ bad_tree_text fault }
 {
     fault_line(b"BadTree ", fault.kind.text(), fault.line)
 }
 
 /// The line of a fault in a log.
-pub(crate) fn log_fault_line(fault: LogFault) -> Text<256>
+pub(crate) fn log_fault_line(fault: LogFault) -> Text<512>
     ensures { result ≡ bad_log_text fault }
 {
     match fault {

@@ -64,10 +64,12 @@ qc make NUMBER HATCHES CRANES
 qc sheet SHIP STOW PLAN
 qc dispatch SHIP STOW PLAN LOG
 qc watch SHIP LOG
+qc picture SHIP STOW PLAN
+qc report SHIP STOW PLAN
 ";
 
 /// The line of a file that couldn't be read.
-fn unread_line(file: Input) -> Text<256>
+fn unread_line(file: Input) -> Text<512>
     ensures { result ≡ codes "ReadFault " ++ line (input_text file) }
 {
     match file {
@@ -81,7 +83,7 @@ fn unread_line(file: Input) -> Text<256>
 }
 
 /// The line of a file that is too large.
-fn large_line(file: Input) -> Text<256>
+fn large_line(file: Input) -> Text<512>
     ensures { result ≡ codes "TooLarge " ++ line (input_text file) }
 {
     match file {
@@ -95,7 +97,7 @@ fn large_line(file: Input) -> Text<256>
 }
 
 /// What is printed for a refusal.
-fn refusal_text(why: Refusal) -> Text<256>
+fn refusal_text(why: Refusal) -> Text<512>
     ensures { result ≡ refusal_text why }
 {
     match why {
@@ -126,7 +128,7 @@ fn refusal_status(why: Refusal) -> Status
 }
 
 /// What is printed where a command stops.
-pub(crate) fn stop_text(why: Stop) -> Text<256>
+pub(crate) fn stop_text(why: Stop) -> Text<512>
     ensures { result ≡ stop_text why }
 {
     match why {

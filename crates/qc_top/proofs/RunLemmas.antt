@@ -15,6 +15,10 @@ use Rattle.qc_judge_commands.proofs.JudgedLemmas.{plan_check_promises, show_prom
 use Rattle.qc_judge_commands.proofs.TasksLemmas.{tasks_promises, tree_promises}
 use Rattle.qc_model.specs.declared.schedule.Slot.{Slot}
 use Rattle.qc_model.specs.Instance.{InstanceView}
+use Rattle.qc_picture_command.specs.Account.{picture_reader, report_reader}
+use Rattle.qc_picture_command.specs.Planned.{TellsFigures, TellsPicture}
+use Rattle.qc_picture_command.specs.Promises.{PrintedPromises}
+use Rattle.qc_picture_command.proofs.PrintedLemmas.{figures_told, picture_told, printed_promises}
 use Rattle.qc_plan_command.specs.Account.{IsLeft, IsPlanRun, both_files, tree_files}
 use Rattle.qc_plan_command.specs.Asked.{Planning, plan_of}
 use Rattle.qc_plan_command.specs.Promises.{PlanPromises}
@@ -42,7 +46,7 @@ use Rattle.qc_watch_command.specs.Promises.{WatchPromises}
 use Rattle.qc_watch_command.proofs.WatchLemmas.{watch_promises}
 use Rattle.qc_words.proofs.LimitLemmas.{asked_kept}
 use Rattle.qc_words.proofs.PlainWords.{canonical_asked}
-use Rattle.qc_words.specs.Asked.{Asked, KeepsLimits, are_different, check, dispatch, is_own, make, plan, sheet, show, tasks, usage, watch}
+use Rattle.qc_words.specs.Asked.{Asked, KeepsLimits, are_different, check, dispatch, is_own, make, picture, plan, report, sheet, show, tasks, usage, watch}
 use Rattle.qc_words.specs.Words.{Asks}
 use Rattle.qc_top.specs.Account.{IsRun, IsRunOf, IsStopped, IsUsage, check_names, dispatch_names, show_names, tasks_names, watch_names}
 use Rattle.qc_top.specs.Promises.{IsPlan, Promises}
@@ -217,6 +221,14 @@ module _ (words : List (List ℕ)) (before after pb pa : View) (ended : Status) 
   sheets s w p asks =
       sheet_promises (show_names s w p) before after pb pa ended (read sheet_reader (show_names s w p) (serves (sheet s w p) asks))
 
+  draws : (s w p : List ℕ) → Asks words (picture s w p) → PrintedPromises TellsPicture (show_names s w p) before after pb pa ended
+  draws s w p asks =
+      printed_promises TellsPicture picture_told (show_names s w p) before after pb pa ended (read picture_reader (show_names s w p) (serves (picture s w p) asks))
+
+  reports : (s w p : List ℕ) → Asks words (report s w p) → PrintedPromises TellsFigures (show_names s w p) before after pb pa ended
+  reports s w p asks =
+      printed_promises TellsFigures figures_told (show_names s w p) before after pb pa ended (read report_reader (show_names s w p) (serves (report s w p) asks))
+
   watches : (s l : List ℕ) → Asks words (watch s l) → WatchPromises (watch_names s l) before after pb pa ended
   watches s l asks =
       watch_promises (watch_names s l) before after pb pa ended (read watch_reader (watch_names s l) (serves (watch s l) asks))
@@ -277,6 +289,8 @@ module _ (words : List (List ℕ)) (before after pb pa : View) (ended : Status) 
   whatever (tasks s w) asks = by_reads (tasks s w) (lists_tasks s w asks).reads
   whatever (show s w p) asks = by_reads (show s w p) (shows s w p asks).reads
   whatever (sheet s w p) asks = by_reads (sheet s w p) (sheets s w p asks).reads
+  whatever (picture s w p) asks = by_reads (picture s w p) (draws s w p asks).reads
+  whatever (report s w p) asks = by_reads (report s w p) (reports s w p asks).reads
   whatever (watch s l) asks = by_reads (watch s l) (watches s l asks).reads
   whatever (dispatch s w p l) asks = by_reads (dispatch s w p l) (dispatches s w p l asks).reads
   whatever (make n k c) asks = record {
@@ -305,6 +319,8 @@ module _ (words : List (List ℕ)) (before after pb pa : View) (ended : Status) 
     dispatches = dispatches;
     makes = makes;
     sheets = sheets;
+    draws = draws;
+    reports = reports;
     make_leaves = make_leaves;
     files_stay = λ asked asks. (whatever asked asks).stays;
     plain_words = canonical_asked words;

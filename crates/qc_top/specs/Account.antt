@@ -3,6 +3,7 @@ use Rattle.std.specs.Prelude.{◌≡◌, ◌⊎◌, ℕ, List, Option, None, Som
 use Rattle.qc_io.specs.Outside.{View}
 use Rattle.qc_dispatch_command.specs.Account.{IsDispatchRun}
 use Rattle.qc_judge_commands.specs.Account.{IsPlanCheckRun, IsTreeRun, show_reader, tasks_reader}
+use Rattle.qc_picture_command.specs.Account.{picture_reader, report_reader}
 use Rattle.qc_plan_command.specs.Account.{IsPlanRun}
 use Rattle.qc_plan_command.specs.Asked.{plan_of}
 use Rattle.qc_run.specs.declared.refusal.Refusal.TheVariants as refusal
@@ -16,11 +17,12 @@ use Rattle.qc_run.specs.Texts.{stop_status, stop_text}
 use Rattle.qc_sheet_command.specs.Account.{sheet_reader}
 use Rattle.qc_trial.specs.Account.{IsTrialRun}
 use Rattle.qc_watch_command.specs.Account.{watch_reader}
-use Rattle.qc_words.specs.Asked.{Asked, plan, check, tasks, show, make, sheet, watch, dispatch, usage}
+use Rattle.qc_words.specs.Asked.{Asked, plan, check, tasks, show, make, sheet, watch, dispatch, picture, report, usage}
 use Rattle.qc_words.specs.Commands.{named}
 use Rattle.qc_words.specs.Words.{Asks}
 
--- the files that a check, the tasks, a plan that is shown or put on a sheet, a log that is judged, and a plan that is followed by one read
+-- the files that a check, the tasks, a plan that is shown, drawn, reported or put on a sheet, a log that is judged, and
+-- a plan that is followed by one read
 abbrev pub check_names : (ship stow : List ℕ) → Option (List ℕ) → (tree : List ℕ) → Names
 check_names ship stow name tree = record no_names { ship = Some ship; stow = Some stow; plan = name; tree = Some tree }
 
@@ -62,6 +64,8 @@ IsRunOf (make n h c) = IsMakeRun n h c
 IsRunOf (sheet s w p) = IsReaderRun sheet_reader (show_names s w p)
 IsRunOf (watch s l) = IsReaderRun watch_reader (watch_names s l)
 IsRunOf (dispatch s w p l) = IsDispatchRun (dispatch_names s w p l)
+IsRunOf (picture s w p) = IsReaderRun picture_reader (show_names s w p)
+IsRunOf (report s w p) = IsReaderRun report_reader (show_names s w p)
 IsRunOf usage = IsUsage
 
 -- a run: the words ask for something, which is served, or memory is wanting for the words; where no command begins

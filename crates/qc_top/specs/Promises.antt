@@ -5,6 +5,8 @@ use Rattle.std.specs.FinMap.{get}
 use Rattle.qc_io.specs.Outside.{View}
 use Rattle.qc_dispatch_command.specs.Promises.{DispatchPromises}
 use Rattle.qc_judge_commands.specs.Promises.{PlanCheckPromises, ShowPromises, TasksPromises, TreePromises}
+use Rattle.qc_picture_command.specs.Planned.{TellsFigures, TellsPicture}
+use Rattle.qc_picture_command.specs.Promises.{PrintedPromises}
 use Rattle.qc_plan_command.specs.Asked.{plan_of}
 use Rattle.qc_plan_command.specs.Promises.{PlanPromises}
 use Rattle.qc_run.specs.declared.refusal.Stop.TheVariants as stop
@@ -15,7 +17,7 @@ use Rattle.qc_run.specs.Told.{EndsWith}
 use Rattle.qc_sheet_command.specs.Promises.{SheetPromises}
 use Rattle.qc_trial.specs.Account.{TrialPromises}
 use Rattle.qc_watch_command.specs.Promises.{WatchPromises}
-use Rattle.qc_words.specs.Asked.{Asked, plan, check, tasks, show, make, sheet, watch, dispatch, usage}
+use Rattle.qc_words.specs.Asked.{Asked, plan, check, tasks, show, make, sheet, watch, dispatch, picture, report, usage}
 use Rattle.qc_words.specs.Commands.{named}
 use Rattle.qc_words.specs.Words.{Asks, Canonical}
 use Rattle.qc_top.specs.Account.{IsStopped, IsUsage, check_names, dispatch_names, show_names, tasks_names, watch_names}
@@ -47,6 +49,10 @@ pub record Promises (words : List (List ℕ)) (before after out_before out_after
       → IfSome before.files (λ held. IfSome after.files (λ now. get now o ≡ get held o))
   pub sheets : (s w p : List ℕ) → Asks words (sheet s w p)
       → SheetPromises (show_names s w p) before after out_before out_after ended
+  pub draws : (s w p : List ℕ) → Asks words (picture s w p)
+      → PrintedPromises TellsPicture (show_names s w p) before after out_before out_after ended
+  pub reports : (s w p : List ℕ) → Asks words (report s w p)
+      → PrintedPromises TellsFigures (show_names s w p) before after out_before out_after ended
   -- making leaves the shelf untouched, and all but a plan leave the files
   pub make_leaves : (n h c : ℕ) → Asks words (make n h c) → after ≡ before
   pub files_stay : (asked : Asked) → Asks words asked → ¬ IsPlan asked → after.files ≡ before.files

@@ -12,6 +12,7 @@ use qc_dispatch_command::dispatch;
 use qc_io::{Shelf, Sink};
 use qc_judge_commands::{check_plan, check_tree, list_tasks, show};
 use qc_num::OutOfMemory;
+use qc_picture_command::{draw_picture, report_figures};
 use qc_plan_command::{PlanAsked, plan};
 use qc_run::{Inputs, Refusal, Status, Stop, report_stop};
 use qc_sheet_command::print_sheet;
@@ -158,6 +159,12 @@ fn serve<S: Shelf, K: Sink>(
             plan,
             log,
         } => dispatch(alloc, &dispatch_of(ship, stow, plan, log), shelf, out),
+        Request::Picture { ship, stow, plan } => {
+            draw_picture(alloc, &inputs_of(ship, stow, Some(plan), None), shelf, out)
+        }
+        Request::Report { ship, stow, plan } => {
+            report_figures(alloc, &inputs_of(ship, stow, Some(plan), None), shelf, out)
+        }
         Request::Usage => report_stop(Stop::Refused(Refusal::Usage), out),
     }
 }

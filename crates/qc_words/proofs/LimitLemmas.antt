@@ -51,6 +51,8 @@ command_kept name.Show rows = tt
 command_kept name.Sheet rows = tt
 command_kept name.Watch rows = tt
 command_kept name.Dispatch rows = tt
+command_kept name.Picture rows = tt
+command_kept name.Report rows = tt
 command_kept name.Make rows = make_kept _ _ _ (number_kept 0 most_number (value_of (codes "number") rows))
     (number_kept 1 most_hatches (value_of (codes "hatches") rows)) (number_kept 1 most_cranes (value_of (codes "cranes") rows))
 

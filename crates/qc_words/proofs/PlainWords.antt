@@ -17,7 +17,7 @@ use Rattle.qc_model.specs.Numbers.{most_branchings, most_cranes, most_hatches}
 use Rattle.qc_num.proofs.DigitLemmas.{decimal_digits, fits, number_in-decimal}
 use Rattle.qc_words.specs.declared.commands.CommandName.{CommandName}
 use Rattle.qc_words.specs.declared.commands.CommandName.TheVariants as name
-use Rattle.qc_words.specs.Asked.{Asked, plan, check, tasks, show, make, sheet, watch, dispatch, most_number, usage}
+use Rattle.qc_words.specs.Asked.{Asked, plan, check, tasks, show, make, sheet, watch, dispatch, picture, report, most_number, usage}
 use Rattle.qc_words.specs.Commands.{command_of}
 use Rattle.qc_words.specs.Words.{Canonical, asked_by, asked_in, is_check_word, is_file_word, make_of, number_between, own_words, plan_name, plan_of, usual_branchings}
 use Rattle.qc_words.proofs.WordWalk.{Goes, IsOperand, at, goes_nowhere, goes_on, goes_past, lone_dash, other_first, read_along}
@@ -122,6 +122,32 @@ sheet_asked s w p is iw ip =
     let after = held rows (codes "plan") p in
     ap (λ o. option_map_or (asked_in name.Sheet) o usage)
     (read_along c (command_of name.Sheet) (codes "sheet") (s ∷ w ∷ p ∷ []) after 4 refl refl
+    (goes_past c nothing_held idle 1 s (w ∷ p ∷ []) _ is refl
+    (goes_past c (held [] (codes "ship") s) idle 2 w (p ∷ []) _ iw refl
+    (goes_past c (held (row (codes "ship") s ∷ []) (codes "stow") w) idle 3 p [] _ ip refl
+    (goes_nowhere c (at after idle 4))))) refl)
+
+picture_asked : (s w p : Text) → IsOperand s → IsOperand w → IsOperand p → asked_by (codes "picture" ∷ s ∷ w ∷ p ∷ []) ≡ picture s w p
+unfolding defaults_fault
+picture_asked s w p is iw ip =
+    let c = shape name.Picture in
+    let rows = row (codes "ship") s ∷ row (codes "stow") w ∷ [] in
+    let after = held rows (codes "plan") p in
+    ap (λ o. option_map_or (asked_in name.Picture) o usage)
+    (read_along c (command_of name.Picture) (codes "picture") (s ∷ w ∷ p ∷ []) after 4 refl refl
+    (goes_past c nothing_held idle 1 s (w ∷ p ∷ []) _ is refl
+    (goes_past c (held [] (codes "ship") s) idle 2 w (p ∷ []) _ iw refl
+    (goes_past c (held (row (codes "ship") s ∷ []) (codes "stow") w) idle 3 p [] _ ip refl
+    (goes_nowhere c (at after idle 4))))) refl)
+
+report_asked : (s w p : Text) → IsOperand s → IsOperand w → IsOperand p → asked_by (codes "report" ∷ s ∷ w ∷ p ∷ []) ≡ report s w p
+unfolding defaults_fault
+report_asked s w p is iw ip =
+    let c = shape name.Report in
+    let rows = row (codes "ship") s ∷ row (codes "stow") w ∷ [] in
+    let after = held rows (codes "plan") p in
+    ap (λ o. option_map_or (asked_in name.Report) o usage)
+    (read_along c (command_of name.Report) (codes "report") (s ∷ w ∷ p ∷ []) after 4 refl refl
     (goes_past c nothing_held idle 1 s (w ∷ p ∷ []) _ is refl
     (goes_past c (held [] (codes "ship") s) idle 2 w (p ∷ []) _ iw refl
     (goes_past c (held (row (codes "ship") s ∷ []) (codes "stow") w) idle 3 p [] _ ip refl
@@ -317,4 +343,14 @@ canonical_asked words (dispatch s w p l) h =
     let fp = both (is_file_word p) _ fw.1 in
     let fl = both (is_file_word l) _ fp.1 in
     ap asked_by h.0.1 ∙ dispatch_asked s w p l (file_operand s fs.0) (file_operand w fw.0) (file_operand p fp.0) (file_operand l fl.0)
+canonical_asked words (picture s w p) h =
+    let fs = both (is_file_word s) _ h.0.0 in
+    let fw = both (is_file_word w) _ fs.1 in
+    let fp = both (is_file_word p) _ fw.1 in
+    ap asked_by h.0.1 ∙ picture_asked s w p (file_operand s fs.0) (file_operand w fw.0) (file_operand p fp.0)
+canonical_asked words (report s w p) h =
+    let fs = both (is_file_word s) _ h.0.0 in
+    let fw = both (is_file_word w) _ fs.1 in
+    let fp = both (is_file_word p) _ fw.1 in
+    ap asked_by h.0.1 ∙ report_asked s w p (file_operand s fs.0) (file_operand w fw.0) (file_operand p fp.0)
 canonical_asked words usage h = absurd h.0

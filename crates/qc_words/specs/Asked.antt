@@ -27,6 +27,10 @@ pub data Asked : Type 0 where
   watch : (ship log : List ℕ) → Asked
   -- the course of the work, by a plan for a ship file and a stowage list and a log of ticks and of tasks that are done
   dispatch : (ship stow plan log : List ℕ) → Asked
+  -- the drawing of a plan for a ship file and a stowage list
+  picture : (ship stow plan : List ℕ) → Asked
+  -- the figures of each crane of a plan
+  report : (ship stow plan : List ℕ) → Asked
   -- words that are no command
   usage : Asked
 
@@ -42,6 +46,8 @@ asked_for (request.Make number hatches cranes) = make number hatches cranes
 asked_for (request.Sheet ship stow plan_name) = sheet ship.now stow.now plan_name.now
 asked_for (request.Watch ship log) = watch ship.now log.now
 asked_for (request.Dispatch ship stow plan_name log) = dispatch ship.now stow.now plan_name.now log.now
+asked_for (request.Picture ship stow plan_name) = picture ship.now stow.now plan_name.now
+asked_for (request.Report ship stow plan_name) = report ship.now stow.now plan_name.now
 asked_for request.Usage = usage
 
 -- no two of a plan's four names are equal

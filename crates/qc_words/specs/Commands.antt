@@ -18,7 +18,9 @@ command_name word =
     else (if bytes_eq word (codes "sheet") then Some name.Sheet
     else (if bytes_eq word (codes "watch") then Some name.Watch
     else (if bytes_eq word (codes "dispatch") then Some name.Dispatch
-    else None)))))))
+    else (if bytes_eq word (codes "picture") then Some name.Picture
+    else (if bytes_eq word (codes "report") then Some name.Report
+    else None)))))))))
 
 -- and that of a command line
 abbrev pub named : List (List ℕ) → Option CommandName
@@ -50,6 +52,8 @@ command_of name.Sheet = command_with (codes "sheet") (codes "ship" ∷ codes "st
 command_of name.Watch = command_with (codes "watch") (codes "ship" ∷ codes "log" ∷ [])
 command_of name.Dispatch =
     command_with (codes "dispatch") (codes "ship" ∷ codes "stow" ∷ codes "plan" ∷ codes "log" ∷ [])
+command_of name.Picture = command_with (codes "picture") (codes "ship" ∷ codes "stow" ∷ codes "plan" ∷ [])
+command_of name.Report = command_with (codes "report") (codes "ship" ∷ codes "stow" ∷ codes "plan" ∷ [])
 
 -- what the command reads from the words, or nothing where it refuses them
 abbrev pub read_by : App → List (List ℕ) → Option (List Row)

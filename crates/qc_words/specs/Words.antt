@@ -7,7 +7,7 @@ use Rattle.std.specs.Str.{bytes_eq}
 use Rattle.clap.specs.Words.{Row, first_of}
 use Rattle.qc_model.specs.Numbers.{most_branchings, most_cranes, most_hatches}
 use Rattle.qc_num.specs.Digits.{number_in}
-use Rattle.qc_words.specs.Asked.{Asked, plan, check, tasks, show, make, sheet, watch, dispatch, usage, KeepsLimits, are_different, is_own, most_number}
+use Rattle.qc_words.specs.Asked.{Asked, plan, check, tasks, show, make, sheet, watch, dispatch, picture, report, usage, KeepsLimits, are_different, is_own, most_number}
 use Rattle.qc_words.specs.Commands.{command_of, named, read_by}
 use Rattle.qc_words.specs.declared.commands.CommandName.{CommandName}
 use Rattle.qc_words.specs.declared.commands.CommandName.TheVariants as name
@@ -62,6 +62,10 @@ Spell words (sheet s w p) =
 Spell words (watch s l) = AreFileWords (s ∷ l ∷ []) × (words ≡ codes "watch" ∷ s ∷ l ∷ [])
 Spell words (dispatch s w p l) =
     AreFileWords (s ∷ w ∷ p ∷ l ∷ []) × (words ≡ codes "dispatch" ∷ s ∷ w ∷ p ∷ l ∷ [])
+Spell words (picture s w p) =
+    AreFileWords (s ∷ w ∷ p ∷ []) × (words ≡ codes "picture" ∷ s ∷ w ∷ p ∷ [])
+Spell words (report s w p) =
+    AreFileWords (s ∷ w ∷ p ∷ []) × (words ≡ codes "report" ∷ s ∷ w ∷ p ∷ [])
 Spell words usage = ⊥
 
 -- the words say this in the plain form, and it keeps the limits
@@ -122,6 +126,12 @@ asked_in name.Watch rows = watch (value_of (codes "ship") rows) (value_of (codes
 asked_in name.Dispatch rows =
     dispatch (value_of (codes "ship") rows) (value_of (codes "stow") rows)
     (value_of (codes "plan") rows) (value_of (codes "log") rows)
+asked_in name.Picture rows =
+    picture (value_of (codes "ship") rows) (value_of (codes "stow") rows)
+    (value_of (codes "plan") rows)
+asked_in name.Report rows =
+    report (value_of (codes "ship") rows) (value_of (codes "stow") rows)
+    (value_of (codes "plan") rows)
 
 -- what the words ask for: Usage where no command begins them, where `clap` refuses them, where a
 -- number isn't one in plain decimal and in range, and where a plan's names aren't different

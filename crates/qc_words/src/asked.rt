@@ -58,6 +58,18 @@ pub enum Request<'a> {
         plan: &'a str,
         log: &'a str,
     },
+    /// The drawing of a plan.
+    Picture {
+        ship: &'a str,
+        stow: &'a str,
+        plan: &'a str,
+    },
+    /// The figures of each crane of a plan.
+    Report {
+        ship: &'a str,
+        stow: &'a str,
+        plan: &'a str,
+    },
     /// Words that are no command.
     Usage,
 }

@@ -19,6 +19,8 @@ pub enum CommandName {
     Sheet,
     Watch,
     Dispatch,
+    Picture,
+    Report,
 }
 
 /// The command with this name.
@@ -34,6 +36,8 @@ fn command_name(word: &str) -> Option<CommandName>
         "sheet" => Some(CommandName::Sheet),
         "watch" => Some(CommandName::Watch),
         "dispatch" => Some(CommandName::Dispatch),
+        "picture" => Some(CommandName::Picture),
+        "report" => Some(CommandName::Report),
         _ => None,
     }
 }
@@ -80,5 +84,7 @@ pub fn command_of<'a>(alloc: Global, name: CommandName) -> Result<Command<'a>, A
         CommandName::Sheet => command_with(alloc, "sheet", &["ship", "stow", "plan"]),
         CommandName::Watch => command_with(alloc, "watch", &["ship", "log"]),
         CommandName::Dispatch => command_with(alloc, "dispatch", &["ship", "stow", "plan", "log"]),
+        CommandName::Picture => command_with(alloc, "picture", &["ship", "stow", "plan"]),
+        CommandName::Report => command_with(alloc, "report", &["ship", "stow", "plan"]),
     }
 }

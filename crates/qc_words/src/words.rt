@@ -198,6 +198,16 @@ fn asked_in<'a>(name: CommandName, matches: &ArgMatches<'a>) -> Request<'a>
             plan: value_of(matches, "plan"),
             log: value_of(matches, "log"),
         },
+        CommandName::Picture => Request::Picture {
+            ship: value_of(matches, "ship"),
+            stow: value_of(matches, "stow"),
+            plan: value_of(matches, "plan"),
+        },
+        CommandName::Report => Request::Report {
+            ship: value_of(matches, "ship"),
+            stow: value_of(matches, "stow"),
+            plan: value_of(matches, "plan"),
+        },
     }
 }
 

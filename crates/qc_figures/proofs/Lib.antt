@@ -1,0 +1,4 @@
+pub mod TallyLemmas
+pub mod WayLemmas
+pub mod PageLemmas
+pub mod TimeLemmas

@@ -1,0 +1,5 @@
+pub mod Figures
+pub mod FiguresText
+pub mod Views
+pub mod Tallies
+pub mod Whole

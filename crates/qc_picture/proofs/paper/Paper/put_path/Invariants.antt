@@ -1,0 +1,10 @@
+use Rattle.std.proofs.Common.{◌≡◌, ◌++◌, ◌-◌, length}
+use Rattle.std.specs.List.{flat_map, range_with_len}
+use Rattle.qc_motion.specs.Waypoints.{waypoint}
+use Rattle.qc_picture.specs.PictureText.{here_text}
+use Rattle.qc_picture.specs.Views.{paper_view}
+use Rattle.qc_picture.proofs.paper.Paper.put_path.Given as goal
+
+abbrev pub invariant-loop-number : goal.invariant-loop-number
+invariant-loop-number l =
+    l.page ≡ l.initial.page ++ flat_map (λ i. here_text (paper_view l.self) (waypoint l.points i)) (range_with_len 0 l.number)

@@ -1,0 +1,10 @@
+use Rattle.std.proofs.Common.{◌+◌, refl, ◌∙◌}
+use Rattle.qc_figures.proofs.PageLemmas.{page_more}
+use Rattle.qc_picture.specs.PictureText.{row_text}
+use Rattle.qc_picture.specs.Views.{paper_view}
+use Rattle.qc_picture.proofs.paper.Paper.put_rows.Goals as goal
+
+pub loop-crane-preserved : goal.loop-crane-preserved
+loop-crane-preserved c =
+    page_more (row_text (paper_view c.args.self.now)) c.loop-crane.crane (c.loop-crane.crane + 1) c.args.page.now c.loop-crane.page c.put_row.new.page
+    (row_text (paper_view c.args.self.now) c.loop-crane.crane) refl c.loop-crane.invariant c.in_ok-put_row.ensures refl

@@ -1,0 +1,4 @@
+pub mod Paper
+pub mod Elements
+pub mod PictureText
+pub mod Views

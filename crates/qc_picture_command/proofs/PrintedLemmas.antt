@@ -1,0 +1,61 @@
+-- What follows from the account of a text that tells of a plan.
+use Rattle.std.proofs.Common.{◌≡◌, ℕ, List, refl, inl, inr}
+use Rattle.qc_io.specs.Outside.{View}
+use Rattle.qc_model.specs.declared.direction.Direction.{Direction}
+use Rattle.qc_model.specs.declared.direction.Direction.TheVariants.{Up, Down}
+use Rattle.qc_model.specs.declared.schedule.Slot.{Slot}
+use Rattle.qc_model.specs.Instance.{InstanceView}
+use Rattle.qc_model.specs.Judge.{IsDirection}
+use Rattle.qc_model.specs.OneWay.{GoesOneWay}
+use Rattle.qc_run.specs.declared.broken.Broken.{Broken}
+use Rattle.qc_run.specs.declared.refusal.Refusal.TheVariants as refusal
+use Rattle.qc_run.specs.declared.status.Status.{Status}
+use Rattle.qc_run.specs.declared.status.Status.TheVariants as status
+use Rattle.qc_run.specs.Account.{IsReaderRun}
+use Rattle.qc_run.specs.Inputs.{Names}
+use Rattle.qc_run.proofs.AccountLemmas.{ends_due, fault_told, is_bad_plan, is_told, reader_promises}
+use Rattle.qc_run.proofs.StatusLemmas.{IsAnswer}
+use Rattle.qc_sheet_command.specs.declared.load.Load.{Load}
+use Rattle.qc_picture_command.specs.declared.answer.Printed.{Printed}
+use Rattle.qc_picture_command.specs.declared.answer.Printed.TheVariants as printed
+use Rattle.qc_picture_command.specs.Account.{TellsPrinted, printer}
+use Rattle.qc_picture_command.specs.Planned.{TellsFigures, TellsPicture, printed_status}
+use Rattle.qc_picture_command.specs.Promises.{EndsPrinted, PrintedPromises}
+
+answers : (a : Printed) → IsAnswer (printed_status a)
+answers (printed.Broken told) = tt
+answers (printed.Text text) = tt
+
+is_text : (a : Printed) → printed_status a ≡ status.Done → (text : List ℕ) × (a ≡ printed.Text text)
+is_text (printed.Text text) e = (text, refl)
+is_text (printed.Broken told) e = absurd (cc e)
+
+is_broken : (a : Printed) → printed_status a ≡ status.Broken → (told : Broken) × (a ≡ printed.Broken told)
+is_broken (printed.Broken told) e = (told, refl)
+is_broken (printed.Text text) e = absurd (cc e)
+
+-- a plan with a direction goes one way
+one_way : (inst : InstanceView) (sched : List Slot) (way : Direction) → IsDirection inst sched way → GoesOneWay inst sched
+one_way inst sched Up is = inl is
+one_way inst sched Down is = inr is.0
+
+pub figures_told : (load : Load) (text : List ℕ) → TellsFigures load text → GoesOneWay load.cargo.inst load.sched
+figures_told load text is = one_way load.cargo.inst load.sched is.way is.planned.direction
+
+pub picture_told : (load : Load) (text : List ℕ) → TellsPicture load text → GoesOneWay load.cargo.inst load.sched
+picture_told load text is = one_way load.cargo.inst load.sched is.way is.planned.direction
+
+module _ (tells : Load → List ℕ → Type 0) (goes : (load : Load) (text : List ℕ) → tells load text → GoesOneWay load.cargo.inst load.sched)
+    (names : Names) (before after pb pa : View) (ended : Status) (run : IsReaderRun (printer tells) names before after pb pa ended) where
+  ends : (load : Load) (a : Printed) → TellsPrinted tells load a → EndsPrinted load (printed_status a)
+  ends load (printed.Broken told) is = record { neither = λ _. refl; one_way = λ goes. absurd (is.neither goes) }
+  ends load (printed.Text text) is = record { neither = λ neither. absurd (neither (goes load text is)); one_way = λ _. refl }
+
+  pub printed_promises : PrintedPromises tells names before after pb pa ended
+  printed_promises = record {
+    reads = reader_promises (printer tells) answers names before after pb pa ended run;
+    text_done = is_told (printer tells) answers names before after pb pa ended run printed.Text status.Done tt is_text;
+    text_broken = is_told (printer tells) answers names before after pb pa ended run printed.Broken status.Broken tt is_broken;
+    text_bad_plan = fault_told (printer tells) answers names before after pb pa ended run refusal.BadPlan status.BadPlan tt is_bad_plan;
+    text_complete = ends_due (printer tells) answers names before after pb pa ended run EndsPrinted ends;
+  }

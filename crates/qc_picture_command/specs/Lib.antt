@@ -1,0 +1,4 @@
+pub mod Planned
+pub mod Motion
+pub mod Account
+pub mod Promises
