@@ -15,7 +15,7 @@ returns-in-Ok-clause-account g c = record {
   told = λ asked is.
       subst (λ (a : Asked). IsRunOf a (g.S.Sink.view c.args.shelf.now) (g.S.Sink.view c.serve.new.shelf)
       (g.K.Sink.view c.args.out.now) (g.K.Sink.view c.serve.new.out) c.serve.result)
-      (c.in-Ok.ensures.asked ∙ ap (λ o. unwrap_or o (asked_of (texts c.args.words.now))) is) c.serve.ensures.account;
+      (sym c.in-Ok.ensures.asked ∙ ap (λ o. unwrap_or o (asked_of (texts c.args.words.now))) is) c.serve.ensures.account;
   unnamed = λ other none.
       let same = sym c.in-Ok.is ∙ c.request_of.ensures.no_command other none in
       let is : c.in-Ok.request ≡ request.Usage = cc in
@@ -45,7 +45,7 @@ returns-in-Err-clause-account g c = record {
   asked = asked_by (texts c.args.words.now);
   asks = refl;
   serves = inr (record { untouched = refl; reports = c.report_stop.ensures });
-  told = λ asked is. absurd (rw (is, c.in-Err.is) at c.request_of.ensures.about);
+  told = λ asked is. absurd (cc (rw (is, c.in-Err.is) at c.request_of.ensures.about));
   unnamed = λ other none. absurd (cc (sym c.in-Err.is ∙ c.request_of.ensures.no_command other none));
 }
 
