@@ -46,9 +46,10 @@ use Rattle.qc_watch_command.specs.Promises.{WatchPromises}
 use Rattle.qc_watch_command.proofs.WatchLemmas.{watch_promises}
 use Rattle.qc_words.proofs.LimitLemmas.{asked_kept}
 use Rattle.qc_words.proofs.PlainWords.{canonical_asked}
-use Rattle.qc_words.specs.Asked.{Asked, KeepsLimits, are_different, check, dispatch, is_own, make, picture, plan, report, sheet, show, tasks, usage, watch}
+use Rattle.qc_words.specs.Asked.{Asked, KeepsLimits, are_different, check, dispatch, is_own, make, picture, plan, report, sheet, show, tasks, usage, watch, help, version}
 use Rattle.qc_words.specs.Words.{Asks}
-use Rattle.qc_top.specs.Account.{IsRun, IsRunOf, IsStopped, IsUsage, check_names, dispatch_names, show_names, tasks_names, watch_names}
+use Rattle.qc_top.specs.Account.{IsRun, IsRunOf, IsStopped, IsUsage, check_names, dispatch_names, show_names, tasks_names, watch_names, IsSaid}
+use Rattle.qc_top.specs.About.{help_text, version_text}
 use Rattle.qc_top.specs.Promises.{IsPlan, Promises}
 
 -- ---- want of memory for the words, as an answer of each command
@@ -258,17 +259,6 @@ module _ (words : List (List ℕ)) (before after pb pa : View) (ended : Status) 
     | inr cut ↦ inr (cut.status, cut.rose)
   ]
 
-  usage_memory : IsUsage before after pb pa ended ⊎ IsStopped stop.OutOfMemory before after pb pa ended → ended ≡ status.OutOfMemory
-      → Prints (codes "OutOfMemory\n") pb.written pa.written
-  usage_memory (inl is) e = elim is.reports.ending [
-    | inl told ↦ absurd (cc (told.status, e))
-    | inr cut ↦ absurd (cc (cut.status, e))
-  ]
-  usage_memory (inr h) e = elim h.reports.ending [
-    | inl told ↦ told.printed
-    | inr cut ↦ absurd (cc (cut.status, e))
-  ]
-
   -- what holds whatever is asked for
   record Whatever (asked : Asked) : Type 0 where
     stays : ¬ IsPlan asked → after.files ≡ before.files
@@ -279,6 +269,32 @@ module _ (words : List (List ℕ)) (before after pb pa : View) (ended : Status) 
       → ReadPromises account part before after pb pa ended → Whatever asked
   by_reads asked reads =
       record { stays = λ never. reads.files_stay; usage_words = λ e. absurd (reads.no_usage e); memory = reads.out_of_memory }
+
+  -- something was said, or memory was wanting for the words
+  by_said : (asked : Asked) (text : List ℕ) (wanted : Status) → wanted ≢ status.OutOfMemory → (wanted ≡ status.Usage → Asks words usage)
+      → IsSaid text wanted before after pb pa ended ⊎ IsStopped stop.OutOfMemory before after pb pa ended → Whatever asked
+  by_said asked text wanted other refused (inl is) = record {
+    stays = λ never. ap (λ (v : View). v.files) is.untouched;
+    usage_words = λ e. elim is.reports.ending [
+      | inl told ↦ refused (sym told.status ∙ e)
+      | inr cut ↦ absurd (cc (cut.status, e))
+    ];
+    memory = λ e. elim is.reports.ending [
+      | inl told ↦ absurd (other (sym told.status ∙ e))
+      | inr cut ↦ absurd (cc (cut.status, e))
+    ];
+  }
+  by_said asked text wanted other refused (inr h) = record {
+    stays = λ never. ap (λ (v : View). v.files) h.untouched;
+    usage_words = λ e. elim h.reports.ending [
+      | inl told ↦ absurd (cc (told.status, e))
+      | inr cut ↦ absurd (cc (cut.status, e))
+    ];
+    memory = λ e. elim h.reports.ending [
+      | inl told ↦ told.printed
+      | inr cut ↦ absurd (cc (cut.status, e))
+    ];
+  }
 
   whatever : (asked : Asked) → Asks words asked → Whatever asked
   whatever (plan s w p t n o) asks =
@@ -298,14 +314,12 @@ module _ (words : List (List ℕ)) (before after pb pa : View) (ended : Status) 
     usage_words = λ e. absurd ((makes n k c asks).no_usage e);
     memory = (makes n k c asks).out_of_memory;
   }
-  whatever usage asks = record {
-    stays = λ never. elim (refuses asks) [
-      | inl is ↦ ap (λ (v : View). v.files) is.untouched
-      | inr h ↦ ap (λ (v : View). v.files) h.untouched
-    ];
-    usage_words = λ e. asks;
-    memory = usage_memory (refuses asks);
-  }
+  whatever (help of) asks =
+      by_said (help of) (help_text of) status.Done (λ f. cc f) (λ f. absurd (cc f)) (serves (help of) asks)
+  whatever version asks =
+      by_said version version_text status.Done (λ f. cc f) (λ f. absurd (cc f)) (serves version asks)
+  whatever usage asks =
+      by_said usage (stop_text (stop.Refused refusal.Usage)) status.Usage (λ f. cc f) (λ _. asks) (refuses asks)
 
   pub promises : Promises words before after pb pa ended
   promises = record {
@@ -326,6 +340,8 @@ module _ (words : List (List ℕ)) (before after pb pa : View) (ended : Status) 
     plain_words = canonical_asked words;
     usage_words = (whatever run.asked run.asks).usage_words;
     refuses = refuses;
-    no_command = λ none. stop_ends (stop.Refused refusal.Usage) (run.unnamed none);
+    no_command = λ other none. stop_ends (stop.Refused refusal.Usage) (run.unnamed other none);
+    helps = λ of is. run.told (help of) is;
+    tells_version = λ is. run.told version is;
     out_of_memory = (whatever run.asked run.asks).memory;
   }

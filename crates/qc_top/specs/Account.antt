@@ -10,6 +10,7 @@ use Rattle.qc_run.specs.declared.refusal.Refusal.TheVariants as refusal
 use Rattle.qc_run.specs.declared.refusal.Stop.{Stop}
 use Rattle.qc_run.specs.declared.refusal.Stop.TheVariants as stop
 use Rattle.qc_run.specs.declared.status.Status.{Status}
+use Rattle.qc_run.specs.declared.status.Status.TheVariants as status
 use Rattle.qc_run.specs.Account.{IsReaderRun}
 use Rattle.qc_run.specs.Inputs.{Names, no_names}
 use Rattle.qc_run.specs.Reports.{Prints, PrintsPart, Reports}
@@ -17,9 +18,10 @@ use Rattle.qc_run.specs.Texts.{stop_status, stop_text}
 use Rattle.qc_sheet_command.specs.Account.{sheet_reader}
 use Rattle.qc_trial.specs.Account.{IsTrialRun}
 use Rattle.qc_watch_command.specs.Account.{watch_reader}
-use Rattle.qc_words.specs.Asked.{Asked, plan, check, tasks, show, make, sheet, watch, dispatch, picture, report, usage}
+use Rattle.qc_words.specs.Asked.{Asked, plan, check, tasks, show, make, sheet, watch, dispatch, picture, report, usage, help, version}
 use Rattle.qc_words.specs.Commands.{named}
-use Rattle.qc_words.specs.Words.{Asks}
+use Rattle.qc_words.specs.Words.{Asks, about}
+use Rattle.qc_top.specs.About.{help_text, version_text}
 
 -- the files that a check, the tasks, a plan that is shown, drawn, reported or put on a sheet, a log that is judged, and
 -- a plan that is followed by one read
@@ -39,10 +41,15 @@ abbrev pub dispatch_names : (ship stow name log : List ℕ) → Names
 dispatch_names ship stow name log =
     record no_names { ship = Some ship; stow = Some stow; plan = Some name; log = Some log }
 
--- the run stops before any command is served: nothing is read or written, and this is reported
-pub record IsStopped (why : Stop) (before after out_before out_after : View) (ended : Status) : Type 0 where
+-- no command is served: nothing is read or written, and this is reported
+pub record IsSaid (text : List ℕ) (status_of : Status) (before after out_before out_after : View) (ended : Status)
+    : Type 0 where
   pub untouched : after ≡ before
-  pub reports : Reports (Prints (stop_text why)) (PrintsPart (stop_text why)) (stop_status why) out_before out_after ended
+  pub reports : Reports (Prints text) (PrintsPart text) status_of out_before out_after ended
+
+-- the run stops before any command is served
+abbrev pub IsStopped : Stop → (before after out_before out_after : View) → Status → Type 0
+IsStopped why = IsSaid (stop_text why) (stop_status why)
 
 -- the words are refused
 abbrev pub IsUsage : (before after out_before out_after : View) → Status → Type 0
@@ -66,14 +73,17 @@ IsRunOf (watch s l) = IsReaderRun watch_reader (watch_names s l)
 IsRunOf (dispatch s w p l) = IsDispatchRun (dispatch_names s w p l)
 IsRunOf (picture s w p) = IsReaderRun picture_reader (show_names s w p)
 IsRunOf (report s w p) = IsReaderRun report_reader (show_names s w p)
+IsRunOf (help of) = IsSaid (help_text of) status.Done
+IsRunOf version = IsSaid version_text status.Done
 IsRunOf usage = IsUsage
 
--- a run: the words ask for something, which is served, or memory is wanting for the words; where no command begins
--- them no memory is taken
+-- a run: the words ask for something, which is served, or memory is wanting for the words; where they ask about the
+-- program, and where no command begins them, no memory is taken
 pub record IsRun (words : List (List ℕ)) (before after out_before out_after : View) (ended : Status) : Type 0 where
   pub asked : Asked
   pub asks : Asks words asked
   pub serves :
       IsRunOf asked before after out_before out_after ended
       ⊎ IsStopped stop.OutOfMemory before after out_before out_after ended
-  pub unnamed : named words ≡ None → IsUsage before after out_before out_after ended
+  pub told : (asked : Asked) → about words ≡ Some asked → IsRunOf asked before after out_before out_after ended
+  pub unnamed : about words ≡ None → named words ≡ None → IsUsage before after out_before out_after ended

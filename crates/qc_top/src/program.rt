@@ -8,13 +8,14 @@ ghost use Rattle.qc_words.specs.Words.{texts};
 ghost use Rattle.qc_top.specs.Account.{IsRun, IsRunOf};
 ghost use Rattle.qc_top.specs.Promises.{Promises};
 
+use crate::about::{help_text, version_text};
 use qc_dispatch_command::dispatch;
 use qc_io::{Shelf, Sink};
 use qc_judge_commands::{check_plan, check_tree, list_tasks, show};
 use qc_num::OutOfMemory;
 use qc_picture_command::{draw_picture, report_figures};
 use qc_plan_command::{PlanAsked, plan};
-use qc_run::{Inputs, Refusal, Status, Stop, report_stop};
+use qc_run::{Inputs, Refusal, Status, Stop, report_stop, report_text};
 use qc_sheet_command::print_sheet;
 use qc_trial::make;
 use qc_watch_command::watch;
@@ -165,6 +166,8 @@ fn serve<S: Shelf, K: Sink>(
         Request::Report { ship, stow, plan } => {
             report_figures(alloc, &inputs_of(ship, stow, Some(plan), None), shelf, out)
         }
+        Request::Help(of) => report_text(Status::Done, help_text(of), out),
+        Request::Version => report_text(Status::Done, version_text(), out),
         Request::Usage => report_stop(Stop::Refused(Refusal::Usage), out),
     }
 }

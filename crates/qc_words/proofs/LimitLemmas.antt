@@ -1,5 +1,5 @@
 -- What is asked for keeps the limits, whatever the words are.
-use Rattle.std.proofs.Common.{ℕ, ◌≤◌, ◌&&◌, IfSome, lit≤, nat_le, cond, List, Option, None, Some, codes, arith, option_and_then}
+use Rattle.std.proofs.Common.{ℕ, ◌≤◌, ◌&&◌, ◌||◌, IfSome, bytes_eq, lit≤, nat_le, cond, List, [], ◌∷◌, Option, None, Some, codes, arith, option_and_then, option_map, unwrap_or}
 use Rattle.std.proofs.lemmas.Bool.{cond_both}
 use Rattle.std.proofs.lemmas.Bool.Decides.{nat_tests}
 use Rattle.std.specs.Option.{option_map_or}
@@ -9,9 +9,9 @@ use Rattle.qc_model.specs.Numbers.{most_branchings, most_cranes, most_hatches}
 use Rattle.qc_num.specs.Digits.{number_in}
 use Rattle.qc_words.specs.declared.commands.CommandName.{CommandName}
 use Rattle.qc_words.specs.declared.commands.CommandName.TheVariants as name
-use Rattle.qc_words.specs.Asked.{KeepsLimits, are_different, is_own, most_number, plan, usage}
-use Rattle.qc_words.specs.Commands.{command_of, named, read_by}
-use Rattle.qc_words.specs.Words.{asked_by, asked_in, make_of, nodes_in, number_between, plan_of, value_of}
+use Rattle.qc_words.specs.Asked.{Asked, KeepsLimits, are_different, help, is_own, most_number, plan, usage, version}
+use Rattle.qc_words.specs.Commands.{command_name, command_of, named, read_by}
+use Rattle.qc_words.specs.Words.{about, asked_by, asked_in, asked_of, command_about, is_help, make_of, nodes_in, number_between, plan_of, value_of, word_about}
 
 abbrev IsBetween : ℕ → ℕ → Option ℕ → Type 0
 IsBetween least most number = IfSome number (λ n. (least ≤ n) × (n ≤ most))
@@ -60,11 +60,34 @@ pub limits_kept : (n : CommandName) (rows : Option (List Row)) → KeepsLimits (
 limits_kept n None = tt
 limits_kept n (Some rows) = command_kept n rows
 
--- and so does what words ask for
-pub asked_kept : (words : List Text) → KeepsLimits (asked_by words)
-asked_kept words = by (named words)
+-- what asks about the program has none
+help_kept : (name : Option CommandName) → IfSome (option_map (λ of. help (Some of)) name) KeepsLimits
+help_kept None = tt
+help_kept (Some of) = tt
+
+about_kept : (words : List Text) → IfSome (about words) KeepsLimits
+about_kept [] = tt
+about_kept (word ∷ []) =
+    cond_both (is_help word || bytes_eq word (codes "help")) (Some (help None)) _ (λ o. IfSome o KeepsLimits) (λ _. tt)
+    (λ _. cond_both (bytes_eq word (codes "--version") || bytes_eq word (codes "-V")) (Some version) None (λ o. IfSome o KeepsLimits)
+    (λ _. tt) (λ _. tt))
+about_kept (name ∷ word ∷ []) =
+    cond_both (is_help word) (option_map (λ of. help (Some of)) (command_name name)) None (λ o. IfSome o KeepsLimits)
+    (λ _. help_kept (command_name name)) (λ _. tt)
+about_kept (a ∷ b ∷ c ∷ words) = tt
+
+command_asked_kept : (words : List Text) → KeepsLimits (asked_of words)
+command_asked_kept words = by (named words)
   where
     by : (n : Option CommandName)
         → KeepsLimits (option_map_or (λ name. option_map_or (asked_in name) (read_by (command_of name) words) usage) n usage)
     by None = tt
     by (Some n) = limits_kept n (read_by (command_of n) words)
+
+-- and so does what words ask for
+pub asked_kept : (words : List Text) → KeepsLimits (asked_by words)
+asked_kept words = by (about words) (about_kept words)
+  where
+    by : (o : Option Asked) → IfSome o KeepsLimits → KeepsLimits (unwrap_or o (asked_of words))
+    by None is = command_asked_kept words
+    by (Some asked) is = is

@@ -1,5 +1,5 @@
 -- Words in their plain form ask for what they say.
-use Rattle.std.proofs.Common.{◌≡◌, ◌∙◌, inl, inr, ℕ, ◌<◌, ◌≤◌, ◌^◌, lit<, lit≤, ap, ap₂, subst, sym, refl, cond, true, not, bytes_eq, nat_le, ◌&&◌, ◌||◌, ◌==◌, List, [], ◌∷◌, Option, None, Some, IfSome, codes, arith, decimal, option_and_then}
+use Rattle.std.proofs.Common.{◌≡◌, ◌∙◌, inl, inr, ℕ, ◌<◌, ◌≤◌, ◌^◌, lit<, lit≤, ap, ap₂, subst, sym, refl, cond, true, not, bytes_eq, nat_le, ◌&&◌, ◌||◌, ◌==◌, List, [], ◌∷◌, Option, None, Some, IfSome, codes, arith, decimal, option_and_then, unwrap_or}
 use Rattle.std.proofs.lemmas.Bool.{cases_Bool}
 use Rattle.std.proofs.lemmas.Bool.Decides.{nat_tests}
 use Rattle.std.proofs.lemmas.Slice.Eq.{bytes_eq-Decides}
@@ -17,9 +17,9 @@ use Rattle.qc_model.specs.Numbers.{most_branchings, most_cranes, most_hatches}
 use Rattle.qc_num.proofs.DigitLemmas.{decimal_digits, fits, number_in-decimal}
 use Rattle.qc_words.specs.declared.commands.CommandName.{CommandName}
 use Rattle.qc_words.specs.declared.commands.CommandName.TheVariants as name
-use Rattle.qc_words.specs.Asked.{Asked, plan, check, tasks, show, make, sheet, watch, dispatch, picture, report, most_number, usage}
+use Rattle.qc_words.specs.Asked.{Asked, plan, check, tasks, show, make, sheet, watch, dispatch, picture, report, most_number, usage, help, version}
 use Rattle.qc_words.specs.Commands.{command_of}
-use Rattle.qc_words.specs.Words.{Canonical, asked_by, asked_in, is_check_word, is_file_word, make_of, number_between, own_words, plan_name, plan_of, usual_branchings}
+use Rattle.qc_words.specs.Words.{Canonical, asked_by, asked_in, asked_of, is_check_word, is_file_word, make_of, number_between, own_words, plan_name, plan_of, usual_branchings}
 use Rattle.qc_words.proofs.WordWalk.{Goes, IsOperand, at, goes_nowhere, goes_on, goes_past, lone_dash, other_first, read_along}
 
 file_operand : (word : Text) → is_file_word word ≡ true → IsOperand word
@@ -353,4 +353,6 @@ canonical_asked words (report s w p) h =
     let fw = both (is_file_word w) _ fs.1 in
     let fp = both (is_file_word p) _ fw.1 in
     ap asked_by h.0.1 ∙ report_asked s w p (file_operand s fs.0) (file_operand w fw.0) (file_operand p fp.0)
+canonical_asked words (help of) h = ap (λ o. unwrap_or o (asked_of words)) h.0
+canonical_asked words version h = ap (λ o. unwrap_or o (asked_of words)) h.0
 canonical_asked words usage h = absurd h.0

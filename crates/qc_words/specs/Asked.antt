@@ -4,6 +4,7 @@ use Rattle.std.specs.Str.{bytes_eq}
 use Rattle.qc_model.specs.Numbers.{most_branchings, most_cranes, most_hatches}
 use Rattle.qc_words.specs.declared.asked.Request.{Request}
 use Rattle.qc_words.specs.declared.asked.Request.TheVariants as request
+use Rattle.qc_words.specs.declared.commands.CommandName.{CommandName}
 
 -- the greatest number that a ship and a list are made from
 abbrev pub most_number : ℕ
@@ -31,6 +32,10 @@ pub data Asked : Type 0 where
   picture : (ship stow plan : List ℕ) → Asked
   -- the figures of each crane of a plan
   report : (ship stow plan : List ℕ) → Asked
+  -- what the program does and its commands, or one command
+  help : Option CommandName → Asked
+  -- which program this is
+  version : Asked
   -- words that are no command
   usage : Asked
 
@@ -48,6 +53,8 @@ asked_for (request.Watch ship log) = watch ship.now log.now
 asked_for (request.Dispatch ship stow plan_name log) = dispatch ship.now stow.now plan_name.now log.now
 asked_for (request.Picture ship stow plan_name) = picture ship.now stow.now plan_name.now
 asked_for (request.Report ship stow plan_name) = report ship.now stow.now plan_name.now
+asked_for (request.Help of) = help of
+asked_for request.Version = version
 asked_for request.Usage = usage
 
 -- no two of a plan's four names are equal

@@ -1,5 +1,5 @@
 -- public: the words of a command line, and what they ask for.
-use Rattle.std.specs.Prelude.{◌≡◌, ◌⊎◌, ℕ, Bool, false, not, ◌&&◌, ◌||◌, ◌==◌, nat_le, if◌then◌else◌, IsTrue, IfSome, List, [], ◌∷◌, map, Option, None, Some, option_and_then, unwrap_or, codes, decimal, string_bytes, String}
+use Rattle.std.specs.Prelude.{◌≡◌, ◌⊎◌, ℕ, Bool, false, not, ◌&&◌, ◌||◌, ◌==◌, nat_le, if◌then◌else◌, IsTrue, IfSome, List, [], ◌∷◌, map, Option, None, Some, option_and_then, option_map, unwrap_or, codes, decimal, string_bytes, String}
 use Rattle.std.specs.declared.alloc.Global.{Global}
 use Rattle.std.specs.List.{list_all}
 use Rattle.std.specs.Option.{option_map_or}
@@ -7,14 +7,36 @@ use Rattle.std.specs.Str.{bytes_eq}
 use Rattle.clap.specs.Words.{Row, first_of}
 use Rattle.qc_model.specs.Numbers.{most_branchings, most_cranes, most_hatches}
 use Rattle.qc_num.specs.Digits.{number_in}
-use Rattle.qc_words.specs.Asked.{Asked, plan, check, tasks, show, make, sheet, watch, dispatch, picture, report, usage, KeepsLimits, are_different, is_own, most_number}
-use Rattle.qc_words.specs.Commands.{command_of, named, read_by}
+use Rattle.qc_words.specs.Asked.{Asked, plan, check, tasks, show, make, sheet, watch, dispatch, picture, report, usage, KeepsLimits, are_different, is_own, most_number, help, version}
+use Rattle.qc_words.specs.Commands.{command_of, named, read_by, command_name}
 use Rattle.qc_words.specs.declared.commands.CommandName.{CommandName}
 use Rattle.qc_words.specs.declared.commands.CommandName.TheVariants as name
 
 -- the bytes of each word
 abbrev pub texts : List (String Global) → List (List ℕ)
 texts words = map string_bytes words
+
+-- ---- words about the program
+
+-- the word asks for help, alone or behind a command's name
+abbrev pub is_help : List ℕ → Bool
+is_help word = bytes_eq word (codes "--help") || bytes_eq word (codes "-h")
+
+-- what one word alone asks for: help, or which program this is
+abbrev pub word_about : List ℕ → Option Asked
+word_about word =
+    if is_help word || bytes_eq word (codes "help") then Some (help None)
+    else (if bytes_eq word (codes "--version") || bytes_eq word (codes "-V") then Some version else None)
+
+-- what a word behind a command's name asks for: help on that command
+abbrev pub command_about : (name word : List ℕ) → Option Asked
+command_about name word = if is_help word then option_map (λ of. help (Some of)) (command_name name) else None
+
+-- what words ask for that ask about the program
+abbrev pub about : List (List ℕ) → Option Asked
+about (word ∷ []) = word_about word
+about (name ∷ word ∷ []) = command_about name word
+about _ = None
 
 -- ---- words in their plain form
 
@@ -66,6 +88,8 @@ Spell words (picture s w p) =
     AreFileWords (s ∷ w ∷ p ∷ []) × (words ≡ codes "picture" ∷ s ∷ w ∷ p ∷ [])
 Spell words (report s w p) =
     AreFileWords (s ∷ w ∷ p ∷ []) × (words ≡ codes "report" ∷ s ∷ w ∷ p ∷ [])
+Spell words (help of) = about words ≡ Some (help of)
+Spell words version = about words ≡ Some version
 Spell words usage = ⊥
 
 -- the words say this in the plain form, and it keeps the limits
@@ -133,12 +157,16 @@ asked_in name.Report rows =
     report (value_of (codes "ship") rows) (value_of (codes "stow") rows)
     (value_of (codes "plan") rows)
 
--- what the words ask for: Usage where no command begins them, where `clap` refuses them, where a
+-- what words ask of a command: Usage where no command begins them, where `clap` refuses them, where a
 -- number isn't one in plain decimal and in range, and where a plan's names aren't different
-abbrev pub asked_by : List (List ℕ) → Asked
-asked_by words = option_map_or
+abbrev pub asked_of : List (List ℕ) → Asked
+asked_of words = option_map_or
     (λ name. option_map_or (asked_in name) (read_by (command_of name) words) usage)
     (named words) usage
+
+-- what the words ask for, about the program or of a command
+abbrev pub asked_by : List (List ℕ) → Asked
+asked_by words = unwrap_or (about words) (asked_of words)
 
 -- the words ask for this
 abbrev pub Asks : List (List ℕ) → Asked → Type 0

@@ -1,5 +1,7 @@
 //! What the words ask for.
 
+use crate::commands::CommandName;
+
 /// The greatest number that a ship and a list are made from.
 pub const MOST_NUMBER: u32 = 2_147_483_647;
 
@@ -70,6 +72,10 @@ pub enum Request<'a> {
         stow: &'a str,
         plan: &'a str,
     },
+    /// What the program does and its commands, or one command.
+    Help(Option<CommandName>),
+    /// Which program this is.
+    Version,
     /// Words that are no command.
     Usage,
 }

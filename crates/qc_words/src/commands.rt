@@ -24,7 +24,7 @@ pub enum CommandName {
 }
 
 /// The command with this name.
-fn command_name(word: &str) -> Option<CommandName>
+pub(crate) fn command_name(word: &str) -> Option<CommandName>
     ensures { result ≡ command_name word.now }
 {
     match word {

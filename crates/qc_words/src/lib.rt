@@ -1,9 +1,11 @@
 //! The words of a command line: what they ask for.
 #![tactic(auto)]
 
+mod about;
 mod asked;
 mod commands;
 mod words;
 
 pub use asked::{MOST_NUMBER, Request};
+pub use commands::CommandName;
 pub use words::{USUAL_BRANCHINGS, request_of};

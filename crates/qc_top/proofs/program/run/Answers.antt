@@ -1,8 +1,8 @@
-use Rattle.std.proofs.Common.{◌≡◌, ◌∙◌, inl, inr, refl, subst, sym}
+use Rattle.std.proofs.Common.{◌≡◌, ◌∙◌, ap, inl, inr, refl, subst, sym, unwrap_or}
 use Rattle.qc_words.specs.declared.asked.Request.{Request}
 use Rattle.qc_words.specs.declared.asked.Request.TheVariants as request
-use Rattle.qc_words.specs.Asked.{asked_for}
-use Rattle.qc_words.specs.Words.{asked_by, texts}
+use Rattle.qc_words.specs.Asked.{Asked, asked_for}
+use Rattle.qc_words.specs.Words.{asked_by, asked_of, texts}
 use Rattle.qc_top.specs.Account.{IsRunOf}
 use Rattle.qc_top.proofs.RunLemmas.{out_kept, promises}
 use Rattle.qc_top.proofs.program.run.Goals as goal
@@ -12,8 +12,12 @@ returns-in-Ok-clause-account g c = record {
   asked = asked_for c.in-Ok.request;
   asks = c.in-Ok.ensures.asked;
   serves = inl c.serve.ensures.account;
-  unnamed = λ none.
-      let same = sym c.in-Ok.is ∙ c.request_of.ensures.no_command none in
+  told = λ asked is.
+      subst (λ (a : Asked). IsRunOf a (g.S.Sink.view c.args.shelf.now) (g.S.Sink.view c.serve.new.shelf)
+      (g.K.Sink.view c.args.out.now) (g.K.Sink.view c.serve.new.out) c.serve.result)
+      (sym c.in-Ok.ensures.asked ∙ ap (λ o. unwrap_or o (asked_of (texts c.args.words.now))) is) c.serve.ensures.account;
+  unnamed = λ other none.
+      let same = sym c.in-Ok.is ∙ c.request_of.ensures.no_command other none in
       let is : c.in-Ok.request ≡ request.Usage = cc in
       subst (λ (r : Request). IsRunOf (asked_for r) (g.S.Sink.view c.args.shelf.now) (g.S.Sink.view c.serve.new.shelf)
       (g.K.Sink.view c.args.out.now) (g.K.Sink.view c.serve.new.out) c.serve.result) is c.serve.ensures.account;
@@ -41,7 +45,8 @@ returns-in-Err-clause-account g c = record {
   asked = asked_by (texts c.args.words.now);
   asks = refl;
   serves = inr (record { untouched = refl; reports = c.report_stop.ensures });
-  unnamed = λ none. absurd (cc (sym c.in-Err.is ∙ c.request_of.ensures.no_command none));
+  told = λ asked is. absurd (cc (rw (is, c.in-Err.is) at c.request_of.ensures.about));
+  unnamed = λ other none. absurd (cc (sym c.in-Err.is ∙ c.request_of.ensures.no_command other none));
 }
 
 pub returns-in-Err-clause-promises : goal.returns-in-Err-clause-promises

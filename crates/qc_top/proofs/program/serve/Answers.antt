@@ -13,6 +13,12 @@ returns-in-Make-clause-account g c = rw c.in-Make.is (record { untouched = refl;
 pub returns-in-Usage-clause-account : goal.returns-in-Usage-clause-account
 returns-in-Usage-clause-account g c = rw c.in-Usage.is (record { untouched = refl; reports = c.report_stop.ensures })
 
+pub returns-in-Help-clause-account : goal.returns-in-Help-clause-account
+returns-in-Help-clause-account g c = rw c.in-Help.is (record { untouched = refl; reports = rw c.help_text.ensures at c.report_text.ensures })
+
+pub returns-in-Version-clause-account : goal.returns-in-Version-clause-account
+returns-in-Version-clause-account g c = rw c.in-Version.is (record { untouched = refl; reports = rw c.version_text.ensures at c.report_text-in-Version.ensures })
+
 pub returns-in-Tasks-clause-account : goal.returns-in-Tasks-clause-account
 returns-in-Tasks-clause-account g c = rw c.in-Tasks.is (reader_named {reader = tasks_reader} c.inputs_of.ensures c.list_tasks.ensures.account)
 

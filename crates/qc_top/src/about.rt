@@ -1,0 +1,151 @@
+//! What is said to whoever asks about the program.
+ghost use Rattle.std.specs.Prelude.{◌≡◌};
+ghost use Rattle.qc_top.specs.About.{command_help, help_text, version_text};
+
+use qc_words::CommandName;
+
+const HELP: &[u8] = b"qc plans the quay cranes that work one container ship from one rail.
+
+qc plan SHIP STOW PLAN TREE [--nodes N] [--from OWN]
+    writes the plan that ends first of those that go one way, and a tree that shows it
+qc check SHIP STOW PLAN TREE
+    whether a plan holds, and what a tree shows; with - for PLAN the tree alone
+qc tasks SHIP STOW
+    the tasks of a stowage list, with their bays, lengths and order
+qc show SHIP STOW PLAN
+    where the cranes of a plan stand, and a drawing in letters
+qc make NUMBER HATCHES CRANES
+    a ship made from a number, planned and checked in memory
+qc sheet SHIP STOW PLAN
+    for each crane its containers in the order of the work, with their ticks
+qc dispatch SHIP STOW PLAN LOG
+    when each task may start, by a log of what happened
+qc watch SHIP LOG
+    whether two cranes came too near, by a log of their places
+qc picture SHIP STOW PLAN
+    a drawing of a plan in time and place, as an SVG
+qc report SHIP STOW PLAN
+    the figures of each crane of a plan, as a CSV
+
+qc COMMAND --help tells more of one command, qc --version which program this is. With -q as the
+first word nothing is said on standard error.
+Pages: man qc for the commands, man 5 qc for the files, and docs/PLANNERS.md to begin with.
+";
+
+const PLAN: &[u8] = b"qc plan SHIP STOW PLAN TREE [--nodes N] [--from OWN]
+
+Reads a ship file and a stowage list, and writes a plan and a tree that shows how good it is.
+    --nodes N    at most N branchings of the search, 0 to 100000; 20000 where it isn't given
+    --from OWN   a plan to begin with: the answer never ends later
+Ends with 0 Optimal, 10 Infeasible, 11 or 12 Budget with or without a plan, 13 where OWN is
+Broken. Of plans in which cranes go to and fro it says nothing.
+Faults end with 2 to 9, 15 and 17, and are told by their kind and place: man 5 qc.
+";
+
+const CHECK: &[u8] = b"qc check SHIP STOW PLAN TREE
+
+Judges a plan of any origin, and tells by the tree whether one that goes one way can end earlier.
+With - for PLAN it tells the bound of the tree alone. It searches nothing.
+Ends with 0 Optimal or Bound, 10 Infeasible, 13 Broken, 14 Weaker.
+Faults end with 2 to 9, 15 and 17, and are told by their kind and place: man 5 qc.
+";
+
+const TASKS: &[u8] = b"qc tasks SHIP STOW
+
+Prints the tasks with their bays and lengths, which is before which, and which are apart.
+Ends with 0.
+Faults end with 2 to 9, 15 and 17, and are told by their kind and place: man 5 qc.
+";
+
+const SHOW: &[u8] = b"qc show SHIP STOW PLAN
+
+Prints the direction and the end of a plan, where each crane stands, and a drawing in letters.
+Ends with 0, or 13 Broken.
+Faults end with 2 to 9, 15 and 17, and are told by their kind and place: man 5 qc.
+";
+
+const MAKE: &[u8] = b"qc make NUMBER HATCHES CRANES
+
+Makes a ship and a list from a number, plans them with 500 branchings, checks the plan, and
+prints a summary. NUMBER is 0 to 2147483647, HATCHES 1 to 60, CRANES 1 to 8. No file is touched.
+Ends with 0.
+Faults end with 2 to 9, 15 and 17, and are told by their kind and place: man 5 qc.
+";
+
+const SHEET: &[u8] = b"qc sheet SHIP STOW PLAN
+
+Prints for each crane its tasks, and for each task its containers in the order in which they are
+lifted or set down, each with the tick at which its move begins.
+Ends with 0, or 13 Broken.
+Faults end with 2 to 9, 15 and 17, and are told by their kind and place: man 5 qc.
+";
+
+const DISPATCH: &[u8] = b"qc dispatch SHIP STOW PLAN LOG
+
+Follows the order of a plan with the lengths that tasks really take. LOG has lines tick N, when N
+ticks go by, and done TASK; each start is told at the first moment at which the rules allow it.
+Ends with 0, or 13 Broken.
+Faults end with 2 to 9, 15 and 17, and are told by their kind and place: man 5 qc.
+";
+
+const WATCH: &[u8] = b"qc watch SHIP LOG
+
+Reads a log of lines TIME NAME PLACE, and tells whether two cranes came nearer than their margin.
+Ends with 0 Safe, or 18 Breach.
+Faults end with 2 to 9, 15 and 17, and are told by their kind and place: man 5 qc.
+";
+
+const PICTURE: &[u8] = b"qc picture SHIP STOW PLAN
+
+Prints a drawing of a plan that goes one way, as an SVG: ticks downwards, places across, a box for
+each task, a line and a band for each crane. Open it with any browser.
+Ends with 0, or 13 Broken.
+Faults end with 2 to 9, 15 and 17, and are told by their kind and place: man 5 qc.
+";
+
+const REPORT: &[u8] = b"qc report SHIP STOW PLAN
+
+Prints a CSV with a row for each crane of a plan that goes one way: its tasks and moves, its ticks
+until it is ready, of work, of moving, of waiting and idle, its last end, its share of all work.
+Ends with 0, or 13 Broken.
+Faults end with 2 to 9, 15 and 17, and are told by their kind and place: man 5 qc.
+";
+
+const VERSION: &[u8] = b"qc 0.2.0
+proved with rattle-kit-13f logic dac8208d650f15bf
+";
+
+/// What one command does, and how it ends.
+fn command_help(of: CommandName) -> &'static [u8]
+    ensures { result.now ≡ command_help of }
+{
+    match of {
+        CommandName::Plan => PLAN,
+        CommandName::Check => CHECK,
+        CommandName::Tasks => TASKS,
+        CommandName::Show => SHOW,
+        CommandName::Make => MAKE,
+        CommandName::Sheet => SHEET,
+        CommandName::Dispatch => DISPATCH,
+        CommandName::Watch => WATCH,
+        CommandName::Picture => PICTURE,
+        CommandName::Report => REPORT,
+    }
+}
+
+/// What the program does and its commands, or one command.
+pub(crate) fn help_text(of: Option<CommandName>) -> &'static [u8]
+    ensures { result.now ≡ help_text of }
+{
+    match of {
+        None => HELP,
+        Some(of) => command_help(of),
+    }
+}
+
+/// Which program this is, and what it was proved with.
+pub(crate) fn version_text() -> &'static [u8]
+    ensures { result.now ≡ version_text }
+{
+    VERSION
+}
