@@ -1,16 +1,18 @@
 -- Packed tasks are told by where they lie for each crane: those of a crane lie below those of each crane below it, and
 -- their span is the least stretch among which each may lie.
-use Rattle.std.proofs.Common.{◌≡◌, ℕ, ◌+◌, ◌<◌, ◌≤◌, ◌⊎◌, inl, inr, Bool, true, false, List, length, get_or, min, Option, None, Some, MatchOption, ℤ, ◌≤ℤ◌, ◌<ℤ◌, refl, ap, sym, subst, ◌∙◌, arith, int_le, int_lt, below_more}
+use Rattle.std.proofs.Common.{◌≡◌, ℕ, ◌+◌, ◌-◌, ◌*◌, ◌<◌, ◌≤◌, nat_le, ◌⊎◌, inl, inr, Bool, true, false, List, length, get_or, min, Option, None, Some, MatchOption, ℤ, ◌≤ℤ◌, ◌<ℤ◌, refl, ap, sym, subst, ◌∙◌, arith, int_le, below_more}
 use Rattle.std.specs.Int.{int_max, int_min}
 use Rattle.std.specs.Option.{option_map_or}
-use Rattle.std.proofs.lemmas.Bool.{cases_lt, cond_both, false≢true}
+use Rattle.std.proofs.lemmas.Bool.{cases_lt, false≢true, leb-true}
+use Rattle.std.proofs.Math.Nat.{mul-sub}
+use Rattle.std.proofs.lemmas.Nat.{mul-le}
 use Rattle.std.proofs.lemmas.Int.{by_lt_z, clamps, ints}
 use Rattle.qc_model.specs.Bays.{bays_up}
 use Rattle.qc_model.specs.Instance.{InstanceView}
 use Rattle.qc_model.proofs.Bays.{bays}
 use Rattle.qc_model.proofs.NodeLemmas.{T_true, true_T}
 use Rattle.qc_close.specs.Assignments.{place}
-use Rattle.qc_close.specs.Bands.{AreStacked, HasNone, IsBand, IsBandOf, IsFinding, IsFloor, IsFloorOf, IsFoundFrom, IsNearest, IsOne, IsPlace, IsReach, IsStretch, Lies, may, nearer, widened}
+use Rattle.qc_close.specs.Bands.{AreBelow, AreStacked, HasNone, IsBand, IsBandOf, IsFinding, IsFound, IsFloor, IsFloorOf, IsFoundFrom, IsNearest, IsOne, IsPlace, IsReach, IsStretch, Lies, may, widened}
 use Rattle.qc_close.specs.declared.packs.Band.{Band}
 
 -- a number is one of the first n and one more
@@ -167,120 +169,62 @@ module _ (inst : InstanceView) (cranes : List (Option ℕ)) (tasks : List ℕ) w
 -- ---- stretches among which tasks may lie
 
 module _ (inst : InstanceView) (cranes : List (Option ℕ)) where
-  lies_more : (n : ℕ) (low high : ℤ) (j : ℕ) → Lies inst cranes n low high j → Lies inst cranes (n + 1) low high j
-  lies_more n low high j l = record {
-    crane = l.crane;
-    before = omega (arith, l.before);
-    may = l.may;
-    from = l.from;
-    to = l.to;
-  }
+  lower_below : 1 ≤ inst.gap → (j v w : ℕ) → v < w → place inst j w <ℤ place inst j v
+  lower_below gap j v w low =
+      let more : 1 ≤ inst.gap * (w - v) = omega (arith, mul-le 1 1 inst.gap (w - v) gap (omega arith)) in
+      omega (arith, ints, more, mul-sub inst.gap w v)
 
-  -- it is one of the first n cranes, or the one more
-  lies_before : (n : ℕ) (low high : ℤ) (j : ℕ) → Lies inst cranes (n + 1) low high j
-      → Lies inst cranes n low high j
-      ⊎ ((may inst cranes j n ≡ true) × (low ≤ℤ place inst j n) × (place inst j n ≤ℤ high))
-  lies_before n low high j l = elim (cases_lt l.crane n) [
-    | inl less ↦ inl (record { crane = l.crane; before = less; may = l.may; from = l.from; to = l.to })
-    | inr over ↦
-        let e : l.crane ≡ n = omega (arith, l.before) in
-        inr (
-          sym (ap (may inst cranes j) e) ∙ l.may,
-          subst (λ (v : ℕ). low ≤ℤ place inst j v) e l.from,
-          subst (λ (v : ℕ). place inst j v ≤ℤ high) e l.to,
-        )
-  ]
-
-  abbrev pub IsNearestOf : ℕ → ℤ → ℕ → Option ℤ → Type 0
-  IsNearestOf n low j o =
-      MatchOption o ((high : ℤ) → ¬ Lies inst cranes n low high j) (IsNearest inst cranes n low j)
-
-  pub nearest_none : (low : ℤ) (j : ℕ) → (high : ℤ) → ¬ Lies inst cranes 0 low high j
-  nearest_none low j high l = omega (arith, l.before)
-
-  pub nearest_skips : (n : ℕ) (low : ℤ) (j : ℕ) (o : Option ℤ) → IsNearestOf n low j o
-      → (may inst cranes j n ≡ true → place inst j n <ℤ low) → IsNearestOf (n + 1) low j o
-  nearest_skips n low j None before under = λ high l. elim (lies_before n low high j l) [
-    | inl l ↦ before high l
-    | inr here ↦ let less = under here.0 in omega (arith, ints, less, here.1)
-  ]
-  nearest_skips n low j (Some x) before under = record {
-    lies = lies_more n low x j before.lies;
-    least = λ other l. elim (lies_before n low other j l) [
-      | inl l ↦ before.least other l
-      | inr here ↦ let less = under here.0 in absurd (omega (arith, ints, less, here.1))
-    ];
-    near = before.near;
-  }
-
-  pub nearest_takes : (n : ℕ) (low : ℤ) (j : ℕ) (o : Option ℤ) (x : ℤ) → IsNearestOf n low j o → may inst cranes j n ≡ true
-      → place inst j n ≡ x → IsPlace x → IsNearestOf (n + 1) low j (nearer o low x)
-  nearest_takes n low j o x before t at near =
-      cond_both (int_lt x low) o (Some (option_map_or (λ y. int_min y x) o x)) (IsNearestOf (n + 1) low j)
-      (λ less.
-      let under : x <ℤ low = record { lt = true_T less } in
-      nearest_skips n low j o before (λ _. omega (arith, ints, at, under)))
-      (λ fails.
-      let above : low ≤ℤ x = by_lt_z x low (λ l. absurd (false≢true (sym fails ∙ T_true l.lt))) (λ h. h) in
-      takes o before above)
-    where
-      here : low ≤ℤ x → Lies inst cranes (n + 1) low x j
-      here above = record {
-        crane = n;
-        before = omega arith;
-        may = t;
-        from = omega (arith, ints, at);
-        to = omega (arith, ints, at);
-      }
-
-      takes : (o : Option ℤ) → IsNearestOf n low j o → low ≤ℤ x
-          → IsNearest inst cranes (n + 1) low j (option_map_or (λ y. int_min y x) o x)
-      takes None before above = record {
-        lies = here above;
-        least = λ other l. elim (lies_before n low other j l) [
-          | inl l ↦ absurd (before other l)
-          | inr now ↦ omega (arith, ints, at, now.2)
+  -- the first crane from above whose place isn't below
+  pub nearest_hit : 1 ≤ inst.gap → (low : ℤ) (j c : ℕ) (x : ℤ) → c < length inst.cranes → AreBelow inst cranes j (c + 1) low
+      → may inst cranes j c ≡ true → x ≡ place inst j c → low ≤ℤ x → IsPlace x → IsNearest inst cranes low j x
+  nearest_hit gap low j c x few under t at above near = record {
+    lies = record {
+      crane = c;
+      before = few;
+      may = t;
+      from = omega (arith, ints, at, above);
+      to = omega (arith, ints, at);
+    };
+    least = λ other l.
+        let from = l.from in
+        let to = l.to in
+        elim (cases_lt c l.crane) [
+          | inl higher ↦
+              let less = under l.crane (omega arith) l.before l.may in
+              absurd (omega (arith, ints, less, from))
+          | inr not_higher ↦ elim (cases_lt l.crane c) [
+            | inl lower ↦ let more = lower_below gap j l.crane c lower in omega (arith, ints, at, more, to)
+            | inr not_lower ↦
+                let e : l.crane ≡ c = omega arith in
+                let same = ap (place inst j) e in
+                omega (arith, ints, at, same, to)
+          ]
         ];
-        near = near;
-      }
-      takes (Some y) before above = by_lt_z y x
-          (λ less.
-          let e : y ≡ int_min y x = omega (arith, ints, clamps) in
-          subst (IsNearest inst cranes (n + 1) low j) e (record {
-            lies = lies_more n low y j before.lies;
-            least = λ other l. elim (lies_before n low other j l) [
-              | inl l ↦ before.least other l
-              | inr now ↦ omega (arith, ints, at, now.2, less)
-            ];
-            near = before.near;
-          }))
-          (λ over.
-          let e : x ≡ int_min y x = omega (arith, ints, clamps) in
-          subst (IsNearest inst cranes (n + 1) low j) e (record {
-            lies = here above;
-            least = λ other l. elim (lies_before n low other j l) [
-              | inl l ↦ let least = before.least other l in omega (arith, ints, least, over)
-              | inr now ↦ omega (arith, ints, at, now.2)
-            ];
-            near = near;
-          }))
+    near = near;
+  }
 
-  wider : (n : ℕ) (low high more : ℤ) (j : ℕ) → high ≤ℤ more → Lies inst cranes n low high j
-      → Lies inst cranes n low more j
-  wider n low high more j up l =
+  -- a crane that may not do it, or has it below
+  pub next_below : (low : ℤ) (j n c : ℕ) → n ≡ c + 1 → AreBelow inst cranes j n low
+      → (may inst cranes j c ≡ true → place inst j c <ℤ low) → AreBelow inst cranes j c low
+  next_below low j n c e under here v low_v few t = elim (cases_lt c v) [
+    | inl higher ↦ under v (omega (arith, e, higher)) few t
+    | inr not_higher ↦
+        let same : v ≡ c = omega (arith, low_v, not_higher) in
+        subst (λ (u : ℕ). place inst j u <ℤ low) (sym same) (here (sym (ap (may inst cranes j) same) ∙ t))
+  ]
+
+  pub none_lies : (low : ℤ) (j : ℕ) → AreBelow inst cranes j 0 low → (high : ℤ) → ¬ Lies inst cranes low high j
+  none_lies low j under high l =
+      let less = under l.crane (omega arith) l.before l.may in
+      let from = l.from in
+      omega (arith, ints, less, from)
+
+  wider : (low high more : ℤ) (j : ℕ) → high ≤ℤ more → Lies inst cranes low high j → Lies inst cranes low more j
+  wider low high more j up l =
       let to = l.to in
       record { crane = l.crane; before = l.before; may = l.may; from = l.from; to = omega (arith, ints, up, to) }
 
-  deeper : (n : ℕ) (low less high : ℤ) (j : ℕ) → less ≤ℤ low → Lies inst cranes n low high j
-      → Lies inst cranes n less high j
-  deeper n low less high j down l =
-      let from = l.from in
-      record { crane = l.crane; before = l.before; may = l.may; from = omega (arith, ints, down, from); to = l.to }
-
   module _ (tasks : List ℕ) where
-    abbrev all : ℕ
-    all = length inst.cranes
-
     pub reach_none : (low : ℤ) → IsPlace low → IsReach inst cranes tasks 0 low low
     reach_none low near = record {
       lie = λ i h. absurd (omega (arith, h));
@@ -290,12 +234,12 @@ module _ (inst : InstanceView) (cranes : List (Option ℕ)) where
     }
 
     pub reach_more : (n : ℕ) (low high x : ℤ) → IsReach inst cranes tasks n low high
-        → IsNearest inst cranes all low (get_or tasks n 0) x
+        → IsNearest inst cranes low (get_or tasks n 0) x
         → IsReach inst cranes tasks (n + 1) low (int_max high x)
     reach_more n low high x before one = record {
-      lie = before_more (λ i. Lies inst cranes all low (int_max high x) (get_or tasks i 0)) n
-          (λ i h. wider all low high (int_max high x) (get_or tasks i 0) (omega (arith, ints, clamps)) (before.lie i h))
-          (wider all low x (int_max high x) (get_or tasks n 0) (omega (arith, ints, clamps)) one.lies);
+      lie = before_more (λ i. Lies inst cranes low (int_max high x) (get_or tasks i 0)) n
+          (λ i h. wider low high (int_max high x) (get_or tasks i 0) (omega (arith, ints, clamps)) (before.lie i h))
+          (wider low x (int_max high x) (get_or tasks n 0) (omega (arith, ints, clamps)) one.lies);
       least = λ other h lie.
           let first = before.least other h (λ i low. lie i (omega arith)) in
           let second = one.least other (lie n (omega arith)) in
@@ -397,32 +341,43 @@ module _ (inst : InstanceView) (cranes : List (Option ℕ)) (tasks : List ℕ) (
   not_stacked_at b band n low y over high =
       not_stacked inst cranes tasks w b band o n low below (test_moved o y b.high true over high)
 
-module _ (inst : InstanceView) (cranes : List (Option ℕ)) (n : ℕ) (low : ℤ) (j : ℕ) (o : Option ℤ)
-    (before : IsNearestOf inst cranes n low j o) where
-  pub nearest_step : (x : ℤ) → may inst cranes j n ≡ true → x ≡ place inst j n → IsPlace x → (r : Option ℤ) (y z : ℤ)
-      → r ≡ nearer o y z → y ≡ low → z ≡ x → IsNearestOf inst cranes (n + 1) low j r
-  nearest_step x t at near r y z e is_low is_x =
-      subst (IsNearestOf inst cranes (n + 1) low j)
-      (sym (e ∙ ap (λ y. nearer o y z) is_low ∙ ap (nearer o low) is_x))
-      (nearest_takes inst cranes n low j o x before t (sym at) near)
+-- a task whose nearest place is no nearer than what was found
+pub found_far : (inst : InstanceView) (cranes : List (Option ℕ)) (tasks : List ℕ) (i : ℕ) (low x y z : ℤ) (o : Option ℕ)
+    → i < length tasks → IsNearest inst cranes y (get_or tasks i 0) x → y ≡ low → (n : ℕ) → n ≡ bays_up y z → z ≡ x
+    → option_map_or (λ m. nat_le m n) o false ≡ true → IsFoundFrom inst cranes tasks o low
+found_far inst cranes tasks i low x y z o inside one is n e same over high up lie =
+    let there = subst (λ (y : ℤ). IsNearest inst cranes y (get_or tasks i 0) x) is one in
+    let least = there.least high (lie i inside) in
+    let most : n ≤ bays_up low high = omega (arith, bays, e, is, same, least) in
+    by o over most
+  where
+    by : (o : Option ℕ) → option_map_or (λ m. nat_le m n) o false ≡ true → n ≤ bays_up low high → IsFound o (bays_up low high)
+    by None over most = absurd (false≢true over)
+    by (Some m) over most = omega (arith, leb-true m n over, most)
 
-  pub nearest_stays : (r : Option ℤ) → r ≡ o → may inst cranes j n ≡ false → IsNearestOf inst cranes (n + 1) low j r
-  nearest_stays r e fails =
-      subst (IsNearestOf inst cranes (n + 1) low j) (sym e)
-      (nearest_skips inst cranes n low j o before (λ t. absurd (false≢true (sym fails ∙ t))))
+-- and one that has none
+pub found_none : (inst : InstanceView) (cranes : List (Option ℕ)) (tasks : List ℕ) (i : ℕ) (low y : ℤ) (o : Option ℕ)
+    → i < length tasks → ((high : ℤ) → ¬ Lies inst cranes y high (get_or tasks i 0)) → y ≡ low
+    → IsFoundFrom inst cranes tasks o low
+found_none inst cranes tasks i low y o inside none is high up lie =
+    absurd (none high (subst (λ (x : ℤ). Lies inst cranes x high (get_or tasks i 0)) (sym is) (lie i inside)))
 
-pub nearest_at : (inst : InstanceView) (cranes : List (Option ℕ)) (n k : ℕ) (low y : ℤ) (j : ℕ) (o : Option ℤ)
-    → IsNearestOf inst cranes n y j o → n ≡ k → y ≡ low → IsNearestOf inst cranes k low j o
-nearest_at inst cranes n k low y j o h e is =
-    subst (λ (n : ℕ). IsNearestOf inst cranes n low j o) e (subst (λ (y : ℤ). IsNearestOf inst cranes n y j o) is h)
+-- on stacked cranes the tasks of all cranes above lie below a place
+pub below_place : (inst : InstanceView) (cranes : List (Option ℕ)) (tasks : List ℕ)
+    → AreStacked inst cranes tasks (length inst.cranes) → (k w : ℕ) (y : ℤ) → k < length tasks
+    → may inst cranes (get_or tasks k 0) w ≡ true → y ≡ place inst (get_or tasks k 0) w
+    → (i : ℕ) → i < length tasks → AreBelow inst cranes (get_or tasks i 0) (w + 1) y
+below_place inst cranes tasks stacked k w y inside t at i low v over few s =
+    let less = stacked w v k i (omega arith) few inside low t s in
+    omega (arith, ints, less, at)
 
 pub reach_at : (inst : InstanceView) (cranes : List (Option ℕ)) (tasks : List ℕ) (n : ℕ) (low high x y z : ℤ)
-    → IsReach inst cranes tasks n low high → IsNearest inst cranes (length inst.cranes) y (get_or tasks n 0) x → y ≡ low
+    → IsReach inst cranes tasks n low high → IsNearest inst cranes y (get_or tasks n 0) x → y ≡ low
     → z ≡ int_max high x → IsReach inst cranes tasks (n + 1) low z
 reach_at inst cranes tasks n low high x y z before one is e =
     subst (IsReach inst cranes tasks (n + 1) low) (sym e)
     (reach_more inst cranes tasks n low high x before
-    (subst (λ (y : ℤ). IsNearest inst cranes (length inst.cranes) y (get_or tasks n 0) x) is one))
+    (subst (λ (y : ℤ). IsNearest inst cranes y (get_or tasks n 0) x) is one))
 
 pub band_step : (inst : InstanceView) (cranes : List (Option ℕ)) (tasks : List ℕ) (v n : ℕ) (o : Option Band) (x : ℤ)
     → IsBandOf inst cranes tasks v n o → may inst cranes (get_or tasks n 0) v ≡ true → x ≡ place inst (get_or tasks n 0) v
@@ -475,3 +430,13 @@ module _ (inst : InstanceView) (cranes : List (Option ℕ)) (tasks : List ℕ) w
       before_more (λ i. may inst cranes (get_or tasks i 0) v ≡ true → IsFoundFrom inst cranes tasks r (place inst (get_or tasks i 0) v)) n
       (λ i low t. found_later inst cranes tasks o r (place inst (get_or tasks i 0) v) more (found i v low low_v t))
       (λ t. here v low_v t) i low t
+
+pub below_at : (inst : InstanceView) (cranes : List (Option ℕ)) (j m n : ℕ) (low y : ℤ) → AreBelow inst cranes j n low → m ≡ n
+    → y ≡ low → AreBelow inst cranes j m y
+below_at inst cranes j m n low y h e is =
+    subst (λ (m : ℕ). AreBelow inst cranes j m y) (sym e) (subst (λ (y : ℤ). AreBelow inst cranes j n y) (sym is) h)
+
+pub nearest_at : (inst : InstanceView) (cranes : List (Option ℕ)) (low y : ℤ) (j : ℕ) (x z : ℤ) → IsNearest inst cranes y j x
+    → y ≡ low → z ≡ x → IsNearest inst cranes low j z
+nearest_at inst cranes low y j x z h is same =
+    subst (IsNearest inst cranes low j) (sym same) (subst (λ (y : ℤ). IsNearest inst cranes y j x) is h)

@@ -222,7 +222,7 @@ module _ (inst : InstanceView) (cranes : List (Option ℕ)) (tasks : List ℕ) (
 
 module _ (inst : InstanceView) (cranes : List (Option ℕ)) (range : AreInRange inst cranes) where
   abbrev AllIn : ℤ → ℤ → List ℕ → Type 0
-  AllIn low high tasks = AllByRecursion (Lies inst cranes (length inst.cranes) low high) tasks
+  AllIn low high tasks = AllByRecursion (Lies inst cranes low high) tasks
 
   -- one of the places of the tasks
   record IsPlaceOf (tasks : List ℕ) (x : ℤ) : Type 0 where
@@ -239,13 +239,13 @@ module _ (inst : InstanceView) (cranes : List (Option ℕ)) (range : AreInRange 
 
   lie_from : (low less high : ℤ) (tasks : List ℕ) → less ≤ℤ low → AllIn low high tasks → AllIn less high tasks
   lie_from low less high tasks down all =
-      weaker (Lies inst cranes (length inst.cranes) low high) (Lies inst cranes (length inst.cranes) less high)
+      weaker (Lies inst cranes low high) (Lies inst cranes less high)
       (λ j l. let from = l.from in record { crane = l.crane; before = l.before; may = l.may; from = omega (arith, ints, down, from); to = l.to })
       tasks all
 
   lie_to : (low high more : ℤ) (tasks : List ℕ) → high ≤ℤ more → AllIn low high tasks → AllIn low more tasks
   lie_to low high more tasks up all =
-      weaker (Lies inst cranes (length inst.cranes) low high) (Lies inst cranes (length inst.cranes) low more)
+      weaker (Lies inst cranes low high) (Lies inst cranes low more)
       (λ j l. let to = l.to in record { crane = l.crane; before = l.before; may = l.may; from = l.from; to = omega (arith, ints, up, to) })
       tasks all
 
@@ -340,7 +340,7 @@ module _ (inst : InstanceView) (cranes : List (Option ℕ)) (range : AreInRange 
 
   lie_of : (low high : ℤ) (tasks : List ℕ) → AllIn low high tasks → list_all (may_lie inst cranes low high) tasks ≡ true
   lie_of low high tasks all = all_from (may_lie inst cranes low high) tasks (λ j a.
-      let l = among_all (Lies inst cranes (length inst.cranes) low high) tasks j a all in
+      let l = among_all (Lies inst cranes low high) tasks j a all in
       let from = l.from in
       let to = l.to in
       any_from (λ v. int_le low (place inst j v) && int_le (place inst j v) high) (cranes_for inst cranes j) l.crane
@@ -348,7 +348,7 @@ module _ (inst : InstanceView) (cranes : List (Option ℕ)) (range : AreInRange 
       (and_from (int_le low (place inst j l.crane)) (int_le (place inst j l.crane) high) (T_true from.le) (T_true to.le)))
 
   of_lie : (low high : ℤ) (tasks : List ℕ) → list_all (may_lie inst cranes low high) tasks ≡ true → AllIn low high tasks
-  of_lie low high tasks t = each_of (Lies inst cranes (length inst.cranes) low high) tasks (λ j a.
+  of_lie low high tasks t = each_of (Lies inst cranes low high) tasks (λ j a.
       let found = any_at (λ v. int_le low (place inst j v) && int_le (place inst j v) high) (cranes_for inst cranes j) (all_at (may_lie inst cranes low high) tasks j a t) in
       let is = among_may inst cranes range j found.0 found.1 in
       let parts = and_parts (int_le low (place inst j found.0)) (int_le (place inst j found.0) high) found.2 in
@@ -399,7 +399,7 @@ module _ (inst : InstanceView) (cranes : List (Option ℕ)) (range : AreInRange 
       (λ within. (rest.0, rest.1, (one v is rest.0 rest.1 (omega (arith, ints)) (omega (arith, ints)), rest.2))))
     where
       one : (v : ℕ) → (v < length inst.cranes) × (may inst cranes j v ≡ true) → (low high : ℤ) → low ≤ℤ place inst j v
-          → place inst j v ≤ℤ high → Lies inst cranes (length inst.cranes) low high j
+          → place inst j v ≤ℤ high → Lies inst cranes low high j
       one v is low high from to = record { crane = v; before = is.0; may = is.1; from = from; to = to }
 
   module _ (j : ℕ) (js : List ℕ) (o : Option ℕ)
@@ -410,7 +410,7 @@ module _ (inst : InstanceView) (cranes : List (Option ℕ)) (range : AreInRange 
 
     by_index : (low high : ℤ) → AllIn low high tasks → AllLie inst cranes tasks (length tasks) low high
     by_index low high all i low_i =
-        among_all (Lies inst cranes (length inst.cranes) low high) tasks (get_or tasks i 0) (among_at tasks i low_i) all
+        among_all (Lies inst cranes low high) tasks (get_or tasks i 0) (among_at tasks i low_i) all
 
     found_at : (low high : ℤ) → IsPlaceOf tasks low → AllIn low high tasks → IsFound o (bays_up low high)
     found_at low high p all =
@@ -437,7 +437,7 @@ module _ (inst : InstanceView) (cranes : List (Option ℕ)) (range : AreInRange 
       → IsFoundFrom inst cranes (j ∷ js) (Some n) (place inst (get_or (j ∷ js) i 0) v))
       → span inst cranes (j ∷ js) ≡ n
   span_is j js n s found =
-      let all = all_of (Lies inst cranes (length inst.cranes) s.low s.high) (j ∷ js) s.lie in
+      let all = all_of (Lies inst cranes s.low s.high) (j ∷ js) s.lie in
       let one = stretch_of j js s.low s.high all in
       let at_most = least_at (stretches inst cranes (j ∷ js)) one.0 one.1 in
       let at_least = least_from n one.0 (stretches inst cranes (j ∷ js)) one.1 (λ m a. found_all j js (Some n) found m a) in
@@ -481,6 +481,12 @@ module _ (inst : InstanceView) (cranes : List (Option ℕ)) (tasks : List ℕ) (
 
   pub packed_few : length tasks ≤ length inst.tasks
   packed_few = few_differ tasks (length inst.tasks) parts.2 in_range
+
+  pub packed_stacked : AreInRange inst cranes → 1 ≤ inst.travel → 1 ≤ inst.gap
+      → AreStacked inst cranes tasks (length inst.cranes)
+  packed_stacked range travel gap =
+      let one = and_parts (nat_lt 0 (length tasks) && list_all (is_doable inst cranes) tasks && all_differ tasks) (all_clash inst cranes tasks) t in
+      stacked_from inst cranes tasks range travel gap one.1
 
   pub packed_range : All (λ j. j < length inst.tasks) tasks
   packed_range = All-from_recursion (λ j. j < length inst.tasks) tasks (each_of (λ j. j < length inst.tasks) tasks in_range)

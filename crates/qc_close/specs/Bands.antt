@@ -1,7 +1,6 @@
 -- inner: where tasks may lie, as packed tasks are told by it.
-use Rattle.std.specs.Prelude.{◌≡◌, ℕ, ◌<◌, ◌≤◌, ℤ, pos, negsuc, ◌≤ℤ◌, ◌<ℤ◌, ◌⊎◌, Bool, true, false, ◌==◌, List, length, slice_index, int_lt, if◌then◌else◌, Option, None, Some, MatchOption}
+use Rattle.std.specs.Prelude.{◌≡◌, ℕ, ◌<◌, ◌≤◌, ℤ, pos, negsuc, ◌≤ℤ◌, ◌<ℤ◌, ◌⊎◌, Bool, true, false, ◌==◌, List, length, slice_index, Option, None, Some, MatchOption}
 use Rattle.std.specs.Int.{int_max, int_min}
-use Rattle.std.specs.Option.{option_map_or}
 use Rattle.qc_model.specs.Bays.{bays_up}
 use Rattle.qc_model.specs.Instance.{InstanceView, IsFrom}
 use Rattle.qc_model.specs.Nodes.{reaches}
@@ -72,26 +71,27 @@ IsFloorOf inst cranes tasks n o =
 
 -- ---- stretches among which each task may lie
 
--- one of the first n cranes may do task j and has it from low to high
-pub record Lies (inst : InstanceView) (cranes : List (Option ℕ)) (n : ℕ) (low high : ℤ) (j : ℕ) : Type 0 where
+-- some crane may do task j and has it from low to high
+pub record Lies (inst : InstanceView) (cranes : List (Option ℕ)) (low high : ℤ) (j : ℕ) : Type 0 where
   pub crane : ℕ
-  pub before : crane < n
+  pub before : crane < length inst.cranes
   pub may : may inst cranes j crane ≡ true
   pub from : low ≤ℤ place inst j crane
   pub to : place inst j crane ≤ℤ high
 
+-- all cranes but the first n have task j below this place
+abbrev pub AreBelow : InstanceView → List (Option ℕ) → ℕ → ℕ → ℤ → Type 0
+AreBelow inst cranes j n low =
+    (v : ℕ) → n ≤ v → v < length inst.cranes → may inst cranes j v ≡ true → place inst j v <ℤ low
+
 -- each of the first n tasks may lie from low to high
 abbrev pub AllLie : InstanceView → List (Option ℕ) → List ℕ → ℕ → ℤ → ℤ → Type 0
-AllLie inst cranes tasks n low high = (i : ℕ) → i < n → Lies inst cranes (length inst.cranes) low high (slice_index tasks i)
+AllLie inst cranes tasks n low high = (i : ℕ) → i < n → Lies inst cranes low high (slice_index tasks i)
 
--- the lower of two places, the other of which may be missing, where it is at low or above
-abbrev pub nearer : Option ℤ → ℤ → ℤ → Option ℤ
-nearer before low x = if int_lt x low then before else Some (option_map_or (λ y. int_min y x) before x)
-
--- of the places of task j on the first n cranes, at low or above, this is the lowest
-pub record IsNearest (inst : InstanceView) (cranes : List (Option ℕ)) (n : ℕ) (low : ℤ) (j : ℕ) (high : ℤ) : Type 0 where
-  pub lies : Lies inst cranes n low high j
-  pub least : (other : ℤ) → Lies inst cranes n low other j → high ≤ℤ other
+-- of the places of task j, at low or above, this is the lowest
+pub record IsNearest (inst : InstanceView) (cranes : List (Option ℕ)) (low : ℤ) (j : ℕ) (high : ℤ) : Type 0 where
+  pub lies : Lies inst cranes low high j
+  pub least : (other : ℤ) → Lies inst cranes low other j → high ≤ℤ other
   pub near : IsPlace high
 
 -- the place is the lowest, at low or above, up to which each of the first n tasks may lie from low on

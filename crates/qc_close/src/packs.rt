@@ -1,13 +1,13 @@
 //! Tasks of which no two can run together.
 
-ghost use Rattle.std.specs.Prelude.{◌≡◌, ◌==◌, ◌*◌, ◌<◌, ◌≤◌, ℕ, ℤ, drop, All, IfSome, MatchBool, MatchOption, length, slice_index, true, false, int_le, min};
+ghost use Rattle.std.specs.Prelude.{◌≡◌, ◌==◌, ◌*◌, ◌<◌, ◌≤◌, ℕ, ℤ, drop, All, IfSome, MatchBool, MatchOption, length, slice_index, true, false, int_le, min, nat_le};
 ghost use Rattle.std.specs.List.{list_all, list_any};
 ghost use Rattle.std.specs.Option.{option_map_or};
 ghost use Rattle.qc_model.specs.declared.limits.TheConstants.{MOST_TASKS, MOST_WORK};
 ghost use Rattle.qc_model.specs.Leaves.{crane_numbers, ticks_over};
 ghost use Rattle.qc_model.specs.Nodes.{reaches};
 ghost use Rattle.qc_close.specs.Assignments.{place};
-ghost use Rattle.qc_close.specs.Bands.{AllLie, AreStacked, IsBandOf, IsFinding, IsFoundFrom, IsNearest, IsPlace, IsReach, IsStretch, Lies, may, nearer, widened};
+ghost use Rattle.qc_close.specs.Bands.{AreBelow, AreStacked, IsBandOf, IsFinding, IsFoundFrom, IsNearest, IsPlace, IsReach, IsStretch, Lies, may, widened};
 ghost use Rattle.qc_close.specs.Packs.{IsPackBound, all_clash, all_differ, is_doable, is_packed, pack};
 
 use crate::Crew;
@@ -75,16 +75,13 @@ fn all_differ(tasks: &[u16]) -> bool
     true
 }
 
-/// The nearest place at a low one or above: a place, or that before it, if there was one.
-fn nearer(before: Option<Bay>, low: Bay, place: Bay) -> Option<Bay>
-    ensures { result ≡ nearer before low place }
+/// Whether no more than a number has been found.
+fn is_found(before: Option<Tick>, number: Tick) -> bool
+    ensures { result ≡ option_map_or (λ m. nat_le m number) before false }
 {
-    if place < low {
-        return before;
-    }
     match before {
-        None => Some(place),
-        Some(other) => Some(other.min(place)),
+        None => false,
+        Some(least) => least <= number,
     }
 }
 
@@ -208,36 +205,51 @@ impl Crew {
         !tasks.is_empty() && self.are_doable(tasks) && all_differ(tasks) && self.all_clash(tasks)
     }
 
-    /// The nearest place of a task at this one or above.
-    fn nearest(&self, task: u16, low: Bay) -> Option<Bay>
+    /// The nearest place of a task at this one or above, where those of all but so many cranes lie below it.
+    fn nearest(&self, task: u16, low: Bay, cranes: u16) -> Option<Bay>
         requires task { task < length self.now.inst.tasks }
         requires near { IsPlace low }
+        requires cranes { cranes ≤ length self.now.inst.cranes }
+        requires below { AreBelow self.now.inst self.now.cranes task cranes low }
         ensures { MatchOption result
-            ((high : ℤ) → ¬ Lies self.now.inst self.now.cranes (length self.now.inst.cranes) low high task)
-            (IsNearest self.now.inst self.now.cranes (length self.now.inst.cranes) low task) }
+            ((high : ℤ) → ¬ Lies self.now.inst self.now.cranes low high task)
+            (IsNearest self.now.inst self.now.cranes low task) }
     {
-        let mut nearest = None;
-        for crane in 0..self.instance().crane_count() {
+        let _inst = self.instance();
+        for above in 0..cranes {
+            let crane = cranes - 1 - above;
             if self.may(task, crane) {
-                nearest = nearer(nearest, low, self.place(task, crane));
+                let place = self.place(task, crane);
+                if low <= place {
+                    return Some(place);
+                }
             }
         }
-        nearest
+        None
     }
 
-    /// The nearest place up to which each of the tasks may lie from this one on.
-    fn reach(&self, tasks: &[u16], low: Bay) -> Option<Bay>
+    /// The nearest place up to which each of the tasks may lie from this one on, where those of all but
+    /// so many cranes lie below it; `None` too where that is no nearer than what was found.
+    fn reach(&self, tasks: &[u16], low: Bay, cranes: u16, before: Option<Tick>) -> Option<Bay>
         requires tasks { All (λ j. j < length self.now.inst.tasks) tasks.now }
         requires near { IsPlace low }
+        requires cranes { cranes ≤ length self.now.inst.cranes }
+        requires below { (i : ℕ) → i < length tasks.now
+            → AreBelow self.now.inst self.now.cranes (slice_index tasks.now i) cranes low }
         ensures { MatchOption result
-            ((high : ℤ) → ¬ AllLie self.now.inst self.now.cranes tasks.now (length tasks.now) low high)
+            (IsFoundFrom self.now.inst self.now.cranes tasks.now before low)
             (IsReach self.now.inst self.now.cranes tasks.now (length tasks.now) low) }
     {
         let mut high = low;
         for task in tasks {
-            match self.nearest(*task, low) {
+            match self.nearest(*task, low, cranes) {
                 None => return None,
-                Some(place) => high = high.max(place),
+                Some(place) => {
+                    if is_found(before, bays_up(low, place)) {
+                        return None;
+                    }
+                    high = high.max(place);
+                }
             }
         }
         Some(high)
@@ -245,31 +257,38 @@ impl Crew {
 
     /// The bays from a place up to where each of the tasks may lie, or what was found where that is no
     /// more.
-    fn closer(&self, tasks: &[u16], low: Bay, before: Option<Tick>) -> Option<Tick>
+    fn closer(&self, tasks: &[u16], low: Bay, cranes: u16, before: Option<Tick>) -> Option<Tick>
         requires tasks { All (λ j. j < length self.now.inst.tasks) tasks.now }
         requires near { IsPlace low }
+        requires cranes { cranes ≤ length self.now.inst.cranes }
+        requires below { (i : ℕ) → i < length tasks.now
+            → AreBelow self.now.inst self.now.cranes (slice_index tasks.now i) cranes low }
         ensures finding { IsFinding self.now.inst self.now.cranes tasks.now before result }
         ensures found { IsFoundFrom self.now.inst self.now.cranes tasks.now result low }
     {
-        match self.reach(tasks, low) {
+        match self.reach(tasks, low, cranes, before) {
             None => before,
             Some(high) => Some(lesser(before, bays_up(low, high))),
         }
     }
 
     /// The same from each place of a task on.
-    fn closest(&self, tasks: &[u16], task: u16, before: Option<Tick>) -> Option<Tick>
+    fn closest(&self, tasks: &[u16], index: usize, before: Option<Tick>) -> Option<Tick>
         requires tasks { All (λ j. j < length self.now.inst.tasks) tasks.now }
-        requires task { task < length self.now.inst.tasks }
+        requires index { index < length tasks.now }
+        requires stacked { AreStacked self.now.inst self.now.cranes tasks.now
+            (length self.now.inst.cranes) }
         ensures finding { IsFinding self.now.inst self.now.cranes tasks.now before result }
         ensures found { (v : ℕ) → v < length self.now.inst.cranes
-            → may self.now.inst self.now.cranes task v ≡ true
-            → IsFoundFrom self.now.inst self.now.cranes tasks.now result (place self.now.inst task v) }
+            → may self.now.inst self.now.cranes (slice_index tasks.now index) v ≡ true
+            → IsFoundFrom self.now.inst self.now.cranes tasks.now result
+            (place self.now.inst (slice_index tasks.now index) v) }
     {
+        let task = tasks[index];
         let mut least = before;
         for crane in 0..self.instance().crane_count() {
             if self.may(task, crane) {
-                least = self.closer(tasks, self.place(task, crane), least);
+                least = self.closer(tasks, self.place(task, crane), crane + 1, least);
             }
         }
         least
@@ -277,7 +296,9 @@ impl Crew {
 
     /// The fewest bays among which each of the tasks may lie.
     fn span(&self, tasks: &[u16]) -> Option<Tick>
-        requires { All (λ j. j < length self.now.inst.tasks) tasks.now }
+        requires tasks { All (λ j. j < length self.now.inst.tasks) tasks.now }
+        requires stacked { AreStacked self.now.inst self.now.cranes tasks.now
+            (length self.now.inst.cranes) }
         ensures stretch { IfSome result (IsStretch self.now.inst self.now.cranes tasks.now) }
         ensures found { (i v : ℕ) → i < length tasks.now → v < length self.now.inst.cranes
             → may self.now.inst self.now.cranes (slice_index tasks.now i) v ≡ true
@@ -285,8 +306,8 @@ impl Crew {
             (place self.now.inst (slice_index tasks.now i) v) }
     {
         let mut least = None;
-        for task in tasks {
-            least = self.closest(tasks, *task, least);
+        for index in 0..tasks.len() {
+            least = self.closest(tasks, index, least);
         }
         least
     }

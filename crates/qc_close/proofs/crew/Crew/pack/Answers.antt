@@ -2,10 +2,18 @@ use Rattle.std.proofs.Common.{◌≡◌, ◌+◌, ◌*◌, Some, ap, sym, ◌∙
 use Rattle.qc_model.specs.Instance.{InstanceView}
 use Rattle.qc_model.specs.Leaves.{ticks_over}
 use Rattle.qc_close.specs.Packs.{pack}
+use Rattle.qc_close.proofs.LoopLemmas.{least_steps}
 use Rattle.qc_close.proofs.PackLemmas.{pack_end_le}
-use Rattle.qc_close.proofs.SpanLemmas.{pack_found, pack_is, packed_few}
+use Rattle.qc_close.proofs.SpanLemmas.{pack_found, pack_is, packed_few, packed_stacked}
 use Rattle.qc_close.proofs.crew.Crew.pack.Goals.{After-travel_over}
 use Rattle.qc_close.proofs.crew.Crew.pack.Goals as goal
+
+pub span-requires-clause-stacked : goal.span-requires-clause-stacked
+span-requires-clause-stacked c =
+    let inst = c.args.self.now.inst in
+    let steps = least_steps inst c.instance-inst.ensures.valid in
+    packed_stacked inst c.args.self.now.cranes c.args.tasks.now (sym c.is_packed.ensures ∙ c.if-not-is_packed.false)
+    c.instance-inst.ensures.range steps.0 steps.1
 
 pub ticks-requires-clause-few : goal.ticks-requires-clause-few
 ticks-requires-clause-few c =

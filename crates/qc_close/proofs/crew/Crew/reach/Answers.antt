@@ -1,8 +1,16 @@
-use Rattle.std.proofs.Common.{◌≡◌, ◌∙◌, ap, arith, of_z, to_z, w32}
+use Rattle.std.proofs.Common.{◌≡◌, ◌∙◌, sym, ap, arith, of_z, to_z, w32}
 use Rattle.std.specs.Int.{int_max}
 use Rattle.std.proofs.lemmas.Int.{int_max_is, ints}
-use Rattle.qc_close.proofs.BandLemmas.{reach_at}
+use Rattle.qc_close.proofs.BandLemmas.{found_far, reach_at}
 use Rattle.qc_close.proofs.crew.Crew.reach.Goals as goal
+
+pub returns-then-is_found : goal.returns-then-is_found
+returns-then-is_found c =
+    let near = c.in-Some.ensures.near in
+    let low = c.requires.near in
+    found_far c.args.self.now.inst c.args.self.now.cranes c.args.tasks.now c.loop-task.task-index c.args.low c.in-Some.place _ _
+    c.args.before (omega arith) c.in-Some.ensures (omega (arith, ints, low.0, low.1)) c.bays_up.result c.bays_up.ensures
+    (omega (arith, ints, near.0, near.1)) (sym c.is_found.ensures ∙ c.if-is_found.true)
 
 pub loop-task-preserved : goal.loop-task-preserved
 loop-task-preserved c =
