@@ -38,7 +38,7 @@ answers (dispatching.Dispatched told) = tt
 
 -- a refusal that can't come of these files
 never : {A : Type 0} (r : Result A Refusal) (fault : LogFault) → IfErr r IsEarly → r ≡ Err (refusal.BadLog fault) → ⊥
-never r fault early is = subst (λ (x : Result A Refusal). IfErr x IsEarly) is early
+never {A = A} r fault early is = subst (λ (x : Result A Refusal). IfErr x IsEarly) is early
 
 same_fault : (fault : LogFault) (f : DispatchFault) → stop.Refused (refusal.BadLog fault) ≡ stop.Refused (refusal.BadLog (log.Dispatch f)) → fault ≡ log.Dispatch f
 same_fault fault f e = cc

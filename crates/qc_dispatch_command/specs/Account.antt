@@ -27,11 +27,11 @@ use Rattle.qc_dispatch_command.specs.Told.{TellsCourse, dispatching_status, disp
 -- ---- the log
 
 -- the log was read and followed
-pub record IsLogFollowed (job : Job) (names : Names) (files : Option Files) (followed : Followed) : Type 0 where
+pub record IsLogFollowed (job : Job) (names : Names) (files : Option Files) (told : Followed) : Type 0 where
   pub text : List ℕ
   pub due : ComesTo (input_due input.Log) names files (Ok text)
-  pub followed : IsFollowed job.inst job.sched text (journal_of followed)
-  pub keeps : Keeps followed.dispatch
+  pub followed : IsFollowed job.inst job.sched text (journal_of told)
+  pub keeps : Keeps told.dispatch
 
 -- some line of the log is faulty
 pub record IsLogFaulty (job : Job) (names : Names) (files : Option Files) (fault : DispatchFault) : Type 0 where
