@@ -172,7 +172,7 @@ ready_by inst sched Down judgeable goes j h =
     ap (λ (v : ℕ). (crane (mirror inst) v).ready) crane_is ∙ ap (λ (x : Crane). x.ready) crane_at ∙ ap (λ (v : ℕ). (crane inst v).ready) back in
     omega (arith, r, ready_is, seen-start_of inst sched Down j g)
 
-apart_of : (inst : InstanceView) (sched : List Slot) (way : Direction) → IsJudgeable inst sched → Goes inst sched way
+pub apart_of : (inst : InstanceView) (sched : List Slot) (way : Direction) → IsJudgeable inst sched → Goes inst sched way
     → (i j : ℕ) → i < j → j < length inst.tasks → crane_of sched i ≡ crane_of sched j
     → (end_of inst sched i ≤ start_of sched j) ⊎ (end_of inst sched j ≤ start_of sched i)
 apart_of inst sched way judgeable goes i j order h same =

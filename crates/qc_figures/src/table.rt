@@ -4,6 +4,7 @@ ghost use Rattle.std.specs.Prelude.{◌≡◌, ◌+◌, ◌≤◌, ◌<◌, ◌+
 ghost use Rattle.std.specs.List.{flat_map, range_with_len};
 ghost use Rattle.qc_figures.specs.FiguresText.{row_text, row_of, figures_text};
 ghost use Rattle.qc_figures.specs.Views.{IsReady, view_of};
+ghost use Rattle.qc_model.specs.Instance.{Valid};
 
 use crate::crane::Figures;
 use crate::figured::{Figured, figures_of};
@@ -43,8 +44,9 @@ fn row_text(name: &Name, figures: &Figures) -> Text<256>
 /// Puts the row of each crane behind the text.
 fn put_rows(of: &Figured<'_>, page: &mut Page) -> Result<(), OutOfMemory>
     requires { IsReady (view_of of.now) }
-    ensures { OnOk result (page.new ≡ page.old
+    ensures page { OnOk result (page.new ≡ page.old
         ++ flat_map (row_of (view_of of.now)) (range_with_len 0 (length (view_of of.now).inst.cranes))) }
+    ensures valid { Valid (view_of of.now).inst }
 {
     for crane in 0..of.inst.crane_count() {
         let figures = figures_of(of, crane);
@@ -57,7 +59,8 @@ fn put_rows(of: &Figured<'_>, page: &mut Page) -> Result<(), OutOfMemory>
 /// its figures between commas.
 pub fn write_figures(alloc: Global, of: &Figured<'_>) -> Result<Bytes, OutOfMemory>
     requires { IsReady (view_of of.now) }
-    ensures { IfOk result (λ text. text ≡ figures_text (view_of of.now)) }
+    ensures text { IfOk result (λ text. text ≡ figures_text (view_of of.now)) }
+    ensures valid { IfOk result (λ text. Valid (view_of of.now).inst) }
 {
     let mut page = Page::new(alloc);
     page.put(b"crane,tasks,moves,not_ready,work,moving,waiting,idle,end,share\n")?;

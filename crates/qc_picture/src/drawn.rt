@@ -2,6 +2,7 @@
 
 ghost use Rattle.std.specs.Prelude.{◌≡◌, ◌+◌, ◌*◌, ◌≤◌, ◌<◌, ◌^◌, unsigned_abs, length};
 ghost use Rattle.std.specs.List.{range_with_len};
+ghost use Rattle.qc_model.specs.Instance.{Valid};
 ghost use Rattle.qc_picture.specs.Paper.{half, paper_of, reach, step_at, time_step, wide_of, widened, with_hatch, with_point, with_track};
 ghost use Rattle.qc_picture.specs.Views.{HasPaper, IsDrawable, IsFarSpan, drawn_of, paper_view};
 
@@ -69,6 +70,7 @@ impl<'a> Drawn<'a> {
     pub(crate) fn travel(&self) -> u64
         ensures travel { result ≡ (drawn_of self.now).plan.inst.travel }
         ensures bound { result ≤ 10000 }
+        ensures valid { Valid (drawn_of self.now).plan.inst }
     {
         self.plan.inst.travel()
     }
@@ -142,6 +144,7 @@ impl<'a> Drawn<'a> {
         requires { IsDrawable (drawn_of self) }
         ensures paper { paper_view result ≡ paper_of (drawn_of self.entry) }
         ensures has { HasPaper (paper_view result) }
+        ensures valid { Valid (drawn_of self.entry).plan.inst }
     {
         let half_wide = wide_of(self.places) * self.travel();
         let middle = i128::from(middle_of(u64::from(self.places[0]), self.travel()));

@@ -1,6 +1,7 @@
 //! The whole drawing.
 
 ghost use Rattle.std.specs.Prelude.{◌≡◌, ◌++◌, IfOk, OnOk};
+ghost use Rattle.qc_model.specs.Instance.{Valid};
 ghost use Rattle.qc_picture.specs.PictureText.{over_text, page_text, picture_text, under_text};
 ghost use Rattle.qc_picture.specs.Views.{HasPaper, IsDrawable, drawn_of, paper_view};
 
@@ -44,7 +45,8 @@ impl Paper<'_> {
 /// a table of the figures of each crane.
 pub fn write_picture(alloc: Global, drawn: &Drawn<'_>) -> Result<Bytes, OutOfMemory>
     requires { IsDrawable (drawn_of drawn.now) }
-    ensures { IfOk result (λ text. text ≡ picture_text (drawn_of drawn.now)) }
+    ensures text { IfOk result (λ text. text ≡ picture_text (drawn_of drawn.now)) }
+    ensures valid { Valid (drawn_of drawn.now).plan.inst }
 {
     let paper = drawn.paper();
     let mut page = Page::new(alloc);

@@ -1,20 +1,23 @@
 -- What is known of a plan whose figures or drawing are printed.
-use Rattle.std.proofs.Common.{◌≡◌, ℕ, ◌<◌, ◌≤◌, List, [], length, arith, subst, sym}
+use Rattle.std.proofs.Common.{◌≡◌, ℕ, List, length, Result, Ok, Err, IfOk, refl, arith}
 use Rattle.qc_model.specs.declared.direction.Direction.{Direction}
 use Rattle.qc_model.specs.declared.direction.Direction.TheVariants.{Up, Down}
 use Rattle.qc_model.specs.declared.schedule.Slot.{Slot}
 use Rattle.qc_model.specs.Instance.{InstanceView, Valid}
 use Rattle.qc_model.specs.Judge.{Goes, IsDirection}
-use Rattle.qc_motion.specs.declared.track.Waypoint.{Waypoint}
+use Rattle.qc_num.specs.declared.memory.OutOfMemory.{OutOfMemory}
+use Rattle.qc_ship.specs.Ship.{IsShip}
 use Rattle.qc_sheet_command.specs.declared.load.Load.{Load}
 use Rattle.qc_sheet_command.specs.Listed.{IsLoad}
 use Rattle.qc_figures.specs.FiguresText.{figures_text}
 use Rattle.qc_figures.specs.Views.{IsReady}
-use Rattle.qc_figures.specs.Views as figures
 use Rattle.qc_figures.proofs.TimeLemmas.{whole}
+use Rattle.qc_picture.specs.PictureText.{picture_text}
+use Rattle.qc_picture.specs.Views.{IsDrawable}
+use Rattle.qc_picture.proofs.OrderLemmas.{ordered}
 use Rattle.qc_picture_command.specs.declared.answer.Planned.{Planned}
 use Rattle.qc_picture_command.specs.Motion.{IsPrintable}
-use Rattle.qc_picture_command.specs.Planned.{IsPlanned, TellsFigures, plan_with}
+use Rattle.qc_picture_command.specs.Planned.{TellsFigures, TellsPicture, drawn_with, plan_with}
 
 pub goes_of : (inst : InstanceView) (sched : List Slot) (way : Direction) → IsDirection inst sched way → Goes inst sched way
 goes_of inst sched Up is = is
@@ -29,10 +32,22 @@ ready plan is = record {
   rising = λ k low. (is.planned.are.each k low).waypoints.rising;
 }
 
--- their text tells of the plan
-pub tells_figures : (plan : Planned) (text : List ℕ) → Valid plan.load.cargo.inst → IsPrintable plan
-    → text ≡ figures_text (plan_with plan.load plan.tracks) → TellsFigures plan.load text
-tells_figures plan text valid is text_is = record {
+-- the drawing can be made
+pub drawable : (plan : Planned) → IsShip plan.load.cargo.ship → IsPrintable plan
+    → IsDrawable (drawn_with plan.load plan.direction plan.tracks)
+drawable plan ship is = record {
+  plan = ready plan is;
+  some = omega (arith, ship.places.count, ship.hatches.count.0);
+  places = ship.places.count;
+  few = ship.hatches.count.1;
+}
+
+-- a text tells of the plan: the figures, and the drawing
+pub tells_figures : (plan : Planned) → IsPrintable plan → (r : Result (List ℕ) OutOfMemory)
+    → IfOk r (λ text. text ≡ figures_text (plan_with plan.load plan.tracks)) → IfOk r (λ text. Valid plan.load.cargo.inst)
+    → IfOk r (TellsFigures plan.load)
+tells_figures plan is (Err why) text_is valid = tt
+tells_figures plan is (Ok text) text_is valid = record {
   way = plan.direction;
   tracks = plan.tracks;
   planned = is.planned;
@@ -40,4 +55,17 @@ tells_figures plan text valid is text_is = record {
   whole = λ k low. whole (plan_with plan.load plan.tracks) plan.direction k valid is.load.judgeable
       (goes_of plan.load.cargo.inst plan.load.sched plan.direction is.planned.direction) low
       (is.planned.are.each k (omega (arith, low, is.planned.all)));
+}
+
+pub tells_picture : (plan : Planned) → IsPrintable plan → Valid plan.load.cargo.inst → (r : Result (List ℕ) OutOfMemory)
+    → IfOk r (λ text. text ≡ picture_text (drawn_with plan.load plan.direction plan.tracks))
+    → IfOk r (TellsPicture plan.load)
+tells_picture plan is valid (Err why) text_is = tt
+tells_picture plan is valid (Ok text) text_is = record {
+  way = plan.direction;
+  tracks = plan.tracks;
+  planned = is.planned;
+  text_is = text_is;
+  ordered = ordered (drawn_with plan.load plan.direction plan.tracks) plan.direction refl valid is.load.judgeable
+      (goes_of plan.load.cargo.inst plan.load.sched plan.direction is.planned.direction);
 }

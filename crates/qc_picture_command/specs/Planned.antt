@@ -11,7 +11,8 @@ use Rattle.qc_sheet_command.specs.declared.load.Load.{Load}
 use Rattle.qc_figures.specs.Figures.{PlanView}
 use Rattle.qc_figures.specs.FiguresText.{figures_text}
 use Rattle.qc_figures.specs.Whole.{IsWhole}
-use Rattle.qc_picture.specs.Paper.{DrawnView}
+use Rattle.qc_picture.specs.Ordered.{IsOrdered}
+use Rattle.qc_picture.specs.Paper.{DrawnView, paper_of}
 use Rattle.qc_picture.specs.PictureText.{picture_text}
 use Rattle.qc_picture_command.specs.declared.answer.Printed.{Printed}
 use Rattle.qc_picture_command.specs.declared.answer.Printed.TheVariants as printed
@@ -49,12 +50,13 @@ drawn_with load way tracks = record {
   fine = false;
 }
 
--- the text is the drawing of the plan
+-- the text is the drawing of the plan, in which is ordered what is ordered on the rail
 pub record TellsPicture (load : Load) (text : List ℕ) : Type 0 where
   pub way : Direction
   pub tracks : List (List Waypoint)
   pub planned : IsPlanned load way tracks
   pub text_is : text ≡ picture_text (drawn_with load way tracks)
+  pub ordered : IsOrdered (paper_of (drawn_with load way tracks)) way
 
 -- what is printed, and the status
 abbrev pub printed_text : Printed → List ℕ

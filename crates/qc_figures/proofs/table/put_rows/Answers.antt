@@ -5,7 +5,6 @@ use Rattle.qc_figures.specs.declared.crane.Figures.{Figures}
 use Rattle.qc_figures.specs.FiguresText.{row_of, row_text}
 use Rattle.qc_figures.specs.Views.{view_of}
 use Rattle.qc_figures.proofs.PageLemmas.{page_more}
-use Rattle.qc_figures.proofs.TimeLemmas.{whole}
 use Rattle.qc_figures.proofs.table.put_rows.Goals as goal
 
 pub loop-crane-preserved : goal.loop-crane-preserved

@@ -1,0 +1,12 @@
+use Rattle.std.proofs.Common.{subst, sym}
+use Rattle.qc_figures.specs.Views.{IsReady}
+use Rattle.qc_picture_command.proofs.MotionLemmas.{ready, tells_figures}
+use Rattle.qc_picture_command.proofs.report.figures_of.Goals as goal
+
+pub write_figures-requires : goal.write_figures-requires
+write_figures-requires c = subst IsReady (sym c.figured.ensures) (ready c.args.plan.now c.requires)
+
+pub returns : goal.returns
+returns c =
+    tells_figures c.args.plan.now c.requires c.write_figures.result
+    (rw c.figured.ensures at c.write_figures.ensures.text) (rw c.figured.ensures at c.write_figures.ensures.valid)
