@@ -6,7 +6,7 @@ _qc() {
     local first=1
     [ "${COMP_WORDS[1]}" != -q ] || [ "$COMP_CWORD" -eq 1 ] || first=2
     if [ "$COMP_CWORD" -eq "$first" ]; then
-        local words='plan check tasks show make sheet dispatch watch picture report'
+        local words='plan check tasks show make sheet dispatch watch picture report --help --version'
         [ "$first" -eq 2 ] || words="$words -q"
         mapfile -t COMPREPLY < <(compgen -W "$words" -- "$word")
         return
