@@ -55,20 +55,19 @@ fn say_unwritten<R: Eprint + AllocGlobal>(
     trouble: Option<(String, io::Error)>,
     printing: Option<io::Error>,
 ) {
-    match (trouble, printing) {
-        (Some((name, why)), None) => {
-            say(
-                rt,
-                format_args!("{name}: this file couldn't be made or written"),
-            );
-            say_why(rt, why);
-        }
-        (_, Some(why)) => {
-            say(rt, "the report couldn't be written whole");
-            say_why(rt, why);
-        }
-        (None, None) => say(rt, "a file or the report couldn't be written"),
+    if let Some(why) = printing {
+        say(rt, "the report couldn't be written whole");
+        return say_why(rt, why);
     }
+    let Some(trouble) = trouble else {
+        return say(rt, "a file or the report couldn't be written");
+    };
+    let (name, why) = trouble;
+    say(
+        rt,
+        format_args!("{name}: this file couldn't be made or written"),
+    );
+    say_why(rt, why);
 }
 
 /// Says what is to be mended after a run with these words that ended so, and what is worth a note. `printing` is what
