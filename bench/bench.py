@@ -3,8 +3,8 @@
 
     bench/bench.py [KIND ..]      KIND is made, kim, vessel, sheet or watch; all of them where none is named
 
-For each ship: tasks, cranes, how the plan ended, its end and bound in ticks, the gap between them, branchings,
-seconds, microseconds a branching, and the most memory in MB. For sheet: what `tasks` and `sheet` of a full ship
+For each ship: tasks, cranes, how the plan ended, the end of the plan that the search began with, its end and bound in
+ticks, the gap between them, branchings, processor seconds, and the most memory in MB. For sheet: what `tasks` and `sheet` of a full ship
 take, in processor seconds, the least of five runs. For watch a log of 200,000 reported places of eight cranes is
 judged: what came of it, seconds, and the most memory in MB. Only Python's standard library is needed; `./qc` is
 built first where it isn't.
@@ -131,7 +131,7 @@ def sheet():
 
 
 SHIPS = {
-    "made": (made, [(7, 4, 2), (1, 8, 2), (1, 15, 2), (3, 10, 3), (2, 10, 3)]),
+    "made": (made, [(7, 4, 2), (1, 8, 2), (1, 15, 2), (3, 10, 3), (2, 10, 3), (2, 20, 4), (2, 30, 5), (2, 60, 8)]),
     "kim": (kim, [(1, 10, 2), (2, 15, 2), (3, 20, 3), (4, 25, 3), (5, 30, 4), (6, 35, 4)]),
     "vessel": (vessel, [(1, 8, 2), (2, 12, 3), (3, 20, 4)]),
 }
@@ -158,11 +158,12 @@ def plan(kind, numbers, nodes):
                 file.write(text)
         files = [os.path.join(folder, f) for f in ("ship.toml", "stow.csv", "plan.csv", "tree.txt")]
         report = os.path.join(folder, "report")
-        start = time.perf_counter()
+        before = resource.getrusage(resource.RUSAGE_CHILDREN)
         with open(report, "w", encoding="ascii") as out:
             child = subprocess.Popen([PROGRAM, "plan", *files, "--nodes", str(nodes)], stdout=out)
             memory = most_memory(child)
-        seconds = time.perf_counter() - start
+        after = resource.getrusage(resource.RUSAGE_CHILDREN)
+        seconds = after.ru_utime + after.ru_stime - before.ru_utime - before.ru_stime
         with open(report, encoding="ascii") as text:
             lines = text.read().splitlines()
         tasks = subprocess.run([PROGRAM, "tasks", *files[:2]], capture_output=True, text=True, check=False)
@@ -195,18 +196,18 @@ def main(words):
         print(f"`watch`, 200,000 lines of 8 cranes: {told}, {seconds:.2f} s, {memory:.1f} MB\n", flush=True)
     kinds = [kind for kind in words or SHIPS if kind not in ("sheet", "watch")]
     if kinds:
-        print("| Ship | Tasks | Cranes | Ended | End | Bound | Gap % | Branched | Seconds | µs a branching | MB |")
+        print("| Ship | Tasks | Cranes | Ended | Given | End | Bound | Gap % | Branched | Processor s | MB |")
         print("|---|---|---|---|---|---|---|---|---|---|---|")
     for kind in kinds:
         for numbers in SHIPS[kind][1]:
             tasks, cranes, ended, told, seconds, memory = plan(kind, numbers, 20000)
             end, bound = int(told.get("end", 0)), int(told.get("bound", 0))
-            branched = int(told.get("branched", 0))
+            branched, given = int(told.get("branched", 0)), told.get("given", "none")
+            given = f"{int(given):,}" if given.isdigit() else given
             gap = 100 * (end - bound) / end if end else 0
-            each = 1e6 * seconds / max(1, branched)
             name = f"{kind} " + " ".join(map(str, numbers))
-            print(f"| `{name}` | {tasks} | {cranes} | {ended} | {end:,} | {bound:,} | {gap:.1f} | {branched:,} "
-                  f"| {seconds:.2f} | {each:.0f} | {memory:.1f} |", flush=True)
+            print(f"| `{name}` | {tasks} | {cranes} | {ended} | {given} | {end:,} | {bound:,} | {gap:.1f} | {branched:,} "
+                  f"| {seconds:.2f} | {memory:.1f} |", flush=True)
     if not words or "sheet" in words:
         sheet()
 
