@@ -36,7 +36,7 @@ module _ {A : Type 0} (found : A → Type 0) (stops : Stop → Type 0) (names : 
       → ((answer : A) → found answer → report.status answer ≡ wanted → report.whole answer pb.written pa.written → P) → P
   answer_found wanted is e {P} by =
       let told = whole_of (IsReading found stops names before after) report.whole report.part report.status pb pa ended run
-          (λ fault. subst IsAnswer (sym e ∙ fault) is) in
+      (λ fault. subst IsAnswer (sym e ∙ fault) is) in
       go run.answer run.serves (sym told.0 ∙ e) told.1
     where
       go : (r : Result A Stop) → IsReading found stops names before after r → answer_status report.status r ≡ wanted
