@@ -85,6 +85,13 @@ module _ (v pb pa : View) (ended : Status)
   as_make : (n k c : ℕ) → IsTrialRun n k c pb pa ended
   as_make n k c = record { answer = Err stop.OutOfMemory; serves = tt; reports = reports }
 
+-- ---- the names of the files
+
+pub reader_named : {X A : Type 0} {reader : Reader X A} {names now : Names} {before after pb pa : View} {ended : Status} → names ≡ now
+    → IsReaderRun reader names before after pb pa ended → IsReaderRun reader now before after pb pa ended
+reader_named {reader = reader} {before = before} {after = after} {pb = pb} {pa = pa} {ended = ended} same run =
+    subst (λ (names : Names). IsReaderRun reader names before after pb pa ended) same run
+
 -- ---- the report
 
 -- beside the sink nothing changes, whatever is served

@@ -16,18 +16,21 @@ returns-in-Ok g c =
     let bound = c.compared_of.ensures.bound_told in
     let step = c.in-Ok.ensures.step in
     record {
-      ok = (step.ok.0, record {
-        read = job;
-        due = c.requires.due;
-        tells = record {
-          read = c.in-Ok.read;
-          tree = step.ok.1;
-          tells = c.compared_of.ensures;
-          none_earlier = subst (NoneEarlier job.inst) bound c.in-Ok.ensures.none_earlier;
-          shown = shown_bound names files job (Least c.compared_of.result.bound) c.requires.due
-              (subst (λ (b : Bound). IfSome files (λ held. IsTreeShown job.inst (contents_in held names).tree b)) bound c.in-Ok.ensures.shown);
-        };
-      });
+      ok = (
+        step.ok.0,
+        record {
+          read = job;
+          due = c.requires.due;
+          tells = record {
+            read = c.in-Ok.read;
+            tree = step.ok.1;
+            tells = c.compared_of.ensures;
+            none_earlier = subst (NoneEarlier job.inst) bound c.in-Ok.ensures.none_earlier;
+            shown = shown_bound names files job (Least c.compared_of.result.bound) c.requires.due
+                (subst (λ (b : Bound). IfSome files (λ held. IsTreeShown job.inst (contents_in held names).tree b)) bound c.in-Ok.ensures.shown);
+          };
+        },
+      );
       err = tt;
       may = tt;
       files = step.files;

@@ -9,14 +9,17 @@ pub returns-in-Ok-new-clause-serves : goal.returns-in-Ok-new-clause-serves
 returns-in-Ok-new-clause-serves g c =
     let step = c.in-Ok.ensures.step in
     record {
-      ok = (step.ok.0, record {
-        read = c.in-Ok.load;
-        due = step.ok.1;
-        tells = record {
-          load_told = refl;
-          tells = tells_sheet c.in-Ok.load c.in-Ok-new.sheet c.in-Ok.ensures.load c.in_default.ensures.feasible c.in-Ok-new.ensures;
-        };
-      });
+      ok = (
+        step.ok.0,
+        record {
+          read = c.in-Ok.load;
+          due = step.ok.1;
+          tells = record {
+            load_told = refl;
+            tells = tells_sheet c.in-Ok.load c.in-Ok-new.sheet c.in-Ok.ensures.load c.in_default.ensures.feasible c.in-Ok-new.ensures;
+          };
+        },
+      );
       err = tt;
       may = tt;
       files = step.files;
