@@ -68,7 +68,7 @@ shade i = if i % 2 == 0 then codes "fill=\"#efefef\"/>\n" else codes "fill=\"#f7
 
 abbrev pub hatch_label : PaperView → (i y : ℕ) → List ℕ
 hatch_label p i y =
-    label_text (middle p (slice_index p.drawn.places i)) y (codes "text-anchor=\"middle\"")
+    label_text (middle p (slice_index p.drawn.places i)) y (codes "font-size=\"100\" text-anchor=\"middle\"")
     (decimal (slice_index p.drawn.hatches i))
 
 abbrev pub column_ground : PaperView → ℕ → List ℕ
@@ -79,7 +79,7 @@ column_ground p i =
 abbrev pub bay_label : PaperView → ℕ → List ℕ
 bay_label p i =
     label_text (middle p (slice_index p.drawn.places i)) 11680
-    (codes "font-size=\"120\" fill=\"#666666\" text-anchor=\"middle\"") (decimal (slice_index p.drawn.places i))
+    (codes "font-size=\"80\" fill=\"#666666\" text-anchor=\"middle\"") (decimal (slice_index p.drawn.places i))
 
 -- the column of hatch i, its number above and below, and its bay under that
 abbrev pub column_text : PaperView → ℕ → List ℕ

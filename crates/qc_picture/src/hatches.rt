@@ -114,7 +114,7 @@ impl Paper<'_> {
         label(
             x,
             y,
-            b"text-anchor=\"middle\"",
+            b"font-size=\"100\" text-anchor=\"middle\"",
             number_text(number).as_bytes(),
         )
     }
@@ -137,7 +137,7 @@ impl Paper<'_> {
         ensures { result ≡ bay_label (paper_view self.now) hatch }
     {
         let bay = u64::from(self.drawn.places[hatch as usize]);
-        let style = b"font-size=\"120\" fill=\"#666666\" text-anchor=\"middle\"";
+        let style = b"font-size=\"80\" fill=\"#666666\" text-anchor=\"middle\"";
         label(self.middle(bay), 11_680, style, number_text(bay).as_bytes())
     }
 
