@@ -53,8 +53,7 @@ class Plan:
         for _, kind, cell, _ in list(csv.reader(stow.splitlines()))[1:]:
             bay, tier = int(cell[-6:-4]) if len(cell) == 6 else int(cell[:3]), int(cell[-2:])
             hatch = next(h for h in self.hatches if h == bay or h % 2 == 0 and abs(h - bay) == 1)
-            phase = ["DH", "DD", "LH", "LD"].index(("D" if kind == "D" else "L") + ("D" if tier >= 70 else "H"))
-            phase = {0: 1, 1: 0, 2: 2, 3: 3}[phase]
+            phase = "DD DH LH LD".split().index(kind + ("D" if tier >= 70 else "H"))
             self.moves[hatch, phase] = self.moves.get((hatch, phase), 0) + 1
 
     def figures(self, k):
@@ -109,9 +108,9 @@ class Plan:
                                 (4500, "LH", "LH hold load"), (5950, "LD", "LD deck load")]:
             yield rect(x, 560, 180, 180, f'fill="{COLOURS[phase]}" stroke="#333333" stroke-width="16"/>')
             yield text(x + 240, 705, 'fill="#000000"', words)
-        yield line(7400, 650, 7800, 650, 'stroke="#333333" stroke-width="36"')
+        yield line(7400, 650, 7800, 650, 'stroke="#333333" stroke-width="24"')
         yield text(7880, 705, 'fill="#000000"', "a crane")
-        yield line(8600, 650, 9000, 650, 'stroke="#333333" stroke-width="36" stroke-dasharray="70 70"')
+        yield line(8600, 650, 9000, 650, 'stroke="#333333" stroke-width="24" stroke-dasharray="70 70"')
         yield text(9080, 705, 'fill="#000000"', "not ready")
         yield rect(9900, 560, 400, 180, 'fill="#c6d2f2"/>')
         yield text(10380, 705, 'fill="#000000"', "half the gap to each side: bands may touch")
@@ -123,9 +122,9 @@ class Plan:
             left, right = column(bay)
             middle = (left + right) // 2
             yield rect(left, 1500, right - left, 9600, f'fill="{"#f7f7f7" if i % 2 else "#efefef"}"/>')
-            yield text(middle, 1130, 'text-anchor="middle"', hatch)
-            yield text(middle, 11500, 'text-anchor="middle"', hatch)
-            yield text(middle, 11680, 'font-size="120" fill="#666666" text-anchor="middle"', bay)
+            yield text(middle, 1130, 'font-size="90" text-anchor="middle"', hatch)
+            yield text(middle, 11500, 'font-size="90" text-anchor="middle"', hatch)
+            yield text(middle, 11680, 'font-size="80" fill="#666666" text-anchor="middle"', bay)
         step = next(s for p in range(12) for s in (10**p, 2 * 10**p, 5 * 10**p) if end // s <= 12)
         for m in range(0, self.end + 1, step):
             yield line(900, down(m), 15300, down(m), 'stroke="#c4c4c4" stroke-width="8"')
@@ -141,14 +140,14 @@ class Plan:
             inset = min(20, (right - left) // 4)
             told = f'{hatch}-{phases[phase]} {self.cranes[k]["name"]} {start} to {stop}'
             yield rect(left + inset, down(start), right - left - 2 * inset, down(stop) - down(start),
-                       f'fill="{COLOURS[phases[phase]]}" stroke="{INKS[k % 8]}" stroke-width="24">'
+                       f'fill="{COLOURS[phases[phase]]}" stroke="{INKS[k % 8]}" stroke-width="16">'
                        f"<title>{told}</title></rect>")
         for k, track in enumerate(self.tracks):
             points = "".join(f" {across(2 * p)},{down(m)}" for m, p in track)
-            for ink, width in [("#ffffff", 70), (INKS[k % 8], 36)]:
+            for ink, width in [("#ffffff", 44), (INKS[k % 8], 24)]:
                 yield f'<polyline fill="none" stroke="{ink}" stroke-width="{width}" points="{points}"/>'
             x, ready = across(2 * track[0][1]), min(self.cranes[k].get("ready", 0), self.end)
-            yield line(x, 1500, x, down(ready), 'stroke="#ffffff" stroke-width="36" stroke-dasharray="70 70"')
+            yield line(x, 1500, x, down(ready), 'stroke="#ffffff" stroke-width="24" stroke-dasharray="70 70"')
         for hatch, phase, k, start, stop in self.tasks:
             left, right = column(place[hatch])
             tall = down(stop) - down(start)

@@ -68,7 +68,7 @@ shade i = if i % 2 == 0 then codes "fill=\"#efefef\"/>\n" else codes "fill=\"#f7
 
 abbrev pub hatch_label : PaperView → (i y : ℕ) → List ℕ
 hatch_label p i y =
-    label_text (middle p (slice_index p.drawn.places i)) y (codes "text-anchor=\"middle\"")
+    label_text (middle p (slice_index p.drawn.places i)) y (codes "font-size=\"90\" text-anchor=\"middle\"")
     (decimal (slice_index p.drawn.hatches i))
 
 abbrev pub column_ground : PaperView → ℕ → List ℕ
@@ -79,7 +79,7 @@ column_ground p i =
 abbrev pub bay_label : PaperView → ℕ → List ℕ
 bay_label p i =
     label_text (middle p (slice_index p.drawn.places i)) 11680
-    (codes "font-size=\"120\" fill=\"#666666\" text-anchor=\"middle\"") (decimal (slice_index p.drawn.places i))
+    (codes "font-size=\"80\" fill=\"#666666\" text-anchor=\"middle\"") (decimal (slice_index p.drawn.places i))
 
 -- the column of hatch i, its number above and below, and its bay under that
 abbrev pub column_text : PaperView → ℕ → List ℕ
@@ -157,7 +157,7 @@ told_text p j =
 abbrev pub box_style : PaperView → ℕ → List ℕ
 box_style p j =
     codes "fill=\"" ++ colour (task p.drawn.plan.inst j).phase ++ codes "\" stroke=\""
-    ++ ink (crane_of p.drawn.plan.sched j) ++ codes "\" stroke-width=\"24\"><title>" ++ told_text p j
+    ++ ink (crane_of p.drawn.plan.sched j) ++ codes "\" stroke-width=\"16\"><title>" ++ told_text p j
     ++ codes "</title></rect>\n"
 
 abbrev pub box_text : PaperView → ℕ → List ℕ
@@ -194,12 +194,12 @@ abbrev pub dashes_text : PaperView → ℕ → List ℕ
 dashes_text p k =
     line_text (across p.span (half p.drawn.fine (point p k 0))) 1500 (across p.span (half p.drawn.fine (point p k 0)))
     (down p.end (min (crane p.drawn.plan.inst k).ready p.end))
-    (codes "stroke=\"#ffffff\" stroke-width=\"36\" stroke-dasharray=\"70 70\"")
+    (codes "stroke=\"#ffffff\" stroke-width=\"24\" stroke-dasharray=\"70 70\"")
 
 -- a crane's line, white under its ink, and broken until it is ready
 abbrev pub line_of : PaperView → ℕ → List ℕ
 line_of p k =
-    stroke_text p (codes "#ffffff") (codes "70") k ++ stroke_text p (ink k) (codes "36") k ++ dashes_text p k
+    stroke_text p (codes "#ffffff") (codes "44") k ++ stroke_text p (ink k) (codes "24") k ++ dashes_text p k
 
 abbrev pub name_style : ℕ → List ℕ
 name_style k = codes "font-size=\"170\" font-weight=\"bold\" text-anchor=\"middle\" fill=\"" ++ ink k ++ codes "\""

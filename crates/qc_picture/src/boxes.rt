@@ -93,7 +93,7 @@ impl Paper<'_> {
         style.push(colour(self.drawn.plan.inst.task(task).phase));
         style.push(b"\" stroke=\"");
         style.push(ink(crane));
-        style.push(b"\" stroke-width=\"24\"><title>");
+        style.push(b"\" stroke-width=\"16\"><title>");
         style.push(self.told(task).as_bytes());
         style.push(b"</title></rect>\n");
         style

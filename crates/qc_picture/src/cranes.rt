@@ -114,7 +114,7 @@ impl Paper<'_> {
     {
         let x = self.at(&point_at(self.points(crane), 0));
         let ready = self.drawn.plan.inst.crane(crane).ready.min(self.end);
-        let style = b"stroke=\"#ffffff\" stroke-width=\"36\" stroke-dasharray=\"70 70\"";
+        let style = b"stroke=\"#ffffff\" stroke-width=\"24\" stroke-dasharray=\"70 70\"";
         line((x, 1_500), (x, self.down(ready)), style)
     }
 
@@ -124,8 +124,8 @@ impl Paper<'_> {
         requires crane { crane < cranes (paper_view self.now) }
         ensures { OnOk result (page.new ≡ page.old ++ line_of (paper_view self.now) crane) }
     {
-        self.put_line(crane, b"#ffffff", b"70", page)?;
-        self.put_line(crane, ink(crane), b"36", page)?;
+        self.put_line(crane, b"#ffffff", b"44", page)?;
+        self.put_line(crane, ink(crane), b"24", page)?;
         page.put(self.dashes(crane).as_bytes())
     }
 

@@ -24,9 +24,9 @@ pub(crate) fn legend() -> &'static [u8]
 <text x="4740" y="705" fill="#000000">LH hold load</text>
 <rect x="5950" y="560" width="180" height="180" fill="#fdbe85" stroke="#333333" stroke-width="16"/>
 <text x="6190" y="705" fill="#000000">LD deck load</text>
-<line x1="7400" y1="650" x2="7800" y2="650" stroke="#333333" stroke-width="36"/>
+<line x1="7400" y1="650" x2="7800" y2="650" stroke="#333333" stroke-width="24"/>
 <text x="7880" y="705" fill="#000000">a crane</text>
-<line x1="8600" y1="650" x2="9000" y2="650" stroke="#333333" stroke-width="36" stroke-dasharray="70 70"/>
+<line x1="8600" y1="650" x2="9000" y2="650" stroke="#333333" stroke-width="24" stroke-dasharray="70 70"/>
 <text x="9080" y="705" fill="#000000">not ready</text>
 <rect x="9900" y="560" width="400" height="180" fill="#c6d2f2"/>
 <text x="10380" y="705" fill="#000000">half the gap to each side: bands may touch</text>
@@ -114,7 +114,7 @@ impl Paper<'_> {
         label(
             x,
             y,
-            b"text-anchor=\"middle\"",
+            b"font-size=\"90\" text-anchor=\"middle\"",
             number_text(number).as_bytes(),
         )
     }
@@ -137,7 +137,7 @@ impl Paper<'_> {
         ensures { result ≡ bay_label (paper_view self.now) hatch }
     {
         let bay = u64::from(self.drawn.places[hatch as usize]);
-        let style = b"font-size=\"120\" fill=\"#666666\" text-anchor=\"middle\"";
+        let style = b"font-size=\"80\" fill=\"#666666\" text-anchor=\"middle\"";
         label(self.middle(bay), 11_680, style, number_text(bay).as_bytes())
     }
 

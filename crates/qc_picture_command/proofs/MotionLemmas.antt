@@ -1,5 +1,5 @@
 -- What is known of a plan whose figures or drawing are printed.
-use Rattle.std.proofs.Common.{◌≡◌, ℕ, List, length, Result, Ok, Err, IfOk, refl, arith}
+use Rattle.std.proofs.Common.{◌≡◌, ℕ, List, length, Result, Ok, Err, IfOk, Some, false, refl, ap, ap₂, ◌∙◌, arith}
 use Rattle.qc_model.specs.declared.direction.Direction.{Direction}
 use Rattle.qc_model.specs.declared.direction.Direction.TheVariants.{Up, Down}
 use Rattle.qc_model.specs.declared.schedule.Slot.{Slot}
@@ -9,6 +9,7 @@ use Rattle.qc_num.specs.declared.memory.OutOfMemory.{OutOfMemory}
 use Rattle.qc_ship.specs.Ship.{IsShip}
 use Rattle.qc_sheet_command.specs.declared.load.Load.{Load}
 use Rattle.qc_sheet_command.specs.Listed.{IsLoad}
+use Rattle.qc_figures.specs.Figures.{PlanView}
 use Rattle.qc_figures.specs.FiguresText.{figures_text}
 use Rattle.qc_figures.specs.Views.{IsReady}
 use Rattle.qc_figures.proofs.TimeLemmas.{whole}
@@ -41,6 +42,15 @@ drawable plan ship is = record {
   places = ship.places.count;
   few = ship.hatches.count.1;
 }
+
+-- what is drawn, as it was passed
+pub drawn_same : (plan : Planned) (p : PlanView) (hatches places : List ℕ) → p ≡ plan_with plan.load plan.tracks
+    → hatches ≡ plan.load.cargo.ship.hatches → places ≡ plan.load.cargo.ship.places
+    → record { plan = p; hatches = hatches; places = places; way = Some plan.direction; fine = false }
+    ≡ drawn_with plan.load plan.direction plan.tracks
+drawn_same plan p hatches places is one two =
+    ap (λ (q : PlanView). record (drawn_with plan.load plan.direction plan.tracks) { plan = q; hatches = hatches; places = places }) is
+    ∙ ap₂ (λ (h b : List ℕ). record (drawn_with plan.load plan.direction plan.tracks) { hatches = h; places = b }) one two
 
 -- a text tells of the plan: the figures, and the drawing
 pub tells_figures : (plan : Planned) → IsPrintable plan → (r : Result (List ℕ) OutOfMemory)

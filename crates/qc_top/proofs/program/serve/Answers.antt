@@ -1,6 +1,7 @@
 use Rattle.std.proofs.Common.{refl, subst}
 use Rattle.qc_dispatch_command.specs.Account.{IsDispatchRun}
 use Rattle.qc_judge_commands.specs.Account.{IsPlanCheckRun, IsTreeRun, show_reader, tasks_reader}
+use Rattle.qc_picture_command.specs.Account.{picture_reader, report_reader}
 use Rattle.qc_run.specs.Inputs.{Names}
 use Rattle.qc_sheet_command.specs.Account.{sheet_reader}
 use Rattle.qc_watch_command.specs.Account.{watch_reader}
@@ -30,6 +31,12 @@ returns-in-Sheet-clause-account g c = rw c.in-Sheet.is (reader_named {reader = s
 
 pub returns-in-Watch-clause-account : goal.returns-in-Watch-clause-account
 returns-in-Watch-clause-account g c = rw c.in-Watch.is (reader_named {reader = watch_reader} c.log_of.ensures c.watch.ensures.account)
+
+pub returns-in-Picture-clause-account : goal.returns-in-Picture-clause-account
+returns-in-Picture-clause-account g c = rw c.in-Picture.is (reader_named {reader = picture_reader} c.inputs_of-in-Picture.ensures c.draw_picture.ensures.account)
+
+pub returns-in-Report-clause-account : goal.returns-in-Report-clause-account
+returns-in-Report-clause-account g c = rw c.in-Report.is (reader_named {reader = report_reader} c.inputs_of-in-Report.ensures c.report_figures.ensures.account)
 
 pub returns-in-Some-clause-account : goal.returns-in-Some-clause-account
 returns-in-Some-clause-account g c =

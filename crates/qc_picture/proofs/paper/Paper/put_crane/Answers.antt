@@ -11,7 +11,7 @@ returns c =
     let k = c.args.crane in
     let dashes = c.as_bytes.ensures.bytes ∙ c.dashes.ensures in
     three c.put.result c.args.page.now c.put_line.new.page c.put_line-2.new.page c.put.new.self
-    (stroke_text p (codes "#ffffff") (codes "70") k) (stroke_text p (ink k) (codes "36") k) (dashes_text p k)
+    (stroke_text p (codes "#ffffff") (codes "44") k) (stroke_text p (ink k) (codes "24") k) (dashes_text p k)
     c.in_ok-put_line.ensures
-    (c.in_ok-put_line-2.ensures ∙ ap (λ (colour : List ℕ). c.put_line.new.page ++ stroke_text p colour (codes "36") k) c.ink.ensures.colour)
+    (c.in_ok-put_line-2.ensures ∙ ap (λ (colour : List ℕ). c.put_line.new.page ++ stroke_text p colour (codes "24") k) c.ink.ensures.colour)
     (rw dashes at c.put.ensures)
