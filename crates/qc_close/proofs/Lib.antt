@@ -7,3 +7,4 @@ mod LoopLemmas
 mod FrameLemmas
 mod CountLemmas
 pub mod ClosedLemmas
+pub mod NodeLemmas

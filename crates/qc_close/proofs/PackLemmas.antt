@@ -4,20 +4,18 @@ use Rattle.std.proofs.Math.Nat.{mul-le-mul_left, mul-sub, mul-zero}
 use Rattle.std.proofs.lemmas.Bool.{and_from, and_parts, cases_eq, cases_lt, cond-false, cond-true, cond_both, eqb-false, eqb-true, false≢true, le-ltb, lt-ltb, ltb-true, not-true, or_cases}
 use Rattle.std.proofs.lemmas.Int.{by_lt_z, ints}
 use Rattle.std.proofs.lemmas.List.{length-map}
-use Rattle.std.proofs.lemmas.List.FromFn.{get_or-map-range_with_len}
 use Rattle.std.proofs.lemmas.List.Sums.{sum_by-cons}
 use Rattle.std.specs.List.{list_all, range_with_len}
-use Rattle.qc_model.specs.declared.decision.Decision.{Decision}
 use Rattle.qc_model.specs.declared.schedule.Slot.{Slot}
 use Rattle.qc_model.specs.Bays.{bays_between, bays_up}
 use Rattle.qc_model.specs.Instance.{InstanceView, bay_of, ticks_of}
 use Rattle.qc_model.specs.Leaves.{ticks_over}
-use Rattle.qc_model.specs.Nodes.{Agrees, assigned, least, reaches}
+use Rattle.qc_model.specs.Nodes.{least, reaches}
 use Rattle.qc_model.specs.Rules.{Feasible, crane_of, end_of, ends, start_of, starts}
 use Rattle.qc_model.specs.Ticks.{task_distance, travel_between}
 use Rattle.qc_model.proofs.Bays.{bays}
-use Rattle.qc_model.proofs.NodeLemmas.{T_true, assigned_is, ends_by, if_some, start_at}
-use Rattle.qc_close.specs.Assignments.{Follows, cranes_of, crane_in, cranes_by, cranes_for, place}
+use Rattle.qc_model.proofs.NodeLemmas.{T_true, ends_by, if_some, start_at}
+use Rattle.qc_close.specs.Assignments.{Follows, crane_in, cranes_by, cranes_for, place}
 use Rattle.qc_close.specs.Packs.{IsPackBound, all_clash, all_differ, clash, is_doable, is_packed, may_lie, pack, places, span, stretches}
 use Rattle.qc_close.proofs.Members.{Among, contains_of, all_at, all_from, among_filter, among_flat, among_map, among_range, any_from, first_of, least_at}
 use Rattle.qc_close.proofs.Rows.{AllClear, AreClear, Row, row_fits, row_of, way, way_between}
@@ -246,10 +244,3 @@ pack_end_le inst cranes tasks ticks e sched f follows early first =
     let Shows : Option ℕ → Type 0 = λ o. IfSome o (λ n. least (map early tasks) + n ≤ ends inst sched) in
     subst Shows e
     (cond_both (is_packed inst cranes tasks) _ None Shows (λ t. packed_end inst sched f cranes follows early tasks first t) (λ _. tt))
-
--- a schedule that agrees with decisions follows what they say of cranes
-pub follows_of : (inst : InstanceView) (ds : List Decision) (sched : List Slot) → Agrees inst ds sched
-    → Follows inst (cranes_of inst ds) sched
-follows_of inst ds sched a j k low e =
-    let at = get_or-map-range_with_len (assigned ds) 0 (length inst.tasks) j j None low (omega arith) in
-    subst (λ (o : Option ℕ). IfSome o (λ k. crane_of sched j ≡ k)) (sym at ∙ e) (assigned_is inst sched ds a j)

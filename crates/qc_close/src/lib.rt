@@ -2,8 +2,8 @@
 //! whatever the order of tasks: tasks of which no two can run together.
 #![tactic(auto)]
 
-mod closed;
 mod crew;
+mod laws;
 mod packs;
 mod turn;
 

@@ -1,0 +1,52 @@
+-- What packed tasks and closed ends show of the schedules that agree with a node of a search.
+use Rattle.std.proofs.Common.{◌≡◌, ℕ, ◌+◌, ◌<◌, ◌≤◌, true, List, length, map, Option, None, Some, IfSome, inl, inr, sym, subst, ◌∙◌, arith}
+use Rattle.std.proofs.lemmas.Bool.{cases_Bool, cond-false}
+use Rattle.std.proofs.lemmas.List.FromFn.{get_or-map-range_with_len}
+use Rattle.qc_model.specs.declared.decision.Decision.{Decision}
+use Rattle.qc_model.specs.declared.schedule.Slot.{Slot}
+use Rattle.qc_model.specs.Instance.{InstanceView, Valid}
+use Rattle.qc_model.specs.Nodes.{Agrees, assigned, head, least}
+use Rattle.qc_model.specs.OneWay.{GoesUp}
+use Rattle.qc_model.specs.Rules.{crane_of, ends}
+use Rattle.qc_model.proofs.NodeLemmas.{assigned_is, meets_of, start_at}
+use Rattle.qc_close.specs.declared.turn.Turn.TheVariants.{OneWay}
+use Rattle.qc_close.specs.Assignments.{Follows, cranes_of}
+use Rattle.qc_close.specs.Closed.{IsClosed}
+use Rattle.qc_close.specs.Packs.{is_packed, pack}
+use Rattle.qc_close.proofs.ClosedLemmas.{closed_end_le}
+use Rattle.qc_close.proofs.PackLemmas.{pack_end_le}
+use Rattle.qc_close.proofs.SpanLemmas.{packed_range}
+
+-- a schedule that agrees with decisions follows what they say of cranes
+follows_of : (inst : InstanceView) (ds : List Decision) (sched : List Slot) → Agrees inst ds sched
+    → Follows inst (cranes_of inst ds) sched
+follows_of inst ds sched a j k low e =
+    let at = get_or-map-range_with_len (assigned ds) 0 (length inst.tasks) j j None low (omega arith) in
+    subst (λ (o : Option ℕ). IfSome o (λ k. crane_of sched j ≡ k)) (sym at ∙ e) (assigned_is inst sched ds a j)
+
+packed_of : (inst : InstanceView) (cranes : List (Option ℕ)) (tasks : List ℕ) (ticks : ℕ)
+    → pack inst cranes tasks ≡ Some ticks → is_packed inst cranes tasks ≡ true
+packed_of inst cranes tasks ticks e = elim (cases_Bool (is_packed inst cranes tasks)) [
+  | inl t ↦ t
+  | inr f ↦ absurd (other (sym (cond-false (is_packed inst cranes tasks) _ None f) ∙ e))
+]
+  where
+    other : None ≡ Some ticks → ⊥
+    other e = cc
+
+module _ (inst : InstanceView) (ds : List Decision) (sched : List Slot) (g : GoesUp inst sched)
+    (a : Agrees inst ds sched) where
+  -- packed tasks start no earlier than their heads, so the schedule ends no earlier than the least of these allows
+  pub packed_node_le : (tasks : List ℕ) (ticks : ℕ) → pack inst (cranes_of inst ds) tasks ≡ Some ticks
+      → least (map (head inst ds) tasks) + ticks ≤ ends inst sched
+  packed_node_le tasks ticks e =
+      let range = packed_range inst (cranes_of inst ds) tasks (packed_of inst (cranes_of inst ds) tasks ticks e) in
+      let meets = meets_of inst ds sched g a in
+      pack_end_le inst (cranes_of inst ds) tasks ticks e sched g.feasible (follows_of inst ds sched a) (head inst ds)
+      (λ j c.
+      let low = subst (λ (i : ℕ). i < length inst.tasks) c.2 (range c.0 j c.1) in
+      omega (arith, meets.heads j low, start_at sched j))
+
+  pub closed_node_le : Valid inst → (end : ℕ) → IsClosed inst OneWay (cranes_of inst ds) end → end ≤ ends inst sched
+  closed_node_le valid end closed =
+      closed_end_le inst OneWay (cranes_of inst ds) end valid closed sched g (follows_of inst ds sched a)
