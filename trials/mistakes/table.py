@@ -12,7 +12,8 @@ RESTOWS_PLAN = "task,crane,start,end\n2-DD,C1,0,20\n10-LD,C1,22,42\n14-DD,C2,43,
 
 # base: the folder of examples that ship.toml and stow.csv come from, and further files
 BASES = {
-    "first": ("first", {"plan.csv": FIRST_PLAN, "tree.txt": ("examples", "first/tree.txt")}),
+    "first": ("first", {"plan.csv": FIRST_PLAN, "tree.txt": ("examples", "first/tree.txt"),
+                        "happened.txt": ("examples", "first/happened.txt")}),
     "vessel": ("vessel", {}),
     "places": ("places", {"log.txt": ("examples", "places/log.txt")}),
     "restows": ("restows", {"plan.csv": RESTOWS_PLAN}),
@@ -23,6 +24,7 @@ CHECK = "check ship.toml stow.csv plan.csv tree.txt"
 SHOW = "show ship.toml stow.csv plan.csv"
 PLAN = "plan ship.toml stow.csv new.csv newtree.txt"
 WATCH = "watch ship.toml log.txt"
+DISPATCH = "dispatch ship.toml stow.csv plan.csv happened.txt"
 
 HATCHES = "1 to 60 whole numbers from 1 to 998 in brackets, bow to stern, as [2, 6, 10]"
 PLACES = "one whole number from 1 to 6000 for each hatch, in decimetres, as [400, 550, 900]"
@@ -49,6 +51,7 @@ LENGTH = ("or the bay where the container stands; odd bays are of 20 feet and ev
           "written 40")
 TICK = "it is a tick in 1 to 12 digits, without a leading 0"
 LINE = "a line is TIME NAME PLACE, as 10 C1 5"
+REPORT = "a line is tick N or done TASK, as done 2-DD"
 ORDER = "SHIP, STOW, PLAN and TREE stand in this order, and this file was named as"
 OF_OTHERS = "qc: a tree belongs to its ship file and its list: where one of them changed, plan again"
 SEMICOLONS = "semicolons stand between the columns: save the table with commas between them"
@@ -73,6 +76,10 @@ def tree(name, change, report, lines, base="first", words=CHECK, status=7):
 
 def log(name, change, report, lines, base="places", words=WATCH, status=17):
     return (name, base, words, {"log.txt": change}, status, report, lines)
+
+
+def course(name, change, report, lines, base="first", words=DISPATCH, status=17):
+    return (name, base, words, {"happened.txt": change}, status, report, lines)
 
 
 def usage(name, words, lines, base="first"):
@@ -564,13 +571,31 @@ MISTAKES = [
     log("a time that goes back", [("4240 C1 280\n", "3999 C1 280\n")], "BadLog TimeBack 3",
         ['qc: log.txt, line 3: the time of "C1" is "3999", and in line 2 it was "4000" already; the lines of each crane stand '
          'in order of time']),
+    # ---- the log of what happened
+    course("commas in a log of ticks", [("tick 25\n", "tick,25\n")], "BadLog Line 1",
+           ['qc: happened.txt, line 1: "tick,25": two words stand in a line, with one space between them and none besides; '
+            + REPORT]),
+    course("no ticks", [("tick 25\n", "tick 0\n")], "BadLog Line 1",
+           ['qc: happened.txt, line 1: "tick 0": ticks are counted in digits, from 1 to 999999999 and without a leading 0; '
+            + REPORT]),
+    course("another word", [("done 2-DD\n", "end 2-DD\n")], "BadLog Line 2",
+           ['qc: happened.txt, line 2: "end 2-DD": the first word is tick or done; ' + REPORT]),
+    course("no line feed behind the last tick", ("cut", 1), "BadLog Line 3",
+           ['qc: happened.txt, line 3: "tick 2": no line feed ends it: the log was cut off, or its last line has none; '
+            + REPORT]),
+    course("a task that isn't there", [("done 2-DD\n", "done 2-LH\n")], "BadLog UnknownTask 2",
+           ['qc: happened.txt, line 2: "2-LH" is no task of this ship and list; qc tasks tells their names']),
+    course("a task that is done twice", [("tick 2\n", "done 2-DD\n")], "BadLog NotRunning 3",
+           ['qc: happened.txt, line 3: "2-DD" doesn\'t run then: a task is done once, and after its start was told']),
     # ---- the words
-    usage("no words", "", ["qc: no word was given, or one that isn't text in UTF-8; plan, check, tasks, show, make, sheet or "
-                           "watch stands first"]),
+    usage("no LOG", "dispatch ship.toml stow.csv plan.csv",
+          ["qc: dispatch needs LOG too; the words are", "qc:     qc dispatch SHIP STOW PLAN LOG"]),
+    usage("no words", "", ["qc: no word was given, or one that isn't text in UTF-8; a command stands first, and qc --help says "
+                           "what they are"]),
     usage("a command misspelt", "pln ship.toml stow.csv new.csv newtree.txt",
           ['qc: "pln" is no command; the nearest is plan']),
     usage("a file for the command", "ship.toml stow.csv",
-          ['qc: "ship.toml" is no command; the commands are plan, check, tasks, show, make, sheet and watch']),
+          ['qc: "ship.toml" is no command; qc --help says what they are']),
     usage("no TREE", "plan ship.toml stow.csv new.csv",
           ["qc: plan needs TREE too; the words are", "qc:     qc plan SHIP STOW PLAN TREE [--nodes N] [--from OWN]"]),
     usage("only SHIP", "tasks ship.toml", ["qc: tasks needs STOW too; the words are", "qc:     qc tasks SHIP STOW"]),

@@ -3,6 +3,7 @@
 #![tactic(auto)]
 
 mod broken;
+mod course;
 mod cranes;
 mod doing;
 mod facts;

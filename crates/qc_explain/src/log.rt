@@ -46,7 +46,7 @@ pub(crate) fn say_log(
 }
 
 /// A word of a line, from 0, where single spaces stand between words.
-fn word(line: &[u8], at: usize) -> &[u8] {
+pub(crate) fn word(line: &[u8], at: usize) -> &[u8] {
     let mut number = 0usize;
     for word in line.split(|byte| *byte == b' ') {
         if number == at {
@@ -58,7 +58,7 @@ fn word(line: &[u8], at: usize) -> &[u8] {
 }
 
 /// Whether the line with a number is the last one, and no line feed ends it.
-fn is_open(bytes: &[u8], number: usize) -> bool {
+pub(crate) fn is_open(bytes: &[u8], number: usize) -> bool {
     let lines = bytes.split(|byte| *byte == b'\n').count();
     number == lines && bytes.last() != Some(&b'\n')
 }

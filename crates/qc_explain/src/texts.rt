@@ -60,11 +60,22 @@ pub(crate) fn names_of<'a>(request: &Request<'a>) -> Names<'a> {
         Request::Tasks { ship, stow } => names_with(ship, Some(stow), None),
         Request::Show { ship, stow, plan } => names_with(ship, Some(stow), Some(plan)),
         Request::Sheet { ship, stow, plan } => names_with(ship, Some(stow), Some(plan)),
+        Request::Picture { ship, stow, plan } => names_with(ship, Some(stow), Some(plan)),
+        Request::Report { ship, stow, plan } => names_with(ship, Some(stow), Some(plan)),
+        Request::Dispatch {
+            ship,
+            stow,
+            plan,
+            log,
+        } => Names {
+            log: Some(log),
+            ..names_with(ship, Some(stow), Some(plan))
+        },
         Request::Watch { ship, log } => Names {
             log: Some(log),
             ..names_with(ship, None, None)
         },
-        Request::Make { .. } | Request::Usage => Names {
+        Request::Make { .. } | Request::Help(_) | Request::Version | Request::Usage => Names {
             ship: None,
             ..names_with("", None, None)
         },

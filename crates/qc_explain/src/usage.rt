@@ -13,7 +13,7 @@ struct Form {
     operands: &'static [&'static str],
 }
 
-const FORMS: [Form; 7] = [
+const FORMS: [Form; 10] = [
     Form {
         name: "plan",
         operands: &["SHIP", "STOW", "PLAN", "TREE"],
@@ -39,13 +39,27 @@ const FORMS: [Form; 7] = [
         operands: &["SHIP", "STOW", "PLAN"],
     },
     Form {
+        name: "dispatch",
+        operands: &["SHIP", "STOW", "PLAN", "LOG"],
+    },
+    Form {
         name: "watch",
         operands: &["SHIP", "LOG"],
+    },
+    Form {
+        name: "picture",
+        operands: &["SHIP", "STOW", "PLAN"],
+    },
+    Form {
+        name: "report",
+        operands: &["SHIP", "STOW", "PLAN"],
     },
 ];
 
 /// The names of the commands.
-const NAMES: [&str; 7] = ["plan", "check", "tasks", "show", "make", "sheet", "watch"];
+const NAMES: [&str; 10] = [
+    "plan", "check", "tasks", "show", "make", "sheet", "dispatch", "watch", "picture", "report",
+];
 
 const OPTIONS: [&str; 2] = ["--nodes", "--from"];
 
@@ -282,9 +296,7 @@ fn say_no_command(page: &mut Page, word: &str) -> Result<(), OutOfMemory> {
     let word = Word(word);
     match near {
         Some(near) => page.say(format_args!("\"{word}\" is no command; the nearest is {near}")),
-        None => page.say(format_args!(
-            "\"{word}\" is no command; the commands are plan, check, tasks, show, make, sheet and watch"
-        )),
+        None => page.say(format_args!("\"{word}\" is no command; qc --help says what they are")),
     }
 }
 
@@ -292,7 +304,7 @@ fn say_no_command(page: &mut Page, word: &str) -> Result<(), OutOfMemory> {
 pub(crate) fn say_usage(page: &mut Page, words: &[String]) -> Result<(), OutOfMemory> {
     let Some((first, rest)) = words.split_first() else {
         return page.say(
-            "no word was given, or one that isn't text in UTF-8; plan, check, tasks, show, make, sheet or watch stands first",
+            "no word was given, or one that isn't text in UTF-8; a command stands first, and qc --help says what they are",
         );
     };
     for form in &FORMS {

@@ -4,6 +4,7 @@ ghost use Rattle.qc_io.specs.Outside.{beside};
 ghost use Rattle.qc_explain.specs.Frame.{LeavesFiles};
 
 use crate::broken::say_broken;
+use crate::course::say_course;
 use crate::facts::facts_of;
 use crate::log::say_log;
 use crate::notes::say_notes;
@@ -115,6 +116,12 @@ fn say_bad_log(page: &mut Page, names: &Names<'_>, texts: &Texts) -> Result<(), 
     let (Some(name), Some(bytes)) = (names.log, texts.log.bytes()) else {
         return Ok(());
     };
+    if let Some(plan) = texts.plan.bytes() {
+        return match instance_of(page.alloc(), texts)? {
+            Some(inst) => say_course(page, name, bytes, &inst, plan),
+            None => Ok(()),
+        };
+    }
     match ship_in(page.alloc(), &texts.ship)? {
         Some(ship) => say_log(page, name, bytes, &ship),
         None => Ok(()),

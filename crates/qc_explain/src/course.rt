@@ -1,0 +1,92 @@
+//! Faults of a log of ticks and of tasks that are done.
+
+use crate::log::{is_open, word};
+use crate::page::Page;
+use crate::place::{Place, line_of, raw_line};
+use crate::shown::Shown;
+use qc_dispatch::{DispatchError, DispatchFault, DispatchKind, follow_log};
+use qc_gantt::{PlanError, read_plan};
+use qc_model::Instance;
+use qc_num::OutOfMemory;
+use qc_sheet_command::broken_rule;
+use std::alloc::Global;
+
+/// The first fault of a log by which a plan is followed.
+fn fault_of(
+    alloc: Global,
+    bytes: &[u8],
+    inst: &Instance,
+    plan: &[u8],
+) -> Result<Option<DispatchFault>, OutOfMemory> {
+    let sched = match read_plan(alloc, plan, inst) {
+        Ok(sched) => sched,
+        Err(PlanError::Fault(_)) => return Ok(None),
+        Err(PlanError::OutOfMemory) => return Err(OutOfMemory),
+    };
+    if broken_rule(inst, &sched).is_some() {
+        return Ok(None);
+    }
+    match follow_log(alloc, inst, &sched, bytes) {
+        Ok(_) => Ok(None),
+        Err(DispatchError::Fault(fault)) => Ok(Some(fault)),
+        Err(DispatchError::OutOfMemory) => Err(OutOfMemory),
+    }
+}
+
+/// Says what is wrong with a log by which a plan is followed.
+pub(crate) fn say_course(
+    page: &mut Page,
+    file: &str,
+    bytes: &[u8],
+    inst: &Instance,
+    plan: &[u8],
+) -> Result<(), OutOfMemory> {
+    let Some(fault) = fault_of(page.alloc(), bytes, inst, plan)? else {
+        return Ok(());
+    };
+    let number = fault.line as usize;
+    let place = Place::at_line(file, number);
+    let name = Shown(word(line_of(bytes, number), 1));
+    match fault.kind {
+        DispatchKind::TooMany => {
+            page.say(format_args!(
+                "{place}: this is a line behind the 100000th, and a log has no more"
+            ))
+        }
+        DispatchKind::Line => say_line(page, place, bytes),
+        DispatchKind::UnknownTask => page.say(format_args!(
+            "{place}: {name} is no task of this ship and list; qc tasks tells their names"
+        )),
+        DispatchKind::NotRunning => page.say(format_args!(
+            "{place}: {name} doesn't run then: a task is done once, and after its start was told"
+        )),
+    }
+}
+
+/// Why a line is none of a log.
+fn why_no_line(line: &[u8]) -> &'static str {
+    let (first, second) = (word(line, 0), word(line, 1));
+    if line.trim_ascii().is_empty() {
+        "the line is empty: delete it"
+    } else if line.ends_with(b"\r") {
+        "the lines end with a carriage return, as on Windows: they end with a line feed alone"
+    } else if second.is_empty() || !word(line, 2).is_empty() || line.ends_with(b" ") {
+        "two words stand in a line, with one space between them and none besides"
+    } else if first == b"tick".as_slice() {
+        "ticks are counted in digits, from 1 to 999999999 and without a leading 0"
+    } else {
+        "the first word is tick or done"
+    }
+}
+
+/// Says what is wrong with a line.
+fn say_line(page: &mut Page, place: Place<'_>, bytes: &[u8]) -> Result<(), OutOfMemory> {
+    let raw = raw_line(bytes, place.line);
+    let shown = Shown(line_of(bytes, place.line));
+    let why = if is_open(bytes, place.line) {
+        "no line feed ends it: the log was cut off, or its last line has none"
+    } else {
+        why_no_line(raw)
+    };
+    page.say(format_args!("{place}: {shown}: {why}; a line is tick N or done TASK, as done 2-DD"))
+}
