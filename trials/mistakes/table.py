@@ -10,6 +10,20 @@ FIRST_PLAN = "task,crane,start,end\n2-DD,C1,0,20\n6-DD,C1,21,31\n"
 # examples/restows: 2-DD 20 ticks, 10-LH doesn't exist, 10-LD 20 ticks, 14-DD 10 ticks; C1 at 1, C2 at 3
 RESTOWS_PLAN = "task,crane,start,end\n2-DD,C1,0,20\n10-LD,C1,22,42\n14-DD,C2,43,53\n"
 
+# restows in an order that no plan which goes one way keeps, so that without a branching no plan is known
+ORDERED_SHIP = """hatches = [2, 6, 10, 14]
+margin = 1
+travel = 1
+deck_move = 10
+hold_move = 10
+restows = "ordered"
+
+[[crane]]
+name = "C1"
+bay = 1
+"""
+ORDERED_LIST = "id,move,cell,length\nX,D,020082,40\nY,D,060082,40\nX,L,060082,40\nY,L,020082,40\n"
+
 # base: the folder of examples that ship.toml and stow.csv come from, and further files
 BASES = {
     "first": ("first", {"plan.csv": FIRST_PLAN, "tree.txt": ("examples", "first/tree.txt"),
@@ -143,7 +157,8 @@ MISTAKES = [
     ("an old plan beside Infeasible", "first", "plan ship.toml stow.csv plan.csv newtree.txt",
      {"ship.toml": [("bay = 1\n", "bay = 1\nto = 1\n")]}, 10, "Infeasible",
      ["qc: note: plan.csv: this plan was there before and isn't of this run"]),
-    ("an old plan beside no plan", "first", "plan ship.toml stow.csv plan.csv newtree.txt --nodes 0", {}, 12, "Budget",
+    ("an old plan beside no plan", "first", "plan ship.toml stow.csv plan.csv newtree.txt --nodes 0",
+     {"ship.toml": ORDERED_SHIP, "stow.csv": ORDERED_LIST}, 12, "Budget",
      ["qc: note: plan.csv: this plan was there before and isn't of this run"]),
     # ---- ship files that are no TOML
     ship("decimal comma", [("travel = 60\n", "travel = 1,5\n")], "BadShip NotToml",
