@@ -1,11 +1,12 @@
 #!/usr/bin/env python3
 """Plans ships that are made from numbers, and prints what it took.
 
-    bench/bench.py [KIND ..]      KIND is made, kim, vessel, sheet or watch; all of them where none is named
+    bench/bench.py [KIND ..]      KIND is made, kim, vessel, sheet, large or watch; all of them where none is named
 
 For each ship: tasks, cranes, how the plan ended, the end of the plan that the search began with, its end and bound in
 ticks, the gap between them, branchings, processor seconds, and the most memory in MB. For sheet: what `tasks` and `sheet` of a full ship
-take, in processor seconds, the least of five runs. For watch a log of 200,000 reported places of eight cranes is
+take, in processor seconds, the least of five runs. For large the same of a plan of 60 hatches and 8 cranes that is drawn,
+reported, and followed by a log of 100,000 lines. For watch a log of 200,000 reported places of eight cranes is
 judged: what came of it, seconds, and the most memory in MB. Only Python's standard library is needed; `./qc` is
 built first where it isn't.
 """
@@ -130,6 +131,23 @@ def sheet():
     print(f"| {len(lines) - count - 1:,} | {count} | {tasks:.3f} | {sheets:.3f} |", flush=True)
 
 
+def large():
+    """Prints what a large plan takes to be drawn, reported and followed by a long log."""
+    toml, rows = made(2, 60, 8)
+    texts = {"ship.toml": toml, "stow.csv": "\n".join(rows) + "\n", "log.txt": "tick 1\n" * 100_000}
+    with tempfile.TemporaryDirectory() as folder:
+        for name, text in texts.items():
+            with open(os.path.join(folder, name), "w", encoding="ascii") as file:
+                file.write(text)
+        files = [os.path.join(folder, name) for name in ("ship.toml", "stow.csv", "plan.csv")]
+        tree, log = os.path.join(folder, "tree.txt"), os.path.join(folder, "log.txt")
+        subprocess.run([PROGRAM, "plan", *files, tree, "--nodes", "0"], capture_output=True, check=False)
+        took = [processor(*words)[0] for words in
+                (("tasks", *files[:2]), ("picture", *files), ("report", *files), ("dispatch", *files, log))]
+    print("\n| `tasks`, seconds | `picture` | `report` | `dispatch`, 100,000 lines |\n|---|---|---|---|")
+    print("| " + " | ".join(f"{seconds:.3f}" for seconds in took) + " |", flush=True)
+
+
 SHIPS = {
     "made": (made, [(7, 4, 2), (1, 8, 2), (1, 15, 2), (3, 10, 3), (2, 10, 3), (2, 20, 4), (2, 30, 5), (2, 60, 8)]),
     "kim": (kim, [(1, 10, 2), (2, 15, 2), (3, 20, 3), (4, 25, 3), (5, 30, 4), (6, 35, 4)]),
@@ -194,7 +212,7 @@ def main(words):
     if not words or "watch" in words:
         told, seconds, memory = watch(200_000, 8)
         print(f"`watch`, 200,000 lines of 8 cranes: {told}, {seconds:.2f} s, {memory:.1f} MB\n", flush=True)
-    kinds = [kind for kind in words or SHIPS if kind not in ("sheet", "watch")]
+    kinds = [kind for kind in words or SHIPS if kind not in ("sheet", "large", "watch")]
     if kinds:
         print("| Ship | Tasks | Cranes | Ended | Given | End | Bound | Gap % | Branched | Processor s | MB |")
         print("|---|---|---|---|---|---|---|---|---|---|---|")
@@ -210,6 +228,8 @@ def main(words):
                   f"| {seconds:.2f} | {memory:.1f} |", flush=True)
     if not words or "sheet" in words:
         sheet()
+    if not words or "large" in words:
+        large()
 
 
 if __name__ == "__main__":

@@ -6,6 +6,7 @@
     reference.py sheet SHIP STOW PLAN
     reference.py check SHIP STOW PLAN TREE      (PLAN may be `-`)
     reference.py watch SHIP LOG
+    reference.py dispatch SHIP STOW PLAN LOG
     reference.py least SHIP STOW
 
 All but the last print what `qc` must print; `least` tries every choice of cranes and orders and prints the least end
@@ -773,6 +774,77 @@ def watch_report(ship, data):
     return 0, [f"Safe {sum(map(len, lists))}"]
 
 
+class Course:
+    """The course of a plan whose tasks take as long as they do, tick by tick."""
+
+    def __init__(self, inst, plan):
+        self.inst, self.plan, self.now, self.told = inst, plan, 0, []
+        self.start, self.end = [None] * len(plan), [None] * len(plan)
+        self.settle()
+
+    def leads(self, i, j):
+        (v, s), (w, t) = self.plan[i], self.plan[j]
+        tied = (i, j) in self.inst.before or (min(i, j), max(i, j)) in self.inst.apart \
+            or v == w or self.inst.distance(i, v, j, w) > 0
+        return s < t and tied
+
+    def gap(self, i, j):
+        (v, _), (w, _) = self.plan[i], self.plan[j]
+        if v == w:
+            return self.inst.travel * abs(self.inst.tasks[i].bay - self.inst.tasks[j].bay)
+        return self.inst.distance(i, v, j, w)
+
+    def may_start(self, j):
+        return self.start[j] is None and self.now >= self.inst.free_from(j, self.plan[j][0]) and all(
+            self.end[i] is not None and self.end[i] + self.gap(i, j) <= self.now
+            for i in range(len(self.plan)) if self.leads(i, j))
+
+    def settle(self):
+        while any(self.may_start(j) for j in range(len(self.plan))):
+            j = next(j for j in range(len(self.plan)) if self.may_start(j))
+            self.start[j] = self.now
+            self.told.append(f"start {self.inst.tasks[j].name} {self.inst.cranes[self.plan[j][0]].name} {self.now}")
+
+    def tick(self, count):
+        for _ in range(count):
+            self.now += 1
+            self.settle()
+
+    def done(self, j):
+        if self.start[j] is None or self.end[j] is not None:
+            return False
+        self.end[j] = self.now
+        self.told.append(f"end {self.inst.tasks[j].name} {self.now}")
+        self.settle()
+        return True
+
+
+def dispatch_report(inst, data, log):
+    plan, fault = read_plan(inst, data)
+    if fault:
+        return 8, [f"BadPlan {fault[0]} {fault[1]}"]
+    broken = next(breaks_up(inst, plan), ("OneWay",))
+    if broken[0] != "OneWay":
+        return 13, [" ".join(["Broken", broken[0]] + [inst.tasks[j].name for j in broken[1:]])]
+    course, names = Course(inst, plan), {task.name.encode(): j for j, task in enumerate(inst.tasks)}
+    *lines, cut = log.split(b"\n")
+    for number, line in enumerate(lines + [cut] * (cut != b""), 1):
+        ticks = re.fullmatch(b"tick ([1-9][0-9]{0,8})", line)
+        done = re.fullmatch(b"done ([^ ]+)", line, re.DOTALL)
+        if number > 100_000:
+            return 17, [f"BadLog TooMany {number}"]
+        if number > len(lines) or not (ticks or done):
+            return 17, [f"BadLog Line {number}"]
+        if ticks:
+            course.tick(int(ticks[1]))
+        elif done[1] not in names:
+            return 17, [f"BadLog UnknownTask {number}"]
+        elif not course.done(names[done[1]]):
+            return 17, [f"BadLog NotRunning {number}"]
+    running = sum(s is not None and e is None for s, e in zip(course.start, course.end))
+    return 0, course.told + [f"now {course.now}", f"left {course.start.count(None)}", f"running {running}"]
+
+
 def main():
     command, *paths = sys.argv[1:]
     files = [None if path == "-" else open(path, "rb").read() for path in paths]
@@ -789,6 +861,8 @@ def main():
         status, lines = sheet_report(ship, files[1], inst, files[2])
     elif command == "watch":
         status, lines = watch_report(ship, files[1])
+    elif command == "dispatch":
+        status, lines = dispatch_report(inst, files[2], files[3])
     else:
         status, lines = check_report(inst, files[2], files[3])
     print("\n".join(lines))
