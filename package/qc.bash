@@ -24,7 +24,11 @@ _qc() {
             return
             ;;
         plan:*:-*)
-            mapfile -t COMPREPLY < <(compgen -W '--nodes --from' -- "$word")
+            mapfile -t COMPREPLY < <(compgen -W '--nodes --from --help' -- "$word")
+            return
+            ;;
+        *:-*)
+            mapfile -t COMPREPLY < <(compgen -W '--help' -- "$word")
             return
             ;;
     esac
