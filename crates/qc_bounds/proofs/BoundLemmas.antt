@@ -9,9 +9,9 @@ use Rattle.qc_dist.proofs.Ranges.{any_passes}
 use Rattle.qc_model.specs.declared.decision.Decision.{Decision}
 use Rattle.qc_model.specs.Closing.{IsWorkBound}
 use Rattle.qc_model.specs.Instance.{InstanceView}
-use Rattle.qc_model.specs.Leaves.{crane_numbers, is_overfull, spare, tasks_on, work_holds}
+use Rattle.qc_model.specs.Work.{crane_numbers, is_overfull, spare, tasks_on, work_holds}
 use Rattle.qc_bounds.specs.Work.{AreDone, AreShared, Fit}
-use Rattle.qc_model.specs.Leaves.{done_at}
+use Rattle.qc_model.specs.Work.{done_at}
 use Rattle.qc_dist.specs.Kept.{unassigned_ticks}
 
 -- more is left until a later tick

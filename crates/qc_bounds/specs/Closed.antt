@@ -7,11 +7,11 @@ use Rattle.qc_model.specs.declared.decision.Decision.{Decision}
 use Rattle.qc_model.specs.declared.limits.TheConstants.{MOST_START}
 use Rattle.qc_model.specs.Closing.{IsWorkBound}
 use Rattle.qc_model.specs.Instance.{InstanceView}
-use Rattle.qc_model.specs.Leaves.{leaf_value, with_berths, work}
+use Rattle.qc_model.specs.Leaves.{leaf_value, packed, with_packed, work}
 use Rattle.qc_model.specs.Nodes.{HasStarts, IsComplete, IsNodeEnd}
 use Rattle.qc_starts.specs.Seen.{IsCycle, IsWhy}
 use Rattle.qc_bounds.specs.declared.leaves.LeafKind.{LeafKind}
-use Rattle.qc_bounds.specs.declared.leaves.LeafKind.TheVariants.{Chain, Ring, Work}
+use Rattle.qc_bounds.specs.declared.leaves.LeafKind.TheVariants.{Chain, Clash, Ring, Work}
 
 -- no starts meet the node, and the tasks are a ring
 pub record IsRingLeaf (inst : InstanceView) (ds : List Decision) (tasks : List ℕ) : Type 0 where
@@ -23,9 +23,16 @@ pub record IsWorkLeaf (inst : InstanceView) (ds : List Decision) (end : ℕ) (ta
   pub starts : HasStarts inst ds
   pub undecided : ¬ IsComplete inst ds
   pub bound : IsWorkBound inst ds end
-  pub shows : leaf_value with_berths inst ds (work end) ≡ Some (Least end)
+  pub shows : leaf_value with_packed inst ds (work end) ≡ Some (Least end)
   pub soon : end ≤ MOST_START
   pub empty : tasks ≡ []
+
+-- the node has starts and more to decide, and the tasks are packed and show this end
+pub record IsClashLeaf (inst : InstanceView) (ds : List Decision) (end : ℕ) (tasks : List ℕ) : Type 0 where
+  pub starts : HasStarts inst ds
+  pub undecided : ¬ IsComplete inst ds
+  pub shows : leaf_value with_packed inst ds (packed tasks) ≡ Some (Least end)
+  pub soon : end ≤ MOST_START
 
 -- the leaf of a node that is closed at u: a ring where no starts meet it, the chain to its end where it
 -- is complete, else one that shows at least u
@@ -34,9 +41,10 @@ IsClosedBy inst ds u Ring tasks = IsRingLeaf inst ds tasks
 IsClosedBy inst ds u Chain tasks =
     (why : IsWhy inst ds tasks) × (IsComplete inst ds ⊎ IsAtMost u (Least why.end))
 IsClosedBy inst ds u (Work end) tasks = IsWorkLeaf inst ds end tasks × IsAtMost u (Least end)
+IsClosedBy inst ds u Clash tasks = (end : ℕ) × IsClashLeaf inst ds end tasks × IsAtMost u (Least end)
 
 -- the leaf that stands for a node without branching: a ring where no starts meet it, the chain to its
--- end where it is complete or its work shows no more, else its work
+-- end where it is complete or its work shows no more, else its work; or packed tasks that show no less than both
 abbrev pub IsSpentBy : InstanceView → List Decision → LeafKind → List ℕ → Type 0
 IsSpentBy inst ds Ring tasks = IsRingLeaf inst ds tasks
 IsSpentBy inst ds Chain tasks =
@@ -44,3 +52,7 @@ IsSpentBy inst ds Chain tasks =
     × (IsComplete inst ds ⊎ ((bound : ℕ) × IsWorkBound inst ds bound × (bound ≤ why.end)))
 IsSpentBy inst ds (Work end) tasks =
     IsWorkLeaf inst ds end tasks × ((sooner : ℕ) × IsNodeEnd inst ds sooner × (sooner < end))
+IsSpentBy inst ds Clash tasks =
+    (end : ℕ) × IsClashLeaf inst ds end tasks
+    × ((bound : ℕ) × IsWorkBound inst ds bound × (bound ≤ end))
+    × ((sooner : ℕ) × IsNodeEnd inst ds sooner × (sooner ≤ end))

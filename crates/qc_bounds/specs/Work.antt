@@ -4,7 +4,7 @@ use Rattle.std.specs.List.{count_by, range_with_len}
 use Rattle.qc_model.specs.declared.decision.Decision.{Decision}
 use Rattle.qc_model.specs.Instance.{InstanceView}
 use Rattle.qc_dist.specs.Kept.{unassigned_ticks}
-use Rattle.qc_model.specs.Leaves.{crane_numbers, done_at, spare, tasks_on}
+use Rattle.qc_model.specs.Work.{crane_numbers, done_at, spare, tasks_on}
 
 -- the first cranes are done with the tasks that they have by the tick, and one of them not a tick sooner
 pub record AreDone (inst : InstanceView) (ds : List Decision) (cranes tick : ℕ) : Type 0 where

@@ -11,7 +11,8 @@ use crate::work::work_bound;
 use qc_num::{Bound, Path, Tick};
 use qc_starts::Starts;
 
-/// The leaf that a node gets in a bound tree. The tasks of a chain or a ring stand in a path.
+/// The leaf that a node gets in a bound tree. The tasks of a chain, a ring or a
+/// clash stand in a path.
 #[derive(Clone, Copy, Debug, PartialEq, Eq)]
 pub enum LeafKind {
     /// Tasks, each forced after the one before it, that end when the node does: a critical chain.
@@ -20,6 +21,8 @@ pub enum LeafKind {
     Ring,
     /// The end before which the work doesn't fit, in ticks: the workload bound.
     Work(Tick),
+    /// Tasks of which no two can run together, whichever cranes do them.
+    Clash,
 }
 
 /// Whether an end is at least a bound; none is at least `Never`.

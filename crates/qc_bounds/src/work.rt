@@ -4,7 +4,7 @@ ghost use Rattle.std.specs.Prelude.{◌≡◌, ◌*◌, ◌<◌, ◌≤◌, leng
 ghost use Rattle.qc_model.specs.declared.limits.TheConstants.{MOST_CRANES, MOST_START};
 ghost use Rattle.qc_model.specs.Closing.{IsWorkBound};
 ghost use Rattle.qc_bounds.specs.Work.{AreDone, AreShared, Fit, early_cranes, early_ticks};
-ghost use Rattle.qc_model.specs.Leaves.{done_at};
+ghost use Rattle.qc_model.specs.Work.{done_at};
 ghost use Rattle.qc_dist.specs.Kept.{unassigned_ticks};
 
 use qc_num::Tick;

@@ -2,7 +2,7 @@
 use Rattle.std.specs.Prelude.{◌≡◌, ◌↔◌, ◌+◌, ◌<◌, ◌≤◌, List, [], ◌∷◌, length, drop, Option, None, Some, IsTrue}
 use Rattle.qc_model.specs.declared.decision.Decision.{Decision}
 use Rattle.qc_model.specs.Instance.{InstanceView, bay_of, ticks_of, crane}
-use Rattle.qc_model.specs.Leaves.{work_holds}
+use Rattle.qc_model.specs.Work.{work_holds}
 use Rattle.qc_model.specs.Nodes.{IsSettled, assigned, forced, free, head, head1, reaches}
 use Rattle.qc_model.specs.OneWay.{mirror}
 use Rattle.qc_model.specs.Ticks.{task_distance, travel_between}

@@ -12,13 +12,13 @@ use Rattle.std.specs.List.{range_with_len}
 use Rattle.qc_dist.proofs.Ranges.{sum_more}
 use Rattle.qc_model.specs.declared.schedule.Slot.{Slot}
 use Rattle.qc_model.specs.Instance.{InstanceView, Valid, crane, no_crane, ticks_of}
-use Rattle.qc_model.specs.Leaves.{crane_numbers, task_numbers}
+use Rattle.qc_model.specs.Work.{crane_numbers, task_numbers}
 use Rattle.qc_model.specs.Rules.{crane_of, ends}
 use Rattle.qc_model.proofs.Bays.{bays}
-use Rattle.qc_close.specs.declared.turn.Turn.{Turn}
-use Rattle.qc_close.specs.Assignments.{Follows, crane_in, no_cranes}
-use Rattle.qc_close.specs.Closed.{IsClosed, IsClosedBound, IsGrain, IsShort, last_before, Serves, Try, bay, by_crane, down, fewest, left_at, left_bays, lift, load, most, rise, room, sink, up, work_at}
-use Rattle.qc_close.specs.Frames.{Frame, GoesBy, frame, frame_of, own}
+use Rattle.qc_model.specs.declared.turn.Turn.{Turn}
+use Rattle.qc_model.specs.Assignments.{Follows, crane_in, no_cranes}
+use Rattle.qc_model.specs.Closed.{IsClosed, IsClosedBound, IsGrain, IsShort, last_before, Serves, Try, bay, by_crane, down, fewest, left_at, left_bays, lift, load, most, rise, room, sink, up, work_at}
+use Rattle.qc_model.specs.Frames.{Frame, GoesBy, frame, frame_of, own}
 use Rattle.qc_close.proofs.CountLemmas.{fewest_le, passing, passing_le, shared, sum_le, times_sum}
 use Rattle.qc_close.proofs.FrameLemmas.{HasTime, at_bay, bay_at, beside, does_open, feasible_by, has_time, some_term, sum_filter, sums_within}
 use Rattle.qc_close.proofs.LoopLemmas.{least_steps}

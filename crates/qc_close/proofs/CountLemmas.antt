@@ -4,7 +4,7 @@ use Rattle.std.proofs.Math.Nat.{mul-add, mul-zero}
 use Rattle.std.proofs.lemmas.Bool.{cases_Bool}
 use Rattle.std.proofs.lemmas.List.{length-map}
 use Rattle.std.proofs.lemmas.List.Sums.{sum-map, sum_by-cons}
-use Rattle.qc_close.specs.Closed.{fewest, most}
+use Rattle.qc_model.specs.Closed.{fewest, most}
 use Rattle.qc_close.proofs.FrameLemmas.{sums_within}
 use Rattle.qc_close.proofs.Members.{Among}
 

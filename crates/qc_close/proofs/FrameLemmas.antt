@@ -11,17 +11,17 @@ use Rattle.std.specs.Option.{option_map_or}
 use Rattle.qc_model.specs.declared.schedule.Slot.{Slot}
 use Rattle.qc_model.specs.Bays.{at_least_zero, bays_between, bays_up}
 use Rattle.qc_model.specs.Instance.{InstanceView, Valid, bay_of, crane, ticks_of}
-use Rattle.qc_model.specs.Leaves.{highest, lowest, task_numbers, ticks_over}
+use Rattle.qc_model.specs.Work.{highest, lowest, task_numbers, ticks_over}
 use Rattle.qc_model.specs.OneWay.{GoesUp}
 use Rattle.qc_model.specs.Rules.{Feasible, crane_of, ends, start_of}
 use Rattle.qc_model.specs.Ticks.{arrival}
 use Rattle.qc_model.proofs.Bays.{bays}
 use Rattle.qc_model.proofs.LimitsOf.{counted}
-use Rattle.qc_close.specs.declared.turn.Turn.{Turn}
-use Rattle.qc_close.specs.declared.turn.Turn.TheVariants.{OneWay, Free}
-use Rattle.qc_close.specs.Assignments.{Follows, crane_in}
-use Rattle.qc_close.specs.Closed.{down, up}
-use Rattle.qc_close.specs.Frames.{Frame, GoesBy, frame, frame_of, own, turn_bays, turn_high}
+use Rattle.qc_model.specs.declared.turn.Turn.{Turn}
+use Rattle.qc_model.specs.declared.turn.Turn.TheVariants.{OneWay, Free}
+use Rattle.qc_model.specs.Assignments.{Follows, crane_in}
+use Rattle.qc_model.specs.Closed.{down, up}
+use Rattle.qc_model.specs.Frames.{Frame, GoesBy, frame, frame_of, own, turn_bays, turn_high}
 use Rattle.qc_close.proofs.Members.{Among, among_filter, among_range, any_at, any_from, filter_among, first_of, range_among}
 use Rattle.qc_close.proofs.PackLemmas.{ends_in}
 use Rattle.qc_close.proofs.Rows.{AllClear, AreClear, Row, row_after, row_fits, row_of, way, way_between, way_to}

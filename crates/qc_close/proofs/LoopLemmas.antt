@@ -6,14 +6,14 @@ use Rattle.std.proofs.lemmas.Int.{ints}
 use mathlib.Core.Logic.{∥∥₁_elim}
 use denote.Struct.Props.{props}
 use Rattle.qc_model.specs.declared.task.Task.{Task}
-use Rattle.qc_model.specs.Leaves.{crane_numbers}
+use Rattle.qc_model.specs.Work.{crane_numbers}
 use Rattle.qc_model.specs.Nodes.{reaches}
 use Rattle.qc_model.specs.Instance.{task, HasBayLimits, HasPlaceLimits, InstanceView, Valid}
 use Rattle.qc_model.proofs.LimitsOf.{limits_of}
-use Rattle.qc_close.specs.Assignments.{crane_in, cranes_for, place}
+use Rattle.qc_model.specs.Assignments.{crane_in, cranes_for, place}
 use Rattle.qc_close.specs.Bands.{IsPlace}
 use Rattle.qc_close.proofs.SpanLemmas.{doable_is}
-use Rattle.qc_close.specs.Packs.{all_differ, is_doable}
+use Rattle.qc_model.specs.Packs.{all_differ, is_doable}
 
 other_way : (x y : ℕ) → eqb y x ≡ false → eqb x y ≡ false
 other_way x y t = ne_eqb x y (λ e. eqb-false y x t (sym e))

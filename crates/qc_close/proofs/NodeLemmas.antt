@@ -1,18 +1,23 @@
 -- What packed tasks and closed ends show of the schedules that agree with a node of a search.
-use Rattle.std.proofs.Common.{◌≡◌, ℕ, ◌+◌, ◌<◌, ◌≤◌, true, List, length, map, Option, None, Some, IfSome, inl, inr, sym, subst, ◌∙◌, arith}
+use Rattle.std.proofs.Common.{◌≡◌, ℕ, ◌+◌, ◌<◌, ◌≤◌, true, List, length, map, Option, None, Some, IfSome, inl, inr, option_map, refl, sym, subst, ◌∙◌, arith}
 use Rattle.std.proofs.lemmas.Bool.{cases_Bool, cond-false}
 use Rattle.std.proofs.lemmas.List.FromFn.{get_or-map-range_with_len}
 use Rattle.qc_model.specs.declared.decision.Decision.{Decision}
 use Rattle.qc_model.specs.declared.schedule.Slot.{Slot}
 use Rattle.qc_model.specs.Instance.{InstanceView, Valid}
-use Rattle.qc_model.specs.Nodes.{Agrees, assigned, head, least}
+use Rattle.qc_model.specs.Leaves.{Leaf, Version, leaf_value, packed_end}
+use Rattle.qc_model.specs.Nodes.{Agrees, Fits, assigned, head, least}
 use Rattle.qc_model.specs.OneWay.{GoesUp}
 use Rattle.qc_model.specs.Rules.{crane_of, ends}
+use Rattle.qc_num.specs.Bounds.{IsAtMost}
+use Rattle.qc_num.specs.declared.bound.Bound.{Bound}
+use Rattle.qc_num.specs.declared.bound.Bound.TheVariants.{Least}
+use Rattle.qc_model.proofs.LeafLemmas.{leaf_value_le}
 use Rattle.qc_model.proofs.NodeLemmas.{assigned_is, meets_of, start_at}
-use Rattle.qc_close.specs.declared.turn.Turn.TheVariants.{OneWay}
-use Rattle.qc_close.specs.Assignments.{Follows, cranes_of}
-use Rattle.qc_close.specs.Closed.{IsClosed}
-use Rattle.qc_close.specs.Packs.{is_packed, pack}
+use Rattle.qc_model.specs.declared.turn.Turn.TheVariants.{OneWay}
+use Rattle.qc_model.specs.Assignments.{Follows, cranes_of}
+use Rattle.qc_model.specs.Closed.{IsClosed}
+use Rattle.qc_model.specs.Packs.{is_packed, pack}
 use Rattle.qc_close.proofs.ClosedLemmas.{closed_end_le}
 use Rattle.qc_close.proofs.PackLemmas.{pack_end_le}
 use Rattle.qc_close.proofs.SpanLemmas.{packed_range}
@@ -34,6 +39,17 @@ packed_of inst cranes tasks ticks e = elim (cases_Bool (is_packed inst cranes ta
     other : None ≡ Some ticks → ⊥
     other e = cc
 
+-- what is added to a number that may be missing
+shown : (base end : ℕ) (o : Option ℕ) (sum : ℕ) → ((n : ℕ) → o ≡ Some n → base + n ≤ end)
+    → option_map (λ n. base + n) o ≡ Some sum → sum ≤ end
+shown base end None sum h e = absurd (none e)
+  where
+    none : None ≡ Some sum → ⊥
+    none e = cc
+shown base end (Some n) sum h e =
+    let same : base + n ≡ sum = cc in
+    omega (arith, h n refl, same)
+
 module _ (inst : InstanceView) (ds : List Decision) (sched : List Slot) (g : GoesUp inst sched)
     (a : Agrees inst ds sched) where
   -- packed tasks start no earlier than their heads, so the schedule ends no earlier than the least of these allows
@@ -46,6 +62,16 @@ module _ (inst : InstanceView) (ds : List Decision) (sched : List Slot) (g : Goe
       (λ j c.
       let low = subst (λ (i : ℕ). i < length inst.tasks) c.2 (range c.0 j c.1) in
       omega (arith, meets.heads j low, start_at sched j))
+
+  pub packed_end_le : (tasks : List ℕ) (end : ℕ) → packed_end inst ds tasks ≡ Some end → end ≤ ends inst sched
+  packed_end_le tasks end e =
+      shown (least (map (head inst ds) tasks)) (ends inst sched) (pack inst (cranes_of inst ds) tasks) end
+      (packed_node_le tasks) e
+
+  -- what a leaf shows is at most the end of the schedule: it never shows Never
+  pub leaf_le : Valid inst → Fits inst ds → (version : Version) (leaf : Leaf) (bound : Bound)
+      → leaf_value version inst ds leaf ≡ Some bound → IsAtMost bound (Least (ends inst sched))
+  leaf_le valid fits = leaf_value_le inst ds sched valid fits g a packed_end_le
 
   pub closed_node_le : Valid inst → (end : ℕ) → IsClosed inst OneWay (cranes_of inst ds) end → end ≤ ends inst sched
   closed_node_le valid end closed =

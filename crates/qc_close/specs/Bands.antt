@@ -5,7 +5,7 @@ use Rattle.qc_model.specs.Bays.{bays_up}
 use Rattle.qc_model.specs.Instance.{InstanceView, IsFrom}
 use Rattle.qc_model.specs.Nodes.{reaches}
 use Rattle.qc_close.specs.declared.packs.Band.{Band}
-use Rattle.qc_close.specs.Assignments.{crane_in, place}
+use Rattle.qc_model.specs.Assignments.{crane_in, place}
 
 abbrev pub may_by : InstanceView → ℕ → ℕ → Option ℕ → Bool
 may_by inst j v (Some k) = k == v

@@ -2,7 +2,7 @@
 use Rattle.std.specs.Prelude.{◌≡◌, length}
 use Rattle.qc_model.specs.Instance.{Valid}
 use Rattle.qc_close.specs.declared.crew.Crew.TheInside.{Inside}
-use Rattle.qc_close.specs.Assignments.{AreInRange}
+use Rattle.qc_model.specs.Assignments.{AreInRange}
 use Rattle.qc_close.specs.Crews.{CrewView}
 
 abbrev pub view_of : Inside → CrewView

@@ -2,12 +2,11 @@
 
 ghost use Rattle.std.specs.Prelude.{◌≡◌, ◌<◌, None, Some, IfOk, IsSome, length, slice_set};
 ghost use Rattle.qc_model.specs.Instance.{Valid};
-ghost use Rattle.qc_close.specs.Assignments.{AreInRange, crane_in, no_cranes};
+ghost use Rattle.qc_model.specs.Assignments.{AreInRange, crane_in, no_cranes};
 ghost use Rattle.qc_close.specs.Crews.{CrewView};
 ghost use Rattle.qc_close.specs.CrewFields.{view_of, IsKept};
 
-use crate::Turn;
-use qc_model::{Instance, copy};
+use qc_model::{Instance, Turn, copy};
 use qc_num::OutOfMemory;
 use std::alloc::Global;
 use std::marker::Model;

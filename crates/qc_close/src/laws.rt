@@ -7,11 +7,11 @@ ghost use Rattle.qc_model.specs.Instance.{InstanceView, Valid};
 ghost use Rattle.qc_model.specs.Nodes.{Agrees, head, least};
 ghost use Rattle.qc_model.specs.OneWay.{GoesUp};
 ghost use Rattle.qc_model.specs.Rules.{ends};
-ghost use Rattle.qc_close.specs.declared.turn.Turn.{Turn};
-ghost use Rattle.qc_close.specs.declared.turn.Turn.TheVariants.{OneWay};
-ghost use Rattle.qc_close.specs.Assignments.{cranes_of};
-ghost use Rattle.qc_close.specs.Closed.{IsClosed, IsClosedBound};
-ghost use Rattle.qc_close.specs.Packs.{pack};
+ghost use Rattle.qc_model.specs.declared.turn.Turn.{Turn};
+ghost use Rattle.qc_model.specs.declared.turn.Turn.TheVariants.{OneWay};
+ghost use Rattle.qc_model.specs.Assignments.{cranes_of};
+ghost use Rattle.qc_model.specs.Closed.{IsClosed, IsClosedBound};
+ghost use Rattle.qc_model.specs.Packs.{pack};
 
 /// No schedule that follows an assignment ends before an end at which it is closed.
 fn closed_ends_are_bounds()

@@ -5,7 +5,5 @@
 mod crew;
 mod laws;
 mod packs;
-mod turn;
 
 pub use crew::Crew;
-pub use turn::Turn;

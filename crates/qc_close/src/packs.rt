@@ -4,11 +4,11 @@ ghost use Rattle.std.specs.Prelude.{◌≡◌, ◌==◌, ◌*◌, ◌<◌, ◌�
 ghost use Rattle.std.specs.List.{list_all, list_any};
 ghost use Rattle.std.specs.Option.{option_map_or};
 ghost use Rattle.qc_model.specs.declared.limits.TheConstants.{MOST_TASKS, MOST_WORK};
-ghost use Rattle.qc_model.specs.Leaves.{crane_numbers, ticks_over};
+ghost use Rattle.qc_model.specs.Work.{crane_numbers, ticks_over};
 ghost use Rattle.qc_model.specs.Nodes.{reaches};
-ghost use Rattle.qc_close.specs.Assignments.{place};
+ghost use Rattle.qc_model.specs.Assignments.{place};
 ghost use Rattle.qc_close.specs.Bands.{AreBelow, AreStacked, IsBandOf, IsFinding, IsFoundFrom, IsNearest, IsPlace, IsReach, IsStretch, Lies, may, widened};
-ghost use Rattle.qc_close.specs.Packs.{IsPackBound, all_clash, all_differ, is_doable, is_packed, pack};
+ghost use Rattle.qc_model.specs.Packs.{IsPackBound, all_clash, all_differ, is_doable, is_packed, pack};
 
 use crate::Crew;
 use qc_dist::in_reach;

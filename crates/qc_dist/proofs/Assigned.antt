@@ -6,7 +6,7 @@ use Rattle.qc_dist.specs.declared.loads.Load.{Load}
 use Rattle.qc_model.specs.declared.decision.Decision.{Decision}
 use Rattle.qc_model.specs.declared.decision.Decision.TheVariants.{Assign, Order}
 use Rattle.qc_model.specs.Instance.{InstanceView, bay_of, task, ticks_of}
-use Rattle.qc_model.specs.Leaves.{highest, lowest, tasks_on, ticks_over}
+use Rattle.qc_model.specs.Work.{highest, lowest, tasks_on, ticks_over}
 use Rattle.qc_model.specs.Nodes.{assigned, is_ordered}
 use Rattle.qc_dist.specs.Kept.{crane_load, unassigned_ticks}
 use Rattle.qc_dist.specs.Loads.{load_of, load_with}

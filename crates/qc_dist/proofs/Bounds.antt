@@ -11,7 +11,7 @@ use Rattle.qc_model.specs.declared.decision.Decision.{Decision}
 use Rattle.qc_model.specs.declared.task.Task.{Task}
 use Rattle.qc_model.specs.declared.direction.Direction.TheVariants.{Up}
 use Rattle.qc_model.specs.Instance.{InstanceView, Valid, IsOnRail, bay_of, task, ticks_of, no_task}
-use Rattle.qc_model.specs.Leaves.{highest, lowest, open_tasks, tasks_on, ticks_over}
+use Rattle.qc_model.specs.Work.{highest, lowest, open_tasks, tasks_on, ticks_over}
 use Rattle.qc_model.specs.Nodes.{Fits, assigned}
 use Rattle.qc_model.proofs.OnRail.{task_on_rail, ticks_bounded}
 use Rattle.qc_dist.specs.Kept.{crane_load, unassigned_ticks}

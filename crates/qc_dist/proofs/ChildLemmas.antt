@@ -8,7 +8,7 @@ use Rattle.qc_dist.specs.Node.{IsOpen}
 use Rattle.qc_model.specs.declared.decision.Decision.{Decision}
 use Rattle.qc_model.specs.declared.decision.Decision.TheVariants.{Assign, Order}
 use Rattle.qc_model.specs.Instance.{InstanceView}
-use Rattle.qc_model.specs.Leaves.{crane_numbers}
+use Rattle.qc_model.specs.Work.{crane_numbers}
 
 module _ (inst : InstanceView) where
   pub cranes_count : length (crane_numbers inst) ≡ length inst.cranes

@@ -8,7 +8,7 @@ use Rattle.qc_model.specs.declared.decision.Decision.{Decision}
 use Rattle.qc_model.specs.declared.decision.Decision.TheVariants.{Assign, Order}
 use Rattle.qc_model.specs.declared.pair.Pair.{Pair}
 use Rattle.qc_model.specs.Instance.{InstanceView, IsApart, pair_of}
-use Rattle.qc_model.specs.Leaves.{tasks_on}
+use Rattle.qc_model.specs.Work.{tasks_on}
 use Rattle.qc_model.specs.Nodes.{Fits, assigned, is_ordered}
 use Rattle.qc_dist.proofs.Sums.{count_less}
 use Rattle.qc_dist.proofs.Assigned.{ordered_here}

@@ -3,7 +3,7 @@ use Rattle.std.specs.Prelude.{◌≡◌, ◌+◌, nat_lt, if◌then◌else◌, L
 use Rattle.qc_model.specs.declared.decision.Decision.{Decision}
 use Rattle.qc_model.specs.declared.decision.Decision.TheVariants.{Assign, Order}
 use Rattle.qc_model.specs.Instance.{InstanceView}
-use Rattle.qc_model.specs.Leaves.{crane_numbers}
+use Rattle.qc_model.specs.Work.{crane_numbers}
 use Rattle.qc_dist.specs.Node.{IsOpen}
 
 -- the children that come after the one of this decision, under its branching; the first child of a pair is the

@@ -6,7 +6,7 @@ use Rattle.qc_dist.specs.declared.made.Made.{Made}
 use Rattle.qc_model.specs.declared.decision.Decision.{Decision}
 use Rattle.qc_model.specs.declared.decision.Decision.TheVariants.{Assign, Order}
 use Rattle.qc_model.specs.Instance.{InstanceView, Valid}
-use Rattle.qc_model.specs.Leaves.{open_tasks, tasks_on, ticks_over}
+use Rattle.qc_model.specs.Work.{open_tasks, tasks_on, ticks_over}
 use Rattle.qc_model.specs.Nodes.{Fits, assigned, is_ordered, is_sooner}
 use Rattle.qc_dist.specs.Heads.{IsHeadTable}
 use Rattle.qc_dist.specs.Loads.{load_of}

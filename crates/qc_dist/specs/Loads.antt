@@ -6,7 +6,7 @@ use Rattle.qc_model.specs.declared.limits.TheConstants.{MOST_TASKS, MOST_WORK}
 use Rattle.qc_model.specs.declared.task.Task.{Task}
 use Rattle.qc_model.specs.Bays.{bays_up, bays_between}
 use Rattle.qc_model.specs.Instance.{InstanceView, IsOnRail, crane}
-use Rattle.qc_model.specs.Leaves.{highest, lowest, ticks_over}
+use Rattle.qc_model.specs.Work.{highest, lowest, ticks_over}
 
 -- the bays are places on the rail, and the ticks are few enough to be added to
 abbrev pub IsLoad : Load → Type 0

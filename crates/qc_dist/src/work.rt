@@ -3,7 +3,7 @@
 ghost use Rattle.std.specs.Prelude.{◌≡◌, ◌+◌, ◌-◌, ◌*◌, ◌<◌, ◌≤◌, length, nat_lt, sum_by};
 ghost use Rattle.std.specs.List.{list_any};
 ghost use Rattle.qc_model.specs.declared.limits.TheConstants.{MOST_DISTANCE, MOST_READY, MOST_TASKS, MOST_WORK};
-ghost use Rattle.qc_model.specs.Leaves.{crane_numbers, done_at, is_overfull, spare, tasks_on, work_holds};
+ghost use Rattle.qc_model.specs.Work.{crane_numbers, done_at, is_overfull, spare, tasks_on, work_holds};
 ghost use Rattle.qc_dist.specs.Kept.{unassigned_ticks};
 
 use crate::Decisions;

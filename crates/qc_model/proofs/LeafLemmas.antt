@@ -11,7 +11,8 @@ use Rattle.qc_model.specs.declared.decision.Decision.TheVariants.{Assign, Order}
 use Rattle.qc_model.specs.Numbers.{most_tasks}
 use Rattle.qc_model.specs.declared.schedule.Slot.{Slot}
 use Rattle.qc_model.specs.Instance.{InstanceView, Valid, ticks_of}
-use Rattle.qc_model.specs.Leaves.{Leaf, Version, are_tasks, chain, chain_end, chain_ticks, head_in, is_out_of_reach, is_ring, leaf_value, reach, ring, with_berths, without_berths, work, work_holds}
+use Rattle.qc_model.specs.Leaves.{Leaf, Version, are_tasks, chain, chain_end, chain_ticks, has_packed, head_in, is_out_of_reach, is_ring, leaf_value, packed, packed_end, reach, ring, with_berths, with_packed, without_berths, work}
+use Rattle.qc_model.specs.Work.{work_holds}
 use Rattle.qc_model.specs.Nodes.{Agrees, Fits, Meets, forced, head, reaches}
 use Rattle.qc_model.specs.OneWay.{GoesUp}
 use Rattle.qc_model.specs.Rules.{ends, last_end, starts}
@@ -46,6 +47,7 @@ head_in_le : (version : Version) (inst : InstanceView) (ds : List Decision) (j :
     → head_in version inst ds j ≤ head inst ds j
 head_in_le without_berths inst ds j = head1_le inst ds j
 head_in_le with_berths inst ds j = omega arith
+head_in_le with_packed inst ds j = omega arith
 
 module _ (inst : InstanceView) (ds : List Decision) (begins : List ℕ) (m : Meets inst ds begins) where
   -- a step from i to j that is met, and no shorter than i
@@ -126,7 +128,8 @@ in_reach inst (Assign j k ∷ ds) sched fits g a t =
     false≢true (sym (not-true (reaches inst j k) t) ∙ r.0)
 
 module _ (inst : InstanceView) (ds : List Decision) (sched : List Slot) (v : Valid inst)
-    (fits : Fits inst ds) (g : GoesUp inst sched) (a : Agrees inst ds sched) where
+    (fits : Fits inst ds) (g : GoesUp inst sched) (a : Agrees inst ds sched)
+    (packs : (tasks : List ℕ) (end : ℕ) → packed_end inst ds tasks ≡ Some end → end ≤ ends inst sched) where
   abbrev Shows : Option Bound → Type 0
   Shows o = IfSome o (λ bound. IsAtMost bound (Least (ends inst sched)))
 
@@ -156,6 +159,14 @@ module _ (inst : InstanceView) (ds : List Decision) (sched : List Slot) (v : Val
       let parts = and_parts (nat_le 1 end) (work_holds inst ds end) t in
       work_end_le inst ds sched v fits g a end parts.1 (leb-true 1 end parts.0))
       (λ _. tt)
+
+  leaf_shows version (packed tasks) =
+      cond_both (has_packed version) (option_map Least (packed_end inst ds tasks)) None Shows
+      (λ _. number (packed_end inst ds tasks) (packs tasks)) (λ _. tt)
+    where
+      number : (o : Option ℕ) → ((end : ℕ) → o ≡ Some end → end ≤ ends inst sched) → Shows (option_map Least o)
+      number None h = tt
+      number (Some end) h = h end refl
 
   -- what a leaf shows is at most the end of the schedule: it never shows Never
   pub leaf_value_le : (version : Version) (leaf : Leaf) (bound : Bound)

@@ -12,7 +12,7 @@ use Rattle.qc_model.specs.declared.decision.Decision.TheVariants.{Assign, Order}
 use Rattle.qc_model.specs.declared.schedule.Slot.{Slot}
 use Rattle.qc_model.specs.Bays.{bays_between, bays_up}
 use Rattle.qc_model.specs.Instance.{InstanceView, Valid, bay_of, crane, ticks_of}
-use Rattle.qc_model.specs.Leaves.{crane_numbers, highest, is_overfull, lowest, open_tasks, spare, task_numbers, tasks_on, ticks_over, used, used_for, work_holds}
+use Rattle.qc_model.specs.Work.{crane_numbers, highest, is_overfull, lowest, open_tasks, spare, task_numbers, tasks_on, ticks_over, used, used_for, work_holds}
 use Rattle.qc_model.specs.Nodes.{Agrees, Fits, assigned}
 use Rattle.qc_model.specs.OneWay.{GoesUp}
 use Rattle.qc_model.specs.Rules.{crane_of, end_of, ends, start_of, starts}

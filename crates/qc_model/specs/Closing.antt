@@ -6,7 +6,8 @@ use Rattle.qc_num.specs.declared.bound.Bound.{Bound}
 use Rattle.qc_num.specs.declared.bound.Bound.TheVariants.{Least}
 use Rattle.qc_model.specs.declared.decision.Decision.{Decision}
 use Rattle.qc_model.specs.Instance.{InstanceView}
-use Rattle.qc_model.specs.Leaves.{is_out_of_reach, work_holds}
+use Rattle.qc_model.specs.Leaves.{is_out_of_reach}
+use Rattle.qc_model.specs.Work.{work_holds}
 use Rattle.qc_model.specs.Nodes.{HasStarts, IsComplete, IsNodeEnd}
 
 -- the node's end is at least u; no end is at least Never

@@ -11,6 +11,11 @@ pub mod Seen
 pub mod Judge
 pub mod Judged
 pub mod Nodes
+pub mod Work
+pub mod Assignments
+pub mod Packs
+pub mod Frames
+pub mod Closed
 pub mod Leaves
 pub mod Closing
 pub mod Motion

@@ -17,6 +17,7 @@ mod schedule;
 mod seen;
 mod task;
 mod ticks;
+mod turn;
 
 pub use copies::{copy, copy_cranes};
 pub use crane::Crane;
@@ -37,3 +38,4 @@ pub use schedule::{Schedule, Slot, ends};
 pub use seen::{Post, seen_number, seen_place};
 pub use task::{Phase, Task, TaskText};
 pub use ticks::{bays_between, bays_up, distance, travel_over};
+pub use turn::Turn;

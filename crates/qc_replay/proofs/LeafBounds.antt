@@ -8,7 +8,8 @@ use Rattle.qc_num.specs.declared.bound.Bound.TheVariants.{Least, Never}
 use Rattle.qc_model.specs.declared.decision.Decision.{Decision}
 use Rattle.qc_model.specs.Bays.{bays_up, bays_between}
 use Rattle.qc_model.specs.Instance.{InstanceView, Valid, IsOnRail, bay_of, ticks_of, crane}
-use Rattle.qc_model.specs.Leaves.{Leaf, Version, are_tasks, chain, chain_end, chain_ticks, crane_numbers, head_in, highest, is_overfull, is_ring, is_out_of_reach, leaf_value, lowest, reach, ring, spare, tasks_on, ticks_over, open_tasks, used, used_for, with_berths, without_berths, work, work_holds}
+use Rattle.qc_model.specs.Leaves.{Leaf, Version, are_tasks, chain, chain_end, chain_ticks, head_in, is_ring, is_out_of_reach, leaf_value, reach, ring, with_berths, without_berths, work}
+use Rattle.qc_model.specs.Work.{crane_numbers, highest, is_overfull, lowest, spare, tasks_on, ticks_over, open_tasks, used, used_for, work_holds}
 use Rattle.qc_model.specs.Nodes.{Fits, assigned, berth_wait, crane_ticks, forced, free, head_by, least, reaches, sooner_ticks, is_sooner}
 use Rattle.qc_model.specs.Ticks.{arrival, berth_clear, berth_distance, climb, distance, lead, task_distance}
 use Rattle.qc_model.specs.declared.limits.TheConstants.{MOST_APART, MOST_BAYS, MOST_DISTANCE, MOST_GAP_BY_PLACES, MOST_READY, MOST_TASKS, MOST_TRAVEL, MOST_WORK}

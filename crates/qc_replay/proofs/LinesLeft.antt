@@ -8,7 +8,8 @@ use Rattle.qc_num.proofs.ReadingLemmas.{same_ok}
 use Rattle.qc_model.specs.declared.decision.Decision.{Decision}
 use Rattle.qc_model.specs.declared.decision.Decision.TheVariants as decide
 use Rattle.qc_model.specs.Instance.{InstanceView}
-use Rattle.qc_model.specs.Leaves.{Version, crane_numbers}
+use Rattle.qc_model.specs.Leaves.{Version}
+use Rattle.qc_model.specs.Work.{crane_numbers}
 use Rattle.qc_model.specs.Numbers.{most_branchings, most_cranes}
 use Rattle.qc_model.specs.Seen.{seen}
 use Rattle.qc_model.proofs.SeenLemmas.{seen-crane_count}

@@ -17,7 +17,8 @@ use Rattle.qc_model.specs.declared.pair.Pair.{Pair}
 use Rattle.qc_model.specs.Instance.{InstanceView, IsApart, pair_of}
 use Rattle.qc_model.specs.declared.decision.Decision.TheVariants as decide
 use Rattle.qc_model.specs.Nodes.{IsSettled, assigned, forced}
-use Rattle.qc_model.specs.Leaves.{Leaf, are_tasks, crane_numbers, chain, chain_end, is_ring, leaf_value, ring}
+use Rattle.qc_model.specs.Leaves.{Leaf, are_tasks, chain, chain_end, is_ring, leaf_value, ring}
+use Rattle.qc_model.specs.Work.{crane_numbers}
 use Rattle.qc_model.proofs.NodeLemmas.{before_found}
 use Rattle.qc_tree.specs.declared.line.Line.{Line}
 use Rattle.qc_tree.specs.declared.line.Line.TheVariants.{Chain, Ring}

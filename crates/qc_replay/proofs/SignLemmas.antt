@@ -17,7 +17,8 @@ use Rattle.qc_model.specs.declared.decision.Decision.{Decision}
 use Rattle.qc_model.specs.declared.decision.Decision.TheVariants as decide
 use Rattle.qc_model.specs.declared.direction.Direction.{Direction}
 use Rattle.qc_model.specs.Instance.{InstanceView, Valid}
-use Rattle.qc_model.specs.Leaves.{Leaf, Version, are_tasks, chain, crane_numbers, is_ring, leaf_value, reach, ring, work, work_holds}
+use Rattle.qc_model.specs.Leaves.{Leaf, Version, are_tasks, chain, is_ring, leaf_value, reach, ring, work}
+use Rattle.qc_model.specs.Work.{crane_numbers, work_holds}
 use Rattle.qc_model.specs.Nodes.{Fits, IsSettled, assigned, forced}
 use Rattle.qc_model.specs.Numbers.{most_branchings, most_tasks}
 use Rattle.qc_model.proofs.NodeLemmas.{before_found}

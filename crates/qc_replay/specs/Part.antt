@@ -9,21 +9,22 @@ use Rattle.qc_model.specs.declared.direction.Direction.{Direction}
 use Rattle.qc_model.specs.Numbers.{most_branchings}
 use Rattle.qc_model.specs.declared.decision.Decision.{Decision}
 use Rattle.qc_model.specs.Instance.{InstanceView}
-use Rattle.qc_model.specs.Leaves.{Version, without_berths, with_berths}
+use Rattle.qc_model.specs.Leaves.{Version, without_berths, with_berths, with_packed}
 use Rattle.qc_tree.specs.declared.line.Line.{Line}
 use Rattle.qc_tree.specs.declared.line.Line.TheVariants as line
 use Rattle.qc_replay.specs.declared.descent.Descent.TheInside.{Inside}
 use Rattle.qc_replay.specs.declared.fault.TreeKind.{TreeKind}
 use Rattle.qc_replay.specs.declared.fault.TreeKind.TheVariants as kind
 use Rattle.qc_replay.specs.declared.leaf.TreeVersion.{TreeVersion}
-use Rattle.qc_replay.specs.declared.leaf.TreeVersion.TheVariants.{WithoutBerths, WithBerths}
+use Rattle.qc_replay.specs.declared.leaf.TreeVersion.TheVariants.{WithoutBerths, WithBerths, WithPacked}
 use Rattle.qc_replay.specs.declared.node.Tally.{Tally}
 use Rattle.qc_replay.specs.Walk.{Coming, Reading, at_node, came, node}
 
--- the version of trees that counts with these heads
+-- the version of trees whose leaves count so
 abbrev pub version_of : TreeVersion → Version
 version_of WithoutBerths = without_berths
 version_of WithBerths = with_berths
+version_of WithPacked = with_packed
 
 -- the number of a task in a file
 abbrev pub IsNumber : InstanceView → ℕ → Type 0

@@ -10,7 +10,8 @@ use Rattle.qc_model.specs.declared.decision.Decision.TheVariants as decide
 use Rattle.qc_model.specs.declared.direction.Direction.{Direction}
 use Rattle.qc_model.specs.declared.direction.Direction.TheVariants as way
 use Rattle.qc_model.specs.Instance.{InstanceView}
-use Rattle.qc_model.specs.Leaves.{Version, chain, ring, reach, work, without_berths, with_berths, crane_numbers, leaf_value}
+use Rattle.qc_model.specs.Leaves.{Version, chain, has_packed, packed, ring, reach, work, without_berths, with_berths, with_packed, leaf_value}
+use Rattle.qc_model.specs.Work.{crane_numbers}
 use Rattle.qc_model.specs.Nodes.{assigned, forced}
 use Rattle.qc_model.specs.Numbers.{most_branchings}
 use Rattle.qc_model.specs.Seen.{seen}
@@ -38,7 +39,7 @@ pub record Reading : Type 0 where
 -- nothing is read; the version is that of the title once this has come
 abbrev pub start : Reading
 start = record {
-  version = with_berths;
+  version = with_packed;
   coming = title ∷ up ∷ node way.Up [] ∷ down ∷ node way.Down [] ∷ end ∷ [];
   branched = 0;
   bound = Never;
@@ -105,12 +106,17 @@ at_node inst d ds r line.Ring list = do
   closed_by r kind.NotCycle (leaf_value r.version inst ds (ring (from_file list)))
 at_node inst d ds r line.Reach list = closed_by r kind.InReach (leaf_value r.version inst ds reach)
 at_node inst d ds r (line.Work v) list = closed_by r kind.WorkShort (leaf_value r.version inst ds (work v))
+at_node inst d ds r line.Clash list = do
+  _ ← require (has_packed r.version) kind.Place
+  _ ← require (list_all (is_number inst) list) kind.UnknownTask
+  closed_by r kind.NotClash (leaf_value r.version inst ds (packed (from_file list)))
 at_node inst d ds r _ list = Err kind.Place
 
 -- a line where this must come
 abbrev pub at : InstanceView → Reading → Coming → Line → List ℕ → Result Reading TreeKind
 at inst r title line.Title list = Ok (record (came r) { version = without_berths })
-at inst r title line.Title2 list = Ok (came r)
+at inst r title line.Title2 list = Ok (record (came r) { version = with_berths })
+at inst r title line.Title3 list = Ok (came r)
 at inst r up line.Up list = Ok (came r)
 at inst r down line.Down list = Ok (came r)
 at inst r end (line.End b x) list = do

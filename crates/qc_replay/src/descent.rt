@@ -4,7 +4,7 @@ ghost use Rattle.qc_dist.specs.Node.{IsOpen, Node};
 ghost use Rattle.qc_model.specs.declared.decision.Decision.{Decision};
 ghost use Rattle.qc_model.specs.declared.decision.Decision.TheVariants.{Assign, Order};
 ghost use Rattle.qc_model.specs.Instance.{IsApart, Valid};
-ghost use Rattle.qc_model.specs.Leaves.{crane_numbers};
+ghost use Rattle.qc_model.specs.Work.{crane_numbers};
 ghost use Rattle.qc_model.specs.Nodes.{IsSettled, assigned};
 ghost use Rattle.qc_dist.specs.Children.{behind};
 ghost use Rattle.qc_replay.specs.Part.{WereOpen, nodes, Standing, standing_of, IsKept};

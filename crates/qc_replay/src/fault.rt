@@ -30,6 +30,8 @@ pub enum TreeKind {
     NotForced,
     /// A task of the ring isn't forced to come after the one before it, or the first after the last.
     NotCycle,
+    /// Two of the tasks can run together, or one is listed twice.
+    NotClash,
     /// The newest decision doesn't put a task on a crane that can't reach it.
     InReach,
     /// The work fits before the end.
@@ -57,6 +59,7 @@ impl TreeKind {
             TreeKind::Branchings => "Branchings",
             TreeKind::NotForced => "NotForced",
             TreeKind::NotCycle => "NotCycle",
+            TreeKind::NotClash => "NotClash",
             TreeKind::InReach => "InReach",
             TreeKind::WorkShort => "WorkShort",
             TreeKind::Counts => "Counts",

@@ -9,13 +9,15 @@ ghost use Rattle.qc_replay.specs.Walk.{from_file};
 use qc_dist::Decisions;
 use qc_num::Tick;
 
-/// The version of a tree: which heads its leaves count with.
+/// The version of a tree: which heads its leaves count with, and which leaves it may have.
 #[derive(Clone, Copy)]
 pub(crate) enum TreeVersion {
     /// Those of each crane alone: version 1.
     WithoutBerths,
     /// Those with the berths of all other cranes clear: version 2.
     WithBerths,
+    /// The same, and a leaf may list packed tasks: version 3.
+    WithPacked,
 }
 
 /// When a task can start at the least, by the heads that count.
@@ -26,7 +28,7 @@ fn head_in(node: &Decisions, version: TreeVersion, task: u16) -> Tick
 {
     match version {
         TreeVersion::WithoutBerths => node.lead1(task),
-        TreeVersion::WithBerths => node.lead(task),
+        TreeVersion::WithBerths | TreeVersion::WithPacked => node.lead(task),
     }
 }
 

@@ -9,7 +9,8 @@ use Rattle.qc_model.specs.declared.decision.Decision.{Decision}
 use Rattle.qc_model.specs.declared.decision.Decision.TheVariants as decide
 use Rattle.qc_model.specs.declared.direction.Direction.TheVariants.{Down}
 use Rattle.qc_model.specs.Instance.{InstanceView}
-use Rattle.qc_model.specs.Leaves.{Version, crane_numbers}
+use Rattle.qc_model.specs.Leaves.{Version}
+use Rattle.qc_model.specs.Work.{crane_numbers}
 use Rattle.qc_model.specs.OneWay.{mirror}
 use Rattle.qc_model.proofs.SeenLemmas.{seen-crane_count, seen-task_count}
 use Rattle.qc_tree.specs.Trees.{Holds, IsPart, IsTree, Leads, Node, Sign, Tree, branches, branchings, children, leaf, on_pair, on_task, tree_branchings}

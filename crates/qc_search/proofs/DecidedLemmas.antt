@@ -7,7 +7,7 @@ use Rattle.qc_model.specs.declared.decision.Decision.TheVariants.{Assign, Order}
 use Rattle.qc_model.specs.declared.pair.Pair.{Pair}
 use Rattle.qc_model.specs.declared.schedule.Slot.{Slot}
 use Rattle.qc_model.specs.Instance.{InstanceView, IsApart, Valid, pair_of, ticks_of}
-use Rattle.qc_model.specs.Leaves.{task_numbers}
+use Rattle.qc_model.specs.Work.{task_numbers}
 use Rattle.qc_model.specs.Nodes.{Agrees, AreLeast, Fits, IsComplete, IsInReach, Meets, assigned, crane_ticks, forced, free, head_by, is_before, is_ordered, is_sooner, schedule_with, sooner_ticks}
 use Rattle.qc_model.specs.OneWay.{GoesUp}
 use Rattle.qc_model.specs.Rules.{IsClear, crane_of, end_of, start_of, starts}

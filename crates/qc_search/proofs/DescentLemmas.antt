@@ -10,7 +10,7 @@ use Rattle.qc_model.specs.declared.decision.Decision.{Decision}
 use Rattle.qc_model.specs.declared.decision.Decision.TheVariants.{Assign, Order}
 use Rattle.qc_model.specs.Closing.{IsClosable, no_starts}
 use Rattle.qc_model.specs.Instance.{InstanceView, Valid}
-use Rattle.qc_model.specs.Leaves.{crane_numbers}
+use Rattle.qc_model.specs.Work.{crane_numbers}
 use Rattle.qc_model.specs.Nodes.{HasStarts, IsInReach}
 use Rattle.qc_model.specs.Numbers.{most_cranes}
 use Rattle.qc_starts.specs.Seen.{HasNone}

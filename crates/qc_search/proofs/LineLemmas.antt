@@ -10,7 +10,8 @@ use Rattle.qc_bounds.specs.declared.leaves.LeafKind.TheVariants as kind
 use Rattle.qc_model.specs.declared.decision.Decision.{Decision}
 use Rattle.qc_model.specs.Numbers.{most_tasks}
 use Rattle.qc_model.specs.Instance.{InstanceView}
-use Rattle.qc_model.specs.Leaves.{are_tasks, is_ring, work_holds}
+use Rattle.qc_model.specs.Leaves.{are_tasks, is_ring}
+use Rattle.qc_model.specs.Work.{work_holds}
 use Rattle.qc_tree.specs.Lines.{AreTasks, IsLine, IsTask}
 use Rattle.qc_tree.specs.Trees.{in_file}
 use Rattle.qc_search.specs.Lines.{AreNumbers, IsLeafBy, IsWritable, leaf_line}

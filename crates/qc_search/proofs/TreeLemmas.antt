@@ -11,7 +11,7 @@ use Rattle.qc_num.specs.Bounds.{lesser}
 use Rattle.qc_model.specs.declared.direction.Direction.TheVariants.{Up, Down}
 use Rattle.qc_model.specs.declared.schedule.Slot.{Slot}
 use Rattle.qc_model.specs.Instance.{InstanceView}
-use Rattle.qc_model.specs.Leaves.{Version, with_berths}
+use Rattle.qc_model.specs.Leaves.{Version, with_packed}
 use Rattle.qc_model.specs.Numbers.{most_branchings}
 use Rattle.qc_model.specs.OneWay.{mirror}
 use Rattle.qc_tree.specs.declared.line.Line.TheVariants as line
@@ -37,7 +37,7 @@ module _ (home : InstanceView) (first : Option (List Slot)) (tree : Tree) (now :
     branched_in Down tree.down,
   )
 
-  pub bound_is : tree.version ≡ with_berths → now.bound ≡ tree_value home tree
+  pub bound_is : tree.version ≡ with_packed → now.bound ≡ tree_value home tree
   bound_is version =
       p.bound ∙ value-append home (part_nodes Up tree.up) (part_nodes Down tree.down)
       ∙ ap₂ lesser (valued_in home Up tree.up) (valued_in home Down tree.down)
@@ -87,7 +87,7 @@ abbrev down_line : List ℕ
 down_line = whole_line line.Down []
 
 abbrev tree_of : List Node → List Node → Tree
-tree_of up down = record { version = with_berths; up = up; down = down }
+tree_of up down = record { version = with_packed; up = up; down = down }
 
 abbrev end_line : InstanceView → Tree → List ℕ
 end_line home tree = whole_line (line.End (tree_branchings tree) (tree_value home tree)) []
@@ -120,12 +120,12 @@ module _ (home : InstanceView) (first : Option (List Slot)) (before : View) (old
       let up = root home in
       let down = root (mirror home) in
       let is : IsTree home (tree_of up down) = record {
-        up = all_given_up with_berths home ([] ∷ []);
-        down = all_given_up with_berths (mirror home) ([] ∷ []);
+        up = all_given_up with_packed home ([] ∷ []);
+        down = all_given_up with_packed (mirror home) ([] ∷ []);
         few = omega (
           arith,
-          none_branched with_berths home ([] ∷ []),
-          none_branched with_berths (mirror home) ([] ∷ []),
+          none_branched with_packed home ([] ∷ []),
+          none_branched with_packed (mirror home) ([] ∷ []),
         );
       } in
       cut_at up down is title _ fault w
@@ -139,12 +139,12 @@ module _ (home : InstanceView) (first : Option (List Slot)) (before : View) (old
         let down = root (mirror home) in
         let is : IsTree home (tree_of n.nodes down) = record {
           up = n.leads;
-          down = all_given_up with_berths (mirror home) ([] ∷ []);
+          down = all_given_up with_packed (mirror home) ([] ∷ []);
           few = omega (
             arith,
             n.few home first [] refl begun,
             branched_in Up n.nodes,
-            none_branched with_berths (mirror home) ([] ∷ []),
+            none_branched with_packed (mirror home) ([] ∷ []),
             most,
           );
         } in

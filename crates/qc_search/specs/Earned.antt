@@ -8,7 +8,7 @@ use Rattle.qc_model.specs.declared.direction.Direction.{Direction}
 use Rattle.qc_model.specs.declared.direction.Direction.TheVariants.{Up, Down}
 use Rattle.qc_model.specs.Closing.{IsClosable, IsWorkBound}
 use Rattle.qc_model.specs.Instance.{InstanceView}
-use Rattle.qc_model.specs.Leaves.{Leaf, chain, ring, reach, work, with_berths, is_out_of_reach, leaf_value}
+use Rattle.qc_model.specs.Leaves.{Leaf, chain, packed, ring, reach, with_packed, is_out_of_reach, leaf_value}
 use Rattle.qc_model.specs.Nodes.{AreLeast, HasStarts, IsComplete, IsInReach, IsNodeEnd}
 use Rattle.qc_model.specs.Rules.{last_end}
 use Rattle.qc_model.specs.Seen.{seen}
@@ -62,12 +62,12 @@ branchings_in = count_by (λ node. branches node.sign)
 pub record IsChainTo (inst : InstanceView) (ds : List Decision) (end : ℕ) (shows : Leaf) : Type 0 where
   pub tasks : List ℕ
   pub is : shows ≡ chain tasks
-  pub value : leaf_value with_berths inst ds shows ≡ Some (Least end)
+  pub value : leaf_value with_packed inst ds shows ≡ Some (Least end)
 
--- the leaf is a chain or work, and shows an end that is at least u
+-- the leaf is a chain, work or packed tasks, and shows an end that is at least u
 pub record ShowsLate (inst : InstanceView) (ds : List Decision) (u : Bound) (shows : Leaf) : Type 0 where
   pub end : ℕ
-  pub value : leaf_value with_berths inst ds shows ≡ Some (Least end)
+  pub value : leaf_value with_packed inst ds shows ≡ Some (Least end)
   pub late : IsAtMost u (Least end)
 
 -- the leaf of a node that is closed at u: out of reach it is told so; else without starts a ring; else where all is
@@ -83,23 +83,31 @@ pub record IsClosedAt (inst : InstanceView) (ds : List Decision) (u : Bound) (sh
       ¬ (IsTrue (is_out_of_reach inst ds)) → HasStarts inst ds → ¬ (IsComplete inst ds)
       → ShowsLate inst ds u shows
 
--- the leaf of a node that isn't closed: it shows the greater of the node's end and the end before which its work
--- doesn't fit, by a chain where both are the same
+-- the leaf of a node that isn't closed: it shows no less than the node's end, and than the end before which its work
+-- doesn't fit
 pub record IsGivenUp (inst : InstanceView) (ds : List Decision) (shows : Leaf) : Type 0 where
+  pub value : ℕ
+  pub is : leaf_value with_packed inst ds shows ≡ Some (Least value)
   pub end : ℕ
   pub ends : IsNodeEnd inst ds end
+  pub no_less : end ≤ value
   pub bound : ℕ
   pub works : IsWorkBound inst ds bound
-  pub by_chain : bound ≤ end → IsChainTo inst ds end shows
-  pub by_work : end < bound → shows ≡ work bound
+  pub no_shorter : bound ≤ value
+
+-- the leaf lists packed tasks that show an end of at least u
+pub record IsPackedLate (inst : InstanceView) (ds : List Decision) (u : Bound) (shows : Leaf) : Type 0 where
+  pub tasks : List ℕ
+  pub is : shows ≡ packed tasks
+  pub late : ShowsLate inst ds u shows
 
 -- what may stand at a node, u being the end of the incumbent before it, and so many branchings before it written:
--- a branching only where u doesn't close the node; the leaf that closes it where u does; and else a leaf only
--- once all branchings are spent
+-- a branching only where u doesn't close the node; the leaf that closes it where u does; and else packed tasks that
+-- show an end of at least u, or another leaf once all branchings are spent
 abbrev pub MayStand : InstanceView → List Decision → Bound → (branched most : ℕ) → Sign → Type 0
 MayStand inst ds u branched most (leaf shows) =
     (IsClosable inst ds u → IsClosedAt inst ds u shows)
-    × (¬ (IsClosable inst ds u) → (branched ≡ most) × IsGivenUp inst ds shows)
+    × (¬ (IsClosable inst ds u) → IsPackedLate inst ds u shows ⊎ ((branched ≡ most) × IsGivenUp inst ds shows))
 MayStand inst ds u branched most branching = ¬ (IsClosable inst ds u)
 
 -- the node is justified behind those before it in the file, where the search begins with this end
@@ -109,10 +117,10 @@ pub record IsEarnedBehind
   pub known : IsKnownEnd inst first before u
   pub stands : MayStand (seen inst node.way) node.decisions u (branchings_in before) most node.sign
 
--- the tree is of the second version and has at most so many branchings, and each of its nodes is justified by what the
+-- the tree is of the third version and has at most so many branchings, and each of its nodes is justified by what the
 -- search knew when it wrote the line
 pub record IsEarned (inst : InstanceView) (most : ℕ) (first : Bound) (tree : Tree) : Type 0 where
-  pub version : tree.version ≡ with_berths
+  pub version : tree.version ≡ with_packed
   pub few : tree_branchings tree ≤ most
   pub each :
       (before : List TreeNode) (node : TreeNode) (behind : List TreeNode)

@@ -2,12 +2,12 @@
 use Rattle.std.specs.Prelude.{◌≡◌, ℕ, ◌<◌, ◌≤◌, List, [], length, Some, All}
 use Rattle.qc_num.specs.declared.bound.Bound.TheVariants.{Least}
 use Rattle.qc_bounds.specs.declared.leaves.LeafKind.{LeafKind}
-use Rattle.qc_bounds.specs.declared.leaves.LeafKind.TheVariants.{Chain, Ring, Work}
+use Rattle.qc_bounds.specs.declared.leaves.LeafKind.TheVariants.{Chain, Clash, Ring, Work}
 use Rattle.qc_model.specs.declared.decision.Decision.{Decision}
 use Rattle.qc_model.specs.declared.direction.Direction.{Direction}
 use Rattle.qc_model.specs.declared.direction.Direction.TheVariants.{Up, Down}
 use Rattle.qc_model.specs.Instance.{InstanceView}
-use Rattle.qc_model.specs.Leaves.{Leaf, chain, leaf_value, ring, with_berths, work}
+use Rattle.qc_model.specs.Leaves.{Leaf, chain, leaf_value, packed, ring, with_packed, work}
 use Rattle.qc_model.specs.Numbers.{most_start, most_tasks}
 use Rattle.qc_starts.specs.Seen.{IsCycle, IsWhy}
 use Rattle.qc_tree.specs.declared.line.Line.{Line}
@@ -25,12 +25,14 @@ abbrev pub leaf_of : LeafKind → List ℕ → Leaf
 leaf_of Chain tasks = chain tasks
 leaf_of Ring tasks = ring tasks
 leaf_of (Work end) tasks = work end
+leaf_of Clash tasks = packed tasks
 
 -- the line of a leaf
 abbrev pub leaf_line : LeafKind → Line
 leaf_line Chain = line.Chain
 leaf_line Ring = line.Ring
 leaf_line (Work end) = line.Work end
+leaf_line Clash = line.Clash
 
 -- tasks that a line can name
 abbrev pub AreNumbers : List ℕ → Type 0
@@ -40,6 +42,7 @@ AreNumbers tasks = (length tasks ≤ most_tasks) × All (λ j. j < most_tasks) t
 abbrev pub IsWritable : LeafKind → List ℕ → Type 0
 IsWritable Chain tasks = AreNumbers tasks
 IsWritable Ring tasks = (2 ≤ length tasks) × AreNumbers tasks
+IsWritable Clash tasks = (1 ≤ length tasks) × AreNumbers tasks
 IsWritable (Work end) tasks = AreNumbers tasks × (1 ≤ end) × (end ≤ most_start)
 
 -- the leaf holds at the node, and the path has its tasks
@@ -47,7 +50,9 @@ abbrev pub IsLeafBy : InstanceView → List Decision → LeafKind → List ℕ �
 IsLeafBy inst ds Chain tasks = IsWhy inst ds tasks
 IsLeafBy inst ds Ring tasks = IsCycle inst ds tasks
 IsLeafBy inst ds (Work end) tasks =
-    (tasks ≡ []) × (end ≤ most_start) × (leaf_value with_berths inst ds (work end) ≡ Some (Least end))
+    (tasks ≡ []) × (end ≤ most_start) × (leaf_value with_packed inst ds (work end) ≡ Some (Least end))
+IsLeafBy inst ds Clash tasks =
+    (end : ℕ) × (end ≤ most_start) × (leaf_value with_packed inst ds (packed tasks) ≡ Some (Least end))
 
 -- a line can name the tasks of the branching
 abbrev pub IsNamed : Branch → Type 0

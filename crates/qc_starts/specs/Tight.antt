@@ -7,7 +7,7 @@ use Rattle.qc_model.specs.declared.pair.Pair.{Pair}
 use Rattle.qc_model.specs.declared.schedule.Slot.{Slot}
 use Rattle.qc_model.specs.Instance.{InstanceView}
 use Rattle.qc_model.specs.Judge.{Goes, IsDirection}
-use Rattle.qc_model.specs.Leaves.{task_numbers}
+use Rattle.qc_model.specs.Work.{task_numbers}
 use Rattle.qc_model.specs.Nodes.{AreLeast}
 use Rattle.qc_model.specs.Rules.{crane_of, end_of, start_of, starts}
 use Rattle.qc_model.specs.Seen.{seen, seen_schedule}

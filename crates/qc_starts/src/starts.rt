@@ -4,7 +4,7 @@ ghost use Rattle.std.specs.Prelude.{◌≡◌, ◌↔◌, ◌+◌, ◌*◌, ◌<
 ghost use Rattle.qc_model.specs.declared.decision.Decision.TheVariants.{Assign, Order};
 ghost use Rattle.qc_model.specs.declared.limits.TheConstants.{MOST_DISTANCE, MOST_READY, MOST_START, MOST_TASKS, MOST_WORK};
 ghost use Rattle.qc_model.specs.Instance.{IsApart, Valid};
-ghost use Rattle.qc_model.specs.Leaves.{done_at, tasks_on};
+ghost use Rattle.qc_model.specs.Work.{done_at, tasks_on};
 ghost use Rattle.qc_model.specs.Nodes.{Fits, HasStarts, IsComplete, IsInReach, IsNodeEnd, IsSettled, assigned, reaches};
 ghost use Rattle.qc_num.specs.Paths.{HasRoom};
 ghost use Rattle.qc_dist.specs.Kept.{unassigned_ticks};

@@ -15,7 +15,7 @@ use Rattle.qc_model.specs.Leaves.{Version, leaf_value}
 use Rattle.qc_model.specs.Nodes.{Agrees, Fits, IsSettled}
 use Rattle.qc_model.specs.OneWay.{GoesOneWay, GoesUp, mirror, mirror_schedule, mirror_slot, mirror_task}
 use Rattle.qc_model.specs.Rules.{crane_of, ends, last_end, starts}
-use Rattle.qc_model.proofs.LeafLemmas.{leaf_value_le}
+use Rattle.qc_close.proofs.NodeLemmas.{leaf_le}
 use Rattle.qc_model.proofs.MirrorLemmas.{mirror_valid}
 use Rattle.qc_model.proofs.NodeLemmas.{unsettled_unordered}
 use Rattle.qc_tree.specs.Trees.{Holds, IsTree, Leads, Node, Sign, Tree, children, leaf, node_value, on_pair, on_task, part_value, sign_value, tree_value}
@@ -95,7 +95,7 @@ module _ (inst : InstanceView) (v : Valid inst) (version : Version) (sched : Lis
   line_met sign ds more holds (inr m) = inr (among_second (children inst ds sign) more m)
   line_met (leaf shows) ds more holds (inl m) =
       inl (shown_through (leaf_value version inst ds shows) (Least (ends inst sched)) holds
-      (λ b e. leaf_value_le inst ds sched v m.0 g m.1 version shows b e))
+      (λ b e. leaf_le inst ds sched g m.1 v m.0 version shows b e))
   line_met (on_task j) ds more holds (inl m) =
       inr (among_first (children inst ds (on_task j)) more (on_one_task ds j m holds))
   line_met (on_pair i j) ds more holds (inl m) =

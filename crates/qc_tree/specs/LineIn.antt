@@ -5,7 +5,7 @@ use Rattle.std.specs.Str.Parse.{digits_value}
 use Rattle.qc_num.specs.declared.bound.Bound.{Bound}
 use Rattle.qc_num.specs.declared.bound.Bound.TheVariants.{Least, Never}
 use Rattle.qc_tree.specs.declared.line.Line.{Line}
-use Rattle.qc_tree.specs.declared.line.Line.TheVariants.{Title, Title2, Up, Down, Assign, Order, Chain, Ring, Reach, Work, End}
+use Rattle.qc_tree.specs.declared.line.Line.TheVariants.{Title, Title2, Title3, Up, Down, Assign, Order, Chain, Ring, Reach, Work, Clash, End}
 use Rattle.qc_tree.specs.Lines.{line_text}
 
 -- a line with its list
@@ -27,10 +27,15 @@ is_word ws i word = bytes_eq (get_or ws i []) word
 abbrev pub number_at : List (List ℕ) → ℕ → ℕ
 number_at ws i = digits_value 10 (get_or ws i [])
 
+-- the title with this number
+abbrev pub title_by : List ℕ → Line
+title_by word =
+    if bytes_eq word (codes "1") then Title else if bytes_eq word (codes "2") then Title2 else Title3
+
 -- the only line that these words can be, if they are one: by the first word, with the numbers of the others
 abbrev pub candidate : List (List ℕ) → Listed
 candidate ws =
-    if is_word ws 0 (codes "QCTREE") then alone (if is_word ws 1 (codes "1") then Title else Title2)
+    if is_word ws 0 (codes "QCTREE") then alone (title_by (get_or ws 1 []))
     else if is_word ws 0 (codes "up") then alone Up
     else if is_word ws 0 (codes "down") then alone Down
     else if is_word ws 0 (codes "X") then alone Reach
@@ -39,6 +44,7 @@ candidate ws =
     else if is_word ws 0 (codes "W") then alone (Work (number_at ws 1))
     else if is_word ws 0 (codes "P") then record { line = Chain; list = map (digits_value 10) (drop 1 ws) }
     else if is_word ws 0 (codes "C") then record { line = Ring; list = map (digits_value 10) (drop 1 ws) }
+    else if is_word ws 0 (codes "Q") then record { line = Clash; list = map (digits_value 10) (drop 1 ws) }
     else alone (End (number_at ws 1) (if is_word ws 2 (codes "never") then Never else Least (number_at ws 2)))
 
 abbrev pub is_task : ℕ → Bool
@@ -57,6 +63,7 @@ in_range (Assign i) list = is_task i
 in_range (Order i j) list = is_task i && is_task j
 in_range Chain list = are_tasks list
 in_range Ring list = nat_le 2 (length list) && are_tasks list
+in_range Clash list = nat_le 1 (length list) && are_tasks list
 in_range (Work v) list = nat_le 1 v && nat_lt v (10 ^ 15)
 in_range (End b x) list = nat_lt b (10 ^ 6) && is_value x
 in_range line list = true

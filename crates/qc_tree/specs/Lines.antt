@@ -4,7 +4,7 @@ use Rattle.std.specs.List.{flat_map}
 use Rattle.qc_num.specs.declared.bound.Bound.{Bound}
 use Rattle.qc_num.specs.declared.bound.Bound.TheVariants.{Least, Never}
 use Rattle.qc_tree.specs.declared.line.Line.{Line}
-use Rattle.qc_tree.specs.declared.line.Line.TheVariants.{Title, Title2, Up, Down, Assign, Order, Chain, Ring, Reach, Work, End}
+use Rattle.qc_tree.specs.declared.line.Line.TheVariants.{Title, Title2, Title3, Up, Down, Assign, Order, Chain, Ring, Reach, Work, Clash, End}
 use Rattle.qc_tree.specs.declared.line.BadLine.{BadLine}
 
 -- numbers in plain decimal, each after one space
@@ -16,10 +16,11 @@ abbrev pub bound_field : Bound → List ℕ
 bound_field (Least x) = fields (x ∷ [])
 bound_field Never = codes " never"
 
--- the text of a line, without its line feed; the path is the list of a chain or ring
+-- the text of a line, without its line feed; the path is the list of a chain, a ring or packed tasks
 abbrev pub line_text : Line → List ℕ → List ℕ
 line_text Title path = codes "QCTREE 1"
 line_text Title2 path = codes "QCTREE 2"
+line_text Title3 path = codes "QCTREE 3"
 line_text Up path = codes "up"
 line_text Down path = codes "down"
 line_text (Assign i) path = codes "A" ++ fields (i ∷ [])
@@ -28,6 +29,7 @@ line_text Chain path = codes "P" ++ fields path
 line_text Ring path = codes "C" ++ fields path
 line_text Reach path = codes "X"
 line_text (Work v) path = codes "W" ++ fields (v ∷ [])
+line_text Clash path = codes "Q" ++ fields path
 line_text (End b x) path = codes "end " ++ (decimal b ++ bound_field x)
 
 -- a task's number has at most four digits
@@ -47,6 +49,7 @@ IsValue Never = Unit {0}
 abbrev pub IsLine : Line → List ℕ → Type 0
 IsLine Title path = Unit {0}
 IsLine Title2 path = Unit {0}
+IsLine Title3 path = Unit {0}
 IsLine Up path = Unit {0}
 IsLine Down path = Unit {0}
 IsLine (Assign i) path = IsTask i
@@ -55,12 +58,14 @@ IsLine Chain path = AreTasks path
 IsLine Ring path = (2 ≤ length path) × AreTasks path
 IsLine Reach path = Unit {0}
 IsLine (Work v) path = (1 ≤ v) × (v < 10 ^ 15)
+IsLine Clash path = (1 ≤ length path) × AreTasks path
 IsLine (End b x) path = (b < 10 ^ 6) × IsValue x
 
--- the list of a line: only a chain and a ring have one
+-- the list of a line: only a chain, a ring and packed tasks have one
 abbrev pub line_list : Line → List ℕ → List ℕ
 line_list Chain path = path
 line_list Ring path = path
+line_list Clash path = path
 line_list line path = []
 
 -- the text is this line, with this list; there is at most one such line and list

@@ -8,13 +8,14 @@ use Rattle.qc_model.specs.declared.decision.Decision.{Decision}
 use Rattle.qc_model.specs.declared.decision.Decision.TheVariants as decide
 use Rattle.qc_model.specs.declared.schedule.Slot.{Slot}
 use Rattle.qc_model.specs.Instance.{InstanceView, IsApart}
-use Rattle.qc_model.specs.Leaves.{Leaf, Version, chain, ring, reach, work, without_berths, with_berths, crane_numbers, leaf_value}
+use Rattle.qc_model.specs.Leaves.{Leaf, Version, chain, packed, ring, reach, work, without_berths, with_berths, with_packed, leaf_value}
+use Rattle.qc_model.specs.Work.{crane_numbers}
 use Rattle.qc_model.specs.Nodes.{IsSettled, assigned}
 use Rattle.qc_model.specs.Numbers.{most_branchings}
 use Rattle.qc_model.specs.OneWay.{GoesOneWay, mirror}
 use Rattle.qc_model.specs.Rules.{ends}
 use Rattle.qc_tree.specs.declared.line.Line.{Line}
-use Rattle.qc_tree.specs.declared.line.Line.TheVariants.{Title, Title2, Up, Down, Assign, Order, Chain, Ring, Reach, Work, End}
+use Rattle.qc_tree.specs.declared.line.Line.TheVariants.{Title, Title2, Title3, Up, Down, Assign, Order, Chain, Ring, Reach, Work, Clash, End}
 use Rattle.qc_tree.specs.Lines.{line_text}
 
 -- what the line of a node says; tasks are numbered from 0
@@ -108,6 +109,7 @@ leaf_text (chain tasks) = whole_line Chain (in_file tasks)
 leaf_text (ring tasks) = whole_line Ring (in_file tasks)
 leaf_text reach = whole_line Reach []
 leaf_text (work end) = whole_line (Work end) []
+leaf_text (packed tasks) = whole_line Clash (in_file tasks)
 
 -- the line of a node
 abbrev pub sign_text : Sign → List ℕ
@@ -122,6 +124,7 @@ part_text = flat_map (λ node. sign_text node.sign)
 abbrev pub title : Version → Line
 title without_berths = Title
 title with_berths = Title2
+title with_packed = Title3
 
 -- the file of a tree
 abbrev pub tree_text : InstanceView → Tree → List ℕ

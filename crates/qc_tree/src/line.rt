@@ -13,14 +13,16 @@ pub type LineReader = qc_lines::LineReader<MOST_BYTES>;
 /// How many branchings a tree has at most.
 pub const MOST_BRANCHINGS: u32 = 100_000;
 
-/// A line of a tree's text. Tasks are numbered from 1, as in the text. The tasks of a chain or ring
-/// stand in a path beside it.
+/// A line of a tree's text. Tasks are numbered from 1, as in the text. The tasks of a chain, a
+/// ring or a clash stand in a path beside it.
 #[derive(Clone, Copy, Debug, PartialEq, Eq)]
 pub enum Line {
     /// The title of a tree of version 1: heads don't count the start berths of other cranes.
     Title,
     /// The title of a tree of version 2: heads count them.
     Title2,
+    /// The title of a tree of version 3: heads count them, and leaves may list packed tasks.
+    Title3,
     /// Here begins the part of the upward schedules.
     Up,
     /// Here begins the part of the downward schedules.
@@ -37,6 +39,8 @@ pub enum Line {
     Reach,
     /// A leaf: the work doesn't fit before this tick.
     Work(u64),
+    /// A leaf: tasks of which no two can run together.
+    Clash,
     /// The number of branchings, and the tree's value.
     End(u32, Bound),
 }

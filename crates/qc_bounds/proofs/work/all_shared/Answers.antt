@@ -1,6 +1,6 @@
 use Rattle.std.proofs.Common.{◌≡◌, ◌+◌, subst, arith}
 use Rattle.qc_bounds.specs.Work.{Fit}
-use Rattle.qc_model.specs.Leaves.{done_at}
+use Rattle.qc_model.specs.Work.{done_at}
 use Rattle.qc_dist.specs.Kept.{unassigned_ticks}
 use Rattle.qc_bounds.proofs.BoundLemmas.{fit_at_last}
 use Rattle.qc_bounds.proofs.work.all_shared.Goals as goal

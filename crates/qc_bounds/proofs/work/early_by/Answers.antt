@@ -1,7 +1,7 @@
 use Rattle.std.proofs.Common.{◌≡◌, ◌<◌, ◌≤◌, ℕ, true, false, ap, arith}
 use Rattle.std.proofs.lemmas.Bool.{le-ltb, lt-ltb}
 use Rattle.qc_bounds.specs.declared.work.Early.{Early}
-use Rattle.qc_model.specs.Leaves.{done_at}
+use Rattle.qc_model.specs.Work.{done_at}
 use Rattle.qc_bounds.proofs.Sharing.{next_by}
 use Rattle.qc_bounds.proofs.work.early_by.Goals as goal
 use Rattle.qc_bounds.proofs.work.early_by.Goals.{then-done-tick, else-done-tick}

@@ -1,6 +1,6 @@
 use Rattle.std.proofs.Common.{◌≡◌, ◌*◌, ◌≤◌}
 use Rattle.qc_bounds.specs.Work.{early_cranes, early_ticks}
-use Rattle.qc_model.specs.Leaves.{done_at}
+use Rattle.qc_model.specs.Work.{done_at}
 use Rattle.qc_bounds.proofs.work.early_by.Given as goal
 
 abbrev pub invariant-loop-k : goal.invariant-loop-k

@@ -1,7 +1,7 @@
 use Rattle.std.proofs.Common.{◌≡◌, ◌+◌, ◌*◌, ℕ, ap, arith}
 use Rattle.std.proofs.lemmas.Grind.{div_ceil_times}
-use Rattle.qc_model.specs.Leaves.{crane_numbers}
-use Rattle.qc_model.specs.Leaves.{done_at}
+use Rattle.qc_model.specs.Work.{crane_numbers}
+use Rattle.qc_model.specs.Work.{done_at}
 use Rattle.qc_dist.specs.Kept.{unassigned_ticks}
 use Rattle.qc_bounds.proofs.Sharing.{first_shared, fits_shared, some_early}
 use Rattle.qc_bounds.proofs.work.shared_by.Goals as goal

@@ -1,5 +1,5 @@
 use Rattle.std.proofs.Common.{◌≡◌, drop}
-use Rattle.qc_close.specs.Packs.{all_differ}
+use Rattle.qc_model.specs.Packs.{all_differ}
 use Rattle.qc_close.proofs.packs.all_differ.Given as goal
 
 abbrev pub invariant-loop-index : goal.invariant-loop-index

@@ -1,5 +1,5 @@
 use Rattle.std.proofs.Common.{◌≡◌, ◌<◌, ℕ, true}
-use Rattle.qc_close.specs.Assignments.{place}
+use Rattle.qc_model.specs.Assignments.{place}
 use Rattle.qc_close.specs.Bands.{IsFinding, IsFoundFrom, may}
 use Rattle.qc_close.proofs.crew.Crew.closest.Given as goal
 

@@ -1,7 +1,7 @@
 use Rattle.std.proofs.Common.{◌≡◌, ◌+◌, ◌*◌, Some, ap, sym, ◌∙◌, arith}
 use Rattle.qc_model.specs.Instance.{InstanceView}
-use Rattle.qc_model.specs.Leaves.{ticks_over}
-use Rattle.qc_close.specs.Packs.{pack}
+use Rattle.qc_model.specs.Work.{ticks_over}
+use Rattle.qc_model.specs.Packs.{pack}
 use Rattle.qc_close.proofs.LoopLemmas.{least_steps}
 use Rattle.qc_close.proofs.PackLemmas.{pack_end_le}
 use Rattle.qc_close.proofs.SpanLemmas.{pack_found, pack_is, packed_few, packed_stacked}

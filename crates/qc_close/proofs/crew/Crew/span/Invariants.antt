@@ -1,5 +1,5 @@
 use Rattle.std.proofs.Common.{◌≡◌, ◌<◌, ℕ, None, true, length, get_or}
-use Rattle.qc_close.specs.Assignments.{place}
+use Rattle.qc_model.specs.Assignments.{place}
 use Rattle.qc_close.specs.Bands.{IsFinding, IsFoundFrom, may}
 use Rattle.qc_close.proofs.crew.Crew.span.Given as goal
 

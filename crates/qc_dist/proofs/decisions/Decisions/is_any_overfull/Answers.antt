@@ -1,6 +1,6 @@
 use Rattle.std.proofs.Common.{◌≡◌, true, false, length, ap, sym, arith}
 use Rattle.qc_model.specs.Instance.{InstanceView}
-use Rattle.qc_model.specs.Leaves.{is_overfull}
+use Rattle.qc_model.specs.Work.{is_overfull}
 use Rattle.qc_dist.proofs.Ranges.{any_fails, any_passes}
 use Rattle.qc_dist.proofs.decisions.Decisions.is_any_overfull.Goals as goal
 

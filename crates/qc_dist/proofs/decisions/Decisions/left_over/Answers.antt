@@ -1,5 +1,5 @@
 use Rattle.std.proofs.Common.{arith}
-use Rattle.qc_model.specs.Leaves.{spare}
+use Rattle.qc_model.specs.Work.{spare}
 use Rattle.qc_dist.proofs.Ranges.{sum_more}
 use Rattle.qc_dist.proofs.decisions.Decisions.left_over.Goals as goal
 

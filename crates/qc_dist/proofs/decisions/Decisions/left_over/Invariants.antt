@@ -1,6 +1,6 @@
 use Rattle.std.proofs.Common.{◌≡◌, ◌-◌}
 use Rattle.std.specs.List.{range_with_len, sum_by}
-use Rattle.qc_model.specs.Leaves.{spare}
+use Rattle.qc_model.specs.Work.{spare}
 use Rattle.qc_dist.specs.Kept.{unassigned_ticks}
 use Rattle.qc_dist.proofs.decisions.Decisions.left_over.Given as goal
 

@@ -5,12 +5,12 @@ use Prim.Native.Nat.{◌∣◌}
 use Rattle.std.specs.List.{range_with_len}
 use Rattle.qc_model.specs.Bays.{at_least_zero, bays_up}
 use Rattle.qc_model.specs.Instance.{InstanceView, bay_of, crane, ticks_of}
-use Rattle.qc_model.specs.Leaves.{crane_numbers, task_numbers, ticks_over}
+use Rattle.qc_model.specs.Work.{crane_numbers, task_numbers, ticks_over}
 use Rattle.qc_model.specs.declared.schedule.Slot.{Slot}
 use Rattle.qc_model.specs.Rules.{ends}
-use Rattle.qc_close.specs.declared.turn.Turn.{Turn}
-use Rattle.qc_close.specs.Assignments.{Follows, crane_in, no_cranes}
-use Rattle.qc_close.specs.Frames.{Frame, GoesBy, frame}
+use Rattle.qc_model.specs.declared.turn.Turn.{Turn}
+use Rattle.qc_model.specs.Assignments.{Follows, crane_in, no_cranes}
+use Rattle.qc_model.specs.Frames.{Frame, GoesBy, frame}
 
 -- the greatest sum of n of these numbers: of all where there are fewer
 abbrev pub most : ℕ → List ℕ → ℕ

@@ -4,13 +4,13 @@ use Rattle.std.specs.Int.{int_max, int_min}
 use Rattle.std.specs.Option.{option_map_or}
 use Rattle.qc_model.specs.Bays.{bays_between, bays_up}
 use Rattle.qc_model.specs.Instance.{InstanceView, crane}
-use Rattle.qc_model.specs.Leaves.{highest, lowest, task_numbers, ticks_over}
+use Rattle.qc_model.specs.Work.{highest, lowest, task_numbers, ticks_over}
 use Rattle.qc_model.specs.declared.schedule.Slot.{Slot}
 use Rattle.qc_model.specs.OneWay.{GoesUp}
 use Rattle.qc_model.specs.Rules.{Feasible}
-use Rattle.qc_close.specs.declared.turn.Turn.{Turn}
-use Rattle.qc_close.specs.declared.turn.Turn.TheVariants.{OneWay, Free}
-use Rattle.qc_close.specs.Assignments.{crane_in}
+use Rattle.qc_model.specs.declared.turn.Turn.{Turn}
+use Rattle.qc_model.specs.declared.turn.Turn.TheVariants.{OneWay, Free}
+use Rattle.qc_model.specs.Assignments.{crane_in}
 
 -- the schedules that cranes can keep that turn so
 abbrev pub GoesBy : Turn → InstanceView → List Slot → Type 0

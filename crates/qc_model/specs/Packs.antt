@@ -5,11 +5,11 @@ use Rattle.std.specs.List.{flat_map, list_all, list_any}
 use Rattle.qc_model.specs.declared.schedule.Slot.{Slot}
 use Rattle.qc_model.specs.Bays.{bays_up}
 use Rattle.qc_model.specs.Instance.{InstanceView}
-use Rattle.qc_model.specs.Leaves.{ticks_over}
+use Rattle.qc_model.specs.Work.{ticks_over}
 use Rattle.qc_model.specs.Nodes.{least}
 use Rattle.qc_model.specs.Rules.{Feasible, ends, start_of}
 use Rattle.qc_model.specs.Ticks.{task_distance}
-use Rattle.qc_close.specs.Assignments.{Follows, cranes_for, place}
+use Rattle.qc_model.specs.Assignments.{Follows, cranes_for, place}
 
 -- whichever cranes do tasks i and j, it is one crane, or the two come too near
 abbrev pub clash : InstanceView → List (Option ℕ) → ℕ → ℕ → Bool

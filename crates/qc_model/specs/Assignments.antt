@@ -3,7 +3,7 @@ use Rattle.std.specs.Prelude.{◌≡◌, ℕ, ◌*◌, ◌<◌, ℤ, pos, ◌-�
 use Rattle.qc_model.specs.declared.decision.Decision.{Decision}
 use Rattle.qc_model.specs.declared.schedule.Slot.{Slot}
 use Rattle.qc_model.specs.Instance.{InstanceView, bay_of}
-use Rattle.qc_model.specs.Leaves.{crane_numbers, task_numbers}
+use Rattle.qc_model.specs.Work.{crane_numbers, task_numbers}
 use Rattle.qc_model.specs.Nodes.{assigned, reaches}
 use Rattle.qc_model.specs.Rules.{crane_of}
 
