@@ -6,7 +6,5 @@ mod SpanLemmas
 mod LoopLemmas
 mod FrameLemmas
 mod CountLemmas
-mod SumLemmas
-mod WalkLemmas
 pub mod ClosedLemmas
 pub mod NodeLemmas

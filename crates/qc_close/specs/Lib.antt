@@ -1,6 +1,3 @@
 pub mod Crews
 pub mod CrewFields
 pub mod Bands
-pub mod Counts
-pub mod Grains
-pub mod Owns
