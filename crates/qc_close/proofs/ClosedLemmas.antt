@@ -1,34 +1,32 @@
 -- No schedule that follows an assignment ends before an end at which it is closed.
-use Rattle.std.proofs.Common.{◌≡◌, ℕ, zero, suc, ◌+◌, ◌-◌, ◌*◌, ◌/◌, ◌%◌, ◌<◌, ◌≤◌, inl, inr, Bool, true, false, not, ◌&&◌, ◌||◌, eqb, leb, cond, List, [], ◌∷◌, ◌++◌, length, get_or, map, replicate, reverse, Option, None, Some, refl, ap, sym, subst, ◌∙◌, arith, filter, is_none, nat_lt, sum, sum_by, count_by}
+use Rattle.std.proofs.Common.{◌≡◌, ℕ, zero, suc, ◌+◌, ◌-◌, ◌*◌, ◌<◌, ◌≤◌, inl, inr, Bool, true, false, not, ◌&&◌, eqb, leb, cond, List, [], ◌∷◌, ◌++◌, length, get_or, map, replicate, reverse, Option, None, Some, refl, ap, sym, subst, ◌∙◌, arith, filter, is_none, nat_lt, sum, sum_by, count_by}
 use Prim.Native.Nat.{◌∣◌}
 use mathlib.Core.List.{reverse-cons}
-use Rattle.std.proofs.Math.Nat.{dvd-add, dvd-mul_right_of_dvd, dvd-zero, le-div_iff_mul-le, mod-one, mul-add, mul-div_cancel', mul-le-mul_left, mul-zero, mul_comm}
+use Rattle.std.proofs.Math.Nat.{dvd-add, dvd-mul_right_of_dvd, dvd-zero, mul-add, mul-le-mul_left, mul-zero}
 use Rattle.std.proofs.lemmas.Bool.{and_from, and_parts, cases_Bool, cases_lt, cond_both, eq-eqb, eqb-true, le-leb, le-ltb, leb-true, lt-ltb, ltb-true, not-true, or_cases, true≢false}
 use Rattle.std.proofs.lemmas.Int.{ints}
 use Rattle.std.proofs.lemmas.List.{get_or_past, length-map, length-reverse}
-use Rattle.std.proofs.lemmas.List.FromFn.{length-range_with_len}
 use Rattle.std.proofs.lemmas.List.Sums.{count_by-le-length, sum-map, sum_by-cons}
-use Rattle.std.proofs.lemmas.Nat.Gcd.{dvd_of_mod-eq-zero}
 use Rattle.std.proofs.lemmas.Simd.{map-map}
 use Rattle.std.specs.Option.{option_map_or}
-use Rattle.std.specs.List.{list_all, list_any, range_with_len}
+use Rattle.std.specs.List.{list_any, range_with_len}
 use Rattle.qc_model.specs.declared.direction.Direction.{Direction}
 use Rattle.qc_model.specs.declared.direction.Direction.TheVariants.{Up, Down}
 use Rattle.qc_model.specs.declared.frame.Frame.{Frame}
 use Rattle.qc_model.specs.declared.schedule.Slot.{Slot}
 use Rattle.qc_model.specs.declared.turn.Turn.{Turn}
 use Rattle.qc_model.specs.Assignments.{Follows, crane_in, no_cranes}
-use Rattle.qc_model.specs.Closed.{IsClosedBound, Try, along, are_multiples, bays_to, fewest, first, grain, has_room, is_closed, is_served, is_short, is_short_before, last_before, left_at, left_bays, leg, legs, lists_to, load, most, numbers, room, suffices, try_of, work_at}
+use Rattle.qc_model.specs.Closed.{IsClosedBound, Try, along, bays_to, fewest, first, grain, has_room, is_closed, is_served, is_short, is_short_before, last_before, left_at, left_bays, leg, legs, lists_to, load, most, numbers, room, suffices, try_of, work_at}
 use Rattle.qc_model.specs.Frames.{GoesBy, frame, frame_of, own}
-use Rattle.qc_model.specs.Instance.{InstanceView, Valid, crane, no_crane, task, no_task, ticks_of}
-use Rattle.qc_model.specs.Nodes.{greatest}
+use Rattle.qc_model.specs.Instance.{InstanceView, Valid, crane, no_crane, ticks_of}
 use Rattle.qc_model.specs.Rules.{crane_of, ends}
 use Rattle.qc_model.specs.Work.{crane_numbers, task_numbers}
 use Rattle.qc_model.proofs.Bays.{bays}
-use Rattle.qc_close.proofs.CountLemmas.{fewest_le, passing, passing_le, shared, sum_le, times_sum}
-use Rattle.qc_close.proofs.FrameLemmas.{HasTime, at_bay, bay_at, beside, does_open, feasible_by, has_time, some_term, sum_filter, sums_within}
+use Rattle.qc_close.proofs.CountLemmas.{fewest_le, passing, passing_le, shared, sum_filter, sum_le, sums_within, times_sum}
+use Rattle.qc_close.proofs.FrameLemmas.{HasTime, at_bay, bay_at, beside, does_open, feasible_by, has_time, some_term}
+use Rattle.qc_close.proofs.GrainLemmas.{AreMultiples, grain_is, multiple_to}
 use Rattle.qc_close.proofs.LoopLemmas.{least_steps}
-use Rattle.qc_close.proofs.Members.{Among, all_at, all_from, among_either, among_filter, among_first, among_flat, among_map, among_range, among_second, any_at, any_from, filter_among, map_among, range_among}
+use Rattle.qc_close.proofs.Members.{Among, among_either, among_filter, among_first, among_flat, among_map, among_range, among_second, any_at, any_from, filter_among, map_among, range_among}
 
 -- ---- bays in the order in which cranes come to them
 
@@ -496,80 +494,10 @@ module _ (inst : InstanceView) (turn : Turn) (cranes : List (Option ℕ)) (sched
 
 -- ---- multiples of the grain
 
-pub multiple_to : (g n x : ℕ) → 0 < g → g ∣ x → x ≤ n → x ≤ n / g * g
-multiple_to g n x some divides low =
-    let parts : g * (x / g) ≡ x = mul-div_cancel' g divides in
-    let swapped = mul_comm (x / g) g in
-    let fewer : x / g ≤ n / g = (le-div_iff_mul-le some).1 (omega (arith, parts, swapped)) in
-    omega (arith, parts, mul-le-mul_left g fewer, mul_comm (n / g) g)
-
 dvd_sum : (g : ℕ) (f : ℕ → ℕ) (xs : List ℕ) → ((x : ℕ) → Among xs x → g ∣ f x) → g ∣ sum_by f xs
 dvd_sum g f [] h = dvd-zero g
 dvd_sum g f (x ∷ xs) h =
     subst (λ (n : ℕ). g ∣ n) (sym (sum_by-cons f x xs)) (dvd-add g (h x (inl refl)) (dvd_sum g f xs (λ y a. h y (inr a))))
-
--- all ticks of the instance are multiples of g
-record AreMultiples (inst : InstanceView) (g : ℕ) : Type 0 where
-  travel : g ∣ inst.travel
-  tasks : (j : ℕ) → j < length inst.tasks → g ∣ ticks_of inst j
-  ready : (k : ℕ) → k < length inst.cranes → g ∣ (crane inst k).ready
-  some : 0 < g
-
-pub among_at : {X : Type 0} (xs : List X) (i : ℕ) (d : X) → i < length xs → Among xs (get_or xs i d)
-among_at [] i d low = absurd (omega arith)
-among_at (x ∷ xs) zero d low = inl refl
-among_at (x ∷ xs) (suc i) d low = inr (among_at xs i d (omega arith))
-
-multiple_of : (g n : ℕ) → eqb (n % g) 0 ≡ true → g ∣ n
-multiple_of g n t = dvd_of_mod-eq-zero g (eqb-true (n % g) 0 t)
-
-multiples_of : (inst : InstanceView) (g : ℕ) → 0 < g → are_multiples inst g ≡ true → AreMultiples inst g
-multiples_of inst g some t =
-    let is_tasks = list_all (λ j. eqb (j.ticks % g) 0) inst.tasks in
-    let is_ready = list_all (λ k. eqb (k.ready % g) 0) inst.cranes in
-    let outer = and_parts (eqb (inst.travel % g) 0 && is_tasks) is_ready t in
-    let inner = and_parts (eqb (inst.travel % g) 0) is_tasks outer.0 in
-    record {
-      travel = multiple_of g inst.travel inner.0;
-      tasks = λ j low. multiple_of g (ticks_of inst j)
-          (all_at (λ j. eqb (j.ticks % g) 0) inst.tasks (task inst j) (among_at inst.tasks j no_task low) inner.1);
-      ready = λ k low. multiple_of g (crane inst k).ready
-          (all_at (λ k. eqb (k.ready % g) 0) inst.cranes (crane inst k) (among_at inst.cranes k no_crane low) outer.1);
-      some = some;
-    }
-
-pub among_greatest : (x : ℕ) (xs : List ℕ) → Among (x ∷ xs) (greatest (x ∷ xs))
-among_greatest x [] = inl (omega arith)
-among_greatest x (y ∷ ys) = elim (cases_lt x (greatest (y ∷ ys))) [
-  | inl less ↦
-      let e : greatest (y ∷ ys) ≡ greatest (x ∷ y ∷ ys) = omega arith in
-      inr (subst (λ (n : ℕ). Among (y ∷ ys) n) e (among_greatest y ys))
-  | inr more ↦ inl (omega arith)
-]
-
-greatest_among : (xs : List ℕ) (x : ℕ) → Among xs x → Among xs (greatest xs)
-greatest_among [] x a = absurd a
-greatest_among (y ∷ ys) x a = among_greatest y ys
-
--- 1 is such a number
-one_divides : (inst : InstanceView) → are_multiples inst 1 ≡ true
-one_divides inst =
-    and_from (eqb (inst.travel % 1) 0 && list_all (λ j. eqb (j.ticks % 1) 0) inst.tasks) (list_all (λ k. eqb (k.ready % 1) 0) inst.cranes)
-    (and_from (eqb (inst.travel % 1) 0) (list_all (λ j. eqb (j.ticks % 1) 0) inst.tasks) (by inst.travel)
-    (all_from (λ j. eqb (j.ticks % 1) 0) inst.tasks (λ j _. by j.ticks)))
-    (all_from (λ k. eqb (k.ready % 1) 0) inst.cranes (λ k _. by k.ready))
-  where
-    by : (n : ℕ) → eqb (n % 1) 0 ≡ true
-    by n = eq-eqb (n % 1) 0 (mod-one n)
-
-pub grain_is : (inst : InstanceView) → 1 ≤ inst.travel
-    → (are_multiples inst (grain inst) ≡ true) × (1 ≤ grain inst) × (grain inst ≤ inst.travel)
-grain_is inst travel =
-    let one =
-    among_filter (are_multiples inst) (range_with_len 1 inst.travel) 1 (among_range 1 1 inst.travel (omega arith) (omega arith)) (one_divides inst) in
-    let is = filter_among (are_multiples inst) (range_with_len 1 inst.travel) (grain inst) (greatest_among (filter (are_multiples inst) (range_with_len 1 inst.travel)) 1 one) in
-    let range = range_among (grain inst) 1 inst.travel is.0 in
-    (is.1, range.0, omega (arith, range.1))
 
 module _ (inst : InstanceView) (g : ℕ) (grain : AreMultiples inst g) where
   dvd_ready : (w : ℕ) → g ∣ (crane inst w).ready
@@ -651,8 +579,7 @@ pub closed_end_le : (inst : InstanceView) (turn : Turn) (cranes : List (Option �
     → is_closed inst turn cranes end ≡ true → IsClosedBound inst turn cranes end
 closed_end_le inst turn cranes end valid closed sched goes follows = elim (cases_lt (ends inst sched) end) [
   | inl early ↦
-      let is = grain_is inst (least_steps inst valid).0 in
-      let multiples = multiples_of inst (grain inst) is.1 is.0 in
+      let multiples = grain_is inst (least_steps inst valid).0 in
       absurd (elim (or_cases (is_short_before inst turn (no_cranes inst) end) (is_short_before inst turn cranes end) closed) [
         | inl bare ↦
             long_enough inst turn (no_cranes inst) sched valid goes (bare_follows inst sched) (grain inst) multiples end early bare

@@ -1,12 +1,28 @@
 -- Sums over cranes: of some of them, of the greatest and of the least.
-use Rattle.std.proofs.Common.{◌≡◌, ℕ, zero, suc, ◌+◌, ◌-◌, ◌*◌, ◌≤◌, inl, inr, Bool, true, false, not, cond, List, [], ◌∷◌, length, map, refl, ap, sym, subst, arith, sum_by, count_by}
+use Rattle.std.proofs.Common.{◌≡◌, ℕ, zero, suc, ◌+◌, ◌-◌, ◌*◌, ◌≤◌, inl, inr, Bool, true, false, not, cond, List, [], ◌∷◌, length, map, refl, ap, sym, subst, arith, filter, sum_by, count_by}
 use Rattle.std.proofs.Math.Nat.{mul-add, mul-zero}
-use Rattle.std.proofs.lemmas.Bool.{cases_Bool}
+use Rattle.std.proofs.lemmas.Bool.{cases_Bool, cond-true, cond_both}
 use Rattle.std.proofs.lemmas.List.{length-map}
 use Rattle.std.proofs.lemmas.List.Sums.{sum-map, sum_by-cons}
 use Rattle.qc_model.specs.Closed.{fewest, most}
-use Rattle.qc_close.proofs.FrameLemmas.{sums_within}
 use Rattle.qc_close.proofs.Members.{Among}
+
+-- of those that pass a test
+pub sum_filter : (f : ℕ → ℕ) (p : ℕ → Bool) (xs : List ℕ) → sum_by f (filter p xs) ≡ sum_by (λ x. cond (p x) (f x) 0) xs
+sum_filter f p [] = refl
+sum_filter f p (x ∷ xs) =
+    let rest = sum_filter f p xs in
+    let all = sum_by-cons (λ x. cond (p x) (f x) 0) x xs in
+    cond_both (p x) (x ∷ filter p xs) (filter p xs) (λ ys. sum_by f ys ≡ sum_by (λ x. cond (p x) (f x) 0) (x ∷ xs))
+    (λ t. omega (arith, rest, all, sum_by-cons f x (filter p xs), cond-true (p x) (f x) 0 t))
+    (λ t. omega (arith, rest, all, ap (λ b. cond b (f x) 0) t))
+
+pub sums_within : (f g h : ℕ → ℕ) (xs : List ℕ) → ((x : ℕ) → Among xs x → f x + g x ≤ h x)
+    → sum_by f xs + sum_by g xs ≤ sum_by h xs
+sums_within f g h [] le = omega arith
+sums_within f g h (x ∷ xs) le =
+    let rest = sums_within f g h xs (λ y a. le y (inr a)) in
+    omega (arith, rest, le x (inl refl), sum_by-cons f x xs, sum_by-cons g x xs, sum_by-cons h x xs)
 
 most_cons : (n x : ℕ) (xs : List ℕ) → most n xs ≤ most n (x ∷ xs)
 most_cons zero x xs = omega arith

@@ -2,7 +2,7 @@
 -- and for the way that it goes beyond its own for these.
 use Rattle.std.proofs.Common.{◌≡◌, ◌≢◌, ℕ, zero, suc, ◌+◌, ◌*◌, ◌<◌, ◌≤◌, ◌⊎◌, inl, inr, Bool, true, false, ◌&&◌, eqb, cond, List, [], ◌∷◌, length, Option, None, Some, ℤ, pos, ◌≤ℤ◌, refl, ap, sym, subst, ◌∙◌, arith, filter, is_none, sum_by}
 use Rattle.std.proofs.Math.Nat.{mul-add, mul-le-mul_left}
-use Rattle.std.proofs.lemmas.Bool.{and_parts, cases_Bool, cases_lt, cond-true, cond_both, eq-eqb, eqb-true, false≢true}
+use Rattle.std.proofs.lemmas.Bool.{and_parts, cases_Bool, cases_lt, cond_both, eq-eqb, eqb-true, false≢true}
 use Rattle.std.proofs.lemmas.Int.{by_lt_z, int_max_is, int_min_is, ints}
 use Rattle.std.proofs.lemmas.List.Sums.{sum_by-cons}
 use Rattle.std.specs.Int.{int_max, int_min}
@@ -24,6 +24,7 @@ use Rattle.qc_model.specs.declared.turn.Turn.TheVariants.{OneWay, Free}
 use Rattle.qc_model.specs.Assignments.{Follows, crane_in}
 use Rattle.qc_model.specs.Closed.{bays_to}
 use Rattle.qc_model.specs.Frames.{GoesBy, frame, frame_of, own, turn_bays, turn_high}
+use Rattle.qc_close.proofs.CountLemmas.{sum_filter, sums_within}
 use Rattle.qc_close.proofs.Members.{Among, among_filter, among_range, any_at, any_from, filter_among, first_of, range_among}
 use Rattle.qc_close.proofs.PackLemmas.{ends_in}
 use Rattle.qc_close.proofs.Rows.{AllClear, AreClear, Row, row_after, row_fits, row_of, way, way_between, way_to}
@@ -31,24 +32,6 @@ use Rattle.qc_close.proofs.Rows.{AllClear, AreClear, Row, row_after, row_fits, r
 pub feasible_by : (turn : Turn) (inst : InstanceView) (sched : List Slot) → GoesBy turn inst sched → Feasible inst sched
 feasible_by OneWay inst sched g = g.feasible
 feasible_by Free inst sched g = g
-
--- ---- sums over those that pass a test
-
-pub sum_filter : (f : ℕ → ℕ) (p : ℕ → Bool) (xs : List ℕ) → sum_by f (filter p xs) ≡ sum_by (λ x. cond (p x) (f x) 0) xs
-sum_filter f p [] = refl
-sum_filter f p (x ∷ xs) =
-    let rest = sum_filter f p xs in
-    let all = sum_by-cons (λ x. cond (p x) (f x) 0) x xs in
-    cond_both (p x) (x ∷ filter p xs) (filter p xs) (λ ys. sum_by f ys ≡ sum_by (λ x. cond (p x) (f x) 0) (x ∷ xs))
-    (λ t. omega (arith, rest, all, sum_by-cons f x (filter p xs), cond-true (p x) (f x) 0 t))
-    (λ t. omega (arith, rest, all, ap (λ b. cond b (f x) 0) t))
-
-pub sums_within : (f g h : ℕ → ℕ) (xs : List ℕ) → ((x : ℕ) → Among xs x → f x + g x ≤ h x)
-    → sum_by f xs + sum_by g xs ≤ sum_by h xs
-sums_within f g h [] le = omega arith
-sums_within f g h (x ∷ xs) le =
-    let rest = sums_within f g h xs (λ y a. le y (inr a)) in
-    omega (arith, rest, le x (inl refl), sum_by-cons f x xs, sum_by-cons g x xs, sum_by-cons h x xs)
 
 -- ---- the tasks of one crane in a schedule
 

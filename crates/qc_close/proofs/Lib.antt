@@ -6,5 +6,12 @@ mod SpanLemmas
 mod LoopLemmas
 mod FrameLemmas
 mod CountLemmas
+mod GrainLemmas
 pub mod ClosedLemmas
 pub mod NodeLemmas
+mod SumLemmas
+mod WalkLemmas
+mod ShortLemmas
+mod OwnLemmas
+mod CrewLemmas
+mod KeptLemmas

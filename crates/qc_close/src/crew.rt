@@ -1,13 +1,19 @@
 //! Which crane has which task.
 
-ghost use Rattle.std.specs.Prelude.{◌≡◌, ◌<◌, None, Some, IfOk, IsSome, length, slice_set};
+ghost use Rattle.std.specs.Prelude.{◌≡◌, ◌<◌, ◌≤◌, None, Some, IfOk, IsSome, length, slice_set};
 ghost use Rattle.qc_model.specs.Instance.{Valid};
 ghost use Rattle.qc_model.specs.Assignments.{AreInRange, crane_in, no_cranes};
+ghost use Rattle.qc_model.specs.Closed.{is_closed, is_short_before};
 ghost use Rattle.qc_close.specs.Crews.{CrewView};
 ghost use Rattle.qc_close.specs.CrewFields.{view_of, IsKept};
+ghost use Rattle.qc_close.specs.Lasts.{IsLast};
+ghost use Rattle.qc_close.specs.declared.closed.TheConstants.{LAST_CLOSED};
 
+use crate::closed::{LAST_CLOSED, is_short_before, last_short_end};
+use crate::grain::grain;
+use crate::left::work_left;
 use qc_model::{Instance, Turn, copy};
-use qc_num::OutOfMemory;
+use qc_num::{OutOfMemory, Tick};
 use std::alloc::Global;
 use std::marker::Model;
 
@@ -19,6 +25,12 @@ pub struct Crew {
     turn: Turn,
     /// The crane of each task.
     cranes: Vec<Option<u16>>,
+    /// The ticks of the tasks without a crane at each bay, from bay 0.
+    left: Vec<Tick>,
+    /// The greatest number of which all ticks of the instance are multiples.
+    step: Tick,
+    /// The last end before which not all can be done, whichever cranes the tasks have.
+    bare: Tick,
 }
 
 impl Model for Crew {
@@ -39,10 +51,24 @@ impl Crew {
         }) }
     {
         let tasks = inst.task_count();
+        let cranes = vec![in alloc; None; tasks as usize]?;
+        let left = work_left(alloc, inst)?;
+        let step = grain(inst);
+        let bare = last_short_end(
+            inst,
+            turn,
+            cranes.as_slice(),
+            left.as_slice(),
+            step,
+            LAST_CLOSED,
+        );
         Ok(Crew {
-            cranes: vec![in alloc; None; tasks as usize]?,
             inst: copy(alloc, inst)?,
             turn,
+            cranes,
+            left,
+            step,
+            bare,
         })
     }
 
@@ -64,6 +90,9 @@ impl Crew {
           cranes = slice_set self.old.cranes task (Some crane);
         } }
     {
+        let done = self.inst.task(task);
+        let bay = done.bay as usize;
+        self.left[bay] = self.left[bay] - done.ticks;
         self.cranes[task as usize] = Some(crane);
     }
 
@@ -73,6 +102,9 @@ impl Crew {
         requires some { IsSome (crane_in self.old.cranes task) }
         ensures { self.new ≡ record self.old { cranes = slice_set self.old.cranes task None } }
     {
+        let open = self.inst.task(task);
+        let bay = open.bay as usize;
+        self.left[bay] = self.left[bay] + open.ticks;
         self.cranes[task as usize] = None;
     }
 
@@ -82,5 +114,55 @@ impl Crew {
         ensures { result ≡ crane_in self.now.cranes task }
     {
         self.cranes[task as usize]
+    }
+
+    /// Whether the assignment is closed at an end: too few cranes can come to where tasks have none yet
+    /// for all to be done before it. It is so at each end before one at which it is.
+    pub fn closed(&self, end: Tick) -> bool
+        requires some { 0 < end }
+        requires limit { end ≤ LAST_CLOSED }
+        ensures { result ≡ is_closed self.now.inst self.now.turn self.now.cranes end }
+    {
+        end <= self.bare || self.is_short(end)
+    }
+
+    /// The last end up to a limit at which the assignment is closed, and 0 where there is none.
+    pub fn last_closed(&self, limit: Tick) -> Tick
+        requires { limit ≤ LAST_CLOSED }
+        ensures { IsLast (is_closed self.now.inst self.now.turn self.now.cranes) limit result }
+    {
+        self.bare.min(limit).max(self.last_short(limit))
+    }
+
+    /// Whether not all can be done before an end with the cranes that tasks have.
+    fn is_short(&self, end: Tick) -> bool
+        requires { end ≤ LAST_CLOSED }
+        ensures { result ≡ is_short_before self.now.inst self.now.turn self.now.cranes end }
+    {
+        let cranes = self.cranes.as_slice();
+        is_short_before(
+            &self.inst,
+            self.turn,
+            cranes,
+            self.left.as_slice(),
+            self.step,
+            end,
+        )
+    }
+
+    /// The last end up to a limit before which not all can be done with the cranes that tasks have.
+    fn last_short(&self, limit: Tick) -> Tick
+        requires { limit ≤ LAST_CLOSED }
+        ensures { IsLast (is_short_before self.now.inst self.now.turn self.now.cranes) limit result }
+    {
+        let cranes = self.cranes.as_slice();
+        last_short_end(
+            &self.inst,
+            self.turn,
+            cranes,
+            self.left.as_slice(),
+            self.step,
+            limit,
+        )
     }
 }

@@ -1,9 +1,18 @@
 //! Assignments of tasks to cranes, and what shows of every schedule that keeps one how early it can end,
-//! whatever the order of tasks: tasks of which no two can run together.
+//! whatever the order of tasks: tasks of which no two can run together, and ends before which too few
+//! cranes can do what is left.
 #![tactic(auto)]
 
+mod closed;
 mod crew;
+mod frames;
+mod grain;
 mod laws;
+mod left;
 mod packs;
+mod short;
+mod sums;
+mod walk;
 
+pub use closed::LAST_CLOSED;
 pub use crew::Crew;

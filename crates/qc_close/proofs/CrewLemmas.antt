@@ -1,0 +1,362 @@
+-- The work that is left at each bay as tasks get and lose their cranes, and that what code tries is what is to be tried.
+use Rattle.std.proofs.Common.{◌≡◌, ◌≢◌, ℕ, zero, suc, ◌+◌, ◌-◌, ◌*◌, ◌<◌, ◌≤◌, inl, inr, Bool, true, false, ◌&&◌, ◌||◌, eqb, leb, nat_lt, cond, List, [], ◌∷◌, length, get_or, set, map, replicate, filter, is_none, Option, None, Some, max, min, ℤ, pos, negsuc, ◌≤ℤ◌, of_z, to_z, w32, take, refl, ap, sym, subst, ◌∙◌, arith, sum_by}
+use Rattle.std.proofs.Math.Path.{fun_ext}
+use Rattle.std.proofs.Math.IntN.{nat_abs}
+use Rattle.std.proofs.lemmas.Int.{ints}
+use Rattle.std.proofs.lemmas.Bool.{cases_eq, cases_lt, eq-eqb, ne_eqb, le-leb, lt-leb, lt-ltb, or_left, or_right, or_from}
+use Rattle.std.proofs.lemmas.List.{get_or-set_other, get_or-set_same, length-set}
+use Rattle.std.proofs.lemmas.List.Sums.{sum_by-cons}
+use Rattle.std.specs.List.{range_with_len}
+use Rattle.qc_dist.proofs.Ranges.{sum_more}
+use Rattle.qc_model.specs.declared.frame.Frame.{Frame}
+use Rattle.qc_model.specs.declared.limits.TheConstants.{MOST_TASKS, MOST_WORK}
+use Rattle.qc_model.specs.declared.task.Task.{Task}
+use Rattle.qc_model.specs.declared.turn.Turn.{Turn}
+use Rattle.qc_model.specs.Assignments.{crane_in, no_cranes}
+use Rattle.qc_model.specs.Bays.{at_least_zero}
+use Rattle.qc_model.specs.Closed.{Try, grain, is_short, is_short_before, last_before, left_at, left_bays, try_of, work_at}
+use Rattle.qc_model.specs.Frames.{frame}
+use Rattle.qc_model.specs.Instance.{InstanceView, Valid, bay_of, no_task, ticks_of}
+use Rattle.qc_model.specs.Work.{crane_numbers, task_numbers, ticks_over}
+use Rattle.qc_model.proofs.Bays.{bays}
+use Rattle.qc_model.proofs.LimitsOf.{limits_of}
+use Rattle.qc_model.proofs.OnRail.{ticks_bounded}
+use Rattle.qc_close.specs.Counts.{bays_of, try_by}
+use Rattle.qc_close.specs.Lasts.{IsLast}
+use Rattle.qc_close.specs.Lefts.{IsLeft}
+use Rattle.qc_close.proofs.CountLemmas.{sum_filter}
+use Rattle.qc_close.proofs.Members.{Among, filter_among, range_among}
+
+-- ---- sums in which one term changes
+
+sum_same : (f g : ℕ → ℕ) (a n : ℕ) → ((i : ℕ) → a ≤ i → f i ≡ g i) → sum_by f (range_with_len a n) ≡ sum_by g (range_with_len a n)
+sum_same f g a zero same = refl
+sum_same f g a (suc n) same =
+    omega (
+      arith,
+      sum_same f g (a + 1) n (λ i low. same i (omega arith)),
+      same a (omega arith),
+      sum_by-cons f a (range_with_len (a + 1) n),
+      sum_by-cons g a (range_with_len (a + 1) n),
+    )
+
+sum_changed : (f g : ℕ → ℕ) (d j a n : ℕ) → a ≤ j → j < a + n → f j ≡ g j + d → ((i : ℕ) → i ≢ j → f i ≡ g i)
+    → sum_by f (range_with_len a n) ≡ sum_by g (range_with_len a n) + d
+sum_changed f g d j a zero low high here other = absurd (omega arith)
+sum_changed f g d j a (suc n) low high here other = elim (cases_lt a j) [
+  | inl less ↦
+      omega (
+        arith,
+        sum_changed f g d j (a + 1) n (omega arith) (omega arith) here other,
+        other a (λ e. absurd (omega arith)),
+        sum_by-cons f a (range_with_len (a + 1) n),
+        sum_by-cons g a (range_with_len (a + 1) n),
+      )
+  | inr more ↦
+      let e : j ≡ a = omega arith in
+      omega (
+        arith,
+        sum_same f g (a + 1) n (λ i above. other i (λ s. absurd (omega arith))),
+        ap f e,
+        ap g e,
+        here,
+        sum_by-cons f a (range_with_len (a + 1) n),
+        sum_by-cons g a (range_with_len (a + 1) n),
+      )
+]
+
+sum_few : (f : ℕ → ℕ) (b a n : ℕ) → ((i : ℕ) → i < a + n → f i ≤ b) → sum_by f (range_with_len a n) ≤ n * b
+sum_few f b a zero le = omega arith
+sum_few f b a (suc n) le =
+    omega (
+      arith,
+      sum_few f b (a + 1) n (λ i low. le i (omega arith)),
+      le a (omega arith),
+      sum_by-cons f a (range_with_len (a + 1) n),
+    )
+
+module _ (inst : InstanceView) where
+  abbrev pub at : ℕ → ℕ
+  at j = at_least_zero (bay_of inst j)
+
+  -- a task's ticks, where it is left at bay x
+  abbrev term : List (Option ℕ) → ℕ → ℕ → ℕ
+  term cranes x j = cond (is_none (crane_in cranes j) && eqb (at j) x) (ticks_of inst j) 0
+
+  work_is : (cranes : List (Option ℕ)) (x : ℕ) → work_at inst cranes x ≡ sum_by (term cranes x) (task_numbers inst)
+  work_is cranes x = sum_filter (ticks_of inst) (λ j. is_none (crane_in cranes j) && eqb (at j) x) (task_numbers inst)
+
+  module _ (a b : List (Option ℕ)) (j : ℕ) (low : j < length inst.tasks) (none : is_none (crane_in a j) ≡ true)
+      (some : is_none (crane_in b j) ≡ false) (other : (i : ℕ) → i ≢ j → crane_in a i ≡ crane_in b i) (x : ℕ) where
+    work_changed : work_at inst a x ≡ work_at inst b x + cond (eqb (at j) x) (ticks_of inst j) 0
+    work_changed =
+        let here_a : term a x j ≡ cond (eqb (at j) x) (ticks_of inst j) 0 = ap (λ c. cond (c && eqb (at j) x) (ticks_of inst j) 0) none in
+        let here_b : term b x j ≡ 0 = ap (λ c. cond (c && eqb (at j) x) (ticks_of inst j) 0) some in
+        omega (
+          arith,
+          work_is a x,
+          work_is b x,
+          sum_changed (term a x) (term b x) (cond (eqb (at j) x) (ticks_of inst j) 0) j 0 (length inst.tasks) (omega arith)
+              (omega arith) (omega (arith, here_a, here_b))
+              (λ i differ. ap (λ o. cond (is_none o && eqb (at i) x) (ticks_of inst i) 0) (other i differ)),
+        )
+
+  pub cranes_there : (cranes : List (Option ℕ)) (j : ℕ) (o : Option ℕ) → j < length cranes → crane_in (set cranes j o) j ≡ o
+  cranes_there cranes j o low = get_or-set_same cranes j o None low
+
+  pub cranes_else : (cranes : List (Option ℕ)) (j : ℕ) (o : Option ℕ) (i : ℕ) → i ≢ j → crane_in (set cranes j o) i ≡ crane_in cranes i
+  cranes_else cranes j o i differ = get_or-set_other cranes j i o None differ
+
+  module _ (cranes : List (Option ℕ)) (left : List ℕ) (is : IsLeft inst cranes left) (j : ℕ) (low : j < length inst.tasks)
+      (many : length cranes ≡ length inst.tasks) (on_ship : at j < length left) where
+    inside : j < length cranes
+    inside = omega (arith, many)
+
+    module _ (k : ℕ) (free : crane_in cranes j ≡ None) where
+      put_change : (x : ℕ) → work_at inst cranes x ≡ work_at inst (set cranes j (Some k)) x + cond (eqb (at j) x) (ticks_of inst j) 0
+      put_change =
+          work_changed cranes (set cranes j (Some k)) j low (ap is_none free) (ap is_none (cranes_there cranes j (Some k) inside))
+          (λ i differ. sym (cranes_else cranes j (Some k) i differ))
+
+      pub put_room : ticks_of inst j ≤ get_or left (at j) 0
+      put_room =
+          omega (arith, is.work (at j), put_change (at j), ap (λ c. cond c (ticks_of inst j) 0) (eq-eqb (at j) (at j) refl))
+
+      pub left_put : IsLeft inst (set cranes j (Some k)) (set left (at j) (get_or left (at j) 0 - ticks_of inst j))
+      left_put = record {
+        count = length-set left (at j) (get_or left (at j) 0 - ticks_of inst j) ∙ is.count;
+        work = λ x. elim (cases_eq x (at j)) [
+          | inl same ↦
+              subst (λ (y : ℕ). get_or (set left (at j) (get_or left (at j) 0 - ticks_of inst j)) y 0 ≡ work_at inst (set cranes j (Some k)) y) (sym same)
+              (omega (
+                arith,
+                get_or-set_same left (at j) (get_or left (at j) 0 - ticks_of inst j) 0 on_ship,
+                is.work (at j),
+                put_change (at j),
+                ap (λ c. cond c (ticks_of inst j) 0) (eq-eqb (at j) (at j) refl),
+              ))
+          | inr differ ↦
+              omega (
+                arith,
+                get_or-set_other left (at j) x (get_or left (at j) 0 - ticks_of inst j) 0 differ,
+                is.work x,
+                put_change x,
+                ap (λ c. cond c (ticks_of inst j) 0) (ne_eqb (at j) x (λ e. differ (sym e))),
+              )
+        ];
+      }
+
+    module _ (taken : is_none (crane_in cranes j) ≡ false) where
+      take_change : (x : ℕ) → work_at inst (set cranes j None) x ≡ work_at inst cranes x + cond (eqb (at j) x) (ticks_of inst j) 0
+      take_change =
+          work_changed (set cranes j None) cranes j low (ap is_none (cranes_there cranes j None inside)) taken
+          (λ i differ. cranes_else cranes j None i differ)
+
+      pub left_take : IsLeft inst (set cranes j None) (set left (at j) (get_or left (at j) 0 + ticks_of inst j))
+      left_take = record {
+        count = length-set left (at j) (get_or left (at j) 0 + ticks_of inst j) ∙ is.count;
+        work = λ x. elim (cases_eq x (at j)) [
+          | inl same ↦
+              subst (λ (y : ℕ). get_or (set left (at j) (get_or left (at j) 0 + ticks_of inst j)) y 0 ≡ work_at inst (set cranes j None) y) (sym same)
+              (omega (
+                arith,
+                get_or-set_same left (at j) (get_or left (at j) 0 + ticks_of inst j) 0 on_ship,
+                is.work (at j),
+                take_change (at j),
+                ap (λ c. cond c (ticks_of inst j) 0) (eq-eqb (at j) (at j) refl),
+              ))
+          | inr differ ↦
+              omega (
+                arith,
+                get_or-set_other left (at j) x (get_or left (at j) 0 + ticks_of inst j) 0 differ,
+                is.work x,
+                take_change x,
+                ap (λ c. cond c (ticks_of inst j) 0) (ne_eqb (at j) x (λ e. differ (sym e))),
+              )
+        ];
+      }
+
+  pub work_within : Valid inst → (cranes : List (Option ℕ)) (x : ℕ) → work_at inst cranes x ≤ MOST_TASKS * MOST_WORK
+  work_within valid cranes x =
+      let all = sum_few (term cranes x) MOST_WORK 0 (length inst.tasks) (λ j low. one (is_none (crane_in cranes j) && eqb (at j) x) (ticks_of inst j) (ticks_bounded inst valid j (omega arith))) in
+      omega (arith, all, work_is cranes x, valid.tasks.count)
+    where
+      one : (b : Bool) (n : ℕ) → n ≤ MOST_WORK → cond b n 0 ≤ MOST_WORK
+      one true n le = le
+      one false n le = omega arith
+
+  -- ---- where work is left
+
+  some_work : (js : List ℕ) → ((j : ℕ) → Among js j → 1 ≤ ticks_of inst j) → nat_lt 0 (ticks_over inst js) ≡ nat_lt 0 (length js)
+  some_work [] some = refl
+  some_work (j ∷ js) some =
+      lt-ltb 0 (ticks_over inst (j ∷ js)) (omega (arith, some j (inl refl), sum_by-cons (ticks_of inst) j js))
+      ∙ sym (lt-ltb 0 (length (j ∷ js)) (omega arith))
+
+  module _ (valid : Valid inst) (cranes : List (Option ℕ)) (left : List ℕ) (is : IsLeft inst cranes left) where
+    some_left : (x : ℕ) → nat_lt 0 (get_or left x 0) ≡ nat_lt 0 (length (left_at inst cranes x))
+    some_left x =
+        ap (nat_lt 0) (is.work x)
+        ∙ some_work (left_at inst cranes x) (λ j a.
+        let r = filter_among (λ j. is_none (crane_in cranes j) && eqb (at j) x) (task_numbers inst) j a in
+        valid.tasks.ticks j (omega (arith, (range_among j 0 (length inst.tasks) r.0).1)))
+
+    bays_same : bays_of left ≡ left_bays inst cranes
+    bays_same =
+        let many : length left - 1 ≡ inst.bays = omega (arith, is.count) in
+        ap (λ (p : ℕ → Bool). filter p (range_with_len 1 (length left - 1))) (fun_ext some_left)
+        ∙ ap (λ n. filter (λ x. nat_lt 0 (length (left_at inst cranes x))) (range_with_len 1 n)) many
+
+    pub try_same : (turn : Turn) (tick : ℕ) (frames : List Frame) → frames ≡ map (frame inst turn cranes) (crane_numbers inst)
+        → try_by inst.travel tick frames left ≡ try_of inst turn cranes tick
+    try_same turn tick frames same =
+        let P : List Frame → List ℕ → (ℕ → ℕ) → Try = λ fs bs w. record { travel = inst.travel; frames = fs; bays = bs; work = w; tick = tick } in
+        ap (λ fs. P fs (bays_of left) (λ x. get_or left x 0)) same
+        ∙ ap (λ bs. P (map (frame inst turn cranes) (crane_numbers inst)) bs (λ x. get_or left x 0)) bays_same
+        ∙ ap (λ w. P (map (frame inst turn cranes) (crane_numbers inst)) (left_bays inst cranes) w) (fun_ext is.work)
+
+-- ---- the loop that fills the list
+
+none_there : (n j : ℕ) → crane_in (replicate n None) j ≡ None
+none_there zero j = refl
+none_there (suc n) zero = refl
+none_there (suc n) (suc j) = none_there n j
+
+nothing_there : (n x : ℕ) → ◌≡◌ {A = ℕ} (get_or (replicate n 0) x 0) 0
+nothing_there zero x = refl
+nothing_there (suc n) zero = refl
+nothing_there (suc n) (suc x) = nothing_there n x
+
+-- the ticks of the first n tasks at each bay
+pub record AreAdded (inst : InstanceView) (n : ℕ) (left : List ℕ) : Type 0 where
+  pub count : length left ≡ inst.bays + 1
+  pub work : (x : ℕ) → get_or left x 0 ≡ sum_by (λ j. cond (eqb (at inst j) x) (ticks_of inst j) 0) (range_with_len 0 n)
+  pub small : (x : ℕ) → get_or left x 0 ≤ n * MOST_WORK
+
+module _ (inst : InstanceView) where
+  pub none_added : (left : List ℕ) → length left ≡ inst.bays + 1 → left ≡ replicate (inst.bays + 1) 0 → AreAdded inst 0 left
+  none_added left count is = record {
+    count = count;
+    work = λ x. ap (λ (xs : List ℕ). get_or xs x 0) is ∙ nothing_there (inst.bays + 1) x;
+    small = λ x. omega (arith, ap (λ (xs : List ℕ). get_or xs x 0) is, nothing_there (inst.bays + 1) x);
+  }
+
+  pub one_added : (n : ℕ) (left : List ℕ) (x ticks : ℕ) → AreAdded inst n left → x ≡ at inst n → x < length left
+      → ticks ≡ ticks_of inst n → ticks ≤ MOST_WORK → AreAdded inst (n + 1) (set left x (get_or left x 0 + ticks))
+  one_added n left x ticks added at_is low ticks_is few = record {
+    count = length-set left x (get_or left x 0 + ticks) ∙ added.count;
+    work = λ y. elim (cases_eq y x) [
+      | inl same ↦
+          subst (λ (z : ℕ). get_or (set left x (get_or left x 0 + ticks)) z 0 ≡ sum_by (term z) (range_with_len 0 (n + 1))) (sym same)
+          (omega (
+            arith,
+            get_or-set_same left x (get_or left x 0 + ticks) 0 low,
+            added.work x,
+            sum_more (term x) n,
+            ap (λ c. cond c (ticks_of inst n) 0) (eq-eqb (at inst n) x (sym at_is)),
+            ticks_is,
+          ))
+      | inr differ ↦
+          omega (
+            arith,
+            get_or-set_other left x y (get_or left x 0 + ticks) 0 differ,
+            added.work y,
+            sum_more (term y) n,
+            ap (λ c. cond c (ticks_of inst n) 0) (ne_eqb (at inst n) y (λ e. differ (sym e ∙ sym at_is))),
+          )
+    ];
+    small = λ y. elim (cases_eq y x) [
+      | inl same ↦
+          subst (λ (z : ℕ). get_or (set left x (get_or left x 0 + ticks)) z 0 ≤ (n + 1) * MOST_WORK) (sym same)
+          (omega (arith, get_or-set_same left x (get_or left x 0 + ticks) 0 low, added.small x, few))
+      | inr differ ↦
+          omega (arith, get_or-set_other left x y (get_or left x 0 + ticks) 0 differ, added.small y)
+    ];
+  }
+    where
+      term : ℕ → ℕ → ℕ
+      term y j = cond (eqb (at inst j) y) (ticks_of inst j) 0
+
+  pub all_added : (left : List ℕ) → AreAdded inst (length inst.tasks) left → IsLeft inst (no_cranes inst) left
+  all_added left added = record {
+    count = added.count;
+    work = λ x.
+        added.work x
+        ∙ sym (work_is inst (no_cranes inst) x
+        ∙ sum_same (term inst (no_cranes inst) x) (λ j. cond (eqb (at inst j) x) (ticks_of inst j) 0) 0 (length inst.tasks)
+        (λ j _. ap (λ o. cond (is_none o && eqb (at inst j) x) (ticks_of inst j) 0) (none_there (length inst.tasks) j)));
+  }
+
+pub bay_index : (z : ℤ) → pos 1 ≤ℤ z → z ≤ℤ pos 6000 → nat_abs (to_z w32 (of_z w32 z)) ≡ at_least_zero z
+bay_index (pos n) low high = omega (arith, ints)
+bay_index (negsuc n) low high = absurd (omega (arith, ints))
+
+-- as the code reads a task
+pub added_at : (inst : InstanceView) → Valid inst → (tasks : List Task) → tasks ≡ inst.tasks → (n : ℕ) (left : List ℕ)
+    → n < length tasks → AreAdded inst n left
+    → AreAdded inst (n + 1) (set left (nat_abs (to_z w32 (of_z w32 (get_or tasks n no_task).bay)))
+    (get_or left (nat_abs (to_z w32 (of_z w32 (get_or tasks n no_task).bay))) 0 + (get_or tasks n no_task).ticks))
+added_at inst valid tasks is n left low added =
+    let P : List Task → Type 0 = λ ts. n < length ts
+    → AreAdded inst (n + 1) (set left (nat_abs (to_z w32 (of_z w32 (get_or ts n no_task).bay)))
+    (get_or left (nat_abs (to_z w32 (of_z w32 (get_or ts n no_task).bay))) 0 + (get_or ts n no_task).ticks)) in
+    subst P (sym is) here low
+  where
+    here : n < length inst.tasks
+        → AreAdded inst (n + 1) (set left (nat_abs (to_z w32 (of_z w32 (bay_of inst n))))
+        (get_or left (nat_abs (to_z w32 (of_z w32 (bay_of inst n)))) 0 + ticks_of inst n))
+    here low =
+        let on_ship = valid.tasks.bays n low in
+        let most = (limits_of inst valid).bays.1 in
+        let x_is = bay_index (bay_of inst n) on_ship.0 (omega (arith, ints, on_ship.1, most)) in
+        one_added inst n left (nat_abs (to_z w32 (of_z w32 (bay_of inst n)))) (ticks_of inst n) added x_is
+        (omega (arith, ints, bays, x_is, on_ship.1, added.count)) refl (ticks_bounded inst valid n low)
+
+pub added_all : (inst : InstanceView) (n : ℕ) (left : List ℕ) → n ≡ length inst.tasks → AreAdded inst n left
+    → IsLeft inst (no_cranes inst) left
+added_all inst n left is added = all_added inst left (subst (λ (k : ℕ). AreAdded inst k left) is added)
+
+-- ---- what code asks for
+
+pub short_same : (inst : InstanceView) (turn : Turn) (cranes : List (Option ℕ)) (left : List ℕ) → Valid inst
+    → IsLeft inst cranes left → (travel step n : ℕ) (frames whole : List Frame) → travel ≡ inst.travel → step ≡ grain inst
+    → frames ≡ take n whole → n ≡ length inst.cranes
+    → take (length inst.cranes) whole ≡ map (frame inst turn cranes) (crane_numbers inst) → (end : ℕ)
+    → is_short (try_by travel (last_before step end) frames left) ≡ is_short_before inst turn cranes end
+short_same inst turn cranes left valid is travel step n frames whole is_travel is_step is_frames is_n all end =
+    ap (λ t. is_short (try_by t (last_before step end) frames left)) is_travel
+    ∙ ap (λ g. is_short (try_by inst.travel (last_before g end) frames left)) is_step
+    ∙ ap is_short (try_same inst valid cranes left is turn (last_before (grain inst) end) frames
+    (is_frames ∙ ap (λ k. take k whole) is_n ∙ all))
+
+-- ---- the last ends
+
+-- where what passes at an end passes at each earlier one
+module _ (p : ℕ → Bool) (falls : (n m : ℕ) → n ≤ m → p m ≡ true → p n ≡ true) where
+  pub last_test : (limit last end : ℕ) → IsLast p limit last → 0 < end → end ≤ limit → leb end last ≡ p end
+  last_test limit last end is some within = elim (cases_lt last end) [
+    | inl after ↦ lt-leb end last after ∙ sym (is.others end after within)
+    | inr before ↦ le-leb end last before ∙ sym (falls end last before (is.passes (omega arith)))
+  ]
+
+  pub last_within : (limit last less : ℕ) → less ≤ limit → IsLast p limit last → IsLast p less (min last less)
+  last_within limit last less le is = record {
+    within = omega arith;
+    passes = λ some. falls (min last less) last (omega arith) (is.passes (omega arith));
+    others = λ k after within. is.others k (omega arith) (omega arith);
+  }
+
+  module _ (q : ℕ → Bool) (q_falls : (n m : ℕ) → n ≤ m → q m ≡ true → q n ≡ true) where
+    pub last_either : (limit one other : ℕ) → IsLast p limit one → IsLast q limit other → IsLast (λ n. p n || q n) limit (max one other)
+    last_either limit one other is_p is_q = record {
+      within = omega (arith, is_p.within, is_q.within);
+      passes = λ some. elim (cases_lt one other) [
+        | inl less ↦
+            let e : other ≡ max one other = omega arith in
+            or_right (p (max one other)) (q (max one other)) (subst (λ (n : ℕ). q n ≡ true) e (is_q.passes (omega arith)))
+        | inr more ↦
+            let e : one ≡ max one other = omega arith in
+            or_left (p (max one other)) (q (max one other)) (subst (λ (n : ℕ). p n ≡ true) e (is_p.passes (omega arith)))
+      ];
+      others = λ k after within. or_from (p k) (q k) (is_p.others k (omega arith) within) (is_q.others k (omega arith) within);
+    }

@@ -1,0 +1,140 @@
+-- What a crew keeps as tasks get and lose their cranes, and what it answers of closed ends.
+use Rattle.std.proofs.Common.{◌≡◌, ℕ, ◌+◌, ◌-◌, ◌*◌, ◌<◌, ◌≤◌, inl, inr, Bool, true, false, ◌||◌, leb, List, length, get_or, set, map, is_none, is_some, Option, None, Some, max, min, ℤ, pos, negsuc, ◌≤ℤ◌, of_z, to_z, w32, refl, ap, sym, subst, ◌∙◌, arith}
+use Rattle.std.proofs.Math.IntN.{nat_abs}
+use Rattle.std.proofs.lemmas.Bool.{cases_eq, false≢true, le-leb, lt-leb, or_left}
+use Rattle.std.proofs.lemmas.Int.{ints}
+use Rattle.std.proofs.lemmas.List.{get_or_read}
+use Rattle.qc_model.specs.declared.limits.TheConstants.{MOST_TASKS, MOST_WORK}
+use Rattle.qc_model.specs.declared.task.Task.{Task}
+use Rattle.qc_model.specs.declared.turn.Turn.{Turn}
+use Rattle.qc_model.specs.Assignments.{AreInRange, crane_in, no_cranes}
+use Rattle.qc_model.specs.Bays.{at_least_zero}
+use Rattle.qc_model.specs.Closed.{grain, is_closed, is_short_before, last_before, left_bays, work_at}
+use Rattle.qc_model.specs.Frames.{frame}
+use Rattle.qc_model.specs.Instance.{InstanceView, Valid, bay_of, task, ticks_of}
+use Rattle.qc_model.specs.Work.{crane_numbers}
+use Rattle.qc_model.proofs.LimitsOf.{limits_of}
+use Rattle.qc_close.specs.declared.closed.TheConstants.{LAST_CLOSED}
+use Rattle.qc_close.specs.declared.crew.Crew.TheInside.{Inside}
+use Rattle.qc_close.specs.CrewFields.{IsKept, view_of}
+use Rattle.qc_close.specs.Crews.{CrewView}
+use Rattle.qc_close.specs.Lasts.{IsLast}
+use Rattle.qc_close.specs.Lefts.{IsLeft}
+use Rattle.qc_close.proofs.CrewLemmas.{at, bay_index, cranes_else, cranes_there, last_either, last_test, last_within, left_put, left_take, put_room, work_within}
+use Rattle.qc_close.proofs.GrainLemmas.{grain_is, travel_range}
+use Rattle.qc_close.proofs.ShortLemmas.{last_rises, short_sooner}
+
+-- ---- one task
+
+pub range_set : (inst : InstanceView) (cranes : List (Option ℕ)) (j : ℕ) (o : Option ℕ) → AreInRange inst cranes
+    → j < length cranes → ((k : ℕ) → o ≡ Some k → k < length inst.cranes) → AreInRange inst (set cranes j o)
+range_set inst cranes j o range low new i k e = elim (cases_eq i j) [
+  | inl same ↦
+      new k (sym (cranes_there inst cranes j o low)
+      ∙ subst (λ (n : ℕ). crane_in (set cranes j o) n ≡ Some k) same e)
+  | inr differ ↦ range i k (sym (cranes_else inst cranes j o i differ) ∙ e)
+]
+
+pub same_crane : (k n most : ℕ) → Some k ≡ Some n → k < most → n < most
+same_crane k n most e low =
+    let same : k ≡ n = cc in
+    omega (arith, same, low)
+
+pub no_crane_some : (n : ℕ) → None ≡ Some n → ⊥
+no_crane_some n e = cc
+
+pub taken_is : (o : Option ℕ) → is_some o ≡ true → is_none o ≡ false
+taken_is None t = absurd (false≢true t)
+taken_is (Some k) t = refl
+
+at_most : (z : ℤ) (n : ℕ) → z ≤ℤ pos n → at_least_zero z ≤ n
+at_most (pos m) n le = omega (arith, ints)
+at_most (negsuc m) n le = omega arith
+
+module _ (inst : InstanceView) (valid : Valid inst) (cranes : List (Option ℕ)) (left : List ℕ) (is : IsLeft inst cranes left)
+    (j : ℕ) (low : j < length inst.tasks) (many : length cranes ≡ length inst.tasks) (t : Task) (t_is : t ≡ task inst j)
+    (v : ℕ) (v_is : v ≡ get_or left (nat_abs (to_z w32 (of_z w32 t.bay))) v) where
+  abbrev x : ℕ
+  x = nat_abs (to_z w32 (of_z w32 t.bay))
+
+  x_is : x ≡ at inst j
+  x_is =
+      let on_ship = valid.tasks.bays j low in
+      let most = (limits_of inst valid).bays.1 in
+      ap (λ (u : Task). nat_abs (to_z w32 (of_z w32 u.bay))) t_is
+      ∙ bay_index (bay_of inst j) on_ship.0 (omega (arith, ints, on_ship.1, most))
+
+  on_list : at inst j < length left
+  on_list =
+      omega (arith, at_most (bay_of inst j) inst.bays (valid.tasks.bays j low).1, is.count)
+
+  read : v ≡ get_or left (at inst j) 0
+  read = get_or_read left x v (omega (arith, x_is, on_list)) v_is 0 ∙ ap (λ y. get_or left y 0) x_is
+
+  ticks_is : t.ticks ≡ ticks_of inst j
+  ticks_is = ap (λ (u : Task). u.ticks) t_is
+
+  pub put_fits : crane_in cranes j ≡ None → (k : ℕ) → t.ticks ≤ v
+  put_fits free k = omega (arith, read, ticks_is, put_room inst cranes left is j low many on_list k free)
+
+  pub put_left : crane_in cranes j ≡ None → (k : ℕ) → IsLeft inst (set cranes j (Some k)) (set left x (v - t.ticks))
+  put_left free k =
+      let same : get_or left (at inst j) 0 - ticks_of inst j ≡ v - t.ticks = omega (arith, read, ticks_is) in
+      subst (λ (y : ℕ). IsLeft inst (set cranes j (Some k)) (set left y (v - t.ticks))) (sym x_is)
+      (subst (λ (n : ℕ). IsLeft inst (set cranes j (Some k)) (set left (at inst j) n)) same
+      (left_put inst cranes left is j low many on_list k free))
+
+  pub take_fits : v ≤ MOST_TASKS * MOST_WORK
+  take_fits = omega (arith, read, is.work (at inst j), work_within inst valid cranes (at inst j))
+
+  pub take_left : is_none (crane_in cranes j) ≡ false → IsLeft inst (set cranes j None) (set left x (v + t.ticks))
+  take_left taken =
+      let same : get_or left (at inst j) 0 + ticks_of inst j ≡ v + t.ticks = omega (arith, read, ticks_is) in
+      subst (λ (y : ℕ). IsLeft inst (set cranes j None) (set left y (v + t.ticks))) (sym x_is)
+      (subst (λ (n : ℕ). IsLeft inst (set cranes j None) (set left (at inst j) n)) same
+      (left_take inst cranes left is j low many on_list taken))
+
+-- ---- closed ends
+
+-- what is short before an end is so before each earlier one
+falls : (inst : InstanceView) → Valid inst → (turn : Turn) (cranes : List (Option ℕ)) (n m : ℕ) → n ≤ m
+    → is_short_before inst turn cranes m ≡ true → is_short_before inst turn cranes n ≡ true
+falls inst valid turn cranes n m le =
+    short_sooner inst.travel (map (frame inst turn cranes) (crane_numbers inst)) (left_bays inst cranes) (work_at inst cranes)
+    (last_before (grain inst) n) (last_before (grain inst) m)
+    (last_rises (grain inst) n m (grain_is inst (travel_range inst valid).0).some le)
+
+module _ (f : Inside) (k : IsKept f) where
+  abbrev bare : ℕ → Bool
+  bare n = is_short_before f.inst f.turn (no_cranes f.inst) n
+
+  abbrev own : ℕ → Bool
+  own n = is_short_before f.inst f.turn f.cranes.items n
+
+  tests : (end : ℕ) → 0 < end → end ≤ LAST_CLOSED → leb end f.bare ≡ bare end
+  tests end some within =
+      last_test bare (falls f.inst k.valid f.turn (no_cranes f.inst)) LAST_CLOSED f.bare end k.bare some within
+
+  module _ (v : CrewView) (is : view_of f ≡ v) where
+    pub closed_early : (end : ℕ) → 0 < end → end ≤ LAST_CLOSED → end ≤ f.bare → leb end f.bare ≡ is_closed v.inst v.turn v.cranes end
+    closed_early end some within early =
+        subst (λ (w : CrewView). leb end f.bare ≡ is_closed w.inst w.turn w.cranes end) is
+        (le-leb end f.bare early ∙ sym (or_left (bare end) (own end) (sym (tests end some within) ∙ le-leb end f.bare early)))
+
+    pub closed_late : (end : ℕ) → 0 < end → end ≤ LAST_CLOSED → f.bare < end
+        → is_short_before v.inst v.turn v.cranes end ≡ is_closed v.inst v.turn v.cranes end
+    closed_late end some within late =
+        subst (λ (w : CrewView). is_short_before w.inst w.turn w.cranes end ≡ is_closed w.inst w.turn w.cranes end) is
+        (sym (ap (λ b. b || own end) (sym (tests end some within) ∙ lt-leb end f.bare late)))
+
+    pub last_of : (limit short low r : ℕ) → limit ≤ LAST_CLOSED → IsLast (is_short_before v.inst v.turn v.cranes) limit short
+        → low ≡ min f.bare limit → r ≡ max low short → IsLast (is_closed v.inst v.turn v.cranes) limit r
+    last_of limit short low r within is_short is_low is_r =
+        let back = subst (λ (w : CrewView). IsLast (is_short_before w.inst w.turn w.cranes) limit short) (sym is) is_short in
+        let bare_is = last_within bare (falls f.inst k.valid f.turn (no_cranes f.inst)) LAST_CLOSED f.bare limit within k.bare in
+        let both =
+        last_either bare (falls f.inst k.valid f.turn (no_cranes f.inst)) own (falls f.inst k.valid f.turn f.cranes.items) limit
+        (min f.bare limit) short bare_is back in
+        let same : max (min f.bare limit) short ≡ r = omega (arith, is_low, is_r) in
+        subst (λ (w : CrewView). IsLast (is_closed w.inst w.turn w.cranes) limit r) is
+        (subst (IsLast (λ n. bare n || own n) limit) same both)

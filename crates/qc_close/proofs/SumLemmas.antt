@@ -1,0 +1,95 @@
+-- The greatest and the least sums of so many numbers: of more of them, and of greater ones.
+use Rattle.std.proofs.Common.{◌≡◌, ℕ, zero, suc, ◌+◌, ◌-◌, ◌<◌, ◌≤◌, max, List, [], ◌∷◌, ◌++◌, length, get_or, map, take, refl, ap, sym, ◌∙◌, arith, sum}
+use Rattle.std.proofs.lemmas.List.{length-map, map_more}
+use Rattle.std.proofs.lemmas.List.Sums.{sum_by-cons}
+use Rattle.qc_model.specs.Closed.{fewest, most}
+
+-- one number more, behind the others
+pub most_more : (n x : ℕ) (xs : List ℕ) → most (suc n) (xs ++ x ∷ []) ≡ max (x + most n xs) (most (suc n) xs)
+most_more zero x [] = refl
+most_more (suc n) x [] = omega arith
+most_more zero x (y ∷ ys) = omega (arith, most_more zero x ys)
+most_more (suc n) x (y ∷ ys) = omega (arith, most_more n x ys, most_more (suc n) x ys)
+
+-- all of them, where there are no more
+pub most_all : (n : ℕ) (xs : List ℕ) → length xs ≤ n → most n xs ≡ sum xs
+most_all zero [] few = refl
+most_all zero (x ∷ xs) few = absurd (omega arith)
+most_all (suc n) [] few = refl
+most_all (suc n) (x ∷ xs) few =
+    omega (arith, most_all n xs (omega arith), most_all (suc n) xs (omega arith), sum_by-cons (λ (k : ℕ). k) x xs)
+
+most_rises : (n : ℕ) (xs : List ℕ) → most n xs ≤ most (suc n) xs
+most_rises zero xs = omega arith
+most_rises (suc n) [] = omega arith
+most_rises (suc n) (x ∷ xs) = omega (arith, most_rises n xs, most_rises (suc n) xs)
+
+-- more of them come to no less
+pub most_by : (n k : ℕ) (xs : List ℕ) → most n xs ≤ most (k + n) xs
+most_by n zero xs =
+    let e : n ≡ 0 + n = omega arith in
+    omega (arith, ap (λ i. most i xs) e)
+most_by n (suc k) xs =
+    let e : suc (k + n) ≡ suc k + n = omega arith in
+    omega (arith, most_by n k xs, most_rises (k + n) xs, ap (λ i. most i xs) e)
+
+pub most_rise : (n m : ℕ) (xs : List ℕ) → n ≤ m → most n xs ≤ most m xs
+most_rise n m xs le =
+    let e : m - n + n ≡ m = omega arith in
+    omega (arith, most_by n (m - n) xs, ap (λ i. most i xs) e)
+
+pub fewest_rise : (n m : ℕ) (xs : List ℕ) → n ≤ m → fewest n xs ≤ fewest m xs
+fewest_rise n m xs le = omega (arith, most_rise (length xs - m) (length xs - n) xs (omega arith))
+
+-- numbers that are no less come to no less
+pub most_le : {X : Type 0} (f g : X → ℕ) (n : ℕ) (xs : List X) → ((x : X) → f x ≤ g x) → most n (map f xs) ≤ most n (map g xs)
+most_le f g zero xs le = omega arith
+most_le f g (suc n) [] le = omega arith
+most_le f g (suc n) (x ∷ xs) le = omega (arith, le x, most_le f g n xs le, most_le f g (suc n) xs le)
+
+-- ---- the sums with one number more
+
+module _ (sums more : List ℕ) (x : ℕ) (none : get_or more 0 0 ≡ get_or sums 0 0)
+    (some : (n : ℕ) → n < 8 → get_or more (n + 1) 0 ≡ max (x + get_or sums n 0) (get_or sums (n + 1) 0)) where
+  at_next : (n : ℕ) → n < 8 → get_or more (suc n) 0 ≡ max (x + get_or sums n 0) (get_or sums (suc n) 0)
+  at_next n low =
+      let e : suc n ≡ n + 1 = omega arith in
+      omega (arith, some n low, ap (λ k. get_or more k 0) e, ap (λ k. get_or sums k 0) e)
+
+  pub small_more : (m b : ℕ) → x ≤ b → ((n : ℕ) → n ≤ 8 → get_or sums n 0 ≤ m) → (n : ℕ) → n ≤ 8 → get_or more n 0 ≤ m + b
+  small_more m b few small zero low = omega (arith, none, small 0 (omega arith))
+  small_more m b few small (suc n) low =
+      omega (arith, at_next n (omega arith), small n (omega arith), small (suc n) low)
+
+  more_of : (xs : List ℕ) → ((n : ℕ) → n ≤ 8 → get_or sums n 0 ≡ most n xs)
+      → (n : ℕ) → n ≤ 8 → get_or more n 0 ≡ most n (xs ++ x ∷ [])
+  more_of xs before zero low = omega (arith, none, before 0 (omega arith))
+  more_of xs before (suc n) low =
+      omega (arith, at_next n (omega arith), before n (omega arith), before (suc n) low, most_more n x xs)
+
+  pub sums_more : {X : Type 0} (f : X → ℕ) (xs : List X) (i : ℕ) (d : X) → i < length xs → x ≡ f (get_or xs i d)
+      → ((n : ℕ) → n ≤ 8 → get_or sums n 0 ≡ most n (map f (take i xs)))
+      → (n : ℕ) → n ≤ 8 → get_or more n 0 ≡ most n (map f (take (i + 1) xs))
+  sums_more f xs i d low is before n few =
+      more_of (map f (take i xs)) before n few
+      ∙ ap (λ (y : ℕ). most n (map f (take i xs) ++ y ∷ [])) is
+      ∙ ap (most n) (sym (map_more f xs i d low))
+
+-- the least sum is what the greatest of the others leave of all
+module _ {X : Type 0} (f : X → ℕ) (xs : List X) (n k : ℕ) (sums : List ℕ)
+    (all : (m : ℕ) → m ≤ 8 → get_or sums m 0 ≡ most m (map f xs)) (few : length xs ≤ 8) (low : n ≤ length xs)
+    (is : k ≡ length xs) where
+  pub leg_fits : get_or sums (k - n) 0 ≤ get_or sums k 0
+  leg_fits = omega (arith, all k (omega arith), all (k - n) (omega arith), most_rise (k - n) k (map f xs) (omega arith))
+
+  pub leg_is : get_or sums k 0 - get_or sums (k - n) 0 ≡ fewest n (map f xs)
+  leg_is =
+      let many = length-map xs f in
+      let others : k - n ≡ length (map f xs) - n = omega arith in
+      omega (
+        arith,
+        all k (omega arith),
+        all (k - n) (omega arith),
+        most_all k (map f xs) (omega arith),
+        ap (λ i. most i (map f xs)) others,
+      )

@@ -1,0 +1,33 @@
+use Rattle.std.proofs.Common.{◌<◌, Some, length, ap, ◌∙◌, arith}
+use Rattle.std.proofs.lemmas.List.{length-set}
+use Rattle.qc_model.specs.Assignments.{crane_in}
+use Rattle.qc_close.specs.Crews.{CrewView}
+use Rattle.qc_close.proofs.KeptLemmas.{put_fits, put_left, range_set, same_crane}
+use Rattle.qc_close.proofs.crew.Crew.put.Goals as goal
+
+pub overflow_sub-index : goal.overflow_sub-index
+overflow_sub-index c =
+    let k = c.self.invariant in
+    let f = c.self.inside in
+    let low : c.args.task < length f.inst.tasks = omega (arith, ap (λ (v : CrewView). length v.inst.tasks) c.self.view_is, c.requires.task) in
+    let free = ap (λ (v : CrewView). crane_in v.cranes c.args.task) c.self.view_is ∙ c.requires.none in
+    put_fits f.inst k.valid f.cranes.items f.left.items k.left c.args.task low k.count c.task-done.result
+    c.task-done.ensures.task c.index.result.now c.index.ensures free c.args.crane
+
+pub invariant_of-self : goal.invariant_of-self
+invariant_of-self c =
+    let k = c.self.invariant in
+    let f = c.self.inside in
+    let low : c.args.task < length f.inst.tasks = omega (arith, ap (λ (v : CrewView). length v.inst.tasks) c.self.view_is, c.requires.task) in
+    let crane : c.args.crane < length f.inst.cranes = omega (arith, ap (λ (v : CrewView). length v.inst.cranes) c.self.view_is, c.requires.crane) in
+    let free = ap (λ (v : CrewView). crane_in v.cranes c.args.task) c.self.view_is ∙ c.requires.none in
+    record {
+      valid = k.valid;
+      count = length-set f.cranes.items c.args.task (Some c.args.crane) ∙ k.count;
+      range = range_set f.inst f.cranes.items c.args.task (Some c.args.crane) k.range (omega (arith, low, k.count))
+          (λ n e. same_crane c.args.crane n (length f.inst.cranes) e crane);
+      left = put_left f.inst k.valid f.cranes.items f.left.items k.left c.args.task low k.count c.task-done.result
+          c.task-done.ensures.task c.index.result.now c.index.ensures free c.args.crane;
+      step = k.step;
+      bare = k.bare;
+    }

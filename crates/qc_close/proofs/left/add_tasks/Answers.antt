@@ -1,0 +1,14 @@
+use Rattle.std.proofs.Common.{ap, arith, length}
+use Rattle.qc_close.proofs.CrewLemmas.{added_all, added_at}
+use Rattle.qc_close.proofs.left.add_tasks.Goals as goal
+
+pub loop-task-preserved : goal.loop-task-preserved
+loop-task-preserved c =
+    added_at c.args.inst.now c.tasks-task-items.ensures.valid c.tasks-task-items.result.now c.tasks-task-items.ensures.tasks
+    c.loop-task.task-index c.loop-task.left (omega arith) c.loop-task.invariant
+
+pub returns : goal.returns
+returns c =
+    added_all c.args.inst.now c.loop-task.task-index c.loop-task.left
+    (omega (arith, c.loop-task-test.false, c.loop-task.auto.task-index-end, ap length c.tasks-task-items.ensures.tasks))
+    c.loop-task.invariant

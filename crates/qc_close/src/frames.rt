@@ -1,0 +1,153 @@
+//! What each crane has spent on the tasks that it has.
+
+ghost use Rattle.std.specs.Prelude.{◌≡◌, ◌+◌, ◌*◌, ◌<◌, ◌≤◌, ◌^◌, ℕ, None, IfSome, length, map, slice_index_or, take};
+ghost use Rattle.qc_model.specs.declared.limits.TheConstants.{MOST_TASKS};
+ghost use Rattle.qc_model.specs.Assignments.{AreInRange};
+ghost use Rattle.qc_model.specs.Frames.{frame, own, turn_bays, turn_high};
+ghost use Rattle.qc_model.specs.Instance.{IsOnRail};
+ghost use Rattle.qc_model.specs.Work.{crane_numbers};
+ghost use Rattle.qc_close.specs.Counts.{AreNear, IsNear};
+ghost use Rattle.qc_close.specs.Owns.{IsSmall, frame_by, own_of, with_task};
+
+use qc_model::{Frame, Instance, MOST_CRANES, Task, Turn, bays_between, bays_up};
+use qc_num::{Bay, Tick};
+
+/// The tasks of a crane: their ticks, and the bays of the lowest and the highest of them.
+#[derive(Clone, Copy)]
+struct Own {
+    ticks: Tick,
+    low: Bay,
+    high: Bay,
+}
+
+/// The tasks of a crane with one more.
+fn with_task(own: Option<Own>, task: Task) -> Own
+    requires ticks { task.ticks < 2 ^ 32 }
+    requires own { IfSome own (λ o. o.ticks < 2 ^ 60) }
+    ensures { result ≡ with_task own task }
+{
+    match own {
+        None => Own {
+            ticks: task.ticks,
+            low: task.bay,
+            high: task.bay,
+        },
+        Some(own) => Own {
+            ticks: task.ticks + own.ticks,
+            low: task.bay.min(own.low),
+            high: task.bay.max(own.high),
+        },
+    }
+}
+
+/// The tasks of each crane.
+fn owns(inst: &Instance, cranes: &[Option<u16>]) -> [Option<Own>; 8]
+    requires count { length cranes.now ≡ length inst.now.tasks }
+    requires range { AreInRange inst.now cranes.now }
+    ensures owns { (w : ℕ) → w < 8
+        → slice_index_or result w None ≡ own_of inst.now (own inst.now cranes.now w) }
+    ensures small { (w : ℕ) → w < 8 → IfSome (slice_index_or result w None) (IsSmall MOST_TASKS) }
+{
+    let mut owns = [None; MOST_CRANES as usize];
+    let count = inst.task_count();
+    for done in 0..count {
+        let task = count - 1 - done;
+        match cranes[task as usize] {
+            None => {}
+            Some(crane) => {
+                let crane = crane as usize;
+                owns[crane] = Some(with_task(owns[crane], inst.task(task)));
+            }
+        }
+    }
+    owns
+}
+
+/// The bays that a crane goes from its start bay to come to a low and a high bay.
+fn turn_bays(turn: Turn, berth: Bay, low: Bay, high: Bay) -> Tick
+    requires berth { IsOnRail berth }
+    requires low { IsOnRail low }
+    requires high { IsOnRail high }
+    ensures bays { result ≡ turn_bays turn berth low high }
+    ensures bound { result < 2 ^ 17 }
+{
+    match turn {
+        Turn::OneWay => bays_between(berth, low) + bays_up(low, high),
+        Turn::Free => bays_up(low, high) + bays_between(berth, low).min(bays_between(berth, high)),
+    }
+}
+
+/// How far up it has come by then.
+fn turn_high(turn: Turn, berth: Bay, high: Bay) -> Bay
+    ensures { result ≡ turn_high turn berth high }
+{
+    match turn {
+        Turn::OneWay => high,
+        Turn::Free => high.max(berth),
+    }
+}
+
+/// The ticks of travel over so many bays.
+fn travel_over(inst: &Instance, bays: Tick) -> Tick
+    requires { bays < 2 ^ 17 }
+    ensures ticks { result ≡ inst.now.travel * bays }
+    ensures bound { result < 2 ^ 31 }
+{
+    inst.travel() * bays
+}
+
+/// What a crane has spent on its tasks.
+fn spent_by(inst: &Instance, turn: Turn, crane: u16, own: Option<Own>) -> Frame
+    requires crane { crane < length inst.now.cranes }
+    requires own { IfSome own (IsSmall MOST_TASKS) }
+    ensures frame { result ≡ frame_by inst.now turn crane own }
+    ensures near { IsNear result }
+{
+    let post = inst.post(crane);
+    match own {
+        None => Frame {
+            works: false,
+            gone: post.ready,
+            low: post.bay,
+            high: post.bay,
+        },
+        Some(own) => {
+            let bays = turn_bays(turn, post.bay, own.low, own.high);
+            Frame {
+                works: true,
+                gone: post.ready + own.ticks + travel_over(inst, bays),
+                low: own.low.min(post.bay),
+                high: turn_high(turn, post.bay, own.high),
+            }
+        }
+    }
+}
+
+/// So many of the frames.
+pub(crate) fn first_frames(frames: &[Frame; 8], count: usize) -> &[Frame]
+    requires { count ≤ 8 }
+    ensures { result.now ≡ take count frames.now }
+{
+    &frames[..count]
+}
+
+/// What each crane has spent: as many entries count as there are cranes.
+pub(crate) fn frames(inst: &Instance, turn: Turn, cranes: &[Option<u16>]) -> [Frame; 8]
+    requires count { length cranes.now ≡ length inst.now.tasks }
+    requires range { AreInRange inst.now cranes.now }
+    ensures frames { take (length inst.now.cranes) result
+        ≡ map (frame inst.now turn cranes.now) (crane_numbers inst.now) }
+    ensures near { AreNear (take (length inst.now.cranes) result) }
+{
+    let owns = owns(inst, cranes);
+    let mut frames = [Frame {
+        works: false,
+        gone: 0,
+        low: 0,
+        high: 0,
+    }; MOST_CRANES as usize];
+    for crane in 0..inst.crane_count() {
+        frames[crane as usize] = spent_by(inst, turn, crane, owns[crane as usize]);
+    }
+    frames
+}

@@ -1,0 +1,96 @@
+//! The greatest sums of so many numbers, one for each crane.
+
+ghost use Rattle.std.specs.Prelude.{◌≡◌, ◌+◌, ◌-◌, ◌*◌, ◌<◌, ◌≤◌, ◌^◌, ℕ, max, length, map, slice_index};
+ghost use Rattle.qc_model.specs.Closed.{bays_to, fewest, most};
+ghost use Rattle.qc_close.specs.Counts.{AreNear, IsNear};
+
+use qc_model::{Direction, Frame, bays_up};
+use qc_num::{Bay, Tick};
+
+/// The greatest sums of none, of one, two and more of some numbers.
+pub(crate) type Sums = [Tick; 9];
+
+/// The sums with one number more.
+fn with_number(sums: &Sums, number: Tick) -> Sums
+    requires number { number < 2 ^ 56 }
+    requires sums { (n : ℕ) → n < 9 → slice_index sums.now n < 2 ^ 60 }
+    ensures none { slice_index result 0 ≡ slice_index sums.now 0 }
+    ensures some { (n : ℕ) → n < 8
+        → slice_index result (n + 1) ≡ max (number + slice_index sums.now n) (slice_index sums.now (n + 1)) }
+{
+    let mut more = *sums;
+    for n in 0..8 {
+        more[n + 1] = sums[n + 1].max(number + sums[n]);
+    }
+    more
+}
+
+/// The bays that a crane must still go, up or down, to come to a bay.
+pub(crate) fn bays_to(way: Direction, frame: &Frame, bay: u16) -> Tick
+    requires { IsNear frame.now }
+    ensures bays { result ≡ bays_to way frame.now bay }
+    ensures bound { result < 2 ^ 18 }
+{
+    match way {
+        Direction::Up => bays_up(frame.high, Bay::from(bay)),
+        Direction::Down => bays_up(Bay::from(bay), frame.low),
+    }
+}
+
+/// The ticks that are left to a crane until a tick, once it has gone so many bays more.
+pub(crate) fn room(travel: Tick, tick: Tick, frame: &Frame, bays: Tick) -> Tick
+    ensures { result ≡ tick - frame.now.gone - travel * bays }
+{
+    tick.saturating_sub(frame.gone)
+        .saturating_sub(travel.saturating_mul(bays))
+}
+
+/// The greatest sums of the ticks that are left to the cranes at a bay.
+pub(crate) fn most_rooms(
+    travel: Tick,
+    tick: Tick,
+    frames: &[Frame],
+    way: Direction,
+    bay: u16,
+) -> Sums
+    requires few { length frames.now ≤ 8 }
+    requires near { AreNear frames.now }
+    requires tick { tick < 2 ^ 56 }
+    ensures { (n : ℕ) → n ≤ 8 → slice_index result n
+        ≡ most n (map (λ f. tick - f.gone - travel * bays_to way f bay) frames.now) }
+{
+    let mut sums = [0; 9];
+    for frame in frames {
+        sums = with_number(&sums, room(travel, tick, frame, bays_to(way, frame, bay)));
+    }
+    sums
+}
+
+/// The greatest sums of the bays that the cranes go from one bay on to another.
+fn most_legs(frames: &[Frame], way: Direction, from: u16, to: u16) -> Sums
+    requires few { length frames.now ≤ 8 }
+    requires near { AreNear frames.now }
+    ensures sums { (n : ℕ) → n ≤ 8 → slice_index result n
+        ≡ most n (map (λ f. bays_to way f to - bays_to way f from) frames.now) }
+    ensures small { (n : ℕ) → n ≤ 8 → slice_index result n ≤ 2 ^ 21 }
+{
+    let mut sums = [0; 9];
+    for frame in frames {
+        let bays = bays_to(way, frame, to).saturating_sub(bays_to(way, frame, from));
+        sums = with_number(&sums, bays);
+    }
+    sums
+}
+
+/// The bays that so many cranes go together from one bay on to another, at the least.
+pub(crate) fn leg(frames: &[Frame], way: Direction, cranes: usize, from: u16, to: u16) -> Tick
+    requires few { length frames.now ≤ 8 }
+    requires near { AreNear frames.now }
+    requires cranes { cranes ≤ length frames.now }
+    ensures leg { result ≡ fewest cranes (map (λ f. bays_to way f to - bays_to way f from) frames.now) }
+    ensures bound { result < 2 ^ 24 }
+{
+    let sums = most_legs(frames, way, from, to);
+    let count = frames.len();
+    sums[count] - sums[count - cranes]
+}
