@@ -1,12 +1,11 @@
 -- No schedule that follows an assignment ends before an end at which it is closed.
-use Rattle.std.proofs.Common.{◌≡◌, ℕ, zero, suc, ◌+◌, ◌-◌, ◌*◌, ◌/◌, ◌%◌, ◌<◌, ◌≤◌, inl, inr, Bool, true, false, not, ◌&&◌, ◌||◌, eqb, leb, cond, List, [], ◌∷◌, ◌++◌, length, get_or, map, replicate, reverse, Option, None, Some, refl, ap, sym, subst, ◌∙◌, arith, filter, is_none, nat_lt, sum, sum_by, count_by}
+use Rattle.std.proofs.Common.{◌≡◌, ℕ, zero, suc, ◌+◌, ◌-◌, ◌*◌, ◌/◌, ◌%◌, ◌<◌, ◌≤◌, inl, inr, Bool, true, false, not, ◌&&◌, eqb, leb, cond, List, [], ◌∷◌, ◌++◌, length, get_or, map, replicate, reverse, Option, None, Some, refl, ap, sym, subst, ◌∙◌, arith, filter, is_none, nat_lt, sum, sum_by, count_by}
 use Prim.Native.Nat.{◌∣◌}
 use mathlib.Core.List.{reverse-cons}
 use Rattle.std.proofs.Math.Nat.{dvd-add, dvd-mul_right_of_dvd, dvd-zero, le-div_iff_mul-le, mod-one, mul-add, mul-div_cancel', mul-le-mul_left, mul-zero, mul_comm}
 use Rattle.std.proofs.lemmas.Bool.{and_from, and_parts, cases_Bool, cases_lt, cond_both, eq-eqb, eqb-true, le-leb, le-ltb, leb-true, lt-ltb, ltb-true, not-true, or_cases, true≢false}
 use Rattle.std.proofs.lemmas.Int.{ints}
 use Rattle.std.proofs.lemmas.List.{get_or_past, length-map, length-reverse}
-use Rattle.std.proofs.lemmas.List.FromFn.{length-range_with_len}
 use Rattle.std.proofs.lemmas.List.Sums.{count_by-le-length, sum-map, sum_by-cons}
 use Rattle.std.proofs.lemmas.Nat.Gcd.{dvd_of_mod-eq-zero}
 use Rattle.std.proofs.lemmas.Simd.{map-map}
