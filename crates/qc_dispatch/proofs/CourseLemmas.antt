@@ -1,7 +1,8 @@
 -- What the course of the work keeps as it goes on.
-use Rattle.std.proofs.Common.{◌≡◌, ◌≢◌, ℕ, zero, suc, ◌+◌, ◌<◌, ◌≤◌, ◌⊎◌, inl, inr, true, false, Option, None, Some, IfSome, IsSome, IsSomeAnd, unwrap_or, List, length, slice_index_or, slice_set, replicate, refl, ap, sym, subst, ◌∙◌, arith}
+use Rattle.std.proofs.Common.{◌≡◌, ◌≢◌, ℕ, zero, suc, ◌+◌, ◌<◌, ◌≤◌, ◌⊎◌, inl, inr, true, false, Option, None, Some, IfSome, IsSome, IsSomeAnd, List, length, map, slice_index_or, slice_set, replicate, refl, ap, sym, subst, ◌∙◌, arith}
 use Rattle.std.proofs.lemmas.Bool.{cases_eq, cases_lt, false≢true}
 use Rattle.std.proofs.lemmas.Grind.{get_or-set_at}
+use Rattle.std.specs.List.{range_with_len}
 use Rattle.std.proofs.lemmas.List.{get_or-set_other, length-set, length-replicate}
 use Rattle.qc_dispatch.specs.declared.stage.Stage.{Stage}
 use Rattle.qc_dispatch.specs.declared.stage.Stage.TheVariants.{Waiting, Running, Ended}
@@ -9,7 +10,7 @@ use Rattle.qc_dispatch.specs.Calls.{opening}
 use Rattle.qc_dispatch.specs.Course.{Course, IsOver, IsQuiet, MayStart, end_at, end_in, is_running, is_waiting, left, running, stage_of, start_at, start_in, started}
 use Rattle.qc_dispatch.specs.Kept.{IsCourse}
 use Rattle.qc_dispatch.specs.Order.{Leads, free_of, gap}
-use Rattle.qc_dispatch.specs.Promises.{GoesOn, latest, over_tasks}
+use Rattle.qc_dispatch.specs.Promises.{GoesOn, behind, greatest_gap, last, last_end, later, latest, over_tasks}
 use Rattle.qc_dispatch.proofs.Counts.{least_of, none_in, some_passes}
 use Rattle.qc_dispatch.proofs.OrderLemmas.{before_leads, one_leads}
 use Rattle.qc_model.proofs.Extremes.{le_greatest}
@@ -30,6 +31,49 @@ if_then (Some x) P Q step h = step x refl h
 and_of : (o : Option ℕ) (P : ℕ → Type 0) → IsSome o → IfSome o P → IsSomeAnd o P
 and_of None P some h = absurd (cc some)
 and_of (Some x) P some h = h
+
+-- ---- the last end
+
+later_left : (o p : Option ℕ) → IfSome o (λ m. IsSomeAnd (later o p) (λ n. m ≤ n))
+later_left None p = tt
+later_left (Some m) None = omega arith
+later_left (Some m) (Some n) = omega arith
+
+later_right : (o p : Option ℕ) (m : ℕ) → IsSomeAnd p (λ n. m ≤ n) → IsSomeAnd (later o p) (λ n. m ≤ n)
+later_right None p m late = late
+later_right (Some k) None m late = absurd late
+later_right (Some k) (Some n) m late = omega (arith, late)
+
+up_to_right : (o p q : Option ℕ) → IfSome o (λ m. IsSomeAnd p (λ n. m ≤ n)) → IfSome o (λ m. IsSomeAnd (later q p) (λ n. m ≤ n))
+up_to_right None p q late = tt
+up_to_right (Some m) p q late = later_right q p m late
+
+-- each of the moments is at most the last
+by_last : (f : ℕ → Option ℕ) (k a n : ℕ) → a ≤ k → k < a + n
+    → IfSome (f k) (λ m. IsSomeAnd (last (map f (range_with_len a n))) (λ end. m ≤ end))
+by_last f k a zero low high = absurd (omega arith)
+by_last f k a (suc n) low high =
+    let rest = last (map f (range_with_len (a + 1) n)) in
+    elim (cases_lt a k) [
+      | inl l ↦ up_to_right (f k) rest (f a) (by_last f k (a + 1) n (omega arith) (omega arith))
+      | inr l ↦ let e : a ≡ k = omega arith in
+          subst (λ (i : ℕ). IfSome (f i) (λ m. IsSomeAnd (later (f a) rest) (λ end. m ≤ end))) e (later_left (f a) rest)
+    ]
+
+behind_free : (o : Option ℕ) (free ticks : ℕ) → free ≤ behind o free ticks
+behind_free None free ticks = omega arith
+behind_free (Some end) free ticks = omega arith
+
+behind_one : (o p : Option ℕ) (free t ticks : ℕ) → t ≤ ticks → IfSome o (λ m. IsSomeAnd p (λ end. m ≤ end))
+    → IfSome o (λ m. m + t ≤ behind p free ticks)
+behind_one None p free t ticks few late = tt
+behind_one (Some m) None free t ticks few late = absurd late
+behind_one (Some m) (Some end) free t ticks few late = omega (arith, late)
+
+behind_each : (f : ℕ → Option ℕ) (n i free t ticks : ℕ) → i < n → t ≤ ticks
+    → IfSome (f i) (λ end. end + t ≤ behind (last (map f (range_with_len 0 n))) free ticks)
+behind_each f n i free t ticks inside few =
+    behind_one (f i) (last (map f (range_with_len 0 n))) free t ticks few (by_last f i 0 n (omega arith) (omega arith))
 
 -- ---- stages after one is written
 
@@ -58,7 +102,7 @@ module _ (c : Course) (valid : Valid c.inst) (feasible : Feasible c.inst c.plan)
   is_waiting_at (Ended start end) h = absurd (false≢true h)
 
   over_by : (s : Stage) (t m : ℕ) → is_waiting s ≢ true → is_running s ≡ false
-      → unwrap_or (end_in s) 0 + t ≤ m → IsSomeAnd (end_in s) (λ end. end + t ≤ m)
+      → IfSome (end_in s) (λ end. end + t ≤ m) → IsSomeAnd (end_in s) (λ end. end + t ≤ m)
   over_by Waiting t m waits runs low = absurd (waits refl)
   over_by (Running start) t m waits runs low = absurd (false≢true (sym runs))
   over_by (Ended start end) t m waits runs low = low
@@ -73,16 +117,20 @@ module _ (c : Course) (valid : Valid c.inst) (feasible : Feasible c.inst c.plan)
       over_by (stage_of c i) (gap c.inst c.plan i j) (latest c)
       (λ waits. absurd (omega (arith, best.least i leads.leader waits, leads.sooner)))
       (none_in is_running c.stages i Waiting (omega (arith, leads.leader, same)) none)
+      (behind_each (end_at c) n i (over_tasks c (free_of c.inst c.plan)) (gap c.inst c.plan i j) (greatest_gap c) leads.leader
       (omega (
         arith,
-        le_greatest (λ i. unwrap_or (end_at c i) 0) i 0 n (omega arith) (omega (arith, leads.leader)),
         le_greatest (λ i. over_tasks c (gap c.inst c.plan i)) i 0 n (omega arith) (omega (arith, leads.leader)),
         le_greatest (gap c.inst c.plan i) j 0 n (omega arith) (omega (arith, leads.led)),
-      )) in
+      ))) in
       let may : MayStart c (latest c) j = record {
         task = best.inside;
         waits = is_waiting_at (stage_of c j) best.passes;
-        free = omega (arith, le_greatest (free_of c.inst c.plan) j 0 n (omega arith) (omega (arith, best.inside)));
+        free = omega (
+          arith,
+          le_greatest (free_of c.inst c.plan) j 0 n (omega arith) (omega (arith, best.inside)),
+          behind_free (last_end c) (over_tasks c (free_of c.inst c.plan)) (greatest_gap c),
+        );
         clear = clear;
       } in
       elim (cases_lt c.clock (latest c)) [
