@@ -5,7 +5,7 @@ use Rattle.qc_part.specs.declared.event.Event.{Event}
 use Rattle.qc_part.specs.declared.hatch.Hatch.{Hatch}
 use Rattle.qc_part.specs.Hatches.{AreComplete, IsEventOf, blocks_of}
 use Rattle.qc_part.specs.Parts.{IsPart, PartView}
-use Rattle.qc_part.proofs.PartLemmas.{part_of}
+use Rattle.qc_part.proofs.PartLemmas.{count_is, part_of}
 use Rattle.qc_part.proofs.part.Part.open.Goals as goal
 use Rattle.qc_part.proofs.part.Part.open.Goals.{In_ok-copy}
 
@@ -32,4 +32,8 @@ pub invariant_of-result : goal.invariant_of-result
 invariant_of-result c = record { is_part = made c; numbers = c.in_ok-numbers.ensures ∙ c.len-2.ensures }
 
 pub returns : goal.returns
-returns c = record { is_part = made c; reads = c.in_ok-copy.ensures }
+returns c = record {
+  is_part = made c;
+  reads = c.in_ok-copy.ensures;
+  hatches = count_is c.in_ok-hatches.hatches.items ∙ c.in_ok-hatches.ensures.count;
+}
