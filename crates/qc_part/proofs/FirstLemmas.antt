@@ -11,7 +11,8 @@ use Rattle.qc_part.specs.Parts.{is_first}
 
 -- ---- a test over a range
 
-all_of : (p : ℕ → Bool) (a n : ℕ) → ((i : ℕ) → a ≤ i → i < a + n → p i ≡ true) → list_all p (range_with_len a n) ≡ true
+all_of : (p : ℕ → Bool) (a n : ℕ) → ((i : ℕ) → a ≤ i → i < a + n → p i ≡ true)
+    → list_all p (range_with_len a n) ≡ true
 all_of p a zero h = refl
 all_of p a (suc n) h =
     rw (h a (omega arith) (omega arith)) (all_of p (a + 1) n (λ i low high. h i (omega arith) (omega arith)))
@@ -28,13 +29,16 @@ not_all p k a (suc n) low high fails = elim (cases_eq a k) [
 abbrev tally : Bool → ℕ
 tally b = cond b 1 0
 
-count_more : (p : ℕ → Bool) (n : ℕ) → count_by p (range_with_len 0 (n + 1)) ≡ count_by p (range_with_len 0 n) + tally (p n)
+count_more : (p : ℕ → Bool) (n : ℕ)
+    → count_by p (range_with_len 0 (n + 1)) ≡ count_by p (range_with_len 0 n) + tally (p n)
 count_more p n = sum_more (λ i. tally (p i)) n
 
 -- none of the next ones passes
 count_stays : (p : ℕ → Bool) (n k : ℕ) → ((i : ℕ) → n ≤ i → i < n + k → p i ≡ false)
     → count_by p (range_with_len 0 (n + k)) ≡ count_by p (range_with_len 0 n)
-count_stays p n zero fails = let e : n + 0 ≡ n = omega arith in ap (λ (m : ℕ). count_by p (range_with_len 0 m)) e
+count_stays p n zero fails =
+    let e : n + 0 ≡ n = omega arith in
+    ap (λ (m : ℕ). count_by p (range_with_len 0 m)) e
 count_stays p n (suc k) fails =
     let e : n + suc k ≡ n + k + 1 = omega arith in
     let before = count_stays p n k (λ i low high. fails i low (omega arith)) in
@@ -85,17 +89,20 @@ module _ (inst : InstanceView) (valid : Valid inst) where
         rank_low (task inst (j + 4)).phase,
       )
 
-  differs : (i j : ℕ) (b : Bool) → (hatch i == hatch j) ≡ b → hatch i < hatch j → not (hatch i == hatch j) ≡ true
+  differs : (i j : ℕ) (b : Bool) → (hatch i == hatch j) ≡ b → hatch i < hatch j
+      → not (hatch i == hatch j) ≡ true
   differs i j true e less = absurd (omega (arith, eqb-true (hatch i) (hatch j) e, less))
   differs i j false e less = ap not e
 
   first_is : (j : ℕ) → ((i : ℕ) → i < j → hatch i < hatch j) → is_first inst j ≡ true
   first_is j lower =
-      all_of (λ i. not (hatch i == hatch j)) 0 j (λ i _ low. differs i j (hatch i == hatch j) refl (lower i (omega arith)))
+      all_of (λ i. not (hatch i == hatch j)) 0 j
+      (λ i _ low. differs i j (hatch i == hatch j) refl (lower i (omega arith)))
 
   later_is : (i j : ℕ) → i < j → hatch i ≡ hatch j → is_first inst j ≡ false
   later_is i j order same =
-      not_all (λ k. not (hatch k == hatch j)) i 0 j (omega arith) (omega arith) (ap not (eq-eqb (hatch i) (hatch j) same))
+      not_all (λ k. not (hatch k == hatch j)) i 0 j (omega arith) (omega arith)
+      (ap not (eq-eqb (hatch i) (hatch j) same))
 
   -- tasks n to n + m are those of one hatch
   module _ (n m : ℕ) (some : 1 ≤ m) (same : (i : ℕ) → i < m → hatch (n + i) ≡ hatch n)
@@ -108,7 +115,8 @@ module _ (inst : InstanceView) (valid : Valid inst) where
 
     -- one hatch more
     pub one_hatch : n < length inst.tasks
-        → count_by (is_first inst) (range_with_len 0 (n + m)) ≡ count_by (is_first inst) (range_with_len 0 n) + 1
+        → count_by (is_first inst) (range_with_len 0 (n + m))
+        ≡ count_by (is_first inst) (range_with_len 0 n) + 1
     one_hatch inside =
         count_one (is_first inst) n m some (first_is n (λ i low. lower i low inside))
         (λ j low high. later_is n j low (sym (same_at j (omega arith) high)))

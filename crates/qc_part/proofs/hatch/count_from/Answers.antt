@@ -15,7 +15,8 @@ returns-clause-ends c = λ inside same.
           (omega (arith, inside, ap length c.tasks-tasks.ensures.tasks)) same
       | inr most ↦
           let four : c.loop-next.count ≡ 4 = omega (arith, most, is.few, c.loop-next.auto._next-end) in
-          few inst c.tasks-tasks.ensures.valid first (omega (arith, inside, four)) (is.same 1 (omega (arith, four)))
+          few inst c.tasks-tasks.ensures.valid first (omega (arith, inside, four))
+          (is.same 1 (omega (arith, four)))
           (is.same 2 (omega (arith, four))) (is.same 3 (omega (arith, four)))
           (subst (λ (n : ℕ). (task inst (first + n)).hatch ≡ (task inst first).hatch) four same)
     ]

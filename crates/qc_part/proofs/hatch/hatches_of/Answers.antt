@@ -16,29 +16,35 @@ loop-next-preserved c =
     let found = c.hatch_from-hatch.ensures in
     let x = c.hatch_from-hatch.result in
     let inst = c.args.inst.now in
-    let here : c.loop-next.next < length inst.tasks = omega (arith, c.task_count.ensures.count, c.loop-next-test.true) in
+    let here : c.loop-next.next < length inst.tasks =
+    omega (arith, c.task_count.ensures.count, c.loop-next-test.true) in
     let same = λ (i : ℕ) (low : i < x.block.count).
     subst (λ (n : ℕ). (task inst (n + i)).hatch ≡ (task inst n).hatch) found.first (found.block.same i low) in
     record {
-      blocks = rw c.in_ok-push.ensures.items (All-push (IsBlock c.args.inst.now) _ _ c.loop-next.invariant.blocks found.block);
+      blocks = rw c.in_ok-push.ensures.items
+          (All-push (IsBlock c.args.inst.now) _ _ c.loop-next.invariant.blocks found.block);
       covers = subst (λ (xs : List Hatch). (j : ℕ) → j < c.loop-next.next + x.block.count → IsInOne xs j)
           (sym c.in_ok-push.ensures.items)
-          (in_one_more c.loop-next.hatches.items x c.loop-next.next _ found.first refl c.loop-next.invariant.covers);
+          (in_one_more c.loop-next.hatches.items x c.loop-next.next _ found.first refl
+          c.loop-next.invariant.covers);
       inside = omega (arith, found.block.inside, found.first);
       count = omega (
         arith,
         ap length c.in_ok-push.ensures.items,
         length-append c.loop-next.hatches.items (x ∷ []),
         c.loop-next.invariant.count,
-        one_hatch inst found.valid c.loop-next.next x.block.count found.block.some same c.loop-next.invariant.lower here,
+        one_hatch inst found.valid c.loop-next.next x.block.count found.block.some same
+            c.loop-next.invariant.lower here,
       );
-      lower = lower_hatches inst found.valid c.loop-next.next x.block.count found.block.some same c.loop-next.invariant.lower
+      lower = lower_hatches inst found.valid c.loop-next.next x.block.count found.block.some same
+          c.loop-next.invariant.lower
           found.ends;
     }
 
 pub returns-clause-blocks : goal.returns-clause-blocks
 returns-clause-blocks c =
-    All-permutation (IsBlock c.args.inst.now) _ _ c.sort_unstable_by_key.ensures.permutation c.loop-next.invariant.blocks
+    All-permutation (IsBlock c.args.inst.now) _ _ c.sort_unstable_by_key.ensures.permutation
+    c.loop-next.invariant.blocks
 
 pub returns-clause-covers : goal.returns-clause-covers
 returns-clause-covers c = λ j low.

@@ -12,7 +12,8 @@ invariant-loop-next l = record {
   covers : (j : ℕ) → j < l.next → IsInOne l.hatches.items j;
   inside : l.next ≤ length l.inst.tasks;
   count : length l.hatches.items ≡ count_by (is_first l.inst) (range_with_len 0 l.next);
-  lower : (j : ℕ) → j < l.next → l.next < length l.inst.tasks → (task l.inst j).hatch < (task l.inst l.next).hatch;
+  lower : (j : ℕ) → j < l.next → l.next < length l.inst.tasks
+      → (task l.inst j).hatch < (task l.inst l.next).hatch;
 }
 
 abbrev pub decreases-loop-next : goal.decreases-loop-next
