@@ -272,6 +272,9 @@ def trees_of_changed_lists(inst, lines, rng, newest):
     way = rng.choice(("more", "more", "fewer", "twice", "turned", "none", "other", "unknown", "spelling", "title",
                       "title", "place", "place", "leaf"))
     new, other = list(numbers), str(rng.randint(1, len(inst.tasks) or 1))
+    tied = [str(j + 1) for pair in inst.before + inst.apart for i, j in (pair, pair[::-1]) if str(i + 1) in numbers]
+    if tied and rng.random() < 0.5:
+        other = rng.choice(tied)
     if way == "more":
         new.insert(rng.randint(0, len(new)), other)
     elif way == "fewer":
@@ -362,13 +365,16 @@ def random_chain(node, rng):
 
 
 def random_packed(node, rng):
-    """Tasks of which no two can run together, in any order; seldom with one more, which may clash with none."""
-    some = []
-    for j in rng.sample(range(len(node.inst.tasks)), len(node.inst.tasks)):
+    """Tasks of which no two can run together, in any order; seldom with one more, which may clash with none, be tied to
+    one of them in other ways, or be in no crane's reach."""
+    inst, some = node.inst, []
+    for j in rng.sample(range(len(inst.tasks)), len(inst.tasks)):
         if node.is_packed(some + [j]) and (not some or rng.random() < 0.8):
             some.append(j)
-    if not some or rng.random() < 0.02:
-        some.append(rng.randrange(len(node.inst.tasks)))
+    if not some or rng.random() < 0.04:
+        tied = [j for pair in inst.before + inst.apart for i, j in (pair, pair[::-1]) if i in some and j not in some]
+        lost = [j for j in range(len(inst.tasks)) if not node.may(j)]
+        some.insert(rng.randint(0, len(some)), rng.choice(tied or lost or range(len(inst.tasks))))
     return some
 
 
@@ -567,6 +573,8 @@ class Case:
 
     def plan_from(self, nodes, least):
         """One run of `plan` that begins with the plan that is there, slowed down, or with one that breaks a rule."""
+        if self.differences:
+            return  # what is there may be no plan
         own = slowed(read_plan(self.inst, self.read("plan.csv"))[0], self.rng)
         self.write("own.csv", plan_text(self.inst, own).encode())
         self.plan(nodes, least, own)
