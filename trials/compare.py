@@ -250,8 +250,12 @@ def changed_trees(inst, text, rng, newest):
         lines.append("down")
         random_part(Node(inst.mirror, version=version), lines, rng)
         texts.append(mended(inst, text_of(lines + ["end 0 0"]), newest))
-    return texts + [data for lines in (text.decode().splitlines(), texts[-1].decode().splitlines())
-                    for data in trees_of_changed_lists(inst, lines, rng, newest)]
+    for lines in (text.decode().splitlines(), texts[-1].decode().splitlines()):
+        texts += trees_of_changed_lists(inst, lines, rng, newest)
+    for some in nearly_packed(Node(inst), rng):
+        line = "Q" + "".join(f" {j + 1}" for j in some)
+        texts.append(text_of(["QCTREE 3", "up", line, "down", line, "end 0 0"]))
+    return texts
 
 
 TITLES = ("QCTREE 1", "QCTREE 1", "QCTREE 2", "QCTREE 2", "QCTREE 3", "QCTREE 3", "QCTREE 4")
@@ -376,6 +380,16 @@ def random_packed(node, rng):
         lost = [j for j in range(len(inst.tasks)) if not node.may(j)]
         some.insert(rng.randint(0, len(some)), rng.choice(tied or lost or range(len(inst.tasks))))
     return some
+
+
+def nearly_packed(node, rng):
+    """Two tasks that are tied otherwise and can run together, and three of which only the outer two can."""
+    inst = node.inst
+    loose = [pair for pair in itertools.combinations(range(len(inst.tasks)), 2) if not node.clash(*pair)]
+    tied = [pair for pair in loose if {pair, pair[::-1]} & {*inst.before, *inst.apart}]
+    between = [(i, j, k) for i, k in loose for j in range(len(inst.tasks))
+               if j not in (i, k) and node.clash(i, j) and node.clash(j, k)]
+    return [rng.choice(some) for some in (tied, between) if some]
 
 
 def random_ring(node, rng):

@@ -3,15 +3,15 @@
 
     packed.py rows
     packed.py bounds [--first SEED] [--count SHIPS]
-    packed.py side SIDE [--first SEED] [--count SHIPS]
+    packed.py side SIDE [--first SEED] [--count SHIPS] [--wide]
 
 `rows`: trees with values and faults that were worked out by hand. `bounds`: on random ships of at most five tasks, no
 packed list says more than the least end of all schedules that keep the rules, one way or not, with the cranes that the
 node has given; nor does a random tree say more than the least end of all that go one way. `side`: SIDE is
 `bench/side.cpp`, built; on random ships, with no plan to begin with, the best or one that ends later, and with several
 numbers of branchings, it must find the end, bound and number of branchings that the search below finds, and the end must
-be the least of all where it says so; the tree that it writes must be one that such a search may write.
-Status 1 where anything differs.
+be the least of all where it says so; the tree that it writes must be one that such a search may write. With `--wide` the
+ships have 8 to 18 tasks, and the least end isn't known. Status 1 where anything differs.
 """
 import argparse
 import itertools
@@ -120,10 +120,10 @@ def try_rows():
 
 # ---------------------------------------------------------------- brute force
 
-def random_instance(rng, most):
-    """An instance of few tasks."""
+def random_instance(rng, most, wide=False):
+    """An instance of at most so many tasks, but at least one."""
     while True:
-        maker = Maker(rng, False)
+        maker = Maker(rng, wide)
         maker.tasks = min(maker.tasks, most)
         inst = instance_of(read_ship(maker.ship().encode()), maker.stowage().encode())
         if inst.tasks:
@@ -365,17 +365,24 @@ def bare(lines):
     return [line[:1] if line[0] in "PCQ" and line[:2] != "QC" else line for line in lines]
 
 
-def try_side(side, first, count):
+def givens(inst, least, rng):
+    """Ends of plans to begin with, or none."""
+    if least is None:
+        least = Search(inst, NEVER, 40).best
+    return [None] if least == NEVER else [None, least, least + rng.randint(1, 30)]
+
+
+def try_side(side, first, count, wide):
     counts, wrong = Counter(), 0
     with tempfile.TemporaryDirectory(prefix="packed-") as folder:
         numbers, written = Path(folder, "numbers"), Path(folder, "tree")
         for seed in range(first, first + count):
             rng = random.Random(seed)
-            inst = random_instance(rng, 6)
+            inst = random_instance(rng, 18 if wide else 6, wide)
             numbers.write_text("\n".join(dump(inst)) + "\n")
-            least = least_end(inst)
-            for nodes in (0, 1, rng.randint(2, 40), 20_000):
-                for given in [None] if least == NEVER else [None, least, least + rng.randint(1, 30)]:
+            least = None if wide else least_end(inst)
+            for nodes in (0, 1, rng.randint(2, 40), 150 if wide else 20_000):
+                for given in givens(inst, least, rng):
                     search = Search(inst, NEVER if given is None else given, nodes)
                     due = [search.kind, f"end {'none' if search.best == NEVER else search.best}",
                            f"bound {bound_text(search.value)}", f"branched {search.branched}"]
@@ -388,11 +395,12 @@ def try_side(side, first, count):
                     except TreeFault as fault:
                         told = [f"{fault.kind} {fault.line}"]
                     counts[f"runs: {search.kind}"] += 1
+                    counts["branchings on a pair"] += sum(line[0] == "O" for line in search.lines)
                     counts["nodes"] += judge.branched + judge.leaves.total()
                     for kind, number in judge.leaves.items():
                         counts[f"leaves {kind}"] += number
                     same = bare(search.lines) == bare(written.read_text().splitlines())
-                    best = search.kind == "Budget" or min(search.best, search.value) == least
+                    best = wide or search.kind == "Budget" or min(search.best, search.value) == least
                     if done.stdout.splitlines()[:4] != due or told or not (same and best):
                         wrong += 1
                         print(f"seed {seed}, given {given}, {nodes} branchings: {done.stdout.split()}, due {due}; "
@@ -409,13 +417,14 @@ def main():
     parser.add_argument("side", nargs="?")
     parser.add_argument("--first", type=int, default=1)
     parser.add_argument("--count", type=int, default=300)
+    parser.add_argument("--wide", action="store_true")
     words = parser.parse_args()
     if words.what == "rows":
         wrong = try_rows()
     elif words.what == "bounds":
         wrong = try_bounds(words.first, words.count)
     else:
-        wrong = try_side(words.side, words.first, words.count)
+        wrong = try_side(words.side, words.first, words.count, words.wide)
     sys.exit(1 if wrong else 0)
 
 
