@@ -7,7 +7,7 @@ use Rattle.qc_dist.specs.Node.{IsOpen, Node}
 use Rattle.qc_model.specs.declared.decision.Decision.{Decision}
 use Rattle.qc_model.specs.declared.decision.Decision.TheVariants.{Assign, Order}
 use Rattle.qc_model.specs.declared.turn.Turn.TheVariants.{OneWay}
-use Rattle.qc_model.specs.Assignments.{crane_in, cranes_of, no_cranes}
+use Rattle.qc_model.specs.Assignments.{crane_in, no_cranes}
 use Rattle.qc_model.specs.Instance.{InstanceView}
 use Rattle.qc_model.specs.Nodes.{assigned}
 use Rattle.qc_replay.specs.Crewed.{WereOpen}

@@ -1,11 +1,11 @@
 -- What chains, rings and packed tasks come to, step by step.
-use Rattle.std.proofs.Common.{◌≡◌, ℕ, ◌+◌, ◌-◌, ◌<◌, All, min, slice_set, List, [], ◌∷◌, ◌++◌, get_or, length, map, take, Option, None, Some, false, refl, sym, ap, ◌∙◌, arith, option_and_then, option_map, is_some, unwrap_or}
+use Rattle.std.proofs.Common.{◌≡◌, ℕ, ◌+◌, ◌-◌, ◌<◌, All, min, slice_set, List, [], ◌∷◌, ◌++◌, get_or, length, map, take, Option, None, Some, refl, sym, ap, ◌∙◌, arith, option_map, unwrap_or}
 use Rattle.std.specs.Option.{option_map_or}
 use Rattle.std.proofs.lemmas.List.{append-nil, map-append, take_more, take_more_set}
 use Rattle.std.proofs.lemmas.List.Elements.{All-cons, All-head, All-nil, All-tail}
 use Rattle.qc_model.specs.declared.decision.Decision.{Decision}
 use Rattle.qc_model.specs.Instance.{InstanceView, ticks_of}
-use Rattle.qc_model.specs.Leaves.{Version, chain_end, chain_ticks, head_in, is_ring}
+use Rattle.qc_model.specs.Leaves.{Version, chain_end, chain_ticks, head_in}
 use Rattle.qc_model.specs.Nodes.{least}
 use Rattle.qc_replay.specs.Part.{IsNumber}
 use Rattle.qc_replay.specs.Walk.{from_file}

@@ -1,5 +1,5 @@
-use Rattle.std.proofs.Common.{◌∙◌, None, Some, sym}
-use Rattle.qc_replay.proofs.NodeFacts.{clash_misplaced, clash_shows, clash_unknown}
+use Rattle.std.proofs.Common.{◌∙◌, Some, sym}
+use Rattle.qc_replay.proofs.NodeFacts.{clash_shows}
 use Rattle.qc_replay.proofs.node.clash_bound.Goals as goal
 
 pub returns-in-Some : goal.returns-in-Some
