@@ -1,81 +1,121 @@
 -- No schedule that follows an assignment ends before an end at which it is closed.
-use Rattle.std.proofs.Common.{◌≡◌, ℕ, zero, suc, ◌+◌, ◌-◌, ◌*◌, ◌/◌, ◌<◌, ◌≤◌, inl, inr, Bool, true, false, ◌&&◌, eqb, leb, cond, List, [], ◌∷◌, length, get_or, map, replicate, Option, None, Some, refl, ap, sym, subst, ◌∙◌, arith, filter, is_none, nat_lt, sum, sum_by, count_by}
+use Rattle.std.proofs.Common.{◌≡◌, ℕ, zero, suc, ◌+◌, ◌-◌, ◌*◌, ◌/◌, ◌%◌, ◌<◌, ◌≤◌, inl, inr, Bool, true, false, not, ◌&&◌, eqb, leb, cond, List, [], ◌∷◌, ◌++◌, length, get_or, map, replicate, reverse, Option, None, Some, refl, ap, sym, subst, ◌∙◌, arith, filter, is_none, nat_lt, sum, sum_by, count_by}
 use Prim.Native.Nat.{◌∣◌}
-use Rattle.std.proofs.Math.Nat.{dvd-add, dvd-mul_right_of_dvd, dvd-zero, pos_of_dvd_of_pos, le-div_iff_mul-le, mul-add, mul-div_cancel', mul-le-mul_left, mul-zero, mul_comm}
-use Rattle.std.proofs.lemmas.Bool.{and_from, and_parts, cases_Bool, cases_lt, cond_both, eq-eqb, eqb-true, le-leb, le-ltb, leb-true, lt-ltb, ltb-true}
+use mathlib.Core.List.{reverse-cons}
+use Rattle.std.proofs.Math.Nat.{dvd-add, dvd-mul_right_of_dvd, dvd-zero, le-div_iff_mul-le, mod-one, mul-add, mul-div_cancel', mul-le-mul_left, mul-zero, mul_comm}
+use Rattle.std.proofs.lemmas.Bool.{and_from, and_parts, cases_Bool, cases_lt, cond_both, eq-eqb, eqb-true, le-leb, le-ltb, leb-true, lt-ltb, ltb-true, not-true, or_cases, true≢false}
 use Rattle.std.proofs.lemmas.Int.{ints}
-use Rattle.std.proofs.lemmas.List.{get_or_past}
-use Rattle.std.specs.Option.{option_map_or}
-use Rattle.std.proofs.lemmas.List.FromFn.{length-range_with_len}
+use Rattle.std.proofs.lemmas.List.{get_or_past, length-map, length-reverse}
 use Rattle.std.proofs.lemmas.List.Sums.{count_by-le-length, sum-map, sum_by-cons}
-use Rattle.std.specs.List.{range_with_len}
-use Rattle.qc_dist.proofs.Ranges.{sum_more}
+use Rattle.std.proofs.lemmas.Nat.Gcd.{dvd_of_mod-eq-zero}
+use Rattle.std.proofs.lemmas.Simd.{map-map}
+use Rattle.std.specs.Option.{option_map_or}
+use Rattle.std.specs.List.{list_all, list_any, range_with_len}
+use Rattle.qc_model.specs.declared.direction.Direction.{Direction}
+use Rattle.qc_model.specs.declared.direction.Direction.TheVariants.{Up, Down}
+use Rattle.qc_model.specs.declared.frame.Frame.{Frame}
 use Rattle.qc_model.specs.declared.schedule.Slot.{Slot}
-use Rattle.qc_model.specs.Instance.{InstanceView, Valid, crane, no_crane, ticks_of}
-use Rattle.qc_model.specs.Work.{crane_numbers, task_numbers}
-use Rattle.qc_model.specs.Rules.{crane_of, ends}
-use Rattle.qc_model.proofs.Bays.{bays}
 use Rattle.qc_model.specs.declared.turn.Turn.{Turn}
 use Rattle.qc_model.specs.Assignments.{Follows, crane_in, no_cranes}
-use Rattle.qc_model.specs.Closed.{IsClosed, IsClosedBound, IsGrain, IsShort, last_before, Serves, Try, bay, by_crane, down, fewest, left_at, left_bays, lift, load, most, rise, room, sink, up, work_at}
-use Rattle.qc_model.specs.Frames.{Frame, GoesBy, frame, frame_of, own}
+use Rattle.qc_model.specs.Closed.{IsClosedBound, Try, along, are_multiples, bays_to, fewest, first, grain, has_room, is_closed, is_served, is_short, is_short_before, last_before, left_at, left_bays, leg, legs, lists_to, load, most, numbers, room, suffices, try_of, work_at}
+use Rattle.qc_model.specs.Frames.{GoesBy, frame, frame_of, own}
+use Rattle.qc_model.specs.Instance.{InstanceView, Valid, crane, no_crane, task, no_task, ticks_of}
+use Rattle.qc_model.specs.Nodes.{greatest}
+use Rattle.qc_model.specs.Rules.{crane_of, ends}
+use Rattle.qc_model.specs.Work.{crane_numbers, task_numbers}
+use Rattle.qc_model.proofs.Bays.{bays}
 use Rattle.qc_close.proofs.CountLemmas.{fewest_le, passing, passing_le, shared, sum_le, times_sum}
 use Rattle.qc_close.proofs.FrameLemmas.{HasTime, at_bay, bay_at, beside, does_open, feasible_by, has_time, some_term, sum_filter, sums_within}
 use Rattle.qc_close.proofs.LoopLemmas.{least_steps}
-use Rattle.qc_close.proofs.Members.{Among, among_filter, among_range, filter_among, range_among}
+use Rattle.qc_close.proofs.Members.{Among, all_at, all_from, among_either, among_filter, among_first, among_flat, among_map, among_range, among_second, any_at, any_from, filter_among, map_among, range_among}
 
--- ---- a list in rising order
+-- ---- bays in the order in which cranes come to them
 
--- each is less than the one behind it, and none is less than a
-abbrev Rising : ℕ → List ℕ → Type 0
-Rising a [] = Unit {0}
-Rising a (x ∷ xs) = (a ≤ x) × Rising (x + 1) xs
+-- bay y comes behind bay x
+abbrev After : Direction → ℕ → ℕ → Type 0
+After Up x y = x < y
+After Down x y = y < x
 
-rising_range : (p : ℕ → Bool) (a n : ℕ) → Rising a (filter p (range_with_len a n))
-rising_range p a zero = tt
-rising_range p a (suc n) =
-    let rest = rising_range p (a + 1) n in
-    cond_both (p a) (a ∷ filter p (range_with_len (a + 1) n)) (filter p (range_with_len (a + 1) n)) (Rising a)
-    (λ _. (omega arith, rest))
-    (λ _. lower (filter p (range_with_len (a + 1) n)) rest)
-  where
-    lower : (xs : List ℕ) → Rising (a + 1) xs → Rising a xs
-    lower [] r = tt
-    lower (x ∷ xs) r = (omega (arith, r.0), r.1)
+-- each comes before those behind it
+abbrev InOrder : Direction → List ℕ → Type 0
+InOrder way [] = Unit {0}
+InOrder way (x ∷ xs) = ((y : ℕ) → Among xs y → After way x y) × InOrder way xs
 
-rising_from : (a : ℕ) (xs : List ℕ) (i : ℕ) → Rising a xs → i < length xs → a ≤ get_or xs i 0
-rising_from a [] i r low = absurd (omega arith)
-rising_from a (x ∷ xs) zero r low = r.0
-rising_from a (x ∷ xs) (suc i) r low = omega (arith, r.0, rising_from (x + 1) xs i r.1 (omega arith))
+rising : (p : ℕ → Bool) (a n : ℕ) → InOrder Up (filter p (range_with_len a n))
+rising p a zero = tt
+rising p a (suc n) =
+    let rest = rising p (a + 1) n in
+    cond_both (p a) (a ∷ filter p (range_with_len (a + 1) n)) (filter p (range_with_len (a + 1) n)) (InOrder Up)
+    (λ _. (λ y is. let r = filter_among p (range_with_len (a + 1) n) y is in omega (arith, (range_among y (a + 1) n r.0).0), rest))
+    (λ _. rest)
 
-rising_suc : (a : ℕ) (xs : List ℕ) (i : ℕ) → Rising a xs → suc i < length xs → get_or xs i 0 < get_or xs (suc i) 0
-rising_suc a [] i r low = absurd (omega arith)
-rising_suc a (x ∷ xs) zero r low = omega (arith, rising_from (x + 1) xs 0 r.1 (omega arith))
-rising_suc a (x ∷ xs) (suc i) r low = rising_suc (x + 1) xs i r.1 (omega arith)
+joined : (way : Direction) (xs ys : List ℕ) → InOrder way xs → InOrder way ys
+    → ((x y : ℕ) → Among xs x → Among ys y → After way x y) → InOrder way (xs ++ ys)
+joined way [] ys r s h = s
+joined way (x ∷ xs) ys r s h = (
+  λ y a. elim (among_either xs ys y a) [ inl b ↦ r.0 y b | inr b ↦ h x y (inl refl) b ],
+  joined way xs ys r.1 s (λ u v a b. h u v (inr a) b),
+)
 
-rising_next : (a : ℕ) (xs : List ℕ) (i : ℕ) → Rising a xs → i + 1 < length xs → get_or xs i 0 < get_or xs (i + 1) 0
-rising_next a xs i r low =
-    let e : suc i ≡ i + 1 = omega arith in
-    subst (λ (k : ℕ). get_or xs i 0 < get_or xs k 0) e (rising_suc a xs i r (omega arith))
+from_reverse : (xs : List ℕ) (y : ℕ) → Among (reverse xs) y → Among xs y
+from_reverse [] y a = a
+from_reverse (x ∷ xs) y a =
+    elim (among_either (reverse xs) (x ∷ []) y (subst (λ (zs : List ℕ). Among zs y) (reverse-cons x xs) a)) [
+      | inl b ↦ inr (from_reverse xs y b)
+      | inr b ↦ elim b [ inl e ↦ inl e | inr none ↦ absurd none ]
+    ]
 
--- what it holds lies from its first to its last
-rising_first : (a : ℕ) (xs : List ℕ) (y : ℕ) → Rising a xs → Among xs y → get_or xs 0 0 ≤ y
-rising_first a [] y r is = absurd is
-rising_first a (x ∷ xs) y r (inl e) = omega arith
-rising_first a (x ∷ xs) y r (inr is) = omega (arith, rising_least (x + 1) xs y r.1 is)
-  where
-    rising_least : (a : ℕ) (xs : List ℕ) (y : ℕ) → Rising a xs → Among xs y → a ≤ y
-    rising_least a [] y r is = absurd is
-    rising_least a (x ∷ xs) y r (inl e) = omega (arith, r.0)
-    rising_least a (x ∷ xs) y r (inr is) = omega (arith, r.0, rising_least (x + 1) xs y r.1 is)
+to_reverse : (xs : List ℕ) (y : ℕ) → Among xs y → Among (reverse xs) y
+to_reverse [] y a = a
+to_reverse (x ∷ xs) y a =
+    subst (λ (zs : List ℕ). Among zs y) (sym (reverse-cons x xs)) (elim a [
+      | inl e ↦ among_second (reverse xs) (x ∷ []) y (inl e)
+      | inr b ↦ among_first (reverse xs) (x ∷ []) y (to_reverse xs y b)
+    ])
 
-rising_last : (a : ℕ) (xs : List ℕ) (y k : ℕ) → Rising a xs → Among xs y → length xs ≡ suc k → y ≤ get_or xs k 0
-rising_last a [] y k r is e = absurd is
-rising_last a (x ∷ xs) y zero r (inl e) one = omega arith
-rising_last a (x ∷ []) y zero r (inr is) one = absurd is
-rising_last a (x ∷ z ∷ zs) y zero r (inr is) one = absurd (omega arith)
-rising_last a (x ∷ xs) y (suc k) r (inl e) one = omega (arith, rising_from (x + 1) xs k r.1 (omega arith))
-rising_last a (x ∷ xs) y (suc k) r (inr is) one = rising_last (x + 1) xs y k r.1 is (omega arith)
+falling : (xs : List ℕ) → InOrder Up xs → InOrder Down (reverse xs)
+falling [] r = tt
+falling (x ∷ xs) r =
+    subst (InOrder Down) (sym (reverse-cons x xs))
+    (joined Down (reverse xs) (x ∷ []) (falling xs r.1) (λ y a. absurd a, tt) (λ u v a b. elim b [
+      | inl e ↦ let less = r.0 u (from_reverse xs u a) in omega (arith, less, e)
+      | inr none ↦ absurd none
+    ]))
+
+-- bay y is bay x or comes behind it
+abbrev beyond : Direction → ℕ → ℕ → Bool
+beyond Up x y = leb x y
+beyond Down x y = leb y x
+
+beyond_at : (way : Direction) (x y : ℕ) → y ≡ x → beyond way x y ≡ true
+beyond_at Up x y e = le-leb x y (omega arith)
+beyond_at Down x y e = le-leb y x (omega arith)
+
+beyond_after : (way : Direction) (x y z : ℕ) → After way x y → beyond way y z ≡ true → beyond way x z ≡ true
+beyond_after Up x y z a t = let h = leb-true y z t in le-leb x z (omega arith)
+beyond_after Down x y z a t = let h = leb-true z y t in le-leb z x (omega arith)
+
+not_before : (way : Direction) (x y z : ℕ) → After way x y → z ≡ x → beyond way y z ≡ true → ⊥
+not_before Up x y z a e t = let h = leb-true y z t in omega arith
+not_before Down x y z a e t = let h = leb-true z y t in omega arith
+
+beyond_first : (way : Direction) (x y : ℕ) (xs : List ℕ) → InOrder way (x ∷ xs) → Among (x ∷ xs) y → beyond way x y ≡ true
+beyond_first way x y xs r (inl e) = beyond_at way x y (sym e)
+beyond_first way x y xs r (inr a) = beyond_after way x y y (r.0 y a) (beyond_at way y y refl)
+
+pub to_rises : (way : Direction) (f : Frame) (x y : ℕ) → beyond way x y ≡ true → bays_to way f x ≤ bays_to way f y
+to_rises Up f x y t = let h = leb-true x y t in omega (arith, bays, h)
+to_rises Down f x y t = let h = leb-true y x t in omega (arith, bays, h)
+
+-- one list of numbers for each bay
+among_lists : (most : ℕ) (f : ℕ → ℕ) (xs : List ℕ) → ((x : ℕ) → f x ≤ most)
+    → Among (lists_to most (length xs)) (map f xs)
+among_lists most f [] h = inl refl
+among_lists most f (x ∷ xs) h =
+    among_flat (λ ns. map (λ n. n ∷ ns) (range_with_len 0 (most + 1))) (lists_to most (length xs)) (map f xs) (f x ∷ map f xs)
+    (among_lists most f xs h)
+    (among_map (λ n. n ∷ map f xs) (range_with_len 0 (most + 1)) (f x)
+    (among_range (f x) 0 (most + 1) (omega arith) (omega (arith, h x))))
 
 -- ---- the cranes that come to a bay
 
@@ -105,6 +145,11 @@ module _ (inst : InstanceView) (turn : Turn) (cranes : List (Option ℕ)) (sched
   abbrev deep : ℕ → ℕ
   deep w = (time w).deep
 
+  -- how far it goes
+  abbrev way_of : Direction → ℕ → ℕ
+  way_of Up w = far w
+  way_of Down w = deep w
+
   -- the ticks of tasks that no crane has, which crane w does and which pass a test
   abbrev ticks_if : (ℕ → Bool) → ℕ → ℕ
   ticks_if p w = sum_by (λ j. cond (opens w j && p j) (ticks_of inst j) 0) js
@@ -112,12 +157,9 @@ module _ (inst : InstanceView) (turn : Turn) (cranes : List (Option ℕ)) (sched
   abbrev all_ticks : ℕ → ℕ
   all_ticks w = beside inst turn cranes sched valid g follows w
 
-  -- those at this bay and above, at it and below, and at it
-  abbrev over : ℕ → ℕ → ℕ
-  over x w = ticks_if (λ j. leb x (at j)) w
-
-  abbrev under : ℕ → ℕ → ℕ
-  under x w = ticks_if (λ j. leb (at j) x) w
+  -- those at this bay and at those behind it, and at it
+  abbrev over : Direction → ℕ → ℕ → ℕ
+  over way x w = ticks_if (λ j. beyond way x (at j)) w
 
   abbrev here : ℕ → ℕ → ℕ
   here x w = ticks_if (λ j. eqb (at j) x) w
@@ -146,35 +188,20 @@ module _ (inst : InstanceView) (turn : Turn) (cranes : List (Option ℕ)) (sched
       one true true false d n apart left right = let e = ap (λ b. cond b n 0) (left refl) in omega (arith, e)
       one true false c d n apart left right = let e = cond_le c d n right in omega (arith, e)
 
-  over_next : (x y w : ℕ) → x < y → here x w + over y w ≤ over x w
-  over_next x y w less =
-      two_parts (λ j. eqb (at j) x) (λ j. leb y (at j)) (λ j. leb x (at j)) w
-      (λ j s t. let e = eqb-true (at j) x s in let h = leb-true y (at j) t in omega arith)
-      (λ j s. let e = eqb-true (at j) x s in le-leb x (at j) (omega arith))
-      (λ j t. let h = leb-true y (at j) t in le-leb x (at j) (omega arith))
+  over_next : (way : Direction) (x y w : ℕ) → After way x y → here x w + over way y w ≤ over way x w
+  over_next way x y w after =
+      two_parts (λ j. eqb (at j) x) (λ j. beyond way y (at j)) (λ j. beyond way x (at j)) w
+      (λ j s t. not_before way x y (at j) after (eqb-true (at j) x s) t)
+      (λ j s. beyond_at way x (at j) (eqb-true (at j) x s))
+      (λ j t. beyond_after way x y (at j) after t)
 
-  under_next : (x y w : ℕ) → x < y → under x w + here y w ≤ under y w
-  under_next x y w less =
-      two_parts (λ j. leb (at j) x) (λ j. eqb (at j) y) (λ j. leb (at j) y) w
-      (λ j s t. let e = eqb-true (at j) y t in let h = leb-true (at j) x s in omega arith)
-      (λ j s. let h = leb-true (at j) x s in le-leb (at j) y (omega arith))
-      (λ j t. let e = eqb-true (at j) y t in le-leb (at j) y (omega arith))
-
-  here_over : (x w : ℕ) → here x w ≤ over x w
-  here_over x w =
-      sum_le (λ j. cond (opens w j && eqb (at j) x) (ticks_of inst j) 0) (λ j. cond (opens w j && leb x (at j)) (ticks_of inst j) 0) js
-      (λ j _. cond_le (opens w j && eqb (at j) x) (opens w j && leb x (at j)) (ticks_of inst j) (λ t.
+  here_over : (way : Direction) (x w : ℕ) → here x w ≤ over way x w
+  here_over way x w =
+      sum_le (λ j. cond (opens w j && eqb (at j) x) (ticks_of inst j) 0)
+      (λ j. cond (opens w j && beyond way x (at j)) (ticks_of inst j) 0) js
+      (λ j _. cond_le (opens w j && eqb (at j) x) (opens w j && beyond way x (at j)) (ticks_of inst j) (λ t.
       let parts = and_parts (opens w j) (eqb (at j) x) t in
-      let e = eqb-true (at j) x parts.1 in
-      and_from (opens w j) (leb x (at j)) parts.0 (le-leb x (at j) (omega arith))))
-
-  here_under : (x w : ℕ) → here x w ≤ under x w
-  here_under x w =
-      sum_le (λ j. cond (opens w j && eqb (at j) x) (ticks_of inst j) 0) (λ j. cond (opens w j && leb (at j) x) (ticks_of inst j) 0) js
-      (λ j _. cond_le (opens w j && eqb (at j) x) (opens w j && leb (at j) x) (ticks_of inst j) (λ t.
-      let parts = and_parts (opens w j) (eqb (at j) x) t in
-      let e = eqb-true (at j) x parts.1 in
-      and_from (opens w j) (leb (at j) x) parts.0 (le-leb (at j) x (omega arith))))
+      and_from (opens w j) (beyond way x (at j)) parts.0 (beyond_at way x (at j) (eqb-true (at j) x parts.1))))
 
   -- the work at a bay is shared by the cranes
   work_shared : (x : ℕ) → work_at inst cranes x ≤ sum_by (here x) ws
@@ -195,41 +222,25 @@ module _ (inst : InstanceView) (turn : Turn) (cranes : List (Option ℕ)) (sched
       )) in
       omega (arith, split, sum_filter (ticks_of inst) p js)
 
-  -- a crane that has work from this bay on comes so far up, and one that has work up to it so far down
-  comes_up : (x w : ℕ) → 0 < over x w → up (fr w) x ≤ far w
-  comes_up x w some =
-      let r = some_term (λ j. cond (opens w j && leb x (at j)) (ticks_of inst j) 0) js some in
-      let low : r.0 < length inst.tasks = omega (arith, (range_among r.0 0 (length inst.tasks) r.1).1) in
-      elim (cases_Bool (opens w r.0 && leb x (at r.0))) [
-        | inl t ↦
-            let parts = and_parts (opens w r.0) (leb x (at r.0)) t in
-            let below = leb-true x (at r.0) parts.1 in
-            let most = (time w).above r.0 low parts.0 in
-            let less : up (fr w) x ≤ up (fr w) (at r.0) = omega (arith, bays, below) in
-            omega (arith, most, less)
-        | inr t ↦ let none = ap (λ b. cond b (ticks_of inst r.0) 0) t in absurd (omega (arith, r.2, none))
-      ]
+  goes : (way : Direction) (w j : ℕ) → j < length inst.tasks → opens w j ≡ true → bays_to way (fr w) (at j) ≤ way_of way w
+  goes Up w j low t = (time w).above j low t
+  goes Down w j low t = (time w).below j low t
 
-  comes_down : (x w : ℕ) → 0 < under x w → down (fr w) x ≤ deep w
-  comes_down x w some =
-      let r = some_term (λ j. cond (opens w j && leb (at j) x) (ticks_of inst j) 0) js some in
+  -- a crane that has work from this bay on comes so far
+  comes : (way : Direction) (x w : ℕ) → 0 < over way x w → bays_to way (fr w) x ≤ way_of way w
+  comes way x w some =
+      let r = some_term (λ j. cond (opens w j && beyond way x (at j)) (ticks_of inst j) 0) js some in
       let low : r.0 < length inst.tasks = omega (arith, (range_among r.0 0 (length inst.tasks) r.1).1) in
-      elim (cases_Bool (opens w r.0 && leb (at r.0) x)) [
+      elim (cases_Bool (opens w r.0 && beyond way x (at r.0))) [
         | inl t ↦
-            let parts = and_parts (opens w r.0) (leb (at r.0) x) t in
-            let above = leb-true (at r.0) x parts.1 in
-            let most = (time w).below r.0 low parts.0 in
-            let less : down (fr w) x ≤ down (fr w) (at r.0) = omega (arith, bays, above) in
-            omega (arith, most, less)
+            let parts = and_parts (opens w r.0) (beyond way x (at r.0)) t in
+            omega (arith, goes way w r.0 low parts.0, to_rises way (fr w) x (at r.0) parts.1)
         | inr t ↦ let none = ap (λ b. cond b (ticks_of inst r.0) 0) t in absurd (omega (arith, r.2, none))
       ]
 
   -- the bay of a task that no crane has is one of those that are left
   abbrev xs : List ℕ
   xs = left_bays inst cranes
-
-  abbrev x : ℕ → ℕ
-  x i = get_or xs i 0
 
   some_length : (ys : List ℕ) (y : ℕ) → Among ys y → 0 < length ys
   some_length [] y a = absurd a
@@ -247,134 +258,69 @@ module _ (inst : InstanceView) (turn : Turn) (cranes : List (Option ℕ)) (sched
       (among_range (at j) 1 inst.bays (omega (arith, ints, is, on_ship.0)) (omega (arith, ints, is, on_ship.1)))
       (lt-ltb 0 (length (left_at inst cranes (at j))) (some_length (left_at inst cranes (at j)) j found))
 
-  rising : Rising 1 xs
-  rising = rising_range (λ y. nat_lt 0 (length (left_at inst cranes y))) 1 inst.bays
-
-  all_over : (w : ℕ) → all_ticks w ≤ over (x 0) w
-  all_over w =
-      sum_le (λ j. cond (opens w j) (ticks_of inst j) 0) (λ j. cond (opens w j && leb (x 0) (at j)) (ticks_of inst j) 0) js
-      (λ j a. cond_le (opens w j) (opens w j && leb (x 0) (at j)) (ticks_of inst j) (λ t.
+  all_over : (way : Direction) (x w : ℕ) → ((y : ℕ) → Among xs y → beyond way x y ≡ true) → all_ticks w ≤ over way x w
+  all_over way x w first_is =
+      sum_le (λ j. cond (opens w j) (ticks_of inst j) 0) (λ j. cond (opens w j && beyond way x (at j)) (ticks_of inst j) 0) js
+      (λ j a. cond_le (opens w j) (opens w j && beyond way x (at j)) (ticks_of inst j) (λ t.
       let low : j < length inst.tasks = omega (arith, (range_among j 0 (length inst.tasks) a).1) in
-      and_from (opens w j) (leb (x 0) (at j)) t (le-leb (x 0) (at j) (rising_first 1 xs (at j) rising (is_left w j low t)))))
-
-  all_under : (w k : ℕ) → length xs ≡ suc k → all_ticks w ≤ under (x k) w
-  all_under w k count =
-      sum_le (λ j. cond (opens w j) (ticks_of inst j) 0) (λ j. cond (opens w j && leb (at j) (x k)) (ticks_of inst j) 0) js
-      (λ j a. cond_le (opens w j) (opens w j && leb (at j) (x k)) (ticks_of inst j) (λ t.
-      let low : j < length inst.tasks = omega (arith, (range_among j 0 (length inst.tasks) a).1) in
-      and_from (opens w j) (leb (at j) (x k)) t (le-leb (at j) (x k) (rising_last 1 xs (at j) k rising (is_left w j low t) count))))
+      and_from (opens w j) (beyond way x (at j)) t (first_is (at j) (is_left w j low t))))
 
   -- ---- numbers of cranes that serve
 
-  abbrev n : ℕ → ℕ
-  n i = count_by (λ w. nat_lt 0 (over (x i) w)) ws
-
-  abbrev m : ℕ → ℕ
-  m i = count_by (λ w. nat_lt 0 (under (x i) w)) ws
+  abbrev comers : Direction → ℕ → ℕ
+  comers way x = count_by (λ w. nat_lt 0 (over way x w)) ws
 
   abbrev tried : ℕ → Try
-  tried tick = record { inst = inst; cranes = cranes; frames = fr; tick = tick }
+  tried tick = try_of inst turn cranes tick
 
-  -- what crane w goes up to bay i, and has still to go beyond it
-  abbrev ahead : ℕ → ℕ → ℕ
-  ahead i w = far w - up (fr w) (x i)
-
-  abbrev below : ℕ → ℕ → ℕ
-  below i w = deep w - down (fr w) (x i)
+  -- what crane w has still to go beyond bay x
+  abbrev ahead : Direction → ℕ → ℕ → ℕ
+  ahead way x w = way_of way w - bays_to way (fr w) x
 
   module _ (tick : ℕ) where
-    rise_le : (i : ℕ) → rise (tried tick) n (i + 1)
-        ≤ passing (λ w. up (fr w) (x (i + 1)) - up (fr w) (x i)) (λ w. nat_lt 0 (over (x (i + 1)) w)) ws
-    rise_le i =
-        let e : i ≡ i + 1 - 1 = omega arith in
-        subst (λ (k : ℕ). fewest (n (i + 1)) (map (λ w. up (fr w) (x (i + 1)) - up (fr w) (x k)) ws)
-        ≤ passing (λ w. up (fr w) (x (i + 1)) - up (fr w) (x i)) (λ w. nat_lt 0 (over (x (i + 1)) w)) ws) e
-        (fewest_le (λ w. up (fr w) (x (i + 1)) - up (fr w) (x i)) (λ w. nat_lt 0 (over (x (i + 1)) w)) ws)
+    leg_le : (way : Direction) (x y : ℕ) → leg (tried tick) way (comers way y) x y
+        ≤ passing (λ w. bays_to way (fr w) y - bays_to way (fr w) x) (λ w. nat_lt 0 (over way y w)) ws
+    leg_le way x y =
+        subst (λ (ns : List ℕ). fewest (comers way y) ns
+        ≤ passing (λ w. bays_to way (fr w) y - bays_to way (fr w) x) (λ w. nat_lt 0 (over way y w)) ws)
+        (sym (map-map (λ f. bays_to way f y - bays_to way f x) fr ws))
+        (fewest_le (λ w. bays_to way (fr w) y - bays_to way (fr w) x) (λ w. nat_lt 0 (over way y w)) ws)
 
-    rises_le : (k i : ℕ) → i + suc k ≡ length xs
-        → sum_by (rise (tried tick) n) (range_with_len (i + 1) k) ≤ passing (ahead i) (λ w. nat_lt 0 (over (x i) w)) ws
-    rises_le zero i count = omega arith
-    rises_le (suc k) i count =
-        let rest = rises_le k (i + 1) (omega arith) in
-        let less = rising_next 1 xs i rising (omega arith) in
+    legs_le : (way : Direction) (x : ℕ) (ys : List ℕ) → InOrder way (x ∷ ys)
+        → legs (tried tick) way (x ∷ ys) (map (comers way) (x ∷ ys)) ≤ passing (ahead way x) (λ w. nat_lt 0 (over way x w)) ws
+    legs_le way x [] r = omega arith
+    legs_le way x (y ∷ ys) r =
+        let rest = legs_le way y ys r.1 in
+        let after = r.0 y (inl refl) in
         let both =
-        sums_within (λ w. cond (nat_lt 0 (over (x (i + 1)) w)) (up (fr w) (x (i + 1)) - up (fr w) (x i)) 0)
-        (λ w. cond (nat_lt 0 (over (x (i + 1)) w)) (ahead (i + 1) w) 0) (λ w. cond (nat_lt 0 (over (x i) w)) (ahead i w) 0) ws
-        (λ w _. one w less (nat_lt 0 (over (x (i + 1)) w)) (nat_lt 0 (over (x i) w))
-        (λ t. comes_up (x (i + 1)) w (ltb-true 0 (over (x (i + 1)) w) t))
-        (λ t. let some = ltb-true 0 (over (x (i + 1)) w) t in lt-ltb 0 (over (x i) w) (omega (arith, some, over_next (x i) (x (i + 1)) w less)))) in
-        omega (arith, rest, both, rise_le i, sum_by-cons (rise (tried tick) n) (i + 1) (range_with_len (i + 1 + 1) k))
+        sums_within (λ w. cond (nat_lt 0 (over way y w)) (bays_to way (fr w) y - bays_to way (fr w) x) 0)
+        (λ w. cond (nat_lt 0 (over way y w)) (ahead way y w) 0) (λ w. cond (nat_lt 0 (over way x w)) (ahead way x w) 0) ws
+        (λ w _. one w after (nat_lt 0 (over way y w)) (nat_lt 0 (over way x w))
+        (λ t. comes way y w (ltb-true 0 (over way y w) t))
+        (λ t. let some = ltb-true 0 (over way y w) t in lt-ltb 0 (over way x w) (omega (arith, some, over_next way x y w after)))) in
+        omega (arith, rest, both, leg_le way x y)
       where
-        one : (w : ℕ) → x i < x (i + 1) → (b c : Bool) → (b ≡ true → up (fr w) (x (i + 1)) ≤ far w) → (b ≡ true → c ≡ true)
-            → cond b (up (fr w) (x (i + 1)) - up (fr w) (x i)) 0 + cond b (ahead (i + 1) w) 0 ≤ cond c (ahead i w) 0
-        one w less false c near also = omega arith
-        one w less true c near also =
+        one : (w : ℕ) → After way x y → (b c : Bool) → (b ≡ true → bays_to way (fr w) y ≤ way_of way w) → (b ≡ true → c ≡ true)
+            → cond b (bays_to way (fr w) y - bays_to way (fr w) x) 0 + cond b (ahead way y w) 0 ≤ cond c (ahead way x w) 0
+        one w after false c near also = omega arith
+        one w after true c near also =
             let most = near refl in
-            let e = ap (λ b. cond b (ahead i w) 0) (also refl) in
-            let up_is : up (fr w) (x i) ≤ up (fr w) (x (i + 1)) = omega (arith, bays, less) in
-            omega (arith, most, e, up_is)
+            let e = ap (λ b. cond b (ahead way x w) 0) (also refl) in
+            omega (arith, most, e, to_rises way (fr w) x y (beyond_after way x y y after (beyond_at way y y refl)))
 
-    works_over : (k i : ℕ) → i + suc k ≡ length xs
-        → sum_by (λ k. work_at inst cranes (x k)) (range_with_len i (suc k)) ≤ sum_by (over (x i)) ws
-    works_over zero i count =
+    works_over : (way : Direction) (x : ℕ) (ys : List ℕ) → InOrder way (x ∷ ys)
+        → sum_by (work_at inst cranes) (x ∷ ys) ≤ sum_by (over way x) ws
+    works_over way x [] r =
         omega (
           arith,
-          work_shared (x i),
-          sum_le (here (x i)) (over (x i)) ws (λ w _. here_over (x i) w),
-          sum_by-cons (λ k. work_at inst cranes (x k)) i [],
+          work_shared x,
+          sum_le (here x) (over way x) ws (λ w _. here_over way x w),
+          sum_by-cons (work_at inst cranes) x [],
         )
-    works_over (suc k) i count =
-        let rest = works_over k (i + 1) (omega arith) in
-        let less = rising_next 1 xs i rising (omega arith) in
-        let both = sums_within (here (x i)) (over (x (i + 1))) (over (x i)) ws (λ w _. over_next (x i) (x (i + 1)) w less) in
-        omega (arith, rest, both, work_shared (x i), sum_by-cons (λ k. work_at inst cranes (x k)) i (range_with_len (i + 1) (suc k)))
-
-    sink_le : (i : ℕ) → sink (tried tick) m i
-        ≤ passing (λ w. down (fr w) (x i) - down (fr w) (x (i + 1))) (λ w. nat_lt 0 (under (x i) w)) ws
-    sink_le i = fewest_le (λ w. down (fr w) (x i) - down (fr w) (x (i + 1))) (λ w. nat_lt 0 (under (x i) w)) ws
-
-    sinks_le : (i : ℕ) → i < length xs
-        → sum_by (sink (tried tick) m) (range_with_len 0 i) ≤ passing (below i) (λ w. nat_lt 0 (under (x i) w)) ws
-    sinks_le zero low = omega arith
-    sinks_le (suc i) low =
-        let e : i + 1 ≡ suc i = omega arith in
-        let rest = sinks_le i (omega arith) in
-        let less = rising_next 1 xs i rising (omega arith) in
-        let both =
-        sums_within (λ w. cond (nat_lt 0 (under (x i) w)) (below i w) 0)
-        (λ w. cond (nat_lt 0 (under (x i) w)) (down (fr w) (x i) - down (fr w) (x (i + 1))) 0)
-        (λ w. cond (nat_lt 0 (under (x (i + 1)) w)) (below (i + 1) w) 0) ws
-        (λ w _. one w less (nat_lt 0 (under (x i) w)) (nat_lt 0 (under (x (i + 1)) w))
-        (λ t. comes_down (x i) w (ltb-true 0 (under (x i) w) t))
-        (λ t. let some = ltb-true 0 (under (x i) w) t in lt-ltb 0 (under (x (i + 1)) w) (omega (arith, some, under_next (x i) (x (i + 1)) w less)))) in
-        subst (λ (k : ℕ). sum_by (sink (tried tick) m) (range_with_len 0 k) ≤ passing (below k) (λ w. nat_lt 0 (under (x k) w)) ws) e
-        (omega (arith, rest, both, sink_le i, sum_more (sink (tried tick) m) i))
-      where
-        one : (w : ℕ) → x i < x (i + 1) → (b c : Bool) → (b ≡ true → down (fr w) (x i) ≤ deep w) → (b ≡ true → c ≡ true)
-            → cond b (below i w) 0 + cond b (down (fr w) (x i) - down (fr w) (x (i + 1))) 0 ≤ cond c (below (i + 1) w) 0
-        one w less false c near also = omega arith
-        one w less true c near also =
-            let most = near refl in
-            let e = ap (λ b. cond b (below (i + 1) w) 0) (also refl) in
-            let down_is : down (fr w) (x (i + 1)) ≤ down (fr w) (x i) = omega (arith, bays, less) in
-            omega (arith, most, e, down_is)
-
-    works_under : (i : ℕ) → i < length xs
-        → sum_by (λ k. work_at inst cranes (x k)) (range_with_len 0 (i + 1)) ≤ sum_by (under (x i)) ws
-    works_under zero low =
-        omega (
-          arith,
-          work_shared (x 0),
-          sum_le (here (x 0)) (under (x 0)) ws (λ w _. here_under (x 0) w),
-          sum_by-cons (λ k. work_at inst cranes (x k)) 0 [],
-        )
-    works_under (suc i) low =
-        let e : i + 1 ≡ suc i = omega arith in
-        let rest = works_under i (omega arith) in
-        let less = rising_next 1 xs i rising (omega arith) in
-        let both = sums_within (under (x i)) (here (x (i + 1))) (under (x (i + 1))) ws (λ w _. under_next (x i) (x (i + 1)) w less) in
-        subst (λ (k : ℕ). sum_by (λ k. work_at inst cranes (x k)) (range_with_len 0 (k + 1)) ≤ sum_by (under (x k)) ws) e
-        (omega (arith, rest, both, work_shared (x (i + 1)), sum_more (λ k. work_at inst cranes (x k)) (i + 1)))
+    works_over way x (y ∷ ys) r =
+        let rest = works_over way y ys r.1 in
+        let both = sums_within (here x) (over way y) (over way x) ws (λ w _. over_next way x y w (r.0 y (inl refl))) in
+        omega (arith, rest, both, work_shared x, sum_by-cons (work_at inst cranes) x (y ∷ ys))
 
   -- ---- where the tick leaves each crane the time that it needs, these numbers serve
 
@@ -385,7 +331,7 @@ module _ (inst : InstanceView) (turn : Turn) (cranes : List (Option ℕ)) (sched
 
     -- so many ticks are left to crane w once it has gone so many bays
     abbrev left : ℕ → ℕ → ℕ
-    left way w = tick - (fr w).gone - inst.travel * way
+    left way w = room t way (fr w)
 
     -- a part of what it goes, and the rest
     part_of : (part whole : ℕ) → part ≤ whole → inst.travel * whole ≡ inst.travel * part + inst.travel * (whole - part)
@@ -393,144 +339,163 @@ module _ (inst : InstanceView) (turn : Turn) (cranes : List (Option ℕ)) (sched
         let e : whole ≡ part + (whole - part) = omega arith in
         ap (λ n. inst.travel * n) e ∙ mul-add inst.travel part (whole - part)
 
-    over_fits : (i w : ℕ) → over (x i) w + inst.travel * cond (nat_lt 0 (over (x i) w)) (ahead i w) 0
-        ≤ cond (nat_lt 0 (over (x i) w)) (left (up (fr w) (x i)) w) 0
-    over_fits i w = elim (cases_lt 0 (over (x i) w)) [
+    one_way : (way : Direction) (w : ℕ) → way_of way w ≤ far w + deep w
+    one_way Up w = omega arith
+    one_way Down w = omega arith
+
+    over_fits : (way : Direction) (x w : ℕ) → over way x w + inst.travel * cond (nat_lt 0 (over way x w)) (ahead way x w) 0
+        ≤ cond (nat_lt 0 (over way x w)) (left (bays_to way (fr w) x) w) 0
+    over_fits way x w = elim (cases_lt 0 (over way x w)) [
       | inl some ↦
-          let yes_is = lt-ltb 0 (over (x i) w) some in
-          let near = comes_up (x i) w some in
-          let one = ap (λ b. cond b (left (up (fr w) (x i)) w) 0) yes_is in
-          let two = ap (λ b. inst.travel * cond b (ahead i w) 0) yes_is in
-          let part = part_le (λ j. leb (x i) (at j)) w in
+          let yes_is = lt-ltb 0 (over way x w) some in
+          let near = comes way x w some in
+          let one = ap (λ b. cond b (left (bays_to way (fr w) x) w) 0) yes_is in
+          let two = ap (λ b. inst.travel * cond b (ahead way x w) 0) yes_is in
+          let part = part_le (λ j. beyond way x (at j)) w in
           let all = fits w (omega (arith, some, part)) in
-          omega (arith, one, two, part, all, part_of (up (fr w) (x i)) (far w) near, mul-add inst.travel (far w) (deep w))
+          omega (arith, one, two, part, all, part_of (bays_to way (fr w) x) (way_of way w) near, mul-le-mul_left inst.travel (one_way way w))
       | inr none ↦
-          let no_is = le-ltb 0 (over (x i) w) none in
-          let one = ap (λ b. cond b (left (up (fr w) (x i)) w) 0) no_is in
-          let two = ap (λ b. inst.travel * cond b (ahead i w) 0) no_is in
+          let no_is = le-ltb 0 (over way x w) none in
+          let one = ap (λ b. cond b (left (bays_to way (fr w) x) w) 0) no_is in
+          let two = ap (λ b. inst.travel * cond b (ahead way x w) 0) no_is in
           omega (arith, one, two, none, mul-zero inst.travel)
     ]
 
-    under_fits : (i w : ℕ) → under (x i) w + inst.travel * cond (nat_lt 0 (under (x i) w)) (below i w) 0
-        ≤ cond (nat_lt 0 (under (x i) w)) (left (down (fr w) (x i)) w) 0
-    under_fits i w = elim (cases_lt 0 (under (x i) w)) [
-      | inl some ↦
-          let yes_is = lt-ltb 0 (under (x i) w) some in
-          let near = comes_down (x i) w some in
-          let one = ap (λ b. cond b (left (down (fr w) (x i)) w) 0) yes_is in
-          let two = ap (λ b. inst.travel * cond b (below i w) 0) yes_is in
-          let part = part_le (λ j. leb (at j) (x i)) w in
-          let all = fits w (omega (arith, some, part)) in
-          omega (arith, one, two, part, all, part_of (down (fr w) (x i)) (deep w) near, mul-add inst.travel (far w) (deep w))
-      | inr none ↦
-          let no_is = le-ltb 0 (under (x i) w) none in
-          let one = ap (λ b. cond b (left (down (fr w) (x i)) w) 0) no_is in
-          let two = ap (λ b. inst.travel * cond b (below i w) 0) no_is in
-          omega (arith, one, two, none, mul-zero inst.travel)
-    ]
-
-    from_above : (i : ℕ) → i < length xs → load t n i ≤ most (n i) (by_crane t (room t (λ f. up f (bay t i))))
-    from_above i low =
-        let k = length xs - suc i in
-        let count : i + suc k ≡ length xs = omega arith in
-        let first : length xs - i ≡ suc k = omega arith in
-        let next : length xs - (i + 1) ≡ k = omega arith in
-        let works = works_over tick k i count in
-        let ways = rises_le tick k i count in
-        let times = times_sum inst.travel (λ w. cond (nat_lt 0 (over (x i) w)) (ahead i w) 0) ws in
+    enough : (way : Direction) (x : ℕ) (ys : List ℕ) → InOrder way (x ∷ ys)
+        → load t way (x ∷ ys) (map (comers way) (x ∷ ys)) ≤ most (comers way x) (map (λ f. room t (bays_to way f x) f) t.frames)
+    enough way x ys r =
+        let works = works_over tick way x ys r in
+        let ways = legs_le tick way x ys r in
+        let times = times_sum inst.travel (λ w. cond (nat_lt 0 (over way x w)) (ahead way x w) 0) ws in
         let both =
-        sums_within (over (x i)) (λ w. inst.travel * cond (nat_lt 0 (over (x i) w)) (ahead i w) 0)
-        (λ w. cond (nat_lt 0 (over (x i) w)) (left (up (fr w) (x i)) w) 0) ws (λ w _. over_fits i w) in
-        let greatest = passing_le (λ w. left (up (fr w) (x i)) w) (λ w. nat_lt 0 (over (x i) w)) ws in
-        let one = ap (λ c. sum_by (λ k. work_at inst cranes (x k)) (range_with_len i c)) first in
-        let two = ap (λ c. inst.travel * sum_by (rise t n) (range_with_len (i + 1) c)) next in
-        omega (arith, one, two, works, mul-le-mul_left inst.travel ways, times, both, greatest)
+        sums_within (over way x) (λ w. inst.travel * cond (nat_lt 0 (over way x w)) (ahead way x w) 0)
+        (λ w. cond (nat_lt 0 (over way x w)) (left (bays_to way (fr w) x) w) 0) ws (λ w _. over_fits way x w) in
+        let greatest = passing_le (λ w. left (bays_to way (fr w) x) w) (λ w. nat_lt 0 (over way x w)) ws in
+        let same = ap (most (comers way x)) (map-map (λ f. room t (bays_to way f x) f) fr ws) in
+        omega (arith, works, mul-le-mul_left inst.travel ways, times, both, greatest, same)
 
-    from_below : (i : ℕ) → i < length xs → lift t m i ≤ most (m i) (by_crane t (room t (λ f. down f (bay t i))))
-    from_below i low =
-        let works = works_under tick i low in
-        let ways = sinks_le tick i low in
-        let times = times_sum inst.travel (λ w. cond (nat_lt 0 (under (x i) w)) (below i w) 0) ws in
-        let both =
-        sums_within (under (x i)) (λ w. inst.travel * cond (nat_lt 0 (under (x i) w)) (below i w) 0)
-        (λ w. cond (nat_lt 0 (under (x i) w)) (left (down (fr w) (x i)) w) 0) ws (λ w _. under_fits i w) in
-        let greatest = passing_le (λ w. left (down (fr w) (x i)) w) (λ w. nat_lt 0 (under (x i) w)) ws in
-        omega (arith, works, mul-le-mul_left inst.travel ways, times, both, greatest)
+    all_suffice : (way : Direction) (ys : List ℕ) → InOrder way ys → suffices t way ys (map (comers way) ys) ≡ true
+    all_suffice way [] r = refl
+    all_suffice way (x ∷ ys) r =
+        and_from (leb (load t way (x ∷ ys) (map (comers way) (x ∷ ys))) (most (comers way x) (map (λ f. room t (bays_to way f x) f) t.frames)))
+        (suffices t way ys (map (comers way) ys))
+        (le-leb (load t way (x ∷ ys) (map (comers way) (x ∷ ys))) (most (comers way x) (map (λ f. room t (bays_to way f x) f) t.frames)) (enough way x ys r))
+        (all_suffice way ys r.1)
 
-    all_fit : (last w : ℕ) → length xs ≡ suc last
+    all_fit : (x z w : ℕ) → all_ticks w ≤ over Up x w → all_ticks w ≤ over Down z w
         → all_ticks w
-        + inst.travel * (cond (nat_lt 0 (over (x 0) w)) (ahead 0 w) 0 + cond (nat_lt 0 (under (x last) w)) (below last w) 0)
-        ≤ left (up (fr w) (x 0) + down (fr w) (x last)) w
-    all_fit last w count = elim (cases_lt 0 (all_ticks w)) [
+        + inst.travel * (cond (nat_lt 0 (over Up x w)) (ahead Up x w) 0 + cond (nat_lt 0 (over Down z w)) (ahead Down z w) 0)
+        ≤ left (bays_to Up (fr w) x + bays_to Down (fr w) z) w
+    all_fit x z w up_all down_all = elim (cases_lt 0 (all_ticks w)) [
       | inl some ↦
-          let over_all : 0 < over (x 0) w = omega (arith, some, all_over w) in
-          let under_all : 0 < under (x last) w = omega (arith, some, all_under w last count) in
-          let one = ap (λ b. cond b (ahead 0 w) 0) (lt-ltb 0 (over (x 0) w) over_all) in
-          let two = ap (λ b. cond b (below last w) 0) (lt-ltb 0 (under (x last) w) under_all) in
-          let goes_up = part_of (up (fr w) (x 0)) (far w) (comes_up (x 0) w over_all) in
-          let goes_down = part_of (down (fr w) (x last)) (deep w) (comes_down (x last) w under_all) in
+          let over_all : 0 < over Up x w = omega (arith, some, up_all) in
+          let under_all : 0 < over Down z w = omega (arith, some, down_all) in
+          let one = ap (λ b. cond b (ahead Up x w) 0) (lt-ltb 0 (over Up x w) over_all) in
+          let two = ap (λ b. cond b (ahead Down z w) 0) (lt-ltb 0 (over Down z w) under_all) in
+          let goes_up = part_of (bays_to Up (fr w) x) (far w) (comes Up x w over_all) in
+          let goes_down = part_of (bays_to Down (fr w) z) (deep w) (comes Down z w under_all) in
           let whole = mul-add inst.travel (far w) (deep w) in
-          let parts = mul-add inst.travel (up (fr w) (x 0)) (down (fr w) (x last)) in
-          let beyond = mul-add inst.travel (ahead 0 w) (below last w) in
+          let parts = mul-add inst.travel (bays_to Up (fr w) x) (bays_to Down (fr w) z) in
+          let behind = mul-add inst.travel (ahead Up x w) (ahead Down z w) in
           let is =
           ap (λ n. inst.travel * n)
-          (ap (λ a. a + cond (nat_lt 0 (under (x last) w)) (below last w) 0) one ∙ ap (λ b. ahead 0 w + b) two) in
-          omega (arith, fits w some, goes_up, goes_down, whole, parts, beyond, is)
+          (ap (λ a. a + cond (nat_lt 0 (over Down z w)) (ahead Down z w) 0) one ∙ ap (λ b. ahead Up x w + b) two) in
+          omega (arith, fits w some, goes_up, goes_down, whole, parts, behind, is)
       | inr none ↦
-          let over_none = le-ltb 0 (over (x 0) w) (omega (arith, none, part_le (λ j. leb (x 0) (at j)) w)) in
-          let under_none = le-ltb 0 (under (x last) w) (omega (arith, none, part_le (λ j. leb (at j) (x last)) w)) in
+          let over_none = le-ltb 0 (over Up x w) (omega (arith, none, part_le (λ j. beyond Up x (at j)) w)) in
+          let under_none = le-ltb 0 (over Down z w) (omega (arith, none, part_le (λ j. beyond Down z (at j)) w)) in
           let is =
           ap (λ n. inst.travel * n)
-          (ap (λ b. cond b (ahead 0 w) 0 + cond (nat_lt 0 (under (x last) w)) (below last w) 0) over_none
-          ∙ ap (λ b. 0 + cond b (below last w) 0) under_none) in
+          (ap (λ b. cond b (ahead Up x w) 0 + cond (nat_lt 0 (over Down z w)) (ahead Down z w) 0) over_none
+          ∙ ap (λ b. 0 + cond b (ahead Down z w) 0) under_none) in
           omega (arith, none, is, mul-zero inst.travel)
     ]
 
-    together : (last : ℕ) → length xs ≡ suc last
-        → sum_by (λ k. work_at inst cranes (x k)) (range_with_len 0 (suc last))
-        + inst.travel * (sum_by (rise t n) (range_with_len 1 last) + sum_by (sink t m) (range_with_len 0 last))
-        ≤ sum (by_crane t (room t (λ f. up f (bay t 0) + down f (bay t last))))
-    together last count =
-        let works = works_over tick last 0 (omega (arith, count)) in
-        let all = sum_le (over (x 0)) all_ticks ws (λ w _. part_le (λ j. leb (x 0) (at j)) w) in
-        let ways_up = rises_le tick last 0 (omega (arith, count)) in
-        let ways_down = sinks_le tick last (omega (arith, count)) in
-        let a = λ (w : ℕ). cond (nat_lt 0 (over (x 0) w)) (ahead 0 w) 0 in
-        let b = λ (w : ℕ). cond (nat_lt 0 (under (x last) w)) (below last w) 0 in
+    together : (x z : ℕ) (ys zs : List ℕ) → InOrder Up (x ∷ ys) → InOrder Down (z ∷ zs)
+        → ((w : ℕ) → all_ticks w ≤ over Up x w) → ((w : ℕ) → all_ticks w ≤ over Down z w)
+        → sum_by (work_at inst cranes) (x ∷ ys)
+        + inst.travel * (legs t Up (x ∷ ys) (map (comers Up) (x ∷ ys)) + legs t Down (z ∷ zs) (map (comers Down) (z ∷ zs)))
+        ≤ sum (map (λ f. room t (bays_to Up f x + bays_to Down f z) f) t.frames)
+    together x z ys zs r s up_all down_all =
+        let works = works_over tick Up x ys r in
+        let all = sum_le (over Up x) all_ticks ws (λ w _. part_le (λ j. beyond Up x (at j)) w) in
+        let ways_up = legs_le tick Up x ys r in
+        let ways_down = legs_le tick Down z zs s in
+        let a = λ (w : ℕ). cond (nat_lt 0 (over Up x w)) (ahead Up x w) 0 in
+        let b = λ (w : ℕ). cond (nat_lt 0 (over Down z w)) (ahead Down z w) 0 in
         let sides = sums_within a b (λ w. a w + b w) ws (λ w _. omega arith) in
         let times = times_sum inst.travel (λ w. a w + b w) ws in
         let both =
-        sums_within all_ticks (λ w. inst.travel * (a w + b w)) (λ w. left (up (fr w) (x 0) + down (fr w) (x last)) w) ws
-        (λ w _. all_fit last w count) in
-        let ways : sum_by (rise t n) (range_with_len 1 last) + sum_by (sink t m) (range_with_len 0 last) ≤ sum_by (λ w. a w + b w) ws = omega (arith, ways_up, ways_down, sides) in
-        let is = sum-map (λ w. left (up (fr w) (x 0) + down (fr w) (x last)) w) ws in
-        omega (arith, works, all, mul-le-mul_left inst.travel ways, times, both, is)
+        sums_within all_ticks (λ w. inst.travel * (a w + b w)) (λ w. left (bays_to Up (fr w) x + bays_to Down (fr w) z) w) ws
+        (λ w _. all_fit x z w (up_all w) (down_all w)) in
+        let ways : legs t Up (x ∷ ys) (map (comers Up) (x ∷ ys)) + legs t Down (z ∷ zs) (map (comers Down) (z ∷ zs))
+        ≤ sum_by (λ w. a w + b w) ws = omega (arith, ways_up, ways_down, sides) in
+        let same = ap sum (map-map (λ f. room t (bays_to Up f x + bays_to Down f z) f) fr ws) in
+        let is = sum-map (λ w. left (bays_to Up (fr w) x + bays_to Down (fr w) z) w) ws in
+        omega (arith, works, all, mul-le-mul_left inst.travel ways, times, both, is, same)
 
-    few : (p : ℕ → Bool) → count_by p ws ≤ length inst.cranes
-    few p = omega (arith, count_by-le-length p ws, length-range_with_len 0 (length inst.cranes))
+    abbrev Fits : List ℕ → List ℕ → Type 0
+    Fits bs cs =
+        sum_by (work_at inst cranes) bs + inst.travel * (legs t Up bs (map (comers Up) bs) + legs t Down cs (map (comers Down) cs))
+        ≤ sum (map (λ f. room t (bays_to Up f (get_or bs 0 0) + bays_to Down f (get_or cs 0 0)) f) t.frames)
 
-    serve : 0 < length xs → Serves t n m
-    serve some = record {
-      few = λ i low. (few (λ w. nat_lt 0 (over (x i) w)), few (λ w. nat_lt 0 (under (x i) w)));
-      from_above = from_above;
-      from_below = from_below;
-      together =
-          let last = length xs - 1 in
-          let count : length xs ≡ suc last = omega arith in
-          let all = together last count in
-          let whole : length xs - 0 ≡ suc last = omega arith in
-          let one = ap (λ c. sum_by (λ k. work_at inst cranes (x k)) (range_with_len 0 c)) whole in
-          omega (arith, one, all);
-    }
+    fit : (bs cs : List ℕ) → length cs ≡ length bs → InOrder Up bs → InOrder Down cs
+        → ((y : ℕ) → Among xs y → Among bs y) → ((y : ℕ) → Among xs y → Among cs y) → Fits bs cs
+    fit [] [] same r s in_b in_c = omega (arith, mul-zero inst.travel)
+    fit [] (z ∷ zs) same r s in_b in_c = absurd (omega arith)
+    fit (x ∷ ys) [] same r s in_b in_c = absurd (omega arith)
+    fit (x ∷ ys) (z ∷ zs) same r s in_b in_c =
+        together x z ys zs r s
+        (λ w. all_over Up x w (λ y a. beyond_first Up x y ys r (in_b y a)))
+        (λ w. all_over Down z w (λ y a. beyond_first Down z y zs s (in_c y a)))
+
+    few : (way : Direction) (x : ℕ) → comers way x ≤ length t.frames
+    few way x = omega (arith, count_by-le-length (λ w. nat_lt 0 (over way x w)) ws, length-map ws fr)
+
+    rises : InOrder Up xs
+    rises = rising (λ y. nat_lt 0 (length (left_at inst cranes y))) 1 inst.bays
+
+    ordered : (way : Direction) → InOrder way (along t way)
+    ordered Up = rises
+    ordered Down = falling xs rises
+
+    as_many : (way : Direction) → length (along t way) ≡ length xs
+    as_many Up = refl
+    as_many Down = length-reverse xs
+
+    serving : (way : Direction) → Among (numbers t way) (map (comers way) (along t way))
+    serving way =
+        among_filter (suffices t way (along t way)) (lists_to (length t.frames) (length t.bays)) (map (comers way) (along t way))
+        (subst (λ (n : ℕ). Among (lists_to (length t.frames) n) (map (comers way) (along t way))) (as_many way)
+        (among_lists (length t.frames) (comers way) (along t way) (few way)))
+        (all_suffice way (along t way) (ordered way))
+
+    serve : is_served t ≡ true
+    serve =
+        let ns = map (comers Up) xs in
+        let ms = map (comers Down) (reverse xs) in
+        any_from (λ ns. list_any (has_room t ns) (numbers t Down)) (numbers t Up) ns (serving Up)
+        (any_from (has_room t ns) (numbers t Down) ms (serving Down)
+        (le-leb
+        (sum_by (work_at inst cranes) xs + inst.travel * (legs t Up xs ns + legs t Down (reverse xs) ms))
+        (sum (map (λ f. room t (bays_to Up f (first t Up) + bays_to Down f (first t Down)) f) t.frames))
+        (fit xs (reverse xs) (length-reverse xs) rises (falling xs rises) (λ y a. a) (to_reverse xs))))
 
     -- so not too little time is left
-    pub not_short : ¬ IsShort t
-    not_short (inl late) = let is = late.1 in omega (arith, is.late, done late.0 is.works)
-    not_short (inr none) = none.1 n m (serve none.0)
+    pub not_short : is_short t ≡ true → ⊥
+    not_short short = elim (or_cases (list_any (λ f. f.works && nat_lt t.tick f.gone) t.frames) (not (is_served t)) short) [
+      | inl late ↦
+          let f = any_at (λ f. f.works && nat_lt t.tick f.gone) t.frames late in
+          let w = map_among fr ws f.0 f.1 in
+          let is = and_parts f.0.works (nat_lt tick f.0.gone) f.2 in
+          let gone = done w.0 (ap (λ (f : Frame). f.works) w.2 ∙ is.0) in
+          omega (arith, gone, ap (λ (f : Frame). f.gone) w.2, ltb-true tick f.0.gone is.1)
+      | inr none ↦ true≢false (sym serve ∙ not-true (is_served t) none)
+    ]
 
 -- ---- multiples of the grain
 
-multiple_to : (g n x : ℕ) → 0 < g → g ∣ x → x ≤ n → x ≤ n / g * g
+pub multiple_to : (g n x : ℕ) → 0 < g → g ∣ x → x ≤ n → x ≤ n / g * g
 multiple_to g n x some divides low =
     let parts : g * (x / g) ≡ x = mul-div_cancel' g divides in
     let swapped = mul_comm (x / g) g in
@@ -542,7 +507,70 @@ dvd_sum g f [] h = dvd-zero g
 dvd_sum g f (x ∷ xs) h =
     subst (λ (n : ℕ). g ∣ n) (sym (sum_by-cons f x xs)) (dvd-add g (h x (inl refl)) (dvd_sum g f xs (λ y a. h y (inr a))))
 
-module _ (inst : InstanceView) (g : ℕ) (grain : IsGrain inst g) where
+-- all ticks of the instance are multiples of g
+record AreMultiples (inst : InstanceView) (g : ℕ) : Type 0 where
+  travel : g ∣ inst.travel
+  tasks : (j : ℕ) → j < length inst.tasks → g ∣ ticks_of inst j
+  ready : (k : ℕ) → k < length inst.cranes → g ∣ (crane inst k).ready
+  some : 0 < g
+
+pub among_at : {X : Type 0} (xs : List X) (i : ℕ) (d : X) → i < length xs → Among xs (get_or xs i d)
+among_at [] i d low = absurd (omega arith)
+among_at (x ∷ xs) zero d low = inl refl
+among_at (x ∷ xs) (suc i) d low = inr (among_at xs i d (omega arith))
+
+multiple_of : (g n : ℕ) → eqb (n % g) 0 ≡ true → g ∣ n
+multiple_of g n t = dvd_of_mod-eq-zero g (eqb-true (n % g) 0 t)
+
+multiples_of : (inst : InstanceView) (g : ℕ) → 0 < g → are_multiples inst g ≡ true → AreMultiples inst g
+multiples_of inst g some t =
+    let is_tasks = list_all (λ j. eqb (j.ticks % g) 0) inst.tasks in
+    let is_ready = list_all (λ k. eqb (k.ready % g) 0) inst.cranes in
+    let outer = and_parts (eqb (inst.travel % g) 0 && is_tasks) is_ready t in
+    let inner = and_parts (eqb (inst.travel % g) 0) is_tasks outer.0 in
+    record {
+      travel = multiple_of g inst.travel inner.0;
+      tasks = λ j low. multiple_of g (ticks_of inst j)
+          (all_at (λ j. eqb (j.ticks % g) 0) inst.tasks (task inst j) (among_at inst.tasks j no_task low) inner.1);
+      ready = λ k low. multiple_of g (crane inst k).ready
+          (all_at (λ k. eqb (k.ready % g) 0) inst.cranes (crane inst k) (among_at inst.cranes k no_crane low) outer.1);
+      some = some;
+    }
+
+pub among_greatest : (x : ℕ) (xs : List ℕ) → Among (x ∷ xs) (greatest (x ∷ xs))
+among_greatest x [] = inl (omega arith)
+among_greatest x (y ∷ ys) = elim (cases_lt x (greatest (y ∷ ys))) [
+  | inl less ↦
+      let e : greatest (y ∷ ys) ≡ greatest (x ∷ y ∷ ys) = omega arith in
+      inr (subst (λ (n : ℕ). Among (y ∷ ys) n) e (among_greatest y ys))
+  | inr more ↦ inl (omega arith)
+]
+
+greatest_among : (xs : List ℕ) (x : ℕ) → Among xs x → Among xs (greatest xs)
+greatest_among [] x a = absurd a
+greatest_among (y ∷ ys) x a = among_greatest y ys
+
+-- 1 is such a number
+one_divides : (inst : InstanceView) → are_multiples inst 1 ≡ true
+one_divides inst =
+    and_from (eqb (inst.travel % 1) 0 && list_all (λ j. eqb (j.ticks % 1) 0) inst.tasks) (list_all (λ k. eqb (k.ready % 1) 0) inst.cranes)
+    (and_from (eqb (inst.travel % 1) 0) (list_all (λ j. eqb (j.ticks % 1) 0) inst.tasks) (by inst.travel)
+    (all_from (λ j. eqb (j.ticks % 1) 0) inst.tasks (λ j _. by j.ticks)))
+    (all_from (λ k. eqb (k.ready % 1) 0) inst.cranes (λ k _. by k.ready))
+  where
+    by : (n : ℕ) → eqb (n % 1) 0 ≡ true
+    by n = eq-eqb (n % 1) 0 (mod-one n)
+
+pub grain_is : (inst : InstanceView) → 1 ≤ inst.travel
+    → (are_multiples inst (grain inst) ≡ true) × (1 ≤ grain inst) × (grain inst ≤ inst.travel)
+grain_is inst travel =
+    let one =
+    among_filter (are_multiples inst) (range_with_len 1 inst.travel) 1 (among_range 1 1 inst.travel (omega arith) (omega arith)) (one_divides inst) in
+    let is = filter_among (are_multiples inst) (range_with_len 1 inst.travel) (grain inst) (greatest_among (filter (are_multiples inst) (range_with_len 1 inst.travel)) 1 one) in
+    let range = range_among (grain inst) 1 inst.travel is.0 in
+    (is.1, range.0, omega (arith, range.1))
+
+module _ (inst : InstanceView) (g : ℕ) (grain : AreMultiples inst g) where
   dvd_ready : (w : ℕ) → g ∣ (crane inst w).ready
   dvd_ready w = elim (cases_lt w (length inst.cranes)) [
     | inl low ↦ grain.ready w low
@@ -561,8 +589,8 @@ module _ (inst : InstanceView) (g : ℕ) (grain : IsGrain inst g) where
   dvd_cond false n d = dvd-zero g
 
 module _ (inst : InstanceView) (turn : Turn) (cranes : List (Option ℕ)) (sched : List Slot) (valid : Valid inst)
-    (goes : GoesBy turn inst sched) (follows : Follows inst cranes sched) (g : ℕ) (grain : IsGrain inst g)
-    (travel : 1 ≤ inst.travel) (end : ℕ) (early : ends inst sched < end) where
+    (goes : GoesBy turn inst sched) (follows : Follows inst cranes sched) (g : ℕ) (grain : AreMultiples inst g)
+    (end : ℕ) (early : ends inst sched < end) where
   abbrev tick : ℕ
   tick = last_before g end
 
@@ -574,7 +602,7 @@ module _ (inst : InstanceView) (turn : Turn) (cranes : List (Option ℕ)) (sched
 
   -- what is a multiple and over when the schedule ends is so by the tick
   by_tick : (n : ℕ) → g ∣ n → n ≤ ends inst sched → n ≤ tick
-  by_tick n divides low = multiple_to g (end - 1) n (pos_of_dvd_of_pos grain.travel travel) divides (omega (arith, low, early))
+  by_tick n divides low = multiple_to g (end - 1) n grain.some divides (omega (arith, low, early))
 
   in_range : (w j : ℕ) → Among (own inst cranes w) j → j < length inst.tasks
   in_range w j a =
@@ -601,7 +629,7 @@ module _ (inst : InstanceView) (turn : Turn) (cranes : List (Option ℕ)) (sched
           (grain.tasks j (omega (arith, (range_among j 0 (length inst.tasks) a).1))))
 
   -- the cranes have the time by the greatest multiple of the grain before an end that comes later
-  long_enough : ¬ IsShort (record { inst = inst; cranes = cranes; frames = frame inst turn cranes; tick = tick })
+  long_enough : is_short (try_of inst turn cranes tick) ≡ true → ⊥
   long_enough = not_short inst turn cranes sched valid goes follows tick done_by fits_by
 
 none_there : (n j : ℕ) → crane_in (replicate n None) j ≡ None
@@ -619,14 +647,15 @@ bare_follows inst sched j k low e = absurd (other (sym (none_there (length inst.
 -- an end at which an assignment is closed is at most that of each schedule that follows it and that cranes which turn so
 -- can keep
 pub closed_end_le : (inst : InstanceView) (turn : Turn) (cranes : List (Option ℕ)) (end : ℕ) → Valid inst
-    → IsClosed inst turn cranes end → IsClosedBound inst turn cranes end
+    → is_closed inst turn cranes end ≡ true → IsClosedBound inst turn cranes end
 closed_end_le inst turn cranes end valid closed sched goes follows = elim (cases_lt (ends inst sched) end) [
   | inl early ↦
-      let travel = (least_steps inst valid).0 in
-      absurd (elim closed.short [
+      let is = grain_is inst (least_steps inst valid).0 in
+      let multiples = multiples_of inst (grain inst) is.1 is.0 in
+      absurd (elim (or_cases (is_short_before inst turn (no_cranes inst) end) (is_short_before inst turn cranes end) closed) [
         | inl bare ↦
-            long_enough inst turn (no_cranes inst) sched valid goes (bare_follows inst sched) closed.grain closed.is_grain travel end early bare
-        | inr own ↦ long_enough inst turn cranes sched valid goes follows closed.grain closed.is_grain travel end early own
+            long_enough inst turn (no_cranes inst) sched valid goes (bare_follows inst sched) (grain inst) multiples end early bare
+        | inr own ↦ long_enough inst turn cranes sched valid goes follows (grain inst) multiples end early own
       ])
   | inr long ↦ long
 ]

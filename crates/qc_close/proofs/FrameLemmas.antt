@@ -8,6 +8,7 @@ use Rattle.std.proofs.lemmas.List.Sums.{sum_by-cons}
 use Rattle.std.specs.Int.{int_max, int_min}
 use Rattle.std.specs.List.{list_any, range_with_len}
 use Rattle.std.specs.Option.{option_map_or}
+use Rattle.qc_model.specs.declared.frame.Frame.{Frame}
 use Rattle.qc_model.specs.declared.schedule.Slot.{Slot}
 use Rattle.qc_model.specs.Bays.{at_least_zero, bays_between, bays_up}
 use Rattle.qc_model.specs.Instance.{InstanceView, Valid, bay_of, crane, ticks_of}
@@ -17,11 +18,12 @@ use Rattle.qc_model.specs.Rules.{Feasible, crane_of, ends, start_of}
 use Rattle.qc_model.specs.Ticks.{arrival}
 use Rattle.qc_model.proofs.Bays.{bays}
 use Rattle.qc_model.proofs.LimitsOf.{counted}
+use Rattle.qc_model.specs.declared.direction.Direction.TheVariants.{Up, Down}
 use Rattle.qc_model.specs.declared.turn.Turn.{Turn}
 use Rattle.qc_model.specs.declared.turn.Turn.TheVariants.{OneWay, Free}
 use Rattle.qc_model.specs.Assignments.{Follows, crane_in}
-use Rattle.qc_model.specs.Closed.{down, up}
-use Rattle.qc_model.specs.Frames.{Frame, GoesBy, frame, frame_of, own, turn_bays, turn_high}
+use Rattle.qc_model.specs.Closed.{bays_to}
+use Rattle.qc_model.specs.Frames.{GoesBy, frame, frame_of, own, turn_bays, turn_high}
 use Rattle.qc_close.proofs.Members.{Among, among_filter, among_range, any_at, any_from, filter_among, first_of, range_among}
 use Rattle.qc_close.proofs.PackLemmas.{ends_in}
 use Rattle.qc_close.proofs.Rows.{AllClear, AreClear, Row, row_after, row_fits, row_of, way, way_between, way_to}
@@ -319,8 +321,8 @@ module _ (inst : InstanceView) (turn : Turn) (cranes : List (Option ℕ)) (sched
   pub record HasTime (fr : Frame) : Type 0 where
     pub far : ℕ
     pub deep : ℕ
-    pub above : (j : ℕ) → j < length inst.tasks → does_open j ≡ true → up fr (bay_at j) ≤ far
-    pub below : (j : ℕ) → j < length inst.tasks → does_open j ≡ true → down fr (bay_at j) ≤ deep
+    pub above : (j : ℕ) → j < length inst.tasks → does_open j ≡ true → bays_to Up fr (bay_at j) ≤ far
+    pub below : (j : ℕ) → j < length inst.tasks → does_open j ≡ true → bays_to Down fr (bay_at j) ≤ deep
     pub done : fr.works ≡ true → fr.gone ≤ ends inst sched
     pub fits : 0 < beside → fr.gone + beside + inst.travel * (far + deep) ≤ ends inst sched
 

@@ -16,7 +16,7 @@ use Rattle.qc_model.proofs.LeafLemmas.{leaf_value_le}
 use Rattle.qc_model.proofs.NodeLemmas.{assigned_is, meets_of, start_at}
 use Rattle.qc_model.specs.declared.turn.Turn.TheVariants.{OneWay}
 use Rattle.qc_model.specs.Assignments.{Follows, cranes_of}
-use Rattle.qc_model.specs.Closed.{IsClosed}
+use Rattle.qc_model.specs.Closed.{is_closed}
 use Rattle.qc_model.specs.Packs.{is_packed, pack}
 use Rattle.qc_close.proofs.ClosedLemmas.{closed_end_le}
 use Rattle.qc_close.proofs.PackLemmas.{pack_end_le}
@@ -73,6 +73,6 @@ module _ (inst : InstanceView) (ds : List Decision) (sched : List Slot) (g : Goe
       → leaf_value version inst ds leaf ≡ Some bound → IsAtMost bound (Least (ends inst sched))
   leaf_le valid fits = leaf_value_le inst ds sched valid fits g a packed_end_le
 
-  pub closed_node_le : Valid inst → (end : ℕ) → IsClosed inst OneWay (cranes_of inst ds) end → end ≤ ends inst sched
+  pub closed_node_le : Valid inst → (end : ℕ) → is_closed inst OneWay (cranes_of inst ds) end ≡ true → end ≤ ends inst sched
   closed_node_le valid end closed =
       closed_end_le inst OneWay (cranes_of inst ds) end valid closed sched g (follows_of inst ds sched a)

@@ -1,6 +1,6 @@
 //! What packed tasks and closed ends show of schedules.
 
-ghost use Rattle.std.specs.Prelude.{◌≡◌, ◌+◌, ◌≤◌, ℕ, List, Option, Some, map};
+ghost use Rattle.std.specs.Prelude.{◌≡◌, ◌+◌, ◌≤◌, ℕ, List, Option, Some, map, true};
 ghost use Rattle.qc_model.specs.declared.decision.Decision.{Decision};
 ghost use Rattle.qc_model.specs.declared.schedule.Slot.{Slot};
 ghost use Rattle.qc_model.specs.Instance.{InstanceView, Valid};
@@ -10,13 +10,13 @@ ghost use Rattle.qc_model.specs.Rules.{ends};
 ghost use Rattle.qc_model.specs.declared.turn.Turn.{Turn};
 ghost use Rattle.qc_model.specs.declared.turn.Turn.TheVariants.{OneWay};
 ghost use Rattle.qc_model.specs.Assignments.{cranes_of};
-ghost use Rattle.qc_model.specs.Closed.{IsClosed, IsClosedBound};
+ghost use Rattle.qc_model.specs.Closed.{IsClosedBound, is_closed};
 ghost use Rattle.qc_model.specs.Packs.{pack};
 
 /// No schedule that follows an assignment ends before an end at which it is closed.
 fn closed_ends_are_bounds()
     ensures { (inst : InstanceView) (turn : Turn) (cranes : List (Option ℕ)) (end : ℕ) → Valid inst
-        → IsClosed inst turn cranes end → IsClosedBound inst turn cranes end }
+        → is_closed inst turn cranes end ≡ true → IsClosedBound inst turn cranes end }
 {}
 
 /// No upward schedule that agrees with a node ends before its packed tasks allow, begun at the least of
@@ -28,5 +28,5 @@ fn nodes_end_no_earlier()
         → least (map (head inst ds) tasks) + ticks ≤ ends inst sched }
     ensures closed { (inst : InstanceView) (ds : List Decision) (sched : List Slot) → GoesUp inst sched
         → Agrees inst ds sched → Valid inst → (end : ℕ)
-        → IsClosed inst OneWay (cranes_of inst ds) end → end ≤ ends inst sched }
+        → is_closed inst OneWay (cranes_of inst ds) end ≡ true → end ≤ ends inst sched }
 {}

@@ -159,7 +159,6 @@ module _ (inst : InstanceView) (ds : List Decision) (sched : List Slot) (v : Val
       let parts = and_parts (nat_le 1 end) (work_holds inst ds end) t in
       work_end_le inst ds sched v fits g a end parts.1 (leb-true 1 end parts.0))
       (λ _. tt)
-
   leaf_shows version (packed tasks) =
       cond_both (has_packed version) (option_map Least (packed_end inst ds tasks)) None Shows
       (λ _. number (packed_end inst ds tasks) (packs tasks)) (λ _. tt)

@@ -1,16 +1,19 @@
 -- public: when an assignment is closed at an end: no schedule that keeps it ends earlier, since too few cranes can come
 -- to where tasks have no crane yet, and work there, by then.
-use Rattle.std.specs.Prelude.{◌≡◌, ℕ, zero, suc, ◌+◌, ◌-◌, ◌*◌, ◌/◌, ◌<◌, ◌≤◌, max, pos, true, ◌&&◌, ◌==◌, nat_lt, ◌⊎◌, List, [], ◌∷◌, map, filter, length, slice_index, sum, sum_by, is_none, Option}
-use Prim.Native.Nat.{◌∣◌}
-use Rattle.std.specs.List.{range_with_len}
+use Rattle.std.specs.Prelude.{ℕ, zero, suc, ◌+◌, ◌-◌, ◌*◌, ◌/◌, ◌%◌, ◌≤◌, max, pos, Bool, true, not, ◌&&◌, ◌||◌, ◌==◌, nat_lt, nat_le, List, [], ◌∷◌, map, filter, reverse, length, slice_index, sum, sum_by, is_none, Option}
+use Rattle.std.specs.List.{flat_map, list_all, list_any, range_with_len}
 use Rattle.qc_model.specs.Bays.{at_least_zero, bays_up}
-use Rattle.qc_model.specs.Instance.{InstanceView, bay_of, crane, ticks_of}
+use Rattle.qc_model.specs.Instance.{InstanceView, bay_of}
+use Rattle.qc_model.specs.Nodes.{greatest}
 use Rattle.qc_model.specs.Work.{crane_numbers, task_numbers, ticks_over}
 use Rattle.qc_model.specs.declared.schedule.Slot.{Slot}
 use Rattle.qc_model.specs.Rules.{ends}
+use Rattle.qc_model.specs.declared.frame.Frame.{Frame}
+use Rattle.qc_model.specs.declared.direction.Direction.{Direction}
+use Rattle.qc_model.specs.declared.direction.Direction.TheVariants.{Up, Down}
 use Rattle.qc_model.specs.declared.turn.Turn.{Turn}
 use Rattle.qc_model.specs.Assignments.{Follows, crane_in, no_cranes}
-use Rattle.qc_model.specs.Frames.{Frame, GoesBy, frame}
+use Rattle.qc_model.specs.Frames.{GoesBy, frame}
 
 -- the greatest sum of n of these numbers: of all where there are fewer
 abbrev pub most : ℕ → List ℕ → ℕ
@@ -35,110 +38,108 @@ work_at inst cranes x = ticks_over inst (left_at inst cranes x)
 abbrev pub left_bays : InstanceView → List (Option ℕ) → List ℕ
 left_bays inst cranes = filter (λ x. nat_lt 0 (length (left_at inst cranes x))) (range_with_len 1 inst.bays)
 
--- the bays that a crane must still go up, or down, to come to bay x
-abbrev pub up : Frame → ℕ → ℕ
-up f x = bays_up f.high (pos x)
+-- the bays that a crane must still go, up or down, to come to bay x
+abbrev pub bays_to : Direction → Frame → ℕ → ℕ
+bays_to Up f x = bays_up f.high (pos x)
+bays_to Down f x = bays_up (pos x) f.low
 
-abbrev pub down : Frame → ℕ → ℕ
-down f x = bays_up (pos x) f.low
-
--- an instance, which tasks have a crane, what each crane has spent, and a tick by which all is to be done
+-- bays with work to be done, by cranes that have spent so much and go so many ticks per bay, by a tick
 pub record Try : Type 0 where
-  pub inst : InstanceView
-  pub cranes : List (Option ℕ)
-  pub frames : ℕ → Frame
+  pub travel : ℕ
+  pub frames : List Frame
+  -- the bays along the ship, and the ticks of work at each
+  pub bays : List ℕ
+  pub work : ℕ → ℕ
   pub tick : ℕ
 
--- the bays with tasks that have no crane, by their number along the ship
-abbrev pub bays : Try → List ℕ
-bays t = left_bays t.inst t.cranes
+-- the bays in the order in which cranes that go this way come to them
+abbrev pub along : Try → Direction → List ℕ
+along t Up = t.bays
+along t Down = reverse t.bays
 
-abbrev pub bay : Try → ℕ → ℕ
-bay t i = slice_index (bays t) i
+abbrev pub first : Try → Direction → ℕ
+first t way = slice_index (along t way) 0
 
--- a number for each crane
-abbrev pub by_crane : Try → (Frame → ℕ) → List ℕ
-by_crane t f = map (λ w. f (t.frames w)) (crane_numbers t.inst)
+-- the ticks that are left to a crane once it has gone so many bays more
+abbrev pub room : Try → ℕ → Frame → ℕ
+room t bays f = t.tick - f.gone - t.travel * bays
 
--- the ticks that are left to a crane until the tick, once it has gone so many bays more
-abbrev pub room : Try → (Frame → ℕ) → Frame → ℕ
-room t way f = t.tick - f.gone - t.inst.travel * way f
+-- the bays that n cranes go together from bay x on to bay y, at the least
+abbrev pub leg : Try → Direction → ℕ → ℕ → ℕ → ℕ
+leg t way n x y = fewest n (map (λ f. bays_to way f y - bays_to way f x) t.frames)
 
--- the travel up to bay i from the one below it, where n cranes come there: the least that it can be
-abbrev pub rise : Try → (ℕ → ℕ) → ℕ → ℕ
-rise t n i = fewest (n i) (by_crane t (λ f. up f (bay t i) - up f (bay t (i - 1))))
+-- the bays that cranes go along these at the least, so many of them to each
+abbrev pub legs : Try → Direction → List ℕ → List ℕ → ℕ
+legs t way (x ∷ y ∷ ys) (n ∷ m ∷ ms) = leg t way m x y + legs t way (y ∷ ys) (m ∷ ms)
+legs t way xs ns = 0
 
--- the travel down to bay i from the one above it
-abbrev pub sink : Try → (ℕ → ℕ) → ℕ → ℕ
-sink t m i = fewest (m i) (by_crane t (λ f. down f (bay t i) - down f (bay t (i + 1))))
+-- the crane time that is needed at these bays, with the travel along them
+abbrev pub load : Try → Direction → List ℕ → List ℕ → ℕ
+load t way xs ns = sum_by t.work xs + t.travel * legs t way xs ns
 
--- the bays from number i on, and up to number i
-abbrev pub from_on : Try → ℕ → List ℕ
-from_on t i = range_with_len i (length (bays t) - i)
+-- where so many cranes come to each of these bays, they have the time that is needed from there on
+abbrev pub suffices : Try → Direction → List ℕ → List ℕ → Bool
+suffices t way (x ∷ xs) (n ∷ ns) =
+    nat_le (load t way (x ∷ xs) (n ∷ ns)) (most n (map (λ f. room t (bays_to way f x) f) t.frames))
+    && suffices t way xs ns
+suffices t way xs ns = true
 
-abbrev pub up_to : ℕ → List ℕ
-up_to i = range_with_len 0 (i + 1)
+-- all lists of so many numbers from 0 to most
+abbrev pub lists_to : ℕ → ℕ → List (List ℕ)
+lists_to most zero = [] ∷ []
+lists_to most (suc len) =
+    flat_map (λ ns. map (λ n. n ∷ ns) (range_with_len 0 (most + 1))) (lists_to most len)
 
--- the ticks of crane time that are needed at bay i and above, the travel up among these bays with them
-abbrev pub load : Try → (ℕ → ℕ) → ℕ → ℕ
-load t n i =
-    sum_by (λ k. work_at t.inst t.cranes (bay t k)) (from_on t i)
-    + t.inst.travel * sum_by (rise t n) (from_on t (i + 1))
+-- the numbers of cranes that suffice, one for each bay
+abbrev pub numbers : Try → Direction → List (List ℕ)
+numbers t way = filter (suffices t way (along t way)) (lists_to (length t.frames) (length t.bays))
 
--- and at bay i and below, with the travel down
-abbrev pub lift : Try → (ℕ → ℕ) → ℕ → ℕ
-lift t m i =
-    sum_by (λ k. work_at t.inst t.cranes (bay t k)) (up_to i)
-    + t.inst.travel * sum_by (sink t m) (range_with_len 0 i)
+-- all cranes together have the time for all that is needed, from both sides
+abbrev pub has_room : Try → List ℕ → List ℕ → Bool
+has_room t ns ms =
+    nat_le (sum_by t.work t.bays + t.travel * (legs t Up (along t Up) ns + legs t Down (along t Down) ms))
+    (sum (map (λ f. room t (bays_to Up f (first t Up) + bays_to Down f (first t Down)) f) t.frames))
 
--- so many cranes come up to each bay, and so many down to it: these have the time for what is needed from there on, and
--- all cranes together for all of it
-pub record Serves (t : Try) (n m : ℕ → ℕ) : Type 0 where
-  pub few : (i : ℕ) → i < length (bays t) → (n i ≤ length t.inst.cranes) × (m i ≤ length t.inst.cranes)
-  pub from_above : (i : ℕ) → i < length (bays t)
-      → load t n i ≤ most (n i) (by_crane t (room t (λ f. up f (bay t i))))
-  pub from_below : (i : ℕ) → i < length (bays t)
-      → lift t m i ≤ most (m i) (by_crane t (room t (λ f. down f (bay t i))))
-  pub together :
-      let last = length (bays t) - 1 in
-      sum_by (λ k. work_at t.inst t.cranes (bay t k)) (from_on t 0)
-      + t.inst.travel * (sum_by (rise t n) (from_on t 1) + sum_by (sink t m) (range_with_len 0 last))
-      ≤ sum (by_crane t (room t (λ f. up f (bay t 0) + down f (bay t last))))
+-- some numbers of cranes serve
+abbrev pub is_served : Try → Bool
+is_served t = list_any (λ ns. list_any (has_room t ns) (numbers t Down)) (numbers t Up)
 
--- crane w isn't done by the tick with the tasks that it has
-pub record IsLate (t : Try) (w : ℕ) : Type 0 where
-  pub range : w < length t.inst.cranes
-  pub works : (t.frames w).works ≡ true
-  pub late : t.tick < (t.frames w).gone
+-- not all can be done by the tick: a crane isn't done with what it has, or no numbers serve
+abbrev pub is_short : Try → Bool
+is_short t = list_any (λ f. f.works && nat_lt t.tick f.gone) t.frames || not (is_served t)
 
--- not all can be done by the tick: a crane isn't, or some bay has tasks left and no numbers serve
-abbrev pub IsShort : Try → Type 0
-IsShort t = ((w : ℕ) × IsLate t w) ⊎ ((0 < length (bays t)) × ((n m : ℕ → ℕ) → ¬ Serves t n m))
+-- all ticks of the instance are multiples of this number
+abbrev pub are_multiples : InstanceView → ℕ → Bool
+are_multiples inst g =
+    (inst.travel % g == 0) && list_all (λ j. j.ticks % g == 0) inst.tasks
+    && list_all (λ k. k.ready % g == 0) inst.cranes
 
--- all ticks of the instance are multiples of this number, and of none greater
-pub record IsGrain (inst : InstanceView) (g : ℕ) : Type 0 where
-  pub travel : g ∣ inst.travel
-  pub tasks : (j : ℕ) → j < length inst.tasks → g ∣ ticks_of inst j
-  pub ready : (k : ℕ) → k < length inst.cranes → g ∣ (crane inst k).ready
-  pub greatest : (d : ℕ) → d ∣ inst.travel → ((j : ℕ) → j < length inst.tasks → d ∣ ticks_of inst j)
-      → ((k : ℕ) → k < length inst.cranes → d ∣ (crane inst k).ready) → d ≤ g
+-- the greatest such number
+abbrev pub grain : InstanceView → ℕ
+grain inst = greatest (filter (are_multiples inst) (range_with_len 1 inst.travel))
 
 -- the greatest multiple of a number below an end
 abbrev pub last_before : ℕ → ℕ → ℕ
 last_before g end = (end - 1) / g * g
 
--- not all can be done before the end, with each crane's tasks as these lists say them
-abbrev pub IsShortBefore : InstanceView → Turn → List (Option ℕ) → ℕ → Type 0
-IsShortBefore inst turn cranes tick =
-    IsShort (record { inst = inst; cranes = cranes; frames = frame inst turn cranes; tick = tick })
+-- the tasks that have no crane are to be done by a tick, beside those that have one
+abbrev pub try_of : InstanceView → Turn → List (Option ℕ) → ℕ → Try
+try_of inst turn cranes tick = record {
+  travel = inst.travel;
+  frames = map (frame inst turn cranes) (crane_numbers inst);
+  bays = left_bays inst cranes;
+  work = work_at inst cranes;
+  tick = tick;
+}
 
--- the assignment is closed at the end: not all can be done before it, whether tasks have their cranes or none has one
-pub record IsClosed (inst : InstanceView) (turn : Turn) (cranes : List (Option ℕ)) (end : ℕ) : Type 0 where
-  pub grain : ℕ
-  pub is_grain : IsGrain inst grain
-  pub short :
-      IsShortBefore inst turn (no_cranes inst) (last_before grain end)
-      ⊎ IsShortBefore inst turn cranes (last_before grain end)
+-- not all can be done before the end
+abbrev pub is_short_before : InstanceView → Turn → List (Option ℕ) → ℕ → Bool
+is_short_before inst turn cranes end = is_short (try_of inst turn cranes (last_before (grain inst) end))
+
+-- the assignment is closed at the end: not all can be done before it, whether no task has a crane or tasks have theirs
+abbrev pub is_closed : InstanceView → Turn → List (Option ℕ) → ℕ → Bool
+is_closed inst turn cranes end =
+    is_short_before inst turn (no_cranes inst) end || is_short_before inst turn cranes end
 
 -- no schedule that follows the assignment, and that cranes which turn so can keep, ends before this end
 abbrev pub IsClosedBound : InstanceView → Turn → List (Option ℕ) → ℕ → Type 0

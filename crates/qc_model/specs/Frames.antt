@@ -1,10 +1,11 @@
 -- public: frames: what of each crane's time is spent on the tasks that it has, whatever else comes.
-use Rattle.std.specs.Prelude.{ℕ, ◌+◌, ◌*◌, min, ℤ, Bool, true, false, ◌==◌, List, [], ◌∷◌, filter, Option}
+use Rattle.std.specs.Prelude.{ℕ, ◌+◌, ◌*◌, min, ℤ, true, false, ◌==◌, List, [], ◌∷◌, filter, Option}
 use Rattle.std.specs.Int.{int_max, int_min}
 use Rattle.std.specs.Option.{option_map_or}
 use Rattle.qc_model.specs.Bays.{bays_between, bays_up}
 use Rattle.qc_model.specs.Instance.{InstanceView, crane}
 use Rattle.qc_model.specs.Work.{highest, lowest, task_numbers, ticks_over}
+use Rattle.qc_model.specs.declared.frame.Frame.{Frame}
 use Rattle.qc_model.specs.declared.schedule.Slot.{Slot}
 use Rattle.qc_model.specs.OneWay.{GoesUp}
 use Rattle.qc_model.specs.Rules.{Feasible}
@@ -16,14 +17,6 @@ use Rattle.qc_model.specs.Assignments.{crane_in}
 abbrev pub GoesBy : Turn → InstanceView → List Slot → Type 0
 GoesBy OneWay inst sched = GoesUp inst sched
 GoesBy Free inst sched = Feasible inst sched
-
--- of a crane: whether it has work, the tick by which that is done at the soonest, and how far down and up it has come
--- for it
-pub record Frame : Type 0 where
-  pub works : Bool
-  pub gone : ℕ
-  pub low : ℤ
-  pub high : ℤ
 
 -- the tasks that crane w has
 abbrev pub own : InstanceView → List (Option ℕ) → ℕ → List ℕ

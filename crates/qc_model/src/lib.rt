@@ -5,6 +5,7 @@ mod copies;
 mod crane;
 mod decision;
 mod direction;
+mod frame;
 mod instance;
 mod judge;
 mod keeps;
@@ -23,6 +24,7 @@ pub use copies::{copy, copy_cranes};
 pub use crane::Crane;
 pub use decision::Decision;
 pub use direction::Direction;
+pub use frame::Frame;
 pub use instance::Instance;
 pub use judge::{Judge, Work};
 pub use limits::{
