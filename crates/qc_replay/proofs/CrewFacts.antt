@@ -5,7 +5,7 @@ use Rattle.qc_close.proofs.DecidedCranes.{crane_decided, cranes_none, cranes_put
 use Rattle.qc_dist.proofs.Assigned.{assigned_here}
 use Rattle.qc_dist.specs.Node.{IsOpen, Node}
 use Rattle.qc_model.specs.declared.decision.Decision.{Decision}
-use Rattle.qc_model.specs.declared.decision.Decision.TheVariants.{Assign, Order}
+use Rattle.qc_model.specs.declared.decision.Decision.TheVariants.{Assign}
 use Rattle.qc_model.specs.declared.turn.Turn.TheVariants.{OneWay}
 use Rattle.qc_model.specs.Assignments.{crane_in, no_cranes}
 use Rattle.qc_model.specs.Instance.{InstanceView}
@@ -44,12 +44,7 @@ were_open_more node next d is is_open were =
     subst (λ (m : Node). WereOpen m.inst m.decisions) (sym is) (is_open, were)
 
 module _ (node : Node) (crew : CrewView) (is : IsCrew crew node) where
-  pub crew_task : (j : ℕ) → j < length node.inst.tasks → j < length crew.inst.tasks
-  crew_task j low = subst (λ (i : InstanceView). j < length i.tasks) (sym is.same) low
-
-  pub crew_crane : (k : ℕ) → k < length node.inst.cranes → k < length crew.inst.cranes
-  crew_crane k low = subst (λ (i : InstanceView). k < length i.cranes) (sym is.same) low
-
+  -- the crane of a task
   pub crew_at : (j : ℕ) → j < length node.inst.tasks → crane_in crew.cranes j ≡ assigned node.decisions j
   crew_at j low =
       ap (λ (cs : List (Option ℕ)). crane_in cs j) is.cranes ∙ crane_decided node.inst node.decisions j low
@@ -68,11 +63,6 @@ module _ (node : Node) (crew : CrewView) (is : IsCrew crew node) where
             ∙ cranes_put node.inst node.decisions j k low;
       })
 
-  -- an order says nothing of cranes
-  pub crew_keeps : (i j : ℕ) (next : Node) → next ≡ with node (Order i j) → IsCrew crew next
-  crew_keeps i j next more =
-      subst (IsCrew crew) (sym more) (record { same = is.same; turn = is.turn; cranes = is.cranes })
-
 -- the same, backwards
 module _ (node next : Node) (d : Decision) (more : node ≡ with next d) (were : WereOpen node.inst node.decisions) where
   all_open : WereOpen next.inst (d ∷ next.decisions)
@@ -84,33 +74,25 @@ module _ (node next : Node) (d : Decision) (more : node ≡ with next d) (were :
   pub were_open_less : WereOpen next.inst next.decisions
   were_open_less = all_open.1
 
-module _ (node next : Node) (crew : CrewView) (is : IsCrew crew node) where
-  module _ (j k : ℕ) (more : node ≡ with next (Assign j k)) (low : j < length next.inst.tasks) where
-    held : IsCrew crew (with next (Assign j k))
-    held = subst (IsCrew crew) more is
+module _ (node next : Node) (crew : CrewView) (is : IsCrew crew node) (j k : ℕ)
+    (more : node ≡ with next (Assign j k)) (low : j < length next.inst.tasks) where
+  held : IsCrew crew (with next (Assign j k))
+  held = subst (IsCrew crew) more is
 
-    pub crew_low : j < length crew.inst.tasks
-    crew_low = subst (λ (i : InstanceView). j < length i.tasks) (sym held.same) low
+  pub crew_some : IsSome (crane_in crew.cranes j)
+  crew_some =
+      let found = ap (λ (cs : List (Option ℕ)). crane_in cs j) held.cranes
+      ∙ crane_decided next.inst (Assign j k ∷ next.decisions) j low ∙ assigned_here next.decisions j k in
+      subst (λ (o : Option ℕ). IsSome o) (sym found) refl
 
-    pub crew_some : IsSome (crane_in crew.cranes j)
-    crew_some =
-        let found = ap (λ (cs : List (Option ℕ)). crane_in cs j) held.cranes
-        ∙ crane_decided next.inst (Assign j k ∷ next.decisions) j low ∙ assigned_here next.decisions j k in
-        subst (λ (o : Option ℕ). IsSome o) (sym found) refl
-
-    -- a task that is taken from its crane
-    pub crew_takes : (now : CrewView) → assigned next.decisions j ≡ None
-        → now ≡ record crew { cranes = slice_set crew.cranes j None } → IsCrew now next
-    crew_takes now none takes = record {
-      same = ap (λ (c : CrewView). c.inst) takes ∙ held.same;
-      turn = ap (λ (c : CrewView). c.turn) takes ∙ held.turn;
-      cranes =
-          ap (λ (c : CrewView). c.cranes) takes
-          ∙ ap (λ (cs : List (Option ℕ)). slice_set cs j None) held.cranes
-          ∙ cranes_taken next.inst next.decisions j k low none;
-    }
-
-  pub crew_left : (i j : ℕ) → node ≡ with next (Order i j) → IsCrew crew next
-  crew_left i j more =
-      let held = subst (IsCrew crew) more is in
-      record { same = held.same; turn = held.turn; cranes = held.cranes }
+  -- a task that is taken from its crane
+  pub crew_takes : (now : CrewView) → assigned next.decisions j ≡ None
+      → now ≡ record crew { cranes = slice_set crew.cranes j None } → IsCrew now next
+  crew_takes now none takes = record {
+    same = ap (λ (c : CrewView). c.inst) takes ∙ held.same;
+    turn = ap (λ (c : CrewView). c.turn) takes ∙ held.turn;
+    cranes =
+        ap (λ (c : CrewView). c.cranes) takes
+        ∙ ap (λ (cs : List (Option ℕ)). slice_set cs j None) held.cranes
+        ∙ cranes_taken next.inst next.decisions j k low none;
+  }

@@ -1,14 +1,11 @@
 -- What chains, rings and packed tasks come to, step by step.
-use Rattle.std.proofs.Common.{◌≡◌, ℕ, ◌+◌, ◌-◌, ◌<◌, All, min, slice_set, List, [], ◌∷◌, ◌++◌, get_or, length, map, take, Option, None, Some, refl, sym, ap, ◌∙◌, arith, option_map, unwrap_or}
+use Rattle.std.proofs.Common.{◌≡◌, ℕ, ◌+◌, ◌<◌, min, List, [], ◌∷◌, ◌++◌, get_or, length, map, take, Option, None, Some, refl, sym, ap, ◌∙◌, arith, option_map}
 use Rattle.std.specs.Option.{option_map_or}
-use Rattle.std.proofs.lemmas.List.{append-nil, map-append, take_more, take_more_set}
-use Rattle.std.proofs.lemmas.List.Elements.{All-cons, All-head, All-nil, All-tail}
+use Rattle.std.proofs.lemmas.List.{append-nil, map-append, take_more}
 use Rattle.qc_model.specs.declared.decision.Decision.{Decision}
 use Rattle.qc_model.specs.Instance.{InstanceView, ticks_of}
 use Rattle.qc_model.specs.Leaves.{Version, chain_end, chain_ticks, head_in}
 use Rattle.qc_model.specs.Nodes.{least}
-use Rattle.qc_replay.specs.Part.{IsNumber}
-use Rattle.qc_replay.specs.Walk.{from_file}
 
 module _ (inst : InstanceView) (ds : List Decision) (first : ℕ) (tasks : List ℕ) where
   -- nothing leads along the tasks, whatever follows them
@@ -58,27 +55,3 @@ least_more f js i o r low e is =
     ∙ least_option-append (map f (take i js)) x
     ∙ ap least_option (sym (map-append f (take i js) (get_or js i 0 ∷ [])))
     ∙ ap (λ ks. least_option (map f ks)) (sym (take_more js i 0 low))
-
-pub least_of : (ns : List ℕ) → unwrap_or (least_option ns) 0 ≡ least ns
-least_of [] = refl
-least_of (n ∷ ns) = refl
-
--- ---- tasks by their numbers in a file
-
-pub tasks_low : (inst : InstanceView) (numbers : List ℕ) → All (IsNumber inst) numbers
-    → All (λ j. j < length inst.tasks) (from_file numbers)
-tasks_low inst [] are = All-nil (λ j. j < length inst.tasks)
-tasks_low inst (i ∷ is) are =
-    let first = All-head (IsNumber inst) i is are in
-    All-cons (λ j. j < length inst.tasks) (i - 1) (from_file is) (omega (arith, first.0, first.1))
-    (tasks_low inst is (All-tail (IsNumber inst) i is are))
-
--- one task more
-pub task_more : (tasks numbers : List ℕ) (i : ℕ) → i < length tasks → i < length numbers
-    → take i tasks ≡ from_file (take i numbers)
-    → take (i + 1) (slice_set tasks i (get_or numbers i 0 - 1)) ≡ from_file (take (i + 1) numbers)
-task_more tasks numbers i room low so_far =
-    take_more_set tasks i (get_or numbers i 0 - 1) room
-    ∙ ap (λ (ts : List ℕ). ts ++ (get_or numbers i 0 - 1) ∷ []) so_far
-    ∙ sym (map-append (λ i. i - 1) (take i numbers) (get_or numbers i 0 ∷ []))
-    ∙ ap from_file (sym (take_more numbers i 0 low))

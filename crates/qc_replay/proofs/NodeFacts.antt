@@ -1,6 +1,7 @@
 -- What the lines of nodes come to.
 use Rattle.std.proofs.Common.{◌≡◌, ◌↔◌, ℕ, ◌==◌, ◌+◌, ◌-◌, ◌≤◌, inl, inr, Bool, true, false, not, ◌&&◌, nat_lt, List, [], ◌∷◌, ◌++◌, length, map, drop, Option, None, Some, is_some, Result, Ok, Err, refl, sym, ap, subst, ◌∙◌, append_assoc, arith, IsTrue, eqb, is_none, nat_le, ok_or, option_map, if◌then◌else◌}
 use Rattle.std.proofs.lemmas.Simd.{map-map}
+use Rattle.std.specs.Prelude.{⊤}
 use Rattle.std.specs.List.{list_all}
 use Rattle.std.proofs.lemmas.Bool.{and_from, and_parts, eq-eqb, false_from_ne_true, le-leb, leb-true, lt-ltb, ltb-true, or_from, true≢false}
 use Rattle.std.proofs.lemmas.List.Folds.{list_any_at}
@@ -89,36 +90,19 @@ module _ (inst : InstanceView) (ds : List Decision) (version : TreeVersion) (lis
           ap (λ b. b && nat_le 2 (length (from_file list)) && is_ring inst ds (from_file list)) (are_tasks_of inst list all few)
           ∙ ap (λ b. true && b && is_ring inst ds (from_file list)) long ∙ sym is
 
-module _ (inst : InstanceView) (ds : List Decision) (version : TreeVersion) (list : List ℕ) where
-  -- a line of packed tasks behind the tests of its version and its numbers
-  clash_line : (may all : Bool) → has_packed (version_of version) ≡ may → list_all (is_number inst) list ≡ all
-      → (way : Direction) (r : Reading) → r.version ≡ version_of version
-      → at_node inst way ds r Clash list
-      ≡ (require may kind.Place >>= λ _. require all kind.UnknownTask >>= λ _. closed_by r kind.NotClash
-      (leaf_value r.version inst ds (packed (from_file list))))
-  clash_line may all has are way r same =
-      ap (λ b. require b kind.Place >>= λ _. require (list_all (is_number inst) list) kind.UnknownTask >>= λ _.
-      closed_by r kind.NotClash (leaf_value r.version inst ds (packed (from_file list)))) (ap has_packed same ∙ has)
-      ∙ ap (λ b. require may kind.Place >>= λ _. require b kind.UnknownTask >>= λ _.
-      closed_by r kind.NotClash (leaf_value r.version inst ds (packed (from_file list)))) are
-
-  -- the end of packed tasks, or none
-  pub clash_shows : has_packed (version_of version) ≡ true → list_all (is_number inst) list ≡ true
-      → (end : Option ℕ) → end ≡ packed_end inst ds (from_file list)
-      → Shows inst ds version Clash list (ok_or (option_map Least end) kind.NotClash)
-  clash_shows has all end is way r same =
-      clash_line true true has all way r same
-      ∙ shown_leaf inst ds version (packed (from_file list)) kind.NotClash _
-      (ap (λ b. ok_or (if b then option_map Least (packed_end inst ds (from_file list)) else None) kind.NotClash) has
-      ∙ ap (λ o. ok_or (option_map Least o) kind.NotClash) (sym is)) r same
-
-  -- no tree of the version has such a line
-  pub clash_misplaced : has_packed (version_of version) ≡ false → Shows inst ds version Clash list (Err kind.Place)
-  clash_misplaced has way r same = clash_line false (list_all (is_number inst) list) has refl way r same
-
-  pub clash_unknown : has_packed (version_of version) ≡ true → list_all (is_number inst) list ≡ false
-      → Shows inst ds version Clash list (Err kind.UnknownTask)
-  clash_unknown has all way r same = clash_line true false has all way r same
+-- the end of packed tasks, or none
+pub clash_shows : (inst : InstanceView) (ds : List Decision) (version : TreeVersion) (list : List ℕ)
+    → has_packed (version_of version) ≡ true → list_all (is_number inst) list ≡ true
+    → (end : Option ℕ) → end ≡ packed_end inst ds (from_file list)
+    → Shows inst ds version Clash list (ok_or (option_map Least end) kind.NotClash)
+clash_shows inst ds version list has all end is way r same =
+    let shown = λ (_ : ⊤). closed_by r kind.NotClash (leaf_value r.version inst ds (packed (from_file list))) in
+    ap (λ b. require b kind.Place >>= λ _. require (list_all (is_number inst) list) kind.UnknownTask >>= shown)
+    (ap has_packed same ∙ has)
+    ∙ ap (λ b. require b kind.UnknownTask >>= shown) all
+    ∙ shown_leaf inst ds version (packed (from_file list)) kind.NotClash _
+    (ap (λ b. ok_or (if b then option_map Least (packed_end inst ds (from_file list)) else None) kind.NotClash) has
+    ∙ ap (λ o. ok_or (option_map Least o) kind.NotClash) (sym is)) r same
 
 -- ---- numbers and tests
 
