@@ -2,9 +2,10 @@ mod Members
 mod Rows
 pub mod PackLemmas
 mod BandLemmas
-mod SpanLemmas
+pub mod SpanLemmas
 mod LoopLemmas
 mod FrameLemmas
 mod CountLemmas
 pub mod ClosedLemmas
 pub mod NodeLemmas
+pub mod DecidedCranes
