@@ -1,14 +1,23 @@
 -- Packed tasks: the least of their release times, and the leaf that they are.
-use Rattle.std.proofs.Common.{◌≡◌, ℕ, ◌+◌, ◌<◌, ◌≤◌, min, List, [], ◌∷◌, length, map, take, get_or, Option, None, Some, option_map, unwrap_or, refl, ap, sym, ◌∙◌, arith}
+use Rattle.std.proofs.Common.{◌≡◌, ℕ, ◌+◌, ◌<◌, ◌≤◌, min, List, [], ◌∷◌, ◌++◌, length, map, take, get_or, Option, None, Some, option_map, unwrap_or, refl, ap, sym, ◌∙◌, arith}
 use Rattle.std.specs.Option.{option_map_or}
 use Rattle.std.proofs.lemmas.List.{map-append, take_more}
 use Rattle.qc_num.specs.declared.bound.Bound.TheVariants.{Least}
-use Rattle.qc_dist.proofs.Ranges.{least_option, least_option-append}
+use Rattle.qc_dist.proofs.Ranges.{least_option}
 use Rattle.qc_model.specs.declared.decision.Decision.{Decision}
 use Rattle.qc_model.specs.Instance.{InstanceView}
 use Rattle.qc_model.specs.Nodes.{HasStarts, IsComplete, least}
 use Rattle.qc_bounds.specs.Closed.{IsClashLeaf}
 use Rattle.qc_bounds.specs.Packed.{IsPackedShown}
+
+least-append : (y : ℕ) (ys : List ℕ) (x : ℕ) → least ((y ∷ ys) ++ x ∷ []) ≡ min (least (y ∷ ys)) x
+least-append y [] x = refl
+least-append y (z ∷ zs) x = omega (arith, least-append z zs x)
+
+least_option-append : (xs : List ℕ) (x : ℕ)
+    → least_option (xs ++ x ∷ []) ≡ Some (option_map_or (λ n. min n x) (least_option xs) x)
+least_option-append [] x = refl
+least_option-append (y ∷ ys) x = ap Some (least-append y ys x)
 
 -- the least of some numbers, with one more
 pub least_more : (f : ℕ → ℕ) (tasks : List ℕ) (i : ℕ) (o : Option ℕ) (r : ℕ) → i < length tasks

@@ -27,7 +27,7 @@ least-append : (y : ℕ) (ys : List ℕ) (x : ℕ) → least ((y ∷ ys) ++ x �
 least-append y [] x = refl
 least-append y (z ∷ zs) x = omega (arith, least-append z zs x)
 
-pub least_option-append : (xs : List ℕ) (x : ℕ)
+least_option-append : (xs : List ℕ) (x : ℕ)
     → least_option (xs ++ x ∷ []) ≡ Some (option_map_or (λ n. min n x) (least_option xs) x)
 least_option-append [] x = refl
 least_option-append (y ∷ ys) x = ap Some (least-append y ys x)
