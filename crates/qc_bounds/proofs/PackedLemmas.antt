@@ -1,5 +1,5 @@
 -- Packed tasks: the least of their release times, and the leaf that they are.
-use Rattle.std.proofs.Common.{◌≡◌, ℕ, ◌+◌, ◌<◌, ◌≤◌, min, List, [], ◌∷◌, ◌++◌, length, map, take, get_or, Option, None, Some, option_map, unwrap_or, refl, ap, sym, ◌∙◌, arith}
+use Rattle.std.proofs.Common.{◌≡◌, ℕ, ◌+◌, ◌<◌, ◌≤◌, min, List, [], ◌∷◌, ◌++◌, length, map, take, get_or, Option, None, Some, option_map, refl, ap, sym, ◌∙◌, arith}
 use Rattle.std.specs.Option.{option_map_or}
 use Rattle.std.proofs.lemmas.List.{map-append, take_more}
 use Rattle.qc_num.specs.declared.bound.Bound.TheVariants.{Least}
@@ -31,10 +31,6 @@ least_more f tasks i o r low e is =
     ∙ sym (least_option-append (map f xs) (f x))
     ∙ ap least_option (sym (map-append f xs (x ∷ [])))
     ∙ ap (λ ys. least_option (map f ys)) (sym (take_more tasks i 0 low))
-
-pub least_of : (xs : List ℕ) (o : Option ℕ) → o ≡ least_option xs → unwrap_or o 0 ≡ least xs
-least_of [] o e = ap (λ (q : Option ℕ). unwrap_or q 0) e
-least_of (x ∷ xs) o e = ap (λ (q : Option ℕ). unwrap_or q 0) e
 
 -- packed tasks are the leaf of a node that has more to decide
 pub clash_leaf : (inst : InstanceView) (ds : List Decision) (tasks : List ℕ) (end : ℕ) → HasStarts inst ds

@@ -83,8 +83,7 @@ writable inst ds (kind.Clash end) tasks few h =
     (and_parts (nat_lt 0 (length tasks) && list_all (is_doable inst cranes) tasks && all_differ tasks)
     (all_clash inst cranes tasks) all).0).0 in (
       ltb-true 0 (length tasks) some.0,
-      omega (arith, packed_few inst cranes tasks all),
-      λ k d low. omega (arith, range k d low),
+      (omega (arith, packed_few inst cranes tasks all), λ k d low. omega (arith, range k d low)),
     )
 
 -- ---- tasks that were numbered anew in their place

@@ -5,6 +5,6 @@ use Rattle.qc_bounds.proofs.packed.latest_tasks.Given as goal
 abbrev pub invariant-loop : goal.invariant-loop
 invariant-loop l = record {
   room : l.path.capacity ≡ l.fn.path.capacity;
-  later : l.end ≤ l.next;
+  later : l.fn.end ≤ l.next;
   soon : l.next ≤ MOST_START + 1;
 }

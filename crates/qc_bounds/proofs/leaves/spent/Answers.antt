@@ -1,0 +1,9 @@
+use Rattle.std.proofs.Common.{inr, arith}
+use Rattle.qc_bounds.proofs.ClosedLemmas.{chain_spends}
+use Rattle.qc_bounds.proofs.leaves.spent.Goals as goal
+
+pub returns-then-bound-end-clause-leaf : goal.returns-then-bound-end-clause-leaf
+returns-then-bound-end-clause-leaf c =
+    chain_spends c.args.node.now.inst c.args.node.now.decisions c.why_path-then-bound-end.new.path.items c.ends-end.result
+    c.work_bound-bound.result c.why_path-then-bound-end.ensures.why c.ends-end.ensures.end c.work_bound-bound.ensures.bound
+    (inr (omega (arith, c.if-bound-end.true)))
