@@ -15,8 +15,8 @@ module _ (inst : InstanceView) where
   -- no decision gives a task a crane
   pub cranes_none : no_cranes inst ≡ cranes_of inst []
   cranes_none =
-      fill_by_all (assigned []) (no_cranes inst) (length inst.tasks) None (length-replicate (length inst.tasks) None)
-      (λ i low. get_or-replicate (length inst.tasks) i None None low)
+      fill_by_all (assigned []) (no_cranes inst) (length inst.tasks) None (length-replicate {A = Option ℕ} (length inst.tasks) None)
+      (λ i low. get_or-replicate {A = Option ℕ} (length inst.tasks) i None None low)
 
   -- the crane that decisions give a task
   pub crane_decided : (ds : List Decision) (j : ℕ) → j < length inst.tasks → crane_in (cranes_of inst ds) j ≡ assigned ds j

@@ -9,3 +9,4 @@ mod CountLemmas
 pub mod ClosedLemmas
 pub mod NodeLemmas
 pub mod DecidedCranes
+pub mod PackBounds
