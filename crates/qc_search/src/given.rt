@@ -169,14 +169,14 @@ fn tighten_given(
     ensures tightened { IsTightened (seen up.old.inst result.0) (seen_schedule up.old.inst given.now result.0)
         tight.new result.1 }
 {
-    let Ok(way) = direction_of(up.starts().instance(), given) else {
+    let Ok(way) = direction_of(up.instance(), given) else {
         unreachable!()
     };
-    copy_slots(given, up.starts().instance().task_count(), tight);
+    copy_slots(given, up.instance().task_count(), tight);
     let end = match way {
         Direction::Up => up.tighten(tight),
         Direction::Down => {
-            tight.flip(up.starts().instance().crane_count());
+            tight.flip(up.instance().crane_count());
             down.tighten(tight)
         }
     };

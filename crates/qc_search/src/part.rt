@@ -69,9 +69,9 @@ fn advance<K: Sink>(
                 return Ok(true);
             }
             put_reach(&progress.path, sink)?;
-            next = next_child(node.starts().instance(), decision);
+            next = next_child(node.instance(), decision);
         } else if let Some(newest) = node.go_back() {
-            next = next_child(node.starts().instance(), newest);
+            next = next_child(node.instance(), newest);
         } else {
             return Ok(false);
         }

@@ -42,10 +42,17 @@ impl Node {
         ensures inst { IfOk result (λ node. node.inst ≡ inst.now) }
         ensures decisions { IfOk result (λ node. node.decisions ≡ []) }
     {
-        Ok(Node {
-            starts: Starts::open(alloc, inst)?,
-            crew: Crew::open(alloc, inst, Turn::OneWay)?,
-        })
+        let starts = Starts::open(alloc, inst)?;
+        let crew = Crew::open(alloc, starts.instance(), Turn::OneWay)?;
+        Ok(Node { starts, crew })
+    }
+
+    /// The instance.
+    pub(crate) fn instance(&self) -> &Instance
+        ensures same { result.now ≡ self.now.inst }
+        ensures valid { Valid self.now.inst }
+    {
+        self.starts.instance()
     }
 
     /// The earliest starts.

@@ -119,7 +119,7 @@ impl Search {
             path,
             limit,
         } = self;
-        let cranes = up.starts().instance().crane_count();
+        let cranes = up.instance().crane_count();
         let mut progress = begin(given, &mut up, &mut down, incumbent, path, limit);
         let first = progress.incumbent_end;
         write_tree(&mut up, &mut down, &mut progress, sink)?;
