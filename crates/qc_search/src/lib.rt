@@ -14,10 +14,10 @@ mod moves;
 mod node;
 mod outcome;
 mod part;
+mod place;
 mod progress;
 mod search;
 mod tree;
-mod window;
 
 pub use done::{Done, Kind};
 pub use search::Search;
