@@ -1,5 +1,5 @@
 -- The node at which a search stands: its decisions fit, and its crew is theirs.
-use Rattle.std.proofs.Common.{◌≡◌, ℕ, ◌-◌, ◌<◌, List, [], ◌∷◌, drop, length, Option, None, Some, IsSome, is_some, set, refl, ap, sym, subst, subst₂, ◌∙◌, arith}
+use Rattle.std.proofs.Common.{◌≡◌, ℕ, ◌-◌, ◌<◌, List, [], ◌∷◌, drop, length, Option, None, Some, IsSome, is_some, set, ap, sym, subst, subst₂, ◌∙◌, arith}
 use Rattle.qc_close.specs.Crews.{CrewView, IsCrewOf}
 use Rattle.qc_close.proofs.DecidedCranes.{crane_decided, cranes_none, cranes_put, cranes_taken}
 use Rattle.qc_dist.proofs.Assigned.{assigned_here}

@@ -176,7 +176,7 @@ pub record IsTaken
     incumbent_end = Least (last_end inst.tasks begins);
     way = way;
     incumbent = schedule_with inst ds begins;
-    }
+  }
 
 -- the number of a bound; none of Never
 abbrev pub bound_end : Bound → Option ℕ

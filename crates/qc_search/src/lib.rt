@@ -18,6 +18,7 @@ mod place;
 mod progress;
 mod search;
 mod tree;
+mod window;
 
 pub use done::{Done, Kind};
 pub use search::Search;
