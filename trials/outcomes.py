@@ -239,8 +239,6 @@ def read_instance(ship, stow):
 def given_of(outcome, inst, words, files):
     """The end with which the search began, by the outcome's report, and the outcome's plan."""
     report, plan = outcome.part("report", "report-front"), outcome.part(f"left {words.names[2]}")
-    if report is None or not report[1]:
-        raise Trouble("its report may be any")
     lines = outcome.text(report).decode().splitlines()
     given = next((line.split()[1] for line in lines if line.startswith("given ")), "none")
     given = NEVER if given == "none" else int(given)
@@ -288,6 +286,18 @@ def worked_out(side, outcome, inst, words, files):
     return answer, new
 
 
+def holds_anyhow(side, outcome, inst, words):
+    """Whether an outcome whose report may be any comes with a plan that is best and with none to begin with: its status
+    and, where one is told, the end of its plan."""
+    least = Answer(side, inst, NEVER, USUAL)
+    answers = [Answer(side, inst, given, words.nodes) for given in (least.best, NEVER)]
+    plan = outcome.part(f"left {words.names[2]}")
+    ends = {answer.best for answer in answers}
+    if plan:
+        ends.add(end_of(inst, read_plan(inst, outcome.text(plan))[0]))
+    return least.kind == "Optimal" and len(ends) == 1 and {answer.status for answer in answers} == {outcome.status}
+
+
 def renew(outcome, status, new):
     """Puts what was worked out into the outcome."""
     outcome.parts[0][0] = f"status {status}"
@@ -320,6 +330,10 @@ def renew_plan(side, case):
     for outcome in searched:
         try:
             inst, files = fitting(outcome, runs, words)
+            if outcome.part("report-any"):
+                if not holds_anyhow(side, outcome, inst, words):
+                    notes.append(f"status {outcome.status}, whose report may be any, hangs on the plan that is given")
+                continue
             answer, new = worked_out(side, outcome, inst, words, files)
             renew(outcome, answer.status, new)
             answers[id(outcome)] = new
