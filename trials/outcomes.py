@@ -5,14 +5,15 @@
     trials/outcomes.py SIDE --plan SHIP STOW NODES [END|OWN]
 
 SIDE is `bench/side.cpp`, built. Each outcome of a case in crates/qc_rows/data/plan and data/make that says what a search
-answered is worked out anew from the files of the case: status, report, TREE and PLAN. The search is that of packed.py;
-with a large ship, whose nodes would take too long there, it is SIDE, and else both must find the same. What neither knows
-is the plan that is found before the search: its end is the outcome's line `given`, its text the outcome's PLAN, and both
-are judged by the files (a plan that holds, goes one way, can't be made tighter, ends then, and with `--from` is the
-planner's own where that ends no later). Where the search meets a better plan, that is the PLAN. Outcomes that say the same
-are one. A tree stands whole where it has one text alone by the search's rules: at each leaf one chain, or one list, which
-is told by rising task numbers; else any will do, and the case keeps what it had. `--write` puts the values into the case
-files; comments stay, so they must be read again. Whatever can't be worked out is printed, and is as it was.
+answered is worked out anew from the files of the case: status, report, TREE and PLAN. The search is that of packed.py, and
+SIDE must find the same, and compare.py let a search write its tree; the nodes of a large ship would take too long there, so
+that one is left to SIDE. What none of them knows is the plan that is found before the search: its end is the outcome's line
+`given`, its text the outcome's PLAN, and both are judged by the files (a plan that holds, goes one way, can't be made
+tighter, ends then, and with `--from` is the planner's own where that ends no later). Where the search meets a better plan,
+that is the PLAN. Outcomes that say the same are one. A tree stands whole where it has one text alone by the search's rules:
+at each leaf one chain, or one list, which is told by rising task numbers; else the case keeps what it had. `--write` puts
+the values into the case files; comments stay, so they must be read again. Whatever can't be worked out is printed, and is
+left as it was. For a new case write its outcome with the lines `given` and PLAN alone, or of `make` with the line `end`.
 
 `--plan` prints report and tree of any two files, with a plan that ends at END or is in the file OWN, or with none.
 Status 1 where anything differs or can't be worked out.
@@ -29,11 +30,12 @@ ROOT = Path(__file__).resolve().parent.parent
 DATA = ROOT / "crates/qc_rows/data"
 sys.path.append(str(ROOT / "fuzz"))
 
-from compare import is_tight, tight_form
+from compare import SearchJudge, is_tight, text_of, tight_form
 from faults import list_fault, ship_or_fault
 from fuzz import case_input, content
 from packed import Search, bare, lists_of
-from reference import NEVER, bound_text, crane_lines, direction_of, dump, end_of, instance_of, plan_text, read_plan
+from reference import (NEVER, TreeReader, bound_text, crane_lines, direction_of, dump, end_of, instance_of, plan_text,
+                       read_plan)
 
 LARGE = 30     # tasks of a ship whose search is left to SIDE
 USUAL = 20_000
@@ -104,7 +106,11 @@ class Answer:
         self.met, self.is_sole, self.differs = None, False, False
         if len(inst.tasks) <= LARGE:
             search = Teller(inst, given, nodes)
-            self.differs = bare(search.lines) != bare(self.tree) or search.best != self.best
+            judge = SearchJudge(inst, nodes, None if given == NEVER else given)
+            reader = TreeReader(inst, text_of(search.lines), judge.visit).read()
+            told = reader.version, reader.value, reader.branched, judge.met, judge.complaints
+            self.differs = bare(search.lines) != bare(self.tree) or told != (
+                3, self.value, self.branched, self.best, []) or search.best != self.best
             self.tree, self.met, self.is_sole = search.lines, search.met, search.is_sole
 
     @property
