@@ -4,21 +4,23 @@
     trials/outcomes.py SIDE [--write]
     trials/outcomes.py SIDE --plan SHIP STOW NODES [END|OWN]
 
-SIDE is `bench/side.cpp`, built. Each outcome of a case in crates/qc_rows/data/plan and data/make that says what a search
-answered is worked out anew from the files of the case: status, report, TREE and PLAN. The search is that of packed.py, and
-SIDE must find the same, and compare.py let a search write its tree; the nodes of a large ship would take too long there, so
-that one is left to SIDE. What none of them knows is the plan that is found before the search: its end is the outcome's line
-`given`, its text the outcome's PLAN, and both are judged by the files (a plan that holds, goes one way, can't be made
-tighter, ends then, and with `--from` is the planner's own where that ends no later). Where the search meets a better plan,
-that is the PLAN. Outcomes that say the same are one. A tree stands whole where it has one text alone by the search's rules:
-at each leaf one chain, or one list, which is told by rising task numbers; else the case keeps what it had. `--write` puts
-the values into the case files; comments stay, so they must be read again. Whatever can't be worked out is printed, and is
-left as it was. For a new case write its outcome with the lines `given` and PLAN alone, or of `make` with the line `end`.
+SIDE is `bench/side.cpp`, built. Each outcome of a case in crates/qc_rows/data/plan and data/make that says what a
+search answered is worked out anew from the files of the case: status, report, TREE and PLAN. The search is that of
+packed.py; SIDE must find the same, and compare.py must let a search write its tree. The nodes of a large ship would
+take too long there, so that one is left to SIDE. What none of them knows is the plan that is found before the search:
+its end is the outcome's line `given`, its text the outcome's PLAN, and both are judged by the files (a plan that holds,
+goes one way, can't be made tighter, ends then, and with `--from` is the planner's own where that ends no later). Where
+the search meets a better plan, that is the PLAN. Outcomes that say the same are one. A tree stands whole where it has
+one text alone by the search's rules: at each leaf one chain, or one list, which is told by rising task numbers; else
+the case keeps what it had. `--write` puts the values into the case files; comments stay, so they must be read again.
+Whatever can't be worked out is printed, and is left as it was. For a new case write its outcome with the line `given`
+and with PLAN, or of `make` with the line `end`.
 
 `--plan` prints report and tree of any two files, with a plan that ends at END or is in the file OWN, or with none.
 Status 1 where anything differs or can't be worked out.
 """
 import argparse
+import difflib
 import subprocess
 import sys
 import tempfile
@@ -40,6 +42,7 @@ from reference import (NEVER, TreeReader, bound_text, crane_lines, direction_of,
 LARGE = 30     # tasks of a ship whose search is left to SIDE
 USUAL = 20_000
 MADE = 500
+SEARCHED = (0, 10, 11, 12)  # statuses of what a search answered
 
 
 # ---------------------------------------------------------------- what a search answers
@@ -268,7 +271,7 @@ def given_of(outcome, inst, words, files):
 
 
 def worked_out(side, outcome, inst, words, files):
-    """The parts that the outcome must have, by their old headings, as (heading, lines)."""
+    """What the search answers, and the lines of the parts that the outcome must have, by their headings."""
     given, slots = given_of(outcome, inst, words, files)
     answer = Answer(side, inst, given, words.nodes)
     if answer.differs:
@@ -327,41 +330,45 @@ def cuts_of(case, words):
 
 def renew_plan(side, case):
     """Works out the outcomes of a case of `plan`; the notes on what could not be, or isn't the only tree."""
-    words, notes, answers = Words(case.words), [], {}
-    searched = [outcome for outcome in case.outcomes if outcome.status in (0, 10, 11, 12)]
+    words, notes, last = Words(case.words), [], None
     if case.cut:
         runs = list(cuts_of(case, words))
     else:
         runs = [(read_instance(case.files[words.names[0]], case.files[words.names[1]]), case.files)]
-    for outcome in searched:
-        try:
-            inst, files = fitting(outcome, runs, words)
-            if outcome.part("report-any"):
-                if not holds_anyhow(side, outcome, inst, words):
-                    notes.append(f"status {outcome.status}, whose report may be any, hangs on the plan that is given")
-                continue
-            answer, new = worked_out(side, outcome, inst, words, files)
-            renew(outcome, answer.status, new)
-            answers[id(outcome)] = new
-            if outcome.part(f"left {words.names[3]}") and not answer.is_sole:
-                notes.append("the tree isn't the only one")
-            if outcome.part(f"left-any {words.names[3]}"):
-                notes.append("any tree")
-        except Trouble as trouble:
-            notes.append(f"status {outcome.status}: {trouble}")
-    if answers and not case.cut:
-        for outcome in case.outcomes:
-            if outcome.status == 4:
-                told = {heading: lines for heading, lines in answers[id(searched[-1])].items() if heading != "report"}
-                renew(outcome, 4, told)
-    if {"fail"} & case.others or case.cut:
-        return notes
-    kept = []
     for outcome in case.outcomes:
-        if all(outcome.key() != other.key() for other in kept):
-            kept.append(outcome)
-    case.outcomes = kept
+        if outcome.status not in SEARCHED:
+            continue
+        try:
+            last = renew_outcome(side, outcome, words, runs, notes)
+        except Trouble as trouble:
+            last = None
+            notes.append(f"status {outcome.status}: {trouble}")
+    for outcome in case.outcomes:
+        if outcome.status == 4 and last and not case.cut:  # a run that fails on the way to the last outcome
+            renew(outcome, 4, {heading: lines for heading, lines in last.items() if heading != "report"})
+    if "fail" not in case.others and not case.cut:
+        keys = [outcome.key() for outcome in case.outcomes]
+        case.outcomes = [outcome for at, outcome in enumerate(case.outcomes) if keys.index(outcome.key()) == at]
     return notes
+
+
+def renew_outcome(side, outcome, words, runs, notes):
+    """Works out one outcome: the parts that it must have, or None where its report may be any."""
+    inst, files = fitting(outcome, runs, words)
+    if outcome.part("report-any"):
+        if not holds_anyhow(side, outcome, inst, words):
+            raise Trouble("its report may be any, and it hangs on the plan that is given")
+        return None
+    answer, new = worked_out(side, outcome, inst, words, files)
+    if outcome.part(f"absent {words.names[2]}") and new[f"left {words.names[2]}"] is not None:
+        raise Trouble("a plan is there now")
+    renew(outcome, answer.status, new)
+    tree = words.names[3]
+    if outcome.part(f"left {tree}") and not answer.is_sole:
+        notes.append("the tree isn't the only one")
+    if outcome.part(f"left-any {tree}"):
+        notes.append("any tree")
+    return new
 
 
 def fitting(outcome, runs, words):
@@ -404,7 +411,7 @@ def try_case(side, path, writes):
     if case.text() != old:
         return 0, ["it isn't read whole"]
     if case.words[:1] == ["plan"]:
-        if all(outcome.status not in (0, 10, 11, 12) for outcome in case.outcomes):
+        if all(outcome.status not in SEARCHED for outcome in case.outcomes):
             return 0, []
         notes = renew_plan(side, case)
     elif case.words[:1] == ["make"]:
@@ -419,7 +426,6 @@ def try_case(side, path, writes):
 
 def difference(old, new):
     """How many lines are in one of both texts alone."""
-    import difflib
     return sum(line[0] in "+-" for line in difflib.ndiff(old.splitlines(), new.splitlines()))
 
 
