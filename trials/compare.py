@@ -8,7 +8,8 @@ Each seed makes one ship and its list. `plan` runs with several numbers of branc
 changed, and on trees that were made here. Every report and every file is compared with what reference.py works out
 from the definitions. Of each difference the files and the two answers are kept in a folder under KEPT. Prints counts
 and the first differences; status 1 where there is any. With `--wide` the ships have 8 to 18 tasks, so that the trees
-are large, and the least end isn't known.
+are large, and the least end isn't known. The program may be one that writes trees of version 2 and knows no later one,
+or one that writes version 3; which of both is seen at its first tree, and every other must be of that version.
 """
 import argparse
 import itertools
@@ -207,7 +208,7 @@ def serial_plan(inst, rng, early):
     return [slots[j] for j in range(len(inst.tasks))]
 
 
-def changed_trees(inst, text, rng):
+def changed_trees(inst, text, rng, newest):
     """Bytes of trees: the given one with a change, with or without its last line mended, and random ones."""
     texts = []
     for _ in range(2):
@@ -228,32 +229,86 @@ def changed_trees(inst, text, rng):
         elif way == "swap":
             other = rng.randrange(len(lines))
             lines[at], lines[other] = lines[other], lines[at]
-        elif way == "leaf" and words[0] in "PCXW":
-            lines[at] = rng.choice(("P", "X", "W 1", "P 1", "P 1 2", "C 1 2", "C 1", "W 0", "up", "P 01", "W 50"))
+        elif way == "leaf" and words[0] in "PCQXW":
+            lines[at] = rng.choice(("P", "X", "W 1", "P 1", "P 1 2", "C 1 2", "C 1", "W 0", "up", "P 01", "W 50", "Q 1",
+                                    "Q 1 2", "Q 2 1"))
         elif way == "title":
-            lines[0] = "QCTREE 1" if rng.random() < 0.8 else "QCTREE 3"
+            lines[0] = rng.choice(TITLES)
         elif way == "space":
             lines[at] += " "
         elif way == "long":
-            lines[at] = "P" + " 1" * rng.choice((240, 241, 599, 600))
-        new = "".join(line + "\n" for line in lines).encode()
+            lines[at] = rng.choice("PQ") + " 1" * rng.choice((240, 241, 599, 600))
+        new = text_of(lines)
         if way == "cut":
             new = new[:rng.randrange(len(new))]
         elif way == "more":
             new += rng.choice((b"\n", b"x", b"end 0 0\n"))
-        texts.append(mended(inst, new) if rng.random() < 0.5 else new)
-    for version in (1, 2):
+        texts.append(mended(inst, new, newest) if rng.random() < 0.5 else new)
+    for version in (1, 2, 3):
         lines = [f"QCTREE {version}", "up"]
-        random_part(Node(inst), lines, rng)
+        random_part(Node(inst, version=version), lines, rng)
         lines.append("down")
-        random_part(Node(inst.mirror), lines, rng)
-        texts.append(mended(inst, ("\n".join(lines) + "\nend 0 0\n").encode()))
+        random_part(Node(inst.mirror, version=version), lines, rng)
+        texts.append(mended(inst, text_of(lines + ["end 0 0"]), newest))
+    for lines in (text.decode().splitlines(), texts[-1].decode().splitlines()):
+        texts += trees_of_changed_lists(inst, lines, rng, newest)
+    for some in nearly_packed(Node(inst), rng):
+        line = "Q" + "".join(f" {j + 1}" for j in some)
+        texts.append(text_of(["QCTREE 3", "up", line, "down", line, "end 0 0"]))
     return texts
 
 
-def mended(inst, data):
+TITLES = ("QCTREE 1", "QCTREE 1", "QCTREE 2", "QCTREE 2", "QCTREE 3", "QCTREE 3", "QCTREE 4")
+
+
+def text_of(lines):
+    return "".join(line + "\n" for line in lines).encode()
+
+
+def trees_of_changed_lists(inst, lines, rng, newest):
+    """The tree with a `Q` line changed, moved or put where none is wanted, or with a title under which none may stand;
+    where the tree has no such line, one is made of another leaf first."""
+    leaves = [at for at, line in enumerate(lines) if line.split()[0] in "PCQXW"]
+    at = rng.choice([at for at in leaves if lines[at][0] == "Q"] or leaves)
+    numbers = re.findall("[0-9]+", lines[at]) if lines[at][0] in "PCQ" else []
+    numbers = numbers or [str(rng.randint(1, len(inst.tasks) or 1))]
+    lines[at] = " ".join(["Q", *numbers])
+    way = rng.choice(("more", "more", "fewer", "twice", "turned", "none", "other", "unknown", "spelling", "title",
+                      "title", "place", "place", "leaf"))
+    new, other = list(numbers), str(rng.randint(1, len(inst.tasks) or 1))
+    tied = [str(j + 1) for pair in inst.before + inst.apart for i, j in (pair, pair[::-1]) if str(i + 1) in numbers]
+    if tied and rng.random() < 0.5:
+        other = rng.choice(tied)
+    if way == "more":
+        new.insert(rng.randint(0, len(new)), other)
+    elif way == "fewer":
+        del new[rng.randrange(len(new))]
+    elif way == "twice":
+        new.append(rng.choice(new))
+    elif way == "turned":
+        new.reverse()
+    elif way == "none":
+        new.clear()
+    elif way == "other":
+        new[rng.randrange(len(new))] = other
+    elif way == "unknown":
+        new.insert(rng.randint(0, len(new)), rng.choice(("0", str(len(inst.tasks) + 1), "9999")))
+    elif way == "spelling":
+        new[-1] = rng.choice(("0" + new[-1], new[-1] + " ", "", "12345", "-1", "1,2"))
+    lines = lines[:at] + [" ".join(["Q", *new])] + lines[at + 1:]
+    if way == "title":
+        lines[0] = rng.choice(TITLES)
+    elif way == "place":
+        down, last = lines.index("down"), len(lines)
+        lines.insert(rng.choice((0, 1, 2, at, down, down + 1, last - 1, last)), lines[at])
+    elif way == "leaf":
+        lines[at] = rng.choice("PC") + lines[at][1:]
+    return [text_of(lines), mended(inst, text_of(lines), newest)]
+
+
+def mended(inst, data, newest):
     """The tree with the last line that it must have, where that alone is wrong."""
-    reader = TreeReader(inst, data)
+    reader = TreeReader(inst, data, newest=newest)
     try:
         reader.read()
     except TreeFault as fault:
@@ -289,6 +344,8 @@ def random_part(node, lines, rng):
         lines.append("X")
     elif ring and rng.random() < 0.9:
         lines.append("C" + "".join(f" {j + 1}" for j in ring))
+    elif node.version == 3 and count and rng.random() < 0.5:
+        lines.append("Q" + "".join(f" {j + 1}" for j in random_packed(node, rng)))
     elif node.work_bound and rng.random() < 0.5:
         less = -1 if rng.random() < 0.03 else rng.choice((0, 0, 0, 1, 5))
         lines.append(f"W {max(1, node.work_bound - less)}")
@@ -311,6 +368,30 @@ def random_chain(node, rng):
     return chain
 
 
+def random_packed(node, rng):
+    """Tasks of which no two can run together, in any order; seldom with one more, which may clash with none, be tied to
+    one of them in other ways, or be in no crane's reach."""
+    inst, some = node.inst, []
+    for j in rng.sample(range(len(inst.tasks)), len(inst.tasks)):
+        if node.is_packed(some + [j]) and (not some or rng.random() < 0.8):
+            some.append(j)
+    if not some or rng.random() < 0.04:
+        tied = [j for pair in inst.before + inst.apart for i, j in (pair, pair[::-1]) if i in some and j not in some]
+        lost = [j for j in range(len(inst.tasks)) if not node.may(j)]
+        some.insert(rng.randint(0, len(some)), rng.choice(tied or lost or range(len(inst.tasks))))
+    return some
+
+
+def nearly_packed(node, rng):
+    """Two tasks that are tied otherwise and can run together, and three of which only the outer two can."""
+    inst = node.inst
+    loose = [pair for pair in itertools.combinations(range(len(inst.tasks)), 2) if not node.clash(*pair)]
+    tied = [pair for pair in loose if {pair, pair[::-1]} & {*inst.before, *inst.apart}]
+    between = [(i, j, k) for i, k in loose for j in range(len(inst.tasks))
+               if j not in (i, k) and node.clash(i, j) and node.clash(j, k)]
+    return [rng.choice(some) for some in (tied, between) if some]
+
+
 def random_ring(node, rng):
     """A ring of forced steps, or None where a few walks find none."""
     for _ in range(20):
@@ -329,7 +410,7 @@ class SearchJudge:
 
     def __init__(self, inst, nodes, given):
         self.inst, self.nodes, self.is_given = inst, nodes, given is not None
-        self.branched, self.leaves = 0, 0
+        self.branched, self.leaves = 0, Counter()
         self.met, self.best = given if self.is_given else NEVER, []
         self.complaints = []
 
@@ -342,7 +423,7 @@ class SearchJudge:
             self.expect(not closable, node, "branched on, and it can be closed")
             self.branched += 1
             return
-        self.leaves += 1
+        self.leaves[kind] += 1
         if node.is_out_of_reach():
             self.expect(kind == "X", node, f"out of reach, closed by {kind}")
         elif not solvable:
@@ -351,11 +432,13 @@ class SearchJudge:
             self.expect(kind == "P" and value == node.end, node, f"complete, closed by {kind} of {value}")
             self.meet(node)
         elif closable:
-            self.expect(kind in "PW" and value >= self.met, node, f"closed by {kind} of {value}")
-        else:
+            self.expect(kind in ("PWQ" if node.version == 3 else "PW") and value >= self.met, node,
+                        f"closed by {kind} of {value}")
+        elif kind != "Q" or value < self.met:
             best = ("P", node.end) if node.end >= node.work_bound else ("W", node.work_bound)
+            holds = (kind, value) == best if node.version < 3 else kind in "PWQ" and value >= best[1]
             self.expect(self.branched == self.nodes, node, "given up while branchings are left")
-            self.expect((kind, value) == best, node, f"given up with {kind} of {value}, not {best}")
+            self.expect(holds, node, f"given up with {kind} of {value}, not {best}")
 
     def meet(self, node):
         plan = list(zip(node.crane, node.starts))
@@ -438,8 +521,9 @@ def first_unsafe(motion, parts):
 class Case:
     """One ship and list in a folder of their own, and what differs."""
 
-    def __init__(self, program, seed, kept, counts, wide):
-        self.program, self.seed, self.kept, self.counts, self.wide = program, seed, kept, counts, wide
+    def __init__(self, program, newest, seed, kept, counts, wide):
+        self.program, self.newest, self.seed = program, newest, seed
+        self.kept, self.counts, self.wide = kept, counts, wide
         self.rng = random.Random(seed)
         self.differences = []
         self.folder = Path(tempfile.mkdtemp(prefix="compare-"))
@@ -495,7 +579,7 @@ class Case:
                 self.show()
         if plan:
             self.write("plan.csv", plan)
-        for data in changed_trees(self.inst, tree, self.rng) if self.rng.random() < 0.5 else ():
+        for data in changed_trees(self.inst, tree, self.rng, self.newest) if self.rng.random() < 0.5 else ():
             self.write("tree.txt", data)
             self.check("plan.csv" if plan and self.rng.random() < 0.5 else "-")
         shutil.rmtree(self.folder)
@@ -503,6 +587,8 @@ class Case:
 
     def plan_from(self, nodes, least):
         """One run of `plan` that begins with the plan that is there, slowed down, or with one that breaks a rule."""
+        if self.differences:
+            return  # what is there may be no plan
         own = slowed(read_plan(self.inst, self.read("plan.csv"))[0], self.rng)
         self.write("own.csv", plan_text(self.inst, own).encode())
         self.plan(nodes, least, own)
@@ -532,13 +618,15 @@ class Case:
             self.counts[f"given {'the least end' if given == least else 'a later end'}"] += 1
             self.expect(f"{name}: given a plan", least <= given, True)
         try:
-            reader = TreeReader(self.inst, self.read("tree.txt"), judge.visit).read()
+            reader = TreeReader(self.inst, self.read("tree.txt"), judge.visit, self.newest).read()
         except TreeFault as fault:
             self.expect(f"{name}: tree", seen, ("BadTree", fault.kind, fault.line))
             return
-        self.counts["nodes judged"] += judge.branched + judge.leaves
+        self.counts["nodes judged"] += judge.branched + judge.leaves.total()
+        for kind, count in judge.leaves.items():
+            self.counts[f"nodes judged that are leaves {kind}"] += count
         self.expect(f"{name}: nodes", judge.complaints, [])
-        self.expect(f"{name}: version", reader.version, 2)
+        self.expect(f"{name}: version", reader.version, self.newest)
         word, status = judge.status(reader.value)
         lines = [word]
         if word != "Infeasible":
@@ -582,7 +670,7 @@ class Case:
     def check(self, plan):
         """`check` with the plan, or with `-`, on the files as they stand."""
         data = self.read(plan) if plan != "-" else None
-        due = check_report(self.inst, data, self.read("tree.txt"))
+        due = check_report(self.inst, data, self.read("tree.txt"), self.newest)
         self.expect(f"check {plan}", self.run("check", "ship", "stow", plan, "tree.txt"), due)
 
     def show(self):
@@ -590,6 +678,16 @@ class Case:
         self.expect("show", self.run("show", "ship", "stow", "plan.csv"), due)
         due = sheet_report(self.ship, self.read("stow"), self.inst, self.read("plan.csv"))
         self.expect("sheet", self.run("sheet", "ship", "stow", "plan.csv"), due)
+
+
+def newest_version(program):
+    """The version of the trees that the program writes."""
+    with tempfile.TemporaryDirectory(prefix="compare-") as folder:
+        Path(folder, "ship").write_text("hatches = [2]\nmargin = 1\ntravel = 1\ndeck_move = 1\nhold_move = 1\n"
+                                        '[[crane]]\nname = "C"\nbay = 1\n')
+        Path(folder, "stow").write_text("id,move,cell,length\n")
+        subprocess.run([program, "plan", "ship", "stow", "plan", "tree"], cwd=folder, capture_output=True, check=True)
+        return int(Path(folder, "tree").read_text().split()[1])
 
 
 def main():
@@ -602,12 +700,15 @@ def main():
     parser.add_argument("--wide", action="store_true")
     words = parser.parse_args()
     words.kept.mkdir(parents=True, exist_ok=True)
+    program = words.program.resolve()
+    newest = newest_version(program)
+    print(f"the program writes trees of version {newest}", flush=True)
     counts, differing, last = Counter(), [], time.monotonic() + 60 * words.minutes
     for seed in range(words.first, words.first + words.count):
         if time.monotonic() > last:
             break
         counts["ships"] += 1
-        found = Case(words.program.resolve(), seed, words.kept, counts, words.wide).compare()
+        found = Case(program, newest, seed, words.kept, counts, words.wide).compare()
         if found:
             differing.append((seed, found))
             print(f"seed {seed}: {found[:3]}", flush=True)

@@ -52,7 +52,7 @@ WORKED = {
         check/carriage-return check/down-too-early check/in-reach check/not-apart check/decided check/not-ring
         check/work-0 check/line-too-long check/end-branchings check/task-leading-zero check/not-forced check/work-short
         check/unknown-task check/end-value check/empty-line-after-end check/berths check/berths-first-version
-        check/plan-berths check/plan-berths-first-version check/plan-berths-bad-tree check/no-tasks""",
+        check/plan-berths check/plan-berths-first-version check/plan-berths-bad-tree check/no-tasks check/packed""",
 }
 
 

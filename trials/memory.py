@@ -1,7 +1,7 @@
 #!/usr/bin/env python3
 """Refuses memory to the built program: one allocation after the other, and all from one on.
 
-    trials/memory.py PROGRAM [--nodes N]
+    trials/memory.py PROGRAM [--nodes N] [--voice]
 
 For each command below it first counts the allocations of a run, then runs it twice for each number n: once with the
 nth refused, once with the nth and all after it. Each run must come to one of
@@ -10,6 +10,9 @@ nth refused, once with the nth and all after it. Each run must come to one of
 - the same status, report and files as without a refusal;
 - a fault of the file that was being opened or begun: `ReadFault f` with every file as before, or `WriteFault` with
   the tree's file as before or whole, the plan's file as before, and no further file.
+
+The program is run with `-q`, and nothing may stand on standard error. With --voice it is run without, and lines may
+stand there that begin with `qc: `.
 
 Printed is how often each came, how many allocations were made before the first file was begun, and how many after
 that. Only Python's standard library and gcc are needed. It ends with 1 where a run came to anything else.
@@ -77,8 +80,9 @@ def inputs(program, nodes):
 
 
 class Runs:
-    def __init__(self, program, library, folder):
+    def __init__(self, program, library, folder, voice):
         self.program, self.library, self.folder = program, library, folder
+        self.first = [] if voice else ["-q"]
         self.log = os.path.join(folder, "log")
         self.room = os.path.join(folder, "room")
         os.mkdir(self.room)
@@ -91,7 +95,7 @@ class Runs:
             with open(f"{self.room}/{name}", "wb") as file:
                 file.write(data)
         settings = {"LD_PRELOAD": self.library, **{name: str(value) for name, value in refused.items()}}
-        ran = subprocess.run([self.program, "-q"] + words, cwd=self.room, env=settings, capture_output=True, timeout=100)
+        ran = subprocess.run([self.program] + self.first + words, cwd=self.room, env=settings, capture_output=True, timeout=100)
         left = {}
         for name in os.listdir(self.room):
             with open(f"{self.room}/{name}", "rb") as file:
@@ -104,9 +108,9 @@ class Runs:
             return whole, [int(number) for number in file.read().split()]
 
 
-def verdict(ran, whole, files):
+def verdict(ran, whole, files, voice):
     status, report, left, errors = ran
-    if errors:
+    if not all(voice and line.startswith(b"qc: ") for line in errors.splitlines()):
         return f"standard error {errors!r}"
     if (status, report, left) == whole[:3]:
         return "answered as without a refusal"
@@ -126,18 +130,19 @@ def main():
     parser = argparse.ArgumentParser()
     parser.add_argument("program")
     parser.add_argument("--nodes", default="30")
+    parser.add_argument("--voice", action="store_true")
     args = parser.parse_args()
     program, wrong, total = os.path.abspath(args.program), 0, collections.Counter()
     with tempfile.TemporaryDirectory() as folder:
         library = os.path.join(folder, "refuse.so")
         subprocess.run(["gcc", "-O1", "-shared", "-fPIC", "-o", library, f"{HERE}/refuse.c", "-ldl"], check=True)
-        runs = Runs(program, library, folder)
+        runs = Runs(program, library, folder, args.voice)
         for name, words, files in inputs(program, args.nodes):
             whole, (calls, before_first, before_last) = runs.count(words, files)
             seen = collections.Counter()
             for number in range(1, calls + 1):
                 for how in ("REFUSE_AT", "REFUSE_FROM"):
-                    what = verdict(runs.run(words, files, **{how: number}), whole, files)
+                    what = verdict(runs.run(words, files, **{how: number}), whole, files, args.voice)
                     seen[what] += 1
                     wrong += what.startswith("WRONG") or what.startswith("standard error")
             made = f", {before_first} before the first file was begun, {before_last - before_first} from then to the last, " \

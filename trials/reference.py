@@ -8,10 +8,12 @@
     reference.py watch SHIP LOG
     reference.py dispatch SHIP STOW PLAN LOG
     reference.py least SHIP STOW
+    reference.py --dump SHIP STOW
 
-All but the last print what `qc` must print; `least` tries every choice of cranes and orders and prints the least end
-of all schedules that go one way, or `none`. Nothing here is taken from the program or from its specifications:
-it is a second opinion, meant to be short and slow. Ship files and lists must be good ones.
+All but the last two print what `qc` must print; `least` tries every choice of cranes and orders and prints the least
+end of all schedules that go one way, or `none`; `--dump` prints the instance as numbers, for `bench/side.cpp`. Nothing
+here is taken from the program or from its specifications: it is a second opinion, meant to be short and slow. Ship
+files and lists must be good ones.
 
 Tasks and cranes are counted from 0 here, from 1 in tree files. A plan is a list of (crane, start), one for each task.
 Places are crane bays, or decimetres where the ship gives places; times are ticks.
@@ -314,10 +316,11 @@ def least_end(inst):
 # ---------------------------------------------------------------- nodes and bound trees
 
 class Node:
-    """A list of decisions ('A', task, crane) and ('O', first, second) of an instance that is read upward."""
+    """A list of decisions ('A', task, crane) and ('O', first, second) of an instance that is read upward, in a tree of
+    that version."""
 
-    def __init__(self, inst, decisions=()):
-        self.inst, self.decisions = inst, decisions
+    def __init__(self, inst, decisions=(), version=3):
+        self.inst, self.decisions, self.version = inst, decisions, version
         self.crane = [None] * len(inst.tasks)
         self.ordered = set(inst.before)
         for kind, first, second in decisions:
@@ -327,7 +330,7 @@ class Node:
                 self.ordered.add((first, second))
 
     def child(self, *decision):
-        return Node(self.inst, self.decisions + (decision,))
+        return Node(self.inst, self.decisions + (decision,), self.version)
 
     def forced(self, i, j):
         """By how many ticks j starts after i at the least, or None."""
@@ -348,9 +351,9 @@ class Node:
         pairs = itertools.permutations(range(len(self.crane)), 2)
         return [(i, j, ticks) for i, j in pairs if (ticks := self.forced(i, j)) is not None]
 
-    def head(self, j, version=2):
+    def head(self, j):
         inst = self.inst
-        moments = inst.free_table[j] if version == 2 else [inst.arrival(j, k) for k in range(len(inst.cranes))]
+        moments = inst.free_table[j] if self.version > 1 else [inst.arrival(j, k) for k in range(len(inst.cranes))]
         if self.crane[j] is not None:
             return moments[self.crane[j]]
         return min((moment for k, moment in enumerate(moments) if inst.reaches(k, j)), default=0)
@@ -377,7 +380,15 @@ class Node:
         return max((start + task.ticks for start, task in zip(self.starts, self.inst.tasks)), default=0)
 
     def work_holds(self, v):
-        """Whether the work doesn't fit before v."""
+        """Whether a leaf `W v` holds: the work doesn't fit before v."""
+        return self.is_closed(v) if self.version == 3 else self.lacks_room(v)
+
+    def is_closed(self, v):
+        """What `W v` asks in the third version: so far the same as in the older ones."""
+        return self.lacks_room(v)
+
+    def lacks_room(self, v):
+        """Whether a crane can't do its own tasks before v, or all of them together not the tasks without a crane."""
         inst, last, room = self.inst, v - 1, 0
         for k, crane in enumerate(inst.cranes):
             mine = [task for j, task in enumerate(inst.tasks) if self.crane[j] == k]
@@ -401,12 +412,42 @@ class Node:
             low, high = (middle, high) if self.work_holds(middle) else (low, middle)
         return low
 
+    def may(self, j):
+        """The cranes that may do the task: the one that has it, or else all that reach it."""
+        if self.crane[j] is not None:
+            return [self.crane[j]]
+        return [crane for crane in range(len(self.inst.cranes)) if self.inst.reaches(crane, j)]
+
+    def clash(self, i, j):
+        """Whether the two tasks can't run together, whichever cranes do them."""
+        return all(v == w or self.inst.distance(i, v, j, w) > 0 for v in self.may(i) for w in self.may(j))
+
+    def is_packed(self, tasks):
+        """Whether there are tasks, all different, each with a crane that may do it, of which every two clash."""
+        return len(tasks) == len(set(tasks)) > 0 and all(self.may(j) for j in tasks) and all(
+            self.clash(i, j) for i, j in itertools.combinations(tasks, 2))
+
+    def span(self, tasks):
+        """The least width within which each task has its place, as seen from the first crane: a crane one further along
+        the rail is seen a gap lower."""
+        places = [[self.inst.tasks[j].bay - self.inst.gap * crane for crane in self.may(j)] for j in tasks]
+        return min(max(min((place for place in some if place >= low), default=NEVER) for some in places) - low
+                   for low in itertools.chain(*places))
+
+    def packed_value(self, tasks):
+        """The value of a leaf `Q` with these tasks, or None where the list isn't packed."""
+        if not self.is_packed(tasks):
+            return None
+        work = sum(self.inst.tasks[j].ticks for j in tasks) + self.inst.travel * self.span(tasks)
+        return work + min(self.head(j) for j in tasks)
+
 
 TASK_LIST = rb"((?: (?:0|[1-9][0-9]{0,3})){%s})"
 LINES = [(re.compile(pattern), kind) for pattern, kind in (
-    (rb"QCTREE ([12])", "title"), (rb"(up)", "up"), (rb"(down)", "down"), (rb"(X)", "X"),
+    (rb"QCTREE ([123])", "title"), (rb"(up)", "up"), (rb"(down)", "down"), (rb"(X)", "X"),
     (rb"A" + TASK_LIST % b"1", "A"), (rb"O" + TASK_LIST % b"2", "O"),
     (rb"P" + TASK_LIST % b"0,240", "P"), (rb"C" + TASK_LIST % b"2,240", "C"),
+    (rb"Q" + TASK_LIST % b"1,240", "Q"),
     (rb"W ([1-9][0-9]{0,14})", "W"),
     (rb"end ((?:0|[1-9][0-9]{0,5}) (?:0|[1-9][0-9]{0,14}|never))", "end"))]
 
@@ -417,7 +458,7 @@ def parse_line(text):
         match = pattern.fullmatch(text)
         if match:
             rest = match.group(1)
-            return kind, [int(word) for word in rest.split()] if kind in "AOPCW" else rest.decode()
+            return kind, [int(word) for word in rest.split()] if kind in "AOPCQW" else rest.decode()
     return None
 
 
@@ -428,10 +469,11 @@ class TreeFault(Exception):
 
 
 class TreeReader:
-    """Reads a bound tree. `visit`, where it is given, gets each node with its line's kind and value."""
+    """Reads a bound tree. `visit`, where it is given, gets each node with its line's kind and value. `newest` is the
+    newest version that is known: a program that writes trees of version 2 has never heard of a `Q`."""
 
-    def __init__(self, inst, data, visit=None):
-        self.inst, self.data, self.visit = inst, data, visit
+    def __init__(self, inst, data, visit=None, newest=3):
+        self.inst, self.data, self.visit, self.newest = inst, data, visit, newest
         self.number, self.place = 0, 0
         self.value, self.branched, self.version = NEVER, 0, None
 
@@ -457,20 +499,20 @@ class TreeReader:
             raise TreeFault("LineTooLong" if too_long else "Cut", self.number)
         parsed = parse_line(self.data[self.place:feed])
         self.place = feed + 1
-        if parsed is None:
+        if parsed is None or self.newest < 3 and (parsed[0] == "Q" or parsed == ("title", "3")):
             raise TreeFault("Spelling", self.number)
         if parsed[0] not in kinds:
             raise TreeFault("Place", self.number)
         return parsed if len(kinds) > 1 else parsed[1]
 
     def part(self, inst):
-        waiting = [Node(inst)]
+        waiting = [Node(inst, version=self.version)]
         while waiting:
             node = waiting.pop()
-            kind, fields = self.line("A", "O", "P", "C", "X", "W")
-            if kind in "AOPC" and any(not 1 <= number <= len(inst.tasks) for number in fields):
+            kind, fields = self.line(*("AOPCQXW" if self.version == 3 else "AOPCXW"))
+            if kind in "AOPCQ" and any(not 1 <= number <= len(inst.tasks) for number in fields):
                 raise TreeFault("UnknownTask", self.number)
-            numbers = [number - 1 for number in fields] if kind in "AOPC" else fields
+            numbers = [number - 1 for number in fields] if kind in "AOPCQ" else fields
             if kind in "AO":
                 value = None
                 waiting += reversed(self.children(node, kind, numbers))
@@ -503,7 +545,12 @@ class TreeReader:
                 return NEVER
             if not numbers:
                 return 0
-            return node.head(numbers[0], self.version) + sum(steps) + node.inst.tasks[numbers[-1]].ticks
+            return node.head(numbers[0]) + sum(steps) + node.inst.tasks[numbers[-1]].ticks
+        if kind == "Q":
+            value = node.packed_value(numbers)
+            if value is None:
+                raise TreeFault("NotClash", self.number)
+            return value
         if kind == "X" and not node.is_out_of_reach():
             raise TreeFault("InReach", self.number)
         if kind == "W" and not node.work_holds(numbers[0]):
@@ -703,14 +750,14 @@ def sheet_report(ship, stow, inst, data):
     return 0, lines
 
 
-def check_report(inst, data, tree):
+def check_report(inst, data, tree, newest=3):
     """The report on a plan's file, or None for `-`, with a tree."""
     if data is not None:
         plan, _, refused = refusal(inst, data)
         if refused:
             return refused
     try:
-        value = TreeReader(inst, tree).read().value
+        value = TreeReader(inst, tree, newest=newest).read().value
     except TreeFault as fault:
         return 7, [f"BadTree {fault.kind} {fault.line}"]
     if data is None:
@@ -845,6 +892,16 @@ def dispatch_report(inst, data, log):
     return 0, course.told + [f"now {course.now}", f"left {course.start.count(None)}", f"running {running}"]
 
 
+def dump(inst):
+    """The instance as numbers: all cranes, tasks and pairs, each with its count before them."""
+    lists = [[(crane.ready, crane.bay, crane.low, crane.high) for crane in inst.cranes],
+             [(task.bay, task.ticks) for task in inst.tasks], inst.before, inst.apart]
+    lines = [(inst.bays, inst.travel, inst.gap)]
+    for numbers in lists:
+        lines += [(len(numbers),), *numbers]
+    return [" ".join(map(str, line)) for line in lines]
+
+
 def main():
     command, *paths = sys.argv[1:]
     files = [None if path == "-" else open(path, "rb").read() for path in paths]
@@ -853,6 +910,8 @@ def main():
     if command == "least":
         end = least_end(inst)
         status, lines = 0, ["none" if end == NEVER else str(end)]
+    elif command == "--dump":
+        status, lines = 0, dump(inst)
     elif command == "tasks":
         status, lines = tasks_report(inst)
     elif command == "show":

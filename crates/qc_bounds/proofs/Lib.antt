@@ -1,3 +1,4 @@
 pub mod Sharing
 pub mod BoundLemmas
 pub mod ClosedLemmas
+pub mod PackedLemmas

@@ -41,7 +41,7 @@ IsClosedBy inst ds u Ring tasks = IsRingLeaf inst ds tasks
 IsClosedBy inst ds u Chain tasks =
     (why : IsWhy inst ds tasks) × (IsComplete inst ds ⊎ IsAtMost u (Least why.end))
 IsClosedBy inst ds u (Work end) tasks = IsWorkLeaf inst ds end tasks × IsAtMost u (Least end)
-IsClosedBy inst ds u Clash tasks = (end : ℕ) × IsClashLeaf inst ds end tasks × IsAtMost u (Least end)
+IsClosedBy inst ds u (Clash end) tasks = IsClashLeaf inst ds end tasks × IsAtMost u (Least end)
 
 -- the leaf that stands for a node without branching: a ring where no starts meet it, the chain to its
 -- end where it is complete or its work shows no more, else its work; or packed tasks that show no less than both
@@ -52,7 +52,7 @@ IsSpentBy inst ds Chain tasks =
     × (IsComplete inst ds ⊎ ((bound : ℕ) × IsWorkBound inst ds bound × (bound ≤ why.end)))
 IsSpentBy inst ds (Work end) tasks =
     IsWorkLeaf inst ds end tasks × ((sooner : ℕ) × IsNodeEnd inst ds sooner × (sooner < end))
-IsSpentBy inst ds Clash tasks =
-    (end : ℕ) × IsClashLeaf inst ds end tasks
+IsSpentBy inst ds (Clash end) tasks =
+    IsClashLeaf inst ds end tasks
     × ((bound : ℕ) × IsWorkBound inst ds bound × (bound ≤ end))
     × ((sooner : ℕ) × IsNodeEnd inst ds sooner × (sooner ≤ end))

@@ -1,13 +1,17 @@
 //! The leaf of a node that needs no branching, or gets none.
 
-ghost use Rattle.std.specs.Prelude.{◌≡◌, ◌↔◌, ◌≤◌, [], IsSome, IsTrue, MatchOption, length};
+ghost use Rattle.std.specs.Prelude.{◌≡◌, ◌↔◌, ◌≤◌, [], IfSome, IsSome, IsTrue, MatchOption, length};
+ghost use Rattle.qc_close.specs.Crews.{IsCrewOf};
 ghost use Rattle.qc_model.specs.Closing.{IsClosable};
 ghost use Rattle.qc_num.specs.Bounds.{IsAtMost};
 ghost use Rattle.qc_num.specs.declared.bound.Bound.TheVariants.{Least};
 ghost use Rattle.qc_num.specs.Paths.{HasRoom};
 ghost use Rattle.qc_bounds.specs.Closed.{IsClosedBy, IsSpentBy};
+ghost use Rattle.qc_bounds.specs.Packed.{IsPackedShown};
 
+use crate::packed::{late_tasks, latest_tasks};
 use crate::work::work_bound;
+use qc_close::Crew;
 use qc_num::{Bound, Path, Tick};
 use qc_starts::Starts;
 
@@ -21,8 +25,8 @@ pub enum LeafKind {
     Ring,
     /// The end before which the work doesn't fit, in ticks: the workload bound.
     Work(Tick),
-    /// Tasks of which no two can run together, whichever cranes do them.
-    Clash,
+    /// Tasks of which no two can run together, whichever cranes do them, and the end that they show.
+    Clash(Tick),
 }
 
 /// Whether an end is at least a bound; none is at least `Never`.
@@ -35,12 +39,28 @@ fn is_late(end: Tick, bound: Bound) -> bool
     }
 }
 
+/// Packed tasks that show a bound, if it is a number, or a later end.
+fn late_by(node: &Starts, crew: &Crew, bound: Bound, path: &mut Path) -> Option<Tick>
+    requires crew { IsCrewOf crew.now node.now.inst node.now.decisions }
+    requires room { HasRoom (length node.now.inst.tasks) path.old }
+    ensures shows { IfSome result (λ end. IsPackedShown node.now.inst node.now.decisions path.new.items end
+        × IsAtMost bound (Least end)) }
+    ensures count { IsSome result → length path.new.items ≤ length node.now.inst.tasks }
+    ensures room { path.new.capacity ≡ path.old.capacity }
+{
+    match bound {
+        Bound::Never => None,
+        Bound::Least(end) => late_tasks(node, crew, end, path),
+    }
+}
+
 /// Tries to fathom a node against the incumbent's end `best`. Tried in order: infeasible (ring);
-/// critical chain, if it reaches `best` or nothing is left to decide; workload bound, if it reaches
-/// `best`. `None`: branch. The path is empty but for a chain or a ring.
-pub fn close(node: &Starts, best: Bound, path: &mut Path) -> Option<LeafKind>
-    requires { HasRoom (length node.now.inst.tasks) path.old }
-    ensures closed { IsSome result ↔ IsClosable node.now.inst node.now.decisions best }
+/// critical chain, if it reaches `best` or nothing is left to decide; packed tasks and workload bound,
+/// if they reach `best`. `None`: branch. The path is empty but for a chain, a ring or a clash.
+pub fn close(node: &Starts, crew: &Crew, best: Bound, path: &mut Path) -> Option<LeafKind>
+    requires crew { IsCrewOf crew.now node.now.inst node.now.decisions }
+    requires room { HasRoom (length node.now.inst.tasks) path.old }
+    ensures closed { IsClosable node.now.inst node.now.decisions best → IsSome result }
     ensures leaf { MatchOption result
         (path.new.items ≡ [])
         (λ leaf. IsClosedBy node.now.inst node.now.decisions best leaf path.new.items) }
@@ -55,6 +75,9 @@ pub fn close(node: &Starts, best: Bound, path: &mut Path) -> Option<LeafKind>
         node.why_path(path);
         return Some(LeafKind::Chain);
     }
+    if let Some(end) = late_by(node, crew, best, path) {
+        return Some(LeafKind::Clash(end));
+    }
     path.clear();
     let bound = work_bound(node);
     if is_late(bound, best) {
@@ -65,10 +88,12 @@ pub fn close(node: &Starts, best: Bound, path: &mut Path) -> Option<LeafKind>
 }
 
 /// The leaf of a node that is not branched on: a ring where it is infeasible, the critical chain
-/// where nothing is left to decide or the workload bound is no higher, else the workload bound. The
-/// path is empty but for a chain or a ring.
-pub fn spent(node: &Starts, path: &mut Path) -> LeafKind
-    requires { HasRoom (length node.now.inst.tasks) path.old }
+/// where nothing is left to decide; else what shows the latest end, of the critical chain, the
+/// workload bound and packed tasks, in this order where they show the same. The path is empty but for
+/// a chain, a ring or a clash.
+pub fn spent(node: &Starts, crew: &Crew, path: &mut Path) -> LeafKind
+    requires crew { IsCrewOf crew.now node.now.inst node.now.decisions }
+    requires room { HasRoom (length node.now.inst.tasks) path.old }
     ensures leaf { IsSpentBy node.now.inst node.now.decisions result path.new.items }
     ensures count { length path.new.items ≤ length node.now.inst.tasks }
     ensures room { path.new.capacity ≡ path.old.capacity }
@@ -77,8 +102,15 @@ pub fn spent(node: &Starts, path: &mut Path) -> LeafKind
         node.cycle(path);
         return LeafKind::Ring;
     }
-    let bound = work_bound(node);
-    if bound <= node.ends() || node.complete() {
+    if node.complete() {
+        node.why_path(path);
+        return LeafKind::Chain;
+    }
+    let (bound, end) = (work_bound(node), node.ends());
+    if let Some(later) = latest_tasks(node, crew, bound.max(end) + 1, path) {
+        return LeafKind::Clash(later);
+    }
+    if bound <= end {
         node.why_path(path);
         return LeafKind::Chain;
     }

@@ -1,8 +1,11 @@
-//! Which nodes of the search need no branching, and the leaf that shows it: a chain, a ring, or the
-//! end before which the work doesn't fit.
+//! Which nodes of the search need no branching, and the leaf that shows it: a chain, a ring, tasks of
+//! which no two can run together, or the end before which the work doesn't fit.
 #![tactic(auto)]
 
 mod leaves;
+mod lists;
+mod packed;
+mod spread;
 mod work;
 
 pub use leaves::{LeafKind, close, spent};

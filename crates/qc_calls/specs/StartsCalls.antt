@@ -45,7 +45,6 @@ pub record HasRingOf (inst : InstanceView) (ds : List Decision) (count : ℕ) : 
 -- the leaf closes the node at u
 pub record HasLeaf (inst : InstanceView) (ds : List Decision) (u : Bound) (leaf : LeafKind) : Type 0 where
   pub tasks : List ℕ
-  pub closable : IsClosable inst ds u
   pub closed : IsClosedBy inst ds u leaf tasks
 
 -- the leaf stands for the node without branching

@@ -22,23 +22,25 @@ macro_rules! row {
 }
 
 pub const CLOSED: &[StartsRow] = &[
-    // Two cranes share 40 ticks of work evenly, so it takes until 20 and no longer than the starts,
-    // which end at 21. With a crane each nothing is left to decide; the second goes 1 bay.
+    // Two cranes share 40 ticks of work evenly, so it takes until 20, and the starts end at 21. But both
+    // tasks lie a bay apart, where the cranes come too near, so they can't run together. With a crane
+    // each nothing is left to decide; the second goes 1 bay.
     row! { "closed-by-its-end": TWO, AT_2_AND_6;
-        WorkBound(20), Ends(21), Spent(LeafKind::Chain), Close(Least(20), Some(LeafKind::Chain)),
-        Close(Least(21), Some(LeafKind::Chain)), Close(Least(22), None), Close(Never, None),
+        WorkBound(20), Ends(21), Spent(LeafKind::Clash(41)), Close(Least(20), Some(LeafKind::Chain)),
+        Close(Least(21), Some(LeafKind::Chain)), Close(Least(22), Some(LeafKind::Clash(41))),
+        Close(Least(41), Some(LeafKind::Clash(41))), Close(Least(42), None), Close(Never, None),
         Decide(Assign(0, 0), Raised), WorkBound(20), Close(Never, None),
         Decide(Assign(1, 1), Raised), WorkBound(21), Ends(42),
         Close(Least(43), Some(LeafKind::Chain)), Close(Never, Some(LeafKind::Chain)),
         Spent(LeafKind::Chain),
     },
-    // One crane works 40 ticks, and the starts of tasks that no crane has end at 21. With both tasks
-    // it goes 1 bay between them.
+    // One crane works 40 ticks, and the starts of tasks that no crane has end at 21. It goes 1 bay
+    // between both tasks, which can't run together.
     row! { "closed-by-its-work": ONE, AT_2_AND_6;
-        Ends(21), WorkBound(40), Spent(LeafKind::Work(40)), Close(Least(21), Some(LeafKind::Chain)),
-        Close(Least(22), Some(LeafKind::Work(40))), Close(Least(40), Some(LeafKind::Work(40))),
-        Close(Least(41), None), Close(Never, None), Decide(Assign(0, 0), Raised), WorkBound(40),
-        Spent(LeafKind::Work(40)), Decide(Assign(1, 0), Raised), Ends(41), WorkBound(41),
+        Ends(21), WorkBound(40), Spent(LeafKind::Clash(41)), Close(Least(21), Some(LeafKind::Chain)),
+        Close(Least(22), Some(LeafKind::Clash(41))), Close(Least(41), Some(LeafKind::Clash(41))),
+        Close(Least(42), None), Close(Never, None), Decide(Assign(0, 0), Raised), WorkBound(40),
+        Spent(LeafKind::Clash(41)), Decide(Assign(1, 0), Raised), Ends(41), WorkBound(41),
         Spent(LeafKind::Chain), Close(Never, Some(LeafKind::Chain)),
     },
     // The first crane goes 3 bays and works 10: it is done at 13. Of the other 20 ticks it can do 3 by

@@ -5,14 +5,16 @@ ghost use Rattle.qc_model.specs.Nodes.{HasStarts};
 ghost use Rattle.qc_dist.specs.Node.{IsOpen};
 ghost use Rattle.qc_model.specs.Closing.{IsClosable};
 ghost use Rattle.qc_starts.specs.Seen.{IsReached, IsStep, IsWhy};
+ghost use Rattle.qc_close.specs.Crews.{IsCrewOf};
 ghost use Rattle.qc_calls.specs.StartsCalls.{CanBeMade, HandsOut, HasLeaf, HasRingOf, HasSpent, IsAnswered, after};
 
 use crate::answers::{are_apart, are_tasks, is_crane, is_task};
 use crate::row::StartsCall;
 use qc_arena::Edge;
 use qc_bounds::{LeafKind, close, spent, work_bound};
+use qc_close::Crew;
 use qc_dist::in_reach;
-use qc_model::{Decision, Instance};
+use qc_model::{Decision, Instance, Turn};
 use qc_num::{Bound, OutOfMemory, Path, Steps};
 use qc_starts::{Starts, Step};
 use std::alloc::Global;
@@ -103,6 +105,19 @@ fn is_ring_of(alloc: Global, starts: &Starts, count: usize) -> Result<bool, OutO
     Ok(path.len() == count)
 }
 
+/// The cranes of the tasks, by the decisions.
+fn crew_of(alloc: Global, starts: &Starts) -> Result<Crew, OutOfMemory>
+    ensures { IfOk result (λ crew. IsCrewOf crew starts.now.inst starts.now.decisions) }
+{
+    let mut crew = Crew::open(alloc, starts.instance(), Turn::OneWay)?;
+    for task in 0..starts.instance().task_count() {
+        if let Some(crane) = starts.crane_of(task) {
+            crew.put(task, crane);
+        }
+    }
+    Ok(crew)
+}
+
 /// Whether the node is closed by this leaf, or by none.
 fn is_closed_by(
     alloc: Global,
@@ -115,7 +130,8 @@ fn is_closed_by(
         (HasLeaf starts.now.inst starts.now.decisions bound)) }
 {
     let mut path = Path::with_capacity(alloc, starts.instance().task_count() as usize)?;
-    Ok(close(starts, bound, &mut path) == leaf)
+    let crew = crew_of(alloc, starts)?;
+    Ok(close(starts, &crew, bound, &mut path) == leaf)
 }
 
 /// Whether this leaf stands for the node.
@@ -123,7 +139,8 @@ fn is_spent_by(alloc: Global, starts: &Starts, leaf: LeafKind) -> Result<bool, O
     ensures { IfOk result (λ is. IsTrue is → HasSpent starts.now.inst starts.now.decisions leaf) }
 {
     let mut path = Path::with_capacity(alloc, starts.instance().task_count() as usize)?;
-    Ok(spent(starts, &mut path) == leaf)
+    let crew = crew_of(alloc, starts)?;
+    Ok(spent(starts, &crew, &mut path) == leaf)
 }
 
 /// Makes the call; whether it answers as it must.

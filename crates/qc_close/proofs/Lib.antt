@@ -2,13 +2,15 @@ mod Members
 mod Rows
 pub mod PackLemmas
 mod BandLemmas
-mod SpanLemmas
+pub mod SpanLemmas
 mod LoopLemmas
 mod FrameLemmas
 mod CountLemmas
 mod GrainLemmas
 pub mod ClosedLemmas
 pub mod NodeLemmas
+pub mod DecidedCranes
+pub mod PackBounds
 mod SumLemmas
 mod WalkLemmas
 mod ShortLemmas

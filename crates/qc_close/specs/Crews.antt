@@ -1,10 +1,20 @@
 -- public: what contracts see of a crew.
-use Rattle.std.specs.Prelude.{ℕ, List, Option}
+use Rattle.std.specs.Prelude.{◌≡◌, ℕ, List, Option}
+use Rattle.qc_model.specs.declared.decision.Decision.{Decision}
 use Rattle.qc_model.specs.Instance.{InstanceView}
 use Rattle.qc_model.specs.declared.turn.Turn.{Turn}
+use Rattle.qc_model.specs.declared.turn.Turn.TheVariants.{OneWay}
+use Rattle.qc_model.specs.Assignments.{cranes_of}
 
 -- the instance, whether cranes go one way, and the crane of each task that has one
 pub record CrewView : Type 0 where
   pub inst : InstanceView
   pub turn : Turn
   pub cranes : List (Option ℕ)
+
+-- the crew is that of the decisions: of their instance, with cranes that go one way, and each task has the crane
+-- that they give it
+pub record IsCrewOf (crew : CrewView) (inst : InstanceView) (ds : List Decision) : Type 0 where
+  pub same : crew.inst ≡ inst
+  pub turn : crew.turn ≡ OneWay
+  pub cranes : crew.cranes ≡ cranes_of inst ds

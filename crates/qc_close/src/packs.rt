@@ -1,9 +1,9 @@
 //! Tasks of which no two can run together.
 
-ghost use Rattle.std.specs.Prelude.{◌≡◌, ◌==◌, ◌*◌, ◌<◌, ◌≤◌, ℕ, ℤ, drop, All, IfSome, MatchBool, MatchOption, length, slice_index, true, false, int_le, min, nat_le};
+ghost use Rattle.std.specs.Prelude.{◌≡◌, ◌==◌, ◌+◌, ◌*◌, ◌<◌, ◌≤◌, ℕ, ℤ, drop, All, IfSome, MatchBool, MatchOption, length, slice_index, true, false, int_le, min, nat_le};
 ghost use Rattle.std.specs.List.{list_all, list_any};
 ghost use Rattle.std.specs.Option.{option_map_or};
-ghost use Rattle.qc_model.specs.declared.limits.TheConstants.{MOST_TASKS, MOST_WORK};
+ghost use Rattle.qc_model.specs.declared.limits.TheConstants.{MOST_DISTANCE, MOST_TASKS, MOST_WORK};
 ghost use Rattle.qc_model.specs.Work.{crane_numbers, ticks_over};
 ghost use Rattle.qc_model.specs.Nodes.{reaches};
 ghost use Rattle.qc_model.specs.Assignments.{place};
@@ -332,6 +332,7 @@ impl Crew {
     pub fn pack(&self, tasks: &[u16]) -> Option<Tick>
         ensures ticks { result ≡ pack self.now.inst self.now.cranes tasks.now }
         ensures bound { IfSome result (IsPackBound self.now.inst self.now.cranes tasks.now) }
+        ensures soon { IfSome result (λ ticks. ticks ≤ MOST_TASKS * MOST_WORK + MOST_DISTANCE) }
     {
         let inst = self.instance();
         if !self.is_packed(tasks) {

@@ -1,7 +1,8 @@
 -- What the course of the work keeps as it goes on.
-use Rattle.std.proofs.Common.{◌≡◌, ◌≢◌, ℕ, zero, suc, ◌+◌, ◌<◌, ◌≤◌, ◌⊎◌, inl, inr, true, false, Option, None, Some, IfSome, IsSome, IsSomeAnd, unwrap_or, List, length, slice_index_or, slice_set, replicate, refl, ap, sym, subst, ◌∙◌, arith}
+use Rattle.std.proofs.Common.{◌≡◌, ◌≢◌, ℕ, zero, suc, ◌+◌, ◌<◌, ◌≤◌, ◌⊎◌, inl, inr, true, false, Option, None, Some, IfSome, IsSome, IsSomeAnd, List, length, map, slice_index_or, slice_set, replicate, refl, ap, sym, subst, ◌∙◌, arith}
 use Rattle.std.proofs.lemmas.Bool.{cases_eq, cases_lt, false≢true}
 use Rattle.std.proofs.lemmas.Grind.{get_or-set_at}
+use Rattle.std.specs.List.{range_with_len}
 use Rattle.std.proofs.lemmas.List.{get_or-set_other, length-set, length-replicate}
 use Rattle.qc_dispatch.specs.declared.stage.Stage.{Stage}
 use Rattle.qc_dispatch.specs.declared.stage.Stage.TheVariants.{Waiting, Running, Ended}
@@ -9,7 +10,7 @@ use Rattle.qc_dispatch.specs.Calls.{opening}
 use Rattle.qc_dispatch.specs.Course.{Course, IsOver, IsQuiet, MayStart, end_at, end_in, is_running, is_waiting, left, running, stage_of, start_at, start_in, started}
 use Rattle.qc_dispatch.specs.Kept.{IsCourse}
 use Rattle.qc_dispatch.specs.Order.{Leads, free_of, gap}
-use Rattle.qc_dispatch.specs.Promises.{GoesOn, latest, over_tasks}
+use Rattle.qc_dispatch.specs.Promises.{GoesOn, behind, greatest_gap, last, last_end, later, latest, over_tasks}
 use Rattle.qc_dispatch.proofs.Counts.{least_of, none_in, some_passes}
 use Rattle.qc_dispatch.proofs.OrderLemmas.{before_leads, one_leads}
 use Rattle.qc_model.proofs.Extremes.{le_greatest}
@@ -19,7 +20,8 @@ use Rattle.qc_model.specs.Rules.{Feasible, start_of}
 
 -- ---- options
 
-pub over_later : (o : Option ℕ) (t u m n : ℕ) → m + u ≤ n + t → IsSomeAnd o (λ end. end + t ≤ m) → IsSomeAnd o (λ end. end + u ≤ n)
+pub over_later : (o : Option ℕ) (t u m n : ℕ) → m + u ≤ n + t → IsSomeAnd o (λ end. end + t ≤ m)
+    → IsSomeAnd o (λ end. end + u ≤ n)
 over_later None t u m n later over = over
 over_later (Some end) t u m n later over = omega (arith, over)
 
@@ -30,6 +32,52 @@ if_then (Some x) P Q step h = step x refl h
 and_of : (o : Option ℕ) (P : ℕ → Type 0) → IsSome o → IfSome o P → IsSomeAnd o P
 and_of None P some h = absurd (cc some)
 and_of (Some x) P some h = h
+
+-- ---- the last end
+
+later_left : (o p : Option ℕ) → IfSome o (λ m. IsSomeAnd (later o p) (λ n. m ≤ n))
+later_left None p = tt
+later_left (Some m) None = omega arith
+later_left (Some m) (Some n) = omega arith
+
+later_right : (o p : Option ℕ) (m : ℕ) → IsSomeAnd p (λ n. m ≤ n) → IsSomeAnd (later o p) (λ n. m ≤ n)
+later_right None p m late = late
+later_right (Some k) None m late = absurd late
+later_right (Some k) (Some n) m late = omega (arith, late)
+
+up_to_right : (o p q : Option ℕ) → IfSome o (λ m. IsSomeAnd p (λ n. m ≤ n))
+    → IfSome o (λ m. IsSomeAnd (later q p) (λ n. m ≤ n))
+up_to_right None p q late = tt
+up_to_right (Some m) p q late = later_right q p m late
+
+-- each of the moments is at most the last
+by_last : (f : ℕ → Option ℕ) (k a n : ℕ) → a ≤ k → k < a + n
+    → IfSome (f k) (λ m. IsSomeAnd (last (map f (range_with_len a n))) (λ end. m ≤ end))
+by_last f k a zero low high = absurd (omega arith)
+by_last f k a (suc n) low high =
+    let rest = last (map f (range_with_len (a + 1) n)) in
+    elim (cases_lt a k) [
+      | inl l ↦ up_to_right (f k) rest (f a) (by_last f k (a + 1) n (omega arith) (omega arith))
+      | inr l ↦ let e : a ≡ k = omega arith in
+          subst (λ (i : ℕ). IfSome (f i) (λ m. IsSomeAnd (later (f a) rest) (λ end. m ≤ end))) e
+          (later_left (f a) rest)
+    ]
+
+behind_free : (o : Option ℕ) (free ticks : ℕ) → free ≤ behind o free ticks
+behind_free None free ticks = omega arith
+behind_free (Some end) free ticks = omega arith
+
+behind_one : (o p : Option ℕ) (free t ticks : ℕ) → t ≤ ticks → IfSome o (λ m. IsSomeAnd p (λ end. m ≤ end))
+    → IfSome o (λ m. m + t ≤ behind p free ticks)
+behind_one None p free t ticks few late = tt
+behind_one (Some m) None free t ticks few late = absurd late
+behind_one (Some m) (Some end) free t ticks few late = omega (arith, late)
+
+behind_each : (f : ℕ → Option ℕ) (n i free t ticks : ℕ) → i < n → t ≤ ticks
+    → IfSome (f i) (λ end. end + t ≤ behind (last (map f (range_with_len 0 n))) free ticks)
+behind_each f n i free t ticks inside few =
+    behind_one (f i) (last (map f (range_with_len 0 n))) free t ticks few
+    (by_last f i 0 n (omega arith) (omega arith))
 
 -- ---- stages after one is written
 
@@ -43,7 +91,8 @@ stage_set xs i j s inside = elim (cases_eq i j) [
 
 -- ---- what holds of every course whose starts keep the order
 
-module _ (c : Course) (valid : Valid c.inst) (feasible : Feasible c.inst c.plan) (same : length c.stages ≡ length c.inst.tasks) where
+module _ (c : Course) (valid : Valid c.inst) (feasible : Feasible c.inst c.plan)
+    (same : length c.stages ≡ length c.inst.tasks) where
   may_later : (m n j : ℕ) → m ≤ n → MayStart c m j → MayStart c n j
   may_later m n j later may = record {
     task = may.task;
@@ -58,7 +107,7 @@ module _ (c : Course) (valid : Valid c.inst) (feasible : Feasible c.inst c.plan)
   is_waiting_at (Ended start end) h = absurd (false≢true h)
 
   over_by : (s : Stage) (t m : ℕ) → is_waiting s ≢ true → is_running s ≡ false
-      → unwrap_or (end_in s) 0 + t ≤ m → IsSomeAnd (end_in s) (λ end. end + t ≤ m)
+      → IfSome (end_in s) (λ end. end + t ≤ m) → IsSomeAnd (end_in s) (λ end. end + t ≤ m)
   over_by Waiting t m waits runs low = absurd (waits refl)
   over_by (Running start) t m waits runs low = absurd (false≢true (sym runs))
   over_by (Ended start end) t m waits runs low = low
@@ -67,22 +116,28 @@ module _ (c : Course) (valid : Valid c.inst) (feasible : Feasible c.inst c.plan)
   goes_on quiet some none =
       let n = length c.inst.tasks in
       let first = some_passes is_waiting c.stages Waiting some in
-      let best = least_of (λ j. is_waiting (stage_of c j)) (start_of c.plan) n first.at (omega (arith, first.inside, same)) first.passes in
+      let best = least_of (λ j. is_waiting (stage_of c j)) (start_of c.plan) n first.at
+      (omega (arith, first.inside, same)) first.passes in
       let j = best.at in
       let clear = λ (i : ℕ) (leads : Leads c.inst c.plan i j).
       over_by (stage_of c i) (gap c.inst c.plan i j) (latest c)
       (λ waits. absurd (omega (arith, best.least i leads.leader waits, leads.sooner)))
       (none_in is_running c.stages i Waiting (omega (arith, leads.leader, same)) none)
+      (behind_each (end_at c) n i (over_tasks c (free_of c.inst c.plan)) (gap c.inst c.plan i j)
+      (greatest_gap c) leads.leader
       (omega (
         arith,
-        le_greatest (λ i. unwrap_or (end_at c i) 0) i 0 n (omega arith) (omega (arith, leads.leader)),
         le_greatest (λ i. over_tasks c (gap c.inst c.plan i)) i 0 n (omega arith) (omega (arith, leads.leader)),
         le_greatest (gap c.inst c.plan i) j 0 n (omega arith) (omega (arith, leads.led)),
-      )) in
+      ))) in
       let may : MayStart c (latest c) j = record {
         task = best.inside;
         waits = is_waiting_at (stage_of c j) best.passes;
-        free = omega (arith, le_greatest (free_of c.inst c.plan) j 0 n (omega arith) (omega (arith, best.inside)));
+        free = omega (
+          arith,
+          le_greatest (free_of c.inst c.plan) j 0 n (omega arith) (omega (arith, best.inside)),
+          behind_free (last_end c) (over_tasks c (free_of c.inst c.plan)) (greatest_gap c),
+        );
         clear = clear;
       } in
       elim (cases_lt c.clock (latest c)) [
@@ -91,7 +146,8 @@ module _ (c : Course) (valid : Valid c.inst) (feasible : Feasible c.inst c.plan)
       ]
 
   pub keeps_of : ((j : ℕ) → IfSome (start_at c j) (λ start. free_of c.inst c.plan j ≤ start))
-      → ((i j : ℕ) → Leads c.inst c.plan i j → IfSome (start_at c j) (IsOver c i (gap c.inst c.plan i j))) → IsCourse c
+      → ((i j : ℕ) → Leads c.inst c.plan i j → IfSome (start_at c j) (IsOver c i (gap c.inst c.plan i j)))
+      → IsCourse c
   keeps_of starts order = record {
     valid = valid;
     feasible = feasible;
@@ -101,11 +157,15 @@ module _ (c : Course) (valid : Valid c.inst) (feasible : Feasible c.inst c.plan)
       starts = starts;
       order = order;
       before = λ i j is. if_then (start_at c j) (IsOver c i (gap c.inst c.plan i j)) (IsOver c i 0)
-          (λ start _ over. over_later (end_at c i) _ _ start start (omega arith) over) (order i j (before_leads c.inst c.plan valid feasible i j is));
-      clear = λ i j first second differ tied some other. elim (one_leads c.inst c.plan valid feasible i j first second differ tied) [
-        | inl leads ↦ inl (and_of (start_at c j) (IsOver c i (gap c.inst c.plan i j)) other (order i j leads))
-        | inr leads ↦ inr (and_of (start_at c i) (IsOver c j (gap c.inst c.plan j i)) some (order j i leads))
-      ];
+          (λ start _ over. over_later (end_at c i) _ _ start start (omega arith) over)
+          (order i j (before_leads c.inst c.plan valid feasible i j is));
+      clear = λ i j first second differ tied some other. elim
+          (one_leads c.inst c.plan valid feasible i j first second differ tied) [
+            | inl leads ↦
+                inl (and_of (start_at c j) (IsOver c i (gap c.inst c.plan i j)) other (order i j leads))
+            | inr leads ↦
+                inr (and_of (start_at c i) (IsOver c j (gap c.inst c.plan j i)) some (order j i leads))
+          ];
       goes_on = goes_on;
     };
   }
@@ -117,7 +177,8 @@ none_started zero j = refl
 none_started (suc n) zero = refl
 none_started (suc n) (suc j) = none_started n j
 
-pub opens : (inst : InstanceView) (plan : List Slot) → Valid inst → Feasible inst plan → IsCourse (opening inst plan)
+pub opens : (inst : InstanceView) (plan : List Slot) → Valid inst → Feasible inst plan
+    → IsCourse (opening inst plan)
 opens inst plan valid feasible =
     let waits = λ (j : ℕ). none_started (length inst.tasks) j in
     keeps_of (opening inst plan) valid feasible (length-replicate (length inst.tasks) Waiting)
@@ -131,7 +192,8 @@ module _ (c : Course) (is : IsCourse c) where
 
   -- now is later
   pub goes_later : (to : ℕ) → IsCourse (record c { clock = to })
-  goes_later to = keeps_of (record c { clock = to }) is.valid is.feasible is.stages is.keeps.starts is.keeps.order
+  goes_later to = keeps_of (record c { clock = to }) is.valid is.feasible is.stages is.keeps.starts
+      is.keeps.order
 
   pub end_started : (task m : ℕ) → MayStart c m task → (i : ℕ) → end_at (started c m task) i ≡ end_at c i
   end_started task m may i = elim (stage_set c.stages task i (Running m) (omega (arith, may.task, is.stages))) [
@@ -143,15 +205,19 @@ module _ (c : Course) (is : IsCourse c) where
   goes_started task m may =
       let new = started c m task in
       let inside : task < length c.stages = omega (arith, may.task, is.stages) in
-      let over = λ (i t s : ℕ) (h : IsOver c i t s). subst (λ (o : Option ℕ). IsSomeAnd o (λ end. end + t ≤ s)) (sym (end_started task m may i)) h in
+      let over = λ (i t s : ℕ) (h : IsOver c i t s). subst (λ (o : Option ℕ). IsSomeAnd o (λ end. end + t ≤ s))
+      (sym (end_started task m may i)) h in
       keeps_of new is.valid is.feasible (length-set c.stages task (Running m) ∙ is.stages)
       (λ j. elim (stage_set c.stages task j (Running m) inside) [
         | inl at ↦ rw (at.1, ← at.0) may.free
         | inr other ↦ rw (other.1) (is.keeps.starts j)
       ])
       (λ i j leads. elim (stage_set c.stages task j (Running m) inside) [
-        | inl at ↦ rw (at.1) (over i (gap c.inst c.plan i j) m (subst (λ (k : ℕ). IsOver c i (gap c.inst c.plan i k) m) at.0 (may.clear i (subst (Leads c.inst c.plan i) (sym at.0) leads))))
-        | inr other ↦ rw (other.1) (if_then (start_at c j) (IsOver c i (gap c.inst c.plan i j)) (IsOver new i (gap c.inst c.plan i j))
+        | inl at ↦ rw (at.1) (over i (gap c.inst c.plan i j) m
+            (subst (λ (k : ℕ). IsOver c i (gap c.inst c.plan i k) m) at.0
+            (may.clear i (subst (Leads c.inst c.plan i) (sym at.0) leads))))
+        | inr other ↦ rw (other.1) (if_then (start_at c j) (IsOver c i (gap c.inst c.plan i j))
+            (IsOver new i (gap c.inst c.plan i j))
             (λ start _ h. over i (gap c.inst c.plan i j) start h) (is.keeps.order i j leads))
       ])
 
@@ -168,15 +234,20 @@ module _ (c : Course) (is : IsCourse c) where
     ]
 
     over_ended : (i t s : ℕ) → IsOver c i t s → IsOver ended i t s
-    over_ended i t s over = elim (stage_set c.stages task i (Ended start c.clock) (omega (arith, inside, is.stages))) [
-      | inl at ↦ absurd (subst (λ (o : Option ℕ). IsSomeAnd o (λ end. end + t ≤ s)) (ap end_in (ap (stage_of c) (sym at.0) ∙ ran)) over)
-      | inr other ↦ subst (λ (o : Option ℕ). IsSomeAnd o (λ end. end + t ≤ s)) (sym (ap end_in other.1)) over
-    ]
+    over_ended i t s over =
+        elim (stage_set c.stages task i (Ended start c.clock) (omega (arith, inside, is.stages))) [
+          | inl at ↦ absurd (subst (λ (o : Option ℕ). IsSomeAnd o (λ end. end + t ≤ s))
+              (ap end_in (ap (stage_of c) (sym at.0) ∙ ran)) over)
+          | inr other ↦
+              subst (λ (o : Option ℕ). IsSomeAnd o (λ end. end + t ≤ s)) (sym (ap end_in other.1)) over
+        ]
 
     pub goes_ended : IsCourse ended
     goes_ended =
         keeps_of ended is.valid is.feasible (length-set c.stages task (Ended start c.clock) ∙ is.stages)
-        (λ j. subst (λ (o : Option ℕ). IfSome o (λ s. free_of c.inst c.plan j ≤ s)) (sym (start_ended j)) (is.keeps.starts j))
-        (λ i j leads. subst (λ (o : Option ℕ). IfSome o (IsOver ended i (gap c.inst c.plan i j))) (sym (start_ended j))
+        (λ j. subst (λ (o : Option ℕ). IfSome o (λ s. free_of c.inst c.plan j ≤ s)) (sym (start_ended j))
+        (is.keeps.starts j))
+        (λ i j leads. subst (λ (o : Option ℕ). IfSome o (IsOver ended i (gap c.inst c.plan i j)))
+        (sym (start_ended j))
         (if_then (start_at c j) (IsOver c i (gap c.inst c.plan i j)) (IsOver ended i (gap c.inst c.plan i j))
         (λ s _ h. over_ended i (gap c.inst c.plan i j) s h) (is.keeps.order i j leads)))

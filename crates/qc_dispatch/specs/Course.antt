@@ -1,5 +1,5 @@
 -- public: the course of the work: a plan whose order is followed, with the lengths that tasks take.
-use Rattle.std.specs.Prelude.{◌≡◌, ◌≢◌, ℕ, ◌+◌, ◌<◌, ◌≤◌, List, length, slice_index_or, slice_set, count_by, Bool, true, false, Option, None, Some, IsSomeAnd, Result, Ok, Err}
+use Rattle.std.specs.Prelude.{◌≡◌, ◌≢◌, ℕ, ◌+◌, ◌^◌, ◌<◌, ◌≤◌, List, length, slice_index_or, slice_set, count_by, Bool, true, false, Option, None, Some, IsSomeAnd, Result, Ok, Err}
 use Rattle.qc_dispatch.specs.declared.stage.Stage.{Stage}
 use Rattle.qc_dispatch.specs.declared.stage.Stage.TheVariants.{Waiting, Running, Ended}
 use Rattle.qc_dispatch.specs.declared.grant.Grant.{Grant}
@@ -18,7 +18,7 @@ pub record Course : Type 0 where
 
 -- moments are below this
 abbrev pub past_moments : ℕ
-past_moments = 1125899906842624
+past_moments = 2 ^ 50
 
 abbrev pub start_in : Stage → Option ℕ
 start_in Waiting = None

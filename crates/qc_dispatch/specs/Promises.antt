@@ -1,5 +1,5 @@
 -- public: what is promised of the course of the work, whatever is reported and when.
-use Rattle.std.specs.Prelude.{◌≡◌, ◌≢◌, ℕ, ◌+◌, ◌<◌, ◌≤◌, ◌⊎◌, max, map, length, unwrap_or, IfSome, IsSome, IsSomeAnd}
+use Rattle.std.specs.Prelude.{◌≡◌, ◌≢◌, ℕ, ◌+◌, ◌<◌, ◌≤◌, ◌⊎◌, max, map, length, List, [], ◌∷◌, Option, None, Some, IfSome, IsSome, IsSomeAnd}
 use Rattle.std.specs.List.{range_with_len}
 use Rattle.qc_dispatch.specs.Course.{Course, IsOver, IsQuiet, MayStart, end_at, left, running, start_at}
 use Rattle.qc_dispatch.specs.Order.{AreTied, Leads, free_of, gap}
@@ -14,13 +14,30 @@ over_tasks c f = greatest (map f (range_with_len 0 (length c.inst.tasks)))
 abbrev pub greatest_gap : Course → ℕ
 greatest_gap c = over_tasks c (λ i. over_tasks c (gap c.inst c.plan i))
 
--- the last end so far
-abbrev pub last_end : Course → ℕ
-last_end c = over_tasks c (λ i. unwrap_or (end_at c i) 0)
+-- the later of two moments that may be missing
+abbrev pub later : Option ℕ → Option ℕ → Option ℕ
+later None other = other
+later (Some m) None = Some m
+later (Some m) (Some n) = Some (max m n)
 
--- when the next start comes at the latest if nothing runs: all cranes can be there, and the greatest gap is over
+-- the last of these moments; none where all are missing
+abbrev pub last : List (Option ℕ) → Option ℕ
+last [] = None
+last (o ∷ os) = later o (last os)
+
+-- the last end so far; none where no task has ended
+abbrev pub last_end : Course → Option ℕ
+last_end c = last (map (end_at c) (range_with_len 0 (length c.inst.tasks)))
+
+-- so many ticks are over behind the last end, if there is any, and it is no earlier than this moment
+abbrev pub behind : Option ℕ → (moment ticks : ℕ) → ℕ
+behind None moment ticks = moment
+behind (Some end) moment ticks = max moment (end + ticks)
+
+-- when the next start comes at the latest if nothing runs: all cranes can be there, and the greatest gap is
+-- over behind the last end; where no task has ended, all cranes can be there
 abbrev pub latest : Course → ℕ
-latest c = max (over_tasks c (free_of c.inst c.plan)) (last_end c + greatest_gap c)
+latest c = behind (last_end c) (over_tasks c (free_of c.inst c.plan)) (greatest_gap c)
 
 -- task i ended by the gap before task j started
 abbrev pub IsAhead : Course → ℕ → ℕ → Type 0

@@ -1,6 +1,6 @@
 -- public: when an assignment is closed at an end: no schedule that keeps it ends earlier, since too few cranes can come
 -- to where tasks have no crane yet, and work there, by then.
-use Rattle.std.specs.Prelude.{ℕ, zero, suc, ◌+◌, ◌-◌, ◌*◌, ◌/◌, ◌%◌, ◌≤◌, max, pos, Bool, true, false, not, ◌&&◌, ◌||◌, ◌==◌, nat_lt, nat_le, List, [], ◌∷◌, map, filter, reverse, length, slice_index, sum, sum_by, is_none, Option}
+use Rattle.std.specs.Prelude.{ℕ, zero, suc, ◌+◌, ◌-◌, ◌*◌, ◌/◌, ◌%◌, ◌≤◌, max, pos, Bool, true, not, ◌&&◌, ◌||◌, ◌==◌, nat_lt, nat_le, List, [], ◌∷◌, map, filter, reverse, length, slice_index, sum, sum_by, is_none, Option}
 use Rattle.std.specs.List.{flat_map, list_all, list_any, range_with_len}
 use Rattle.qc_model.specs.Bays.{at_least_zero, bays_up}
 use Rattle.qc_model.specs.Instance.{InstanceView, bay_of}

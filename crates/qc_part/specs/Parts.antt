@@ -1,5 +1,7 @@
--- public: a ship read upward: its hatches, and its events, which are the pairs of a hatch and a crane that reaches it.
-use Rattle.std.specs.Prelude.{◌≡◌, ℕ, ◌+◌, ◌<◌, ◌≤◌, pos, List, length, slice_index, slice_index_or, Contains, IsTrue}
+-- public: a ship read upward: its hatches, and its events, which are the pairs of a hatch and a crane that
+-- reaches it.
+use Rattle.std.specs.Prelude.{◌≡◌, ℕ, ◌+◌, ◌<◌, ◌≤◌, pos, Bool, not, ◌==◌, List, length, count_by, slice_index, slice_index_or, Contains, IsTrue}
+use Rattle.std.specs.List.{list_all, range_with_len}
 use Rattle.qc_model.specs.Instance.{InstanceView, Valid, task}
 use Rattle.qc_model.specs.Nodes.{reaches}
 use Rattle.qc_model.specs.Numbers.{most_distance, most_hatches}
@@ -75,12 +77,22 @@ pub record IsPart (part : PartView) : Type 0 where
   -- each task is one of a hatch, and the tasks of a hatch have its number in the ship file
   pub covers : (j : ℕ) → j < length part.inst.tasks → IsInBlock part j
 
--- the part of an instance
+-- no task ahead of task j is of its hatch
+abbrev pub is_first : InstanceView → ℕ → Bool
+is_first inst j = list_all (λ i. not ((task inst i).hatch == (task inst j).hatch)) (range_with_len 0 j)
+
+-- how many hatches have tasks
+abbrev pub hatch_count : InstanceView → ℕ
+hatch_count inst = count_by (is_first inst) (range_with_len 0 (length inst.tasks))
+
+-- the part of an instance: it has each hatch with tasks once
 pub record IsPartOf (inst : InstanceView) (part : PartView) : Type 0 where
   pub is_part : IsPart part
   pub reads : part.inst ≡ inst
+  pub hatches : length part.hatches ≡ hatch_count inst
 
--- the state is one of the part: of no hatch more tasks are done than it has, and all fronts can be reckoned with
+-- the state is one of the part: of no hatch more tasks are done than it has, and all fronts can be reckoned
+-- with
 pub record IsStateOf (part : PartView) (state : State) : Type 0 where
   pub done : (h : ℕ) → h < length part.hatches → slice_index state.done h ≤ (block part h).count
   pub fronts : (k : ℕ) → k < 8 → IsFront (slice_index_or state.fronts k (pos 0))

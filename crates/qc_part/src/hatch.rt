@@ -1,8 +1,9 @@
 //! Hatches, and what the estimates of a state read of each.
 
-ghost use Rattle.std.specs.Prelude.{◌≡◌, ℕ, ◌+◌, ◌<◌, ◌≤◌, length, All, IfOk};
+ghost use Rattle.std.specs.Prelude.{◌≡◌, ◌≢◌, ℕ, ◌+◌, ◌<◌, ◌≤◌, length, All, IfOk};
 ghost use Rattle.qc_model.specs.Instance.{Valid, task};
 ghost use Rattle.qc_part.specs.Hatches.{IsBlock, IsInOne};
+ghost use Rattle.qc_part.specs.Parts.{hatch_count};
 
 use crate::block::Block;
 use qc_dist::head;
@@ -33,7 +34,10 @@ fn count_from(inst: &Instance, first: u16) -> u16
     ensures inside { first + result ≤ length inst.now.tasks }
     ensures same { (i : ℕ) → i < result
         → (task inst.now (first + i)).hatch ≡ (task inst.now first).hatch }
+    ensures ends { first + result < length inst.now.tasks
+        → (task inst.now (first + result)).hatch ≢ (task inst.now first).hatch }
     ensures all { length inst.now.tasks ≤ 240 }
+    ensures valid { Valid inst.now }
 {
     let tasks = inst.tasks();
     let hatch = tasks[first as usize].hatch;
@@ -78,6 +82,9 @@ fn hatch_from(inst: &Instance, first: u16) -> Hatch
     requires { first < length inst.now.tasks }
     ensures block { IsBlock inst.now result }
     ensures first { result.block.first ≡ first }
+    ensures ends { first + result.block.count < length inst.now.tasks
+        → (task inst.now (first + result.block.count)).hatch ≢ (task inst.now first).hatch }
+    ensures valid { Valid inst.now }
 {
     let count = count_from(inst, first);
     let place = travel_over(inst, bays_up(0, inst.task(first).bay));
@@ -94,6 +101,7 @@ pub(crate) fn hatches_of(alloc: Global, inst: &Instance) -> Result<Vec<Hatch>, O
     ensures blocks { IfOk result (λ hatches. All (IsBlock inst.now) hatches.items) }
     ensures covers { IfOk result (λ hatches. (j : ℕ) → j < length inst.now.tasks
         → IsInOne hatches.items j) }
+    ensures count { IfOk result (λ hatches. length hatches.items ≡ hatch_count inst.now) }
     ensures valid { IfOk result (λ _. Valid inst.now) }
 {
     let mut hatches = Vec::new(alloc);

@@ -1,12 +1,12 @@
 //! A ship read upward.
 
-ghost use Rattle.std.specs.Prelude.{◌≡◌, ℕ, ◌+◌, ◌*◌, ◌^◌, ◌<◌, ◌≤◌, drop, length, max, pos, ◌+ℤ◌, ◌-ℤ◌, slice_set, IfOk, IfSome};
+ghost use Rattle.std.specs.Prelude.{◌≡◌, ℕ, ◌+◌, ◌*◌, ◌^◌, ◌<◌, ◌≤◌, drop, length, max, pos, ◌+ℤ◌, ◌-ℤ◌, slice_set, IfOk, MatchOption};
 ghost use Rattle.qc_model.specs.declared.limits.TheConstants.{MOST_DISTANCE, MOST_WORK};
 ghost use Rattle.qc_model.specs.Bays.{at_least_zero};
 ghost use Rattle.qc_model.specs.Numbers.{most_hatches};
 ghost use Rattle.qc_part.specs.Children.{AreRaised, EndsBy, IsChild, IsCount, IsRoot, is_absent, least_count, size_at, start_at, ticks_between};
 ghost use Rattle.qc_part.specs.Places.{IsFront, most_front};
-ghost use Rattle.qc_part.specs.Parts.{IsBlockOf, IsEvent, IsPart, IsPartOf, IsStateOf, block, event};
+ghost use Rattle.qc_part.specs.Parts.{IsBlockOf, IsEvent, IsPart, IsPartOf, IsStateOf, block, event, hatch_count};
 
 use crate::block::Block;
 use crate::event::{Child, Event};
@@ -47,10 +47,11 @@ impl Model for Part {
 }
 
 impl Part {
-    /// The part that reads this instance upward; for the way down it is given the mirror. `None` where
-    /// there are more than 60 hatches.
+    /// The part that reads this instance upward; for the way down it is given the mirror. `None` exactly
+    /// where more than 60 hatches have tasks.
     pub fn open(alloc: Global, inst: &Instance) -> Result<Option<Part>, OutOfMemory>
-        ensures { IfOk result (λ opened. IfSome opened (IsPartOf inst.now)) }
+        ensures { IfOk result (λ opened. MatchOption opened (most_hatches < hatch_count inst.now)
+            (IsPartOf inst.now)) }
     {
         let hatches = hatches_of(alloc, inst)?;
         if hatches.len() > MOST_HATCHES as usize {

@@ -37,25 +37,39 @@ own (answer.Planned told) = own_found told.kind
 own (answer.Unplanned bound branched) = tt
 own (answer.Infeasible branched) = tt
 
-module _ (asked : Planning) (before after pb pa : View) (ended : Status) (run : IsPlanRun asked before after pb pa ended) where
+module _ (asked : Planning) (before after pb pa : View) (ended : Status)
+    (run : IsPlanRun asked before after pb pa ended) where
   abbrev Tells : (Status → Type 0) → (Files → Type 0) → Type 0
-  Tells wanted P = (r : Result PlanAnswer Stop) → IsPlanning asked before after r → wanted (answer_status plan_status r)
+  Tells wanted P = (r : Result PlanAnswer Stop) → IsPlanning asked before after r
+      → wanted (answer_status plan_status r)
       → answer_prints Prints plan_prints r pb.written pa.written → IfSome before.files P
 
   optimal_told : Tells (λ s. s ≡ status.Optimal) (λ held. IsOptimalTold asked held after.files pb pa)
   optimal_told (Ok (answer.Planned told)) serves e report = by before.files serves.0.1
     where
-      by : (files : Option Files) → IfSome files (λ held. IsWritten asked held after.files (answer.Planned told))
+      by : (files : Option Files) → IfSome files
+          (λ held. IsWritten asked held after.files (answer.Planned told))
           → IfSome files (λ held. IsOptimalTold asked held after.files pb pa)
       by None h = tt
       by (Some held) h =
-          let k = kind_by h.search.inst h.search.done told h.search.found.sound.kind h.told in
+          let k = kind_by h.search.inst h.search.done told h.search.found.came.sound.kind h.told in
           let le = in_time (nat_le told.end told.bound) (sym (ap found_status k) ∙ e) in
-          let is : told.kind ≡ kind.Optimal = k ∙ ap (λ (b : Bool). if b then kind.Optimal else kind.Budget) le in
+          let is : told.kind ≡ kind.Optimal =
+          k ∙ ap (λ (b : Bool). if b then kind.Optimal else kind.Budget) le in
           record {
-            plan = record { told = told; written = h; kind = sym h.told.kind_told ∙ is; word = is; report = report; no_later = own_no_later h.search.inst asked.nodes h.search.own h.search.tree h.search.done told h.search.found h.told };
+            plan = record {
+              told = told;
+              written = h;
+              kind = sym h.told.kind_told ∙ is;
+              word = is;
+              report = report;
+              no_later =
+                  own_no_later h.search.inst asked.nodes h.search.own h.search.tree h.search.done told
+                  h.search.found h.told;
+            };
             enough = leb-true told.end told.bound le;
-            best = is_best h.search.inst asked.nodes h.search.own h.search.tree h.search.done told h.search.found h.told le;
+            best = is_best h.search.inst asked.nodes h.search.own h.search.tree h.search.done told
+                h.search.found h.told le;
           }
   optimal_told (Ok answer.WriteFault) serves e report = absurd (cc e)
   optimal_told (Ok (answer.Broken broken)) serves e report = absurd (cc e)
@@ -66,17 +80,28 @@ module _ (asked : Planning) (before after pb pa : View) (ended : Status) (run : 
   budget_told : Tells (λ s. s ≡ status.BudgetPlan) (λ held. IsBudgetTold asked held after.files pb pa)
   budget_told (Ok (answer.Planned told)) serves e report = by before.files serves.0.1
     where
-      by : (files : Option Files) → IfSome files (λ held. IsWritten asked held after.files (answer.Planned told))
+      by : (files : Option Files) → IfSome files
+          (λ held. IsWritten asked held after.files (answer.Planned told))
           → IfSome files (λ held. IsBudgetTold asked held after.files pb pa)
       by None h = tt
       by (Some held) h =
-          let k = kind_by h.search.inst h.search.done told h.search.found.sound.kind h.told in
+          let k = kind_by h.search.inst h.search.done told h.search.found.came.sound.kind h.told in
           let less = too_late (nat_le told.end told.bound) (sym (ap found_status k) ∙ e) in
-          let is : told.kind ≡ kind.Budget = k ∙ ap (λ (b : Bool). if b then kind.Optimal else kind.Budget) less in
+          let is : told.kind ≡ kind.Budget =
+          k ∙ ap (λ (b : Bool). if b then kind.Optimal else kind.Budget) less in
           let budget : h.search.done.kind ≡ kind.Budget = sym h.told.kind_told ∙ is in
           record {
-            plan = record { told = told; written = h; kind = budget; word = is; report = report; no_later = own_no_later h.search.inst asked.nodes h.search.own h.search.tree h.search.done told h.search.found h.told };
-            spent = h.told.branched ∙ h.search.found.sound.spent budget;
+            plan = record {
+              told = told;
+              written = h;
+              kind = budget;
+              word = is;
+              report = report;
+              no_later =
+                  own_no_later h.search.inst asked.nodes h.search.own h.search.tree h.search.done told
+                  h.search.found h.told;
+            };
+            spent = h.told.branched ∙ h.search.found.came.sound.spent budget;
           }
   budget_told (Ok answer.WriteFault) serves e report = absurd (cc e)
   budget_told (Ok (answer.Broken broken)) serves e report = absurd (cc e)
@@ -87,19 +112,22 @@ module _ (asked : Planning) (before after pb pa : View) (ended : Status) (run : 
   unplanned_told : Tells (λ s. s ≡ status.BudgetNone) (λ held. IsUnplannedTold asked held after.files pb pa)
   unplanned_told (Ok (answer.Unplanned bound branched)) serves e report = by before.files serves.0.1
     where
-      by : (files : Option Files) → IfSome files (λ held. IsWritten asked held after.files (answer.Unplanned bound branched))
+      by : (files : Option Files) → IfSome files
+          (λ held. IsWritten asked held after.files (answer.Unplanned bound branched))
           → IfSome files (λ held. IsUnplannedTold asked held after.files pb pa)
       by None h = tt
       by (Some held) h =
-          let budget = kind_none h.search.inst h.search.done (Least bound) h.search.found.sound.kind h.told.0 h.told.1 in
+          let budget = kind_none h.search.inst h.search.done
+          (Least bound) h.search.found.came.sound.kind h.told.0 h.told.1 in
           record {
             bound = bound;
             branched = branched;
             written = h;
             kind = budget;
-            no_own = own_none h.search.inst asked.nodes h.search.own h.search.tree h.search.done h.search.found h.told.0;
+            no_own = own_none h.search.inst asked.nodes h.search.own h.search.tree h.search.done h.search.found
+                h.told.0;
             report = report;
-            spent = h.told.2 ∙ h.search.found.sound.spent budget;
+            spent = h.told.2 ∙ h.search.found.came.sound.spent budget;
           }
   unplanned_told (Ok (answer.Planned told)) serves e report = absurd (not_found told.kind e)
     where
@@ -115,14 +143,16 @@ module _ (asked : Planning) (before after pb pa : View) (ended : Status) (run : 
   infeasible_told : Tells (λ s. s ≡ status.Infeasible) (λ held. IsInfeasibleTold asked held after.files pb pa)
   infeasible_told (Ok (answer.Infeasible branched)) serves e report = by before.files serves.0.1
     where
-      by : (files : Option Files) → IfSome files (λ held. IsWritten asked held after.files (answer.Infeasible branched))
+      by : (files : Option Files) → IfSome files
+          (λ held. IsWritten asked held after.files (answer.Infeasible branched))
           → IfSome files (λ held. IsInfeasibleTold asked held after.files pb pa)
       by None h = tt
       by (Some held) h = record {
         branched = branched;
         written = h;
-        kind = kind_none h.search.inst h.search.done Never h.search.found.sound.kind h.told.0 h.told.1;
-        none = none_goes h.search.inst asked.nodes h.search.own h.search.tree h.search.done h.search.found h.told.1;
+        kind = kind_none h.search.inst h.search.done Never h.search.found.came.sound.kind h.told.0 h.told.1;
+        none = none_goes h.search.inst asked.nodes h.search.own h.search.tree h.search.done h.search.found
+            h.told.1;
         report = report;
       }
   infeasible_told (Ok (answer.Planned told)) serves e report = absurd (not_found told.kind e)
@@ -136,8 +166,10 @@ module _ (asked : Planning) (before after pb pa : View) (ended : Status) (run : 
   infeasible_told (Ok (answer.Unplanned bound branched)) serves e report = absurd (cc e)
   infeasible_told (Err why) serves e report = absurd (stop_is_not why status.Infeasible e tt)
 
-  own_broken : (told : Broken) (files : Option Files) → before.files ≡ files → IsOwnBroken asked before after told
-      → Prints (broken_text told) pb.written pa.written → IfSome files (λ held. IsOwnBrokenTold asked held pb pa)
+  own_broken : (told : Broken) (files : Option Files) → before.files ≡ files
+      → IsOwnBroken asked before after told
+      → Prints (broken_text told) pb.written pa.written
+      → IfSome files (λ held. IsOwnBrokenTold asked held pb pa)
   own_broken told None is b report = tt
   own_broken told (Some held) is b report = record {
     job = b.job;
@@ -160,42 +192,56 @@ module _ (asked : Planning) (before after pb pa : View) (ended : Status) (run : 
   abbrev account : Result PlanAnswer Stop → Type 0
   account = IsPlanning asked before after
 
-  plan_optimal : ended ≡ status.Optimal → IfSome before.files (λ held. IsOptimalTold asked held after.files pb pa)
-  plan_optimal e = of_status account plan_prints plan_prints_part plan_status pb pa ended run status.Optimal e (λ f. cc f) optimal_told
+  plan_optimal : ended ≡ status.Optimal
+      → IfSome before.files (λ held. IsOptimalTold asked held after.files pb pa)
+  plan_optimal e = of_status account plan_prints plan_prints_part plan_status pb pa ended run status.Optimal e
+      (λ f. cc f) optimal_told
 
-  plan_budget : ended ≡ status.BudgetPlan → IfSome before.files (λ held. IsBudgetTold asked held after.files pb pa)
-  plan_budget e = of_status account plan_prints plan_prints_part plan_status pb pa ended run status.BudgetPlan e (λ f. cc f) budget_told
+  plan_budget : ended ≡ status.BudgetPlan
+      → IfSome before.files (λ held. IsBudgetTold asked held after.files pb pa)
+  plan_budget e = of_status account plan_prints plan_prints_part plan_status pb pa ended run status.BudgetPlan e
+      (λ f. cc f) budget_told
 
-  plan_none : ended ≡ status.BudgetNone → IfSome before.files (λ held. IsUnplannedTold asked held after.files pb pa)
-  plan_none e = of_status account plan_prints plan_prints_part plan_status pb pa ended run status.BudgetNone e (λ f. cc f) unplanned_told
+  plan_none : ended ≡ status.BudgetNone
+      → IfSome before.files (λ held. IsUnplannedTold asked held after.files pb pa)
+  plan_none e = of_status account plan_prints plan_prints_part plan_status pb pa ended run status.BudgetNone e
+      (λ f. cc f) unplanned_told
 
-  plan_infeasible : ended ≡ status.Infeasible → IfSome before.files (λ held. IsInfeasibleTold asked held after.files pb pa)
-  plan_infeasible e = of_status account plan_prints plan_prints_part plan_status pb pa ended run status.Infeasible e (λ f. cc f) infeasible_told
+  plan_infeasible : ended ≡ status.Infeasible
+      → IfSome before.files (λ held. IsInfeasibleTold asked held after.files pb pa)
+  plan_infeasible e = of_status account plan_prints plan_prints_part plan_status pb pa ended run
+      status.Infeasible e (λ f. cc f) infeasible_told
 
   plan_broken : ended ≡ status.Broken → IfSome before.files (λ held. IsOwnBrokenTold asked held pb pa)
-  plan_broken e = of_status account plan_prints plan_prints_part plan_status pb pa ended run status.Broken e (λ f. cc f) broken_told
+  plan_broken e = of_status account plan_prints plan_prints_part plan_status pb pa ended run status.Broken e
+      (λ f. cc f) broken_told
 
   -- a search that ends with Budget had fewer branchings than the limit
-  undecided : (held : Files) (a : PlanAnswer) → (w : IsWritten asked held after.files a) → w.search.done.kind ≡ kind.Budget
+  undecided : (held : Files) (a : PlanAnswer) → (w : IsWritten asked held after.files a)
+      → w.search.done.kind ≡ kind.Budget
       → (job : OwnJob) → own_job_due asked.inputs.own (contents_in held asked.inputs) ≡ Ok job
       → branching_limit job.inst ≤ asked.nodes → ⊥
   undecided held a w budget job is enough =
-      w.search.found.sound.decides
-      (subst (λ (j : OwnJob). branching_limit j.inst ≤ asked.nodes) (same_ok (sym is ∙ w.search.due)) enough) budget
+      w.search.found.came.sound.decides
+      (subst (λ (j : OwnJob). branching_limit j.inst ≤ asked.nodes) (same_ok (sym is ∙ w.search.due)) enough)
+      budget
 
   plan_decides : IfSome before.files (λ held. (job : OwnJob)
       → own_job_due asked.inputs.own (contents_in held asked.inputs) ≡ Ok job
       → branching_limit job.inst ≤ asked.nodes → (ended ≢ status.BudgetPlan) × (ended ≢ status.BudgetNone))
   plan_decides = by before.files plan_budget plan_none
     where
-      by : (files : Option Files) → (ended ≡ status.BudgetPlan → IfSome files (λ held. IsBudgetTold asked held after.files pb pa))
+      by : (files : Option Files) → (ended ≡ status.BudgetPlan
+          → IfSome files (λ held. IsBudgetTold asked held after.files pb pa))
           → (ended ≡ status.BudgetNone → IfSome files (λ held. IsUnplannedTold asked held after.files pb pa))
-          → IfSome files (λ held. (job : OwnJob) → own_job_due asked.inputs.own (contents_in held asked.inputs) ≡ Ok job
+          → IfSome files (λ held. (job : OwnJob)
+          → own_job_due asked.inputs.own (contents_in held asked.inputs) ≡ Ok job
           → branching_limit job.inst ≤ asked.nodes → (ended ≢ status.BudgetPlan) × (ended ≢ status.BudgetNone))
       by None budget none = tt
       by (Some held) budget none = λ job is enough. (
         λ e. let b = (budget e).plan in undecided held (answer.Planned b.told) b.written b.kind job is enough,
-        λ e. let b = none e in undecided held (answer.Unplanned b.bound b.branched) b.written b.kind job is enough,
+        λ e. let b = none e in undecided held
+            (answer.Unplanned b.bound b.branched) b.written b.kind job is enough,
       )
 
   -- ---- what is left in the files
@@ -225,26 +271,33 @@ module _ (asked : Planning) (before after pb pa : View) (ended : Status) (run : 
   stopped_left (Some held) h = h.left
 
   left : (r : Result PlanAnswer Stop) → account r → IfSome before.files (λ held. IsLeft asked held after.files)
-  left (Err why) serves = as_it_was (λ held. IsLeft asked held after.files) before.files after.files serves.2 (λ held e. inl e)
+  left (Err why) serves = as_it_was (λ held. IsLeft asked held after.files) before.files after.files serves.2
+      (λ held e. inl e)
   left (Ok answer.WriteFault) serves = stopped_left before.files serves.0.1
   left (Ok (answer.Broken told)) serves =
-      as_it_was (λ held. IsLeft asked held after.files) before.files after.files serves.0.1.files (λ held e. inl e)
+      as_it_was (λ held. IsLeft asked held after.files) before.files after.files serves.0.1.files
+      (λ held e. inl e)
   left (Ok (answer.Planned told)) serves = all_left (answer.Planned told) before.files serves.0.1
-  left (Ok (answer.Unplanned bound branched)) serves = all_left (answer.Unplanned bound branched) before.files serves.0.1
+  left (Ok (answer.Unplanned bound branched)) serves =
+      all_left (answer.Unplanned bound branched) before.files serves.0.1
   left (Ok (answer.Infeasible branched)) serves = all_left (answer.Infeasible branched) before.files serves.0.1
 
   -- ---- what the sink got where the run ended with WriteFault
 
-  stop_told : (r : Result PlanAnswer Stop) → account r → answer_status plan_status r ≡ status.WriteFault → pa.faults ≡ pb.faults
+  stop_told : (r : Result PlanAnswer Stop) → account r → answer_status plan_status r ≡ status.WriteFault
+      → pa.faults ≡ pb.faults
       → answer_prints Prints plan_prints r pb.written pa.written → IsStopTold asked before after pb pa
-  stop_told (Ok answer.WriteFault) serves e faults report = record { rose = serves.0.0; serves = serves; faults = faults; report = report }
+  stop_told (Ok answer.WriteFault) serves e faults report =
+      record { rose = serves.0.0; serves = serves; faults = faults; report = report }
   stop_told (Ok (answer.Broken told)) serves e faults report = absurd (cc e)
-  stop_told (Ok (answer.Planned told)) serves e faults report = absurd (found_is_not told.kind status.WriteFault e)
+  stop_told (Ok (answer.Planned told)) serves e faults report =
+      absurd (found_is_not told.kind status.WriteFault e)
   stop_told (Ok (answer.Unplanned bound branched)) serves e faults report = absurd (cc e)
   stop_told (Ok (answer.Infeasible branched)) serves e faults report = absurd (cc e)
   stop_told (Err why) serves e faults report = absurd (stop_is_not why status.WriteFault e tt)
 
-  write_fault : ended ≡ status.WriteFault → IsCutTold account plan_prints_part pb pa ⊎ IsStopTold asked before after pb pa
+  write_fault : ended ≡ status.WriteFault
+      → IsCutTold account plan_prints_part pb pa ⊎ IsStopTold asked before after pb pa
   write_fault e = elim run.reports.ending [
     | inl told ↦ inr (stop_told run.answer run.serves (sym told.status ∙ e) told.faults told.printed)
     | inr cut ↦ inl (record { rose = cut.rose; answer = run.answer; serves = run.serves; report = cut.printed })
@@ -254,10 +307,12 @@ module _ (asked : Planning) (before after pb pa : View) (ended : Status) (run : 
 
   module _ (none : NoneFailed before after pb pa) where
     abbrev Ends : Files → Status → Type 0
-    Ends held s = EndsBy EndsPlanned (own_job_due asked.inputs.own (contents_in held asked.inputs)) s ⊎ (s ≡ status.OutOfMemory)
+    Ends held s = EndsBy EndsPlanned (own_job_due asked.inputs.own (contents_in held asked.inputs)) s
+        ⊎ (s ≡ status.OutOfMemory)
 
     -- a schedule of the planner's own that goes one way leaves a search its end
-    one_way_ends : (job : OwnJob) (s : Status) → IfSome job.own (GoesOneWay job.inst) → IsSearchEnd s → EndsPlanned job s
+    one_way_ends : (job : OwnJob) (s : Status) → IfSome job.own (GoesOneWay job.inst) → IsSearchEnd s
+        → EndsPlanned job s
     one_way_ends job s goes end = record { neither = never job.own goes; one_way = λ _. end }
       where
         never : (own : Option (List Slot)) → IfSome own (GoesOneWay job.inst)
@@ -269,38 +324,54 @@ module _ (asked : Planning) (before after pb pa : View) (ended : Status) (run : 
     neither_ends : (job : OwnJob) (sched : List Slot) → job.own ≡ Some sched → ¬ GoesOneWay job.inst sched
         → EndsPlanned job status.Broken
     neither_ends job sched is neither =
-        record { neither = all job.own; one_way = λ goes. absurd (neither (of_some (GoesOneWay job.inst) job.own sched is goes)) }
+        record {
+          neither = all job.own;
+          one_way = λ goes. absurd
+              (neither (of_some (GoesOneWay job.inst) job.own sched is goes));
+        }
       where
-        all : (own : Option (List Slot)) → IfSome own (λ sched. ¬ GoesOneWay job.inst sched → status.Broken ≡ status.Broken)
+        all : (own : Option (List Slot))
+            → IfSome own (λ sched. ¬ GoesOneWay job.inst sched → status.Broken ≡ status.Broken)
         all None = tt
         all (Some sched) = λ _. refl
 
-    broken_ends : (held : Files) → before.files ≡ Some held → (told : Broken) → IsOwnBroken asked before after told
+    broken_ends : (held : Files) → before.files ≡ Some held → (told : Broken)
+        → IsOwnBroken asked before after told
         → Ends held status.Broken
     broken_ends held is told b =
         inl (rw (comes_due (own_job_due asked.inputs.own) asked.inputs held before.files is (Ok b.job) b.due)
         (neither_ends b.job b.sched b.own b.tells.neither))
 
-    searched_ends : (held : Files) (a : PlanAnswer) (files : Option Files) → files ≡ Some held → IfSome files (λ held. IsWritten asked held after.files a)
+    searched_ends : (held : Files) (a : PlanAnswer) (files : Option Files) → files ≡ Some held
+        → IfSome files (λ held. IsWritten asked held after.files a)
         → (s : Status) → IsSearchEnd s → Ends held s
     searched_ends held a None told h s end = absurd (cc told)
     searched_ends held a (Some other) told h s end =
         let same : other ≡ held = cc in
-        inl (subst (λ files. EndsBy EndsPlanned (own_job_due asked.inputs.own (contents_in files asked.inputs)) s) same
-        (rw (h.search.due) (one_way_ends (record { inst = h.search.inst; own = h.search.own }) s h.search.goes end)))
+        inl (subst (λ files. EndsBy EndsPlanned
+        (own_job_due asked.inputs.own (contents_in files asked.inputs)) s) same
+        (rw (h.search.due) (one_way_ends
+        (record { inst = h.search.inst; own = h.search.own }) s h.search.goes end)))
 
-    answer_ends : (held : Files) → before.files ≡ Some held → (r : Result PlanAnswer Stop) → account r → Ends held (answer_status plan_status r)
-    answer_ends held told (Err why) serves = stop_due (own_job_due asked.inputs.own) EndsPlanned asked.inputs before after held told none.reading why serves.0
+    answer_ends : (held : Files) → before.files ≡ Some held → (r : Result PlanAnswer Stop) → account r
+        → Ends held (answer_status plan_status r)
+    answer_ends held told (Err why) serves =
+        stop_due (own_job_due asked.inputs.own) EndsPlanned asked.inputs before after held told none.reading why
+        serves.0
     answer_ends held told (Ok answer.WriteFault) serves = absurd (none.writing serves.0.0)
     answer_ends held told (Ok (answer.Broken broken)) serves = broken_ends held told broken serves.0.1
-    answer_ends held told (Ok (answer.Planned found)) serves = searched_ends held (answer.Planned found) before.files told serves.0.1 _ (search_end found.kind)
-    answer_ends held told (Ok (answer.Unplanned bound branched)) serves = searched_ends held (answer.Unplanned bound branched) before.files told serves.0.1 _ tt
-    answer_ends held told (Ok (answer.Infeasible branched)) serves = searched_ends held (answer.Infeasible branched) before.files told serves.0.1 _ tt
+    answer_ends held told (Ok (answer.Planned found)) serves =
+        searched_ends held (answer.Planned found) before.files told serves.0.1 _ (search_end found.kind)
+    answer_ends held told (Ok (answer.Unplanned bound branched)) serves =
+        searched_ends held (answer.Unplanned bound branched) before.files told serves.0.1 _ tt
+    answer_ends held told (Ok (answer.Infeasible branched)) serves =
+        searched_ends held (answer.Infeasible branched) before.files told serves.0.1 _ tt
 
     complete : (files : Option Files) → before.files ≡ files → IfSome files (λ held. Ends held ended)
     complete None told = tt
     complete (Some held) told =
-        unfailed account plan_prints plan_prints_part plan_status pb pa ended run none.printing (Ends held) (answer_ends held told run.answer run.serves)
+        unfailed account plan_prints plan_prints_part plan_status pb pa ended run none.printing (Ends held)
+        (answer_ends held told run.answer run.serves)
 
   pub plan_promises : PlanPromises asked before after pb pa ended
   plan_promises = record {

@@ -1,5 +1,5 @@
 -- What a search leaves in its files, from what the shelf's calls say.
-use Rattle.std.proofs.Common.{◌≡◌, ℕ, true, false, List, Option, None, Some, Result, Ok, Err, ◌⊎◌, ap, ◌∙◌, inl, inr, refl, subst, arith, IfSome, IsSomeAnd, OnErr, OnOk, is_err}
+use Rattle.std.proofs.Common.{◌≡◌, ℕ, true, false, List, Option, None, Some, Result, Ok, Err, ◌⊎◌, ap, ◌∙◌, inl, inr, refl, subst, IfSome, IsSomeAnd, OnErr, OnOk, is_err}
 use Rattle.std.specs.Io.KnownBytes.{append_known}
 use Rattle.qc_io.specs.Outside.{Beside, Files, Rose, View, begun, beside, finished, with_file}
 use Rattle.qc_model.specs.declared.schedule.Slot.{Slot}
@@ -18,7 +18,7 @@ use Rattle.qc_plan_command.specs.declared.answer.PlanAnswer.{PlanAnswer}
 use Rattle.qc_plan_command.specs.declared.answer.PlanAnswer.TheVariants as answer
 use Rattle.qc_plan_command.specs.Account.{IsLeft, IsPlanning, IsSearched, IsStopped, IsWritten, Writes}
 use Rattle.qc_plan_command.specs.Asked.{Planning}
-use Rattle.qc_plan_command.specs.Found.{IsNoLater, Tells}
+use Rattle.qc_plan_command.specs.Found.{IsChosen, Tells}
 use Rattle.qc_plan_command.specs.Stored.{IsTreeLeft, IsTreeStored, with_plan}
 
 -- ---- a file that is made
@@ -29,18 +29,23 @@ finish_is None name text = refl
 finish_is (Some held) name text = refl
 
 -- where it is finished its name holds the text that was written since it was begun
-pub made_file : (before created wrote : View) (name text : List ℕ) → created.files ≡ before.files → created.made ≡ Some name
-    → created.written ≡ begun before.files → wrote.written ≡ append_known created.written text → beside wrote ≡ beside created
+pub made_file : (before created wrote : View) (name text : List ℕ) → created.files ≡ before.files
+    → created.made ≡ Some name
+    → created.written ≡ begun before.files → wrote.written ≡ append_known created.written text
+    → beside wrote ≡ beside created
     → finished wrote.files wrote.made wrote.written ≡ with_file before.files name text
 made_file before created wrote name text same made fresh whole stays =
     ap (λ (f : Option Files). finished f wrote.made wrote.written) (ap (λ (b : Beside). b.files) stays ∙ same)
-    ∙ ap (λ (m : Option (List ℕ)). finished before.files m wrote.written) (ap (λ (b : Beside). b.made) stays ∙ made)
+    ∙ ap (λ (m : Option (List ℕ)). finished before.files m wrote.written)
+    (ap (λ (b : Beside). b.made) stays ∙ made)
     ∙ ap (finished before.files (Some name)) (whole ∙ ap (λ (w : Option (List ℕ)). append_known w text) fresh)
     ∙ finish_is before.files name text
 
 -- a file that couldn't be finished is as it was, or whole
-pub left_file : (before created wrote after : View) (name text : List ℕ) → created.files ≡ before.files → created.made ≡ Some name
-    → created.written ≡ begun before.files → wrote.written ≡ append_known created.written text → beside wrote ≡ beside created
+pub left_file : (before created wrote after : View) (name text : List ℕ) → created.files ≡ before.files
+    → created.made ≡ Some name
+    → created.written ≡ begun before.files → wrote.written ≡ append_known created.written text
+    → beside wrote ≡ beside created
     → (after.files ≡ wrote.files) ⊎ (after.files ≡ finished wrote.files wrote.made wrote.written)
     → (after.files ≡ before.files) ⊎ (after.files ≡ with_file before.files name text)
 left_file before created wrote after name text same made fresh whole stays (inl kept) =
@@ -49,19 +54,16 @@ left_file before created wrote after name text same made fresh whole stays (inr 
     inr (put ∙ made_file before created wrote name text same made fresh whole stays)
 
 -- what stays as it was is as it was, told or not
-pub as_it_was : (P : Files → Type 0) (before after : Option Files) → after ≡ before → ((held : Files) → after ≡ Some held → P held) → IfSome before P
+pub as_it_was : (P : Files → Type 0) (before after : Option Files) → after ≡ before
+    → ((held : Files) → after ≡ Some held → P held) → IfSome before P
 as_it_was P None after same by = tt
 as_it_was P (Some held) after same by = by held same
 
 -- ---- the tree's file
 
--- a schedule ends no later than itself
-no_worse : (inst : InstanceView) (given : Option (List Slot)) → IsNoLater inst given given
-no_worse inst None = tt
-no_worse inst (Some sched) = omega arith
-
 -- the search ran, and its file was finished
-pub tree_stored : (search : SearchView) (given : Option (List Slot)) (name : List ℕ) (before after : Option Files)
+pub tree_stored : (search : SearchView) (given : Option (List Slot)) (name : List ℕ)
+    (before after : Option Files)
     (written now : Option (List ℕ)) (done : DoneView)
     → (ran : Searched search given written now done) → IsSound search given done
     → after ≡ with_file before name (tree_text search.inst ran.tree)
@@ -69,9 +71,7 @@ pub tree_stored : (search : SearchView) (given : Option (List Slot)) (name : Lis
 tree_stored search given name None after written now done ran sound e = tt
 tree_stored search given name (Some held) after written now done ran sound e = record {
   tree = ran.tree;
-  found = record {
-    given = given;
-    no_worse = no_worse search.inst given;
+  came = record {
     first = ran.first;
     begins = ran.begins;
     given_told = ran.told;
@@ -94,56 +94,19 @@ tree_left search given name (Some held) after written now done ran sound (inl sa
 tree_left search given name (Some held) after written now done ran sound (inr e) =
     inr (done, tree_stored search given name (Some held) after written now done ran sound e)
 
--- what ends no later than a schedule that ends no later than the planner's own
-through : (inst : InstanceView) (own given other : Option (List Slot)) → IsNoLater inst own given → IsNoLater inst given other
-    → IsNoLater inst own other
-through inst None given other first second = tt
-through inst (Some sched) None other first second = absurd first
-through inst (Some sched) (Some one) None first second = absurd second
-through inst (Some sched) (Some one) (Some two) first second = omega (arith, first, second)
-
--- what a search stores that is given no later a schedule than the planner's own
-module _ (search : SearchView) (own given : Option (List Slot)) (name : List ℕ) (late : IsNoLater search.inst own given) where
-  stored_for : (held : Files) (after : Option Files) (done : DoneView) → IsTreeStored search given name held after done
-      → IsTreeStored search own name held after done
-  stored_for held after done stored = record {
-    tree = stored.tree;
-    found = record {
-      given = stored.found.given;
-      no_worse = through search.inst own given stored.found.given late stored.found.no_worse;
-      first = stored.found.first;
-      begins = stored.found.begins;
-      given_told = stored.found.given_told;
-      run = stored.found.run;
-      bound = stored.found.bound;
-      branched = stored.found.branched;
-      sound = stored.found.sound;
-    };
-    files = stored.files;
-  }
-
-  pub tree_for : (before after : Option Files) (done : DoneView)
-      → IfSome before (λ held. IsTreeStored search given name held after done)
-      → IfSome before (λ held. IsTreeStored search own name held after done)
-  tree_for None after done stored = tt
-  tree_for (Some held) after done stored = stored_for held after done stored
-
-  pub left_for : (before after : Option Files) → IfSome before (λ held. IsTreeLeft search given name held after)
-      → IfSome before (λ held. IsTreeLeft search own name held after)
-  left_for None after left = tt
-  left_for (Some held) after (inl same) = inl same
-  left_for (Some held) after (inr stored) = inr (stored.0, stored_for held after stored.0 stored.1)
-
 -- ---- what the command comes to
 
-module _ (asked : Planning) (job : OwnJob) (goes : IfSome job.own (GoesOneWay job.inst)) (before mid after : Option Files)
+module _ (asked : Planning) (job : OwnJob) (goes : IfSome job.own (GoesOneWay job.inst))
+    (found given : Option (List Slot))
+    (chosen : IsChosen job.inst job.own found given) (before mid after : Option Files)
     (due_is : ComesTo (own_job_due asked.inputs.own) asked.inputs before (Ok job)) where
   abbrev view : SearchView
   view = record { inst = job.inst; nodes = asked.nodes }
 
   -- the search that is due came to what is stored
-  abbrev searched : (held : Files) (done : DoneView) → ComesTo (own_job_due asked.inputs.own) asked.inputs (Some held) (Ok job)
-      → IsTreeStored view job.own asked.tree held mid done → IsSearched asked held
+  abbrev searched : (held : Files) (done : DoneView)
+      → ComesTo (own_job_due asked.inputs.own) asked.inputs (Some held) (Ok job)
+      → IsTreeStored view given asked.tree held mid done → IsSearched asked held
   searched held done due_is stored = record {
     inst = job.inst;
     own = job.own;
@@ -151,14 +114,16 @@ module _ (asked : Planning) (job : OwnJob) (goes : IfSome job.own (GoesOneWay jo
     goes = goes;
     tree = stored.tree;
     done = done;
-    found = stored.found;
+    found = record { found = found; given = given; chosen = chosen; came = stored.came };
   }
 
   -- the tree's file couldn't be made
-  pub left_tree : IfSome before (λ held. IsTreeLeft view job.own asked.tree held mid) → IfSome before (λ held. IsLeft asked held mid)
+  pub left_tree : IfSome before (λ held. IsTreeLeft view given asked.tree held mid)
+      → IfSome before (λ held. IsLeft asked held mid)
   left_tree = by before due_is
     where
-      by : (files : Option Files) → ComesTo (own_job_due asked.inputs.own) asked.inputs files (Ok job) → IfSome files (λ held. IsTreeLeft view job.own asked.tree held mid)
+      by : (files : Option Files) → ComesTo (own_job_due asked.inputs.own) asked.inputs files (Ok job)
+          → IfSome files (λ held. IsTreeLeft view given asked.tree held mid)
           → IfSome files (λ held. IsLeft asked held mid)
       by None due_is left = tt
       by (Some held) due_is (inl same) = inl same
@@ -173,34 +138,41 @@ module _ (asked : Planning) (job : OwnJob) (goes : IfSome job.own (GoesOneWay jo
       there (Some other) is h = let e : other ≡ now = cc in subst P e h
 
   -- the plan's file couldn't be made
-  pub left_plan : (done : DoneView) → IfSome before (λ held. IsTreeStored view job.own asked.tree held mid done)
+  pub left_plan : (done : DoneView) → IfSome before (λ held. IsTreeStored view given asked.tree held mid done)
       → IfSome mid (λ held. (after ≡ Some held) ⊎ (after ≡ Some (with_plan held asked.plan job.inst done.best)))
       → IfSome before (λ held. IsLeft asked held after)
   left_plan done = by before due_is
     where
-      by : (files : Option Files) → ComesTo (own_job_due asked.inputs.own) asked.inputs files (Ok job) → IfSome files (λ held. IsTreeStored view job.own asked.tree held mid done)
-          → IfSome mid (λ held. (after ≡ Some held) ⊎ (after ≡ Some (with_plan held asked.plan job.inst done.best)))
+      by : (files : Option Files) → ComesTo (own_job_due asked.inputs.own) asked.inputs files (Ok job)
+          → IfSome files (λ held. IsTreeStored view given asked.tree held mid done)
+          → IfSome mid (λ held. (after ≡ Some held)
+          ⊎ (after ≡ Some (with_plan held asked.plan job.inst done.best)))
           → IfSome files (λ held. IsLeft asked held after)
       by None due_is stored left = tt
       by (Some held) due_is stored left = inr (
         searched held done due_is stored,
-        over (λ files. (after ≡ Some files) ⊎ (after ≡ Some (with_plan files asked.plan job.inst done.best))) _ _ stored.files left refl,
+        over (λ files. (after ≡ Some files) ⊎ (after ≡ Some (with_plan files asked.plan job.inst done.best))) _
+            _ stored.files left refl,
       )
 
   -- both are made, and the answer tells of the search
-  pub both_written : (done : DoneView) (a : PlanAnswer) → IfSome before (λ held. IsTreeStored view job.own asked.tree held mid done)
+  pub both_written : (done : DoneView) (a : PlanAnswer)
+      → IfSome before (λ held. IsTreeStored view given asked.tree held mid done)
       → IfSome mid (λ held. after ≡ Some (with_plan held asked.plan job.inst done.best)) → Tells job.inst done a
       → IfSome before (λ held. IsWritten asked held after a)
   both_written done a = by before due_is
     where
-      by : (files : Option Files) → ComesTo (own_job_due asked.inputs.own) asked.inputs files (Ok job) → IfSome files (λ held. IsTreeStored view job.own asked.tree held mid done)
-          → IfSome mid (λ held. after ≡ Some (with_plan held asked.plan job.inst done.best)) → Tells job.inst done a
+      by : (files : Option Files) → ComesTo (own_job_due asked.inputs.own) asked.inputs files (Ok job)
+          → IfSome files (λ held. IsTreeStored view given asked.tree held mid done)
+          → IfSome mid (λ held. after ≡ Some (with_plan held asked.plan job.inst done.best))
+          → Tells job.inst done a
           → IfSome files (λ held. IsWritten asked held after a)
       by None due_is stored wrote told = tt
       by (Some held) due_is stored wrote told = record {
         search = searched held done due_is stored;
         told = told;
-        files = over (λ files. after ≡ Some (with_plan files asked.plan job.inst done.best)) _ _ stored.files wrote refl;
+        files = over (λ files. after ≡ Some (with_plan files asked.plan job.inst done.best)) _ _ stored.files
+            wrote refl;
       }
 
 -- the writing of the search that is due was stopped
@@ -223,42 +195,46 @@ module _ (asked : Planning) (job : OwnJob) (goes : IfSome job.own (GoesOneWay jo
   abbrev due_search : SearchView
   due_search = record { inst = job.inst; nodes = asked.nodes }
 
-  -- the tree's file couldn't be made
-  pub at_tree : (given : Option (List Slot)) → IsNoLater job.inst job.own given
-      → IfSome created (λ held. IsTreeLeft search given asked.tree held mid) → IfSome before (λ held. IsStopped asked held mid)
-  at_tree given late left =
-      stopped asked job goes before mid due (left_tree asked job goes before mid mid due
-      (left_for due_search job.own given asked.tree late before mid
-      (subst (λ (f : Option Files). IfSome f (λ held. IsTreeLeft due_search given asked.tree held mid)) same
-      (subst (λ (s : SearchView). IfSome created (λ held. IsTreeLeft s given asked.tree held mid)) is left))))
+  module _ (found given : Option (List Slot)) (chosen : IsChosen job.inst job.own found given) where
+    -- the tree's file couldn't be made
+    pub at_tree : IfSome created (λ held. IsTreeLeft search given asked.tree held mid)
+        → IfSome before (λ held. IsStopped asked held mid)
+    at_tree left =
+        stopped asked job goes before mid due (left_tree asked job goes found given chosen before mid mid due
+        (subst (λ (f : Option Files). IfSome f (λ held. IsTreeLeft due_search given asked.tree held mid)) same
+        (subst (λ (s : SearchView). IfSome created (λ held. IsTreeLeft s given asked.tree held mid)) is left)))
 
-  stored_is : (given : Option (List Slot)) → IsNoLater job.inst job.own given → (done : DoneView)
-      → IfSome created (λ held. IsTreeStored search given asked.tree held mid done)
-      → IfSome before (λ held. IsTreeStored due_search job.own asked.tree held mid done)
-  stored_is given late done stored =
-      tree_for due_search job.own given asked.tree late before mid done
-      (subst (λ (f : Option Files). IfSome f (λ held. IsTreeStored due_search given asked.tree held mid done)) same
-      (subst (λ (s : SearchView). IfSome created (λ held. IsTreeStored s given asked.tree held mid done)) is stored))
+    stored_is : (done : DoneView) → IfSome created (λ held. IsTreeStored search given asked.tree held mid done)
+        → IfSome before (λ held. IsTreeStored due_search given asked.tree held mid done)
+    stored_is done stored =
+        subst (λ (f : Option Files). IfSome f (λ held. IsTreeStored due_search given asked.tree held mid done))
+        same
+        (subst (λ (s : SearchView). IfSome created (λ held. IsTreeStored s given asked.tree held mid done)) is
+        stored)
 
-  -- the plan's file couldn't be made
-  pub at_plan : (given : Option (List Slot)) → IsNoLater job.inst job.own given → (done : DoneView)
-      → IfSome created (λ held. IsTreeStored search given asked.tree held mid done)
-      → IfSome mid (λ held. (after ≡ Some held) ⊎ (after ≡ Some (with_plan held asked.plan job.inst done.best)))
-      → IfSome before (λ held. IsStopped asked held after)
-  at_plan given late done stored left =
-      stopped asked job goes before after due
-      (left_plan asked job goes before mid after due done (stored_is given late done stored) left)
+    -- the plan's file couldn't be made
+    pub at_plan : (done : DoneView)
+        → IfSome created (λ held. IsTreeStored search given asked.tree held mid done)
+        → IfSome mid (λ held. (after ≡ Some held)
+        ⊎ (after ≡ Some (with_plan held asked.plan job.inst done.best)))
+        → IfSome before (λ held. IsStopped asked held after)
+    at_plan done stored left =
+        stopped asked job goes before after due
+        (left_plan asked job goes found given chosen before mid after due done (stored_is done stored) left)
 
-  -- both were made
-  pub at_end : (given : Option (List Slot)) → IsNoLater job.inst job.own given → (done : DoneView) (a : PlanAnswer)
-      → IfSome created (λ held. IsTreeStored search given asked.tree held mid done)
-      → IfSome mid (λ held. after ≡ Some (with_plan held asked.plan job.inst done.best)) → Tells job.inst done a
-      → IfSome before (λ held. IsWritten asked held after a)
-  at_end given late done a stored wrote told =
-      both_written asked job goes before mid after due done a (stored_is given late done stored) wrote told
+    -- both were made
+    pub at_end : (done : DoneView) (a : PlanAnswer)
+        → IfSome created (λ held. IsTreeStored search given asked.tree held mid done)
+        → IfSome mid (λ held. after ≡ Some (with_plan held asked.plan job.inst done.best))
+        → Tells job.inst done a
+        → IfSome before (λ held. IsWritten asked held after a)
+    at_end done a stored wrote told =
+        both_written asked job goes found given chosen before mid after due done a
+        (stored_is done stored) wrote told
 
 -- the planner's own plan was read, and breaks a rule
-pub own_broken : (asked : Planning) (names : Names) (before after : View) (job : OwnJob) (told : Broken) → names ≡ asked.inputs
+pub own_broken : (asked : Planning) (names : Names) (before after : View) (job : OwnJob) (told : Broken)
+    → names ≡ asked.inputs
     → IsStep (own_job_due names.own) names before after (Ok job)
     → IsSomeAnd job.own (λ sched. TellsBreak job.inst sched told)
     → IsPlanning asked before after (Ok (answer.Broken told))
@@ -286,7 +262,8 @@ own_broken asked names before after job told same step tells =
     )
 
 -- what is planned behind a reading is planned behind what was there before it
-module _ (asked : Planning) (before mid after : View) (files : mid.files ≡ before.files) (made : mid.made ≡ before.made)
+module _ (asked : Planning) (before mid after : View) (files : mid.files ≡ before.files)
+    (made : mid.made ≡ before.made)
     (faults : mid.faults ≡ before.faults) (reads : mid.read_faults ≡ before.read_faults) where
   written_over : (a : PlanAnswer) → IfSome mid.files (λ held. IsWritten asked held after.files a)
       → IfSome before.files (λ held. IsWritten asked held after.files a)
@@ -305,7 +282,8 @@ module _ (asked : Planning) (before mid after : View) (files : mid.files ≡ bef
       told.0.0 ∙ faults,
       record {
         job = told.0.1.job;
-        due = subst (λ (f : Option Files). ComesTo (own_job_due asked.inputs.own) asked.inputs f (Ok told.0.1.job)) files
+        due = subst (λ (f : Option Files). ComesTo (own_job_due asked.inputs.own) asked.inputs f
+            (Ok told.0.1.job)) files
             told.0.1.due;
         sched = told.0.1.sched;
         own = told.0.1.own;
@@ -324,12 +302,15 @@ module _ (asked : Planning) (before mid after : View) (files : mid.files ≡ bef
       ((told.0.0 ∙ faults, written_over (answer.Infeasible branched) told.0.1), told.1 ∙ reads)
 
 -- an answer that tells of a search wrote both files
-pub writes_told : (asked : Planning) (before after : View) (inst : InstanceView) (done : DoneView) (a : PlanAnswer) → Tells inst done a
-    → after.faults ≡ before.faults → IfSome before.files (λ held. IsWritten asked held after.files a) → Writes asked before after a
+pub writes_told : (asked : Planning) (before after : View) (inst : InstanceView) (done : DoneView)
+    (a : PlanAnswer) → Tells inst done a
+    → after.faults ≡ before.faults → IfSome before.files (λ held. IsWritten asked held after.files a)
+    → Writes asked before after a
 writes_told asked before after inst done answer.WriteFault told faults written = absurd told
 writes_told asked before after inst done (answer.Broken broken) told faults written = absurd told
 writes_told asked before after inst done (answer.Planned found) told faults written = (faults, written)
-writes_told asked before after inst done (answer.Unplanned bound branched) told faults written = (faults, written)
+writes_told asked before after inst done (answer.Unplanned bound branched) told faults written =
+    (faults, written)
 writes_told asked before after inst done (answer.Infeasible branched) told faults written = (faults, written)
 
 -- what holds of an error holds where the test for one says so

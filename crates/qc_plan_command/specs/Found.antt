@@ -1,5 +1,5 @@
 -- public: what a search came to, and what an answer tells of it.
-use Rattle.std.specs.Prelude.{◌≡◌, ℕ, ◌≤◌, List, Option, None, Some, Ok, IfSome, IsSomeAnd, option_map}
+use Rattle.std.specs.Prelude.{◌≡◌, ℕ, ◌≤◌, List, Option, None, Some, Ok, IsSomeAnd, if◌then◌else◌, nat_lt, option_map}
 use Rattle.qc_num.specs.declared.bound.Bound.TheVariants.{Least, Never}
 use Rattle.qc_gantt.specs.Plan.{plan_in}
 use Rattle.qc_gantt.specs.PlanText.{plan_text}
@@ -9,22 +9,29 @@ use Rattle.qc_model.specs.Judge.{IsDirection}
 use Rattle.qc_model.specs.Motion.{IsSafe}
 use Rattle.qc_model.specs.Rules.{ends}
 use Rattle.qc_tree.specs.Trees.{Tree, tree_branchings, tree_value}
-use Rattle.qc_search.specs.Run.{DoneView, IsFirst, IsRun, IsSound}
+use Rattle.qc_search.specs.Run.{DoneView, IsFirst, IsRun, IsSound, IsTightEnd}
 use Rattle.qc_plan_command.specs.declared.answer.Planned.{Planned}
 use Rattle.qc_plan_command.specs.declared.answer.PlanAnswer.{PlanAnswer}
 use Rattle.qc_plan_command.specs.declared.answer.PlanAnswer.TheVariants as answer
 
--- where the planner has a schedule, this one is there and ends no later
-abbrev pub IsNoLater : InstanceView → (own given : Option (List Slot)) → Type 0
-IsNoLater inst own given = IfSome own (λ sched. IsSomeAnd given (λ other. ends inst other ≤ ends inst sched))
+-- of the planner's own schedule and one that was found this one is given: the found one where it ends before
+-- the tight form of the own one does, and else the own one
+pub record IsEarlier (inst : InstanceView) (own found given : List Slot) : Type 0 where
+  pub end : ℕ
+  pub tight : IsTightEnd inst own end
+  pub is : given ≡ (if nat_lt (ends inst found) end then found else own)
 
--- what a search with so many branchings came to: it was given a schedule that ends no later than the planner's own,
--- where there is one; it began with the tight form of that; its tree is one of the instance that is earned, its
--- schedule, if any, a best one that it knows, and what holds of each search
-pub record IsFound (inst : InstanceView) (nodes : ℕ) (own : Option (List Slot)) (tree : Tree) (done : DoneView)
-    : Type 0 where
-  pub given : Option (List Slot)
-  pub no_worse : IsNoLater inst own given
+-- the same where there may be none: of one alone that one, and of none none
+abbrev pub IsChosen : InstanceView → (own found given : Option (List Slot)) → Type 0
+IsChosen inst None found given = given ≡ found
+IsChosen inst (Some own) None given = given ≡ Some own
+IsChosen inst (Some own) (Some found) given = IsSomeAnd given (IsEarlier inst own found)
+
+-- what a search with so many branchings came to that was given this schedule or none: it began with the tight
+-- form of that; its tree is one of the instance that is earned, its schedule, if any, a best one that it knows,
+-- and what holds of each search
+pub record IsOutcome (inst : InstanceView) (nodes : ℕ) (given : Option (List Slot)) (tree : Tree)
+    (done : DoneView) : Type 0 where
   pub first : Option (List Slot)
   pub begins : IsFirst inst given first
   pub given_told : done.given ≡ option_map (ends inst) first
@@ -33,13 +40,28 @@ pub record IsFound (inst : InstanceView) (nodes : ℕ) (own : Option (List Slot)
   pub branched : done.branched ≡ tree_branchings tree
   pub sound : IsSound (record { inst = inst; nodes = nodes }) given done
 
+-- what came of the search that is due: it was given the planner's own schedule, or one that was found, and came
+-- to this
+pub record IsFound (inst : InstanceView) (nodes : ℕ) (own : Option (List Slot)) (tree : Tree) (done : DoneView)
+    : Type 0 where
+  pub found : Option (List Slot)
+  pub given : Option (List Slot)
+  pub chosen : IsChosen inst own found given
+  pub came : IsOutcome inst nodes given tree done
+
+-- the end is no later than that of the tight form of a schedule
+pub record IsByTightEnd (inst : InstanceView) (end : ℕ) (sched : List Slot) : Type 0 where
+  pub tight_end : ℕ
+  pub tight : IsTightEnd inst sched tight_end
+  pub by : end ≤ tight_end
+
 -- the text of the schedule's plan is read as this schedule
 abbrev pub IsReread : InstanceView → List Slot → Type 0
 IsReread inst sched = plan_in inst (plan_text inst sched) ≡ Ok sched
 
--- the best schedule is told, its end, the bound, the number of branchings, the end of the schedule that the search
--- began with, if any, and the best schedule's direction; in that direction its motion is safe, and its plan is read
--- as this schedule
+-- the best schedule is told, its end, the bound, the number of branchings, the end of the schedule that the
+-- search began with, if any, and the best schedule's direction; in that direction its motion is safe, and its
+-- plan is read as this schedule
 pub record TellsPlan (inst : InstanceView) (done : DoneView) (told : Planned) : Type 0 where
   pub sched : List Slot
   pub best : done.best ≡ Some sched

@@ -19,34 +19,38 @@ use Rattle.qc_plan_command.specs.declared.answer.Planned.{Planned}
 use Rattle.qc_plan_command.specs.declared.answer.PlanAnswer.TheVariants as answer
 use Rattle.qc_plan_command.specs.Account.{IsLeft, IsPlanning, IsWritten}
 use Rattle.qc_plan_command.specs.Asked.{Planning}
+use Rattle.qc_plan_command.specs.Found.{IsByTightEnd}
 use Rattle.qc_plan_command.specs.Reports.{IsPlanPrinted, infeasible_text, plan_prints_part, unplanned_text}
 
--- the search that is due knows a schedule: its tree and the plan of that schedule are written, all other files are as
--- they were, and both are told, with the motion of every crane, which is safe
-pub record IsPlanTold (asked : Planning) (held : Files) (now : Option Files) (before after : View) (wanted : Kind)
-    : Type 0 where
+-- the search that is due knows a schedule: its tree and the plan of that schedule are written, all other files
+-- are as they were, and both are told, with the motion of every crane, which is safe
+pub record IsPlanTold (asked : Planning) (held : Files) (now : Option Files) (before after : View)
+    (wanted : Kind) : Type 0 where
   pub told : Planned
   pub written : IsWritten asked held now (answer.Planned told)
   pub kind : written.search.done.kind ≡ wanted
   pub word : told.kind ≡ wanted
   pub report : IsPlanPrinted told before.written after.written
-  -- it ends no later than the planner's own
-  pub no_later : IfSome written.search.own (λ own. told.end ≤ ends written.search.inst own)
+  -- it ends no later than the tight form of the planner's own, which ends no later than that
+  pub no_later : IfSome written.search.own (IsByTightEnd written.search.inst told.end)
 
 -- the same, and all branchings that were asked for are spent
-pub record IsBudgetTold (asked : Planning) (held : Files) (now : Option Files) (before after : View) : Type 0 where
+pub record IsBudgetTold (asked : Planning) (held : Files) (now : Option Files)
+    (before after : View) : Type 0 where
   pub plan : IsPlanTold asked held now before after kind.Budget
   pub spent : plan.told.branched ≡ asked.nodes
 
 -- and this schedule is a best one
-pub record IsOptimalTold (asked : Planning) (held : Files) (now : Option Files) (before after : View) : Type 0 where
+pub record IsOptimalTold (asked : Planning) (held : Files) (now : Option Files)
+    (before after : View) : Type 0 where
   pub plan : IsPlanTold asked held now before after kind.Optimal
   pub enough : plan.told.end ≤ plan.told.bound
   pub best : IsBest plan.written.search.inst plan.written.told.sched
 
--- the search that is due knows no schedule, so it was given none, and spent all branchings that were asked for: its
--- tree is written, all other files are as they were, and its bound is told
-pub record IsUnplannedTold (asked : Planning) (held : Files) (now : Option Files) (before after : View) : Type 0 where
+-- the search that is due knows no schedule, so it was given none, and spent all branchings that were asked for:
+-- its tree is written, all other files are as they were, and its bound is told
+pub record IsUnplannedTold (asked : Planning) (held : Files) (now : Option Files)
+    (before after : View) : Type 0 where
   pub bound : ℕ
   pub branched : ℕ
   pub written : IsWritten asked held now (answer.Unplanned bound branched)
@@ -56,7 +60,8 @@ pub record IsUnplannedTold (asked : Planning) (held : Files) (now : Option Files
   pub spent : branched ≡ asked.nodes
 
 -- no schedule goes one way, as the tree shows that is written; all other files are as they were
-pub record IsInfeasibleTold (asked : Planning) (held : Files) (now : Option Files) (before after : View) : Type 0 where
+pub record IsInfeasibleTold (asked : Planning) (held : Files) (now : Option Files)
+    (before after : View) : Type 0 where
   pub branched : ℕ
   pub written : IsWritten asked held now (answer.Infeasible branched)
   pub kind : written.search.done.kind ≡ kind.Infeasible
@@ -93,7 +98,8 @@ pub record IsStopTold (asked : Planning) (before after out_before out_after : Vi
   pub faults : out_after.faults ≡ out_before.faults
   pub report : Prints (codes "WriteFault\n") out_before.written out_after.written
 
-pub record PlanPromises (asked : Planning) (before after out_before out_after : View) (ended : Status) : Type 0 where
+pub record PlanPromises (asked : Planning) (before after out_before out_after : View)
+    (ended : Status) : Type 0 where
   -- Optimal, Infeasible, BudgetPlan and BudgetNone
   pub plan_optimal : ended ≡ status.Optimal
       → IfSome before.files (λ held. IsOptimalTold asked held after.files out_before out_after)
@@ -108,7 +114,8 @@ pub record PlanPromises (asked : Planning) (before after out_before out_after : 
       → IfSome before.files (λ held. IsOwnBrokenTold asked held out_before out_after)
   -- with enough branchings a plan isn't given up
   pub plan_decides : IfSome before.files (λ held. (job : OwnJob)
-      → own_job_due asked.inputs.own (contents_in held asked.inputs) ≡ Ok job → branching_limit job.inst ≤ asked.nodes
+      → own_job_due asked.inputs.own (contents_in held asked.inputs) ≡ Ok job
+      → branching_limit job.inst ≤ asked.nodes
       → (ended ≢ status.BudgetPlan) × (ended ≢ status.BudgetNone))
   -- the files stay where a plan was neither written nor stopped
   pub plan_leaves : ¬ IsSearchEnd ended → ended ≢ status.WriteFault → after.files ≡ before.files

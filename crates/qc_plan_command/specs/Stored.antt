@@ -7,7 +7,7 @@ use Rattle.qc_model.specs.declared.schedule.Slot.{Slot}
 use Rattle.qc_model.specs.Instance.{InstanceView}
 use Rattle.qc_search.specs.Run.{DoneView, SearchView}
 use Rattle.qc_tree.specs.Trees.{Tree, tree_text}
-use Rattle.qc_plan_command.specs.Found.{IsFound}
+use Rattle.qc_plan_command.specs.Found.{IsOutcome}
 
 -- the files with the tree's text in the file of this name
 abbrev pub with_tree : Files → List ℕ → InstanceView → Tree → Files
@@ -18,14 +18,14 @@ abbrev pub with_plan : Files → List ℕ → InstanceView → Option (List Slot
 with_plan held name inst None = held
 with_plan held name inst (Some sched) = insert held name (plan_text inst sched)
 
--- the search came to this, where the planner has this schedule already, and the file of this name holds its tree
-pub record IsTreeStored (search : SearchView) (own : Option (List Slot)) (name : List ℕ) (held : Files)
+-- the search was given this schedule or none and came to this, and the file of this name holds its tree
+pub record IsTreeStored (search : SearchView) (given : Option (List Slot)) (name : List ℕ) (held : Files)
     (now : Option Files) (done : DoneView) : Type 0 where
   pub tree : Tree
-  pub found : IsFound search.inst search.nodes own tree done
+  pub came : IsOutcome search.inst search.nodes given tree done
   pub files : now ≡ Some (with_tree held name search.inst tree)
 
 -- the files are as they were, or the tree of what the search came to is stored
 abbrev pub IsTreeLeft : SearchView → Option (List Slot) → List ℕ → Files → Option Files → Type 0
-IsTreeLeft search own name held now =
-    (now ≡ Some held) ⊎ ((done : DoneView) × IsTreeStored search own name held now done)
+IsTreeLeft search given name held now =
+    (now ≡ Some held) ⊎ ((done : DoneView) × IsTreeStored search given name held now done)

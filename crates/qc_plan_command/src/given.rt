@@ -2,7 +2,7 @@
 ghost use Rattle.std.specs.Prelude.{◌≡◌, IfSome, option_map};
 ghost use Rattle.qc_model.specs.Judge.{IsJudgeable};
 ghost use Rattle.qc_model.specs.OneWay.{GoesOneWay};
-ghost use Rattle.qc_plan_command.specs.Found.{IsNoLater};
+ghost use Rattle.qc_plan_command.specs.Found.{IsChosen, IsEarlier};
 
 use qc_model::{Instance, Schedule, ends};
 use qc_search::Search;
@@ -10,8 +10,33 @@ use qc_search::Search;
 /// How much effort is spent on a first plan: of at most so many states of its sweeps the children are made.
 pub const EFFORT: u32 = 250_000;
 
-/// Of the planner's own schedule and the one that was found, where there are any, the one whose tight form ends
-/// earlier, as far as the found one's end tells; the planner's own where both end alike.
+/// The schedule that was found where it ends before the tight form of the planner's own one does, and else the
+/// planner's own.
+fn earlier_of<'a>(
+    search: &mut Search,
+    inst: &Instance,
+    own: &'a Schedule,
+    found: &'a Schedule,
+) -> &'a Schedule
+    requires search { search.old.inst ≡ inst.now }
+    requires own_judgeable { IsJudgeable inst.now own.now }
+    requires own_goes { GoesOneWay inst.now own.now }
+    requires judgeable { IsJudgeable inst.now found.now }
+    requires goes { GoesOneWay inst.now found.now }
+    ensures stays { search.new ≡ search.old }
+    ensures judgeable { IsJudgeable inst.now result.now }
+    ensures goes { GoesOneWay inst.now result.now }
+    ensures earlier { IsEarlier inst.now own.now found.now result.now }
+{
+    if ends(inst, found) < search.tight_end(own) {
+        found
+    } else {
+        own
+    }
+}
+
+/// Of the planner's own schedule and the one that was found, where there are both, the one whose tight form
+/// ends earlier, as far as the found one's end tells; the planner's own where both end alike.
 pub(crate) fn earlier<'a>(
     search: &mut Search,
     inst: &Instance,
@@ -26,17 +51,11 @@ pub(crate) fn earlier<'a>(
     ensures stays { search.new ≡ search.old }
     ensures judgeable { IfSome result (λ sched. IsJudgeable inst.now sched.now) }
     ensures goes { IfSome result (λ sched. GoesOneWay inst.now sched.now) }
-    ensures no_later { IsNoLater inst.now (option_map (λ sched. sched.now) own.entry)
-        (option_map (λ sched. sched.now) result) }
+    ensures chosen { IsChosen inst.now (option_map (λ sched. sched.now) own.entry)
+        (option_map (λ sched. sched.now) found.entry) (option_map (λ sched. sched.now) result) }
 {
     match (own, found) {
-        (Some(own), Some(found)) => {
-            if ends(inst, found) < search.tight_end(own) {
-                Some(found)
-            } else {
-                Some(own)
-            }
-        }
+        (Some(own), Some(found)) => Some(earlier_of(search, inst, own, found)),
         (Some(own), None) => Some(own),
         (None, found) => found,
     }

@@ -1,14 +1,12 @@
 -- The nodes that must still come, from line to line.
-use Rattle.std.proofs.Common.{◌≡◌, ℕ, ◌<◌, true, cond, List, [], ◌∷◌, ◌++◌, length, map, drop, sym, ap, subst, ◌∙◌}
+use Rattle.std.proofs.Common.{◌≡◌, ℕ, ◌<◌, true, cond, List, [], ◌∷◌, ◌++◌, length, map, drop, sym, ap, ◌∙◌}
 use Rattle.std.proofs.lemmas.Bool.{lt-ltb}
-use Rattle.qc_dist.specs.Node.{IsOpen, Node}
 use Rattle.qc_dist.proofs.ChildLemmas.{cranes_from}
 use Rattle.qc_model.specs.declared.decision.Decision.{Decision}
 use Rattle.qc_model.specs.declared.decision.Decision.TheVariants.{Assign, Order}
-use Rattle.qc_model.specs.Instance.{InstanceView}
 use Rattle.qc_model.specs.Work.{crane_numbers}
 use Rattle.qc_dist.specs.Children.{behind}
-use Rattle.qc_replay.specs.Part.{Standing, WereOpen, nodes}
+use Rattle.qc_replay.specs.Part.{Standing, nodes}
 
 -- what stands where a node must come, before and after
 module _ (s now : Standing) (live : s.live ≡ true) where
@@ -35,9 +33,3 @@ module _ (s now : Standing) (live : s.live ≡ true) where
       ap nodes (is ∙ given_is (Order i j ∷ s.decisions))
       ∙ ap (λ b. (Order i j ∷ s.decisions) ∷ (cond b ((Order j i ∷ s.decisions) ∷ []) [] ++ behind s.inst s.decisions)) (lt-ltb i j low)
       ∙ ap (λ more. (Order i j ∷ s.decisions) ∷ (Order j i ∷ s.decisions) ∷ more) (sym left_behind)
-
--- a decision more that was open
-pub were_open_more : (n : Node) (inst : InstanceView) (ds : List Decision) (d : Decision)
-    → n ≡ record { inst = inst; decisions = d ∷ ds } → IsOpen inst ds d → WereOpen inst ds
-    → WereOpen n.inst n.decisions
-were_open_more n inst ds d is is_open were = subst (λ (m : Node). WereOpen m.inst m.decisions) (sym is) (is_open, were)

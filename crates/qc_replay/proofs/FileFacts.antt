@@ -1,5 +1,6 @@
 -- The text that is left of a file, line by line.
 use Rattle.std.proofs.Common.{◌≡◌, ◌≢◌, ℕ, ◌+◌, ◌<◌, ◌≤◌, false, ◌==◌, nat_lt, List, [], ◌∷◌, ◌++◌, length, take, drop, All, Option, None, Some, IfSome, Result, Ok, Err, refl, sym, ap, subst, ◌∙◌, append_assoc, arith, if◌then◌else◌, nat_le, ok_or}
+use Rattle.std.specs.Result.{IsErrAnd}
 use Rattle.std.specs.List.{join_with_byte, onto_first}
 use Rattle.std.proofs.lemmas.Bool.{le-leb, le-ltb, lt-leb, lt-ltb, ne_eqb}
 use Rattle.std.proofs.lemmas.List.{length-append, length-take, take-append-drop}
@@ -197,6 +198,11 @@ reads_on x before mid after result first second =
       reading = second.reading;
       rose = λ e. subst (λ n. Rose n after.read_faults) same (second.rose e);
     }
+
+-- an error that is handed on
+pub handed : {A E : Type 0} (r : Result A E) (x : E) → IsErrAnd r (λ e. e ≡ x) → r ≡ Err x
+handed (Ok a) x h = absurd h
+handed (Err e) x h = ap Err h
 
 -- a call that hands on the error of another
 pub error_through : {A B E : Type 0} (r : Result A E) (s : Result B E) (x fault : E) → r ≡ Err x → s ≡ Err x

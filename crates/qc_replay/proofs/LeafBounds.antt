@@ -8,9 +8,11 @@ use Rattle.qc_num.specs.declared.bound.Bound.TheVariants.{Least, Never}
 use Rattle.qc_model.specs.declared.decision.Decision.{Decision}
 use Rattle.qc_model.specs.Bays.{bays_up, bays_between}
 use Rattle.qc_model.specs.Instance.{InstanceView, Valid, IsOnRail, bay_of, ticks_of, crane}
-use Rattle.qc_model.specs.Leaves.{Leaf, Version, are_tasks, chain, chain_end, chain_ticks, head_in, is_ring, is_out_of_reach, leaf_value, reach, ring, with_berths, without_berths, work}
+use Rattle.qc_model.specs.Assignments.{cranes_of}
+use Rattle.qc_model.specs.Leaves.{Leaf, Version, are_tasks, chain, chain_end, chain_ticks, has_packed, head_in, is_ring, is_out_of_reach, leaf_value, packed, packed_end, reach, ring, with_berths, with_packed, without_berths, work}
 use Rattle.qc_model.specs.Work.{crane_numbers, highest, is_overfull, lowest, spare, tasks_on, ticks_over, open_tasks, used, used_for, work_holds}
-use Rattle.qc_model.specs.Nodes.{Fits, assigned, berth_wait, crane_ticks, forced, free, head_by, least, reaches, sooner_ticks, is_sooner}
+use Rattle.qc_model.specs.Nodes.{Fits, assigned, berth_wait, crane_ticks, forced, free, head, head_by, least, reaches, sooner_ticks, is_sooner}
+use Rattle.qc_model.specs.Packs.{pack}
 use Rattle.qc_model.specs.Ticks.{arrival, berth_clear, berth_distance, climb, distance, lead, task_distance}
 use Rattle.qc_model.specs.declared.limits.TheConstants.{MOST_APART, MOST_BAYS, MOST_DISTANCE, MOST_GAP_BY_PLACES, MOST_READY, MOST_TASKS, MOST_TRAVEL, MOST_WORK}
 use Rattle.qc_model.specs.declared.direction.Direction.TheVariants.{Up}
@@ -20,6 +22,7 @@ use Rattle.qc_model.proofs.LeafLemmas.{joined}
 use Rattle.qc_model.proofs.LimitsOf.{limits_of}
 use Rattle.qc_model.proofs.NodeLemmas.{greater_keeps}
 use Rattle.qc_model.proofs.OnRail.{berth_on_rail}
+use Rattle.qc_close.proofs.PackBounds.{cranes_range, pack_few}
 use Rattle.qc_dist.proofs.Bounds.{few_ticks, highest_on_rail, lowest_on_rail, on_rail, open_bounded, ticks_over_bounded}
 use Rattle.qc_dist.proofs.Facts.{assigned_range}
 use Rattle.qc_dist.proofs.Room.{tasks_on_few}
@@ -48,6 +51,12 @@ least_few f p m a (suc n) few =
     at_first : (ks : List ℕ) → least (map f (a ∷ ks)) ≤ m
     at_first [] = few a (omega arith)
     at_first (k ∷ ks) = omega (arith, few a (omega arith))
+
+-- the same of a list of numbers that are all at most m
+least_of_few : (f : ℕ → ℕ) (m : ℕ) → ((j : ℕ) → f j ≤ m) → (js : List ℕ) → least (map f js) ≤ m
+least_of_few f m few [] = omega arith
+least_of_few f m few (j ∷ []) = few j
+least_of_few f m few (j ∷ k ∷ js) = omega (arith, few j)
 
 -- a number that passes
 passing : (p : ℕ → Bool) (a n : ℕ) → list_any p (range_with_len a n) ≡ true → (k : ℕ) × (k < a + n) × (p k ≡ true)
@@ -125,6 +134,8 @@ module _ (inst : InstanceView) (valid : Valid inst) where
       head_by_few (λ k. arrival inst k (bay_of inst j)) j (arrival_few j) (assigned ds j)
       (assigned_range inst ds fits j)
   head_few with_berths ds fits j =
+      head_by_few (free inst j) j (free_few j) (assigned ds j) (assigned_range inst ds fits j)
+  head_few with_packed ds fits j =
       head_by_few (free inst j) j (free_few j) (assigned ds j) (assigned_range inst ds fits j)
 
   -- a step of a chain
@@ -215,6 +226,20 @@ module _ (inst : InstanceView) (valid : Valid inst) where
             omega (arith, less, first, done, open_bounded inst valid ds)
       ]
 
+  -- packed tasks begin soon, and don't take long
+  with_first : (o : Option ℕ) (h : ℕ) → h ≤ MOST_READY + MOST_DISTANCE
+      → IfSome o (λ n. n ≤ MOST_TASKS * MOST_WORK + MOST_DISTANCE)
+      → IfSome (option_map Least (option_map (λ ticks. h + ticks) o)) IsValue
+  with_first None h soon few = tt
+  with_first (Some n) h soon few = omega arith
+
+  packed_value : (ds : List Decision) → Fits inst ds → (tasks : List ℕ)
+      → IfSome (option_map Least (packed_end inst ds tasks)) IsValue
+  packed_value ds fits tasks =
+      with_first (pack inst (cranes_of inst ds) tasks) (least (map (head inst ds) tasks))
+      (least_of_few (head inst ds) (MOST_READY + MOST_DISTANCE) (head_few with_packed ds fits) tasks)
+      (pack_few inst valid (cranes_of inst ds) (cranes_range inst ds fits) tasks)
+
   pub leaf_few : (version : Version) (ds : List Decision) → Fits inst ds → (shows : Leaf)
       → IfSome (leaf_value version inst ds shows) IsValue
   leaf_few version ds fits (chain tasks) =
@@ -245,3 +270,6 @@ module _ (inst : InstanceView) (valid : Valid inst) where
   leaf_few version ds fits (work end) =
       cond_both (nat_le 1 end && work_holds inst ds end) (Some (Least end)) None (λ o. IfSome o IsValue)
       (λ both. work_few ds fits end (and_parts (nat_le 1 end) (work_holds inst ds end) both).1) (λ _. tt)
+  leaf_few version ds fits (packed tasks) =
+      cond_both (has_packed version) (option_map Least (packed_end inst ds tasks)) None (λ o. IfSome o IsValue)
+      (λ _. packed_value ds fits tasks) (λ _. tt)

@@ -1,4 +1,5 @@
 pub mod FileFacts
+pub mod CrewFacts
 pub mod DescentFacts
 pub mod LeafFacts
 pub mod NodeFacts

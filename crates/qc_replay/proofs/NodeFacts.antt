@@ -1,8 +1,9 @@
 -- What the lines of nodes come to.
 use Rattle.std.proofs.Common.{◌≡◌, ◌↔◌, ℕ, ◌==◌, ◌+◌, ◌-◌, ◌≤◌, inl, inr, Bool, true, false, not, ◌&&◌, nat_lt, List, [], ◌∷◌, ◌++◌, length, map, drop, Option, None, Some, is_some, Result, Ok, Err, refl, sym, ap, subst, ◌∙◌, append_assoc, arith, IsTrue, eqb, is_none, nat_le, ok_or, option_map, if◌then◌else◌}
 use Rattle.std.proofs.lemmas.Simd.{map-map}
+use Rattle.std.specs.Prelude.{⊤}
 use Rattle.std.specs.List.{list_all}
-use Rattle.std.proofs.lemmas.Bool.{and_from, and_parts, cases_Bool, eq-eqb, false_from_ne_true, le-leb, leb-true, lt-ltb, ltb-true, or_from, true≢false}
+use Rattle.std.proofs.lemmas.Bool.{and_from, and_parts, eq-eqb, false_from_ne_true, le-leb, leb-true, lt-ltb, ltb-true, or_from, true≢false}
 use Rattle.std.proofs.lemmas.List.Folds.{list_any_at}
 use Rattle.std.proofs.lemmas.List.{length-map, map-append}
 use Rattle.qc_num.specs.declared.bound.Bound.{Bound}
@@ -17,11 +18,11 @@ use Rattle.qc_model.specs.declared.pair.Pair.{Pair}
 use Rattle.qc_model.specs.Instance.{InstanceView, IsApart, pair_of}
 use Rattle.qc_model.specs.declared.decision.Decision.TheVariants as decide
 use Rattle.qc_model.specs.Nodes.{IsSettled, assigned, forced}
-use Rattle.qc_model.specs.Leaves.{Leaf, are_tasks, chain, chain_end, is_ring, leaf_value, ring}
+use Rattle.qc_model.specs.Leaves.{Leaf, are_tasks, chain, chain_end, has_packed, is_ring, leaf_value, packed, packed_end, ring}
 use Rattle.qc_model.specs.Work.{crane_numbers}
 use Rattle.qc_model.proofs.NodeLemmas.{before_found}
 use Rattle.qc_tree.specs.declared.line.Line.{Line}
-use Rattle.qc_tree.specs.declared.line.Line.TheVariants.{Chain, Ring}
+use Rattle.qc_tree.specs.declared.line.Line.TheVariants.{Chain, Clash, Ring}
 use Rattle.qc_tree.specs.declared.line.Line.TheVariants as line
 use Rattle.qc_replay.specs.declared.fault.TreeKind.{TreeKind}
 use Rattle.qc_replay.specs.declared.fault.TreeKind.TheVariants as kind
@@ -88,6 +89,20 @@ module _ (inst : InstanceView) (ds : List Decision) (version : TreeVersion) (lis
       tests =
           ap (λ b. b && nat_le 2 (length (from_file list)) && is_ring inst ds (from_file list)) (are_tasks_of inst list all few)
           ∙ ap (λ b. true && b && is_ring inst ds (from_file list)) long ∙ sym is
+
+-- the end of packed tasks, or none
+pub clash_shows : (inst : InstanceView) (ds : List Decision) (version : TreeVersion) (list : List ℕ)
+    → has_packed (version_of version) ≡ true → list_all (is_number inst) list ≡ true
+    → (end : Option ℕ) → end ≡ packed_end inst ds (from_file list)
+    → Shows inst ds version Clash list (ok_or (option_map Least end) kind.NotClash)
+clash_shows inst ds version list has all end is way r same =
+    let shown = λ (_ : ⊤). closed_by r kind.NotClash (leaf_value r.version inst ds (packed (from_file list))) in
+    ap (λ b. require b kind.Place >>= λ _. require (list_all (is_number inst) list) kind.UnknownTask >>= shown)
+    (ap has_packed same ∙ has)
+    ∙ ap (λ b. require b kind.UnknownTask >>= shown) all
+    ∙ shown_leaf inst ds version (packed (from_file list)) kind.NotClash _
+    (ap (λ b. ok_or (if b then option_map Least (packed_end inst ds (from_file list)) else None) kind.NotClash) has
+    ∙ ap (λ o. ok_or (option_map Least o) kind.NotClash) (sym is)) r same
 
 -- ---- numbers and tests
 

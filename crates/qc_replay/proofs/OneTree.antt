@@ -6,7 +6,7 @@ use Rattle.std.proofs.lemmas.Option.{same_Some}
 use Rattle.qc_model.specs.declared.decision.Decision.{Decision}
 use Rattle.qc_model.specs.declared.direction.Direction.TheVariants as way
 use Rattle.qc_model.specs.Instance.{InstanceView, Valid}
-use Rattle.qc_model.specs.Leaves.{Version, chain, reach, ring, with_berths, without_berths, work}
+use Rattle.qc_model.specs.Leaves.{Version, chain, packed, reach, ring, with_berths, with_packed, without_berths, work}
 use Rattle.qc_model.specs.OneWay.{mirror}
 use Rattle.qc_model.proofs.MirrorLemmas.{seen_valid}
 use Rattle.qc_tree.specs.declared.line.Line.{Line}
@@ -40,6 +40,7 @@ same_line l m xs ys r s p q e =
 abbrev sign_in : Line → List ℕ → Sign
 sign_in line.Chain list = leaf (chain (from_file list))
 sign_in line.Ring list = leaf (ring (from_file list))
+sign_in line.Clash list = leaf (packed (from_file list))
 sign_in (line.Work end) list = leaf (work end)
 sign_in (line.Assign i) list = on_task (i - 1)
 sign_in (line.Order i j) list = on_pair (i - 1) (j - 1)
@@ -51,6 +52,7 @@ back_one j = omega arith
 sign_back : (sign : Sign) → sign_in (line_of sign) (list_of sign) ≡ sign
 sign_back (leaf (chain tasks)) = ap (λ (ts : List ℕ). leaf (chain ts)) (file_back tasks)
 sign_back (leaf (ring tasks)) = ap (λ (ts : List ℕ). leaf (ring ts)) (file_back tasks)
+sign_back (leaf (packed tasks)) = ap (λ (ts : List ℕ). leaf (packed ts)) (file_back tasks)
 sign_back (leaf reach) = refl
 sign_back (leaf (work end)) = refl
 sign_back (on_task j) = ap on_task (back_one j)
@@ -90,15 +92,18 @@ module _ (inst : InstanceView) (valid : Valid inst) (v : Version) where
 
 abbrev version_in : Line → Version
 version_in line.Title = without_berths
-version_in l = with_berths
+version_in line.Title2 = with_berths
+version_in l = with_packed
 
 version_back : (v : Version) → version_in (title v) ≡ v
 version_back without_berths = refl
 version_back with_berths = refl
+version_back with_packed = refl
 
 titled : (v : Version) → IsTextOf (line_text (title v) []) (title v) []
 titled without_berths = record { same = refl; in_range = tt; list = refl }
 titled with_berths = record { same = refl; in_range = tt; list = refl }
+titled with_packed = record { same = refl; in_range = tt; list = refl }
 
 -- the text behind the title
 abbrev behind_title : InstanceView → Tree → List ℕ

@@ -11,7 +11,7 @@ use Rattle.qc_model.specs.declared.decision.Decision.{Decision}
 use Rattle.qc_model.specs.declared.direction.Direction.{Direction}
 use Rattle.qc_model.specs.declared.direction.Direction.TheVariants as way
 use Rattle.qc_model.specs.Instance.{InstanceView, Valid}
-use Rattle.qc_model.specs.Leaves.{Version, with_berths, without_berths}
+use Rattle.qc_model.specs.Leaves.{Version, with_berths, with_packed, without_berths}
 use Rattle.qc_model.specs.Numbers.{most_branchings}
 use Rattle.qc_model.specs.Rules.{ends}
 use Rattle.qc_model.specs.Seen.{seen}
@@ -135,10 +135,11 @@ module _ (inst : InstanceView) (last : Reading) (over : last.coming ≡ []) wher
   -- ---- what the lines around the parts say
 
   module _ (v : Version) (more : List Coming) (n : ℕ) (b : Bound) (now : Reading) where
-    title_line : (l : Line) (list : List ℕ) → v ≡ with_berths → at inst (reading v (title ∷ more) n b) title l list ≡ Ok now
+    title_line : (l : Line) (list : List ℕ) → v ≡ with_packed → at inst (reading v (title ∷ more) n b) title l list ≡ Ok now
         → (w : Version) × (whole_line l list ≡ whole_line (trees.title w) []) × (reading w more n b ≡ now)
     title_line line.Title list is e = (without_berths, refl, same_ok e)
-    title_line line.Title2 list is e = (with_berths, refl, ap (λ w. reading w more n b) (sym is) ∙ same_ok e)
+    title_line line.Title2 list is e = (with_berths, refl, same_ok e)
+    title_line line.Title3 list is e = (with_packed, refl, ap (λ w. reading w more n b) (sym is) ∙ same_ok e)
     title_line _ list is e = failed kind.Place now e
 
     up_line : (l : Line) (list : List ℕ) → at inst (reading v (up ∷ more) n b) up l list ≡ Ok now
@@ -180,11 +181,11 @@ module _ (inst : InstanceView) (last : Reading) (over : last.coming ≡ []) wher
   }
 
   module _ (more : List Coming) (n : ℕ) (b : Bound) (lines : List Listed) where
-    title_taken : with_lines inst (reading with_berths (title ∷ more) n b) lines ≡ Ok last
+    title_taken : with_lines inst (reading with_packed (title ∷ more) n b) lines ≡ Ok last
         → (w : Version) × Taken (whole_line (trees.title w) []) (reading w more n b) lines
     title_taken e =
-        let f = frame_read with_berths title more n b lines e in
-        let l = title_line with_berths more n b f.now f.here.line f.here.list refl f.leads in
+        let f = frame_read with_packed title more n b lines e in
+        let l = title_line with_packed more n b f.now f.here.line f.here.list refl f.leads in
         (l.0, taken f.here lines f.rest (whole_line (trees.title l.0) []) (reading l.0 more n b) f.now f.are l.1 l.2 f.reads)
 
     module _ (w : Version) where

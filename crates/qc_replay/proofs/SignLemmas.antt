@@ -1,5 +1,5 @@
 -- The line of a node: where it is accepted it says something that holds, and what holds is accepted.
-use Rattle.std.proofs.Common.{◌≡◌, ℕ, ◌+◌, ◌-◌, ◌*◌, ◌<◌, ◌≤◌, ◌^◌, Bool, true, false, ◌&&◌, cond, List, [], ◌∷◌, ◌++◌, length, map, All, Option, None, Some, IfSome, IsSome, inl, inr, refl, ap, ap₂, sym, ◌∙◌, arith, Err, Ok, Result, decimal, is_none, is_some, nat_le, nat_lt, not, ok_or, unwrap_or}
+use Rattle.std.proofs.Common.{◌≡◌, ℕ, ◌+◌, ◌-◌, ◌*◌, ◌<◌, ◌≤◌, ◌^◌, Bool, true, false, ◌&&◌, cond, List, [], ◌∷◌, ◌++◌, length, map, All, Option, None, Some, IfSome, IsSome, inl, inr, refl, ap, ap₂, sym, ◌∙◌, arith, Err, Ok, Result, decimal, is_none, is_some, nat_le, nat_lt, not, ok_or, option_map, unwrap_or}
 use Rattle.std.proofs.lemmas.Bool.{and_from, and_parts, cond_both, false≢true, le-leb, leb-true, lt-ltb, ltb-true, not-true, or_left, or_right}
 use Rattle.std.proofs.lemmas.Fmt.{length-decimal-le}
 use Rattle.std.proofs.lemmas.List.{length-append, length-map}
@@ -17,11 +17,14 @@ use Rattle.qc_model.specs.declared.decision.Decision.{Decision}
 use Rattle.qc_model.specs.declared.decision.Decision.TheVariants as decide
 use Rattle.qc_model.specs.declared.direction.Direction.{Direction}
 use Rattle.qc_model.specs.Instance.{InstanceView, Valid}
-use Rattle.qc_model.specs.Leaves.{Leaf, Version, are_tasks, chain, is_ring, leaf_value, reach, ring, work}
+use Rattle.qc_model.specs.Assignments.{cranes_of}
+use Rattle.qc_model.specs.Leaves.{Leaf, Version, are_tasks, chain, has_packed, is_ring, leaf_value, packed, packed_end, reach, ring, work}
 use Rattle.qc_model.specs.Work.{crane_numbers, work_holds}
-use Rattle.qc_model.specs.Nodes.{Fits, IsSettled, assigned, forced}
+use Rattle.qc_model.specs.Nodes.{Fits, IsSettled, assigned, forced, head, least}
 use Rattle.qc_model.specs.Numbers.{most_branchings, most_tasks}
+use Rattle.qc_model.specs.Packs.{pack}
 use Rattle.qc_model.proofs.NodeLemmas.{before_found}
+use Rattle.qc_close.proofs.PackBounds.{packed_listed, some_packed}
 use Rattle.qc_tree.specs.declared.line.Line.{Line}
 use Rattle.qc_tree.specs.declared.line.Line.TheVariants as line
 use Rattle.qc_tree.specs.Lines.{AreTasks, IsLine, IsTask, IsValue, fields, line_list, line_text}
@@ -209,6 +212,13 @@ module _ (inst : InstanceView) (d : Direction) (v : Version) (ds : List Decision
       let t = tested (list_all (is_number inst) list) kind.UnknownTask onward now e in
       leaf_accepted (ring (from_file list)) kind.NotCycle line.Ring list now
       (ap (whole_line line.Ring) (back_in_file inst list t.0)) t.1
+  accepted line.Clash list now e =
+      let onward = λ (_ : ⊤). closed_by here kind.NotClash (leaf_value v inst ds (packed (from_file list))) in
+      let later = λ (_ : ⊤). require (list_all (is_number inst) list) kind.UnknownTask >>= onward in
+      let may = tested (has_packed v) kind.Place later now e in
+      let t = tested (list_all (is_number inst) list) kind.UnknownTask onward now may.1 in
+      leaf_accepted (packed (from_file list)) kind.NotClash line.Clash list now
+      (ap (whole_line line.Clash) (back_in_file inst list t.0)) t.1
   accepted line.Reach list now e = leaf_accepted reach kind.InReach line.Reach list now refl e
   accepted (line.Work w) list now e = leaf_accepted (work w) kind.WorkShort (line.Work w) list now refl e
   accepted _ list now e = failed kind.Place now e
@@ -219,6 +229,7 @@ module _ (inst : InstanceView) (d : Direction) (v : Version) (ds : List Decision
 abbrev pub line_of : Sign → Line
 line_of (leaf (chain tasks)) = line.Chain
 line_of (leaf (ring tasks)) = line.Ring
+line_of (leaf (packed tasks)) = line.Clash
 line_of (leaf reach) = line.Reach
 line_of (leaf (work end)) = line.Work end
 line_of (trees.on_task j) = line.Assign (j + 1)
@@ -227,11 +238,13 @@ line_of (trees.on_pair i j) = line.Order (i + 1) (j + 1)
 abbrev pub list_of : Sign → List ℕ
 list_of (leaf (chain tasks)) = in_file tasks
 list_of (leaf (ring tasks)) = in_file tasks
+list_of (leaf (packed tasks)) = in_file tasks
 list_of sign = []
 
 pub text_of : (sign : Sign) → sign_text sign ≡ whole_line (line_of sign) (list_of sign)
 text_of (leaf (chain tasks)) = refl
 text_of (leaf (ring tasks)) = refl
+text_of (leaf (packed tasks)) = refl
 text_of (leaf reach) = refl
 text_of (leaf (work end)) = refl
 text_of (trees.on_task j) = refl
@@ -273,7 +286,7 @@ file_short n (j ∷ js) few e =
     omega (arith, digits, file_short n js few p.1, length-append (32 ∷ decimal (j + 1)) (fields (in_file js)))
 
 module _ (inst : InstanceView) (valid : Valid inst) (v : Version) (ds : List Decision) where
-  -- the tasks of a chain or ring
+  -- the tasks of a chain, a ring or packed ones
   record HasTasks (tasks : List ℕ) : Type 0 where
     few : length tasks ≤ most_tasks
     below : are_below (length inst.tasks) tasks ≡ true
@@ -296,6 +309,23 @@ module _ (inst : InstanceView) (valid : Valid inst) (v : Version) (ds : List Dec
       let p = and_parts (are_tasks inst tasks && nat_le 2 (length tasks)) (is_ring inst ds tasks) e in
       let q = and_parts (are_tasks inst tasks) (nat_le 2 (length tasks)) p.0 in
       (tasks_of tasks q.0, leb-true 2 (length tasks) q.1))
+      (λ _ none. absurd (cc none))
+
+  -- what has an end with something added had one before
+  some_of : (h : ℕ) (o : Option ℕ) → IsSome (option_map Least (option_map (λ ticks. h + ticks) o)) → IsSome o
+  some_of h None none = absurd (cc none)
+  some_of h (Some n) some = refl
+
+  packed_tasks : (tasks : List ℕ) → IsSome (leaf_value v inst ds (packed tasks))
+      → (has_packed v ≡ true) × HasTasks tasks × (1 ≤ length tasks)
+  packed_tasks tasks =
+      cond_both (has_packed v) (option_map Least (packed_end inst ds tasks)) None
+      (λ o. IsSome o → (has_packed v ≡ true) × HasTasks tasks × (1 ≤ length tasks))
+      (λ may some.
+      let cranes = cranes_of inst ds in
+      let ticks = some_of (least (map (head inst ds) tasks)) (pack inst cranes tasks) some in
+      let l = packed_listed inst cranes tasks (some_packed inst cranes tasks ticks) in
+      (may, record { few = omega (arith, l.few, valid.tasks.count); below = l.below }, l.some))
       (λ _ none. absurd (cc none))
 
   work_end : (tick : ℕ) → Fits inst ds → IsSome (leaf_value v inst ds (work tick)) → (1 ≤ tick) × (tick < 10 ^ 15)
@@ -343,6 +373,13 @@ module _ (inst : InstanceView) (valid : Valid inst) (v : Version) (ds : List Dec
         in_range = (omega (arith, h.1, length-map tasks (λ j. j + 1)), in_file_tasks tasks h.0);
         listed = refl;
         short = omega (arith, list_short tasks h.0);
+      }
+  spelled fits (leaf (packed tasks)) some =
+      let h = packed_tasks tasks some in
+      record {
+        in_range = (omega (arith, h.2, length-map tasks (λ j. j + 1)), in_file_tasks tasks h.1);
+        listed = refl;
+        short = omega (arith, list_short tasks h.1);
       }
   spelled fits (leaf reach) some = record { in_range = tt; listed = refl; short = omega arith }
   spelled fits (leaf (work tick)) some =
@@ -396,6 +433,15 @@ module _ (inst : InstanceView) (valid : Valid inst) (v : Version) (ds : List Dec
     accepts (leaf (ring tasks)) some few =
         rw (file_numbers inst tasks (ring_tasks tasks some).0.below, file_back tasks)
         (closed kind.NotCycle (ring tasks) (leaf_value v inst ds (ring tasks)) refl some)
+    accepts (leaf (packed tasks)) some few =
+        let h = packed_tasks tasks some in
+        ap (λ t. require t kind.Place >>= λ _. require (list_all (is_number inst) (in_file tasks)) kind.UnknownTask >>= λ _.
+        closed_by at_here kind.NotClash (leaf_value v inst ds (packed (from_file (in_file tasks))))) h.0
+        ∙ ap (λ t. require t kind.UnknownTask >>= λ _.
+        closed_by at_here kind.NotClash (leaf_value v inst ds (packed (from_file (in_file tasks)))))
+        (file_numbers inst tasks h.1.below)
+        ∙ ap (λ ts. closed_by at_here kind.NotClash (leaf_value v inst ds (packed ts))) (file_back tasks)
+        ∙ closed kind.NotClash (packed tasks) (leaf_value v inst ds (packed tasks)) refl some
     accepts (leaf reach) some few = closed kind.InReach reach (leaf_value v inst ds reach) refl some
     accepts (leaf (work tick)) some few = closed kind.WorkShort (work tick) (leaf_value v inst ds (work tick)) refl some
     accepts (trees.on_task j) h few =

@@ -3,7 +3,7 @@ use Rattle.std.proofs.Common.{◌≡◌, ℕ, zero, suc, ◌+◌, ◌<◌, ◌�
 use Rattle.std.specs.List.{range_with_len, slice_split}
 use Rattle.std.proofs.lemmas.Bool.{eq-eqb, lt-ltb}
 use Rattle.std.proofs.lemmas.Fmt.{length-decimal-le}
-use Rattle.std.proofs.lemmas.List.{append-nil, append_assoc, length-append}
+use Rattle.std.proofs.lemmas.List.{append_assoc, length-append}
 use Rattle.std.proofs.lemmas.List.Splits.{length-slice_split}
 use Rattle.qc_num.specs.declared.bound.Bound.{Bound}
 use Rattle.qc_num.specs.declared.bound.Bound.TheVariants.{Least, Never}
@@ -15,7 +15,7 @@ use Rattle.qc_model.specs.declared.decision.Decision.TheVariants as decide
 use Rattle.qc_model.specs.declared.direction.Direction.{Direction}
 use Rattle.qc_model.specs.declared.direction.Direction.TheVariants as way
 use Rattle.qc_model.specs.Instance.{InstanceView, Valid}
-use Rattle.qc_model.specs.Leaves.{Version, leaf_value, with_berths, without_berths}
+use Rattle.qc_model.specs.Leaves.{Version, leaf_value, with_berths, with_packed, without_berths}
 use Rattle.qc_model.specs.Nodes.{Fits}
 use Rattle.qc_model.specs.Numbers.{most_branchings}
 use Rattle.qc_model.specs.OneWay.{mirror}
@@ -250,6 +250,9 @@ module _ (inst : InstanceView) (valid : Valid inst) (tree : Tree) (is_tree : IsT
   titled with_berths bytes leads =
       one_line inst read start (reading with_berths (up ∷ node way.Up [] ∷ down ∷ node way.Down [] ∷ end ∷ []) 0 Never)
       walk.title line.Title2 [] bytes refl tt refl (omega arith) refl leads
+  titled with_packed bytes leads =
+      one_line inst read start (reading with_packed (up ∷ node way.Up [] ∷ down ∷ node way.Down [] ∷ end ∷ []) 0 Never)
+      walk.title line.Title3 [] bytes refl tt refl (omega arith) refl leads
 
   all_read : goes_on start (tree_text inst tree)
   all_read =

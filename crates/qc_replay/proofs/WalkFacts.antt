@@ -4,7 +4,7 @@ use Rattle.qc_num.specs.Reading.{◌>>=◌}
 use Rattle.qc_dist.specs.Children.{behind}
 use Rattle.qc_model.specs.declared.direction.Direction.TheVariants as way
 use Rattle.qc_model.specs.Instance.{InstanceView}
-use Rattle.qc_model.specs.Leaves.{with_berths}
+use Rattle.qc_model.specs.Leaves.{with_packed}
 use Rattle.qc_tree.specs.declared.line.Line.{Line}
 use Rattle.qc_tree.specs.LineIn.{Listed}
 use Rattle.qc_replay.specs.declared.fault.TreeKind.{TreeKind}
@@ -44,7 +44,7 @@ module _ (w : Inside) (old : WalkView) (is : walk_of w ≡ old) (kept : IsKeptWa
       ∙ ap (λ s. with_line w.up.inst (here s) taken) at_stage
 
   pub title_taken : w.stage ≡ Title → (result : Result TreeVersion TreeKind)
-      → ((inst : InstanceView) (r : Reading) (list : List ℕ) → r.version ≡ with_berths
+      → ((inst : InstanceView) (r : Reading) (list : List ℕ) → r.version ≡ with_packed
       → at inst r title line list ≡ leading (λ version. record (came r) { version = version_of version }) result)
       → Takes (leading (λ version. reading_at Up version w.up w.down w.tally) result)
   title_taken stage result judged =

@@ -4,7 +4,6 @@ use Rattle.qc_num.specs.declared.bound.Bound.{Bound}
 use Rattle.qc_num.specs.Bounds.{lesser}
 use Rattle.qc_num.specs.Reading.{◌>>=◌}
 use Rattle.qc_dist.specs.Children.{behind}
-use Rattle.qc_dist.specs.Node.{IsOpen}
 use Rattle.qc_model.specs.declared.direction.Direction.{Direction}
 use Rattle.qc_model.specs.Numbers.{most_branchings}
 use Rattle.qc_model.specs.declared.decision.Decision.{Decision}
@@ -40,16 +39,8 @@ pub record Standing : Type 0 where
 abbrev pub nodes : Standing → List (List Decision)
 nodes s = if s.live then s.decisions ∷ behind s.inst s.decisions else []
 
--- each decision was open where it was made
-abbrev pub WereOpen : InstanceView → List Decision → Type 0
-WereOpen inst [] = Unit {0}
-WereOpen inst (d ∷ ds) = IsOpen inst ds d × WereOpen inst ds
-
 abbrev pub standing_of : Inside → Standing
 standing_of f = record { inst = f.node.inst; decisions = f.node.decisions; live = f.live }
-
-abbrev pub IsKept : Inside → Type 0
-IsKept f = WereOpen f.node.inst f.node.decisions
 
 -- what a line shows at a node: the value of a leaf, or its fault
 abbrev pub Shows : InstanceView → List Decision → TreeVersion → Line → List ℕ → Result Bound TreeKind → Type 0

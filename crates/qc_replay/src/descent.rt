@@ -1,5 +1,6 @@
 //! The way through a part of a tree, node by node.
 ghost use Rattle.std.specs.Prelude.{◌≡◌, ◌<◌, ◌++◌, ◌∷◌, [], List, IfOk, MatchOption, None, drop, length, map, true};
+ghost use Rattle.qc_close.specs.Crews.{IsCrewOf};
 ghost use Rattle.qc_dist.specs.Node.{IsOpen, Node};
 ghost use Rattle.qc_model.specs.declared.decision.Decision.{Decision};
 ghost use Rattle.qc_model.specs.declared.decision.Decision.TheVariants.{Assign, Order};
@@ -7,8 +8,11 @@ ghost use Rattle.qc_model.specs.Instance.{IsApart, Valid};
 ghost use Rattle.qc_model.specs.Work.{crane_numbers};
 ghost use Rattle.qc_model.specs.Nodes.{IsSettled, assigned};
 ghost use Rattle.qc_dist.specs.Children.{behind};
-ghost use Rattle.qc_replay.specs.Part.{WereOpen, nodes, Standing, standing_of, IsKept};
+ghost use Rattle.qc_replay.specs.Crewed.{WereOpen};
+ghost use Rattle.qc_replay.specs.Part.{nodes, Standing, standing_of};
 
+use crate::crewed_node::CrewedNode;
+use qc_close::Crew;
 use qc_dist::{Decisions, next_child};
 use qc_model::{Decision, Instance};
 use qc_num::OutOfMemory;
@@ -20,7 +24,7 @@ use std::marker::Model;
 /// `new`.
 #[derive(Drop)]
 pub(crate) struct Descent {
-    node: Decisions,
+    node: CrewedNode,
     live: bool,
 }
 
@@ -28,8 +32,6 @@ impl Model for Descent {
     ghost Value = { Standing };
 
     ghost view = { standing_of };
-
-    ghost invariant = { IsKept };
 }
 
 impl Descent {
@@ -38,7 +40,7 @@ impl Descent {
         ensures { IfOk result (λ new. new ≡ record { inst = inst.now; decisions = []; live = true }) }
     {
         Ok(Descent {
-            node: Decisions::new(alloc, inst)?,
+            node: CrewedNode::new(alloc, inst)?,
             live: true,
         })
     }
@@ -55,7 +57,14 @@ impl Descent {
         ensures node { result.now ≡ record { inst = self.now.inst; decisions = self.now.decisions } }
         ensures were_open { WereOpen self.now.inst self.now.decisions }
     {
-        &self.node
+        self.node.node()
+    }
+
+    /// Which crane each task has at the next node.
+    pub(crate) fn crew(&self) -> &Crew
+        ensures { IsCrewOf result.now self.now.inst self.now.decisions }
+    {
+        self.node.crew()
     }
 
     /// The next node branches on the crane of a task.
@@ -97,10 +106,8 @@ impl Descent {
 
 /// Takes decisions back up to the newest branching with a child that is left, and goes to that child;
 /// whether there was one.
-fn climb(node: &mut Decisions) -> bool
-    requires were_open { WereOpen node.old.inst node.old.decisions }
+fn climb(node: &mut CrewedNode) -> bool
     ensures inst { node.new.inst ≡ node.old.inst }
-    ensures were_open { WereOpen node.old.inst node.new.decisions }
     ensures nodes { nodes (record { inst = node.old.inst; decisions = node.new.decisions; live = result })
         ≡ behind node.old.inst node.old.decisions }
 {

@@ -30,7 +30,7 @@ pub enum TreeKind {
     NotForced,
     /// A task of the ring isn't forced to come after the one before it, or the first after the last.
     NotCycle,
-    /// Two of the tasks can run together, or one is listed twice.
+    /// Two of the tasks can run together, one is listed twice, or no crane can do one.
     NotClash,
     /// The newest decision doesn't put a task on a crane that can't reach it.
     InReach,

@@ -1,12 +1,17 @@
 //! What leaves show at a node.
-ghost use Rattle.std.specs.Prelude.{◌≡◌, ◌+◌, ◌*◌, ◌<◌, ◌≤◌, ◌++◌, ℕ, List, None, All, IfSome, IsTrue, MatchOption, drop, length, option_map, is_some};
+ghost use Rattle.std.specs.Prelude.{◌≡◌, ◌+◌, ◌*◌, ◌<◌, ◌≤◌, ◌++◌, ℕ, List, None, All, IfSome, IsTrue, MatchOption, drop, length, map, min, option_map, is_some, take};
+ghost use Rattle.std.specs.Option.{option_map_or};
+ghost use Rattle.qc_close.specs.Crews.{IsCrewOf};
 ghost use Rattle.qc_model.specs.Numbers.{most_distance, most_ready, most_tasks, most_work};
 ghost use Rattle.qc_model.specs.Instance.{ticks_of};
-ghost use Rattle.qc_model.specs.Leaves.{chain, chain_end, chain_ticks, head_in, is_ring, leaf_value, reach, ring, work};
+ghost use Rattle.qc_model.specs.Leaves.{chain, chain_end, chain_ticks, has_packed, head_in, is_ring, leaf_value, packed_end, reach, ring, work};
+ghost use Rattle.qc_model.specs.Nodes.{head, least};
 ghost use Rattle.qc_replay.specs.Part.{IsNumber, version_of};
 ghost use Rattle.qc_replay.specs.Walk.{from_file};
 
+use qc_close::Crew;
 use qc_dist::Decisions;
+use qc_model::MOST_TASKS;
 use qc_num::Tick;
 
 /// The version of a tree: which heads its leaves count with, and which leaves it may have.
@@ -18,6 +23,18 @@ pub(crate) enum TreeVersion {
     WithBerths,
     /// The same, and a leaf may list packed tasks: version 3.
     WithPacked,
+}
+
+impl TreeVersion {
+    /// Whether a leaf may list packed tasks.
+    pub(crate) fn has_packed(self) -> bool
+        ensures { result ≡ has_packed (version_of self) }
+    {
+        match self {
+            TreeVersion::WithoutBerths | TreeVersion::WithBerths => false,
+            TreeVersion::WithPacked => true,
+        }
+    }
 }
 
 /// When a task can start at the least, by the heads that count.
@@ -84,4 +101,51 @@ pub(crate) fn is_ring(node: &Decisions, numbers: &[u16]) -> bool
         Some((last, _)) => node.forced(last, first).is_some(),
         None => false,
     }
+}
+
+/// The tasks of these numbers, from the front of the array on.
+fn tasks_of(numbers: &[u16]) -> [u16; MOST_TASKS as usize]
+    requires few { length numbers.now ≤ most_tasks }
+    ensures { take (length numbers.now) result ≡ from_file numbers.now }
+{
+    let mut tasks = [0; MOST_TASKS as usize];
+    for (index, number) in numbers.iter().enumerate() {
+        tasks[index] = number.saturating_sub(1);
+    }
+    tasks
+}
+
+/// The earlier of a tick and those before it, if there were any.
+fn earlier(before: Option<Tick>, tick: Tick) -> Tick
+    ensures least { result ≡ option_map_or (λ other. min other tick) before tick }
+    ensures bound { result ≤ tick }
+{
+    before.map_or(tick, |other| other.min(tick))
+}
+
+/// When the first of some tasks can start at the least.
+fn least_lead(node: &Decisions, tasks: &[u16]) -> Tick
+    requires tasks { All (λ j. j < length node.now.inst.tasks) tasks.now }
+    ensures least { result ≡ least (map (head node.now.inst node.now.decisions) tasks.now) }
+    ensures bound { result ≤ most_ready + most_distance }
+{
+    let mut least: Option<Tick> = None;
+    for task in tasks {
+        least = Some(earlier(least, node.lead(*task)));
+    }
+    least.unwrap_or(0)
+}
+
+/// The end that packed tasks show, which begin at the least of their heads; `None` exactly where they
+/// aren't packed.
+pub(crate) fn packed_end(node: &Decisions, crew: &Crew, numbers: &[u16]) -> Option<Tick>
+    requires crew { IsCrewOf crew.now node.now.inst node.now.decisions }
+    requires numbers { All (IsNumber node.now.inst) numbers.now }
+    requires few { length numbers.now ≤ most_tasks }
+    ensures { result ≡ packed_end node.now.inst node.now.decisions (from_file numbers.now) }
+{
+    let tasks = tasks_of(numbers);
+    let listed = &tasks[..numbers.len()];
+    let ticks = crew.pack(listed)?;
+    Some(least_lead(node, listed) + ticks)
 }

@@ -2,6 +2,7 @@
 //! search.
 #![tactic(auto)]
 
+mod crewed_node;
 mod descent;
 mod fault;
 mod leaf;

@@ -1,17 +1,20 @@
 //! A line where a node must stand.
 ghost use Rattle.std.specs.Prelude.{◌≡◌, ◌<◌, ◌≤◌, ◌&&◌, ℕ, List, IfOk, length, true};
 ghost use Rattle.std.specs.List.{list_all};
+ghost use Rattle.qc_close.specs.Crews.{IsCrewOf};
 ghost use Rattle.qc_model.specs.Numbers.{most_tasks};
 ghost use Rattle.qc_model.specs.Instance.{Valid};
 ghost use Rattle.qc_model.specs.Leaves.{is_out_of_reach};
-ghost use Rattle.qc_replay.specs.Part.{IsJudged, IsNoBranching, Shows, WereOpen, with_branching};
+ghost use Rattle.qc_replay.specs.Crewed.{WereOpen};
+ghost use Rattle.qc_replay.specs.Part.{IsJudged, IsNoBranching, Shows, with_branching};
 ghost use Rattle.qc_replay.specs.Walk.{is_apart, is_number};
-ghost use Rattle.qc_tree.specs.declared.line.Line.TheVariants.{Assign, Chain, Order, Reach, Ring, Work};
+ghost use Rattle.qc_tree.specs.declared.line.Line.TheVariants.{Assign, Chain, Clash, Order, Reach, Ring, Work};
 ghost use Rattle.qc_tree.specs.Lines.{IsLine};
 
 use crate::descent::Descent;
 use crate::fault::TreeKind;
-use crate::leaf::{TreeVersion, chain_end, is_ring};
+use crate::leaf::{TreeVersion, chain_end, is_ring, packed_end};
+use qc_close::Crew;
 use qc_dist::{Decisions, in_reach};
 use qc_model::Decision;
 use qc_num::{Bound, Tick};
@@ -78,6 +81,29 @@ fn ring_bound(node: &Decisions, version: TreeVersion, numbers: &[u16]) -> Result
     }
 }
 
+/// The end that packed tasks show.
+fn clash_bound(
+    node: &Decisions,
+    crew: &Crew,
+    version: TreeVersion,
+    numbers: &[u16],
+) -> Result<Bound, TreeKind>
+    requires crew { IsCrewOf crew.now node.now.inst node.now.decisions }
+    requires few { length numbers.now ≤ most_tasks }
+    ensures { Shows node.now.inst node.now.decisions version Clash numbers.now result }
+{
+    if !version.has_packed() {
+        return Err(TreeKind::Place);
+    }
+    if !are_numbers(node, numbers) {
+        return Err(TreeKind::UnknownTask);
+    }
+    match packed_end(node, crew, numbers) {
+        Some(end) => Ok(Bound::Least(end)),
+        None => Err(TreeKind::NotClash),
+    }
+}
+
 /// Whether the newest decision puts a task on a crane that doesn't reach it.
 fn is_out_of_reach(node: &Decisions) -> bool
     requires were_open { WereOpen node.now.inst node.now.decisions }
@@ -116,10 +142,12 @@ fn work_bound(node: &Decisions, version: TreeVersion, end: Tick) -> Result<Bound
 /// What a leaf's line shows.
 fn leaf_bound(
     node: &Decisions,
+    crew: &Crew,
     version: TreeVersion,
     line: Line,
     numbers: &[u16],
 ) -> Result<Bound, TreeKind>
+    requires crew { IsCrewOf crew.now node.now.inst node.now.decisions }
     requires were_open { WereOpen node.now.inst node.now.decisions }
     requires in_range { IsLine line numbers.now }
     requires leaf { IsNoBranching line }
@@ -130,6 +158,7 @@ fn leaf_bound(
         Line::Ring => ring_bound(node, version, numbers),
         Line::Reach => reach_bound(node, version),
         Line::Work(end) => work_bound(node, version, end),
+        Line::Clash => clash_bound(node, crew, version, numbers),
         _ => Err(TreeKind::Place),
     }
 }
@@ -225,7 +254,7 @@ fn on_leaf(
     ensures inst { descent.new.inst ≡ descent.old.inst }
     ensures judged { IsJudged version descent.old tally line numbers.now descent.new result }
 {
-    match leaf_bound(descent.node(), version, line, numbers) {
+    match leaf_bound(descent.node(), descent.crew(), version, line, numbers) {
         Ok(value) => {
             descent.leave();
             Ok(Tally {

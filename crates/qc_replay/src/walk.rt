@@ -1,7 +1,7 @@
 //! The way through a tree, line by line.
 ghost use Rattle.std.specs.Prelude.{◌≡◌, ℕ, List, IfOk, Ok};
 ghost use Rattle.qc_model.specs.Instance.{InstanceView, Valid};
-ghost use Rattle.qc_model.specs.Leaves.{with_berths};
+ghost use Rattle.qc_model.specs.Leaves.{with_packed};
 ghost use Rattle.qc_tree.specs.Lines.{IsLine};
 ghost use Rattle.qc_replay.specs.Part.{version_of};
 ghost use Rattle.qc_replay.specs.Read.{with_line};
@@ -60,7 +60,7 @@ impl Walk {
         let mirrored = mirror(alloc, inst)?;
         Ok(Walk {
             stage: Stage::Title,
-            version: TreeVersion::WithBerths,
+            version: TreeVersion::WithPacked,
             tally: Tally {
                 branched: 0,
                 bound: Bound::Never,
@@ -127,13 +127,14 @@ impl Walk {
 
 /// The version that the title tells.
 fn titled(line: Line) -> Result<TreeVersion, TreeKind>
-    ensures { (inst : InstanceView) (r : Reading) (list : List ℕ) → r.version ≡ with_berths
+    ensures { (inst : InstanceView) (r : Reading) (list : List ℕ) → r.version ≡ with_packed
         → at inst r title line list
         ≡ leading (λ version. record (came r) { version = version_of version }) result }
 {
     match line {
         Line::Title => Ok(TreeVersion::WithoutBerths),
         Line::Title2 => Ok(TreeVersion::WithBerths),
+        Line::Title3 => Ok(TreeVersion::WithPacked),
         _ => Err(TreeKind::Place),
     }
 }

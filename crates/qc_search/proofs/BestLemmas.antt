@@ -37,7 +37,7 @@ module _ (inst : InstanceView) (way : Direction) (ds : List Decision) (old : Pro
   -- a schedule that ends sooner than any before
   pub taken : (sched : List Slot) → Fits inst ds → IsComplete inst ds → IsInReach inst ds → Improves n old.incumbent_end
       → n ≤ most_start → sched ≡ schedule_with inst ds end.starts
-      → IsTaken inst way ds old (record old { incumbent_end = Least n; way = way; incumbent = sched; since_incumbent = 0 })
+      → IsTaken inst way ds old (record old { incumbent_end = Least n; way = way; incumbent = sched })
   taken sched fits complete reach sooner soon is = record {
     begins = end.starts;
     fits = fits;
@@ -46,7 +46,7 @@ module _ (inst : InstanceView) (way : Direction) (ds : List Decision) (old : Pro
     least = end.least;
     sooner = subst (λ (k : ℕ). Improves k old.incumbent_end) end.ends sooner;
     soon = omega (arith, end.ends, soon);
-    is = ap₂ (λ (k : ℕ) (best : List Slot). record old { incumbent_end = Least k; way = way; incumbent = best; since_incumbent = 0 }) end.ends is;
+    is = ap₂ (λ (k : ℕ) (best : List Slot). record old { incumbent_end = Least k; way = way; incumbent = best }) end.ends is;
   }
 
   -- one that doesn't

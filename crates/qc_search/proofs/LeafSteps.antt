@@ -18,7 +18,7 @@ use Rattle.qc_dist.specs.Children.{behind, later}
 use Rattle.qc_model.specs.declared.decision.Decision.{Decision}
 use Rattle.qc_model.specs.declared.decision.Decision.TheVariants.{Assign, Order}
 use Rattle.qc_model.specs.declared.direction.Direction.{Direction}
-use Rattle.qc_model.specs.Closing.{IsClosable, IsWorkBound, complete, no_starts, out_of_reach}
+use Rattle.qc_model.specs.Closing.{IsClosable, IsWorkBound, complete, ends_late, no_starts, out_of_reach, work_late}
 use Rattle.qc_model.specs.Instance.{InstanceView, Valid}
 use Rattle.qc_model.specs.Leaves.{Leaf, chain, is_out_of_reach, leaf_value, reach, with_packed}
 use Rattle.qc_model.specs.Nodes.{HasStarts, IsComplete, IsInReach, IsNodeEnd, reaches}
@@ -28,11 +28,12 @@ use Rattle.qc_tree.specs.Trees.{leaf_text, sign_text, sign_value}
 use Rattle.qc_tree.specs.Trees as signs
 use Rattle.qc_search.specs.declared.branch.Branch.{Branch}
 use Rattle.qc_search.specs.declared.progress.Progress.{Progress}
-use Rattle.qc_search.specs.Earned.{IsChainTo, IsClosedAt, IsGivenUp}
+use Rattle.qc_search.specs.Earned.{IsChainTo, IsClosedAt, IsGivenUp, IsPackedLate}
 use Rattle.qc_search.specs.Lines.{IsLeafBy, leaf_of}
 use Rattle.qc_search.specs.Progress.{IsPassed, IsSoon, IsStep, IsTaken, WritesNodes, left_by}
 use Rattle.qc_search.specs.Walk.{IsOpenBranch, first_of, from_child, from_node, sign_of}
 use Rattle.qc_search.proofs.DescentLemmas.{branch_due}
+use Rattle.qc_search.proofs.LineLemmas.{work_shown}
 use Rattle.qc_search.proofs.NodesLemmas.{step_written}
 use Rattle.qc_search.proofs.StepLemmas.{IsLeafStep, branch_step, leaf_step, met_before, same_but}
 
@@ -84,18 +85,21 @@ pub leaf_closes : (inst : InstanceView) (ds : List Decision) (u : Bound) (leaf :
 leaf_closes inst ds u kind.Chain tasks h = h.0
 leaf_closes inst ds u kind.Ring tasks h = h.ring
 leaf_closes inst ds u (kind.Work end) tasks h = (h.0.empty, h.0.soon, h.0.shows)
+leaf_closes inst ds u (kind.Clash end) tasks h = (h.0.soon, h.0.shows)
 
 pub leaf_spends : (inst : InstanceView) (ds : List Decision) (leaf : LeafKind) (tasks : List ℕ)
     → IsSpentBy inst ds leaf tasks → IsLeafBy inst ds leaf tasks
 leaf_spends inst ds kind.Chain tasks h = h.0
 leaf_spends inst ds kind.Ring tasks h = h.ring
 leaf_spends inst ds (kind.Work end) tasks h = (h.0.empty, h.0.soon, h.0.shows)
+leaf_spends inst ds (kind.Clash end) tasks h = (h.0.soon, h.0.shows)
 
 holds_by : (inst : InstanceView) (ds : List Decision) (leaf : LeafKind) (tasks : List ℕ)
     → IsLeafBy inst ds leaf tasks → IsSome (leaf_value with_packed inst ds (leaf_of leaf tasks))
 holds_by inst ds kind.Chain tasks h = ap is_some h.chain
 holds_by inst ds kind.Ring tasks h = ap is_some h
 holds_by inst ds (kind.Work end) tasks h = ap is_some h.2
+holds_by inst ds (kind.Clash end) tasks h = ap is_some h.1
 
 why_starts : (inst : InstanceView) (ds : List Decision) (tasks : List ℕ) → IsWhy inst ds tasks → HasStarts inst ds
 why_starts inst ds tasks why = record { starts = why.ends.starts; meets = why.ends.least.meets }
@@ -129,6 +133,30 @@ closed_as inst ds u (kind.Work end) tasks within h = record {
   complete = λ _ _ all. absurd (h.0.undecided all);
   late = λ _ _ _. record { end = end; value = h.0.shows; late = h.1 };
 }
+closed_as inst ds u (kind.Clash end) tasks within h = record {
+  out_of_reach = λ out. absurd (never_out_of_reach inst ds within out);
+  no_starts = λ _ none. absurd (none h.0.starts);
+  complete = λ _ _ all. absurd (h.0.undecided all);
+  late = λ _ _ _. record { end = end; value = h.0.shows; late = h.1 };
+}
+
+-- a leaf that stands for a node that isn't closed lists packed tasks
+packed_as : (inst : InstanceView) (ds : List Decision) (u : Bound) (leaf : LeafKind) (tasks : List ℕ)
+    → IsClosedBy inst ds u leaf tasks → ¬ IsClosable inst ds u → IsPackedLate inst ds u (leaf_of leaf tasks)
+packed_as inst ds u kind.Chain tasks h open_node = by_due h.1
+  where
+    by_due : IsComplete inst ds ⊎ IsAtMost u (Least h.0.end) → IsPackedLate inst ds u (chain tasks)
+    by_due (inl all) = absurd (open_node (complete all))
+    by_due (inr late) = absurd (open_node (ends_late (record { end = h.0.end; is = h.0.ends; late = late })))
+packed_as inst ds u kind.Ring tasks h open_node = absurd (open_node (no_starts h.none))
+packed_as inst ds u (kind.Work end) tasks h open_node =
+    let both = work_shown inst ds end h.0.shows in
+    absurd (open_node (work_late (record { end = end; positive = both.0; holds = both.1; late = h.1 })))
+packed_as inst ds u (kind.Clash end) tasks h open_node = record {
+  tasks = tasks;
+  is = refl;
+  late = record { end = end; value = h.0.shows; late = h.1 };
+}
 
 given_as : (inst : InstanceView) (ds : List Decision) (u : Bound) (leaf : LeafKind) (tasks : List ℕ)
     → IsSpentBy inst ds leaf tasks → ¬ IsClosable inst ds u → IsGivenUp inst ds (leaf_of leaf tasks)
@@ -138,21 +166,35 @@ given_as inst ds u kind.Chain tasks h open_node = by_due h.1
         → IsGivenUp inst ds (chain tasks)
     by_due (inl all) = absurd (open_node (complete all))
     by_due (inr low) = record {
+      value = h.0.end;
+      is = h.0.chain;
       end = h.0.end;
       ends = h.0.ends;
+      no_less = omega arith;
       bound = low.0;
       works = low.1;
-      by_chain = λ _. chain_to inst ds tasks h.0;
-      by_work = λ less. absurd (omega (arith, low.2));
+      no_shorter = low.2;
     }
 given_as inst ds u kind.Ring tasks h open_node = absurd (open_node (no_starts h.none))
 given_as inst ds u (kind.Work end) tasks h open_node = record {
+  value = end;
+  is = h.0.shows;
   end = h.1.0;
   ends = h.1.1;
+  no_less = omega (arith, h.1.2);
   bound = end;
   works = h.0.bound;
-  by_chain = λ low. absurd (omega (arith, h.1.2));
-  by_work = λ _. refl;
+  no_shorter = omega arith;
+}
+given_as inst ds u (kind.Clash end) tasks h open_node = record {
+  value = end;
+  is = h.0.shows;
+  end = h.2.0;
+  ends = h.2.1;
+  no_less = h.2.2;
+  bound = h.1.0;
+  works = h.1.1;
+  no_shorter = h.1.2;
 }
 
 -- the end that was met once the node's schedule is taken, or passed by, is no later than the node's own
@@ -183,16 +225,19 @@ closed_late inst way ds old mid kind.Ring tasks meets within h =
 closed_late inst way ds old mid (kind.Work end) tasks meets within h =
     subst (IsAtMost mid.incumbent_end) (sym (ap (λ (o : Option Bound). unwrap_or o Never) h.0.shows))
     (at_most_through mid.incumbent_end old.incumbent_end (Least end) (met_before inst way ds old mid meets) h.1)
+closed_late inst way ds old mid (kind.Clash end) tasks meets within h =
+    subst (IsAtMost mid.incumbent_end) (sym (ap (λ (o : Option Bound). unwrap_or o Never) h.0.shows))
+    (at_most_through mid.incumbent_end old.incumbent_end (Least end) (met_before inst way ds old mid meets) h.1)
 
 module _ (inst : InstanceView) (way : Direction) (ds : List Decision) (leaf : LeafKind) (old : Progress) where
   -- the leaf that closes the node, behind the meeting of it
   pub closed_step : (mid : Progress) → IsPassed inst ds old mid ⊎ IsTaken inst way ds old mid → IsInReach inst ds
-      → IsClosable inst ds old.incumbent_end → IsClosedBy inst ds old.incumbent_end leaf old.path.items
+      → IsClosedBy inst ds old.incumbent_end leaf old.path.items
       → IsLeafStep inst way ds (leaf_of leaf old.path.items) old mid
-  closed_step mid meets within closable by = record {
+  closed_step mid meets within by = record {
     holds = holds_by inst ds leaf old.path.items (leaf_closes inst ds old.incumbent_end leaf old.path.items by);
     closed = λ _. closed_as inst ds old.incumbent_end leaf old.path.items within by;
-    given_up = λ open_node. absurd (open_node closable);
+    given_up = λ open_node. inl (packed_as inst ds old.incumbent_end leaf old.path.items by open_node);
     meets = meets;
     late = λ left. closed_late inst way ds old mid leaf old.path.items meets within by;
   }
@@ -203,7 +248,7 @@ module _ (inst : InstanceView) (way : Direction) (ds : List Decision) (leaf : Le
   spent_step open_node spent by = record {
     holds = holds_by inst ds leaf old.path.items (leaf_spends inst ds leaf old.path.items by);
     closed = λ closable. absurd (open_node closable);
-    given_up = λ _. (spent, given_as inst ds old.incumbent_end leaf old.path.items by open_node);
+    given_up = λ _. inr (spent, given_as inst ds old.incumbent_end leaf old.path.items by open_node);
     meets = inl (record { same = refl; late = λ begins all within least. absurd (open_node (complete all)) });
     late = λ left. absurd (omega (arith, left, spent));
   }
@@ -233,16 +278,16 @@ leaf_written inst way ds more shows old mid new value result step valued soon is
 module _ {before after : View} (inst : InstanceView) (way : Direction) (ds : List Decision) (leaf : LeafKind)
     (old new : Progress) (value : Bound) (soon : IsSoon value) (result : Result ⊤ WriteFault) where
   pub closed_written : (mid : Progress) → IsPassed inst ds old mid ⊎ IsTaken inst way ds old mid → IsInReach inst ds
-      → IsClosable inst ds old.incumbent_end → IsClosedBy inst ds old.incumbent_end leaf old.path.items
+      → IsClosedBy inst ds old.incumbent_end leaf old.path.items
       → leaf_value with_packed inst ds (leaf_of leaf old.path.items) ≡ Some value
       → new ≡ record mid { bound = lesser mid.bound value; path = new.path }
       → new.path.capacity ≡ mid.path.capacity
       → Writes before after (leaf_text (leaf_of leaf mid.path.items)) result
       → WritesNodes [] before after inst way (from_node inst ds) (left_by (λ _. behind inst ds) result) old new result
-  closed_written mid meets within closable by valued is capacity w =
+  closed_written mid meets within by valued is capacity w =
       let tasks = ap (λ (p : SmallVec ℕ). p.items) (same_but inst way ds old mid meets).path in
       leaf_written inst way ds (behind inst ds) (leaf_of leaf old.path.items) old mid new value result
-      (closed_step inst way ds leaf old mid meets within closable by) valued soon is capacity
+      (closed_step inst way ds leaf old mid meets within by) valued soon is capacity
       (subst (λ (t : List ℕ). Writes before after (leaf_text (leaf_of leaf t)) result) tasks w)
 
   pub spent_written : ¬ IsClosable inst ds old.incumbent_end → old.branched ≡ old.limit
@@ -258,18 +303,17 @@ module _ {before after : View} (inst : InstanceView) (way : Direction) (ds : Lis
 
 -- the line of a branching
 pub branch_written : {before after : View} (inst : InstanceView) (way : Direction) (ds : List Decision) (branch : Branch)
-    (old : Progress) (path : SmallVec ℕ) (since : ℕ) (result : Result ⊤ WriteFault) → Valid inst
-    → path.capacity ≡ old.path.capacity → IsOpenBranch inst ds branch → ¬ IsClosable inst ds old.incumbent_end
+    (old : Progress) (result : Result ⊤ WriteFault) → Valid inst → IsOpenBranch inst ds branch → ¬ IsClosable inst ds old.incumbent_end
     → old.branched < old.limit → Writes before after (sign_text (sign_of branch)) result
     → WritesNodes [] before after inst way (from_node inst ds)
     (left_by (λ _. from_child inst ds (Some (first_of branch))) result) old
-    (record old { branched = old.branched + 1; since_incumbent = since; path = path }) result
-branch_written {before} {after} inst way ds branch old path since result v capacity is_open unclosed left w =
-    let new = record old { branched = old.branched + 1; since_incumbent = since; path = path } in
+    (record old { branched = old.branched + 1 }) result
+branch_written {before} {after} inst way ds branch old result v is_open unclosed left w =
+    let new = record old { branched = old.branched + 1 } in
     subst (λ (l : List (List Decision)). WritesNodes [] before after inst way (from_node inst ds) (left_by (λ _. l) result)
     old new result) (branch_due inst v ds branch is_open)
     (step_written ds (behind inst ds) (sign_of branch) old new result
-    (branch_step inst way ds old path since capacity unclosed left branch is_open) w)
+    (branch_step inst way ds old unclosed left branch is_open) w)
 
 -- the line of a child that is out of reach: those from the next one on are left
 pub reach_written : {before after : View} (inst : InstanceView) (way : Direction) (ds : List Decision) (d : Decision)

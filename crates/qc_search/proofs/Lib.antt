@@ -13,3 +13,4 @@ pub mod TightLemmas
 pub mod GivenLemmas
 pub mod TreeLemmas
 pub mod RunLemmas
+pub mod PlaceLemmas

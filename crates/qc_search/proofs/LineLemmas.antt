@@ -1,5 +1,5 @@
 -- Which leaves can be written.
-use Rattle.std.proofs.Common.{◌≡◌, ℕ, ◌+◌, ◌<◌, ◌≤◌, Bool, true, false, List, [], ◌∷◌, All, length, drop, Option, None, Some, refl, ap, sym, subst, ◌∙◌, cond, arith, ◌&&◌, nat_le, nat_lt}
+use Rattle.std.proofs.Common.{◌≡◌, ℕ, ◌+◌, ◌*◌, ◌<◌, ◌≤◌, Bool, true, false, IsTrue, map, option_map, List, [], ◌∷◌, All, length, drop, Option, None, Some, refl, ap, sym, subst, ◌∙◌, cond, arith, ◌&&◌, nat_le, nat_lt}
 use Rattle.std.proofs.lemmas.Bool.{and_parts, leb-true, ltb-true}
 use Rattle.std.proofs.lemmas.List.{length-map, take_at}
 use Rattle.std.proofs.lemmas.List.Elements.{All-cons, All-map}
@@ -10,8 +10,12 @@ use Rattle.qc_bounds.specs.declared.leaves.LeafKind.TheVariants as kind
 use Rattle.qc_model.specs.declared.decision.Decision.{Decision}
 use Rattle.qc_model.specs.Numbers.{most_tasks}
 use Rattle.qc_model.specs.Instance.{InstanceView}
-use Rattle.qc_model.specs.Leaves.{are_tasks, is_ring}
-use Rattle.qc_model.specs.Work.{work_holds}
+use Rattle.qc_model.specs.Leaves.{are_tasks, is_ring, leaf_value, with_packed, work}
+use Rattle.qc_model.specs.Work.{ticks_over, work_holds}
+use Rattle.qc_model.specs.Assignments.{cranes_of}
+use Rattle.qc_model.specs.Nodes.{head, least}
+use Rattle.qc_model.specs.Packs.{all_clash, all_differ, is_doable, is_packed, span}
+use Rattle.qc_close.proofs.SpanLemmas.{packed_few, packed_range}
 use Rattle.qc_tree.specs.Lines.{AreTasks, IsLine, IsTask}
 use Rattle.qc_tree.specs.Trees.{in_file}
 use Rattle.qc_search.specs.Lines.{AreNumbers, IsLeafBy, IsWritable, leaf_line}
@@ -24,6 +28,7 @@ pub written : (leaf : LeafKind) (tasks : List ℕ) → IsWritable leaf tasks →
 written kind.Chain tasks h = named tasks h
 written kind.Ring tasks h = (omega (arith, length-map tasks (λ j. j + 1), h.0), named tasks h.1)
 written (kind.Work end) tasks h = (h.1, omega (arith, h.2))
+written (kind.Clash end) tasks h = (omega (arith, length-map tasks (λ j. j + 1), h.0), named tasks h.1)
 
 -- ---- a leaf that holds
 
@@ -43,6 +48,20 @@ numbers_of inst tasks few t =
     let both = and_parts (nat_le (length tasks) most_tasks) (list_all (λ j. nat_lt j (length inst.tasks)) tasks) t in
     (leb-true (length tasks) most_tasks both.0, all_below (length inst.tasks) most_tasks tasks few both.1)
 
+-- the work shows an end only where it is at least 1 and the work doesn't fit before it
+pub work_shown : (inst : InstanceView) (ds : List Decision) (end : ℕ)
+    → leaf_value with_packed inst ds (work end) ≡ Some (Least end) → (1 ≤ end) × IsTrue (work_holds inst ds end)
+work_shown inst ds end e =
+    let all = some_true (nat_le 1 end && work_holds inst ds end) (Some (Least end)) (Least end) e in
+    let both = and_parts (nat_le 1 end) (work_holds inst ds end) all in
+    (leb-true 1 end both.0, both.1)
+
+-- tasks that show an end are packed
+packed_shown : (b : Bool) (ticks head end : ℕ)
+    → option_map Least (option_map (λ n. head + n) (cond b (Some ticks) None)) ≡ Some (Least end) → b ≡ true
+packed_shown true ticks head end e = refl
+packed_shown false ticks head end e = absurd (cc e)
+
 pub writable : (inst : InstanceView) (ds : List Decision) (leaf : LeafKind) (tasks : List ℕ)
     → length inst.tasks ≤ most_tasks → IsLeafBy inst ds leaf tasks → IsWritable leaf tasks
 writable inst ds kind.Chain tasks few h =
@@ -53,11 +72,18 @@ writable inst ds kind.Ring tasks few h =
     let one = and_parts (are_tasks inst tasks) (nat_le 2 (length tasks)) two.0 in
     (leb-true 2 (length tasks) one.1, numbers_of inst tasks few one.0)
 writable inst ds (kind.Work end) tasks few h =
-    let all = some_true (nat_le 1 end && work_holds inst ds end) (Some (Least end)) (Least end) h.2 in
-    let one = and_parts (nat_le 1 end) (work_holds inst ds end) all in (
-      subst AreNumbers (sym h.0) (omega arith, λ k d low. absurd (omega arith)),
-      leb-true 1 end one.0,
-      h.1,
+    (subst AreNumbers (sym h.0) (omega arith, λ k d low. absurd (omega arith)), (work_shown inst ds end h.2).0, h.1)
+writable inst ds (kind.Clash end) tasks few h =
+    let cranes = cranes_of inst ds in
+    let all = packed_shown (is_packed inst cranes tasks) (ticks_over inst tasks + inst.travel * span inst cranes tasks)
+    (least (map (head inst ds) tasks)) end h.1 in
+    let range = packed_range inst cranes tasks all in
+    let some = and_parts (nat_lt 0 (length tasks)) (list_all (is_doable inst cranes) tasks)
+    (and_parts (nat_lt 0 (length tasks) && list_all (is_doable inst cranes) tasks) (all_differ tasks)
+    (and_parts (nat_lt 0 (length tasks) && list_all (is_doable inst cranes) tasks && all_differ tasks)
+    (all_clash inst cranes tasks) all).0).0 in (
+      ltb-true 0 (length tasks) some.0,
+      (omega (arith, packed_few inst cranes tasks all), λ k d low. omega (arith, range k d low)),
     )
 
 -- ---- tasks that were numbered anew in their place

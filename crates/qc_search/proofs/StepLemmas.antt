@@ -21,7 +21,7 @@ use Rattle.qc_tree.specs.Trees.{Sign, leaf, on_pair, on_task, sign_value}
 use Rattle.qc_search.specs.declared.branch.Branch.{Branch}
 use Rattle.qc_search.specs.declared.branch.Branch.TheVariants.{Pair, Task}
 use Rattle.qc_search.specs.declared.progress.Progress.{Progress}
-use Rattle.qc_search.specs.Earned.{IsClosedAt, IsEarnedBehind, IsGivenUp, IsKnownEnd, IsSolvedBy, MayStand, TreeNode, branchings_in, node_at}
+use Rattle.qc_search.specs.Earned.{IsClosedAt, IsEarnedBehind, IsGivenUp, IsKnownEnd, IsPackedLate, IsSolvedBy, MayStand, TreeNode, branchings_in, node_at}
 use Rattle.qc_search.specs.Progress.{Improves, IsAlong, IsFrom, IsKept, IsPassed, IsProgress, IsSoon, IsStep, IsTaken, value_in}
 use Rattle.qc_search.specs.Run.{best_end}
 use Rattle.qc_search.specs.Walk.{IsOpenBranch, sign_of}
@@ -94,7 +94,8 @@ pub record IsLeafStep
     (inst : InstanceView) (way : Direction) (ds : List Decision) (shows : Leaf) (old mid : Progress) : Type 0 where
   pub holds : IsSome (leaf_value with_packed inst ds shows)
   pub closed : IsClosable inst ds old.incumbent_end → IsClosedAt inst ds old.incumbent_end shows
-  pub given_up : ¬ IsClosable inst ds old.incumbent_end → (old.branched ≡ old.limit) × IsGivenUp inst ds shows
+  pub given_up : ¬ IsClosable inst ds old.incumbent_end
+      → IsPackedLate inst ds old.incumbent_end shows ⊎ ((old.branched ≡ old.limit) × IsGivenUp inst ds shows)
   pub meets : IsPassed inst ds old mid ⊎ IsTaken inst way ds old mid
   pub late : old.branched < old.limit → IsAtMost mid.incumbent_end (sign_value with_packed inst ds (leaf shows))
 
@@ -167,7 +168,7 @@ module _ (home : InstanceView) (first : Option (List Slot)) (way : Direction) (d
         record {
           u = old.incumbent_end;
           known = now.known;
-          stands = (s.closed, λ open_node. let g = s.given_up open_node in (sym now.branched ∙ g.0, g.1));
+          stands = (s.closed, λ open_node. spent_by (s.given_up open_node));
         },
         record {
           few = omega (arith, now.few, same.branched, same.limit);
@@ -185,6 +186,13 @@ module _ (home : InstanceView) (first : Option (List Slot)) (way : Direction) (d
               (s.late less);
         },
       )
+    where
+      spent_by : IsPackedLate (seen home way) ds old.incumbent_end shows
+          ⊎ ((old.branched ≡ old.limit) × IsGivenUp (seen home way) ds shows)
+          → IsPackedLate (seen home way) ds old.incumbent_end shows
+          ⊎ ((branchings_in before ≡ old.limit) × IsGivenUp (seen home way) ds shows)
+      spent_by (inl late) = inl late
+      spent_by (inr g) = inr (sym now.branched ∙ g.0, g.1)
 
 -- a leaf was met, and its value taken
 pub leaf_step : (inst : InstanceView) (way : Direction) (ds : List Decision) (shows : Leaf) (old mid : Progress)
@@ -215,11 +223,11 @@ leaf_step inst way ds shows old mid path capacity soon s =
 
 -- ---- a branching
 
-module _ (inst : InstanceView) (way : Direction) (ds : List Decision) (old : Progress) (path : SmallVec ℕ) (since : ℕ)
-    (capacity : path.capacity ≡ old.path.capacity) (unclosed : ¬ IsClosable inst ds old.incumbent_end)
+module _ (inst : InstanceView) (way : Direction) (ds : List Decision) (old : Progress)
+    (unclosed : ¬ IsClosable inst ds old.incumbent_end)
     (left : old.branched < old.limit) where
   abbrev branched : Progress
-  branched = record old { branched = old.branched + 1; since_incumbent = since; path = path }
+  branched = record old { branched = old.branched + 1 }
 
   branch_earned : (sign : Sign) (home : InstanceView) (first : Option (List Slot)) (before : List TreeNode)
       → seen home way ≡ inst
@@ -245,7 +253,7 @@ module _ (inst : InstanceView) (way : Direction) (ds : List Decision) (old : Pro
       )
 
   along : IsAlong inst old branched
-  along = record { limit = refl; count = λ h. h; room = λ h. omega (arith, capacity, h); soon = λ h. h }
+  along = record { limit = refl; count = λ h. h; room = λ h. h; soon = λ h. h }
 
   stands_open : (home : InstanceView) → seen home way ≡ inst → ¬ IsClosable (seen home way) ds old.incumbent_end
   stands_open home seen_so = subst (λ (i : InstanceView). ¬ IsClosable i ds old.incumbent_end) (sym seen_so) unclosed

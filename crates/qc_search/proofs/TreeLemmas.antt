@@ -78,7 +78,7 @@ by_fault end (Err fault) is w = record {
 }
 
 abbrev title : List ℕ
-title = whole_line line.Title2 []
+title = whole_line line.Title3 []
 
 abbrev up_line : List ℕ
 up_line = whole_line line.Up []

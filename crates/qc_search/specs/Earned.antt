@@ -1,5 +1,5 @@
 -- public: which bound trees a search with a budget of branchings may write.
-use Rattle.std.specs.Prelude.{◌≡◌, ℕ, ◌<◌, ◌≤◌, ◌⊎◌, IsTrue, List, ◌∷◌, ◌++◌, map, Some, All, Any, count_by}
+use Rattle.std.specs.Prelude.{◌≡◌, ℕ, ◌≤◌, ◌⊎◌, IsTrue, List, ◌∷◌, ◌++◌, map, Some, All, Any, count_by}
 use Rattle.qc_num.specs.declared.bound.Bound.{Bound}
 use Rattle.qc_num.specs.declared.bound.Bound.TheVariants.{Least}
 use Rattle.qc_num.specs.Bounds.{IsAtMost}

@@ -4,3 +4,4 @@ pub mod Fields
 pub mod Walk
 pub mod Lines
 pub mod Progress
+pub mod Places

@@ -25,14 +25,14 @@ abbrev pub leaf_of : LeafKind → List ℕ → Leaf
 leaf_of Chain tasks = chain tasks
 leaf_of Ring tasks = ring tasks
 leaf_of (Work end) tasks = work end
-leaf_of Clash tasks = packed tasks
+leaf_of (Clash end) tasks = packed tasks
 
 -- the line of a leaf
 abbrev pub leaf_line : LeafKind → Line
 leaf_line Chain = line.Chain
 leaf_line Ring = line.Ring
 leaf_line (Work end) = line.Work end
-leaf_line Clash = line.Clash
+leaf_line (Clash end) = line.Clash
 
 -- tasks that a line can name
 abbrev pub AreNumbers : List ℕ → Type 0
@@ -42,7 +42,7 @@ AreNumbers tasks = (length tasks ≤ most_tasks) × All (λ j. j < most_tasks) t
 abbrev pub IsWritable : LeafKind → List ℕ → Type 0
 IsWritable Chain tasks = AreNumbers tasks
 IsWritable Ring tasks = (2 ≤ length tasks) × AreNumbers tasks
-IsWritable Clash tasks = (1 ≤ length tasks) × AreNumbers tasks
+IsWritable (Clash end) tasks = (1 ≤ length tasks) × AreNumbers tasks
 IsWritable (Work end) tasks = AreNumbers tasks × (1 ≤ end) × (end ≤ most_start)
 
 -- the leaf holds at the node, and the path has its tasks
@@ -51,8 +51,8 @@ IsLeafBy inst ds Chain tasks = IsWhy inst ds tasks
 IsLeafBy inst ds Ring tasks = IsCycle inst ds tasks
 IsLeafBy inst ds (Work end) tasks =
     (tasks ≡ []) × (end ≤ most_start) × (leaf_value with_packed inst ds (work end) ≡ Some (Least end))
-IsLeafBy inst ds Clash tasks =
-    (end : ℕ) × (end ≤ most_start) × (leaf_value with_packed inst ds (packed tasks) ≡ Some (Least end))
+IsLeafBy inst ds (Clash end) tasks =
+    (end ≤ most_start) × (leaf_value with_packed inst ds (packed tasks) ≡ Some (Least end))
 
 -- a line can name the tasks of the branching
 abbrev pub IsNamed : Branch → Type 0

@@ -32,7 +32,6 @@ abbrev pub begun : (limit : ℕ) → List Slot → SmallVec ℕ → Progress
 begun limit incumbent path = record {
   limit = limit;
   branched = 0;
-  since_incumbent = 0;
   bound = Never;
   incumbent_end = Never;
   way = Up;
@@ -177,7 +176,6 @@ pub record IsTaken
     incumbent_end = Least (last_end inst.tasks begins);
     way = way;
     incumbent = schedule_with inst ds begins;
-    since_incumbent = 0;
   }
 
 -- the number of a bound; none of Never

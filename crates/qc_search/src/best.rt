@@ -54,7 +54,6 @@ pub(crate) fn meet(end: Tick, starts: &Starts, way: Direction, progress: &mut Pr
     keep(starts, &mut progress.incumbent);
     progress.incumbent_end = Bound::Least(end);
     progress.way = way;
-    progress.since_incumbent = 0;
 }
 
 /// The incumbent as it is answered, if there is one: one of the down part is turned back.

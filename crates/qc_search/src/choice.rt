@@ -1,18 +1,18 @@
 //! Which branching comes next. It decides how much is shown within a budget, and nothing else: any
 //! choice of an open branching is right.
-ghost use Rattle.std.specs.Prelude.{◌≡◌, ◌<◌, ◌≤◌, None, IfSome, IsTrue, length, true};
-ghost use Rattle.qc_num.specs.Paths.{HasRoom};
-ghost use Rattle.qc_model.specs.Nodes.{HasStarts, IsComplete, assigned, reaches};
+ghost use Rattle.std.specs.Prelude.{◌≡◌, ◌<◌, ◌≤◌, ◌⊎◌, IfSome, IsTrue, Some, MatchOption, length};
+ghost use Rattle.qc_model.specs.Nodes.{HasStarts, IsComplete, reaches};
 ghost use Rattle.qc_starts.specs.Seen.{AreAssigned};
 ghost use Rattle.qc_search.specs.Walk.{IsOpenBranch, IsOpenTask};
 
 use crate::branch::Branch;
+use crate::given::apart_at;
 use crate::moves::{go, go_back};
 use crate::window::Window;
-use qc_bounds::close;
+use qc_bounds::work_bound;
 use qc_dist::in_reach;
-use qc_model::{Decision, Instance};
-use qc_num::{Bound, Path, Tick};
+use qc_model::{Decision, Pair};
+use qc_num::{Bound, Tick};
 use qc_starts::Starts;
 
 /// What the search looks at where it looks ahead for a task to branch on.
@@ -47,73 +47,62 @@ impl Rating {
     }
 }
 
-/// Whether a task comes before another in bow order: by bay, and at one bay by number. So it is where
-/// one of them is none.
-fn is_ahead(inst: &Instance, one: Option<u16>, two: Option<u16>) -> bool
-    requires first { IfSome one (λ task. task < length inst.now.tasks) }
-    requires second { IfSome two (λ task. task < length inst.now.tasks) }
-    ensures none_before { one ≡ None → IsTrue result }
-    ensures none_behind { two ≡ None → IsTrue result }
+/// The lowest unassigned task: the first from the bow of the ship, in both parts.
+fn next_open(starts: &Starts) -> Option<u16>
+    ensures { MatchOption result
+        (AreAssigned starts.now.inst starts.now.decisions)
+        (IsOpenTask starts.now.inst starts.now.decisions) }
 {
-    let Some(one) = one else {
-        return true;
-    };
-    let Some(two) = two else {
-        return true;
-    };
-    let (here, there) = (inst.task(one).bay, inst.task(two).bay);
-    here < there || here == there && one < two
-}
-
-/// The first unassigned task in bow order behind a task, or of all.
-fn next_open(starts: &Starts, last: Option<u16>) -> Option<u16>
-    requires last { IfSome last (λ other. other < length starts.now.inst.tasks) }
-    ensures open { IfSome result (IsOpenTask starts.now.inst starts.now.decisions) }
-    ensures none { last ≡ None → result ≡ None → AreAssigned starts.now.inst starts.now.decisions }
-{
-    let inst = starts.instance();
-    let mut next = None;
-    for task in 0..inst.task_count() {
-        if starts.crane_of(task).is_none()
-            && is_ahead(inst, last, Some(task))
-            && is_ahead(inst, Some(task), next)
-        {
-            next = Some(task);
+    for task in 0..starts.instance().task_count() {
+        if starts.crane_of(task).is_none() {
+            return Some(task);
         }
     }
-    next
+    None
+}
+
+/// Whether an end comes no sooner than that of the incumbent.
+fn is_late(end: Tick, incumbent_end: Bound) -> bool {
+    match incumbent_end {
+        Bound::Least(least) => least <= end,
+        Bound::Never => false,
+    }
+}
+
+/// Whether a node needs no branching, as its starts and its work show.
+fn is_closed(starts: &Starts, incumbent_end: Bound) -> bool {
+    starts.stuck()
+        || starts.complete()
+        || is_late(starts.ends(), incumbent_end)
+        || is_late(work_bound(starts), incumbent_end)
 }
 
 /// Whether the child that puts the task on the crane would be closed. The node stays as it is.
-fn closes(starts: &mut Starts, task: u16, crane: u16, incumbent_end: Bound, path: &mut Path) -> bool
+fn closes(starts: &mut Starts, task: u16, crane: u16, incumbent_end: Bound) -> bool
     requires starts { HasStarts starts.old.inst starts.old.decisions }
     requires open { IsOpenTask starts.old.inst starts.old.decisions task }
     requires crane { crane < length starts.old.inst.cranes }
     requires reach { IsTrue (reaches starts.old.inst task crane) }
-    requires room { HasRoom (length starts.old.inst.tasks) path.old }
     ensures stays { starts.new ≡ starts.old }
-    ensures room { path.new.capacity ≡ path.old.capacity }
 {
     let mark = starts.mark();
     go(starts, Decision::Assign(task, crane));
-    let closed = close(starts, incumbent_end, path).is_some();
+    let closed = is_closed(starts, incumbent_end);
     go_back(starts, mark);
     closed
 }
 
 /// How many children of a task would stay open, at most two. The node stays as it is.
-fn open_children(starts: &mut Starts, task: u16, incumbent_end: Bound, path: &mut Path) -> u8
+fn open_children(starts: &mut Starts, task: u16, incumbent_end: Bound) -> u8
     requires starts { HasStarts starts.old.inst starts.old.decisions }
     requires open { IsOpenTask starts.old.inst starts.old.decisions task }
-    requires room { HasRoom (length starts.old.inst.tasks) path.old }
     ensures stays { starts.new ≡ starts.old }
-    ensures room { path.new.capacity ≡ path.old.capacity }
 {
     let mut open = 0;
     for crane in 0..starts.instance().crane_count() {
         if open < 2
             && in_reach(starts.instance(), task, crane)
-            && !closes(starts, task, crane, incumbent_end, path)
+            && !closes(starts, task, crane, incumbent_end)
         {
             open += 1;
         }
@@ -122,12 +111,10 @@ fn open_children(starts: &mut Starts, task: u16, incumbent_end: Bound, path: &mu
 }
 
 /// A task's rating. The node stays as it is.
-fn rate(starts: &mut Starts, number: u16, outlook: Outlook, path: &mut Path) -> Rating
+fn rate(starts: &mut Starts, number: u16, outlook: Outlook) -> Rating
     requires starts { HasStarts starts.old.inst starts.old.decisions }
     requires open { IsOpenTask starts.old.inst starts.old.decisions number }
-    requires room { HasRoom (length starts.old.inst.tasks) path.old }
     ensures stays { starts.new ≡ starts.old }
-    ensures room { path.new.capacity ≡ path.old.capacity }
 {
     let task = starts.instance().task(number);
     let heavy = match outlook.heavy {
@@ -135,71 +122,101 @@ fn rate(starts: &mut Starts, number: u16, outlook: Outlook, path: &mut Path) -> 
         None => false,
     };
     Rating {
-        open: open_children(starts, number, outlook.incumbent_end, path),
+        open: open_children(starts, number, outlook.incumbent_end),
         heavy,
         ticks: task.ticks,
     }
 }
 
-/// The best task by looking one step ahead, from the first unassigned one on in bow order; one of
-/// which no child stays open is taken at once. The node stays as it is.
-fn best_ahead(starts: &mut Starts, first: u16, outlook: Outlook, path: &mut Path) -> u16
+/// The best unassigned task by looking one step ahead; one of which no child stays open is taken at
+/// once. The node stays as it is.
+fn best_ahead(starts: &mut Starts, first: u16, outlook: Outlook) -> u16
     requires starts { HasStarts starts.old.inst starts.old.decisions }
     requires open { IsOpenTask starts.old.inst starts.old.decisions first }
-    requires room { HasRoom (length starts.old.inst.tasks) path.old }
     ensures stays { starts.new ≡ starts.old }
     ensures open { IsOpenTask starts.old.inst starts.old.decisions result }
-    ensures room { path.new.capacity ≡ path.old.capacity }
 {
     let mut best = first;
-    let mut most = rate(starts, first, outlook, path);
-    let mut last = first;
-    for _ in 0..starts.instance().task_count() {
-        if most.open == 0 {
-            break;
+    let mut most = rate(starts, first, outlook);
+    for task in first..starts.instance().task_count() {
+        if most.open > 0 && task != first && starts.crane_of(task).is_none() {
+            let this = rate(starts, task, outlook);
+            if this.is_better(most) {
+                best = task;
+                most = this;
+            }
         }
-        let Some(task) = next_open(starts, Some(last)) else {
-            break;
-        };
-        let this = rate(starts, task, outlook, path);
-        if this.is_better(most) {
-            best = task;
-            most = this;
-        }
-        last = task;
     }
     best
 }
 
-/// The first apart pair that isn't settled.
-fn first_unsettled(starts: &Starts) -> Branch
+/// An apart pair that isn't settled, and when both of its tasks have started in the earliest starts;
+/// no tick is later where they don't overlap in these.
+#[derive(Clone, Copy)]
+struct Unsettled {
+    pair: Pair,
+    from: Tick,
+}
+
+/// When both of two tasks have started, where neither ends before the other starts.
+fn overlap(starts: &Starts, pair: Pair) -> Tick
+    requires starts { HasStarts starts.now.inst starts.now.decisions }
+    requires first { pair.first < length starts.now.inst.tasks }
+    requires second { pair.second < length starts.now.inst.tasks }
+{
+    let inst = starts.instance();
+    let (one, other) = (starts.start(pair.first), starts.start(pair.second));
+    if one + inst.task(pair.first).ticks <= other || other + inst.task(pair.second).ticks <= one {
+        return Tick::MAX;
+    }
+    one.max(other)
+}
+
+/// Of two pairs that which overlaps sooner, the first of them where both do at the same tick.
+fn sooner(before: Option<Unsettled>, this: Unsettled) -> Unsettled
+    ensures { (result ≡ this) ⊎ (before ≡ Some result) }
+{
+    match before {
+        Some(other) => { if other.from <= this.from { other } else { this } }
+        None => this,
+    }
+}
+
+/// The apart pair to settle: of those that overlap in the earliest starts the one that does so first,
+/// else the first of all.
+fn next_pair(starts: &Starts) -> Branch
+    requires starts { HasStarts starts.now.inst starts.now.decisions }
     requires assigned { AreAssigned starts.now.inst starts.now.decisions }
     requires undecided { ¬ IsComplete starts.now.inst starts.now.decisions }
     ensures { IsOpenBranch starts.now.inst starts.now.decisions result }
 {
-    for pair in starts.instance().apart() {
+    let mut next: Option<Unsettled> = None;
+    for number in 0..starts.instance().apart().len() {
+        let pair = apart_at(starts, number);
         if !starts.settled(pair.first, pair.second) {
-            return Branch::Pair(pair.first, pair.second);
+            let from = overlap(starts, pair);
+            next = Some(sooner(next, Unsettled { pair, from }));
         }
     }
-    unreachable!()
+    match next {
+        Some(found) => Branch::Pair(found.pair.first, found.pair.second),
+        None => unreachable!(),
+    }
 }
 
 /// An unassigned task or, where there is none, an apart pair that isn't settled. Without an outlook it
-/// is the first task in bow order. The node stays as it is.
-pub(crate) fn pick(starts: &mut Starts, ahead: Option<Outlook>, path: &mut Path) -> Branch
+/// is the lowest task. The node stays as it is.
+pub(crate) fn pick(starts: &mut Starts, ahead: Option<Outlook>) -> Branch
     requires starts { HasStarts starts.old.inst starts.old.decisions }
     requires undecided { ¬ IsComplete starts.old.inst starts.old.decisions }
-    requires room { HasRoom (length starts.old.inst.tasks) path.old }
     ensures stays { starts.new ≡ starts.old }
     ensures open { IsOpenBranch starts.old.inst starts.old.decisions result }
-    ensures room { path.new.capacity ≡ path.old.capacity }
 {
-    let Some(first) = next_open(starts, None) else {
-        return first_unsettled(starts);
+    let Some(first) = next_open(starts) else {
+        return next_pair(starts);
     };
     match ahead {
         None => Branch::Task(first),
-        Some(outlook) => Branch::Task(best_ahead(starts, first, outlook, path)),
+        Some(outlook) => Branch::Task(best_ahead(starts, first, outlook)),
     }
 }

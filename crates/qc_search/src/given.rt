@@ -18,6 +18,7 @@ ghost use Rattle.qc_search.specs.Run.{IsTightEnd};
 
 use crate::best::keep;
 use crate::moves::{go, go_back};
+use crate::place::Node;
 use crate::progress::{Progress, first_progress};
 use qc_model::{Decision, Direction, Instance, Pair, Schedule, direction_of};
 use qc_num::{Bound, Path, Tick};
@@ -66,7 +67,7 @@ fn order_of(inst: &Instance, sched: &Schedule, pair: Pair) -> Decision
 }
 
 /// An apart pair by its number.
-fn apart_at(starts: &Starts, number: usize) -> Pair
+pub(crate) fn apart_at(starts: &Starts, number: usize) -> Pair
     requires { number < length starts.now.inst.apart }
     ensures is { result ≡ slice_index_or starts.now.inst.apart number (pair_of 0 0) }
     ensures apart { IsApart starts.now.inst result.first result.second }
@@ -116,7 +117,7 @@ fn order_all(starts: &mut Starts, sched: &Schedule)
 
 /// Makes the starts of a schedule that goes upward the earliest with its cranes and its order of apart tasks, and
 /// answers when it then ends.
-fn tighten(starts: &mut Starts, sched: &mut Schedule) -> Tick
+pub(crate) fn tighten(starts: &mut Starts, sched: &mut Schedule) -> Tick
     requires root { starts.old.decisions ≡ [] }
     requires goes { GoesUp starts.old.inst sched.old }
     requires soon { (j : ℕ) → j < length starts.old.inst.tasks → start_of sched.old j ≤ most_start }
@@ -149,8 +150,8 @@ fn copy_slots(from: &Schedule, tasks: u16, to: &mut Schedule)
 /// answers that way and when it ends.
 fn tighten_given(
     given: &Schedule,
-    up: &mut Starts,
-    down: &mut Starts,
+    up: &mut Node,
+    down: &mut Node,
     tight: &mut Schedule,
 ) -> (Direction, Tick)
     requires turned { down.old.inst ≡ mirror up.old.inst }
@@ -173,10 +174,10 @@ fn tighten_given(
     };
     copy_slots(given, up.instance().task_count(), tight);
     let end = match way {
-        Direction::Up => tighten(up, tight),
+        Direction::Up => up.tighten(tight),
         Direction::Down => {
             tight.flip(up.instance().crane_count());
-            tighten(down, tight)
+            down.tighten(tight)
         }
     };
     (way, end)
@@ -186,8 +187,8 @@ fn tighten_given(
 /// tasks.
 pub(crate) fn tight_end(
     given: &Schedule,
-    up: &mut Starts,
-    down: &mut Starts,
+    up: &mut Node,
+    down: &mut Node,
     tight: &mut Schedule,
 ) -> Tick
     requires turned { down.old.inst ≡ mirror up.old.inst }
@@ -210,8 +211,8 @@ pub(crate) fn tight_end(
 /// The progress before the first line where a schedule is given that goes one way.
 fn begin_with(
     given: &Schedule,
-    up: &mut Starts,
-    down: &mut Starts,
+    up: &mut Node,
+    down: &mut Node,
     mut incumbent: Schedule,
     path: Path,
     limit: u32,
@@ -240,8 +241,8 @@ fn begin_with(
 /// The progress before the first line. A schedule that is given goes one way, and its tight form is the incumbent.
 pub(crate) fn begin(
     given: Option<&Schedule>,
-    up: &mut Starts,
-    down: &mut Starts,
+    up: &mut Node,
+    down: &mut Node,
     incumbent: Schedule,
     path: Path,
     limit: u32,

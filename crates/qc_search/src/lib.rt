@@ -14,6 +14,7 @@ mod moves;
 mod node;
 mod outcome;
 mod part;
+mod place;
 mod progress;
 mod search;
 mod tree;

@@ -31,6 +31,7 @@ fn leaf_line(leaf: LeafKind) -> Line
         LeafKind::Chain => Line::Chain,
         LeafKind::Ring => Line::Ring,
         LeafKind::Work(end) => Line::Work(end),
+        LeafKind::Clash(_) => Line::Clash,
     }
 }
 

@@ -2,6 +2,7 @@
 ghost use Rattle.std.specs.Prelude.{◌≡◌, ◌+◌, ◌<◌, ◌≤◌, ◌⊎◌, [], List, ℕ, Some, IfOk, IfSome, OnOk, length};
 ghost use Rattle.qc_bounds.specs.Closed.{IsClosedBy, IsSpentBy};
 ghost use Rattle.qc_bounds.specs.declared.leaves.LeafKind.TheVariants.{Chain};
+ghost use Rattle.qc_close.specs.Crews.{IsCrewOf};
 ghost use Rattle.qc_dist.specs.Children.{behind};
 ghost use Rattle.qc_io.specs.Writes.{Writes};
 ghost use Rattle.qc_model.specs.Closing.{IsClosable};
@@ -20,21 +21,12 @@ use crate::best::meet;
 use crate::choice::{Outlook, pick};
 use crate::lines::{put_branch, put_leaf};
 use crate::progress::Progress;
-use crate::window::Window;
 use qc_bounds::{LeafKind, close, spent};
+use qc_close::Crew;
 use qc_io::{Sink, WriteFault};
 use qc_model::{Decision, Direction};
 use qc_num::Bound;
 use qc_starts::Starts;
-
-/// What is the same for all nodes of a part.
-#[derive(Clone, Copy)]
-pub(crate) struct Side {
-    /// Which part it is.
-    pub(crate) way: Direction,
-    /// The bays with the most work, where they count.
-    pub(crate) heavy: Option<Window>,
-}
 
 /// The value of a leaf of the node.
 fn value_of(leaf: LeafKind, starts: &Starts) -> Bound
@@ -48,7 +40,7 @@ fn value_of(leaf: LeafKind, starts: &Starts) -> Bound
     match leaf {
         LeafKind::Chain => Bound::Least(starts.ends()),
         LeafKind::Ring => Bound::Never,
-        LeafKind::Work(end) => Bound::Least(end),
+        LeafKind::Work(end) | LeafKind::Clash(end) => Bound::Least(end),
     }
 }
 
@@ -71,7 +63,7 @@ fn meet_closed(leaf: LeafKind, starts: &Starts, way: Direction, progress: &mut P
             Bound::Least(end)
         }
         LeafKind::Ring => Bound::Never,
-        LeafKind::Work(end) => Bound::Least(end),
+        LeafKind::Work(end) | LeafKind::Clash(end) => Bound::Least(end),
     }
 }
 
@@ -106,7 +98,6 @@ fn put_closed<K: Sink>(
     requires valid { Valid starts.now.inst }
     requires count { length progress.old.incumbent ≡ length starts.now.inst.tasks }
     requires in_reach { IsInReach starts.now.inst starts.now.decisions }
-    requires closable { IsClosable starts.now.inst starts.now.decisions progress.old.incumbent_end }
     requires leaf { IsClosedBy starts.now.inst starts.now.decisions progress.old.incumbent_end leaf
         progress.old.path.items }
     ensures goes { WritesNodes [] (K.view sink.old) (K.view sink.new) starts.now.inst way
@@ -143,31 +134,19 @@ fn put_spent<K: Sink>(
     leave(leaf, value, progress, sink)
 }
 
-/// Whether and how the search looks ahead: once as many branchings as there are tasks have met
-/// nothing better.
-fn outlook(starts: &Starts, side: Side, progress: &Progress) -> Option<Outlook> {
-    if progress.since_incumbent < u32::from(starts.instance().task_count()) {
-        return None;
-    }
-    Some(Outlook {
-        incumbent_end: progress.incumbent_end,
-        heavy: side.heavy,
-    })
-}
-
 /// Branches on the node: writes the line, and answers the first child.
 fn put_branching<K: Sink>(
     starts: &mut Starts,
-    side: Side,
+    ahead: Option<Outlook>,
+    way: Direction,
     progress: &mut Progress,
     sink: &mut K,
 ) -> Result<Decision, WriteFault>
     requires valid { Valid starts.old.inst }
-    requires room { HasRoom most_tasks progress.old.path }
     requires starts { HasStarts starts.old.inst starts.old.decisions }
     requires open { ¬ IsClosable starts.old.inst starts.old.decisions progress.old.incumbent_end }
     requires left { progress.old.branched < progress.old.limit }
-    ensures goes { WritesNodes [] (K.view sink.old) (K.view sink.new) starts.old.inst side.way
+    ensures goes { WritesNodes [] (K.view sink.old) (K.view sink.new) starts.old.inst way
         (from_node starts.old.inst starts.old.decisions)
         (left_by (λ child. from_child starts.old.inst starts.old.decisions (Some child)) result)
         progress.old progress.new (emptied result) }
@@ -181,10 +160,8 @@ fn put_branching<K: Sink>(
         progress.old.limit progress.old.branched) }
     ensures stays { starts.new ≡ starts.old }
 {
-    let ahead = outlook(starts, side, progress);
-    let branch = pick(starts, ahead, &mut progress.path);
+    let branch = pick(starts, ahead);
     progress.branched += 1;
-    progress.since_incumbent = progress.since_incumbent.saturating_add(1);
     put_branch(branch, &progress.path, sink)?;
     Ok(branch.first_child())
 }
@@ -192,16 +169,19 @@ fn put_branching<K: Sink>(
 /// Meets the node: writes its line, and answers its first child, if it has children.
 pub(crate) fn visit<K: Sink>(
     starts: &mut Starts,
-    side: Side,
+    crew: &Crew,
+    ahead: Option<Outlook>,
+    way: Direction,
     progress: &mut Progress,
     sink: &mut K,
 ) -> Result<Option<Decision>, WriteFault>
     requires valid { Valid starts.old.inst }
+    requires crew { IsCrewOf crew.now starts.old.inst starts.old.decisions }
     requires count { length progress.old.incumbent ≡ length starts.old.inst.tasks }
     requires in_reach { IsInReach starts.old.inst starts.old.decisions }
     requires room { HasRoom most_tasks progress.old.path }
     requires few { progress.old.branched ≤ progress.old.limit }
-    ensures goes { WritesNodes [] (K.view sink.old) (K.view sink.new) starts.old.inst side.way
+    ensures goes { WritesNodes [] (K.view sink.old) (K.view sink.new) starts.old.inst way
         (from_node starts.old.inst starts.old.decisions)
         (left_by (from_child starts.old.inst starts.old.decisions) result)
         progress.old progress.new (emptied result) }
@@ -214,17 +194,17 @@ pub(crate) fn visit<K: Sink>(
     ensures few { OnOk result (progress.new.branched ≤ progress.new.limit) }
     ensures stays { starts.new ≡ starts.old }
 {
-    if let Some(leaf) = close(starts, progress.incumbent_end, &mut progress.path) {
-        put_closed(leaf, starts, side.way, progress, sink)?;
+    if let Some(leaf) = close(starts, crew, progress.incumbent_end, &mut progress.path) {
+        put_closed(leaf, starts, way, progress, sink)?;
         return Ok(None);
     }
     let stuck = starts.stuck();
     prove!(!stuck);
     if progress.branched < progress.limit {
-        let child = put_branching(starts, side, progress, sink)?;
+        let child = put_branching(starts, ahead, way, progress, sink)?;
         return Ok(Some(child));
     }
-    let leaf = spent(starts, &mut progress.path);
-    put_spent(leaf, starts, side.way, progress, sink)?;
+    let leaf = spent(starts, crew, &mut progress.path);
+    put_spent(leaf, starts, way, progress, sink)?;
     Ok(None)
 }

@@ -7,11 +7,11 @@ ghost use Rattle.qc_starts.specs.Seen.{IsReached};
 ghost use Rattle.qc_search.specs.Progress.{WritesNodes, emptied, left_by};
 ghost use Rattle.qc_search.specs.Walk.{IsChild, WereMade, due_at, from_child};
 
+use crate::choice::Outlook;
 use crate::lines::put_reach;
-use crate::moves::{go, go_back};
-use crate::node::{Side, visit};
+use crate::place::Node;
 use crate::progress::Progress;
-use crate::window::heavy_window;
+use crate::window::{Window, heavy_window};
 use qc_dist::{in_reach, next_child};
 use qc_io::{Sink, WriteFault};
 use qc_model::{Decision, Direction};
@@ -29,89 +29,107 @@ fn is_reached(starts: &Starts, child: Decision) -> bool
 }
 
 /// Whether the child is within reach; if so, goes to it.
-fn descend(starts: &mut Starts, child: Decision) -> bool
-    requires { IsChild starts.old.inst starts.old.decisions child }
-    ensures inst { starts.new.inst ≡ starts.old.inst }
-    ensures reached { IsTrue result → IsReached starts.old.inst child }
-    ensures there { IsTrue result → starts.new.decisions ≡ child ∷ starts.old.decisions }
-    ensures out { ¬ IsTrue result → ¬ IsReached starts.old.inst child }
-    ensures stays { ¬ IsTrue result → starts.new ≡ starts.old }
+fn descend(node: &mut Node, child: Decision) -> bool
+    requires { IsChild node.old.inst node.old.decisions child }
+    ensures inst { node.new.inst ≡ node.old.inst }
+    ensures reached { IsTrue result → IsReached node.old.inst child }
+    ensures there { IsTrue result → node.new.decisions ≡ child ∷ node.old.decisions }
+    ensures out { ¬ IsTrue result → ¬ IsReached node.old.inst child }
+    ensures stays { ¬ IsTrue result → node.new ≡ node.old }
 {
-    if !is_reached(starts, child) {
+    if !is_reached(node.starts(), child) {
         return false;
     }
-    go(starts, child);
+    node.go(child);
     true
-}
-
-/// Takes back the newest decision, and answers it; `None` where there is none.
-fn step_back(starts: &mut Starts) -> Option<Decision>
-    ensures inst { starts.new.inst ≡ starts.old.inst }
-    ensures none { result ≡ None → (starts.old.decisions ≡ []) × (starts.new ≡ starts.old) }
-    ensures some { IfSome result (λ newest. starts.old.decisions ≡ newest ∷ starts.new.decisions) }
-{
-    let newest = starts.newest()?;
-    let mark = starts.mark();
-    go_back(starts, mark - 1);
-    Some(newest)
 }
 
 /// Goes to the next node within reach: this child or, where there is none, the next one that is left.
 /// Writes the lines of children out of reach. Whether there was one.
 fn advance<K: Sink>(
-    starts: &mut Starts,
+    node: &mut Node,
     child: Option<Decision>,
     progress: &Progress,
     sink: &mut K,
 ) -> Result<bool, WriteFault>
-    requires made { WereMade starts.old.inst starts.old.decisions }
-    requires child { IfSome child (IsChild starts.old.inst starts.old.decisions) }
+    requires made { WereMade node.old.inst node.old.decisions }
+    requires child { IfSome child (IsChild node.old.inst node.old.decisions) }
     ensures goes { (way : Direction) → WritesNodes [] (K.view sink.old) (K.view sink.new)
-        starts.old.inst way (from_child starts.old.inst starts.old.decisions child)
-        (left_by (due_at starts.old.inst starts.new.decisions) result)
+        node.old.inst way (from_child node.old.inst node.old.decisions child)
+        (left_by (due_at node.old.inst node.new.decisions) result)
         progress.now progress.now (emptied result) }
-    ensures fewer { IfOk result (λ live. length (due_at starts.old.inst starts.new.decisions live)
-        ≤ length (from_child starts.old.inst starts.old.decisions child)) }
-    ensures inst { starts.new.inst ≡ starts.old.inst }
-    ensures made { WereMade starts.old.inst starts.new.decisions }
+    ensures fewer { IfOk result (λ live. length (due_at node.old.inst node.new.decisions live)
+        ≤ length (from_child node.old.inst node.old.decisions child)) }
+    ensures inst { node.new.inst ≡ node.old.inst }
+    ensures made { WereMade node.old.inst node.new.decisions }
 {
     let mut next = child;
     loop {
         if let Some(decision) = next {
-            if descend(starts, decision) {
+            if descend(node, decision) {
                 return Ok(true);
             }
             put_reach(&progress.path, sink)?;
-            next = next_child(starts.instance(), decision);
-        } else if let Some(newest) = step_back(starts) {
-            next = next_child(starts.instance(), newest);
+            next = next_child(node.instance(), decision);
+        } else if let Some(newest) = node.go_back() {
+            next = next_child(node.instance(), newest);
         } else {
             return Ok(false);
         }
     }
 }
 
+/// Whether and how the search looks ahead: once as many branchings as there are tasks have met
+/// nothing better.
+fn outlook(
+    node: &Node,
+    fruitless: u32,
+    heavy: Option<Window>,
+    progress: &Progress,
+) -> Option<Outlook> {
+    if fruitless < u32::from(node.instance().task_count()) {
+        return None;
+    }
+    Some(Outlook {
+        incumbent_end: progress.incumbent_end,
+        heavy,
+    })
+}
+
+/// How many branchings in a row have met nothing better, by whether a node met something and was
+/// branched on.
+fn fruitless_on(before: u32, met: bool, branched: bool) -> u32 {
+    if met {
+        0
+    } else if branched {
+        before.saturating_add(1)
+    } else {
+        before
+    }
+}
+
 /// Searches one part of a tree from its root on, and writes its lines.
 pub(crate) fn search_part<K: Sink>(
-    starts: &mut Starts,
+    node: &mut Node,
     way: Direction,
     progress: &mut Progress,
     sink: &mut K,
 ) -> Result<(), WriteFault>
-    requires root { starts.old.decisions ≡ [] }
-    requires count { length progress.old.incumbent ≡ length starts.old.inst.tasks }
+    requires root { node.old.decisions ≡ [] }
+    requires count { length progress.old.incumbent ≡ length node.old.inst.tasks }
     requires room { HasRoom most_tasks progress.old.path }
     requires few { progress.old.branched ≤ progress.old.limit }
-    ensures { WritesNodes [] (K.view sink.old) (K.view sink.new) starts.old.inst way ([] ∷ []) []
+    ensures { WritesNodes [] (K.view sink.old) (K.view sink.new) node.old.inst way ([] ∷ []) []
         progress.old progress.new result }
 {
-    let side = Side {
-        way,
-        heavy: heavy_window(starts),
-    };
+    let heavy = heavy_window(node.starts());
+    let mut fruitless = 0;
     loop {
-        let child = visit(starts, side, progress, sink)?;
-        if !advance(starts, child, progress, sink)? {
+        let known = progress.incumbent_end;
+        let ahead = outlook(node, fruitless, heavy, progress);
+        let child = node.visit(ahead, way, progress, sink)?;
+        fruitless = fruitless_on(fruitless, progress.incumbent_end != known, child.is_some());
+        if !advance(node, child, progress, sink)? {
             return Ok(());
         }
     }

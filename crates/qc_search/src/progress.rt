@@ -12,8 +12,6 @@ pub(crate) struct Progress {
     pub(crate) limit: u32,
     /// How many it has written.
     pub(crate) branched: u32,
-    /// How many it has written since the incumbent last improved.
-    pub(crate) since_incumbent: u32,
     /// The lower bound so far: the least value of the leaves written.
     pub(crate) bound: Bound,
     /// The end of the incumbent; `Never` where there is none yet.
@@ -33,7 +31,6 @@ pub(crate) fn first_progress(incumbent: Schedule, path: Path, limit: u32) -> Pro
     Progress {
         limit,
         branched: 0,
-        since_incumbent: 0,
         bound: Bound::Never,
         incumbent_end: Bound::Never,
         way: Direction::Up,

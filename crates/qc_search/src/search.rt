@@ -14,12 +14,12 @@ use crate::best::shown_best;
 use crate::done::Done;
 use crate::given::{begin, tight_end};
 use crate::outcome::{end_of, outcome};
+use crate::place::Node;
 use crate::progress::Progress;
 use crate::tree::write_tree;
 use qc_io::{Sink, WriteFault};
 use qc_model::{Instance, MOST_TASKS, Schedule, mirror};
 use qc_num::{Bound, OutOfMemory, Path, Tick};
-use qc_starts::Starts;
 use std::alloc::Global;
 use std::marker::Model;
 
@@ -27,8 +27,8 @@ use std::marker::Model;
 /// memory that the run needs.
 #[derive(Drop)]
 pub struct Search {
-    up: Starts,
-    down: Starts,
+    up: Node,
+    down: Node,
     incumbent: Schedule,
     path: Path,
     /// How many branchings it may write.
@@ -73,8 +73,8 @@ impl Search {
         let incumbent = Schedule::new(alloc, inst.task_count())?;
         let path = Path::with_capacity(alloc, MOST_TASKS as usize)?;
         let turned = mirror(alloc, inst)?;
-        let up = Starts::open(alloc, inst)?;
-        let down = Starts::open(alloc, &turned)?;
+        let up = Node::open(alloc, inst)?;
+        let down = Node::open(alloc, &turned)?;
         Ok(Search {
             up,
             down,

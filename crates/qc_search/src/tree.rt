@@ -11,10 +11,10 @@ ghost use Rattle.qc_search.specs.Lines.{part_line};
 ghost use Rattle.qc_search.specs.Progress.{IsProgress, IsSoon, WritesNodes, WritesTree};
 
 use crate::part::search_part;
+use crate::place::Node;
 use crate::progress::Progress;
 use qc_io::{Sink, WriteFault};
 use qc_model::Direction;
-use qc_starts::Starts;
 use qc_tree::{Line, write_line};
 
 /// Writes the line at the beginning of a part.
@@ -30,20 +30,20 @@ fn put_way<K: Sink>(way: Direction, progress: &Progress, sink: &mut K) -> Result
 
 /// Writes the line of a part, and searches it from its root on.
 fn put_part<K: Sink>(
-    starts: &mut Starts,
+    node: &mut Node,
     way: Direction,
     progress: &mut Progress,
     sink: &mut K,
 ) -> Result<(), WriteFault>
-    requires root { starts.old.decisions ≡ [] }
-    requires count { length progress.old.incumbent ≡ length starts.old.inst.tasks }
+    requires root { node.old.decisions ≡ [] }
+    requires count { length progress.old.incumbent ≡ length node.old.inst.tasks }
     requires room { HasRoom most_tasks progress.old.path }
     requires few { progress.old.branched ≤ progress.old.limit }
     ensures { WritesNodes (whole_line (part_line way) []) (K.view sink.old) (K.view sink.new)
-        starts.old.inst way ([] ∷ []) [] progress.old progress.new result }
+        node.old.inst way ([] ∷ []) [] progress.old progress.new result }
 {
     put_way(way, progress, sink)?;
-    search_part(starts, way, progress, sink)
+    search_part(node, way, progress, sink)
 }
 
 /// Writes the line at the end of a tree.
@@ -62,8 +62,8 @@ fn put_end<K: Sink>(progress: &Progress, sink: &mut K) -> Result<(), WriteFault>
 
 /// Searches both parts, and writes the lines of the tree.
 pub(crate) fn write_tree<K: Sink>(
-    up: &mut Starts,
-    down: &mut Starts,
+    up: &mut Node,
+    down: &mut Node,
     progress: &mut Progress,
     sink: &mut K,
 ) -> Result<(), WriteFault>
@@ -79,7 +79,7 @@ pub(crate) fn write_tree<K: Sink>(
         → WritesTree (K.view sink.old) (K.view sink.new) up.old.inst first progress.old progress.new
         result }
 {
-    write_line(&Line::Title2, &progress.path, sink)?;
+    write_line(&Line::Title3, &progress.path, sink)?;
     put_part(up, Direction::Up, progress, sink)?;
     put_part(down, Direction::Down, progress, sink)?;
     put_end(progress, sink)

@@ -5,7 +5,7 @@ ghost use Rattle.qc_model.specs.declared.decision.Decision.TheVariants.{Assign, 
 ghost use Rattle.qc_model.specs.declared.limits.TheConstants.{MOST_DISTANCE, MOST_READY, MOST_START, MOST_TASKS, MOST_WORK};
 ghost use Rattle.qc_model.specs.Instance.{IsApart, Valid};
 ghost use Rattle.qc_model.specs.Work.{done_at, tasks_on};
-ghost use Rattle.qc_model.specs.Nodes.{Fits, HasStarts, IsComplete, IsInReach, IsNodeEnd, IsSettled, assigned, reaches};
+ghost use Rattle.qc_model.specs.Nodes.{Fits, HasStarts, IsComplete, IsInReach, IsNodeEnd, IsSettled, assigned, head, reaches};
 ghost use Rattle.qc_num.specs.Paths.{HasRoom};
 ghost use Rattle.qc_dist.specs.Kept.{unassigned_ticks};
 ghost use Rattle.qc_starts.specs.Opened.{AreSized};
@@ -264,6 +264,16 @@ impl Starts {
         ensures range { IfSome result (λ crane. crane < length self.now.inst.cranes) }
     {
         self.network.decisions().crane_of(j)
+    }
+
+    /// The release time of a task: when its crane can first be at it, or the earliest crane that
+    /// reaches it while it has none.
+    pub fn lead(&self, j: u16) -> Tick
+        requires { j < length self.now.inst.tasks }
+        ensures ticks { result ≡ head self.now.inst self.now.decisions j }
+        ensures bound { result ≤ MOST_READY + MOST_DISTANCE }
+    {
+        self.network.decisions().lead(j)
     }
 
     /// Whether a crane has a task.

@@ -7,7 +7,6 @@ use Rattle.std.proofs.lemmas.Bool.{and_from, and_parts, cond-false, cond-true, c
 use Rattle.std.proofs.lemmas.Bool.Decides.{nat_tests}
 use Rattle.std.proofs.lemmas.Fmt.{digits_value-decimal}
 use Rattle.std.proofs.lemmas.List.{append-nil, append_assoc}
-use Rattle.std.proofs.lemmas.Option.{same_Some}
 use Rattle.std.proofs.lemmas.List.Elements.{All-append, All-head, All-nil, All-cons, All-tail}
 use Rattle.std.proofs.lemmas.List.Splits.{slice_split_at, slice_split_none}
 use Rattle.std.proofs.lemmas.List.Sums.{AllPass-from_list_all}
@@ -16,9 +15,9 @@ use Rattle.qc_num.specs.declared.bound.Bound.{Bound}
 use Rattle.qc_num.specs.declared.bound.Bound.TheVariants.{Least, Never}
 use Rattle.qc_tree.specs.declared.line.BadLine.{BadLine}
 use Rattle.qc_tree.specs.declared.line.Line.{Line}
-use Rattle.qc_tree.specs.declared.line.Line.TheVariants.{Title, Title2, Up, Down, Assign, Order, Chain, Ring, Reach, Work, End}
+use Rattle.qc_tree.specs.declared.line.Line.TheVariants.{Title, Title2, Title3, Up, Down, Assign, Order, Chain, Ring, Reach, Work, Clash, End}
 use Rattle.qc_tree.specs.Lines.{AreTasks, IsLine, IsTask, IsTextOf, IsValue, Reads, bound_field, fields, line_list, line_text}
-use Rattle.qc_tree.specs.LineIn.{Listed, alone, are_tasks, candidate, in_range, is_task, is_value, is_word, is_written, line_in, words}
+use Rattle.qc_tree.specs.LineIn.{Listed, alone, are_tasks, candidate, in_range, is_task, is_value, is_word, is_written, line_in, title_by, words}
 use Rattle.qc_tree.specs.Trees.{whole_line}
 use Rattle.qc_num.proofs.DigitLemmas.{decimal_digits, own}
 use Rattle.qc_tree.proofs.OneSpelling.{never_digits}
@@ -55,6 +54,7 @@ is_value_of (Least x) h = lt-ltb x (10 ^ 15) h
 pub line_of : (line : Line) (list : List ℕ) → in_range line list ≡ true → IsLine line list
 line_of Title list e = tt
 line_of Title2 list e = tt
+line_of Title3 list e = tt
 line_of Up list e = tt
 line_of Down list e = tt
 line_of Reach list e = tt
@@ -66,6 +66,9 @@ line_of Chain list e = tasks_of list e
 line_of Ring list e =
     let p = and_parts (nat_le 2 (length list)) (are_tasks list) e in
     (leb-true 2 (length list) p.0, tasks_of list p.1)
+line_of Clash list e =
+    let p = and_parts (nat_le 1 (length list)) (are_tasks list) e in
+    (leb-true 1 (length list) p.0, tasks_of list p.1)
 line_of (Work v) list e =
     let p = and_parts (nat_le 1 v) (nat_lt v (10 ^ 15)) e in
     (leb-true 1 v p.0, ltb-true v (10 ^ 15) p.1)
@@ -76,6 +79,7 @@ line_of (End b x) list e =
 pub in_range_of : (line : Line) (list : List ℕ) → IsLine line list → in_range line list ≡ true
 in_range_of Title list h = refl
 in_range_of Title2 list h = refl
+in_range_of Title3 list h = refl
 in_range_of Up list h = refl
 in_range_of Down list h = refl
 in_range_of Reach list h = refl
@@ -84,6 +88,8 @@ in_range_of (Order i j) list h = and_from (is_task i) (is_task j) (lt-ltb i (10 
 in_range_of Chain list h = are_tasks_of list h
 in_range_of Ring list h =
     and_from (nat_le 2 (length list)) (are_tasks list) (le-leb 2 (length list) h.0) (are_tasks_of list h.1)
+in_range_of Clash list h =
+    and_from (nat_le 1 (length list)) (are_tasks list) (le-leb 1 (length list) h.0) (are_tasks_of list h.1)
 in_range_of (Work v) list h =
     and_from (nat_le 1 v) (nat_lt v (10 ^ 15)) (le-leb 1 v h.0) (lt-ltb v (10 ^ 15) h.1)
 in_range_of (End b x) list h =
@@ -91,15 +97,20 @@ in_range_of (End b x) list h =
 
 -- ---- what is read is a line with its text
 
--- only a chain and a ring have a list
+-- only a chain, a ring and packed tasks have a list
 abbrev IsListed : Listed → Type 0
 IsListed seen = seen.list ≡ line_list seen.line seen.list
 
+title_listed : (word : List ℕ) → IsListed (alone (title_by word))
+title_listed word =
+    cond_both (bytes_eq word (codes "1")) Title (cond (bytes_eq word (codes "2")) Title2 Title3)
+    (λ line. IsListed (alone line)) (λ _. refl)
+    (λ _. cond_both (bytes_eq word (codes "2")) Title2 Title3 (λ line. IsListed (alone line)) (λ _. refl)
+    (λ _. refl))
+
 candidate_listed : (ws : List (List ℕ)) → IsListed (candidate ws)
 candidate_listed ws =
-    cond_both (is_word ws 0 (codes "QCTREE")) _ _ IsListed
-    (λ _. cond_both (is_word ws 1 (codes "1")) Title Title2 (λ line. IsListed (alone line)) (λ _. refl)
-    (λ _. refl))
+    cond_both (is_word ws 0 (codes "QCTREE")) _ _ IsListed (λ _. title_listed (get_or ws 1 []))
     (λ _. cond_both (is_word ws 0 (codes "up")) _ _ IsListed (λ _. refl)
     (λ _. cond_both (is_word ws 0 (codes "down")) _ _ IsListed (λ _. refl)
     (λ _. cond_both (is_word ws 0 (codes "X")) _ _ IsListed (λ _. refl)
@@ -107,7 +118,8 @@ candidate_listed ws =
     (λ _. cond_both (is_word ws 0 (codes "O")) _ _ IsListed (λ _. refl)
     (λ _. cond_both (is_word ws 0 (codes "W")) _ _ IsListed (λ _. refl)
     (λ _. cond_both (is_word ws 0 (codes "P")) _ _ IsListed (λ _. refl)
-    (λ _. cond_both (is_word ws 0 (codes "C")) _ _ IsListed (λ _. refl) (λ _. refl)))))))))
+    (λ _. cond_both (is_word ws 0 (codes "C")) _ _ IsListed (λ _. refl)
+    (λ _. cond_both (is_word ws 0 (codes "Q")) _ _ IsListed (λ _. refl) (λ _. refl))))))))))
 
 written_is : (text : List ℕ) (seen : Listed) → IsListed seen → is_written text seen ≡ true
     → IsTextOf text seen.line seen.list
@@ -218,6 +230,7 @@ candidate_of : (line : Line) (list : List ℕ) → IsLine line list → list ≡
     → IsCandidate line list
 candidate_of Title list h e = rw e refl
 candidate_of Title2 list h e = rw e refl
+candidate_of Title3 list h e = rw e refl
 candidate_of Up list h e = rw e refl
 candidate_of Down list h e = rw e refl
 candidate_of Reach list h e = rw e refl
@@ -241,6 +254,10 @@ candidate_of Ring list h e =
     let wide = tasks_wide list h.1.1 in
     ap candidate (words_of (codes "C") list (written_free 32 (codes "C") refl) wide)
     ∙ ap (λ l. record { line = Ring; list = l }) (values_are list wide)
+candidate_of Clash list h e =
+    let wide = tasks_wide list h.1.1 in
+    ap candidate (words_of (codes "Q") list (written_free 32 (codes "Q") refl) wide)
+    ∙ ap (λ l. record { line = Clash; list = l }) (values_are list wide)
 candidate_of (Work v) list h e =
     let wide : v < 2 ^ 64 = omega (arith, h.1) in
     ap candidate (words_of (codes "W") (v ∷ []) (written_free 32 (codes "W") refl) (one_wide v wide))
@@ -300,6 +317,7 @@ with_fields word ns e wide = All-append (IsNot 10) word (fields ns) (written_fre
 pub line_free : (line : Line) (list : List ℕ) → IsLine line list → IsFreeOf 10 (line_text line list)
 line_free Title list h = written_free 10 (codes "QCTREE 1") refl
 line_free Title2 list h = written_free 10 (codes "QCTREE 2") refl
+line_free Title3 list h = written_free 10 (codes "QCTREE 3") refl
 line_free Up list h = written_free 10 (codes "up") refl
 line_free Down list h = written_free 10 (codes "down") refl
 line_free Reach list h = written_free 10 (codes "X") refl
@@ -309,6 +327,7 @@ line_free (Order i j) list h =
     (All-cons IsWide i (j ∷ []) (task_wide i h.0) (one_wide j (task_wide j h.1)))
 line_free Chain list h = with_fields (codes "P") list refl (tasks_wide list h.1)
 line_free Ring list h = with_fields (codes "C") list refl (tasks_wide list h.1.1)
+line_free Clash list h = with_fields (codes "Q") list refl (tasks_wide list h.1.1)
 line_free (Work v) list h = with_fields (codes "W") (v ∷ []) refl (one_wide v (omega (arith, h.1)))
 line_free (End b x) list h =
     All-append (IsNot 10) (codes "end ") (decimal b ++ bound_field x) (written_free 10 (codes "end ") refl)

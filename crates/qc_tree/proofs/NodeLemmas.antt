@@ -1,12 +1,10 @@
 -- Lists of nodes, one behind the other.
-use Rattle.std.proofs.Common.{◌≡◌, ◌+◌, List, [], ◌∷◌, ◌++◌, cond, map, refl, ap, sym, subst, ◌∙◌, arith}
+use Rattle.std.proofs.Common.{◌≡◌, ◌+◌, List, [], ◌∷◌, ◌++◌, cond, map, refl, sym, subst, arith}
 use Rattle.std.proofs.lemmas.List.Sums.{sum_by-append}
-use Rattle.qc_num.specs.Bounds.{lesser}
-use Rattle.qc_num.proofs.BoundLemmas.{lesser_assoc}
 use Rattle.qc_model.specs.declared.decision.Decision.{Decision}
 use Rattle.qc_model.specs.Instance.{InstanceView}
 use Rattle.qc_model.specs.Leaves.{Version, chain}
-use Rattle.qc_tree.specs.Trees.{Leads, Node, branches, branchings, leaf, node_value, part_value}
+use Rattle.qc_tree.specs.Trees.{Leads, Node, branches, branchings, leaf}
 
 module _ (version : Version) (inst : InstanceView) where
   -- nodes that lead to others, and then nodes that these lead to

@@ -19,7 +19,10 @@ pub record IsField (text : List ℕ) (most n : ℕ) (rest : List ℕ) : Type 0 w
 abbrev pub NoField : List ℕ → ℕ → Type 0
 NoField text most = (n : ℕ) (rest : List ℕ) → ¬ (IsField text most n rest)
 
--- the text is no line without numbers
+-- the text is no title
+abbrev pub IsNoTitle : List ℕ → Type 0
+IsNoTitle text = All (λ line. ¬ (text ≡ line_text line [])) (Title ∷ Title2 ∷ Title3 ∷ [])
+
+-- the text is no other line without numbers
 abbrev pub IsNoWord : List ℕ → Type 0
-IsNoWord text = All (λ line. ¬ (text ≡ line_text line []))
-    (Title ∷ Title2 ∷ Title3 ∷ Up ∷ Down ∷ Reach ∷ [])
+IsNoWord text = All (λ line. ¬ (text ≡ line_text line [])) (Up ∷ Down ∷ Reach ∷ [])

@@ -1,7 +1,7 @@
 //! How a line of a tree is read.
 ghost use Rattle.std.specs.Prelude.{◌≡◌, ◌≤◌, ◌∷◌, [], List, ℕ, OnOk, IsErr, IfOk, MatchOption};
 ghost use Rattle.qc_num.specs.Paths.{HasRoom};
-ghost use Rattle.qc_tree.specs.Fields.{IsNoWord};
+ghost use Rattle.qc_tree.specs.Fields.{IsNoTitle, IsNoWord};
 ghost use Rattle.qc_tree.specs.Lines.{AreTasks, IsTextOf, IsValue, Reads, bound_field, fields};
 
 use crate::fields::{read_field, read_last};
@@ -34,6 +34,7 @@ pub fn read_line(text: &[u8], path: &mut Path) -> Result<Line, BadLine>
         b'O' => read_order(rest),
         b'P' => read_chain(rest, path),
         b'C' => read_ring(rest, path),
+        b'Q' => read_clash(rest, path),
         b'W' => read_work(rest),
         b'e' => read_end(rest),
         _ => read_word(text),
@@ -51,10 +52,6 @@ fn read_word(text: &[u8]) -> Result<Line, BadLine>
         Ok(Line::Down)
     } else if text == b"X".as_slice() {
         Ok(Line::Reach)
-    } else if text == b"QCTREE 2".as_slice() {
-        Ok(Line::Title2)
-    } else if text == b"QCTREE 1".as_slice() {
-        Ok(Line::Title)
     } else {
         Err(BadLine)
     }
@@ -106,6 +103,39 @@ fn read_ring(rest: &[u8], path: &mut Path) -> Result<Line, BadLine>
         return Err(BadLine);
     }
     Ok(Line::Ring)
+}
+
+/// The title of which this stands behind `Q`, if it is one.
+fn title_in(rest: &[u8]) -> Option<Line>
+    ensures { MatchOption result (IsNoTitle (81 ∷ rest.now))
+        (λ line. IsTextOf (81 ∷ rest.now) line []) }
+{
+    if rest == b"CTREE 3".as_slice() {
+        Some(Line::Title3)
+    } else if rest == b"CTREE 2".as_slice() {
+        Some(Line::Title2)
+    } else if rest == b"CTREE 1".as_slice() {
+        Some(Line::Title)
+    } else {
+        None
+    }
+}
+
+/// What stands behind `Q`: the rest of a title, or packed tasks.
+fn read_clash(rest: &[u8], path: &mut Path) -> Result<Line, BadLine>
+    requires empty { path.old.items ≡ [] }
+    requires room { HasRoom 240 path.old }
+    ensures reads { Reads (81 ∷ rest.now) path.new.items result }
+    ensures room_stays { path.new.capacity ≡ path.old.capacity }
+{
+    if let Some(title) = title_in(rest) {
+        return Ok(title);
+    }
+    read_tasks(rest, path)?;
+    if path.is_empty() {
+        return Err(BadLine);
+    }
+    Ok(Line::Clash)
 }
 
 /// What stands behind `W`.

@@ -29,12 +29,14 @@ fn text_of(line: &Line, path: &[u16]) -> Text<ROOM>
     match *line {
         Line::Title => text.push(b"QCTREE 1"),
         Line::Title2 => text.push(b"QCTREE 2"),
+        Line::Title3 => text.push(b"QCTREE 3"),
         Line::Up => text.push(b"up"),
         Line::Down => text.push(b"down"),
         Line::Assign(task) => push_listed(&mut text, b"A", &[task]),
         Line::Order(first, second) => push_listed(&mut text, b"O", &[first, second]),
         Line::Chain => push_listed(&mut text, b"P", path),
         Line::Ring => push_listed(&mut text, b"C", path),
+        Line::Clash => push_listed(&mut text, b"Q", path),
         Line::Reach => text.push(b"X"),
         Line::Work(value) => {
             text.push(b"W ");

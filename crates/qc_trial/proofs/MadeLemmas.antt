@@ -44,7 +44,8 @@ use Rattle.qc_trial.specs.Texts.{made_text}
 -- ---- what is made
 
 -- the list is read for the ship that is read
-pub moves_read : (number hatches cranes : ℕ) (ship : ShipView) (text bytes : List ℕ) → ship ≡ made_ship hatches cranes
+pub moves_read : (number hatches cranes : ℕ) (ship : ShipView) (text bytes : List ℕ)
+    → ship ≡ made_ship hatches cranes
     → bytes ≡ text → moves_in (made_ship hatches cranes) text ≡ Ok (made_rows number hatches)
     → moves_in ship bytes ≡ Ok (made_rows number hatches)
 moves_read number hatches cranes ship text bytes is same law = ap₂ moves_in is same ∙ law
@@ -55,7 +56,8 @@ module _ (inst : InstanceView) (tree : Tree) (held mid after : Files)
     (mid_is : mid ≡ insert held (codes "tree") (tree_text inst tree)) where
   tree_there : get mid (codes "tree") ≡ Some (tree_text inst tree)
   tree_there =
-      ap (λ (m : Files). get m (codes "tree")) mid_is ∙ get-insert_same held (codes "tree") (tree_text inst tree)
+      ap (λ (m : Files). get m (codes "tree")) mid_is
+      ∙ get-insert_same held (codes "tree") (tree_text inst tree)
 
   still_there : (best : Option (List Slot)) → after ≡ with_plan mid (codes "plan") inst best
       → get after (codes "tree") ≡ Some (tree_text inst tree)
@@ -76,35 +78,39 @@ module _ (inst : InstanceView) (tree : Tree) (held mid after : Files)
   }
 
 -- the tree was stored, and then the plan
-pub are_stored : (inst : InstanceView) (before mid after : Option Files) (done : DoneView)
-    → IfSome before (λ held. IsSearchStored (record { inst = inst; nodes = made_branchings }) None (codes "tree") held mid done)
+pub are_stored : (inst : InstanceView) (given : Option (List Slot)) (before mid after : Option Files)
+    (done : DoneView)
+    → IfSome before (λ held. IsSearchStored (record { inst = inst; nodes = made_branchings }) given
+    (codes "tree") held mid done)
     → IfSome mid (λ held. after ≡ Some (with_plan held (codes "plan") inst done.best))
     → IfSome done.best (λ sched. HasShortEnds inst sched → plan_in inst (plan_text inst sched) ≡ Ok sched)
     → IfSome before (λ held. IsSomeAnd after (λ files. AreStored inst files done))
-are_stored inst None mid after done stored wrote reread = tt
-are_stored inst (Some held) None after done stored wrote reread = absurd (cc stored.files)
-are_stored inst (Some held) (Some now) after done stored wrote reread =
+are_stored inst given None mid after done stored wrote reread = tt
+are_stored inst given (Some held) None after done stored wrote reread = absurd (cc stored.files)
+are_stored inst given (Some held) (Some now) after done stored wrote reread =
     let is = same_Some _ _ stored.files in
-    let sound = stored.found.sound in
+    let sound = stored.came.sound in
     let files : Files = with_plan now (codes "plan") inst done.best in
     subst (λ (o : Option Files). IsSomeAnd o (λ files. AreStored inst files done)) (sym wrote) (record {
       tree = stored.tree;
-      found = stored.found;
+      found = record { found = given; given = given; chosen = refl; came = stored.came };
       tree_stored = record {
-        is_tree = stored.found.run.is_tree;
+        is_tree = stored.came.run.is_tree;
         text = still_there inst stored.tree held now files is done.best refl;
       };
-      plan_stored = plan_there inst stored.tree held now files is done.best refl sound.judgeable sound.soon reread;
+      plan_stored = plan_there inst stored.tree held now files is done.best refl sound.judgeable sound.soon
+          reread;
     })
 
 -- the best schedule is read of its file, and goes one way
-pub best_read : (inst : InstanceView) (files : Files) (done : DoneView) (met sched : List Slot) → AreStored inst files done
+pub best_read : (inst : InstanceView) (files : Files) (done : DoneView) (met sched : List Slot)
+    → AreStored inst files done
     → done.best ≡ Some met → (IsPlanStored inst files met → sched ≡ met)
     → (done.best ≡ Some sched) × GoesOneWay inst sched
 best_read inst files done met sched stored best read =
     let plan = of_some (IsPlanStored inst files) done.best met best stored.plan_stored in
     let is = best ∙ ap Some (sym (read plan)) in
-    (is, tight_goes inst sched (of_some (IsTight inst) done.best sched is stored.found.sound.tight))
+    (is, tight_goes inst sched (of_some (IsTight inst) done.best sched is stored.found.came.sound.tight))
 
 -- ---- the check
 
@@ -120,12 +126,15 @@ verdict_out (Least bound) end sched late = verdict_by (nat_le end bound) sched
 verdict_out Never end sched late = absurd late
 
 -- the check of a best schedule finds what the search found
-pub verdict_is : (inst : InstanceView) (done : DoneView) (sched : List Slot) (bound : Bound) → done.best ≡ Some sched
+pub verdict_is : (inst : InstanceView) (done : DoneView) (sched : List Slot) (bound : Bound)
+    → done.best ≡ Some sched
     → done.kind ≡ outcome done.bound (best_end inst done.best) → done.bound ≡ bound
-    → IsAtMost bound (Least (ends inst sched)) → verdict_at bound (ends inst sched) ≡ verdict_of done.kind done.best
+    → IsAtMost bound (Least (ends inst sched))
+    → verdict_at bound (ends inst sched) ≡ verdict_of done.kind done.best
 verdict_is inst done sched bound best is same late =
     verdict_out bound (ends inst sched) sched late
-    ∙ sym (ap₂ verdict_of (is ∙ ap₂ (λ (v : Bound) (o : Option (List Slot)). outcome v (best_end inst o)) same best) best)
+    ∙ sym (ap₂ verdict_of (is ∙ ap₂
+    (λ (v : Bound) (o : Option (List Slot)). outcome v (best_end inst o)) same best) best)
 
 -- ---- what is told
 
@@ -145,7 +154,8 @@ module _ (n h c : ℕ) (pb pa : View) (ended : Status) (run : IsTrialRun n h c p
   making_told (Err stop.OutOfMemory) making e report = absurd (cc e)
   making_told (Err (stop.Refused why)) making e report = absurd making
 
-  making_ends : (r : Result Made Stop) → IsMaking n h c r → (answer_status done r ≡ status.Done) ⊎ (answer_status done r ≡ status.OutOfMemory)
+  making_ends : (r : Result Made Stop) → IsMaking n h c r
+      → (answer_status done r ≡ status.Done) ⊎ (answer_status done r ≡ status.OutOfMemory)
   making_ends (Ok told) making = inl refl
   making_ends (Err stop.OutOfMemory) making = inr refl
   making_ends (Err (stop.Refused why)) making = absurd making
@@ -161,7 +171,8 @@ module _ (n h c : ℕ) (pb pa : View) (ended : Status) (run : IsTrialRun n h c p
 
   pub trial_promises : TrialPromises n h c pb pa ended
   trial_promises = record {
-    make_done = λ e. of_status (IsMaking n h c) whole part done pb pa ended run status.Done e (λ f. cc f) making_told;
+    make_done = λ e. of_status (IsMaking n h c) whole part done pb pa ended run status.Done e
+        (λ f. cc f) making_told;
     make_complete = make_complete;
     no_usage = never_usage (IsMaking n h c) whole part done pb pa ended run (λ told. tt) (λ making. making);
     out_of_memory = memory_told (IsMaking n h c) whole part done pb pa ended run (λ told. tt);

@@ -4,6 +4,7 @@ use Rattle.qc_num.specs.Bounds.{IsAtMost}
 use Rattle.qc_num.specs.declared.bound.Bound.TheVariants.{Least}
 use Rattle.qc_model.specs.Nodes.{IsComplete}
 use Rattle.qc_bounds.proofs.ClosedLemmas.{chain_closes, never_closable}
+use Rattle.qc_bounds.proofs.PackedLemmas.{clash_leaf}
 use Rattle.qc_bounds.proofs.leaves.close.Goals as goal
 use Rattle.qc_bounds.proofs.leaves.close.Goals.{then-is_late-via-then-is_late, then-is_late-via-else-is_late+then-complete}
 
@@ -26,4 +27,4 @@ returns-else-is_late-2-clause-closed c =
     (λ every. false≢true (sym c.if-complete.false ∙ c.complete.ensures.1 every)) c.ends.ensures.end
     (λ late. false≢true (sym c.if-is_late.false ∙ c.is_late.ensures.1 late)) c.work_bound-bound.ensures.bound
     (λ late. false≢true (sym c.if-is_late-2.false ∙ c.is_late-2.ensures.1 late)) in
-    (λ never. absurd (false≢true never), λ closed. absurd (open_node closed))
+    λ closed. absurd (open_node closed)

@@ -1,4 +1,4 @@
-use Rattle.std.proofs.Common.{◌≡◌, ◌↔◌, List, ℕ, [], Option, None, Some, MatchOption, IsSome, refl, subst, rules}
+use Rattle.std.proofs.Common.{◌≡◌, List, ℕ, [], Option, None, Some, MatchOption, IsSome, subst, rules}
 use Rattle.std.proofs.lemmas.Bool.{false≢true}
 use Rattle.qc_num.specs.declared.bound.Bound.{Bound}
 use Rattle.qc_model.specs.declared.decision.Decision.{Decision}
@@ -10,11 +10,11 @@ use Rattle.qc_calls.specs.StartsCalls.{HasLeaf}
 use Rattle.qc_calls.proofs.starts_answers.is_closed_by.Goals as goal
 
 closed_so : (inst : InstanceView) (ds : List Decision) (u : Bound) (tasks : List ℕ) (leaf : Option LeafKind)
-    → IsSome leaf ↔ IsClosable inst ds u
+    → (IsClosable inst ds u → IsSome leaf)
     → MatchOption leaf (tasks ≡ []) (λ kind. IsClosedBy inst ds u kind tasks)
     → MatchOption leaf (¬ IsClosable inst ds u) (HasLeaf inst ds u)
-closed_so inst ds u tasks None closed by = λ is. false≢true (closed.1 is)
-closed_so inst ds u tasks (Some kind) closed by = record { tasks = tasks; closable = closed.0 refl; closed = by }
+closed_so inst ds u tasks None closed by = λ is. false≢true (closed is)
+closed_so inst ds u tasks (Some kind) closed by = record { tasks = tasks; closed = by }
 
 pub returns : goal.returns
 returns c held =

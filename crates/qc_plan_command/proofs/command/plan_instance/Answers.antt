@@ -13,7 +13,8 @@ returns-then-is_err-clause-serves g c =
     let failed : is_err c.create.result ≡ true = sym c.is_err.ensures.value ∙ c.if-is_err.true in (
       (
         by_err c.create.result failed c.create.ensures.counts.rose,
-        at_begin (planning c.args.asked.now) c.args.job c.requires.goes c.args.search (view c.args.shelf.now).files
+        at_begin (planning c.args.asked.now) c.args.job c.requires.goes c.args.search
+            (view c.args.shelf.now).files
             (view c.create.new.self).files (view c.create.new.self).files (view c.create.new.self).files
             c.requires.search c.requires.due c.create.ensures.files_stay,
       ),
@@ -25,11 +26,14 @@ returns-in_default-clause-serves g c =
     let view = g.S.Sink.view in (
       (
         omega (arith, c.create.ensures.counts.never_falls, c.in_default.ensures.counts.rose),
-        at_tree (planning c.args.asked.now) c.args.job c.requires.goes c.earlier-given.new.search (view c.args.shelf.now).files
-            (view c.create.new.self).files (view c.store_tree.new.shelf).files (view c.store_tree.new.shelf).files
+        at_tree (planning c.args.asked.now) c.args.job c.requires.goes c.earlier-given.new.search
+            (view c.args.shelf.now).files
+            (view c.create.new.self).files (view c.store_tree.new.shelf).files
+            (view c.store_tree.new.shelf).files
             (c.earlier-given.ensures.stays ∙ c.requires.search) c.requires.due c.create.ensures.files_stay
-            (option_map (λ sched. sched.now) c.earlier-given.result)
-            (rw c.as_ref.ensures.value at c.earlier-given.ensures.no_later) c.in_default.ensures.err,
+            c.args.swept (option_map (λ sched. sched.now) c.earlier-given.result)
+            (rw (c.as_ref.ensures.value, c.as_ref-2.ensures.value) at c.earlier-given.ensures.chosen)
+            c.in_default.ensures.err,
       ),
       c.in_default.ensures.read_faults ∙ c.create.ensures.read_faults_stay,
     )
@@ -38,12 +42,20 @@ pub returns-clause-serves : goal.returns-clause-serves
 returns-clause-serves g c =
     let view = g.S.Sink.view in (
       (
-        omega (arith, c.create.ensures.counts.never_falls, c.in-Ok.ensures.counts.never_falls, c.in-Err.ensures.counts.rose),
-        at_plan (planning c.args.asked.now) c.args.job c.requires.goes c.earlier-given.new.search (view c.args.shelf.now).files
-            (view c.create.new.self).files (view c.store_tree.new.shelf).files (view c.store_best.new.shelf).files
+        omega (
+          arith,
+          c.create.ensures.counts.never_falls,
+          c.in-Ok.ensures.counts.never_falls,
+          c.in-Err.ensures.counts.rose,
+        ),
+        at_plan (planning c.args.asked.now) c.args.job c.requires.goes c.earlier-given.new.search
+            (view c.args.shelf.now).files
+            (view c.create.new.self).files (view c.store_tree.new.shelf).files
+            (view c.store_best.new.shelf).files
             (c.earlier-given.ensures.stays ∙ c.requires.search) c.requires.due c.create.ensures.files_stay
-            (option_map (λ sched. sched.now) c.earlier-given.result)
-            (rw c.as_ref.ensures.value at c.earlier-given.ensures.no_later) c.in-Ok.done c.in-Ok.ensures.ok c.in-Err.ensures.err,
+            c.args.swept (option_map (λ sched. sched.now) c.earlier-given.result)
+            (rw (c.as_ref.ensures.value, c.as_ref-2.ensures.value) at c.earlier-given.ensures.chosen)
+            c.in-Ok.done c.in-Ok.ensures.ok c.in-Err.ensures.err,
       ),
       c.in-Err.ensures.read_faults ∙ c.in-Ok.ensures.read_faults ∙ c.create.ensures.read_faults_stay,
     )
@@ -52,15 +64,18 @@ pub returns-in-Ok-store_best-clause-serves : goal.returns-in-Ok-store_best-claus
 returns-in-Ok-store_best-clause-serves g c =
     let view = g.S.Sink.view in
     let came : is_err c.create.result ≡ false = sym c.is_err.ensures.value ∙ c.if-is_err.false in (
-      writes_told (planning c.args.asked.now) (view c.args.shelf.now) (view c.store_best.new.shelf) c.args.job.inst c.in-Ok.done
+      writes_told (planning c.args.asked.now) (view c.args.shelf.now)
+          (view c.store_best.new.shelf) c.args.job.inst c.in-Ok.done
           c.answer_of.result c.answer_of.ensures.tells
           (c.in-Ok-store_best.ensures.counts.unfailed ∙ c.in-Ok.ensures.counts.unfailed
           ∙ by_ok c.create.result came c.create.ensures.counts.unfailed)
-          (at_end (planning c.args.asked.now) c.args.job c.requires.goes c.earlier-given.new.search (view c.args.shelf.now).files
+          (at_end (planning c.args.asked.now) c.args.job c.requires.goes c.earlier-given.new.search
+          (view c.args.shelf.now).files
           (view c.create.new.self).files (view c.store_tree.new.shelf).files (view c.store_best.new.shelf).files
           (c.earlier-given.ensures.stays ∙ c.requires.search) c.requires.due c.create.ensures.files_stay
-          (option_map (λ sched. sched.now) c.earlier-given.result)
-          (rw c.as_ref.ensures.value at c.earlier-given.ensures.no_later) c.in-Ok.done c.answer_of.result c.in-Ok.ensures.ok
+          c.args.swept (option_map (λ sched. sched.now) c.earlier-given.result)
+          (rw (c.as_ref.ensures.value, c.as_ref-2.ensures.value) at c.earlier-given.ensures.chosen)
+          c.in-Ok.done c.answer_of.result c.in-Ok.ensures.ok
           c.in-Ok-store_best.ensures.ok c.answer_of.ensures.tells),
       c.in-Ok-store_best.ensures.read_faults ∙ c.in-Ok.ensures.read_faults ∙ c.create.ensures.read_faults_stay,
     )

@@ -22,3 +22,8 @@ pub returns-in-Work : goal.returns-in-Work
 returns-in-Work c =
     subst (λ (l : Line). Shows c.args.node.now.inst c.args.node.now.decisions c.args.version l c.args.numbers.now c.work_bound.result)
     (sym c.in-Work.is) (c.work_bound.ensures c.args.numbers.now)
+
+pub returns-in-Clash : goal.returns-in-Clash
+returns-in-Clash c =
+    subst (λ (l : Line). Shows c.args.node.now.inst c.args.node.now.decisions c.args.version l c.args.numbers.now c.clash_bound.result)
+    (sym c.in-Clash.is) c.clash_bound.ensures

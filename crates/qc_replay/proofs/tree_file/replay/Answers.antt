@@ -1,20 +1,30 @@
-use Rattle.std.proofs.Common.{◌≡◌, Ok, refl, rules, subst, IfOk, IfSome, Some}
+use Rattle.std.proofs.Common.{◌≡◌, Ok, refl, subst, IfOk, IfSome, Some}
 use Rattle.qc_io.specs.Outside.{file_at}
 use Rattle.qc_tree.specs.Trees.{IsTree, NoneEarlier, Tree, tree_branchings, tree_text, tree_value}
 use Rattle.qc_replay.specs.File.{Fails, IsReadThrough}
 use Rattle.qc_replay.specs.Shown.{IsShown}
 use Rattle.qc_replay.specs.Stages.{WalkView}
 use Rattle.qc_replay.specs.Walk.{start, tree_in}
-use Rattle.qc_replay.specs.declared.fault.ReplayError.TheVariants.{ReadFault}
-use Rattle.qc_replay.proofs.FileFacts.{error_through, never_failed, reads_then, reads_when}
+use Rattle.qc_replay.specs.declared.fault.ReplayError.TheVariants.{OutOfMemory, ReadFault}
+use Rattle.qc_replay.proofs.FileFacts.{error_through, handed, never_failed, reads_then, reads_when}
 use Rattle.qc_replay.proofs.OneTree.{one_tree}
 use Rattle.qc_replay.proofs.TreeFacts.{each_ok, never_faulty, no_earlier, one_value, read_in, shows, whatever_ok}
 use Rattle.qc_replay.proofs.tree_file.replay.Goals as goal
 
 pub returns-in_err-lines-clause-reads : goal.returns-in_err-lines-clause-reads
 returns-in_err-lines-clause-reads g c =
+    let why = c.in_err-lines.field-0.0 in
+    let same = handed c.from_residual-in_err-lines.result why c.from_residual-in_err-lines.ensures.1 in
     reads_when (g.S.Sink.view c.args.shelf.now) (g.S.Sink.view c.open.new.shelf) c.in_err-lines.ensures.reads
-    (λ no is. no (error_through _ c.from_residual-in_err-lines.result c.in_err-lines.field-0.0 ReadFault refl (search rules) is))
+    (λ no is. no (error_through _ c.from_residual-in_err-lines.result why ReadFault refl same is))
+
+pub returns-in_err-lines-clause-missing : goal.returns-in_err-lines-clause-missing
+returns-in_err-lines-clause-missing g c = λ none ample.
+    let why = c.in_err-lines.field-0.0 in
+    let same = handed c.from_residual-in_err-lines.result why c.from_residual-in_err-lines.ensures.1 in
+    error_through _ c.from_residual-in_err-lines.result why ReadFault refl same
+    (c.in_err-lines.ensures.missing none
+    (λ is. ample (error_through _ c.from_residual-in_err-lines.result why OutOfMemory refl same is)))
 
 pub returns-clause-reads : goal.returns-clause-reads
 returns-clause-reads g c =

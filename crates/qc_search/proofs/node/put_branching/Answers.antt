@@ -10,24 +10,18 @@ use Rattle.qc_search.proofs.node.put_branching.Goals as goal
 pub returns-in_err-put_branch-clause-goes : goal.returns-in_err-put_branch-clause-goes
 returns-in_err-put_branch-clause-goes g c =
     on_fault _ _ c.from_residual.result c.from_residual.ensures.0
-    (branch_written c.args.starts.now.inst c.args.side.way c.args.starts.now.decisions c.pick-branch.result c.args.progress.now
-    c.pick-branch.new.path c.saturating_add-progress.result _ c.requires.valid c.pick-branch.ensures.room
-    c.pick-branch.ensures.open c.requires.open c.requires.left c.in_err-put_branch.ensures)
+    (branch_written c.args.starts.now.inst c.args.way c.args.starts.now.decisions c.pick-branch.result c.args.progress.now
+    _ c.requires.valid c.pick-branch.ensures.open c.requires.open c.requires.left c.in_err-put_branch.ensures)
 
 pub returns-clause-goes : goal.returns-clause-goes
 returns-clause-goes g c =
     let inst = c.args.starts.now.inst in
     let ds = c.args.starts.now.decisions in
     let old = c.args.progress.now in
-    let new = record old {
-      branched = old.branched + 1;
-      since_incumbent = c.saturating_add-progress.result;
-      path = c.pick-branch.new.path;
-    } in
+    let new = record old { branched = old.branched + 1 } in
     subst (λ (d : Decision). WritesNodes [] (g.K.Sink.view c.args.sink.now) (g.K.Sink.view c.put_branch.new.sink) inst
-    c.args.side.way (from_node inst ds) (from_node inst (d ∷ ds)) old new (Ok tt)) (sym c.first_child.ensures)
-    (branch_written inst c.args.side.way ds c.pick-branch.result c.args.progress.now
-    c.pick-branch.new.path c.saturating_add-progress.result (Ok tt) c.requires.valid c.pick-branch.ensures.room
+    c.args.way (from_node inst ds) (from_node inst (d ∷ ds)) old new (Ok tt)) (sym c.first_child.ensures)
+    (branch_written inst c.args.way ds c.pick-branch.result c.args.progress.now (Ok tt) c.requires.valid
     c.pick-branch.ensures.open c.requires.open c.requires.left c.in_ok-put_branch.ensures)
 
 pub returns-clause-child : goal.returns-clause-child

@@ -21,5 +21,5 @@ pub returns-clause-goes : goal.returns-clause-goes
 returns-clause-goes g c =
     closed_written c.args.starts.now.inst c.args.way c.args.starts.now.decisions c.args.leaf c.args.progress.now
     c.leave.new.progress c.meet_closed-value.result c.meet_closed-value.ensures.soon c.leave.result
-    c.meet_closed-value.new.progress c.meet_closed-value.ensures.meets c.requires.in_reach c.requires.closable
+    c.meet_closed-value.new.progress c.meet_closed-value.ensures.meets c.requires.in_reach
     c.requires.leaf c.meet_closed-value.ensures.value c.leave.ensures.progress c.leave.ensures.room c.leave.ensures.writes

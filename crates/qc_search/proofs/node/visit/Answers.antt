@@ -21,7 +21,7 @@ put_branching-requires-clause-starts g c =
     let ds = c.args.starts.now.decisions in
     has_starts inst ds c.stuck-stuck.result c.stuck-stuck.ensures.none
     (not_stuck inst ds c.args.progress.now.incumbent_end c.stuck-stuck.result c.stuck-stuck.ensures.none
-    (λ closable. false≢true (c.in_default.ensures.closed.1 closable)))
+    (λ closable. false≢true (c.in_default.ensures.closed closable)))
 
 pub returns-in_err-child-clause-goes : goal.returns-in_err-child-clause-goes
 returns-in_err-child-clause-goes g c =

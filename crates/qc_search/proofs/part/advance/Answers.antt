@@ -18,22 +18,22 @@ loop-next-init g c = record {
   child = c.requires.child;
   fewer = omega arith;
   goes = λ way. none_written (g.K.Sink.view c.args.sink.now)
-      (from_child c.args.starts.now.inst c.args.starts.now.decisions c.args.child) c.args.progress.now;
+      (from_child c.args.node.now.inst c.args.node.now.decisions c.args.child) c.args.progress.now;
 }
 
 pub returns-in_err-put_reach-clause-goes : goal.returns-in_err-put_reach-clause-goes
 returns-in_err-put_reach-clause-goes g c = λ way.
-    let inst = c.args.starts.now.inst in
+    let inst = c.args.node.now.inst in
     let away = rw c.loop-next.invariant.same at c.descend.ensures.out (λ t. false≢true (sym c.if-descend.false ∙ t)) in
     on_fault _ _ c.from_residual.result c.from_residual.ensures.0
     (nodes_then (rw c.in-Some.is at c.loop-next.invariant.goes way)
-    (reach_written inst way c.loop-next.starts.decisions c.in-Some.decision c.args.progress.now (Err (record {})) away
+    (reach_written inst way c.loop-next.node.decisions c.in-Some.decision c.args.progress.now (Err (record {})) away
     c.in_err-put_reach.ensures))
 
 pub loop-next-preserved-in-Some : goal.loop-next-preserved-in-Some
 loop-next-preserved-in-Some g c =
-    let inst = c.args.starts.now.inst in
-    let ds = c.loop-next.starts.decisions in
+    let inst = c.args.node.now.inst in
+    let ds = c.loop-next.node.decisions in
     let d = c.in-Some.decision in
     let next = c.next_child-next.result in
     let out = λ (t : c.descend.result ≡ true). false≢true (sym c.if-descend.false ∙ t) in
@@ -50,13 +50,13 @@ loop-next-preserved-in-Some g c =
       made = subst (λ (s : StartsNode). WereMade inst s.decisions) stays c.loop-next.invariant.made;
       child = subst (λ (s : StartsNode). IfSome next (IsChild inst s.decisions)) stays (next_child_is inst ds d next is child);
       fewer = subst (λ (s : StartsNode). length (from_child inst s.decisions next)
-          ≤ length (from_child inst c.args.starts.now.decisions c.args.child)) stays
+          ≤ length (from_child inst c.args.node.now.decisions c.args.child)) stays
           (omega (arith, count, now, c.loop-next.invariant.fewer));
       goes = λ way. subst (λ (s : StartsNode). WritesNodes [] (g.K.Sink.view c.args.sink.now)
-          (g.K.Sink.view c.put_reach.new.sink) inst way (from_child inst c.args.starts.now.decisions c.args.child)
+          (g.K.Sink.view c.put_reach.new.sink) inst way (from_child inst c.args.node.now.decisions c.args.child)
           (from_child inst s.decisions next) c.args.progress.now c.args.progress.now (Ok tt)) stays
           (subst (λ (l : List (List Decision)). WritesNodes [] (g.K.Sink.view c.args.sink.now)
-          (g.K.Sink.view c.put_reach.new.sink) inst way (from_child inst c.args.starts.now.decisions c.args.child)
+          (g.K.Sink.view c.put_reach.new.sink) inst way (from_child inst c.args.node.now.decisions c.args.child)
           l c.args.progress.now c.args.progress.now (Ok tt)) (next_due inst ds d next is child.0)
           (nodes_then (rw c.in-Some.is at c.loop-next.invariant.goes way)
           (reach_written inst way ds d c.args.progress.now (Ok tt) away c.in_ok-put_reach.ensures)));

@@ -6,16 +6,16 @@ use Rattle.qc_search.proofs.part.advance.Given as goal
 
 abbrev pub invariant-loop-next : goal.invariant-loop-next
 invariant-loop-next g l = record {
-  same : l.starts.inst ≡ l.fn.starts.inst;
-  made : WereMade l.fn.starts.inst l.starts.decisions;
-  child : IfSome l.next (IsChild l.fn.starts.inst l.starts.decisions);
-  fewer : length (from_child l.fn.starts.inst l.starts.decisions l.next)
-      ≤ length (from_child l.fn.starts.inst l.fn.starts.decisions l.fn.child);
-  goes : (way : Direction) → WritesNodes [] (g.K.Sink.view l.fn.sink) (g.K.Sink.view l.sink) l.fn.starts.inst way
-      (from_child l.fn.starts.inst l.fn.starts.decisions l.fn.child)
-      (from_child l.fn.starts.inst l.starts.decisions l.next) l.progress l.progress (Ok tt);
+  same : l.node.inst ≡ l.fn.node.inst;
+  made : WereMade l.fn.node.inst l.node.decisions;
+  child : IfSome l.next (IsChild l.fn.node.inst l.node.decisions);
+  fewer : length (from_child l.fn.node.inst l.node.decisions l.next)
+      ≤ length (from_child l.fn.node.inst l.fn.node.decisions l.fn.child);
+  goes : (way : Direction) → WritesNodes [] (g.K.Sink.view l.fn.sink) (g.K.Sink.view l.sink) l.fn.node.inst way
+      (from_child l.fn.node.inst l.fn.node.decisions l.fn.child)
+      (from_child l.fn.node.inst l.node.decisions l.next) l.progress l.progress (Ok tt);
 }
 
 abbrev pub decreases-loop-next : goal.decreases-loop-next
 decreases-loop-next g l =
-    length (from_child l.fn.starts.inst l.starts.decisions l.next) + length l.starts.decisions
+    length (from_child l.fn.node.inst l.node.decisions l.next) + length l.node.decisions

@@ -10,11 +10,10 @@ use Rattle.qc_search.proofs.part.search_part.Goals as goal
 
 pub loop-child-init : goal.loop-child-init
 loop-child-init g c =
-    let inst = c.args.starts.now.inst in
+    let inst = c.args.node.now.inst in
     let none = sym c.requires.root in
     record {
       same = refl;
-      valid = c.heavy_window.ensures;
       made = subst (WereMade inst) none tt;
       count = c.requires.count;
       room = c.requires.room;
@@ -26,8 +25,8 @@ loop-child-init g c =
 
 pub visit-requires-clause-in_reach : goal.visit-requires-clause-in_reach
 visit-requires-clause-in_reach g c =
-    subst (λ (i : InstanceView). IsInReach i c.loop-child.starts.decisions) (sym c.loop-child.invariant.same)
-    (made_in_reach c.args.starts.now.inst c.loop-child.starts.decisions c.loop-child.invariant.made)
+    subst (λ (i : InstanceView). IsInReach i c.loop-child.node.decisions) (sym c.loop-child.invariant.same)
+    (made_in_reach c.args.node.now.inst c.loop-child.node.decisions c.loop-child.invariant.made)
 
 pub returns-in_err-child : goal.returns-in_err-child
 returns-in_err-child g c =
@@ -55,7 +54,6 @@ loop-child-preserved g c =
     let onward = rw c.if-not-branch.false at (rw c.loop-child.invariant.same at (rw visit.stays at advance.goes c.args.way)) in
     record {
       same = advance.inst ∙ (rw (sym visit.stays) at c.loop-child.invariant.same);
-      valid = c.loop-child.invariant.valid;
       made = rw c.loop-child.invariant.same at (rw visit.stays at advance.made);
       count = went.comes.along.count c.loop-child.invariant.count;
       room = went.comes.along.room c.loop-child.invariant.room;

@@ -1,5 +1,4 @@
 use Rattle.std.proofs.Common.{◌≡◌, [], ◌∷◌, ◌≤◌, Ok, length}
-use Rattle.qc_model.specs.Instance.{Valid}
 use Rattle.qc_model.specs.Numbers.{most_tasks}
 use Rattle.qc_num.specs.Paths.{HasRoom}
 use Rattle.qc_search.specs.Progress.{WritesNodes}
@@ -8,15 +7,14 @@ use Rattle.qc_search.proofs.part.search_part.Given as goal
 
 abbrev pub invariant-loop-child : goal.invariant-loop-child
 invariant-loop-child g l = record {
-  same : l.starts.inst ≡ l.fn.starts.inst;
-  valid : Valid l.fn.starts.inst;
-  made : WereMade l.fn.starts.inst l.starts.decisions;
-  count : length l.progress.incumbent ≡ length l.fn.starts.inst.tasks;
+  same : l.node.inst ≡ l.fn.node.inst;
+  made : WereMade l.fn.node.inst l.node.decisions;
+  count : length l.progress.incumbent ≡ length l.fn.node.inst.tasks;
   room : HasRoom most_tasks l.progress.path;
   few : l.progress.branched ≤ l.progress.limit;
-  goes : WritesNodes [] (g.K.Sink.view l.fn.sink) (g.K.Sink.view l.sink) l.fn.starts.inst l.fn.way
-      ([] ∷ []) (from_node l.fn.starts.inst l.starts.decisions) l.fn.progress l.progress (Ok tt);
+  goes : WritesNodes [] (g.K.Sink.view l.fn.sink) (g.K.Sink.view l.sink) l.fn.node.inst l.fn.way
+      ([] ∷ []) (from_node l.fn.node.inst l.node.decisions) l.fn.progress l.progress (Ok tt);
 }
 
 abbrev pub decreases-loop-child : goal.decreases-loop-child
-decreases-loop-child g l = steps_left (from_node l.fn.starts.inst l.starts.decisions) l.progress.limit l.progress.branched
+decreases-loop-child g l = steps_left (from_node l.fn.node.inst l.node.decisions) l.progress.limit l.progress.branched

@@ -5,17 +5,21 @@ use Rattle.qc_trial.proofs.stored.check_stored.Goals as goal
 
 pub unreachable-requires : goal.unreachable-requires
 unreachable-requires c =
-    let (best, goes) = best_read c.args.inst.now c.args.shelf.now.files c.args.done.now c.in-Some.field-0.now c.in_ok-sched.sched
+    let (best, goes) = best_read c.args.inst.now c.args.shelf.now.files c.args.done.now c.in-Some.field-0.now
+    c.in_ok-sched.sched
     c.requires.stored (sym c.in-Some.ensures) (c.in_ok-sched.ensures.sched c.in-Some.field-0.now) in
     absurd (cc (c.in_default-direction_of.ensures.one_way.1 goes))
 
 pub returns : goal.returns
 returns c =
     let stored = c.requires.stored in
-    let (best, goes) = best_read c.args.inst.now c.args.shelf.now.files c.args.done.now c.in-Some.field-0.now c.in_ok-sched.sched
+    let (best, goes) = best_read c.args.inst.now c.args.shelf.now.files c.args.done.now c.in-Some.field-0.now
+    c.in_ok-sched.sched
     stored (sym c.in-Some.ensures) (c.in_ok-sched.ensures.sched c.in-Some.field-0.now) in
-    let tree = subst (λ files. IsTreeStored c.args.inst.now files stored.tree) (sym c.in_ok-sched.ensures.files) stored.tree_stored in
+    let tree = subst (λ files. IsTreeStored c.args.inst.now files stored.tree)
+    (sym c.in_ok-sched.ensures.files) stored.tree_stored in
     c.verdict_on.ensures ∙ ap (verdict_at c.in_ok-bound.bound) c.ends.ensures.ends
-    ∙ verdict_is c.args.inst.now c.args.done.now c.in_ok-sched.sched c.in_ok-bound.bound best stored.found.sound.kind
-    (stored.found.bound ∙ sym (c.in_ok-bound.ensures.value stored.tree tree))
+    ∙ verdict_is c.args.inst.now c.args.done.now c.in_ok-sched.sched c.in_ok-bound.bound best
+    stored.found.came.sound.kind
+    (stored.found.came.bound ∙ sym (c.in_ok-bound.ensures.value stored.tree tree))
     (c.in_ok-bound.ensures.none_earlier c.in_ok-sched.sched goes)

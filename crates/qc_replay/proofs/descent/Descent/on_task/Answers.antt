@@ -13,5 +13,5 @@ add-requires c =
 pub returns-clause-nodes : goal.returns-clause-nodes
 returns-clause-nodes c =
     task_nodes c.args.self.now _ c.requires.live c.args.task c.requires.valid.cranes.count.0
-    (ap (λ (n : Node). record { inst = n.inst; decisions = n.decisions; live = c.self.inside.live }) c.add.ensures.added
+    (ap (λ (n : Node). record { inst = n.inst; decisions = n.decisions; live = c.self.inside.live }) c.add.ensures
     ∙ ap (λ (s : Standing). record { inst = s.inst; decisions = Assign c.args.task 0 ∷ s.decisions; live = s.live }) c.self.view_is)

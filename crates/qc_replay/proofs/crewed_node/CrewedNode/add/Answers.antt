@@ -1,0 +1,27 @@
+use Rattle.std.proofs.Common.{◌∙◌, ap, refl}
+use Rattle.qc_model.specs.declared.decision.Decision.TheVariants.{Assign}
+use Rattle.qc_replay.proofs.CrewFacts.{crew_at, crew_puts, opens, were_open_more, with}
+use Rattle.qc_replay.proofs.crewed_node.CrewedNode.add.Goals as goal
+
+pub put-requires-clause-none : goal.put-requires-clause-none
+put-requires-clause-none c =
+    let node = c.self.inside.node in
+    let one = opens node c.args.self.now c.args.decision (Assign c.in-Assign.task c.in-Assign.crane) c.self.view_is
+    c.in-Assign.is c.requires in
+    crew_at node c.self.inside.crew c.self.invariant.crew c.in-Assign.task one.0 ∙ one.2
+
+pub invariant_of-self : goal.invariant_of-self
+invariant_of-self c =
+    let node = c.self.inside.node in
+    let one = opens node c.args.self.now c.args.decision (Assign c.in-Assign.task c.in-Assign.crane) c.self.view_is
+    c.in-Assign.is c.requires in
+    let added = c.add.ensures.added in
+    record {
+      were_open =
+          were_open_more node c.add.new.self c.args.decision added
+          (opens node c.args.self.now c.args.decision c.args.decision c.self.view_is refl c.requires)
+          c.self.invariant.were_open;
+      crew =
+          crew_puts node c.self.inside.crew c.self.invariant.crew c.in-Assign.task c.in-Assign.crane c.put.new.self
+          c.add.new.self one.0 c.put.ensures (added ∙ ap (with node) c.in-Assign.is);
+    }

@@ -1,0 +1,148 @@
+//! Where a search stands.
+ghost use Rattle.std.specs.Prelude.{◌≡◌, ◌∷◌, [], ◌<◌, ◌≤◌, ℕ, IfOk, IfSome, None, OnOk, length};
+ghost use Rattle.qc_close.specs.Crews.{IsCrewOf};
+ghost use Rattle.qc_dist.specs.Node.{IsOpen};
+ghost use Rattle.qc_model.specs.Instance.{Valid};
+ghost use Rattle.qc_model.specs.Nodes.{HasStarts, IsInReach};
+ghost use Rattle.qc_model.specs.Numbers.{most_start, most_tasks};
+ghost use Rattle.qc_model.specs.OneWay.{GoesUp};
+ghost use Rattle.qc_model.specs.Rules.{start_of};
+ghost use Rattle.qc_starts.specs.Seen.{IsReached, StartsNode};
+ghost use Rattle.qc_search.specs.Places.{IsPlaced, node_of};
+ghost use Rattle.qc_num.specs.Paths.{HasRoom};
+ghost use Rattle.qc_search.specs.Progress.{IsTightened, WritesNodes, emptied, left_by};
+ghost use Rattle.qc_search.specs.Walk.{IsChild, from_child, from_node, steps_left};
+
+use crate::choice::Outlook;
+use crate::given::tighten;
+use crate::moves::{go, go_back};
+use crate::node::visit;
+use crate::progress::Progress;
+use qc_close::Crew;
+use qc_io::{Sink, WriteFault};
+use qc_model::{Decision, Direction, Instance, Schedule, Turn};
+use qc_num::{OutOfMemory, Tick};
+use qc_starts::Starts;
+use std::alloc::Global;
+use std::marker::Model;
+
+/// A node at which a search stands: its decisions with their earliest starts, and with the crane that
+/// each task has by them.
+#[derive(Drop)]
+pub(crate) struct Node {
+    starts: Starts,
+    crew: Crew,
+}
+
+impl Model for Node {
+    ghost Value = { StartsNode };
+
+    ghost view = { node_of };
+
+    ghost invariant = { IsPlaced };
+}
+
+impl Node {
+    /// The root for an instance. All memory is taken here.
+    pub(crate) fn open(alloc: Global, inst: &Instance) -> Result<Node, OutOfMemory>
+        ensures inst { IfOk result (λ node. node.inst ≡ inst.now) }
+        ensures decisions { IfOk result (λ node. node.decisions ≡ []) }
+    {
+        let starts = Starts::open(alloc, inst)?;
+        let crew = Crew::open(alloc, starts.instance(), Turn::OneWay)?;
+        Ok(Node { starts, crew })
+    }
+
+    /// The instance.
+    pub(crate) fn instance(&self) -> &Instance
+        ensures same { result.now ≡ self.now.inst }
+        ensures valid { Valid self.now.inst }
+    {
+        self.starts.instance()
+    }
+
+    /// The earliest starts.
+    pub(crate) fn starts(&self) -> &Starts
+        ensures same { result.now ≡ self.now }
+        ensures valid { Valid self.now.inst }
+    {
+        &self.starts
+    }
+
+    /// The cranes of the tasks.
+    pub(crate) fn crew(&self) -> &Crew
+        ensures { IsCrewOf result.now self.now.inst self.now.decisions }
+    {
+        &self.crew
+    }
+
+    /// Makes the starts of a schedule that goes upward the earliest with its cranes and its order of
+    /// apart tasks, and answers when it then ends. The node is the root, and is left as it was.
+    pub(crate) fn tighten(&mut self, sched: &mut Schedule) -> Tick
+        requires root { self.old.decisions ≡ [] }
+        requires goes { GoesUp self.old.inst sched.old }
+        requires soon { (j : ℕ) → j < length self.old.inst.tasks → start_of sched.old j ≤ most_start }
+        ensures inst { self.new.inst ≡ self.old.inst }
+        ensures root { self.new.decisions ≡ [] }
+        ensures tightened { IsTightened self.old.inst sched.old sched.new result }
+    {
+        tighten(&mut self.starts, sched)
+    }
+
+    /// Meets the node: writes its line, and answers its first child, if it has children.
+    pub(crate) fn visit<K: Sink>(
+        &mut self,
+        ahead: Option<Outlook>,
+        way: Direction,
+        progress: &mut Progress,
+        sink: &mut K,
+    ) -> Result<Option<Decision>, WriteFault>
+        requires count { length progress.old.incumbent ≡ length self.old.inst.tasks }
+        requires in_reach { IsInReach self.old.inst self.old.decisions }
+        requires room { HasRoom most_tasks progress.old.path }
+        requires few { progress.old.branched ≤ progress.old.limit }
+        ensures goes { WritesNodes [] (K.view sink.old) (K.view sink.new) self.old.inst way
+            (from_node self.old.inst self.old.decisions)
+            (left_by (from_child self.old.inst self.old.decisions) result)
+            progress.old progress.new (emptied result) }
+        ensures child { IfOk result (λ child. IfSome child (IsChild self.old.inst self.old.decisions)) }
+        ensures fewer { IfOk result (λ child.
+            steps_left (from_child self.old.inst self.old.decisions child)
+            progress.new.limit progress.new.branched
+            < steps_left (from_node self.old.inst self.old.decisions)
+            progress.old.limit progress.old.branched) }
+        ensures few { OnOk result (progress.new.branched ≤ progress.new.limit) }
+        ensures stays { self.new ≡ self.old }
+    {
+        visit(&mut self.starts, &self.crew, ahead, way, progress, sink)
+    }
+
+    /// Goes to the child of this decision, which is open and within reach.
+    pub(crate) fn go(&mut self, decision: Decision)
+        requires starts { HasStarts self.old.inst self.old.decisions }
+        requires open { IsOpen self.old.inst self.old.decisions decision }
+        requires reached { IsReached self.old.inst decision }
+        ensures inst { self.new.inst ≡ self.old.inst }
+        ensures decisions { self.new.decisions ≡ decision ∷ self.old.decisions }
+    {
+        go(&mut self.starts, decision);
+        if let Decision::Assign(task, crane) = decision {
+            self.crew.put(task, crane);
+        }
+    }
+
+    /// Takes back the newest decision, and answers it; `None` where there is none.
+    pub(crate) fn go_back(&mut self) -> Option<Decision>
+        ensures inst { self.new.inst ≡ self.old.inst }
+        ensures none { result ≡ None → (self.old.decisions ≡ []) × (self.new ≡ self.old) }
+        ensures some { IfSome result (λ newest. self.old.decisions ≡ newest ∷ self.new.decisions) }
+    {
+        let newest = self.starts.newest()?;
+        let mark = self.starts.mark();
+        go_back(&mut self.starts, mark - 1);
+        if let Decision::Assign(task, _) = newest {
+            self.crew.take(task);
+        }
+        Some(newest)
+    }
+}
