@@ -1,0 +1,4 @@
+pub mod FreeLevels
+pub mod Highest
+pub mod FreeTerms
+pub mod FreeSafe
