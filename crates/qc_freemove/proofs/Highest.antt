@@ -33,8 +33,11 @@ module _ (Q : ℤ → Type 0) (f : ℕ → ℤ) (Counts : ℕ → Type 0) (test 
       go (b, before) (inr never) =
           (b, more n b b before before.is (omega (arith, ints)) (λ counts. absurd (never counts)))
       go (b, before) (inl counts) = by_lt_z b (f n)
-          (λ up. (f n, more n b (f n) before (given n (omega arith) counts) (omega (arith, ints))
-          (λ _. omega (arith, ints))))
+          (λ up. (
+            f n,
+            more n b (f n) before (given n (omega arith) counts) (omega (arith, ints))
+                (λ _. omega (arith, ints)),
+          ))
           (λ down. (b, more n b b before before.is (omega (arith, ints)) (λ _. down)))
 
 -- whether one number is at most another

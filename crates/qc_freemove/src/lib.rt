@@ -1,4 +1,16 @@
-//! Where the cranes of a feasible schedule stand, whichever way they go.
+//! Where the cranes of a feasible schedule stand, whichever way they go: waypoints in half ticks, since a crane that
+//! goes down may meet one that comes up in the middle of a tick.
 #![tactic(auto)]
 
+mod change;
+mod floor;
+mod hold;
 mod laws;
+mod lines;
+mod sweep;
+mod trace;
+mod track;
+
+pub use lines::write_free_tracks;
+pub use trace::free_waypoints;
+pub use track::{FreeTrack, HalfPoint};
