@@ -1,12 +1,12 @@
--- The rules of a feasible schedule on one scale. Levels of bays are those of upward schedules: cranes at their least
--- distance stand at one level. Each rule says that no task and no berth has a crane above where another has it.
-use Rattle.std.proofs.Common.{◌≡◌, ◌≢◌, ℕ, zero, suc, ◌+◌, ◌-◌, ◌*◌, ◌<◌, ◌≤◌, max, ℤ, pos, ◌+ℤ◌, ◌-ℤ◌, ◌≤ℤ◌, ◌⊎◌, inl, inr, List, length, refl, ap, sym, subst, ◌∙◌, arith, mul-le-mul_left}
+-- The rules of a feasible schedule on one scale. Levels of bays are those of upward schedules: cranes at their
+-- least distance stand at one level. Each rule says that no task and no berth has a crane above where another
+-- has it.
+use Rattle.std.proofs.Common.{◌≡◌, ◌≢◌, ℕ, zero, suc, ◌+◌, ◌-◌, ◌*◌, ◌<◌, ◌≤◌, ℤ, pos, ◌+ℤ◌, ◌-ℤ◌, ◌≤ℤ◌, inl, inr, List, length, refl, ap, sym, subst, ◌∙◌, arith, mul-le-mul_left}
 use Rattle.std.proofs.lemmas.Bool.{cases_lt, cases_order, le-ltb, lt-ltb}
 use Rattle.std.proofs.lemmas.Int.{ints}
 use Rattle.qc_model.specs.declared.schedule.Slot.{Slot}
 use Rattle.qc_model.specs.Bays.{bays_between, bays_up}
 use Rattle.qc_model.specs.Instance.{InstanceView, Valid, bay_of, crane}
-use Rattle.qc_model.specs.Motion.{scaled}
 use Rattle.qc_model.specs.Rules.{Feasible, IsClear, crane_of, end_of, start_of}
 use Rattle.qc_model.specs.Ticks.{arrival, distance}
 use Rattle.qc_model.proofs.Bays.{bays}
@@ -89,11 +89,12 @@ clear_by : (inst : InstanceView) (sched : List Slot) (few ticks i j : ℕ) → f
 clear_by inst sched few ticks i j low (inl h) = inl (omega arith)
 clear_by inst sched few ticks i j low (inr h) = inr (omega arith)
 
--- a crane that has y only before tick n or only after it, and by the way from x up to y, is no higher than x
+-- where something comes up to a, and is no higher than low at n, it is no higher at an earlier moment m
 before_y : (a : ℤ) (s n m off : ℕ) (low : ℤ) → (a -ℤ pos (s - n)) ≤ℤ low → m ≤ n → s - m ≤ off
     → (a -ℤ pos off) ≤ℤ low
 before_y a s n m off low h early far = omega (arith, ints)
 
+-- where something goes down from a, and is no higher than low at n, it is no higher at a later moment m
 behind_y : (a : ℤ) (s n m off : ℕ) (low : ℤ) → (a -ℤ pos (n - s)) ≤ℤ low → n ≤ m → m - s ≤ off
     → (a -ℤ pos off) ≤ℤ low
 behind_y a s n m off low h late far = omega (arith, ints)
@@ -207,7 +208,8 @@ module _ (inst : InstanceView) (sched : List Slot) (g : Feasible inst sched) whe
         → berth_at inst d v m ≤ℤ task_level inst sched d j
     unfolding task_level berth_level
     leaves j v m low order begun =
-        let far = scaled_late d inst.travel (bay_on inst sched j) (berth_on inst v) _ _ (leaves_by j v low order) in
+        let far = scaled_late d inst.travel (bay_on inst sched j) (berth_on inst v) _ _
+        (leaves_by j v low order) in
         behind_y _ (d * (crane inst v).ready) (d * start_of sched j) m _ _ far begun (omega arith)
 
     waits : (i v m : ℕ) → i < length inst.tasks → v < length inst.cranes → crane_of sched i ≤ v

@@ -41,7 +41,8 @@ module _ (inst : InstanceView) (sched : List Slot) (d : ℕ) (h : HasFreeLevels 
   step m (berth v below) = (omega (arith, ints), omega (arith, ints))
   step m floor = (omega (arith, ints), omega (arith, ints))
 
-module _ (inst : InstanceView) (sched : List Slot) (valid : Valid inst) (feasible : Feasible inst sched) (d : ℕ) where
+module _ (inst : InstanceView) (sched : List Slot) (valid : Valid inst) (feasible : Feasible inst sched)
+    (d : ℕ) where
   levels : HasFreeLevels inst sched d
   levels = free_levels inst sched feasible d valid
 
@@ -103,5 +104,6 @@ module _ (inst : InstanceView) (sched : List Slot) (valid : Valid inst) (feasibl
         (omega (arith, ints, one.is, fall, down), omega (arith, ints, other.is, rise, up));
   }
 
-pub free_safe : (inst : InstanceView) (sched : List Slot) → Valid inst → Feasible inst sched → IsFreeSafe inst sched
+pub free_safe : (inst : InstanceView) (sched : List Slot) → Valid inst → Feasible inst sched
+    → IsFreeSafe inst sched
 free_safe inst sched valid feasible d _ = safe_by inst sched valid feasible d

@@ -1,11 +1,11 @@
 -- The terms of which a place is the greatest, as levels.
-use Rattle.std.proofs.Common.{◌≡◌, ℕ, suc, ◌+◌, ◌-◌, ◌*◌, ◌<◌, ◌≤◌, ℤ, pos, ◌+ℤ◌, ◌-ℤ◌, ◌≤ℤ◌, List, length, subst, sym, ap, ◌∙◌, arith}
+use Rattle.std.proofs.Common.{◌≡◌, ℕ, suc, ◌-◌, ◌*◌, ◌<◌, ◌≤◌, ℤ, pos, ◌+ℤ◌, ◌-ℤ◌, ◌≤ℤ◌, List, length, subst, ap, ◌∙◌, arith}
 use Rattle.std.proofs.lemmas.Int.{ints}
 use Rattle.qc_model.specs.declared.schedule.Slot.{Slot}
 use Rattle.qc_model.specs.Instance.{InstanceView}
 use Rattle.qc_model.specs.Motion.{IsFloor, berth_place, scaled}
 use Rattle.qc_model.specs.Rules.{crane_of, start_of}
-use Rattle.qc_model.proofs.Levels.{berth_at, task_at, task_level}
+use Rattle.qc_model.proofs.Levels.{berth_at, task_level}
 use Rattle.qc_model.proofs.Places.{floor_exists, floor_unique}
 use Rattle.qc_model.proofs.PlaceTerms.{Term, berth_place-lifted, floor-lifted, floor_level, lift, task_place-lifted}
 use Rattle.qc_model.proofs.PlaceTerms.Term.{berth, floor, task}
@@ -15,7 +15,8 @@ use Rattle.qc_freemove.proofs.FreeLevels.{visit_at}
 use Rattle.qc_freemove.proofs.Highest.{IsOver, at_most, over_all}
 
 -- what holds where nothing is taken off holds where the same is taken off both
-less : (a b c : ℤ) (s n : ℕ) → (a -ℤ pos (s - s)) ≡ ((b -ℤ pos (s - s)) +ℤ c) → (a -ℤ pos n) ≡ ((b -ℤ pos n) +ℤ c)
+less : (a b c : ℤ) (s n : ℕ)
+    → (a -ℤ pos (s - s)) ≡ ((b -ℤ pos (s - s)) +ℤ c) → (a -ℤ pos n) ≡ ((b -ℤ pos n) +ℤ c)
 less a b c s n e = omega (arith, ints)
 
 visit_place-lifted : (inst : InstanceView) (sched : List Slot) (d i k m : ℕ) → crane_of sched i ≤ k
@@ -73,12 +74,15 @@ free_place_exists inst sched k m d low = (all.0, record { is = all.1.is; most = 
     by_berth : ℕ → ℤ
     by_berth v = berth_place inst v k m d
 
-    tasks : (b : ℤ) × IsOver (FreeLowPlace inst sched k m d) by_task (λ i. crane_of sched i ≤ k) (length inst.tasks) (scaled inst d bottom.0) b
-    tasks = over_all (FreeLowPlace inst sched k m d) by_task (λ i. crane_of sched i ≤ k) (λ i. at_most (crane_of sched i) k)
+    tasks : (b : ℤ) × IsOver (FreeLowPlace inst sched k m d) by_task (λ i. crane_of sched i ≤ k)
+        (length inst.tasks) (scaled inst d bottom.0) b
+    tasks = over_all (FreeLowPlace inst sched k m d) by_task (λ i. crane_of sched i ≤ k)
+        (λ i. at_most (crane_of sched i) k)
         (scaled inst d bottom.0) (of_floor bottom.0 bottom.1) (length inst.tasks) (λ i. of_task i)
 
     all : (b : ℤ) × IsOver (FreeLowPlace inst sched k m d) by_berth (λ v. v ≤ k) (suc k) tasks.0 b
-    all = over_all (FreeLowPlace inst sched k m d) by_berth (λ v. v ≤ k) (λ v. at_most v k) tasks.0 tasks.1.is (suc k) (λ v _. of_berth v)
+    all = over_all (FreeLowPlace inst sched k m d) by_berth (λ v. v ≤ k) (λ v. at_most v k) tasks.0 tasks.1.is
+        (suc k) (λ v _. of_berth v)
 
     most : (y : ℤ) → FreeLowPlace inst sched k m d y → y ≤ℤ all.0
     most _ (of_task i there below) =

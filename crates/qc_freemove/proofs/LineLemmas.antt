@@ -28,7 +28,8 @@ zip-push {X} {Y} (x ∷ xs) [] d y low = zip-one xs
     zip-one (x ∷ xs) = refl
 zip-push {X} {Y} (x ∷ xs) (z ∷ ys) d y low = ap (λ (l : List (X × Y)). (x, z) ∷ l) (zip-push xs ys d y (omega arith))
 
-lines_push : (cranes : List Crane) (tracks : List (List HalfPoint)) (points : List HalfPoint) → length tracks < length cranes
+lines_push : (cranes : List Crane) (tracks : List (List HalfPoint)) (points : List HalfPoint)
+    → length tracks < length cranes
     → free_lines cranes (tracks ++ points ∷ [])
     ≡ free_lines cranes tracks ++ free_line (get_or cranes (length tracks) no_crane).name points
 lines_push cranes tracks points low =
@@ -43,8 +44,9 @@ no_lines [] = refl
 no_lines (c ∷ cs) = refl
 
 -- one crane's track more
-pub tracks_more : (inst : InstanceView) (sched : List Slot) (tracks : List (List HalfPoint)) (points : List HalfPoint)
-    → AreFreeTracks inst sched tracks → length tracks < length inst.cranes → AreHalfPoints inst sched (length tracks) points
+pub tracks_more : (inst : InstanceView) (sched : List Slot) (tracks : List (List HalfPoint))
+    (points : List HalfPoint) → AreFreeTracks inst sched tracks → length tracks < length inst.cranes
+    → AreHalfPoints inst sched (length tracks) points
     → AreFreeTracks inst sched (tracks ++ points ∷ [])
 tracks_more inst sched tracks points are low is = record {
   few = omega (arith, low, length-append tracks (points ∷ []));
@@ -107,7 +109,8 @@ module _ (before : View)
       writes = then (Err other) writes;
     }
 
-  pub tracks_done : (now : View) (k : ℕ) → length inst.cranes ≤ k → SoFar now k → WritesFreeTracks before now inst sched (Ok tt)
+  pub tracks_done : (now : View) (k : ℕ) → length inst.cranes ≤ k → SoFar now k
+      → WritesFreeTracks before now inst sched (Ok tt)
   tracks_done now k high so_far = record {
     tracks = so_far.tracks;
     are = so_far.are;

@@ -1,5 +1,5 @@
 -- Holds that neither start, end nor come past a crane, one more at a time; and numbers as the code reads them.
-use Rattle.std.proofs.Common.{◌≡◌, ℕ, ◌+◌, ◌<◌, ◌≤◌, ℤ, pos, ◌+ℤ◌, ◌-ℤ◌, ◌≤ℤ◌, inl, inr, to_z, of_z, w64, sym, subst, arith}
+use Rattle.std.proofs.Common.{◌≡◌, ℕ, ◌+◌, ◌<◌, ◌≤◌, ℤ, ◌≤ℤ◌, inl, inr, to_z, of_z, w64, sym, subst, arith}
 use Rattle.std.proofs.lemmas.Bool.{cases_lt}
 use Rattle.std.proofs.lemmas.Int.{ints}
 use Rattle.qc_freemove.specs.declared.hold.Hold.{Hold}
@@ -39,13 +39,15 @@ hold_below h k m y q e f near low =
     subst (λ (g : Hold). held g m ≤ℤ to_z w64 (of_z w64 y)) (sym e)
     (subst (λ (z : ℤ). held k m ≤ℤ z) (sym (read y q f near)) low)
 
-pub unpassed_read : (m e : ℕ) (p q a b u v : ℤ) → a ≡ u → b ≡ v → IsUnpassed m p q a b e → IsUnpassed m p q u v e
+pub unpassed_read : (m e : ℕ) (p q a b u v : ℤ) → a ≡ u → b ≡ v
+    → IsUnpassed m p q a b e → IsUnpassed m p q u v e
 unpassed_read m e p q a b u v f g h = record {
   by_one = λ k. let l = h.by_one (omega (arith, ints)) in omega (arith, ints);
   by_two = λ k. let l = h.by_two (omega (arith, ints)) in omega (arith, ints);
 }
 
-pub steady_read : (h k : Hold) (m e : ℕ) (a b p q : ℤ) → h ≡ k → a ≡ p → b ≡ q → IsSteady h m a b e → IsSteady k m p q e
+pub steady_read : (h k : Hold) (m e : ℕ) (a b p q : ℤ) → h ≡ k → a ≡ p → b ≡ q → IsSteady h m a b e
+    → IsSteady k m p q e
 steady_read h k m e a b p q f g i s =
     subst (λ (o : Hold). IsSteady o m p q e) f
     (subst (λ (z : ℤ). IsSteady h m z q e) g (subst (λ (z : ℤ). IsSteady h m a z e) i s))

@@ -1,14 +1,14 @@
 -- What a sweep takes for granted, and its place hold by hold.
-use Rattle.std.proofs.Common.{◌≡◌, ℕ, suc, ◌+◌, ◌*◌, ◌<◌, ℤ, pos, ◌*ℤ◌, ◌≤ℤ◌, List, length, FitsSigned, to_z, of_z, w64, sym, ap, subst, ◌∙◌, arith}
-use Rattle.std.proofs.lemmas.Int.{clamps, ints, to_z-of_z}
+use Rattle.std.proofs.Common.{◌≡◌, ℕ, suc, ◌+◌, ◌*◌, ◌<◌, ℤ, pos, ◌*ℤ◌, List, length, sym, ap, subst, arith}
+use Rattle.std.proofs.lemmas.Int.{ints}
 use Rattle.std.specs.Int.{int_max}
-use borrow.Author.Differences.{down, product_is, up}
+use borrow.Author.Differences.{product_is}
 use Rattle.qc_model.specs.declared.schedule.Slot.{Slot}
 use Rattle.qc_model.specs.Instance.{InstanceView, Valid}
 use Rattle.qc_model.specs.Judged.{Judged}
 use Rattle.qc_model.specs.Motion.{IsFloor, scaled}
 use Rattle.qc_freemove.specs.declared.hold.Hold.{Hold}
-use Rattle.qc_freemove.specs.FreeSweep.{FreeSwept, IsFreeSound, IsHalfPlace, held, highest}
+use Rattle.qc_freemove.specs.FreeSweep.{IsFreeSound, held, highest}
 
 pub sound_of : (inst : InstanceView) (sched : List Slot) (it : Judged) (k : ℕ) (x : ℤ)
     → Valid inst → it ≡ record { inst = inst; sched = sched }

@@ -1,15 +1,15 @@
 -- What holds a crane: the tasks and berths of which its place is the greatest.
-use Rattle.std.proofs.Common.{◌≡◌, ℕ, ◌+◌, ◌-◌, ◌*◌, ◌<◌, ◌≤◌, max, ℤ, pos, ◌-ℤ◌, ◌≤ℤ◌, ◌⊎◌, inl, inr, Bool, true, false, length, nat_lt, nat_le, ◌&&◌, refl, sym, ap, subst, ◌∙◌, arith}
+use Rattle.std.proofs.Common.{◌≡◌, ℕ, ◌+◌, ◌-◌, ◌*◌, ◌<◌, ◌≤◌, max, ℤ, pos, ◌-ℤ◌, ◌≤ℤ◌, inl, inr, true, length, nat_lt, nat_le, refl, sym, ap, subst, arith}
 use Rattle.std.proofs.lemmas.Bool.{and_from, and_parts, cases_Bool, le-leb, leb-true, le-ltb, lt-ltb, ltb-true}
 use Rattle.std.proofs.lemmas.Int.{ints}
-use Rattle.qc_model.specs.Instance.{InstanceView, Valid, crane, ticks_of}
-use Rattle.qc_model.specs.Motion.{berth_place, scaled}
-use Rattle.qc_model.specs.Rules.{crane_of, end_of, start_of}
+use Rattle.qc_model.specs.Instance.{crane}
+use Rattle.qc_model.specs.Motion.{scaled}
+use Rattle.qc_model.specs.Rules.{crane_of}
 use Rattle.qc_model.proofs.Places.{floor_unique}
 use Rattle.qc_freemove.specs.declared.hold.Hold.{Hold}
-use Rattle.qc_freemove.specs.FreeMotion.{FreeLowPlace, IsFreePlace, visit_place}
+use Rattle.qc_freemove.specs.FreeMotion.{FreeLowPlace, IsFreePlace}
 use Rattle.qc_freemove.specs.FreeMotion.FreeLowPlace.{of_berth, of_floor, of_task}
-use Rattle.qc_freemove.specs.FreeSweep.{FreeSwept, IsFreeSound, berth_hold, floor_place, held, highest, hold_count, hold_of, is_felt, place_at, task_hold}
+use Rattle.qc_freemove.specs.FreeSweep.{FreeSwept, IsFreeSound, berth_hold, floor_place, held, hold_count, hold_of, is_felt, place_at, task_hold}
 use Rattle.qc_freemove.proofs.Tops.{IsTaken, highest_first, highest_most, taken}
 use Rattle.qc_freemove.proofs.Tops.IsTaken.{by_floor, by_hold}
 use Rattle.qc_freemove.proofs.Ways.{IsLasting}

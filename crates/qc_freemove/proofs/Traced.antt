@@ -1,18 +1,15 @@
 -- The points up to a half tick, one change at a time.
-use Rattle.std.proofs.Common.{◌≡◌, ◌≢◌, ℕ, ◌+◌, ◌-◌, ◌*◌, ◌<◌, ◌≤◌, ℤ, pos, negsuc, ◌+ℤ◌, ◌-ℤ◌, ◌≤ℤ◌, ◌<ℤ◌, ◌⊎◌, inl, inr, List, [], ◌∷◌, ◌++◌, length, map, get_or, refl, sym, ap, ap₂, subst, ◌∙◌, arith, All, AllPairs, Contains}
+use Rattle.std.proofs.Common.{◌≡◌, ℕ, ◌+◌, ◌-◌, ◌*◌, ◌<◌, ◌≤◌, ℤ, pos, negsuc, ◌+ℤ◌, ◌-ℤ◌, ◌≤ℤ◌, ◌<ℤ◌, ◌⊎◌, inl, inr, List, [], ◌∷◌, ◌++◌, length, map, get_or, refl, sym, ap₂, subst, ◌∙◌, arith, All, AllPairs, Contains}
 use Rattle.std.proofs.lemmas.Bool.{cases_lt}
 use Rattle.std.proofs.lemmas.Int.{by_lt_z, ints}
 use Rattle.std.proofs.lemmas.List.{get_or_append_left, get_or_push, length-append, map-append}
 use Rattle.std.proofs.lemmas.List.Elements.{All-contains, All-map, All-nil, All-push, All-weaker, Contains-append_cases, Contains-append_left, Contains-append_right}
-use Rattle.qc_model.specs.declared.schedule.Slot.{Slot}
-use Rattle.qc_model.specs.Instance.{InstanceView}
 use Rattle.qc_model.specs.Rules.{ends}
-use Rattle.qc_freemove.specs.declared.hold.Hold.{Hold}
 use Rattle.qc_freemove.specs.declared.track.HalfPoint.{HalfPoint}
 use Rattle.qc_freemove.specs.FreeMotion.{IsFreePlace}
 use Rattle.qc_freemove.specs.FreeSweep.{FreeSwept, IsBend, IsEven, IsFreeSound, IsKept, floor_place, hold_count, hold_of, place_at}
 use Rattle.qc_freemove.specs.HalfPoints.{AreHalfPoints, IsHalfTurn, IsNamed}
-use Rattle.qc_freemove.proofs.Even.{IsDrop, drop_of, speed}
+use Rattle.qc_freemove.proofs.Even.{drop_of, speed}
 use Rattle.qc_freemove.proofs.Extrema.{greatest_unique}
 use Rattle.qc_freemove.proofs.Left.{left, left_falls, left_le, left_less}
 use Rattle.qc_freemove.proofs.SweptHolds.{lasting, place_is}

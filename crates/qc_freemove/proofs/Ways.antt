@@ -1,5 +1,5 @@
 -- Motion one way from one half tick to another.
-use Rattle.std.proofs.Common.{◌≡◌, ℕ, ◌+◌, ◌-◌, ◌*◌, ◌<◌, ◌≤◌, ℤ, pos, ◌+ℤ◌, ◌-ℤ◌, ◌≤ℤ◌, ◌<ℤ◌, ◌⊎◌, inl, inr, arith}
+use Rattle.std.proofs.Common.{◌≡◌, ℕ, ◌+◌, ◌-◌, ◌<◌, ◌≤◌, ℤ, pos, ◌+ℤ◌, ◌-ℤ◌, ◌≤ℤ◌, ◌<ℤ◌, ◌⊎◌, inl, inr, arith}
 use Rattle.std.proofs.lemmas.Bool.{cases_order}
 use Rattle.std.proofs.lemmas.Int.{by_lt_z, ints}
 use Rattle.std.specs.declared.cmp.Ordering.{Ordering}
@@ -33,7 +33,8 @@ pub record GoesOn (h : Hold) (m e : ℕ) : Type 0 where
   pub way : Ordering
   pub along : (x : ℕ) → m + x ≤ e → held h (m + x) ≡ moved way (held h m) x
 
-pub goes_on : (h : Hold) (m e : ℕ) → h.from ≤ h.until → IsOutside m e h.from → IsOutside m e h.until → GoesOn h m e
+pub goes_on : (h : Hold) (m e : ℕ) → h.from ≤ h.until → IsOutside m e h.from → IsOutside m e h.until
+    → GoesOn h m e
 goes_on h m e order (inr before) until =
     record { way = Greater; along = λ x low. omega (arith, ints) }
 goes_on h m e order (inl begun) (inr going) =

@@ -1,5 +1,5 @@
--- public: where the cranes of a feasible schedule stand at each moment, whichever way they go, and what makes that
--- safe. Moments, parts d of a tick, places and floors are those of the motion of one-way schedules.
+-- public: where the cranes of a feasible schedule stand at each moment, whichever way they go, and what makes
+-- that safe. Moments, parts d of a tick, places and floors are those of the motion of one-way schedules.
 use Rattle.std.specs.Prelude.{◌≡◌, ℕ, ◌+◌, ◌-◌, ◌*◌, ◌<◌, ◌≤◌, max, ℤ, pos, ◌+ℤ◌, ◌-ℤ◌, ◌≤ℤ◌, List, length}
 use Rattle.qc_model.specs.declared.schedule.Slot.{Slot}
 use Rattle.qc_model.specs.Instance.{InstanceView, bay_of, crane}

@@ -36,12 +36,13 @@ abbrev pub free_lines : List Crane → List (List HalfPoint) → List ℕ
 free_lines cranes tracks = flat_map (λ line. free_line line.0.name line.1) (zip cranes tracks)
 
 -- the tracks are those of the first cranes, in order
-pub record AreFreeTracks (inst : InstanceView) (sched : List Slot) (tracks : List (List HalfPoint)) : Type 0 where
-  pub few : length tracks ≤ length inst.cranes
-  pub each : (k : ℕ) → k < length tracks → AreHalfPoints inst sched k (slice_index_or tracks k [])
+pub record AreFreeTracks (inst : InstanceView) (sched : List Slot) (tracks : List (List HalfPoint)) : Type 0
+  where
+    pub few : length tracks ≤ length inst.cranes
+    pub each : (k : ℕ) → k < length tracks → AreHalfPoints inst sched k (slice_index_or tracks k [])
 
--- what a call says that writes the crane lines: those of all cranes where it comes through, and else of the first
--- ones, the last of them cut
+-- what a call says that writes the crane lines: those of all cranes where it comes through, and else of the
+-- first ones, the last of them cut
 pub record WritesFreeTracks (before after : View) (inst : InstanceView) (sched : List Slot)
     (result : Result ⊤ WriteFault) : Type 0 where
   pub tracks : List (List HalfPoint)

@@ -22,7 +22,8 @@ IsNamed inst sched k m =
     (m ≡ 0) ⊎ ((m ≡ 2 * ends inst sched) ⊎ ((0 < m) × (m < 2 * ends inst sched) × IsHalfTurn inst sched k m))
 
 -- these are the points of crane k, in order
-pub record AreHalfPoints (inst : InstanceView) (sched : List Slot) (k : ℕ) (points : List HalfPoint) : Type 0 where
+pub record AreHalfPoints (inst : InstanceView) (sched : List Slot) (k : ℕ)
+    (points : List HalfPoint) : Type 0 where
   pub rising : AllPairs (λ (u : HalfPoint) (v : HalfPoint). u.at < v.at) points
   pub ticks : (m : ℕ) → Contains (map (λ (w : HalfPoint). w.at) points) m ↔ IsNamed inst sched k m
   pub places : All (λ (w : HalfPoint). IsFreePlace inst sched k w.at 2 w.place) points

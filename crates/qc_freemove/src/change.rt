@@ -25,8 +25,8 @@ fn gain(crane: Step, other: Step) -> i64
     (other.ahead - other.here) - (crane.ahead - crane.here)
 }
 
-/// The half tick up to which what now lies no higher than the crane, and goes on as it goes, doesn't come past it;
-/// at most `end`.
+/// The half tick up to which what now lies no higher than the crane, and goes on as it goes, doesn't come past
+/// it; at most `end`.
 fn passing(crane: Step, other: Step, at: u64, end: u64) -> u64
     requires at { at < end }
     requires end { end ≤ 2 * most_end }

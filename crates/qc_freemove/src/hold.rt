@@ -3,8 +3,8 @@
 ghost use Rattle.std.specs.Prelude.{◌≡◌, ◌≤◌};
 ghost use Rattle.qc_freemove.specs.FreeSweep.{IsHeldPlace, IsNearHold, held, last_half};
 
-/// Where a task or a berth has a crane, and from which half tick to which. Before and after it lets the crane go
-/// as fast as it can.
+/// Where a task or a berth has a crane, and from which half tick to which. Before and after it lets the crane
+/// go as fast as it can.
 #[derive(Clone, Copy)]
 pub(crate) struct Hold {
     /// Twice the bay times the ticks of travel per bay.

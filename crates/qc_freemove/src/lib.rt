@@ -1,5 +1,5 @@
-//! Where the cranes of a feasible schedule stand, whichever way they go: waypoints in half ticks, since a crane that
-//! goes down may meet one that comes up in the middle of a tick.
+//! Where the cranes of a feasible schedule stand, whichever way they go: waypoints in half ticks, since a crane
+//! may turn in the middle of a tick, on its way down from one task and up to the next.
 #![tactic(auto)]
 
 mod change;

@@ -83,8 +83,9 @@ fn put_line<K: Sink>(name: &Name, points: &[HalfPoint], sink: &mut K) -> Result<
 }
 
 /// Writes for each crane in order the line `crane NAME` with its points, each as a space, the tick, `:` and the
-/// place in bays times `travel`: a whole number, or one and `.5`. It takes no memory: the track, made for as many
-/// tasks, is written over by each crane. After `WriteFault` a part of these lines was written, from their front.
+/// place in bays times `travel`: a whole number, or one and `.5`. It takes no memory: the track, made for as
+/// many tasks, is written over by each crane. After `WriteFault` a part of these lines was written, from their
+/// front.
 pub fn write_free_tracks<K: Sink>(
     inst: &Instance,
     sched: &Schedule,

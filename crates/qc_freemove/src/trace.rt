@@ -33,9 +33,9 @@ impl Sweep<'_> {
     }
 }
 
-/// The points of a crane in a feasible schedule: where it stands at moment 0, at the end of the schedule, and at
-/// each half tick between at which it starts, stops or turns. They take no memory. The motion is safe: all cranes
-/// keep their order and the margin at every moment.
+/// The points of a crane in a feasible schedule: where it stands at moment 0, at the end of the schedule, and
+/// at each half tick between at which it starts, stops or turns. They take no memory. The motion is safe: all
+/// cranes keep their order and the margin at every moment.
 pub fn free_waypoints(inst: &Instance, sched: &Schedule, crane: u16, track: &mut FreeTrack)
     requires judgeable { IsJudgeable inst.now sched.now }
     requires feasible { Feasible inst.now sched.now }

@@ -1,11 +1,11 @@
-use Rattle.std.proofs.Common.{◌≡◌, ℕ, ◌<◌, ◌≤◌, ◌+◌, ◌*◌, List, [], ◌∷◌, ◌++◌, length, refl, sym, ap, ap₂, subst, ◌∙◌, arith}
+use Rattle.std.proofs.Common.{◌≡◌, ℕ, ◌+◌, ◌*◌, List, [], ◌∷◌, ◌++◌, length, sym, ap, ap₂, subst, ◌∙◌, arith}
 use Rattle.std.proofs.lemmas.Bool.{false≢true}
 use Rattle.std.proofs.lemmas.List.{length-append}
 use Rattle.qc_model.specs.declared.schedule.Slot.{Slot}
 use Rattle.qc_model.specs.Instance.{InstanceView}
 use Rattle.qc_model.specs.Rules.{ends}
 use Rattle.qc_freemove.specs.declared.track.HalfPoint.{HalfPoint}
-use Rattle.qc_freemove.specs.FreeSweep.{FreeSwept, IsKept, hold_count}
+use Rattle.qc_freemove.specs.FreeSweep.{FreeSwept, IsKept}
 use Rattle.qc_freemove.specs.FreeTracks.{FreeTrackView}
 use Rattle.qc_freemove.specs.HalfPoints.{AreHalfPoints}
 use Rattle.qc_freemove.proofs.FreeSafe.{free_safe}

@@ -1,4 +1,4 @@
-use Rattle.std.proofs.Common.{ap, subst, arith}
+use Rattle.std.proofs.Common.{subst}
 use Rattle.qc_freemove.specs.FreeSweep.{IsFreeSound}
 use Rattle.qc_freemove.proofs.sweep.Sweep.holds.Goals as goal
 
