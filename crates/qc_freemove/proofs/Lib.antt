@@ -13,3 +13,4 @@ pub mod Traced
 pub mod LineLemmas
 pub mod SweepLemmas
 pub mod SteadyLemmas
+pub mod HalfTicks
