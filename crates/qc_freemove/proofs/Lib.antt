@@ -1,0 +1,16 @@
+pub mod FreeLevels
+pub mod Highest
+pub mod FreeTerms
+pub mod FreeSafe
+pub mod Extrema
+pub mod FloorLemmas
+pub mod Tops
+pub mod Ways
+pub mod Even
+pub mod SweptHolds
+pub mod Left
+pub mod Traced
+pub mod LineLemmas
+pub mod SweepLemmas
+pub mod SteadyLemmas
+pub mod HalfTicks

@@ -1,0 +1,17 @@
+use Rattle.std.proofs.Common.{◌++◌, codes}
+use Rattle.std.specs.List.{flat_map}
+use Rattle.qc_io.proofs.WritesLemmas.{writes_cut, writes_then}
+use Rattle.qc_freemove.specs.FreeTracksText.{point_text}
+use Rattle.qc_freemove.proofs.lines.put_line.Goals as goal
+
+pub returns : goal.returns
+returns g c =
+    writes_then (g.K.Sink.view c.args.sink.now) (g.K.Sink.view c.put_head.new.sink) (g.K.Sink.view c.put_tail.new.sink)
+    (codes "crane " ++ c.args.name.now) (flat_map point_text c.args.points.now ++ codes "\n") c.put_tail.result
+    c.in_ok-put_head.ensures c.put_tail.ensures
+
+pub returns-in_err-put_head : goal.returns-in_err-put_head
+returns-in_err-put_head g c =
+    writes_cut (g.K.Sink.view c.args.sink.now) (g.K.Sink.view c.put_head.new.sink)
+    (codes "crane " ++ c.args.name.now) (flat_map point_text c.args.points.now ++ codes "\n") _ c.from_residual.result
+    c.from_residual.ensures.0 c.in_err-put_head.ensures

@@ -1,0 +1,10 @@
+use Rattle.std.proofs.Common.{take, Ok}
+use Rattle.std.specs.List.{flat_map}
+use Rattle.qc_io.specs.Writes.{Writes}
+use Rattle.qc_freemove.specs.FreeTracksText.{point_text}
+use Rattle.qc_freemove.proofs.lines.put_points.Given as goal
+
+abbrev pub invariant-loop-point : goal.invariant-loop-point
+invariant-loop-point g l =
+    Writes (g.K.Sink.view l.initial.sink) (g.K.Sink.view l.sink)
+    (flat_map point_text (take l.point-index l.points)) (Ok tt)

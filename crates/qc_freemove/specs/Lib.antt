@@ -1,0 +1,6 @@
+pub mod FreeMotion
+pub mod HalfPoints
+pub mod FreeTracks
+pub mod FreeRoom
+pub mod FreeSweep
+pub mod FreeTracksText
