@@ -1,4 +1,5 @@
 pub mod Calls
+pub mod DispatchCalls
 pub mod OfFiles
 pub mod Passes
 pub mod StartsCalls

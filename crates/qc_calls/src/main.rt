@@ -1,13 +1,16 @@
 //! Runs tables of inner calls and prints one line a row: whether it answers as it must.
 //!
-//! `calls.rt` has calls on decisions and on the mirror, `starts.rt` calls on least starts, and `closed.rt`
-//! calls on the leaves that close nodes.
+//! `calls.rt` has calls on decisions and on the mirror, `starts.rt` calls on least starts, `closed.rt`
+//! calls on the leaves that close nodes, and `courses.rt` calls of a dispatcher.
 //! A line is `ok NAME` or `FAILED NAME: ` with what is otherwise; the status is 1 where a row failed.
 #![tactic(auto)]
 
 mod answers;
 mod calls;
 mod closed;
+mod course_answers;
+mod course_run;
+mod courses;
 mod files;
 mod instance;
 mod row;
@@ -21,7 +24,9 @@ mod verdict;
 use anyhow::Result;
 use calls::CALLS;
 use closed::CLOSED;
-use row::{CallRow, StartsRow};
+use course_run::verdict_on_course;
+use courses::COURSES;
+use row::{CallRow, DispatchRow, StartsRow};
 use run::verdict_on_calls;
 use starts::STARTS;
 use starts_run::verdict_on_starts;
@@ -54,11 +59,22 @@ fn run_starts<R: Print + AllocGlobal>(rt: &R, rows: &[StartsRow]) -> Result<bool
     Ok(all_held)
 }
 
+// Prints a line for each row of calls of a dispatcher; whether all held.
+fn run_courses<R: Print + AllocGlobal>(rt: &R, rows: &[DispatchRow]) -> Result<bool> {
+    let mut all_held = !rows.is_empty();
+    for row in rows {
+        let verdict = verdict_on_course(rt.alloc(), row)?;
+        all_held = show(rt, row.name, &verdict)? && all_held;
+    }
+    Ok(all_held)
+}
+
 fn main(rt: HostRuntime) -> Result<ExitCode> {
     let calls_hold = run_calls(&rt, CALLS)?;
     let starts_hold = run_starts(&rt, STARTS)?;
     let closed_hold = run_starts(&rt, CLOSED)?;
-    if calls_hold && starts_hold && closed_hold {
+    let courses_hold = run_courses(&rt, COURSES)?;
+    if calls_hold && starts_hold && closed_hold && courses_hold {
         Ok(ExitCode::SUCCESS)
     } else {
         Ok(ExitCode::FAILURE)

@@ -2,6 +2,7 @@
 
 use qc_arena::Edge;
 use qc_bounds::LeafKind;
+use qc_dispatch::Grant;
 use qc_model::Decision;
 use qc_num::{Bay, Bound, Tick};
 use qc_starts::Step;
@@ -88,4 +89,34 @@ pub enum StartsCall {
     /// The bound at which the node may be closed, and the leaf.
     Close(Bound, Option<LeafKind>),
     Spent(LeafKind),
+}
+
+/// Calls of a dispatcher, one after the other.
+#[derive(Clone, Copy, Debug)]
+pub struct DispatchRow {
+    /// What the row shows.
+    pub name: &'static str,
+    /// The ship file.
+    pub ship: &'static str,
+    /// The stowage list.
+    pub list: &'static str,
+    /// The plan file; the plan goes upward.
+    pub plan: &'static str,
+    /// The first call finds the dispatcher as it is opened.
+    pub calls: &'static [DispatchCall],
+}
+
+/// A call of a dispatcher, with what it must answer as the last part.
+#[derive(Clone, Copy, Debug)]
+pub enum DispatchCall {
+    /// Goes on to the next start, until this tick at the most.
+    Advance(Tick, Option<Grant>),
+    /// The task is done; it ran.
+    Done(u16),
+    /// The task is reported to be done, and doesn't run.
+    Refused(u16),
+    StartOf(u16, Option<Tick>),
+    EndOf(u16, Option<Tick>),
+    /// The tick that it is, how many tasks have no start, and how many run.
+    Stands(Tick, u16, u16),
 }

@@ -1,6 +1,5 @@
 -- What comes of a log, one event and one line more.
-use Rattle.std.proofs.Common.{◌≡◌, ◌≢◌, ℕ, ◌+◌, ◌*◌, ◌<◌, ◌≤◌, ◌⊎◌, inl, inr, ◌++◌, true, false, List, [], ◌∷◌, length, map, slice_set, refl, ap, sym, subst, ◌∙◌, Result, Ok, append_assoc, arith}
-use Rattle.std.specs.List.{count_by, sum_by}
+use Rattle.std.proofs.Common.{◌≡◌, ℕ, ◌+◌, ◌*◌, ◌<◌, ◌≤◌, inl, inr, ◌++◌, List, [], ◌∷◌, length, map, slice_set, ap, sym, subst, ◌∙◌, Ok, append_assoc, arith}
 use Rattle.std.proofs.lemmas.List.{append-nil, length-set}
 use Rattle.std.proofs.lemmas.List.Sums.{sum_by-set}
 use Rattle.qc_dispatch.specs.declared.event.Event.{Event}
@@ -11,7 +10,7 @@ use Rattle.qc_dispatch.specs.declared.report.Report.{Report}
 use Rattle.qc_dispatch.specs.declared.report.Report.TheVariants.{Passed, Done}
 use Rattle.qc_dispatch.specs.declared.stage.Stage.{Stage}
 use Rattle.qc_dispatch.specs.declared.stage.Stage.TheVariants.{Waiting, Running}
-use Rattle.qc_dispatch.specs.Course.{Course, IsGranted, IsPassed, IsQuiet, is_waiting, left, stage_of}
+use Rattle.qc_dispatch.specs.Course.{Course, IsGranted, IsPassed, IsQuiet, is_waiting, left}
 use Rattle.qc_dispatch.specs.Events.{started_event}
 use Rattle.qc_dispatch.specs.Following.{IsIdle, most_passed}
 use Rattle.qc_dispatch.specs.Journal.{HasFault, HasFirstFault, Journal, TakesAll, TakesLine, WentOn}

@@ -1,5 +1,5 @@
 -- A log is followed in one way only: where all lines are followed none has a fault.
-use Rattle.std.proofs.Common.{◌≡◌, ◌≢◌, ℕ, ◌+◌, ◌<◌, ◌≤◌, ◌⊎◌, inl, inr, ◌++◌, List, [], ◌∷◌, map, slice_set, Result, Ok, Err, refl, ap, sym, subst, ◌∙◌, arith}
+use Rattle.std.proofs.Common.{◌≡◌, ℕ, ◌+◌, inl, inr, ◌++◌, List, [], ◌∷◌, map, slice_set, Result, Ok, Err, refl, ap, sym, subst, ◌∙◌, arith}
 use Rattle.std.proofs.lemmas.Bool.{cases_order}
 use Rattle.qc_dispatch.specs.declared.event.Event.{Event}
 use Rattle.qc_dispatch.specs.declared.fault.DispatchFault.{DispatchFault}
@@ -8,9 +8,8 @@ use Rattle.qc_dispatch.specs.declared.fault.DispatchKind.TheVariants as kind
 use Rattle.qc_dispatch.specs.declared.grant.Grant.{Grant}
 use Rattle.qc_dispatch.specs.declared.report.Report.{Report}
 use Rattle.qc_dispatch.specs.declared.report.Report.TheVariants.{Passed, Done}
-use Rattle.qc_dispatch.specs.declared.stage.Stage.{Stage}
 use Rattle.qc_dispatch.specs.declared.stage.Stage.TheVariants.{Running, Ended}
-use Rattle.qc_dispatch.specs.Course.{Course, IsEnded, IsGranted, MayStart, stage_of, started}
+use Rattle.qc_dispatch.specs.Course.{Course, IsEnded, IsGranted, MayStart, started}
 use Rattle.qc_dispatch.specs.Events.{finished_event, started_event}
 use Rattle.qc_dispatch.specs.Journal.{Follows, Goes, HasFault, HasFirstFault, IsFaulty, IsFollowed, Journal, TakesAll, TakesLine, TookEnd, WentOn, blank}
 use Rattle.qc_log.specs.Lines.{lines_of}

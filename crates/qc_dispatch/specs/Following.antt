@@ -1,5 +1,5 @@
 -- public: what a log that is followed comes to.
-use Rattle.std.specs.Prelude.{◌≡◌, ◌≢◌, ℕ, ◌+◌, ◌*◌, ◌<◌, ◌≤◌, List, length, Result, Ok, Err, ⊤}
+use Rattle.std.specs.Prelude.{◌≡◌, ◌≢◌, ℕ, ◌+◌, ◌<◌, ◌≤◌, List, length, Result, Ok, Err, ⊤}
 use Rattle.qc_dispatch.specs.declared.fault.DispatchFault.{DispatchFault}
 use Rattle.qc_dispatch.specs.declared.follow.Followed.{Followed}
 use Rattle.qc_dispatch.specs.declared.follow.Refused.{Refused}
@@ -9,7 +9,6 @@ use Rattle.qc_dispatch.specs.declared.report.Report.TheVariants.{Passed, Done}
 use Rattle.qc_dispatch.specs.declared.stage.Stage.TheVariants.{Running}
 use Rattle.qc_dispatch.specs.Course.{stage_of}
 use Rattle.qc_dispatch.specs.Journal.{Follows, HasFault, HasFirstFault, IsFaulty, IsFollowed, Journal, TakesAll, TakesLine}
-use Rattle.qc_dispatch.specs.Log.{most_lines}
 use Rattle.qc_model.specs.declared.schedule.Slot.{Slot}
 use Rattle.qc_model.specs.Instance.{InstanceView}
 use Rattle.qc_num.specs.declared.read_error.ReadError.{ReadError}

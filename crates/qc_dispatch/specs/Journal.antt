@@ -1,5 +1,5 @@
 -- public: what comes of the lines of a log, one after the other.
-use Rattle.std.specs.Prelude.{◌≡◌, ◌≢◌, ℕ, ◌+◌, ◌<◌, ◌≤◌, ◌⊎◌, List, [], ◌∷◌, ◌++◌, map, Result, Ok, Err}
+use Rattle.std.specs.Prelude.{◌≡◌, ◌≢◌, ℕ, ◌+◌, ◌<◌, ◌≤◌, ◌⊎◌, List, [], ◌∷◌, ◌++◌, map, Ok, Err}
 use Rattle.qc_dispatch.specs.declared.event.Event.{Event}
 use Rattle.qc_dispatch.specs.declared.fault.DispatchFault.{DispatchFault}
 use Rattle.qc_dispatch.specs.declared.fault.DispatchKind.{DispatchKind}

@@ -1,5 +1,5 @@
 -- What a search leaves in its files, from what the shelf's calls say.
-use Rattle.std.proofs.Common.{◌≡◌, ℕ, true, false, List, Option, None, Some, Result, Ok, Err, ◌⊎◌, ap, ◌∙◌, inl, inr, refl, subst, arith, IfSome, IsSomeAnd, OnErr, OnOk, is_err}
+use Rattle.std.proofs.Common.{◌≡◌, ℕ, true, false, List, Option, None, Some, Result, Ok, Err, ◌⊎◌, ap, ◌∙◌, inl, inr, refl, subst, IfSome, IsSomeAnd, OnErr, OnOk, is_err}
 use Rattle.std.specs.Io.KnownBytes.{append_known}
 use Rattle.qc_io.specs.Outside.{Beside, Files, Rose, View, begun, beside, finished, with_file}
 use Rattle.qc_model.specs.declared.schedule.Slot.{Slot}
