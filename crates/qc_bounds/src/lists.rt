@@ -154,10 +154,10 @@ impl Window {
     pub(crate) fn leave(&mut self, crew: &Crew, outer: Outer, first: u16)
         requires { first < length crew.now.inst.tasks }
     {
-        self.ticks = self
-            .ticks
-            .saturating_sub(crew.instance().task(first).ticks);
-        self.lower = self.lower.saturating_add(ticks_on(crew, first, outer.lower));
+        self.ticks = self.ticks.saturating_sub(crew.instance().task(first).ticks);
+        self.lower = self
+            .lower
+            .saturating_add(ticks_on(crew, first, outer.lower));
     }
 
     /// The list of its tasks and of those of the outer cranes beside it, and the list of its tasks

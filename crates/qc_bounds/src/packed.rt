@@ -75,13 +75,7 @@ struct Wanted {
 }
 
 /// Tries a list: the end that it shows, where that is wanted.
-fn try_list(
-    node: &Starts,
-    crew: &Crew,
-    list: List,
-    wanted: Wanted,
-    path: &mut Path,
-) -> Option<Tick>
+fn try_list(node: &Starts, crew: &Crew, list: List, wanted: Wanted, path: &mut Path) -> Option<Tick>
     requires crew { IsCrewOf crew.now node.now.inst node.now.decisions }
     requires room { HasRoom (length node.now.inst.tasks) path.old }
     requires count { length path.old.items ≤ length node.now.inst.tasks }

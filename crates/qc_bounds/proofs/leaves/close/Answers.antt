@@ -4,7 +4,6 @@ use Rattle.qc_num.specs.Bounds.{IsAtMost}
 use Rattle.qc_num.specs.declared.bound.Bound.TheVariants.{Least}
 use Rattle.qc_model.specs.Nodes.{IsComplete}
 use Rattle.qc_bounds.proofs.ClosedLemmas.{chain_closes, never_closable}
-use Rattle.qc_bounds.proofs.PackedLemmas.{clash_leaf}
 use Rattle.qc_bounds.proofs.leaves.close.Goals as goal
 use Rattle.qc_bounds.proofs.leaves.close.Goals.{then-is_late-via-then-is_late, then-is_late-via-else-is_late+then-complete}
 
