@@ -1,7 +1,7 @@
 -- What a crew keeps as tasks get and lose their cranes, and what it answers of closed ends.
 use Rattle.std.proofs.Common.{◌≡◌, ℕ, ◌+◌, ◌-◌, ◌*◌, ◌<◌, ◌≤◌, inl, inr, Bool, true, false, ◌||◌, leb, List, length, get_or, set, map, is_none, is_some, Option, None, Some, max, min, ℤ, pos, negsuc, ◌≤ℤ◌, of_z, to_z, w32, refl, ap, sym, subst, ◌∙◌, arith}
 use Rattle.std.proofs.Math.IntN.{nat_abs}
-use Rattle.std.proofs.lemmas.Bool.{cases_eq, false≢true, le-leb, lt-leb, or_left}
+use Rattle.std.proofs.lemmas.Bool.{cases_eq, false≢true, le-leb, lt-leb, or_cases, or_left, or_right}
 use Rattle.std.proofs.lemmas.Int.{ints}
 use Rattle.std.proofs.lemmas.List.{get_or_read}
 use Rattle.qc_model.specs.declared.limits.TheConstants.{MOST_TASKS, MOST_WORK}
@@ -103,6 +103,17 @@ falls inst valid turn cranes n m le =
     short_sooner inst.travel (map (frame inst turn cranes) (crane_numbers inst)) (left_bays inst cranes) (work_at inst cranes)
     (last_before (grain inst) n) (last_before (grain inst) m)
     (last_rises (grain inst) n m (grain_is inst (travel_range inst valid).0).some le)
+
+-- an assignment that is closed at an end is so at each earlier one
+pub closed_falls : (inst : InstanceView) (turn : Turn) (cranes : List (Option ℕ)) (n m : ℕ) → Valid inst → n ≤ m
+    → is_closed inst turn cranes m ≡ true → is_closed inst turn cranes n ≡ true
+closed_falls inst turn cranes n m valid le closed =
+    let bare = λ (end : ℕ). is_short_before inst turn (no_cranes inst) end in
+    let own = λ (end : ℕ). is_short_before inst turn cranes end in
+    elim (or_cases (bare m) (own m) closed) [
+      | inl short ↦ or_left (bare n) (own n) (falls inst valid turn (no_cranes inst) n m le short)
+      | inr short ↦ or_right (bare n) (own n) (falls inst valid turn cranes n m le short)
+    ]
 
 module _ (f : Inside) (k : IsKept f) where
   abbrev bare : ℕ → Bool

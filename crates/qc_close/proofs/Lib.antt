@@ -16,4 +16,4 @@ mod WalkLemmas
 mod ShortLemmas
 mod OwnLemmas
 mod CrewLemmas
-mod KeptLemmas
+pub mod KeptLemmas

@@ -19,6 +19,12 @@ fn closed_ends_are_bounds()
         → is_closed inst turn cranes end ≡ true → IsClosedBound inst turn cranes end }
 {}
 
+/// An assignment that is closed at an end is so at each earlier one.
+fn closed_ends_go_down()
+    ensures { (inst : InstanceView) (turn : Turn) (cranes : List (Option ℕ)) (sooner end : ℕ) → Valid inst
+        → sooner ≤ end → is_closed inst turn cranes end ≡ true → is_closed inst turn cranes sooner ≡ true }
+{}
+
 /// No upward schedule that agrees with a node ends before its packed tasks allow, begun at the least of
 /// their heads, nor before an end at which the node's assignment is closed.
 fn nodes_end_no_earlier()
