@@ -1,4 +1,5 @@
-# Completion of qc for bash: its commands, the names of files, -q ahead of a command, and --nodes and --from of plan.
+# Completion of qc for bash: its commands as qc --help lists them, the names of files, -q ahead of a command, and
+# --nodes and --from of plan.
 
 _qc() {
     local word=${COMP_WORDS[COMP_CWORD]} before=${COMP_WORDS[COMP_CWORD - 1]}
@@ -6,7 +7,8 @@ _qc() {
     local first=1
     [ "${COMP_WORDS[1]}" != -q ] || [ "$COMP_CWORD" -eq 1 ] || first=2
     if [ "$COMP_CWORD" -eq "$first" ]; then
-        local words='plan check tasks show make sheet dispatch watch picture report --help --version'
+        local words
+        words=$(command qc --help 2>/dev/null | sed -n 's/^qc \([a-z]*\) [A-Z].*/\1/p')' --help --version'
         [ "$first" -eq 2 ] || words="$words -q"
         mapfile -t COMPREPLY < <(compgen -W "$words" -- "$word")
         return
