@@ -451,11 +451,11 @@ MISTAKES = [
          ['qc: stow.csv, line 3, record 3: "A1" is discharged in line 2 already; each container is discharged once'],
          base="first"),
     stow("a place twice", [("A2,D,020084,40", "A2,D,020082,40")], "BadStow CellTaken 3",
-         ['qc: stow.csv, line 3, record 3: "A2" is discharged at "020082", where "A1" of line 2 is discharged too, at '
-          '"020082"; each place is discharged once'], base="first"),
+         ['qc: stow.csv, line 3, record 3: "A2" at "020082" overlaps "A1" at "020082" of line 2; each place is discharged '
+          'once'], base="first"),
     stow("a 20-foot place below a 40-foot one", [("A2,D,020084,40", "A2,D,010082,20")], "BadStow CellTaken 3",
-         ['qc: stow.csv, line 3, record 3: "A2" is discharged at "010082", where "A1" of line 2 is discharged too, at '
-          '"020082"; each place is discharged once'], base="first"),
+         ['qc: stow.csv, line 3, record 3: "A2" at "010082" overlaps "A1" at "020082" of line 2; each place is discharged '
+          'once'], base="first"),
     stow("too many moves", HEADER + "\n" + "".join(move(n) for n in range(50001)), "BadStow TooMany 50002",
          ["qc: stow.csv, line 50002, record 50002: this is a move behind the 50000th, and a list has no more"]),
     # ---- the plan: its form and its records
@@ -611,6 +611,14 @@ MISTAKES = [
           ['qc: "pln" is no command; the nearest is plan']),
     usage("a file for the command", "ship.toml stow.csv",
           ['qc: "ship.toml" is no command; qc --help says what they are']),
+    usage("help on a command", "help plan",
+          ["qc: help stands without other words; qc plan --help tells what plan does"]),
+    usage("help on a word", "--help me", ["qc: --help stands without other words; qc COMMAND --help tells what one command does"]),
+    usage("help behind the files", PLAN + " --help",
+          ["qc: --help stands directly behind the command, without other words: qc plan --help"]),
+    usage("the version and a word", "--version x", ["qc: --version stands without other words: qc --version"]),
+    usage("the version of a command", "tasks -V", ["qc: -V stands without other words: qc -V"]),
+    usage("quiet behind the command", "tasks -q ship.toml stow.csv", ["qc: -q stands ahead of the command: qc -q tasks"]),
     usage("no TREE", "plan ship.toml stow.csv new.csv",
           ["qc: plan needs TREE too; the words are", "qc:     qc plan SHIP STOW PLAN TREE [--nodes N] [--from OWN]"]),
     usage("only SHIP", "tasks ship.toml", ["qc: tasks needs STOW too; the words are", "qc:     qc tasks SHIP STOW"]),

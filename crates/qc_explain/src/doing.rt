@@ -1,61 +1,141 @@
 //! A task as a plan has it done.
 
+use crate::place::Place;
 use crate::shown::{Word, text_of};
-use qc_model::{Instance, Schedule, TaskText};
+use crate::table::Table;
+use qc_model::{Crane, Instance, Schedule, Task};
 use qc_num::{Bay, Tick};
+use std::fmt;
+
+/// A task by its name.
+#[derive(Clone, Copy)]
+pub(crate) struct TaskName(pub(crate) Task);
+
+impl fmt::Display for TaskName {
+    fn fmt<W: fmt::Write>(&self, f: &mut fmt::Formatter<W>) -> fmt::Result {
+        let text = self.0.text();
+        f.write_str(text_of(text.as_bytes()))
+    }
+}
 
 /// A task as a plan has it done.
-#[derive(Drop)]
+#[derive(Clone, Copy)]
 pub(crate) struct Doing<'a> {
-    name: TaskText,
-    crane_name: &'a str,
+    task: Task,
     pub(crate) number: u16,
-    pub(crate) crane: u16,
-    pub(crate) bay: Bay,
+    pub(crate) crane: &'a Crane,
+    pub(crate) crane_number: u16,
     pub(crate) start: Tick,
-    pub(crate) ticks: Tick,
+    /// Where its record stands.
+    pub(crate) place: Place<'a>,
 }
 
 /// A task of a plan by its number, from 0.
-pub(crate) fn done_by<'a>(inst: &'a Instance, sched: &Schedule, number: u16) -> Option<Doing<'a>> {
-    let task = inst.tasks().get(number as usize)?;
+pub(crate) fn done_by<'a>(
+    inst: &'a Instance,
+    sched: &Schedule,
+    table: &Table<'a>,
+    number: u16,
+) -> Option<Doing<'a>> {
+    let task = *inst.tasks().get(number as usize)?;
     let slot = sched.slots().get(number as usize)?;
-    let crane = inst.cranes().get(slot.crane as usize)?;
     Some(Doing {
-        name: task.text(),
-        crane_name: text_of(crane.name.as_bytes()),
+        task,
         number,
-        crane: slot.crane,
-        bay: task.bay,
+        crane: inst.cranes().get(slot.crane as usize)?,
+        crane_number: slot.crane,
         start: slot.start,
-        ticks: task.ticks,
+        place: place_of(table, task),
     })
+}
+
+/// Where the record of a task stands.
+fn place_of<'a>(table: &Table<'a>, task: Task) -> Place<'a> {
+    match table.record_of(task.text().as_bytes()) {
+        Some(number) => table.place(number),
+        None => Place::whole(table.file),
+    }
 }
 
 impl<'a> Doing<'a> {
     /// The task's name.
-    pub(crate) fn name(&self) -> Word<'_> {
-        Word(text_of(self.name.as_bytes()))
+    pub(crate) fn name(&self) -> TaskName {
+        TaskName(self.task)
     }
 
-    /// The bytes of the task's name.
-    pub(crate) fn name_bytes(&self) -> &[u8] {
-        self.name.as_bytes()
-    }
-
-    /// The name of the crane that does it.
-    pub(crate) fn crane_name(&self) -> Word<'a> {
-        Word(self.crane_name)
+    /// The bay of the task.
+    pub(crate) fn bay(&self) -> Bay {
+        self.task.bay
     }
 
     /// When it ends.
     pub(crate) fn end(&self) -> Tick {
-        self.start.saturating_add(self.ticks)
+        self.start.saturating_add(self.task.ticks)
     }
 
-    /// When it ends that starts at a tick.
-    pub(crate) fn end_from(&self, start: Tick) -> Tick {
-        start.saturating_add(self.ticks)
+    /// The name of the crane that does it.
+    pub(crate) fn crane_name(&self) -> Word<'a> {
+        Word(text_of(self.crane.name.as_bytes()))
+    }
+
+    /// The task with its crane and its start.
+    pub(crate) fn from_start(&self) -> Worked<'a> {
+        Worked {
+            name: self.name(),
+            crane: self.crane_name(),
+            word: "from",
+            tick: self.start,
+        }
+    }
+
+    /// The task with its crane and its end.
+    pub(crate) fn to_end(&self) -> Worked<'a> {
+        Worked {
+            name: self.name(),
+            crane: self.crane_name(),
+            word: "to",
+            tick: self.end(),
+        }
+    }
+
+    /// That the task may start at a tick.
+    pub(crate) fn may_start(&self, start: Tick) -> MayStart {
+        MayStart {
+            name: self.name(),
+            start,
+            end: start.saturating_add(self.task.ticks),
+        }
+    }
+}
+
+/// A task with its crane and the tick from which or to which it is worked.
+#[derive(Clone, Copy)]
+pub(crate) struct Worked<'a> {
+    name: TaskName,
+    crane: Word<'a>,
+    word: &'static str,
+    tick: Tick,
+}
+
+impl fmt::Display for Worked<'_> {
+    fn fmt<W: fmt::Write>(&self, f: &mut fmt::Formatter<W>) -> fmt::Result {
+        let (name, crane, word, tick) = (self.name, self.crane, self.word, self.tick);
+        write!(f, "{name} ({crane}, {word} {tick})")
+    }
+}
+
+/// When a task may start, and when it ends then.
+#[derive(Clone, Copy)]
+pub(crate) struct MayStart {
+    name: TaskName,
+    start: Tick,
+    end: Tick,
+}
+
+impl fmt::Display for MayStart {
+    fn fmt<W: fmt::Write>(&self, f: &mut fmt::Formatter<W>) -> fmt::Result {
+        let (name, start, end) = (self.name, self.start, self.end);
+        write!(f, "{name} may start at {start}, and ends at {end} then")
     }
 }
 

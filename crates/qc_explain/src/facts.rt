@@ -58,6 +58,11 @@ impl<'a> Facts<'a> {
         self.elements(key).get((number as usize).checked_sub(1)?)
     }
 
+    /// An element of an array by its number, from 1, that is a whole number.
+    pub(crate) fn whole_element(&self, key: &str, number: u32) -> Option<i64> {
+        self.element(key, number)?.as_integer()
+    }
+
     /// A whole number at a key of the ship.
     pub(crate) fn number(&self, key: &str) -> Option<i64> {
         self.table.get(key)?.as_integer()

@@ -1,7 +1,8 @@
 //! Files that are of another kind than is wanted.
 
+use crate::bytes::has;
 use crate::page::Page;
-use crate::place::{Place, has};
+use crate::place::Place;
 use qc_num::OutOfMemory;
 
 /// What a text is, as far as its first line tells.
@@ -80,20 +81,23 @@ pub(crate) fn say_form(
     bytes: &[u8],
     wanted: Sort,
 ) -> Result<bool, OutOfMemory> {
-    let place = Place::whole(file);
     if let Some(what) = no_text(bytes) {
-        let wanted = wanted.text();
+        let (place, wanted) = (Place::whole(file), wanted.text());
         page.say(format_args!("{place}: {what}; {wanted} is wanted"))?;
         return Ok(true);
     }
     match sort_of(bytes) {
-        Some(sort) if sort != wanted => {
-            let (is, should, word) = (sort.text(), wanted.text(), wanted.word());
-            page.say(format_args!(
-                "{place}: this is {is}, and {should} is wanted here: SHIP, STOW, PLAN and TREE stand in this order, and this file was named as {word}"
-            ))?;
-            Ok(true)
-        }
+        Some(sort) if sort != wanted => say_sort(page, file, sort, wanted),
         _ => Ok(false),
     }
+}
+
+/// Says that a file is of another kind, and answers that something was wrong.
+fn say_sort(page: &mut Page, file: &str, sort: Sort, wanted: Sort) -> Result<bool, OutOfMemory> {
+    let (place, is) = (Place::whole(file), sort.text());
+    let (should, word) = (wanted.text(), wanted.word());
+    page.say(format_args!(
+        "{place}: this is {is}, and {should} is wanted here: SHIP, STOW, PLAN and TREE stand in this order, and this file was named as {word}"
+    ))?;
+    Ok(true)
 }

@@ -3,11 +3,13 @@
 #![tactic(auto)]
 
 mod broken;
+mod bytes;
 mod course;
 mod cranes;
 mod doing;
 mod facts;
 mod form;
+mod forms;
 mod keys;
 mod log;
 mod near;
@@ -18,6 +20,7 @@ mod place;
 mod plan;
 mod ship;
 mod shown;
+mod sorted;
 mod stow;
 mod table;
 mod texts;

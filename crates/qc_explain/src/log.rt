@@ -1,5 +1,6 @@
 //! Faults of a log of places.
 
+use crate::bytes::{are_digits, piece_at};
 use crate::cranes::say_no_crane;
 use crate::page::Page;
 use crate::place::{Place, line_of, raw_line};
@@ -47,20 +48,12 @@ pub(crate) fn say_log(
 
 /// A word of a line, from 0, where single spaces stand between words.
 pub(crate) fn word(line: &[u8], at: usize) -> &[u8] {
-    let mut number = 0usize;
-    for word in line.split(|byte| *byte == b' ') {
-        if number == at {
-            return word;
-        }
-        number = number.saturating_add(1);
-    }
-    &[]
+    piece_at(line, b' ', at).unwrap_or(&[])
 }
 
 /// Whether the line with a number is the last one, and no line feed ends it.
 pub(crate) fn is_open(bytes: &[u8], number: usize) -> bool {
-    let lines = bytes.split(|byte| *byte == b'\n').count();
-    number == lines && bytes.last() != Some(&b'\n')
+    bytes.last() != Some(&b'\n') && piece_at(bytes, b'\n', number).is_none()
 }
 
 /// Why a line is none of a log.
@@ -82,7 +75,7 @@ fn why_no_line(line: &[u8]) -> &'static str {
         "times are counted in ticks, and not by a clock"
     } else if places.contains(&b'.') || word(line, 0).contains(&b'.') {
         "times and places are whole numbers"
-    } else if !word(line, 0).iter().all(|byte| byte.is_ascii_digit()) {
+    } else if !are_digits(word(line, 0)) {
         "the time stands first, then the crane and its place"
     } else {
         "it isn't a time, a crane's name and a place"
@@ -101,25 +94,27 @@ fn say_line(page: &mut Page, place: Place<'_>, bytes: &[u8]) -> Result<(), OutOf
     page.say(format_args!("{place}: {shown}: {why}; a line is TIME NAME PLACE, as 10 C1 5"))
 }
 
+/// The last line ahead of this one that has the name as its second word; 0 where there is none.
+fn last_before(bytes: &[u8], number: usize, name: &[u8]) -> usize {
+    let (mut at, mut last) = (0usize, 0usize);
+    for line in bytes.split(|byte| *byte == b'\n') {
+        at = at.saturating_add(1);
+        if at >= number {
+            break;
+        }
+        if word(line, 1) == name {
+            last = at;
+        }
+    }
+    last
+}
+
 /// Says which earlier line of the crane has a time that isn't lower.
 fn say_time(page: &mut Page, place: Place<'_>, bytes: &[u8]) -> Result<(), OutOfMemory> {
     let line = line_of(bytes, place.line);
-    let (time, name) = (word(line, 0), word(line, 1));
-    let mut at = 0usize;
-    let mut last = None;
-    for other in bytes.split(|byte| *byte == b'\n') {
-        at = at.saturating_add(1);
-        if at == place.line {
-            break;
-        }
-        if word(other, 1) == name {
-            last = Some((at, word(other, 0)));
-        }
-    }
-    let Some((earlier, before)) = last else {
-        return Ok(());
-    };
-    let (time, name, before) = (Shown(time), Shown(name), Shown(before));
+    let earlier = last_before(bytes, place.line, word(line, 1));
+    let before = Shown(word(line_of(bytes, earlier), 0));
+    let (time, name) = (Shown(word(line, 0)), Shown(word(line, 1)));
     page.say(format_args!(
         "{place}: the time of {name} is {time}, and in line {earlier} it was {before} already; the lines of each crane stand in order of time"
     ))

@@ -1,7 +1,8 @@
 //! Ship files that are no text in TOML.
 
+use crate::bytes::{are_digits_or, has, has_letter, piece_at};
 use crate::page::Page;
-use crate::place::{Place, has, line_at, line_of};
+use crate::place::{Place, line_at, line_of};
 use crate::shown::Shown;
 use qc_num::OutOfMemory;
 use toml::table_from_str;
@@ -18,28 +19,21 @@ fn say_no_utf8(page: &mut Page, file: &str, bytes: &[u8], front: usize) -> Resul
 
 /// The line without its comment.
 fn without_comment(line: &[u8]) -> &[u8] {
-    match line.iter().position(|byte| *byte == b'#') {
-        Some(at) => line.get(..at).unwrap_or(line).trim_ascii(),
-        None => line.trim_ascii(),
-    }
+    piece_at(line, b'#', 0).unwrap_or(line).trim_ascii()
 }
 
 /// What stands ahead of the first equals sign of a line, and behind it.
 fn around_equals(line: &[u8]) -> Option<(&[u8], &[u8])> {
-    let at = line.iter().position(|byte| *byte == b'=')?;
-    let value = line.get(at.saturating_add(1)..).unwrap_or(&[]);
-    Some((line.get(..at)?.trim_ascii(), value.trim_ascii()))
+    let key = piece_at(line, b'=', 0)?;
+    let value = line.get(key.len().saturating_add(1)..)?;
+    Some((key.trim_ascii(), value.trim_ascii()))
 }
 
 /// Whether a value is digits and such signs, with a digit first and at least one sign.
 fn is_number_with(value: &[u8], sign: u8) -> bool {
     match value.first() {
         Some(first) => {
-            first.is_ascii_digit()
-                && value.contains(&sign)
-                && value
-                    .iter()
-                    .all(|byte| byte.is_ascii_digit() || *byte == sign)
+            first.is_ascii_digit() && value.contains(&sign) && are_digits_or(value, sign)
         }
         None => false,
     }
@@ -61,7 +55,7 @@ fn hint_on_value(value: &[u8]) -> Option<&'static str> {
         Some("a text ends with the quotes with which it begins")
     } else if value.starts_with(b"[") {
         Some("a bracket isn't closed, or a comma is missing")
-    } else if value.iter().any(|byte| byte.is_ascii_alphabetic()) {
+    } else if has_letter(value) {
         Some("a text stands between double quotes, and a number has no unit")
     } else {
         None

@@ -6,6 +6,8 @@ use crate::near::nearest;
 use crate::page::Page;
 use crate::shown::{Bays, Shown, ordinal};
 use qc_num::OutOfMemory;
+use std::alloc::Global;
+use std::fmt;
 use toml::{Table, Value};
 
 /// How many keys that aren't read are told.
@@ -45,22 +47,47 @@ fn say_ship_keys(page: &mut Page, facts: &Facts<'_>) -> Result<(), OutOfMemory> 
     Ok(())
 }
 
+/// What may be meant by a key that isn't read.
+#[derive(Clone, Copy)]
+enum Meant<'a> {
+    Nothing,
+    /// A key of the ship below a crane.
+    OfShip,
+    /// A key of a crane above the first.
+    OfCrane,
+    Near(&'a str),
+}
+
+impl fmt::Display for Meant<'_> {
+    fn fmt<W: fmt::Write>(&self, f: &mut fmt::Formatter<W>) -> fmt::Result {
+        match *self {
+            Meant::Nothing => Ok(()),
+            Meant::OfShip => f.write_str("; keys of the ship stand above the first [[crane]]"),
+            Meant::OfCrane => f.write_str("; keys of a crane stand below its line [[crane]]"),
+            Meant::Near(key) => write!(f, "; the nearest is {key}"),
+        }
+    }
+}
+
+/// The nearest of some keys.
+fn near_key<'a>(alloc: Global, key: &str, keys: &[&'a str]) -> Result<Meant<'a>, OutOfMemory> {
+    match nearest(alloc, key, keys)? {
+        Some(near) => Ok(Meant::Near(near)),
+        None => Ok(Meant::Nothing),
+    }
+}
+
 /// Says that a key of the ship isn't read.
 fn say_ship_key(page: &mut Page, facts: &Facts<'_>, key: &str) -> Result<(), OutOfMemory> {
+    let meant = if CRANE_KEYS.contains(&key) {
+        Meant::OfCrane
+    } else {
+        near_key(page.alloc(), key, &SHIP_KEYS)?
+    };
     let (place, shown) = (facts.place(0, key), Shown(key.as_bytes()));
-    if CRANE_KEYS.contains(&key) {
-        return page.say(format_args!(
-            "note: {place}: the key {shown} is no key of the ship and isn't read; keys of a crane stand below its line [[crane]]"
-        ));
-    }
-    match nearest(page.alloc(), key, &SHIP_KEYS)? {
-        Some(near) => page.say(format_args!(
-            "note: {place}: the key {shown} is no key of the ship and isn't read; the nearest is {near}"
-        )),
-        None => page.say(format_args!(
-            "note: {place}: the key {shown} is no key of the ship and isn't read"
-        )),
-    }
+    page.say(format_args!(
+        "note: {place}: the key {shown} is no key of the ship and isn't read{meant}"
+    ))
 }
 
 /// Says what of the cranes isn't read, and which stand far off.
@@ -105,24 +132,16 @@ fn say_crane_key(
     crane: u32,
     key: &str,
 ) -> Result<(), OutOfMemory> {
-    let (place, shown, which) = (
-        facts.place(crane, key),
-        Shown(key.as_bytes()),
-        ordinal(crane),
-    );
-    if SHIP_KEYS.contains(&key) {
-        return page.say(format_args!(
-            "note: {place}: the key {shown} in the {which} [[crane]] is no key of a crane and isn't read; keys of the ship stand above the first [[crane]]"
-        ));
-    }
-    match nearest(page.alloc(), key, &CRANE_KEYS)? {
-        Some(near) => page.say(format_args!(
-            "note: {place}: the key {shown} in the {which} [[crane]] is no key of a crane and isn't read; the nearest is {near}"
-        )),
-        None => page.say(format_args!(
-            "note: {place}: the key {shown} in the {which} [[crane]] is no key of a crane and isn't read"
-        )),
-    }
+    let meant = if SHIP_KEYS.contains(&key) {
+        Meant::OfShip
+    } else {
+        near_key(page.alloc(), key, &CRANE_KEYS)?
+    };
+    let (place, which) = (facts.place(crane, key), ordinal(crane));
+    let shown = Shown(key.as_bytes());
+    page.say(format_args!(
+        "note: {place}: the key {shown} in the {which} [[crane]] is no key of a crane and isn't read{meant}"
+    ))
 }
 
 /// Says that a crane stands far from any hatch, where places are counted as hatches.

@@ -1,5 +1,6 @@
 //! Where something stands in a file.
 
+use crate::bytes::piece_at;
 use crate::shown::Word;
 use std::fmt;
 
@@ -60,26 +61,14 @@ pub(crate) fn line_at(text: &[u8], offset: usize) -> usize {
 
 /// A line of a text by its number, from 1, without its line feed; empty where there is none.
 pub(crate) fn raw_line(text: &[u8], number: usize) -> &[u8] {
-    let mut at = 0usize;
-    for line in text.split(|byte| *byte == b'\n') {
-        at = at.saturating_add(1);
-        if at == number {
-            return line;
-        }
+    match number.checked_sub(1) {
+        Some(number) => piece_at(text, b'\n', number).unwrap_or(&[]),
+        None => &[],
     }
-    &[]
 }
 
 /// A line of a text by its number, from 1, without what ends it.
 pub(crate) fn line_of(text: &[u8], number: usize) -> &[u8] {
     let line = raw_line(text, number);
     line.strip_suffix(b"\r").unwrap_or(line)
-}
-
-/// Whether a text has a piece.
-pub(crate) fn has(text: &[u8], piece: &[u8]) -> bool {
-    if piece.is_empty() {
-        return true;
-    }
-    text.windows(piece.len()).any(|window| window == piece)
 }

@@ -1,6 +1,7 @@
 //! Faults of a plan's file.
 
 use crate::cranes::say_no_crane;
+use crate::doing::TaskName;
 use crate::form::Sort;
 use crate::page::Page;
 use crate::shown::{Shown, Ticks, Word, text_of};
@@ -9,6 +10,7 @@ use qc_gantt::{PlanError, PlanFault, PlanKind, read_plan};
 use qc_model::{Instance, Task};
 use qc_num::{OutOfMemory, plain_number};
 use std::alloc::Global;
+use std::fmt;
 
 const HEADER: &str = "task,crane,start,end";
 
@@ -84,8 +86,7 @@ fn say_task(
     let shown = Shown(field);
     match task_like(inst, field) {
         Some(task) => {
-            let name = task.text();
-            let name = Word(text_of(name.as_bytes()));
+            let name = TaskName(*task);
             page.say(format_args!("{place}: the task {shown} is written {name}"))
         }
         None => page.say(format_args!(
@@ -157,46 +158,66 @@ fn say_end(
 /// Says where a task stands already.
 fn say_twice(page: &mut Page, table: &Table<'_>, number: u32) -> Result<(), OutOfMemory> {
     let (place, name) = (table.place(number), table.field(number, 0));
-    for other in 2..number {
-        if table.field(other, 0) == name {
-            let (line, shown) = (table.place(other).line, Shown(name));
-            return page.say(format_args!(
-                "{place}: the task {shown} stands in line {line} already; each task has one record"
-            ));
-        }
-    }
-    Ok(())
+    let Some(other) = table.record_of(name) else {
+        return Ok(());
+    };
+    let (line, shown) = (table.place(other).line, Shown(name));
+    page.say(format_args!(
+        "{place}: the task {shown} stands in line {line} already; each task has one record"
+    ))
 }
 
-/// Whether a task has a record.
-fn is_given(table: &Table<'_>, task: &Task) -> bool {
-    let name = task.text();
-    for number in 2..table.count().saturating_add(1) {
-        if table.field(number, 0) == name.as_bytes() {
-            return true;
+/// How many tasks that have no record are named.
+const MOST_NAMED: usize = 5;
+
+/// The tasks of an instance that have no record.
+#[derive(Clone, Copy)]
+struct Missing<'a> {
+    inst: &'a Instance,
+    table: &'a Table<'a>,
+}
+
+impl Missing<'_> {
+    /// How many they are.
+    fn count(&self) -> usize {
+        let mut count = 0usize;
+        for task in self.inst.tasks() {
+            if self.table.record_of(task.text().as_bytes()).is_none() {
+                count = count.saturating_add(1);
+            }
         }
+        count
     }
-    false
+}
+
+impl fmt::Display for Missing<'_> {
+    fn fmt<W: fmt::Write>(&self, f: &mut fmt::Formatter<W>) -> fmt::Result {
+        let mut left = MOST_NAMED;
+        for task in self.inst.tasks() {
+            if self.table.record_of(task.text().as_bytes()).is_some() {
+                continue;
+            }
+            if left == 0 {
+                return f.write_str(" ..");
+            }
+            left = left.saturating_sub(1);
+            let name = TaskName(*task);
+            write!(f, " {name}")?;
+        }
+        Ok(())
+    }
 }
 
 /// Says which tasks have no record.
-fn say_missing(page: &mut Page, table: &Table<'_>, inst: &Instance) -> Result<(), OutOfMemory> {
-    let mut list = String::new(page.alloc());
-    let mut count = 0usize;
-    for task in inst.tasks() {
-        if !is_given(table, task) {
-            count = count.saturating_add(1);
-            if count <= 5 {
-                let name = task.text();
-                list.push_str(" ")?;
-                list.push_str(text_of(name.as_bytes()))?;
-            }
-        }
-    }
-    let more = if count > 5 { " .." } else { "" };
+fn say_missing<'a>(
+    page: &mut Page,
+    table: &'a Table<'a>,
+    inst: &'a Instance,
+) -> Result<(), OutOfMemory> {
+    let missing = Missing { inst, table };
+    let (file, count) = (Word(table.file), missing.count());
     let have = if count == 1 { "task has" } else { "tasks have" };
-    let file = Word(table.file);
     page.say(format_args!(
-        "{file}: {count} {have} no record:{list}{more}; a plan has one for each task that qc tasks SHIP STOW prints"
+        "{file}: {count} {have} no record:{missing}; a plan has one for each task that qc tasks SHIP STOW prints"
     ))
 }

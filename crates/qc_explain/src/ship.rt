@@ -1,5 +1,6 @@
 //! Faults of a ship file.
 
+use crate::bytes::has_digit;
 use crate::facts::{Facts, facts_of};
 use crate::form::{Sort, say_form};
 use crate::keys::{CRANE_KEYS, SHIP_KEYS, is_of_crane};
@@ -13,6 +14,7 @@ use crate::wanted::wanted_at;
 use qc_num::OutOfMemory;
 use qc_ship::{Key, ShipError, ShipFault, ShipKind, read_ship};
 use std::alloc::Global;
+use std::fmt;
 use toml::Value;
 
 /// The first fault of a ship file.
@@ -94,7 +96,6 @@ fn crane_with(facts: &Facts<'_>, key: &str) -> Option<u32> {
 /// Says which key is missing.
 fn say_missing(page: &mut Page, facts: &Facts<'_>, fault: ShipFault) -> Result<(), OutOfMemory> {
     let (key, crane) = (fault.key.text(), crane_of(fault));
-    let wanted = wanted_at(fault.key, facts.in_decimetres());
     if let Some(near) = near_line(page.alloc(), facts, crane, key)? {
         let (place, written) = (
             Place::at_line(facts.file, near.line),
@@ -103,61 +104,96 @@ fn say_missing(page: &mut Page, facts: &Facts<'_>, fault: ShipFault) -> Result<(
         return page.say(format_args!("{place}: the key {written} is written {key}"));
     }
     if crane > 0 {
-        let (place, which) = (facts.place(crane, key), ordinal(crane));
-        return page.say(format_args!(
-            "{place}: the {which} [[crane]] has no key {key}; it may be {wanted}"
-        ));
+        return say_missing_in_crane(page, facts, fault.key, crane);
     }
-    if let Some(crane) = crane_with(facts, key) {
-        let (place, which) = (facts.place(crane, key), ordinal(crane));
-        return page.say(format_args!(
-            "{place}: the key {key} stands below the {which} [[crane]]; keys of the ship stand above the first [[crane]]"
-        ));
+    match crane_with(facts, key) {
+        Some(crane) => say_misplaced(page, facts, key, crane),
+        None => say_missing_in_ship(page, facts, fault.key),
     }
-    let place = Place::whole(facts.file);
-    page.say(format_args!("{place}: the key {key} is missing; it may be {wanted}"))?;
-    if fault.key == Key::Clear {
-        page.say("with places the key clear takes the place of margin")?;
+}
+
+/// Says which key a crane hasn't.
+fn say_missing_in_crane(
+    page: &mut Page,
+    facts: &Facts<'_>,
+    key: Key,
+    crane: u32,
+) -> Result<(), OutOfMemory> {
+    let wanted = wanted_at(key, facts.in_decimetres());
+    let key = key.text();
+    let (place, which) = (facts.place(crane, key), ordinal(crane));
+    page.say(format_args!("{place}: the {which} [[crane]] has no key {key}; it may be {wanted}"))
+}
+
+/// Says that a key of the ship stands below a crane.
+fn say_misplaced(
+    page: &mut Page,
+    facts: &Facts<'_>,
+    key: &str,
+    crane: u32,
+) -> Result<(), OutOfMemory> {
+    let (place, which) = (facts.place(crane, key), ordinal(crane));
+    page.say(format_args!(
+        "{place}: the key {key} stands below the {which} [[crane]]; keys of the ship stand above the first [[crane]]"
+    ))
+}
+
+/// Says which key the ship hasn't.
+fn say_missing_in_ship(page: &mut Page, facts: &Facts<'_>, key: Key) -> Result<(), OutOfMemory> {
+    let (place, name) = (Place::whole(facts.file), key.text());
+    let wanted = wanted_at(key, facts.in_decimetres());
+    page.say(format_args!("{place}: the key {name} is missing; it may be {wanted}"))?;
+    if key == Key::Clear {
+        page.say("with places the key clear takes the place of margin")
+    } else if key == Key::Margin && facts.table.contains_key("clear") {
+        page.say("clear is read only with places; without them margin says how many bays stay free")
+    } else {
+        Ok(())
     }
-    if fault.key == Key::Margin && facts.table.contains_key("clear") {
-        page.say(
-            "clear is read only with places; without them margin says how many bays stay free",
-        )?;
-    }
-    Ok(())
 }
 
 /// How many elements a key must have, and has.
 fn say_length(page: &mut Page, facts: &Facts<'_>, key: Key) -> Result<(), OutOfMemory> {
-    let (place, name) = (facts.place(0, key.text()), key.text());
-    let count = facts.elements(name).len();
-    let wanted = wanted_at(key, facts.in_decimetres());
+    let name = key.text();
+    let (place, count) = (facts.place(0, name), facts.elements(name).len());
     if key == Key::Places {
         let hatches = facts.elements("hatches").len();
-        return page.say(format_args!(
+        page.say(format_args!(
             "{place}: places has {count} elements and hatches has {hatches}; there is one place for each hatch"
-        ));
+        ))
+    } else {
+        let wanted = wanted_at(key, facts.in_decimetres());
+        page.say(format_args!("{place}: {name} has {count} elements, and may be {wanted}"))
     }
-    page.say(format_args!("{place}: {name} has {count} elements, and may be {wanted}"))
 }
 
 /// What else helps with a value.
 fn hint_on(facts: &Facts<'_>, key: Key, value: &str) -> &'static str {
-    let has_digit = value.bytes().any(|byte| byte.is_ascii_digit());
     if key == Key::Crane {
-        "; a crane begins with a line [[crane]], in two brackets"
-    } else if has_digit && value.starts_with('"') && key != Key::Name {
-        "; a number has no quotes"
-    } else if has_digit && value.contains(':') {
-        "; times are counted in ticks"
-    } else if has_digit && value.contains('.') && facts.in_decimetres() {
-        "; decimetres and ticks are whole: 27.5 metres are 275 decimetres"
-    } else if has_digit && value.contains('.') {
-        "; numbers are whole: choose a smaller tick"
-    } else if key == Key::Travel && facts.in_decimetres() {
+        return "; a crane begins with a line [[crane]], in two brackets";
+    }
+    let hint = hint_on_number(facts, key, value.as_bytes());
+    if hint.is_empty() && key == Key::Travel && facts.in_decimetres() {
         "; with places it counts for each decimetre and not for each bay"
     } else {
+        hint
+    }
+}
+
+/// What helps with a value that is a number but for its form; empty where it isn't so.
+fn hint_on_number(facts: &Facts<'_>, key: Key, value: &[u8]) -> &'static str {
+    if !has_digit(value) {
         ""
+    } else if value.starts_with(b"\"") && key != Key::Name {
+        "; a number has no quotes"
+    } else if value.contains(&b':') {
+        "; times are counted in ticks"
+    } else if !value.contains(&b'.') {
+        ""
+    } else if facts.in_decimetres() {
+        "; decimetres and ticks are whole: 27.5 metres are 275 decimetres"
+    } else {
+        "; numbers are whole: choose a smaller tick"
     }
 }
 
@@ -168,11 +204,11 @@ fn say_element(page: &mut Page, facts: &Facts<'_>, fault: ShipFault) -> Result<(
         facts.place(0, key),
         wanted_at(fault.key, facts.in_decimetres()),
     );
-    match facts.element(key, number) {
-        Some(Value::Integer(value)) => page.say(format_args!(
+    match facts.whole_element(key, number) {
+        Some(value) => page.say(format_args!(
             "{place}: element {number} of {key} is {value}; {key} may be {wanted}"
         )),
-        _ => page.say(format_args!(
+        None => page.say(format_args!(
             "{place}: element {number} of {key} can't stand there; {key} may be {wanted}"
         )),
     }
@@ -187,44 +223,71 @@ fn say_value(page: &mut Page, facts: &Facts<'_>, fault: ShipFault) -> Result<(),
     if crane == 0 && fault.kind == ShipKind::Range && !facts.elements(key).is_empty() {
         return say_length(page, facts, fault.key);
     }
-    let (place, value) = (facts.place(crane, key), facts.value(crane, key));
-    let wanted = wanted_at(fault.key, facts.in_decimetres());
-    let hint = hint_on(facts, fault.key, value);
-    if value.is_empty() {
-        page.say(format_args!("{place}: {key} may be {wanted}{hint}"))?;
-    } else {
-        let value = Word(value);
-        page.say(format_args!("{place}: {key} is {value}, and may be {wanted}{hint}"))?;
-    }
-    say_counted(page, facts, fault)
-}
-
-/// Says which number a hatch has in the list, where a crane's reach names it by the number of its bay.
-fn say_counted(page: &mut Page, facts: &Facts<'_>, fault: ShipFault) -> Result<(), OutOfMemory> {
-    if fault.key != Key::From && fault.key != Key::To {
-        return Ok(());
-    }
-    let Some(value) = facts.crane_number(fault.number, fault.key.text()) else {
-        return Ok(());
-    };
-    let key = fault.key.text();
-    for (index, hatch) in facts.elements("hatches").iter().enumerate() {
-        if hatch.as_integer() == Some(value) {
-            let number = index.saturating_add(1);
-            return page.say(format_args!(
-                "hatch {value} is number {number} of the list, so write {key} = {number}"
-            ));
-        }
+    say_one_value(page, facts, fault.key, crane)?;
+    if fault.key == Key::From || fault.key == Key::To {
+        return say_counted(page, facts, key, crane);
     }
     Ok(())
 }
 
-/// The bays of a hatch, the lowest and the highest.
-fn bays_of(hatch: i64) -> (i64, i64) {
-    if hatch & 1 == 0 {
-        (hatch.saturating_sub(1), hatch.saturating_add(1))
+/// Says that the value of a key can't stand there, of a crane or, with 0, of the ship.
+fn say_one_value(
+    page: &mut Page,
+    facts: &Facts<'_>,
+    key: Key,
+    crane: u32,
+) -> Result<(), OutOfMemory> {
+    let name = key.text();
+    let (place, value) = (facts.place(crane, name), facts.value(crane, name));
+    let wanted = wanted_at(key, facts.in_decimetres());
+    let hint = hint_on(facts, key, value);
+    if value.is_empty() {
+        page.say(format_args!("{place}: {name} may be {wanted}{hint}"))
     } else {
-        (hatch, hatch)
+        let value = Word(value);
+        page.say(format_args!("{place}: {name} is {value}, and may be {wanted}{hint}"))
+    }
+}
+
+/// The number of a hatch in the list, from 1.
+fn number_of(facts: &Facts<'_>, hatch: i64) -> Option<usize> {
+    let mut number = 0usize;
+    for one in facts.elements("hatches") {
+        number = number.saturating_add(1);
+        if one.as_integer() == Some(hatch) {
+            return Some(number);
+        }
+    }
+    None
+}
+
+/// Says which number a hatch has in the list, where a crane's reach names it by the number of its bay.
+fn say_counted(
+    page: &mut Page,
+    facts: &Facts<'_>,
+    key: &str,
+    crane: u32,
+) -> Result<(), OutOfMemory> {
+    let Some(value) = facts.crane_number(crane, key) else {
+        return Ok(());
+    };
+    match number_of(facts, value) {
+        Some(number) => page.say(format_args!(
+            "hatch {value} is number {number} of the list, so write {key} = {number}"
+        )),
+        None => Ok(()),
+    }
+}
+
+/// The bays of a hatch, the lowest and the highest.
+#[derive(Clone, Copy)]
+struct BaysOf(i64);
+
+impl fmt::Display for BaysOf {
+    fn fmt<W: fmt::Write>(&self, f: &mut fmt::Formatter<W>) -> fmt::Result {
+        let reach = if self.0 & 1 == 0 { 1 } else { 0 };
+        let (low, high) = (self.0.saturating_sub(reach), self.0.saturating_add(reach));
+        write!(f, "{low} to {high}")
     }
 }
 
@@ -237,10 +300,9 @@ fn say_hatch_order(
     let key = fault.key.text();
     let place = facts.place(0, key);
     let number = fault.number;
-    let before = facts.element(key, number.saturating_sub(1));
-    let (Some(Value::Integer(one)), Some(Value::Integer(other))) = (
-        before,
-        facts.element(key, number),
+    let (Some(one), Some(other)) = (
+        facts.whole_element(key, number.saturating_sub(1)),
+        facts.whole_element(key, number),
     ) else {
         return Ok(());
     };
@@ -249,31 +311,37 @@ fn say_hatch_order(
             "{place}: place {other} stands behind {one} in the list; places rise strictly from the first hatch to the last"
         ));
     }
-    let ((low, high), (first, last)) = (bays_of(*one), bays_of(*other));
+    say_overlap(page, place, one, other)
+}
+
+/// Says that a hatch isn't wholly behind the one before it.
+fn say_overlap(page: &mut Page, place: Place<'_>, one: i64, other: i64) -> Result<(), OutOfMemory> {
+    let (bays, those) = (BaysOf(other), BaysOf(one));
     page.say(format_args!(
-        "{place}: hatch {other} stands behind hatch {one} in the list, and its bays {first} to {last} don't lie wholly behind bays {low} to {high}; hatches stand from bow to stern, and an even hatch takes the bays on both sides too"
+        "{place}: hatch {other} stands behind hatch {one} in the list, and its bays {bays} don't lie wholly behind bays {those}; hatches stand from bow to stern, and an even hatch takes the bays on both sides too"
     ))
+}
+
+/// The least distance of two cranes, as the ship file says it.
+fn gap_of(facts: &Facts<'_>) -> Option<i64> {
+    if facts.in_decimetres() {
+        facts.number("clear")
+    } else {
+        Some(facts.number("margin")?.saturating_add(1))
+    }
 }
 
 /// Says where a crane may stand.
 fn say_crane_order(page: &mut Page, facts: &Facts<'_>, crane: u32) -> Result<(), OutOfMemory> {
-    let in_decimetres = facts.in_decimetres();
-    let gap = if in_decimetres {
-        facts.number("clear")
-    } else {
-        facts
-            .number("margin")
-            .map(|margin| margin.saturating_add(1))
-    };
     let before = facts.crane_number(crane.saturating_sub(1), "bay");
-    let (Some(gap), Some(before), Some(bay)) = (gap, before, facts.crane_number(crane, "bay"))
-    else {
+    let bay = facts.crane_number(crane, "bay");
+    let (Some(gap), Some(before), Some(bay)) = (gap_of(facts), before, bay) else {
         return Ok(());
     };
     let (place, which) = (facts.place(crane, "bay"), ordinal(crane));
     let apart = Bays {
         count: gap.unsigned_abs(),
-        in_decimetres,
+        in_decimetres: facts.in_decimetres(),
     };
     let least = before.saturating_add(gap);
     page.say(format_args!(
@@ -293,25 +361,26 @@ fn say_name_twice(page: &mut Page, facts: &Facts<'_>, crane: u32) -> Result<(), 
 /// Says which hatch of a pair the ship hasn't.
 fn say_apart(page: &mut Page, facts: &Facts<'_>, number: u32) -> Result<(), OutOfMemory> {
     let place = facts.place(0, "apart");
+    match strange_hatch(facts, number) {
+        Some(hatch) => page.say(format_args!(
+            "{place}: pair {number} of apart names {hatch}, which is no hatch of hatches; pairs name hatches by their bays, as hatches does"
+        )),
+        None => page.say(format_args!(
+            "{place}: pair {number} of apart names one hatch twice; two different hatches are wanted"
+        )),
+    }
+}
+
+/// The first hatch of a pair that the ship hasn't.
+fn strange_hatch(facts: &Facts<'_>, number: u32) -> Option<i64> {
     let Some(Value::Array(pair)) = facts.element("apart", number) else {
-        return Ok(());
+        return None;
     };
     for hatch in pair {
-        let Value::Integer(hatch) = hatch else {
-            return Ok(());
-        };
-        let wanted = Some(*hatch);
-        if !facts
-            .elements("hatches")
-            .iter()
-            .any(|one| one.as_integer() == wanted)
-        {
-            return page.say(format_args!(
-                "{place}: pair {number} of apart names {hatch}, which is no hatch of hatches; pairs name hatches by their bays, as hatches does"
-            ));
+        let hatch = hatch.as_integer()?;
+        if number_of(facts, hatch).is_none() {
+            return Some(hatch);
         }
     }
-    page.say(format_args!(
-        "{place}: pair {number} of apart names one hatch twice; two different hatches are wanted"
-    ))
+    None
 }

@@ -1,5 +1,6 @@
 //! Faults of a stowage list.
 
+use crate::bytes::are_digits;
 use crate::form::Sort;
 use crate::page::Page;
 use crate::place::Place;
@@ -10,6 +11,7 @@ use qc_num::OutOfMemory;
 use qc_ship::Ship;
 use qc_stow::{StowError, StowFault, StowKind, read_stow};
 use std::alloc::Global;
+use std::fmt;
 
 const HEADER: &str = "id,move,cell,length";
 
@@ -97,11 +99,6 @@ fn say_move(page: &mut Page, table: &Table<'_>, number: u32) -> Result<(), OutOf
     }
 }
 
-/// Whether each byte is a digit.
-fn are_digits(field: &[u8]) -> bool {
-    field.iter().all(|byte| byte.is_ascii_digit())
-}
-
 /// Why a text has no cell's length, and what to do.
 fn why_no_cell(field: &[u8]) -> &'static str {
     if field.is_empty() {
@@ -112,10 +109,7 @@ fn why_no_cell(field: &[u8]) -> &'static str {
         "its leading 0 is lost, as a spreadsheet does that reads cells as numbers: import the column as text"
     } else if field.contains(&b'E') || field.contains(&b'e') || field.contains(&b'.') {
         "a spreadsheet took it for a number: import the column as text"
-    } else if field
-        .iter()
-        .any(|byte| *byte == b'-' || *byte == b'/' || *byte == b' ')
-    {
+    } else if field.contains(&b'-') || field.contains(&b'/') || field.contains(&b' ') {
         "bay, row and tier stand without signs between them"
     } else {
         "it has another length"
@@ -178,8 +172,19 @@ fn say_no_hatch(
     page.say(format_args!(
         "{place}: no hatch of the ship file takes bay {bay}; an even hatch takes its own bay and those on both sides, an odd one its own alone"
     ))?;
-    let below = ship.hatches().iter().filter(|hatch| **hatch < bay).max();
-    let above = ship.hatches().iter().filter(|hatch| **hatch > bay).min();
+    say_nearest(page, ship, bay)
+}
+
+/// Says which hatches are nearest to a bay.
+fn say_nearest(page: &mut Page, ship: &Ship, bay: u16) -> Result<(), OutOfMemory> {
+    let (mut below, mut above) = (None, None);
+    for hatch in ship.hatches() {
+        if *hatch < bay {
+            below = Some(*hatch);
+        } else if above.is_none() {
+            above = Some(*hatch);
+        }
+    }
     match (below, above) {
         (Some(below), Some(above)) => {
             page.say(format_args!("the nearest hatches are {below} and {above}"))
@@ -214,6 +219,21 @@ fn earlier(table: &Table<'_>, number: u32, by_cell: bool) -> Option<u32> {
     None
 }
 
+/// A record by its id and its cell.
+#[derive(Clone, Copy)]
+struct AtCell<'a> {
+    table: &'a Table<'a>,
+    number: u32,
+}
+
+impl fmt::Display for AtCell<'_> {
+    fn fmt<W: fmt::Write>(&self, f: &mut fmt::Formatter<W>) -> fmt::Result {
+        let id = Shown(self.table.field(self.number, 0));
+        let cell = Shown(self.table.field(self.number, 2));
+        write!(f, "{id} at {cell}")
+    }
+}
+
 /// Says which earlier record has the id or the cell.
 fn say_twice(
     page: &mut Page,
@@ -226,17 +246,23 @@ fn say_twice(
     };
     let place: Place<'_> = table.place(number);
     let line = table.place(other).line;
-    let (id, cell) = (Shown(table.field(number, 0)), Shown(table.field(number, 2)));
-    let (that_id, that_cell) = (Shown(table.field(other, 0)), Shown(table.field(other, 2)));
     let sort = match table.field(number, 1) {
         b"D" => "discharged",
         _ => "loaded",
     };
     if by_cell {
+        let (this, that) = (
+            AtCell { table, number },
+            AtCell {
+                table,
+                number: other,
+            },
+        );
         page.say(format_args!(
-            "{place}: {id} is {sort} at {cell}, where {that_id} of line {line} is {sort} too, at {that_cell}; each place is {sort} once"
+            "{place}: {this} overlaps {that} of line {line}; each place is {sort} once"
         ))
     } else {
+        let id = Shown(table.field(number, 0));
         page.say(format_args!(
             "{place}: {id} is {sort} in line {line} already; each container is {sort} once"
         ))

@@ -1,5 +1,6 @@
 //! Tables: where their records stand, and what is wrong with their headers and columns.
 
+use crate::bytes::{count_pieces, has_piece};
 use crate::form::{Sort, behind_mark, say_form};
 use crate::page::Page;
 use crate::place::{Place, line_at, line_of};
@@ -33,11 +34,14 @@ pub(crate) fn table_of<'a>(
 
 /// The bytes of a text ahead of a record that a reader began at an offset: the reader skips line ends ahead of it.
 fn start_from(text: &[u8], offset: usize) -> usize {
-    let rest = text.get(offset..).unwrap_or(&[]);
-    let skipped = rest
-        .iter()
-        .position(|byte| *byte != b'\n' && *byte != b'\r');
-    offset.saturating_add(skipped.unwrap_or(0))
+    let mut start = offset;
+    for byte in text.get(offset..).unwrap_or(&[]) {
+        if *byte != b'\n' && *byte != b'\r' {
+            break;
+        }
+        start = start.saturating_add(1);
+    }
+    start
 }
 
 impl<'a> Table<'a> {
@@ -47,30 +51,40 @@ impl<'a> Table<'a> {
     }
 
     /// How many records were read.
-    pub(crate) fn count(&self) -> u32 {
+    fn count(&self) -> u32 {
         u32::try_from(self.records.len()).unwrap_or(u32::MAX)
+    }
+
+    /// The number of the first record behind the header whose first field is this one.
+    pub(crate) fn record_of(&self, name: &[u8]) -> Option<u32> {
+        for number in 2..self.count().saturating_add(1) {
+            if self.field(number, 0) == name {
+                return Some(number);
+            }
+        }
+        None
     }
 
     /// Where a record stands.
     pub(crate) fn place(&self, number: u32) -> Place<'a> {
-        let line = match self.record(number).and_then(|record| record.position()) {
-            Some(at) => {
-                let offset = usize::try_from(at.byte()).unwrap_or(0);
-                line_at(self.text, start_from(self.text, offset))
-            }
-            None => 0,
-        };
         Place {
             file: self.file,
-            line,
+            line: self.line(number).unwrap_or(0),
             record: number,
         }
     }
 
+    /// The line in which a record begins.
+    fn line(&self, number: u32) -> Option<usize> {
+        let at = self.record(number)?.position()?;
+        let offset = usize::try_from(at.byte()).unwrap_or(0);
+        Some(line_at(self.text, start_from(self.text, offset)))
+    }
+
     /// A field of a record, from 0; empty where there is none.
     pub(crate) fn field(&self, number: u32, at: usize) -> &[u8] {
-        match self.record(number).and_then(|record| record.get(at)) {
-            Some(field) => field,
+        match self.record(number) {
+            Some(record) => record.get(at).unwrap_or(&[]),
             None => &[],
         }
     }
@@ -108,8 +122,8 @@ fn other_signs(line: &[u8]) -> Option<&'static str> {
 /// How many of the names in a header, which has commas between them, a line has too.
 fn has_names(plain: &[u8], header: &str) -> usize {
     let mut count = 0usize;
-    for name in header.as_bytes().split(|byte| *byte == b',') {
-        if plain.split(|byte| *byte == b',').any(|field| field == name) {
+    for name in header.split(',') {
+        if has_piece(plain, b',', name.as_bytes()) {
             count = count.saturating_add(1);
         }
     }
@@ -129,7 +143,7 @@ fn why_no_header(alloc: Global, line: &[u8], header: &str) -> Result<&'static st
     {
         return Ok(signs);
     }
-    let columns = plain.split(|byte| *byte == b',').count();
+    let columns = count_pieces(plain, b',');
     Ok(if plain == header.as_bytes() {
         "it has small letters alone, and no spaces"
     } else if named == 4 && columns > 4 {

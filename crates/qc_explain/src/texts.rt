@@ -21,16 +21,26 @@ pub(crate) struct Names<'a> {
     pub(crate) written: Option<&'a str>,
 }
 
-/// The names of a command that reads a ship file and these.
-fn names_with<'a>(ship: &'a str, stow: Option<&'a str>, plan: Option<&'a str>) -> Names<'a> {
+/// No names.
+fn no_names<'a>() -> Names<'a> {
     Names {
-        ship: Some(ship),
-        stow,
-        plan,
+        ship: None,
+        stow: None,
+        plan: None,
         own: None,
         tree: None,
         log: None,
         written: None,
+    }
+}
+
+/// The names of a command that reads a ship file and a list, and a plan where one is named.
+fn of_plan<'a>(ship: &'a str, stow: &'a str, plan: Option<&'a str>) -> Names<'a> {
+    Names {
+        ship: Some(ship),
+        stow: Some(stow),
+        plan,
+        ..no_names()
     }
 }
 
@@ -46,7 +56,7 @@ pub(crate) fn names_of<'a>(request: &Request<'a>) -> Names<'a> {
         } => Names {
             own,
             written: Some(plan),
-            ..names_with(ship, Some(stow), None)
+            ..of_plan(ship, stow, None)
         },
         Request::Check {
             ship,
@@ -55,13 +65,13 @@ pub(crate) fn names_of<'a>(request: &Request<'a>) -> Names<'a> {
             tree,
         } => Names {
             tree: Some(tree),
-            ..names_with(ship, Some(stow), plan)
+            ..of_plan(ship, stow, plan)
         },
-        Request::Tasks { ship, stow } => names_with(ship, Some(stow), None),
-        Request::Show { ship, stow, plan } => names_with(ship, Some(stow), Some(plan)),
-        Request::Sheet { ship, stow, plan } => names_with(ship, Some(stow), Some(plan)),
-        Request::Picture { ship, stow, plan } => names_with(ship, Some(stow), Some(plan)),
-        Request::Report { ship, stow, plan } => names_with(ship, Some(stow), Some(plan)),
+        Request::Tasks { ship, stow } => of_plan(ship, stow, None),
+        Request::Show { ship, stow, plan }
+        | Request::Sheet { ship, stow, plan }
+        | Request::Picture { ship, stow, plan }
+        | Request::Report { ship, stow, plan } => of_plan(ship, stow, Some(plan)),
         Request::Dispatch {
             ship,
             stow,
@@ -69,16 +79,14 @@ pub(crate) fn names_of<'a>(request: &Request<'a>) -> Names<'a> {
             log,
         } => Names {
             log: Some(log),
-            ..names_with(ship, Some(stow), Some(plan))
+            ..of_plan(ship, stow, Some(plan))
         },
         Request::Watch { ship, log } => Names {
+            ship: Some(ship),
             log: Some(log),
-            ..names_with(ship, None, None)
+            ..no_names()
         },
-        Request::Make { .. } | Request::Help(_) | Request::Version | Request::Usage => Names {
-            ship: None,
-            ..names_with("", None, None)
-        },
+        Request::Make { .. } | Request::Help(_) | Request::Version | Request::Usage => no_names(),
     }
 }
 

@@ -15,31 +15,40 @@ pub(crate) struct KeyLine<'a> {
     pub(crate) value: &'a str,
 }
 
-/// The name of a line that begins a table, and whether it has two brackets.
-fn header_of(line: &str) -> Option<(&str, bool)> {
+/// Whether each letter of a name may stand in one without quotes.
+fn is_plain(name: &str) -> bool {
+    for byte in name.bytes() {
+        if !byte.is_ascii_alphabetic() && byte != b'_' && byte != b'-' {
+            return false;
+        }
+    }
+    !name.is_empty()
+}
+
+/// The name of a line that begins a table, in one bracket or two.
+fn header_of(line: &str) -> Option<&str> {
     let inner = line.strip_prefix('[')?;
-    let (inner, double) = match inner.strip_prefix('[') {
-        Some(inner) => (inner, true),
-        None => (inner, false),
-    };
+    let inner = inner.strip_prefix('[').unwrap_or(inner);
     let (name, _) = inner.split_once(']')?;
     let name = name.trim();
-    if name.bytes().all(|byte| byte.is_ascii_alphabetic() || byte == b'_' || byte == b'-')
-        && !name.is_empty()
-    {
-        Some((name, double))
-    } else {
-        None
+    if is_plain(name) { Some(name) } else { None }
+}
+
+/// The key that a line names, and its value; that of a line which begins a table is empty.
+fn told_by(line: &str) -> Option<(&str, &str)> {
+    if line.starts_with('#') {
+        return None;
+    }
+    match header_of(line) {
+        Some(name) => Some((name, "")),
+        None => pair_of(line),
     }
 }
 
 /// The key and the value of a line.
 fn pair_of(line: &str) -> Option<(&str, &str)> {
     let (key, value) = line.split_once('=')?;
-    let value = match value.split_once('#') {
-        Some((value, _)) => value,
-        None => value,
-    };
+    let (value, _) = value.split_once('#').unwrap_or((value, ""));
     let key = key.trim();
     let key = key.strip_prefix('"').unwrap_or(key);
     let key = key.strip_suffix('"').unwrap_or(key);
@@ -54,28 +63,18 @@ pub(crate) fn key_lines(alloc: Global, text: &str) -> Result<Vec<KeyLine<'_>>, O
     let mut crane = 0u32;
     for line in text.split('\n') {
         number = number.saturating_add(1);
-        let line = line.trim();
-        if line.starts_with('#') {
+        let Some((key, value)) = told_by(line.trim()) else {
             continue;
+        };
+        if key == "crane" && value.is_empty() {
+            crane = crane.saturating_add(1);
         }
-        if let Some((name, _)) = header_of(line) {
-            if name == "crane" {
-                crane = crane.saturating_add(1);
-            }
-            lines.push(KeyLine {
-                line: number,
-                crane,
-                key: name,
-                value: "",
-            })?;
-        } else if let Some((key, value)) = pair_of(line) {
-            lines.push(KeyLine {
-                line: number,
-                crane,
-                key,
-                value,
-            })?;
-        }
+        lines.push(KeyLine {
+            line: number,
+            crane,
+            key,
+            value,
+        })?;
     }
     Ok(lines)
 }

@@ -59,45 +59,51 @@ fn instance_of(alloc: Global, texts: &Texts) -> Result<Option<Instance>, OutOfMe
     }
 }
 
-/// Says that a file couldn't be read or is too large, and answers whether it was so. The word is that of the usage
-/// text.
-fn say_if_unread(
-    page: &mut Page,
-    word: &str,
-    name: Option<&str>,
-    text: &Text,
-) -> Result<bool, OutOfMemory> {
-    let Some(name) = name else {
-        return Ok(false);
-    };
-    let name = Word(name);
-    match text {
-        Text::Unread => {
-            page.say(format_args!("{name}: this file, {word}, isn't there or can't be read"))?;
-            Ok(true)
-        }
-        Text::TooLarge => {
-            page.say(format_args!(
-                "{name}: this file, {word}, has more than 8388608 bytes, and may have no more"
-            ))?;
-            Ok(true)
-        }
-        _ => Ok(false),
-    }
+/// A file that couldn't be read, or is too large: its word in the usage text, and its name.
+#[derive(Clone, Copy)]
+struct Unread<'a> {
+    word: &'static str,
+    name: &'a str,
+    is_large: bool,
 }
 
-/// Says which file couldn't be read, or is too large: where the others can be read again, a tree's.
+/// The file, where it couldn't be read or is too large.
+fn if_unread<'a>(word: &'static str, name: Option<&'a str>, text: &Text) -> Option<Unread<'a>> {
+    let is_large = match text {
+        Text::Unread => false,
+        Text::TooLarge => true,
+        Text::Unnamed | Text::Read(_) => return None,
+    };
+    Some(Unread {
+        word,
+        name: name?,
+        is_large,
+    })
+}
+
+/// The first file that couldn't be read, or is too large: where the others can be read again, a tree's.
+fn first_unread<'a>(names: &Names<'a>, texts: &Texts) -> Option<Unread<'a>> {
+    if_unread("SHIP", names.ship, &texts.ship)
+        .or(if_unread("STOW", names.stow, &texts.stow))
+        .or(if_unread("PLAN", names.plan, &texts.plan))
+        .or(if_unread("OWN", names.own, &texts.plan))
+        .or(if_unread("LOG", names.log, &texts.log))
+        .or(if_unread("TREE", names.tree, &Text::Unread))
+}
+
+/// Says which file couldn't be read, or is too large.
 fn say_unread(page: &mut Page, names: &Names<'_>, texts: &Texts) -> Result<(), OutOfMemory> {
-    if say_if_unread(page, "SHIP", names.ship, &texts.ship)?
-        || say_if_unread(page, "STOW", names.stow, &texts.stow)?
-        || say_if_unread(page, "PLAN", names.plan, &texts.plan)?
-        || say_if_unread(page, "OWN", names.own, &texts.plan)?
-        || say_if_unread(page, "LOG", names.log, &texts.log)?
-    {
+    let Some(unread) = first_unread(names, texts) else {
         return Ok(());
+    };
+    let (name, word) = (Word(unread.name), unread.word);
+    if unread.is_large {
+        page.say(format_args!(
+            "{name}: this file, {word}, has more than 8388608 bytes, and may have no more"
+        ))
+    } else {
+        page.say(format_args!("{name}: this file, {word}, isn't there or can't be read"))
     }
-    say_if_unread(page, "TREE", names.tree, &Text::Unread)?;
-    Ok(())
 }
 
 /// Says what is wrong with the list.

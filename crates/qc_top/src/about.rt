@@ -7,7 +7,7 @@ use qc_words::CommandName;
 const HELP: &[u8] = b"qc plans the quay cranes that work one container ship from one rail.
 
 qc plan SHIP STOW PLAN TREE [--nodes N] [--from OWN]
-    writes the plan that ends first of those that go one way, and a tree that shows it
+    writes the best plan it finds, and a tree that shows how early one that goes one way can end
 qc check SHIP STOW PLAN TREE
     whether a plan holds, and what a tree shows; with - for PLAN the tree alone
 qc tasks SHIP STOW
@@ -34,11 +34,14 @@ Pages: man qc for the commands, man 5 qc for the files, and docs/PLANNERS.md to 
 
 const PLAN: &[u8] = b"qc plan SHIP STOW PLAN TREE [--nodes N] [--from OWN]
 
-Reads a ship file and a stowage list, and writes a plan and a tree that shows how good it is.
+Searches for a plan that ends early, and writes the best that it finds, and a tree that shows how
+early one that goes one way can end.
     --nodes N    at most N branchings of the search, 0 to 100000; 20000 where it isn't given
-    --from OWN   a plan to begin with: the answer never ends later
-Ends with 0 Optimal, 10 Infeasible, 11 or 12 Budget with or without a plan, 13 where OWN is
-Broken. Of plans in which cranes go to and fro it says nothing.
+    --from OWN   a plan to begin with: the plan that is written never ends later
+Ends with 0 Optimal: no plan that goes one way ends earlier; 10 Infeasible: none goes one way;
+11 Budget: the branchings are spent, the plan is the best that is known, and none that goes one
+way ends before the bound; 12 Budget: the same, and no plan is known; 13 Broken: OWN breaks a rule.
+Of plans in which cranes go to and fro it says nothing.
 Faults end with 2 to 9, 15 and 17, and are told by their kind and place: man 5 qc.
 ";
 

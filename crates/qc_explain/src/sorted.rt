@@ -1,0 +1,99 @@
+//! The words behind a command's name, told apart.
+
+use qc_num::OutOfMemory;
+use std::alloc::Global;
+
+/// The options of `plan`, the only command that has any.
+pub(crate) const OPTIONS: [&str; 2] = ["--nodes", "--from"];
+
+/// The words behind a command's name, told apart.
+#[derive(Drop)]
+pub(crate) struct Sorted<'a> {
+    has_options: bool,
+    /// Whether all words that follow are operands.
+    is_behind_dashes: bool,
+    pub(crate) operands: Vec<&'a str>,
+    /// The first word that is an option and can't be one.
+    pub(crate) strange: Option<&'a str>,
+    /// The option that has no value behind it.
+    pub(crate) open: Option<&'a str>,
+    /// The option that stands twice.
+    pub(crate) twice: Option<&'a str>,
+    pub(crate) nodes: Option<&'a str>,
+    pub(crate) from: Option<&'a str>,
+}
+
+impl<'a> Sorted<'a> {
+    /// No word yet.
+    fn new(alloc: Global, has_options: bool) -> Sorted<'a> {
+        Sorted {
+            has_options,
+            is_behind_dashes: false,
+            operands: Vec::new(alloc),
+            strange: None,
+            open: None,
+            twice: None,
+            nodes: None,
+            from: None,
+        }
+    }
+
+    /// Takes the value of an option.
+    fn take_value(&mut self, option: &'a str, value: &'a str) {
+        self.open = None;
+        if option == "--nodes" {
+            if self.nodes.is_some() {
+                self.twice = Some(option);
+            }
+            self.nodes = Some(value);
+        } else {
+            if self.from.is_some() {
+                self.twice = Some(option);
+            }
+            self.from = Some(value);
+        }
+    }
+
+    /// Takes a word that begins with a dash and is no operand.
+    fn take_option(&mut self, word: &'a str) {
+        let (name, value) = match word.split_once('=') {
+            Some((name, value)) => (name, Some(value)),
+            None => (word, None),
+        };
+        if !self.has_options || !OPTIONS.contains(&name) {
+            self.strange = self.strange.or(Some(word));
+            return;
+        }
+        match value {
+            Some(value) => self.take_value(name, value),
+            None => self.open = Some(name),
+        }
+    }
+
+    /// Takes the next word.
+    fn take(&mut self, word: &'a str) -> Result<(), OutOfMemory> {
+        if let Some(option) = self.open {
+            self.take_value(option, word);
+        } else if self.is_behind_dashes || !word.starts_with('-') || word == "-" {
+            self.operands.push(word)?;
+        } else if word == "--" {
+            self.is_behind_dashes = true;
+        } else {
+            self.take_option(word);
+        }
+        Ok(())
+    }
+}
+
+/// Tells the words behind a command's name apart.
+pub(crate) fn told_apart<'a>(
+    alloc: Global,
+    has_options: bool,
+    words: &'a [String],
+) -> Result<Sorted<'a>, OutOfMemory> {
+    let mut sorted = Sorted::new(alloc, has_options);
+    for word in words {
+        sorted.take(word.as_str())?;
+    }
+    Ok(sorted)
+}
