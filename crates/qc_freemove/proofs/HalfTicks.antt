@@ -1,21 +1,19 @@
 -- Within a half tick every crane goes evenly: a fall and a rise never meet in the middle of one.
-use Rattle.std.proofs.Common.{◌≡◌, ℕ, ◌+◌, ◌-◌, ◌*◌, ◌<◌, ◌≤◌, max, ℤ, pos, negsuc, ◌+ℤ◌, ◌-ℤ◌, ◌*ℤ◌, ◌≤ℤ◌, ◌<ℤ◌, inl, inr, List, length, refl, sym, ap, ap₂, subst, ◌∙◌, arith, mul-le-mul_left}
+use Rattle.std.proofs.Common.{◌≡◌, ℕ, ◌+◌, ◌-◌, ◌*◌, ◌<◌, ◌≤◌, max, ℤ, pos, negsuc, ◌+ℤ◌, ◌-ℤ◌, ◌*ℤ◌, ◌≤ℤ◌, ◌<ℤ◌, inl, inr, length, refl, sym, ap, ap₂, subst, ◌∙◌, arith, mul-le-mul_left}
 use Rattle.std.proofs.lemmas.Bool.{cases_lt}
 use Rattle.std.proofs.lemmas.Int.{by_lt_z, ints}
 use borrow.Author.Differences.{down, product_is, up}
-use Rattle.qc_model.specs.declared.schedule.Slot.{Slot}
-use Rattle.qc_model.specs.Instance.{InstanceView, Valid, bay_of, crane}
+use Rattle.qc_model.specs.Instance.{InstanceView, bay_of, crane}
 use Rattle.qc_model.specs.Motion.{bay_ahead, berth_place, scaled}
 use Rattle.qc_model.specs.Rules.{crane_of, end_of, start_of}
-use Rattle.qc_model.proofs.Places.{floor_exists, floor_unique}
+use Rattle.qc_model.proofs.Places.{floor_unique}
 use Rattle.qc_model.proofs.Scaled.{scaled_le, scaled_sum}
 use Rattle.qc_freemove.specs.declared.hold.Hold.{Hold}
 use Rattle.qc_freemove.specs.FreeMotion.{FreeLowPlace, IsFreePlace, visit_place}
 use Rattle.qc_freemove.specs.FreeMotion.FreeLowPlace.{of_berth, of_floor, of_task}
 use Rattle.qc_freemove.specs.FreeSweep.{FreeSwept, IsFreeSound, berth_hold, floor_place, held, hold_count, hold_of, place_at, task_hold}
-use Rattle.qc_freemove.proofs.Extrema.{greatest_unique}
 use Rattle.qc_freemove.proofs.SweepLemmas.{twice_scaled}
-use Rattle.qc_freemove.proofs.SweptHolds.{HoldIs, felt_is, hold_is, lasting, place_is, post_is}
+use Rattle.qc_freemove.proofs.SweptHolds.{HoldIs, felt_is, hold_is, lasting, post_is}
 use Rattle.qc_freemove.proofs.SweptHolds.HoldIs.{of_one, of_post}
 use Rattle.qc_freemove.proofs.Tops.{IsTaken, highest_first, highest_most, taken}
 use Rattle.qc_freemove.proofs.Tops.IsTaken.{by_floor, by_hold}
@@ -254,14 +252,16 @@ module _ (it : FreeSwept) (s : IsFreeSound it) where
     hold_along i low h e =
         subst (λ (g : Hold). (pos d *ℤ g.place)
         -ℤ pos (max (d * g.from - (d * a + r)) ((d * a + r) - d * g.until)) ≡ along (hold i low)) e
-        (evenly (hold_of it i).place (hold_of it i).from (hold_of it i).until d r a few (lasting it s i low).order)
+        (evenly (hold_of it i).place (hold_of it i).from (hold_of it i).until d r a few
+        (lasting it s i low).order)
 
     -- twice a number of the kind is that of a piece
     piece_of : (y : ℤ) → Low y → (c : Piece) × ((pos 2 *ℤ y) ≡ along c)
     piece_of _ (of_task i low below) =
         let there : i < hold_count it = omega arith in (
           hold i there,
-          twice d _ _ _ _ (cross it.inst d _) (off_twice d (start_of it.sched i) (end_of it.inst it.sched i) m _ is)
+          twice d _ _ _ _ (cross it.inst d _)
+              (off_twice d (start_of it.sched i) (end_of it.inst it.sched i) m _ is)
               ∙ hold_along i there (task_hold it i) (felt_is it i low below),
         )
     piece_of _ (of_berth v below) =
@@ -291,7 +291,8 @@ module _ (it : FreeSwept) (s : IsFreeSound it) where
         by (of_one there below e) = (
           visit_place it.inst it.sched i it.crane m d,
           of_task i there below,
-          twice d _ _ _ _ (cross it.inst d _) (off_twice d (start_of it.sched i) (end_of it.inst it.sched i) m _ is)
+          twice d _ _ _ _ (cross it.inst d _)
+              (off_twice d (start_of it.sched i) (end_of it.inst it.sched i) m _ is)
               ∙ hold_along i low (task_hold it i) e,
         )
         by (of_post below e) =
@@ -320,15 +321,3 @@ module _ (it : FreeSwept) (s : IsFreeSound it) where
         let same = l.2 ∙ sym (ap₂ (part d r) k.now k.next) in
         let most = subst (λ (z : ℤ). z ≤ℤ (pos 2 *ℤ y)) same (double_le l.0 y (g.most l.0 l.1)) in
         both_ways (pos 2 *ℤ y) (part d r (place_at it a) (place_at it (a + 1))) up most
-
-pub half_ticks_even : (inst : InstanceView) (sched : List Slot) → Valid inst → (k a d r m : ℕ) (p q y : ℤ)
-    → k < length inst.cranes → r ≤ d → 2 * m ≡ d * a + r → IsFreePlace inst sched k a 2 p
-    → IsFreePlace inst sched k (a + 1) 2 q → IsFreePlace inst sched k m d y
-    → (pos 2 *ℤ y) ≡ ((pos d *ℤ p) +ℤ (pos r *ℤ (q -ℤ p)))
-half_ticks_even inst sched valid k a d r m p q y low few is g h f =
-    let bottom = floor_exists inst sched k low in
-    let it : FreeSwept = record { inst = inst; sched = sched; crane = k; floor = bottom.0 } in
-    let s : IsFreeSound it = record { valid = valid; range = low; floor = bottom.1 } in
-    let here = greatest_unique _ _ _ (place_is it s a) g in
-    let next = greatest_unique _ _ _ (place_is it s (a + 1)) h in
-    goes_evenly it s d r a m few is y f ∙ ap₂ (part d r) here next

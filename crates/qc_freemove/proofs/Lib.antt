@@ -14,3 +14,4 @@ pub mod LineLemmas
 pub mod SweepLemmas
 pub mod SteadyLemmas
 pub mod HalfTicks
+pub mod BetweenPoints

@@ -266,7 +266,7 @@ module _ (it : FreeSwept) where
     abbrev IsThere : ℕ → ℤ → Type 0
     IsThere m p = IsFreePlace it.inst it.sched it.crane m 2 p
 
-    turn_of : (m : ℕ) → IsBend it m → IsHalfTurn it.inst it.sched it.crane m
+    pub turn_of : (m : ℕ) → IsBend it m → IsHalfTurn it.inst it.sched it.crane m
     turn_of m bends = record {
       before = place_at it (m - 1);
       there = place_at it m;

@@ -6,6 +6,7 @@ ghost use Rattle.qc_model.specs.Numbers.{most_end};
 ghost use Rattle.qc_model.specs.Rules.{Feasible};
 ghost use Rattle.qc_freemove.specs.FreeMotion.{IsFreeSafe};
 ghost use Rattle.qc_freemove.specs.FreeSweep.{IsKept, last_half, place_at};
+ghost use Rattle.qc_freemove.specs.HalfLines.{MovesBetween};
 ghost use Rattle.qc_freemove.specs.HalfPoints.{AreHalfPoints};
 
 use crate::sweep::Sweep;
@@ -34,14 +35,16 @@ impl Sweep<'_> {
 }
 
 /// The points of a crane in a feasible schedule: where it stands at moment 0, at the end of the schedule, and
-/// at each half tick between at which it starts, stops or turns. They take no memory. The motion is safe: all
-/// cranes keep their order and the margin at every moment.
+/// at each half tick between at which it starts, stops or turns. They take no memory. From each to
+/// the next the crane goes evenly, and the motion is safe: all cranes keep their order and the margin at every
+/// moment.
 pub fn free_waypoints(inst: &Instance, sched: &Schedule, crane: u16, track: &mut FreeTrack)
     requires judgeable { IsJudgeable inst.now sched.now }
     requires feasible { Feasible inst.now sched.now }
     requires range { crane < length inst.now.cranes }
     requires room { length inst.now.tasks ≤ track.old.tasks }
     ensures points { AreHalfPoints inst.now sched.now crane track.new.points }
+    ensures between { MovesBetween inst.now sched.now crane track.new.points }
     ensures safe { IsFreeSafe inst.now sched.now }
     ensures room { track.new.tasks ≡ track.old.tasks }
 {

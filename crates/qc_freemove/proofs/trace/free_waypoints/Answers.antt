@@ -8,9 +8,10 @@ use Rattle.qc_freemove.specs.declared.track.HalfPoint.{HalfPoint}
 use Rattle.qc_freemove.specs.FreeSweep.{FreeSwept, IsKept}
 use Rattle.qc_freemove.specs.FreeTracks.{FreeTrackView}
 use Rattle.qc_freemove.specs.HalfPoints.{AreHalfPoints}
+use Rattle.qc_freemove.proofs.BetweenPoints.{points_move_between}
 use Rattle.qc_freemove.proofs.FreeSafe.{free_safe}
 use Rattle.qc_freemove.proofs.Traced.{AreSoFar, HasSpent, are_half_points, done_kept, done_other, next_kept, next_other, point_at, room_at, spent_next}
-use Rattle.qc_freemove.proofs.trace.free_waypoints.Goals.{then-is_kept, else-is_kept}
+use Rattle.qc_freemove.proofs.trace.free_waypoints.Goals.{After-push-2, then-is_kept, else-is_kept}
 use Rattle.qc_freemove.proofs.trace.free_waypoints.Goals as goal
 
 pub push-requires : goal.push-requires
@@ -75,8 +76,9 @@ loop-at-preserved c =
           }
     ]
 
-pub returns-clause-points : goal.returns-clause-points
-returns-clause-points c =
+are_points : (c : After-push-2)
+    → AreHalfPoints c.args.inst.now c.args.sched.now c.args.crane c.push-2.new.self.points
+are_points c =
     let it = c.new-sweep.result in
     let n = c.new-sweep.ensures in
     let end = 2 * c.ends-end.result in
@@ -86,13 +88,22 @@ returns-clause-points c =
     let so_far = subst (λ (m : ℕ). AreSoFar it old m) late h.points in
     let last : end ≡ 2 * ends it.inst it.sched =
     ap (λ (k : ℕ). 2 * k) (c.ends-end.ensures.ends ∙ sym (ap₂ ends n.inst n.sched)) in
-    let new = pushed it c.loop-at.track c.push-2.new.self end c.point-2.result c.push-2.ensures c.point-2.ensures in
+    let new = pushed it c.loop-at.track c.push-2.new.self end c.point-2.result c.push-2.ensures
+    c.point-2.ensures in
     let points = c.push-2.new.self.points in
     let whole = subst (λ (ps : List HalfPoint). AreHalfPoints it.inst it.sched it.crane ps) (sym new)
     (are_half_points it n.sound old end so_far last) in
     subst (λ (i : InstanceView). AreHalfPoints i c.args.sched.now c.args.crane points) n.inst
     (subst (λ (t : List Slot). AreHalfPoints it.inst t c.args.crane points) n.sched
     (subst (λ (k : ℕ). AreHalfPoints it.inst it.sched k points) n.crane whole))
+
+pub returns-clause-points : goal.returns-clause-points
+returns-clause-points c = are_points c
+
+pub returns-clause-between : goal.returns-clause-between
+returns-clause-between c =
+    points_move_between c.args.inst.now c.args.sched.now c.args.crane c.push-2.new.self.points
+    c.new-sweep.ensures.valid c.requires.range (are_points c)
 
 pub returns-clause-safe : goal.returns-clause-safe
 returns-clause-safe c = free_safe c.args.inst.now c.args.sched.now c.new-sweep.ensures.valid c.requires.feasible
