@@ -23,7 +23,8 @@ fn why(kind: TreeKind) -> &'static str {
         TreeKind::Branchings => "this is a branching behind the 100000th, and a tree has no more",
         TreeKind::NotForced => "its tasks don't wait for each other as it says",
         TreeKind::NotCycle => "its tasks are no ring, as it says",
-        TreeKind::NotClash => "two of its tasks can run together, or one of them is listed twice or for no crane",
+        TreeKind::NotClash =>
+            "two of its tasks can run together, or one of them is listed twice or for no crane",
         TreeKind::InReach => "the crane reaches the task, and it says otherwise",
         TreeKind::WorkShort => "the work fits before that tick, and it says otherwise",
         TreeKind::Counts => "the tree has another number of branchings or another value",
