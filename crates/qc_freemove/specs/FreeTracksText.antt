@@ -41,8 +41,8 @@ pub record AreFreeTracks (inst : InstanceView) (sched : List Slot) (tracks : Lis
     pub few : length tracks ≤ length inst.cranes
     pub each : (k : ℕ) → k < length tracks → AreHalfPoints inst sched k (slice_index_or tracks k [])
 
--- what a call says that writes the crane lines: those of all cranes where it comes through, and else of the
--- first ones, the last of them cut
+-- what a call says that writes the crane lines: those of all cranes where it comes through, and else a
+-- front part of those of the first ones
 pub record WritesFreeTracks (before after : View) (inst : InstanceView) (sched : List Slot)
     (result : Result ⊤ WriteFault) : Type 0 where
   pub tracks : List (List HalfPoint)

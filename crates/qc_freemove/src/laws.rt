@@ -15,7 +15,8 @@ fn feasible_schedules_are_safe()
         → IsFreeSafe inst sched }
 {}
 
-/// The points of a crane tell its place at every moment: it goes evenly from each to the next.
+/// The points of a crane tell its place at every moment from the first to the last: it goes evenly from
+/// each to the next.
 fn points_tell_all()
     ensures { (inst : InstanceView) (sched : List Slot) (k : ℕ) (points : List HalfPoint)
         → Valid inst → k < length inst.cranes → AreHalfPoints inst sched k points
