@@ -6,7 +6,7 @@ use Rattle.qc_num.specs.declared.bound.Bound.{Bound}
 use Rattle.qc_num.specs.declared.bound.Bound.TheVariants.{Least, Never}
 use Rattle.qc_model.specs.declared.decision.Decision.{Decision}
 use Rattle.qc_model.specs.declared.decision.Decision.TheVariants.{Assign, Order}
-use Rattle.qc_model.specs.Closing.{IsClosable, IsWorkBound, out_of_reach, no_starts, complete, ends_late, work_late}
+use Rattle.qc_model.specs.Closing.{IsClosable, IsWorkBound, IsWorkLate, out_of_reach, no_starts, complete, ends_late, work_late}
 use Rattle.qc_model.specs.Instance.{InstanceView}
 use Rattle.qc_model.specs.Leaves.{is_out_of_reach}
 use Rattle.qc_model.specs.Nodes.{HasStarts, IsComplete, IsInReach, IsNodeEnd}
@@ -14,8 +14,9 @@ use Rattle.qc_model.specs.Rules.{last_end}
 use Rattle.qc_model.proofs.Bounded.{last_end_le}
 use Rattle.qc_model.proofs.NodeLemmas.{ends_by}
 use Rattle.qc_starts.specs.Seen.{IsWhy}
-use Rattle.qc_bounds.specs.declared.leaves.LeafKind.TheVariants.{Chain}
+use Rattle.qc_bounds.specs.declared.leaves.LeafKind.TheVariants.{Chain, Work}
 use Rattle.qc_bounds.specs.Closed.{IsClosedBy, IsSpentBy}
+use Rattle.qc_bounds.specs.Work.{IsWorkShown}
 
 -- a node has one end
 end_le : (inst : InstanceView) (ds : List Decision) (end other : ℕ) → IsNodeEnd inst ds end → IsNodeEnd inst ds other
@@ -47,16 +48,22 @@ module _ (inst : InstanceView) (ds : List Decision) where
       (why, inr (subst (λ (n : ℕ). IsAtMost u (Least n)) (one_end inst ds end why.end is why.ends) late))
 
   -- a node in reach that is neither complete nor late in either way isn't closable
-  pub never_closable : (u : Bound) (end bound : ℕ) → IsInReach inst ds → HasStarts inst ds → (¬ IsComplete inst ds)
-      → IsNodeEnd inst ds end → (¬ IsAtMost u (Least end)) → IsWorkBound inst ds bound → (¬ IsAtMost u (Least bound))
-      → IsClosable inst ds u → ⊥
-  never_closable u end bound reach starts more is early shown short (out_of_reach out) = never_out_of_reach inst ds reach out
-  never_closable u end bound reach starts more is early shown short (no_starts none) = none starts
-  never_closable u end bound reach starts more is early shown short (complete all) = more all
-  never_closable u end bound reach starts more is early shown short (ends_late late) =
+  pub never_closable : (u : Bound) (end : ℕ) → IsInReach inst ds → HasStarts inst ds → (¬ IsComplete inst ds)
+      → IsNodeEnd inst ds end → (¬ IsAtMost u (Least end)) → (¬ IsWorkLate inst ds u) → IsClosable inst ds u → ⊥
+  never_closable u end reach starts more is early short (out_of_reach out) = never_out_of_reach inst ds reach out
+  never_closable u end reach starts more is early short (no_starts none) = none starts
+  never_closable u end reach starts more is early short (complete all) = more all
+  never_closable u end reach starts more is early short (ends_late late) =
       early (later u late.end end (end_le inst ds late.end end late.is is) late.late)
-  never_closable u end bound reach starts more is early shown short (work_late late) =
-      short (later u late.end bound (shown.greatest late.end late.positive late.holds) late.late)
+  never_closable u end reach starts more is early short (work_late late) = short late
+
+  -- its work shows u
+  pub work_closes : (u : Bound) (tasks : List ℕ) (end : ℕ) → HasStarts inst ds → (¬ IsComplete inst ds) → tasks ≡ []
+      → IsWorkShown inst ds u end → IsClosedBy inst ds u (Work end) tasks
+  work_closes u tasks end starts more empty w = (
+    record { starts = starts; undecided = more; shows = w.shows; soon = w.soon; empty = empty },
+    w.is,
+  )
 
   pub chain_spends : (tasks : List ℕ) (end bound : ℕ) → IsWhy inst ds tasks → IsNodeEnd inst ds end
       → IsWorkBound inst ds bound → IsComplete inst ds ⊎ (bound ≤ end) → IsSpentBy inst ds Chain tasks

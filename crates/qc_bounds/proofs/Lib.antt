@@ -1,4 +1,3 @@
-pub mod Sharing
-pub mod BoundLemmas
 pub mod ClosedLemmas
 pub mod PackedLemmas
+pub mod WorkLemmas

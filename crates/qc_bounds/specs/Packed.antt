@@ -11,6 +11,6 @@ pub record IsPackedShown (inst : InstanceView) (ds : List Decision) (tasks : Lis
   pub soon : end ≤ MOST_START
 
 -- they do, and it is this end or a later one
-pub record IsPackedLate (inst : InstanceView) (ds : List Decision) (least : ℕ) (tasks : List ℕ) (end : ℕ) : Type 0 where
+pub record IsPackedFrom (inst : InstanceView) (ds : List Decision) (least : ℕ) (tasks : List ℕ) (end : ℕ) : Type 0 where
   pub shown : IsPackedShown inst ds tasks end
   pub late : least ≤ end

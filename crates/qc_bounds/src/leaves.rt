@@ -10,7 +10,7 @@ ghost use Rattle.qc_bounds.specs.Closed.{IsClosedBy, IsSpentBy};
 ghost use Rattle.qc_bounds.specs.Packed.{IsPackedShown};
 
 use crate::packed::{late_tasks, latest_tasks};
-use crate::work::work_bound;
+use crate::work::{late_work, work_bound};
 use qc_close::Crew;
 use qc_num::{Bound, Path, Tick};
 use qc_starts::Starts;
@@ -23,7 +23,7 @@ pub enum LeafKind {
     Chain,
     /// Tasks, each forced after the one before it, and the first after the last.
     Ring,
-    /// The end before which the work doesn't fit, in ticks: the workload bound.
+    /// An end before which the work doesn't fit, in ticks.
     Work(Tick),
     /// Tasks of which no two can run together, whichever cranes do them, and the end that they show.
     Clash(Tick),
@@ -55,8 +55,9 @@ fn late_by(node: &Starts, crew: &Crew, bound: Bound, path: &mut Path) -> Option<
 }
 
 /// Tries to fathom a node against the incumbent's end `best`. Tried in order: infeasible (ring);
-/// critical chain, if it reaches `best` or nothing is left to decide; packed tasks and workload bound,
-/// if they reach `best`. `None`: branch. The path is empty but for a chain, a ring or a clash.
+/// critical chain, if it reaches `best` or nothing is left to decide; packed tasks, if some that are tried reach `best`;
+/// `best` itself, if the work doesn't fit before it. `None`: branch. The path is empty but for a chain, a
+/// ring or a clash.
 pub fn close(node: &Starts, crew: &Crew, best: Bound, path: &mut Path) -> Option<LeafKind>
     requires crew { IsCrewOf crew.now node.now.inst node.now.decisions }
     requires room { HasRoom (length node.now.inst.tasks) path.old }
@@ -79,18 +80,14 @@ pub fn close(node: &Starts, crew: &Crew, best: Bound, path: &mut Path) -> Option
         return Some(LeafKind::Clash(end));
     }
     path.clear();
-    let bound = work_bound(node);
-    if is_late(bound, best) {
-        Some(LeafKind::Work(bound))
-    } else {
-        None
-    }
+    let end = late_work(crew, best)?;
+    Some(LeafKind::Work(end))
 }
 
 /// The leaf of a node that is not branched on: a ring where it is infeasible, the critical chain
-/// where nothing is left to decide; else what shows the latest end, of the critical chain, the
-/// workload bound and packed tasks, in this order where they show the same. The path is empty but for
-/// a chain, a ring or a clash.
+/// where nothing is left to decide; else what shows the latest end, of the critical chain, the work and
+/// packed tasks, in this order where they show the same. The path is empty but for a chain, a ring or a
+/// clash.
 pub fn spent(node: &Starts, crew: &Crew, path: &mut Path) -> LeafKind
     requires crew { IsCrewOf crew.now node.now.inst node.now.decisions }
     requires room { HasRoom (length node.now.inst.tasks) path.old }
@@ -106,7 +103,7 @@ pub fn spent(node: &Starts, crew: &Crew, path: &mut Path) -> LeafKind
         node.why_path(path);
         return LeafKind::Chain;
     }
-    let (bound, end) = (work_bound(node), node.ends());
+    let (bound, end) = (work_bound(crew), node.ends());
     if let Some(later) = latest_tasks(node, crew, bound.max(end) + 1, path) {
         return LeafKind::Clash(later);
     }

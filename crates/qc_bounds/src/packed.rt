@@ -7,7 +7,7 @@ ghost use Rattle.qc_model.specs.declared.limits.TheConstants.{MOST_DISTANCE, MOS
 ghost use Rattle.qc_model.specs.Leaves.{packed_end};
 ghost use Rattle.qc_model.specs.Nodes.{head, least};
 ghost use Rattle.qc_num.specs.Paths.{HasRoom};
-ghost use Rattle.qc_bounds.specs.Packed.{IsPackedLate};
+ghost use Rattle.qc_bounds.specs.Packed.{IsPackedFrom};
 
 use crate::lists::{List, Outer, Window, begins_bay, outer_cranes};
 use crate::spread::spread;
@@ -80,7 +80,7 @@ fn try_list(node: &Starts, crew: &Crew, list: List, wanted: Wanted, path: &mut P
     requires room { HasRoom (length node.now.inst.tasks) path.old }
     requires count { length path.old.items ≤ length node.now.inst.tasks }
     ensures shows { IfSome result
-        (IsPackedLate node.now.inst node.now.decisions wanted.end path.new.items) }
+        (IsPackedFrom node.now.inst node.now.decisions wanted.end path.new.items) }
     ensures count { length path.new.items ≤ length node.now.inst.tasks }
     ensures room { path.new.capacity ≡ path.old.capacity }
 {
@@ -107,7 +107,7 @@ fn try_window(
     requires room { HasRoom (length node.now.inst.tasks) path.old }
     requires count { length path.old.items ≤ length node.now.inst.tasks }
     ensures shows { IfSome result
-        (IsPackedLate node.now.inst node.now.decisions wanted.end path.new.items) }
+        (IsPackedFrom node.now.inst node.now.decisions wanted.end path.new.items) }
     ensures count { length path.new.items ≤ length node.now.inst.tasks }
     ensures room { path.new.capacity ≡ path.old.capacity }
 {
@@ -122,7 +122,7 @@ fn try_window(
 pub(crate) fn late_tasks(node: &Starts, crew: &Crew, end: Tick, path: &mut Path) -> Option<Tick>
     requires crew { IsCrewOf crew.now node.now.inst node.now.decisions }
     requires room { HasRoom (length node.now.inst.tasks) path.old }
-    ensures shows { IfSome result (IsPackedLate node.now.inst node.now.decisions end path.new.items) }
+    ensures shows { IfSome result (IsPackedFrom node.now.inst node.now.decisions end path.new.items) }
     ensures count { length path.new.items ≤ length node.now.inst.tasks }
     ensures room { path.new.capacity ≡ path.old.capacity }
 {
@@ -150,7 +150,7 @@ pub(crate) fn latest_tasks(node: &Starts, crew: &Crew, end: Tick, path: &mut Pat
     requires crew { IsCrewOf crew.now node.now.inst node.now.decisions }
     requires room { HasRoom (length node.now.inst.tasks) path.old }
     requires soon { end ≤ MOST_START + 1 }
-    ensures shows { IfSome result (IsPackedLate node.now.inst node.now.decisions end path.new.items) }
+    ensures shows { IfSome result (IsPackedFrom node.now.inst node.now.decisions end path.new.items) }
     ensures count { length path.new.items ≤ length node.now.inst.tasks }
     ensures room { path.new.capacity ≡ path.old.capacity }
 {

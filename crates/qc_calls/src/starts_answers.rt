@@ -3,7 +3,7 @@
 ghost use Rattle.std.specs.Prelude.{◌≡◌, ◌∷◌, IfOk, IsTrue, MatchOption};
 ghost use Rattle.qc_model.specs.Nodes.{HasStarts};
 ghost use Rattle.qc_dist.specs.Node.{IsOpen};
-ghost use Rattle.qc_model.specs.Closing.{IsClosable};
+ghost use Rattle.qc_model.specs.Closing.{IsClosable, IsWorkBound};
 ghost use Rattle.qc_starts.specs.Seen.{IsReached, IsStep, IsWhy};
 ghost use Rattle.qc_close.specs.Crews.{IsCrewOf};
 ghost use Rattle.qc_calls.specs.StartsCalls.{CanBeMade, HandsOut, HasLeaf, HasRingOf, HasSpent, IsAnswered, after};
@@ -15,7 +15,7 @@ use qc_bounds::{LeafKind, close, spent, work_bound};
 use qc_close::Crew;
 use qc_dist::in_reach;
 use qc_model::{Decision, Instance, Turn};
-use qc_num::{Bound, OutOfMemory, Path, Steps};
+use qc_num::{Bound, OutOfMemory, Path, Steps, Tick};
 use qc_starts::{Starts, Step};
 use std::alloc::Global;
 use std::sync::ledger::Ledger;
@@ -118,6 +118,14 @@ fn crew_of(alloc: Global, starts: &Starts) -> Result<Crew, OutOfMemory>
     Ok(crew)
 }
 
+/// Whether the work of the node fits no sooner than behind this end.
+fn is_work_bound(alloc: Global, starts: &Starts, bound: Tick) -> Result<bool, OutOfMemory>
+    ensures { IfOk result (λ is. IsTrue is → IsWorkBound starts.now.inst starts.now.decisions bound) }
+{
+    let crew = crew_of(alloc, starts)?;
+    Ok(work_bound(&crew) == bound)
+}
+
 /// Whether the node is closed by this leaf, or by none.
 fn is_closed_by(
     alloc: Global,
@@ -173,7 +181,7 @@ pub fn answers<L: Ledger>(
         StartsCall::Leaving(j, arcs) => Ok(hands_out(starts, j, arcs)),
         StartsCall::WhyPath(tasks) => is_why(alloc, starts, tasks),
         StartsCall::Ring(count) => is_ring_of(alloc, starts, count),
-        StartsCall::WorkBound(bound) => Ok(work_bound(starts) == bound),
+        StartsCall::WorkBound(bound) => is_work_bound(alloc, starts, bound),
         StartsCall::Close(bound, leaf) => is_closed_by(alloc, starts, bound, leaf),
         StartsCall::Spent(leaf) => is_spent_by(alloc, starts, leaf),
     }

@@ -1,5 +1,5 @@
 -- No schedule that follows an assignment ends before an end at which it is closed.
-use Rattle.std.proofs.Common.{◌≡◌, ℕ, zero, suc, ◌+◌, ◌-◌, ◌*◌, ◌<◌, ◌≤◌, inl, inr, Bool, true, false, not, ◌&&◌, eqb, leb, cond, List, [], ◌∷◌, ◌++◌, length, get_or, map, replicate, reverse, Option, None, Some, refl, ap, sym, subst, ◌∙◌, arith, filter, is_none, nat_lt, sum, sum_by, count_by}
+use Rattle.std.proofs.Common.{◌≡◌, ℕ, ℤ, zero, suc, ◌+◌, ◌-◌, ◌*◌, ◌<◌, ◌≤◌, inl, inr, Bool, true, false, not, ◌&&◌, eqb, leb, cond, List, [], ◌∷◌, ◌++◌, length, get_or, map, max, min, replicate, reverse, Option, None, Some, refl, ap, sym, subst, ◌∙◌, arith, filter, is_none, nat_lt, sum, sum_by, count_by}
 use Prim.Native.Nat.{◌∣◌}
 use mathlib.Core.List.{reverse-cons}
 use Rattle.std.proofs.Math.Nat.{dvd-add, dvd-mul_right_of_dvd, dvd-zero, mul-add, mul-le-mul_left, mul-zero}
@@ -17,30 +17,34 @@ use Rattle.qc_model.specs.declared.schedule.Slot.{Slot}
 use Rattle.qc_model.specs.declared.turn.Turn.{Turn}
 use Rattle.qc_model.specs.Assignments.{Follows, crane_in, no_cranes}
 use Rattle.qc_model.specs.Closed.{IsClosedBound, Try, along, bays_to, fewest, first, grain, has_room, is_closed, is_served, is_short, is_short_before, last_before, left_at, left_bays, leg, legs, lists_to, load, most, numbers, room, suffices, try_of, work_at}
+use Rattle.qc_model.specs.Barred.{all_done, barred_frame, barring, both_done, done_in, lies, own_or_left, soonest}
 use Rattle.qc_model.specs.Frames.{GoesBy, frame, frame_of, own}
-use Rattle.qc_model.specs.Instance.{InstanceView, Valid, crane, no_crane, ticks_of}
+use Rattle.qc_model.specs.Instance.{InstanceView, Valid, bay_of, crane, no_crane, ticks_of}
+use Rattle.qc_model.specs.Nodes.{berth_wait, free, greatest, least}
 use Rattle.qc_model.specs.Rules.{crane_of, ends}
-use Rattle.qc_model.specs.Work.{crane_numbers, task_numbers}
+use Rattle.qc_model.specs.Ticks.{arrival, berth_clear, berth_distance}
+use Rattle.qc_model.specs.Work.{crane_numbers, highest, lowest, task_numbers, ticks_over}
 use Rattle.qc_model.proofs.Bays.{bays}
 use Rattle.qc_close.proofs.CountLemmas.{fewest_le, passing, passing_le, shared, sum_filter, sum_le, sums_within, times_sum}
-use Rattle.qc_close.proofs.FrameLemmas.{HasTime, at_bay, bay_at, beside, does_open, feasible_by, has_time, some_term}
+use Rattle.qc_close.proofs.BarredLemmas.{barred_time}
+use Rattle.qc_close.proofs.FrameLemmas.{HasTime, at_bay, bay_at, beside, does_open, feasible_by, some_term}
 use Rattle.qc_close.proofs.GrainLemmas.{AreMultiples, grain_is, multiple_to}
 use Rattle.qc_close.proofs.LoopLemmas.{least_steps}
-use Rattle.qc_close.proofs.Members.{Among, among_either, among_filter, among_first, among_flat, among_map, among_range, among_second, any_at, any_from, filter_among, map_among, range_among}
+use Rattle.qc_close.proofs.Members.{Among, among_either, among_filter, among_first, among_flat, among_map, among_range, among_second, any_at, any_from, filter_among, flat_among, map_among, range_among}
 
 -- ---- bays in the order in which cranes come to them
 
 -- bay y comes behind bay x
-abbrev After : Direction → ℕ → ℕ → Type 0
+abbrev pub After : Direction → ℕ → ℕ → Type 0
 After Up x y = x < y
 After Down x y = y < x
 
 -- each comes before those behind it
-abbrev InOrder : Direction → List ℕ → Type 0
+abbrev pub InOrder : Direction → List ℕ → Type 0
 InOrder way [] = Unit {0}
 InOrder way (x ∷ xs) = ((y : ℕ) → Among xs y → After way x y) × InOrder way xs
 
-rising : (p : ℕ → Bool) (a n : ℕ) → InOrder Up (filter p (range_with_len a n))
+pub rising : (p : ℕ → Bool) (a n : ℕ) → InOrder Up (filter p (range_with_len a n))
 rising p a zero = tt
 rising p a (suc n) =
     let rest = rising p (a + 1) n in
@@ -56,7 +60,7 @@ joined way (x ∷ xs) ys r s h = (
   joined way xs ys r.1 s (λ u v a b. h u v (inr a) b),
 )
 
-from_reverse : (xs : List ℕ) (y : ℕ) → Among (reverse xs) y → Among xs y
+pub from_reverse : (xs : List ℕ) (y : ℕ) → Among (reverse xs) y → Among xs y
 from_reverse [] y a = a
 from_reverse (x ∷ xs) y a =
     elim (among_either (reverse xs) (x ∷ []) y (subst (λ (zs : List ℕ). Among zs y) (reverse-cons x xs) a)) [
@@ -72,7 +76,7 @@ to_reverse (x ∷ xs) y a =
       | inr b ↦ among_first (reverse xs) (x ∷ []) y (to_reverse xs y b)
     ])
 
-falling : (xs : List ℕ) → InOrder Up xs → InOrder Down (reverse xs)
+pub falling : (xs : List ℕ) → InOrder Up xs → InOrder Down (reverse xs)
 falling [] r = tt
 falling (x ∷ xs) r =
     subst (InOrder Down) (sym (reverse-cons x xs))
@@ -82,15 +86,15 @@ falling (x ∷ xs) r =
     ]))
 
 -- bay y is bay x or comes behind it
-abbrev beyond : Direction → ℕ → ℕ → Bool
+abbrev pub beyond : Direction → ℕ → ℕ → Bool
 beyond Up x y = leb x y
 beyond Down x y = leb y x
 
-beyond_at : (way : Direction) (x y : ℕ) → y ≡ x → beyond way x y ≡ true
+pub beyond_at : (way : Direction) (x y : ℕ) → y ≡ x → beyond way x y ≡ true
 beyond_at Up x y e = le-leb x y (omega arith)
 beyond_at Down x y e = le-leb y x (omega arith)
 
-beyond_after : (way : Direction) (x y z : ℕ) → After way x y → beyond way y z ≡ true → beyond way x z ≡ true
+pub beyond_after : (way : Direction) (x y z : ℕ) → After way x y → beyond way y z ≡ true → beyond way x z ≡ true
 beyond_after Up x y z a t = let h = leb-true y z t in le-leb x z (omega arith)
 beyond_after Down x y z a t = let h = leb-true z y t in le-leb z x (omega arith)
 
@@ -107,7 +111,7 @@ to_rises Up f x y t = let h = leb-true x y t in omega (arith, bays, h)
 to_rises Down f x y t = let h = leb-true y x t in omega (arith, bays, h)
 
 -- one list of numbers for each bay
-among_lists : (most : ℕ) (f : ℕ → ℕ) (xs : List ℕ) → ((x : ℕ) → f x ≤ most)
+pub among_lists : (most : ℕ) (f : ℕ → ℕ) (xs : List ℕ) → ((x : ℕ) → f x ≤ most)
     → Among (lists_to most (length xs)) (map f xs)
 among_lists most f [] h = inl refl
 among_lists most f (x ∷ xs) h =
@@ -127,7 +131,7 @@ module _ (inst : InstanceView) (turn : Turn) (cranes : List (Option ℕ)) (sched
   js = task_numbers inst
 
   abbrev fr : ℕ → Frame
-  fr w = frame inst turn cranes w
+  fr w = barred_frame inst turn cranes w
 
   abbrev opens : ℕ → ℕ → Bool
   opens w j = does_open inst turn cranes sched valid g follows w j
@@ -136,7 +140,7 @@ module _ (inst : InstanceView) (turn : Turn) (cranes : List (Option ℕ)) (sched
   at j = bay_at inst turn cranes sched valid g follows 0 j
 
   abbrev time : (w : ℕ) → HasTime inst turn cranes sched valid g follows w (fr w)
-  time w = has_time inst turn cranes sched valid g follows w
+  time w = barred_time inst turn cranes sched valid g follows w
 
   abbrev far : ℕ → ℕ
   far w = (time w).far
@@ -517,6 +521,95 @@ module _ (inst : InstanceView) (g : ℕ) (grain : AreMultiples inst g) where
   dvd_cond true n d = d
   dvd_cond false n d = dvd-zero g
 
+  dvd_min : (m n : ℕ) → g ∣ m → g ∣ n → g ∣ min m n
+  dvd_min m n a b = elim (cases_lt m n) [
+    | inl less ↦ let same : m ≡ min m n = omega arith in subst (λ (k : ℕ). g ∣ k) same a
+    | inr more ↦ let same : n ≡ min m n = omega arith in subst (λ (k : ℕ). g ∣ k) same b
+  ]
+
+  dvd_max : (m n : ℕ) → g ∣ m → g ∣ n → g ∣ max m n
+  dvd_max m n a b = elim (cases_lt m n) [
+    | inl less ↦ let same : n ≡ max m n = omega arith in subst (λ (k : ℕ). g ∣ k) same b
+    | inr more ↦ let same : m ≡ max m n = omega arith in subst (λ (k : ℕ). g ∣ k) same a
+  ]
+
+  dvd_greatest : (ns : List ℕ) → ((n : ℕ) → Among ns n → g ∣ n) → g ∣ greatest ns
+  dvd_greatest [] h = dvd-zero g
+  dvd_greatest (n ∷ ns) h = dvd_max n (greatest ns) (h n (inl refl)) (dvd_greatest ns (λ m a. h m (inr a)))
+
+  dvd_least : (f : ℕ → ℕ) (js : List ℕ) → ((j : ℕ) → g ∣ f j) → g ∣ least (map f js)
+  dvd_least f [] h = dvd-zero g
+  dvd_least f (j ∷ []) h = h j
+  dvd_least f (j ∷ k ∷ ks) h = dvd_min (f j) (least (map f (k ∷ ks))) (h j) (dvd_least f (k ∷ ks) h)
+
+  dvd_free : (j k : ℕ) → g ∣ free inst j k
+  dvd_free j k =
+      dvd_max (arrival inst k (bay_of inst j)) _ (dvd-add g (dvd_ready k) (dvd-mul_right_of_dvd g grain.travel _))
+      (dvd_greatest (map (berth_wait inst j k) (range_with_len 0 (length inst.cranes))) (λ n a.
+      let r = map_among (berth_wait inst j k) (range_with_len 0 (length inst.cranes)) n a in
+      subst (λ (n : ℕ). g ∣ n) r.2 (waits r.0)))
+    where
+      waits : (v : ℕ) → g ∣ berth_wait inst j k v
+      waits v =
+          cond_both (eqb (berth_distance inst v k (bay_of inst j)) 0) 0 (berth_clear inst v k (bay_of inst j)) (λ n. g ∣ n)
+          (λ _. dvd-zero g)
+          (λ _. dvd-add g (dvd_ready v) (dvd-mul_right_of_dvd g grain.travel _))
+
+  module _ (turn : Turn) (cranes : List (Option ℕ)) (w : ℕ) where
+    dvd_soonest : (j : ℕ) → g ∣ soonest inst cranes j
+    dvd_soonest j = by (crane_in cranes j)
+      where
+        by : (o : Option ℕ) → g ∣ option_map_or (free inst j) o 0
+        by None = dvd-zero g
+        by (Some k) = dvd_free j k
+
+    dvd_ticks : (js : List ℕ) → ((j : ℕ) → Among js j → j < length inst.tasks) → g ∣ ticks_over inst js
+    dvd_ticks js range = dvd_sum g (ticks_of inst) js (λ j a. grain.tasks j (range j a))
+
+    dvd_both : (is bs : List ℕ) → ((j : ℕ) → Among is j → j < length inst.tasks)
+        → ((j : ℕ) → Among bs j → j < length inst.tasks) → g ∣ both_done inst turn cranes w is bs
+    dvd_both [] bs own_in bars_in = dvd-zero g
+    dvd_both (i ∷ is) [] own_in bars_in = dvd-zero g
+    dvd_both (i ∷ is) (b ∷ bs) own_in bars_in =
+        dvd-add g (dvd_ticks (b ∷ bs) bars_in)
+        (dvd_min _ _ (dvd_gone turn w (i ∷ is) own_in)
+        (dvd-add g (dvd-add g (dvd_least (soonest inst cranes) (b ∷ bs) dvd_soonest) (dvd_ticks (i ∷ is) own_in))
+        (dvd-mul_right_of_dvd g grain.travel _)))
+
+    in_all : (p : ℕ → Bool) (j : ℕ) → Among (filter p (task_numbers inst)) j → j < length inst.tasks
+    in_all p j a = omega (arith, (range_among j 0 (length inst.tasks) (filter_among p (task_numbers inst) j a).0).1)
+
+    dvd_done : (low high : ℤ) → g ∣ done_in inst turn cranes w low high
+    dvd_done low high =
+        dvd_cond _ _ (dvd_both (filter (lies inst low high) (own inst cranes w)) (barring inst cranes w low high)
+        (λ j a. in_all _ j (filter_among (lies inst low high) (own inst cranes w) j a).0)
+        (λ j a. in_all _ j a))
+
+    dvd_all : (is : List ℕ) (n : ℕ) → Among (all_done inst turn cranes w is) n → g ∣ n
+    dvd_all [] n a = absurd a
+    dvd_all (i ∷ is) n a =
+        let low = lowest inst i is in
+        let high = highest inst i is in
+        let r = flat_among
+        (λ j. done_in inst turn cranes w low (bay_of inst j) ∷ done_in inst turn cranes w (bay_of inst j) high ∷ [])
+        (filter (lies inst low high) (task_numbers inst)) n a in
+        one r.0 low high r.2
+      where
+        one : (j : ℕ) (low high : ℤ)
+            → Among (done_in inst turn cranes w low (bay_of inst j) ∷ done_in inst turn cranes w (bay_of inst j) high ∷ []) n
+            → g ∣ n
+        one j low high (inl e) = subst (λ (n : ℕ). g ∣ n) e (dvd_done low (bay_of inst j))
+        one j low high (inr (inl e)) = subst (λ (n : ℕ). g ∣ n) e (dvd_done (bay_of inst j) high)
+        one j low high (inr (inr none)) = absurd none
+
+    dvd_barred : g ∣ (barred_frame inst turn cranes w).gone
+    dvd_barred =
+        dvd_greatest ((frame inst turn cranes w).gone ∷ all_done inst turn cranes w (own_or_left inst cranes w)) one
+      where
+        one : (n : ℕ) → Among ((frame inst turn cranes w).gone ∷ all_done inst turn cranes w (own_or_left inst cranes w)) n → g ∣ n
+        one n (inl e) = subst (λ (n : ℕ). g ∣ n) e (dvd_gone turn w (own inst cranes w) (λ j a. in_all _ j a))
+        one n (inr a) = dvd_all (own_or_left inst cranes w) n a
+
 module _ (inst : InstanceView) (turn : Turn) (cranes : List (Option ℕ)) (sched : List Slot) (valid : Valid inst)
     (goes : GoesBy turn inst sched) (follows : Follows inst cranes sched) (g : ℕ) (grain : AreMultiples inst g)
     (end : ℕ) (early : ends inst sched < end) where
@@ -526,28 +619,23 @@ module _ (inst : InstanceView) (turn : Turn) (cranes : List (Option ℕ)) (sched
   abbrev work : ℕ → ℕ
   work w = beside inst turn cranes sched valid goes follows w
 
-  abbrev has : (w : ℕ) → HasTime inst turn cranes sched valid goes follows w (frame inst turn cranes w)
-  has w = has_time inst turn cranes sched valid goes follows w
+  abbrev has : (w : ℕ) → HasTime inst turn cranes sched valid goes follows w (barred_frame inst turn cranes w)
+  has w = barred_time inst turn cranes sched valid goes follows w
 
   -- what is a multiple and over when the schedule ends is so by the tick
   by_tick : (n : ℕ) → g ∣ n → n ≤ ends inst sched → n ≤ tick
   by_tick n divides low = multiple_to g (end - 1) n grain.some divides (omega (arith, low, early))
 
-  in_range : (w j : ℕ) → Among (own inst cranes w) j → j < length inst.tasks
-  in_range w j a =
-      let r = filter_among (λ j. option_map_or (λ k. eqb k w) (crane_in cranes j) false) (task_numbers inst) j a in
-      omega (arith, (range_among j 0 (length inst.tasks) r.0).1)
+  gone_divides : (w : ℕ) → g ∣ (barred_frame inst turn cranes w).gone
+  gone_divides w = dvd_barred inst g grain turn cranes w
 
-  gone_divides : (w : ℕ) → g ∣ (frame inst turn cranes w).gone
-  gone_divides w = dvd_gone inst g grain turn w (own inst cranes w) (in_range w)
-
-  done_by : (w : ℕ) → (frame inst turn cranes w).works ≡ true → (frame inst turn cranes w).gone ≤ tick
-  done_by w works = by_tick (frame inst turn cranes w).gone (gone_divides w) ((has w).done works)
+  done_by : (w : ℕ) → (barred_frame inst turn cranes w).works ≡ true → (barred_frame inst turn cranes w).gone ≤ tick
+  done_by w works = by_tick (barred_frame inst turn cranes w).gone (gone_divides w) ((has w).done works)
 
   fits_by : (w : ℕ) → 0 < work w
-      → (frame inst turn cranes w).gone + work w + inst.travel * ((has w).far + (has w).deep) ≤ tick
+      → (barred_frame inst turn cranes w).gone + work w + inst.travel * ((has w).far + (has w).deep) ≤ tick
   fits_by w some =
-      by_tick ((frame inst turn cranes w).gone + work w + inst.travel * ((has w).far + (has w).deep))
+      by_tick ((barred_frame inst turn cranes w).gone + work w + inst.travel * ((has w).far + (has w).deep))
       (dvd-add g (dvd-add g (gone_divides w) work_divides) (dvd-mul_right_of_dvd g grain.travel ((has w).far + (has w).deep)))
       ((has w).fits some)
     where

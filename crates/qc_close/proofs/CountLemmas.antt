@@ -24,7 +24,7 @@ sums_within f g h (x ∷ xs) le =
     let rest = sums_within f g h xs (λ y a. le y (inr a)) in
     omega (arith, rest, le x (inl refl), sum_by-cons f x xs, sum_by-cons g x xs, sum_by-cons h x xs)
 
-most_cons : (n x : ℕ) (xs : List ℕ) → most n xs ≤ most n (x ∷ xs)
+pub most_cons : (n x : ℕ) (xs : List ℕ) → most n xs ≤ most n (x ∷ xs)
 most_cons zero x xs = omega arith
 most_cons (suc n) x xs = omega arith
 

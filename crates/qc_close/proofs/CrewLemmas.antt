@@ -1,9 +1,9 @@
 -- The work that is left at each bay as tasks get and lose their cranes, and that what code tries is what is to be tried.
-use Rattle.std.proofs.Common.{◌≡◌, ◌≢◌, ℕ, zero, suc, ◌+◌, ◌-◌, ◌*◌, ◌<◌, ◌≤◌, inl, inr, Bool, true, false, ◌&&◌, ◌||◌, eqb, leb, nat_lt, cond, List, [], ◌∷◌, length, get_or, set, map, replicate, filter, is_none, Option, None, Some, max, min, ℤ, pos, negsuc, ◌≤ℤ◌, of_z, to_z, w32, take, refl, ap, sym, subst, ◌∙◌, arith, sum_by}
+use Rattle.std.proofs.Common.{◌≡◌, ◌≢◌, ℕ, zero, suc, ◌+◌, ◌-◌, ◌*◌, ◌<◌, ◌≤◌, inl, inr, Bool, true, false, ◌&&◌, eqb, leb, nat_lt, cond, List, [], ◌∷◌, length, get_or, set, map, replicate, filter, is_none, Option, None, Some, ℤ, pos, negsuc, ◌≤ℤ◌, of_z, to_z, w32, take, refl, ap, sym, subst, ◌∙◌, arith, sum_by}
 use Rattle.std.proofs.Math.Path.{fun_ext}
 use Rattle.std.proofs.Math.IntN.{nat_abs}
 use Rattle.std.proofs.lemmas.Int.{ints}
-use Rattle.std.proofs.lemmas.Bool.{cases_eq, cases_lt, eq-eqb, ne_eqb, le-leb, lt-leb, lt-ltb, or_left, or_right, or_from}
+use Rattle.std.proofs.lemmas.Bool.{cases_eq, cases_lt, eq-eqb, ne_eqb, le-leb, lt-leb, lt-ltb}
 use Rattle.std.proofs.lemmas.List.{get_or-set_other, get_or-set_same, length-set}
 use Rattle.std.proofs.lemmas.List.Sums.{sum_by-cons}
 use Rattle.std.specs.List.{range_with_len}
@@ -13,9 +13,9 @@ use Rattle.qc_model.specs.declared.limits.TheConstants.{MOST_TASKS, MOST_WORK}
 use Rattle.qc_model.specs.declared.task.Task.{Task}
 use Rattle.qc_model.specs.declared.turn.Turn.{Turn}
 use Rattle.qc_model.specs.Assignments.{crane_in, no_cranes}
+use Rattle.qc_model.specs.Barred.{barred_frame}
 use Rattle.qc_model.specs.Bays.{at_least_zero}
 use Rattle.qc_model.specs.Closed.{Try, grain, is_short, is_short_before, last_before, left_at, left_bays, try_of, work_at}
-use Rattle.qc_model.specs.Frames.{frame}
 use Rattle.qc_model.specs.Instance.{InstanceView, Valid, bay_of, no_task, ticks_of}
 use Rattle.qc_model.specs.Work.{crane_numbers, task_numbers, ticks_over}
 use Rattle.qc_model.proofs.Bays.{bays}
@@ -65,7 +65,7 @@ sum_changed f g d j a (suc n) low high here other = elim (cases_lt a j) [
       )
 ]
 
-sum_few : (f : ℕ → ℕ) (b a n : ℕ) → ((i : ℕ) → i < a + n → f i ≤ b) → sum_by f (range_with_len a n) ≤ n * b
+pub sum_few : (f : ℕ → ℕ) (b a n : ℕ) → ((i : ℕ) → i < a + n → f i ≤ b) → sum_by f (range_with_len a n) ≤ n * b
 sum_few f b a zero le = omega arith
 sum_few f b a (suc n) le =
     omega (
@@ -80,10 +80,10 @@ module _ (inst : InstanceView) where
   at j = at_least_zero (bay_of inst j)
 
   -- a task's ticks, where it is left at bay x
-  abbrev term : List (Option ℕ) → ℕ → ℕ → ℕ
+  abbrev pub term : List (Option ℕ) → ℕ → ℕ → ℕ
   term cranes x j = cond (is_none (crane_in cranes j) && eqb (at j) x) (ticks_of inst j) 0
 
-  work_is : (cranes : List (Option ℕ)) (x : ℕ) → work_at inst cranes x ≡ sum_by (term cranes x) (task_numbers inst)
+  pub work_is : (cranes : List (Option ℕ)) (x : ℕ) → work_at inst cranes x ≡ sum_by (term cranes x) (task_numbers inst)
   work_is cranes x = sum_filter (ticks_of inst) (λ j. is_none (crane_in cranes j) && eqb (at j) x) (task_numbers inst)
 
   module _ (a b : List (Option ℕ)) (j : ℕ) (low : j < length inst.tasks) (none : is_none (crane_in a j) ≡ true)
@@ -207,17 +207,17 @@ module _ (inst : InstanceView) where
         ap (λ (p : ℕ → Bool). filter p (range_with_len 1 (length left - 1))) (fun_ext some_left)
         ∙ ap (λ n. filter (λ x. nat_lt 0 (length (left_at inst cranes x))) (range_with_len 1 n)) many
 
-    pub try_same : (turn : Turn) (tick : ℕ) (frames : List Frame) → frames ≡ map (frame inst turn cranes) (crane_numbers inst)
+    pub try_same : (turn : Turn) (tick : ℕ) (frames : List Frame) → frames ≡ map (barred_frame inst turn cranes) (crane_numbers inst)
         → try_by inst.travel tick frames left ≡ try_of inst turn cranes tick
     try_same turn tick frames same =
         let P : List Frame → List ℕ → (ℕ → ℕ) → Try = λ fs bs w. record { travel = inst.travel; frames = fs; bays = bs; work = w; tick = tick } in
         ap (λ fs. P fs (bays_of left) (λ x. get_or left x 0)) same
-        ∙ ap (λ bs. P (map (frame inst turn cranes) (crane_numbers inst)) bs (λ x. get_or left x 0)) bays_same
-        ∙ ap (λ w. P (map (frame inst turn cranes) (crane_numbers inst)) (left_bays inst cranes) w) (fun_ext is.work)
+        ∙ ap (λ bs. P (map (barred_frame inst turn cranes) (crane_numbers inst)) bs (λ x. get_or left x 0)) bays_same
+        ∙ ap (λ w. P (map (barred_frame inst turn cranes) (crane_numbers inst)) (left_bays inst cranes) w) (fun_ext is.work)
 
 -- ---- the loop that fills the list
 
-none_there : (n j : ℕ) → crane_in (replicate n None) j ≡ None
+pub none_there : (n j : ℕ) → crane_in (replicate n None) j ≡ None
 none_there zero j = refl
 none_there (suc n) zero = refl
 none_there (suc n) (suc j) = none_there n j
@@ -321,7 +321,7 @@ added_all inst n left is added = all_added inst left (subst (λ (k : ℕ). AreAd
 pub short_same : (inst : InstanceView) (turn : Turn) (cranes : List (Option ℕ)) (left : List ℕ) → Valid inst
     → IsLeft inst cranes left → (travel step n : ℕ) (frames whole : List Frame) → travel ≡ inst.travel → step ≡ grain inst
     → frames ≡ take n whole → n ≡ length inst.cranes
-    → take (length inst.cranes) whole ≡ map (frame inst turn cranes) (crane_numbers inst) → (end : ℕ)
+    → take (length inst.cranes) whole ≡ map (barred_frame inst turn cranes) (crane_numbers inst) → (end : ℕ)
     → is_short (try_by travel (last_before step end) frames left) ≡ is_short_before inst turn cranes end
 short_same inst turn cranes left valid is travel step n frames whole is_travel is_step is_frames is_n all end =
     ap (λ t. is_short (try_by t (last_before step end) frames left)) is_travel
@@ -338,25 +338,3 @@ module _ (p : ℕ → Bool) (falls : (n m : ℕ) → n ≤ m → p m ≡ true �
     | inl after ↦ lt-leb end last after ∙ sym (is.others end after within)
     | inr before ↦ le-leb end last before ∙ sym (falls end last before (is.passes (omega arith)))
   ]
-
-  pub last_within : (limit last less : ℕ) → less ≤ limit → IsLast p limit last → IsLast p less (min last less)
-  last_within limit last less le is = record {
-    within = omega arith;
-    passes = λ some. falls (min last less) last (omega arith) (is.passes (omega arith));
-    others = λ k after within. is.others k (omega arith) (omega arith);
-  }
-
-  module _ (q : ℕ → Bool) (q_falls : (n m : ℕ) → n ≤ m → q m ≡ true → q n ≡ true) where
-    pub last_either : (limit one other : ℕ) → IsLast p limit one → IsLast q limit other → IsLast (λ n. p n || q n) limit (max one other)
-    last_either limit one other is_p is_q = record {
-      within = omega (arith, is_p.within, is_q.within);
-      passes = λ some. elim (cases_lt one other) [
-        | inl less ↦
-            let e : other ≡ max one other = omega arith in
-            or_right (p (max one other)) (q (max one other)) (subst (λ (n : ℕ). q n ≡ true) e (is_q.passes (omega arith)))
-        | inr more ↦
-            let e : one ≡ max one other = omega arith in
-            or_left (p (max one other)) (q (max one other)) (subst (λ (n : ℕ). p n ≡ true) e (is_p.passes (omega arith)))
-      ];
-      others = λ k after within. or_from (p k) (q k) (is_p.others k (omega arith) within) (is_q.others k (omega arith) within);
-    }

@@ -1,8 +1,8 @@
 -- A crane has had the time, when a schedule ends, for what it has spent on its own tasks, for the others that it does,
 -- and for the way that it goes beyond its own for these.
-use Rattle.std.proofs.Common.{◌≡◌, ◌≢◌, ℕ, zero, suc, ◌+◌, ◌*◌, ◌<◌, ◌≤◌, ◌⊎◌, inl, inr, Bool, true, false, ◌&&◌, eqb, cond, List, [], ◌∷◌, length, Option, None, Some, ℤ, pos, ◌≤ℤ◌, refl, ap, sym, subst, ◌∙◌, arith, filter, is_none, sum_by}
+use Rattle.std.proofs.Common.{◌≡◌, ◌≢◌, ℕ, ◌+◌, ◌*◌, ◌<◌, ◌≤◌, ◌⊎◌, inl, inr, Bool, true, false, ◌&&◌, eqb, cond, List, [], ◌∷◌, length, Option, None, Some, ℤ, pos, ◌≤ℤ◌, refl, ap, sym, subst, ◌∙◌, arith, filter, is_none, sum_by}
 use Rattle.std.proofs.Math.Nat.{mul-add, mul-le-mul_left}
-use Rattle.std.proofs.lemmas.Bool.{and_parts, cases_Bool, cases_lt, cond_both, eq-eqb, eqb-true, false≢true}
+use Rattle.std.proofs.lemmas.Bool.{and_parts, cases_Bool, cases_lt, eq-eqb, eqb-true, false≢true}
 use Rattle.std.proofs.lemmas.Int.{by_lt_z, int_max_is, int_min_is, ints}
 use Rattle.std.proofs.lemmas.List.Sums.{sum_by-cons}
 use Rattle.std.specs.Int.{int_max, int_min}
@@ -27,7 +27,7 @@ use Rattle.qc_model.specs.Frames.{GoesBy, frame, frame_of, own, turn_bays, turn_
 use Rattle.qc_close.proofs.CountLemmas.{sum_filter, sums_within}
 use Rattle.qc_close.proofs.Members.{Among, among_filter, among_range, any_at, any_from, filter_among, first_of, range_among}
 use Rattle.qc_close.proofs.PackLemmas.{ends_in}
-use Rattle.qc_close.proofs.Rows.{AllClear, AreClear, Row, row_after, row_fits, row_of, way, way_between, way_to}
+use Rattle.qc_close.proofs.Rows.{AllClear, AreClear, Row, clear_from, row_after, row_fits, row_of, way, way_between, way_to}
 
 pub feasible_by : (turn : Turn) (inst : InstanceView) (sched : List Slot) → GoesBy turn inst sched → Feasible inst sched
 feasible_by OneWay inst sched g = g.feasible
@@ -78,25 +78,17 @@ module _ (inst : InstanceView) (sched : List Slot) (valid : Valid inst) (f : Fea
       let k = range_among j a n r.0 in
       (k.0, (omega (arith, k.1), eqb-true (crane_of sched j) w r.1))
 
-  all_clear : (a n : ℕ) → a + n ≤ count → AllClear starts_at lasts ways (filter does (range_with_len a n))
-  all_clear a zero inside = tt
-  all_clear a (suc n) inside =
-      let rest = all_clear (a + 1) n (omega arith) in
-      cond_both (does a) (a ∷ filter does (range_with_len (a + 1) n)) (filter does (range_with_len (a + 1) n))
-      (λ js. AllClear starts_at lasts ways js)
-      (λ t. (
-        λ j is.
-            let on = on_of (a + 1) n j (omega arith) is in
-            two_clear a j (omega arith, eqb-true (crane_of sched a) w t) on.1 (λ e. omega (arith, on.0)),
-        rest,
-      ))
-      (λ _. rest)
-
-  arrives : (j : ℕ) → IsOn j → ready + inst.travel * bays_between berth (bay_of inst j) ≤ starts_at j
-  arrives j on = subst (λ (v : ℕ). arrival inst v (bay_of inst j) ≤ start_of sched j) on.1 (f.ready j on.0)
-
   abbrev tasks : List ℕ
   tasks = filter does (range_with_len 0 count)
+
+  all_clear : AllClear starts_at lasts ways tasks
+  all_clear =
+      clear_from starts_at lasts ways does 0 count
+      (λ i j less low s t. two_clear i j (omega arith, eqb-true (crane_of sched i) w s)
+      (omega arith, eqb-true (crane_of sched j) w t) (λ e. omega arith))
+
+  pub arrives : (j : ℕ) → IsOn j → ready + inst.travel * bays_between berth (bay_of inst j) ≤ starts_at j
+  arrives j on = subst (λ (v : ℕ). arrival inst v (bay_of inst j) ≤ start_of sched j) on.1 (f.ready j on.0)
 
   -- what the crane needs for all its tasks, which lie from low to high
   pub record HasTasks (turn : Turn) : Type 0 where
@@ -139,7 +131,7 @@ module _ (inst : InstanceView) (sched : List Slot) (valid : Valid inst) (f : Fea
 
   pub tasks_fit : (turn : Turn) → GoesBy turn inst sched → (k : ℕ) → IsOn k → HasTasks turn
   tasks_fit turn g k on_k =
-      let row = row_of starts_at lasts ways from_berth tasks (λ j is. arrives j (on_of 0 count j (omega arith) is).1) (all_clear 0 count (omega arith)) in
+      let row = row_of starts_at lasts ways from_berth tasks (λ j is. arrives j (on_of 0 count j (omega arith) is).1) all_clear in
       with_order row.order row.row row.ticks
       (λ j on. row.has j (among_filter does (range_with_len 0 count) j (among_range j 0 count (omega arith) (omega (arith, on.0))) (eq-eqb (crane_of sched j) w on.1)))
       (λ j is. (on_of 0 count j (omega arith) (row.only j is)).1)
@@ -182,7 +174,7 @@ high_is_berth l b h = omega (arith, ints, int_max_is l b)
 
 -- with its own tasks from f to l and all from low to high
 module _ (b f l low high : ℤ) (down : low ≤ℤ f) (own_up : f ≤ℤ l) (up_to : l ≤ℤ high) where
-  parts : bays_up low high ≡ bays_up low f + bays_up f l + bays_up l high
+  pub parts : bays_up low high ≡ bays_up low f + bays_up f l + bays_up l high
   parts = omega (arith, bays)
 
   above_low : f ≤ℤ b → bays_between b f ≤ bays_between b low
@@ -209,7 +201,7 @@ module _ (b f l low high : ℤ) (down : low ≤ℤ f) (own_up : f ≤ℤ l) (up_
       let little : bays_up b high ≤ bays_up l high = omega (arith, bays) in
       omega (arith, near, little)
 
-  beyond : (turn : Turn)
+  pub beyond : (turn : Turn)
       → turn_bays turn b f l + (bays_up (turn_high turn b l) high + bays_up low (int_min f b)) ≤ turn_bays turn b low high
   beyond OneWay = by_lt_z b f
       (λ under.
@@ -253,7 +245,7 @@ beyond_berth Free b low high p = omega (arith, bays)
 
 -- ---- what is left to a crane
 
-lowest_from : (inst : InstanceView) (x : ℤ) (j : ℕ) (js : List ℕ) → ((k : ℕ) → Among (j ∷ js) k → x ≤ℤ bay_of inst k)
+pub lowest_from : (inst : InstanceView) (x : ℤ) (j : ℕ) (js : List ℕ) → ((k : ℕ) → Among (j ∷ js) k → x ≤ℤ bay_of inst k)
     → x ≤ℤ lowest inst j js
 lowest_from inst x j [] h = h j (inl refl)
 lowest_from inst x j (i ∷ is) h =
@@ -261,7 +253,7 @@ lowest_from inst x j (i ∷ is) h =
     let first = h j (inl refl) in
     omega (arith, ints, int_min_is (bay_of inst j) (lowest inst i is), rest, first)
 
-highest_to : (inst : InstanceView) (x : ℤ) (j : ℕ) (js : List ℕ) → ((k : ℕ) → Among (j ∷ js) k → bay_of inst k ≤ℤ x)
+pub highest_to : (inst : InstanceView) (x : ℤ) (j : ℕ) (js : List ℕ) → ((k : ℕ) → Among (j ∷ js) k → bay_of inst k ≤ℤ x)
     → highest inst j js ≤ℤ x
 highest_to inst x j [] h = h j (inl refl)
 highest_to inst x j (i ∷ is) h =
@@ -312,7 +304,7 @@ module _ (inst : InstanceView) (turn : Turn) (cranes : List (Option ℕ)) (sched
   abbrev On : ℕ → Type 0
   On j = IsOn inst sched valid feasible w j
 
-  on_open : (j : ℕ) → j < length inst.tasks → does_open j ≡ true → On j
+  pub on_open : (j : ℕ) → j < length inst.tasks → does_open j ≡ true → On j
   on_open j low t =
       (low, eqb-true (crane_of sched j) w (and_parts (is_none (crane_in cranes j)) (eqb (crane_of sched j) w) t).1)
 
@@ -356,7 +348,7 @@ module _ (inst : InstanceView) (turn : Turn) (cranes : List (Option ℕ)) (sched
         fits = λ _. omega (arith, t.fits, sum, all, way_is);
       }
 
-  own_on : (j : ℕ) → Among (own inst cranes w) j → On j
+  pub own_on : (j : ℕ) → Among (own inst cranes w) j → On j
   own_on j a =
       let r = filter_among (λ j. option_map_or (λ k. eqb k w) (crane_in cranes j) false) (task_numbers inst) j a in
       let low : j < length inst.tasks = omega (arith, (range_among j 0 (length inst.tasks) r.0).1) in

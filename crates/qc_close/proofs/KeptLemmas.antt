@@ -1,17 +1,18 @@
 -- What a crew keeps as tasks get and lose their cranes, and what it answers of closed ends.
-use Rattle.std.proofs.Common.{◌≡◌, ℕ, ◌+◌, ◌-◌, ◌*◌, ◌<◌, ◌≤◌, inl, inr, Bool, true, false, ◌||◌, leb, List, length, get_or, set, map, is_none, is_some, Option, None, Some, max, min, ℤ, pos, negsuc, ◌≤ℤ◌, of_z, to_z, w32, refl, ap, sym, subst, ◌∙◌, arith}
+use Rattle.std.proofs.Common.{◌≡◌, ℕ, ◌+◌, ◌-◌, ◌*◌, ◌<◌, ◌≤◌, inl, inr, Bool, true, false, ◌||◌, leb, List, length, get_or, set, map, is_none, is_some, Option, None, Some, ℤ, pos, negsuc, ◌≤ℤ◌, of_z, to_z, w32, refl, ap, sym, subst, ◌∙◌, arith}
 use Rattle.std.proofs.Math.IntN.{nat_abs}
 use Rattle.std.proofs.lemmas.Bool.{cases_eq, false≢true, le-leb, lt-leb, or_cases, or_left, or_right}
 use Rattle.std.proofs.lemmas.Int.{ints}
-use Rattle.std.proofs.lemmas.List.{get_or_read}
-use Rattle.qc_model.specs.declared.limits.TheConstants.{MOST_TASKS, MOST_WORK}
+use Rattle.std.proofs.lemmas.List.{get_or_read, get_or-set_other, get_or-set_same, length-replicate, length-set}
+use Rattle.qc_model.specs.declared.limits.TheConstants.{MOST_DISTANCE, MOST_READY, MOST_TASKS, MOST_WORK}
 use Rattle.qc_model.specs.declared.task.Task.{Task}
 use Rattle.qc_model.specs.declared.turn.Turn.{Turn}
 use Rattle.qc_model.specs.Assignments.{AreInRange, crane_in, no_cranes}
+use Rattle.qc_model.specs.Barred.{barred_frame}
 use Rattle.qc_model.specs.Bays.{at_least_zero}
-use Rattle.qc_model.specs.Closed.{grain, is_closed, is_short_before, last_before, left_bays, work_at}
-use Rattle.qc_model.specs.Frames.{frame}
+use Rattle.qc_model.specs.Closed.{IsClosedBound, grain, is_closed, is_short_before, last_before, left_bays, work_at}
 use Rattle.qc_model.specs.Instance.{InstanceView, Valid, bay_of, task, ticks_of}
+use Rattle.qc_model.specs.Nodes.{free}
 use Rattle.qc_model.specs.Work.{crane_numbers}
 use Rattle.qc_model.proofs.LimitsOf.{limits_of}
 use Rattle.qc_close.specs.declared.closed.TheConstants.{LAST_CLOSED}
@@ -20,7 +21,9 @@ use Rattle.qc_close.specs.CrewFields.{IsKept, view_of}
 use Rattle.qc_close.specs.Crews.{CrewView}
 use Rattle.qc_close.specs.Lasts.{IsLast}
 use Rattle.qc_close.specs.Lefts.{IsLeft}
-use Rattle.qc_close.proofs.CrewLemmas.{at, bay_index, cranes_else, cranes_there, last_either, last_test, last_within, left_put, left_take, put_room, work_within}
+use Rattle.qc_close.specs.Spots.{AreSoonest, AreSpots}
+use Rattle.qc_close.proofs.ClosedLemmas.{closed_end_le}
+use Rattle.qc_close.proofs.CrewLemmas.{at, bay_index, cranes_else, cranes_there, last_test, left_put, left_take, none_there, put_room, work_within}
 use Rattle.qc_close.proofs.GrainLemmas.{grain_is, travel_range}
 use Rattle.qc_close.proofs.ShortLemmas.{last_rises, short_sooner}
 
@@ -94,13 +97,81 @@ module _ (inst : InstanceView) (valid : Valid inst) (cranes : List (Option ℕ))
       (subst (λ (n : ℕ). IsLeft inst (set cranes j None) (set left (at inst j) n)) same
       (left_take inst cranes left is j low many on_list taken))
 
+-- ---- when tasks can start with their cranes
+
+some_is : (j k v : ℕ) → Some v ≡ Some k → v ≡ k
+some_is j k v e = cc
+
+module _ (inst : InstanceView) (cranes : List (Option ℕ)) (soonest : List ℕ) (s : AreSoonest inst cranes soonest)
+    (j : ℕ) (low : j < length inst.tasks) (many : length cranes ≡ length inst.tasks) where
+  pub put_soonest : (k v : ℕ) → v ≡ free inst j k → v ≤ MOST_READY + MOST_DISTANCE
+      → AreSoonest inst (set cranes j (Some k)) (set soonest j v)
+  put_soonest k v is few = record {
+    many = length-set soonest j v ∙ s.many;
+    is = λ i n e. elim (cases_eq i j) [
+      | inl same ↦
+          let k_is = some_is i n k (sym (cranes_there inst cranes j (Some k) (omega (arith, low, many))) ∙ ap (crane_in (set cranes j (Some k))) (sym same) ∙ e) in
+          ap (λ m. get_or (set soonest j v) m 0) same ∙ get_or-set_same soonest j v 0 (omega (arith, low, s.many)) ∙ is
+          ∙ ap (λ m. free inst m k) (sym same) ∙ ap (free inst i) k_is
+      | inr differ ↦
+          get_or-set_other soonest j i v 0 differ ∙ s.is i n (sym (cranes_else inst cranes j (Some k) i differ) ∙ e)
+    ];
+    bound = λ i n e. elim (cases_eq i j) [
+      | inl same ↦
+          let k_is = some_is i n k (sym (cranes_there inst cranes j (Some k) (omega (arith, low, many))) ∙ ap (crane_in (set cranes j (Some k))) (sym same) ∙ e) in
+          let at : free inst i n ≡ v = ap (λ m. free inst m n) same ∙ ap (free inst j) (sym k_is) ∙ sym is in
+          omega (arith, at, few)
+      | inr differ ↦ s.bound i n (sym (cranes_else inst cranes j (Some k) i differ) ∙ e)
+    ];
+  }
+
+  still : (i n : ℕ) → crane_in (set cranes j None) i ≡ Some n → crane_in cranes i ≡ Some n
+  still i n e = elim (cases_eq i j) [
+    | inl same ↦ absurd (no_crane_some n (sym (cranes_there inst cranes j None (omega (arith, low, many))) ∙ ap (crane_in (set cranes j None)) (sym same) ∙ e))
+    | inr differ ↦ sym (cranes_else inst cranes j None i differ) ∙ e
+  ]
+
+  pub take_soonest : AreSoonest inst (set cranes j None) soonest
+  take_soonest = record {
+    many = s.many;
+    is = λ i n e. s.is i n (still i n e);
+    bound = λ i n e. s.bound i n (still i n e);
+  }
+
+pub no_soonest : (inst : InstanceView) (cranes : List (Option ℕ)) (soonest : List ℕ) → cranes ≡ no_cranes inst
+    → length soonest ≡ length inst.tasks → AreSoonest inst cranes soonest
+no_soonest inst cranes soonest none many = record {
+  many = many;
+  is = λ i n e. absurd (no_crane_some n (sym (none_there (length inst.tasks) i) ∙ ap (λ cs. crane_in cs i) (sym none) ∙ e));
+  bound = λ i n e. absurd (no_crane_some n (sym (none_there (length inst.tasks) i) ∙ ap (λ cs. crane_in cs i) (sym none) ∙ e));
+}
+
+-- ---- a crew as it is opened
+
+pub kept_open : (f : Inside) (inst : InstanceView) → f.inst ≡ inst → Valid inst → f.cranes.items ≡ no_cranes inst
+    → AreSpots inst f.spots → length f.soonest.items ≡ length inst.tasks → IsLeft inst (no_cranes inst) f.left.items
+    → f.step ≡ grain inst → IsLast (is_short_before inst f.turn (no_cranes inst)) LAST_CLOSED f.bare → IsKept f
+kept_open f inst e valid none spots many left step bare =
+    let back = sym e in
+    let none_is = none ∙ ap no_cranes back in
+    record {
+      valid = subst Valid back valid;
+      count = ap length none_is ∙ length-replicate (length f.inst.tasks) None;
+      range = λ j k some. absurd (no_crane_some k (sym (none_there (length f.inst.tasks) j) ∙ ap (λ cs. crane_in cs j) (sym none_is) ∙ some));
+      spots = subst (λ i. AreSpots i f.spots) back spots;
+      soonest = no_soonest f.inst f.cranes.items f.soonest.items none_is (many ∙ ap (λ (i : InstanceView). length i.tasks) back);
+      left = subst (λ cs. IsLeft f.inst cs f.left.items) (sym none_is) (subst (λ i. IsLeft i (no_cranes i) f.left.items) back left);
+      step = step ∙ ap grain back;
+      bare = subst (λ i. IsLast (is_short_before i f.turn (no_cranes i)) LAST_CLOSED f.bare) back bare;
+    }
+
 -- ---- closed ends
 
 -- what is short before an end is so before each earlier one
 falls : (inst : InstanceView) → Valid inst → (turn : Turn) (cranes : List (Option ℕ)) (n m : ℕ) → n ≤ m
     → is_short_before inst turn cranes m ≡ true → is_short_before inst turn cranes n ≡ true
 falls inst valid turn cranes n m le =
-    short_sooner inst.travel (map (frame inst turn cranes) (crane_numbers inst)) (left_bays inst cranes) (work_at inst cranes)
+    short_sooner inst.travel (map (barred_frame inst turn cranes) (crane_numbers inst)) (left_bays inst cranes) (work_at inst cranes)
     (last_before (grain inst) n) (last_before (grain inst) m)
     (last_rises (grain inst) n m (grain_is inst (travel_range inst valid).0).some le)
 
@@ -132,20 +203,19 @@ module _ (f : Inside) (k : IsKept f) where
         subst (λ (w : CrewView). leb end f.bare ≡ is_closed w.inst w.turn w.cranes end) is
         (le-leb end f.bare early ∙ sym (or_left (bare end) (own end) (sym (tests end some within) ∙ le-leb end f.bare early)))
 
+    pub bare_closed : 0 < f.bare → is_closed v.inst v.turn v.cranes f.bare ≡ true
+    bare_closed some =
+        subst (λ (w : CrewView). is_closed w.inst w.turn w.cranes f.bare ≡ true) is
+        (or_left (bare f.bare) (own f.bare) (k.bare.passes some))
+
     pub closed_late : (end : ℕ) → 0 < end → end ≤ LAST_CLOSED → f.bare < end
         → is_short_before v.inst v.turn v.cranes end ≡ is_closed v.inst v.turn v.cranes end
     closed_late end some within late =
         subst (λ (w : CrewView). is_short_before w.inst w.turn w.cranes end ≡ is_closed w.inst w.turn w.cranes end) is
         (sym (ap (λ b. b || own end) (sym (tests end some within) ∙ lt-leb end f.bare late)))
 
-    pub last_of : (limit short low r : ℕ) → limit ≤ LAST_CLOSED → IsLast (is_short_before v.inst v.turn v.cranes) limit short
-        → low ≡ min f.bare limit → r ≡ max low short → IsLast (is_closed v.inst v.turn v.cranes) limit r
-    last_of limit short low r within is_short is_low is_r =
-        let back = subst (λ (w : CrewView). IsLast (is_short_before w.inst w.turn w.cranes) limit short) (sym is) is_short in
-        let bare_is = last_within bare (falls f.inst k.valid f.turn (no_cranes f.inst)) LAST_CLOSED f.bare limit within k.bare in
-        let both =
-        last_either bare (falls f.inst k.valid f.turn (no_cranes f.inst)) own (falls f.inst k.valid f.turn f.cranes.items) limit
-        (min f.bare limit) short bare_is back in
-        let same : max (min f.bare limit) short ≡ r = omega (arith, is_low, is_r) in
-        subst (λ (w : CrewView). IsLast (is_closed w.inst w.turn w.cranes) limit r) is
-        (subst (IsLast (λ n. bare n || own n) limit) same both)
+    -- an end at which the assignment is closed is a bound
+    pub closed_bound : (end : ℕ) (b : Bool) → b ≡ is_closed v.inst v.turn v.cranes end → b ≡ true
+        → IsClosedBound v.inst v.turn v.cranes end
+    closed_bound end b e t =
+        closed_end_le v.inst v.turn v.cranes end (subst (λ (w : CrewView). Valid w.inst) is k.valid) (sym e ∙ t)

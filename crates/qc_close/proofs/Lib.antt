@@ -5,6 +5,7 @@ mod BandLemmas
 pub mod SpanLemmas
 mod LoopLemmas
 mod FrameLemmas
+mod BarredLemmas
 mod CountLemmas
 mod GrainLemmas
 pub mod ClosedLemmas
@@ -16,4 +17,8 @@ mod WalkLemmas
 mod ShortLemmas
 mod OwnLemmas
 mod CrewLemmas
+mod SpotLemmas
+mod BarLemmas
+mod StretchLemmas
 pub mod KeptLemmas
+pub mod LimitLemmas

@@ -68,11 +68,11 @@ module _ (inst : InstanceView) (ds : List Decision) (sched : List Slot) (g : Goe
       shown (least (map (head inst ds) tasks)) (ends inst sched) (pack inst (cranes_of inst ds) tasks) end
       (packed_node_le tasks) e
 
-  -- what a leaf shows is at most the end of the schedule: it never shows Never
-  pub leaf_le : Valid inst → Fits inst ds → (version : Version) (leaf : Leaf) (bound : Bound)
-      → leaf_value version inst ds leaf ≡ Some bound → IsAtMost bound (Least (ends inst sched))
-  leaf_le valid fits = leaf_value_le inst ds sched valid fits g a packed_end_le
-
   pub closed_node_le : Valid inst → (end : ℕ) → is_closed inst OneWay (cranes_of inst ds) end ≡ true → end ≤ ends inst sched
   closed_node_le valid end closed =
       closed_end_le inst OneWay (cranes_of inst ds) end valid closed sched g (follows_of inst ds sched a)
+
+  -- what a leaf shows is at most the end of the schedule: it never shows Never
+  pub leaf_le : Valid inst → Fits inst ds → (version : Version) (leaf : Leaf) (bound : Bound)
+      → leaf_value version inst ds leaf ≡ Some bound → IsAtMost bound (Least (ends inst sched))
+  leaf_le valid fits = leaf_value_le inst ds sched valid fits g a packed_end_le (closed_node_le valid)

@@ -1,5 +1,5 @@
 -- What each crane has spent, summed up from the last task to the first.
-use Rattle.std.proofs.Common.{◌≡◌, ℕ, ◌+◌, ◌-◌, ◌*◌, ◌<◌, ◌≤◌, inl, inr, Bool, true, false, eqb, cond, List, [], ◌∷◌, length, get_or, set, map, take, filter, Option, None, Some, IfSome, ℤ, of_z, to_z, w32, refl, ap, sym, subst, ◌∙◌, arith, add-one}
+use Rattle.std.proofs.Common.{◌≡◌, ℕ, ◌+◌, ◌-◌, ◌*◌, ◌<◌, ◌≤◌, inl, inr, Bool, true, false, eqb, cond, List, [], ◌∷◌, length, get_or, set, map, take, filter, Option, None, Some, IfSome, ℤ, of_z, to_z, w32, refl, ap, sym, subst, ◌∙◌, arith, add-one, is_none}
 use Rattle.std.proofs.Math.Nat.{mul-le-mul_left}
 use Rattle.std.proofs.lemmas.Bool.{cases_eq, cases_lt, eq-eqb, ne_eqb, cond-true, cond-false}
 use Rattle.std.proofs.lemmas.Int.{int_max_is, int_min_is, ints}
@@ -15,15 +15,17 @@ use Rattle.qc_model.specs.declared.task.Task.{Task}
 use Rattle.qc_model.specs.declared.turn.Turn.{Turn}
 use Rattle.qc_model.specs.declared.turn.Turn.TheVariants.{OneWay, Free}
 use Rattle.qc_model.specs.Assignments.{crane_in}
-use Rattle.qc_model.specs.Frames.{frame, frame_of, own, turn_high}
+use Rattle.qc_model.specs.Barred.{barred_frame}
+use Rattle.qc_model.specs.Frames.{frame_of, own, turn_high}
 use Rattle.qc_model.specs.Instance.{InstanceView, IsOnRail, bay_of, task, ticks_of}
 use Rattle.qc_model.specs.Work.{crane_numbers, highest, lowest, ticks_over}
 use Rattle.qc_close.specs.declared.frames.Own.{Own}
+use Rattle.qc_close.specs.Bars.{left_of}
 use Rattle.qc_close.specs.Owns.{IsSmall, frame_by, own_of, with_task}
 
 -- ---- one task more
 
-own_cons : (inst : InstanceView) (j : ℕ) (js : List ℕ) → own_of inst (j ∷ js) ≡ Some (with_task (own_of inst js) (task inst j))
+pub own_cons : (inst : InstanceView) (j : ℕ) (js : List ℕ) → own_of inst (j ∷ js) ≡ Some (with_task (own_of inst js) (task inst j))
 own_cons inst j [] =
     let P : ℕ → Own = λ n. record { ticks = n; low = bay_of inst j; high = bay_of inst j } in
     let one : ticks_over inst (j ∷ []) ≡ ticks_of inst j = omega arith in
@@ -42,7 +44,7 @@ abbrev pub has : List (Option ℕ) → ℕ → ℕ → Bool
 has cranes w j = option_map_or (λ k. eqb k w) (crane_in cranes j) false
 
 module _ (inst : InstanceView) (p : ℕ → Bool) (from task_now done : ℕ) (is : task_now + 1 ≡ from) where
-  one_more : filter p (range_with_len task_now (done + 1))
+  pub one_more : filter p (range_with_len task_now (done + 1))
       ≡ cond (p task_now) (task_now ∷ filter p (range_with_len from done)) (filter p (range_with_len from done))
   one_more =
       ap (λ k. filter p (range_with_len task_now k)) (add-one done)
@@ -70,7 +72,7 @@ pub record AreOwns (inst : InstanceView) (cranes : List (Option ℕ)) (count don
       → get_or owns w None ≡ own_of inst (filter (has cranes w) (range_with_len (count - done) done))
   pub small : (w : ℕ) → w < 8 → IfSome (get_or owns w None) (IsSmall done)
 
-some_small : (n m : ℕ) (o : Option Own) → n ≤ m → IfSome o (IsSmall n) → IfSome o (IsSmall m)
+pub some_small : (n m : ℕ) (o : Option Own) → n ≤ m → IfSome o (IsSmall n) → IfSome o (IsSmall m)
 some_small n m None le s = tt
 some_small n m (Some o) le s = record {
   ticks = omega (arith, s.ticks, le);
@@ -166,21 +168,61 @@ small_more n (Some o) t s few rail = record {
   );
 }
 
+-- ---- the loop over the tasks that no crane has
+
+module _ (inst : InstanceView) (cranes : List (Option ℕ)) (count done : ℕ) (left : Option Own) (low : done < count)
+    (is : left ≡ own_of inst (filter (λ j. is_none (crane_in cranes j)) (range_with_len (count - done) done))) where
+  abbrev last : ℕ
+  last = count - 1 - done
+
+  abbrev free : ℕ → Bool
+  free j = is_none (crane_in cranes j)
+
+  last_at : count - (done + 1) ≡ last
+  last_at = omega arith
+
+  pub left_next : (new : Own) → crane_in cranes last ≡ None → new ≡ with_task left (task inst last)
+      → Some new ≡ own_of inst (filter free (range_with_len (count - (done + 1)) (done + 1)))
+  left_next new none new_is =
+      ap Some (new_is ∙ ap (λ o. with_task o (task inst last)) is)
+      ∙ sym (own_next inst free (count - done) last done (omega arith) (ap is_none none))
+      ∙ ap (λ from. own_of inst (filter free (range_with_len from (done + 1)))) (sym last_at)
+
+  pub left_skip : (k : ℕ) → crane_in cranes last ≡ Some k
+      → left ≡ own_of inst (filter free (range_with_len (count - (done + 1)) (done + 1)))
+  left_skip k some =
+      is ∙ sym (own_skip inst free (count - done) last done (omega arith) (ap is_none some))
+      ∙ ap (λ from. own_of inst (filter free (range_with_len from (done + 1)))) (sym last_at)
+
+pub left_all : (inst : InstanceView) (cranes : List (Option ℕ)) (count done : ℕ) (left : Option Own)
+    → left ≡ own_of inst (filter (λ j. is_none (crane_in cranes j)) (range_with_len (count - done) done))
+    → count ≡ length inst.tasks → done ≡ count → left ≡ own_of inst (left_of inst cranes)
+left_all inst cranes count done left is many end =
+    let first : count - done ≡ 0 = omega (arith, end) in
+    is ∙ ap (λ from. own_of inst (filter (λ j. is_none (crane_in cranes j)) (range_with_len from done))) first
+    ∙ ap (λ n. own_of inst (filter (λ j. is_none (crane_in cranes j)) (range_with_len 0 n))) (end ∙ many)
+
 -- ---- the frames of all cranes
 
 pub frames_all : (inst : InstanceView) (turn : Turn) (cranes : List (Option ℕ)) (frames : List Frame) (d : Frame)
     → length frames ≡ 8 → length inst.cranes ≤ 8
-    → ((w : ℕ) → w < length inst.cranes → get_or frames w d ≡ frame inst turn cranes w)
-    → take (length inst.cranes) frames ≡ map (frame inst turn cranes) (crane_numbers inst)
+    → ((w : ℕ) → w < length inst.cranes → get_or frames w d ≡ barred_frame inst turn cranes w)
+    → take (length inst.cranes) frames ≡ map (barred_frame inst turn cranes) (crane_numbers inst)
 frames_all inst turn cranes frames d is few each =
     let n = length inst.cranes in
     let many : length (take n frames) ≡ n = omega (arith, length-take n frames) in
-    ext_get_or d (take n frames) (map (frame inst turn cranes) (crane_numbers inst))
-    (many ∙ sym (length-map-range_with_len (frame inst turn cranes) 0 n))
+    ext_get_or d (take n frames) (map (barred_frame inst turn cranes) (crane_numbers inst))
+    (many ∙ sym (length-map-range_with_len (barred_frame inst turn cranes) 0 n))
     (λ w low.
     let in_range : w < n = omega (arith, many) in
     get_or-take n frames w d in_range ∙ each w in_range
-    ∙ sym (get_or-map-range_with_len (frame inst turn cranes) 0 n w w d in_range (omega arith)))
+    ∙ sym (get_or-map-range_with_len (barred_frame inst turn cranes) 0 n w w d in_range (omega arith)))
+
+-- a frame with another time
+pub with_gone : (a b : Frame) (n m : ℕ) → a ≡ b → n ≡ m
+    → ◌≡◌ {A = Frame} (record a { gone = n }) (record b { gone = m })
+with_gone a b n m e f =
+    ap (λ (c : Frame). record c { gone = n }) e ∙ ap (λ k. record b { gone = k }) f
 
 -- one frame more
 pub frames_more : (P : ℕ → Frame → Type 0) (frames : List Frame) (k : ℕ) (v : Frame) → k < length frames
@@ -209,7 +251,7 @@ pub rail_min : (a b : ℤ) → IsOnRail a → IsOnRail b → IsOnRail (int_min a
 rail_min a b r s =
     (omega (arith, ints, int_min_is a b, r.0, r.1, s.0, s.1), omega (arith, ints, int_min_is a b, r.0, r.1, s.0, s.1))
 
-rail_max : (a b : ℤ) → IsOnRail a → IsOnRail b → IsOnRail (int_max a b)
+pub rail_max : (a b : ℤ) → IsOnRail a → IsOnRail b → IsOnRail (int_max a b)
 rail_max a b r s =
     (omega (arith, ints, int_max_is a b, r.0, r.1, s.0, s.1), omega (arith, ints, int_max_is a b, r.0, r.1, s.0, s.1))
 

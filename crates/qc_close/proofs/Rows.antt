@@ -1,10 +1,12 @@
 -- Tasks of which each two are clear of each other stand in a row, and take as long together as all of them and the way
 -- through their places.
-use Rattle.std.proofs.Common.{◌≡◌, ℕ, ◌+◌, ◌*◌, ◌≤◌, min, ◌⊎◌, inl, inr, List, [], ◌∷◌, ℤ, refl, ap, sym, ◌∙◌, arith, mul-add, sum_by}
+use Rattle.std.proofs.Common.{◌≡◌, ℕ, zero, suc, ◌+◌, ◌*◌, ◌<◌, ◌≤◌, min, ◌⊎◌, inl, inr, Bool, true, List, [], ◌∷◌, filter, ℤ, refl, ap, sym, ◌∙◌, arith, mul-add, sum_by}
+use Rattle.std.proofs.lemmas.Bool.{cond_both}
+use Rattle.std.specs.List.{range_with_len}
 use Rattle.std.proofs.lemmas.List.Sums.{sum_by-cons}
 use Rattle.qc_model.specs.Bays.{bays_between}
 use Rattle.qc_model.proofs.Bays.{bays}
-use Rattle.qc_close.proofs.Members.{Among}
+use Rattle.qc_close.proofs.Members.{Among, filter_among, range_among}
 
 module _ (start long : ℕ → ℕ) (gap : ℕ → ℕ → ℕ) where
   -- i ends so many ticks before j starts
@@ -19,6 +21,23 @@ module _ (start long : ℕ → ℕ) (gap : ℕ → ℕ → ℕ) where
   abbrev pub AllClear : List ℕ → Type 0
   AllClear [] = Unit {0}
   AllClear (i ∷ is) = ((j : ℕ) → Among is j → AreClear i j) × AllClear is
+
+  -- of those that pass a test
+  pub clear_from : (p : ℕ → Bool) (a n : ℕ)
+      → ((i j : ℕ) → i < j → j < a + n → p i ≡ true → p j ≡ true → AreClear i j)
+      → AllClear (filter p (range_with_len a n))
+  clear_from p a zero h = tt
+  clear_from p a (suc n) h =
+      let rest = clear_from p (a + 1) n (λ i j less low. h i j less (omega arith)) in
+      cond_both (p a) (a ∷ filter p (range_with_len (a + 1) n)) (filter p (range_with_len (a + 1) n)) AllClear
+      (λ t. (
+        λ j is.
+            let r = filter_among p (range_with_len (a + 1) n) j is in
+            let k = range_among j (a + 1) n r.0 in
+            h a j (omega (arith, k.0)) (omega (arith, k.1)) t r.1,
+        rest,
+      ))
+      (λ _. rest)
 
   -- the first starts no earlier than it may, and each other one after the one before it
   abbrev pub Row : (ℕ → ℕ) → List ℕ → Type 0

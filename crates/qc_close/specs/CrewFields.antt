@@ -8,6 +8,7 @@ use Rattle.qc_model.specs.Closed.{grain, is_short_before}
 use Rattle.qc_close.specs.Crews.{CrewView}
 use Rattle.qc_close.specs.Lasts.{IsLast}
 use Rattle.qc_close.specs.Lefts.{IsLeft}
+use Rattle.qc_close.specs.Spots.{AreSoonest, AreSpots}
 
 abbrev pub view_of : Inside → CrewView
 view_of f = record { inst = f.inst; turn = f.turn; cranes = f.cranes.items }
@@ -16,6 +17,8 @@ pub record IsKept (f : Inside) : Type 0 where
   pub valid : Valid f.inst
   pub count : length f.cranes.items ≡ length f.inst.tasks
   pub range : AreInRange f.inst f.cranes.items
+  pub spots : AreSpots f.inst f.spots
+  pub soonest : AreSoonest f.inst f.cranes.items f.soonest.items
   pub left : IsLeft f.inst f.cranes.items f.left.items
   pub step : f.step ≡ grain f.inst
   pub bare : IsLast (is_short_before f.inst f.turn (no_cranes f.inst)) LAST_CLOSED f.bare

@@ -1,4 +1,4 @@
--- inner: the work that is left at each bay, as code keeps it, and the last end that passes a test.
+-- inner: the work that is left at each bay, as code keeps it.
 use Rattle.std.specs.Prelude.{◌≡◌, ℕ, ◌+◌, List, length, slice_index, Option}
 use Rattle.qc_model.specs.Closed.{work_at}
 use Rattle.qc_model.specs.Instance.{InstanceView}

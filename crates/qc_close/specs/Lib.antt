@@ -6,3 +6,5 @@ pub mod Grains
 pub mod Owns
 pub mod Lefts
 pub mod Lasts
+pub mod Spots
+pub mod Bars

@@ -1,9 +1,9 @@
 //! Which crane has which task.
 
-ghost use Rattle.std.specs.Prelude.{◌≡◌, ◌<◌, ◌≤◌, None, Some, IfOk, IsSome, length, slice_set};
+ghost use Rattle.std.specs.Prelude.{◌≡◌, ◌<◌, ◌≤◌, None, Some, IfOk, IsSome, IsTrue, length, replicate, slice_set, true};
 ghost use Rattle.qc_model.specs.Instance.{Valid};
 ghost use Rattle.qc_model.specs.Assignments.{AreInRange, crane_in, no_cranes};
-ghost use Rattle.qc_model.specs.Closed.{is_closed, is_short_before};
+ghost use Rattle.qc_model.specs.Closed.{IsClosedBound, is_closed, is_short_before};
 ghost use Rattle.qc_close.specs.Crews.{CrewView};
 ghost use Rattle.qc_close.specs.CrewFields.{view_of, IsKept};
 ghost use Rattle.qc_close.specs.Lasts.{IsLast};
@@ -12,6 +12,8 @@ ghost use Rattle.qc_close.specs.declared.closed.TheConstants.{LAST_CLOSED};
 use crate::closed::{LAST_CLOSED, is_short_before, last_short_end};
 use crate::grain::grain;
 use crate::left::work_left;
+use crate::spots::{Spots, spots_of};
+use qc_dist::head;
 use qc_model::{Instance, Turn, copy};
 use qc_num::{OutOfMemory, Tick};
 use std::alloc::Global;
@@ -25,11 +27,16 @@ pub struct Crew {
     turn: Turn,
     /// The crane of each task.
     cranes: Vec<Option<u16>>,
+    /// The bays at which tasks lie.
+    spots: Spots,
+    /// Of each task, when the crane that it has can be there at the soonest.
+    soonest: Vec<Tick>,
     /// The ticks of the tasks without a crane at each bay, from bay 0.
     left: Vec<Tick>,
     /// The greatest number of which all ticks of the instance are multiples.
     step: Tick,
-    /// The last end before which not all can be done, whichever cranes the tasks have.
+    /// The last end for which the count shows that not all can be done before it, whichever cranes the
+    /// tasks have.
     bare: Tick,
 }
 
@@ -39,6 +46,22 @@ impl Model for Crew {
     ghost view = { view_of };
 
     ghost invariant = { IsKept };
+}
+
+/// A list in which none of so many tasks has a crane.
+fn no_cranes(alloc: Global, tasks: usize) -> Result<Vec<Option<u16>>, OutOfMemory>
+    requires { tasks ≤ 240 }
+    ensures { IfOk result (λ cranes. cranes.items ≡ replicate tasks None) }
+{
+    Ok(vec![in alloc; None; tasks]?)
+}
+
+/// A list for the starts of so many tasks.
+fn no_starts(alloc: Global, tasks: usize) -> Result<Vec<Tick>, OutOfMemory>
+    requires { tasks ≤ 240 }
+    ensures { IfOk result (λ starts. length starts.items ≡ tasks) }
+{
+    Ok(vec![in alloc; 0; tasks]?)
 }
 
 impl Crew {
@@ -51,13 +74,17 @@ impl Crew {
         }) }
     {
         let tasks = inst.task_count();
-        let cranes = vec![in alloc; None; tasks as usize]?;
+        let cranes = no_cranes(alloc, tasks as usize)?;
         let left = work_left(alloc, inst)?;
+        let spots = spots_of(alloc, inst, left.as_slice())?;
+        let soonest = no_starts(alloc, tasks as usize)?;
         let step = grain(inst);
         let bare = last_short_end(
             inst,
             turn,
             cranes.as_slice(),
+            &spots,
+            soonest.as_slice(),
             left.as_slice(),
             step,
             LAST_CLOSED,
@@ -66,6 +93,8 @@ impl Crew {
             inst: copy(alloc, inst)?,
             turn,
             cranes,
+            spots,
+            soonest,
             left,
             step,
             bare,
@@ -93,6 +122,7 @@ impl Crew {
         let done = self.inst.task(task);
         let bay = done.bay as usize;
         self.left[bay] = self.left[bay] - done.ticks;
+        self.soonest[task as usize] = head(&self.inst, task, crane);
         self.cranes[task as usize] = Some(crane);
     }
 
@@ -116,25 +146,27 @@ impl Crew {
         self.cranes[task as usize]
     }
 
-    /// Whether the assignment is closed at an end: too few cranes can come to where tasks have none yet
-    /// for all to be done before it. It is so at each end before one at which it is.
+    /// Whether the assignment is closed at an end: a count of the cranes' time shows that no schedule with
+    /// this assignment ends before it; `false` shows nothing. It is closed at each end before one at which
+    /// it is.
     pub fn closed(&self, end: Tick) -> bool
         requires some { 0 < end }
         requires limit { end ≤ LAST_CLOSED }
-        ensures { result ≡ is_closed self.now.inst self.now.turn self.now.cranes end }
+        ensures closed { result ≡ is_closed self.now.inst self.now.turn self.now.cranes end }
+        ensures bound { IsTrue result
+            → IsClosedBound self.now.inst self.now.turn self.now.cranes end }
     {
         end <= self.bare || self.is_short(end)
     }
 
-    /// The last end up to a limit at which the assignment is closed, and 0 where there is none.
-    pub fn last_closed(&self, limit: Tick) -> Tick
-        requires { limit ≤ LAST_CLOSED }
-        ensures { IsLast (is_closed self.now.inst self.now.turn self.now.cranes) limit result }
+    /// An end at which the assignment is closed, whichever cranes the tasks have; 0 where there is none.
+    pub(crate) fn bare_end(&self) -> Tick
+        ensures { 0 < result → is_closed self.now.inst self.now.turn self.now.cranes result ≡ true }
     {
-        self.bare.min(limit).max(self.last_short(limit))
+        self.bare
     }
 
-    /// Whether not all can be done before an end with the cranes that tasks have.
+    /// Whether the count shows that not all can be done before an end with the cranes that tasks have.
     fn is_short(&self, end: Tick) -> bool
         requires { end ≤ LAST_CLOSED }
         ensures { result ≡ is_short_before self.now.inst self.now.turn self.now.cranes end }
@@ -144,25 +176,11 @@ impl Crew {
             &self.inst,
             self.turn,
             cranes,
+            &self.spots,
+            self.soonest.as_slice(),
             self.left.as_slice(),
             self.step,
             end,
-        )
-    }
-
-    /// The last end up to a limit before which not all can be done with the cranes that tasks have.
-    fn last_short(&self, limit: Tick) -> Tick
-        requires { limit ≤ LAST_CLOSED }
-        ensures { IsLast (is_short_before self.now.inst self.now.turn self.now.cranes) limit result }
-    {
-        let cranes = self.cranes.as_slice();
-        last_short_end(
-            &self.inst,
-            self.turn,
-            cranes,
-            self.left.as_slice(),
-            self.step,
-            limit,
         )
     }
 }

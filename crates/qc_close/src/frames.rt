@@ -3,21 +3,27 @@
 ghost use Rattle.std.specs.Prelude.{◌≡◌, ◌+◌, ◌*◌, ◌<◌, ◌≤◌, ◌^◌, ℕ, None, IfSome, length, map, slice_index_or, take};
 ghost use Rattle.qc_model.specs.declared.limits.TheConstants.{MOST_TASKS};
 ghost use Rattle.qc_model.specs.Assignments.{AreInRange};
-ghost use Rattle.qc_model.specs.Frames.{frame, own, turn_bays, turn_high};
+ghost use Rattle.qc_model.specs.Barred.{barred_frame};
+ghost use Rattle.qc_model.specs.Frames.{own, turn_bays, turn_high};
 ghost use Rattle.qc_model.specs.Instance.{IsOnRail};
 ghost use Rattle.qc_model.specs.Work.{crane_numbers};
+ghost use Rattle.qc_close.specs.Bars.{left_of, together};
 ghost use Rattle.qc_close.specs.Counts.{AreNear, IsNear};
 ghost use Rattle.qc_close.specs.Owns.{IsSmall, frame_by, own_of, with_task};
+ghost use Rattle.qc_close.specs.Spots.{AreSoonest, AreSpots};
 
+use crate::barred::barred_gone;
+use crate::bars::grid;
+use crate::spots::Spots;
 use qc_model::{Frame, Instance, MOST_CRANES, Task, Turn, bays_between, bays_up};
 use qc_num::{Bay, Tick};
 
 /// The tasks of a crane: their ticks, and the bays of the lowest and the highest of them.
 #[derive(Clone, Copy)]
-struct Own {
-    ticks: Tick,
-    low: Bay,
-    high: Bay,
+pub(crate) struct Own {
+    pub(crate) ticks: Tick,
+    pub(crate) low: Bay,
+    pub(crate) high: Bay,
 }
 
 /// The tasks of a crane with one more.
@@ -88,7 +94,7 @@ fn turn_high(turn: Turn, berth: Bay, high: Bay) -> Bay
 }
 
 /// The ticks of travel over so many bays.
-fn travel_over(inst: &Instance, bays: Tick) -> Tick
+pub(crate) fn travel_over(inst: &Instance, bays: Tick) -> Tick
     requires { bays < 2 ^ 17 }
     ensures ticks { result ≡ inst.now.travel * bays }
     ensures bound { result < 2 ^ 31 }
@@ -97,7 +103,7 @@ fn travel_over(inst: &Instance, bays: Tick) -> Tick
 }
 
 /// What a crane has spent on its tasks.
-fn spent_by(inst: &Instance, turn: Turn, crane: u16, own: Option<Own>) -> Frame
+pub(crate) fn spent_by(inst: &Instance, turn: Turn, crane: u16, own: Option<Own>) -> Frame
     requires crane { crane < length inst.now.cranes }
     requires own { IfSome own (IsSmall MOST_TASKS) }
     ensures frame { result ≡ frame_by inst.now turn crane own }
@@ -123,6 +129,49 @@ fn spent_by(inst: &Instance, turn: Turn, crane: u16, own: Option<Own>) -> Frame
     }
 }
 
+/// These tasks and those.
+pub(crate) fn together(some: Option<Own>, others: Option<Own>) -> Option<Own>
+    requires some { IfSome some (λ o. o.ticks < 2 ^ 60) }
+    requires others { IfSome others (λ o. o.ticks < 2 ^ 60) }
+    ensures { result ≡ together some others }
+{
+    match some {
+        None => others,
+        Some(one) => match others {
+            None => Some(one),
+            Some(other) => Some(Own {
+                ticks: one.ticks + other.ticks,
+                low: one.low.min(other.low),
+                high: one.high.max(other.high),
+            }),
+        },
+    }
+}
+
+/// The tasks that no crane has.
+fn left_own(inst: &Instance, cranes: &[Option<u16>]) -> Option<Own>
+    requires { length cranes.now ≡ length inst.now.tasks }
+    ensures { result ≡ own_of inst.now (left_of inst.now cranes.now) }
+{
+    let mut left = None;
+    let count = inst.task_count();
+    for done in 0..count {
+        let task = count - 1 - done;
+        match cranes[task as usize] {
+            None => left = Some(with_task(left, inst.task(task))),
+            Some(_) => {}
+        }
+    }
+    left
+}
+
+/// A frame with another time.
+fn with_gone(frame: Frame, gone: Tick) -> Frame
+    ensures { result ≡ record frame { gone = gone } }
+{
+    Frame { gone, ..frame }
+}
+
 /// So many of the frames.
 pub(crate) fn first_frames(frames: &[Frame; 8], count: usize) -> &[Frame]
     requires { count ≤ 8 }
@@ -132,14 +181,24 @@ pub(crate) fn first_frames(frames: &[Frame; 8], count: usize) -> &[Frame]
 }
 
 /// What each crane has spent: as many entries count as there are cranes.
-pub(crate) fn frames(inst: &Instance, turn: Turn, cranes: &[Option<u16>]) -> [Frame; 8]
+pub(crate) fn frames(
+    inst: &Instance,
+    turn: Turn,
+    cranes: &[Option<u16>],
+    spots: &Spots,
+    soonest: &[Tick],
+) -> [Frame; 8]
     requires count { length cranes.now ≡ length inst.now.tasks }
     requires range { AreInRange inst.now cranes.now }
+    requires spots { AreSpots inst.now spots.now }
+    requires soonest { AreSoonest inst.now cranes.now soonest.now }
     ensures frames { take (length inst.now.cranes) result
-        ≡ map (frame inst.now turn cranes.now) (crane_numbers inst.now) }
+        ≡ map (barred_frame inst.now turn cranes.now) (crane_numbers inst.now) }
     ensures near { AreNear (take (length inst.now.cranes) result) }
 {
     let owns = owns(inst, cranes);
+    let left = left_own(inst, cranes);
+    let grid = grid(inst, cranes, spots, soonest);
     let mut frames = [Frame {
         works: false,
         gone: 0,
@@ -147,7 +206,10 @@ pub(crate) fn frames(inst: &Instance, turn: Turn, cranes: &[Option<u16>]) -> [Fr
         high: 0,
     }; MOST_CRANES as usize];
     for crane in 0..inst.crane_count() {
-        frames[crane as usize] = spent_by(inst, turn, crane, owns[crane as usize]);
+        let own = owns[crane as usize];
+        let frame = spent_by(inst, turn, crane, own);
+        let gone = barred_gone(inst, turn, spots, &grid, crane, own, left, frame.gone);
+        frames[crane as usize] = with_gone(frame, gone);
     }
     frames
 }

@@ -3,14 +3,18 @@
 //! cranes can do what is left.
 #![tactic(auto)]
 
+mod barred;
+mod bars;
 mod closed;
 mod crew;
 mod frames;
 mod grain;
 mod laws;
 mod left;
+mod limit;
 mod packs;
 mod short;
+mod spots;
 mod sums;
 mod walk;
 

@@ -63,7 +63,7 @@ fn has_room(travel: Tick, tick: Tick, frames: &[Frame], up: Walk, down: Walk) ->
     }
 }
 
-/// Whether cranes can do by a tick what is left to them.
+/// Whether the count lets cranes do by a tick what is left to them.
 fn is_served(travel: Tick, tick: Tick, frames: &[Frame], left: &[Tick]) -> bool
     requires few { length frames.now ≤ 8 }
     requires near { AreNear frames.now }
@@ -82,7 +82,7 @@ fn is_served(travel: Tick, tick: Tick, frames: &[Frame], left: &[Tick]) -> bool
     }
 }
 
-/// Whether not all can be done by a tick.
+/// Whether the count shows that not all can be done by a tick.
 fn is_short(travel: Tick, tick: Tick, frames: &[Frame], left: &[Tick]) -> bool
     requires few { length frames.now ≤ 8 }
     requires near { AreNear frames.now }
@@ -104,7 +104,7 @@ fn last_before(step: Tick, end: Tick) -> Tick
     end.saturating_sub(1) / step * step
 }
 
-/// Whether not all can be done before an end.
+/// Whether the count shows that not all can be done before an end.
 pub(crate) fn is_short_at(
     travel: Tick,
     step: Tick,
@@ -124,7 +124,7 @@ pub(crate) fn is_short_at(
     is_short(travel, last_before(step, end), frames, left)
 }
 
-/// The greatest end up to a limit before which not all can be done, and 0 where there is none.
+/// The greatest end up to a limit for which it shows so, and 0 where there is none.
 pub(crate) fn last_short(
     travel: Tick,
     step: Tick,

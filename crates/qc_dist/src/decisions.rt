@@ -200,7 +200,7 @@ impl Decisions {
     }
 
     /// The ticks of the tasks that no crane has.
-    pub fn open_ticks(&self) -> Tick
+    pub(crate) fn open_ticks(&self) -> Tick
         ensures ticks { result ≡ unassigned_ticks self.now.inst self.now.decisions }
         ensures bound { result ≤ MOST_TASKS * MOST_WORK }
     {

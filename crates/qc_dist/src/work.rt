@@ -12,7 +12,7 @@ use qc_num::Tick;
 
 impl Decisions {
     /// Whether a crane has a task.
-    pub fn has_tasks(&self, k: u16) -> bool
+    fn has_tasks(&self, k: u16) -> bool
         requires { k < length self.now.inst.cranes }
         ensures { result ≡ nat_lt 0 (length (tasks_on self.now.decisions k)) }
     {
@@ -21,7 +21,7 @@ impl Decisions {
 
     /// When a crane is done at the soonest with the tasks that it has, by their ticks and its way
     /// alone.
-    pub fn done_at(&self, k: u16) -> Tick
+    fn done_at(&self, k: u16) -> Tick
         requires { k < length self.now.inst.cranes }
         ensures ticks { result ≡ done_at self.now.inst self.now.decisions k }
         ensures bound { result ≤ MOST_READY + MOST_TASKS * MOST_WORK + 2 * MOST_DISTANCE }

@@ -11,8 +11,10 @@ use Rattle.qc_model.specs.declared.decision.Decision.TheVariants.{Assign, Order}
 use Rattle.qc_model.specs.Numbers.{most_tasks}
 use Rattle.qc_model.specs.declared.schedule.Slot.{Slot}
 use Rattle.qc_model.specs.Instance.{InstanceView, Valid, ticks_of}
-use Rattle.qc_model.specs.Leaves.{Leaf, Version, are_tasks, chain, chain_end, chain_ticks, has_packed, head_in, is_out_of_reach, is_ring, leaf_value, packed, packed_end, reach, ring, with_berths, with_packed, without_berths, work}
-use Rattle.qc_model.specs.Work.{work_holds}
+use Rattle.qc_model.specs.Leaves.{Leaf, Version, are_tasks, chain, chain_end, chain_ticks, has_packed, head_in, is_out_of_reach, is_ring, leaf_value, packed, packed_end, reach, ring, with_berths, with_packed, without_berths, work, work_over}
+use Rattle.qc_model.specs.declared.turn.Turn.TheVariants.{OneWay}
+use Rattle.qc_model.specs.Assignments.{cranes_of}
+use Rattle.qc_model.specs.Closed.{is_closed}
 use Rattle.qc_model.specs.Nodes.{Agrees, Fits, Meets, forced, head, reaches}
 use Rattle.qc_model.specs.OneWay.{GoesUp}
 use Rattle.qc_model.specs.Rules.{ends, last_end, starts}
@@ -129,7 +131,13 @@ in_reach inst (Assign j k ∷ ds) sched fits g a t =
 
 module _ (inst : InstanceView) (ds : List Decision) (sched : List Slot) (v : Valid inst)
     (fits : Fits inst ds) (g : GoesUp inst sched) (a : Agrees inst ds sched)
-    (packs : (tasks : List ℕ) (end : ℕ) → packed_end inst ds tasks ≡ Some end → end ≤ ends inst sched) where
+    (packs : (tasks : List ℕ) (end : ℕ) → packed_end inst ds tasks ≡ Some end → end ≤ ends inst sched)
+    (closes : (end : ℕ) → is_closed inst OneWay (cranes_of inst ds) end ≡ true → end ≤ ends inst sched) where
+  over_le : (version : Version) (end : ℕ) → work_over version inst ds end ≡ true → 1 ≤ end → end ≤ ends inst sched
+  over_le without_berths end over some = work_end_le inst ds sched v fits g a end over some
+  over_le with_berths end over some = work_end_le inst ds sched v fits g a end over some
+  over_le with_packed end over some = closes end over
+
   abbrev Shows : Option Bound → Type 0
   Shows o = IfSome o (λ bound. IsAtMost bound (Least (ends inst sched)))
 
@@ -154,10 +162,10 @@ module _ (inst : InstanceView) (ds : List Decision) (sched : List Slot) (v : Val
   leaf_shows version reach =
       cond_both (is_out_of_reach inst ds) (Some Never) None Shows (λ t. in_reach inst ds sched fits g a t) (λ _. tt)
   leaf_shows version (work end) =
-      cond_both (nat_le 1 end && work_holds inst ds end) (Some (Least end)) None Shows
+      cond_both (nat_le 1 end && work_over version inst ds end) (Some (Least end)) None Shows
       (λ t.
-      let parts = and_parts (nat_le 1 end) (work_holds inst ds end) t in
-      work_end_le inst ds sched v fits g a end parts.1 (leb-true 1 end parts.0))
+      let parts = and_parts (nat_le 1 end) (work_over version inst ds end) t in
+      over_le version end parts.1 (leb-true 1 end parts.0))
       (λ _. tt)
   leaf_shows version (packed tasks) =
       cond_both (has_packed version) (option_map Least (packed_end inst ds tasks)) None Shows

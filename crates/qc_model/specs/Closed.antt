@@ -1,5 +1,6 @@
--- public: when an assignment is closed at an end: no schedule that keeps it ends earlier, since too few cranes can come
--- to where tasks have no crane yet, and work there, by then.
+-- public: when an assignment is closed at an end: a count of time shows that a crane can't be done before it with its own
+-- tasks, or that the cranes that can come to where tasks have none have too little. An end that isn't closed need not be
+-- reachable.
 use Rattle.std.specs.Prelude.{ℕ, zero, suc, ◌+◌, ◌-◌, ◌*◌, ◌/◌, ◌%◌, ◌≤◌, max, pos, Bool, true, not, ◌&&◌, ◌||◌, ◌==◌, nat_lt, nat_le, List, [], ◌∷◌, map, filter, reverse, length, slice_index, sum, sum_by, is_none, Option}
 use Rattle.std.specs.List.{flat_map, list_all, list_any, range_with_len}
 use Rattle.qc_model.specs.Bays.{at_least_zero, bays_up}
@@ -13,7 +14,8 @@ use Rattle.qc_model.specs.declared.direction.Direction.{Direction}
 use Rattle.qc_model.specs.declared.direction.Direction.TheVariants.{Up, Down}
 use Rattle.qc_model.specs.declared.turn.Turn.{Turn}
 use Rattle.qc_model.specs.Assignments.{Follows, crane_in, no_cranes}
-use Rattle.qc_model.specs.Frames.{GoesBy, frame}
+use Rattle.qc_model.specs.Barred.{barred_frame}
+use Rattle.qc_model.specs.Frames.{GoesBy}
 
 -- the greatest sum of n of these numbers: of all where there are fewer
 abbrev pub most : ℕ → List ℕ → ℕ
@@ -43,7 +45,7 @@ abbrev pub bays_to : Direction → Frame → ℕ → ℕ
 bays_to Up f x = bays_up f.high (pos x)
 bays_to Down f x = bays_up (pos x) f.low
 
--- bays with work to be done, by cranes that have spent so much and go so many ticks per bay, by a tick
+-- bays with work to be done by a tick, by cranes that have spent so much and need so many ticks for each bay that they go
 pub record Try : Type 0 where
   pub travel : ℕ
   pub frames : List Frame
@@ -68,7 +70,7 @@ room t bays f = t.tick - f.gone - t.travel * bays
 abbrev pub leg : Try → Direction → ℕ → ℕ → ℕ → ℕ
 leg t way n x y = fewest n (map (λ f. bays_to way f y - bays_to way f x) t.frames)
 
--- the bays that cranes go along these at the least, so many of them to each
+-- the bays that cranes go together along these at the least, where so many come to each
 abbrev pub legs : Try → Direction → List ℕ → List ℕ → ℕ
 legs t way (x ∷ y ∷ ys) (n ∷ m ∷ ms) = leg t way m x y + legs t way (y ∷ ys) (m ∷ ms)
 legs t way xs ns = 0
@@ -84,7 +86,7 @@ suffices t way (x ∷ xs) (n ∷ ns) =
     && suffices t way xs ns
 suffices t way xs ns = true
 
--- all lists of so many numbers from 0 to most
+-- all lists of len numbers, each from 0 to most
 abbrev pub lists_to : ℕ → ℕ → List (List ℕ)
 lists_to most zero = [] ∷ []
 lists_to most (suc len) =
@@ -100,11 +102,11 @@ has_room t ns ms =
     nat_le (sum_by t.work t.bays + t.travel * (legs t Up (along t Up) ns + legs t Down (along t Down) ms))
     (sum (map (λ f. room t (bays_to Up f (first t Up) + bays_to Down f (first t Down)) f) t.frames))
 
--- some numbers of cranes serve
+-- some numbers of cranes serve: they do wherever all can be done by the tick, and perhaps where not
 abbrev pub is_served : Try → Bool
 is_served t = list_any (λ ns. list_any (has_room t ns) (numbers t Down)) (numbers t Up)
 
--- not all can be done by the tick: a crane isn't done with what it has, or no numbers serve
+-- the count shows that not all can be done by the tick: a crane isn't done with what it has, or no numbers serve
 abbrev pub is_short : Try → Bool
 is_short t = list_any (λ f. f.works && nat_lt t.tick f.gone) t.frames || not (is_served t)
 
@@ -118,30 +120,32 @@ are_multiples inst g =
 abbrev pub grain : InstanceView → ℕ
 grain inst = greatest (filter (are_multiples inst) (range_with_len 1 inst.travel))
 
--- the greatest multiple of a number below an end
+-- the greatest multiple of a number below an end; 0 where the end is 0
 abbrev pub last_before : ℕ → ℕ → ℕ
 last_before g end = (end - 1) / g * g
 
--- the tasks that have no crane are to be done by a tick, beside those that have one
+-- the tasks without a crane are to be done by a tick, after what each crane spends on its own and on waiting for its
+-- neighbours
 abbrev pub try_of : InstanceView → Turn → List (Option ℕ) → ℕ → Try
 try_of inst turn cranes tick = record {
   travel = inst.travel;
-  frames = map (frame inst turn cranes) (crane_numbers inst);
+  frames = map (barred_frame inst turn cranes) (crane_numbers inst);
   bays = left_bays inst cranes;
   work = work_at inst cranes;
   tick = tick;
 }
 
--- not all can be done before the end
+-- the count shows that not all can be done before the end
 abbrev pub is_short_before : InstanceView → Turn → List (Option ℕ) → ℕ → Bool
 is_short_before inst turn cranes end = is_short (try_of inst turn cranes (last_before (grain inst) end))
 
--- the assignment is closed at the end: not all can be done before it, whether no task has a crane or tasks have theirs
+-- the assignment is closed at the end: the count shows that not all can be done before it with the cranes that tasks
+-- have, or it shows so even if no task had one
 abbrev pub is_closed : InstanceView → Turn → List (Option ℕ) → ℕ → Bool
 is_closed inst turn cranes end =
     is_short_before inst turn (no_cranes inst) end || is_short_before inst turn cranes end
 
--- no schedule that follows the assignment, and that cranes which turn so can keep, ends before this end
+-- no schedule that follows the assignment, and that cranes with this turn can keep, ends before this end
 abbrev pub IsClosedBound : InstanceView → Turn → List (Option ℕ) → ℕ → Type 0
 IsClosedBound inst turn cranes end =
     (sched : List Slot) → GoesBy turn inst sched → Follows inst cranes sched → end ≤ ends inst sched

@@ -13,7 +13,7 @@ use Rattle.qc_model.specs.declared.turn.Turn.{Turn}
 use Rattle.qc_model.specs.declared.turn.Turn.TheVariants.{OneWay, Free}
 use Rattle.qc_model.specs.Assignments.{crane_in}
 
--- the schedules that cranes can keep that turn so
+-- the schedules of cranes with this turn: those that go up, or all that are feasible
 abbrev pub GoesBy : Turn → InstanceView → List Slot → Type 0
 GoesBy OneWay inst sched = GoesUp inst sched
 GoesBy Free inst sched = Feasible inst sched
@@ -22,13 +22,14 @@ GoesBy Free inst sched = Feasible inst sched
 abbrev pub own : InstanceView → List (Option ℕ) → ℕ → List ℕ
 own inst cranes w = filter (λ j. option_map_or (λ k. k == w) (crane_in cranes j) false) (task_numbers inst)
 
--- the bays that a crane at bay b goes to come to bays low and high: down to low and from there up, or to whichever is
--- nearer first
+-- how many bays a crane at bay b goes at the least to come to bays low and high: to low and from there up, or first to
+-- whichever is nearer
 abbrev pub turn_bays : Turn → ℤ → ℤ → ℤ → ℕ
 turn_bays OneWay b low high = bays_between b low + bays_up low high
 turn_bays Free b low high = bays_up low high + min (bays_between b low) (bays_between b high)
 
--- how far up it has come by then: where it goes one way, it is above its tasks before the first of them alone
+-- how far up it comes at no further cost; where it goes one way its berth doesn't count, since it is above its tasks
+-- only before the first of them
 abbrev pub turn_high : Turn → ℤ → ℤ → ℤ
 turn_high OneWay b high = high
 turn_high Free b high = int_max high b

@@ -6,7 +6,9 @@ use Rattle.qc_num.specs.declared.bound.Bound.{Bound}
 use Rattle.qc_num.specs.declared.bound.Bound.TheVariants.{Least, Never}
 use Rattle.qc_model.specs.declared.decision.Decision.{Decision}
 use Rattle.qc_model.specs.declared.decision.Decision.TheVariants.{Assign, Order}
+use Rattle.qc_model.specs.declared.turn.Turn.TheVariants.{OneWay}
 use Rattle.qc_model.specs.Assignments.{cranes_of}
+use Rattle.qc_model.specs.Closed.{is_closed}
 use Rattle.qc_model.specs.Instance.{InstanceView, ticks_of}
 use Rattle.qc_model.specs.Nodes.{forced, head, head1, least, reaches}
 use Rattle.qc_model.specs.Packs.{pack}
@@ -26,7 +28,7 @@ pub data Leaf : Type 0 where
   packed : (tasks : List ℕ) → Leaf
 
 -- the version of a tree: its heads count without the berths of other cranes; or with them; or its leaves may list
--- packed tasks too
+-- packed tasks too, and those of work count how many cranes must come to each bay
 pub data Version : Type 0 where
   without_berths with_berths with_packed : Version
 
@@ -66,6 +68,13 @@ abbrev pub packed_end : InstanceView → List Decision → List ℕ → Option �
 packed_end inst ds tasks =
     option_map (λ ticks. least (map (head inst ds) tasks) + ticks) (pack inst (cranes_of inst ds) tasks)
 
+-- the work of a node doesn't fit before an end: some crane can't be done with its own tasks, or what is left is more than
+-- the time of all cranes together; or, where the version counts cranes, the assignment is closed at the end
+abbrev pub work_over : Version → InstanceView → List Decision → ℕ → Bool
+work_over without_berths inst ds end = work_holds inst ds end
+work_over with_berths inst ds end = work_holds inst ds end
+work_over with_packed inst ds end = is_closed inst OneWay (cranes_of inst ds) end
+
 -- the newest decision puts a task on a crane that doesn't reach it
 abbrev pub is_out_of_reach : InstanceView → List Decision → Bool
 is_out_of_reach inst [] = false
@@ -79,6 +88,6 @@ leaf_value version inst ds (chain tasks) =
 leaf_value version inst ds (ring tasks) =
     if are_tasks inst tasks && nat_le 2 (length tasks) && is_ring inst ds tasks then Some Never else None
 leaf_value version inst ds reach = if is_out_of_reach inst ds then Some Never else None
-leaf_value version inst ds (work end) = if nat_le 1 end && work_holds inst ds end then Some (Least end) else None
+leaf_value version inst ds (work end) = if nat_le 1 end && work_over version inst ds end then Some (Least end) else None
 leaf_value version inst ds (packed tasks) =
     if has_packed version then option_map Least (packed_end inst ds tasks) else None

@@ -15,6 +15,7 @@ pub mod Work
 pub mod Assignments
 pub mod Packs
 pub mod Frames
+pub mod Barred
 pub mod Closed
 pub mod Leaves
 pub mod Closing

@@ -1,8 +1,10 @@
 //! How cranes may move.
 
-/// Whether each crane moves one way along the ship once it has gone to its first task, or to and fro.
+/// Whether cranes go up along the ship, each from its first task on, or to and fro.
 #[derive(Clone, Copy, Debug, PartialEq, Eq)]
 pub enum Turn {
+    /// Each goes up from its first task on.
     OneWay,
+    /// Each goes up or down as it likes.
     Free,
 }

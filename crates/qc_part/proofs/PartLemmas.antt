@@ -24,9 +24,9 @@ use Rattle.qc_part.specs.declared.hatch.Hatch.{Hatch}
 use Rattle.qc_part.specs.declared.part.Part.TheInside.{Inside}
 use Rattle.qc_part.specs.declared.state.State.{State}
 use Rattle.qc_part.specs.Children.{AreRaised, done_at, is_last, least_count, size_at, ticks_between}
-use Rattle.qc_part.specs.Hatches.{AreComplete, AreInOrder, HasEvents, IsBlock, IsEventOf, IsInOne, blocks_of, first_of}
+use Rattle.qc_part.specs.Hatches.{AreComplete, AreInOrder, AreRising, HasEvents, IsBlock, IsEventOf, IsInOne, blocks_of, first_of}
 use Rattle.qc_part.specs.PartFields.{view_of}
-use Rattle.qc_part.specs.Parts.{HasEvent, IsNoLater, IsBlockOf, IsInBlock, IsPart, IsStateOf, PartView, block, no_block, no_event}
+use Rattle.qc_part.specs.Parts.{HasEvent, IsBlockOf, IsInBlock, IsPart, IsStateOf, PartView, block, no_block, no_event}
 use Rattle.qc_model.specs.Nodes.{reaches}
 use Rattle.qc_part.specs.Places.{IsFirstFront, IsFront, most_front}
 
@@ -67,9 +67,9 @@ module _ (inst : InstanceView) (hatches : List Hatch) (events : List Event) wher
       }
 
   pub part_of : Valid inst → All (IsBlock inst) hatches → length hatches ≤ 60 → All (IsEventOf inst hatches) events
-      → length events ≤ 480 → AreComplete inst hatches events (length hatches) → AreInOrder events
+      → length events ≤ 480 → AreComplete inst hatches events (length hatches) → AreInOrder events → AreRising inst hatches
       → ((j : ℕ) → j < length inst.tasks → IsInOne hatches j) → IsPart made
-  part_of valid blocks few all fewer complete order covers = record {
+  part_of valid blocks few all fewer complete order rising covers = record {
     valid = valid;
     hatch_count = omega (arith, few, count_is hatches);
     event_count = fewer;
@@ -90,6 +90,7 @@ module _ (inst : InstanceView) (hatches : List Hatch) (events : List Event) wher
         };
     complete = λ h k low here reached. complete h (omega (arith, low, count_is hatches)) k here reached;
     order = order;
+    rising = λ h low. rising h (omega (arith, low, count_is hatches));
     covers = λ j low. in_block j (covers j low);
   }
 
@@ -276,7 +277,7 @@ then_not_lt Greater p h = (refl, λ e. absurd (true≢false (ap is_greater e)))
 -- two neighbours after a sort
 pub no_later : (x y : Event) (rest : Ordering)
     → is_lt (ordering_then (nat_cmp y.along x.along) (ordering_then (nat_cmp y.crane x.crane) rest)) ≡ false
-    → IsNoLater x y
+    → (x.along ≤ y.along) × (x.along ≡ y.along → x.crane ≤ y.crane)
 no_later x y rest h =
     let first = then_not_lt (nat_cmp y.along x.along) (ordering_then (nat_cmp y.crane x.crane) rest) h in (
       ge_from_not_lt y.along x.along first.0,

@@ -1,17 +1,23 @@
 -- inner: hatches and events as they are kept.
-use Rattle.std.specs.Prelude.{◌≡◌, ℕ, ◌+◌, ◌<◌, ◌≤◌, List, map, length, slice_index_or, Contains, IsTrue}
-use Rattle.qc_model.specs.Instance.{InstanceView}
+use Rattle.std.specs.Prelude.{◌≡◌, ℕ, ◌+◌, ◌*◌, ◌<◌, ◌≤◌, ◌<ℤ◌, ◌==◌, pos, List, map, length, slice_index_or, All, Contains, IsTrue}
+use Rattle.std.specs.List.{IsDistinct}
+use Rattle.qc_model.specs.Bays.{bays_up}
+use Rattle.qc_model.specs.Instance.{InstanceView, bay_of}
 use Rattle.qc_model.specs.Nodes.{reaches}
 use Rattle.qc_model.specs.Numbers.{most_distance}
 use Rattle.qc_part.specs.declared.block.Block.{Block}
 use Rattle.qc_part.specs.declared.event.Event.{Event}
 use Rattle.qc_part.specs.declared.hatch.Hatch.{Hatch}
-use Rattle.qc_part.specs.Parts.{HasEvent, IsBlockOf, IsNoLater, no_block, no_event}
+use Rattle.qc_part.specs.Parts.{HasEvent, IsBlockOf, IsAheadOf, no_block, no_event}
 use Rattle.qc_part.specs.Places.{along}
 
 -- the hatch is one of the instance
 abbrev pub IsBlock : InstanceView → Hatch → Type 0
 IsBlock inst hatch = IsBlockOf inst hatch.block
+
+-- it is kept how far along the ship it lies, in ticks of travel
+abbrev pub IsPlaced : InstanceView → Hatch → Type 0
+IsPlaced inst hatch = hatch.place ≡ pos (inst.travel * bays_up (pos 0) (bay_of inst hatch.block.first))
 
 abbrev pub blocks_of : List Hatch → List Block
 blocks_of hatches = map (λ (hatch : Hatch). hatch.block) hatches
@@ -45,7 +51,21 @@ abbrev pub AreComplete : InstanceView → List Hatch → List Event → ℕ → 
 AreComplete inst hatches events n = (h : ℕ) → h < n
     → HasEvents inst events h (first_of hatches h) (length inst.cranes)
 
--- no event is before the one ahead of it
+-- each event is ahead of the next one
 abbrev pub AreInOrder : List Event → Type 0
 AreInOrder events = (e : ℕ) → e + 1 < length events
-    → IsNoLater (slice_index_or events e no_event) (slice_index_or events (e + 1) no_event)
+    → IsAheadOf (slice_index_or events e no_event) (slice_index_or events (e + 1) no_event)
+
+-- each hatch lies less far along the ship than the next one
+abbrev pub AreRising : InstanceView → List Hatch → Type 0
+AreRising inst hatches = (h : ℕ) → h + 1 < length hatches
+    → bay_of inst (first_of hatches h) <ℤ bay_of inst (first_of hatches (h + 1))
+
+-- one number for each hatch and crane
+abbrev pub pair_number : ℕ → ℕ → ℕ
+pair_number h k = 8 * h + k
+
+-- the events are of different pairs, all with numbers below this one
+pub record AreDifferent (events : List Event) (n : ℕ) : Type 0 where
+  pub distinct : IsDistinct (λ i j. i == j) (map (λ (ev : Event). pair_number ev.hatch ev.crane) events)
+  pub below : All (λ (ev : Event). pair_number ev.hatch ev.crane < n) events

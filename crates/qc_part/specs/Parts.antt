@@ -1,8 +1,8 @@
 -- public: a ship read upward: its hatches, and its events, which are the pairs of a hatch and a crane that
 -- reaches it.
-use Rattle.std.specs.Prelude.{◌≡◌, ℕ, ◌+◌, ◌<◌, ◌≤◌, pos, Bool, not, ◌==◌, List, length, count_by, slice_index, slice_index_or, Contains, IsTrue}
+use Rattle.std.specs.Prelude.{◌≡◌, ℕ, ◌+◌, ◌<◌, ◌≤◌, ◌<ℤ◌, pos, Bool, not, ◌==◌, List, length, count_by, slice_index, slice_index_or, Contains, IsTrue}
 use Rattle.std.specs.List.{list_all, range_with_len}
-use Rattle.qc_model.specs.Instance.{InstanceView, Valid, task}
+use Rattle.qc_model.specs.Instance.{InstanceView, Valid, bay_of, task}
 use Rattle.qc_model.specs.Nodes.{reaches}
 use Rattle.qc_model.specs.Numbers.{most_distance, most_hatches}
 use Rattle.qc_part.specs.declared.block.Block.{Block}
@@ -59,9 +59,9 @@ pub record HasEvent (events : List Event) (h k : ℕ) : Type 0 where
   pub hatch : event.hatch ≡ h
   pub crane : event.crane ≡ k
 
--- the event lies less far along the rail than the other, or as far and its crane isn't above that of the other
-abbrev pub IsNoLater : Event → Event → Type 0
-IsNoLater ev other = (ev.along ≤ other.along) × (ev.along ≡ other.along → ev.crane ≤ other.crane)
+-- the event lies less far along the rail than the other, or as far and its crane is below that of the other
+abbrev pub IsAheadOf : Event → Event → Type 0
+IsAheadOf ev other = (ev.along ≤ other.along) × (ev.along ≡ other.along → ev.crane < other.crane)
 
 -- what every part keeps
 pub record IsPart (part : PartView) : Type 0 where
@@ -73,7 +73,11 @@ pub record IsPart (part : PartView) : Type 0 where
   -- each crane that reaches a hatch has an event there
   pub complete : (h k : ℕ) → h < length part.hatches → k < length part.inst.cranes
       → IsTrue (reaches part.inst (block part h).first k) → HasEvent part.events h k
-  pub order : (e : ℕ) → e + 1 < length part.events → IsNoLater (event part e) (event part (e + 1))
+  -- each event is ahead of the next one, so none stands twice
+  pub order : (e : ℕ) → e + 1 < length part.events → IsAheadOf (event part e) (event part (e + 1))
+  -- each hatch lies less far along the ship than the next one
+  pub rising : (h : ℕ) → h + 1 < length part.hatches
+      → bay_of part.inst (block part h).first <ℤ bay_of part.inst (block part (h + 1)).first
   -- each task is one of a hatch, and the tasks of a hatch have its number in the ship file
   pub covers : (j : ℕ) → j < length part.inst.tasks → IsInBlock part j
 

@@ -3,8 +3,9 @@
 ghost use Rattle.std.specs.Prelude.{◌≡◌, ◌+◌, ◌<◌, ◌≤◌, length, vec_len, All, Contains, IfOk, IsTrue, OnOk};
 ghost use Rattle.qc_model.specs.Numbers.{most_hatches};
 ghost use Rattle.qc_part.specs.declared.event.Event.{Event};
-ghost use Rattle.qc_part.specs.Hatches.{AreComplete, AreInOrder, HasEvents, IsBlock, IsEventOf, first_of};
+ghost use Rattle.qc_part.specs.Hatches.{AreComplete, AreDifferent, AreInOrder, AreRising, HasEvents, IsBlock, IsEventOf, first_of, pair_number};
 ghost use Rattle.qc_part.specs.Parts.{HasEvent};
+ghost use Rattle.qc_model.specs.Instance.{Valid};
 ghost use Rattle.qc_model.specs.Nodes.{reaches};
 
 use crate::event::Event;
@@ -28,7 +29,9 @@ fn add_event(
     requires crane { crane < length inst.now.cranes }
     requires reached { IsTrue (reaches inst.now (first_of hatches.now number) crane) }
     requires events { All (IsEventOf inst.now hatches.now) events.old.items }
+    requires different { AreDifferent events.old.items (pair_number number crane) }
     ensures events { All (IsEventOf inst.now hatches.now) events.new.items }
+    ensures different { OnOk result (AreDifferent events.new.items (pair_number number (crane + 1))) }
     ensures few { vec_len events.new ≤ vec_len events.old + 1 }
     ensures kept { (ev : Event) → Contains events.old.items ev → Contains events.new.items ev }
     ensures added { OnOk result (HasEvent events.new.items number crane) }
@@ -54,7 +57,9 @@ fn add_events(
     requires hatch { number < length hatches.now }
     requires blocks { All (IsBlock inst.now) hatches.now }
     requires events { All (IsEventOf inst.now hatches.now) events.old.items }
+    requires different { AreDifferent events.old.items (pair_number number 0) }
     ensures events { All (IsEventOf inst.now hatches.now) events.new.items }
+    ensures different { OnOk result (AreDifferent events.new.items (pair_number (number + 1) 0)) }
     ensures few { vec_len events.new ≤ vec_len events.old + 8 }
     ensures kept { (ev : Event) → Contains events.old.items ev → Contains events.new.items ev }
     ensures added { OnOk result (HasEvents inst.now events.new.items number
@@ -76,7 +81,9 @@ pub(crate) fn events_of(
     hatches: &[Hatch],
 ) -> Result<Vec<Event>, OutOfMemory>
     requires few { length hatches.now ≤ most_hatches }
+    requires valid { Valid inst.now }
     requires blocks { All (IsBlock inst.now) hatches.now }
+    requires rising { AreRising inst.now hatches.now }
     ensures events { IfOk result (λ events. All (IsEventOf inst.now hatches.now) events.items) }
     ensures few { IfOk result (λ events. vec_len events ≤ 480) }
     ensures complete { IfOk result

@@ -2,7 +2,7 @@
 
 ghost use Rattle.std.specs.Prelude.{◌≡◌, ◌≢◌, ℕ, ◌+◌, ◌<◌, ◌≤◌, length, All, IfOk};
 ghost use Rattle.qc_model.specs.Instance.{Valid, task};
-ghost use Rattle.qc_part.specs.Hatches.{IsBlock, IsInOne};
+ghost use Rattle.qc_part.specs.Hatches.{AreRising, IsBlock, IsInOne, IsPlaced};
 ghost use Rattle.qc_part.specs.Parts.{hatch_count};
 
 use crate::block::Block;
@@ -82,6 +82,7 @@ fn hatch_from(inst: &Instance, first: u16) -> Hatch
     requires { first < length inst.now.tasks }
     ensures block { IsBlock inst.now result }
     ensures first { result.block.first ≡ first }
+    ensures placed { IsPlaced inst.now result }
     ensures ends { first + result.block.count < length inst.now.tasks
         → (task inst.now (first + result.block.count)).hatch ≢ (task inst.now first).hatch }
     ensures valid { Valid inst.now }
@@ -99,6 +100,7 @@ fn hatch_from(inst: &Instance, first: u16) -> Hatch
 /// The hatches along the ship.
 pub(crate) fn hatches_of(alloc: Global, inst: &Instance) -> Result<Vec<Hatch>, OutOfMemory>
     ensures blocks { IfOk result (λ hatches. All (IsBlock inst.now) hatches.items) }
+    ensures rising { IfOk result (λ hatches. AreRising inst.now hatches.items) }
     ensures covers { IfOk result (λ hatches. (j : ℕ) → j < length inst.now.tasks
         → IsInOne hatches.items j) }
     ensures count { IfOk result (λ hatches. length hatches.items ≡ hatch_count inst.now) }

@@ -40,8 +40,8 @@ pub record IsOutcome (inst : InstanceView) (nodes : ℕ) (given : Option (List S
   pub branched : done.branched ≡ tree_branchings tree
   pub sound : IsSound (record { inst = inst; nodes = nodes }) given done
 
--- what came of the search that is due: it was given the planner's own schedule, or one that was found, and came
--- to this
+-- what came of a search: it was given the planner's own schedule or another one, whichever ends earlier, the one
+-- that is there where there is one alone, and none where there is none. Where the other one comes from isn't said
 pub record IsFound (inst : InstanceView) (nodes : ℕ) (own : Option (List Slot)) (tree : Tree) (done : DoneView)
     : Type 0 where
   pub found : Option (List Slot)

@@ -9,19 +9,21 @@ use Rattle.qc_model.specs.declared.decision.Decision.{Decision}
 use Rattle.qc_model.specs.Bays.{bays_up, bays_between}
 use Rattle.qc_model.specs.Instance.{InstanceView, Valid, IsOnRail, bay_of, ticks_of, crane}
 use Rattle.qc_model.specs.Assignments.{cranes_of}
-use Rattle.qc_model.specs.Leaves.{Leaf, Version, are_tasks, chain, chain_end, chain_ticks, has_packed, head_in, is_ring, is_out_of_reach, leaf_value, packed, packed_end, reach, ring, with_berths, with_packed, without_berths, work}
+use Rattle.qc_model.specs.Leaves.{Leaf, Version, are_tasks, chain, chain_end, chain_ticks, has_packed, head_in, is_ring, is_out_of_reach, leaf_value, packed, packed_end, reach, ring, with_berths, with_packed, without_berths, work, work_over}
 use Rattle.qc_model.specs.Work.{crane_numbers, highest, is_overfull, lowest, spare, tasks_on, ticks_over, open_tasks, used, used_for, work_holds}
 use Rattle.qc_model.specs.Nodes.{Fits, assigned, berth_wait, crane_ticks, forced, free, head, head_by, least, reaches, sooner_ticks, is_sooner}
 use Rattle.qc_model.specs.Packs.{pack}
 use Rattle.qc_model.specs.Ticks.{arrival, berth_clear, berth_distance, climb, distance, lead, task_distance}
 use Rattle.qc_model.specs.declared.limits.TheConstants.{MOST_APART, MOST_BAYS, MOST_DISTANCE, MOST_GAP_BY_PLACES, MOST_READY, MOST_TASKS, MOST_TRAVEL, MOST_WORK}
 use Rattle.qc_model.specs.declared.direction.Direction.TheVariants.{Up}
+use Rattle.qc_model.specs.declared.turn.Turn.TheVariants.{OneWay}
 use Rattle.qc_model.proofs.Bays.{bays}
 use Rattle.qc_model.proofs.Extremes.{greatest_le}
 use Rattle.qc_model.proofs.LeafLemmas.{joined}
 use Rattle.qc_model.proofs.LimitsOf.{limits_of}
 use Rattle.qc_model.proofs.NodeLemmas.{greater_keeps}
 use Rattle.qc_model.proofs.OnRail.{berth_on_rail}
+use Rattle.qc_close.proofs.LimitLemmas.{closed_soon}
 use Rattle.qc_close.proofs.PackBounds.{cranes_range, pack_few}
 use Rattle.qc_dist.proofs.Bounds.{few_ticks, highest_on_rail, lowest_on_rail, on_rail, open_bounded, ticks_over_bounded}
 use Rattle.qc_dist.proofs.Facts.{assigned_range}
@@ -226,6 +228,12 @@ module _ (inst : InstanceView) (valid : Valid inst) where
             omega (arith, less, first, done, open_bounded inst valid ds)
       ]
 
+  over_few : (version : Version) (ds : List Decision) → Fits inst ds → (end : ℕ)
+      → work_over version inst ds end ≡ true → end < 10 ^ 15
+  over_few without_berths ds fits end over = work_few ds fits end over
+  over_few with_berths ds fits end over = work_few ds fits end over
+  over_few with_packed ds fits end over = omega (arith, closed_soon inst OneWay (cranes_of inst ds) end valid over)
+
   -- packed tasks begin soon, and don't take long
   with_first : (o : Option ℕ) (h : ℕ) → h ≤ MOST_READY + MOST_DISTANCE
       → IfSome o (λ n. n ≤ MOST_TASKS * MOST_WORK + MOST_DISTANCE)
@@ -268,8 +276,8 @@ module _ (inst : InstanceView) (valid : Valid inst) where
   leaf_few version ds fits reach =
       cond_both (is_out_of_reach inst ds) (Some Never) None (λ o. IfSome o IsValue) (λ _. tt) (λ _. tt)
   leaf_few version ds fits (work end) =
-      cond_both (nat_le 1 end && work_holds inst ds end) (Some (Least end)) None (λ o. IfSome o IsValue)
-      (λ both. work_few ds fits end (and_parts (nat_le 1 end) (work_holds inst ds end) both).1) (λ _. tt)
+      cond_both (nat_le 1 end && work_over version inst ds end) (Some (Least end)) None (λ o. IfSome o IsValue)
+      (λ both. over_few version ds fits end (and_parts (nat_le 1 end) (work_over version inst ds end) both).1) (λ _. tt)
   leaf_few version ds fits (packed tasks) =
       cond_both (has_packed version) (option_map Least (packed_end inst ds tasks)) None (λ o. IfSome o IsValue)
       (λ _. packed_value ds fits tasks) (λ _. tt)

@@ -51,7 +51,7 @@ module _ (inst : InstanceView) (cranes : length inst.cranes ≤ most_cranes) (v 
       → lines_left now < length more + 1 + most_cranes * (most_branchings - n)
   fewer_at title line.Title list e = came_on _ b (same_ok e)
   fewer_at title line.Title2 list e = came_on _ b (same_ok e)
-  fewer_at title line.Title3 list e = came_on v b (same_ok e)
+  fewer_at title line.Title3 list e = came_on _ b (same_ok e)
   fewer_at up line.Up list e = came_on v b (same_ok e)
   fewer_at down line.Down list e = came_on v b (same_ok e)
   fewer_at end (line.End m x) list e =

@@ -30,7 +30,7 @@ use Rattle.qc_replay.specs.declared.leaf.TreeVersion.{TreeVersion}
 use Rattle.qc_replay.specs.declared.node.Tally.{Tally}
 use Rattle.qc_dist.specs.Children.{behind}
 use Rattle.qc_replay.specs.Part.{IsJudged, Shows, Standing, nodes, version_of, with_branching, within}
-use Rattle.qc_replay.specs.Walk.{Coming, Reading, at_node, branched_to, came, closed_by, from_file, is_apart, is_number, is_settled, node, on_pair, on_task}
+use Rattle.qc_replay.specs.Walk.{Coming, Reading, at_node, branched_to, came, ended_by, from_file, is_apart, is_number, is_settled, node, on_pair, on_task}
 
 number_inside : (inst : InstanceView) (i : ℕ) → is_number inst i ≡ true → nat_lt (i - 1) (length inst.tasks) ≡ true
 number_inside inst i is =
@@ -56,7 +56,7 @@ are_tasks_of inst list all few =
 shown_leaf : (inst : InstanceView) (ds : List Decision) (version : TreeVersion) (leaf : Leaf) (fault : TreeKind)
     (result : Result Bound TreeKind) → ok_or (leaf_value (version_of version) inst ds leaf) fault ≡ result
     → (r : Reading) → r.version ≡ version_of version
-    → closed_by r fault (leaf_value r.version inst ds leaf)
+    → ended_by r fault (leaf_value r.version inst ds leaf)
     ≡ (result >>= λ value. Ok (record (came r) { bound = lesser r.bound value }))
 shown_leaf inst ds version leaf fault result is r same =
     ap (λ v. ok_or (leaf_value v inst ds leaf) fault >>= λ value. Ok (record (came r) { bound = lesser r.bound value })) same
@@ -68,7 +68,7 @@ module _ (inst : InstanceView) (ds : List Decision) (version : TreeVersion) (lis
   pub chain_shows : (end : Option ℕ) → end ≡ chain_end (version_of version) inst ds (from_file list)
       → Shows inst ds version Chain list (ok_or (option_map Least end) kind.NotForced)
   chain_shows end is way r same =
-      ap (λ b. require b kind.UnknownTask >>= λ _. closed_by r kind.NotForced (leaf_value r.version inst ds (chain (from_file list)))) all
+      ap (λ b. require b kind.UnknownTask >>= λ _. ended_by r kind.NotForced (leaf_value r.version inst ds (chain (from_file list)))) all
       ∙ shown_leaf inst ds version (chain (from_file list)) kind.NotForced _
       (ap (λ b. ok_or (if b then option_map Least (chain_end (version_of version) inst ds (from_file list)) else None) kind.NotForced)
       (are_tasks_of inst list all few)
@@ -78,7 +78,7 @@ module _ (inst : InstanceView) (ds : List Decision) (version : TreeVersion) (lis
   pub ring_shows : 2 ≤ length list → (turns : Bool) → turns ≡ is_ring inst ds (from_file list)
       → Shows inst ds version Ring list (ok_or (if turns then Some Never else None) kind.NotCycle)
   ring_shows some turns is way r same =
-      ap (λ b. require b kind.UnknownTask >>= λ _. closed_by r kind.NotCycle (leaf_value r.version inst ds (ring (from_file list)))) all
+      ap (λ b. require b kind.UnknownTask >>= λ _. ended_by r kind.NotCycle (leaf_value r.version inst ds (ring (from_file list)))) all
       ∙ shown_leaf inst ds version (ring (from_file list)) kind.NotCycle _
       (ap (λ b. ok_or (if b then Some Never else None) kind.NotCycle) tests) r same
     where
@@ -96,7 +96,7 @@ pub clash_shows : (inst : InstanceView) (ds : List Decision) (version : TreeVers
     → (end : Option ℕ) → end ≡ packed_end inst ds (from_file list)
     → Shows inst ds version Clash list (ok_or (option_map Least end) kind.NotClash)
 clash_shows inst ds version list has all end is way r same =
-    let shown = λ (_ : ⊤). closed_by r kind.NotClash (leaf_value r.version inst ds (packed (from_file list))) in
+    let shown = λ (_ : ⊤). ended_by r kind.NotClash (leaf_value r.version inst ds (packed (from_file list))) in
     ap (λ b. require b kind.Place >>= λ _. require (list_all (is_number inst) list) kind.UnknownTask >>= shown)
     (ap has_packed same ∙ has)
     ∙ ap (λ b. require b kind.UnknownTask >>= shown) all

@@ -135,12 +135,12 @@ module _ (inst : InstanceView) (last : Reading) (over : last.coming ≡ []) wher
   -- ---- what the lines around the parts say
 
   module _ (v : Version) (more : List Coming) (n : ℕ) (b : Bound) (now : Reading) where
-    title_line : (l : Line) (list : List ℕ) → v ≡ with_packed → at inst (reading v (title ∷ more) n b) title l list ≡ Ok now
+    title_line : (l : Line) (list : List ℕ) → at inst (reading v (title ∷ more) n b) title l list ≡ Ok now
         → (w : Version) × (whole_line l list ≡ whole_line (trees.title w) []) × (reading w more n b ≡ now)
-    title_line line.Title list is e = (without_berths, refl, same_ok e)
-    title_line line.Title2 list is e = (with_berths, refl, same_ok e)
-    title_line line.Title3 list is e = (with_packed, refl, ap (λ w. reading w more n b) (sym is) ∙ same_ok e)
-    title_line _ list is e = failed kind.Place now e
+    title_line line.Title list e = (without_berths, refl, same_ok e)
+    title_line line.Title2 list e = (with_berths, refl, same_ok e)
+    title_line line.Title3 list e = (with_packed, refl, same_ok e)
+    title_line _ list e = failed kind.Place now e
 
     up_line : (l : Line) (list : List ℕ) → at inst (reading v (up ∷ more) n b) up l list ≡ Ok now
         → (whole_line l list ≡ whole_line line.Up []) × (reading v more n b ≡ now)
@@ -185,7 +185,7 @@ module _ (inst : InstanceView) (last : Reading) (over : last.coming ≡ []) wher
         → (w : Version) × Taken (whole_line (trees.title w) []) (reading w more n b) lines
     title_taken e =
         let f = frame_read with_packed title more n b lines e in
-        let l = title_line with_packed more n b f.now f.here.line f.here.list refl f.leads in
+        let l = title_line with_packed more n b f.now f.here.line f.here.list f.leads in
         (l.0, taken f.here lines f.rest (whole_line (trees.title l.0) []) (reading l.0 more n b) f.now f.are l.1 l.2 f.reads)
 
     module _ (w : Version) where

@@ -18,8 +18,8 @@ use Rattle.qc_model.specs.declared.decision.Decision.TheVariants as decide
 use Rattle.qc_model.specs.declared.direction.Direction.{Direction}
 use Rattle.qc_model.specs.Instance.{InstanceView, Valid}
 use Rattle.qc_model.specs.Assignments.{cranes_of}
-use Rattle.qc_model.specs.Leaves.{Leaf, Version, are_tasks, chain, has_packed, is_ring, leaf_value, packed, packed_end, reach, ring, work}
-use Rattle.qc_model.specs.Work.{crane_numbers, work_holds}
+use Rattle.qc_model.specs.Leaves.{Leaf, Version, are_tasks, chain, has_packed, is_ring, leaf_value, packed, packed_end, reach, ring, work, work_over}
+use Rattle.qc_model.specs.Work.{crane_numbers}
 use Rattle.qc_model.specs.Nodes.{Fits, IsSettled, assigned, forced, head, least}
 use Rattle.qc_model.specs.Numbers.{most_branchings, most_tasks}
 use Rattle.qc_model.specs.Packs.{pack}
@@ -32,7 +32,7 @@ use Rattle.qc_tree.specs.Trees.{Holds, Sign, branches, children, in_file, leaf, 
 use Rattle.qc_tree.specs.Trees as trees
 use Rattle.qc_replay.specs.declared.fault.TreeKind.{TreeKind}
 use Rattle.qc_replay.specs.declared.fault.TreeKind.TheVariants as kind
-use Rattle.qc_replay.specs.Walk.{Coming, Reading, at_node, branched_to, came, closed_by, from_file, is_apart, is_number, is_settled, most_bytes, node, on_pair, on_task}
+use Rattle.qc_replay.specs.Walk.{Coming, Reading, at_node, branched_to, came, ended_by, from_file, is_apart, is_number, is_settled, most_bytes, node, on_pair, on_task}
 use Rattle.qc_replay.proofs.LeafBounds.{leaf_few}
 use Rattle.qc_replay.proofs.NodeFacts.{apart_listed, unsettled_false}
 
@@ -119,9 +119,9 @@ module _ (inst : InstanceView) (d : Direction) (v : Version) (ds : List Decision
       ∙ ap (λ x. record { version = v; coming = map (node d) (children inst ds sign) ++ more; branched = n + counts sign; bound = x })
       (sym (lesser_never b) ∙ ap (lesser b) (sym never))
 
-  closed_is : (shows : Leaf) (value : Bound) → unwrap_or (leaf_value v inst ds shows) Never ≡ value
+  ended_is : (shows : Leaf) (value : Bound) → unwrap_or (leaf_value v inst ds shows) Never ≡ value
       → record (came here) { bound = lesser b value } ≡ behind_line (leaf shows)
-  closed_is shows value is =
+  ended_is shows value is =
       let count : n ≡ n + 0 = omega arith in
       ap (λ x. record (came here) { bound = lesser b x }) (sym is)
       ∙ ap (λ m. record { version = v; coming = more; branched = m; bound = lesser b (sign_value v inst ds (leaf shows)) }) count
@@ -141,7 +141,7 @@ module _ (inst : InstanceView) (d : Direction) (v : Version) (ds : List Decision
     pub few : branches sign ≡ true → n < most_branchings
 
   leaf_accepted : (shows : Leaf) (fault : TreeKind) (l : Line) (list : List ℕ) (now : Reading)
-      → whole_line l list ≡ sign_text (leaf shows) → closed_by here fault (leaf_value v inst ds shows) ≡ Ok now
+      → whole_line l list ≡ sign_text (leaf shows) → ended_by here fault (leaf_value v inst ds shows) ≡ Ok now
       → Accepted l list now
   leaf_accepted shows fault l list now text e =
       let f = found (leaf_value v inst ds shows) fault (λ x. Ok (record (came here) { bound = lesser b x })) now e in
@@ -149,7 +149,7 @@ module _ (inst : InstanceView) (d : Direction) (v : Version) (ds : List Decision
         sign = leaf shows;
         holds = ap is_some f.1;
         text = text;
-        leads = sym (same_ok f.2) ∙ closed_is shows f.0 (ap (λ (o : Option Bound). unwrap_or o Never) f.1);
+        leads = sym (same_ok f.2) ∙ ended_is shows f.0 (ap (λ (o : Option Bound). unwrap_or o Never) f.1);
         few = λ some. absurd (cc some);
       }
 
@@ -203,17 +203,17 @@ module _ (inst : InstanceView) (d : Direction) (v : Version) (ds : List Decision
       let numbers = and_parts (is_number inst i) (is_number inst j) t.0 in
       pair_accepted i j list now (numbered inst i numbers.0).1 (numbered inst j numbers.1).1 t.1
   accepted line.Chain list now e =
-      let onward = λ (_ : ⊤). closed_by here kind.NotForced (leaf_value v inst ds (chain (from_file list))) in
+      let onward = λ (_ : ⊤). ended_by here kind.NotForced (leaf_value v inst ds (chain (from_file list))) in
       let t = tested (list_all (is_number inst) list) kind.UnknownTask onward now e in
       leaf_accepted (chain (from_file list)) kind.NotForced line.Chain list now
       (ap (whole_line line.Chain) (back_in_file inst list t.0)) t.1
   accepted line.Ring list now e =
-      let onward = λ (_ : ⊤). closed_by here kind.NotCycle (leaf_value v inst ds (ring (from_file list))) in
+      let onward = λ (_ : ⊤). ended_by here kind.NotCycle (leaf_value v inst ds (ring (from_file list))) in
       let t = tested (list_all (is_number inst) list) kind.UnknownTask onward now e in
       leaf_accepted (ring (from_file list)) kind.NotCycle line.Ring list now
       (ap (whole_line line.Ring) (back_in_file inst list t.0)) t.1
   accepted line.Clash list now e =
-      let onward = λ (_ : ⊤). closed_by here kind.NotClash (leaf_value v inst ds (packed (from_file list))) in
+      let onward = λ (_ : ⊤). ended_by here kind.NotClash (leaf_value v inst ds (packed (from_file list))) in
       let later = λ (_ : ⊤). require (list_all (is_number inst) list) kind.UnknownTask >>= onward in
       let may = tested (has_packed v) kind.Place later now e in
       let t = tested (list_all (is_number inst) list) kind.UnknownTask onward now may.1 in
@@ -330,9 +330,9 @@ module _ (inst : InstanceView) (valid : Valid inst) (v : Version) (ds : List Dec
 
   work_end : (tick : ℕ) → Fits inst ds → IsSome (leaf_value v inst ds (work tick)) → (1 ≤ tick) × (tick < 10 ^ 15)
   work_end tick fits =
-      cond_both (nat_le 1 tick && work_holds inst ds tick) (Some (Least tick)) None
+      cond_both (nat_le 1 tick && work_over v inst ds tick) (Some (Least tick)) None
       (λ o. IfSome o IsValue → IsSome o → (1 ≤ tick) × (tick < 10 ^ 15))
-      (λ e small _. (leb-true 1 tick (and_parts (nat_le 1 tick) (work_holds inst ds tick) e).0, small))
+      (λ e small _. (leb-true 1 tick (and_parts (nat_le 1 tick) (work_over v inst ds tick) e).0, small))
       (λ _ _ none. absurd (cc none))
       (leaf_few inst valid v ds fits (work tick))
 
@@ -411,11 +411,11 @@ module _ (inst : InstanceView) (valid : Valid inst) (v : Version) (ds : List Dec
     abbrev at_here : Reading
     at_here = here inst d v ds more n b
 
-    closed : (fault : TreeKind) (shows : Leaf) (o : Option Bound) → o ≡ leaf_value v inst ds shows → IsSome o
-        → closed_by at_here fault o ≡ Ok (behind_line inst d v ds more n b (leaf shows))
-    closed fault shows None e some = absurd (cc some)
-    closed fault shows (Some value) e some =
-        ap Ok (closed_is inst d v ds more n b shows value (ap (λ (o : Option Bound). unwrap_or o Never) (sym e)))
+    ended : (fault : TreeKind) (shows : Leaf) (o : Option Bound) → o ≡ leaf_value v inst ds shows → IsSome o
+        → ended_by at_here fault o ≡ Ok (behind_line inst d v ds more n b (leaf shows))
+    ended fault shows None e some = absurd (cc some)
+    ended fault shows (Some value) e some =
+        ap Ok (ended_is inst d v ds more n b shows value (ap (λ (o : Option Bound). unwrap_or o Never) (sym e)))
 
     branched : (sign : Sign) (cs : List Coming) → branches sign ≡ true → sign_value v inst ds sign ≡ Never
         → map (node d) (children inst ds sign) ≡ cs → n < most_branchings
@@ -429,21 +429,21 @@ module _ (inst : InstanceView) (valid : Valid inst) (v : Version) (ds : List Dec
         → at_node inst d ds at_here (line_of sign) (list_of sign) ≡ Ok (behind_line inst d v ds more n b sign)
     accepts (leaf (chain tasks)) some few =
         rw (file_numbers inst tasks (chain_tasks tasks some).below, file_back tasks)
-        (closed kind.NotForced (chain tasks) (leaf_value v inst ds (chain tasks)) refl some)
+        (ended kind.NotForced (chain tasks) (leaf_value v inst ds (chain tasks)) refl some)
     accepts (leaf (ring tasks)) some few =
         rw (file_numbers inst tasks (ring_tasks tasks some).0.below, file_back tasks)
-        (closed kind.NotCycle (ring tasks) (leaf_value v inst ds (ring tasks)) refl some)
+        (ended kind.NotCycle (ring tasks) (leaf_value v inst ds (ring tasks)) refl some)
     accepts (leaf (packed tasks)) some few =
         let h = packed_tasks tasks some in
         ap (λ t. require t kind.Place >>= λ _. require (list_all (is_number inst) (in_file tasks)) kind.UnknownTask >>= λ _.
-        closed_by at_here kind.NotClash (leaf_value v inst ds (packed (from_file (in_file tasks))))) h.0
+        ended_by at_here kind.NotClash (leaf_value v inst ds (packed (from_file (in_file tasks))))) h.0
         ∙ ap (λ t. require t kind.UnknownTask >>= λ _.
-        closed_by at_here kind.NotClash (leaf_value v inst ds (packed (from_file (in_file tasks)))))
+        ended_by at_here kind.NotClash (leaf_value v inst ds (packed (from_file (in_file tasks)))))
         (file_numbers inst tasks h.1.below)
-        ∙ ap (λ ts. closed_by at_here kind.NotClash (leaf_value v inst ds (packed ts))) (file_back tasks)
-        ∙ closed kind.NotClash (packed tasks) (leaf_value v inst ds (packed tasks)) refl some
-    accepts (leaf reach) some few = closed kind.InReach reach (leaf_value v inst ds reach) refl some
-    accepts (leaf (work tick)) some few = closed kind.WorkShort (work tick) (leaf_value v inst ds (work tick)) refl some
+        ∙ ap (λ ts. ended_by at_here kind.NotClash (leaf_value v inst ds (packed ts))) (file_back tasks)
+        ∙ ended kind.NotClash (packed tasks) (leaf_value v inst ds (packed tasks)) refl some
+    accepts (leaf reach) some few = ended kind.InReach reach (leaf_value v inst ds reach) refl some
+    accepts (leaf (work tick)) some few = ended kind.WorkShort (work tick) (leaf_value v inst ds (work tick)) refl some
     accepts (trees.on_task j) h few =
         rw (number_of j h.0, back_one j, h.1)
         (branched (trees.on_task j) (map (λ k. node d (decide.Assign j k ∷ ds)) (crane_numbers inst)) refl refl

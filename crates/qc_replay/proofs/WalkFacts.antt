@@ -4,7 +4,6 @@ use Rattle.qc_num.specs.Reading.{◌>>=◌}
 use Rattle.qc_dist.specs.Children.{behind}
 use Rattle.qc_model.specs.declared.direction.Direction.TheVariants as way
 use Rattle.qc_model.specs.Instance.{InstanceView}
-use Rattle.qc_model.specs.Leaves.{with_packed}
 use Rattle.qc_tree.specs.declared.line.Line.{Line}
 use Rattle.qc_tree.specs.LineIn.{Listed}
 use Rattle.qc_replay.specs.declared.fault.TreeKind.{TreeKind}
@@ -44,11 +43,9 @@ module _ (w : Inside) (old : WalkView) (is : walk_of w ≡ old) (kept : IsKeptWa
       ∙ ap (λ s. with_line w.up.inst (here s) taken) at_stage
 
   pub title_taken : w.stage ≡ Title → (result : Result TreeVersion TreeKind)
-      → ((inst : InstanceView) (r : Reading) (list : List ℕ) → r.version ≡ with_packed
-      → at inst r title line list ≡ leading (λ version. record (came r) { version = version_of version }) result)
+      → ((inst : InstanceView) (r : Reading) (list : List ℕ) → at inst r title line list ≡ leading (λ version. record (came r) { version = version_of version }) result)
       → Takes (leading (λ version. reading_at Up version w.up w.down w.tally) result)
-  title_taken stage result judged =
-      begins Title stage ∙ judged w.up.inst (here Title) list (kept.1 stage)
+  title_taken stage result judged = begins Title stage ∙ judged w.up.inst (here Title) list
 
   pub up_taken : w.stage ≡ Up → {A : Type 0} (result : Result A TreeKind)
       → ((inst : InstanceView) (r : Reading) (list : List ℕ)
@@ -97,5 +94,5 @@ module _ (w : Inside) (old : WalkView) (is : walk_of w ≡ old) (kept : IsKeptWa
       begins InDown stage
       ∙ ap (λ ns. next_of (map (node way.Down) ns ++ end ∷ []) >>= λ c. at w.up.inst (here InDown) c line list)
       (nodes_here w.version w.down after live w.tally)
-      ∙ ap (λ i. at_node i way.Down w.down.decisions (here InDown) line list) (sym kept.0)
+      ∙ ap (λ i. at_node i way.Down w.down.decisions (here InDown) line list) (sym kept)
       ∙ judged way.Down (end ∷ []) ∙ ap (λ s. leading (λ tally. reading_at s w.version w.up after tally) result) (sym stage)

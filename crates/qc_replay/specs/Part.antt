@@ -19,7 +19,7 @@ use Rattle.qc_replay.specs.declared.leaf.TreeVersion.TheVariants.{WithoutBerths,
 use Rattle.qc_replay.specs.declared.node.Tally.{Tally}
 use Rattle.qc_replay.specs.Walk.{Coming, Reading, at_node, came, node}
 
--- the version of trees whose leaves count so
+-- a version, as the definitions of leaves name it
 abbrev pub version_of : TreeVersion → Version
 version_of WithoutBerths = without_berths
 version_of WithBerths = with_berths

@@ -4,7 +4,6 @@ use Rattle.qc_num.specs.Reading.{◌>>=◌}
 use Rattle.qc_model.specs.declared.direction.Direction.{Direction}
 use Rattle.qc_model.specs.declared.direction.Direction.TheVariants as way
 use Rattle.qc_model.specs.Instance.{InstanceView}
-use Rattle.qc_model.specs.Leaves.{with_packed}
 use Rattle.qc_model.specs.Numbers.{most_branchings, most_cranes}
 use Rattle.qc_model.specs.OneWay.{mirror}
 use Rattle.qc_replay.specs.declared.fault.TreeKind.{TreeKind}
@@ -69,9 +68,5 @@ reading_at stage version u d tally = record {
 abbrev pub walk_of : Inside → WalkView
 walk_of w = record { inst = w.up.inst; reading = reading_at w.stage w.version w.up w.down w.tally }
 
--- before the title the version is the third
-abbrev pub IsUntitled : Inside → Type 0
-IsUntitled w = w.stage ≡ Title → version_of w.version ≡ with_packed
-
 abbrev pub IsKeptWalk : Inside → Type 0
-IsKeptWalk w = (w.down.inst ≡ mirror w.up.inst) × IsUntitled w
+IsKeptWalk w = w.down.inst ≡ mirror w.up.inst

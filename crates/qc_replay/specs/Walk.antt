@@ -56,8 +56,8 @@ branched_to r children = do
   Ok (record r { coming = children ++ drop 1 r.coming; branched = r.branched + 1 })
 
 -- a leaf, with its fault where it doesn't hold
-abbrev pub closed_by : Reading → TreeKind → Option Bound → Result Reading TreeKind
-closed_by r fault value = do
+abbrev pub ended_by : Reading → TreeKind → Option Bound → Result Reading TreeKind
+ended_by r fault value = do
   v ← ok_or value fault
   Ok (record (came r) { bound = lesser r.bound v })
 
@@ -100,23 +100,23 @@ at_node inst d ds r (line.Order i j) list = do
   on_pair inst d ds r (i - 1) (j - 1)
 at_node inst d ds r line.Chain list = do
   _ ← require (list_all (is_number inst) list) kind.UnknownTask
-  closed_by r kind.NotForced (leaf_value r.version inst ds (chain (from_file list)))
+  ended_by r kind.NotForced (leaf_value r.version inst ds (chain (from_file list)))
 at_node inst d ds r line.Ring list = do
   _ ← require (list_all (is_number inst) list) kind.UnknownTask
-  closed_by r kind.NotCycle (leaf_value r.version inst ds (ring (from_file list)))
-at_node inst d ds r line.Reach list = closed_by r kind.InReach (leaf_value r.version inst ds reach)
-at_node inst d ds r (line.Work v) list = closed_by r kind.WorkShort (leaf_value r.version inst ds (work v))
+  ended_by r kind.NotCycle (leaf_value r.version inst ds (ring (from_file list)))
+at_node inst d ds r line.Reach list = ended_by r kind.InReach (leaf_value r.version inst ds reach)
+at_node inst d ds r (line.Work v) list = ended_by r kind.WorkShort (leaf_value r.version inst ds (work v))
 at_node inst d ds r line.Clash list = do
   _ ← require (has_packed r.version) kind.Place
   _ ← require (list_all (is_number inst) list) kind.UnknownTask
-  closed_by r kind.NotClash (leaf_value r.version inst ds (packed (from_file list)))
+  ended_by r kind.NotClash (leaf_value r.version inst ds (packed (from_file list)))
 at_node inst d ds r _ list = Err kind.Place
 
 -- a line where this must come
 abbrev pub at : InstanceView → Reading → Coming → Line → List ℕ → Result Reading TreeKind
 at inst r title line.Title list = Ok (record (came r) { version = without_berths })
 at inst r title line.Title2 list = Ok (record (came r) { version = with_berths })
-at inst r title line.Title3 list = Ok (came r)
+at inst r title line.Title3 list = Ok (record (came r) { version = with_packed })
 at inst r up line.Up list = Ok (came r)
 at inst r down line.Down list = Ok (came r)
 at inst r end (line.End b x) list = do

@@ -1,10 +1,13 @@
 //! What leaves show at a node.
-ghost use Rattle.std.specs.Prelude.{◌≡◌, ◌+◌, ◌*◌, ◌<◌, ◌≤◌, ◌++◌, ℕ, List, None, All, IfSome, IsTrue, MatchOption, drop, length, map, min, option_map, is_some, take};
+ghost use Rattle.std.specs.Prelude.{◌≡◌, ◌+◌, ◌*◌, ◌<◌, ◌≤◌, ◌++◌, ◌^◌, ℕ, List, None, All, IfSome, IsTrue, MatchOption, drop, length, map, min, option_map, is_some, take};
 ghost use Rattle.std.specs.Option.{option_map_or};
 ghost use Rattle.qc_close.specs.Crews.{IsCrewOf};
 ghost use Rattle.qc_model.specs.Numbers.{most_distance, most_ready, most_tasks, most_work};
 ghost use Rattle.qc_model.specs.Instance.{ticks_of};
-ghost use Rattle.qc_model.specs.Leaves.{chain, chain_end, chain_ticks, has_packed, head_in, is_ring, leaf_value, packed_end, reach, ring, work};
+ghost use Rattle.qc_model.specs.declared.turn.Turn.TheVariants.{OneWay};
+ghost use Rattle.qc_model.specs.Assignments.{cranes_of};
+ghost use Rattle.qc_model.specs.Closed.{is_closed};
+ghost use Rattle.qc_model.specs.Leaves.{chain, chain_end, chain_ticks, has_packed, head_in, is_ring, leaf_value, packed_end, reach, ring, work, work_over};
 ghost use Rattle.qc_model.specs.Nodes.{head, least};
 ghost use Rattle.qc_replay.specs.Part.{IsNumber, version_of};
 ghost use Rattle.qc_replay.specs.Walk.{from_file};
@@ -21,7 +24,8 @@ pub(crate) enum TreeVersion {
     WithoutBerths,
     /// Those with the berths of all other cranes clear: version 2.
     WithBerths,
-    /// The same, and a leaf may list packed tasks: version 3.
+    /// The same, and a leaf may list packed tasks, or count the cranes that must come to each bay:
+    /// version 3.
     WithPacked,
 }
 
@@ -46,6 +50,29 @@ fn head_in(node: &Decisions, version: TreeVersion, task: u16) -> Tick
     match version {
         TreeVersion::WithoutBerths => node.lead1(task),
         TreeVersion::WithBerths | TreeVersion::WithPacked => node.lead(task),
+    }
+}
+
+/// Whether the assignment of a node is closed at an end.
+fn is_closed(node: &Decisions, crew: &Crew, end: Tick) -> bool
+    requires crew { IsCrewOf crew.now node.now.inst node.now.decisions }
+    requires some { 1 ≤ end }
+    requires digits { end < 10 ^ 15 }
+    ensures { result ≡ is_closed node.now.inst OneWay (cranes_of node.now.inst node.now.decisions) end }
+{
+    crew.closed(end)
+}
+
+/// Whether the work of a node doesn't fit before an end, by the way of counting of the version.
+pub(crate) fn is_work_over(node: &Decisions, crew: &Crew, version: TreeVersion, end: Tick) -> bool
+    requires crew { IsCrewOf crew.now node.now.inst node.now.decisions }
+    requires some { 1 ≤ end }
+    requires digits { end < 10 ^ 15 }
+    ensures { result ≡ work_over (version_of version) node.now.inst node.now.decisions end }
+{
+    match version {
+        TreeVersion::WithoutBerths | TreeVersion::WithBerths => node.work_holds(end),
+        TreeVersion::WithPacked => is_closed(node, crew, end),
     }
 }
 

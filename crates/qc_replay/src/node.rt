@@ -1,5 +1,5 @@
 //! A line where a node must stand.
-ghost use Rattle.std.specs.Prelude.{◌≡◌, ◌<◌, ◌≤◌, ◌&&◌, ℕ, List, IfOk, length, true};
+ghost use Rattle.std.specs.Prelude.{◌≡◌, ◌<◌, ◌≤◌, ◌^◌, ◌&&◌, ℕ, List, IfOk, length, true};
 ghost use Rattle.std.specs.List.{list_all};
 ghost use Rattle.qc_close.specs.Crews.{IsCrewOf};
 ghost use Rattle.qc_model.specs.Numbers.{most_tasks};
@@ -13,7 +13,7 @@ ghost use Rattle.qc_tree.specs.Lines.{IsLine};
 
 use crate::descent::Descent;
 use crate::fault::TreeKind;
-use crate::leaf::{TreeVersion, chain_end, is_ring, packed_end};
+use crate::leaf::{TreeVersion, chain_end, is_ring, is_work_over, packed_end};
 use qc_close::Crew;
 use qc_dist::{Decisions, in_reach};
 use qc_model::Decision;
@@ -128,11 +128,18 @@ fn reach_bound(node: &Decisions, version: TreeVersion) -> Result<Bound, TreeKind
 }
 
 /// The end before which the work doesn't fit.
-fn work_bound(node: &Decisions, version: TreeVersion, end: Tick) -> Result<Bound, TreeKind>
+fn work_bound(
+    node: &Decisions,
+    crew: &Crew,
+    version: TreeVersion,
+    end: Tick,
+) -> Result<Bound, TreeKind>
+    requires crew { IsCrewOf crew.now node.now.inst node.now.decisions }
     requires some { 1 ≤ end }
+    requires digits { end < 10 ^ 15 }
     ensures { (numbers : List ℕ) → Shows node.now.inst node.now.decisions version (Work end) numbers result }
 {
-    if node.work_holds(end) {
+    if is_work_over(node, crew, version, end) {
         Ok(Bound::Least(end))
     } else {
         Err(TreeKind::WorkShort)
@@ -157,7 +164,7 @@ fn leaf_bound(
         Line::Chain => chain_bound(node, version, numbers),
         Line::Ring => ring_bound(node, version, numbers),
         Line::Reach => reach_bound(node, version),
-        Line::Work(end) => work_bound(node, version, end),
+        Line::Work(end) => work_bound(node, crew, version, end),
         Line::Clash => clash_bound(node, crew, version, numbers),
         _ => Err(TreeKind::Place),
     }

@@ -1,7 +1,6 @@
 //! The way through a tree, line by line.
 ghost use Rattle.std.specs.Prelude.{◌≡◌, ℕ, List, IfOk, Ok};
 ghost use Rattle.qc_model.specs.Instance.{InstanceView, Valid};
-ghost use Rattle.qc_model.specs.Leaves.{with_packed};
 ghost use Rattle.qc_tree.specs.Lines.{IsLine};
 ghost use Rattle.qc_replay.specs.Part.{version_of};
 ghost use Rattle.qc_replay.specs.Read.{with_line};
@@ -127,8 +126,7 @@ impl Walk {
 
 /// The version that the title tells.
 fn titled(line: Line) -> Result<TreeVersion, TreeKind>
-    ensures { (inst : InstanceView) (r : Reading) (list : List ℕ) → r.version ≡ with_packed
-        → at inst r title line list
+    ensures { (inst : InstanceView) (r : Reading) (list : List ℕ) → at inst r title line list
         ≡ leading (λ version. record (came r) { version = version_of version }) result }
 {
     match line {

@@ -28,7 +28,7 @@ use Rattle.qc_tree.specs.Trees.{leaf_text, sign_text, sign_value}
 use Rattle.qc_tree.specs.Trees as signs
 use Rattle.qc_search.specs.declared.branch.Branch.{Branch}
 use Rattle.qc_search.specs.declared.progress.Progress.{Progress}
-use Rattle.qc_search.specs.Earned.{IsChainTo, IsClosedAt, IsGivenUp, IsPackedLate}
+use Rattle.qc_search.specs.Earned.{IsChainTo, IsClosedAt, IsGivenUp, IsClashLate}
 use Rattle.qc_search.specs.Lines.{IsLeafBy, leaf_of}
 use Rattle.qc_search.specs.Progress.{IsPassed, IsSoon, IsStep, IsTaken, WritesNodes, left_by}
 use Rattle.qc_search.specs.Walk.{IsOpenBranch, first_of, from_child, from_node, sign_of}
@@ -108,6 +108,10 @@ chain_to : (inst : InstanceView) (ds : List Decision) (tasks : List ℕ) (why : 
     → IsChainTo inst ds why.end (chain tasks)
 chain_to inst ds tasks why = record { tasks = tasks; is = refl; value = why.chain }
 
+-- a bound is no later than the end that it is
+at_most_is : (u : Bound) (end : ℕ) → u ≡ Least end → IsAtMost u (Least end)
+at_most_is u end e = subst (λ (v : Bound). IsAtMost v (Least end)) (sym e) (omega arith)
+
 closed_as : (inst : InstanceView) (ds : List Decision) (u : Bound) (leaf : LeafKind) (tasks : List ℕ)
     → IsInReach inst ds → IsClosedBy inst ds u leaf tasks → IsClosedAt inst ds u (leaf_of leaf tasks)
 closed_as inst ds u kind.Chain tasks within h = record {
@@ -131,7 +135,7 @@ closed_as inst ds u (kind.Work end) tasks within h = record {
   out_of_reach = λ out. absurd (never_out_of_reach inst ds within out);
   no_starts = λ _ none. absurd (none h.0.starts);
   complete = λ _ _ all. absurd (h.0.undecided all);
-  late = λ _ _ _. record { end = end; value = h.0.shows; late = h.1 };
+  late = λ _ _ _. record { end = end; value = h.0.shows; late = at_most_is u end h.1 };
 }
 closed_as inst ds u (kind.Clash end) tasks within h = record {
   out_of_reach = λ out. absurd (never_out_of_reach inst ds within out);
@@ -142,16 +146,16 @@ closed_as inst ds u (kind.Clash end) tasks within h = record {
 
 -- a leaf that stands for a node that isn't closed lists packed tasks
 packed_as : (inst : InstanceView) (ds : List Decision) (u : Bound) (leaf : LeafKind) (tasks : List ℕ)
-    → IsClosedBy inst ds u leaf tasks → ¬ IsClosable inst ds u → IsPackedLate inst ds u (leaf_of leaf tasks)
+    → IsClosedBy inst ds u leaf tasks → ¬ IsClosable inst ds u → IsClashLate inst ds u (leaf_of leaf tasks)
 packed_as inst ds u kind.Chain tasks h open_node = by_due h.1
   where
-    by_due : IsComplete inst ds ⊎ IsAtMost u (Least h.0.end) → IsPackedLate inst ds u (chain tasks)
+    by_due : IsComplete inst ds ⊎ IsAtMost u (Least h.0.end) → IsClashLate inst ds u (chain tasks)
     by_due (inl all) = absurd (open_node (complete all))
     by_due (inr late) = absurd (open_node (ends_late (record { end = h.0.end; is = h.0.ends; late = late })))
 packed_as inst ds u kind.Ring tasks h open_node = absurd (open_node (no_starts h.none))
 packed_as inst ds u (kind.Work end) tasks h open_node =
     let both = work_shown inst ds end h.0.shows in
-    absurd (open_node (work_late (record { end = end; positive = both.0; holds = both.1; late = h.1 })))
+    absurd (open_node (work_late (record { end = end; positive = both.0; holds = both.1; late = at_most_is u end h.1 })))
 packed_as inst ds u (kind.Clash end) tasks h open_node = record {
   tasks = tasks;
   is = refl;
@@ -179,11 +183,11 @@ given_as inst ds u kind.Ring tasks h open_node = absurd (open_node (no_starts h.
 given_as inst ds u (kind.Work end) tasks h open_node = record {
   value = end;
   is = h.0.shows;
-  end = h.1.0;
-  ends = h.1.1;
-  no_less = omega (arith, h.1.2);
+  end = h.2.0;
+  ends = h.2.1;
+  no_less = omega (arith, h.2.2);
   bound = end;
-  works = h.0.bound;
+  works = h.1;
   no_shorter = omega arith;
 }
 given_as inst ds u (kind.Clash end) tasks h open_node = record {
@@ -224,7 +228,7 @@ closed_late inst way ds old mid kind.Ring tasks meets within h =
     subst (IsAtMost mid.incumbent_end) (sym (ap (λ (o : Option Bound). unwrap_or o Never) h.ring)) (at_most_never mid.incumbent_end)
 closed_late inst way ds old mid (kind.Work end) tasks meets within h =
     subst (IsAtMost mid.incumbent_end) (sym (ap (λ (o : Option Bound). unwrap_or o Never) h.0.shows))
-    (at_most_through mid.incumbent_end old.incumbent_end (Least end) (met_before inst way ds old mid meets) h.1)
+    (at_most_through mid.incumbent_end old.incumbent_end (Least end) (met_before inst way ds old mid meets) (at_most_is old.incumbent_end end h.1))
 closed_late inst way ds old mid (kind.Clash end) tasks meets within h =
     subst (IsAtMost mid.incumbent_end) (sym (ap (λ (o : Option Bound). unwrap_or o Never) h.0.shows))
     (at_most_through mid.incumbent_end old.incumbent_end (Least end) (met_before inst way ds old mid meets) h.1)

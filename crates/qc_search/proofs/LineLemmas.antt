@@ -10,8 +10,8 @@ use Rattle.qc_bounds.specs.declared.leaves.LeafKind.TheVariants as kind
 use Rattle.qc_model.specs.declared.decision.Decision.{Decision}
 use Rattle.qc_model.specs.Numbers.{most_tasks}
 use Rattle.qc_model.specs.Instance.{InstanceView}
-use Rattle.qc_model.specs.Leaves.{are_tasks, is_ring, leaf_value, with_packed, work}
-use Rattle.qc_model.specs.Work.{ticks_over, work_holds}
+use Rattle.qc_model.specs.Leaves.{are_tasks, is_ring, leaf_value, with_packed, work, work_over}
+use Rattle.qc_model.specs.Work.{ticks_over}
 use Rattle.qc_model.specs.Assignments.{cranes_of}
 use Rattle.qc_model.specs.Nodes.{head, least}
 use Rattle.qc_model.specs.Packs.{all_clash, all_differ, is_doable, is_packed, span}
@@ -50,10 +50,11 @@ numbers_of inst tasks few t =
 
 -- the work shows an end only where it is at least 1 and the work doesn't fit before it
 pub work_shown : (inst : InstanceView) (ds : List Decision) (end : ℕ)
-    → leaf_value with_packed inst ds (work end) ≡ Some (Least end) → (1 ≤ end) × IsTrue (work_holds inst ds end)
+    → leaf_value with_packed inst ds (work end) ≡ Some (Least end) → (1 ≤ end) × IsTrue (work_over with_packed inst ds end)
 work_shown inst ds end e =
-    let all = some_true (nat_le 1 end && work_holds inst ds end) (Some (Least end)) (Least end) e in
-    let both = and_parts (nat_le 1 end) (work_holds inst ds end) all in
+    let holds = work_over with_packed inst ds end in
+    let all = some_true (nat_le 1 end && holds) (Some (Least end)) (Least end) e in
+    let both = and_parts (nat_le 1 end) holds all in
     (leb-true 1 end both.0, both.1)
 
 -- tasks that show an end are packed

@@ -21,7 +21,7 @@ use Rattle.qc_tree.specs.Trees.{Sign, leaf, on_pair, on_task, sign_value}
 use Rattle.qc_search.specs.declared.branch.Branch.{Branch}
 use Rattle.qc_search.specs.declared.branch.Branch.TheVariants.{Pair, Task}
 use Rattle.qc_search.specs.declared.progress.Progress.{Progress}
-use Rattle.qc_search.specs.Earned.{IsClosedAt, IsEarnedBehind, IsGivenUp, IsKnownEnd, IsPackedLate, IsSolvedBy, MayStand, TreeNode, branchings_in, node_at}
+use Rattle.qc_search.specs.Earned.{IsClosedAt, IsEarnedBehind, IsGivenUp, IsKnownEnd, IsClashLate, IsSolvedBy, MayStand, TreeNode, branchings_in, node_at}
 use Rattle.qc_search.specs.Progress.{Improves, IsAlong, IsFrom, IsKept, IsPassed, IsProgress, IsSoon, IsStep, IsTaken, value_in}
 use Rattle.qc_search.specs.Run.{best_end}
 use Rattle.qc_search.specs.Walk.{IsOpenBranch, sign_of}
@@ -95,7 +95,7 @@ pub record IsLeafStep
   pub holds : IsSome (leaf_value with_packed inst ds shows)
   pub closed : IsClosable inst ds old.incumbent_end → IsClosedAt inst ds old.incumbent_end shows
   pub given_up : ¬ IsClosable inst ds old.incumbent_end
-      → IsPackedLate inst ds old.incumbent_end shows ⊎ ((old.branched ≡ old.limit) × IsGivenUp inst ds shows)
+      → IsClashLate inst ds old.incumbent_end shows ⊎ ((old.branched ≡ old.limit) × IsGivenUp inst ds shows)
   pub meets : IsPassed inst ds old mid ⊎ IsTaken inst way ds old mid
   pub late : old.branched < old.limit → IsAtMost mid.incumbent_end (sign_value with_packed inst ds (leaf shows))
 
@@ -187,9 +187,9 @@ module _ (home : InstanceView) (first : Option (List Slot)) (way : Direction) (d
         },
       )
     where
-      spent_by : IsPackedLate (seen home way) ds old.incumbent_end shows
+      spent_by : IsClashLate (seen home way) ds old.incumbent_end shows
           ⊎ ((old.branched ≡ old.limit) × IsGivenUp (seen home way) ds shows)
-          → IsPackedLate (seen home way) ds old.incumbent_end shows
+          → IsClashLate (seen home way) ds old.incumbent_end shows
           ⊎ ((branchings_in before ≡ old.limit) × IsGivenUp (seen home way) ds shows)
       spent_by (inl late) = inl late
       spent_by (inr g) = inr (sym now.branched ∙ g.0, g.1)

@@ -83,7 +83,7 @@ pub record IsClosedAt (inst : InstanceView) (ds : List Decision) (u : Bound) (sh
       ¬ (IsTrue (is_out_of_reach inst ds)) → HasStarts inst ds → ¬ (IsComplete inst ds)
       → ShowsLate inst ds u shows
 
--- the leaf of a node that isn't closed: it shows no less than the node's end, and than the end before which its work
+-- the leaf of a node that isn't closed: it shows no less than the node's end, and than each end before which its work
 -- doesn't fit
 pub record IsGivenUp (inst : InstanceView) (ds : List Decision) (shows : Leaf) : Type 0 where
   pub value : ℕ
@@ -96,18 +96,18 @@ pub record IsGivenUp (inst : InstanceView) (ds : List Decision) (shows : Leaf) :
   pub no_shorter : bound ≤ value
 
 -- the leaf lists packed tasks that show an end of at least u
-pub record IsPackedLate (inst : InstanceView) (ds : List Decision) (u : Bound) (shows : Leaf) : Type 0 where
+pub record IsClashLate (inst : InstanceView) (ds : List Decision) (u : Bound) (shows : Leaf) : Type 0 where
   pub tasks : List ℕ
   pub is : shows ≡ packed tasks
   pub late : ShowsLate inst ds u shows
 
 -- what may stand at a node, u being the end of the incumbent before it, and so many branchings before it written:
 -- a branching only where u doesn't close the node; the leaf that closes it where u does; and else packed tasks that
--- show an end of at least u, or another leaf once all branchings are spent
+-- show an end of at least u, or, once all branchings are spent, a leaf of any kind that shows enough
 abbrev pub MayStand : InstanceView → List Decision → Bound → (branched most : ℕ) → Sign → Type 0
 MayStand inst ds u branched most (leaf shows) =
     (IsClosable inst ds u → IsClosedAt inst ds u shows)
-    × (¬ (IsClosable inst ds u) → IsPackedLate inst ds u shows ⊎ ((branched ≡ most) × IsGivenUp inst ds shows))
+    × (¬ (IsClosable inst ds u) → IsClashLate inst ds u shows ⊎ ((branched ≡ most) × IsGivenUp inst ds shows))
 MayStand inst ds u branched most branching = ¬ (IsClosable inst ds u)
 
 -- the node is justified behind those before it in the file, where the search begins with this end

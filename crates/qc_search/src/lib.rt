@@ -18,7 +18,6 @@ mod place;
 mod progress;
 mod search;
 mod tree;
-mod window;
 
 pub use done::{Done, Kind};
 pub use search::Search;

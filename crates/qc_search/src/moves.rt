@@ -3,7 +3,7 @@
 ghost use Rattle.std.specs.Prelude.{◌≡◌, ◌<◌, ◌≤◌, ◌∷◌, length};
 ghost use Rattle.qc_dist.specs.Node.{IsOpen};
 ghost use Rattle.qc_model.specs.Nodes.{HasStarts};
-ghost use Rattle.qc_starts.specs.Seen.{IsReached, first_of, taken_back};
+ghost use Rattle.qc_starts.specs.Seen.{IsReached, first_of};
 
 use qc_model::Decision;
 use qc_num::Steps;
@@ -21,7 +21,6 @@ fn go_counted<L: Ledger>(starts: &mut Starts, decision: Decision, blank: Blank)
     requires reached { IsReached starts.old.inst decision }
     ensures inst { starts.new.inst ≡ starts.old.inst }
     ensures decisions { starts.new.decisions ≡ decision ∷ starts.old.decisions }
-    ensures back { taken_back (length starts.old.decisions) starts.new ≡ starts.old }
 {
     let mut steps = Steps::<L>::new(blank);
     match decision {
@@ -41,7 +40,6 @@ pub(crate) fn go(starts: &mut Starts, decision: Decision)
     requires reached { IsReached starts.old.inst decision }
     ensures inst { starts.new.inst ≡ starts.old.inst }
     ensures decisions { starts.new.decisions ≡ decision ∷ starts.old.decisions }
-    ensures back { taken_back (length starts.old.decisions) starts.new ≡ starts.old }
 {
     go_counted::<Brand>(starts, decision, Blank::new(1));
 }
@@ -54,7 +52,6 @@ fn go_back_counted<L: Ledger>(starts: &mut Starts, mark: u32, blank: Blank)
     requires made { mark ≤ length starts.old.decisions }
     ensures inst { starts.new.inst ≡ starts.old.inst }
     ensures decisions { starts.new.decisions ≡ first_of mark starts.old.decisions }
-    ensures back { starts.new ≡ taken_back mark starts.old }
 {
     let mut steps = Steps::<L>::new(blank);
     starts.retract(mark, &mut steps);
@@ -65,7 +62,6 @@ pub(crate) fn go_back(starts: &mut Starts, mark: u32)
     requires { mark ≤ length starts.old.decisions }
     ensures inst { starts.new.inst ≡ starts.old.inst }
     ensures decisions { starts.new.decisions ≡ first_of mark starts.old.decisions }
-    ensures back { starts.new ≡ taken_back mark starts.old }
 {
     go_back_counted::<Brand>(starts, mark, Blank::new(1));
 }

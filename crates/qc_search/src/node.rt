@@ -18,7 +18,7 @@ ghost use Rattle.qc_search.specs.Progress.{IsPassed, IsSoon, IsTaken, WritesNode
 ghost use Rattle.qc_search.specs.Walk.{IsChild, from_child, from_node, steps_left};
 
 use crate::best::meet;
-use crate::choice::{Outlook, pick};
+use crate::choice::pick;
 use crate::lines::{put_branch, put_leaf};
 use crate::progress::Progress;
 use qc_bounds::{LeafKind, close, spent};
@@ -136,31 +136,29 @@ fn put_spent<K: Sink>(
 
 /// Branches on the node: writes the line, and answers the first child.
 fn put_branching<K: Sink>(
-    starts: &mut Starts,
-    ahead: Option<Outlook>,
+    starts: &Starts,
     way: Direction,
     progress: &mut Progress,
     sink: &mut K,
 ) -> Result<Decision, WriteFault>
-    requires valid { Valid starts.old.inst }
-    requires starts { HasStarts starts.old.inst starts.old.decisions }
-    requires open { ¬ IsClosable starts.old.inst starts.old.decisions progress.old.incumbent_end }
+    requires valid { Valid starts.now.inst }
+    requires starts { HasStarts starts.now.inst starts.now.decisions }
+    requires open { ¬ IsClosable starts.now.inst starts.now.decisions progress.old.incumbent_end }
     requires left { progress.old.branched < progress.old.limit }
-    ensures goes { WritesNodes [] (K.view sink.old) (K.view sink.new) starts.old.inst way
-        (from_node starts.old.inst starts.old.decisions)
-        (left_by (λ child. from_child starts.old.inst starts.old.decisions (Some child)) result)
+    ensures goes { WritesNodes [] (K.view sink.old) (K.view sink.new) starts.now.inst way
+        (from_node starts.now.inst starts.now.decisions)
+        (left_by (λ child. from_child starts.now.inst starts.now.decisions (Some child)) result)
         progress.old progress.new (emptied result) }
-    ensures child { IfOk result (IsChild starts.old.inst starts.old.decisions) }
+    ensures child { IfOk result (IsChild starts.now.inst starts.now.decisions) }
     ensures branched { progress.new.branched ≡ progress.old.branched + 1 }
     ensures limit { progress.new.limit ≡ progress.old.limit }
     ensures fewer { IfOk result (λ child.
-        steps_left (from_child starts.old.inst starts.old.decisions (Some child))
+        steps_left (from_child starts.now.inst starts.now.decisions (Some child))
         progress.old.limit (progress.old.branched + 1)
-        < steps_left (from_node starts.old.inst starts.old.decisions)
+        < steps_left (from_node starts.now.inst starts.now.decisions)
         progress.old.limit progress.old.branched) }
-    ensures stays { starts.new ≡ starts.old }
 {
-    let branch = pick(starts, ahead);
+    let branch = pick(starts);
     progress.branched += 1;
     put_branch(branch, &progress.path, sink)?;
     Ok(branch.first_child())
@@ -168,31 +166,29 @@ fn put_branching<K: Sink>(
 
 /// Meets the node: writes its line, and answers its first child, if it has children.
 pub(crate) fn visit<K: Sink>(
-    starts: &mut Starts,
+    starts: &Starts,
     crew: &Crew,
-    ahead: Option<Outlook>,
     way: Direction,
     progress: &mut Progress,
     sink: &mut K,
 ) -> Result<Option<Decision>, WriteFault>
-    requires valid { Valid starts.old.inst }
-    requires crew { IsCrewOf crew.now starts.old.inst starts.old.decisions }
-    requires count { length progress.old.incumbent ≡ length starts.old.inst.tasks }
-    requires in_reach { IsInReach starts.old.inst starts.old.decisions }
+    requires valid { Valid starts.now.inst }
+    requires crew { IsCrewOf crew.now starts.now.inst starts.now.decisions }
+    requires count { length progress.old.incumbent ≡ length starts.now.inst.tasks }
+    requires in_reach { IsInReach starts.now.inst starts.now.decisions }
     requires room { HasRoom most_tasks progress.old.path }
     requires few { progress.old.branched ≤ progress.old.limit }
-    ensures goes { WritesNodes [] (K.view sink.old) (K.view sink.new) starts.old.inst way
-        (from_node starts.old.inst starts.old.decisions)
-        (left_by (from_child starts.old.inst starts.old.decisions) result)
+    ensures goes { WritesNodes [] (K.view sink.old) (K.view sink.new) starts.now.inst way
+        (from_node starts.now.inst starts.now.decisions)
+        (left_by (from_child starts.now.inst starts.now.decisions) result)
         progress.old progress.new (emptied result) }
-    ensures child { IfOk result (λ child. IfSome child (IsChild starts.old.inst starts.old.decisions)) }
+    ensures child { IfOk result (λ child. IfSome child (IsChild starts.now.inst starts.now.decisions)) }
     ensures fewer { IfOk result (λ child.
-        steps_left (from_child starts.old.inst starts.old.decisions child)
+        steps_left (from_child starts.now.inst starts.now.decisions child)
         progress.new.limit progress.new.branched
-        < steps_left (from_node starts.old.inst starts.old.decisions)
+        < steps_left (from_node starts.now.inst starts.now.decisions)
         progress.old.limit progress.old.branched) }
     ensures few { OnOk result (progress.new.branched ≤ progress.new.limit) }
-    ensures stays { starts.new ≡ starts.old }
 {
     if let Some(leaf) = close(starts, crew, progress.incumbent_end, &mut progress.path) {
         put_closed(leaf, starts, way, progress, sink)?;
@@ -201,7 +197,7 @@ pub(crate) fn visit<K: Sink>(
     let stuck = starts.stuck();
     prove!(!stuck);
     if progress.branched < progress.limit {
-        let child = put_branching(starts, ahead, way, progress, sink)?;
+        let child = put_branching(starts, way, progress, sink)?;
         return Ok(Some(child));
     }
     let leaf = spent(starts, crew, &mut progress.path);

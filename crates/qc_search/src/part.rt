@@ -7,11 +7,10 @@ ghost use Rattle.qc_starts.specs.Seen.{IsReached};
 ghost use Rattle.qc_search.specs.Progress.{WritesNodes, emptied, left_by};
 ghost use Rattle.qc_search.specs.Walk.{IsChild, WereMade, due_at, from_child};
 
-use crate::choice::Outlook;
 use crate::lines::put_reach;
+use crate::node::visit;
 use crate::place::Node;
 use crate::progress::Progress;
-use crate::window::{Window, heavy_window};
 use qc_dist::{in_reach, next_child};
 use qc_io::{Sink, WriteFault};
 use qc_model::{Decision, Direction};
@@ -79,35 +78,6 @@ fn advance<K: Sink>(
     }
 }
 
-/// Whether and how the search looks ahead: once as many branchings as there are tasks have met
-/// nothing better.
-fn outlook(
-    node: &Node,
-    fruitless: u32,
-    heavy: Option<Window>,
-    progress: &Progress,
-) -> Option<Outlook> {
-    if fruitless < u32::from(node.instance().task_count()) {
-        return None;
-    }
-    Some(Outlook {
-        incumbent_end: progress.incumbent_end,
-        heavy,
-    })
-}
-
-/// How many branchings in a row have met nothing better, by whether a node met something and was
-/// branched on.
-fn fruitless_on(before: u32, met: bool, branched: bool) -> u32 {
-    if met {
-        0
-    } else if branched {
-        before.saturating_add(1)
-    } else {
-        before
-    }
-}
-
 /// Searches one part of a tree from its root on, and writes its lines.
 pub(crate) fn search_part<K: Sink>(
     node: &mut Node,
@@ -122,13 +92,8 @@ pub(crate) fn search_part<K: Sink>(
     ensures { WritesNodes [] (K.view sink.old) (K.view sink.new) node.old.inst way ([] ∷ []) []
         progress.old progress.new result }
 {
-    let heavy = heavy_window(node.starts());
-    let mut fruitless = 0;
     loop {
-        let known = progress.incumbent_end;
-        let ahead = outlook(node, fruitless, heavy, progress);
-        let child = node.visit(ahead, way, progress, sink)?;
-        fruitless = fruitless_on(fruitless, progress.incumbent_end != known, child.is_some());
+        let child = visit(node.starts(), node.crew(), way, progress, sink)?;
         if !advance(node, child, progress, sink)? {
             return Ok(());
         }

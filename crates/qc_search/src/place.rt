@@ -1,26 +1,20 @@
 //! Where a search stands.
-ghost use Rattle.std.specs.Prelude.{◌≡◌, ◌∷◌, [], ◌<◌, ◌≤◌, ℕ, IfOk, IfSome, None, OnOk, length};
+ghost use Rattle.std.specs.Prelude.{◌≡◌, ◌∷◌, [], ◌<◌, ◌≤◌, ℕ, IfOk, IfSome, None, length};
 ghost use Rattle.qc_close.specs.Crews.{IsCrewOf};
 ghost use Rattle.qc_dist.specs.Node.{IsOpen};
 ghost use Rattle.qc_model.specs.Instance.{Valid};
-ghost use Rattle.qc_model.specs.Nodes.{HasStarts, IsInReach};
-ghost use Rattle.qc_model.specs.Numbers.{most_start, most_tasks};
+ghost use Rattle.qc_model.specs.Nodes.{HasStarts};
+ghost use Rattle.qc_model.specs.Numbers.{most_start};
 ghost use Rattle.qc_model.specs.OneWay.{GoesUp};
 ghost use Rattle.qc_model.specs.Rules.{start_of};
 ghost use Rattle.qc_starts.specs.Seen.{IsReached, StartsNode};
 ghost use Rattle.qc_search.specs.Places.{IsPlaced, node_of};
-ghost use Rattle.qc_num.specs.Paths.{HasRoom};
-ghost use Rattle.qc_search.specs.Progress.{IsTightened, WritesNodes, emptied, left_by};
-ghost use Rattle.qc_search.specs.Walk.{IsChild, from_child, from_node, steps_left};
+ghost use Rattle.qc_search.specs.Progress.{IsTightened};
 
-use crate::choice::Outlook;
 use crate::given::tighten;
 use crate::moves::{go, go_back};
-use crate::node::visit;
-use crate::progress::Progress;
 use qc_close::Crew;
-use qc_io::{Sink, WriteFault};
-use qc_model::{Decision, Direction, Instance, Schedule, Turn};
+use qc_model::{Decision, Instance, Schedule, Turn};
 use qc_num::{OutOfMemory, Tick};
 use qc_starts::Starts;
 use std::alloc::Global;
@@ -87,34 +81,6 @@ impl Node {
         ensures tightened { IsTightened self.old.inst sched.old sched.new result }
     {
         tighten(&mut self.starts, sched)
-    }
-
-    /// Meets the node: writes its line, and answers its first child, if it has children.
-    pub(crate) fn visit<K: Sink>(
-        &mut self,
-        ahead: Option<Outlook>,
-        way: Direction,
-        progress: &mut Progress,
-        sink: &mut K,
-    ) -> Result<Option<Decision>, WriteFault>
-        requires count { length progress.old.incumbent ≡ length self.old.inst.tasks }
-        requires in_reach { IsInReach self.old.inst self.old.decisions }
-        requires room { HasRoom most_tasks progress.old.path }
-        requires few { progress.old.branched ≤ progress.old.limit }
-        ensures goes { WritesNodes [] (K.view sink.old) (K.view sink.new) self.old.inst way
-            (from_node self.old.inst self.old.decisions)
-            (left_by (from_child self.old.inst self.old.decisions) result)
-            progress.old progress.new (emptied result) }
-        ensures child { IfOk result (λ child. IfSome child (IsChild self.old.inst self.old.decisions)) }
-        ensures fewer { IfOk result (λ child.
-            steps_left (from_child self.old.inst self.old.decisions child)
-            progress.new.limit progress.new.branched
-            < steps_left (from_node self.old.inst self.old.decisions)
-            progress.old.limit progress.old.branched) }
-        ensures few { OnOk result (progress.new.branched ≤ progress.new.limit) }
-        ensures stays { self.new ≡ self.old }
-    {
-        visit(&mut self.starts, &self.crew, ahead, way, progress, sink)
     }
 
     /// Goes to the child of this decision, which is open and within reach.

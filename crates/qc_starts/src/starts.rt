@@ -1,13 +1,11 @@
 //! The earliest start times of a search node, kept while decisions are made and taken back.
 
-ghost use Rattle.std.specs.Prelude.{◌≡◌, ◌↔◌, ◌+◌, ◌*◌, ◌<◌, ◌≤◌, ◌⊎◌, None, [], ◌∷◌, IfOk, IfSome, IsTrue, drop, length, nat_lt, sum, take};
+ghost use Rattle.std.specs.Prelude.{◌≡◌, ◌↔◌, ◌+◌, ◌*◌, ◌<◌, ◌≤◌, ◌⊎◌, None, [], ◌∷◌, IfOk, IfSome, IsTrue, drop, length, sum, take};
 ghost use Rattle.qc_model.specs.declared.decision.Decision.TheVariants.{Assign, Order};
-ghost use Rattle.qc_model.specs.declared.limits.TheConstants.{MOST_DISTANCE, MOST_READY, MOST_START, MOST_TASKS, MOST_WORK};
+ghost use Rattle.qc_model.specs.declared.limits.TheConstants.{MOST_DISTANCE, MOST_READY, MOST_START};
 ghost use Rattle.qc_model.specs.Instance.{IsApart, Valid};
-ghost use Rattle.qc_model.specs.Work.{done_at, tasks_on};
 ghost use Rattle.qc_model.specs.Nodes.{Fits, HasStarts, IsComplete, IsInReach, IsNodeEnd, IsSettled, assigned, head, reaches};
 ghost use Rattle.qc_num.specs.Paths.{HasRoom};
-ghost use Rattle.qc_dist.specs.Kept.{unassigned_ticks};
 ghost use Rattle.qc_starts.specs.Opened.{AreSized};
 ghost use Rattle.qc_starts.specs.NodeArcs.{IsSound};
 ghost use Rattle.qc_starts.specs.Roots.{root_of};
@@ -274,32 +272,6 @@ impl Starts {
         ensures bound { result ≤ MOST_READY + MOST_DISTANCE }
     {
         self.network.decisions().lead(j)
-    }
-
-    /// Whether a crane has a task.
-    pub fn has_tasks(&self, k: u16) -> bool
-        requires { k < length self.now.inst.cranes }
-        ensures { result ≡ nat_lt 0 (length (tasks_on self.now.decisions k)) }
-    {
-        self.network.decisions().has_tasks(k)
-    }
-
-    /// When a crane is done at the soonest with the tasks that it has, by their ticks and its way
-    /// alone.
-    pub fn done_at(&self, k: u16) -> Tick
-        requires { k < length self.now.inst.cranes }
-        ensures ticks { result ≡ done_at self.now.inst self.now.decisions k }
-        ensures bound { result ≤ MOST_READY + MOST_TASKS * MOST_WORK + 2 * MOST_DISTANCE }
-    {
-        self.network.decisions().done_at(k)
-    }
-
-    /// The ticks of the tasks that no crane has.
-    pub fn open_ticks(&self) -> Tick
-        ensures ticks { result ≡ unassigned_ticks self.now.inst self.now.decisions }
-        ensures bound { result ≤ MOST_TASKS * MOST_WORK }
-    {
-        self.network.decisions().open_ticks()
     }
 
     /// Whether all tasks have a crane and all apart pairs are settled.

@@ -1,5 +1,6 @@
 -- inner: what the sweeps have come to so far.
 use Rattle.std.specs.Prelude.{◌≡◌, ◌≤◌, ℕ, IfSome}
+use Rattle.qc_model.specs.declared.direction.Direction.{Direction}
 use Rattle.qc_model.specs.declared.direction.Direction.TheVariants.{Up, Down}
 use Rattle.qc_model.specs.Instance.{InstanceView}
 use Rattle.qc_model.specs.Seen.{seen}
@@ -10,6 +11,11 @@ use Rattle.qc_sweep.specs.Plans.{IsFirstPlan}
 -- no sweep is asked for a later end
 abbrev pub latest_end : ℕ
 latest_end = 68719476736
+
+-- the low tick of a way
+abbrev pub low_of : Hunt → Direction → ℕ
+low_of hunt Up = hunt.low_up
+low_of hunt Down = hunt.low_down
 
 -- the parts read the instance upward and downward
 pub record AreParts (inst : InstanceView) (parts : Parts) : Type 0 where

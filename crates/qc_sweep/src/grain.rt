@@ -1,6 +1,6 @@
 //! The grain of time: all lengths, ready times and ways are multiples of it.
 
-ghost use Rattle.std.specs.Prelude.{◌≤◌, ◌^◌};
+ghost use Rattle.std.specs.Prelude.{◌≡◌, ◌+◌, ◌%◌, ◌<◌, ◌≤◌, ◌^◌};
 
 use qc_model::Instance;
 use qc_num::Tick;
@@ -33,6 +33,10 @@ pub(crate) fn grain(inst: &Instance) -> Tick
 pub(crate) fn up_to_grain(tick: Tick, grain: Tick) -> Tick
     requires tick { tick ≤ 2 ^ 62 }
     requires grain { grain ≤ 2 ^ 62 }
+    ensures no_sooner { tick ≤ result }
+    ensures none { grain ≡ 0 → result ≡ tick }
+    ensures next { 0 < grain → result < tick + grain }
+    ensures multiple { 0 < grain → result % grain ≡ 0 }
 {
     if grain == 0 {
         return tick;

@@ -1,8 +1,9 @@
 //! What the sweeps have come to so far.
 
-ghost use Rattle.std.specs.Prelude.{◌≡◌, ◌≤◌, IfSome};
+ghost use Rattle.std.specs.Prelude.{◌≡◌, ◌≤◌, ◌⊎◌, IfSome, min};
+ghost use Rattle.std.specs.Option.{option_map_or};
 ghost use Rattle.qc_model.specs.Seen.{seen};
-ghost use Rattle.qc_sweep.specs.Hunts.{AreParts, IsHunt, latest_end};
+ghost use Rattle.qc_sweep.specs.Hunts.{AreParts, IsHunt, latest_end, low_of};
 
 use crate::schedule::{better, schedule_of};
 use crate::sweep::sweep;
@@ -37,12 +38,15 @@ impl Hunt {
     pub(crate) fn low(&self) -> Tick
         ensures up { result ≤ self.now.low_up }
         ensures down { result ≤ self.now.low_down }
+        ensures one { (result ≡ self.now.low_up) ⊎ (result ≡ self.now.low_down) }
     {
         self.low_up.min(self.low_down)
     }
 
     /// The low tick of a way.
-    fn low_of(&self, way: Direction) -> Tick {
+    fn low_of(&self, way: Direction) -> Tick
+        ensures { result ≡ low_of self.now way }
+    {
         match way {
             Direction::Up => self.low_up,
             Direction::Down => self.low_down,
@@ -65,7 +69,8 @@ impl Hunt {
 
     /// The lesser of a tick and the least end that a sweep found.
     fn capped(&self, tick: Tick) -> Tick
-        ensures { result ≤ tick }
+        ensures lesser { result ≡ option_map_or (λ cap. min cap tick) self.now.cap tick }
+        ensures bound { result ≤ tick }
     {
         match self.cap {
             Some(cap) => cap.min(tick),

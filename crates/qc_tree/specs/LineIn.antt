@@ -27,7 +27,7 @@ is_word ws i word = bytes_eq (get_or ws i []) word
 abbrev pub number_at : List (List ℕ) → ℕ → ℕ
 number_at ws i = digits_value 10 (get_or ws i [])
 
--- the title with this number
+-- the only title whose number this word can be, if it is one
 abbrev pub title_by : List ℕ → Line
 title_by word =
     if bytes_eq word (codes "1") then Title else if bytes_eq word (codes "2") then Title2 else Title3

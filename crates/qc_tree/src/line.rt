@@ -21,7 +21,8 @@ pub enum Line {
     Title,
     /// The title of a tree of version 2: heads count them.
     Title2,
-    /// The title of a tree of version 3: heads count them, and leaves may list packed tasks.
+    /// The title of a tree of version 3: heads count them, leaves may list packed tasks, and those of
+    /// work count how many cranes must come to each bay.
     Title3,
     /// Here begins the part of the upward schedules.
     Up,

@@ -3,7 +3,7 @@ use Rattle.std.proofs.lemmas.Bool.{false≢true}
 use Rattle.qc_num.specs.Bounds.{IsAtMost}
 use Rattle.qc_num.specs.declared.bound.Bound.TheVariants.{Least}
 use Rattle.qc_model.specs.Nodes.{IsComplete}
-use Rattle.qc_bounds.proofs.ClosedLemmas.{chain_closes, never_closable}
+use Rattle.qc_bounds.proofs.ClosedLemmas.{chain_closes, never_closable, work_closes}
 use Rattle.qc_bounds.proofs.leaves.close.Goals as goal
 use Rattle.qc_bounds.proofs.leaves.close.Goals.{then-is_late-via-then-is_late, then-is_late-via-else-is_late+then-complete}
 
@@ -19,11 +19,19 @@ returns-then-is_late-clause-leaf c =
     ] in
     chain_closes inst ds c.args.best c.why_path.new.path.items c.ends.result c.why_path.ensures.why c.ends.ensures.end due
 
-pub returns-else-is_late-2-clause-closed : goal.returns-else-is_late-2-clause-closed
-returns-else-is_late-2-clause-closed c =
-    let open_node = never_closable c.args.node.now.inst c.args.node.now.decisions c.args.best c.ends.result c.work_bound-bound.result
-    c.if-stuck.ensures.in_reach c.if-stuck.ensures.none
+pub returns-in_err-end-clause-closed : goal.returns-in_err-end-clause-closed
+returns-in_err-end-clause-closed c =
+    let inst = c.args.node.now.inst in
+    let ds = c.args.node.now.decisions in
+    λ closable. absurd (never_closable inst ds c.args.best c.ends.result c.if-stuck.ensures.in_reach c.if-stuck.ensures.none
     (λ every. false≢true (sym c.if-complete.false ∙ c.complete.ensures.1 every)) c.ends.ensures.end
-    (λ late. false≢true (sym c.if-is_late.false ∙ c.is_late.ensures.1 late)) c.work_bound-bound.ensures.bound
-    (λ late. false≢true (sym c.if-is_late-2.false ∙ c.is_late-2.ensures.1 late)) in
-    λ closed. absurd (open_node closed)
+    (λ sooner. false≢true (sym c.if-is_late.false ∙ c.is_late.ensures.1 sooner))
+    (c.in_err-end.ensures inst ds c.requires.crew) closable)
+
+pub returns-clause-leaf : goal.returns-clause-leaf
+returns-clause-leaf c =
+    let inst = c.args.node.now.inst in
+    let ds = c.args.node.now.decisions in
+    work_closes inst ds c.args.best c.clear.new.self.items c.in_ok-end.end c.if-stuck.ensures.none
+    (λ every. false≢true (sym c.if-complete.false ∙ c.complete.ensures.1 every)) c.clear.ensures.items
+    (c.in_ok-end.ensures inst ds c.requires.crew)

@@ -21,6 +21,6 @@ returns c held =
     let inst = c.args.starts.now.inst in
     let ds = c.args.starts.now.decisions in
     let u = c.args.bound in
-    let same : c.close.result ≡ c.args.leaf = search (rules, held) in
+    let same : c.close.result ≡ c.args.leaf = search (rules, held, c.eq.ensures) in
     subst (λ (leaf : Option LeafKind). MatchOption leaf (¬ IsClosable inst ds u) (HasLeaf inst ds u)) same
     (closed_so inst ds u c.close.new.path.items c.close.result c.close.ensures.closed c.close.ensures.leaf)

@@ -7,7 +7,7 @@ pub returns : goal.returns
 returns c held =
     let node = c.args.starts.now in
     let tasks = c.spent.new.path.items in
-    let same : c.spent.result ≡ c.args.leaf = search (rules, held) in
+    let same : c.spent.result ≡ c.args.leaf = search (rules, held, c.eq.ensures) in
     record {
       tasks = tasks;
       spent = subst (λ (leaf : LeafKind). IsSpentBy node.inst node.decisions leaf tasks) same c.spent.ensures.leaf;

@@ -1,25 +1,56 @@
-use Rattle.std.proofs.Common.{◌≡◌, ◌<◌, ◌∙◌, ap, arith, length}
+use Rattle.std.proofs.Common.{◌≡◌, ◌<◌, ◌∙◌, ap, arith, length, subst, sym}
 use Rattle.std.proofs.lemmas.List.{length-set}
-use Rattle.qc_model.specs.Frames.{frame, own}
+use Rattle.qc_model.specs.Barred.{barred_frame}
+use Rattle.qc_model.specs.Frames.{own}
+use Rattle.qc_model.specs.declared.frame.Frame.{Frame}
 use Rattle.qc_close.specs.Counts.{IsNear, no_frame}
 use Rattle.qc_close.specs.Owns.{frame_by}
-use Rattle.qc_close.proofs.OwnLemmas.{frame_same, frames_all, frames_more}
+use Rattle.qc_close.proofs.BarLemmas.{soon_of}
+use Rattle.qc_close.proofs.OwnLemmas.{frame_same, frames_all, frames_more, with_gone}
 use Rattle.qc_close.proofs.frames.frames.Goals as goal
+
+pub barred_gone-gone-requires-clause-around : goal.barred_gone-gone-requires-clause-around
+barred_gone-gone-requires-clause-around c =
+    let inst = c.args.inst.now in
+    let in_range : c.loop-crane.crane < 8 = omega (arith, c.loop-crane-test.true, c.crane_count-crane-end.ensures.bound) in (
+      c.args.cranes.now,
+      record {
+        valid = c.crane_count-crane-end.ensures.valid;
+        spots = c.requires.spots;
+        soon = soon_of inst c.args.cranes.now c.args.soonest.now c.requires.soonest;
+        grid_is = c.grid-grid.ensures.grid;
+        small = c.grid-grid.ensures.small;
+        own_is = c.owns-owns.ensures.owns c.loop-crane.crane in_range;
+        left_is = c.left_own-left.ensures;
+      },
+    )
 
 pub loop-crane-preserved : goal.loop-crane-preserved
 loop-crane-preserved c =
     let inst = c.args.inst.now in
-    let inside : c.loop-crane.crane < length c.loop-crane.frames = omega (arith, c.loop-crane.invariant.many, c.loop-crane-test.true, c.crane_count-crane-end.ensures.bound) in
-    let in_range : c.loop-crane.crane < 8 = omega (arith, c.loop-crane-test.true, c.crane_count-crane-end.ensures.bound) in
+    let cranes = c.args.cranes.now in
+    let w = c.loop-crane.crane in
+    let inside : w < length c.loop-crane.frames = omega (arith, c.loop-crane.invariant.many, c.loop-crane-test.true, c.crane_count-crane-end.ensures.bound) in
+    let in_range : w < 8 = omega (arith, c.loop-crane-test.true, c.crane_count-crane-end.ensures.bound) in
+    let frame_is =
+    c.spent_by-frame.ensures.frame ∙ ap (frame_by inst c.args.turn w) (c.owns-owns.ensures.owns w in_range)
+    ∙ frame_same inst c.args.turn w (own inst cranes w) in
+    let gone_is = c.barred_gone-gone.ensures cranes (record {
+      valid = c.crane_count-crane-end.ensures.valid;
+      spots = c.requires.spots;
+      soon = soon_of inst cranes c.args.soonest.now c.requires.soonest;
+      grid_is = c.grid-grid.ensures.grid;
+      small = c.grid-grid.ensures.small;
+      own_is = c.owns-owns.ensures.owns w in_range;
+      left_is = c.left_own-left.ensures;
+    }) (ap (λ (f : Frame). f.gone) frame_is) in
     record {
-      many = length-set c.loop-crane.frames c.loop-crane.crane c.spent_by.result ∙ c.loop-crane.invariant.many;
-      frames = frames_more (λ w f. f ≡ frame inst c.args.turn c.args.cranes.now w) c.loop-crane.frames c.loop-crane.crane
-          c.spent_by.result inside c.loop-crane.invariant.frames
-          (c.spent_by.ensures.frame
-          ∙ ap (frame_by inst c.args.turn c.loop-crane.crane) (c.owns-owns.ensures.owns c.loop-crane.crane in_range)
-          ∙ frame_same inst c.args.turn c.loop-crane.crane (own inst c.args.cranes.now c.loop-crane.crane));
-      near = frames_more (λ w f. IsNear f) c.loop-crane.frames c.loop-crane.crane c.spent_by.result inside
-          c.loop-crane.invariant.near c.spent_by.ensures.near;
+      many = length-set c.loop-crane.frames w c.with_gone.result ∙ c.loop-crane.invariant.many;
+      frames = frames_more (λ w f. f ≡ barred_frame inst c.args.turn cranes w) c.loop-crane.frames w c.with_gone.result inside
+          c.loop-crane.invariant.frames
+          (c.with_gone.ensures ∙ with_gone c.spent_by-frame.result _ c.barred_gone-gone.result (barred_frame inst c.args.turn cranes w).gone frame_is gone_is);
+      near = frames_more (λ w f. IsNear f) c.loop-crane.frames w c.with_gone.result inside c.loop-crane.invariant.near
+          (subst IsNear (sym c.with_gone.ensures) (record { low = c.spent_by-frame.ensures.near.low; high = c.spent_by-frame.ensures.near.high }));
     }
 
 pub returns-clause-frames : goal.returns-clause-frames

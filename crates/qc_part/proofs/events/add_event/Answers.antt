@@ -1,10 +1,11 @@
-use Rattle.std.proofs.Common.{ℕ, List, [], pos, sym, subst, refl}
+use Rattle.std.proofs.Common.{ℕ, ◌+◌, List, [], arith, pos, sym, subst, refl}
 use Rattle.std.specs.Prelude.{Contains, IsTrue}
 use Rattle.qc_model.specs.Nodes.{reaches}
 use Rattle.std.proofs.lemmas.List.Elements.{All-push, Contains-append_left, Contains-push}
 use Rattle.qc_part.specs.declared.event.Event.{Event}
-use Rattle.qc_part.specs.Hatches.{IsEventOf}
+use Rattle.qc_part.specs.Hatches.{AreDifferent, IsEventOf, pair_number}
 use Rattle.qc_part.specs.Parts.{HasEvent}
+use Rattle.qc_part.proofs.OrderLemmas.{different_more}
 use Rattle.qc_part.proofs.PartLemmas.{first_is}
 use Rattle.qc_part.proofs.events.add_event.Goals as goal
 
@@ -19,6 +20,11 @@ returns-clause-events c =
       along = c.along.ensures.ticks;
       near = c.along.ensures.bound;
     }))
+
+pub returns-clause-different : goal.returns-clause-different
+returns-clause-different c =
+    subst (λ (xs : List Event). AreDifferent xs (pair_number c.args.number (c.args.crane + 1))) (sym c.in_ok-push.ensures.items)
+    (different_more c.args.events.now.items _ (pair_number c.args.number c.args.crane) _ c.requires.different (omega arith) (omega arith))
 
 pub returns-clause-kept : goal.returns-clause-kept
 returns-clause-kept c = λ ev stands.

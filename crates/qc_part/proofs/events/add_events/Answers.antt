@@ -2,6 +2,7 @@ use Rattle.std.proofs.Common.{ℕ, [], pos, sym, ap, ◌∙◌, arith}
 use Rattle.qc_model.specs.Nodes.{reaches}
 use Rattle.qc_part.specs.declared.hatch.Hatch.{Hatch}
 use Rattle.qc_part.specs.Hatches.{first_of}
+use Rattle.qc_part.proofs.OrderLemmas.{different_on}
 use Rattle.qc_part.proofs.PartLemmas.{events_in, events_out, first_is}
 use Rattle.qc_part.proofs.events.add_events.Goals as goal
 use Rattle.qc_part.proofs.events.add_events.Goals.{Joined-in_reach, then-in_reach+in_ok-add_event, else-in_reach}
@@ -21,6 +22,7 @@ loop-crane-preserved c =
           let made = w.add_event.ensures in
           rw w.events-is (record {
             events = made.events;
+            different = w.in_ok-add_event.ensures.different;
             few = omega (arith, made.few, before.few);
             kept = λ ev stands. made.kept ev (before.kept ev stands);
             added = events_in inst c.loop-crane.events.items _ number first c.loop-crane.crane made.kept w.in_ok-add_event.ensures.added before.added;
@@ -28,6 +30,7 @@ loop-crane-preserved c =
       | else-in_reach w ↦
           rw w.events-is (record {
             events = before.events;
+            different = different_on c.loop-crane.events.items _ _ (omega arith) before.different;
             few = omega (arith, before.few);
             kept = before.kept;
             added = events_out inst c.loop-crane.events.items number first c.loop-crane.crane

@@ -11,7 +11,7 @@ pub returns-in_err-put_branch-clause-goes : goal.returns-in_err-put_branch-claus
 returns-in_err-put_branch-clause-goes g c =
     on_fault _ _ c.from_residual.result c.from_residual.ensures.0
     (branch_written c.args.starts.now.inst c.args.way c.args.starts.now.decisions c.pick-branch.result c.args.progress.now
-    _ c.requires.valid c.pick-branch.ensures.open c.requires.open c.requires.left c.in_err-put_branch.ensures)
+    _ c.requires.valid c.pick-branch.ensures c.requires.open c.requires.left c.in_err-put_branch.ensures)
 
 pub returns-clause-goes : goal.returns-clause-goes
 returns-clause-goes g c =
@@ -22,13 +22,13 @@ returns-clause-goes g c =
     subst (λ (d : Decision). WritesNodes [] (g.K.Sink.view c.args.sink.now) (g.K.Sink.view c.put_branch.new.sink) inst
     c.args.way (from_node inst ds) (from_node inst (d ∷ ds)) old new (Ok tt)) (sym c.first_child.ensures)
     (branch_written inst c.args.way ds c.pick-branch.result c.args.progress.now (Ok tt) c.requires.valid
-    c.pick-branch.ensures.open c.requires.open c.requires.left c.in_ok-put_branch.ensures)
+    c.pick-branch.ensures c.requires.open c.requires.left c.in_ok-put_branch.ensures)
 
 pub returns-clause-child : goal.returns-clause-child
 returns-clause-child g c =
     subst (IsChild c.args.starts.now.inst c.args.starts.now.decisions) (sym c.first_child.ensures)
     (branch_child c.args.starts.now.inst c.requires.valid c.args.starts.now.decisions c.pick-branch.result
-    c.pick-branch.ensures.open c.requires.starts)
+    c.pick-branch.ensures c.requires.starts)
 
 pub returns-clause-fewer : goal.returns-clause-fewer
 returns-clause-fewer g c =
@@ -37,4 +37,4 @@ returns-clause-fewer g c =
     let old = c.args.progress.now in
     subst (λ (d : Decision). steps_left (from_node inst (d ∷ ds)) old.limit (old.branched + 1)
     < steps_left (from_node inst ds) old.limit old.branched) (sym c.first_child.ensures)
-    (branch_fewer inst c.requires.valid ds c.pick-branch.result c.pick-branch.ensures.open old.limit old.branched c.requires.left)
+    (branch_fewer inst c.requires.valid ds c.pick-branch.result c.pick-branch.ensures old.limit old.branched c.requires.left)

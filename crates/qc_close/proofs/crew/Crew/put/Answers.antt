@@ -2,7 +2,7 @@ use Rattle.std.proofs.Common.{◌<◌, Some, length, ap, ◌∙◌, arith}
 use Rattle.std.proofs.lemmas.List.{length-set}
 use Rattle.qc_model.specs.Assignments.{crane_in}
 use Rattle.qc_close.specs.Crews.{CrewView}
-use Rattle.qc_close.proofs.KeptLemmas.{put_fits, put_left, range_set, same_crane}
+use Rattle.qc_close.proofs.KeptLemmas.{put_fits, put_left, put_soonest, range_set, same_crane}
 use Rattle.qc_close.proofs.crew.Crew.put.Goals as goal
 
 pub overflow_sub-index : goal.overflow_sub-index
@@ -28,6 +28,9 @@ invariant_of-self c =
           (λ n e. same_crane c.args.crane n (length f.inst.cranes) e crane);
       left = put_left f.inst k.valid f.cranes.items f.left.items k.left c.args.task low k.count c.task-done.result
           c.task-done.ensures.task c.index.result.now c.index.ensures free c.args.crane;
+      spots = k.spots;
+      soonest = put_soonest f.inst f.cranes.items f.soonest.items k.soonest c.args.task low k.count c.args.crane c.head.result
+          c.head.ensures.ticks c.head.ensures.bound;
       step = k.step;
       bare = k.bare;
     }

@@ -2,7 +2,7 @@ use Rattle.std.proofs.Common.{◌<◌, None, length, is_some, ap, ◌∙◌, ari
 use Rattle.std.proofs.lemmas.List.{length-set}
 use Rattle.qc_model.specs.Assignments.{crane_in}
 use Rattle.qc_close.specs.Crews.{CrewView}
-use Rattle.qc_close.proofs.KeptLemmas.{no_crane_some, range_set, take_fits, take_left, taken_is}
+use Rattle.qc_close.proofs.KeptLemmas.{no_crane_some, range_set, take_fits, take_left, take_soonest, taken_is}
 use Rattle.qc_close.proofs.crew.Crew.take.Goals as goal
 
 pub overflow_add-index : goal.overflow_add-index
@@ -30,6 +30,8 @@ invariant_of-self c =
           (λ n e. absurd (no_crane_some n e));
       left = take_left f.inst k.valid f.cranes.items f.left.items k.left c.args.task low k.count c.task-open.result
           c.task-open.ensures.task c.index.result.now c.index.ensures (taken_is (crane_in f.cranes.items c.args.task) some);
+      spots = k.spots;
+      soonest = take_soonest f.inst f.cranes.items f.soonest.items k.soonest c.args.task low k.count;
       step = k.step;
       bare = k.bare;
     }

@@ -33,7 +33,7 @@ made c =
     (subst (λ (xs : List Hatch). All (IsEventOf inst xs) events) same c.in_ok-events.ensures.events)
     (subst (λ (xs : List Event). length xs ≤ 480) c.as_slice-2.ensures.value fewer)
     (subst (λ (xs : List Hatch). AreComplete inst xs events (length xs)) same c.in_ok-events.ensures.complete)
-    c.in_ok-events.ensures.order c.in_ok-hatches.ensures.covers)
+    c.in_ok-events.ensures.order c.in_ok-hatches.ensures.rising c.in_ok-hatches.ensures.covers)
 
 pub invariant_of-result : goal.invariant_of-result
 invariant_of-result c = record { is_part = made c; numbers = c.in_ok-numbers.ensures ∙ c.len-2.ensures }
