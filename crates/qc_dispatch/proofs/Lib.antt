@@ -8,3 +8,6 @@ pub mod TableLemmas
 pub mod KeptLemmas
 pub mod LogLemmas
 pub mod OneWayLemmas
+pub mod PieceLemmas
+pub mod WorkedLemmas
+pub mod WorkedValid

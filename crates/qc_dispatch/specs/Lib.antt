@@ -2,11 +2,13 @@ pub mod Order
 pub mod Course
 pub mod Promises
 pub mod Calls
+pub mod Worked
 pub mod Faults
 pub mod Events
 pub mod Log
 pub mod Journal
 pub mod Following
+pub mod Pieces
 pub mod Waits
 pub mod Kept
 pub mod Fields

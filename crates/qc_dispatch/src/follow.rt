@@ -3,7 +3,6 @@
 ghost use Rattle.std.specs.Prelude.{◌≡◌, ◌+◌, ◌*◌, ◌<◌, ◌≤◌, IfOk};
 ghost use Rattle.qc_log.specs.Lines.{lines_of};
 ghost use Rattle.qc_model.specs.Rules.{Feasible};
-ghost use Rattle.qc_num.specs.declared.read_error.ReadError.TheVariants.{Fault};
 ghost use Rattle.qc_dispatch.specs.declared.report.Report.TheVariants.{Passed, Done};
 ghost use Rattle.qc_dispatch.specs.Course.{IsQuiet, past_moments};
 ghost use Rattle.qc_dispatch.specs.Following.{AreTaken, IsFollowing, IsLineTaken, IsShort, IsTaken, journal_of, most_passed};
@@ -22,7 +21,7 @@ use qc_num::{OutOfMemory, Tick};
 use std::alloc::Global;
 
 /// The most lines of a log.
-const MOST_LINES: usize = 100_000;
+pub(crate) const MOST_LINES: usize = 100_000;
 
 /// A dispatcher that was told a log, and what happened.
 #[derive(Drop)]
@@ -39,14 +38,14 @@ enum Refused {
 }
 
 /// The fault of a line, by how many lines are before it.
-fn fault(before: usize, kind: DispatchKind) -> DispatchError
+pub(crate) fn fault(before: usize, kind: DispatchKind) -> DispatchFault
     requires { before ≤ most_lines }
-    ensures { result ≡ Fault (record { line = before + 1; kind = kind }) }
+    ensures { result ≡ record { line = before + 1; kind = kind } }
 {
-    DispatchError::Fault(DispatchFault {
+    DispatchFault {
         line: before as u32 + 1,
         kind,
-    })
+    }
 }
 
 impl Followed {
@@ -120,7 +119,7 @@ impl Followed {
     }
 
     /// Takes a line behind so many others.
-    fn take(&mut self, before: usize, line: &[u8]) -> Result<(), DispatchError>
+    pub(crate) fn take(&mut self, before: usize, line: &[u8]) -> Result<(), DispatchError>
         requires quiet { IsQuiet self.old.dispatch }
         requires few { before ≤ most_lines }
         requires early { self.old.dispatch.clock ≤ most_passed * before }
@@ -129,15 +128,18 @@ impl Followed {
         ensures early { IfOk result (λ _. self.new.dispatch.clock ≤ most_passed * (before + 1)) }
     {
         if before == MOST_LINES {
-            return Err(fault(before, DispatchKind::TooMany));
+            return Err(DispatchError::Fault(fault(before, DispatchKind::TooMany)));
         }
         let report = match report_in(self.dispatch.instance(), line) {
             Ok(report) => report,
-            Err(kind) => return Err(fault(before, kind)),
+            Err(kind) => return Err(DispatchError::Fault(fault(before, kind))),
         };
         match self.follow(report) {
             Ok(()) => Ok(()),
-            Err(Refused::NotRunning) => Err(fault(before, DispatchKind::NotRunning)),
+            Err(Refused::NotRunning) => Err(DispatchError::Fault(fault(
+                before,
+                DispatchKind::NotRunning,
+            ))),
             Err(Refused::OutOfMemory) => Err(DispatchError::OutOfMemory),
         }
     }
@@ -161,7 +163,11 @@ impl Followed {
 }
 
 /// A dispatcher that was told nothing yet; what may start at once does.
-fn begin(alloc: Global, inst: &Instance, plan: &Schedule) -> Result<Followed, OutOfMemory>
+pub(crate) fn begin(
+    alloc: Global,
+    inst: &Instance,
+    plan: &Schedule,
+) -> Result<Followed, OutOfMemory>
     requires { Feasible inst.now plan.now }
     ensures begins { IfOk result (λ f. WentOn (blank inst.now plan.now) 0 (journal_of f)) }
     ensures quiet { IfOk result (λ f. IsQuiet f.dispatch) }

@@ -1,5 +1,5 @@
 -- Where the command stops at the log, behind the steps that read the plan.
-use Rattle.std.proofs.Common.{◌≤◌, ℕ, Option, Result, Ok, Err, subst, inl, inr, ◌∙◌}
+use Rattle.std.proofs.Common.{◌≤◌, ℕ, Option, Ok, Err, subst, inl, inr, ◌∙◌}
 use Rattle.qc_dispatch.specs.declared.follow.Followed.{Followed}
 use Rattle.qc_io.specs.Outside.{Files, View}
 use Rattle.qc_model.specs.Rules.{Feasible}

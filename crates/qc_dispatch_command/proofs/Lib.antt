@@ -1,2 +1,4 @@
 pub mod FollowLemmas
 pub mod DispatchLemmas
+pub mod PieceLemmas
+pub mod LogFileLemmas

@@ -7,7 +7,6 @@ use Rattle.qc_model.specs.Rules.{Feasible}
 use Rattle.qc_run.specs.declared.inputs.Input.TheVariants as input
 use Rattle.qc_run.specs.declared.reading.Job.{Job}
 use Rattle.qc_run.specs.declared.refusal.LogFault.TheVariants as log
-use Rattle.qc_run.specs.declared.refusal.Refusal.TheVariants as refusal
 use Rattle.qc_run.specs.declared.status.Status.{Status}
 use Rattle.qc_run.specs.declared.status.Status.TheVariants as status
 use Rattle.qc_run.specs.Broken.{broken_text}
@@ -15,7 +14,7 @@ use Rattle.qc_run.specs.Due.{Contents, contents_in, input_due, job_due}
 use Rattle.qc_run.specs.Inputs.{Names}
 use Rattle.qc_run.specs.Reports.{Prints}
 use Rattle.qc_run.specs.Texts.{bad_log_text}
-use Rattle.qc_run.specs.Told.{EndsAsDue, EndsBy, IsFaultTold, IsTold, ReadPromises}
+use Rattle.qc_run.specs.Told.{EndsAsDue, EndsBy, IsTold, ReadPromises}
 use Rattle.qc_sheet_command.specs.Listed.{TellsRule}
 use Rattle.qc_dispatch_command.specs.declared.answer.Dispatched.{Dispatched}
 use Rattle.qc_dispatch_command.specs.Account.{IsDispatchAccount, dispatch_report}

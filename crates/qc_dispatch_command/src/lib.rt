@@ -4,6 +4,7 @@
 mod answer;
 mod command;
 mod log;
+mod pieces;
 mod report;
 
 pub use answer::{Dispatched, Dispatching};

@@ -5,9 +5,10 @@ ghost use Rattle.qc_run.specs.Account.{IsReading};
 ghost use Rattle.qc_run.specs.Inputs.{names_of};
 ghost use Rattle.qc_dispatch_command.specs.Account.{IsLogFollowed, StopsLog};
 
-use qc_dispatch::{DispatchError, Followed, follow_log};
-use qc_io::Shelf;
-use qc_run::{Input, Inputs, Job, LogFault, Refusal, Stop, read_input};
+use crate::pieces::follow_file;
+use qc_dispatch::Followed;
+use qc_io::{ReadAll, Shelf};
+use qc_run::{Input, Inputs, Job, LogFault, Refusal, Stop};
 use std::alloc::Global;
 
 /// Reads the log, and follows the plan by it.
@@ -23,15 +24,14 @@ pub(crate) fn read_log<S: Shelf>(
         (StopsLog job.now (names_of inputs.now) (S.Sink.view shelf.old) (S.Sink.view shelf.new))
         (names_of inputs.now) (S.Sink.view shelf.old) (S.Sink.view shelf.new) result }
 {
-    let bytes = match read_input(alloc, inputs, Input::Log, shelf) {
-        Ok(bytes) => bytes,
-        Err(stop) => return Err(stop),
+    let Some(name) = inputs.log else {
+        unreachable!()
     };
-    match follow_log(alloc, &job.inst, &job.sched, bytes.as_slice()) {
-        Ok(followed) => Ok(followed),
-        Err(DispatchError::Fault(fault)) => {
-            Err(Stop::Refused(Refusal::BadLog(LogFault::Dispatch(fault))))
-        }
-        Err(DispatchError::OutOfMemory) => Err(Stop::OutOfMemory),
+    match follow_file(alloc, shelf, name, &job.inst, &job.sched) {
+        Ok(Ok(followed)) => Ok(followed),
+        Ok(Err(fault)) => Err(Stop::Refused(Refusal::BadLog(LogFault::Dispatch(fault)))),
+        Err(ReadAll::ReadFault) => Err(Stop::Refused(Refusal::ReadFault(Input::Log))),
+        Err(ReadAll::TooLarge) => Err(Stop::Refused(Refusal::TooLarge(Input::Log))),
+        Err(ReadAll::OutOfMemory) => Err(Stop::OutOfMemory),
     }
 }
