@@ -1,5 +1,5 @@
 -- What the tasks of a crane come to with one task more.
-use Rattle.std.proofs.Common.{◌≡◌, ℕ, ◌+◌, ◌*◌, ◌≤◌, max, Bool, true, false, cond, List, [], ◌∷◌, ◌++◌, refl, ap, sym, ◌∙◌, arith, sum_by}
+use Rattle.std.proofs.Common.{◌≡◌, ℕ, ◌+◌, ◌≤◌, max, true, false, List, [], ◌∷◌, ◌++◌, refl, ap, sym, ◌∙◌, arith, sum_by}
 use Rattle.std.specs.List.{range_with_len}
 use Rattle.std.proofs.lemmas.Bool.{cond-false, cond-true}
 use Rattle.std.proofs.lemmas.List.Sums.{sum_by_push}
@@ -10,7 +10,7 @@ use Rattle.qc_model.specs.Rules.{end_of}
 use Rattle.qc_stow.specs.Moves.{most_moves}
 use Rattle.qc_tasks.proofs.Loops.{range_more}
 use Rattle.qc_figures.specs.declared.tally.Tally.{Tally}
-use Rattle.qc_figures.specs.Figures.{PlanView, does, greatest, last_end_of, moves_in, of_crane, together}
+use Rattle.qc_figures.specs.Figures.{PlanView, does, greatest, moves_in, of_crane, together}
 use Rattle.qc_figures.specs.Tallies.{IsTally}
 
 pub sum_next : (f : ℕ → ℕ) (n : ℕ) → sum_by f (range_with_len 0 (n + 1)) ≡ sum_by f (range_with_len 0 n) + f n

@@ -1,32 +1,22 @@
 -- The tasks of a crane and its way take no more than the time from when it is ready to its last end: while it does a
--- task it stands, so at each tick it does one task, or goes, or neither.
-use Rattle.std.proofs.Common.{◌≡◌, ◌≢◌, ℕ, zero, suc, ◌+◌, ◌-◌, ◌*◌, ◌<◌, ◌≤◌, min, max, ◌⊎◌, inl, inr, Bool, true, false, cond, not, ◌==◌, eqb, ltb, ℤ, pos, ◌+ℤ◌, ◌-ℤ◌, ◌*ℤ◌, unsigned_abs, List, [], ◌∷◌, length, refl, ap, sym, zero-add, add-zero, subst, ◌∙◌, arith, sum_by, le_of_eq}
+-- task it stands, so at each part of a tick it does one task, or goes, or neither.
+use Rattle.std.proofs.Common.{◌≡◌, ◌≢◌, ℕ, zero, suc, ◌+◌, ◌-◌, ◌*◌, ◌/◌, ◌<◌, ◌≤◌, max, ◌⊎◌, inl, inr, Bool, true, false, cond, not, ◌==◌, ltb, ℤ, pos, ◌+ℤ◌, ◌-ℤ◌, ◌*ℤ◌, unsigned_abs, List, length, refl, ap, sym, zero-add, add-zero, subst, ◌∙◌, arith, sum_by, le_of_eq, mul-le-mul_left}
 use Rattle.std.specs.List.{range_with_len}
 use Rattle.std.proofs.lemmas.Bool.{cases_lt, cond-false, cond-true, eq-eqb, eqb-true, le-ltb, lt-ltb}
 use Rattle.std.proofs.lemmas.Int.{ints}
 use Rattle.std.proofs.lemmas.List.{length-map}
 use Rattle.std.proofs.lemmas.List.Sums.{sum_by-cons}
-use Rattle.qc_model.specs.declared.crane.Crane.{Crane}
-use Rattle.qc_model.specs.declared.direction.Direction.{Direction}
-use Rattle.qc_model.specs.declared.direction.Direction.TheVariants.{Up, Down}
-use Rattle.qc_model.specs.declared.rules.Rule.TheVariants.{Travel}
 use Rattle.qc_model.specs.declared.schedule.Slot.{Slot}
-use Rattle.qc_model.specs.Instance.{InstanceView, Valid, bay_of, crane, ticks_of}
-use Rattle.qc_model.specs.Judge.{Goes, IsJudgeable}
-use Rattle.qc_model.specs.Motion.{IsPlace, IsSafeBy, scaled}
-use Rattle.qc_model.specs.OneWay.{mirror, mirror_schedule}
-use Rattle.qc_model.specs.Rules.{crane_of, end_of, start_of, starts}
-use Rattle.qc_model.specs.Seen.{seen_number}
-use Rattle.qc_model.proofs.GoesLemmas.{keeps_seen}
+use Rattle.qc_model.specs.Instance.{InstanceView, Valid, crane, ticks_of}
+use Rattle.qc_model.specs.Judge.{IsJudgeable}
+use Rattle.qc_model.specs.Rules.{Feasible, crane_of, end_of, start_of, starts}
 use Rattle.qc_model.proofs.NodeLemmas.{ends_by, start_at}
-use Rattle.qc_model.proofs.SafeLemmas.{safe_of}
-use Rattle.qc_model.proofs.SeenLemmas.{seen-bay_of, seen-crane, seen-crane_of, seen-start_of, seen-task_count, seen-ticks_of}
-use Rattle.qc_model.proofs.Sums.{InARow, in_a_row, sum_le}
-use Rattle.qc_gantt.specs.TracksText.{IsTrack}
+use Rattle.qc_model.proofs.Sums.{InARow, in_a_row}
 use Rattle.qc_motion.specs.declared.track.Waypoint.{Waypoint}
-use Rattle.qc_motion.specs.Waypoints.{IsOnLine, no_waypoint, waypoint}
-use Rattle.qc_figures.specs.Figures.{PlanView, clipped, does, done_at, figures, greatest, last_end, leg, of_crane, plan_end, ready_at, ticks_moving, together, track, way_of, work_of}
-use Rattle.qc_figures.specs.Whole.{IsWhole}
+use Rattle.qc_motion.specs.Waypoints.{waypoint}
+use Rattle.qc_figures.specs.Figures.{PlanView, clipped, does, done_at, figures, greatest, leg, of_crane, plan_end, ready_at, track, way_of, way_parts, work_of}
+use Rattle.qc_figures.specs.Motions.{HasPlace, IsPath, IsWay, parts}
+use Rattle.qc_figures.proofs.MotionLemmas.{GoesEvenly, IsMotion, evenly_of, motion_of, parts_are}
 use Rattle.qc_figures.proofs.WayLemmas.{rises}
 
 -- ---- two sums as one
@@ -50,7 +40,7 @@ sum_shift f g d a (suc n) h =
     let e : d + (a + 1) ≡ d + a + 1 = omega arith in
     omega (arith, rest, sum_by-cons f (d + a) (range_with_len (d + a + 1) n), sum_by-cons g a (range_with_len (a + 1) n), h a (omega arith), ap (λ (x : ℕ). sum_by f (range_with_len x n)) e)
 
-sum_same : (f g : ℕ → ℕ) (a n : ℕ) → ((j : ℕ) → j < a + n → f j ≡ g j)
+pub sum_same : (f g : ℕ → ℕ) (a n : ℕ) → ((j : ℕ) → j < a + n → f j ≡ g j)
     → sum_by f (range_with_len a n) ≡ sum_by g (range_with_len a n)
 sum_same f g a zero h = refl
 sum_same f g a (suc n) h =
@@ -154,45 +144,50 @@ stands q p r l a b e one two =
         let next : (z *ℤ pos b) ≡ (z *ℤ pos (a + 1)) = ap (λ n. z *ℤ pos n) e in
         omega (arith, ints, same, next)
 
--- ---- what a schedule that goes one way keeps of the tasks of one crane
+-- ---- tasks of one crane
 
-ready_by : (inst : InstanceView) (sched : List Slot) (way : Direction) → IsJudgeable inst sched → Goes inst sched way
-    → (j : ℕ) → j < length inst.tasks → (crane inst (crane_of sched j)).ready ≤ start_of sched j
-ready_by inst sched Up judgeable goes j h = let r = goes.feasible.ready j h in omega arith
-ready_by inst sched Down judgeable goes j h =
-    let g : j < length sched = let e = judgeable.all_tasks in omega arith in
-    let c = crane_of sched j in
-    let c_low = judgeable.crane_range j h in
-    let n = length inst.cranes - 1 - c in
-    let r = goes.mirrored.feasible.ready j (omega (arith, seen-task_count inst Down)) in
-    let crane_is = seen-crane_of inst sched Down j g in
-    let crane_at = seen-crane inst Down n (omega arith) in
-    let back : length inst.cranes - 1 - n ≡ c = omega arith in
-    let ready_is : (crane (mirror inst) (crane_of (mirror_schedule inst sched) j)).ready ≡ (crane inst c).ready =
-    ap (λ (v : ℕ). (crane (mirror inst) v).ready) crane_is ∙ ap (λ (x : Crane). x.ready) crane_at ∙ ap (λ (v : ℕ). (crane inst v).ready) back in
-    omega (arith, r, ready_is, seen-start_of inst sched Down j g)
-
-pub apart_of : (inst : InstanceView) (sched : List Slot) (way : Direction) → IsJudgeable inst sched → Goes inst sched way
+pub apart_of : (inst : InstanceView) (sched : List Slot) → Feasible inst sched
     → (i j : ℕ) → i < j → j < length inst.tasks → crane_of sched i ≡ crane_of sched j
     → (end_of inst sched i ≤ start_of sched j) ⊎ (end_of inst sched j ≤ start_of sched i)
-apart_of inst sched way judgeable goes i j order h same =
-    let e = judgeable.all_tasks in
-    let gi : i < length sched = omega arith in
-    let gj : j < length sched = omega arith in
-    let si = seen-start_of inst sched way i gi in
-    let sj = seen-start_of inst sched way j gj in
-    let ti = seen-ticks_of inst way i (omega arith) in
-    let tj = seen-ticks_of inst way j h in
-    let seen_same = seen-crane_of inst sched way i gi ∙ ap (seen_number inst way) same ∙ sym (seen-crane_of inst sched way j gj) in
-    elim (keeps_seen inst sched way goes Travel i j order (omega (arith, seen-task_count inst way)) seen_same) [
-      | inl x ↦ inl (omega (arith, x, si, sj, ti))
-      | inr x ↦ inr (omega (arith, x, si, sj, tj))
+apart_of inst sched feasible i j order h same =
+    elim (feasible.travel i j (omega arith) h (λ e. absurd (omega arith)) same) [
+      | inl x ↦ inl (omega (arith, x))
+      | inr x ↦ inr (omega (arith, x))
     ]
+
+-- ---- parts of a tick
+
+-- the parts of some numbers, together
+sum_times : (d : ℕ) (on : ℕ → Bool) (f : ℕ → ℕ) (a n : ℕ)
+    → sum_by (λ j. cond (on j) (d * f j) 0) (range_with_len a n)
+    ≡ d * sum_by (λ j. cond (on j) (f j) 0) (range_with_len a n)
+sum_times d on f a zero = omega arith
+sum_times d on f a (suc n) =
+    let rest = sum_times d on f (a + 1) n in
+    let here = one (on a) (f a) in
+    let all = sum_by-cons (λ j. cond (on j) (d * f j) 0) a (range_with_len (a + 1) n) in
+    let each = sum_by-cons (λ j. cond (on j) (f j) 0) a (range_with_len (a + 1) n) in
+    omega (arith, rest, here, all, ap (λ (x : ℕ). d * x) each)
+  where
+    one : (b : Bool) (x : ℕ) → cond b (d * x) 0 ≡ d * cond b x 0
+    one true x = refl
+    one false x = omega arith
+
+-- what fits in parts fits in whole ticks
+fits_in : (d work way from till : ℕ) → (d ≡ 1) ⊎ (d ≡ 2) → d * work + way ≤ d * till - d * from
+    → work + way / d ≤ till - from
+fits_in d work way from till (inl e) h =
+    let c : 1 * work + way ≤ 1 * till - 1 * from = subst (λ (m : ℕ). m * work + way ≤ m * till - m * from) e h in
+    subst (λ (m : ℕ). work + way / m ≤ till - from) (sym e) (omega (arith, c))
+fits_in d work way from till (inr e) h =
+    let c : 2 * work + way ≤ 2 * till - 2 * from = subst (λ (m : ℕ). m * work + way ≤ m * till - m * from) e h in
+    subst (λ (m : ℕ). work + way / m ≤ till - from) (sym e) (omega (arith, c))
 
 -- ---- a crane
 
-module _ (p : PlanView) (way : Direction) (k : ℕ) (valid : Valid p.inst) (judgeable : IsJudgeable p.inst p.sched)
-    (goes : Goes p.inst p.sched way) (low : k < length p.inst.cranes) (is : IsTrack p.inst p.sched way k (track p k)) where
+module _ (p : PlanView) (k : ℕ) (valid : Valid p.inst) (judgeable : IsJudgeable p.inst p.sched)
+    (feasible : Feasible p.inst p.sched) (way : IsWay p.inst p.sched p.way) (low : k < length p.inst.cranes)
+    (is : IsPath p.inst p.sched p.way k (track p k)) where
   abbrev inst : InstanceView
   inst = p.inst
 
@@ -202,11 +197,23 @@ module _ (p : PlanView) (way : Direction) (k : ℕ) (valid : Valid p.inst) (judg
   abbrev points : List Waypoint
   points = track p k
 
+  abbrev d : ℕ
+  d = parts p.way
+
   abbrev from : ℕ
   from = ready_at p k
 
   abbrev till : ℕ
   till = done_at p k
+
+  a_part : 1 ≤ d
+  a_part = elim (parts_are p.way) [ inl e ↦ omega arith | inr e ↦ omega arith ]
+
+  motion : IsMotion inst sched p.way
+  motion = motion_of inst sched p.way valid feasible way
+
+  even : GoesEvenly inst sched p.way k points
+  even = evenly_of inst sched p.way k points is
 
   slot : (j : ℕ) → j < length inst.tasks → j < length sched
   slot j h = let e = judgeable.all_tasks in omega arith
@@ -223,7 +230,7 @@ module _ (p : PlanView) (way : Direction) (k : ℕ) (valid : Valid p.inst) (judg
   by_till j h t =
       omega (arith, greatest_ge (of_crane sched k (end_of inst sched)) 0 (length inst.tasks) j (omega arith) (omega arith), cond-true (does sched k j) (end_of inst sched j) 0 t)
 
-  till_by : till ≤ plan_end p
+  pub till_by : till ≤ plan_end p
   till_by =
       let last = greatest_le (of_crane sched k (end_of inst sched)) (plan_end p) 0 (length inst.tasks)
       (λ j _ h. at_most (does sched k j) (end_of inst sched j) (plan_end p) (ends_before j (omega arith))) in
@@ -231,17 +238,33 @@ module _ (p : PlanView) (way : Direction) (k : ℕ) (valid : Valid p.inst) (judg
 
   -- a task begins when the crane is ready, and two of them are clear of each other
   begins : (j : ℕ) → j < length inst.tasks → does sched k j ≡ true → (crane inst k).ready ≤ start_of sched j
-  begins j h t = subst (λ (v : ℕ). (crane inst v).ready ≤ start_of sched j) (on_crane j t) (ready_by inst sched way judgeable goes j h)
+  begins j h t =
+      let r = feasible.ready j h in
+      subst (λ (v : ℕ). (crane inst v).ready ≤ start_of sched j) (on_crane j t) (omega (arith, r))
 
   clear_tasks : (i j : ℕ) → i < j → j < length inst.tasks → does sched k i ≡ true → does sched k j ≡ true
       → (end_of inst sched i ≤ start_of sched j) ⊎ (end_of inst sched j ≤ start_of sched i)
-  clear_tasks i j order h t u =
-      apart_of inst sched way judgeable goes i j order h (on_crane i t ∙ sym (on_crane j u))
+  clear_tasks i j order h t u = apart_of inst sched feasible i j order h (on_crane i t ∙ sym (on_crane j u))
 
-  tasks_row : InARow (does sched k) (start_of sched) (ticks_of inst) (length inst.tasks) from till
+  -- the tasks in parts of a tick
+  abbrev start : ℕ → ℕ
+  start j = d * start_of sched j
+
+  abbrev ticks : ℕ → ℕ
+  ticks j = d * ticks_of inst j
+
+  tasks_row : InARow (does sched k) start ticks (length inst.tasks) (d * from) (d * till)
   tasks_row = record {
-    within = λ j h t. let b = begins j h t in (omega arith, by_till j h t);
-    clear = λ i j order h t u. clear_tasks i j order h t u;
+    within = λ j h t.
+        let b = begins j h t in
+        let early : from ≤ start_of sched j = omega arith in
+        let s = mul-le-mul_left d early in
+        let e = mul-le-mul_left d (by_till j h t) in
+        (s, omega (arith, e));
+    clear = λ i j order h t u. elim (clear_tasks i j order h t u) [
+      | inl c ↦ let e = mul-le-mul_left d c in inl (omega (arith, e))
+      | inr c ↦ let e = mul-le-mul_left d c in inr (omega (arith, e))
+    ];
   }
 
   -- the legs in which it goes
@@ -255,22 +278,26 @@ module _ (p : PlanView) (way : Direction) (k : ℕ) (valid : Valid p.inst) (judg
   goes_on i = not (unsigned_abs ((u_of i).place -ℤ (v_of i).place) == 0)
 
   abbrev begin : ℕ → ℕ
-  begin i = clipped from till (u_of i).at
+  begin i = clipped (d * from) (d * till) (u_of i).at
 
   abbrev long : ℕ → ℕ
-  long i = clipped from till (v_of i).at - clipped from till (u_of i).at
+  long i = clipped (d * from) (d * till) (v_of i).at - clipped (d * from) (d * till) (u_of i).at
 
   rising_to : (i n : ℕ) → i + n < length points → (u_of i).at ≤ (u_of (i + n)).at
   rising_to i zero h = le_of_eq (ap (λ (x : ℕ). (waypoint points x).at) (omega arith))
   rising_to i (suc n) h =
       let e : i + suc n ≡ i + n + 1 = omega arith in
-      omega (arith, rising_to i n (omega arith), rises points is.waypoints.rising (i + n) (omega arith), ap (λ (x : ℕ). (waypoint points x).at) e)
+      omega (arith, rising_to i n (omega arith), rises points even.rising (i + n) (omega arith), ap (λ (x : ℕ). (waypoint points x).at) e)
 
-  legs_row : InARow goes_on begin long (length points - 1) from till
+  legs_row : InARow goes_on begin long (length points - 1) (d * from) (d * till)
   legs_row = record {
-    within = λ i h t. let r = rises points is.waypoints.rising i (omega arith) in (omega arith, omega arith);
+    within = λ i h t.
+        let r = rises points even.rising i (omega arith) in
+        let order : from ≤ till = omega arith in
+        let o = mul-le-mul_left d order in
+        (omega (arith, o), omega (arith, o, r));
     clear = λ i j order h t u.
-        let r = rises points is.waypoints.rising i (omega arith) in
+        let r = rises points even.rising i (omega arith) in
         let e : i + 1 + (j - (i + 1)) ≡ j = omega arith in
         let s = rising_to (i + 1) (j - (i + 1)) (omega arith) in
         inl (omega (arith, r, s, ap (λ (x : ℕ). (waypoint points x).at) e));
@@ -278,17 +305,19 @@ module _ (p : PlanView) (way : Direction) (k : ℕ) (valid : Valid p.inst) (judg
 
   -- while it does a task it doesn't go
   apart_legs : (j i : ℕ) → j < length inst.tasks → i < length points - 1 → does sched k j ≡ true → goes_on i ≡ true
-      → (end_of inst sched j ≤ begin i) ⊎ (begin i + long i ≤ start_of sched j)
+      → (start j + ticks j ≤ begin i) ⊎ (begin i + long i ≤ start j)
   apart_legs j i h g t u =
-      let r = rises points is.waypoints.rising i (omega arith) in
-      let b = begins j h t in
-      let e = by_till j h t in
-      elim (cases_lt (begin i) (end_of inst sched j)) [
+      let r = rises points even.rising i (omega arith) in
+      let w = tasks_row.within j h t in
+      let lasts : 1 ≤ ticks_of inst j = omega arith in
+      let some = mul-le-mul_left d lasts in
+      let one = a_part in
+      elim (cases_lt (begin i) (start j + ticks j)) [
         | inr late ↦ inl late
-        | inl early ↦ elim (cases_lt (start_of sched j) (begin i + long i)) [
+        | inl early ↦ elim (cases_lt (start j) (begin i + long i)) [
           | inr over ↦ inr over
           | inl under ↦
-              let m = max (start_of sched j) (u_of i).at in
+              let m = max (start j) (u_of i).at in
               absurd (stays (u_of i) (v_of i) u (same_place j i m h g t (omega arith) (omega arith) (omega arith) (omega arith)))
         ]
       ]
@@ -300,45 +329,42 @@ module _ (p : PlanView) (way : Direction) (k : ℕ) (valid : Valid p.inst) (judg
           let no : not true ≡ true = ap not (sym zero_is) ∙ differs in
           cc no
 
-      -- one part a tick
-      unit : (i m : ℕ)
-          → ((pos 1 *ℤ (u_of i).place *ℤ pos ((v_of i).at - (u_of i).at)) +ℤ (((v_of i).place -ℤ (u_of i).place) *ℤ pos (m - 1 * (u_of i).at)))
-          ≡ (((u_of i).place *ℤ pos ((v_of i).at - (u_of i).at)) +ℤ (((v_of i).place -ℤ (u_of i).place) *ℤ pos (m - 1 * (u_of i).at)))
-      unit i m =
-          let one : (pos 1 *ℤ (u_of i).place) ≡ (u_of i).place = omega (arith, ints) in
-          ap (λ (x : ℤ). (x *ℤ pos ((v_of i).at - (u_of i).at)) +ℤ (((v_of i).place -ℤ (u_of i).place) *ℤ pos (m - 1 * (u_of i).at))) one
-
-      -- at two ticks of one task and of one leg
+      -- at two moments of one task and of one leg
       same_place : (j i m : ℕ) → j < length inst.tasks → i < length points - 1 → does sched k j ≡ true
-          → start_of sched j ≤ m → m + 1 ≤ end_of inst sched j → (u_of i).at ≤ m → m + 1 ≤ (v_of i).at
+          → start j ≤ m → m + 1 ≤ start j + ticks j → (u_of i).at ≤ m → m + 1 ≤ (v_of i).at
           → (u_of i).place ≡ (v_of i).place
       same_place j i m h g t s_low e_high u_low v_high =
-          let safe = safe_of inst sched way valid goes 1 (omega arith) in
-          let by = ends_before j h in
-          let (q, q_is) = safe.somewhere k m low (omega arith) in
-          let (r, r_is) = safe.somewhere k (m + 1) low (omega arith) in
-          let move = λ (x : ℕ) (y : ℤ) (at : IsPlace inst sched way k x 1 y).
-          subst (λ (v : ℕ). IsPlace inst sched way v x 1 y) (sym (on_crane j t)) at in
-          let q_at = safe.at_task j m q h (omega arith) (omega arith) (move m q q_is) in
-          let r_at = safe.at_task j (m + 1) r h (omega arith) (omega arith) (move (m + 1) r r_is) in
-          let one = (is.between m 1 q (omega arith) (omega arith) q_is).linear i (omega arith) (omega arith) (omega arith) in
-          let two = (is.between (m + 1) 1 r (omega arith) (omega arith) r_is).linear i (omega arith) (omega arith) (omega arith) in
-          let rise : m + 1 - 1 * (u_of i).at ≡ m - 1 * (u_of i).at + 1 = omega arith in
-          stands q (u_of i).place (v_of i).place ((v_of i).at - (u_of i).at) (m - 1 * (u_of i).at) (m + 1 - 1 * (u_of i).at) rise
-          (one ∙ unit i m) (ap (λ (x : ℤ). x *ℤ pos ((v_of i).at - (u_of i).at)) (q_at ∙ sym r_at) ∙ two ∙ unit i (m + 1))
+          let by = mul-le-mul_left d (ends_before j h) in
+          let (q, q_is) = motion.somewhere k m low (omega (arith, by)) in
+          let (r, r_is) = motion.somewhere k (m + 1) low (omega (arith, by)) in
+          let move = λ (x : ℕ) (y : ℤ) (at : HasPlace inst sched p.way k x d y).
+          subst (λ (v : ℕ). HasPlace inst sched p.way v x d y) (sym (on_crane j t)) at in
+          let q_at = motion.at_task j m q h (omega arith) (omega arith) (move m q q_is) in
+          let r_at = motion.at_task j (m + 1) r h (omega arith) (omega arith) (move (m + 1) r r_is) in
+          let one = even.linear i m q (omega arith) (omega arith) (omega arith) (omega (arith, by)) q_is in
+          let two = even.linear i (m + 1) r (omega arith) (omega arith) (omega arith) (omega (arith, by)) r_is in
+          let rise : m + 1 - (u_of i).at ≡ m - (u_of i).at + 1 = omega arith in
+          stands q (u_of i).place (v_of i).place ((v_of i).at - (u_of i).at) (m - (u_of i).at) (m + 1 - (u_of i).at) rise
+          one (ap (λ (x : ℤ). x *ℤ pos ((v_of i).at - (u_of i).at)) (q_at ∙ sym r_at) ∙ two)
 
-  fits : work_of p k + way_of p k ≤ till - from
-  fits =
-      let row = two_in_a_row (does sched k) goes_on (start_of sched) begin (ticks_of inst) long (length inst.tasks) (length points - 1) from till
+  parts_fit : d * work_of p k + way_parts p k ≤ d * till - d * from
+  parts_fit =
+      let row = two_in_a_row (does sched k) goes_on start begin ticks long (length inst.tasks) (length points - 1) (d * from) (d * till)
       tasks_row legs_row apart_legs in
-      let legs = sum_same (λ i. leg from till (u_of i) (v_of i)) (λ i. cond (goes_on i) (long i) 0) 0 (length points - 1)
+      let work = sum_times d (does sched k) (ticks_of inst) 0 (length inst.tasks) in
+      let legs = sum_same (λ i. leg (d * from) (d * till) (u_of i) (v_of i)) (λ i. cond (goes_on i) (long i) 0) 0 (length points - 1)
       (λ i _. turned (unsigned_abs ((u_of i).place -ℤ (v_of i).place) == 0) (long i)) in
-      omega (arith, row, legs)
+      omega (arith, row, work, legs)
     where
       turned : (b : Bool) (x : ℕ) → cond b 0 x ≡ cond (not b) x 0
       turned true x = refl
       turned false x = refl
 
+  fits : work_of p k + way_of p k ≤ till - from
+  fits = fits_in d (work_of p k) (way_parts p k) from till (parts_are p.way) parts_fit
+
   -- the figures of the crane make up all ticks
-  pub whole : IsWhole p k
-  whole = omega (arith, fits, till_by)
+  pub ticks_whole :
+      (figures p k).not_ready + (figures p k).work + (figures p k).moving + (figures p k).waiting + (figures p k).idle
+      ≡ plan_end p
+  ticks_whole = omega (arith, fits, till_by)

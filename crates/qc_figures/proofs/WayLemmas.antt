@@ -1,6 +1,5 @@
 -- The ticks in which a crane goes, leg by leg.
-use Rattle.std.proofs.Common.{◌≡◌, ℕ, ◌+◌, ◌-◌, ◌<◌, ◌≤◌, min, max, Bool, true, false, cond, ◌==◌, ◌-ℤ◌, unsigned_abs, List, length, arith, sum_by}
-use Rattle.std.specs.List.{range_with_len}
+use Rattle.std.proofs.Common.{ℕ, ◌+◌, ◌-◌, ◌<◌, ◌≤◌, Bool, true, false, cond, ◌==◌, ◌-ℤ◌, unsigned_abs, List, length, arith}
 use Rattle.qc_motion.specs.declared.track.Waypoint.{Waypoint}
 use Rattle.qc_motion.specs.Waypoints.{waypoint, no_waypoint}
 use Rattle.qc_figures.specs.Figures.{clipped, leg}

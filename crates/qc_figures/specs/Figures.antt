@@ -1,6 +1,7 @@
 -- public: what a crane does with the ticks of a plan, from 0 to its end.
-use Rattle.std.specs.Prelude.{ℕ, ◌+◌, ◌-◌, ◌*◌, ◌/◌, Bool, ◌==◌, if◌then◌else◌, min, max, ◌-ℤ◌, unsigned_abs, List, [], ◌∷◌, length, sum_by, count_by, slice_index_or}
+use Rattle.std.specs.Prelude.{ℕ, ◌+◌, ◌-◌, ◌*◌, ◌/◌, Bool, ◌==◌, if◌then◌else◌, min, max, ◌-ℤ◌, unsigned_abs, List, [], ◌∷◌, length, sum_by, count_by, slice_index_or, Option}
 use Rattle.std.specs.List.{range_with_len}
+use Rattle.qc_model.specs.declared.direction.Direction.{Direction}
 use Rattle.qc_model.specs.declared.schedule.Slot.{Slot}
 use Rattle.qc_model.specs.declared.task.Task.{Task}
 use Rattle.qc_model.specs.Instance.{InstanceView, crane, task, ticks_of}
@@ -10,12 +11,15 @@ use Rattle.qc_motion.specs.Waypoints.{waypoint}
 use Rattle.qc_stow.specs.declared.row.Row.{Row}
 use Rattle.qc_tasks.specs.InstanceOf.{is_move_of}
 use Rattle.qc_figures.specs.declared.crane.Figures.{Figures}
+use Rattle.qc_figures.specs.Motions.{parts}
 
--- what figures are told of: an instance and its moves, a schedule, and the waypoints of each crane
+-- what figures are told of: an instance and its moves, a schedule, the way in which it goes where it goes one, and the
+-- waypoints of each crane
 pub record PlanView : Type 0 where
   pub inst : InstanceView
   pub rows : List Row
   pub sched : List Slot
+  pub way : Option Direction
   pub tracks : List (List Waypoint)
 
 -- crane k does task j
@@ -56,18 +60,18 @@ work_of p k = together p.sched k (ticks_of p.inst) (length p.inst.tasks)
 abbrev pub last_end : PlanView → ℕ → ℕ
 last_end p k = last_end_of p k (length p.inst.tasks)
 
--- a tick, or the nearest one from `from` to `till`
+-- a moment, or the nearest one from `from` to `till`
 abbrev pub clipped : (from till at : ℕ) → ℕ
 clipped from till at = min (max at from) till
 
--- the ticks from `from` to `till` in which a crane goes that comes from one waypoint to the next
+-- how long a crane goes, from `from` to `till`, that comes from one waypoint to the next
 abbrev pub leg : (from till : ℕ) → Waypoint → Waypoint → ℕ
 leg from till u v =
     if unsigned_abs (u.place -ℤ v.place) == 0 then 0 else clipped from till v.at - clipped from till u.at
 
--- the ticks from `from` to `till` in which a crane with these waypoints goes
-abbrev pub ticks_moving : List Waypoint → (from till : ℕ) → ℕ
-ticks_moving points from till =
+-- how long a crane with these waypoints goes, from `from` to `till`
+abbrev pub time_moving : List Waypoint → (from till : ℕ) → ℕ
+time_moving points from till =
     sum_by (λ i. leg from till (waypoint points i) (waypoint points (i + 1))) (range_with_len 0 (length points - 1))
 
 -- the waypoints of crane k
@@ -90,9 +94,13 @@ done_at p k = max (last_end p k) (ready_at p k)
 abbrev pub all_work : PlanView → ℕ
 all_work p = max (sum_by (λ t. t.ticks) p.inst.tasks) 1
 
--- the ticks in which crane k goes
+-- how long crane k goes from when it is ready to its last end, in the parts of a tick of its waypoints
+abbrev pub way_parts : PlanView → ℕ → ℕ
+way_parts p k = time_moving (track p k) (parts p.way * ready_at p k) (parts p.way * done_at p k)
+
+-- the same in ticks
 abbrev pub way_of : PlanView → ℕ → ℕ
-way_of p k = ticks_moving (track p k) (ready_at p k) (done_at p k)
+way_of p k = way_parts p k / parts p.way
 
 abbrev pub figures : PlanView → ℕ → Figures
 figures p k = record {

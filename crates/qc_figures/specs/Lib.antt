@@ -1,3 +1,4 @@
+pub mod Motions
 pub mod Figures
 pub mod FiguresText
 pub mod Views

@@ -11,10 +11,11 @@ view_of of = record {
   inst = of.inst.now;
   rows = of.rows.now;
   sched = of.sched.now;
+  way = of.way;
   tracks = of.tracks.now;
 }
 
--- the ticks of waypoints rise
+-- the moments of waypoints rise
 abbrev pub IsRising : List Waypoint → Type 0
 IsRising points = AllPairs (λ (u : Waypoint) (v : Waypoint). u.at < v.at) points
 

@@ -1,5 +1,5 @@
-//! What each crane does with its ticks in a plan that goes one way: the waypoints of all cranes, and the
-//! figures of each.
+//! What each crane does with its ticks in a plan, whether it goes one way or to and fro: the waypoints of all
+//! cranes, and the figures of each.
 #![tactic(auto)]
 
 mod crane;
@@ -10,7 +10,7 @@ mod tally;
 mod tracks;
 
 pub use crane::Figures;
-pub use figured::{Figured, figures_of};
+pub use figured::{Figured, figures_of, parts};
 pub use page::Page;
 pub use table::write_figures;
 pub use tracks::{Tracks, tracks_of};

@@ -15,73 +15,13 @@ use Rattle.qc_freemove.specs.FreeSweep.{FreeSwept, IsBend, IsFreeSound, floor_pl
 use Rattle.qc_freemove.specs.HalfLines.{MovesBetween, no_point, point}
 use Rattle.qc_freemove.specs.HalfPoints.{AreHalfPoints, IsNamed}
 use Rattle.qc_freemove.proofs.Even.{speed}
-use Rattle.qc_freemove.proofs.Extrema.{greatest_unique}
+use Rattle.qc_motion.proofs.Extrema.{greatest_unique}
+use Rattle.qc_motion.proofs.Linear.{on_line, parts_of, part_way}
 use Rattle.qc_freemove.proofs.HalfTicks.{goes_evenly, part}
 use Rattle.qc_freemove.proofs.SweptHolds.{place_is}
 use Rattle.qc_freemove.proofs.Traced.{tick_of, turn_of}
-use Rattle.qc_freemove.proofs.Ways.{moved, way_of}
-
--- r of d parts of the way from one half tick to the next, while a crane goes one way
-part_way : (o : Ordering) (d r x y : ℕ) (p : ℤ) → y ≡ d * x + r
-    → part d r (moved o p x) (moved o p (x + 1)) ≡ moved o (pos d *ℤ p) y
-part_way Greater d r x y p e =
-    let one : ((p +ℤ pos (x + 1)) -ℤ (p +ℤ pos x)) ≡ pos 1 = omega (arith, ints) in
-    let step = ap (λ z. pos r *ℤ z) one in
-    omega (arith, ints, scaled_sum d (p +ℤ pos x) p (pos x) refl, step)
-part_way Equal d r x y p e =
-    let none : (p -ℤ p) ≡ pos 0 = omega (arith, ints) in
-    let step = ap (λ z. pos r *ℤ z) none in
-    omega (arith, ints, step)
-part_way Less d r x y p e =
-    let one : ((p -ℤ pos x) -ℤ (p -ℤ pos (x + 1))) ≡ pos 1 = omega (arith, ints) in
-    let step = scaled_sum r (pos 0) (pos 1) ((p -ℤ pos (x + 1)) -ℤ (p -ℤ pos x)) (omega (arith, ints)) in
-    omega (arith, ints, scaled_sum d p (p -ℤ pos x) (pos x) (omega (arith, ints)), step)
-
--- such a place lies on the line from where the crane was to where it comes
-on_line : (o : Ordering) (n y : ℕ) (whole x z p : ℤ) → z ≡ moved o x n → p ≡ moved o whole y
-    → (p *ℤ pos n) ≡ ((whole *ℤ pos n) +ℤ ((z -ℤ x) *ℤ pos y))
-on_line Greater n y whole x z p e f =
-    let way : (z -ℤ x) ≡ pos n = omega (arith, ints) in
-    omega (arith, ints, scaled_sum n p whole (pos y) f, ap (λ w. w *ℤ pos y) way)
-on_line Equal n y whole x z p e f =
-    let way : (z -ℤ x) ≡ pos 0 = omega (arith, ints) in
-    omega (arith, ints, ap (λ w. w *ℤ pos n) f, ap (λ w. w *ℤ pos y) way)
-on_line Less n y whole x z p e f =
-    let way : (x -ℤ z) ≡ pos n = omega (arith, ints) in
-    let back = scaled_sum y (pos 0) (z -ℤ x) (x -ℤ z) (omega (arith, ints)) in
-    omega (arith, ints, scaled_sum n whole p (pos y) (omega (arith, ints)), back, ap (λ w. pos y *ℤ w) way)
-
--- a moment between two half ticks, as a half tick and parts of the next
-record Parts (d low high m : ℕ) : Type 0 where
-  tick : ℕ
-  parts : ℕ
-  few : parts ≤ d
-  after : low ≤ tick
-  before : tick + 1 ≤ high
-  is : m ≡ d * tick + parts
-
-not_more : (a b : ℕ) → (b < a → ⊥) → a ≤ b
-not_more a b h = elim (cases_lt b a) [ inl l ↦ absurd (h l) | inr l ↦ l ]
-
-parts_of : (d low high m : ℕ) → 1 ≤ d → low < high → d * low ≤ m → m ≤ d * high → Parts d low high m
-parts_of d low high m some order from to = elim (cases_lt m (d * high)) [
-  | inl l ↦ record {
-    tick = m / d;
-    parts = m % d;
-    few = omega arith;
-    after = not_more low (m / d) (λ h. let g = mul-le-mul_left d h in omega arith);
-    before = not_more (m / d + 1) high (λ h. let g = mul-le-mul_left d h in omega arith);
-    is = omega arith;
-  }
-  | inr l ↦ record {
-    tick = high - 1;
-    parts = d;
-    few = omega arith;
-    after = omega arith;
-    before = omega arith;
-    is = let e : high ≡ (high - 1) + 1 = omega arith in omega (arith, ap (λ n. d * n) e);
-  }
-]
+use Rattle.qc_freemove.proofs.Ways.{way_of}
+use Rattle.qc_motion.specs.Sweep.{moved}
 
 -- a place that goes on by the same step
 same_way : (o : Ordering) (x : ℕ) (p q a b : ℤ) → q ≡ moved o p 1 → a ≡ moved o p x → (b -ℤ a) ≡ (q -ℤ p)
@@ -100,10 +40,10 @@ module _ (it : FreeSwept) (s : IsFreeSound it) (points : List HalfPoint)
   abbrev at : ℕ → ℕ
   at i = (point points i).at
 
-  there : (i : ℕ) → i < length points → (point points i).place ≡ place_at it (at i)
+  pub there : (i : ℕ) → i < length points → (point points i).place ≡ place_at it (at i)
   there i low = greatest_unique _ _ _ (h.places i no_point low) (place_is it s (at i))
 
-  within : (i : ℕ) → i < length points → at i ≤ 2 * ends it.inst it.sched
+  pub within : (i : ℕ) → i < length points → at i ≤ 2 * ends it.inst it.sched
   within i low = by ((h.ticks (at i)).0 (
     i,
     omega (arith, low, length-map points tick_of),
@@ -162,12 +102,12 @@ module _ (it : FreeSwept) (s : IsFreeSound it) (points : List HalfPoint)
         (unbent i m low (omega arith) early) in
         even ∙ ap₂ (λ (a b : ℕ). place_at it a -ℤ place_at it b) here back ∙ steps x (omega arith)
 
-    way : (o : Ordering) × (place_at it (from + 1) ≡ moved o (place_at it from) 1)
+    pub way : (o : Ordering) × (place_at it (from + 1) ≡ moved o (place_at it from) 1)
     way =
         let r = speed (hold_of it) (floor_place it) (hold_count it) from in
         way_of (place_at it from) (place_at it (from + 1)) r.0 r.1
 
-    along : (x : ℕ) → from + x ≤ at (i + 1) → place_at it (from + x) ≡ moved way.0 (place_at it from) x
+    pub along : (x : ℕ) → from + x ≤ at (i + 1) → place_at it (from + x) ≡ moved way.0 (place_at it from) x
     along zero early =
         let none : from + 0 ≡ from = omega arith in ap (place_at it) none ∙ moved_none way.0 (place_at it from)
     along (suc x) early =

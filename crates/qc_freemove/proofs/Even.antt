@@ -7,7 +7,8 @@ use Rattle.qc_freemove.specs.declared.hold.Hold.{Hold}
 use Rattle.qc_freemove.specs.FreeSweep.{IsSteady, IsUnpassed, held, highest}
 use Rattle.qc_freemove.proofs.Tops.{IsTaken, highest_first, highest_le, highest_most, taken}
 use Rattle.qc_freemove.proofs.Tops.IsTaken.{by_floor, by_hold}
-use Rattle.qc_freemove.proofs.Ways.{GoesOn, IsCorner, IsLasting, corner_of, goes_on, held_step, keeps_up, moved, same_step, stays_below, way_of}
+use Rattle.qc_freemove.proofs.Ways.{GoesOn, IsCorner, IsLasting, corner_of, goes_on, held_step, keeps_up, same_step, stays_below, way_of}
+use Rattle.qc_motion.specs.Sweep.{moved}
 
 within_one : (a b c : ℤ) → a ≤ℤ (b +ℤ pos 1) → b ≤ℤ c → a ≤ℤ (c +ℤ pos 1)
 within_one a b c h k = omega (arith, ints)

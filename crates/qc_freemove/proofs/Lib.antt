@@ -2,8 +2,6 @@ pub mod FreeLevels
 pub mod Highest
 pub mod FreeTerms
 pub mod FreeSafe
-pub mod Extrema
-pub mod FloorLemmas
 pub mod Tops
 pub mod Ways
 pub mod Even

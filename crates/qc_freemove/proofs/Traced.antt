@@ -10,7 +10,7 @@ use Rattle.qc_freemove.specs.FreeMotion.{IsFreePlace}
 use Rattle.qc_freemove.specs.FreeSweep.{FreeSwept, IsBend, IsEven, IsFreeSound, IsKept, floor_place, hold_count, hold_of, place_at}
 use Rattle.qc_freemove.specs.HalfPoints.{AreHalfPoints, IsHalfTurn, IsNamed}
 use Rattle.qc_freemove.proofs.Even.{drop_of, speed}
-use Rattle.qc_freemove.proofs.Extrema.{greatest_unique}
+use Rattle.qc_motion.proofs.Extrema.{greatest_unique}
 use Rattle.qc_freemove.proofs.Left.{left, left_falls, left_le, left_less}
 use Rattle.qc_freemove.proofs.SweptHolds.{lasting, place_is}
 

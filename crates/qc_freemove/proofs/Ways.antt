@@ -6,12 +6,7 @@ use Rattle.std.specs.declared.cmp.Ordering.{Ordering}
 use Rattle.std.specs.declared.cmp.Ordering.TheVariants.{Less, Equal, Greater}
 use Rattle.qc_freemove.specs.declared.hold.Hold.{Hold}
 use Rattle.qc_freemove.specs.FreeSweep.{IsOutside, IsUnpassed, held}
-
--- a place after so many half ticks of motion one way
-abbrev pub moved : Ordering → ℤ → ℕ → ℤ
-moved Less p x = p -ℤ pos x
-moved Equal p x = p
-moved Greater p x = p +ℤ pos x
+use Rattle.qc_motion.specs.Sweep.{moved}
 
 pub way_of : (p q : ℤ) → (p -ℤ pos 1) ≤ℤ q → q ≤ℤ (p +ℤ pos 1) → (o : Ordering) × (q ≡ moved o p 1)
 way_of p q low high = by_lt_z p q

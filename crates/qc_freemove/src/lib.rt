@@ -3,7 +3,6 @@
 #![tactic(auto)]
 
 mod change;
-mod floor;
 mod hold;
 mod laws;
 mod lines;

@@ -9,9 +9,9 @@ ghost use Rattle.qc_freemove.specs.FreeSweep.{FreeSwept, IsBend, IsFreeSound, Is
 ghost use Rattle.qc_freemove.specs.FreeSweep.{berth_hold, floor_place, hold_count, hold_of, is_felt};
 ghost use Rattle.qc_freemove.specs.FreeSweep.{last_half, place_at, task_hold};
 
-use crate::floor::floor_of;
 use crate::hold::Hold;
 use qc_model::{Direction, Instance, Judge, Schedule};
+use qc_motion::floor_of;
 use qc_num::Bay;
 use std::marker::Model;
 

@@ -19,7 +19,7 @@ use Rattle.qc_motion.proofs.Legs.{IsLeg, place_once}
 use Rattle.qc_motion.proofs.Named.{IsWhole, place_at}
 
 -- r of d parts of the way from one tick to the next, while a crane goes one way
-part_way : (o : Ordering) (d r x y : ℕ) (p : ℤ) → y ≡ d * x + r
+pub part_way : (o : Ordering) (d r x y : ℕ) (p : ℤ) → y ≡ d * x + r
     → ((pos d *ℤ moved o p x) +ℤ (pos r *ℤ (moved o p (x + 1) -ℤ moved o p x))) ≡ moved o (pos d *ℤ p) y
 part_way Greater d r x y p e =
     let one : ((p +ℤ pos (x + 1)) -ℤ (p +ℤ pos x)) ≡ pos 1 = omega (arith, ints) in
@@ -35,7 +35,7 @@ part_way Less d r x y p e =
     omega (arith, ints, scaled_sum d p (p -ℤ pos x) (pos x) (omega (arith, ints)), step)
 
 -- such a place lies on the line from where the crane was to where it comes
-on_line : (o : Ordering) (n y : ℕ) (whole x z p : ℤ) → z ≡ moved o x n → p ≡ moved o whole y
+pub on_line : (o : Ordering) (n y : ℕ) (whole x z p : ℤ) → z ≡ moved o x n → p ≡ moved o whole y
     → (p *ℤ pos n) ≡ ((whole *ℤ pos n) +ℤ ((z -ℤ x) *ℤ pos y))
 on_line Greater n y whole x z p e f =
     let way : (z -ℤ x) ≡ pos n = omega (arith, ints) in
@@ -49,18 +49,18 @@ on_line Less n y whole x z p e f =
     omega (arith, ints, scaled_sum n whole p (pos y) (omega (arith, ints)), back, ap (λ w. pos y *ℤ w) way)
 
 -- a moment between two whole ticks, as a tick and parts of the next
-record Parts (d low high m : ℕ) : Type 0 where
-  tick : ℕ
-  parts : ℕ
-  few : parts ≤ d
-  after : low ≤ tick
-  before : tick + 1 ≤ high
-  is : m ≡ d * tick + parts
+pub record Parts (d low high m : ℕ) : Type 0 where
+  pub tick : ℕ
+  pub parts : ℕ
+  pub few : parts ≤ d
+  pub after : low ≤ tick
+  pub before : tick + 1 ≤ high
+  pub is : m ≡ d * tick + parts
 
 not_more : (a b : ℕ) → (b < a → ⊥) → a ≤ b
 not_more a b h = elim (cases_lt b a) [ inl l ↦ absurd (h l) | inr l ↦ l ]
 
-parts_of : (d low high m : ℕ) → 1 ≤ d → low < high → d * low ≤ m → m ≤ d * high → Parts d low high m
+pub parts_of : (d low high m : ℕ) → 1 ≤ d → low < high → d * low ≤ m → m ≤ d * high → Parts d low high m
 parts_of d low high m some order from to = elim (cases_lt m (d * high)) [
   | inl l ↦ record {
     tick = m / d;

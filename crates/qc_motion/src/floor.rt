@@ -1,3 +1,5 @@
+//! The bay below which a crane never goes.
+
 ghost use Rattle.std.specs.Prelude.{◌≡◌, ◌≤◌, ◌<◌, ◌≤ℤ◌, ℕ, length};
 ghost use Rattle.qc_model.specs.Instance.{crane as crane_at};
 ghost use Rattle.qc_model.specs.Limits.{IsNearRail};
@@ -22,8 +24,8 @@ fn floor_of_berths(judge: &Judge, crane: u16) -> Bay
     floor
 }
 
-/// The bay below which the crane never goes.
-pub(crate) fn floor_of(judge: &Judge, crane: u16) -> Bay
+/// The bay below which the crane never goes, whichever way a feasible schedule goes.
+pub fn floor_of(judge: &Judge, crane: u16) -> Bay
     requires { crane < length judge.now.inst.cranes }
     ensures floor { IsFloor judge.now.inst judge.now.sched crane result }
     ensures near { IsNearRail result }

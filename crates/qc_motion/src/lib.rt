@@ -7,5 +7,6 @@ mod sweep;
 mod trace;
 mod track;
 
+pub use floor::floor_of;
 pub use trace::waypoints;
 pub use track::{Track, Waypoint};

@@ -1,5 +1,5 @@
 -- The span of a drawing with one place more, and the least step of the hatches with one more.
-use Rattle.std.proofs.Common.{◌≡◌, ℕ, ◌+◌, ◌-◌, ◌≤◌, ◌<◌, ◌^◌, min, max, List, [], ◌∷◌, ◌++◌, append_assoc, length, take, drop, find, get_or, Some, Bool, true, false, Result, Ok, Err, OnOk, int_lt, ℤ, pos, ◌+ℤ◌, ◌-ℤ◌, unsigned_abs, to_z, of_z, refl, ap, ap₂, sym, ◌∙◌, arith}
+use Rattle.std.proofs.Common.{◌≡◌, ℕ, ◌+◌, ◌≤◌, ◌<◌, ◌^◌, min, max, List, [], ◌∷◌, ◌++◌, append_assoc, length, take, drop, find, get_or, Some, Bool, true, false, Result, Ok, Err, OnOk, int_lt, ℤ, pos, ◌+ℤ◌, ◌-ℤ◌, unsigned_abs, to_z, of_z, refl, ap, ap₂, ◌∙◌, arith}
 use Rattle.std.specs.List.{range_with_len}
 use Rattle.std.proofs.lemmas.Int.{ints}
 use Rattle.std.proofs.lemmas.Bool.{cond_both, cond-false, cond-true}
@@ -9,7 +9,7 @@ use Rattle.std.specs.Int.{int_max, int_min, w128}
 use Rattle.qc_tasks.proofs.Loops.{range_more}
 use Rattle.qc_picture.specs.declared.span.Span.{Span}
 use Rattle.qc_figures.specs.Figures.{plan_end}
-use Rattle.qc_picture.specs.Paper.{DrawnView, PaperView, narrowest, paper_of, reach, span_of, time_step, wide, widened}
+use Rattle.qc_picture.specs.Paper.{DrawnView, narrowest, paper_of, reach, span_of, time_step, wide, widened}
 
 widened_push : {X : Type 0} (with : Span → X → Span) (span : Span) (xs : List X) (x : X)
     → widened with span (xs ++ x ∷ []) ≡ with (widened with span xs) x

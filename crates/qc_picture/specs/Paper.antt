@@ -1,5 +1,5 @@
 -- public: where places and ticks stand on paper, in tenths of a pixel.
-use Rattle.std.specs.Prelude.{ℕ, ◌+◌, ◌-◌, ◌*◌, ◌/◌, ℤ, pos, ◌+ℤ◌, ◌-ℤ◌, min, max, nat_lt, Bool, if◌then◌else◌, List, [], ◌∷◌, length, slice_index, Option, find}
+use Rattle.std.specs.Prelude.{ℕ, ◌+◌, ◌-◌, ◌*◌, ◌/◌, ℤ, pos, ◌+ℤ◌, ◌-ℤ◌, min, max, nat_lt, if◌then◌else◌, List, [], ◌∷◌, length, slice_index, Option, None, Some, find}
 use Rattle.std.specs.Int.{int_max, int_min}
 use Rattle.std.specs.List.{range_with_len}
 use Rattle.std.specs.Option.{unwrap_or}
@@ -9,18 +9,16 @@ use Rattle.qc_motion.specs.declared.track.Waypoint.{Waypoint}
 use Rattle.qc_figures.specs.Figures.{PlanView, plan_end, track}
 use Rattle.qc_picture.specs.declared.span.Span.{Span}
 
--- what is drawn: a plan, the hatches of its ship and their bays, the way in which it goes where it goes one, and
--- whether its waypoints are told twice as fine as bays times travel
+-- what is drawn: a plan, and the hatches of its ship and their bays
 pub record DrawnView : Type 0 where
   pub plan : PlanView
   pub hatches : List ℕ
   pub places : List ℕ
-  pub way : Option Direction
-  pub fine : Bool
 
--- a waypoint's place in halves of a bay times travel
-abbrev pub half : Bool → Waypoint → ℤ
-half fine w = if fine then w.place else w.place +ℤ w.place
+-- a waypoint's place in halves of a bay times travel: those of a plan to and fro are told so
+abbrev pub half : Option Direction → Waypoint → ℤ
+half None w = w.place
+half (Some way) w = w.place +ℤ w.place
 
 -- the least of what f gives for some numbers, at most `least`
 abbrev pub narrowest : (ℕ → ℕ) → ℕ → List ℕ → ℕ
@@ -64,17 +62,17 @@ abbrev pub with_hatch : (travel wide : ℕ) → Span → ℕ → Span
 with_hatch travel wide span bay = wider span (bow_edge travel wide bay) (stern_edge travel wide bay)
 
 -- half of the gap ahead of a crane at a waypoint, and behind it
-abbrev pub bow_side : Bool → (reach : ℕ) → Waypoint → ℤ
-bow_side fine reach w = half fine w -ℤ pos reach
+abbrev pub bow_side : Option Direction → (reach : ℕ) → Waypoint → ℤ
+bow_side way reach w = half way w -ℤ pos reach
 
-abbrev pub stern_side : Bool → (reach : ℕ) → Waypoint → ℤ
-stern_side fine reach w = half fine w +ℤ pos reach
+abbrev pub stern_side : Option Direction → (reach : ℕ) → Waypoint → ℤ
+stern_side way reach w = half way w +ℤ pos reach
 
-abbrev pub with_point : Bool → (reach : ℕ) → Span → Waypoint → Span
-with_point fine reach span w = wider span (bow_side fine reach w) (stern_side fine reach w)
+abbrev pub with_point : Option Direction → (reach : ℕ) → Span → Waypoint → Span
+with_point way reach span w = wider span (bow_side way reach w) (stern_side way reach w)
 
 abbrev pub with_track : DrawnView → Span → ℕ → Span
-with_track d span k = widened (with_point d.fine (reach d)) span (track d.plan k)
+with_track d span k = widened (with_point d.plan.way (reach d)) span (track d.plan k)
 
 -- from the least edge of a hatch or a crane's half gap to the greatest
 abbrev pub first_span : DrawnView → Span
@@ -122,6 +120,6 @@ paper_of d = record {
 abbrev pub across : Span → ℤ → ℕ
 across span place = 900 + min (14400 * bays_up span.low place / max (bays_up span.low span.high) 1) 14400
 
--- down: where a tick stands, from tick 0 at 1500 to the end at 11100
+-- down: where a moment stands, from 0 at 1500 to the end at 11100
 abbrev pub down : (end at : ℕ) → ℕ
 down end at = 1500 + min (9600 * at / max end 1) 9600

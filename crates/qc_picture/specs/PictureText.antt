@@ -3,7 +3,6 @@ use Rattle.std.specs.Prelude.{ℕ, ◌+◌, ◌-◌, ◌*◌, ◌/◌, ◌%◌, 
 use Rattle.std.specs.List.{flat_map, range_with_len}
 use Rattle.qc_model.specs.declared.direction.Direction.{Direction}
 use Rattle.qc_model.specs.declared.direction.Direction.TheVariants.{Up, Down}
-use Rattle.qc_model.specs.declared.task.Task.{Task}
 use Rattle.qc_model.specs.Bays.{bays_up}
 use Rattle.qc_model.specs.Instance.{crane, task}
 use Rattle.qc_model.specs.Rules.{crane_of, end_of, start_of}
@@ -11,6 +10,7 @@ use Rattle.qc_model.specs.Tasks.{phase_text, task_text}
 use Rattle.qc_motion.specs.declared.track.Waypoint.{Waypoint}
 use Rattle.qc_motion.specs.Waypoints.{waypoint}
 use Rattle.qc_figures.specs.Figures.{figure_list, figures, track}
+use Rattle.qc_figures.specs.Motions.{parts}
 use Rattle.qc_picture.specs.Elements.{colour, colour_of, ink, label_text, legend_text, line_text, point_text, rect_text, table_head, tints}
 use Rattle.qc_picture.specs.Paper.{DrawnView, PaperView, across, bow_edge, bow_side, down, half, paper_of, stern_edge, stern_side}
 
@@ -104,15 +104,19 @@ point p k i = waypoint (track p.drawn.plan k) i
 abbrev pub points : PaperView → ℕ → ℕ
 points p k = length (track p.drawn.plan k)
 
+-- how far down a waypoint stands, whose moment is told in parts of a tick
+abbrev pub at_height : PaperView → Waypoint → ℕ
+at_height p w = down (parts p.drawn.plan.way * p.end) w.at
+
 -- a crane's own place, and half of the gap to each side of it, at one of its waypoints
 abbrev pub here_text : PaperView → Waypoint → List ℕ
-here_text p w = point_text (across p.span (half p.drawn.fine w)) (down p.end w.at)
+here_text p w = point_text (across p.span (half p.drawn.plan.way w)) (at_height p w)
 
 abbrev pub bow_text : PaperView → Waypoint → List ℕ
-bow_text p w = point_text (across p.span (bow_side p.drawn.fine p.half_gap w)) (down p.end w.at)
+bow_text p w = point_text (across p.span (bow_side p.drawn.plan.way p.half_gap w)) (at_height p w)
 
 abbrev pub stern_text : PaperView → Waypoint → List ℕ
-stern_text p w = point_text (across p.span (stern_side p.drawn.fine p.half_gap w)) (down p.end w.at)
+stern_text p w = point_text (across p.span (stern_side p.drawn.plan.way p.half_gap w)) (at_height p w)
 
 abbrev pub band_head : ℕ → List ℕ
 band_head k = codes "<polygon fill=\"" ++ colour_of tints k ++ codes "\" fill-opacity=\"0.6\" points=\""
@@ -192,7 +196,7 @@ stroke_text p colour width k =
 -- white dashes from tick 0 until the crane is ready
 abbrev pub dashes_text : PaperView → ℕ → List ℕ
 dashes_text p k =
-    line_text (across p.span (half p.drawn.fine (point p k 0))) 1500 (across p.span (half p.drawn.fine (point p k 0)))
+    line_text (across p.span (half p.drawn.plan.way (point p k 0))) 1500 (across p.span (half p.drawn.plan.way (point p k 0)))
     (down p.end (min (crane p.drawn.plan.inst k).ready p.end))
     (codes "stroke=\"#ffffff\" stroke-width=\"24\" stroke-dasharray=\"70 70\"")
 
@@ -206,7 +210,7 @@ name_style k = codes "font-size=\"170\" font-weight=\"bold\" text-anchor=\"middl
 
 abbrev pub name_label : PaperView → (k y : ℕ) → Waypoint → List ℕ
 name_label p k y w =
-    label_text (across p.span (half p.drawn.fine w)) y (name_style k) (crane p.drawn.plan.inst k).name
+    label_text (across p.span (half p.drawn.plan.way w)) y (name_style k) (crane p.drawn.plan.inst k).name
 
 -- the name of a crane above tick 0 and below the end
 abbrev pub names_text : PaperView → ℕ → List ℕ
@@ -240,7 +244,7 @@ row_text p k =
 
 -- the head of the file and of the paper
 abbrev pub front_text : PaperView → List ℕ
-front_text p = head_text p ++ ground_text p ++ title_text p ++ way_text p.drawn.way ++ legend_text
+front_text p = head_text p ++ ground_text p ++ title_text p ++ way_text p.drawn.plan.way ++ legend_text
 
 -- the parts of a drawing up to the boxes, and from the lines of the cranes on
 abbrev pub under_text : PaperView → List ℕ

@@ -1,5 +1,5 @@
 -- public: what contracts see of a plan that is drawn, and of its paper.
-use Rattle.std.specs.Prelude.{◌≡◌, ℕ, ◌<◌, ◌≤◌, ◌^◌, ℤ, unsigned_abs, length}
+use Rattle.std.specs.Prelude.{◌≡◌, ◌≤◌, ◌^◌, ℤ, unsigned_abs, length}
 use Rattle.qc_model.specs.Numbers.{most_end}
 use Rattle.qc_figures.specs.Views.{IsReady}
 use Rattle.qc_figures.specs.Views as plan
@@ -13,8 +13,6 @@ drawn_of drawn = record {
   plan = plan.view_of drawn.plan;
   hatches = drawn.hatches.now;
   places = drawn.places.now;
-  way = drawn.way;
-  fine = drawn.fine;
 }
 
 abbrev pub paper_view : Paper → PaperView

@@ -9,19 +9,16 @@ ghost use Rattle.qc_picture.specs.Views.{HasPaper, IsDrawable, IsFarSpan, drawn_
 use crate::paper::Paper;
 use crate::span::Span;
 use qc_figures::Figured;
-use qc_model::{Direction, ends};
+use qc_model::ends;
 use qc_motion::Waypoint;
 use qc_num::Tick;
 
-/// What is drawn: a plan, the hatches of its ship with their bays, the way in which the plan goes, where it
-/// goes one, and whether the places of its waypoints are told twice as fine as bays times travel.
+/// What is drawn: a plan, and the hatches of its ship with their bays.
 #[derive(Clone, Copy)]
 pub struct Drawn<'a> {
     pub plan: Figured<'a>,
     pub hatches: &'a [u16],
     pub places: &'a [u16],
-    pub way: Option<Direction>,
-    pub fine: bool,
 }
 
 /// How far the next hatch lies behind a hatch.
@@ -60,11 +57,14 @@ fn wide_of(places: &[u16]) -> u64
 impl<'a> Drawn<'a> {
     /// A crane's place at a waypoint, in halves of a bay times travel.
     pub(crate) fn half(&self, point: &Waypoint) -> i128
-        ensures place { result ≡ half self.now.fine point.now }
+        ensures place { result ≡ half self.now.plan.way point.now }
         ensures near { unsigned_abs result ≤ 2 ^ 65 }
     {
         let place = i128::from(point.place);
-        if self.fine { place } else { place + place }
+        match self.plan.way {
+            Some(_) => place + place,
+            None => place,
+        }
     }
 
     pub(crate) fn travel(&self) -> u64
@@ -112,7 +112,7 @@ impl<'a> Drawn<'a> {
     /// The span with the half gaps of a crane at all its waypoints.
     fn with_points(&self, points: &[Waypoint], first: Span) -> Span
         requires { IsFarSpan first }
-        ensures span { result ≡ widened (with_point self.now.fine (reach (drawn_of self.now))) first points.now }
+        ensures span { result ≡ widened (with_point self.now.plan.way (reach (drawn_of self.now))) first points.now }
         ensures far { IsFarSpan result }
     {
         let reach = i128::from(self.reach());

@@ -98,7 +98,7 @@ impl Paper<'_> {
         page.put(self.head().as_bytes())?;
         page.put(self.ground().as_bytes())?;
         page.put(self.title().as_bytes())?;
-        page.put(way_text(self.drawn.way).as_bytes())?;
+        page.put(way_text(self.drawn.plan.way).as_bytes())?;
         page.put(legend())
     }
 

@@ -1,4 +1,4 @@
-//! The drawing of a plan that goes one way: a time-space diagram with the hatches across and time down, each
+//! The drawing of a plan: a time-space diagram with the hatches across and time down, each
 //! crane as a line in a band of half the gap to each side, and each task as a box.
 #![tactic(auto)]
 

@@ -2,12 +2,13 @@
 
 ghost use Rattle.std.specs.Prelude.{◌≡◌, ◌≤◌, ◌*◌, pos, ◌≤ℤ◌};
 ghost use Rattle.qc_picture.specs.Paper.{across, down, half};
-ghost use Rattle.qc_picture.specs.PictureText.{bow_text, column_from, column_to, column_wide, here_text, middle, ship_travel, stern_text};
+ghost use Rattle.qc_picture.specs.PictureText.{at_height, bow_text, column_from, column_to, column_wide, here_text, middle, ship_travel, stern_text};
 ghost use Rattle.qc_picture.specs.Views.{HasPaper, paper_view};
 
 use crate::drawn::{Drawn, middle_of};
 use crate::elements::point;
 use crate::span::{Span, across, down};
+use qc_figures::parts;
 use qc_motion::Waypoint;
 use qc_num::{Text, Tick};
 
@@ -34,10 +35,19 @@ impl Paper<'_> {
         down(self.end, at)
     }
 
+    /// How far down a waypoint stands, whose moment is told in parts of a tick.
+    fn at_height(&self, point: &Waypoint) -> u64
+        requires { HasPaper (paper_view self.now) }
+        ensures down { result ≡ at_height (paper_view self.now) point.now }
+        ensures bound { result ≤ 11100 }
+    {
+        down(parts(self.drawn.plan.way) * self.end, point.at)
+    }
+
     /// Where a crane stands at a waypoint.
     pub(crate) fn at(&self, point: &Waypoint) -> u64
         requires { HasPaper (paper_view self.now) }
-        ensures at { result ≡ across (paper_view self.now).span (half (paper_view self.now).drawn.fine point.now) }
+        ensures at { result ≡ across (paper_view self.now).span (half (paper_view self.now).drawn.plan.way point.now) }
         ensures bound { result ≤ 15300 }
     {
         across(self.span, self.drawn.half(point))
@@ -103,7 +113,7 @@ impl Paper<'_> {
         requires { HasPaper (paper_view self.now) }
         ensures { result ≡ here_text (paper_view self.now) at.now }
     {
-        point(self.at(at), self.down(at.at))
+        point(self.at(at), self.at_height(at))
     }
 
     /// Half of the gap ahead of it.
@@ -112,7 +122,7 @@ impl Paper<'_> {
         ensures { result ≡ bow_text (paper_view self.now) at.now }
     {
         let place = self.drawn.half(at) - i128::from(self.half_gap);
-        point(across(self.span, place), self.down(at.at))
+        point(across(self.span, place), self.at_height(at))
     }
 
     /// Half of the gap behind it.
@@ -121,6 +131,6 @@ impl Paper<'_> {
         ensures { result ≡ stern_text (paper_view self.now) at.now }
     {
         let place = self.drawn.half(at) + i128::from(self.half_gap);
-        point(across(self.span, place), self.down(at.at))
+        point(across(self.span, place), self.at_height(at))
     }
 }

@@ -1,12 +1,7 @@
 -- What follows from the account of a text that tells of a plan.
-use Rattle.std.proofs.Common.{◌≡◌, ℕ, List, refl, inl, inr}
+use Rattle.std.proofs.Common.{◌≡◌, ℕ, List, refl}
 use Rattle.qc_io.specs.Outside.{View}
-use Rattle.qc_model.specs.declared.direction.Direction.{Direction}
-use Rattle.qc_model.specs.declared.direction.Direction.TheVariants.{Up, Down}
-use Rattle.qc_model.specs.declared.schedule.Slot.{Slot}
-use Rattle.qc_model.specs.Instance.{InstanceView}
-use Rattle.qc_model.specs.Judge.{IsDirection}
-use Rattle.qc_model.specs.OneWay.{GoesOneWay}
+use Rattle.qc_model.specs.Rules.{Feasible}
 use Rattle.qc_run.specs.declared.broken.Broken.{Broken}
 use Rattle.qc_run.specs.declared.refusal.Refusal.TheVariants as refusal
 use Rattle.qc_run.specs.declared.status.Status.{Status}
@@ -34,22 +29,17 @@ is_broken : (a : Printed) → printed_status a ≡ status.Broken → (told : Bro
 is_broken (printed.Broken told) e = (told, refl)
 is_broken (printed.Text text) e = absurd (cc e)
 
--- a plan with a direction goes one way
-one_way : (inst : InstanceView) (sched : List Slot) (way : Direction) → IsDirection inst sched way → GoesOneWay inst sched
-one_way inst sched Up is = inl is
-one_way inst sched Down is = inr is.0
+pub figures_told : (load : Load) (text : List ℕ) → TellsFigures load text → Feasible load.cargo.inst load.sched
+figures_told load text is = is.planned.feasible
 
-pub figures_told : (load : Load) (text : List ℕ) → TellsFigures load text → GoesOneWay load.cargo.inst load.sched
-figures_told load text is = one_way load.cargo.inst load.sched is.way is.planned.direction
+pub picture_told : (load : Load) (text : List ℕ) → TellsPicture load text → Feasible load.cargo.inst load.sched
+picture_told load text is = is.planned.feasible
 
-pub picture_told : (load : Load) (text : List ℕ) → TellsPicture load text → GoesOneWay load.cargo.inst load.sched
-picture_told load text is = one_way load.cargo.inst load.sched is.way is.planned.direction
-
-module _ (tells : Load → List ℕ → Type 0) (goes : (load : Load) (text : List ℕ) → tells load text → GoesOneWay load.cargo.inst load.sched)
+module _ (tells : Load → List ℕ → Type 0) (told_feasible : (load : Load) (text : List ℕ) → tells load text → Feasible load.cargo.inst load.sched)
     (names : Names) (before after pb pa : View) (ended : Status) (run : IsReaderRun (printer tells) names before after pb pa ended) where
   ends : (load : Load) (a : Printed) → TellsPrinted tells load a → EndsPrinted load (printed_status a)
-  ends load (printed.Broken told) is = record { neither = λ _. refl; one_way = λ goes. absurd (is.neither goes) }
-  ends load (printed.Text text) is = record { neither = λ neither. absurd (neither (goes load text is)); one_way = λ _. refl }
+  ends load (printed.Broken told) is = record { infeasible = λ _. refl; feasible = λ feasible. absurd (is.is.infeasible feasible) }
+  ends load (printed.Text text) is = record { infeasible = λ infeasible. absurd (infeasible (told_feasible load text is)); feasible = λ _. refl }
 
   pub printed_promises : PrintedPromises tells names before after pb pa ended
   printed_promises = record {

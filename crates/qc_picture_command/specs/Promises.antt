@@ -2,8 +2,8 @@
 -- status.
 use Rattle.std.specs.Prelude.{◌≡◌, ℕ, List, IfSome}
 use Rattle.qc_io.specs.Outside.{Files, View}
-use Rattle.qc_model.specs.OneWay.{GoesOneWay}
-use Rattle.qc_run.specs.Broken.{TellsBreak, broken_text}
+use Rattle.qc_model.specs.Rules.{Feasible}
+use Rattle.qc_run.specs.Broken.{broken_text}
 use Rattle.qc_run.specs.declared.refusal.Refusal.TheVariants as refusal
 use Rattle.qc_run.specs.declared.status.Status.{Status}
 use Rattle.qc_run.specs.declared.status.Status.TheVariants as status
@@ -12,20 +12,21 @@ use Rattle.qc_run.specs.Reports.{Prints}
 use Rattle.qc_run.specs.Told.{EndsAsDue, EndsBy, IsFaultTold, IsTold, ReaderPromises}
 use Rattle.qc_sheet_command.specs.declared.load.Load.{Load}
 use Rattle.qc_sheet_command.specs.Due.{load_due}
+use Rattle.qc_sheet_command.specs.Listed.{TellsRule}
 use Rattle.qc_picture_command.specs.Account.{printer}
 
--- the plan goes one way, and a text that tells of it was printed
+-- the plan is feasible, and a text that tells of it was printed
 abbrev pub IsTextTold : (Load → List ℕ → Type 0) → Names → (held : Files) → (before after : View) → Type 0
 IsTextTold tells = IsTold load_due tells (λ text. Prints text)
 
--- the plan goes neither way, and the first rule that it breaks was printed
+-- the plan isn't feasible, and the first rule that it breaks was printed
 abbrev pub IsRuleTold : Names → (held : Files) → (before after : View) → Type 0
-IsRuleTold = IsTold load_due (λ load. TellsBreak load.cargo.inst load.sched) (λ told. Prints (broken_text told))
+IsRuleTold = IsTold load_due (λ load. TellsRule load.cargo.inst load.sched) (λ told. Prints (broken_text told))
 
 -- a plan ends so where nothing fails
 pub record EndsPrinted (load : Load) (ended : Status) : Type 0 where
-  pub neither : ¬ GoesOneWay load.cargo.inst load.sched → ended ≡ status.Broken
-  pub one_way : GoesOneWay load.cargo.inst load.sched → ended ≡ status.Done
+  pub infeasible : ¬ Feasible load.cargo.inst load.sched → ended ≡ status.Broken
+  pub feasible : Feasible load.cargo.inst load.sched → ended ≡ status.Done
 
 pub record PrintedPromises (tells : Load → List ℕ → Type 0) (names : Names) (before after out_before out_after : View)
     (ended : Status) : Type 0 where
@@ -35,6 +36,6 @@ pub record PrintedPromises (tells : Load → List ℕ → Type 0) (names : Names
   pub text_broken : ended ≡ status.Broken → IfSome before.files (λ held. IsRuleTold names held out_before out_after)
   pub text_bad_plan : ended ≡ status.BadPlan
       → IfSome before.files (λ held. IsFaultTold load_due refusal.BadPlan names held out_before out_after)
-  -- where no call failed it is Broken exactly where the plan goes neither way
+  -- where no call failed it is Broken exactly where the plan isn't feasible
   pub text_complete :
       EndsAsDue (λ contents. EndsBy EndsPrinted (load_due contents)) names before after out_before out_after ended

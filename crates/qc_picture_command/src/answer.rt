@@ -6,27 +6,27 @@ use qc_num::Bytes;
 use qc_run::Broken;
 use qc_sheet_command::Load;
 
-/// A plan that goes one way, with the waypoints of its cranes.
+/// A feasible plan, with the way in which it goes where it goes one, and the waypoints of its cranes.
 #[derive(Drop)]
 pub struct Planned {
     pub load: Load,
-    pub direction: Direction,
+    pub way: Option<Direction>,
     pub tracks: Tracks,
 }
 
 /// What a plan that is judged comes to.
 #[derive(Drop)]
 pub enum Motion {
-    /// The plan breaks a rule.
+    /// The plan breaks a rule other than that of one way.
     Broken(Broken),
-    /// The plan goes one way.
+    /// The plan is feasible.
     Planned(Planned),
 }
 
 /// What is printed of a plan.
 #[derive(Drop)]
 pub enum Printed {
-    /// The plan breaks a rule.
+    /// The plan breaks a rule other than that of one way.
     Broken(Broken),
     /// A text that tells of the plan.
     Text(Bytes),

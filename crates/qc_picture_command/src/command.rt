@@ -14,7 +14,7 @@ use qc_num::OutOfMemory;
 use qc_run::{Inputs, Status, Stop, report_stop};
 use std::alloc::Global;
 
-/// Reads and judges a plan, and tells its figures where it goes one way.
+/// Reads and judges a plan, and tells its figures where it is feasible.
 fn tell_figures<S: Shelf>(
     alloc: Global,
     inputs: &Inputs<'_>,
@@ -35,7 +35,7 @@ fn tell_figures<S: Shelf>(
     }
 }
 
-/// Reads and judges a plan, and draws it where it goes one way.
+/// Reads and judges a plan, and draws it where it is feasible.
 fn tell_picture<S: Shelf>(
     alloc: Global,
     inputs: &Inputs<'_>,

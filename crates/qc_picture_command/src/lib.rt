@@ -1,5 +1,5 @@
-//! The commands that tell of a plan that goes one way by its waypoints: its drawing, and the figures of each
-//! crane.
+//! The commands that tell of a feasible plan by its waypoints, whether it goes one way or to and fro: its drawing,
+//! and the figures of each crane.
 #![tactic(auto)]
 
 mod answer;

@@ -15,13 +15,14 @@ use std::alloc::Global;
 
 /// What the figures and the drawing of a plan are told of.
 fn figured(plan: &Planned) -> Figured<'_>
-    ensures { view_of result ≡ plan_with plan.now.load plan.now.tracks }
+    ensures { view_of result ≡ plan_with plan.now.load plan.now.way plan.now.tracks }
 {
     let cargo = &plan.load.cargo;
     Figured {
         inst: &cargo.inst,
         rows: cargo.moves.rows(),
         sched: &plan.load.sched,
+        way: plan.way,
         tracks: &plan.tracks,
     }
 }
@@ -46,8 +47,6 @@ pub(crate) fn picture_of(alloc: Global, plan: &Planned) -> Result<Bytes, OutOfMe
             plan: figured(plan),
             hatches: ship.hatches(),
             places: ship.places(),
-            way: Some(plan.direction),
-            fine: false,
         },
     )
 }

@@ -13,7 +13,7 @@ loop-number-preserved c =
     let f = λ (i : ℕ). leg c.args.from c.args.till (waypoint points i) (waypoint points (i + 1)) in
     let at : c.loop-number.number ≡ n + 1 = omega (arith, c.loop-number.auto.number) in
     let next : c.loop-number.number + 1 - 1 ≡ n + 1 = omega (arith, c.loop-number.auto.number) in
-    let here = c.leg-ticks.ensures ∙ ap (λ (i : ℕ). leg c.args.from c.args.till (waypoint points n) (waypoint points i)) at in
+    let here = c.leg-time.ensures ∙ ap (λ (i : ℕ). leg c.args.from c.args.till (waypoint points n) (waypoint points i)) at in
     let r = rises points c.requires.rising n (omega (arith, at, c.loop-number-test.true)) in
     let w = leg_within c.args.from c.args.till (waypoint points n) (waypoint points (n + 1)) (omega (arith, r)) in
     record {

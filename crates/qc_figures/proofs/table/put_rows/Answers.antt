@@ -1,4 +1,4 @@
-use Rattle.std.proofs.Common.{ℕ, ◌+◌, ap, refl, ◌∙◌}
+use Rattle.std.proofs.Common.{◌+◌, ap, refl, ◌∙◌}
 use Rattle.qc_model.specs.declared.crane.Crane.{Crane}
 use Rattle.qc_figures.specs.Figures.{figures}
 use Rattle.qc_figures.specs.declared.crane.Figures.{Figures}

@@ -1,4 +1,4 @@
-use Rattle.std.proofs.Common.{max, not, sym, ap, ◌∙◌, arith}
+use Rattle.std.proofs.Common.{max, sym, ap, ◌∙◌, arith}
 use Rattle.qc_figures.specs.Views.{view_of}
 use Rattle.qc_figures.proofs.TallyLemmas.{tally_more, tally_same}
 use Rattle.qc_figures.proofs.figured.Figured.with_task.Goals as goal

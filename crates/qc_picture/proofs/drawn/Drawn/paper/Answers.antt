@@ -3,7 +3,7 @@ use Rattle.std.specs.List.{range_with_len}
 use Rattle.std.proofs.lemmas.Int.{ints}
 use Rattle.std.proofs.lemmas.Nat.{mul-le}
 use Rattle.qc_picture.specs.declared.span.Span.{Span}
-use Rattle.qc_picture.specs.Paper.{first_span, time_step, wide, wide_of, widened, with_hatch, with_track}
+use Rattle.qc_picture.specs.Paper.{time_step, wide, wide_of, widened, with_hatch, with_track}
 use Rattle.qc_picture.specs.Views.{drawn_of}
 use Rattle.qc_picture.proofs.SpanLemmas.{less_is, more_is, paper_is}
 use Rattle.qc_picture.proofs.drawn.Drawn.paper.Goals as goal

@@ -11,11 +11,11 @@ loop-point-preserved c =
     let d = drawn_of c.args.self.now in
     let i = c.loop-point.point-index in
     let w = waypoint c.args.points.now i in
-    let with = with_point d.fine (reach d) in
+    let with = with_point d.plan.way (reach d) in
     let x = c.half-place.result in
     let few = c.reach.ensures.bound in
-    let low = less_is x (half d.fine w) c.from-reach.result c.reach.result (reach d) c.half-place.ensures.place c.half-place.ensures.near c.from-reach.ensures c.reach.ensures.reach (omega (arith, few)) in
-    let high = more_is x (half d.fine w) c.from-reach.result c.reach.result (reach d) c.half-place.ensures.place c.half-place.ensures.near c.from-reach.ensures c.reach.ensures.reach (omega (arith, few)) in
+    let low = less_is x (half d.plan.way w) c.from-reach.result c.reach.result (reach d) c.half-place.ensures.place c.half-place.ensures.near c.from-reach.ensures c.reach.ensures.reach (omega (arith, few)) in
+    let high = more_is x (half d.plan.way w) c.from-reach.result c.reach.result (reach d) c.half-place.ensures.place c.half-place.ensures.near c.from-reach.ensures c.reach.ensures.reach (omega (arith, few)) in
     record {
       span = c.wider-span.ensures.span ∙ ap₂ (λ (lo hi : ℤ). wider c.loop-point.span lo hi) low high
           ∙ ap (λ (s : Span). with s w) c.loop-point.invariant.span

@@ -5,6 +5,6 @@ use Rattle.qc_picture.proofs.drawn.Drawn.with_points.Given as goal
 
 abbrev pub invariant-loop-point : goal.invariant-loop-point
 invariant-loop-point l = record {
-  span : l.span ≡ widened (with_point l.self.fine (reach (drawn_of l.self))) l.initial.span (take l.point-index l.points);
+  span : l.span ≡ widened (with_point l.self.plan.way (reach (drawn_of l.self))) l.initial.span (take l.point-index l.points);
   far : IsFarSpan l.span;
 }

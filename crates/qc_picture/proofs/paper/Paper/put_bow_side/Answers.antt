@@ -1,4 +1,4 @@
-use Rattle.std.proofs.Common.{◌+◌, ◌-◌, ℕ, length, refl, ◌∙◌}
+use Rattle.std.proofs.Common.{◌+◌, ℕ, refl, ◌∙◌}
 use Rattle.qc_figures.proofs.PageLemmas.{page_more}
 use Rattle.qc_motion.specs.Waypoints.{waypoint}
 use Rattle.qc_picture.specs.PictureText.{bow_text}

@@ -1,4 +1,4 @@
-use Rattle.std.proofs.Common.{◌+◌, refl, ◌∙◌}
+use Rattle.std.proofs.Common.{◌+◌, refl}
 use Rattle.qc_figures.proofs.PageLemmas.{page_more}
 use Rattle.qc_picture.specs.PictureText.{row_text}
 use Rattle.qc_picture.specs.Views.{paper_view}
