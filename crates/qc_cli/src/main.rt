@@ -17,10 +17,12 @@ use lines::Lines;
 use output::Output;
 use qc_io::WriteFault;
 use qc_num::OutOfMemory;
+use qc_progress::Progress;
 use qc_top::{Status, run};
+use std::io::IsTerminal;
 use std::os::fd::AsFd;
 use std::process::ExitCode;
-use std::rt::{Env, Files};
+use std::rt::{Clock, Env, Files};
 use std::{fs, io};
 use voice::say_after;
 use words::words_of;
@@ -49,18 +51,20 @@ fn behind_quiet(words: &[String]) -> (bool, &[String]) {
 }
 
 /// The status of a run with these words over the files of the system and standard output. What is to be mended is said
-/// on standard error, unless `-q` stands first.
-fn status_of<R: Files + Print + Eprint + AllocGlobal>(
+/// on standard error, unless `-q` stands first, and where that is a terminal, how far the search has come.
+fn status_of<R: Files + Clock + Print + Eprint + AllocGlobal>(
     rt: &R,
     words: &[String],
+    is_terminal: bool,
 ) -> Result<Status, OutOfMemory>
 where
     R::File: AsFd,
 {
     let (is_quiet, words) = behind_quiet(words);
     let mut out = Lines::new(rt.alloc(), Output::new(io::writer(rt)))?;
-    let mut shelf = FileShelf::new(rt);
-    let ended = run(rt.alloc(), words, &mut shelf, &mut out);
+    let mut told = Progress::new(FileShelf::new(rt), rt, is_terminal && !is_quiet);
+    let ended = run(rt.alloc(), words, &mut told, &mut out);
+    let mut shelf = told.into_shelf();
     let status = match out.flush() {
         Ok(()) => ended,
         Err(WriteFault) => Status::WriteFault,
@@ -76,6 +80,7 @@ fn main(rt: HostRuntime) -> ExitCode {
     let Ok(_held) = standard_descriptors_held(&rt) else {
         return ExitCode::from(Status::WriteFault.code());
     };
-    let status = words_or_none(&rt).and_then(|words| status_of(&rt, words.as_slice()));
+    let is_terminal = rt.stderr().is_terminal();
+    let status = words_or_none(&rt).and_then(|words| status_of(&rt, words.as_slice(), is_terminal));
     ExitCode::from(status.unwrap_or(Status::OutOfMemory).code())
 }

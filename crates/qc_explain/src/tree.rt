@@ -26,7 +26,8 @@ fn why(kind: TreeKind) -> &'static str {
         TreeKind::NotClash =>
             "two of its tasks can run together, or one of them is listed twice or for no crane",
         TreeKind::InReach => "the crane reaches the task, and it says otherwise",
-        TreeKind::WorkShort => "the work fits before that tick, and it says otherwise",
+        TreeKind::WorkShort =>
+            "the work isn't shown to be too much before that tick, and it says so",
         TreeKind::Counts => "the tree has another number of branchings or another value",
         TreeKind::After =>
             "the file goes on behind its last line: delete what stands there, or plan again",

@@ -1,0 +1,6 @@
+//! What a search tells while it runs, for whoever waits at a terminal.
+#![tactic(auto)]
+
+mod progress;
+
+pub use progress::Progress;
