@@ -1,85 +1,217 @@
 #!/usr/bin/env python3
-"""Gives the ships of bench.py to a general solver, and prints what it took beside `qc`, in processor time.
+"""Gives ships to general solvers, and prints what each found and proved in a minute of processor time.
 
-    bench/general.py [SECONDS [KIND ..]]      SECONDS at most for each ship and way, 300 where it isn't said
+    bench/general.py [--seconds S] [--solvers cbc,highs,gecode] [NUMBER HATCHES CRANES ..]
 
-The solver is CBC (Debian's coinor-cbc), on a mixed-integer program for each of the two ways: which crane does a
-task, when it starts, and for each pair of tasks and cranes what one way forces between them. Only Python's
-standard library is needed beside it; `./qc` is built first where it isn't.
+Without ships: `make` ships of 35 tasks on 3 cranes, 58 on 3 and 78 on 4. Each solver has half of the seconds for
+each of the two ways. CBC and Gecode are Debian's coinor-cbc, minizinc and flatzinc; HiGHS is that in Debian's
+python3-scipy. A solver that isn't there is left out. `qc` is asked too where `./qc` was run once.
+
+The model has no start of a task. On the way up a crane does the bays in order, and at a hatch a higher crane comes
+before a lower one; so the phases of a hatch fall to cranes that never rise, and each crane does its share in one go.
+What counts is `t[b, k]`, when crane k can have done all its work at the first bays up to b and be at b: no less than at
+the bay before, plus the way and its work; and no less than when a higher crane has made room, wherever that worked.
+Only the end asks whether a crane works at a bay at all, with a constant of no more than the travel along the ship.
+Ships with ready times, reaches, apart pairs or ordered restows aren't taken.
 """
+import argparse
+import json
 import os
 import re
 import resource
+import shutil
 import subprocess
 import sys
 import tempfile
-import tomllib
 
-import bench
+ROOT = os.path.dirname(os.path.dirname(os.path.abspath(__file__)))
+sys.dont_write_bytecode = True
+sys.path += [os.path.join(ROOT, folder) for folder in ("trials", "fuzz", "bench")]
 
-
-class Ship:
-    """Tasks, pairs in order and cranes, seen from the bow or, mirrored, from the stern."""
-
-    def __init__(self, toml, tasks, before):
-        self.travel, self.gap = toml["travel"], toml["margin"] + 1
-        self.bays, self.ticks, self.before = [t[0] for t in tasks], [t[1] for t in tasks], before
-        self.cranes = [c["bay"] for c in toml["crane"]]
-        self.last = len(toml["hatches"])
-
-    def mirror(self):
-        self.bays = [self.last + 1 - bay for bay in self.bays]
-        self.cranes = [self.last + 1 - bay for bay in reversed(self.cranes)]
-
-    def head(self, j, k):
-        """When crane k can begin task j at the least: it is there, and the others have given way."""
-        free = self.travel * abs(self.cranes[k] - self.bays[j])
-        for v, berth in enumerate(self.cranes):
-            if v != k:
-                away = self.bays[j] - berth if v > k else berth - self.bays[j]
-                free = max(free, self.travel * max(0, away + self.gap * abs(k - v)))
-        return free
-
-    def forced(self, i, v, j, w):
-        """By how much j on crane w starts after i on crane v ends, where going up forces that, else None."""
-        if v == w:
-            return self.travel * (self.bays[j] - self.bays[i]) if self.bays[i] < self.bays[j] else None
-        if v > w:
-            clear = self.travel * (self.bays[j] - self.bays[i] + self.gap * (v - w))
-            return clear if clear > 0 else None
-        return None
+SHIPS = [(1, 9, 3), (1, 15, 3), (1, 20, 4)]  # the first numbers with so many tasks
+PROGRAM = os.path.join(ROOT, "crates", "qc_cli", "out", "qc_cli")
+PYTHONS = (sys.executable, "/usr/bin/python3")
 
 
-def program(ship, file):
-    """Writes the program in the format LP."""
-    n, cranes = len(ship.bays), len(ship.cranes)
-    far = sum(ship.ticks) + ship.travel * (ship.last + ship.gap * cranes) * 2
-    print("Minimize\n end: e\nSubject To", file=file)
-    for j in range(n):
-        print(f" one{j}: " + " + ".join(f"x{j}_{k}" for k in range(cranes)) + " = 1", file=file)
-        print(f" end{j}: e - s{j} >= {ship.ticks[j]}", file=file)
-        for k in range(cranes):
-            if ship.head(j, k):
-                print(f" head{j}_{k}: s{j} - {ship.head(j, k)} x{j}_{k} >= 0", file=file)
-    for i, j in ship.before:
-        print(f" before{i}_{j}: s{j} - s{i} >= {ship.ticks[i]}", file=file)
-    for i in range(n):
-        for j in range(n):
-            for v in range(cranes):
-                for w in range(v + 1):
-                    wait = None if i == j else ship.forced(i, v, j, w)
-                    if wait is not None:
-                        big = far + ship.ticks[i] + wait
-                        print(f" f{i}_{v}_{j}_{w}: s{j} - s{i} - {big} x{i}_{v} - {big} x{j}_{w} >= "
-                              f"{ship.ticks[i] + wait - 2 * big}", file=file)
-    print("Bounds", file=file)
-    for j in range(n):
-        print(f" 0 <= s{j} <= {far}", file=file)
-    print("Binaries", file=file)
-    for j in range(n):
-        for k in range(cranes):
-            print(f" x{j}_{k}", file=file)
-    print("End", file=file)
+def instance(number, hatches, cranes):
+    from outcomes import made, read_instance
+    inst = read_instance(*made(number, hatches, cranes))
+    simple = all(crane.ready == 0 and (crane.low, crane.high) == (1, inst.bays) for crane in inst.cranes)
+    if not simple or inst.apart or any(inst.tasks[i].bay != inst.tasks[j].bay for i, j in inst.before):
+        raise ValueError("a ship with ready times, reaches, apart pairs or ordered restows")
+    return inst
+
+
+class Model:
+    """A mixed-integer program: least `e` over rows of coefficients by names, each at least a number."""
+
+    def __init__(self, inst):
+        self.inst, self.rows = inst, []
+        self.places = sorted({task.bay for task in inst.tasks})
+        self.cranes = range(len(inst.cranes))
+        self.whole, self.free = [], []
+        self.shares()
+        self.times()
+
+    def row(self, least, **terms):
+        self.rows.append((terms, least))
+
+    def shares(self):
+        """x: task j is crane k's; z: crane k works at bay b."""
+        tasks = self.inst.tasks
+        for j, task in enumerate(tasks):
+            names = [f"x{j}_{k}" for k in self.cranes]
+            self.whole += names
+            self.row(1, **dict.fromkeys(names, 1))
+            self.row(-1, **dict.fromkeys(names, -1))
+            for k in self.cranes:
+                self.row(0, **{f"z{self.places.index(task.bay)}_{k}": 1, f"x{j}_{k}": -1})
+            if j + 1 < len(tasks) and tasks[j + 1].bay == task.bay:
+                for top in self.cranes[:-1]:
+                    lower = range(top + 1)
+                    self.row(0, **{f"x{j + 1}_{k}": 1 for k in lower}, **{f"x{j}_{k}": -1 for k in lower})
+        self.whole += [f"z{b}_{k}" for b in range(len(self.places)) for k in self.cranes]
+
+    def work(self, b, k):
+        return {f"x{j}_{k}": -task.ticks for j, task in enumerate(self.inst.tasks) if task.bay == self.places[b]}
+
+    def times(self):
+        inst, places = self.inst, self.places
+        for k in self.cranes:
+            berth = inst.cranes[k].bay
+            for b, place in enumerate(places):
+                work, own = self.work(b, k), f"t{b}_{k}"
+                self.free.append(own)
+                self.row(inst.travel * (place - berth), **{own: 1}, **work)
+                down = inst.travel * max(0, berth - place)
+                self.row(-down, **{own: 1, f"z{b}_{k}": -2 * down}, **work)
+                if b:
+                    self.row(inst.travel * (place - places[b - 1]), **{own: 1, f"t{b - 1}_{k}": -1}, **work)
+                for w in range(k + 1, len(self.cranes)):
+                    edge = place + inst.gap * (w - k)
+                    near = max(at for at, other in enumerate(places) if other < edge)
+                    self.row(inst.travel * (edge - places[near]), **{own: 1, f"t{near}_{w}": -1}, **work)
+                beyond = inst.travel * self.furthest(place, k)
+                self.row(-beyond, **{"e": 1, own: -1, f"z{b}_{k}": -beyond})
+
+    def furthest(self, place, k):
+        """The bays by which a crane that no longer works may be pushed on after the end, or from its berth."""
+        inst = self.inst
+        return max(0, *(place + inst.gap * (w - k) - min(self.places[0], inst.cranes[w].bay)
+                        for w in range(k, len(self.cranes))))
+
+    def write_lp(self, path):
+        term = lambda name, number: f"{'+' if number >= 0 else '-'} {abs(number)} {name}"
+        with open(path, "w", encoding="ascii") as file:
+            print("Minimize\n obj: e\nSubject To", file=file)
+            for at, (terms, least) in enumerate(self.rows):
+                print(f" r{at}: " + " ".join(term(*pair) for pair in terms.items()) + f" >= {least}", file=file)
+            print("Bounds", *(f" {name} free" for name in self.free), "Binaries", *(f" {name}" for name in self.whole),
+                  "End", sep="\n", file=file)
+
+    def write_json(self, path):
+        with open(path, "w", encoding="ascii") as file:
+            json.dump({"whole": self.whole, "free": self.free, "rows": self.rows}, file)
+
+    def write_minizinc(self, path):
+        """The same with a crane for each task. The lowest tasks are tried first."""
+        inst, most = self.inst, 10 * sum(task.ticks for task in self.inst.tasks)
+        bays, cranes, lines = range(len(self.places)), self.cranes, []
+        lines += [f"array[0..{len(inst.tasks) - 1}] of var 0..{len(cranes) - 1}: c;", f"var 0..{most}: e;",
+                  f"array[0..{len(bays) - 1}, 0..{len(cranes) - 1}] of var {-most}..{most}: t;"]
+        for terms, least in self.rows:
+            if any(name[0] in "te" for name in terms):
+                parts = [f"{number} * {self.symbol(name)}" for name, number in terms.items()]
+                lines.append(f"constraint {' + '.join(parts)} >= {least};")
+        for j in range(len(inst.tasks) - 1):
+            if inst.tasks[j].bay == inst.tasks[j + 1].bay:
+                lines.append(f"constraint c[{j}] >= c[{j + 1}];")
+        lines += [f"constraint {len(cranes)} * e >= {sum(task.ticks for task in inst.tasks)};",
+                  "solve :: seq_search([int_search(c, input_order, indomain_min), "
+                  "int_search([t[b, k] | b in index_set_1of2(t), k in index_set_2of2(t)], input_order, indomain_min), "
+                  "int_search([e], input_order, indomain_min)]) minimize e;", 'output ["end ", show(e), "\\n"];']
+        with open(path, "w", encoding="ascii") as file:
+            print(*lines, sep="\n", file=file)
+
+    def symbol(self, name):
+        if name == "e":
+            return "e"
+        first, second = name[1:].split("_")
+        if name[0] == "t":
+            return f"t[{first}, {second}]"
+        if name[0] == "x":
+            return f"bool2int(c[{first}] = {second})"
+        at = [j for j, task in enumerate(self.inst.tasks) if task.bay == self.places[int(first)]]
+        return "bool2int(" + " \\/ ".join(f"c[{j}] = {second}" for j in at) + ")"
+
+
+# ---------------------------------------------------------------- solvers: the end found, the bound, whether it is done
+
+def within(seconds, *words):
+    """What a program prints until it has taken so many seconds of a processor."""
+    limit = lambda: resource.setrlimit(resource.RLIMIT_CPU, (seconds, seconds + 2))
+    return subprocess.run(words, stdout=subprocess.PIPE, stderr=subprocess.DEVNULL, text=True, check=False,
+                          preexec_fn=limit).stdout
+
+
+def cbc(model, folder, seconds):
+    path = os.path.join(folder, "ship.lp")
+    model.write_lp(path)
+    told = within(seconds + 20, "cbc", path, "sec", str(seconds), "ratio", "0", "allow", "0", "solve", "quit")
+    best, lower = re.search(r"Objective value:\s+(\S+)", told), re.search(r"Lower bound:\s+(\S+)", told)
+    end = float(best[1]) if best and "No feasible" not in told else None
+    return end, float(lower[1]) if lower else end, "Optimal solution found" in told
+
+
+def highs(model, folder, seconds):
+    path = os.path.join(folder, "ship.json")
+    model.write_json(path)
+    told = within(seconds, next(filter(has_scipy, PYTHONS)), os.path.abspath(__file__), "--worker", path)
+    lines = re.findall(r"\d+\s+\d+\s+\d+\s+[\d.]+%\s+(\S+)\s+(\S+)\s+\S+", told)
+    closing = re.search(r"Primal bound\s+(\S+)\s+Dual bound\s+(\S+)", told)
+    if closing:
+        lines.append((closing[2], closing[1]))
+    bound, end = map(float, lines[-1]) if lines else (0, float("inf"))
+    return end if end < 1e12 else None, max(bound, 0), bool(re.search(r"Status\s+Optimal", told))
+
+
+def gecode(model, folder, seconds):
+    path = os.path.join(folder, "ship.mzn")
+    model.write_minizinc(path)
+    told = within(seconds, "minizinc", "--solver", "gecode", "-a", path)
+    ends, done = re.findall(r"^end (\d+)", told, re.MULTILINE), "==========" in told
+    end = float(ends[-1]) if ends else None
+    return end, end if done else None, done
+
+
+def has_scipy(python):
+    tried = subprocess.run([python, "-c", "import scipy.optimize"], stderr=subprocess.DEVNULL, check=False)
+    return tried.returncode == 0
+
+
+SOLVERS = {"cbc": ("CBC", cbc, lambda: shutil.which("cbc")),
+           "highs": ("HiGHS", highs, lambda: any(map(has_scipy, PYTHONS))),
+           "gecode": ("Gecode", gecode, lambda: shutil.which("minizinc") and shutil.which("fzn-gecode"))}
+
+
+def worker(path):
+    """Solves a program by HiGHS, which prints its bounds as it goes."""
+    import numpy
+    from scipy.optimize import Bounds, LinearConstraint, milp
+    from scipy.sparse import lil_matrix
+    with open(path, encoding="ascii") as file:
+        model = json.load(file)
+    names = {name: at for at, name in enumerate(model["whole"] + model["free"] + ["e"])}
+    matrix = lil_matrix((len(model["rows"]), len(names)))
+    for at, (terms, _) in enumerate(model["rows"]):
+        for name, number in terms.items():
+            matrix[at, names[name]] = number
+    whole = numpy.array([name[0] in "xz" for name in names], dtype=float)
+    low = [-numpy.inf if name[0] == "t" else 0 for name in names]
+    high = [1 if name[0] in "xz" else numpy.inf for name in names]
+    cost = [float(name == "e") for name in names]
+    rows = LinearConstraint(matrix.tocsr(), [least for _, least in model["rows"]])
+    milp(cost, integrality=whole, bounds=Bounds(low, high), constraints=rows, options={"disp": True, "mip_rel_gap": 0})
 
 
 def taken():
@@ -88,63 +220,57 @@ def taken():
     return used.ru_utime + used.ru_stime
 
 
-def solve(ship, seconds):
-    """The end that the solver found, the end that it shows to be the least possible, and the seconds it took."""
-    with tempfile.TemporaryDirectory() as folder:
-        lp = os.path.join(folder, "ship.lp")
-        with open(lp, "w", encoding="ascii") as file:
-            program(ship, file)
-        start = taken()
-        done = subprocess.run(["cbc", lp, "sec", str(seconds), "ratio", "0", "allow", "0", "solve", "quit"],
-                              capture_output=True, text=True, check=False)
-        took = taken() - start
-    best = re.search(r"Objective value:\s+(\S+)", done.stdout)
-    lower = re.search(r"Lower bound:\s+(\S+)", done.stdout)
-    end = float(best.group(1)) if best and "No feasible" not in done.stdout else None
-    return end, float(lower.group(1)) if lower else end, took
+def solve(inst, solver, seconds):
+    """The end that the solver found, the bound of both ways, of how many it is through, and the seconds it took."""
+    before, ways = taken(), []
+    for seen in (inst, inst.mirror):
+        with tempfile.TemporaryDirectory() as folder:
+            ways.append(solver(Model(seen), folder, seconds // 2))
+    ends, bounds = [end for end, _, _ in ways if end is not None], [bound for _, bound, _ in ways]
+    bound = None if None in bounds else min(bounds)
+    return min(ends, default=None), bound, sum(done for _, _, done in ways), taken() - before
 
 
-def ship_of(kind, numbers):
-    """The ship and its tasks, as `qc tasks` tells them."""
-    toml, rows = bench.SHIPS[kind][0](*numbers)
-    with tempfile.TemporaryDirectory() as folder:
-        files = [os.path.join(folder, "ship.toml"), os.path.join(folder, "stow.csv")]
-        for name, text in zip(files, (toml, "\n".join(rows) + "\n")):
-            with open(name, "w", encoding="ascii") as file:
-                file.write(text)
-        told = subprocess.run([bench.PROGRAM, "tasks", *files], capture_output=True, text=True, check=True).stdout
-    names, tasks, before = {}, [], []
-    for words in (line.split() for line in told.splitlines()):
-        if words[0] == "task":
-            names[words[1]] = len(tasks)
-            tasks.append((int(words[2]), int(words[3])))
-        elif words[0] == "before":
-            before.append((names[words[1]], names[words[2]]))
-    return Ship(tomllib.loads(toml), tasks, before)
+def own(numbers):
+    """What `qc` answers, or nothing where it isn't built."""
+    if not os.path.exists(PROGRAM):
+        return None
+    import bench
+    before = taken()
+    _, _, ended, told, _, _ = bench.plan("made", numbers, 20000)
+    return int(told["end"]), int(told["bound"]), ended == "Optimal", taken() - before
 
 
-def main(words):
-    seconds = int(words[0]) if words else 300
-    kinds = words[1:] or list(bench.SHIPS)
-    subprocess.run([os.path.join(bench.ROOT, "qc")], capture_output=True, check=False)
-    print("| Ship | Tasks | Cranes | `qc` end | bound | seconds | CBC end | bound | seconds |")
-    print("|---|---|---|---|---|---|---|---|---|")
-    for kind in kinds:
-        for numbers in bench.SHIPS[kind][1]:
-            before = taken()
-            tasks, cranes, _, told, _, _ = bench.plan(kind, numbers, 20000)
-            took = taken() - before
-            ship = ship_of(kind, numbers)
-            ways = [solve(ship, seconds)]
-            ship.mirror()
-            ways.append(solve(ship, seconds))
-            ends = [end for end, _, _ in ways if end is not None]
-            end = f"{min(ends):,.0f}" if ends else "none"
-            lower = min(bound for _, bound, _ in ways if bound is not None)
-            name = f"{kind} " + " ".join(map(str, numbers))
-            print(f"| `{name}` | {tasks} | {cranes} | {int(told['end']):,} | {int(told['bound']):,} | {took:.2f} "
-                  f"| {end} | {lower:,.0f} | {sum(way[2] for way in ways):.1f} |", flush=True)
+def text(number):
+    return "none" if number is None else f"{number:,.0f}"
+
+
+def main():
+    parser = argparse.ArgumentParser(description="ships for general solvers")
+    parser.add_argument("ships", nargs="*", type=int)
+    parser.add_argument("--seconds", type=int, default=60)
+    parser.add_argument("--solvers", default="cbc,highs,gecode")
+    parser.add_argument("--worker")
+    words = parser.parse_args()
+    if words.worker:
+        return worker(words.worker)
+    ships = list(zip(*[iter(words.ships)] * 3)) or SHIPS
+    print("| Ship | Tasks | Cranes | By | End | Bound | Proved | Processor s |\n|---|---|---|---|---|---|---|---|")
+    for numbers in ships:
+        inst = instance(*numbers)
+        front = f"| `made {' '.join(map(str, numbers))}` | {len(inst.tasks)} | {len(inst.cranes)} |"
+        told = own(numbers)
+        if told:
+            proved = "the best" if told[2] else "no"
+            print(f"{front} `qc` | {told[0]:,} | {told[1]:,} | {proved} | {told[3]:.2f} |", flush=True)
+        for name in words.solvers.split(","):
+            called, solver, is_there = SOLVERS[name]
+            if is_there():
+                end, bound, done, took = solve(inst, solver, words.seconds)
+                proved = ("no", "one way", "the best")[done]
+                print(f"{front} {called} | {text(end)} | {text(bound)} | {proved} | {took:.1f} |", flush=True)
+    return 0
 
 
 if __name__ == "__main__":
-    main(sys.argv[1:])
+    sys.exit(main())

@@ -5,12 +5,13 @@
     trials/picture.py --draw SHIP STOW PLAN SHOWN
     trials/picture.py --rows SHIP STOW PLAN SHOWN
 
-The first form plans each example by the program, draws the plan and reports it, and tells of each drawing whether it is
+The first form plans each example by the program, and takes its plan to and fro where it has one, draws the plans and reports them, and tells of each drawing whether it is
 well-formed XML with as many boxes as there are tasks, whether it and the figures are those of this page, and whether
 `rsvg-convert` (Debian's librsvg2-bin) renders it, into FOLDER where one is named. It ends with 1 where one isn't so.
 
 The others print what this page draws and reports of a plan: from the ship file, the stowage list, the plan's file and the
-report of `show`, whose crane lines it takes.
+report of `show`, whose crane lines it takes. Where `show` says `Broken OneWay` the plan goes to and fro, and where its
+cranes stand is worked out here from the definition, half tick by half tick.
 """
 
 import csv
@@ -29,7 +30,7 @@ HEADS = ["tasks", "moves", "not ready", "work", "moving", "waiting", "idle", "en
 
 
 class Plan:
-    """What is drawn, from the files and the crane lines of `show`."""
+    """What is drawn, from the files and the crane lines of `show`; of a plan to and fro without them."""
 
     def __init__(self, ship, stow, plan, shown):
         ship = tomllib.loads(ship)
@@ -38,17 +39,23 @@ class Plan:
         self.travel = ship["travel"]
         self.gap = ship["clear"] if "places" in ship else ship["margin"] + 1
         self.cranes = ship["crane"]
-        lines = shown.splitlines()
-        self.way = lines[0]
-        self.end = int(lines[1].split()[1])
-        self.tracks = [[tuple(map(int, p.split(":"))) for p in line.split()[2:]]
-                       for line in lines if line.startswith("crane ")]
         names = [c["name"] for c in self.cranes]
         self.tasks = []
         for task, crane, start, end in list(csv.reader(plan.splitlines()))[1:]:
             hatch, phase = task.split("-")
             self.tasks.append((int(hatch), "DD DH LH LD".split().index(phase), names.index(crane), int(start), int(end)))
         self.tasks.sort()
+        lines = shown.splitlines()
+        self.parts = 2 if lines[0].startswith("Broken OneWay ") else 1
+        if self.parts == 1:
+            self.way = lines[0]
+            self.end = int(lines[1].split()[1])
+            self.tracks = [[tuple(map(int, p.split(":"))) for p in line.split()[2:]]
+                           for line in lines if line.startswith("crane ")]
+        else:
+            self.way = None
+            self.end = max(t[4] for t in self.tasks)
+            self.tracks = [self.free_track(k) for k in range(len(names))]
         self.moves = {}
         for _, kind, cell, _ in list(csv.reader(stow.splitlines()))[1:]:
             bay, tier = int(cell[-6:-4]) if len(cell) == 6 else int(cell[:3]), int(cell[-2:])
@@ -56,14 +63,32 @@ class Plan:
             phase = "DD DH LH LD".split().index(kind + ("D" if tier >= 70 else "H"))
             self.moves[hatch, phase] = self.moves.get((hatch, phase), 0) + 1
 
+    def free_track(self, k):
+        """The half ticks at which a crane starts, stops or turns, with its places there in halves of a bay times travel."""
+        twice = 2 * self.travel
+        bay = dict(zip(self.hatches, self.places))
+        visits = [(twice * (bay[t[0]] + self.gap * (k - t[2])), 2 * t[3], 2 * t[4]) for t in self.tasks if t[2] <= k]
+        berths = [(twice * (c["bay"] + self.gap * (k - v)), 0, 2 * c.get("ready", 0))
+                  for v, c in enumerate(self.cranes) if v <= k]
+        rooms = [bay[t[0]] - self.gap * (t[2] - k) for t in self.tasks if t[2] >= k]
+        rooms += [c["bay"] - self.gap * (w - k) for w, c in enumerate(self.cranes) if w >= k]
+        floor = twice * min(rooms)
+        at = lambda m: max(floor, *(x - max(start - m, m - end, 0) for x, start, end in visits + berths))
+        last = 2 * self.end
+        return [(m, at(m)) for m in range(last + 1)
+                if m in (0, last) or at(m + 1) - at(m) != at(m) - at(m - 1)]
+
     def figures(self, k):
         mine = [t for t in self.tasks if t[2] == k]
         work = sum(t[4] - t[3] for t in mine)
         last = max((t[4] for t in mine), default=0)
         ready = min(self.cranes[k].get("ready", 0), self.end)
         done = max(last, ready)
-        moving = sum(max(0, min(v[0], done) - max(u[0], ready))
-                     for u, v in zip(self.tracks[k], self.tracks[k][1:]) if u[1] != v[1])
+        d = self.parts
+        parts = sum(max(0, min(v[0], d * done) - max(u[0], d * ready))
+                    for u, v in zip(self.tracks[k], self.tracks[k][1:]) if u[1] != v[1])
+        assert parts % d == 0
+        moving = parts // d
         total = sum(t[4] - t[3] for t in self.tasks) or 1
         waiting = done - ready - work - moving
         assert ready + work + moving + waiting + self.end - done == self.end and waiting >= 0
@@ -81,10 +106,12 @@ class Plan:
         wide = min((b - a for a, b in zip(self.places, self.places[1:])), default=1) * t
         half = self.gap * t
         edges = [2 * b * t + s * wide for b in self.places for s in (-1, 1)]
-        edges += [2 * p + s * half for track in self.tracks for _, p in track for s in (-1, 1)]
+        fine = 2 // self.parts
+        edges += [fine * p + s * half for track in self.tracks for _, p in track for s in (-1, 1)]
         low, high = min(edges), max(edges)
         across = lambda q: 900 + 14400 * (q - low) // (high - low)
         down = lambda m: 1500 + 9600 * m // end
+        point = lambda m: 1500 + 9600 * m // (self.parts * end)
         column = lambda b: (across(2 * b * t - wide), across(2 * b * t + wide))
         place = dict(zip(self.hatches, self.places))
         count = len(self.cranes)
@@ -103,7 +130,8 @@ class Plan:
                'font-family="sans-serif" font-size="150">')
         yield rect(0, 0, 16200, height, 'fill="#ffffff"/>')
         yield text(900, 330, 'font-size="260"', f"end {self.end}")
-        yield text(4300, 330, 'font-size="260"', self.way)
+        if self.way:
+            yield text(4300, 330, 'font-size="260"', self.way)
         for x, phase, words in [(900, "DD", "DD deck discharge"), (2700, "DH", "DH hold discharge"),
                                 (4500, "LH", "LH hold load"), (5950, "LD", "LD deck load")]:
             yield rect(x, 560, 180, 180, f'fill="{COLOURS[phase]}" stroke="#333333" stroke-width="16"/>')
@@ -130,8 +158,8 @@ class Plan:
             yield line(900, down(m), 15300, down(m), 'stroke="#c4c4c4" stroke-width="8"')
             yield text(840, down(m) + 50, 'text-anchor="end"', m)
         for k, track in enumerate(self.tracks):
-            band = [(across(2 * p - half), down(m)) for m, p in track]
-            band += [(across(2 * p + half), down(m)) for m, p in reversed(track)]
+            band = [(across(fine * p - half), point(m)) for m, p in track]
+            band += [(across(fine * p + half), point(m)) for m, p in reversed(track)]
             points = "".join(f" {x},{y}" for x, y in band)
             yield f'<polygon fill="{TINTS[k % 8]}" fill-opacity="0.6" points="{points}"/>'
         phases = list(COLOURS)
@@ -143,10 +171,10 @@ class Plan:
                        f'fill="{COLOURS[phases[phase]]}" stroke="{INKS[k % 8]}" stroke-width="16">'
                        f"<title>{told}</title></rect>")
         for k, track in enumerate(self.tracks):
-            points = "".join(f" {across(2 * p)},{down(m)}" for m, p in track)
+            points = "".join(f" {across(fine * p)},{point(m)}" for m, p in track)
             for ink, width in [("#ffffff", 44), (INKS[k % 8], 24)]:
                 yield f'<polyline fill="none" stroke="{ink}" stroke-width="{width}" points="{points}"/>'
-            x, ready = across(2 * track[0][1]), min(self.cranes[k].get("ready", 0), self.end)
+            x, ready = across(fine * track[0][1]), min(self.cranes[k].get("ready", 0), self.end)
             yield line(x, 1500, x, down(ready), 'stroke="#ffffff" stroke-width="24" stroke-dasharray="70 70"')
         for hatch, phase, k, start, stop in self.tasks:
             left, right = column(place[hatch])
@@ -157,8 +185,8 @@ class Plan:
                            'stroke="#ffffff" stroke-width="30" paint-order="stroke"', words)
         for k, track in enumerate(self.tracks):
             style = f'font-size="170" font-weight="bold" text-anchor="middle" fill="{INKS[k % 8]}"'
-            yield text(across(2 * track[0][1]), 1440, style, self.cranes[k]["name"])
-            yield text(across(2 * track[-1][1]), 11290, style, self.cranes[k]["name"])
+            yield text(across(fine * track[0][1]), 1440, style, self.cranes[k]["name"])
+            yield text(across(fine * track[-1][1]), 11290, style, self.cranes[k]["name"])
         yield line(900, down(self.end), 15300, down(self.end), 'stroke="#000000" stroke-width="20"')
         yield text(900, 12190, 'fill="#666666"', "crane")
         for i, head in enumerate(HEADS):
@@ -170,14 +198,18 @@ class Plan:
         yield "</svg>"
 
 
-def look(program, folder, work, png):
-    """What is wrong with the drawing and the figures of an example's plan; None where no plan was found."""
-    ship, stow, plan = folder / "ship.toml", folder / "stow.csv", work / "plan"
-    call = lambda *words: subprocess.run([program, *map(str, words)], capture_output=True, text=True)
+def plans_of(program, folder, work):
+    """The plans of an example with their names: the one that is found, and the one to and fro."""
+    plan, fro = work / "plan", folder / "there-and-back.csv"
     plan.unlink(missing_ok=True)
-    call("plan", ship, stow, plan, work / "tree")
-    if not plan.exists():
-        return None
+    subprocess.run([program, "plan", folder / "ship.toml", folder / "stow.csv", plan, work / "tree"], capture_output=True)
+    return [(name, path) for name, path in ((folder.name, plan), (f"{folder.name} there and back", fro)) if path.exists()]
+
+
+def look(program, folder, name, plan, work, png):
+    """What is wrong with the drawing and the figures of an example's plan."""
+    ship, stow = folder / "ship.toml", folder / "stow.csv"
+    call = lambda *words: subprocess.run([program, *map(str, words)], capture_output=True, text=True)
     drawn, told = call("picture", ship, stow, plan), call("report", ship, stow, plan)
     second = Plan(ship.read_text(), stow.read_text(), plan.read_text(), call("show", ship, stow, plan).stdout)
     wrong = []
@@ -192,7 +224,7 @@ def look(program, folder, work, png):
     if told.stdout.splitlines() != list(second.rows()):
         wrong.append("the figures aren't those of this page")
     if shutil.which("rsvg-convert"):
-        target = png / f"{folder.name}.png" if png else work / "png"
+        target = png / f"{name}.png" if png else work / "png"
         if subprocess.run(["rsvg-convert", "-w", "1620", "-o", target], input=drawn.stdout, text=True).returncode:
             wrong.append("it isn't rendered")
     return wrong
@@ -213,9 +245,10 @@ def main(words):
     failed = 0
     with tempfile.TemporaryDirectory() as work:
         for folder in sorted(p for p in (here / "examples").iterdir() if (p / "ship.toml").exists()):
-            wrong = look(program, folder, pathlib.Path(work), png)
-            failed += bool(wrong)
-            print(f"{folder.name}: " + ("no plan" if wrong is None else "; ".join(wrong) or "ok"))
+            for name, plan in plans_of(program, folder, pathlib.Path(work)):
+                wrong = look(program, folder, name, plan, pathlib.Path(work), png)
+                failed += bool(wrong)
+                print(f"{name}: " + ("; ".join(wrong) or "ok"))
     return 1 if failed else 0
 
 

@@ -21,6 +21,7 @@ Places are crane bays, or decimetres where the ship gives places; times are tick
 import csv
 import io
 import itertools
+import math
 import re
 import sys
 import tomllib
@@ -113,6 +114,15 @@ class Instance:
     def free_table(self):
         """`free_from` of each task and crane."""
         return [[self.free_from(j, k) for k in range(len(self.cranes))] for j in range(len(self.tasks))]
+
+    @cached_property
+    def grain(self):
+        """The greatest number of ticks of which the travel, all lengths and all ready times are multiples."""
+        return math.gcd(self.travel, *(task.ticks for task in self.tasks), *(crane.ready for crane in self.cranes))
+
+    @cached_property
+    def bare_count(self):
+        return Count(self, [None] * len(self.tasks))
 
 
 @dataclass(frozen=True)
@@ -313,6 +323,117 @@ def least_end(inst):
     return best
 
 
+# ---------------------------------------------------------------- counts of crane time
+
+class Count:
+    """What the cranes must spend at the least, where each task has the crane given for it or, for None, any.
+
+    Of each crane: `own`, the tasks that it has; `spent`, the ticks that are gone whatever comes, the wait, its own
+    tasks and the travel to them; `low` and `high`, the places between which it needs no further travel. With `free` the plan
+    may go any way, else it goes upward. Without `lines` no crane waits for its neighbours.
+    """
+
+    def __init__(self, inst, crane, free=False, lines=True):
+        self.inst, self.free = inst, free
+        self.own = [[j for j, v in enumerate(crane) if v == k] for k in range(len(inst.cranes))]
+        self.left = {}  # the ticks of the tasks without a crane, by their bays
+        for task, v in zip(inst.tasks, crane):
+            if v is None:
+                self.left[task.bay] = self.left.get(task.bay, 0) + task.ticks
+        self.spent, self.low, self.high = [], [], []
+        for k, data in enumerate(inst.cranes):
+            bays = [inst.tasks[j].bay for j in self.own[k]] or [data.bay]
+            self.spent.append(max([self.way(k, bays) + self.ticks(self.own[k])] + (self.lines(k) if lines else [])))
+            self.low.append(min(bays + [data.bay]))
+            self.high.append(max(bays + [data.bay] if free else bays))
+
+    def ticks(self, tasks):
+        return sum(self.inst.tasks[j].ticks for j in tasks)
+
+    def way(self, crane, bays):
+        """When the crane has been at all these bays if it does nothing there: going upward it begins at the lowest."""
+        data, low, high = self.inst.cranes[crane], min(bays), max(bays)
+        first = abs(data.bay - low)
+        if self.free:
+            first = min(first, abs(data.bay - high))
+        return data.ready + self.inst.travel * (first + high - low)
+
+    def lines(self, crane):
+        """Each moment before which the crane can't have done its own tasks of some stretch, since it stands still while
+        its neighbours work so near that no bay is left where it has or may get work."""
+        bay = [task.bay for task in self.inst.tasks]
+        wanted = [bay[j] for j in self.own[crane]] + list(self.left)
+        moments = []
+        for p, q in itertools.combinations_with_replacement(sorted(set(bay)), 2):
+            mine = [j for j in self.own[crane] if p <= bay[j] <= q]
+            if not mine or not (p == min(wanted) and q <= max(wanted) or p >= min(wanted) and q == max(wanted)):
+                continue
+            if all(p <= other <= q for other in self.left):
+                shut = self.shut(crane, p, q)
+                begun = self.begun(crane, [bay[j] for j in mine], shut)
+                moments.append(begun + self.ticks(mine) + self.ticks(j for j, _ in shut))
+        return moments
+
+    def shut(self, crane, p, q):
+        """The neighbours' tasks, with their cranes, during which the crane can be at no bay from p to q."""
+        inst = self.inst
+        above = [(j, crane + 1) for j in self.own_of(crane + 1) if inst.tasks[j].bay < p + inst.gap]
+        return above + [(j, crane - 1) for j in self.own_of(crane - 1) if inst.tasks[j].bay > q - inst.gap]
+
+    def begun(self, crane, bays, shut):
+        """When the first of all these tasks begins, and the travel from bay to bay of the crane's own."""
+        way = self.way(crane, bays)
+        if not shut:
+            return way
+        first = min(self.inst.free_table[j][v] for j, v in shut)
+        return min(way, first + self.inst.travel * (max(bays) - min(bays)))
+
+    def own_of(self, crane):
+        return self.own[crane] if 0 <= crane < len(self.own) else []
+
+    def up(self, crane, bay):
+        return max(0, bay - self.high[crane])
+
+    def down(self, crane, bay):
+        return max(0, self.low[crane] - bay)
+
+    def is_short(self, last):
+        """Whether what is left can't be done by that moment."""
+        if any(own and spent > last for own, spent in zip(self.own, self.spent)):
+            return True
+        if not self.left:
+            return False
+        bays = sorted(self.left)
+        rise, sink = self.joined(last, self.up, bays[::-1]), self.joined(last, self.down, bays)
+        if rise is None or sink is None:
+            return True
+        room = sum(self.room(last, k, self.up(k, bays[0]) + self.down(k, bays[-1])) for k in range(len(self.own)))
+        return room < sum(self.left.values()) + self.inst.travel * (rise + sink)
+
+    def room(self, last, crane, way):
+        return max(0, last - self.spent[crane] - self.inst.travel * way)
+
+    def joined(self, last, way, bays):
+        """The bays of travel from each of these bays on to the one before it, by as many cranes as must come so far,
+        the furthest bay first; None where all cranes together have no time for what is left there and beyond."""
+        cranes, load, total = range(len(self.own)), 0, 0
+        for bay, nearer in itertools.zip_longest(bays, bays[1:]):
+            load += self.left[bay]
+            rooms = sorted((self.room(last, k, way(k, bay)) for k in cranes), reverse=True)
+            needed = next((n for n in range(len(rooms) + 1) if sum(rooms[:n]) >= load), None)
+            if needed is None:
+                return None
+            if nearer is not None:
+                steps = self.steps([way(k, bay) - way(k, nearer) for k in cranes], needed)
+                load += self.inst.travel * steps
+                total += steps
+        return total
+
+    def steps(self, differences, needed):
+        """The travel of the cranes that have least of it."""
+        return sum(sorted(differences)[:needed])
+
+
 # ---------------------------------------------------------------- nodes and bound trees
 
 class Node:
@@ -384,8 +505,14 @@ class Node:
         return self.is_closed(v) if self.version == 3 else self.lacks_room(v)
 
     def is_closed(self, v):
-        """What `W v` asks in the third version: so far the same as in the older ones."""
-        return self.lacks_room(v)
+        """What `W v` asks in the third version: a count of the cranes' time shows that nothing ends before v, with the
+        cranes that the tasks have, or with none given. All moments may be taken for multiples of the grain."""
+        last = (v - 1) // self.inst.grain * self.inst.grain
+        return self.inst.bare_count.is_short(last) or self.count.is_short(last)
+
+    @cached_property
+    def count(self):
+        return Count(self.inst, self.crane)
 
     def lacks_room(self, v):
         """Whether a crane can't do its own tasks before v, or all of them together not the tasks without a crane."""

@@ -534,7 +534,7 @@ MISTAKES = [
     plan("to and fro", [("10-LD,C1,22,42", "10-LD,C1,34,54"), ("14-DD,C2,43,53", "14-DD,C1,23,33")],
          "Broken OneWay 10-LD 14-DD",
          ["qc: plan.csv, line 3, record 3: the plan can be worked, but its cranes go to and fro: from 14-DD to 10-LD the way is "
-          "down, and other tasks go up; nothing is promised of such a plan, and qc sheet prints it"],
+          "down, and other tasks go up; no bound speaks of such a plan; qc sheet, qc picture and qc report print it"],
          base="restows", words=SHOW, status=13),
     # ---- the tree
     tree("Windows' lines", ("crlf",), "BadTree Spelling 1",
