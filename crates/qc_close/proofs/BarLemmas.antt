@@ -1,13 +1,12 @@
 -- Tasks summed up: of two tests that no task passes both of, and of the tasks that bar a crane.
-use Rattle.std.proofs.Common.{◌≡◌, ◌≢◌, ℕ, zero, suc, ◌+◌, ◌-◌, ◌*◌, ◌^◌, ◌<◌, ◌≤◌, inl, inr, Bool, true, false, ◌&&◌, ◌||◌, eqb, leb, nat_lt, cond, List, [], ◌∷◌, length, get_or, set, map, filter, Option, None, Some, IfSome, ℤ, ◌≤ℤ◌, int_le, refl, ap, sym, subst, ◌∙◌, arith, add-one}
-use Rattle.std.proofs.lemmas.Bool.{and_from, and_parts, cases_Bool, cases_eq, cases_lt, cond-false, cond-true, eq-eqb, eqb-true, false≢true, le-leb, le-ltb, leb-true, lt-leb, lt-ltb, ltb-true, ne_eqb, or_cases, or_left, or_right}
+use Rattle.std.proofs.Common.{◌≡◌, ◌≢◌, ℕ, zero, suc, ◌+◌, ◌-◌, ◌*◌, ◌^◌, ◌<◌, ◌≤◌, inl, inr, Bool, true, false, ◌&&◌, ◌||◌, eqb, leb, nat_lt, cond, List, [], ◌∷◌, length, get_or, map, filter, Option, None, Some, IfSome, ℤ, ◌≤ℤ◌, int_le, refl, ap, sym, subst, ◌∙◌, arith, add-one}
+use Rattle.std.proofs.lemmas.Bool.{and_from, and_parts, cases_lt, cond-false, eq-eqb, eqb-true, false≢true, le-leb, le-ltb, leb-true, lt-leb, lt-ltb, ltb-true, ne_eqb, or_cases, or_left, or_right}
 use Rattle.std.proofs.lemmas.Int.{int_max_is, int_min_is, ints}
-use Rattle.std.proofs.lemmas.List.{get_or_past, get_or-set_other, get_or-set_same, length-set}
 use Rattle.std.proofs.lemmas.List.Sums.{sum_by-cons}
 use Rattle.std.specs.Int.{int_max, int_min}
 use Rattle.std.specs.List.{list_all, range_with_len}
 use Rattle.std.specs.Option.{option_map_or}
-use Rattle.qc_model.specs.declared.limits.TheConstants.{MOST_DISTANCE, MOST_READY, MOST_TASKS, MOST_WORK}
+use Rattle.qc_model.specs.declared.limits.TheConstants.{MOST_DISTANCE, MOST_READY, MOST_WORK}
 use Rattle.qc_model.specs.declared.turn.Turn.{Turn}
 use Rattle.qc_model.specs.Assignments.{crane_in}
 use Rattle.qc_model.specs.Barred.{both_done, lies, soonest}
@@ -16,7 +15,7 @@ use Rattle.qc_model.specs.Nodes.{free, least}
 use Rattle.qc_model.specs.Work.{highest, lowest, task_numbers, ticks_over}
 use Rattle.qc_model.proofs.NodeLemmas.{T_true, true_T}
 use Rattle.qc_model.proofs.OnRail.{ticks_bounded}
-use Rattle.qc_close.specs.Bars.{AreSmall, IsGrid, bars_before, bars_from, bars_of, cell, done_by, in_row, joined, lie_in, no_bars, past_bars, own_at, row_at, row_before, row_from, soonest_of, sum_before, sum_from, together}
+use Rattle.qc_close.specs.Bars.{AreSmall, IsGrid, bars_before, bars_from, bars_of, cell, done_by, in_row, joined, lie_in, own_at, row_at, row_before, row_from, soonest_of, sum_before, sum_from, together}
 use Rattle.qc_close.specs.Owns.{IsSmall, own_of, with_task}
 use Rattle.qc_close.specs.Spots.{AreSoonest}
 use Rattle.qc_close.specs.declared.bars.Bars.{Bars}
@@ -27,7 +26,7 @@ use Rattle.qc_close.proofs.CrewLemmas.{sum_few}
 use Rattle.qc_close.proofs.FrameLemmas.{highest_to, lowest_from}
 use Rattle.qc_close.proofs.BarredLemmas.{highest_at, lowest_at}
 use Rattle.qc_close.proofs.Members.{Among, all_at, all_from, range_among}
-use Rattle.qc_close.proofs.OwnLemmas.{one_more, own_cons, small_more}
+use Rattle.qc_close.proofs.OwnLemmas.{own_cons, small_more}
 
 -- ---- tests
 
@@ -51,6 +50,12 @@ filter_twice p q (j ∷ js) = by (q j) (p j) (filter_twice p q js)
         → filter p (cond b (j ∷ filter q js) (filter q js)) ≡ cond (b && p j) (j ∷ filter (λ j. q j && p j) js) (filter (λ j. q j && p j) js)
     by true c rest = ap (λ ks. cond (p j) (j ∷ ks) ks) rest
     by false c rest = rest
+
+-- no task passes
+pub none_pass : (p : ℕ → Bool) (js : List ℕ) → ((j : ℕ) → Among js j → p j ≡ false) → filter p js ≡ []
+none_pass p [] h = refl
+none_pass p (j ∷ js) h =
+    cond-false (p j) (j ∷ filter p js) (filter p js) (h j (inl refl)) ∙ none_pass p js (λ k a. h k (inr a))
 
 -- a test is passed where one of two others is, and no task passes both of these
 abbrev pub IsSplit : (ℕ → Bool) → (ℕ → Bool) → (ℕ → Bool) → List ℕ → Type 0
@@ -79,7 +84,7 @@ module _ (P : List ℕ → List ℕ → List ℕ → Type 0) (none : P [] [] [])
 
 -- ---- bars
 
-bars_same : (a b c d : ℕ) → a ≡ b → c ≡ d → ◌≡◌ {A = Bars} (record { ticks = a; soonest = c }) (record { ticks = b; soonest = d })
+pub bars_same : (a b c d : ℕ) → a ≡ b → c ≡ d → ◌≡◌ {A = Bars} (record { ticks = a; soonest = c }) (record { ticks = b; soonest = d })
 bars_same a b c d e f =
     let P : ℕ → ℕ → Bars = λ n m. record { ticks = n; soonest = m } in
     ap (λ n. P n c) e ∙ ap (λ m. P b m) f
@@ -278,22 +283,8 @@ pub from_low : (grid : List Bars) (row k n : ℕ) → AreSmall grid → (sum_fro
 from_low grid row k zero small = omega arith
 from_low grid row k (suc n) small = omega (arith, from_low grid row (k + 1) n small, small (240 * row + k))
 
--- one more entry of a list
-pub sums_set : (f : ℕ → Bars) (xs : List Bars) (n : ℕ) (v : Bars) → n < length xs → v ≡ f n → (k : ℕ)
-    → (k ≢ n → get_or xs k past_bars ≡ f k) → get_or (set xs n v) k past_bars ≡ f k
-sums_set f xs n v low is k other = elim (cases_eq k n) [
-  | inl same ↦
-      subst (λ (i : ℕ). get_or (set xs n v) i past_bars ≡ f i) (sym same) (get_or-set_same xs n v past_bars low ∙ is)
-  | inr differ ↦ get_or-set_other xs n k v past_bars differ ∙ other differ
-]
-
 module _ (inst : InstanceView) (cranes : List (Option ℕ)) (spots : List ℕ) (grid : List Bars)
     (g : IsGrid inst cranes spots grid) (row : ℕ) (low : row < 10) where
-  none_pass : (p : ℕ → Bool) (js : List ℕ) → ((j : ℕ) → Among js j → p j ≡ false) → filter p js ≡ []
-  none_pass p [] h = refl
-  none_pass p (j ∷ js) h =
-      cond-false (p j) (j ∷ filter p js) (filter p js) (h j (inl refl)) ∙ none_pass p js (λ k a. h k (inr a))
-
   and_false : (b c : Bool) → c ≡ false → (b && c) ≡ false
   and_false true c e = e
   and_false false c e = refl
@@ -360,116 +351,3 @@ module _ (inst : InstanceView) (cranes : List (Option ℕ)) (spots : List ℕ) (
       ∙ ap (λ b. joined b (bars_from inst cranes spots row (k + 1))) (g.each row k low (omega arith))
       ∙ sym (bars_split inst cranes (row_at cranes spots row k) (row_from cranes spots row (k + 1)) (row_from cranes spots row k) (task_numbers inst)
       (λ j a. (next_from (in_row cranes row j) (get_or spots j 0) k, apart_from (in_row cranes row j) (get_or spots j 0) k)))
-
--- ---- the grid is filled, from the last task to the first
-
-pub record AreCells (inst : InstanceView) (cranes : List (Option ℕ)) (spots : List ℕ) (count done : ℕ) (grid : List Bars) :
-    Type 0 where
-  pub many : length grid ≡ 2400
-  pub each : (row k : ℕ) → row < 10 → k < 240 → get_or grid (240 * row + k) past_bars
-      ≡ bars_of inst cranes (filter (row_at cranes spots row k) (range_with_len (count - done) done))
-  pub small : (i : ℕ) → (get_or grid i past_bars).ticks ≤ done * MOST_WORK
-
-pub no_cells : (inst : InstanceView) (cranes : List (Option ℕ)) (spots : List ℕ) (count : ℕ) (grid : List Bars)
-    → length grid ≡ 2400 → ((i : ℕ) → i < 2400 → get_or grid i past_bars ≡ no_bars) → AreCells inst cranes spots count 0 grid
-no_cells inst cranes spots count grid many none = record {
-  many = many;
-  each = λ row k low_row low_k. none (240 * row + k) (omega arith);
-  small = λ i. elim (cases_lt i 2400) [
-    | inl low ↦ omega (arith, ap (λ (b : Bars). b.ticks) (none i low))
-    | inr past ↦ omega (arith, ap (λ (b : Bars). b.ticks) (get_or_past grid i past_bars (omega (arith, many, past))))
-  ];
-}
-
-module _ (inst : InstanceView) (cranes : List (Option ℕ)) (spots : List ℕ) (count done : ℕ) (grid : List Bars)
-    (low : done < count) (a : AreCells inst cranes spots count done grid) where
-  abbrev j : ℕ
-  j = count - 1 - done
-
-  abbrev passes : ℕ → ℕ → ℕ → Bool
-  passes row k i = row_at cranes spots row k i
-
-  at_next : count - (done + 1) ≡ j
-  at_next = omega arith
-
-  -- the tasks of a cell, with one more before them or none
-  with_next : (row k : ℕ) → filter (passes row k) (range_with_len (count - (done + 1)) (done + 1))
-      ≡ cond (passes row k j) (j ∷ filter (passes row k) (range_with_len (count - done) done)) (filter (passes row k) (range_with_len (count - done) done))
-  with_next row k =
-      ap (λ from. filter (passes row k) (range_with_len from (done + 1))) at_next
-      ∙ one_more inst (passes row k) (count - done) j done (omega arith)
-
-  other_cell : (row k : ℕ) → row < 10 → k < 240 → passes row k j ≡ false
-      → get_or grid (240 * row + k) past_bars ≡ bars_of inst cranes (filter (passes row k) (range_with_len (count - (done + 1)) (done + 1)))
-  other_cell row k low_row low_k fails =
-      a.each row k low_row low_k
-      ∙ ap (bars_of inst cranes) (sym (with_next row k
-      ∙ cond-false (passes row k j) (j ∷ filter (passes row k) (range_with_len (count - done) done)) _ fails))
-
-  pub cells_skip : crane_in cranes j ≡ None → AreCells inst cranes spots count (done + 1) grid
-  cells_skip none = record {
-    many = a.many;
-    each = λ row k low_row low_k. other_cell row k low_row low_k
-        (ap (λ (o : Option ℕ). option_map_or (λ v. eqb (v + 1) row) o false && eqb (get_or spots j 0) k) none);
-    small = λ i. omega (arith, a.small i);
-  }
-
-  pub cells_next : (v i : ℕ) (one new : Bars) → v < 8 → get_or spots j 0 < 240 → crane_in cranes j ≡ Some v
-      → i ≡ 240 * (v + 1) + get_or spots j 0 → one.ticks ≡ ticks_of inst j → one.ticks ≤ MOST_WORK
-      → one.soonest ≡ soonest inst cranes j → new ≡ joined one (get_or grid i past_bars)
-      → AreCells inst cranes spots count (done + 1) (set grid i new)
-  cells_next v i one new low_v low_s some is ticks few soon new_is = record {
-    many = length-set grid i new ∙ a.many;
-    each = λ row k low_row low_k. elim (cases_eq (240 * row + k) i) [
-      | inl same ↦
-          let row_is : row ≡ v + 1 = omega (arith, same, is) in
-          let k_is : k ≡ get_or spots j 0 = omega (arith, same, is, row_is) in
-          subst (λ (n : ℕ). get_or (set grid i new) n past_bars ≡ bars_of inst cranes (filter (passes row k) (range_with_len (count - (done + 1)) (done + 1)))) (sym same)
-          (get_or-set_same grid i new past_bars (omega (arith, is, a.many))
-          ∙ new_is ∙ ap (joined one) (ap (λ n. get_or grid n past_bars) (sym same) ∙ a.each row k low_row low_k)
-          ∙ ap (λ b. joined b (bars_of inst cranes (filter (passes row k) (range_with_len (count - done) done)))) (bars_same _ _ _ _ ticks soon)
-          ∙ sym (bars_cons inst cranes j (filter (passes row k) (range_with_len (count - done) done)))
-          ∙ ap (bars_of inst cranes) (sym (with_next row k ∙ cond-true (passes row k j) _ (filter (passes row k) (range_with_len (count - done) done)) (this row k row_is k_is))))
-      | inr differ ↦
-          get_or-set_other grid i (240 * row + k) new past_bars differ
-          ∙ other_cell row k low_row low_k (not_this row k differ)
-    ];
-    small = λ n. elim (cases_eq n i) [
-      | inl same ↦
-          subst (λ (m : ℕ). (get_or (set grid i new) m past_bars).ticks ≤ (done + 1) * MOST_WORK) (sym same)
-          (omega (arith, ap (λ (b : Bars). b.ticks) (get_or-set_same grid i new past_bars (omega (arith, is, a.many))), ap (λ (b : Bars). b.ticks) new_is, a.small i, few))
-      | inr differ ↦ omega (arith, ap (λ (b : Bars). b.ticks) (get_or-set_other grid i n new past_bars differ), a.small n)
-    ];
-  }
-    where
-      this : (row k : ℕ) → row ≡ v + 1 → k ≡ get_or spots j 0 → passes row k j ≡ true
-      this row k row_is k_is =
-          and_from (in_row cranes row j) (eqb (get_or spots j 0) k)
-          (ap (λ (o : Option ℕ). option_map_or (λ v. eqb (v + 1) row) o false) some ∙ eq-eqb (v + 1) row (sym row_is))
-          (eq-eqb (get_or spots j 0) k (sym k_is))
-
-      not_this : (row k : ℕ) → 240 * row + k ≢ i → passes row k j ≡ false
-      not_this row k differ = elim (cases_Bool (passes row k j)) [
-        | inl t ↦
-            let both = and_parts (in_row cranes row j) (eqb (get_or spots j 0) k) t in
-            let row_is = eqb-true (v + 1) row (sym (ap (λ (o : Option ℕ). option_map_or (λ v. eqb (v + 1) row) o false) some) ∙ both.0) in
-            let k_is = eqb-true (get_or spots j 0) k both.1 in
-            absurd (differ (omega (arith, row_is, k_is, is)))
-        | inr f ↦ f
-      ]
-
-pub cells_all : (inst : InstanceView) (cranes : List (Option ℕ)) (spots : List ℕ) (count done : ℕ) (grid : List Bars)
-    → AreCells inst cranes spots count done grid → count ≡ length inst.tasks → done ≡ count → count ≤ MOST_TASKS
-    → IsGrid inst cranes spots grid × AreSmall grid
-cells_all inst cranes spots count done grid a is end few = (
-  record {
-    many = a.many;
-    each = λ row k low_row low_k.
-        a.each row k low_row low_k
-        ∙ ap (λ js. bars_of inst cranes (filter (row_at cranes spots row k) js)) (whole (omega (arith, end)) (end ∙ is));
-  },
-  λ i. omega (arith, a.small i, end, few),
-)
-  where
-    whole : count - done ≡ 0 → done ≡ length inst.tasks → range_with_len (count - done) done ≡ task_numbers inst
-    whole first many = ap (λ from. range_with_len from done) first ∙ ap (range_with_len 0) many

@@ -1,5 +1,5 @@
 -- inner: the tasks that bar cranes, as code sums them up.
-use Rattle.std.specs.Prelude.{◌≡◌, ℕ, zero, suc, ◌+◌, ◌-◌, ◌*◌, ◌^◌, ◌<◌, ◌≤◌, min, Bool, true, false, ◌&&◌, ◌==◌, nat_lt, nat_le, int_le, is_none, if◌then◌else◌, List, [], ◌∷◌, filter, length, slice_index, slice_index_or, Option, None, Some, ℤ}
+use Rattle.std.specs.Prelude.{◌≡◌, ◌≢◌, ℕ, zero, suc, ◌+◌, ◌-◌, ◌*◌, ◌^◌, ◌<◌, ◌≤◌, min, Bool, true, false, ◌&&◌, ◌==◌, nat_lt, nat_le, int_le, is_none, if◌then◌else◌, List, [], ◌∷◌, filter, length, slice_index, slice_index_or, Option, None, Some, ℤ}
 use Rattle.std.specs.Int.{int_max, int_min}
 use Rattle.std.specs.Option.{option_map_or}
 use Rattle.qc_model.specs.declared.direction.Direction.{Direction}
@@ -15,6 +15,7 @@ use Rattle.qc_close.specs.Owns.{frame_by, own_of}
 use Rattle.qc_close.specs.Spots.{AreSpots, spot_bay}
 use Rattle.qc_close.specs.declared.barred.Place.{Place}
 use Rattle.qc_close.specs.declared.bars.Bars.{Bars}
+use Rattle.qc_close.specs.declared.bars.Table.{Table}
 use Rattle.qc_close.specs.declared.bars.TheConstants.{NEVER}
 use Rattle.qc_close.specs.declared.frames.Own.{Own}
 use Rattle.qc_close.specs.declared.spots.Spots.{Spots}
@@ -93,10 +94,34 @@ abbrev pub sum_from : List Bars → ℕ → ℕ → ℕ → Bars
 sum_from grid row k zero = no_bars
 sum_from grid row k (suc n) = joined (cell grid row k) (sum_from grid row (k + 1) n)
 
--- the list says what f is, up to count
-pub record AreSums (f : ℕ → Bars) (count : ℕ) (sums : List Bars) : Type 0 where
-  pub many : length sums ≡ 241
-  pub each : (k : ℕ) → k ≤ count → slice_index_or sums k past_bars ≡ f k
+-- where it is known what tasks come to: in each row, in one only up to spot n, and in one only from it on
+abbrev pub Everywhere : ℕ → ℕ → Type 0
+Everywhere r k = Unit {0}
+
+abbrev pub UpTo : ℕ → ℕ → ℕ → ℕ → Type 0
+UpTo row n r k = r ≡ row → k ≤ n
+
+abbrev pub From : ℕ → ℕ → ℕ → ℕ → Type 0
+From row n r k = r ≡ row → n ≤ k
+
+-- there the list says for each row what f is, up to count
+pub record AreSums (known : ℕ → ℕ → Type 0) (f : ℕ → ℕ → Bars) (count : ℕ) (sums : List Bars) : Type 0 where
+  pub many : length sums ≡ 2410
+  pub each : (r k : ℕ) → r < 10 → k ≤ count → known r k → slice_index_or sums (241 * r + k) past_bars ≡ f r k
+
+-- the table sums up what each crane has
+pub record IsTable (inst : InstanceView) (cranes : List (Option ℕ)) (s : Spots) (t : Table) : Type 0 where
+  pub soon : (j : ℕ) → soonest inst cranes j ≤ NEVER
+  pub cells : IsGrid inst cranes s.of_task.items t.grid.items
+  pub small : AreSmall t.grid.items
+  pub befores : AreSums Everywhere (sum_before t.grid.items) (length s.bays.items) t.before.items
+  pub froms : AreSums Everywhere (λ r k. sum_from t.grid.items r k (length s.bays.items - k)) (length s.bays.items) t.from.items
+
+-- task j alone has another crane, or none: k, before or after
+pub record Changes (olds cranes : List (Option ℕ)) (j k : ℕ) : Type 0 where
+  pub others : (i : ℕ) → i ≢ j → crane_in olds i ≡ crane_in cranes i
+  pub before : (v : ℕ) → crane_in olds j ≡ Some v → v ≡ k
+  pub after : (v : ℕ) → crane_in cranes j ≡ Some v → v ≡ k
 
 -- the tasks of a row before each spot, and from each spot on
 abbrev pub bars_before : InstanceView → List (Option ℕ) → List ℕ → ℕ → ℕ → Bars
@@ -129,25 +154,20 @@ abbrev pub done_by : InstanceView → Turn → ℕ → Option Own → Bars → �
 done_by inst turn w own bars = if bars.ticks == 0 then 0 else done_with inst turn w own bars
 
 -- what is known of a crane between its neighbours
-pub record IsKnown (inst : InstanceView) (cranes : List (Option ℕ)) (s : Spots) (p : Place) : Type 0 where
+pub record IsKnown (inst : InstanceView) (cranes : List (Option ℕ)) (s : Spots) (t : Table) (p : Place) : Type 0 where
   pub valid : Valid inst
   pub spots : AreSpots inst s
+  pub table : IsTable inst cranes s t
   pub crane : p.crane < length inst.cranes
-  pub soon : (j : ℕ) → soonest inst cranes j ≤ NEVER
   pub order : p.first ≤ p.last
   pub within : p.last < length s.bays.items
   pub left : p.left ≡ own_of inst (left_of inst cranes)
-  pub above : AreSums (bars_before inst cranes s.of_task.items (p.crane + 2)) (length s.bays.items) p.above
-  pub below : AreSums (bars_from inst cranes s.of_task.items p.crane) (length s.bays.items) p.below
 
 -- what is known of a crane before its place is
-pub record IsAround (inst : InstanceView) (cranes : List (Option ℕ)) (s : Spots) (grid : List Bars) (w : ℕ) (o left : Option Own) :
-    Type 0 where
+pub record IsAround (inst : InstanceView) (cranes : List (Option ℕ)) (s : Spots) (t : Table) (w : ℕ) (o left : Option Own) : Type 0 where
   pub valid : Valid inst
   pub spots : AreSpots inst s
-  pub soon : (j : ℕ) → soonest inst cranes j ≤ NEVER
-  pub grid_is : IsGrid inst cranes s.of_task.items grid
-  pub small : AreSmall grid
+  pub table : IsTable inst cranes s t
   pub own_is : o ≡ own_of inst (own inst cranes w)
   pub left_is : left ≡ own_of inst (left_of inst cranes)
 

@@ -7,13 +7,13 @@ ghost use Rattle.qc_model.specs.Barred.{barred_frame};
 ghost use Rattle.qc_model.specs.Frames.{own, turn_bays, turn_high};
 ghost use Rattle.qc_model.specs.Instance.{IsOnRail};
 ghost use Rattle.qc_model.specs.Work.{crane_numbers};
-ghost use Rattle.qc_close.specs.Bars.{left_of, together};
+ghost use Rattle.qc_close.specs.Bars.{IsTable, left_of, together};
 ghost use Rattle.qc_close.specs.Counts.{AreNear, IsNear};
 ghost use Rattle.qc_close.specs.Owns.{IsSmall, frame_by, own_of, with_task};
-ghost use Rattle.qc_close.specs.Spots.{AreSoonest, AreSpots};
+ghost use Rattle.qc_close.specs.Spots.{AreSpots};
 
 use crate::barred::barred_gone;
-use crate::bars::grid;
+use crate::bars::Table;
 use crate::spots::Spots;
 use qc_model::{Frame, Instance, MOST_CRANES, Task, Turn, bays_between, bays_up};
 use qc_num::{Bay, Tick};
@@ -186,19 +186,18 @@ pub(crate) fn frames(
     turn: Turn,
     cranes: &[Option<u16>],
     spots: &Spots,
-    soonest: &[Tick],
+    table: &Table,
 ) -> [Frame; 8]
     requires count { length cranes.now ≡ length inst.now.tasks }
     requires range { AreInRange inst.now cranes.now }
     requires spots { AreSpots inst.now spots.now }
-    requires soonest { AreSoonest inst.now cranes.now soonest.now }
+    requires table { IsTable inst.now cranes.now spots.now table.now }
     ensures frames { take (length inst.now.cranes) result
         ≡ map (barred_frame inst.now turn cranes.now) (crane_numbers inst.now) }
     ensures near { AreNear (take (length inst.now.cranes) result) }
 {
     let owns = owns(inst, cranes);
     let left = left_own(inst, cranes);
-    let grid = grid(inst, cranes, spots, soonest);
     let mut frames = [Frame {
         works: false,
         gone: 0,
@@ -208,7 +207,7 @@ pub(crate) fn frames(
     for crane in 0..inst.crane_count() {
         let own = owns[crane as usize];
         let frame = spent_by(inst, turn, crane, own);
-        let gone = barred_gone(inst, turn, spots, &grid, crane, own, left, frame.gone);
+        let gone = barred_gone(inst, turn, spots, table, crane, own, left, frame.gone);
         frames[crane as usize] = with_gone(frame, gone);
     }
     frames

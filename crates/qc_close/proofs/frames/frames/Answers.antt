@@ -5,7 +5,6 @@ use Rattle.qc_model.specs.Frames.{own}
 use Rattle.qc_model.specs.declared.frame.Frame.{Frame}
 use Rattle.qc_close.specs.Counts.{IsNear, no_frame}
 use Rattle.qc_close.specs.Owns.{frame_by}
-use Rattle.qc_close.proofs.BarLemmas.{soon_of}
 use Rattle.qc_close.proofs.OwnLemmas.{frame_same, frames_all, frames_more, with_gone}
 use Rattle.qc_close.proofs.frames.frames.Goals as goal
 
@@ -17,9 +16,7 @@ barred_gone-gone-requires-clause-around c =
       record {
         valid = c.crane_count-crane-end.ensures.valid;
         spots = c.requires.spots;
-        soon = soon_of inst c.args.cranes.now c.args.soonest.now c.requires.soonest;
-        grid_is = c.grid-grid.ensures.grid;
-        small = c.grid-grid.ensures.small;
+        table = c.requires.table;
         own_is = c.owns-owns.ensures.owns c.loop-crane.crane in_range;
         left_is = c.left_own-left.ensures;
       },
@@ -38,9 +35,7 @@ loop-crane-preserved c =
     let gone_is = c.barred_gone-gone.ensures cranes (record {
       valid = c.crane_count-crane-end.ensures.valid;
       spots = c.requires.spots;
-      soon = soon_of inst cranes c.args.soonest.now c.requires.soonest;
-      grid_is = c.grid-grid.ensures.grid;
-      small = c.grid-grid.ensures.small;
+      table = c.requires.table;
       own_is = c.owns-owns.ensures.owns w in_range;
       left_is = c.left_own-left.ensures;
     }) (ap (λ (f : Frame). f.gone) frame_is) in
