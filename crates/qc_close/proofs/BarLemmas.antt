@@ -1,5 +1,5 @@
 -- Tasks summed up: of two tests that no task passes both of, and of the tasks that bar a crane.
-use Rattle.std.proofs.Common.{◌≡◌, ◌≢◌, ℕ, zero, suc, ◌+◌, ◌-◌, ◌*◌, ◌^◌, ◌<◌, ◌≤◌, inl, inr, Bool, true, false, ◌&&◌, ◌||◌, eqb, leb, nat_lt, cond, List, [], ◌∷◌, length, get_or, map, filter, Option, None, Some, IfSome, ℤ, ◌≤ℤ◌, int_le, refl, ap, sym, subst, ◌∙◌, arith, add-one}
+use Rattle.std.proofs.Common.{◌≡◌, ◌≢◌, ℕ, zero, suc, ◌+◌, ◌-◌, ◌*◌, ◌^◌, ◌<◌, ◌≤◌, inl, inr, Bool, true, false, ◌&&◌, ◌||◌, eqb, leb, nat_lt, cond, List, [], ◌∷◌, length, get_or, map, filter, Option, None, Some, IfSome, ℤ, pos, negsuc, ◌≤ℤ◌, int_le, refl, ap, sym, subst, ◌∙◌, arith, add-one}
 use Rattle.std.proofs.lemmas.Bool.{and_from, and_parts, cases_lt, cond-false, eq-eqb, eqb-true, false≢true, le-leb, le-ltb, leb-true, lt-leb, lt-ltb, ltb-true, ne_eqb, or_cases, or_left, or_right}
 use Rattle.std.proofs.lemmas.Int.{int_max_is, int_min_is, ints}
 use Rattle.std.proofs.lemmas.List.Sums.{sum_by-cons}
@@ -15,7 +15,7 @@ use Rattle.qc_model.specs.Nodes.{free, least}
 use Rattle.qc_model.specs.Work.{highest, lowest, task_numbers, ticks_over}
 use Rattle.qc_model.proofs.NodeLemmas.{T_true, true_T}
 use Rattle.qc_model.proofs.OnRail.{ticks_bounded}
-use Rattle.qc_close.specs.Bars.{AreSmall, IsGrid, bars_before, bars_from, bars_of, cell, done_by, in_row, joined, lie_in, own_at, row_at, row_before, row_from, soonest_of, sum_before, sum_from, together}
+use Rattle.qc_close.specs.Bars.{AreSmall, IsGrid, bars_before, bars_from, bars_of, cell, done_by, in_row, high_of, joined, lie_in, low_of, no_bars, own_in, row_at, row_before, row_from, soonest_of, sum_before, sum_from, together}
 use Rattle.qc_close.specs.Owns.{IsSmall, own_of, with_task}
 use Rattle.qc_close.specs.Spots.{AreSoonest}
 use Rattle.qc_close.specs.declared.bars.Bars.{Bars}
@@ -82,29 +82,65 @@ module _ (P : List ℕ → List ℕ → List ℕ → Type 0) (none : P [] [] [])
       by false false true e apart rest = absurd (false≢true (sym e))
       by false false false e apart rest = rest
 
+-- ---- bays
+
+min_comm : (a b : ℤ) → int_min a b ≡ int_min b a
+min_comm a b = omega (arith, ints, int_min_is a b, int_min_is b a)
+
+max_comm : (a b : ℤ) → int_max a b ≡ int_max b a
+max_comm a b = omega (arith, ints, int_max_is a b, int_max_is b a)
+
+min_assoc : (a b c : ℤ) → int_min a (int_min b c) ≡ int_min (int_min a b) c
+min_assoc a b c =
+    omega (arith, ints, int_min_is a b, int_min_is b c, int_min_is a (int_min b c), int_min_is (int_min a b) c)
+
+max_assoc : (a b c : ℤ) → int_max a (int_max b c) ≡ int_max (int_max a b) c
+max_assoc a b c =
+    omega (arith, ints, int_max_is a b, int_max_is b c, int_max_is a (int_max b c), int_max_is (int_max a b) c)
+
+min_across : (a b c : ℤ) → int_min a (int_min b c) ≡ int_min b (int_min a c)
+min_across a b c = min_assoc a b c ∙ ap (λ x. int_min x c) (min_comm a b) ∙ sym (min_assoc b a c)
+
+max_across : (a b c : ℤ) → int_max a (int_max b c) ≡ int_max b (int_max a c)
+max_across a b c = max_assoc a b c ∙ ap (λ x. int_max x c) (max_comm a b) ∙ sym (max_assoc b a c)
+
 -- ---- bars
 
-pub bars_same : (a b c d : ℕ) → a ≡ b → c ≡ d → ◌≡◌ {A = Bars} (record { ticks = a; soonest = c }) (record { ticks = b; soonest = d })
-bars_same a b c d e f =
-    let P : ℕ → ℕ → Bars = λ n m. record { ticks = n; soonest = m } in
-    ap (λ n. P n c) e ∙ ap (λ m. P b m) f
+pub bars_same : (a b c d : ℕ) (l m h k : ℤ) → a ≡ b → c ≡ d → l ≡ m → h ≡ k
+    → ◌≡◌ {A = Bars} (record { ticks = a; soonest = c; low = l; high = h }) (record { ticks = b; soonest = d; low = m; high = k })
+bars_same a b c d l m h k e f g i =
+    let P : ℕ → ℕ → ℤ → ℤ → Bars = λ n s x y. record { ticks = n; soonest = s; low = x; high = y } in
+    ap (λ n. P n c l h) e ∙ ap (λ s. P b s l h) f ∙ ap (λ x. P b d x h) g ∙ ap (λ y. P b d m y) i
+
+pub none_joined : no_bars ≡ joined no_bars no_bars
+none_joined =
+    bars_same _ _ _ _ _ _ _ _ refl (omega arith)
+    (omega (arith, ints, int_min_is (pos 1000000) (pos 1000000))) (omega (arith, ints, int_max_is (negsuc 999999) (negsuc 999999)))
 
 module _ (inst : InstanceView) (cranes : List (Option ℕ)) where
+  -- one task
+  abbrev pub one_task : ℕ → Bars
+  one_task j = record { ticks = ticks_of inst j; soonest = soonest inst cranes j; low = bay_of inst j; high = bay_of inst j }
+
   pub bars_cons : (j : ℕ) (js : List ℕ)
-      → bars_of inst cranes (j ∷ js) ≡ joined (record { ticks = ticks_of inst j; soonest = soonest inst cranes j }) (bars_of inst cranes js)
-  bars_cons j js = bars_same _ _ _ _ (sum_by-cons (ticks_of inst) j js) refl
+      → bars_of inst cranes (j ∷ js) ≡ joined (one_task j) (bars_of inst cranes js)
+  bars_cons j js = bars_same _ _ _ _ _ _ _ _ (sum_by-cons (ticks_of inst) j js) refl refl refl
 
   pub bars_split : (p q r : ℕ → Bool) (js : List ℕ) → IsSplit p q r js
       → bars_of inst cranes (filter r js) ≡ joined (bars_of inst cranes (filter p js)) (bars_of inst cranes (filter q js))
   bars_split =
       split_by (λ a b c. bars_of inst cranes c ≡ joined (bars_of inst cranes a) (bars_of inst cranes b))
-      (bars_same _ _ _ _ refl (omega arith))
-      (λ j a b c e. bars_same _ _ _ _
+      none_joined
+      (λ j a b c e. bars_same _ _ _ _ _ _ _ _
       (omega (arith, sum_by-cons (ticks_of inst) j c, sum_by-cons (ticks_of inst) j a, ap (λ (x : Bars). x.ticks) e))
-      (omega (arith, ap (λ (x : Bars). x.soonest) e)))
-      (λ j a b c e. bars_same _ _ _ _
+      (omega (arith, ap (λ (x : Bars). x.soonest) e))
+      (ap (int_min (bay_of inst j)) (ap (λ (x : Bars). x.low) e) ∙ min_assoc (bay_of inst j) (low_of inst a) (low_of inst b))
+      (ap (int_max (bay_of inst j)) (ap (λ (x : Bars). x.high) e) ∙ max_assoc (bay_of inst j) (high_of inst a) (high_of inst b)))
+      (λ j a b c e. bars_same _ _ _ _ _ _ _ _
       (omega (arith, sum_by-cons (ticks_of inst) j c, sum_by-cons (ticks_of inst) j b, ap (λ (x : Bars). x.ticks) e))
-      (omega (arith, ap (λ (x : Bars). x.soonest) e)))
+      (omega (arith, ap (λ (x : Bars). x.soonest) e))
+      (ap (int_min (bay_of inst j)) (ap (λ (x : Bars). x.low) e) ∙ min_across (bay_of inst j) (low_of inst a) (low_of inst b))
+      (ap (int_max (bay_of inst j)) (ap (λ (x : Bars). x.high) e) ∙ max_across (bay_of inst j) (high_of inst a) (high_of inst b)))
 
   pub soonest_low : (js : List ℕ) → soonest_of inst cranes js ≤ NEVER
   soonest_low [] = omega arith
@@ -163,20 +199,6 @@ own_same a b l m h k e f g =
     let P : ℕ → ℤ → ℤ → Own = λ n x y. record { ticks = n; low = x; high = y } in
     ap (λ n. P n l h) e ∙ ap (λ x. P b x h) f ∙ ap (λ y. P b m y) g
 
-min_comm : (a b : ℤ) → int_min a b ≡ int_min b a
-min_comm a b = omega (arith, ints, int_min_is a b, int_min_is b a)
-
-max_comm : (a b : ℤ) → int_max a b ≡ int_max b a
-max_comm a b = omega (arith, ints, int_max_is a b, int_max_is b a)
-
-min_assoc : (a b c : ℤ) → int_min a (int_min b c) ≡ int_min (int_min a b) c
-min_assoc a b c =
-    omega (arith, ints, int_min_is a b, int_min_is b c, int_min_is a (int_min b c), int_min_is (int_min a b) c)
-
-max_assoc : (a b c : ℤ) → int_max a (int_max b c) ≡ int_max (int_max a b) c
-max_assoc a b c =
-    omega (arith, ints, int_max_is a b, int_max_is b c, int_max_is a (int_max b c), int_max_is (int_max a b) c)
-
 together_comm : (a b : Option Own) → together a b ≡ together b a
 together_comm None None = refl
 together_comm None (Some b) = refl
@@ -215,28 +237,26 @@ module _ (inst : InstanceView) where
       ∙ sym (together_assoc (own_of inst a) (one_of j) (own_of inst b))
       ∙ ap (together (own_of inst a)) (sym (own_more j b)))
 
-  -- tasks at one bay
-  lowest_is : (x : ℤ) (j : ℕ) (js : List ℕ) → ((k : ℕ) → Among (j ∷ js) k → bay_of inst k ≡ x) → lowest inst j js ≡ x
-  lowest_is x j js h =
-      let one = lowest_at inst j js j (inl refl) in
-      let two = lowest_from inst x j js (λ k a. let e = h k a in omega (arith, ints, e)) in
-      let e = h j (inl refl) in
-      omega (arith, ints, one, two, e)
+  -- the bays of some tasks on the rail are those of their sums
+  low_is : (j : ℕ) (js : List ℕ) → ((k : ℕ) → Among (j ∷ js) k → IsOnRail (bay_of inst k)) → low_of inst (j ∷ js) ≡ lowest inst j js
+  low_is j [] rail =
+      let near = rail j (inl refl) in
+      omega (arith, ints, int_min_is (bay_of inst j) (pos 1000000), near.1)
+  low_is j (i ∷ is) rail = ap (int_min (bay_of inst j)) (low_is i is (λ k a. rail k (inr a)))
 
-  highest_is : (x : ℤ) (j : ℕ) (js : List ℕ) → ((k : ℕ) → Among (j ∷ js) k → bay_of inst k ≡ x) → highest inst j js ≡ x
-  highest_is x j js h =
-      let one = highest_at inst j js j (inl refl) in
-      let two = highest_to inst x j js (λ k a. let e = h k a in omega (arith, ints, e)) in
-      let e = h j (inl refl) in
-      omega (arith, ints, one, two, e)
+  high_is : (j : ℕ) (js : List ℕ) → ((k : ℕ) → Among (j ∷ js) k → IsOnRail (bay_of inst k)) → high_of inst (j ∷ js) ≡ highest inst j js
+  high_is j [] rail =
+      let near = rail j (inl refl) in
+      omega (arith, ints, int_max_is (bay_of inst j) (negsuc 999999), near.0)
+  high_is j (i ∷ is) rail = ap (int_max (bay_of inst j)) (high_is i is (λ k a. rail k (inr a)))
 
-  pub own_one_bay : (x : ℤ) (js : List ℕ) → ((k : ℕ) → Among js k → (bay_of inst k ≡ x) × (1 ≤ ticks_of inst k))
-      → own_of inst js ≡ own_at (ticks_over inst js) x
-  own_one_bay x [] h = refl
-  own_one_bay x (j ∷ js) h =
-      let more : ticks_over inst (j ∷ js) ≢ 0 = λ e. omega (arith, (h j (inl refl)).1, sum_by-cons (ticks_of inst) j js, e) in
-      ap Some (own_same _ _ _ _ _ _ refl (lowest_is x j js (λ k a. (h k a).0)) (highest_is x j js (λ k a. (h k a).0)))
-      ∙ sym (cond-false (eqb (ticks_over inst (j ∷ js)) 0) None _ (ne_eqb (ticks_over inst (j ∷ js)) 0 more))
+  pub own_in_is : (cranes : List (Option ℕ)) (js : List ℕ) → ((k : ℕ) → Among js k → (1 ≤ ticks_of inst k) × IsOnRail (bay_of inst k))
+      → own_in (bars_of inst cranes js) ≡ own_of inst js
+  own_in_is cranes [] h = refl
+  own_in_is cranes (j ∷ js) h =
+      let more : ticks_over inst (j ∷ js) ≢ 0 = λ e. omega (arith, (h j (inl refl)).0, sum_by-cons (ticks_of inst) j js, e) in
+      cond-false (eqb (ticks_over inst (j ∷ js)) 0) None _ (ne_eqb (ticks_over inst (j ∷ js)) 0 more)
+      ∙ ap Some (own_same _ _ _ _ _ _ refl (low_is j js (λ k a. (h k a).1)) (high_is j js (λ k a. (h k a).1)))
 
   pub own_small : Valid inst → (js : List ℕ) → ((k : ℕ) → Among js k → (k < length inst.tasks) × IsOnRail (bay_of inst k))
       → IfSome (own_of inst js) (IsSmall (length js))

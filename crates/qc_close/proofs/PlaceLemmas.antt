@@ -1,6 +1,6 @@
 -- A crane's place between its neighbours: the greatest of all stretches is what its frame says.
-use Rattle.std.proofs.Common.{◌≡◌, ℕ, ◌+◌, ◌-◌, ◌*◌, ◌^◌, ◌<◌, ◌≤◌, max, inl, inr, Bool, true, false, ◌||◌, eqb, cond, List, [], ◌∷◌, length, get_or, filter, Option, None, Some, IfSome, is_none, is_some, ℤ, pos, ◌≤ℤ◌, int_le, refl, ap, sym, subst, ◌∙◌, arith}
-use Rattle.std.proofs.lemmas.Bool.{and_from, and_parts, cond_both, false≢true}
+use Rattle.std.proofs.Common.{◌≡◌, ℕ, ◌+◌, ◌-◌, ◌^◌, ◌<◌, ◌≤◌, max, inl, inr, Bool, true, false, ◌||◌, eqb, cond, List, [], ◌∷◌, length, get_or, filter, Option, None, Some, IfSome, is_none, is_some, ℤ, pos, ◌≤ℤ◌, int_le, refl, ap, sym, subst, ◌∙◌, arith}
+use Rattle.std.proofs.lemmas.Bool.{and_from, and_parts, eq-eqb, eqb-true, false≢true, false_from_ne_true}
 use Rattle.std.proofs.lemmas.Int.{by_lt_z, int_max_is, int_min_is, ints}
 use Rattle.std.specs.Int.{int_max, int_min}
 use Rattle.std.specs.List.{flat_map, list_all}
@@ -17,19 +17,19 @@ use Rattle.qc_model.specs.Instance.{InstanceView, Valid, bay_of}
 use Rattle.qc_model.specs.Nodes.{greatest}
 use Rattle.qc_model.specs.Work.{highest, lowest, task_numbers}
 use Rattle.qc_model.proofs.NodeLemmas.{T_true, true_T}
-use Rattle.qc_close.specs.Bars.{IsAround, IsGreatest, IsKnown, cell, left_of, own_at, own_between, row_at, row_between, next_spot, low_spot, high_spot, stretch, swept_from, swept_to, together}
+use Rattle.qc_close.specs.Bars.{IsAround, IsGreatest, IsKnown, left_of, in_row, lie_in, own_in, own_between, row_before, row_from, sum_along, next_spot, low_spot, high_spot, stretch, swept_from, swept_to, together}
 use Rattle.qc_close.specs.Owns.{IsSmall, own_of}
-use Rattle.qc_close.specs.Spots.{AreSpots, IsCount, spot_bay}
+use Rattle.qc_close.specs.Spots.{AreRising, AreSpots, IsCount, spot_bay}
 use Rattle.qc_close.specs.declared.barred.Place.{Place}
 use Rattle.qc_close.specs.declared.bars.Bars.{Bars}
 use Rattle.qc_close.specs.declared.bars.Table.{Table}
 use Rattle.qc_close.specs.declared.frames.Own.{Own}
 use Rattle.qc_close.specs.declared.spots.Spots.{Spots}
-use Rattle.qc_close.proofs.BarLemmas.{bars_low, own_split}
+use Rattle.qc_close.proofs.BarLemmas.{own_split, sum_before_is, sum_from_is}
 use Rattle.qc_close.proofs.BarredLemmas.{greatest_among, highest_at, lowest_at}
 use Rattle.qc_close.proofs.Members.{Among, among_filter, among_flat, among_range, filter_among, flat_among, range_among}
 use Rattle.qc_close.proofs.SpotLemmas.{count_is, rises, rises_back, spot_at}
-use Rattle.qc_close.proofs.StretchLemmas.{next_from_is, next_in, next_to_is, own_low, stretch_is, sweep_greatest, sweep_own}
+use Rattle.qc_close.proofs.StretchLemmas.{done_outside, own_before, own_from, own_low, spot_low, stretch_is, sum_own, sweep_greatest}
 
 -- ---- all stretches of a crane
 
@@ -132,6 +132,14 @@ module _ (inst : InstanceView) (valid : Valid inst) (cranes : List (Option ℕ))
       pub low_is : spot_x p.first ≡ low
       pub high_is : spot_x p.last ≡ high
 
+    abbrev low_in : Option Own → ℤ
+    low_in None = pos 0
+    low_in (Some o) = o.low
+
+    abbrev high_in : Option Own → ℤ
+    high_in None = pos 0
+    high_in (Some o) = o.high
+
     bounds_of : (is : List ℕ) → ((k : ℕ) → Among is k → k < length inst.tasks) → own_of inst is ≡ Some all → HasBounds all.low all.high
     bounds_of [] low_k e = absurd (cc e)
     bounds_of (i ∷ is) low_k e =
@@ -154,14 +162,38 @@ module _ (inst : InstanceView) (valid : Valid inst) (cranes : List (Option ℕ))
           low_is = low_x;
           high_is = high_x;
         }
-      where
-        low_in : Option Own → ℤ
-        low_in None = pos 0
-        low_in (Some o) = o.low
 
-        high_in : Option Own → ℤ
-        high_in None = pos 0
-        high_in (Some o) = o.high
+    -- each of them lies between
+    spots_of : (is : List ℕ) → ((k : ℕ) → Among is k → k < length inst.tasks) → own_of inst is ≡ Some all → HasBounds all.low all.high
+        → (j : ℕ) → Among is j → (p.first ≤ get_or s.of_task.items j 0) × (get_or s.of_task.items j 0 ≤ p.last)
+    spots_of [] low_k e b j a = absurd a
+    spots_of (i ∷ is) low_k e b j a =
+        let low_is : lowest inst i is ≡ all.low = ap low_in e in
+        let high_is : highest inst i is ≡ all.high = ap high_in e in
+        let at_j = spot_at inst s.bays.items known.bays j (get_or s.of_task.items j 0) (low_k j a) (known.of_task.each j (low_k j a)) in
+        let one = lowest_at inst i is j a in
+        let two = highest_at inst i is j a in
+        let first_x = b.low_is in
+        let last_x = b.high_is in
+        let here = at_j.1 in (
+          rises_back inst s.bays.items known.bays p.first (get_or s.of_task.items j 0) (omega (arith, b.order, b.within)) (omega (arith, ints, first_x, here, low_is, one)),
+          rises_back inst s.bays.items known.bays (get_or s.of_task.items j 0) p.last at_j.0 (omega (arith, ints, last_x, here, high_is, two)),
+        )
+
+    pub own_spots : together (own_of inst (own inst cranes w)) (own_of inst (left_of inst cranes)) ≡ Some all → HasBounds all.low all.high
+        → (j : ℕ) → j < length inst.tasks → in_row cranes (w + 1) j ≡ true
+        → (p.first ≤ get_or s.of_task.items j 0) × (get_or s.of_task.items j 0 ≤ p.last)
+    own_spots e b j low_j mine =
+        spots_of (own_or_left inst cranes w)
+        (λ k a. let r = filter_among (λ j. option_map_or (λ k. eqb k w) (crane_in cranes j) true) (task_numbers inst) k a in
+        omega (arith, (range_among k 0 (length inst.tasks) r.0).1))
+        (own_left ∙ e) b j
+        (among_filter (λ j. option_map_or (λ k. eqb k w) (crane_in cranes j) true) (task_numbers inst) j
+        (among_range j 0 (length inst.tasks) (omega arith) (omega (arith, low_j))) (has (crane_in cranes j) mine))
+      where
+        has : (o : Option ℕ) → option_map_or (λ v. eqb (v + 1) (w + 1)) o false ≡ true → option_map_or (λ k. eqb k w) o true ≡ true
+        has None t = absurd (false≢true t)
+        has (Some v) t = eq-eqb v w (omega (arith, eqb-true (v + 1) (w + 1) t))
 
     pub bounds : together (own_of inst (own inst cranes w)) (own_of inst (left_of inst cranes)) ≡ Some all → HasBounds all.low all.high
     bounds e =
@@ -260,14 +292,6 @@ module _ (inst : InstanceView) (valid : Valid inst) (cranes : List (Option ℕ))
           let P = λ (low high : ℤ). flat_map (λ j. done_in inst turn cranes w low (bay_of inst j) ∷ done_in inst turn cranes w (bay_of inst j) high ∷ [])
           (filter (lies inst low high) (task_numbers inst)) in
           ap (λ y. P y (highest inst i is)) low_is ∙ ap (P all.low) high_is
-        where
-          low_in : Option Own → ℤ
-          low_in None = pos 0
-          low_in (Some o) = o.low
-
-          high_in : Option Own → ℤ
-          high_in None = pos 0
-          high_in (Some o) = o.high
 
       pub gone_is : together (own_of inst (own inst cranes w)) (own_of inst (left_of inst cranes)) ≡ Some all
           → n ≡ (barred_frame inst turn cranes w).gone
@@ -282,48 +306,88 @@ pub small_ticks : (o : Option Own) → IfSome o (IsSmall MOST_TASKS) → IfSome 
 small_ticks None h = tt
 small_ticks (Some o) h = omega (arith, h.ticks)
 
-pub own_at_small : (ticks : ℕ) (y : ℤ) → ticks < 2 ^ 60 → IfSome (own_at ticks y) (λ o. o.ticks < 2 ^ 60)
-own_at_small ticks y low = cond_both (eqb ticks 0) None _ (λ o. IfSome o (λ o. o.ticks < 2 ^ 60)) (λ _. tt) (λ _. low)
+-- a stretch that begins above the lowest bay of what no crane has doesn't hold it
+pub skip_down : (bays : List ℤ) → AreRising bays → (p : Place) → p.last < length bays → (o : Own) → p.left ≡ Some o → (n : ℕ)
+    → IsCount bays o.low n → (steps : ℕ) → steps < p.last - n
+    → lie_in p.left (spot_bay bays (p.last - steps)) (spot_bay bays p.last) ≡ false
+skip_down bays rising p within o left n count steps less =
+    ap (λ l. lie_in l (spot_bay bays (p.last - steps)) (spot_bay bays p.last)) left
+    ∙ false_from_ne_true _ (λ t.
+    let both = and_parts (int_le (spot_bay bays (p.last - steps)) o.low) (int_le o.high (spot_bay bays p.last)) t in
+    let under : spot_bay bays (p.last - steps) ≤ℤ o.low = record { le = true_T both.0 } in
+    let behind = count.behind n (omega arith) (omega (arith, less, within)) in
+    let up = rising n (p.last - steps) (omega (arith, less)) (omega (arith, within)) in
+    omega (arith, ints, under, behind, up))
+
+-- what code reads of a stretch
+module _ (inst : InstanceView) (cranes : List (Option ℕ)) (s : Spots) (t : Table) (p : Place) (k : IsKnown inst cranes s t p)
+    (steps : ℕ) (low : steps < p.last - p.first + 1) where
+  few : length s.bays.items ≤ 240
+  few = k.spots.bays.along.few
+
+  row : p.crane + 1 < 10
+  row = omega (arith, k.crane, k.valid.cranes.count.1)
+
+  along_is : (way : Direction) → own_in (sum_along way t p.crane (low_spot way p steps) (high_spot way p steps))
+      ≡ own_between inst cranes s.of_task.items p.crane (low_spot way p steps) (high_spot way p steps + 1)
+  along_is Up =
+      let n = p.first + steps + 1 in
+      let inside : n ≤ length s.bays.items = omega (arith, low, k.order, k.within) in
+      ap own_in (k.table.befores.each (p.crane + 1) n row inside tt
+      ∙ sum_before_is inst cranes s.of_task.items t.grid.items k.table.cells (p.crane + 1) row n (omega (arith, inside, few)))
+      ∙ sum_own inst k.valid cranes s k.spots (row_before cranes s.of_task.items (p.crane + 1) n)
+      ∙ own_before inst k.valid cranes s k.spots p.crane p.first n k.own_from
+  along_is Down =
+      let n = p.last - steps in
+      let inside : n ≤ length s.bays.items = omega (arith, k.within) in
+      ap own_in (k.table.froms.each (p.crane + 1) n row inside tt
+      ∙ sum_from_is inst cranes s.of_task.items t.grid.items k.table.cells (p.crane + 1) row n (length s.bays.items - n)
+      (omega (arith, inside, few)) (λ j low_j. omega (arith, spot_low inst k.valid cranes s k.spots j low_j, inside)))
+      ∙ sum_own inst k.valid cranes s k.spots (row_from cranes s.of_task.items (p.crane + 1) n)
+      ∙ own_from inst k.valid cranes s k.spots p.crane n p.last k.own_to
+
+  pub own_along : (way : Direction) (lo hi : ℕ) → lo ≡ low_spot way p steps → hi ≡ high_spot way p steps → (sum : Bars)
+      → sum ≡ sum_along way t p.crane lo hi → (own : Option Own) → own ≡ own_in sum
+      → own ≡ own_between inst cranes s.of_task.items p.crane lo (hi + 1)
+  own_along way lo hi lo_is hi_is sum sum_is own own_is =
+      let at = λ (i j : ℕ). own_between inst cranes s.of_task.items p.crane i (j + 1) in
+      own_is ∙ ap own_in (sum_is ∙ ap (λ i. sum_along way t p.crane i hi) lo_is ∙ ap (sum_along way t p.crane (low_spot way p steps)) hi_is)
+      ∙ along_is way ∙ ap (λ i. at i (high_spot way p steps)) (sym lo_is) ∙ ap (at lo) (sym hi_is)
+
+-- stretches that don't hold all that no crane has come to nothing
+module _ (inst : InstanceView) (cranes : List (Option ℕ)) (s : Spots) (t : Table) (p : Place) (k : IsKnown inst cranes s t p)
+    (turn : Turn) (n : ℕ) (few_steps : n ≤ p.last - p.first) where
+  abbrev fails : Direction → ℕ → Type 0
+  fails way i = lie_in p.left (spot_bay s.bays.items (low_spot way p i)) (spot_bay s.bays.items (high_spot way p i)) ≡ false
+
+  nothing_in : (low high : ℕ) → low ≤ high → high < length s.bays.items
+      → lie_in p.left (spot_bay s.bays.items low) (spot_bay s.bays.items high) ≡ false
+      → 0 ≡ done_in inst turn cranes p.crane (spot_bay s.bays.items low) (spot_bay s.bays.items high)
+  nothing_in low high order within f = done_outside inst cranes s t p k low high order within turn _ _ refl refl _ refl f
+
+  nothing : (way : Direction) → ((i : ℕ) → i < n → fails way i) → (m : ℕ) → swept_from way p n ≤ m → m < swept_to way p n
+      → 0 ≡ stretch inst turn cranes s p way m
+  nothing Up none m up down =
+      let i = m - p.first in
+      let is : p.first + i ≡ m = omega (arith, up) in
+      nothing_in p.first m up (omega (arith, down, few_steps, k.order, k.within))
+      (ap (λ j. lie_in p.left (spot_bay s.bays.items p.first) (spot_bay s.bays.items j)) (sym is) ∙ none i (omega (arith, down, up)))
+  nothing Down none m up down =
+      let i = p.last - m in
+      let is : p.last - i ≡ m = omega (arith, down) in
+      nothing_in m p.last (omega (arith, down)) k.within
+      (ap (λ j. lie_in p.left (spot_bay s.bays.items j) (spot_bay s.bays.items p.last)) (sym is) ∙ none i (omega (arith, down, up, few_steps, k.order)))
+
+  pub swept_nothing : (way : Direction) (start : ℕ) → ((i : ℕ) → i < n → fails way i)
+      → IsGreatest (stretch inst turn cranes s p way) (swept_from way p n) (swept_to way p n) start start
+  swept_nothing way start none = record {
+    least = omega arith;
+    each = λ m up down. omega (arith, nothing way none m up down);
+    some = λ most le h. le;
+  }
 
 module _ (inst : InstanceView) (cranes : List (Option ℕ)) (s : Spots) (t : Table) (p : Place) (k : IsKnown inst cranes s t p)
     (way : Direction) (steps : ℕ) (low : steps < p.last - p.first + 1) where
-  pub cell_low : (n : ℕ) → n ≡ next_spot way p steps → (cell t.grid.items (p.crane + 1) n).ticks < 2 ^ 38
-  cell_low n is =
-      let spot_in = next_in p steps low k.order way in
-      let small = bars_low inst cranes k.valid (row_at cranes s.of_task.items (p.crane + 1) n) in
-      let at = k.table.cells.each (p.crane + 1) n (omega (arith, k.crane, k.valid.cranes.count.1)) (omega (arith, is, spot_in, k.within, k.spots.bays.along.few)) in
-      omega (arith, ap (λ (b : Bars). b.ticks) at, small)
-
-  pub cell_inside : (n : ℕ) → n ≡ next_spot way p steps → 240 * (p.crane + 1) + n < length t.grid.items
-  cell_inside n is =
-      let spot_in = next_in p steps low k.order way in
-      omega (arith, k.crane, k.valid.cranes.count.1, is, spot_in, k.within, k.spots.bays.along.few, k.table.cells.many)
-
-  pub swept_small : (own : Option Own)
-      → own ≡ own_between inst cranes s.of_task.items p.crane (swept_from way p steps) (swept_to way p steps)
-      → IfSome own (λ o. o.ticks < 2 ^ 60)
-  swept_small own e =
-      small_ticks own (subst (λ (o : Option Own). IfSome o (IsSmall MOST_TASKS)) (sym e)
-      (own_low inst k.valid cranes s k.spots (row_between cranes s.of_task.items (p.crane + 1) (swept_from way p steps) (swept_to way p steps))))
-
-  module _ (own : Option Own)
-      (own_eq : own ≡ own_between inst cranes s.of_task.items p.crane (swept_from way p steps) (swept_to way p steps))
-      (n : ℕ) (n_is : n ≡ next_spot way p steps) (ticks : ℕ) (ticks_is : ticks ≡ (cell t.grid.items (p.crane + 1) n).ticks) (y : ℤ)
-      (y_is : y ≡ spot_bay s.bays.items n) (at : Option Own) (at_is : at ≡ own_at ticks y) where
-    pub next_own : together own at
-        ≡ own_between inst cranes s.of_task.items p.crane (swept_from way p (steps + 1)) (swept_to way p (steps + 1))
-    next_own =
-        ap (together own) (at_is ∙ ap (λ m. own_at m y) ticks_is ∙ ap (own_at (cell t.grid.items (p.crane + 1) n).ticks) y_is ∙ ap (λ i. own_at (cell t.grid.items (p.crane + 1) i).ticks (spot_bay s.bays.items i)) n_is)
-        ∙ ap (λ o. together o (own_at (cell t.grid.items (p.crane + 1) (next_spot way p steps)).ticks (spot_bay s.bays.items (next_spot way p steps)))) own_eq
-        ∙ sweep_own inst k.valid cranes s p t k steps low way
-
-    pub next_known : (lo hi : ℕ) → lo ≡ low_spot way p steps → hi ≡ high_spot way p steps
-        → together own at ≡ own_between inst cranes s.of_task.items p.crane lo (hi + 1)
-    next_known lo hi lo_is hi_is =
-        next_own
-        ∙ ap (λ i. own_between inst cranes s.of_task.items p.crane i (swept_to way p (steps + 1))) (next_from_is p steps low k.order way ∙ sym lo_is)
-        ∙ ap (own_between inst cranes s.of_task.items p.crane lo) (next_to_is p steps low k.order way ∙ ap (λ i. i + 1) (sym hi_is))
-
   pub next_greatest : (turn : Turn) (start n d m lo hi : ℕ) → lo ≡ low_spot way p steps → hi ≡ high_spot way p steps
       → d ≡ done_in inst turn cranes p.crane (spot_bay s.bays.items lo) (spot_bay s.bays.items hi) → m ≡ max n d
       → IsGreatest (stretch inst turn cranes s p way) (swept_from way p steps) (swept_to way p steps) start n
@@ -365,6 +429,7 @@ module _ (inst : InstanceView) (cranes : List (Option ℕ)) (s : Spots) (t : Tab
       pub known_of : IsKnown inst cranes s t p
       known_of =
           let bound = bounds inst a.valid cranes s a.spots OneWay w all p crane_is from to both in
+          let spots = own_spots inst a.valid cranes s a.spots OneWay w all p crane_is from to both bound in
           record {
             valid = a.valid;
             spots = a.spots;
@@ -373,6 +438,8 @@ module _ (inst : InstanceView) (cranes : List (Option ℕ)) (s : Spots) (t : Tab
             order = bound.order;
             within = bound.within;
             left = left_is ∙ a.left_is;
+            own_from = λ j low_j mine. (spots j low_j (sym (ap (λ v. in_row cranes (v + 1) j) crane_is) ∙ mine)).0;
+            own_to = λ j low_j mine. (spots j low_j (sym (ap (λ v. in_row cranes (v + 1) j) crane_is) ∙ mine)).1;
           }
 
       pub gone_found : (turn : Turn) (gone mid n : ℕ) → gone ≡ (frame inst turn cranes w).gone

@@ -1,6 +1,6 @@
 -- What code sums up for a stretch of a crane between its neighbours is what its frame says.
 use Rattle.std.proofs.Common.{◌≡◌, ℕ, zero, suc, ◌+◌, ◌-◌, ◌*◌, ◌^◌, ◌<◌, ◌≤◌, max, inl, inr, Bool, true, false, ◌&&◌, ◌||◌, eqb, leb, nat_lt, cond, List, [], ◌∷◌, length, get_or, filter, Option, None, Some, IfSome, is_none, is_some, ℤ, pos, ◌+ℤ◌, ◌≤ℤ◌, ◌<ℤ◌, int_le, int_lt, refl, ap, sym, subst, ◌∙◌, arith}
-use Rattle.std.proofs.lemmas.Bool.{and_from, and_parts, cases_lt, cond-false, cond-true, cond_both, eq-eqb, eqb-true, false_from_ne_true, le-leb, leb-true, lt-ltb, ltb-true, ne_eqb, or_cases, or_left, or_right}
+use Rattle.std.proofs.lemmas.Bool.{and_from, and_parts, cases_lt, cond-false, cond-true, cond_both, eq-eqb, eqb-true, le-leb, leb-true, lt-ltb, ltb-true, ne_eqb}
 use Rattle.std.proofs.lemmas.Int.{ints}
 use Rattle.std.specs.List.{list_all, range_with_len}
 use Rattle.std.specs.Option.{option_map_or}
@@ -16,7 +16,7 @@ use Rattle.qc_model.specs.Nodes.{greatest}
 use Rattle.qc_model.specs.Work.{task_numbers}
 use Rattle.qc_model.proofs.LimitsOf.{limits_of}
 use Rattle.qc_model.proofs.NodeLemmas.{T_true, true_T}
-use Rattle.qc_close.specs.Bars.{IsGreatest, IsGrid, IsKnown, bars_before, bars_from, bars_of, cell, done_by, in_row, joined, left_of, lie_in, own_at, own_between, row_at, row_before, row_between, row_from, next_spot, low_spot, high_spot, past_bars, stretch, swept_from, swept_to, together}
+use Rattle.qc_close.specs.Bars.{IsGreatest, IsKnown, bars_before, bars_from, bars_of, done_by, in_row, joined, left_of, lie_in, own_in, own_between, row_before, row_between, row_from, next_spot, low_spot, high_spot, past_bars, stretch, swept_from, swept_to}
 use Rattle.qc_close.specs.Owns.{IsSmall, own_of}
 use Rattle.qc_close.specs.Spots.{AreSpots, spot_bay}
 use Rattle.qc_close.specs.declared.barred.Place.{Place}
@@ -25,7 +25,7 @@ use Rattle.qc_close.specs.declared.bars.Table.{Table}
 use Rattle.qc_close.specs.declared.bars.TheConstants.{NEVER}
 use Rattle.qc_close.specs.declared.frames.Own.{Own}
 use Rattle.qc_close.specs.declared.spots.Spots.{Spots}
-use Rattle.qc_close.proofs.BarLemmas.{bars_low, bars_split, both_same, filter_same, filter_twice, lie_all, own_one_bay, own_small, own_split, same_test, soonest_low, sum_before_is, sum_from_is}
+use Rattle.qc_close.proofs.BarLemmas.{bars_low, bars_split, both_same, filter_same, filter_twice, lie_all, own_in_is, own_small, same_test, soonest_low, sum_before_is, sum_from_is}
 use Rattle.qc_close.proofs.Members.{Among, filter_among, range_among}
 use Rattle.qc_close.proofs.OwnLemmas.{some_small}
 use Rattle.qc_close.proofs.SpotLemmas.{rises, rises_back, spot_at}
@@ -76,112 +76,36 @@ module _ (inst : InstanceView) (valid : Valid inst) (cranes : List (Option ℕ))
       (own_small inst valid (filter p all) (λ k a.
       let low = in_all k (filter_among p all k a).0 in (low, on_rail k low)))
 
-  module _ (grid : List Bars) (g : IsGrid inst cranes spots grid) (w : ℕ) (low_w : w < length inst.cranes) where
-    few_bays : length bays ≤ 240
-    few_bays = known.bays.along.few
+  -- summed up in a row
+  pub sum_own : (p : ℕ → Bool) → own_in (bars_of inst cranes (filter p all)) ≡ own_of inst (filter p all)
+  sum_own p =
+      own_in_is inst cranes (filter p all) (λ j a.
+      let low = in_all j (filter_among p all j a).0 in (valid.tasks.ticks j low, on_rail j low))
 
-    row_low : w + 1 < 10
-    row_low = omega (arith, low_w, valid.cranes.count.1)
-
-    here : (k : ℕ) → k < length bays → own_of inst (filter (row_at cranes spots (w + 1) k) all) ≡ own_at (cell grid (w + 1) k).ticks (x k)
-    here k low =
-        let ticks = ap (λ (b : Bars). b.ticks) (g.each (w + 1) k row_low (omega (arith, low, few_bays))) in
-        own_one_bay inst (x k) (filter (row_at cranes spots (w + 1) k) all)
-        (λ j a.
-        let r = filter_among (row_at cranes spots (w + 1) k) all j a in
-        let low_j = in_all j r.0 in
-        let same = eqb-true (spot j) k (and_parts (in_row cranes (w + 1) j) (eqb (spot j) k) r.1).1 in
-        (sym (at j low_j).1 ∙ ap x same, valid.tasks.ticks j low_j))
-        ∙ ap (λ n. own_at n (x k)) (sym ticks)
-
-    -- one spot more, above or below
-    next_up : (b : Bool) (from to s : ℕ) → from ≤ to
-        → (b && (leb from s && nat_lt s (to + 1))) ≡ ((b && (leb from s && nat_lt s to)) || (b && eqb s to))
-    next_up false from to s le = refl
-    next_up true from to s le = same_test _ _
-        (λ t.
-        let both = and_parts (leb from s) (nat_lt s (to + 1)) t in
-        elim (cases_lt s to) [
-          | inl less ↦ or_left (leb from s && nat_lt s to) (eqb s to) (and_from (leb from s) (nat_lt s to) both.0 (lt-ltb s to less))
-          | inr more ↦ or_right (leb from s && nat_lt s to) (eqb s to) (eq-eqb s to (omega (arith, ltb-true s (to + 1) both.1)))
-        ])
-        (λ t. elim (or_cases (leb from s && nat_lt s to) (eqb s to) t) [
-          | inl t ↦
-              let both = and_parts (leb from s) (nat_lt s to) t in
-              and_from (leb from s) (nat_lt s (to + 1)) both.0 (lt-ltb s (to + 1) (omega (arith, ltb-true s to both.1)))
-          | inr t ↦
-              let same = eqb-true s to t in
-              and_from (leb from s) (nat_lt s (to + 1)) (le-leb from s (omega arith)) (lt-ltb s (to + 1) (omega arith))
-        ])
-
-    next_down : (b : Bool) (from to s : ℕ) → from < to
-        → (b && (leb from s && nat_lt s to)) ≡ ((b && (leb (from + 1) s && nat_lt s to)) || (b && eqb s from))
-    next_down false from to s le = refl
-    next_down true from to s le = same_test _ _
-        (λ t.
-        let both = and_parts (leb from s) (nat_lt s to) t in
-        elim (cases_lt from s) [
-          | inl less ↦ or_left (leb (from + 1) s && nat_lt s to) (eqb s from) (and_from (leb (from + 1) s) (nat_lt s to) (le-leb (from + 1) s (omega arith)) both.1)
-          | inr more ↦ or_right (leb (from + 1) s && nat_lt s to) (eqb s from) (eq-eqb s from (omega (arith, leb-true from s both.0)))
-        ])
-        (λ t. elim (or_cases (leb (from + 1) s && nat_lt s to) (eqb s from) t) [
-          | inl t ↦
-              let both = and_parts (leb (from + 1) s) (nat_lt s to) t in
-              and_from (leb from s) (nat_lt s to) (le-leb from s (omega (arith, leb-true (from + 1) s both.0))) both.1
-          | inr t ↦
-              let same = eqb-true s from t in
-              and_from (leb from s) (nat_lt s to) (le-leb from s (omega arith)) (lt-ltb s to (omega arith))
-        ])
-
-    and_false : (b c : Bool) → c ≡ false → (b && c) ≡ false
-    and_false true c e = e
-    and_false false c e = refl
-
-    pub own_up : (from to : ℕ) → from ≤ to → to < length bays
-        → own_between inst cranes spots w from (to + 1)
-        ≡ together (own_between inst cranes spots w from to) (own_at (cell grid (w + 1) to).ticks (x to))
-    own_up from to le low =
-        own_split inst (row_between cranes spots (w + 1) from to) (row_at cranes spots (w + 1) to) (row_between cranes spots (w + 1) from (to + 1)) all
-        (λ j a. (
-          next_up (in_row cranes (w + 1) j) from to (spot j) le,
-          λ t.
-              let both = and_parts (in_row cranes (w + 1) j) (leb from (spot j) && nat_lt (spot j) to) t in
-              let less = ltb-true (spot j) to (and_parts (leb from (spot j)) (nat_lt (spot j) to) both.1).1 in
-              and_false (in_row cranes (w + 1) j) (eqb (spot j) to) (ne_eqb (spot j) to (λ e. omega arith)),
-        ))
-        ∙ ap (together (own_between inst cranes spots w from to)) (here to low)
-
-    pub own_down : (from to : ℕ) → from < to → from < length bays
-        → own_between inst cranes spots w from to
-        ≡ together (own_between inst cranes spots w (from + 1) to) (own_at (cell grid (w + 1) from).ticks (x from))
-    own_down from to le low =
-        own_split inst (row_between cranes spots (w + 1) (from + 1) to) (row_at cranes spots (w + 1) from) (row_between cranes spots (w + 1) from to) all
-        (λ j a. (
-          next_down (in_row cranes (w + 1) j) from to (spot j) le,
-          λ t.
-              let both = and_parts (in_row cranes (w + 1) j) (leb (from + 1) (spot j) && nat_lt (spot j) to) t in
-              let more = leb-true (from + 1) (spot j) (and_parts (leb (from + 1) (spot j)) (nat_lt (spot j) to) both.1).0 in
-              and_false (in_row cranes (w + 1) j) (eqb (spot j) from) (ne_eqb (spot j) from (λ e. omega arith)),
-        ))
-        ∙ ap (together (own_between inst cranes spots w (from + 1) to)) (here from low)
-
-  pub own_none : (w k : ℕ) → own_between inst cranes spots w k k ≡ None
-  own_none w k =
-      ap (own_of inst) (none all)
+  -- those of a row before a spot, and from a spot on, where none lie before the first spot, and none behind the last
+  pub own_before : (w first k : ℕ) → ((j : ℕ) → j < length inst.tasks → in_row cranes (w + 1) j ≡ true → first ≤ spot j)
+      → own_of inst (filter (row_before cranes spots (w + 1) k) all) ≡ own_between inst cranes spots w first k
+  own_before w first k from =
+      ap (own_of inst) (filter_same (row_before cranes spots (w + 1) k) (row_between cranes spots (w + 1) first k) all
+      (λ j a. by (in_row cranes (w + 1) j) (spot j) (from j (in_all j a))))
     where
-      empty : (b : Bool) (s : ℕ) → (b && (leb k s && nat_lt s k)) ≡ false
-      empty b s = false_from_ne_true _ (λ t.
-          let both = and_parts b (leb k s && nat_lt s k) t in
-          let two = and_parts (leb k s) (nat_lt s k) both.1 in
-          let from = leb-true k s two.0 in
-          let to = ltb-true s k two.1 in
-          omega arith)
+      by : (b : Bool) (n : ℕ) → (b ≡ true → first ≤ n) → (b && nat_lt n k) ≡ (b && (leb first n && nat_lt n k))
+      by false n h = refl
+      by true n h = sym (ap (λ c. c && nat_lt n k) (le-leb first n (h refl)))
 
-      none : (js : List ℕ) → filter (row_between cranes spots (w + 1) k k) js ≡ []
-      none [] = refl
-      none (j ∷ js) =
-          ap (λ b. cond b (j ∷ filter (row_between cranes spots (w + 1) k k) js) (filter (row_between cranes spots (w + 1) k k) js)) (empty (in_row cranes (w + 1) j) (spot j))
-          ∙ none js
+  pub own_from : (w k last : ℕ) → ((j : ℕ) → j < length inst.tasks → in_row cranes (w + 1) j ≡ true → spot j ≤ last)
+      → own_of inst (filter (row_from cranes spots (w + 1) k) all) ≡ own_between inst cranes spots w k (last + 1)
+  own_from w k last to =
+      ap (own_of inst) (filter_same (row_from cranes spots (w + 1) k) (row_between cranes spots (w + 1) k (last + 1)) all
+      (λ j a. by (in_row cranes (w + 1) j) (spot j) (to j (in_all j a))))
+    where
+      and_true : (b : Bool) → (b && true) ≡ b
+      and_true true = refl
+      and_true false = refl
+
+      by : (b : Bool) (n : ℕ) → (b ≡ true → n ≤ last) → (b && leb k n) ≡ (b && (leb k n && nat_lt n (last + 1)))
+      by false n h = refl
+      by true n h = sym (ap (λ c. leb k n && c) (lt-ltb n (last + 1) (omega (arith, h refl))) ∙ and_true (leb k n))
 
   -- ---- one stretch
 
@@ -427,10 +351,6 @@ module _ (inst : InstanceView) (cranes : List (Option ℕ)) (s : Spots) (t : Tab
 
 -- ---- the greatest of stretches
 
-pub greatest_none : (f : ℕ → ℕ) (from start : ℕ) → IsGreatest f from from start start
-greatest_none f from start =
-    record { least = omega arith; each = λ k up down. absurd (omega arith); some = λ most le h. le }
-
 greatest_up : (f : ℕ → ℕ) (from to start n : ℕ) → from ≤ to → IsGreatest f from to start n
     → IsGreatest f from (to + 1) start (max n (f to))
 greatest_up f from to start n order g = record {
@@ -456,21 +376,6 @@ greatest_down f from to start n order g = record {
 module _ (inst : InstanceView) (valid : Valid inst) (cranes : List (Option ℕ)) (s : Spots) (p : Place)
     (t : Table) (known : IsKnown inst cranes s t p) (steps : ℕ) (low : steps < p.last - p.first + 1) where
   -- with one stretch more
-  pub sweep_own : (way : Direction)
-      → together (own_between inst cranes s.of_task.items p.crane (swept_from way p steps) (swept_to way p steps))
-      (own_at (cell t.grid.items (p.crane + 1) (next_spot way p steps)).ticks (spot_bay s.bays.items (next_spot way p steps)))
-      ≡ own_between inst cranes s.of_task.items p.crane (swept_from way p (steps + 1)) (swept_to way p (steps + 1))
-  sweep_own Up =
-      let to : p.first + steps + 1 ≡ p.first + (steps + 1) = omega arith in
-      sym (own_up inst valid cranes s known.spots t.grid.items known.table.cells p.crane known.crane p.first (p.first + steps) (omega arith) (omega (arith, known.order, known.within)))
-      ∙ ap (own_between inst cranes s.of_task.items p.crane p.first) to
-  sweep_own Down =
-      let from : p.last + 1 - steps ≡ p.last - steps + 1 = omega (arith, known.order) in
-      let after : p.last - steps ≡ p.last + 1 - (steps + 1) = omega (arith, known.order) in
-      ap (λ n. together (own_between inst cranes s.of_task.items p.crane n (p.last + 1)) (own_at (cell t.grid.items (p.crane + 1) (p.last - steps)).ticks (spot_bay s.bays.items (p.last - steps)))) from
-      ∙ sym (own_down inst valid cranes s known.spots t.grid.items known.table.cells p.crane known.crane (p.last - steps) (p.last + 1) (omega arith) (omega (arith, known.within)))
-      ∙ ap (λ n. own_between inst cranes s.of_task.items p.crane n (p.last + 1)) after
-
   pub sweep_greatest : (turn : Turn) (way : Direction) (start n : ℕ)
       → IsGreatest (stretch inst turn cranes s p way) (swept_from way p steps) (swept_to way p steps) start n
       → IsGreatest (stretch inst turn cranes s p way) (swept_from way p (steps + 1)) (swept_to way p (steps + 1)) start
@@ -514,16 +419,7 @@ module _ (p : Place) (steps : ℕ) (low : steps < p.last - p.first + 1) (order :
   stretch_is Up inst turn cranes s = refl
   stretch_is Down inst turn cranes s = refl
 
--- where it begins, and where it ends
-pub swept_none : (way : Direction) (p : Place) → p.first ≤ p.last → (f : ℕ → ℕ) (start : ℕ)
-    → IsGreatest f (swept_from way p 0) (swept_to way p 0) start start
-swept_none Up p order f start =
-    let e : p.first ≡ p.first + 0 = omega arith in
-    subst (λ (k : ℕ). IsGreatest f p.first k start start) e (greatest_none f p.first start)
-swept_none Down p order f start =
-    let e : p.last + 1 ≡ p.last + 1 - 0 = omega arith in
-    subst (λ (k : ℕ). IsGreatest f k (p.last + 1) start start) e (greatest_none f (p.last + 1) start)
-
+-- where it ends
 pub swept_all : (way : Direction) (p : Place) → p.first ≤ p.last → (f : ℕ → ℕ) (start n steps : ℕ) → steps ≡ p.last - p.first + 1
     → IsGreatest f (swept_from way p steps) (swept_to way p steps) start n → IsGreatest f p.first (p.last + 1) start n
 swept_all Up p order f start n steps is g =
@@ -532,15 +428,3 @@ swept_all Up p order f start n steps is g =
 swept_all Down p order f start n steps is g =
     let e : p.last + 1 - steps ≡ p.first = omega (arith, order, is) in
     subst (λ (k : ℕ). IsGreatest f k (p.last + 1) start n) e g
-
-pub swept_empty : (inst : InstanceView) (valid : Valid inst) (cranes : List (Option ℕ)) (s : Spots) (p : Place)
-    → (t : Table) → IsKnown inst cranes s t p → (way : Direction)
-    → None ≡ own_between inst cranes s.of_task.items p.crane (swept_from way p 0) (swept_to way p 0)
-swept_empty inst valid cranes s p t known Up =
-    let e : p.first ≡ p.first + 0 = omega arith in
-    sym (own_none inst valid cranes s known.spots p.crane p.first)
-    ∙ ap (own_between inst cranes s.of_task.items p.crane p.first) e
-swept_empty inst valid cranes s p t known Down =
-    let e : p.last + 1 ≡ p.last + 1 - 0 = omega arith in
-    sym (own_none inst valid cranes s known.spots p.crane (p.last + 1))
-    ∙ ap (λ n. own_between inst cranes s.of_task.items p.crane n (p.last + 1)) e

@@ -6,7 +6,7 @@ use Rattle.std.specs.List.{range_with_len}
 use Rattle.std.specs.Option.{option_map_or}
 use Rattle.qc_model.specs.Assignments.{crane_in, no_cranes}
 use Rattle.qc_model.specs.Barred.{soonest}
-use Rattle.qc_model.specs.Instance.{InstanceView, ticks_of}
+use Rattle.qc_model.specs.Instance.{InstanceView, bay_of, ticks_of}
 use Rattle.qc_model.specs.Nodes.{free}
 use Rattle.qc_model.specs.Work.{task_numbers}
 use Rattle.qc_close.specs.Bars.{AreSmall, AreSums, Changes, Everywhere, From, IsGrid, IsTable, UpTo, bars_of, cell, in_row, joined, no_bars, past_bars, row_at, soonest_of, sum_before, sum_from}
@@ -15,7 +15,7 @@ use Rattle.qc_close.specs.declared.bars.Bars.{Bars}
 use Rattle.qc_close.specs.declared.bars.Table.{Table}
 use Rattle.qc_close.specs.declared.bars.TheConstants.{NEVER}
 use Rattle.qc_close.specs.declared.spots.Spots.{Spots}
-use Rattle.qc_close.proofs.BarLemmas.{bars_cons, bars_same, filter_same, none_pass}
+use Rattle.qc_close.proofs.BarLemmas.{bars_cons, bars_same, filter_same, none_joined, none_pass}
 use Rattle.qc_close.proofs.CrewLemmas.{none_there}
 use Rattle.qc_close.proofs.Members.{Among, filter_among}
 use Rattle.qc_close.proofs.OwnLemmas.{one_more}
@@ -38,10 +38,10 @@ module _ (inst : InstanceView) (cranes : List (Option ℕ)) (p : ℕ → Bool) (
       ap (λ from. filter p (range_with_len from (done + 1))) at ∙ one_more inst p (count - done) last done (omega arith)
 
   pub bars_next : (one new : Bars) → p last ≡ true → one.ticks ≡ ticks_of inst last → one.soonest ≡ soonest inst cranes last
-      → new ≡ joined one bars → new ≡ bars_of inst cranes (filter p (range_with_len (count - (done + 1)) (done + 1)))
-  bars_next one new passes ticks soon new_is =
+      → one.low ≡ bay_of inst last → one.high ≡ bay_of inst last → new ≡ joined one bars → new ≡ bars_of inst cranes (filter p (range_with_len (count - (done + 1)) (done + 1)))
+  bars_next one new passes ticks soon bay_low bay_high new_is =
       new_is ∙ ap (joined one) is
-      ∙ ap (λ b. joined b (bars_of inst cranes behind)) (bars_same _ _ _ _ ticks soon)
+      ∙ ap (λ b. joined b (bars_of inst cranes behind)) (bars_same _ _ _ _ _ _ _ _ ticks soon bay_low bay_high)
       ∙ sym (bars_cons inst cranes last behind)
       ∙ ap (bars_of inst cranes) (sym (with_next ∙ cond-true (p last) (last ∷ behind) behind passes))
 
@@ -153,7 +153,7 @@ module _ (grid : List Bars) (row spot : ℕ) (new : Bars) (low_row : row < 10) (
 
 bars_alike : (inst : InstanceView) (a b : List (Option ℕ)) (js : List ℕ)
     → ((j : ℕ) → Among js j → soonest inst a j ≡ soonest inst b j) → bars_of inst a js ≡ bars_of inst b js
-bars_alike inst a b js same = bars_same _ _ _ _ refl (by js same)
+bars_alike inst a b js same = bars_same _ _ _ _ _ _ _ _ refl (by js same) refl refl
   where
     by : (js : List ℕ) → ((j : ℕ) → Among js j → soonest inst a j ≡ soonest inst b j) → soonest_of inst a js ≡ soonest_of inst b js
     by [] same = refl
@@ -246,19 +246,16 @@ module _ (inst : InstanceView) (olds cranes : List (Option ℕ)) (spots : List �
 empty_at : (n i : ℕ) (xs : List Bars) → xs ≡ replicate n no_bars → i < n → get_or xs i past_bars ≡ no_bars
 empty_at n i xs is low = ap (λ (ys : List Bars). get_or ys i past_bars) is ∙ get_or-replicate n i no_bars past_bars low
 
-none_joined : joined no_bars no_bars ≡ no_bars
-none_joined = bars_same _ _ _ _ refl (omega arith)
-
 before_none : (grid : List Bars) (r k : ℕ) → ((i : ℕ) → i < 240 → cell grid r i ≡ no_bars) → k ≤ 240 → sum_before grid r k ≡ no_bars
 before_none grid r zero none le = refl
 before_none grid r (suc k) none le =
-    ap (λ b. joined b (cell grid r k)) (before_none grid r k none (omega arith)) ∙ ap (joined no_bars) (none k (omega arith)) ∙ none_joined
+    ap (λ b. joined b (cell grid r k)) (before_none grid r k none (omega arith)) ∙ ap (joined no_bars) (none k (omega arith)) ∙ sym none_joined
 
 from_none : (grid : List Bars) (r k n : ℕ) → ((i : ℕ) → i < 240 → cell grid r i ≡ no_bars) → k + n ≤ 240 → sum_from grid r k n ≡ no_bars
 from_none grid r k zero none le = refl
 from_none grid r k (suc n) none le =
     ap (λ b. joined b (sum_from grid r (k + 1) n)) (none k (omega arith)) ∙ ap (joined no_bars) (from_none grid r (k + 1) n none (omega arith))
-    ∙ none_joined
+    ∙ sym none_joined
 
 pub no_table : (inst : InstanceView) (s : Spots) → AreSpots inst s → (t : Table) (n m : ℕ) → n ≡ 2400 → m ≡ 2410
     → t.grid.items ≡ replicate n no_bars → t.before.items ≡ replicate m no_bars → t.from.items ≡ replicate m no_bars

@@ -1,5 +1,5 @@
 -- inner: the tasks that bar cranes, as code sums them up.
-use Rattle.std.specs.Prelude.{◌≡◌, ◌≢◌, ℕ, zero, suc, ◌+◌, ◌-◌, ◌*◌, ◌^◌, ◌<◌, ◌≤◌, min, Bool, true, false, ◌&&◌, ◌==◌, nat_lt, nat_le, int_le, is_none, if◌then◌else◌, List, [], ◌∷◌, filter, length, slice_index, slice_index_or, Option, None, Some, ℤ}
+use Rattle.std.specs.Prelude.{◌≡◌, ◌≢◌, ℕ, zero, suc, ◌+◌, ◌-◌, ◌*◌, ◌^◌, ◌<◌, ◌≤◌, min, Bool, true, false, ◌&&◌, ◌==◌, nat_lt, nat_le, int_le, is_none, if◌then◌else◌, List, [], ◌∷◌, filter, length, slice_index, slice_index_or, Option, None, Some, ℤ, pos, negsuc}
 use Rattle.std.specs.Int.{int_max, int_min}
 use Rattle.std.specs.Option.{option_map_or}
 use Rattle.qc_model.specs.declared.direction.Direction.{Direction}
@@ -9,7 +9,7 @@ use Rattle.qc_model.specs.Assignments.{crane_in}
 use Rattle.qc_model.specs.Barred.{done_in, soonest}
 use Rattle.qc_model.specs.Bays.{bays_up}
 use Rattle.qc_model.specs.Frames.{own}
-use Rattle.qc_model.specs.Instance.{InstanceView, Valid}
+use Rattle.qc_model.specs.Instance.{InstanceView, Valid, bay_of}
 use Rattle.qc_model.specs.Work.{task_numbers, ticks_over}
 use Rattle.qc_close.specs.Owns.{frame_by, own_of}
 use Rattle.qc_close.specs.Spots.{AreSpots, spot_bay}
@@ -25,13 +25,36 @@ abbrev pub soonest_of : InstanceView → List (Option ℕ) → List ℕ → ℕ
 soonest_of inst cranes [] = NEVER
 soonest_of inst cranes (j ∷ js) = min (soonest inst cranes j) (soonest_of inst cranes js)
 
+-- the lowest bay of these, or one above any, and the highest, or one below any
+abbrev pub low_of : InstanceView → List ℕ → ℤ
+low_of inst [] = pos 1000000
+low_of inst (j ∷ js) = int_min (bay_of inst j) (low_of inst js)
+
+abbrev pub high_of : InstanceView → List ℕ → ℤ
+high_of inst [] = negsuc 999999
+high_of inst (j ∷ js) = int_max (bay_of inst j) (high_of inst js)
+
 -- these tasks, summed up
 abbrev pub bars_of : InstanceView → List (Option ℕ) → List ℕ → Bars
-bars_of inst cranes js = record { ticks = ticks_over inst js; soonest = soonest_of inst cranes js }
+bars_of inst cranes js = record {
+  ticks = ticks_over inst js;
+  soonest = soonest_of inst cranes js;
+  low = low_of inst js;
+  high = high_of inst js;
+}
 
 -- these and those
 abbrev pub joined : Bars → Bars → Bars
-joined one other = record { ticks = one.ticks + other.ticks; soonest = min one.soonest other.soonest }
+joined one other = record {
+  ticks = one.ticks + other.ticks;
+  soonest = min one.soonest other.soonest;
+  low = int_min one.low other.low;
+  high = int_max one.high other.high;
+}
+
+-- these as a crane's own
+abbrev pub own_in : Bars → Option Own
+own_in b = if b.ticks == 0 then None else Some (record { ticks = b.ticks; low = b.low; high = b.high })
 
 -- the same of own tasks
 abbrev pub together : Option Own → Option Own → Option Own
@@ -42,10 +65,6 @@ together (Some one) (Some other) = Some (record {
   low = int_min one.low other.low;
   high = int_max one.high other.high;
 })
-
--- own tasks at one bay
-abbrev pub own_at : ℕ → ℤ → Option Own
-own_at ticks x = if ticks == 0 then None else Some (record { ticks = ticks; low = x; high = x })
 
 -- task j has the crane of this row: rows count from the crane before the first
 abbrev pub in_row : List (Option ℕ) → ℕ → ℕ → Bool
@@ -67,11 +86,11 @@ row_between cranes spots row from to j =
 
 -- no tasks
 abbrev pub no_bars : Bars
-no_bars = record { ticks = 0; soonest = NEVER }
+no_bars = record { ticks = 0; soonest = NEVER; low = pos 1000000; high = negsuc 999999 }
 
 -- what stands for tasks past the end of a list
 abbrev pub past_bars : Bars
-past_bars = record { ticks = 0; soonest = 0 }
+past_bars = record { ticks = 0; soonest = 0; low = pos 0; high = pos 0 }
 
 -- each cell sums up the tasks of its row at its spot
 pub record IsGrid (inst : InstanceView) (cranes : List (Option ℕ)) (spots : List ℕ) (grid : List Bars) : Type 0 where
@@ -162,6 +181,8 @@ pub record IsKnown (inst : InstanceView) (cranes : List (Option ℕ)) (s : Spots
   pub order : p.first ≤ p.last
   pub within : p.last < length s.bays.items
   pub left : p.left ≡ own_of inst (left_of inst cranes)
+  pub own_from : (j : ℕ) → j < length inst.tasks → in_row cranes (p.crane + 1) j ≡ true → p.first ≤ slice_index s.of_task.items j
+  pub own_to : (j : ℕ) → j < length inst.tasks → in_row cranes (p.crane + 1) j ≡ true → slice_index s.of_task.items j ≤ p.last
 
 -- what is known of a crane before its place is
 pub record IsAround (inst : InstanceView) (cranes : List (Option ℕ)) (s : Spots) (t : Table) (w : ℕ) (o left : Option Own) : Type 0 where
@@ -192,6 +213,11 @@ swept_from Down p steps = p.last + 1 - steps
 abbrev pub swept_to : Direction → Place → ℕ → ℕ
 swept_to Up p steps = p.first + steps
 swept_to Down p steps = p.last + 1
+
+-- what the tasks of crane w come to before the spot behind a stretch, or from its first spot on
+abbrev pub sum_along : Direction → Table → ℕ → ℕ → ℕ → Bars
+sum_along Up t w low high = slice_index_or t.before.items (241 * (w + 1) + (high + 1)) past_bars
+sum_along Down t w low high = slice_index_or t.from.items (241 * (w + 1) + low) past_bars
 
 -- the spot of the next, and the spots from which to which it is
 abbrev pub next_spot : Direction → Place → ℕ → ℕ

@@ -1,15 +1,15 @@
 //! The time that cranes spend while neighbours bar the way.
 
-ghost use Rattle.std.specs.Prelude.{◌≡◌, ◌+◌, ◌-◌, ◌<◌, ◌≤◌, ◌^◌, ℕ, List, Option, IfSome, length};
+ghost use Rattle.std.specs.Prelude.{◌≡◌, ◌+◌, ◌-◌, ◌<◌, ◌≤◌, ◌^◌, ℕ, List, Option, IfSome, false, length};
 ghost use Rattle.qc_model.specs.declared.limits.TheConstants.{MOST_TASKS};
 ghost use Rattle.qc_model.specs.Barred.{barred_frame, done_in};
 ghost use Rattle.qc_model.specs.Frames.{frame};
-ghost use Rattle.qc_close.specs.Bars.{IsAround, IsGreatest, IsKnown, done_by, high_spot, lie_in, low_spot, next_spot, own_at, own_between, stretch};
+ghost use Rattle.qc_close.specs.Bars.{IsAround, IsGreatest, IsKnown, done_by, high_spot, lie_in, low_spot, own_between, stretch, sum_along};
 ghost use Rattle.qc_close.specs.Owns.{IsSmall};
 ghost use Rattle.qc_close.specs.Spots.{AreRising, IsCount, spot_bay};
 ghost use Rattle.qc_close.specs.declared.bars.TheConstants.{NEVER};
 
-use crate::bars::{Bars, Table, joined};
+use crate::bars::{Bars, Table, joined, own_in};
 use crate::frames::{Own, spent_by, together, travel_over};
 use crate::spots::{Spots, count_before};
 use qc_model::{Direction, Instance, Turn, bays_up};
@@ -46,21 +46,6 @@ fn lie_in(tasks: Option<Own>, low: Bay, high: Bay) -> bool
     }
 }
 
-/// A crane's tasks at a spot.
-fn own_at(ticks: Tick, bay: Bay) -> Option<Own>
-    ensures { result ≡ own_at ticks bay }
-{
-    if ticks == 0 {
-        None
-    } else {
-        Some(Own {
-            ticks,
-            low: bay,
-            high: bay,
-        })
-    }
-}
-
 /// Where a crane stands between its neighbours: from which spot to which it may work, and the tasks that
 /// no crane has.
 #[derive(Clone, Copy)]
@@ -71,18 +56,7 @@ pub(crate) struct Place {
     pub(crate) left: Option<Own>,
 }
 
-/// The spot that comes to those of so many stretches.
-fn next_spot(way: Direction, place: Place, steps: usize) -> usize
-    requires { place.first + steps ≤ place.last }
-    ensures { result ≡ next_spot way place steps }
-{
-    match way {
-        Direction::Up => place.first + steps,
-        Direction::Down => place.last - steps,
-    }
-}
-
-/// The first spot of the stretch with it.
+/// The first spot of the stretch behind so many.
 fn low_spot(way: Direction, place: Place, steps: usize) -> usize
     requires { place.first + steps ≤ place.last }
     ensures { result ≡ low_spot way place steps }
@@ -93,7 +67,7 @@ fn low_spot(way: Direction, place: Place, steps: usize) -> usize
     }
 }
 
-/// The last spot of the stretch with it.
+/// The last spot of the stretch behind so many.
 fn high_spot(way: Direction, place: Place, steps: usize) -> usize
     requires { place.first + steps ≤ place.last }
     ensures { result ≡ high_spot way place steps }
@@ -134,6 +108,51 @@ fn done_in(
     both_done(inst, turn, place.crane, own, joined(above, below))
 }
 
+/// What a crane's tasks come to before the spot behind a stretch, or from its first spot on.
+fn sum_along(table: &Table, way: Direction, crane: u16, low: usize, high: usize) -> Bars
+    requires before { length table.now.before.items ≡ 2410 }
+    requires from { length table.now.from.items ≡ 2410 }
+    requires crane { crane < 8 }
+    requires low { low < 240 }
+    requires high { high < 240 }
+    ensures { result ≡ sum_along way table.now crane low high }
+{
+    let row = 241 * (crane as usize + 1);
+    match way {
+        Direction::Up => table.before[row + (high + 1)],
+        Direction::Down => table.from[row + low],
+    }
+}
+
+/// How many stretches there are, at the least, before one in which all lies that no crane has.
+fn skipped(spots: &Spots, way: Direction, place: Place) -> usize
+    requires rising { AreRising spots.now.bays.items }
+    requires order { place.first ≤ place.last }
+    requires within { place.last < length spots.now.bays.items }
+    requires left { IfSome place.left (IsSmall MOST_TASKS) }
+    ensures few { result ≤ place.last - place.first }
+    ensures none { (steps : ℕ) → steps < result
+        → lie_in place.left (spot_bay spots.now.bays.items (low_spot way place steps))
+        (spot_bay spots.now.bays.items (high_spot way place steps)) ≡ false }
+{
+    match place.left {
+        None => 0,
+        Some(left) => {
+            let bays = spots.bays.as_slice();
+            let most = place.last - place.first;
+            match way {
+                Direction::Up => count_before(bays, left.high)
+                    .saturating_sub(place.first)
+                    .min(most),
+                Direction::Down => place
+                    .last
+                    .saturating_sub(count_before(bays, left.low))
+                    .min(most),
+            }
+        }
+    }
+}
+
 /// The greatest of a tick and of those by which it can have done what lies from the first spot to each,
 /// or from each to the last.
 fn greatest_done(
@@ -151,12 +170,9 @@ fn greatest_done(
         gone result }
 {
     let mut greatest = gone;
-    let mut own = None;
-    for step in 0..place.last - place.first + 1 {
-        let spot = next_spot(way, place, step);
-        let ticks = table.grid[240 * (place.crane as usize + 1) + spot].ticks;
-        own = together(own, own_at(ticks, spots.bays[spot]));
+    for step in skipped(spots, way, place)..place.last - place.first + 1 {
         let (low, high) = (low_spot(way, place, step), high_spot(way, place, step));
+        let own = own_in(sum_along(table, way, place.crane, low, high));
         greatest = greatest.max(done_in(inst, turn, spots, table, place, low, high, own));
     }
     greatest

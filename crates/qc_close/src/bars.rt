@@ -3,28 +3,34 @@
 ghost use Rattle.std.specs.Prelude.{◌≡◌, ◌+◌, ◌-◌, ◌*◌, ◌<◌, ◌≤◌, ◌^◌, List, Option, ℕ, IfOk, filter, length, replicate, slice_set};
 ghost use Rattle.qc_model.specs.Assignments.{no_cranes};
 ghost use Rattle.qc_model.specs.Work.{task_numbers};
-ghost use Rattle.qc_close.specs.Bars.{AreSmall, AreSums, Changes, Everywhere, From, IsTable, UpTo, bars_of, joined, no_bars, row_at, sum_before, sum_from};
+ghost use Rattle.qc_close.specs.Bars.{AreSmall, AreSums, Changes, Everywhere, From, IsTable, UpTo, bars_of, joined, no_bars, own_in, row_at, sum_before, sum_from};
 ghost use Rattle.qc_close.specs.Spots.{AreSoonest, AreSpots};
 
+use crate::frames::Own;
 use crate::spots::Spots;
-use qc_model::Instance;
-use qc_num::{OutOfMemory, Tick};
+use qc_model::{Instance, Task};
+use qc_num::{Bay, OutOfMemory, Tick};
 use std::alloc::Global;
 
-/// Some tasks: their ticks, and when the first of them can start at the least.
+/// Some tasks: their ticks, when the first of them can start at the least, and the bays of the lowest and
+/// the highest of them.
 #[derive(Clone, Copy)]
 pub(crate) struct Bars {
     pub(crate) ticks: Tick,
     pub(crate) soonest: Tick,
+    pub(crate) low: Bay,
+    pub(crate) high: Bay,
 }
 
 /// The least start of no tasks: later than any.
 pub(crate) const NEVER: Tick = 1_000_000_000_000;
 
-/// No tasks.
+/// No tasks: their lowest bay lies above any, and their highest below.
 const NOTHING: Bars = Bars {
     ticks: 0,
     soonest: NEVER,
+    low: 1_000_000,
+    high: -1_000_000,
 };
 
 /// What the tasks of each crane come to: ten rows, of which the first and the last are those of no crane.
@@ -47,6 +53,23 @@ pub(crate) fn joined(one: Bars, other: Bars) -> Bars
     Bars {
         ticks: one.ticks + other.ticks,
         soonest: one.soonest.min(other.soonest),
+        low: one.low.min(other.low),
+        high: one.high.max(other.high),
+    }
+}
+
+/// They as a crane's own, if there are any.
+pub(crate) fn own_in(bars: Bars) -> Option<Own>
+    ensures { result ≡ own_in bars }
+{
+    if bars.ticks == 0 {
+        None
+    } else {
+        Some(Own {
+            ticks: bars.ticks,
+            low: bars.low,
+            high: bars.high,
+        })
     }
 }
 
@@ -83,6 +106,21 @@ fn is_at(cranes: &[Option<u16>], spots: &[u16], task: u16, row: usize, spot: usi
     }
 }
 
+/// One task, that can start at the least then.
+fn one_bars(task: Task, soonest: Tick) -> Bars
+    ensures ticks { result.ticks ≡ task.ticks }
+    ensures soonest { result.soonest ≡ soonest }
+    ensures low { result.low ≡ task.bay }
+    ensures high { result.high ≡ task.bay }
+{
+    Bars {
+        ticks: task.ticks,
+        soonest,
+        low: task.bay,
+        high: task.bay,
+    }
+}
+
 /// What the tasks of a row at a spot come to.
 fn bars_at(
     inst: &Instance,
@@ -105,10 +143,7 @@ fn bars_at(
     for done in 0..count {
         let task = count - 1 - done;
         if is_at(cranes, spots, task, row, spot) {
-            let one = Bars {
-                ticks: inst.task(task).ticks,
-                soonest: soonest[task as usize],
-            };
+            let one = one_bars(inst.task(task), soonest[task as usize]);
             bars = joined(one, bars);
         }
     }
@@ -164,8 +199,20 @@ fn put_bars(table: &mut Table, row: usize, spot: usize, count: usize, bars: Bars
         (λ r k. sum_from table.new.grid.items r k (count - k)) count table.new.from.items }
 {
     table.grid[240 * row + spot] = bars;
-    sum_behind(table.grid.as_slice(), row, spot, count, table.before.as_mut_slice());
-    sum_up_to(table.grid.as_slice(), row, spot, count, table.from.as_mut_slice());
+    sum_behind(
+        table.grid.as_slice(),
+        row,
+        spot,
+        count,
+        table.before.as_mut_slice(),
+    );
+    sum_up_to(
+        table.grid.as_slice(),
+        row,
+        spot,
+        count,
+        table.from.as_mut_slice(),
+    );
 }
 
 /// Keeps a table where a task has got this crane, or has lost it.

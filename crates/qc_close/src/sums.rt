@@ -60,7 +60,10 @@ pub(crate) fn most_rooms(
 {
     let mut sums = [0; 9];
     for frame in frames {
-        add_number(&mut sums, room(travel, tick, frame, bays_to(way, frame, bay)));
+        add_number(
+            &mut sums,
+            room(travel, tick, frame, bays_to(way, frame, bay)),
+        );
     }
     sums
 }

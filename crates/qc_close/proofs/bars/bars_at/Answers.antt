@@ -22,9 +22,11 @@ loop-done-preserved c =
             let passes = sym c.is_at.ensures ∙ w.if-is_at.true in
             w.bars-is
             ∙ bars_next inst cranes p count done c.loop-done.bars c.loop-done-test.true c.loop-done.invariant.bars
-            (record { ticks = w.task.result.ticks; soonest = get_or c.args.soonest.now j 0 }) w.joined-bars.result passes
-            (ap (λ (t : Task). t.ticks) w.task.ensures.task)
-            (soonest_at inst cranes c.args.soonest.now c.requires.soonest spots c.args.row c.args.spot j passes)
+            w.one_bars-one.result w.joined-bars.result passes
+            (w.one_bars-one.ensures.ticks ∙ ap (λ (t : Task). t.ticks) w.task.ensures.task)
+            (w.one_bars-one.ensures.soonest ∙ soonest_at inst cranes c.args.soonest.now c.requires.soonest spots c.args.row c.args.spot j passes)
+            (w.one_bars-one.ensures.low ∙ ap (λ (t : Task). t.bay) w.task.ensures.task)
+            (w.one_bars-one.ensures.high ∙ ap (λ (t : Task). t.bay) w.task.ensures.task)
             w.joined-bars.ensures
         | else-is_at w ↦
             w.bars-is
@@ -37,6 +39,7 @@ loop-done-preserved c =
               arith,
               ap (λ (b : Bars). b.ticks) w.bars-is,
               ap (λ (b : Bars). b.ticks) w.joined-bars.ensures,
+              w.one_bars-one.ensures.ticks,
               w.task.ensures.bound,
               c.loop-done.invariant.small,
             )

@@ -31,10 +31,12 @@ keep_table-requires-clause-was c =
     let k = c.self.invariant in
     let f = c.self.inside in
     let low : c.args.task < length f.inst.tasks = omega (arith, ap (λ (v : CrewView). length v.inst.tasks) c.self.view_is, c.requires.task) in
-    let free = ap (λ (v : CrewView). crane_in v.cranes c.args.task) c.self.view_is ∙ c.requires.none in
-    (f.cranes.items, k.table,
-    subst (λ (cs : List (Option ℕ)). Changes f.cranes.items cs c.args.task c.args.crane) (sym c.as_slice.ensures.value)
-    (put_changes f.inst f.cranes.items f.soonest.items k.soonest c.args.task low k.count c.args.crane free))
+    let free = ap (λ (v : CrewView). crane_in v.cranes c.args.task) c.self.view_is ∙ c.requires.none in (
+      f.cranes.items,
+      k.table,
+      subst (λ (cs : List (Option ℕ)). Changes f.cranes.items cs c.args.task c.args.crane) (sym c.as_slice.ensures.value)
+          (put_changes f.inst f.cranes.items f.soonest.items k.soonest c.args.task low k.count c.args.crane free),
+    )
 
 pub invariant_of-self : goal.invariant_of-self
 invariant_of-self c =
