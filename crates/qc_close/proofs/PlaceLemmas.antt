@@ -1,5 +1,5 @@
 -- A crane's place between its neighbours: the greatest of all stretches is what its frame says.
-use Rattle.std.proofs.Common.{◌≡◌, ℕ, ◌+◌, ◌-◌, ◌^◌, ◌<◌, ◌≤◌, max, inl, inr, Bool, true, false, ◌||◌, eqb, cond, List, [], ◌∷◌, length, get_or, filter, Option, None, Some, IfSome, is_none, is_some, ℤ, pos, ◌≤ℤ◌, int_le, refl, ap, sym, subst, ◌∙◌, arith}
+use Rattle.std.proofs.Common.{◌≡◌, ℕ, ◌+◌, ◌-◌, ◌^◌, ◌<◌, ◌≤◌, max, ◌⊎◌, inl, inr, Bool, true, false, ◌||◌, eqb, cond, List, [], ◌∷◌, length, get_or, filter, Option, None, Some, IfSome, is_none, is_some, ℤ, pos, ◌≤ℤ◌, ◌<ℤ◌, int_le, refl, ap, sym, subst, ◌∙◌, arith}
 use Rattle.std.proofs.lemmas.Bool.{and_from, and_parts, eq-eqb, eqb-true, false≢true, false_from_ne_true}
 use Rattle.std.proofs.lemmas.Int.{by_lt_z, int_max_is, int_min_is, ints}
 use Rattle.std.specs.Int.{int_max, int_min}
@@ -17,7 +17,7 @@ use Rattle.qc_model.specs.Instance.{InstanceView, Valid, bay_of}
 use Rattle.qc_model.specs.Nodes.{greatest}
 use Rattle.qc_model.specs.Work.{highest, lowest, task_numbers}
 use Rattle.qc_model.proofs.NodeLemmas.{T_true, true_T}
-use Rattle.qc_close.specs.Bars.{IsAround, IsGreatest, IsKnown, left_of, in_row, lie_in, own_in, own_between, row_before, row_from, sum_along, next_spot, low_spot, high_spot, stretch, swept_from, swept_to, together}
+use Rattle.qc_close.specs.Bars.{IsAround, IsGreatest, IsIdle, IsKnown, least_high, left_of, in_row, lie_in, most_low, own_in, own_between, row_before, row_from, sum_along, next_spot, low_spot, high_spot, stretch, swept_from, swept_to, together}
 use Rattle.qc_close.specs.Owns.{IsSmall, own_of}
 use Rattle.qc_close.specs.Spots.{AreRising, AreSpots, IsCount, spot_bay}
 use Rattle.qc_close.specs.declared.barred.Place.{Place}
@@ -25,13 +25,22 @@ use Rattle.qc_close.specs.declared.bars.Bars.{Bars}
 use Rattle.qc_close.specs.declared.bars.Table.{Table}
 use Rattle.qc_close.specs.declared.frames.Own.{Own}
 use Rattle.qc_close.specs.declared.spots.Spots.{Spots}
-use Rattle.qc_close.proofs.BarLemmas.{own_split, sum_before_is, sum_from_is}
+use Rattle.qc_close.proofs.BarLemmas.{none_pass, own_split, sum_before_is, sum_from_is}
 use Rattle.qc_close.proofs.BarredLemmas.{greatest_among, highest_at, lowest_at}
 use Rattle.qc_close.proofs.Members.{Among, among_filter, among_flat, among_range, filter_among, flat_among, range_among}
 use Rattle.qc_close.proofs.SpotLemmas.{count_is, rises, rises_back, spot_at}
 use Rattle.qc_close.proofs.StretchLemmas.{done_outside, own_before, own_from, own_low, spot_low, stretch_is, sum_own, sweep_greatest}
 
 -- ---- all stretches of a crane
+
+-- the bays of own tasks
+abbrev low_in : Option Own → ℤ
+low_in None = pos 0
+low_in (Some o) = o.low
+
+abbrev high_in : Option Own → ℤ
+high_in None = pos 0
+high_in (Some o) = o.high
 
 greatest_at : (ns : List ℕ) (n : ℕ) → Among ns n → n ≤ greatest ns
 greatest_at [] n a = absurd a
@@ -131,14 +140,6 @@ module _ (inst : InstanceView) (valid : Valid inst) (cranes : List (Option ℕ))
       pub within : p.last < length s.bays.items
       pub low_is : spot_x p.first ≡ low
       pub high_is : spot_x p.last ≡ high
-
-    abbrev low_in : Option Own → ℤ
-    low_in None = pos 0
-    low_in (Some o) = o.low
-
-    abbrev high_in : Option Own → ℤ
-    high_in None = pos 0
-    high_in (Some o) = o.high
 
     bounds_of : (is : List ℕ) → ((k : ℕ) → Among is k → k < length inst.tasks) → own_of inst is ≡ Some all → HasBounds all.low all.high
     bounds_of [] low_k e = absurd (cc e)
@@ -306,18 +307,28 @@ pub small_ticks : (o : Option Own) → IfSome o (IsSmall MOST_TASKS) → IfSome 
 small_ticks None h = tt
 small_ticks (Some o) h = omega (arith, h.ticks)
 
--- a stretch that begins above the lowest bay of what no crane has doesn't hold it
-pub skip_down : (bays : List ℤ) → AreRising bays → (p : Place) → p.last < length bays → (o : Own) → p.left ≡ Some o → (n : ℕ)
-    → IsCount bays o.low n → (steps : ℕ) → steps < p.last - n
-    → lie_in p.left (spot_bay bays (p.last - steps)) (spot_bay bays p.last) ≡ false
-skip_down bays rising p within o left n count steps less =
-    ap (λ l. lie_in l (spot_bay bays (p.last - steps)) (spot_bay bays p.last)) left
-    ∙ false_from_ne_true _ (λ t.
-    let both = and_parts (int_le (spot_bay bays (p.last - steps)) o.low) (int_le o.high (spot_bay bays p.last)) t in
-    let under : spot_bay bays (p.last - steps) ≤ℤ o.low = record { le = true_T both.0 } in
+-- spots before a bay, and behind one
+pub skip_up : (bays : List ℤ) (p : Place) (x : ℤ) (n : ℕ) → IsCount bays x n → (steps : ℕ) → steps < n - p.first
+    → spot_bay bays (p.first + steps) <ℤ x
+skip_up bays p x n count steps less = count.before (p.first + steps) (omega (arith, less))
+
+pub skip_down : (bays : List ℤ) → AreRising bays → (p : Place) → p.last < length bays → (x : ℤ) (n : ℕ) → IsCount bays x n
+    → (steps : ℕ) → steps < p.last - n → x <ℤ spot_bay bays (p.last - steps)
+skip_down bays rising p within x n count steps less =
     let behind = count.behind n (omega arith) (omega (arith, less, within)) in
     let up = rising n (p.last - steps) (omega (arith, less)) (omega (arith, within)) in
-    omega (arith, ints, under, behind, up))
+    omega (arith, ints, behind, up)
+
+-- where a crane's own tasks lie
+own_bounds : (inst : InstanceView) (o : Own) (is : List ℕ) → Some o ≡ own_of inst is → (j : ℕ) → Among is j
+    → (o.low ≤ℤ bay_of inst j) × (bay_of inst j ≤ℤ o.high)
+own_bounds inst o [] e j a = absurd a
+own_bounds inst o (i ∷ is) e j a =
+    let low_is : o.low ≡ lowest inst i is = ap low_in e in
+    let high_is : o.high ≡ highest inst i is = ap high_in e in
+    let one = lowest_at inst i is j a in
+    let two = highest_at inst i is j a in
+    (omega (arith, ints, low_is, one), omega (arith, ints, high_is, two))
 
 -- what code reads of a stretch
 module _ (inst : InstanceView) (cranes : List (Option ℕ)) (s : Spots) (t : Table) (p : Place) (k : IsKnown inst cranes s t p)
@@ -354,31 +365,94 @@ module _ (inst : InstanceView) (cranes : List (Option ℕ)) (s : Spots) (t : Tab
       own_is ∙ ap own_in (sum_is ∙ ap (λ i. sum_along way t p.crane i hi) lo_is ∙ ap (sum_along way t p.crane (low_spot way p steps)) hi_is)
       ∙ along_is way ∙ ap (λ i. at i (high_spot way p steps)) (sym lo_is) ∙ ap (at lo) (sym hi_is)
 
--- stretches that don't hold all that no crane has come to nothing
+-- stretches that don't hold all that no crane has, or no task of the crane, come to nothing
 module _ (inst : InstanceView) (cranes : List (Option ℕ)) (s : Spots) (t : Table) (p : Place) (k : IsKnown inst cranes s t p)
     (turn : Turn) (n : ℕ) (few_steps : n ≤ p.last - p.first) where
-  abbrev fails : Direction → ℕ → Type 0
-  fails way i = lie_in p.left (spot_bay s.bays.items (low_spot way p i)) (spot_bay s.bays.items (high_spot way p i)) ≡ false
+  abbrev x : ℕ → ℤ
+  x i = spot_bay s.bays.items i
 
-  nothing_in : (low high : ℕ) → low ≤ high → high < length s.bays.items
-      → lie_in p.left (spot_bay s.bays.items low) (spot_bay s.bays.items high) ≡ false
-      → 0 ≡ done_in inst turn cranes p.crane (spot_bay s.bays.items low) (spot_bay s.bays.items high)
-  nothing_in low high order within f = done_outside inst cranes s t p k low high order within turn _ _ refl refl _ refl f
+  abbrev idle : Direction → ℕ → Type 0
+  idle way i = IsIdle way p (x (low_spot way p i)) (x (high_spot way p i))
 
-  nothing : (way : Direction) → ((i : ℕ) → i < n → fails way i) → (m : ℕ) → swept_from way p n ≤ m → m < swept_to way p n
+  not_left : (low high : ℕ) → low ≤ high → high < length s.bays.items → lie_in p.left (x low) (x high) ≡ false
+      → 0 ≡ done_in inst turn cranes p.crane (x low) (x high)
+  not_left low high order within f = done_outside inst cranes s t p k low high order within turn _ _ refl refl _ refl f
+
+  not_own : (low high : ℤ) → (high <ℤ p.own.low) ⊎ (p.own.high <ℤ low) → 0 ≡ done_in inst turn cranes p.crane low high
+  not_own low high outside =
+      sym (ap (λ os. cond (list_all (λ j. is_some (crane_in cranes j) || lies inst low high j) (task_numbers inst))
+      (both_done inst turn cranes p.crane os (barring inst cranes p.crane low high)) 0)
+      (none_pass (lies inst low high) (own inst cranes p.crane) (λ j a. away j (own_bounds inst p.own (own inst cranes p.crane) k.own_is j a) outside))
+      ∙ either (list_all (λ j. is_some (crane_in cranes j) || lies inst low high j) (task_numbers inst)))
+    where
+      either : (b : Bool) → ◌≡◌ {A = ℕ} (cond b 0 0) 0
+      either true = refl
+      either false = refl
+
+      away : (j : ℕ) → (p.own.low ≤ℤ bay_of inst j) × (bay_of inst j ≤ℤ p.own.high) → (high <ℤ p.own.low) ⊎ (p.own.high <ℤ low)
+          → lies inst low high j ≡ false
+      away j b (inl under) = false_from_ne_true _ (λ t.
+          let both = and_parts (int_le low (bay_of inst j)) (int_le (bay_of inst j) high) t in
+          let le : bay_of inst j ≤ℤ high = record { le = true_T both.1 } in
+          let from = b.0 in
+          omega (arith, ints, le, under, from))
+      away j b (inr over) = false_from_ne_true _ (λ t.
+          let both = and_parts (int_le low (bay_of inst j)) (int_le (bay_of inst j) high) t in
+          let le : low ≤ℤ bay_of inst j = record { le = true_T both.0 } in
+          let to = b.1 in
+          omega (arith, ints, le, over, to))
+
+  nothing_up : (m : ℕ) → p.first ≤ m → m < length s.bays.items → x m <ℤ least_high p
+      → 0 ≡ done_in inst turn cranes p.crane (x p.first) (x m)
+  nothing_up m up down under = by p.left refl
+    where
+      by : (l : Option Own) → p.left ≡ l → 0 ≡ done_in inst turn cranes p.crane (x p.first) (x m)
+      by None e =
+          let bay = ap (λ l. option_map_or (λ (left : Own). int_max left.high p.own.low) l p.own.low) e in
+          not_own (x p.first) (x m) (inl (omega (arith, ints, under, bay)))
+      by (Some o) e =
+          let bay = ap (λ l. option_map_or (λ (left : Own). int_max left.high p.own.low) l p.own.low) e in
+          by_lt_z {P = 0 ≡ done_in inst turn cranes p.crane (x p.first) (x m)} (x m) p.own.low
+          (λ less. not_own (x p.first) (x m) (inl less))
+          (λ over. not_left p.first m up down
+          (ap (λ l. lie_in l (x p.first) (x m)) e
+          ∙ false_from_ne_true _ (λ t.
+          let both = and_parts (int_le (x p.first) o.low) (int_le o.high (x m)) t in
+          let le : o.high ≤ℤ x m = record { le = true_T both.1 } in
+          omega (arith, ints, le, over, under, bay, int_max_is o.high p.own.low))))
+
+  nothing_down : (m : ℕ) → m ≤ p.last → most_low p <ℤ x m → 0 ≡ done_in inst turn cranes p.crane (x m) (x p.last)
+  nothing_down m down over = by p.left refl
+    where
+      by : (l : Option Own) → p.left ≡ l → 0 ≡ done_in inst turn cranes p.crane (x m) (x p.last)
+      by None e =
+          let bay = ap (λ l. option_map_or (λ (left : Own). int_min left.low p.own.high) l p.own.high) e in
+          not_own (x m) (x p.last) (inr (omega (arith, ints, over, bay)))
+      by (Some o) e =
+          let bay = ap (λ l. option_map_or (λ (left : Own). int_min left.low p.own.high) l p.own.high) e in
+          by_lt_z {P = 0 ≡ done_in inst turn cranes p.crane (x m) (x p.last)} p.own.high (x m)
+          (λ less. not_own (x m) (x p.last) (inr less))
+          (λ under. not_left m p.last down k.within
+          (ap (λ l. lie_in l (x m) (x p.last)) e
+          ∙ false_from_ne_true _ (λ t.
+          let both = and_parts (int_le (x m) o.low) (int_le o.high (x p.last)) t in
+          let le : x m ≤ℤ o.low = record { le = true_T both.0 } in
+          omega (arith, ints, le, under, over, bay, int_min_is o.low p.own.high))))
+
+  nothing : (way : Direction) → ((i : ℕ) → i < n → idle way i) → (m : ℕ) → swept_from way p n ≤ m → m < swept_to way p n
       → 0 ≡ stretch inst turn cranes s p way m
   nothing Up none m up down =
       let i = m - p.first in
       let is : p.first + i ≡ m = omega (arith, up) in
-      nothing_in p.first m up (omega (arith, down, few_steps, k.order, k.within))
-      (ap (λ j. lie_in p.left (spot_bay s.bays.items p.first) (spot_bay s.bays.items j)) (sym is) ∙ none i (omega (arith, down, up)))
+      nothing_up m up (omega (arith, down, few_steps, k.order, k.within))
+      (subst (λ (j : ℕ). x j <ℤ least_high p) is (none i (omega (arith, down, up))))
   nothing Down none m up down =
       let i = p.last - m in
       let is : p.last - i ≡ m = omega (arith, down) in
-      nothing_in m p.last (omega (arith, down)) k.within
-      (ap (λ j. lie_in p.left (spot_bay s.bays.items j) (spot_bay s.bays.items p.last)) (sym is) ∙ none i (omega (arith, down, up, few_steps, k.order)))
+      nothing_down m (omega (arith, down))
+      (subst (λ (j : ℕ). most_low p <ℤ x j) is (none i (omega (arith, down, up, few_steps, k.order))))
 
-  pub swept_nothing : (way : Direction) (start : ℕ) → ((i : ℕ) → i < n → fails way i)
+  pub swept_nothing : (way : Direction) (start : ℕ) → ((i : ℕ) → i < n → idle way i)
       → IsGreatest (stretch inst turn cranes s p way) (swept_from way p n) (swept_to way p n) start start
   swept_nothing way start none = record {
     least = omega arith;
@@ -424,7 +498,7 @@ module _ (inst : InstanceView) (cranes : List (Option ℕ)) (s : Spots) (t : Tab
         subst (λ (o : Option Own). IfSome o (IsSmall MOST_TASKS)) (own_left inst a.valid cranes s a.spots OneWay w ∙ both)
         (own_low inst a.valid cranes s a.spots (λ j. option_map_or (λ k. eqb k w) (crane_in cranes j) true))
 
-    module _ (p : Place) (crane_is : p.crane ≡ w) (left_is : p.left ≡ left) (from : IsCount s.bays.items all.low p.first)
+    module _ (mine : Own) (mine_is : o ≡ Some mine) (p : Place) (crane_is : p.crane ≡ w) (own_is : p.own ≡ mine) (left_is : p.left ≡ left) (from : IsCount s.bays.items all.low p.first)
         (to : IsCount s.bays.items all.high p.last) where
       pub known_of : IsKnown inst cranes s t p
       known_of =
@@ -438,6 +512,7 @@ module _ (inst : InstanceView) (cranes : List (Option ℕ)) (s : Spots) (t : Tab
             order = bound.order;
             within = bound.within;
             left = left_is ∙ a.left_is;
+            own_is = ap Some own_is ∙ sym mine_is ∙ a.own_is ∙ ap (λ v. own_of inst (own inst cranes v)) (sym crane_is);
             own_from = λ j low_j mine. (spots j low_j (sym (ap (λ v. in_row cranes (v + 1) j) crane_is) ∙ mine)).0;
             own_to = λ j low_j mine. (spots j low_j (sym (ap (λ v. in_row cranes (v + 1) j) crane_is) ∙ mine)).1;
           }

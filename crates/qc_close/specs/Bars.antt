@@ -1,5 +1,5 @@
 -- inner: the tasks that bar cranes, as code sums them up.
-use Rattle.std.specs.Prelude.{◌≡◌, ◌≢◌, ℕ, zero, suc, ◌+◌, ◌-◌, ◌*◌, ◌^◌, ◌<◌, ◌≤◌, min, Bool, true, false, ◌&&◌, ◌==◌, nat_lt, nat_le, int_le, is_none, if◌then◌else◌, List, [], ◌∷◌, filter, length, slice_index, slice_index_or, Option, None, Some, ℤ, pos, negsuc}
+use Rattle.std.specs.Prelude.{◌≡◌, ◌≢◌, ℕ, zero, suc, ◌+◌, ◌-◌, ◌*◌, ◌^◌, ◌<◌, ◌≤◌, min, Bool, true, false, ◌&&◌, ◌==◌, nat_lt, nat_le, int_le, is_none, if◌then◌else◌, List, [], ◌∷◌, filter, length, slice_index, slice_index_or, Option, None, Some, ℤ, pos, negsuc, ◌<ℤ◌}
 use Rattle.std.specs.Int.{int_max, int_min}
 use Rattle.std.specs.Option.{option_map_or}
 use Rattle.qc_model.specs.declared.direction.Direction.{Direction}
@@ -181,6 +181,7 @@ pub record IsKnown (inst : InstanceView) (cranes : List (Option ℕ)) (s : Spots
   pub order : p.first ≤ p.last
   pub within : p.last < length s.bays.items
   pub left : p.left ≡ own_of inst (left_of inst cranes)
+  pub own_is : Some p.own ≡ own_of inst (own inst cranes p.crane)
   pub own_from : (j : ℕ) → j < length inst.tasks → in_row cranes (p.crane + 1) j ≡ true → p.first ≤ slice_index s.of_task.items j
   pub own_to : (j : ℕ) → j < length inst.tasks → in_row cranes (p.crane + 1) j ≡ true → slice_index s.of_task.items j ≤ p.last
 
@@ -213,6 +214,19 @@ swept_from Down p steps = p.last + 1 - steps
 abbrev pub swept_to : Direction → Place → ℕ → ℕ
 swept_to Up p steps = p.first + steps
 swept_to Down p steps = p.last + 1
+
+-- the least bay up to which a stretch from the first spot holds all that no crane has and a task of the crane, and the
+-- greatest from which one to the last spot does
+abbrev pub least_high : Place → ℤ
+least_high p = option_map_or (λ left. int_max left.high p.own.low) p.left p.own.low
+
+abbrev pub most_low : Place → ℤ
+most_low p = option_map_or (λ left. int_min left.low p.own.high) p.left p.own.high
+
+-- a stretch from one bay to another that doesn't hold them
+abbrev pub IsIdle : Direction → Place → ℤ → ℤ → Type 0
+IsIdle Up p low high = high <ℤ least_high p
+IsIdle Down p low high = most_low p <ℤ low
 
 -- what the tasks of crane w come to before the spot behind a stretch, or from its first spot on
 abbrev pub sum_along : Direction → Table → ℕ → ℕ → ℕ → Bars

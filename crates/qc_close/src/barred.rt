@@ -1,10 +1,11 @@
 //! The time that cranes spend while neighbours bar the way.
 
-ghost use Rattle.std.specs.Prelude.{◌≡◌, ◌+◌, ◌-◌, ◌<◌, ◌≤◌, ◌^◌, ℕ, List, Option, IfSome, false, length};
+ghost use Rattle.std.specs.Prelude.{◌≡◌, ◌+◌, ◌-◌, ◌<◌, ◌≤◌, ◌^◌, ℕ, List, Option, IfSome, length};
 ghost use Rattle.qc_model.specs.declared.limits.TheConstants.{MOST_TASKS};
 ghost use Rattle.qc_model.specs.Barred.{barred_frame, done_in};
 ghost use Rattle.qc_model.specs.Frames.{frame};
-ghost use Rattle.qc_close.specs.Bars.{IsAround, IsGreatest, IsKnown, done_by, high_spot, lie_in, low_spot, own_between, stretch, sum_along};
+ghost use Rattle.qc_model.specs.Instance.{IsOnRail};
+ghost use Rattle.qc_close.specs.Bars.{IsAround, IsGreatest, IsIdle, IsKnown, done_by, high_spot, least_high, lie_in, low_spot, most_low, own_between, stretch, sum_along};
 ghost use Rattle.qc_close.specs.Owns.{IsSmall};
 ghost use Rattle.qc_close.specs.Spots.{AreRising, IsCount, spot_bay};
 ghost use Rattle.qc_close.specs.declared.bars.TheConstants.{NEVER};
@@ -46,13 +47,14 @@ fn lie_in(tasks: Option<Own>, low: Bay, high: Bay) -> bool
     }
 }
 
-/// Where a crane stands between its neighbours: from which spot to which it may work, and the tasks that
-/// no crane has.
+/// Where a crane stands between its neighbours: from which spot to which it may work, its own tasks, and
+/// those that no crane has.
 #[derive(Clone, Copy)]
 pub(crate) struct Place {
     pub(crate) crane: u16,
     pub(crate) first: usize,
     pub(crate) last: usize,
+    pub(crate) own: Own,
     pub(crate) left: Option<Own>,
 }
 
@@ -124,31 +126,55 @@ fn sum_along(table: &Table, way: Direction, crane: u16, low: usize, high: usize)
     }
 }
 
-/// How many stretches there are, at the least, before one in which all lies that no crane has.
+/// The least bay up to which a stretch from the first spot holds all that no crane has, and a task of its
+/// own.
+fn least_high(place: Place) -> Bay
+    requires left { IfSome place.left (IsSmall MOST_TASKS) }
+    requires own { IsSmall MOST_TASKS place.own }
+    ensures bay { result ≡ least_high place }
+    ensures near { IsOnRail result }
+{
+    match place.left {
+        None => place.own.low,
+        Some(left) => left.high.max(place.own.low),
+    }
+}
+
+/// The greatest bay from which a stretch to the last spot holds them.
+fn most_low(place: Place) -> Bay
+    requires left { IfSome place.left (IsSmall MOST_TASKS) }
+    requires own { IsSmall MOST_TASKS place.own }
+    ensures bay { result ≡ most_low place }
+    ensures near { IsOnRail result }
+{
+    match place.left {
+        None => place.own.high,
+        Some(left) => left.low.min(place.own.high),
+    }
+}
+
+/// How many stretches there are, at the least, before one that holds them.
 fn skipped(spots: &Spots, way: Direction, place: Place) -> usize
     requires rising { AreRising spots.now.bays.items }
     requires order { place.first ≤ place.last }
     requires within { place.last < length spots.now.bays.items }
     requires left { IfSome place.left (IsSmall MOST_TASKS) }
+    requires own { IsSmall MOST_TASKS place.own }
     ensures few { result ≤ place.last - place.first }
     ensures none { (steps : ℕ) → steps < result
-        → lie_in place.left (spot_bay spots.now.bays.items (low_spot way place steps))
-        (spot_bay spots.now.bays.items (high_spot way place steps)) ≡ false }
+        → IsIdle way place (spot_bay spots.now.bays.items (low_spot way place steps))
+        (spot_bay spots.now.bays.items (high_spot way place steps)) }
 {
-    match place.left {
-        None => 0,
-        Some(left) => {
-            let bays = spots.bays.as_slice();
-            let most = place.last - place.first;
-            match way {
-                Direction::Up => count_before(bays, left.high)
-                    .saturating_sub(place.first)
-                    .min(most),
-                Direction::Down => place
-                    .last
-                    .saturating_sub(count_before(bays, left.low))
-                    .min(most),
-            }
+    let bays = spots.bays.as_slice();
+    let most = place.last - place.first;
+    match way {
+        Direction::Up => {
+            let before = count_before(bays, least_high(place));
+            before.saturating_sub(place.first).min(most)
+        }
+        Direction::Down => {
+            let before = count_before(bays, most_low(place));
+            place.last.saturating_sub(before).min(most)
         }
     }
 }
@@ -179,9 +205,10 @@ fn greatest_done(
 }
 
 /// The place of a crane that has or may get these tasks.
-fn place_of(spots: &Spots, crane: u16, all: Own, left: Option<Own>) -> Place
+fn place_of(spots: &Spots, crane: u16, own: Own, all: Own, left: Option<Own>) -> Place
     requires { AreRising spots.now.bays.items }
     ensures crane { result.crane ≡ crane }
+    ensures own { result.own ≡ own }
     ensures left { result.left ≡ left }
     ensures first { IsCount spots.now.bays.items all.low result.first }
     ensures last { IsCount spots.now.bays.items all.high result.last }
@@ -191,6 +218,7 @@ fn place_of(spots: &Spots, crane: u16, all: Own, left: Option<Own>) -> Place
         crane,
         first: count_before(bays, all.low),
         last: count_before(bays, all.high),
+        own,
         left,
     }
 }
@@ -214,10 +242,10 @@ pub(crate) fn barred_gone(
 {
     match own {
         None => gone,
-        Some(_) => match together(own, left) {
+        Some(mine) => match together(own, left) {
             None => gone,
             Some(all) => {
-                let place = place_of(spots, crane, all, left);
+                let place = place_of(spots, crane, mine, all, left);
                 let gone = greatest_done(inst, turn, spots, table, place, Direction::Up, gone);
                 greatest_done(inst, turn, spots, table, place, Direction::Down, gone)
             }

@@ -1,4 +1,5 @@
-use Rattle.std.proofs.Common.{Option, IfSome, is_none, sym, subst, arith}
+use Rattle.std.proofs.Common.{Option, IfSome, false, eqb, is_none, sym, subst, arith}
+use Rattle.std.specs.Option.{option_map_or}
 use Rattle.qc_model.specs.declared.limits.TheConstants.{MOST_TASKS}
 use Rattle.qc_model.specs.Assignments.{crane_in}
 use Rattle.qc_close.specs.Bars.{stretch}
@@ -23,6 +24,13 @@ skipped-step-requires-clause-left c =
     let k = c.requires.known.1 in
     subst (λ (l : Option Own). IfSome l (IsSmall MOST_TASKS)) (sym k.left)
     (own_low c.args.inst.now k.valid cranes c.args.spots.now k.spots (λ j. is_none (crane_in cranes j)))
+
+pub skipped-step-requires-clause-own : goal.skipped-step-requires-clause-own
+skipped-step-requires-clause-own c =
+    let cranes = c.requires.known.0 in
+    let k = c.requires.known.1 in
+    subst (λ (l : Option Own). IfSome l (IsSmall MOST_TASKS)) (sym k.own_is)
+    (own_low c.args.inst.now k.valid cranes c.args.spots.now k.spots (λ j. option_map_or (λ w. eqb w c.args.place.crane) (crane_in cranes j) false))
 
 pub loop-step-init : goal.loop-step-init
 loop-step-init c = λ cranes k.
