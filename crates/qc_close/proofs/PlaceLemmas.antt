@@ -26,7 +26,7 @@ use Rattle.qc_close.specs.declared.bars.Table.{Table}
 use Rattle.qc_close.specs.declared.frames.Own.{Own}
 use Rattle.qc_close.specs.declared.spots.Spots.{Spots}
 use Rattle.qc_close.proofs.BarLemmas.{none_pass, own_split, sum_before_is, sum_from_is}
-use Rattle.qc_close.proofs.BarredLemmas.{greatest_among, highest_at, lowest_at}
+use Rattle.qc_close.proofs.BarredLemmas.{among_done, greatest_among, highest_at, lowest_at}
 use Rattle.qc_close.proofs.Members.{Among, among_filter, among_flat, among_range, filter_among, flat_among, range_among}
 use Rattle.qc_close.proofs.SpotLemmas.{count_is, rises, rises_back, spot_at}
 use Rattle.qc_close.proofs.StretchLemmas.{done_outside, own_before, own_from, own_low, spot_low, stretch_is, sum_own, sweep_greatest}
@@ -73,31 +73,16 @@ module _ (inst : InstanceView) (valid : Valid inst) (cranes : List (Option ℕ))
   no_own [] e = refl
   no_own (i ∷ is) e = absurd (cc e)
 
-  zero_done : own inst cranes w ≡ [] → (low high : ℤ) → done_in inst turn cranes w low high ≡ 0
-  zero_done none low high =
+  -- nor does one for stretches where it has none
+  nothing_done : (low high : ℤ) → filter (lies inst low high) (own inst cranes w) ≡ [] → done_in inst turn cranes w low high ≡ 0
+  nothing_done low high none =
       ap (λ os. cond (list_all (λ j. is_some (crane_in cranes j) || lies inst low high j) (task_numbers inst))
-      (both_done inst turn cranes w (filter (lies inst low high) os) (barring inst cranes w low high)) 0) none
+      (both_done inst turn cranes w os (barring inst cranes w low high)) 0) none
       ∙ either (list_all (λ j. is_some (crane_in cranes j) || lies inst low high j) (task_numbers inst))
     where
       either : (b : Bool) → ◌≡◌ {A = ℕ} (cond b 0 0) 0
       either true = refl
       either false = refl
-
-  all_zero : own inst cranes w ≡ [] → (is : List ℕ) (n : ℕ) → Among (all_done inst turn cranes w is) n → n ≡ 0
-  all_zero none [] n a = absurd a
-  all_zero none (i ∷ is) n a =
-      let low = lowest inst i is in
-      let high = highest inst i is in
-      let r = flat_among
-      (λ j. done_in inst turn cranes w low (bay_of inst j) ∷ done_in inst turn cranes w (bay_of inst j) high ∷ [])
-      (filter (lies inst low high) (task_numbers inst)) n a in
-      one r.0 low high r.2
-    where
-      one : (j : ℕ) (low high : ℤ)
-          → Among (done_in inst turn cranes w low (bay_of inst j) ∷ done_in inst turn cranes w (bay_of inst j) high ∷ []) n → n ≡ 0
-      one j low high (inl e) = sym e ∙ zero_done none low (bay_of inst j)
-      one j low high (inr (inl e)) = sym e ∙ zero_done none (bay_of inst j) high
-      one j low high (inr (inr b)) = absurd b
 
   pub gone_alone : None ≡ own_of inst (own inst cranes w) → gone_of ≡ (barred_frame inst turn cranes w).gone
   gone_alone none = by (greatest_among gone_of (all_done inst turn cranes w (own_or_left inst cranes w)))
@@ -106,7 +91,7 @@ module _ (inst : InstanceView) (valid : Valid inst) (cranes : List (Option ℕ))
           → gone_of ≡ (barred_frame inst turn cranes w).gone
       by (inl e) = e
       by (inr a) =
-          let z = all_zero (no_own (own inst cranes w) none) (own_or_left inst cranes w) _ a in
+          let z = among_done inst turn cranes w (λ n. n ≡ 0) (λ low high. nothing_done low high (ap (filter (lies inst low high)) (no_own (own inst cranes w) none))) (own_or_left inst cranes w) _ a in
           let most = greatest_at (gone_of ∷ all_done inst turn cranes w (own_or_left inst cranes w)) gone_of (inl refl) in
           omega (arith, z, most)
 
@@ -380,15 +365,9 @@ module _ (inst : InstanceView) (cranes : List (Option ℕ)) (s : Spots) (t : Tab
 
   not_own : (low high : ℤ) → (high <ℤ p.own.low) ⊎ (p.own.high <ℤ low) → 0 ≡ done_in inst turn cranes p.crane low high
   not_own low high outside =
-      sym (ap (λ os. cond (list_all (λ j. is_some (crane_in cranes j) || lies inst low high j) (task_numbers inst))
-      (both_done inst turn cranes p.crane os (barring inst cranes p.crane low high)) 0)
-      (none_pass (lies inst low high) (own inst cranes p.crane) (λ j a. away j (own_bounds inst p.own (own inst cranes p.crane) k.own_is j a) outside))
-      ∙ either (list_all (λ j. is_some (crane_in cranes j) || lies inst low high j) (task_numbers inst)))
+      sym (nothing_done inst k.valid cranes s k.spots turn p.crane low high
+      (none_pass (lies inst low high) (own inst cranes p.crane) (λ j a. away j (own_bounds inst p.own (own inst cranes p.crane) k.own_is j a) outside)))
     where
-      either : (b : Bool) → ◌≡◌ {A = ℕ} (cond b 0 0) 0
-      either true = refl
-      either false = refl
-
       away : (j : ℕ) → (p.own.low ≤ℤ bay_of inst j) × (bay_of inst j ≤ℤ p.own.high) → (high <ℤ p.own.low) ⊎ (p.own.high <ℤ low)
           → lies inst low high j ≡ false
       away j b (inl under) = false_from_ne_true _ (λ t.
