@@ -10,9 +10,8 @@ use Rattle.qc_model.specs.declared.limits.TheConstants.{MOST_TASKS}
 use Rattle.qc_model.specs.declared.turn.Turn.{Turn}
 use Rattle.qc_model.specs.Assignments.{crane_in}
 use Rattle.qc_model.specs.Barred.{barring, both_done, done_in, is_barred, lies, soonest}
-use Rattle.qc_model.specs.Frames.{frame, own}
+use Rattle.qc_model.specs.Frames.{own}
 use Rattle.qc_model.specs.Instance.{InstanceView, IsOnRail, Valid, bay_of}
-use Rattle.qc_model.specs.Nodes.{greatest}
 use Rattle.qc_model.specs.Work.{task_numbers}
 use Rattle.qc_model.proofs.LimitsOf.{limits_of}
 use Rattle.qc_model.proofs.NodeLemmas.{T_true, true_T}

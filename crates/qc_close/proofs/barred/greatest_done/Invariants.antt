@@ -1,4 +1,4 @@
-use Rattle.std.proofs.Common.{◌≡◌, ℕ, List, Option}
+use Rattle.std.proofs.Common.{ℕ, List, Option}
 use Rattle.qc_close.specs.Bars.{IsGreatest, IsKnown, stretch, swept_from, swept_to}
 use Rattle.qc_close.proofs.barred.greatest_done.Given as goal
 

@@ -1,4 +1,4 @@
-use Rattle.std.proofs.Common.{◌≡◌, List, ℤ, of_z, to_z, w32, ap, sym, subst, ◌∙◌, arith}
+use Rattle.std.proofs.Common.{◌≡◌, List, ℤ, of_z, to_z, w32, sym, subst, ◌∙◌, arith}
 use Rattle.std.proofs.lemmas.Int.{ints}
 use Rattle.qc_model.specs.declared.direction.Direction.{Direction}
 use Rattle.qc_close.specs.Bars.{IsIdle, high_spot, least_high, low_spot, most_low}

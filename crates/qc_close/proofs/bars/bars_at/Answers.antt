@@ -1,5 +1,4 @@
-use Rattle.std.proofs.Common.{◌+◌, ◌-◌, ◌*◌, ◌<◌, ◌≤◌, get_or, length, refl, sym, subst, ◌∙◌, ap, arith}
-use Rattle.qc_model.specs.declared.limits.TheConstants.{MOST_WORK}
+use Rattle.std.proofs.Common.{◌-◌, sym, ◌∙◌, ap, arith}
 use Rattle.qc_model.specs.declared.task.Task.{Task}
 use Rattle.qc_close.specs.Bars.{row_at}
 use Rattle.qc_close.specs.declared.bars.Bars.{Bars}
