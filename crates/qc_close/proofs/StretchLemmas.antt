@@ -15,7 +15,7 @@ use Rattle.qc_model.specs.Instance.{InstanceView, IsOnRail, Valid, bay_of}
 use Rattle.qc_model.specs.Work.{task_numbers}
 use Rattle.qc_model.proofs.LimitsOf.{limits_of}
 use Rattle.qc_model.proofs.NodeLemmas.{T_true, true_T}
-use Rattle.qc_close.specs.Bars.{IsGreatest, IsKnown, bars_before, bars_from, bars_of, done_by, in_row, joined, left_of, lie_in, own_in, own_between, row_before, row_between, row_from, next_spot, low_spot, high_spot, past_bars, stretch, swept_from, swept_to}
+use Rattle.qc_close.specs.Bars.{IsGreatest, IsKnown, IsTable, sum_along, bars_before, bars_from, bars_of, done_by, in_row, joined, left_of, lie_in, own_in, own_between, row_before, row_between, row_from, next_spot, low_spot, high_spot, past_bars, stretch, swept_from, swept_to}
 use Rattle.qc_close.specs.Owns.{IsSmall, own_of}
 use Rattle.qc_close.specs.Spots.{AreSpots, spot_bay}
 use Rattle.qc_close.specs.declared.barred.Place.{Place}
@@ -80,6 +80,25 @@ module _ (inst : InstanceView) (valid : Valid inst) (cranes : List (Option ℕ))
   sum_own p =
       own_in_is inst cranes (filter p all) (λ j a.
       let low = in_all j (filter_among p all j a).0 in (valid.tasks.ticks j low, on_rail j low))
+
+  -- all of a crane's
+  pub whole_own : (t : Table) → IsTable inst cranes s t → (w : ℕ) → w < length inst.cranes
+      → own_in (sum_along Down t w 0 0) ≡ own_of inst (own inst cranes w)
+  whole_own t table w low_w =
+      let row : w + 1 < 10 = omega (arith, low_w, valid.cranes.count.1) in
+      let few_spots : length bays ≤ 240 = known.bays.along.few in
+      ap own_in (table.froms.each (w + 1) 0 row (omega arith) tt
+      ∙ sum_from_is inst cranes spots t.grid.items table.cells (w + 1) row 0 (length bays - 0) (omega (arith, few_spots))
+      (λ j low_j. omega (arith, spot_low j low_j)))
+      ∙ sum_own (row_from cranes spots (w + 1) 0)
+      ∙ ap (own_of inst) (filter_same (row_from cranes spots (w + 1) 0) (λ j. option_map_or (λ k. eqb k w) (crane_in cranes j) false) all
+      (λ j a. by (crane_in cranes j) (spot j)))
+    where
+      by : (o : Option ℕ) (n : ℕ) → (option_map_or (λ v. eqb (v + 1) (w + 1)) o false && leb 0 n) ≡ option_map_or (λ k. eqb k w) o false
+      by None n = refl
+      by (Some v) n = same_test _ _
+          (λ t. eq-eqb v w (omega (arith, eqb-true (v + 1) (w + 1) (and_parts (eqb (v + 1) (w + 1)) (leb 0 n) t).0)))
+          (λ t. and_from (eqb (v + 1) (w + 1)) (leb 0 n) (eq-eqb (v + 1) (w + 1) (omega (arith, eqb-true v w t))) (le-leb 0 n (omega arith)))
 
   -- those of a row before a spot, and from a spot on, where none lie before the first spot, and none behind the last
   pub own_before : (w first k : ℕ) → ((j : ℕ) → j < length inst.tasks → in_row cranes (w + 1) j ≡ true → first ≤ spot j)

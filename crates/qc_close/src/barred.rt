@@ -111,7 +111,7 @@ fn done_in(
 }
 
 /// What a crane's tasks come to before the spot behind a stretch, or from its first spot on.
-fn sum_along(table: &Table, way: Direction, crane: u16, low: usize, high: usize) -> Bars
+pub(crate) fn sum_along(table: &Table, way: Direction, crane: u16, low: usize, high: usize) -> Bars
     requires before { length table.now.before.items ≡ 2410 }
     requires from { length table.now.from.items ≡ 2410 }
     requires crane { crane < 8 }
