@@ -1,13 +1,12 @@
 -- Tasks summed up: of two tests that no task passes both of, and of the tasks that bar a crane.
-use Rattle.std.proofs.Common.{◌≡◌, ◌≢◌, ℕ, zero, suc, ◌+◌, ◌-◌, ◌*◌, ◌^◌, ◌<◌, ◌≤◌, inl, inr, Bool, true, false, ◌&&◌, ◌||◌, eqb, leb, nat_lt, cond, List, [], ◌∷◌, length, get_or, set, map, filter, Option, None, Some, IfSome, ℤ, ◌≤ℤ◌, int_le, refl, ap, sym, subst, ◌∙◌, arith, add-one}
-use Rattle.std.proofs.lemmas.Bool.{and_from, and_parts, cases_Bool, cases_eq, cases_lt, cond-false, cond-true, eq-eqb, eqb-true, false≢true, le-leb, le-ltb, leb-true, lt-leb, lt-ltb, ltb-true, ne_eqb, or_cases, or_left, or_right}
+use Rattle.std.proofs.Common.{◌≡◌, ◌≢◌, ℕ, zero, suc, ◌+◌, ◌*◌, ◌^◌, ◌<◌, ◌≤◌, inl, inr, Bool, true, false, ◌&&◌, ◌||◌, eqb, leb, nat_lt, cond, List, [], ◌∷◌, length, get_or, map, filter, Option, None, Some, IfSome, ℤ, pos, negsuc, ◌≤ℤ◌, int_le, refl, ap, sym, subst, ◌∙◌, arith, add-one}
+use Rattle.std.proofs.lemmas.Bool.{and_from, and_parts, cases_lt, cond-false, eq-eqb, eqb-true, false≢true, le-leb, le-ltb, leb-true, lt-leb, lt-ltb, ltb-true, ne_eqb, or_cases, or_left, or_right}
 use Rattle.std.proofs.lemmas.Int.{int_max_is, int_min_is, ints}
-use Rattle.std.proofs.lemmas.List.{get_or_past, get_or-set_other, get_or-set_same, length-set}
 use Rattle.std.proofs.lemmas.List.Sums.{sum_by-cons}
 use Rattle.std.specs.Int.{int_max, int_min}
 use Rattle.std.specs.List.{list_all, range_with_len}
 use Rattle.std.specs.Option.{option_map_or}
-use Rattle.qc_model.specs.declared.limits.TheConstants.{MOST_DISTANCE, MOST_READY, MOST_TASKS, MOST_WORK}
+use Rattle.qc_model.specs.declared.limits.TheConstants.{MOST_DISTANCE, MOST_READY, MOST_WORK}
 use Rattle.qc_model.specs.declared.turn.Turn.{Turn}
 use Rattle.qc_model.specs.Assignments.{crane_in}
 use Rattle.qc_model.specs.Barred.{both_done, lies, soonest}
@@ -16,7 +15,7 @@ use Rattle.qc_model.specs.Nodes.{free, least}
 use Rattle.qc_model.specs.Work.{highest, lowest, task_numbers, ticks_over}
 use Rattle.qc_model.proofs.NodeLemmas.{T_true, true_T}
 use Rattle.qc_model.proofs.OnRail.{ticks_bounded}
-use Rattle.qc_close.specs.Bars.{AreSmall, IsGrid, bars_before, bars_from, bars_of, cell, done_by, in_row, joined, lie_in, no_bars, past_bars, own_at, row_at, row_before, row_from, soonest_of, sum_before, sum_from, together}
+use Rattle.qc_close.specs.Bars.{AreSmall, IsGrid, bars_before, bars_from, bars_of, cell, done_by, in_row, high_of, joined, lie_in, low_of, no_bars, own_in, row_at, row_before, row_from, soonest_of, sum_before, sum_from, together}
 use Rattle.qc_close.specs.Owns.{IsSmall, own_of, with_task}
 use Rattle.qc_close.specs.Spots.{AreSoonest}
 use Rattle.qc_close.specs.declared.bars.Bars.{Bars}
@@ -27,7 +26,7 @@ use Rattle.qc_close.proofs.CrewLemmas.{sum_few}
 use Rattle.qc_close.proofs.FrameLemmas.{highest_to, lowest_from}
 use Rattle.qc_close.proofs.BarredLemmas.{highest_at, lowest_at}
 use Rattle.qc_close.proofs.Members.{Among, all_at, all_from, range_among}
-use Rattle.qc_close.proofs.OwnLemmas.{one_more, own_cons, small_more}
+use Rattle.qc_close.proofs.OwnLemmas.{own_cons, small_more}
 
 -- ---- tests
 
@@ -51,6 +50,12 @@ filter_twice p q (j ∷ js) = by (q j) (p j) (filter_twice p q js)
         → filter p (cond b (j ∷ filter q js) (filter q js)) ≡ cond (b && p j) (j ∷ filter (λ j. q j && p j) js) (filter (λ j. q j && p j) js)
     by true c rest = ap (λ ks. cond (p j) (j ∷ ks) ks) rest
     by false c rest = rest
+
+-- no task passes
+pub none_pass : (p : ℕ → Bool) (js : List ℕ) → ((j : ℕ) → Among js j → p j ≡ false) → filter p js ≡ []
+none_pass p [] h = refl
+none_pass p (j ∷ js) h =
+    cond-false (p j) (j ∷ filter p js) (filter p js) (h j (inl refl)) ∙ none_pass p js (λ k a. h k (inr a))
 
 -- a test is passed where one of two others is, and no task passes both of these
 abbrev pub IsSplit : (ℕ → Bool) → (ℕ → Bool) → (ℕ → Bool) → List ℕ → Type 0
@@ -77,29 +82,65 @@ module _ (P : List ℕ → List ℕ → List ℕ → Type 0) (none : P [] [] [])
       by false false true e apart rest = absurd (false≢true (sym e))
       by false false false e apart rest = rest
 
+-- ---- bays
+
+min_comm : (a b : ℤ) → int_min a b ≡ int_min b a
+min_comm a b = omega (arith, ints, int_min_is a b, int_min_is b a)
+
+max_comm : (a b : ℤ) → int_max a b ≡ int_max b a
+max_comm a b = omega (arith, ints, int_max_is a b, int_max_is b a)
+
+min_assoc : (a b c : ℤ) → int_min a (int_min b c) ≡ int_min (int_min a b) c
+min_assoc a b c =
+    omega (arith, ints, int_min_is a b, int_min_is b c, int_min_is a (int_min b c), int_min_is (int_min a b) c)
+
+max_assoc : (a b c : ℤ) → int_max a (int_max b c) ≡ int_max (int_max a b) c
+max_assoc a b c =
+    omega (arith, ints, int_max_is a b, int_max_is b c, int_max_is a (int_max b c), int_max_is (int_max a b) c)
+
+min_across : (a b c : ℤ) → int_min a (int_min b c) ≡ int_min b (int_min a c)
+min_across a b c = min_assoc a b c ∙ ap (λ x. int_min x c) (min_comm a b) ∙ sym (min_assoc b a c)
+
+max_across : (a b c : ℤ) → int_max a (int_max b c) ≡ int_max b (int_max a c)
+max_across a b c = max_assoc a b c ∙ ap (λ x. int_max x c) (max_comm a b) ∙ sym (max_assoc b a c)
+
 -- ---- bars
 
-bars_same : (a b c d : ℕ) → a ≡ b → c ≡ d → ◌≡◌ {A = Bars} (record { ticks = a; soonest = c }) (record { ticks = b; soonest = d })
-bars_same a b c d e f =
-    let P : ℕ → ℕ → Bars = λ n m. record { ticks = n; soonest = m } in
-    ap (λ n. P n c) e ∙ ap (λ m. P b m) f
+pub bars_same : (a b c d : ℕ) (l m h k : ℤ) → a ≡ b → c ≡ d → l ≡ m → h ≡ k
+    → ◌≡◌ {A = Bars} (record { ticks = a; soonest = c; low = l; high = h }) (record { ticks = b; soonest = d; low = m; high = k })
+bars_same a b c d l m h k e f g i =
+    let P : ℕ → ℕ → ℤ → ℤ → Bars = λ n s x y. record { ticks = n; soonest = s; low = x; high = y } in
+    ap (λ n. P n c l h) e ∙ ap (λ s. P b s l h) f ∙ ap (λ x. P b d x h) g ∙ ap (λ y. P b d m y) i
+
+pub none_joined : no_bars ≡ joined no_bars no_bars
+none_joined =
+    bars_same _ _ _ _ _ _ _ _ refl (omega arith)
+    (omega (arith, ints, int_min_is (pos 1000000) (pos 1000000))) (omega (arith, ints, int_max_is (negsuc 999999) (negsuc 999999)))
 
 module _ (inst : InstanceView) (cranes : List (Option ℕ)) where
+  -- one task
+  abbrev pub one_task : ℕ → Bars
+  one_task j = record { ticks = ticks_of inst j; soonest = soonest inst cranes j; low = bay_of inst j; high = bay_of inst j }
+
   pub bars_cons : (j : ℕ) (js : List ℕ)
-      → bars_of inst cranes (j ∷ js) ≡ joined (record { ticks = ticks_of inst j; soonest = soonest inst cranes j }) (bars_of inst cranes js)
-  bars_cons j js = bars_same _ _ _ _ (sum_by-cons (ticks_of inst) j js) refl
+      → bars_of inst cranes (j ∷ js) ≡ joined (one_task j) (bars_of inst cranes js)
+  bars_cons j js = bars_same _ _ _ _ _ _ _ _ (sum_by-cons (ticks_of inst) j js) refl refl refl
 
   pub bars_split : (p q r : ℕ → Bool) (js : List ℕ) → IsSplit p q r js
       → bars_of inst cranes (filter r js) ≡ joined (bars_of inst cranes (filter p js)) (bars_of inst cranes (filter q js))
   bars_split =
       split_by (λ a b c. bars_of inst cranes c ≡ joined (bars_of inst cranes a) (bars_of inst cranes b))
-      (bars_same _ _ _ _ refl (omega arith))
-      (λ j a b c e. bars_same _ _ _ _
+      none_joined
+      (λ j a b c e. bars_same _ _ _ _ _ _ _ _
       (omega (arith, sum_by-cons (ticks_of inst) j c, sum_by-cons (ticks_of inst) j a, ap (λ (x : Bars). x.ticks) e))
-      (omega (arith, ap (λ (x : Bars). x.soonest) e)))
-      (λ j a b c e. bars_same _ _ _ _
+      (omega (arith, ap (λ (x : Bars). x.soonest) e))
+      (ap (int_min (bay_of inst j)) (ap (λ (x : Bars). x.low) e) ∙ min_assoc (bay_of inst j) (low_of inst a) (low_of inst b))
+      (ap (int_max (bay_of inst j)) (ap (λ (x : Bars). x.high) e) ∙ max_assoc (bay_of inst j) (high_of inst a) (high_of inst b)))
+      (λ j a b c e. bars_same _ _ _ _ _ _ _ _
       (omega (arith, sum_by-cons (ticks_of inst) j c, sum_by-cons (ticks_of inst) j b, ap (λ (x : Bars). x.ticks) e))
-      (omega (arith, ap (λ (x : Bars). x.soonest) e)))
+      (omega (arith, ap (λ (x : Bars). x.soonest) e))
+      (ap (int_min (bay_of inst j)) (ap (λ (x : Bars). x.low) e) ∙ min_across (bay_of inst j) (low_of inst a) (low_of inst b))
+      (ap (int_max (bay_of inst j)) (ap (λ (x : Bars). x.high) e) ∙ max_across (bay_of inst j) (high_of inst a) (high_of inst b)))
 
   pub soonest_low : (js : List ℕ) → soonest_of inst cranes js ≤ NEVER
   soonest_low [] = omega arith
@@ -158,20 +199,6 @@ own_same a b l m h k e f g =
     let P : ℕ → ℤ → ℤ → Own = λ n x y. record { ticks = n; low = x; high = y } in
     ap (λ n. P n l h) e ∙ ap (λ x. P b x h) f ∙ ap (λ y. P b m y) g
 
-min_comm : (a b : ℤ) → int_min a b ≡ int_min b a
-min_comm a b = omega (arith, ints, int_min_is a b, int_min_is b a)
-
-max_comm : (a b : ℤ) → int_max a b ≡ int_max b a
-max_comm a b = omega (arith, ints, int_max_is a b, int_max_is b a)
-
-min_assoc : (a b c : ℤ) → int_min a (int_min b c) ≡ int_min (int_min a b) c
-min_assoc a b c =
-    omega (arith, ints, int_min_is a b, int_min_is b c, int_min_is a (int_min b c), int_min_is (int_min a b) c)
-
-max_assoc : (a b c : ℤ) → int_max a (int_max b c) ≡ int_max (int_max a b) c
-max_assoc a b c =
-    omega (arith, ints, int_max_is a b, int_max_is b c, int_max_is a (int_max b c), int_max_is (int_max a b) c)
-
 together_comm : (a b : Option Own) → together a b ≡ together b a
 together_comm None None = refl
 together_comm None (Some b) = refl
@@ -210,28 +237,26 @@ module _ (inst : InstanceView) where
       ∙ sym (together_assoc (own_of inst a) (one_of j) (own_of inst b))
       ∙ ap (together (own_of inst a)) (sym (own_more j b)))
 
-  -- tasks at one bay
-  lowest_is : (x : ℤ) (j : ℕ) (js : List ℕ) → ((k : ℕ) → Among (j ∷ js) k → bay_of inst k ≡ x) → lowest inst j js ≡ x
-  lowest_is x j js h =
-      let one = lowest_at inst j js j (inl refl) in
-      let two = lowest_from inst x j js (λ k a. let e = h k a in omega (arith, ints, e)) in
-      let e = h j (inl refl) in
-      omega (arith, ints, one, two, e)
+  -- the bays of some tasks on the rail are those of their sums
+  low_is : (j : ℕ) (js : List ℕ) → ((k : ℕ) → Among (j ∷ js) k → IsOnRail (bay_of inst k)) → low_of inst (j ∷ js) ≡ lowest inst j js
+  low_is j [] rail =
+      let near = rail j (inl refl) in
+      omega (arith, ints, int_min_is (bay_of inst j) (pos 1000000), near.1)
+  low_is j (i ∷ is) rail = ap (int_min (bay_of inst j)) (low_is i is (λ k a. rail k (inr a)))
 
-  highest_is : (x : ℤ) (j : ℕ) (js : List ℕ) → ((k : ℕ) → Among (j ∷ js) k → bay_of inst k ≡ x) → highest inst j js ≡ x
-  highest_is x j js h =
-      let one = highest_at inst j js j (inl refl) in
-      let two = highest_to inst x j js (λ k a. let e = h k a in omega (arith, ints, e)) in
-      let e = h j (inl refl) in
-      omega (arith, ints, one, two, e)
+  high_is : (j : ℕ) (js : List ℕ) → ((k : ℕ) → Among (j ∷ js) k → IsOnRail (bay_of inst k)) → high_of inst (j ∷ js) ≡ highest inst j js
+  high_is j [] rail =
+      let near = rail j (inl refl) in
+      omega (arith, ints, int_max_is (bay_of inst j) (negsuc 999999), near.0)
+  high_is j (i ∷ is) rail = ap (int_max (bay_of inst j)) (high_is i is (λ k a. rail k (inr a)))
 
-  pub own_one_bay : (x : ℤ) (js : List ℕ) → ((k : ℕ) → Among js k → (bay_of inst k ≡ x) × (1 ≤ ticks_of inst k))
-      → own_of inst js ≡ own_at (ticks_over inst js) x
-  own_one_bay x [] h = refl
-  own_one_bay x (j ∷ js) h =
-      let more : ticks_over inst (j ∷ js) ≢ 0 = λ e. omega (arith, (h j (inl refl)).1, sum_by-cons (ticks_of inst) j js, e) in
-      ap Some (own_same _ _ _ _ _ _ refl (lowest_is x j js (λ k a. (h k a).0)) (highest_is x j js (λ k a. (h k a).0)))
-      ∙ sym (cond-false (eqb (ticks_over inst (j ∷ js)) 0) None _ (ne_eqb (ticks_over inst (j ∷ js)) 0 more))
+  pub own_in_is : (cranes : List (Option ℕ)) (js : List ℕ) → ((k : ℕ) → Among js k → (1 ≤ ticks_of inst k) × IsOnRail (bay_of inst k))
+      → own_in (bars_of inst cranes js) ≡ own_of inst js
+  own_in_is cranes [] h = refl
+  own_in_is cranes (j ∷ js) h =
+      let more : ticks_over inst (j ∷ js) ≢ 0 = λ e. omega (arith, (h j (inl refl)).0, sum_by-cons (ticks_of inst) j js, e) in
+      cond-false (eqb (ticks_over inst (j ∷ js)) 0) None _ (ne_eqb (ticks_over inst (j ∷ js)) 0 more)
+      ∙ ap Some (own_same _ _ _ _ _ _ refl (low_is j js (λ k a. (h k a).1)) (high_is j js (λ k a. (h k a).1)))
 
   pub own_small : Valid inst → (js : List ℕ) → ((k : ℕ) → Among js k → (k < length inst.tasks) × IsOnRail (bay_of inst k))
       → IfSome (own_of inst js) (IsSmall (length js))
@@ -278,22 +303,8 @@ pub from_low : (grid : List Bars) (row k n : ℕ) → AreSmall grid → (sum_fro
 from_low grid row k zero small = omega arith
 from_low grid row k (suc n) small = omega (arith, from_low grid row (k + 1) n small, small (240 * row + k))
 
--- one more entry of a list
-pub sums_set : (f : ℕ → Bars) (xs : List Bars) (n : ℕ) (v : Bars) → n < length xs → v ≡ f n → (k : ℕ)
-    → (k ≢ n → get_or xs k past_bars ≡ f k) → get_or (set xs n v) k past_bars ≡ f k
-sums_set f xs n v low is k other = elim (cases_eq k n) [
-  | inl same ↦
-      subst (λ (i : ℕ). get_or (set xs n v) i past_bars ≡ f i) (sym same) (get_or-set_same xs n v past_bars low ∙ is)
-  | inr differ ↦ get_or-set_other xs n k v past_bars differ ∙ other differ
-]
-
 module _ (inst : InstanceView) (cranes : List (Option ℕ)) (spots : List ℕ) (grid : List Bars)
     (g : IsGrid inst cranes spots grid) (row : ℕ) (low : row < 10) where
-  none_pass : (p : ℕ → Bool) (js : List ℕ) → ((j : ℕ) → Among js j → p j ≡ false) → filter p js ≡ []
-  none_pass p [] h = refl
-  none_pass p (j ∷ js) h =
-      cond-false (p j) (j ∷ filter p js) (filter p js) (h j (inl refl)) ∙ none_pass p js (λ k a. h k (inr a))
-
   and_false : (b c : Bool) → c ≡ false → (b && c) ≡ false
   and_false true c e = e
   and_false false c e = refl
@@ -360,116 +371,3 @@ module _ (inst : InstanceView) (cranes : List (Option ℕ)) (spots : List ℕ) (
       ∙ ap (λ b. joined b (bars_from inst cranes spots row (k + 1))) (g.each row k low (omega arith))
       ∙ sym (bars_split inst cranes (row_at cranes spots row k) (row_from cranes spots row (k + 1)) (row_from cranes spots row k) (task_numbers inst)
       (λ j a. (next_from (in_row cranes row j) (get_or spots j 0) k, apart_from (in_row cranes row j) (get_or spots j 0) k)))
-
--- ---- the grid is filled, from the last task to the first
-
-pub record AreCells (inst : InstanceView) (cranes : List (Option ℕ)) (spots : List ℕ) (count done : ℕ) (grid : List Bars) :
-    Type 0 where
-  pub many : length grid ≡ 2400
-  pub each : (row k : ℕ) → row < 10 → k < 240 → get_or grid (240 * row + k) past_bars
-      ≡ bars_of inst cranes (filter (row_at cranes spots row k) (range_with_len (count - done) done))
-  pub small : (i : ℕ) → (get_or grid i past_bars).ticks ≤ done * MOST_WORK
-
-pub no_cells : (inst : InstanceView) (cranes : List (Option ℕ)) (spots : List ℕ) (count : ℕ) (grid : List Bars)
-    → length grid ≡ 2400 → ((i : ℕ) → i < 2400 → get_or grid i past_bars ≡ no_bars) → AreCells inst cranes spots count 0 grid
-no_cells inst cranes spots count grid many none = record {
-  many = many;
-  each = λ row k low_row low_k. none (240 * row + k) (omega arith);
-  small = λ i. elim (cases_lt i 2400) [
-    | inl low ↦ omega (arith, ap (λ (b : Bars). b.ticks) (none i low))
-    | inr past ↦ omega (arith, ap (λ (b : Bars). b.ticks) (get_or_past grid i past_bars (omega (arith, many, past))))
-  ];
-}
-
-module _ (inst : InstanceView) (cranes : List (Option ℕ)) (spots : List ℕ) (count done : ℕ) (grid : List Bars)
-    (low : done < count) (a : AreCells inst cranes spots count done grid) where
-  abbrev j : ℕ
-  j = count - 1 - done
-
-  abbrev passes : ℕ → ℕ → ℕ → Bool
-  passes row k i = row_at cranes spots row k i
-
-  at_next : count - (done + 1) ≡ j
-  at_next = omega arith
-
-  -- the tasks of a cell, with one more before them or none
-  with_next : (row k : ℕ) → filter (passes row k) (range_with_len (count - (done + 1)) (done + 1))
-      ≡ cond (passes row k j) (j ∷ filter (passes row k) (range_with_len (count - done) done)) (filter (passes row k) (range_with_len (count - done) done))
-  with_next row k =
-      ap (λ from. filter (passes row k) (range_with_len from (done + 1))) at_next
-      ∙ one_more inst (passes row k) (count - done) j done (omega arith)
-
-  other_cell : (row k : ℕ) → row < 10 → k < 240 → passes row k j ≡ false
-      → get_or grid (240 * row + k) past_bars ≡ bars_of inst cranes (filter (passes row k) (range_with_len (count - (done + 1)) (done + 1)))
-  other_cell row k low_row low_k fails =
-      a.each row k low_row low_k
-      ∙ ap (bars_of inst cranes) (sym (with_next row k
-      ∙ cond-false (passes row k j) (j ∷ filter (passes row k) (range_with_len (count - done) done)) _ fails))
-
-  pub cells_skip : crane_in cranes j ≡ None → AreCells inst cranes spots count (done + 1) grid
-  cells_skip none = record {
-    many = a.many;
-    each = λ row k low_row low_k. other_cell row k low_row low_k
-        (ap (λ (o : Option ℕ). option_map_or (λ v. eqb (v + 1) row) o false && eqb (get_or spots j 0) k) none);
-    small = λ i. omega (arith, a.small i);
-  }
-
-  pub cells_next : (v i : ℕ) (one new : Bars) → v < 8 → get_or spots j 0 < 240 → crane_in cranes j ≡ Some v
-      → i ≡ 240 * (v + 1) + get_or spots j 0 → one.ticks ≡ ticks_of inst j → one.ticks ≤ MOST_WORK
-      → one.soonest ≡ soonest inst cranes j → new ≡ joined one (get_or grid i past_bars)
-      → AreCells inst cranes spots count (done + 1) (set grid i new)
-  cells_next v i one new low_v low_s some is ticks few soon new_is = record {
-    many = length-set grid i new ∙ a.many;
-    each = λ row k low_row low_k. elim (cases_eq (240 * row + k) i) [
-      | inl same ↦
-          let row_is : row ≡ v + 1 = omega (arith, same, is) in
-          let k_is : k ≡ get_or spots j 0 = omega (arith, same, is, row_is) in
-          subst (λ (n : ℕ). get_or (set grid i new) n past_bars ≡ bars_of inst cranes (filter (passes row k) (range_with_len (count - (done + 1)) (done + 1)))) (sym same)
-          (get_or-set_same grid i new past_bars (omega (arith, is, a.many))
-          ∙ new_is ∙ ap (joined one) (ap (λ n. get_or grid n past_bars) (sym same) ∙ a.each row k low_row low_k)
-          ∙ ap (λ b. joined b (bars_of inst cranes (filter (passes row k) (range_with_len (count - done) done)))) (bars_same _ _ _ _ ticks soon)
-          ∙ sym (bars_cons inst cranes j (filter (passes row k) (range_with_len (count - done) done)))
-          ∙ ap (bars_of inst cranes) (sym (with_next row k ∙ cond-true (passes row k j) _ (filter (passes row k) (range_with_len (count - done) done)) (this row k row_is k_is))))
-      | inr differ ↦
-          get_or-set_other grid i (240 * row + k) new past_bars differ
-          ∙ other_cell row k low_row low_k (not_this row k differ)
-    ];
-    small = λ n. elim (cases_eq n i) [
-      | inl same ↦
-          subst (λ (m : ℕ). (get_or (set grid i new) m past_bars).ticks ≤ (done + 1) * MOST_WORK) (sym same)
-          (omega (arith, ap (λ (b : Bars). b.ticks) (get_or-set_same grid i new past_bars (omega (arith, is, a.many))), ap (λ (b : Bars). b.ticks) new_is, a.small i, few))
-      | inr differ ↦ omega (arith, ap (λ (b : Bars). b.ticks) (get_or-set_other grid i n new past_bars differ), a.small n)
-    ];
-  }
-    where
-      this : (row k : ℕ) → row ≡ v + 1 → k ≡ get_or spots j 0 → passes row k j ≡ true
-      this row k row_is k_is =
-          and_from (in_row cranes row j) (eqb (get_or spots j 0) k)
-          (ap (λ (o : Option ℕ). option_map_or (λ v. eqb (v + 1) row) o false) some ∙ eq-eqb (v + 1) row (sym row_is))
-          (eq-eqb (get_or spots j 0) k (sym k_is))
-
-      not_this : (row k : ℕ) → 240 * row + k ≢ i → passes row k j ≡ false
-      not_this row k differ = elim (cases_Bool (passes row k j)) [
-        | inl t ↦
-            let both = and_parts (in_row cranes row j) (eqb (get_or spots j 0) k) t in
-            let row_is = eqb-true (v + 1) row (sym (ap (λ (o : Option ℕ). option_map_or (λ v. eqb (v + 1) row) o false) some) ∙ both.0) in
-            let k_is = eqb-true (get_or spots j 0) k both.1 in
-            absurd (differ (omega (arith, row_is, k_is, is)))
-        | inr f ↦ f
-      ]
-
-pub cells_all : (inst : InstanceView) (cranes : List (Option ℕ)) (spots : List ℕ) (count done : ℕ) (grid : List Bars)
-    → AreCells inst cranes spots count done grid → count ≡ length inst.tasks → done ≡ count → count ≤ MOST_TASKS
-    → IsGrid inst cranes spots grid × AreSmall grid
-cells_all inst cranes spots count done grid a is end few = (
-  record {
-    many = a.many;
-    each = λ row k low_row low_k.
-        a.each row k low_row low_k
-        ∙ ap (λ js. bars_of inst cranes (filter (row_at cranes spots row k) js)) (whole (omega (arith, end)) (end ∙ is));
-  },
-  λ i. omega (arith, a.small i, end, few),
-)
-  where
-    whole : count - done ≡ 0 → done ≡ length inst.tasks → range_with_len (count - done) done ≡ task_numbers inst
-    whole first many = ap (λ from. range_with_len from done) first ∙ ap (range_with_len 0) many

@@ -34,6 +34,24 @@ use Rattle.qc_close.proofs.Rows.{AllClear, Row, clear_from, row_after, row_fits,
 
 -- ---- greatest numbers and bays
 
+-- what comes of each stretch of a crane comes of all of them
+pub among_done : (inst : InstanceView) (turn : Turn) (cranes : List (Option ℕ)) (w : ℕ) (P : ℕ → Type 0)
+    → ((low high : ℤ) → P (done_in inst turn cranes w low high)) → (is : List ℕ) (n : ℕ) → Among (all_done inst turn cranes w is) n → P n
+among_done inst turn cranes w P each [] n a = absurd a
+among_done inst turn cranes w P each (i ∷ is) n a =
+    let low = lowest inst i is in
+    let high = highest inst i is in
+    let r = flat_among
+    (λ j. done_in inst turn cranes w low (bay_of inst j) ∷ done_in inst turn cranes w (bay_of inst j) high ∷ [])
+    (filter (lies inst low high) (task_numbers inst)) n a in
+    one r.0 low high r.2
+  where
+    one : (j : ℕ) (low high : ℤ)
+        → Among (done_in inst turn cranes w low (bay_of inst j) ∷ done_in inst turn cranes w (bay_of inst j) high ∷ []) n → P n
+    one j low high (inl e) = subst P e (each low (bay_of inst j))
+    one j low high (inr (inl e)) = subst P e (each (bay_of inst j) high)
+    one j low high (inr (inr none)) = absurd none
+
 pub greatest_among : (x : ℕ) (xs : List ℕ) → Among (x ∷ xs) (greatest (x ∷ xs))
 greatest_among x [] = inl (omega arith)
 greatest_among x (y ∷ ys) =
@@ -710,27 +728,10 @@ module _ (inst : InstanceView) (turn : Turn) (cranes : List (Option ℕ)) (sched
       left None b none t = t
       left (Some k) b none t = absurd (false≢true none)
 
-  among_time : (is : List ℕ) (n : ℕ) → Among (all_done inst turn cranes w is) n → Time (with_gone n)
-  among_time [] n a = absurd a
-  among_time (i ∷ is) n a =
-      let low = lowest inst i is in
-      let high = highest inst i is in
-      let r = flat_among
-      (λ j. done_in inst turn cranes w low (bay_of inst j) ∷ done_in inst turn cranes w (bay_of inst j) high ∷ [])
-      (filter (lies inst low high) all) n a in
-      one r.0 low high r.2
-    where
-      one : (j : ℕ) (low high : ℤ)
-          → Among (done_in inst turn cranes w low (bay_of inst j) ∷ done_in inst turn cranes w (bay_of inst j) high ∷ []) n
-          → Time (with_gone n)
-      one j low high (inl e) = subst (λ (n : ℕ). Time (with_gone n)) e (done_time low (bay_of inst j))
-      one j low high (inr (inl e)) = subst (λ (n : ℕ). Time (with_gone n)) e (done_time (bay_of inst j) high)
-      one j low high (inr (inr none)) = absurd none
-
   -- the crane has the time for what it spends, and while neighbours bar its way
   pub barred_time : HasTime inst turn cranes sched valid g follows w (barred_frame inst turn cranes w)
   barred_time = by (greatest_among plain.gone (all_done inst turn cranes w (own_or_left inst cranes w)))
     where
       by : {n : ℕ} → Among (plain.gone ∷ all_done inst turn cranes w (own_or_left inst cranes w)) n → Time (with_gone n)
       by (inl e) = less_time _ (omega (arith, e))
-      by (inr a) = among_time (own_or_left inst cranes w) _ a
+      by (inr a) = among_done inst turn cranes w (λ n. Time (with_gone n)) done_time (own_or_left inst cranes w) _ a

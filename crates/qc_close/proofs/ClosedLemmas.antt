@@ -23,14 +23,14 @@ use Rattle.qc_model.specs.Instance.{InstanceView, Valid, bay_of, crane, no_crane
 use Rattle.qc_model.specs.Nodes.{berth_wait, free, greatest, least}
 use Rattle.qc_model.specs.Rules.{crane_of, ends}
 use Rattle.qc_model.specs.Ticks.{arrival, berth_clear, berth_distance}
-use Rattle.qc_model.specs.Work.{crane_numbers, highest, lowest, task_numbers, ticks_over}
+use Rattle.qc_model.specs.Work.{crane_numbers, task_numbers, ticks_over}
 use Rattle.qc_model.proofs.Bays.{bays}
 use Rattle.qc_close.proofs.CountLemmas.{fewest_le, passing, passing_le, shared, sum_filter, sum_le, sums_within, times_sum}
-use Rattle.qc_close.proofs.BarredLemmas.{barred_time}
+use Rattle.qc_close.proofs.BarredLemmas.{among_done, barred_time}
 use Rattle.qc_close.proofs.FrameLemmas.{HasTime, at_bay, bay_at, beside, does_open, feasible_by, some_term}
 use Rattle.qc_close.proofs.GrainLemmas.{AreMultiples, grain_is, multiple_to}
 use Rattle.qc_close.proofs.LoopLemmas.{least_steps}
-use Rattle.qc_close.proofs.Members.{Among, among_either, among_filter, among_first, among_flat, among_map, among_range, among_second, any_at, any_from, filter_among, flat_among, map_among, range_among}
+use Rattle.qc_close.proofs.Members.{Among, among_either, among_filter, among_first, among_flat, among_map, among_range, among_second, any_at, any_from, filter_among, map_among, range_among}
 
 -- ---- bays in the order in which cranes come to them
 
@@ -585,30 +585,13 @@ module _ (inst : InstanceView) (g : ℕ) (grain : AreMultiples inst g) where
         (λ j a. in_all _ j (filter_among (lies inst low high) (own inst cranes w) j a).0)
         (λ j a. in_all _ j a))
 
-    dvd_all : (is : List ℕ) (n : ℕ) → Among (all_done inst turn cranes w is) n → g ∣ n
-    dvd_all [] n a = absurd a
-    dvd_all (i ∷ is) n a =
-        let low = lowest inst i is in
-        let high = highest inst i is in
-        let r = flat_among
-        (λ j. done_in inst turn cranes w low (bay_of inst j) ∷ done_in inst turn cranes w (bay_of inst j) high ∷ [])
-        (filter (lies inst low high) (task_numbers inst)) n a in
-        one r.0 low high r.2
-      where
-        one : (j : ℕ) (low high : ℤ)
-            → Among (done_in inst turn cranes w low (bay_of inst j) ∷ done_in inst turn cranes w (bay_of inst j) high ∷ []) n
-            → g ∣ n
-        one j low high (inl e) = subst (λ (n : ℕ). g ∣ n) e (dvd_done low (bay_of inst j))
-        one j low high (inr (inl e)) = subst (λ (n : ℕ). g ∣ n) e (dvd_done (bay_of inst j) high)
-        one j low high (inr (inr none)) = absurd none
-
     dvd_barred : g ∣ (barred_frame inst turn cranes w).gone
     dvd_barred =
         dvd_greatest ((frame inst turn cranes w).gone ∷ all_done inst turn cranes w (own_or_left inst cranes w)) one
       where
         one : (n : ℕ) → Among ((frame inst turn cranes w).gone ∷ all_done inst turn cranes w (own_or_left inst cranes w)) n → g ∣ n
         one n (inl e) = subst (λ (n : ℕ). g ∣ n) e (dvd_gone turn w (own inst cranes w) (λ j a. in_all _ j a))
-        one n (inr a) = dvd_all (own_or_left inst cranes w) n a
+        one n (inr a) = among_done inst turn cranes w (λ (n : ℕ). g ∣ n) dvd_done (own_or_left inst cranes w) n a
 
 module _ (inst : InstanceView) (turn : Turn) (cranes : List (Option ℕ)) (sched : List Slot) (valid : Valid inst)
     (goes : GoesBy turn inst sched) (follows : Follows inst cranes sched) (g : ℕ) (grain : AreMultiples inst g)

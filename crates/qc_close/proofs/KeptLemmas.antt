@@ -1,7 +1,7 @@
 -- What a crew keeps as tasks get and lose their cranes, and what it answers of closed ends.
-use Rattle.std.proofs.Common.{◌≡◌, ℕ, ◌+◌, ◌-◌, ◌*◌, ◌<◌, ◌≤◌, inl, inr, Bool, true, false, ◌||◌, leb, List, length, get_or, set, map, is_none, is_some, Option, None, Some, ℤ, pos, negsuc, ◌≤ℤ◌, of_z, to_z, w32, refl, ap, sym, subst, ◌∙◌, arith}
+use Rattle.std.proofs.Common.{◌≡◌, ℕ, ◌+◌, ◌-◌, ◌*◌, ◌<◌, ◌≤◌, inl, inr, Bool, true, false, ◌||◌, leb, List, length, get_or, set, map, is_none, Option, None, Some, ℤ, pos, negsuc, ◌≤ℤ◌, of_z, to_z, w32, ap, sym, subst, ◌∙◌, arith}
 use Rattle.std.proofs.Math.IntN.{nat_abs}
-use Rattle.std.proofs.lemmas.Bool.{cases_eq, false≢true, le-leb, lt-leb, or_cases, or_left, or_right}
+use Rattle.std.proofs.lemmas.Bool.{cases_eq, le-leb, lt-leb, or_cases, or_left, or_right}
 use Rattle.std.proofs.lemmas.Int.{ints}
 use Rattle.std.proofs.lemmas.List.{get_or_read, get_or-set_other, get_or-set_same, length-replicate, length-set}
 use Rattle.qc_model.specs.declared.limits.TheConstants.{MOST_DISTANCE, MOST_READY, MOST_TASKS, MOST_WORK}
@@ -18,6 +18,7 @@ use Rattle.qc_model.proofs.LimitsOf.{limits_of}
 use Rattle.qc_close.specs.declared.closed.TheConstants.{LAST_CLOSED}
 use Rattle.qc_close.specs.declared.crew.Crew.TheInside.{Inside}
 use Rattle.qc_close.specs.CrewFields.{IsKept, view_of}
+use Rattle.qc_close.specs.Bars.{Changes, IsTable}
 use Rattle.qc_close.specs.Crews.{CrewView}
 use Rattle.qc_close.specs.Lasts.{IsLast}
 use Rattle.qc_close.specs.Lefts.{IsLeft}
@@ -45,10 +46,6 @@ same_crane k n most e low =
 
 pub no_crane_some : (n : ℕ) → None ≡ Some n → ⊥
 no_crane_some n e = cc
-
-pub taken_is : (o : Option ℕ) → is_some o ≡ true → is_none o ≡ false
-taken_is None t = absurd (false≢true t)
-taken_is (Some k) t = refl
 
 at_most : (z : ℤ) (n : ℕ) → z ≤ℤ pos n → at_least_zero z ≤ n
 at_most (pos m) n le = omega (arith, ints)
@@ -138,6 +135,21 @@ module _ (inst : InstanceView) (cranes : List (Option ℕ)) (soonest : List ℕ)
     bound = λ i n e. s.bound i n (still i n e);
   }
 
+  -- it alone has another crane
+  pub put_changes : (k : ℕ) → crane_in cranes j ≡ None → Changes cranes (set cranes j (Some k)) j k
+  put_changes k free = record {
+    others = λ i differ. sym (cranes_else inst cranes j (Some k) i differ);
+    before = λ v e. absurd (no_crane_some v (sym free ∙ e));
+    after = λ v e. sym (some_is j v k (sym (cranes_there inst cranes j (Some k) (omega (arith, low, many))) ∙ e));
+  }
+
+  pub take_changes : (k : ℕ) → crane_in cranes j ≡ Some k → Changes cranes (set cranes j None) j k
+  take_changes k some = record {
+    others = λ i differ. sym (cranes_else inst cranes j None i differ);
+    before = λ v e. sym (some_is j v k (sym some ∙ e));
+    after = λ v e. absurd (no_crane_some v (sym (cranes_there inst cranes j None (omega (arith, low, many))) ∙ e));
+  }
+
 pub no_soonest : (inst : InstanceView) (cranes : List (Option ℕ)) (soonest : List ℕ) → cranes ≡ no_cranes inst
     → length soonest ≡ length inst.tasks → AreSoonest inst cranes soonest
 no_soonest inst cranes soonest none many = record {
@@ -149,9 +161,9 @@ no_soonest inst cranes soonest none many = record {
 -- ---- a crew as it is opened
 
 pub kept_open : (f : Inside) (inst : InstanceView) → f.inst ≡ inst → Valid inst → f.cranes.items ≡ no_cranes inst
-    → AreSpots inst f.spots → length f.soonest.items ≡ length inst.tasks → IsLeft inst (no_cranes inst) f.left.items
+    → AreSpots inst f.spots → length f.soonest.items ≡ length inst.tasks → IsTable inst (no_cranes inst) f.spots f.table → IsLeft inst (no_cranes inst) f.left.items
     → f.step ≡ grain inst → IsLast (is_short_before inst f.turn (no_cranes inst)) LAST_CLOSED f.bare → IsKept f
-kept_open f inst e valid none spots many left step bare =
+kept_open f inst e valid none spots many table left step bare =
     let back = sym e in
     let none_is = none ∙ ap no_cranes back in
     record {
@@ -160,6 +172,7 @@ kept_open f inst e valid none spots many left step bare =
       range = λ j k some. absurd (no_crane_some k (sym (none_there (length f.inst.tasks) j) ∙ ap (λ cs. crane_in cs j) (sym none_is) ∙ some));
       spots = subst (λ i. AreSpots i f.spots) back spots;
       soonest = no_soonest f.inst f.cranes.items f.soonest.items none_is (many ∙ ap (λ (i : InstanceView). length i.tasks) back);
+      table = subst (λ cs. IsTable f.inst cs f.spots f.table) (sym none_is) (subst (λ i. IsTable i (no_cranes i) f.spots f.table) back table);
       left = subst (λ cs. IsLeft f.inst cs f.left.items) (sym none_is) (subst (λ i. IsLeft i (no_cranes i) f.left.items) back left);
       step = step ∙ ap grain back;
       bare = subst (λ i. IsLast (is_short_before i f.turn (no_cranes i)) LAST_CLOSED f.bare) back bare;

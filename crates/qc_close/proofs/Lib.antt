@@ -19,6 +19,8 @@ mod OwnLemmas
 mod CrewLemmas
 mod SpotLemmas
 mod BarLemmas
+mod TableLemmas
 mod StretchLemmas
+mod PlaceLemmas
 pub mod KeptLemmas
 pub mod LimitLemmas

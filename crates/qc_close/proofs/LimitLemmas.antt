@@ -32,8 +32,8 @@ use Rattle.qc_close.proofs.CountLemmas.{most_cons, sum_filter, sum_le, sums_with
 use Rattle.qc_close.proofs.CrewLemmas.{at, sum_few, term, work_is}
 use Rattle.qc_close.proofs.GrainLemmas.{grain_is, travel_range}
 use Rattle.qc_close.proofs.KeptLemmas.{closed_falls}
-use Rattle.qc_close.proofs.BarredLemmas.{greatest_among}
-use Rattle.qc_close.proofs.Members.{Among, among_filter, any_at, any_from, filter_among, flat_among, map_among, range_among}
+use Rattle.qc_close.proofs.BarredLemmas.{among_done, greatest_among}
+use Rattle.qc_close.proofs.Members.{Among, among_filter, any_at, any_from, filter_among, map_among, range_among}
 use Rattle.qc_close.proofs.OwnLemmas.{rail_high, rail_max, rail_min}
 use Rattle.qc_close.proofs.SumLemmas.{most_all}
 
@@ -342,23 +342,6 @@ module _ (inst : InstanceView) (valid : Valid inst) where
           (among_tasks_few (λ j. option_map_or (λ v. is_barred inst w low high v (bay_of inst j)) (crane_in cranes j) false)))
           (λ _. omega arith)
 
-      all_few : (is : List ℕ) (n : ℕ) → Among (all_done inst turn cranes w is) n → n ≤ 650000000000
-      all_few [] n a = absurd a
-      all_few (i ∷ is) n a =
-          let low = lowest inst i is in
-          let high = highest inst i is in
-          let r = flat_among
-          (λ j. done_in inst turn cranes w low (bay_of inst j) ∷ done_in inst turn cranes w (bay_of inst j) high ∷ [])
-          (filter (lies inst low high) (task_numbers inst)) n a in
-          one r.0 low high r.2
-        where
-          one : (j : ℕ) (low high : ℤ)
-              → Among (done_in inst turn cranes w low (bay_of inst j) ∷ done_in inst turn cranes w (bay_of inst j) high ∷ []) n
-              → n ≤ 650000000000
-          one j low high (inl e) = omega (arith, e, done_few low (bay_of inst j))
-          one j low high (inr (inl e)) = omega (arith, e, done_few (bay_of inst j) high)
-          one j low high (inr (inr none)) = absurd none
-
       -- the same while neighbours bar its way
       barred_modest : IsModest 650000000000 (barred_frame inst turn cranes w)
       barred_modest = record {
@@ -369,7 +352,7 @@ module _ (inst : InstanceView) (valid : Valid inst) where
           by : {n : ℕ} → Among ((frame inst turn cranes w).gone ∷ all_done inst turn cranes w (own_or_left inst cranes w)) n
               → n ≤ 650000000000
           by (inl e) = omega (arith, e, modest.gone)
-          by (inr a) = all_few (own_or_left inst cranes w) _ a
+          by (inr a) = among_done inst turn cranes w (λ n. n ≤ 650000000000) done_few (own_or_left inst cranes w) _ a
 
   -- ---- late ends
 

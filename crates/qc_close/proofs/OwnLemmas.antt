@@ -1,9 +1,9 @@
 -- What each crane has spent, summed up from the last task to the first.
 use Rattle.std.proofs.Common.{◌≡◌, ℕ, ◌+◌, ◌-◌, ◌*◌, ◌<◌, ◌≤◌, inl, inr, Bool, true, false, eqb, cond, List, [], ◌∷◌, length, get_or, set, map, take, filter, Option, None, Some, IfSome, ℤ, of_z, to_z, w32, refl, ap, sym, subst, ◌∙◌, arith, add-one, is_none}
 use Rattle.std.proofs.Math.Nat.{mul-le-mul_left}
-use Rattle.std.proofs.lemmas.Bool.{cases_eq, cases_lt, eq-eqb, ne_eqb, cond-true, cond-false}
+use Rattle.std.proofs.lemmas.Bool.{cases_lt, cond-true, cond-false}
 use Rattle.std.proofs.lemmas.Int.{int_max_is, int_min_is, ints}
-use Rattle.std.proofs.lemmas.List.{ext_get_or, get_or-set_other, get_or-set_same, get_or-take, length-set, length-take}
+use Rattle.std.proofs.lemmas.List.{ext_get_or, get_or-set_other, get_or-set_same, get_or-take, length-take}
 use Rattle.std.proofs.lemmas.List.FromFn.{get_or-map-range_with_len, length-map-range_with_len}
 use Rattle.std.proofs.lemmas.List.Sums.{sum_by-cons}
 use Rattle.std.specs.Int.{int_max, int_min}
@@ -16,7 +16,7 @@ use Rattle.qc_model.specs.declared.turn.Turn.{Turn}
 use Rattle.qc_model.specs.declared.turn.Turn.TheVariants.{OneWay, Free}
 use Rattle.qc_model.specs.Assignments.{crane_in}
 use Rattle.qc_model.specs.Barred.{barred_frame}
-use Rattle.qc_model.specs.Frames.{frame_of, own, turn_high}
+use Rattle.qc_model.specs.Frames.{frame_of, turn_high}
 use Rattle.qc_model.specs.Instance.{InstanceView, IsOnRail, bay_of, task, ticks_of}
 use Rattle.qc_model.specs.Work.{crane_numbers, highest, lowest, ticks_over}
 use Rattle.qc_close.specs.declared.frames.Own.{Own}
@@ -63,14 +63,7 @@ module _ (inst : InstanceView) (p : ℕ → Bool) (from task_now done : ℕ) (is
       ap (own_of inst)
       (one_more ∙ cond-false (p task_now) (task_now ∷ filter p (range_with_len from done)) (filter p (range_with_len from done)) fails)
 
--- ---- the loop over the tasks
-
--- the tasks of each crane, of the last so many
-pub record AreOwns (inst : InstanceView) (cranes : List (Option ℕ)) (count done : ℕ) (owns : List (Option Own)) : Type 0 where
-  pub eight : length owns ≡ 8
-  pub each : (w : ℕ) → w < 8
-      → get_or owns w None ≡ own_of inst (filter (has cranes w) (range_with_len (count - done) done))
-  pub small : (w : ℕ) → w < 8 → IfSome (get_or owns w None) (IsSmall done)
+-- ---- few tasks
 
 pub some_small : (n m : ℕ) (o : Option Own) → n ≤ m → IfSome o (IsSmall n) → IfSome o (IsSmall m)
 some_small n m None le s = tt
@@ -79,78 +72,6 @@ some_small n m (Some o) le s = record {
   low = s.low;
   high = s.high;
 }
-
-module _ (inst : InstanceView) (cranes : List (Option ℕ)) (count done : ℕ) (owns : List (Option Own)) (low : done < count)
-    (a : AreOwns inst cranes count done owns) where
-  abbrev j : ℕ
-  j = count - 1 - done
-
-  behind : j + 1 ≡ count - done
-  behind = omega arith
-
-  at : count - (done + 1) ≡ j
-  at = omega arith
-
-  skip : (w : ℕ) → has cranes w j ≡ false → w < 8
-      → get_or owns w None ≡ own_of inst (filter (has cranes w) (range_with_len (count - (done + 1)) (done + 1)))
-  skip w fails in_range =
-      a.each w in_range ∙ sym (own_skip inst (has cranes w) (count - done) j done behind fails)
-      ∙ ap (λ from. own_of inst (filter (has cranes w) (range_with_len from (done + 1)))) (sym at)
-
-  pub owns_skip : crane_in cranes j ≡ None → AreOwns inst cranes count (done + 1) owns
-  owns_skip none = record {
-    eight = a.eight;
-    each = λ w in_range. skip w (ap (λ o. option_map_or (λ k. eqb k w) o false) none) in_range;
-    small = λ w in_range. some_small done (done + 1) (get_or owns w None) (omega arith) (a.small w in_range);
-  }
-
-  pub owns_next : (k : ℕ) (new : Own) → k < 8 → crane_in cranes j ≡ Some k
-      → new ≡ with_task (get_or owns k None) (task inst j) → IsSmall (done + 1) new
-      → AreOwns inst cranes count (done + 1) (set owns k (Some new))
-  owns_next k new in_range some is small = record {
-    eight = length-set owns k (Some new) ∙ a.eight;
-    each = λ w in_w. elim (cases_eq w k) [
-      | inl same ↦
-          subst (λ (v : ℕ). get_or (set owns k (Some new)) v None ≡ own_of inst (filter (has cranes v) (range_with_len (count - (done + 1)) (done + 1)))) (sym same) here
-      | inr other ↦
-          get_or-set_other owns k w (Some new) None other
-          ∙ skip w (ap (λ o. option_map_or (λ v. eqb v w) o false) some ∙ ne_eqb k w (λ e. other (sym e))) in_w
-    ];
-    small = λ w in_w. elim (cases_eq w k) [
-      | inl same ↦
-          subst (λ (v : ℕ). IfSome (get_or (set owns k (Some new)) v None) (IsSmall (done + 1))) (sym same)
-          (subst (λ (o : Option Own). IfSome o (IsSmall (done + 1))) (sym (get_or-set_same owns k (Some new) None inside)) small)
-      | inr other ↦
-          subst (λ (o : Option Own). IfSome o (IsSmall (done + 1))) (sym (get_or-set_other owns k w (Some new) None other))
-          (some_small done (done + 1) (get_or owns w None) (omega arith) (a.small w in_w))
-    ];
-  }
-    where
-      inside : k < length owns
-      inside = omega (arith, a.eight)
-
-      here : get_or (set owns k (Some new)) k None ≡ own_of inst (filter (has cranes k) (range_with_len (count - (done + 1)) (done + 1)))
-      here =
-          get_or-set_same owns k (Some new) None inside
-          ∙ ap Some (is ∙ ap (λ o. with_task o (task inst j)) (a.each k in_range))
-          ∙ sym (own_next inst (has cranes k) (count - done) j done behind
-          (ap (λ o. option_map_or (λ v. eqb v k) o false) some ∙ eq-eqb k k refl))
-          ∙ ap (λ from. own_of inst (filter (has cranes k) (range_with_len from (done + 1)))) (sym at)
-
-pub owns_none : (inst : InstanceView) (cranes : List (Option ℕ)) (count : ℕ) (owns : List (Option Own)) → length owns ≡ 8
-    → ((w : ℕ) → get_or owns w None ≡ None) → AreOwns inst cranes count 0 owns
-owns_none inst cranes count owns is none = record {
-  eight = is;
-  each = λ w _. none w;
-  small = λ w _. subst (λ (o : Option Own). IfSome o (IsSmall 0)) (sym (none w)) tt;
-}
-
-pub owns_all : (inst : InstanceView) (cranes : List (Option ℕ)) (owns : List (Option Own))
-    → AreOwns inst cranes (length inst.tasks) (length inst.tasks) owns
-    → (w : ℕ) → w < 8 → get_or owns w None ≡ own_of inst (own inst cranes w)
-owns_all inst cranes owns a w low =
-    let first : length inst.tasks - length inst.tasks ≡ 0 = omega arith in
-    a.each w low ∙ ap (λ from. own_of inst (filter (has cranes w) (range_with_len from (length inst.tasks)))) first
 
 -- one task more is small too
 pub small_more : (n : ℕ) (o : Option Own) (t : Task) → IfSome o (IsSmall n) → t.ticks ≤ MOST_WORK → IsOnRail t.bay
@@ -234,13 +155,6 @@ frames_more P frames k v inside before here w d low = elim (cases_lt w k) [
       let e : k ≡ w = omega arith in
       subst (λ (n : ℕ). P n (get_or (set frames k v) n d)) e (subst (P k) (sym (get_or-set_same frames k v d inside)) here)
 ]
-
-pub owns_end : (inst : InstanceView) (cranes : List (Option ℕ)) (count done : ℕ) (owns : List (Option Own))
-    → AreOwns inst cranes count done owns → count ≡ length inst.tasks → done ≡ count
-    → (w : ℕ) → w < 8 → get_or owns w None ≡ own_of inst (own inst cranes w)
-owns_end inst cranes count done owns a many end =
-    let there = subst (λ (n : ℕ). AreOwns inst cranes count n owns) end a in
-    owns_all inst cranes owns (subst (λ (n : ℕ). AreOwns inst cranes n n owns) many there)
 
 -- ---- bays on the rail
 

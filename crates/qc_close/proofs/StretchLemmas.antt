@@ -1,36 +1,33 @@
--- What code sums up for a crane between its neighbours is what its frame says.
-use Rattle.std.proofs.Common.{◌≡◌, ℕ, zero, suc, ◌+◌, ◌-◌, ◌^◌, ◌<◌, ◌≤◌, max, inl, inr, Bool, true, false, ◌&&◌, ◌||◌, eqb, leb, nat_lt, cond, List, [], ◌∷◌, length, get_or, filter, Option, None, Some, IfSome, is_none, is_some, ℤ, pos, ◌+ℤ◌, ◌≤ℤ◌, ◌<ℤ◌, int_le, int_lt, refl, ap, sym, subst, ◌∙◌, arith}
-use Rattle.std.proofs.lemmas.Bool.{and_from, and_parts, cases_lt, cond-false, cond-true, cond_both, eq-eqb, eqb-true, false≢true, false_from_ne_true, le-leb, leb-true, lt-ltb, ltb-true, ne_eqb, or_cases, or_left, or_right}
-use Rattle.std.proofs.lemmas.Int.{by_lt_z, int_max_is, int_min_is, ints}
-use Rattle.std.specs.Int.{int_max, int_min}
-use Rattle.std.specs.List.{flat_map, list_all, range_with_len}
+-- What code sums up for a stretch of a crane between its neighbours is what its frame says.
+use Rattle.std.proofs.Common.{◌≡◌, ℕ, zero, suc, ◌+◌, ◌-◌, ◌*◌, ◌^◌, ◌<◌, ◌≤◌, max, inl, inr, Bool, true, false, ◌&&◌, ◌||◌, eqb, leb, nat_lt, cond, List, [], ◌∷◌, length, get_or, filter, Option, None, Some, IfSome, is_none, is_some, ℤ, pos, ◌+ℤ◌, ◌≤ℤ◌, ◌<ℤ◌, int_le, int_lt, refl, ap, sym, subst, ◌∙◌, arith}
+use Rattle.std.proofs.lemmas.Bool.{and_from, and_parts, cases_lt, cond-false, cond-true, cond_both, eq-eqb, eqb-true, le-leb, leb-true, lt-ltb, ltb-true, ne_eqb}
+use Rattle.std.proofs.lemmas.Int.{ints}
+use Rattle.std.specs.List.{list_all, range_with_len}
 use Rattle.std.specs.Option.{option_map_or}
 use Rattle.qc_model.specs.declared.direction.Direction.{Direction}
 use Rattle.qc_model.specs.declared.direction.Direction.TheVariants.{Up, Down}
 use Rattle.qc_model.specs.declared.limits.TheConstants.{MOST_TASKS}
 use Rattle.qc_model.specs.declared.turn.Turn.{Turn}
-use Rattle.qc_model.specs.declared.turn.Turn.TheVariants.{OneWay}
 use Rattle.qc_model.specs.Assignments.{crane_in}
-use Rattle.qc_model.specs.Barred.{all_done, barred_frame, barring, both_done, done_in, is_barred, lies, own_or_left, soonest}
-use Rattle.qc_model.specs.Frames.{frame, own}
+use Rattle.qc_model.specs.Barred.{barring, both_done, done_in, is_barred, lies, soonest}
+use Rattle.qc_model.specs.Frames.{own}
 use Rattle.qc_model.specs.Instance.{InstanceView, IsOnRail, Valid, bay_of}
-use Rattle.qc_model.specs.Nodes.{greatest}
-use Rattle.qc_model.specs.Work.{highest, lowest, task_numbers}
+use Rattle.qc_model.specs.Work.{task_numbers}
 use Rattle.qc_model.proofs.LimitsOf.{limits_of}
 use Rattle.qc_model.proofs.NodeLemmas.{T_true, true_T}
-use Rattle.qc_close.specs.Bars.{AreSums, IsAround, IsGreatest, IsGrid, IsKnown, bars_before, bars_from, bars_of, cell, done_by, in_row, joined, left_of, lie_in, own_at, own_between, row_at, row_before, row_between, row_from, next_spot, low_spot, high_spot, past_bars, stretch, sum_before, sum_from, swept_from, swept_to, together}
+use Rattle.qc_close.specs.Bars.{IsGreatest, IsKnown, IsTable, sum_along, bars_before, bars_from, bars_of, done_by, in_row, joined, left_of, lie_in, own_in, own_between, row_before, row_between, row_from, next_spot, low_spot, high_spot, past_bars, stretch, swept_from, swept_to}
 use Rattle.qc_close.specs.Owns.{IsSmall, own_of}
-use Rattle.qc_close.specs.Spots.{AreSpots, IsCount, spot_bay}
+use Rattle.qc_close.specs.Spots.{AreSpots, spot_bay}
 use Rattle.qc_close.specs.declared.barred.Place.{Place}
 use Rattle.qc_close.specs.declared.bars.Bars.{Bars}
+use Rattle.qc_close.specs.declared.bars.Table.{Table}
 use Rattle.qc_close.specs.declared.bars.TheConstants.{NEVER}
 use Rattle.qc_close.specs.declared.frames.Own.{Own}
 use Rattle.qc_close.specs.declared.spots.Spots.{Spots}
-use Rattle.qc_close.proofs.BarLemmas.{bars_low, bars_split, both_same, filter_same, filter_twice, lie_all, own_one_bay, own_small, own_split, same_test, soonest_low, sum_before_is, sum_from_is}
-use Rattle.qc_close.proofs.BarredLemmas.{greatest_among, highest_at, lowest_at}
-use Rattle.qc_close.proofs.Members.{Among, among_filter, among_flat, among_range, filter_among, flat_among, range_among}
+use Rattle.qc_close.proofs.BarLemmas.{bars_low, bars_split, both_same, filter_same, filter_twice, lie_all, own_in_is, own_small, same_test, soonest_low, sum_before_is, sum_from_is}
+use Rattle.qc_close.proofs.Members.{Among, filter_among, range_among}
 use Rattle.qc_close.proofs.OwnLemmas.{some_small}
-use Rattle.qc_close.proofs.SpotLemmas.{count_is, rises, rises_back, spot_at}
+use Rattle.qc_close.proofs.SpotLemmas.{rises, rises_back, spot_at}
 
 module _ (inst : InstanceView) (valid : Valid inst) (cranes : List (Option ℕ)) (s : Spots) (known : AreSpots inst s) where
   abbrev bays : List ℤ
@@ -78,112 +75,55 @@ module _ (inst : InstanceView) (valid : Valid inst) (cranes : List (Option ℕ))
       (own_small inst valid (filter p all) (λ k a.
       let low = in_all k (filter_among p all k a).0 in (low, on_rail k low)))
 
-  module _ (grid : List Bars) (g : IsGrid inst cranes spots grid) (w : ℕ) (low_w : w < length inst.cranes) where
-    few_bays : length bays ≤ 240
-    few_bays = known.bays.along.few
+  -- summed up in a row
+  pub sum_own : (p : ℕ → Bool) → own_in (bars_of inst cranes (filter p all)) ≡ own_of inst (filter p all)
+  sum_own p =
+      own_in_is inst cranes (filter p all) (λ j a.
+      let low = in_all j (filter_among p all j a).0 in (valid.tasks.ticks j low, on_rail j low))
 
-    row_low : w + 1 < 10
-    row_low = omega (arith, low_w, valid.cranes.count.1)
-
-    here : (k : ℕ) → k < length bays → own_of inst (filter (row_at cranes spots (w + 1) k) all) ≡ own_at (cell grid (w + 1) k).ticks (x k)
-    here k low =
-        let ticks = ap (λ (b : Bars). b.ticks) (g.each (w + 1) k row_low (omega (arith, low, few_bays))) in
-        own_one_bay inst (x k) (filter (row_at cranes spots (w + 1) k) all)
-        (λ j a.
-        let r = filter_among (row_at cranes spots (w + 1) k) all j a in
-        let low_j = in_all j r.0 in
-        let same = eqb-true (spot j) k (and_parts (in_row cranes (w + 1) j) (eqb (spot j) k) r.1).1 in
-        (sym (at j low_j).1 ∙ ap x same, valid.tasks.ticks j low_j))
-        ∙ ap (λ n. own_at n (x k)) (sym ticks)
-
-    -- one spot more, above or below
-    next_up : (b : Bool) (from to s : ℕ) → from ≤ to
-        → (b && (leb from s && nat_lt s (to + 1))) ≡ ((b && (leb from s && nat_lt s to)) || (b && eqb s to))
-    next_up false from to s le = refl
-    next_up true from to s le = same_test _ _
-        (λ t.
-        let both = and_parts (leb from s) (nat_lt s (to + 1)) t in
-        elim (cases_lt s to) [
-          | inl less ↦ or_left (leb from s && nat_lt s to) (eqb s to) (and_from (leb from s) (nat_lt s to) both.0 (lt-ltb s to less))
-          | inr more ↦ or_right (leb from s && nat_lt s to) (eqb s to) (eq-eqb s to (omega (arith, ltb-true s (to + 1) both.1)))
-        ])
-        (λ t. elim (or_cases (leb from s && nat_lt s to) (eqb s to) t) [
-          | inl t ↦
-              let both = and_parts (leb from s) (nat_lt s to) t in
-              and_from (leb from s) (nat_lt s (to + 1)) both.0 (lt-ltb s (to + 1) (omega (arith, ltb-true s to both.1)))
-          | inr t ↦
-              let same = eqb-true s to t in
-              and_from (leb from s) (nat_lt s (to + 1)) (le-leb from s (omega arith)) (lt-ltb s (to + 1) (omega arith))
-        ])
-
-    next_down : (b : Bool) (from to s : ℕ) → from < to
-        → (b && (leb from s && nat_lt s to)) ≡ ((b && (leb (from + 1) s && nat_lt s to)) || (b && eqb s from))
-    next_down false from to s le = refl
-    next_down true from to s le = same_test _ _
-        (λ t.
-        let both = and_parts (leb from s) (nat_lt s to) t in
-        elim (cases_lt from s) [
-          | inl less ↦ or_left (leb (from + 1) s && nat_lt s to) (eqb s from) (and_from (leb (from + 1) s) (nat_lt s to) (le-leb (from + 1) s (omega arith)) both.1)
-          | inr more ↦ or_right (leb (from + 1) s && nat_lt s to) (eqb s from) (eq-eqb s from (omega (arith, leb-true from s both.0)))
-        ])
-        (λ t. elim (or_cases (leb (from + 1) s && nat_lt s to) (eqb s from) t) [
-          | inl t ↦
-              let both = and_parts (leb (from + 1) s) (nat_lt s to) t in
-              and_from (leb from s) (nat_lt s to) (le-leb from s (omega (arith, leb-true (from + 1) s both.0))) both.1
-          | inr t ↦
-              let same = eqb-true s from t in
-              and_from (leb from s) (nat_lt s to) (le-leb from s (omega arith)) (lt-ltb s to (omega arith))
-        ])
-
-    and_false : (b c : Bool) → c ≡ false → (b && c) ≡ false
-    and_false true c e = e
-    and_false false c e = refl
-
-    pub own_up : (from to : ℕ) → from ≤ to → to < length bays
-        → own_between inst cranes spots w from (to + 1)
-        ≡ together (own_between inst cranes spots w from to) (own_at (cell grid (w + 1) to).ticks (x to))
-    own_up from to le low =
-        own_split inst (row_between cranes spots (w + 1) from to) (row_at cranes spots (w + 1) to) (row_between cranes spots (w + 1) from (to + 1)) all
-        (λ j a. (
-          next_up (in_row cranes (w + 1) j) from to (spot j) le,
-          λ t.
-              let both = and_parts (in_row cranes (w + 1) j) (leb from (spot j) && nat_lt (spot j) to) t in
-              let less = ltb-true (spot j) to (and_parts (leb from (spot j)) (nat_lt (spot j) to) both.1).1 in
-              and_false (in_row cranes (w + 1) j) (eqb (spot j) to) (ne_eqb (spot j) to (λ e. omega arith)),
-        ))
-        ∙ ap (together (own_between inst cranes spots w from to)) (here to low)
-
-    pub own_down : (from to : ℕ) → from < to → from < length bays
-        → own_between inst cranes spots w from to
-        ≡ together (own_between inst cranes spots w (from + 1) to) (own_at (cell grid (w + 1) from).ticks (x from))
-    own_down from to le low =
-        own_split inst (row_between cranes spots (w + 1) (from + 1) to) (row_at cranes spots (w + 1) from) (row_between cranes spots (w + 1) from to) all
-        (λ j a. (
-          next_down (in_row cranes (w + 1) j) from to (spot j) le,
-          λ t.
-              let both = and_parts (in_row cranes (w + 1) j) (leb (from + 1) (spot j) && nat_lt (spot j) to) t in
-              let more = leb-true (from + 1) (spot j) (and_parts (leb (from + 1) (spot j)) (nat_lt (spot j) to) both.1).0 in
-              and_false (in_row cranes (w + 1) j) (eqb (spot j) from) (ne_eqb (spot j) from (λ e. omega arith)),
-        ))
-        ∙ ap (together (own_between inst cranes spots w (from + 1) to)) (here from low)
-
-  pub own_none : (w k : ℕ) → own_between inst cranes spots w k k ≡ None
-  own_none w k =
-      ap (own_of inst) (none all)
+  -- all of a crane's
+  pub whole_own : (t : Table) → IsTable inst cranes s t → (w : ℕ) → w < length inst.cranes
+      → own_in (sum_along Down t w 0 0) ≡ own_of inst (own inst cranes w)
+  whole_own t table w low_w =
+      let row : w + 1 < 10 = omega (arith, low_w, valid.cranes.count.1) in
+      let few_spots : length bays ≤ 240 = known.bays.along.few in
+      ap own_in (table.froms.each (w + 1) 0 row (omega arith) tt
+      ∙ sum_from_is inst cranes spots t.grid.items table.cells (w + 1) row 0 (length bays - 0) (omega (arith, few_spots))
+      (λ j low_j. omega (arith, spot_low j low_j)))
+      ∙ sum_own (row_from cranes spots (w + 1) 0)
+      ∙ ap (own_of inst) (filter_same (row_from cranes spots (w + 1) 0) (λ j. option_map_or (λ k. eqb k w) (crane_in cranes j) false) all
+      (λ j a. by (crane_in cranes j) (spot j)))
     where
-      empty : (b : Bool) (s : ℕ) → (b && (leb k s && nat_lt s k)) ≡ false
-      empty b s = false_from_ne_true _ (λ t.
-          let both = and_parts b (leb k s && nat_lt s k) t in
-          let two = and_parts (leb k s) (nat_lt s k) both.1 in
-          let from = leb-true k s two.0 in
-          let to = ltb-true s k two.1 in
-          omega arith)
+      by : (o : Option ℕ) (n : ℕ) → (option_map_or (λ v. eqb (v + 1) (w + 1)) o false && leb 0 n) ≡ option_map_or (λ k. eqb k w) o false
+      by None n = refl
+      by (Some v) n = same_test _ _
+          (λ t. eq-eqb v w (omega (arith, eqb-true (v + 1) (w + 1) (and_parts (eqb (v + 1) (w + 1)) (leb 0 n) t).0)))
+          (λ t. and_from (eqb (v + 1) (w + 1)) (leb 0 n) (eq-eqb (v + 1) (w + 1) (omega (arith, eqb-true v w t))) (le-leb 0 n (omega arith)))
 
-      none : (js : List ℕ) → filter (row_between cranes spots (w + 1) k k) js ≡ []
-      none [] = refl
-      none (j ∷ js) =
-          ap (λ b. cond b (j ∷ filter (row_between cranes spots (w + 1) k k) js) (filter (row_between cranes spots (w + 1) k k) js)) (empty (in_row cranes (w + 1) j) (spot j))
-          ∙ none js
+  -- those of a row before a spot, and from a spot on, where none lie before the first spot, and none behind the last
+  pub own_before : (w first k : ℕ) → ((j : ℕ) → j < length inst.tasks → in_row cranes (w + 1) j ≡ true → first ≤ spot j)
+      → own_of inst (filter (row_before cranes spots (w + 1) k) all) ≡ own_between inst cranes spots w first k
+  own_before w first k from =
+      ap (own_of inst) (filter_same (row_before cranes spots (w + 1) k) (row_between cranes spots (w + 1) first k) all
+      (λ j a. by (in_row cranes (w + 1) j) (spot j) (from j (in_all j a))))
+    where
+      by : (b : Bool) (n : ℕ) → (b ≡ true → first ≤ n) → (b && nat_lt n k) ≡ (b && (leb first n && nat_lt n k))
+      by false n h = refl
+      by true n h = sym (ap (λ c. c && nat_lt n k) (le-leb first n (h refl)))
+
+  pub own_from : (w k last : ℕ) → ((j : ℕ) → j < length inst.tasks → in_row cranes (w + 1) j ≡ true → spot j ≤ last)
+      → own_of inst (filter (row_from cranes spots (w + 1) k) all) ≡ own_between inst cranes spots w k (last + 1)
+  own_from w k last to =
+      ap (own_of inst) (filter_same (row_from cranes spots (w + 1) k) (row_between cranes spots (w + 1) k (last + 1)) all
+      (λ j a. by (in_row cranes (w + 1) j) (spot j) (to j (in_all j a))))
+    where
+      and_true : (b : Bool) → (b && true) ≡ b
+      and_true true = refl
+      and_true false = refl
+
+      by : (b : Bool) (n : ℕ) → (b ≡ true → n ≤ last) → (b && leb k n) ≡ (b && (leb k n && nat_lt n (last + 1)))
+      by false n h = refl
+      by true n h = sym (ap (λ c. leb k n && c) (lt-ltb n (last + 1) (omega (arith, h refl))) ∙ and_true (leb k n))
 
   -- ---- one stretch
 
@@ -326,7 +266,7 @@ module _ (inst : InstanceView) (valid : Valid inst) (cranes : List (Option ℕ))
         ∙ ap (λ o. done_by inst turn w o (bars_of inst cranes (barring inst cranes w (x low) (x high)))) own_is
         ∙ ap (done_by inst turn w (own_between inst cranes spots w low (high + 1))) barring_is)
 
-module _ (inst : InstanceView) (cranes : List (Option ℕ)) (s : Spots) (p : Place) (k : IsKnown inst cranes s p)
+module _ (inst : InstanceView) (cranes : List (Option ℕ)) (s : Spots) (t : Table) (p : Place) (k : IsKnown inst cranes s t p)
     (low high : ℕ) (order : low ≤ high) (within : high < length s.bays.items) where
   abbrev upper : ℕ
   upper = get_or s.near_to.items low 0
@@ -340,42 +280,64 @@ module _ (inst : InstanceView) (cranes : List (Option ℕ)) (s : Spots) (p : Pla
   lower_in : lower ≤ length s.bays.items
   lower_in = (k.spots.near_from.each high within).within
 
-  above_is : get_or p.above upper past_bars ≡ bars_before inst cranes s.of_task.items (p.crane + 2) upper
-  above_is = k.above.each upper upper_in
+  few_spots : length s.bays.items ≤ 240
+  few_spots = k.spots.bays.along.few
 
-  below_is : get_or p.below lower past_bars ≡ bars_from inst cranes s.of_task.items p.crane lower
-  below_is = k.below.each lower lower_in
+  abbrev pub above : ℕ → Bars
+  above n = get_or t.before.items (241 * (p.crane + 2) + n) past_bars
 
-  pub above_low : (n : ℕ) → n ≡ upper → (get_or p.above n past_bars).ticks < 2 ^ 38
+  abbrev pub below : ℕ → Bars
+  below n = get_or t.from.items (241 * p.crane + n) past_bars
+
+  above_is : above upper ≡ bars_before inst cranes s.of_task.items (p.crane + 2) upper
+  above_is =
+      let row : p.crane + 2 < 10 = omega (arith, k.crane, k.valid.cranes.count.1) in
+      k.table.befores.each (p.crane + 2) upper row upper_in tt
+      ∙ sum_before_is inst cranes s.of_task.items t.grid.items k.table.cells (p.crane + 2) row upper (omega (arith, upper_in, few_spots))
+
+  below_is : below lower ≡ bars_from inst cranes s.of_task.items p.crane lower
+  below_is =
+      let row : p.crane < 10 = omega (arith, k.crane, k.valid.cranes.count.1) in
+      k.table.froms.each p.crane lower row lower_in tt
+      ∙ sum_from_is inst cranes s.of_task.items t.grid.items k.table.cells p.crane row lower (length s.bays.items - lower) (omega (arith, lower_in, few_spots))
+      (λ j low_j. omega (arith, spot_low inst k.valid cranes s k.spots j low_j, lower_in))
+
+  pub upper_low : (n : ℕ) → n ≡ upper → 241 * (p.crane + 2) + n < length t.before.items
+  upper_low n is = omega (arith, is, upper_in, few_spots, k.crane, k.valid.cranes.count.1, k.table.befores.many)
+
+  pub lower_low : (n : ℕ) → n ≡ lower → 241 * p.crane + n < length t.from.items
+  lower_low n is = omega (arith, is, lower_in, few_spots, k.crane, k.valid.cranes.count.1, k.table.froms.many)
+
+  pub above_low : (n : ℕ) → n ≡ upper → (above n).ticks < 2 ^ 38
   above_low n is =
-      let same = ap (λ n. (get_or p.above n past_bars).ticks) is in
+      let same = ap (λ n. (above n).ticks) is in
       let low_ticks = bars_low inst cranes k.valid (row_before cranes s.of_task.items (p.crane + 2) upper) in
       omega (arith, same, ap (λ (b : Bars). b.ticks) above_is, low_ticks)
 
-  pub below_low : (n : ℕ) → n ≡ lower → (get_or p.below n past_bars).ticks < 2 ^ 38
+  pub below_low : (n : ℕ) → n ≡ lower → (below n).ticks < 2 ^ 38
   below_low n is =
-      let same = ap (λ n. (get_or p.below n past_bars).ticks) is in
+      let same = ap (λ n. (below n).ticks) is in
       let low_ticks = bars_low inst cranes k.valid (row_from cranes s.of_task.items p.crane lower) in
       omega (arith, same, ap (λ (b : Bars). b.ticks) below_is, low_ticks)
 
-  pub above_soon : (n : ℕ) → n ≡ upper → (get_or p.above n past_bars).soonest ≤ NEVER
+  pub above_soon : (n : ℕ) → n ≡ upper → (above n).soonest ≤ NEVER
   above_soon n is =
-      let same = ap (λ n. (get_or p.above n past_bars).soonest) is in
+      let same = ap (λ n. (above n).soonest) is in
       let soon = soonest_low inst cranes (filter (row_before cranes s.of_task.items (p.crane + 2) upper) (task_numbers inst)) in
       omega (arith, same, ap (λ (b : Bars). b.soonest) above_is, soon)
 
   whole : (turn : Turn) → done_in inst turn cranes p.crane (spot_bay s.bays.items low) (spot_bay s.bays.items high)
       ≡ cond (lie_in p.left (spot_bay s.bays.items low) (spot_bay s.bays.items high))
       (done_by inst turn p.crane (own_between inst cranes s.of_task.items p.crane low (high + 1))
-      (joined (get_or p.above upper past_bars) (get_or p.below lower past_bars))) 0
+      (joined (above upper) (below lower))) 0
   whole turn =
       let own = own_between inst cranes s.of_task.items p.crane low (high + 1) in
       let a = spot_bay s.bays.items low in
       let b = spot_bay s.bays.items high in
-      done_is inst k.valid cranes s k.spots p.crane low high order within k.soon turn
+      done_is inst k.valid cranes s k.spots p.crane low high order within k.table.soon turn
       ∙ ap (λ o. cond (lie_in o a b) (done_by inst turn p.crane own (joined (bars_before inst cranes s.of_task.items (p.crane + 2) upper) (bars_from inst cranes s.of_task.items p.crane lower))) 0) (sym k.left)
       ∙ ap (λ v. cond (lie_in p.left a b) (done_by inst turn p.crane own (joined v (bars_from inst cranes s.of_task.items p.crane lower))) 0) (sym above_is)
-      ∙ ap (λ v. cond (lie_in p.left a b) (done_by inst turn p.crane own (joined (get_or p.above upper past_bars) v)) 0) (sym below_is)
+      ∙ ap (λ v. cond (lie_in p.left a b) (done_by inst turn p.crane own (joined (above upper) v)) 0) (sym below_is)
 
   module _ (turn : Turn) (a b : ℤ) (a_is : a ≡ spot_bay s.bays.items low) (b_is : b ≡ spot_bay s.bays.items high) (c : Bool)
       (c_is : c ≡ lie_in p.left a b) where
@@ -387,16 +349,17 @@ module _ (inst : InstanceView) (cranes : List (Option ℕ)) (s : Spots) (p : Pla
         sym (whole turn ∙ cond-false (lie_in p.left (spot_bay s.bays.items low) (spot_bay s.bays.items high)) _ 0 (sym test ∙ f))
 
     pub done_inside : c ≡ true → (n m : ℕ) → n ≡ upper → m ≡ lower → (own : Option Own)
-        → own ≡ own_between inst cranes s.of_task.items p.crane low (high + 1) → (both : Bars)
-        → both ≡ joined (get_or p.above n past_bars) (get_or p.below m past_bars)
+        → own ≡ own_between inst cranes s.of_task.items p.crane low (high + 1) → (one two : Bars) → one ≡ above n → two ≡ below m
+        → (both : Bars) → both ≡ joined one two
         → done_by inst turn p.crane own both
         ≡ done_in inst turn cranes p.crane (spot_bay s.bays.items low) (spot_bay s.bays.items high)
-    done_inside t n m n_is m_is own own_eq both both_eq =
+    done_inside inside n m n_is m_is own own_eq one two one_is two_is both both_eq =
         ap (λ o. done_by inst turn p.crane o both) own_eq
         ∙ ap (done_by inst turn p.crane (own_between inst cranes s.of_task.items p.crane low (high + 1)))
-        (both_eq ∙ ap (λ i. joined (get_or p.above i past_bars) (get_or p.below m past_bars)) n_is
-        ∙ ap (λ i. joined (get_or p.above upper past_bars) (get_or p.below i past_bars)) m_is)
-        ∙ sym (whole turn ∙ cond-true (lie_in p.left (spot_bay s.bays.items low) (spot_bay s.bays.items high)) _ 0 (sym test ∙ t))
+        (both_eq ∙ ap (λ v. joined v two) one_is ∙ ap (joined (above n)) two_is
+        ∙ ap (λ i. joined (above i) (below m)) n_is
+        ∙ ap (λ i. joined (above upper) (below i)) m_is)
+        ∙ sym (whole turn ∙ cond-true (lie_in p.left (spot_bay s.bays.items low) (spot_bay s.bays.items high)) _ 0 (sym test ∙ inside))
 
   pub small_between : (own : Option Own) → own ≡ own_between inst cranes s.of_task.items p.crane low (high + 1)
       → IfSome own (IsSmall MOST_TASKS)
@@ -405,10 +368,6 @@ module _ (inst : InstanceView) (cranes : List (Option ℕ)) (s : Spots) (p : Pla
       (own_low inst k.valid cranes s k.spots (row_between cranes s.of_task.items (p.crane + 1) low (high + 1)))
 
 -- ---- the greatest of stretches
-
-pub greatest_none : (f : ℕ → ℕ) (from start : ℕ) → IsGreatest f from from start start
-greatest_none f from start =
-    record { least = omega arith; each = λ k up down. absurd (omega arith); some = λ most le h. le }
 
 greatest_up : (f : ℕ → ℕ) (from to start n : ℕ) → from ≤ to → IsGreatest f from to start n
     → IsGreatest f from (to + 1) start (max n (f to))
@@ -433,23 +392,8 @@ greatest_down f from to start n order g = record {
 }
 
 module _ (inst : InstanceView) (valid : Valid inst) (cranes : List (Option ℕ)) (s : Spots) (p : Place)
-    (known : IsKnown inst cranes s p) (steps : ℕ) (low : steps < p.last - p.first + 1) where
+    (t : Table) (known : IsKnown inst cranes s t p) (steps : ℕ) (low : steps < p.last - p.first + 1) where
   -- with one stretch more
-  pub sweep_own : (grid : List Bars) → IsGrid inst cranes s.of_task.items grid → (way : Direction)
-      → together (own_between inst cranes s.of_task.items p.crane (swept_from way p steps) (swept_to way p steps))
-      (own_at (cell grid (p.crane + 1) (next_spot way p steps)).ticks (spot_bay s.bays.items (next_spot way p steps)))
-      ≡ own_between inst cranes s.of_task.items p.crane (swept_from way p (steps + 1)) (swept_to way p (steps + 1))
-  sweep_own grid g Up =
-      let to : p.first + steps + 1 ≡ p.first + (steps + 1) = omega arith in
-      sym (own_up inst valid cranes s known.spots grid g p.crane known.crane p.first (p.first + steps) (omega arith) (omega (arith, known.order, known.within)))
-      ∙ ap (own_between inst cranes s.of_task.items p.crane p.first) to
-  sweep_own grid g Down =
-      let from : p.last + 1 - steps ≡ p.last - steps + 1 = omega (arith, known.order) in
-      let after : p.last - steps ≡ p.last + 1 - (steps + 1) = omega (arith, known.order) in
-      ap (λ n. together (own_between inst cranes s.of_task.items p.crane n (p.last + 1)) (own_at (cell grid (p.crane + 1) (p.last - steps)).ticks (spot_bay s.bays.items (p.last - steps)))) from
-      ∙ sym (own_down inst valid cranes s known.spots grid g p.crane known.crane (p.last - steps) (p.last + 1) (omega arith) (omega (arith, known.within)))
-      ∙ ap (λ n. own_between inst cranes s.of_task.items p.crane n (p.last + 1)) after
-
   pub sweep_greatest : (turn : Turn) (way : Direction) (start n : ℕ)
       → IsGreatest (stretch inst turn cranes s p way) (swept_from way p steps) (swept_to way p steps) start n
       → IsGreatest (stretch inst turn cranes s p way) (swept_from way p (steps + 1)) (swept_to way p (steps + 1)) start
@@ -493,16 +437,7 @@ module _ (p : Place) (steps : ℕ) (low : steps < p.last - p.first + 1) (order :
   stretch_is Up inst turn cranes s = refl
   stretch_is Down inst turn cranes s = refl
 
--- where it begins, and where it ends
-pub swept_none : (way : Direction) (p : Place) → p.first ≤ p.last → (f : ℕ → ℕ) (start : ℕ)
-    → IsGreatest f (swept_from way p 0) (swept_to way p 0) start start
-swept_none Up p order f start =
-    let e : p.first ≡ p.first + 0 = omega arith in
-    subst (λ (k : ℕ). IsGreatest f p.first k start start) e (greatest_none f p.first start)
-swept_none Down p order f start =
-    let e : p.last + 1 ≡ p.last + 1 - 0 = omega arith in
-    subst (λ (k : ℕ). IsGreatest f k (p.last + 1) start start) e (greatest_none f (p.last + 1) start)
-
+-- where it ends
 pub swept_all : (way : Direction) (p : Place) → p.first ≤ p.last → (f : ℕ → ℕ) (start n steps : ℕ) → steps ≡ p.last - p.first + 1
     → IsGreatest f (swept_from way p steps) (swept_to way p steps) start n → IsGreatest f p.first (p.last + 1) start n
 swept_all Up p order f start n steps is g =
@@ -511,381 +446,3 @@ swept_all Up p order f start n steps is g =
 swept_all Down p order f start n steps is g =
     let e : p.last + 1 - steps ≡ p.first = omega (arith, order, is) in
     subst (λ (k : ℕ). IsGreatest f k (p.last + 1) start n) e g
-
-pub swept_empty : (inst : InstanceView) (valid : Valid inst) (cranes : List (Option ℕ)) (s : Spots) (p : Place)
-    → IsKnown inst cranes s p → (way : Direction)
-    → None ≡ own_between inst cranes s.of_task.items p.crane (swept_from way p 0) (swept_to way p 0)
-swept_empty inst valid cranes s p known Up =
-    let e : p.first ≡ p.first + 0 = omega arith in
-    sym (own_none inst valid cranes s known.spots p.crane p.first)
-    ∙ ap (own_between inst cranes s.of_task.items p.crane p.first) e
-swept_empty inst valid cranes s p known Down =
-    let e : p.last + 1 ≡ p.last + 1 - 0 = omega arith in
-    sym (own_none inst valid cranes s known.spots p.crane (p.last + 1))
-    ∙ ap (λ n. own_between inst cranes s.of_task.items p.crane n (p.last + 1)) e
-
--- ---- all stretches of a crane
-
-greatest_at : (ns : List ℕ) (n : ℕ) → Among ns n → n ≤ greatest ns
-greatest_at [] n a = absurd a
-greatest_at (m ∷ ms) n (inl e) = omega (arith, e)
-greatest_at (m ∷ ms) n (inr a) = omega (arith, greatest_at ms n a)
-
-lowest_one : (inst : InstanceView) (j : ℕ) (js : List ℕ) → (k : ℕ) × Among (j ∷ js) k × (bay_of inst k ≡ lowest inst j js)
-lowest_one inst j [] = (j, inl refl, refl)
-lowest_one inst j (i ∷ is) =
-    let r = lowest_one inst i is in
-    by_lt_z {P = (k : ℕ) × Among (j ∷ i ∷ is) k × (bay_of inst k ≡ int_min (bay_of inst j) (lowest inst i is))} (lowest inst i is) (bay_of inst j)
-    (λ less. let at = r.2 in (r.0, inr r.1, omega (arith, ints, int_min_is (bay_of inst j) (lowest inst i is), less, at)))
-    (λ over. (j, inl refl, omega (arith, ints, int_min_is (bay_of inst j) (lowest inst i is), over)))
-
-highest_one : (inst : InstanceView) (j : ℕ) (js : List ℕ) → (k : ℕ) × Among (j ∷ js) k × (bay_of inst k ≡ highest inst j js)
-highest_one inst j [] = (j, inl refl, refl)
-highest_one inst j (i ∷ is) =
-    let r = highest_one inst i is in
-    by_lt_z {P = (k : ℕ) × Among (j ∷ i ∷ is) k × (bay_of inst k ≡ int_max (bay_of inst j) (highest inst i is))} (bay_of inst j) (highest inst i is)
-    (λ less. let at = r.2 in (r.0, inr r.1, omega (arith, ints, int_max_is (bay_of inst j) (highest inst i is), less, at)))
-    (λ over. (j, inl refl, omega (arith, ints, int_max_is (bay_of inst j) (highest inst i is), over)))
-
-module _ (inst : InstanceView) (valid : Valid inst) (cranes : List (Option ℕ)) (s : Spots) (known : AreSpots inst s)
-    (turn : Turn) (w : ℕ) where
-  abbrev gone_of : ℕ
-  gone_of = (frame inst turn cranes w).gone
-
-  -- a crane without tasks waits for nothing
-  no_own : (os : List ℕ) → None ≡ own_of inst os → os ≡ []
-  no_own [] e = refl
-  no_own (i ∷ is) e = absurd (cc e)
-
-  zero_done : own inst cranes w ≡ [] → (low high : ℤ) → done_in inst turn cranes w low high ≡ 0
-  zero_done none low high =
-      ap (λ os. cond (list_all (λ j. is_some (crane_in cranes j) || lies inst low high j) (task_numbers inst))
-      (both_done inst turn cranes w (filter (lies inst low high) os) (barring inst cranes w low high)) 0) none
-      ∙ either (list_all (λ j. is_some (crane_in cranes j) || lies inst low high j) (task_numbers inst))
-    where
-      either : (b : Bool) → ◌≡◌ {A = ℕ} (cond b 0 0) 0
-      either true = refl
-      either false = refl
-
-  all_zero : own inst cranes w ≡ [] → (is : List ℕ) (n : ℕ) → Among (all_done inst turn cranes w is) n → n ≡ 0
-  all_zero none [] n a = absurd a
-  all_zero none (i ∷ is) n a =
-      let low = lowest inst i is in
-      let high = highest inst i is in
-      let r = flat_among
-      (λ j. done_in inst turn cranes w low (bay_of inst j) ∷ done_in inst turn cranes w (bay_of inst j) high ∷ [])
-      (filter (lies inst low high) (task_numbers inst)) n a in
-      one r.0 low high r.2
-    where
-      one : (j : ℕ) (low high : ℤ)
-          → Among (done_in inst turn cranes w low (bay_of inst j) ∷ done_in inst turn cranes w (bay_of inst j) high ∷ []) n → n ≡ 0
-      one j low high (inl e) = sym e ∙ zero_done none low (bay_of inst j)
-      one j low high (inr (inl e)) = sym e ∙ zero_done none (bay_of inst j) high
-      one j low high (inr (inr b)) = absurd b
-
-  pub gone_alone : None ≡ own_of inst (own inst cranes w) → gone_of ≡ (barred_frame inst turn cranes w).gone
-  gone_alone none = by (greatest_among gone_of (all_done inst turn cranes w (own_or_left inst cranes w)))
-    where
-      by : Among (gone_of ∷ all_done inst turn cranes w (own_or_left inst cranes w)) (barred_frame inst turn cranes w).gone
-          → gone_of ≡ (barred_frame inst turn cranes w).gone
-      by (inl e) = e
-      by (inr a) =
-          let z = all_zero (no_own (own inst cranes w) none) (own_or_left inst cranes w) _ a in
-          let most = greatest_at (gone_of ∷ all_done inst turn cranes w (own_or_left inst cranes w)) gone_of (inl refl) in
-          omega (arith, z, most)
-
-  -- the tasks that it has or may get
-  pub own_left : own_of inst (own_or_left inst cranes w) ≡ together (own_of inst (own inst cranes w)) (own_of inst (left_of inst cranes))
-  own_left =
-      own_split inst (λ j. option_map_or (λ k. eqb k w) (crane_in cranes j) false) (λ j. is_none (crane_in cranes j))
-      (λ j. option_map_or (λ k. eqb k w) (crane_in cranes j) true) (task_numbers inst)
-      (λ j a. (by (crane_in cranes j), apart (crane_in cranes j)))
-    where
-      by : (o : Option ℕ) → option_map_or (λ k. eqb k w) o true ≡ (option_map_or (λ k. eqb k w) o false || is_none o)
-      by None = refl
-      by (Some k) = or_false (eqb k w)
-        where
-          or_false : (b : Bool) → b ≡ (b || false)
-          or_false true = refl
-          or_false false = refl
-
-      apart : (o : Option ℕ) → option_map_or (λ k. eqb k w) o false ≡ true → is_none o ≡ false
-      apart None t = absurd (false≢true t)
-      apart (Some k) t = refl
-
-  module _ (all : Own) (p : Place) (crane_is : p.crane ≡ w) (from : IsCount s.bays.items all.low p.first)
-      (to : IsCount s.bays.items all.high p.last) where
-    abbrev spot_x : ℕ → ℤ
-    spot_x k = spot_bay s.bays.items k
-
-    -- where these tasks begin and end
-    pub record HasBounds (low high : ℤ) : Type 0 where
-      pub order : p.first ≤ p.last
-      pub within : p.last < length s.bays.items
-      pub low_is : spot_x p.first ≡ low
-      pub high_is : spot_x p.last ≡ high
-
-    bounds_of : (is : List ℕ) → ((k : ℕ) → Among is k → k < length inst.tasks) → own_of inst is ≡ Some all → HasBounds all.low all.high
-    bounds_of [] low_k e = absurd (cc e)
-    bounds_of (i ∷ is) low_k e =
-        let low_is : lowest inst i is ≡ all.low = ap low_in e in
-        let high_is : highest inst i is ≡ all.high = ap high_in e in
-        let a = lowest_one inst i is in
-        let b = highest_one inst i is in
-        let at_a = spot_at inst s.bays.items known.bays a.0 (get_or s.of_task.items a.0 0) (low_k a.0 a.1) (known.of_task.each a.0 (low_k a.0 a.1)) in
-        let at_b = spot_at inst s.bays.items known.bays b.0 (get_or s.of_task.items b.0 0) (low_k b.0 b.1) (known.of_task.each b.0 (low_k b.0 b.1)) in
-        let first = count_is s.bays.items known.bays.along.rising all.low p.first (get_or s.of_task.items a.0 0) from at_a.0 (at_a.1 ∙ a.2 ∙ low_is) in
-        let last = count_is s.bays.items known.bays.along.rising all.high p.last (get_or s.of_task.items b.0 0) to at_b.0 (at_b.1 ∙ b.2 ∙ high_is) in
-        let low_x : spot_x p.first ≡ all.low = ap spot_x first ∙ at_a.1 ∙ a.2 ∙ low_is in
-        let high_x : spot_x p.last ≡ all.high = ap spot_x last ∙ at_b.1 ∙ b.2 ∙ high_is in
-        let one = lowest_at inst i is i (inl refl) in
-        let two = highest_at inst i is i (inl refl) in
-        let inside : p.last < length s.bays.items = omega (arith, last, at_b.0) in
-        record {
-          order = rises_back inst s.bays.items known.bays p.first p.last (omega (arith, first, at_a.0)) (omega (arith, ints, low_x, high_x, low_is, high_is, one, two));
-          within = inside;
-          low_is = low_x;
-          high_is = high_x;
-        }
-      where
-        low_in : Option Own → ℤ
-        low_in None = pos 0
-        low_in (Some o) = o.low
-
-        high_in : Option Own → ℤ
-        high_in None = pos 0
-        high_in (Some o) = o.high
-
-    pub bounds : together (own_of inst (own inst cranes w)) (own_of inst (left_of inst cranes)) ≡ Some all → HasBounds all.low all.high
-    bounds e =
-        bounds_of (own_or_left inst cranes w)
-        (λ k a. let r = filter_among (λ j. option_map_or (λ k. eqb k w) (crane_in cranes j) true) (task_numbers inst) k a in
-        omega (arith, (range_among k 0 (length inst.tasks) r.0).1))
-        (own_left ∙ e)
-
-    module _ (b : HasBounds all.low all.high) (mid n : ℕ)
-        (ups : IsGreatest (stretch inst turn cranes s p Up) p.first (p.last + 1) gone_of mid)
-        (downs : IsGreatest (stretch inst turn cranes s p Down) p.first (p.last + 1) mid n) where
-      done : ℤ → ℤ → ℕ
-      done low high = done_in inst turn cranes w low high
-
-      up_is : (k : ℕ) → stretch inst turn cranes s p Up k ≡ done_in inst turn cranes w all.low (spot_x k)
-      up_is k = ap (λ v. done_in inst turn cranes v (spot_x p.first) (spot_x k)) crane_is ∙ ap (λ y. done_in inst turn cranes w y (spot_x k)) b.low_is
-
-      down_is : (k : ℕ) → stretch inst turn cranes s p Down k ≡ done_in inst turn cranes w (spot_x k) all.high
-      down_is k = ap (λ v. done_in inst turn cranes v (spot_x k) (spot_x p.last)) crane_is ∙ ap (done_in inst turn cranes w (spot_x k)) b.high_is
-
-      abbrev pair : ℕ → List ℕ
-      pair j = done_in inst turn cranes w all.low (bay_of inst j) ∷ done_in inst turn cranes w (bay_of inst j) all.high ∷ []
-
-      abbrev list : List ℕ
-      list = flat_map pair (filter (lies inst all.low all.high) (task_numbers inst))
-
-      -- each stretch is one of those of the definition
-      listed : (k : ℕ) → p.first ≤ k → k < p.last + 1
-          → Among list (done_in inst turn cranes w all.low (spot_x k)) × Among list (done_in inst turn cranes w (spot_x k) all.high)
-      listed k up down =
-          let inside : k < length s.bays.items = omega (arith, down, b.within) in
-          let r = known.bays.used k inside in
-          let one = rises inst s.bays.items known.bays p.first k up inside in
-          let two = rises inst s.bays.items known.bays k p.last (omega arith) b.within in
-          let low_is = b.low_is in
-          let high_is = b.high_is in
-          let is = r.2 in
-          let above : all.low ≤ℤ bay_of inst r.0 = omega (arith, ints, one, low_is, is) in
-          let below : bay_of inst r.0 ≤ℤ all.high = omega (arith, ints, two, high_is, is) in
-          let there = among_filter (lies inst all.low all.high) (task_numbers inst) r.0 (among_range r.0 0 (length inst.tasks) (omega arith) (omega (arith, r.1)))
-          (and_from (int_le all.low (bay_of inst r.0)) (int_le (bay_of inst r.0) all.high) (T_true above.le) (T_true below.le)) in (
-            among_flat pair (filter (lies inst all.low all.high) (task_numbers inst)) r.0 _ there (inl (ap (done_in inst turn cranes w all.low) r.2)),
-            among_flat pair (filter (lies inst all.low all.high) (task_numbers inst)) r.0 _ there (inr (inl (ap (λ y. done_in inst turn cranes w y all.high) r.2))),
-          )
-
-      at_most : n ≤ greatest (gone_of ∷ list)
-      at_most =
-          let most = greatest (gone_of ∷ list) in
-          downs.some most
-          (ups.some most (greatest_at (gone_of ∷ list) gone_of (inl refl)) (λ k up down.
-          let one = greatest_at (gone_of ∷ list) (done_in inst turn cranes w all.low (spot_x k)) (inr (listed k up down).0) in
-          omega (arith, one, up_is k)))
-          (λ k up down.
-          let one = greatest_at (gone_of ∷ list) (done_in inst turn cranes w (spot_x k) all.high) (inr (listed k up down).1) in
-          omega (arith, one, down_is k))
-
-      -- and each of these is one of the stretches
-      of_list : (m : ℕ) → Among list m → m ≤ n
-      of_list m a =
-          let r = flat_among pair (filter (lies inst all.low all.high) (task_numbers inst)) m a in
-          let f = filter_among (lies inst all.low all.high) (task_numbers inst) r.0 r.1 in
-          let low_j : r.0 < length inst.tasks = omega (arith, (range_among r.0 0 (length inst.tasks) f.0).1) in
-          let both = and_parts (int_le all.low (bay_of inst r.0)) (int_le (bay_of inst r.0) all.high) f.1 in
-          let above : all.low ≤ℤ bay_of inst r.0 = record { le = true_T both.0 } in
-          let below : bay_of inst r.0 ≤ℤ all.high = record { le = true_T both.1 } in
-          let k = get_or s.of_task.items r.0 0 in
-          let at = spot_at inst s.bays.items known.bays r.0 k low_j (known.of_task.each r.0 low_j) in
-          let is = at.1 in
-          let low_is = b.low_is in
-          let high_is = b.high_is in
-          let from_k = rises_back inst s.bays.items known.bays p.first k (omega (arith, b.order, b.within)) (omega (arith, ints, above, is, low_is)) in
-          let to_k = rises_back inst s.bays.items known.bays k p.last at.0 (omega (arith, ints, below, is, high_is)) in
-          one r.0 k is from_k to_k r.2
-        where
-          one : (j k : ℕ) → spot_x k ≡ bay_of inst j → p.first ≤ k → k ≤ p.last → Among (pair j) m → m ≤ n
-          one j k is from_k to_k (inl e) =
-              let same = ap (done_in inst turn cranes w all.low) is in
-              omega (arith, ups.each k from_k (omega arith), downs.least, up_is k, same, e)
-          one j k is from_k to_k (inr (inl e)) =
-              let same = ap (λ y. done_in inst turn cranes w y all.high) is in
-              omega (arith, downs.each k from_k (omega arith), down_is k, same, e)
-          one j k is from_k to_k (inr (inr none)) = absurd none
-
-      at_least : greatest (gone_of ∷ list) ≤ n
-      at_least = by (greatest_among gone_of list)
-        where
-          by : Among (gone_of ∷ list) (greatest (gone_of ∷ list)) → greatest (gone_of ∷ list) ≤ n
-          by (inl e) = omega (arith, e, ups.least, downs.least)
-          by (inr a) = of_list (greatest (gone_of ∷ list)) a
-
-      same_list : (is : List ℕ) → own_of inst is ≡ Some all → all_done inst turn cranes w is ≡ list
-      same_list [] e = absurd (cc e)
-      same_list (i ∷ is) e =
-          let low_is : lowest inst i is ≡ all.low = ap low_in e in
-          let high_is : highest inst i is ≡ all.high = ap high_in e in
-          let P = λ (low high : ℤ). flat_map (λ j. done_in inst turn cranes w low (bay_of inst j) ∷ done_in inst turn cranes w (bay_of inst j) high ∷ [])
-          (filter (lies inst low high) (task_numbers inst)) in
-          ap (λ y. P y (highest inst i is)) low_is ∙ ap (P all.low) high_is
-        where
-          low_in : Option Own → ℤ
-          low_in None = pos 0
-          low_in (Some o) = o.low
-
-          high_in : Option Own → ℤ
-          high_in None = pos 0
-          high_in (Some o) = o.high
-
-      pub gone_is : together (own_of inst (own inst cranes w)) (own_of inst (left_of inst cranes)) ≡ Some all
-          → n ≡ (barred_frame inst turn cranes w).gone
-      gone_is e =
-          let same = same_list (own_or_left inst cranes w) (own_left ∙ e) in
-          let whole : greatest (gone_of ∷ list) ≡ (barred_frame inst turn cranes w).gone = ap (λ ns. greatest (gone_of ∷ ns)) (sym same) in
-          omega (arith, at_most, at_least, whole)
-
--- ---- what code keeps as it sweeps
-
-pub small_ticks : (o : Option Own) → IfSome o (IsSmall MOST_TASKS) → IfSome o (λ o. o.ticks < 2 ^ 60)
-small_ticks None h = tt
-small_ticks (Some o) h = omega (arith, h.ticks)
-
-pub own_at_small : (ticks : ℕ) (y : ℤ) → ticks < 2 ^ 60 → IfSome (own_at ticks y) (λ o. o.ticks < 2 ^ 60)
-own_at_small ticks y low = cond_both (eqb ticks 0) None _ (λ o. IfSome o (λ o. o.ticks < 2 ^ 60)) (λ _. tt) (λ _. low)
-
-module _ (inst : InstanceView) (cranes : List (Option ℕ)) (s : Spots) (p : Place) (k : IsKnown inst cranes s p)
-    (grid : List Bars) (g : IsGrid inst cranes s.of_task.items grid) (way : Direction) (steps : ℕ)
-    (low : steps < p.last - p.first + 1) where
-  pub cell_low : (n : ℕ) → n ≡ next_spot way p steps → (cell grid (p.crane + 1) n).ticks < 2 ^ 38
-  cell_low n is =
-      let spot_in = next_in p steps low k.order way in
-      let small = bars_low inst cranes k.valid (row_at cranes s.of_task.items (p.crane + 1) n) in
-      let at = g.each (p.crane + 1) n (omega (arith, k.crane, k.valid.cranes.count.1)) (omega (arith, is, spot_in, k.within, k.spots.bays.along.few)) in
-      omega (arith, ap (λ (b : Bars). b.ticks) at, small)
-
-  pub swept_small : (own : Option Own)
-      → own ≡ own_between inst cranes s.of_task.items p.crane (swept_from way p steps) (swept_to way p steps)
-      → IfSome own (λ o. o.ticks < 2 ^ 60)
-  swept_small own e =
-      small_ticks own (subst (λ (o : Option Own). IfSome o (IsSmall MOST_TASKS)) (sym e)
-      (own_low inst k.valid cranes s k.spots (row_between cranes s.of_task.items (p.crane + 1) (swept_from way p steps) (swept_to way p steps))))
-
-  module _ (own : Option Own)
-      (own_eq : own ≡ own_between inst cranes s.of_task.items p.crane (swept_from way p steps) (swept_to way p steps))
-      (n : ℕ) (n_is : n ≡ next_spot way p steps) (y : ℤ) (y_is : y ≡ spot_bay s.bays.items n) (at : Option Own)
-      (at_is : at ≡ own_at (cell grid (p.crane + 1) n).ticks y) where
-    pub next_own : together own at
-        ≡ own_between inst cranes s.of_task.items p.crane (swept_from way p (steps + 1)) (swept_to way p (steps + 1))
-    next_own =
-        ap (together own) (at_is ∙ ap (own_at (cell grid (p.crane + 1) n).ticks) y_is ∙ ap (λ i. own_at (cell grid (p.crane + 1) i).ticks (spot_bay s.bays.items i)) n_is)
-        ∙ ap (λ o. together o (own_at (cell grid (p.crane + 1) (next_spot way p steps)).ticks (spot_bay s.bays.items (next_spot way p steps)))) own_eq
-        ∙ sweep_own inst k.valid cranes s p k steps low grid g way
-
-    pub next_known : (lo hi : ℕ) → lo ≡ low_spot way p steps → hi ≡ high_spot way p steps
-        → together own at ≡ own_between inst cranes s.of_task.items p.crane lo (hi + 1)
-    next_known lo hi lo_is hi_is =
-        next_own
-        ∙ ap (λ i. own_between inst cranes s.of_task.items p.crane i (swept_to way p (steps + 1))) (next_from_is p steps low k.order way ∙ sym lo_is)
-        ∙ ap (own_between inst cranes s.of_task.items p.crane lo) (next_to_is p steps low k.order way ∙ ap (λ i. i + 1) (sym hi_is))
-
-  pub next_greatest : (turn : Turn) (start n d m lo hi : ℕ) → lo ≡ low_spot way p steps → hi ≡ high_spot way p steps
-      → d ≡ done_in inst turn cranes p.crane (spot_bay s.bays.items lo) (spot_bay s.bays.items hi) → m ≡ max n d
-      → IsGreatest (stretch inst turn cranes s p way) (swept_from way p steps) (swept_to way p steps) start n
-      → IsGreatest (stretch inst turn cranes s p way) (swept_from way p (steps + 1)) (swept_to way p (steps + 1)) start m
-  next_greatest turn start n d m lo hi lo_is hi_is d_is m_is h =
-      let done = λ (i j : ℕ). done_in inst turn cranes p.crane (spot_bay s.bays.items i) (spot_bay s.bays.items j) in
-      let same : d ≡ stretch inst turn cranes s p way (next_spot way p steps) =
-      d_is ∙ ap (λ i. done i hi) lo_is ∙ ap (done (low_spot way p steps)) hi_is
-      ∙ sym (stretch_is p steps low k.order way inst turn cranes s) in
-      subst (λ (i : ℕ). IsGreatest (stretch inst turn cranes s p way) (swept_from way p (steps + 1)) (swept_to way p (steps + 1)) start i)
-      (ap (max n) (sym same) ∙ sym m_is)
-      (sweep_greatest inst k.valid cranes s p k steps low turn way start n h)
-
--- ---- a crane's place
-
-module _ (inst : InstanceView) (cranes : List (Option ℕ)) (s : Spots) (grid : List Bars) (w : ℕ) (o left : Option Own)
-    (a : IsAround inst cranes s grid w o left) (low_w : w < length inst.cranes) where
-  pub around_own : IfSome o (λ o. o.ticks < 2 ^ 60)
-  around_own =
-      small_ticks o (subst (λ (o : Option Own). IfSome o (IsSmall MOST_TASKS)) (sym a.own_is)
-      (own_low inst a.valid cranes s a.spots (λ j. option_map_or (λ k. eqb k w) (crane_in cranes j) false)))
-
-  pub around_left : IfSome left (λ o. o.ticks < 2 ^ 60)
-  around_left =
-      small_ticks left (subst (λ (o : Option Own). IfSome o (IsSmall MOST_TASKS)) (sym a.left_is)
-      (own_low inst a.valid cranes s a.spots (λ j. is_none (crane_in cranes j))))
-
-  module _ (all : Own) (is : together o left ≡ Some all) where
-    both : together (own_of inst (own inst cranes w)) (own_of inst (left_of inst cranes)) ≡ Some all
-    both = ap (λ p. together p (own_of inst (left_of inst cranes))) (sym a.own_is) ∙ ap (together o) (sym a.left_is) ∙ is
-
-    pub all_small : IsSmall MOST_TASKS all
-    all_small =
-        subst (λ (o : Option Own). IfSome o (IsSmall MOST_TASKS)) (own_left inst a.valid cranes s a.spots OneWay w ∙ both)
-        (own_low inst a.valid cranes s a.spots (λ j. option_map_or (λ k. eqb k w) (crane_in cranes j) true))
-
-    module _ (p : Place) (crane_is : p.crane ≡ w) (left_is : p.left ≡ left) (from : IsCount s.bays.items all.low p.first)
-        (to : IsCount s.bays.items all.high p.last) (above : AreSums (sum_before grid (w + 2)) (length s.bays.items) p.above)
-        (below : AreSums (λ k. sum_from grid w k (length s.bays.items - k)) (length s.bays.items) p.below) where
-      pub known_of : IsKnown inst cranes s p
-      known_of =
-          let bound = bounds inst a.valid cranes s a.spots OneWay w all p crane_is from to both in
-          let few = a.spots.bays.along.few in
-          record {
-            valid = a.valid;
-            spots = a.spots;
-            crane = omega (arith, crane_is, low_w);
-            soon = a.soon;
-            order = bound.order;
-            within = bound.within;
-            left = left_is ∙ a.left_is;
-            above = record {
-              many = above.many;
-              each = λ k le.
-                  above.each k le
-                  ∙ sum_before_is inst cranes s.of_task.items grid a.grid_is (w + 2) (omega (arith, low_w, a.valid.cranes.count.1)) k (omega (arith, le, few))
-                  ∙ ap (λ v. bars_before inst cranes s.of_task.items (v + 2) k) (sym crane_is);
-            };
-            below = record {
-              many = below.many;
-              each = λ k le.
-                  below.each k le
-                  ∙ sum_from_is inst cranes s.of_task.items grid a.grid_is w (omega (arith, low_w, a.valid.cranes.count.1)) k (length s.bays.items - k) (omega (arith, le, few))
-                  (λ j low_j. omega (arith, spot_low inst a.valid cranes s a.spots j low_j, le))
-                  ∙ ap (λ v. bars_from inst cranes s.of_task.items v k) (sym crane_is);
-            };
-          }
-
-      pub gone_found : (turn : Turn) (gone mid n : ℕ) → gone ≡ (frame inst turn cranes w).gone
-          → IsGreatest (stretch inst turn cranes s p Up) p.first (p.last + 1) gone mid
-          → IsGreatest (stretch inst turn cranes s p Down) p.first (p.last + 1) mid n
-          → n ≡ (barred_frame inst turn cranes w).gone
-      gone_found turn gone mid n gone_eq ups downs =
-          let bound = bounds inst a.valid cranes s a.spots turn w all p crane_is from to both in
-          gone_is inst a.valid cranes s a.spots turn w all p crane_is from to bound mid n
-          (subst (λ (m : ℕ). IsGreatest (stretch inst turn cranes s p Up) p.first (p.last + 1) m mid) gone_eq ups) downs both

@@ -1,5 +1,5 @@
 -- inner: the tasks that bar cranes, as code sums them up.
-use Rattle.std.specs.Prelude.{◌≡◌, ℕ, zero, suc, ◌+◌, ◌-◌, ◌*◌, ◌^◌, ◌<◌, ◌≤◌, min, Bool, true, false, ◌&&◌, ◌==◌, nat_lt, nat_le, int_le, is_none, if◌then◌else◌, List, [], ◌∷◌, filter, length, slice_index, slice_index_or, Option, None, Some, ℤ}
+use Rattle.std.specs.Prelude.{◌≡◌, ◌≢◌, ℕ, zero, suc, ◌+◌, ◌-◌, ◌*◌, ◌^◌, ◌<◌, ◌≤◌, min, Bool, true, false, ◌&&◌, ◌==◌, nat_lt, nat_le, int_le, is_none, if◌then◌else◌, List, [], ◌∷◌, filter, length, slice_index, slice_index_or, Option, None, Some, ℤ, pos, negsuc, ◌<ℤ◌}
 use Rattle.std.specs.Int.{int_max, int_min}
 use Rattle.std.specs.Option.{option_map_or}
 use Rattle.qc_model.specs.declared.direction.Direction.{Direction}
@@ -9,12 +9,13 @@ use Rattle.qc_model.specs.Assignments.{crane_in}
 use Rattle.qc_model.specs.Barred.{done_in, soonest}
 use Rattle.qc_model.specs.Bays.{bays_up}
 use Rattle.qc_model.specs.Frames.{own}
-use Rattle.qc_model.specs.Instance.{InstanceView, Valid}
+use Rattle.qc_model.specs.Instance.{InstanceView, Valid, bay_of}
 use Rattle.qc_model.specs.Work.{task_numbers, ticks_over}
 use Rattle.qc_close.specs.Owns.{frame_by, own_of}
 use Rattle.qc_close.specs.Spots.{AreSpots, spot_bay}
 use Rattle.qc_close.specs.declared.barred.Place.{Place}
 use Rattle.qc_close.specs.declared.bars.Bars.{Bars}
+use Rattle.qc_close.specs.declared.bars.Table.{Table}
 use Rattle.qc_close.specs.declared.bars.TheConstants.{NEVER}
 use Rattle.qc_close.specs.declared.frames.Own.{Own}
 use Rattle.qc_close.specs.declared.spots.Spots.{Spots}
@@ -24,13 +25,36 @@ abbrev pub soonest_of : InstanceView → List (Option ℕ) → List ℕ → ℕ
 soonest_of inst cranes [] = NEVER
 soonest_of inst cranes (j ∷ js) = min (soonest inst cranes j) (soonest_of inst cranes js)
 
+-- the lowest bay of these, or one above any, and the highest, or one below any
+abbrev pub low_of : InstanceView → List ℕ → ℤ
+low_of inst [] = pos 1000000
+low_of inst (j ∷ js) = int_min (bay_of inst j) (low_of inst js)
+
+abbrev pub high_of : InstanceView → List ℕ → ℤ
+high_of inst [] = negsuc 999999
+high_of inst (j ∷ js) = int_max (bay_of inst j) (high_of inst js)
+
 -- these tasks, summed up
 abbrev pub bars_of : InstanceView → List (Option ℕ) → List ℕ → Bars
-bars_of inst cranes js = record { ticks = ticks_over inst js; soonest = soonest_of inst cranes js }
+bars_of inst cranes js = record {
+  ticks = ticks_over inst js;
+  soonest = soonest_of inst cranes js;
+  low = low_of inst js;
+  high = high_of inst js;
+}
 
 -- these and those
 abbrev pub joined : Bars → Bars → Bars
-joined one other = record { ticks = one.ticks + other.ticks; soonest = min one.soonest other.soonest }
+joined one other = record {
+  ticks = one.ticks + other.ticks;
+  soonest = min one.soonest other.soonest;
+  low = int_min one.low other.low;
+  high = int_max one.high other.high;
+}
+
+-- these as a crane's own
+abbrev pub own_in : Bars → Option Own
+own_in b = if b.ticks == 0 then None else Some (record { ticks = b.ticks; low = b.low; high = b.high })
 
 -- the same of own tasks
 abbrev pub together : Option Own → Option Own → Option Own
@@ -41,10 +65,6 @@ together (Some one) (Some other) = Some (record {
   low = int_min one.low other.low;
   high = int_max one.high other.high;
 })
-
--- own tasks at one bay
-abbrev pub own_at : ℕ → ℤ → Option Own
-own_at ticks x = if ticks == 0 then None else Some (record { ticks = ticks; low = x; high = x })
 
 -- task j has the crane of this row: rows count from the crane before the first
 abbrev pub in_row : List (Option ℕ) → ℕ → ℕ → Bool
@@ -66,11 +86,11 @@ row_between cranes spots row from to j =
 
 -- no tasks
 abbrev pub no_bars : Bars
-no_bars = record { ticks = 0; soonest = NEVER }
+no_bars = record { ticks = 0; soonest = NEVER; low = pos 1000000; high = negsuc 999999 }
 
 -- what stands for tasks past the end of a list
 abbrev pub past_bars : Bars
-past_bars = record { ticks = 0; soonest = 0 }
+past_bars = record { ticks = 0; soonest = 0; low = pos 0; high = pos 0 }
 
 -- each cell sums up the tasks of its row at its spot
 pub record IsGrid (inst : InstanceView) (cranes : List (Option ℕ)) (spots : List ℕ) (grid : List Bars) : Type 0 where
@@ -93,10 +113,34 @@ abbrev pub sum_from : List Bars → ℕ → ℕ → ℕ → Bars
 sum_from grid row k zero = no_bars
 sum_from grid row k (suc n) = joined (cell grid row k) (sum_from grid row (k + 1) n)
 
--- the list says what f is, up to count
-pub record AreSums (f : ℕ → Bars) (count : ℕ) (sums : List Bars) : Type 0 where
-  pub many : length sums ≡ 241
-  pub each : (k : ℕ) → k ≤ count → slice_index_or sums k past_bars ≡ f k
+-- where it is known what tasks come to: in each row, in one only up to spot n, and in one only from it on
+abbrev pub Everywhere : ℕ → ℕ → Type 0
+Everywhere r k = Unit {0}
+
+abbrev pub UpTo : ℕ → ℕ → ℕ → ℕ → Type 0
+UpTo row n r k = r ≡ row → k ≤ n
+
+abbrev pub From : ℕ → ℕ → ℕ → ℕ → Type 0
+From row n r k = r ≡ row → n ≤ k
+
+-- there the list says for each row what f is, up to count
+pub record AreSums (known : ℕ → ℕ → Type 0) (f : ℕ → ℕ → Bars) (count : ℕ) (sums : List Bars) : Type 0 where
+  pub many : length sums ≡ 2410
+  pub each : (r k : ℕ) → r < 10 → k ≤ count → known r k → slice_index_or sums (241 * r + k) past_bars ≡ f r k
+
+-- the table sums up what each crane has
+pub record IsTable (inst : InstanceView) (cranes : List (Option ℕ)) (s : Spots) (t : Table) : Type 0 where
+  pub soon : (j : ℕ) → soonest inst cranes j ≤ NEVER
+  pub cells : IsGrid inst cranes s.of_task.items t.grid.items
+  pub small : AreSmall t.grid.items
+  pub befores : AreSums Everywhere (sum_before t.grid.items) (length s.bays.items) t.before.items
+  pub froms : AreSums Everywhere (λ r k. sum_from t.grid.items r k (length s.bays.items - k)) (length s.bays.items) t.from.items
+
+-- task j alone has another crane, or none: k, before or after
+pub record Changes (olds cranes : List (Option ℕ)) (j k : ℕ) : Type 0 where
+  pub others : (i : ℕ) → i ≢ j → crane_in olds i ≡ crane_in cranes i
+  pub before : (v : ℕ) → crane_in olds j ≡ Some v → v ≡ k
+  pub after : (v : ℕ) → crane_in cranes j ≡ Some v → v ≡ k
 
 -- the tasks of a row before each spot, and from each spot on
 abbrev pub bars_before : InstanceView → List (Option ℕ) → List ℕ → ℕ → ℕ → Bars
@@ -129,25 +173,23 @@ abbrev pub done_by : InstanceView → Turn → ℕ → Option Own → Bars → �
 done_by inst turn w own bars = if bars.ticks == 0 then 0 else done_with inst turn w own bars
 
 -- what is known of a crane between its neighbours
-pub record IsKnown (inst : InstanceView) (cranes : List (Option ℕ)) (s : Spots) (p : Place) : Type 0 where
+pub record IsKnown (inst : InstanceView) (cranes : List (Option ℕ)) (s : Spots) (t : Table) (p : Place) : Type 0 where
   pub valid : Valid inst
   pub spots : AreSpots inst s
+  pub table : IsTable inst cranes s t
   pub crane : p.crane < length inst.cranes
-  pub soon : (j : ℕ) → soonest inst cranes j ≤ NEVER
   pub order : p.first ≤ p.last
   pub within : p.last < length s.bays.items
   pub left : p.left ≡ own_of inst (left_of inst cranes)
-  pub above : AreSums (bars_before inst cranes s.of_task.items (p.crane + 2)) (length s.bays.items) p.above
-  pub below : AreSums (bars_from inst cranes s.of_task.items p.crane) (length s.bays.items) p.below
+  pub own_is : Some p.own ≡ own_of inst (own inst cranes p.crane)
+  pub own_from : (j : ℕ) → j < length inst.tasks → in_row cranes (p.crane + 1) j ≡ true → p.first ≤ slice_index s.of_task.items j
+  pub own_to : (j : ℕ) → j < length inst.tasks → in_row cranes (p.crane + 1) j ≡ true → slice_index s.of_task.items j ≤ p.last
 
 -- what is known of a crane before its place is
-pub record IsAround (inst : InstanceView) (cranes : List (Option ℕ)) (s : Spots) (grid : List Bars) (w : ℕ) (o left : Option Own) :
-    Type 0 where
+pub record IsAround (inst : InstanceView) (cranes : List (Option ℕ)) (s : Spots) (t : Table) (w : ℕ) (o left : Option Own) : Type 0 where
   pub valid : Valid inst
   pub spots : AreSpots inst s
-  pub soon : (j : ℕ) → soonest inst cranes j ≤ NEVER
-  pub grid_is : IsGrid inst cranes s.of_task.items grid
-  pub small : AreSmall grid
+  pub table : IsTable inst cranes s t
   pub own_is : o ≡ own_of inst (own inst cranes w)
   pub left_is : left ≡ own_of inst (left_of inst cranes)
 
@@ -172,6 +214,24 @@ swept_from Down p steps = p.last + 1 - steps
 abbrev pub swept_to : Direction → Place → ℕ → ℕ
 swept_to Up p steps = p.first + steps
 swept_to Down p steps = p.last + 1
+
+-- the least bay up to which a stretch from the first spot holds all that no crane has and a task of the crane, and the
+-- greatest from which one to the last spot does
+abbrev pub least_high : Place → ℤ
+least_high p = option_map_or (λ left. int_max left.high p.own.low) p.left p.own.low
+
+abbrev pub most_low : Place → ℤ
+most_low p = option_map_or (λ left. int_min left.low p.own.high) p.left p.own.high
+
+-- a stretch from one bay to another that doesn't hold them
+abbrev pub IsIdle : Direction → Place → ℤ → ℤ → Type 0
+IsIdle Up p low high = high <ℤ least_high p
+IsIdle Down p low high = most_low p <ℤ low
+
+-- what the tasks of crane w come to before the spot behind a stretch, or from its first spot on
+abbrev pub sum_along : Direction → Table → ℕ → ℕ → ℕ → Bars
+sum_along Up t w low high = slice_index_or t.before.items (241 * (w + 1) + (high + 1)) past_bars
+sum_along Down t w low high = slice_index_or t.from.items (241 * (w + 1) + low) past_bars
 
 -- the spot of the next, and the spots from which to which it is
 abbrev pub next_spot : Direction → Place → ℕ → ℕ

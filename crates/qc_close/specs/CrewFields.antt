@@ -5,6 +5,7 @@ use Rattle.qc_close.specs.declared.closed.TheConstants.{LAST_CLOSED}
 use Rattle.qc_close.specs.declared.crew.Crew.TheInside.{Inside}
 use Rattle.qc_model.specs.Assignments.{AreInRange, no_cranes}
 use Rattle.qc_model.specs.Closed.{grain, is_short_before}
+use Rattle.qc_close.specs.Bars.{IsTable}
 use Rattle.qc_close.specs.Crews.{CrewView}
 use Rattle.qc_close.specs.Lasts.{IsLast}
 use Rattle.qc_close.specs.Lefts.{IsLeft}
@@ -19,6 +20,7 @@ pub record IsKept (f : Inside) : Type 0 where
   pub range : AreInRange f.inst f.cranes.items
   pub spots : AreSpots f.inst f.spots
   pub soonest : AreSoonest f.inst f.cranes.items f.soonest.items
+  pub table : IsTable f.inst f.cranes.items f.spots f.table
   pub left : IsLeft f.inst f.cranes.items f.left.items
   pub step : f.step ≡ grain f.inst
   pub bare : IsLast (is_short_before f.inst f.turn (no_cranes f.inst)) LAST_CLOSED f.bare

@@ -4,12 +4,13 @@ ghost use Rattle.std.specs.Prelude.{◌≡◌, ◌+◌, ◌-◌, ◌<◌, ◌≤
 ghost use Rattle.qc_model.specs.declared.limits.TheConstants.{MOST_TASKS};
 ghost use Rattle.qc_model.specs.Barred.{barred_frame, done_in};
 ghost use Rattle.qc_model.specs.Frames.{frame};
-ghost use Rattle.qc_close.specs.Bars.{AreSmall, AreSums, IsAround, IsGreatest, IsGrid, IsKnown, done_by, high_spot, lie_in, low_spot, next_spot, own_at, own_between, stretch, sum_before, sum_from};
+ghost use Rattle.qc_model.specs.Instance.{IsOnRail};
+ghost use Rattle.qc_close.specs.Bars.{IsAround, IsGreatest, IsIdle, IsKnown, done_by, high_spot, least_high, lie_in, low_spot, most_low, own_between, stretch, sum_along};
 ghost use Rattle.qc_close.specs.Owns.{IsSmall};
 ghost use Rattle.qc_close.specs.Spots.{AreRising, IsCount, spot_bay};
 ghost use Rattle.qc_close.specs.declared.bars.TheConstants.{NEVER};
 
-use crate::bars::{Bars, Grid, Sums, joined, sums_before, sums_from};
+use crate::bars::{Bars, Table, joined, own_in};
 use crate::frames::{Own, spent_by, together, travel_over};
 use crate::spots::{Spots, count_before};
 use qc_model::{Direction, Instance, Turn, bays_up};
@@ -46,49 +47,21 @@ fn lie_in(tasks: Option<Own>, low: Bay, high: Bay) -> bool
     }
 }
 
-/// A crane's tasks at a spot.
-fn own_at(ticks: Tick, bay: Bay) -> Option<Own>
-    ensures { result ≡ own_at ticks bay }
-{
-    if ticks == 0 {
-        None
-    } else {
-        Some(Own {
-            ticks,
-            low: bay,
-            high: bay,
-        })
-    }
-}
-
-/// What is known of a crane between its neighbours: from which spot to which it may work, the tasks
-/// that no crane has, those of the next crane above before each spot, and those of the next below from each
-/// spot on.
-#[derive(Drop)]
+/// Where a crane stands between its neighbours: from which spot to which it may work, its own tasks, and
+/// those that no crane has.
+#[derive(Clone, Copy)]
 pub(crate) struct Place {
     pub(crate) crane: u16,
     pub(crate) first: usize,
     pub(crate) last: usize,
+    pub(crate) own: Own,
     pub(crate) left: Option<Own>,
-    pub(crate) above: Sums,
-    pub(crate) below: Sums,
 }
 
-/// The spot that comes to those of so many stretches.
-fn next_spot(way: Direction, place: &Place, steps: usize) -> usize
-    requires { place.now.first + steps ≤ place.now.last }
-    ensures { result ≡ next_spot way place.now steps }
-{
-    match way {
-        Direction::Up => place.first + steps,
-        Direction::Down => place.last - steps,
-    }
-}
-
-/// The first spot of the stretch with it.
-fn low_spot(way: Direction, place: &Place, steps: usize) -> usize
-    requires { place.now.first + steps ≤ place.now.last }
-    ensures { result ≡ low_spot way place.now steps }
+/// The first spot of the stretch behind so many.
+fn low_spot(way: Direction, place: Place, steps: usize) -> usize
+    requires { place.first + steps ≤ place.last }
+    ensures { result ≡ low_spot way place steps }
 {
     match way {
         Direction::Up => place.first,
@@ -96,10 +69,10 @@ fn low_spot(way: Direction, place: &Place, steps: usize) -> usize
     }
 }
 
-/// The last spot of the stretch with it.
-fn high_spot(way: Direction, place: &Place, steps: usize) -> usize
-    requires { place.now.first + steps ≤ place.now.last }
-    ensures { result ≡ high_spot way place.now steps }
+/// The last spot of the stretch behind so many.
+fn high_spot(way: Direction, place: Place, steps: usize) -> usize
+    requires { place.first + steps ≤ place.last }
+    ensures { result ≡ high_spot way place steps }
 {
     match way {
         Direction::Up => place.first + steps,
@@ -113,26 +86,97 @@ fn done_in(
     inst: &Instance,
     turn: Turn,
     spots: &Spots,
-    place: &Place,
+    table: &Table,
+    place: Place,
     low: usize,
     high: usize,
     own: Option<Own>,
 ) -> Tick
-    requires known { (cranes : List (Option ℕ)) × IsKnown inst.now cranes spots.now place.now
-        × (own ≡ own_between inst.now cranes spots.now.of_task.items place.now.crane low (high + 1)) }
+    requires known { (cranes : List (Option ℕ)) × IsKnown inst.now cranes spots.now table.now place
+        × (own ≡ own_between inst.now cranes spots.now.of_task.items place.crane low (high + 1)) }
     requires low { low ≤ high }
     requires high { high < length spots.now.bays.items }
-    ensures { (cranes : List (Option ℕ)) → IsKnown inst.now cranes spots.now place.now
-        → own ≡ own_between inst.now cranes spots.now.of_task.items place.now.crane low (high + 1)
-        → result ≡ done_in inst.now turn cranes place.now.crane (spot_bay spots.now.bays.items low)
+    ensures { (cranes : List (Option ℕ)) → IsKnown inst.now cranes spots.now table.now place
+        → own ≡ own_between inst.now cranes spots.now.of_task.items place.crane low (high + 1)
+        → result ≡ done_in inst.now turn cranes place.crane (spot_bay spots.now.bays.items low)
         (spot_bay spots.now.bays.items high) }
 {
     if !lie_in(place.left, spots.bays[low], spots.bays[high]) {
         return 0;
     }
-    let above = place.above[spots.near_to[low] as usize];
-    let below = place.below[spots.near_from[high] as usize];
+    let crane = place.crane as usize;
+    let above = table.before[241 * (crane + 2) + spots.near_to[low] as usize];
+    let below = table.from[241 * crane + spots.near_from[high] as usize];
     both_done(inst, turn, place.crane, own, joined(above, below))
+}
+
+/// What a crane's tasks come to before the spot behind a stretch, or from its first spot on.
+pub(crate) fn sum_along(table: &Table, way: Direction, crane: u16, low: usize, high: usize) -> Bars
+    requires before { length table.now.before.items ≡ 2410 }
+    requires from { length table.now.from.items ≡ 2410 }
+    requires crane { crane < 8 }
+    requires low { low < 240 }
+    requires high { high < 240 }
+    ensures { result ≡ sum_along way table.now crane low high }
+{
+    let row = 241 * (crane as usize + 1);
+    match way {
+        Direction::Up => table.before[row + (high + 1)],
+        Direction::Down => table.from[row + low],
+    }
+}
+
+/// The least bay up to which a stretch from the first spot holds all that no crane has, and a task of its
+/// own.
+fn least_high(place: Place) -> Bay
+    requires left { IfSome place.left (IsSmall MOST_TASKS) }
+    requires own { IsSmall MOST_TASKS place.own }
+    ensures bay { result ≡ least_high place }
+    ensures near { IsOnRail result }
+{
+    match place.left {
+        None => place.own.low,
+        Some(left) => left.high.max(place.own.low),
+    }
+}
+
+/// The greatest bay from which a stretch to the last spot holds them.
+fn most_low(place: Place) -> Bay
+    requires left { IfSome place.left (IsSmall MOST_TASKS) }
+    requires own { IsSmall MOST_TASKS place.own }
+    ensures bay { result ≡ most_low place }
+    ensures near { IsOnRail result }
+{
+    match place.left {
+        None => place.own.high,
+        Some(left) => left.low.min(place.own.high),
+    }
+}
+
+/// How many stretches there are, at the least, before one that holds them.
+fn skipped(spots: &Spots, way: Direction, place: Place) -> usize
+    requires rising { AreRising spots.now.bays.items }
+    requires order { place.first ≤ place.last }
+    requires within { place.last < length spots.now.bays.items }
+    requires left { IfSome place.left (IsSmall MOST_TASKS) }
+    requires own { IsSmall MOST_TASKS place.own }
+    ensures few { result ≤ place.last - place.first }
+    ensures none { (steps : ℕ) → steps < result
+        → IsIdle way place (spot_bay spots.now.bays.items (low_spot way place steps))
+        (spot_bay spots.now.bays.items (high_spot way place steps)) }
+{
+    let bays = spots.bays.as_slice();
+    let most = place.last - place.first;
+    match way {
+        Direction::Up => {
+            let before = count_before(bays, least_high(place));
+            before.saturating_sub(place.first).min(most)
+        }
+        Direction::Down => {
+            let before = count_before(bays, most_low(place));
+            place.last.saturating_sub(before).min(most)
+        }
+    }
 }
 
 /// The greatest of a tick and of those by which it can have done what lies from the first spot to each,
@@ -141,53 +185,41 @@ fn greatest_done(
     inst: &Instance,
     turn: Turn,
     spots: &Spots,
-    grid: &Grid,
-    place: &Place,
+    table: &Table,
+    place: Place,
     way: Direction,
     gone: Tick,
 ) -> Tick
-    requires known { (cranes : List (Option ℕ)) × IsKnown inst.now cranes spots.now place.now
-        × IsGrid inst.now cranes spots.now.of_task.items grid.now }
-    ensures { (cranes : List (Option ℕ)) → IsKnown inst.now cranes spots.now place.now
-        → IsGrid inst.now cranes spots.now.of_task.items grid.now
-        → IsGreatest (stretch inst.now turn cranes spots.now place.now way) place.now.first
-        (place.now.last + 1) gone result }
+    requires known { (cranes : List (Option ℕ)) × IsKnown inst.now cranes spots.now table.now place }
+    ensures { (cranes : List (Option ℕ)) → IsKnown inst.now cranes spots.now table.now place
+        → IsGreatest (stretch inst.now turn cranes spots.now place way) place.first (place.last + 1)
+        gone result }
 {
     let mut greatest = gone;
-    let mut own = None;
-    for step in 0..place.last - place.first + 1 {
-        let spot = next_spot(way, place, step);
-        let ticks = grid[240 * (place.crane as usize + 1) + spot].ticks;
-        own = together(own, own_at(ticks, spots.bays[spot]));
+    for step in skipped(spots, way, place)..place.last - place.first + 1 {
         let (low, high) = (low_spot(way, place, step), high_spot(way, place, step));
-        greatest = greatest.max(done_in(inst, turn, spots, place, low, high, own));
+        let own = own_in(sum_along(table, way, place.crane, low, high));
+        greatest = greatest.max(done_in(inst, turn, spots, table, place, low, high, own));
     }
     greatest
 }
 
 /// The place of a crane that has or may get these tasks.
-fn place_of(spots: &Spots, grid: &Grid, crane: u16, all: Own, left: Option<Own>) -> Place
-    requires crane { crane < 8 }
-    requires rising { AreRising spots.now.bays.items }
-    requires few { length spots.now.bays.items ≤ 240 }
-    requires small { AreSmall grid.now }
+fn place_of(spots: &Spots, crane: u16, own: Own, all: Own, left: Option<Own>) -> Place
+    requires { AreRising spots.now.bays.items }
     ensures crane { result.crane ≡ crane }
+    ensures own { result.own ≡ own }
     ensures left { result.left ≡ left }
     ensures first { IsCount spots.now.bays.items all.low result.first }
     ensures last { IsCount spots.now.bays.items all.high result.last }
-    ensures above { AreSums (sum_before grid.now (crane + 2)) (length spots.now.bays.items) result.above }
-    ensures below { AreSums
-        (λ k. sum_from grid.now crane k (length spots.now.bays.items - k))
-        (length spots.now.bays.items) result.below }
 {
     let bays = spots.bays.as_slice();
     Place {
         crane,
         first: count_before(bays, all.low),
         last: count_before(bays, all.high),
+        own,
         left,
-        above: sums_before(grid, crane as usize + 2, bays.len()),
-        below: sums_from(grid, crane as usize, bays.len()),
     }
 }
 
@@ -196,26 +228,26 @@ pub(crate) fn barred_gone(
     inst: &Instance,
     turn: Turn,
     spots: &Spots,
-    grid: &Grid,
+    table: &Table,
     crane: u16,
     own: Option<Own>,
     left: Option<Own>,
     gone: Tick,
 ) -> Tick
     requires crane { crane < length inst.now.cranes }
-    requires around { (cranes : List (Option ℕ)) × IsAround inst.now cranes spots.now grid.now crane own left }
-    ensures { (cranes : List (Option ℕ)) → IsAround inst.now cranes spots.now grid.now crane own left
+    requires around { (cranes : List (Option ℕ)) × IsAround inst.now cranes spots.now table.now crane own left }
+    ensures { (cranes : List (Option ℕ)) → IsAround inst.now cranes spots.now table.now crane own left
         → gone ≡ (frame inst.now turn cranes crane).gone
         → result ≡ (barred_frame inst.now turn cranes crane).gone }
 {
     match own {
         None => gone,
-        Some(_) => match together(own, left) {
+        Some(mine) => match together(own, left) {
             None => gone,
             Some(all) => {
-                let place = place_of(spots, grid, crane, all, left);
-                let gone = greatest_done(inst, turn, spots, grid, &place, Direction::Up, gone);
-                greatest_done(inst, turn, spots, grid, &place, Direction::Down, gone)
+                let place = place_of(spots, crane, mine, all, left);
+                let gone = greatest_done(inst, turn, spots, table, place, Direction::Up, gone);
+                greatest_done(inst, turn, spots, table, place, Direction::Down, gone)
             }
         },
     }

@@ -5,8 +5,10 @@ ghost use Rattle.qc_model.specs.Assignments.{AreInRange};
 ghost use Rattle.qc_model.specs.Closed.{grain, is_short_before};
 ghost use Rattle.qc_close.specs.Lasts.{IsLast};
 ghost use Rattle.qc_close.specs.Lefts.{IsLeft};
-ghost use Rattle.qc_close.specs.Spots.{AreSoonest, AreSpots};
+ghost use Rattle.qc_close.specs.Bars.{IsTable};
+ghost use Rattle.qc_close.specs.Spots.{AreSpots};
 
+use crate::bars::Table;
 use crate::frames::{first_frames, frames};
 use crate::short::{is_short_at, last_short};
 use crate::spots::Spots;
@@ -22,7 +24,7 @@ pub(crate) fn is_short_before(
     turn: Turn,
     cranes: &[Option<u16>],
     spots: &Spots,
-    soonest: &[Tick],
+    table: &Table,
     left: &[Tick],
     step: Tick,
     end: Tick,
@@ -30,13 +32,13 @@ pub(crate) fn is_short_before(
     requires count { length cranes.now ≡ length inst.now.tasks }
     requires range { AreInRange inst.now cranes.now }
     requires spots { AreSpots inst.now spots.now }
-    requires soonest { AreSoonest inst.now cranes.now soonest.now }
+    requires table { IsTable inst.now cranes.now spots.now table.now }
     requires left { IsLeft inst.now cranes.now left.now }
     requires step { step ≡ grain inst.now }
     requires end { end < 2 ^ 50 }
     ensures { result ≡ is_short_before inst.now turn cranes.now end }
 {
-    let frames = frames(inst, turn, cranes, spots, soonest);
+    let frames = frames(inst, turn, cranes, spots, table);
     let frames = first_frames(&frames, inst.crane_count() as usize);
     is_short_at(inst.travel(), step, frames, left, end)
 }
@@ -47,7 +49,7 @@ pub(crate) fn last_short_end(
     turn: Turn,
     cranes: &[Option<u16>],
     spots: &Spots,
-    soonest: &[Tick],
+    table: &Table,
     left: &[Tick],
     step: Tick,
     limit: Tick,
@@ -55,13 +57,13 @@ pub(crate) fn last_short_end(
     requires count { length cranes.now ≡ length inst.now.tasks }
     requires range { AreInRange inst.now cranes.now }
     requires spots { AreSpots inst.now spots.now }
-    requires soonest { AreSoonest inst.now cranes.now soonest.now }
+    requires table { IsTable inst.now cranes.now spots.now table.now }
     requires left { IsLeft inst.now cranes.now left.now }
     requires step { step ≡ grain inst.now }
     requires limit { limit < 2 ^ 50 }
     ensures { IsLast (is_short_before inst.now turn cranes.now) limit result }
 {
-    let frames = frames(inst, turn, cranes, spots, soonest);
+    let frames = frames(inst, turn, cranes, spots, table);
     let frames = first_frames(&frames, inst.crane_count() as usize);
     last_short(inst.travel(), step, frames, left, limit)
 }

@@ -9,6 +9,7 @@ ghost use Rattle.qc_close.specs.CrewFields.{view_of, IsKept};
 ghost use Rattle.qc_close.specs.Lasts.{IsLast};
 ghost use Rattle.qc_close.specs.declared.closed.TheConstants.{LAST_CLOSED};
 
+use crate::bars::{Table, keep_table, table_of};
 use crate::closed::{LAST_CLOSED, is_short_before, last_short_end};
 use crate::grain::grain;
 use crate::left::work_left;
@@ -31,6 +32,8 @@ pub struct Crew {
     spots: Spots,
     /// Of each task, when the crane that it has can be there at the soonest.
     soonest: Vec<Tick>,
+    /// What the tasks of each crane come to at each spot, before it and from it on.
+    table: Table,
     /// The ticks of the tasks without a crane at each bay, from bay 0.
     left: Vec<Tick>,
     /// The greatest number of which all ticks of the instance are multiples.
@@ -78,13 +81,14 @@ impl Crew {
         let left = work_left(alloc, inst)?;
         let spots = spots_of(alloc, inst, left.as_slice())?;
         let soonest = no_starts(alloc, tasks as usize)?;
+        let table = table_of(alloc, inst, &spots)?;
         let step = grain(inst);
         let bare = last_short_end(
             inst,
             turn,
             cranes.as_slice(),
             &spots,
-            soonest.as_slice(),
+            &table,
             left.as_slice(),
             step,
             LAST_CLOSED,
@@ -95,6 +99,7 @@ impl Crew {
             cranes,
             spots,
             soonest,
+            table,
             left,
             step,
             bare,
@@ -124,6 +129,15 @@ impl Crew {
         self.left[bay] = self.left[bay] - done.ticks;
         self.soonest[task as usize] = head(&self.inst, task, crane);
         self.cranes[task as usize] = Some(crane);
+        keep_table(
+            &mut self.table,
+            &self.inst,
+            self.cranes.as_slice(),
+            &self.spots,
+            self.soonest.as_slice(),
+            task,
+            crane,
+        );
     }
 
     /// Takes a task from its crane.
@@ -132,10 +146,31 @@ impl Crew {
         requires some { IsSome (crane_in self.old.cranes task) }
         ensures { self.new ≡ record self.old { cranes = slice_set self.old.cranes task None } }
     {
+        match self.cranes[task as usize] {
+            None => {}
+            Some(crane) => self.take_from(task, crane),
+        }
+    }
+
+    /// Takes a task from this crane.
+    fn take_from(&mut self, task: u16, crane: u16)
+        requires task { task < length self.old.inst.tasks }
+        requires some { crane_in self.old.cranes task ≡ Some crane }
+        ensures { self.new ≡ record self.old { cranes = slice_set self.old.cranes task None } }
+    {
         let open = self.inst.task(task);
         let bay = open.bay as usize;
         self.left[bay] = self.left[bay] + open.ticks;
         self.cranes[task as usize] = None;
+        keep_table(
+            &mut self.table,
+            &self.inst,
+            self.cranes.as_slice(),
+            &self.spots,
+            self.soonest.as_slice(),
+            task,
+            crane,
+        );
     }
 
     /// The crane that a task has; `None` exactly where it has none.
@@ -177,7 +212,7 @@ impl Crew {
             self.turn,
             cranes,
             &self.spots,
-            self.soonest.as_slice(),
+            &self.table,
             self.left.as_slice(),
             self.step,
             end,

@@ -7,15 +7,15 @@ ghost use Rattle.qc_model.specs.Barred.{barred_frame};
 ghost use Rattle.qc_model.specs.Frames.{own, turn_bays, turn_high};
 ghost use Rattle.qc_model.specs.Instance.{IsOnRail};
 ghost use Rattle.qc_model.specs.Work.{crane_numbers};
-ghost use Rattle.qc_close.specs.Bars.{left_of, together};
+ghost use Rattle.qc_close.specs.Bars.{IsTable, left_of, together};
 ghost use Rattle.qc_close.specs.Counts.{AreNear, IsNear};
 ghost use Rattle.qc_close.specs.Owns.{IsSmall, frame_by, own_of, with_task};
-ghost use Rattle.qc_close.specs.Spots.{AreSoonest, AreSpots};
+ghost use Rattle.qc_close.specs.Spots.{AreSpots};
 
-use crate::barred::barred_gone;
-use crate::bars::grid;
+use crate::barred::{barred_gone, sum_along};
+use crate::bars::{Table, own_in};
 use crate::spots::Spots;
-use qc_model::{Frame, Instance, MOST_CRANES, Task, Turn, bays_between, bays_up};
+use qc_model::{Direction, Frame, Instance, MOST_CRANES, Task, Turn, bays_between, bays_up};
 use qc_num::{Bay, Tick};
 
 /// The tasks of a crane: their ticks, and the bays of the lowest and the highest of them.
@@ -44,29 +44,6 @@ fn with_task(own: Option<Own>, task: Task) -> Own
             high: task.bay.max(own.high),
         },
     }
-}
-
-/// The tasks of each crane.
-fn owns(inst: &Instance, cranes: &[Option<u16>]) -> [Option<Own>; 8]
-    requires count { length cranes.now ≡ length inst.now.tasks }
-    requires range { AreInRange inst.now cranes.now }
-    ensures owns { (w : ℕ) → w < 8
-        → slice_index_or result w None ≡ own_of inst.now (own inst.now cranes.now w) }
-    ensures small { (w : ℕ) → w < 8 → IfSome (slice_index_or result w None) (IsSmall MOST_TASKS) }
-{
-    let mut owns = [None; MOST_CRANES as usize];
-    let count = inst.task_count();
-    for done in 0..count {
-        let task = count - 1 - done;
-        match cranes[task as usize] {
-            None => {}
-            Some(crane) => {
-                let crane = crane as usize;
-                owns[crane] = Some(with_task(owns[crane], inst.task(task)));
-            }
-        }
-    }
-    owns
 }
 
 /// The bays that a crane goes from its start bay to come to a low and a high bay.
@@ -186,19 +163,17 @@ pub(crate) fn frames(
     turn: Turn,
     cranes: &[Option<u16>],
     spots: &Spots,
-    soonest: &[Tick],
+    table: &Table,
 ) -> [Frame; 8]
     requires count { length cranes.now ≡ length inst.now.tasks }
     requires range { AreInRange inst.now cranes.now }
     requires spots { AreSpots inst.now spots.now }
-    requires soonest { AreSoonest inst.now cranes.now soonest.now }
+    requires table { IsTable inst.now cranes.now spots.now table.now }
     ensures frames { take (length inst.now.cranes) result
         ≡ map (barred_frame inst.now turn cranes.now) (crane_numbers inst.now) }
     ensures near { AreNear (take (length inst.now.cranes) result) }
 {
-    let owns = owns(inst, cranes);
     let left = left_own(inst, cranes);
-    let grid = grid(inst, cranes, spots, soonest);
     let mut frames = [Frame {
         works: false,
         gone: 0,
@@ -206,9 +181,9 @@ pub(crate) fn frames(
         high: 0,
     }; MOST_CRANES as usize];
     for crane in 0..inst.crane_count() {
-        let own = owns[crane as usize];
+        let own = own_in(sum_along(table, Direction::Down, crane, 0, 0));
         let frame = spent_by(inst, turn, crane, own);
-        let gone = barred_gone(inst, turn, spots, &grid, crane, own, left, frame.gone);
+        let gone = barred_gone(inst, turn, spots, table, crane, own, left, frame.gone);
         frames[crane as usize] = with_gone(frame, gone);
     }
     frames

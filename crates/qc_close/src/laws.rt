@@ -13,8 +13,8 @@ ghost use Rattle.qc_model.specs.Assignments.{cranes_of};
 ghost use Rattle.qc_model.specs.Closed.{IsClosedBound, is_closed};
 ghost use Rattle.qc_model.specs.Packs.{pack};
 
-/// No schedule that follows an assignment, and that cranes with this turn can keep, ends before an end at
-/// which it is closed.
+/// No schedule that follows an assignment ends before an end at which it is closed: of those that go up where
+/// cranes go one way, and of all that are feasible where they go to and fro.
 fn closed_ends_are_bounds()
     ensures { (inst : InstanceView) (turn : Turn) (cranes : List (Option ℕ)) (end : ℕ) → Valid inst
         → is_closed inst turn cranes end ≡ true → IsClosedBound inst turn cranes end }

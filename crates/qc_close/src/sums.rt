@@ -10,19 +10,18 @@ use qc_num::{Bay, Tick};
 /// The greatest sums of none, of one, two and more of some numbers.
 pub(crate) type Sums = [Tick; 9];
 
-/// The sums with one number more.
-fn with_number(sums: &Sums, number: Tick) -> Sums
+/// Takes one number more into the sums.
+fn add_number(sums: &mut Sums, number: Tick)
     requires number { number < 2 ^ 56 }
-    requires sums { (n : ℕ) → n < 9 → slice_index sums.now n < 2 ^ 60 }
-    ensures none { slice_index result 0 ≡ slice_index sums.now 0 }
+    requires sums { (n : ℕ) → n < 9 → slice_index sums.old n < 2 ^ 60 }
+    ensures none { slice_index sums.new 0 ≡ slice_index sums.old 0 }
     ensures some { (n : ℕ) → n < 8
-        → slice_index result (n + 1) ≡ max (number + slice_index sums.now n) (slice_index sums.now (n + 1)) }
+        → slice_index sums.new (n + 1) ≡ max (number + slice_index sums.old n) (slice_index sums.old (n + 1)) }
 {
-    let mut more = *sums;
-    for n in 0..8 {
-        more[n + 1] = sums[n + 1].max(number + sums[n]);
+    for done in 0..8 {
+        let n = 7 - done;
+        sums[n + 1] = sums[n + 1].max(number + sums[n]);
     }
-    more
 }
 
 /// The bays that a crane must still go, up or down, to come to a bay.
@@ -61,7 +60,10 @@ pub(crate) fn most_rooms(
 {
     let mut sums = [0; 9];
     for frame in frames {
-        sums = with_number(&sums, room(travel, tick, frame, bays_to(way, frame, bay)));
+        add_number(
+            &mut sums,
+            room(travel, tick, frame, bays_to(way, frame, bay)),
+        );
     }
     sums
 }
@@ -77,7 +79,7 @@ fn most_legs(frames: &[Frame], way: Direction, from: u16, to: u16) -> Sums
     let mut sums = [0; 9];
     for frame in frames {
         let bays = bays_to(way, frame, to).saturating_sub(bays_to(way, frame, from));
-        sums = with_number(&sums, bays);
+        add_number(&mut sums, bays);
     }
     sums
 }

@@ -1,86 +1,90 @@
-use Rattle.std.proofs.Common.{Option, IfSome, length, ◌<◌, ◌^◌, arith, pos, sym, subst, ◌∙◌}
-use Rattle.std.proofs.lemmas.Int.{ints}
-use Rattle.std.proofs.lemmas.List.{get_or_read}
+use Rattle.std.proofs.Common.{Option, IfSome, false, eqb, is_none, sym, subst, arith}
+use Rattle.std.specs.Option.{option_map_or}
+use Rattle.qc_model.specs.declared.limits.TheConstants.{MOST_TASKS}
+use Rattle.qc_model.specs.Assignments.{crane_in}
 use Rattle.qc_close.specs.Bars.{stretch}
+use Rattle.qc_close.specs.Owns.{IsSmall}
 use Rattle.qc_close.specs.declared.frames.Own.{Own}
-use Rattle.qc_close.proofs.StretchLemmas.{cell_low, next_greatest, next_in, next_known, next_own, own_at_small, swept_all, swept_empty, swept_none, swept_small}
+use Rattle.qc_close.proofs.PlaceLemmas.{next_greatest, own_along, swept_nothing}
+use Rattle.qc_close.proofs.StretchLemmas.{high_in, own_low, spots_order, swept_all}
 use Rattle.qc_close.proofs.barred.greatest_done.Goals as goal
 
+pub skipped-step-requires-clause-rising : goal.skipped-step-requires-clause-rising
+skipped-step-requires-clause-rising c = c.requires.known.1.spots.bays.along.rising
+
+pub skipped-step-requires-clause-order : goal.skipped-step-requires-clause-order
+skipped-step-requires-clause-order c = c.requires.known.1.order
+
+pub skipped-step-requires-clause-within : goal.skipped-step-requires-clause-within
+skipped-step-requires-clause-within c = c.requires.known.1.within
+
+pub skipped-step-requires-clause-left : goal.skipped-step-requires-clause-left
+skipped-step-requires-clause-left c =
+    let cranes = c.requires.known.0 in
+    let k = c.requires.known.1 in
+    subst (λ (l : Option Own). IfSome l (IsSmall MOST_TASKS)) (sym k.left)
+    (own_low c.args.inst.now k.valid cranes c.args.spots.now k.spots (λ j. is_none (crane_in cranes j)))
+
+pub skipped-step-requires-clause-own : goal.skipped-step-requires-clause-own
+skipped-step-requires-clause-own c =
+    let cranes = c.requires.known.0 in
+    let k = c.requires.known.1 in
+    subst (λ (l : Option Own). IfSome l (IsSmall MOST_TASKS)) (sym k.own_is)
+    (own_low c.args.inst.now k.valid cranes c.args.spots.now k.spots (λ j. option_map_or (λ w. eqb w c.args.place.crane) (crane_in cranes j) false))
+
 pub loop-step-init : goal.loop-step-init
-loop-step-init c = record {
-  own = λ cranes k g. swept_empty c.args.inst.now k.valid cranes c.args.spots.now c.args.place.now k c.args.way;
-  greatest = λ cranes k g.
-      swept_none c.args.way c.args.place.now k.order (stretch c.args.inst.now c.args.turn cranes c.args.spots.now c.args.place.now c.args.way) c.args.gone;
-}
+loop-step-init c = λ cranes k.
+    swept_nothing c.args.inst.now cranes c.args.spots.now c.args.table.now c.args.place k c.args.turn c.skipped-step.result
+    c.skipped-step.ensures.few c.args.way c.args.gone c.skipped-step.ensures.none
 
-pub together-own-requires-clause-some : goal.together-own-requires-clause-some
-together-own-requires-clause-some c =
-    let cranes = c.requires.known.0 in
-    let k = c.requires.known.1 in
-    let g = c.requires.known.2 in
-    swept_small c.args.inst.now cranes c.args.spots.now c.args.place.now k c.args.grid.now g c.args.way c.loop-step.step
-    c.loop-step-test.true c.loop-step.own (c.loop-step.invariant.own cranes k g)
+pub sum_along-requires-clause-before : goal.sum_along-requires-clause-before
+sum_along-requires-clause-before c = c.requires.known.1.table.befores.many
 
-pub together-own-requires-clause-others : goal.together-own-requires-clause-others
-together-own-requires-clause-others c =
-    let cranes = c.requires.known.0 in
+pub sum_along-requires-clause-from : goal.sum_along-requires-clause-from
+sum_along-requires-clause-from c = c.requires.known.1.table.froms.many
+
+pub sum_along-requires-clause-crane : goal.sum_along-requires-clause-crane
+sum_along-requires-clause-crane c =
     let k = c.requires.known.1 in
-    let g = c.requires.known.2 in
-    let low = cell_low c.args.inst.now cranes c.args.spots.now c.args.place.now k c.args.grid.now g c.args.way c.loop-step.step c.loop-step-test.true c.next_spot-spot.result c.next_spot-spot.ensures in
-    subst (λ (o : Option Own). IfSome o (λ o. o.ticks < 2 ^ 60)) (sym c.own_at.ensures) (own_at_small _ _ (omega (arith, low)))
+    omega (arith, k.crane, k.valid.cranes.count.1)
+
+pub sum_along-requires-clause-low : goal.sum_along-requires-clause-low
+sum_along-requires-clause-low c =
+    let k = c.requires.known.1 in
+    let p = c.args.place in
+    let order = spots_order p c.loop-step.step c.loop-step-test.true k.order c.args.way in
+    let inside = high_in p c.loop-step.step c.loop-step-test.true k.order c.args.way in
+    omega (arith, c.low_spot-low.ensures, order, inside, k.within, k.spots.bays.along.few)
+
+pub sum_along-requires-clause-high : goal.sum_along-requires-clause-high
+sum_along-requires-clause-high c =
+    let k = c.requires.known.1 in
+    let inside = high_in c.args.place c.loop-step.step c.loop-step-test.true k.order c.args.way in
+    omega (arith, c.high_spot-high.ensures, inside, k.within, k.spots.bays.along.few)
 
 pub done_in-requires-clause-known : goal.done_in-requires-clause-known
 done_in-requires-clause-known c =
     let cranes = c.requires.known.0 in
-    let k = c.requires.known.1 in
-    let g = c.requires.known.2 in
-    let p = c.args.place.now in
-    let s = c.args.spots.now in
-    let spot = c.next_spot-spot.result in
-    let before = next_in p c.loop-step.step c.loop-step-test.true k.order c.args.way in
-    let inside : spot < length s.bays.items = omega (arith, before, k.within, c.next_spot-spot.ensures) in
-    let near = k.spots.bays.along.on_ship spot inside in
-    let read = get_or_read s.bays.items spot c.index.result.now inside c.index.ensures (pos 0) in
-    let own = next_known c.args.inst.now cranes s p k c.args.grid.now g c.args.way c.loop-step.step c.loop-step-test.true c.loop-step.own
-    (c.loop-step.invariant.own cranes k g) spot c.next_spot-spot.ensures _ (omega (arith, ints, read, near.0, near.1))
-    c.own_at.result c.own_at.ensures c.low_spot-low.result c.high_spot-high.result c.low_spot-low.ensures
-    c.high_spot-high.ensures in
-    (cranes, k, c.together-own.ensures ∙ own)
+    let k = c.requires.known.1 in (
+      cranes,
+      k,
+      own_along c.args.inst.now cranes c.args.spots.now c.args.table.now c.args.place k c.loop-step.step c.loop-step-test.true c.args.way
+          c.low_spot-low.result c.high_spot-high.result c.low_spot-low.ensures c.high_spot-high.ensures c.sum_along.result
+          c.sum_along.ensures c.own_in-own.result c.own_in-own.ensures,
+    )
 
 pub loop-step-preserved : goal.loop-step-preserved
-loop-step-preserved c = record {
-  own = λ cranes k g.
-      let p = c.args.place.now in
-      let s = c.args.spots.now in
-      let spot = c.next_spot-spot.result in
-      let before = next_in p c.loop-step.step c.loop-step-test.true k.order c.args.way in
-      let inside : spot < length s.bays.items = omega (arith, before, k.within, c.next_spot-spot.ensures) in
-      let near = k.spots.bays.along.on_ship spot inside in
-      let read = get_or_read s.bays.items spot c.index.result.now inside c.index.ensures (pos 0) in
-      let own = next_own c.args.inst.now cranes s p k c.args.grid.now g c.args.way c.loop-step.step c.loop-step-test.true c.loop-step.own
-      (c.loop-step.invariant.own cranes k g) spot c.next_spot-spot.ensures _ (omega (arith, ints, read, near.0, near.1))
-      c.own_at.result c.own_at.ensures in
-      c.together-own.ensures ∙ own;
-  greatest = λ cranes k g.
-      let p = c.args.place.now in
-      let s = c.args.spots.now in
-      let spot = c.next_spot-spot.result in
-      let before = next_in p c.loop-step.step c.loop-step-test.true k.order c.args.way in
-      let inside : spot < length s.bays.items = omega (arith, before, k.within, c.next_spot-spot.ensures) in
-      let near = k.spots.bays.along.on_ship spot inside in
-      let read = get_or_read s.bays.items spot c.index.result.now inside c.index.ensures (pos 0) in
-      let own = next_known c.args.inst.now cranes s p k c.args.grid.now g c.args.way c.loop-step.step c.loop-step-test.true c.loop-step.own
-      (c.loop-step.invariant.own cranes k g) spot c.next_spot-spot.ensures _ (omega (arith, ints, read, near.0, near.1))
-      c.own_at.result c.own_at.ensures c.low_spot-low.result c.high_spot-high.result c.low_spot-low.ensures
-      c.high_spot-high.ensures in
-      next_greatest c.args.inst.now cranes s p k c.args.grid.now g c.args.way c.loop-step.step c.loop-step-test.true c.args.turn
-      c.args.gone c.loop-step.greatest c.done_in.result c.max-greatest.result c.low_spot-low.result c.high_spot-high.result
-      c.low_spot-low.ensures c.high_spot-high.ensures (c.done_in.ensures cranes k (c.together-own.ensures ∙ own))
-      (c.max-greatest.ensures) (c.loop-step.invariant.greatest cranes k g);
-}
+loop-step-preserved c = λ cranes k.
+    let own = own_along c.args.inst.now cranes c.args.spots.now c.args.table.now c.args.place k c.loop-step.step c.loop-step-test.true c.args.way
+    c.low_spot-low.result c.high_spot-high.result c.low_spot-low.ensures c.high_spot-high.ensures c.sum_along.result
+    c.sum_along.ensures c.own_in-own.result c.own_in-own.ensures in
+    next_greatest c.args.inst.now cranes c.args.spots.now c.args.table.now c.args.place k c.args.way c.loop-step.step
+    c.loop-step-test.true c.args.turn c.args.gone c.loop-step.greatest c.done_in.result c.max-greatest.result c.low_spot-low.result
+    c.high_spot-high.result c.low_spot-low.ensures c.high_spot-high.ensures (c.done_in.ensures cranes k own)
+    c.max-greatest.ensures (c.loop-step.invariant cranes k)
 
 pub returns : goal.returns
-returns c = λ cranes k g.
-    swept_all c.args.way c.args.place.now k.order (stretch c.args.inst.now c.args.turn cranes c.args.spots.now c.args.place.now c.args.way)
-    c.args.gone c.loop-step.greatest c.loop-step.step (omega (arith, c.loop-step-test.false, c.loop-step.auto.step-end))
-    (c.loop-step.invariant.greatest cranes k g)
+returns c = λ cranes k.
+    swept_all c.args.way c.args.place k.order (stretch c.args.inst.now c.args.turn cranes c.args.spots.now c.args.place c.args.way)
+    c.args.gone c.loop-step.greatest c.loop-step.step
+    (omega (arith, c.loop-step-test.false, c.loop-step.auto.step-end, c.skipped-step.ensures.few)) (c.loop-step.invariant cranes k)

@@ -4,21 +4,21 @@ use Rattle.qc_close.specs.Counts.{no_frame}
 use Rattle.qc_close.proofs.SumLemmas.{small_more, sums_more}
 use Rattle.qc_close.proofs.sums.most_legs.Goals as goal
 
-pub with_number-sums-requires-clause-sums : goal.with_number-sums-requires-clause-sums
-with_number-sums-requires-clause-sums c = λ n low. omega (arith, c.loop-frame.invariant.small n (omega arith))
+pub add_number-requires-clause-sums : goal.add_number-requires-clause-sums
+add_number-requires-clause-sums c = λ n low. omega (arith, c.loop-frame.invariant.small n (omega arith))
 
 pub loop-frame-preserved : goal.loop-frame-preserved
 loop-frame-preserved c =
-    let all = c.with_number-sums.ensures in
+    let all = c.add_number.ensures in
     record {
-      sums = sums_more c.loop-frame.sums c.with_number-sums.result c.saturating_sub-bays.result all.none all.some
+      sums = sums_more c.loop-frame.sums c.add_number.new.sums c.saturating_sub-bays.result all.none all.some
           (λ f. bays_to c.args.way f c.args.to - bays_to c.args.way f c.args.from) c.args.frames.now
           c.loop-frame.frame-index no_frame (omega arith)
           (omega (arith, c.saturating_sub-bays.ensures, c.bays_to.ensures.bays, c.bays_to-in-loop-frame.ensures.bays))
           c.loop-frame.invariant.sums;
       small = λ n few. omega (
         arith,
-        small_more c.loop-frame.sums c.with_number-sums.result c.saturating_sub-bays.result all.none all.some
+        small_more c.loop-frame.sums c.add_number.new.sums c.saturating_sub-bays.result all.none all.some
             (c.loop-frame.frame-index * 2 ^ 18) (2 ^ 18)
             (omega (arith, c.saturating_sub-bays.ensures, c.bays_to.ensures.bound, c.bays_to-in-loop-frame.ensures.bound)) c.loop-frame.invariant.small n few,
       );

@@ -1,0 +1,5 @@
+use Rattle.qc_close.specs.Bars.{AreSums, UpTo, sum_before}
+use Rattle.qc_close.proofs.bars.sum_behind.Given as goal
+
+abbrev pub invariant-loop-k : goal.invariant-loop-k
+invariant-loop-k l = AreSums (UpTo l.row l.k) (sum_before l.grid) l.count l.before
