@@ -26,11 +26,11 @@ returns-in_default-clause-serves g c =
     let view = g.S.Sink.view in (
       (
         omega (arith, c.create.ensures.counts.never_falls, c.in_default.ensures.counts.rose),
-        at_tree (planning c.args.asked.now) c.args.job c.requires.goes c.earlier-given.new.search
+        at_tree (planning c.args.asked.now) c.args.job c.requires.goes c.tell.new.search
             (view c.args.shelf.now).files
             (view c.create.new.self).files (view c.store_tree.new.shelf).files
             (view c.store_tree.new.shelf).files
-            (c.earlier-given.ensures.stays ∙ c.requires.search) c.requires.due c.create.ensures.files_stay
+            (c.tell.ensures.stays ∙ c.earlier-given.ensures.stays ∙ c.requires.search) c.requires.due c.create.ensures.files_stay
             c.args.swept (option_map (λ sched. sched.now) c.earlier-given.result)
             (rw (c.as_ref.ensures.value, c.as_ref-2.ensures.value) at c.earlier-given.ensures.chosen)
             c.in_default.ensures.err,
@@ -48,11 +48,11 @@ returns-clause-serves g c =
           c.in-Ok.ensures.counts.never_falls,
           c.in-Err.ensures.counts.rose,
         ),
-        at_plan (planning c.args.asked.now) c.args.job c.requires.goes c.earlier-given.new.search
+        at_plan (planning c.args.asked.now) c.args.job c.requires.goes c.tell.new.search
             (view c.args.shelf.now).files
             (view c.create.new.self).files (view c.store_tree.new.shelf).files
             (view c.store_best.new.shelf).files
-            (c.earlier-given.ensures.stays ∙ c.requires.search) c.requires.due c.create.ensures.files_stay
+            (c.tell.ensures.stays ∙ c.earlier-given.ensures.stays ∙ c.requires.search) c.requires.due c.create.ensures.files_stay
             c.args.swept (option_map (λ sched. sched.now) c.earlier-given.result)
             (rw (c.as_ref.ensures.value, c.as_ref-2.ensures.value) at c.earlier-given.ensures.chosen)
             c.in-Ok.done c.in-Ok.ensures.ok c.in-Err.ensures.err,
@@ -69,10 +69,10 @@ returns-in-Ok-store_best-clause-serves g c =
           c.answer_of.result c.answer_of.ensures.tells
           (c.in-Ok-store_best.ensures.counts.unfailed ∙ c.in-Ok.ensures.counts.unfailed
           ∙ by_ok c.create.result came c.create.ensures.counts.unfailed)
-          (at_end (planning c.args.asked.now) c.args.job c.requires.goes c.earlier-given.new.search
+          (at_end (planning c.args.asked.now) c.args.job c.requires.goes c.tell.new.search
           (view c.args.shelf.now).files
           (view c.create.new.self).files (view c.store_tree.new.shelf).files (view c.store_best.new.shelf).files
-          (c.earlier-given.ensures.stays ∙ c.requires.search) c.requires.due c.create.ensures.files_stay
+          (c.tell.ensures.stays ∙ c.earlier-given.ensures.stays ∙ c.requires.search) c.requires.due c.create.ensures.files_stay
           c.args.swept (option_map (λ sched. sched.now) c.earlier-given.result)
           (rw (c.as_ref.ensures.value, c.as_ref-2.ensures.value) at c.earlier-given.ensures.chosen)
           c.in-Ok.done c.answer_of.result c.in-Ok.ensures.ok
@@ -83,10 +83,10 @@ returns-in-Ok-store_best-clause-serves g c =
 pub answer_of-requires-clause-none_earlier : goal.answer_of-requires-clause-none_earlier
 answer_of-requires-clause-none_earlier g c =
     subst (λ (i : InstanceView). NoneEarlier i c.in-Ok.done.bound)
-    (ap (λ (s : SearchView). s.inst) (c.earlier-given.ensures.stays ∙ c.requires.search))
+    (ap (λ (s : SearchView). s.inst) (c.tell.ensures.stays ∙ c.earlier-given.ensures.stays ∙ c.requires.search))
     c.in-Ok.ensures.sound.none_earlier
 
 pub answer_of-requires-clause-reread : goal.answer_of-requires-clause-reread
 answer_of-requires-clause-reread g c =
-    let is = rw (c.earlier-given.ensures.stays ∙ c.requires.search) at c.in-Ok.ensures.sound in
+    let is = rw (c.tell.ensures.stays ∙ c.earlier-given.ensures.stays ∙ c.requires.search) at c.in-Ok.ensures.sound in
     rereads c.args.job.inst c.in-Ok.done.best is.judgeable is.soon c.in-Ok-store_best.ensures.reread
