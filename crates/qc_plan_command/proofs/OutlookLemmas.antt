@@ -1,6 +1,5 @@
 -- No schedule that goes one way ends before the bound that is told before a search.
-use Rattle.std.proofs.Common.{◌≡◌, ℕ, zero, suc, ◌<◌, ◌≤◌, arith, List, [], min, IsTrue, inl, inr, subst, refl, ap}
-use Rattle.std.proofs.lemmas.Bool.{cases_lt}
+use Rattle.std.proofs.Common.{◌≡◌, ℕ, zero, suc, ◌≤◌, arith, List, [], min, inl, inr}
 use Rattle.qc_close.specs.Crews.{CrewView, IsCrewOf}
 use Rattle.qc_close.proofs.NodeLemmas.{closed_node_le}
 use Rattle.qc_model.specs.declared.direction.Direction.TheVariants.{Down}
@@ -9,7 +8,7 @@ use Rattle.qc_model.specs.declared.turn.Turn.TheVariants.{OneWay}
 use Rattle.qc_model.specs.Assignments.{no_cranes}
 use Rattle.qc_model.specs.Closing.{IsWorkBound}
 use Rattle.qc_model.specs.Instance.{InstanceView, Valid}
-use Rattle.qc_model.specs.OneWay.{GoesDown, GoesOneWay, GoesUp, mirror, mirror_schedule}
+use Rattle.qc_model.specs.OneWay.{GoesUp, mirror, mirror_schedule}
 use Rattle.qc_model.specs.Rules.{ends}
 use Rattle.qc_model.proofs.SeenLemmas.{seen-ends}
 use Rattle.qc_num.specs.declared.bound.Bound.TheVariants.{Least}

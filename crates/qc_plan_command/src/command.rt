@@ -99,7 +99,7 @@ fn serve<S: Shelf>(alloc: Global, asked: &PlanAsked<'_>, shelf: &mut S) -> Resul
     let track = Track::new(alloc, job.inst.task_count())?;
     let swept = first_plan(alloc, &job.inst, EFFORT)?;
     let search = Search::open(alloc, &job.inst, asked.nodes)?;
-    let bound = root_bound(alloc, &job.inst);
+    let bound = root_bound(alloc, &job.inst).ok();
     Ok(plan_instance(asked, job, swept, search, bound, track, shelf))
 }
 

@@ -1,5 +1,5 @@
 //! What is known before a search, and told to whoever waits for it.
-ghost use Rattle.std.specs.Prelude.{◌≡◌, ◌≤◌, List, IfSome};
+ghost use Rattle.std.specs.Prelude.{◌≡◌, ◌≤◌, List, IfOk, IfSome};
 ghost use Rattle.qc_model.specs.declared.schedule.Slot.{Slot};
 ghost use Rattle.qc_model.specs.Judge.{IsJudgeable};
 ghost use Rattle.qc_model.specs.OneWay.{GoesOneWay, GoesUp};
@@ -11,27 +11,27 @@ use qc_bounds::work_bound;
 use qc_close::Crew;
 use qc_io::{Outlook, Shelf};
 use qc_model::{Instance, Schedule, Turn, mirror};
-use qc_num::Tick;
+use qc_num::{OutOfMemory, Tick};
 use qc_search::Search;
 use std::alloc::Global;
 
-/// An end before which the work doesn't fit where it goes upward; none for want of memory.
-fn upward_bound(alloc: Global, inst: &Instance) -> Option<Tick>
-    ensures { IfSome result (λ bound. (sched : List Slot) → GoesUp inst.now sched
+/// An end before which the work doesn't fit where it goes upward.
+fn upward_bound(alloc: Global, inst: &Instance) -> Result<Tick, OutOfMemory>
+    ensures { IfOk result (λ bound. (sched : List Slot) → GoesUp inst.now sched
         → bound ≤ ends inst.now sched) }
 {
-    let crew = Crew::open(alloc, inst, Turn::OneWay).ok()?;
-    Some(work_bound(&crew))
+    let crew = Crew::open(alloc, inst, Turn::OneWay)?;
+    Ok(work_bound(&crew))
 }
 
-/// An end that no schedule that goes one way comes before, by its work; none for want of memory.
-pub(crate) fn root_bound(alloc: Global, inst: &Instance) -> Option<Tick>
-    ensures { IfSome result (λ bound. NoneEarlier inst.now (Least bound)) }
+/// An end that no schedule that goes one way comes before, by its work.
+pub(crate) fn root_bound(alloc: Global, inst: &Instance) -> Result<Tick, OutOfMemory>
+    ensures { IfOk result (λ bound. NoneEarlier inst.now (Least bound)) }
 {
-    let turned = mirror(alloc, inst).ok()?;
+    let turned = mirror(alloc, inst)?;
     let up = upward_bound(alloc, inst)?;
     let down = upward_bound(alloc, &turned)?;
-    Some(up.min(down))
+    Ok(up.min(down))
 }
 
 /// Tells the shelf what is known before a search with at most so many branchings, which is given this schedule or none.
