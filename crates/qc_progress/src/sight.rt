@@ -18,7 +18,7 @@ pub(crate) struct Sight {
     branchings: u32,
     /// How many it may make.
     limit: u32,
-    /// When the best plan ends that is known.
+    /// No later than this the best plan ends that is known.
     end: Option<Tick>,
     /// Before which end none of its plans is done.
     bound: Option<Tick>,
@@ -37,8 +37,9 @@ impl Sight {
         }
     }
 
-    /// Sees a line of the tree. Whether it is worth telling: a thousandth branching, or a better plan. A search closes
-    /// a node by its work at the end of the best plan so far, as long as it has branchings left.
+    /// Sees a line of the tree. Whether it is worth telling: a thousandth branching, or a better plan. As long as it has
+    /// branchings left, a search closes a node by its work at the end of the best plan so far; where no node is closed
+    /// so, a better plan doesn't show.
     pub(crate) fn sees(&mut self, line: &[u8]) -> bool {
         match line {
             [b'A' | b'O', b' ', ..] => {
