@@ -27,7 +27,12 @@ pub(crate) struct Sight {
 impl Sight {
     /// What is known before the first branching.
     pub(crate) fn new(outlook: Outlook) -> Sight
-        ensures { result ≡ record { branchings = 0; limit = outlook.limit; end = outlook.end; bound = outlook.bound } }
+        ensures { result ≡ record {
+          branchings = 0;
+          limit = outlook.limit;
+          end = outlook.end;
+          bound = outlook.bound;
+        } }
     {
         Sight {
             branchings: 0,
