@@ -149,10 +149,11 @@ class Plan:
         for i, (hatch, bay) in enumerate(zip(self.hatches, self.places)):
             left, right = column(bay)
             middle = (left + right) // 2
+            size, small = (150, 120) if right - left >= 500 else (90, 80)
             yield rect(left, 1500, right - left, 9600, f'fill="{"#f7f7f7" if i % 2 else "#efefef"}"/>')
-            yield text(middle, 1130, 'font-size="90" text-anchor="middle"', hatch)
-            yield text(middle, 11500, 'font-size="90" text-anchor="middle"', hatch)
-            yield text(middle, 11680, 'font-size="80" fill="#666666" text-anchor="middle"', bay)
+            yield text(middle, 1130, f'font-size="{size}" text-anchor="middle"', hatch)
+            yield text(middle, 11500, f'font-size="{size}" text-anchor="middle"', hatch)
+            yield text(middle, 11680, f'font-size="{small}" fill="#666666" text-anchor="middle"', bay)
         step = next(s for p in range(12) for s in (10**p, 2 * 10**p, 5 * 10**p) if end // s <= 12)
         for m in range(0, self.end + 1, step):
             yield line(900, down(m), 15300, down(m), 'stroke="#c4c4c4" stroke-width="8"')

@@ -22,7 +22,7 @@ use qc_top::{Status, run};
 use std::io::IsTerminal;
 use std::os::fd::AsFd;
 use std::process::ExitCode;
-use std::rt::{Clock, Env, Files};
+use std::rt::{Env, Files};
 use std::{fs, io};
 use voice::say_after;
 use words::words_of;
@@ -52,7 +52,7 @@ fn behind_quiet(words: &[String]) -> (bool, &[String]) {
 
 /// The status of a run with these words over the files of the system and standard output. What is to be mended is said
 /// on standard error, unless `-q` stands first, and where that is a terminal, how far the search has come.
-fn status_of<R: Files + Clock + Print + Eprint + AllocGlobal>(
+fn status_of<R: Files + Print + Eprint + AllocGlobal>(
     rt: &R,
     words: &[String],
     is_terminal: bool,

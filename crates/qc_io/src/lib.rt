@@ -4,6 +4,7 @@
 mod failing;
 mod mem_shelf;
 mod mem_sink;
+mod outlook;
 mod reading;
 mod rest;
 mod shelf;
@@ -12,6 +13,7 @@ mod writing;
 
 pub use mem_shelf::MemShelf;
 pub use mem_sink::MemSink;
+pub use outlook::Outlook;
 pub use reading::{ReadAll, read_all};
 pub use shelf::Shelf;
 pub use sink::{Failed, Sink, fault};

@@ -5,6 +5,7 @@ ghost use Rattle.qc_io.specs.Outside.{Rose, IsMissing, ReadCause, begun, file_at
 ghost use Rattle.qc_io.specs.Reads.{Reads};
 ghost use Rattle.qc_io.specs.Writes.{Counts};
 
+use crate::outlook::Outlook;
 use crate::sink::{Failed, Sink};
 
 /// Holds named files. One is read and one is made at a time: `create` begins a file, `write` appends to it,
@@ -62,6 +63,11 @@ pub trait Shelf: Sink {
         ensures rest_stays { (Self.view self.new).rest ≡ (Self.view self.old).rest }
         ensures reading_stays { (Self.view self.new).reading ≡ (Self.view self.old).reading }
         ensures read_faults_stay { (Self.view self.new).read_faults ≡ (Self.view self.old).read_faults };
+
+    /// Is told what is known before a search. It changes nothing that contracts see.
+    fn tell(&mut self, _outlook: Outlook)
+        ensures { Self.view self.new ≡ Self.view self.old }
+    {}
 
     // What is left of the file being read is told where the files are.
     ghost rest_told: { (shelf : Self) → is_some (Self.view shelf).rest ≡ is_some (Self.view shelf).files };

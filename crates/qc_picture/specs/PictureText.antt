@@ -66,9 +66,20 @@ middle p bay = (column_from p bay + column_to p bay) / 2
 abbrev pub shade : ℕ → List ℕ
 shade i = if i % 2 == 0 then codes "fill=\"#efefef\"/>\n" else codes "fill=\"#f7f7f7\"/>\n"
 
+-- numbers stand in a column as large as it leaves room for
+abbrev pub hatch_style : ℕ → List ℕ
+hatch_style wide =
+    if nat_le 500 wide then codes "font-size=\"150\" text-anchor=\"middle\""
+    else codes "font-size=\"90\" text-anchor=\"middle\""
+
+abbrev pub bay_style : ℕ → List ℕ
+bay_style wide =
+    if nat_le 500 wide then codes "font-size=\"120\" fill=\"#666666\" text-anchor=\"middle\""
+    else codes "font-size=\"80\" fill=\"#666666\" text-anchor=\"middle\""
+
 abbrev pub hatch_label : PaperView → (i y : ℕ) → List ℕ
 hatch_label p i y =
-    label_text (middle p (slice_index p.drawn.places i)) y (codes "font-size=\"90\" text-anchor=\"middle\"")
+    label_text (middle p (slice_index p.drawn.places i)) y (hatch_style (column_wide p (slice_index p.drawn.places i)))
     (decimal (slice_index p.drawn.hatches i))
 
 abbrev pub column_ground : PaperView → ℕ → List ℕ
@@ -79,7 +90,7 @@ column_ground p i =
 abbrev pub bay_label : PaperView → ℕ → List ℕ
 bay_label p i =
     label_text (middle p (slice_index p.drawn.places i)) 11680
-    (codes "font-size=\"80\" fill=\"#666666\" text-anchor=\"middle\"") (decimal (slice_index p.drawn.places i))
+    (bay_style (column_wide p (slice_index p.drawn.places i))) (decimal (slice_index p.drawn.places i))
 
 -- the column of hatch i, its number above and below, and its bay under that
 abbrev pub column_text : PaperView → ℕ → List ℕ

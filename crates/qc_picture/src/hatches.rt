@@ -3,7 +3,7 @@
 ghost use Rattle.std.specs.Prelude.{◌≡◌, ◌≤◌, ◌<◌, ◌+◌, ◌/◌, ◌++◌, decimal, length, OnOk};
 ghost use Rattle.std.specs.List.{flat_map, range_with_len};
 ghost use Rattle.qc_picture.specs.Elements.{legend_text};
-ghost use Rattle.qc_picture.specs.PictureText.{bay_label, column_ground, column_text, front_text, ground_text, hatch_label, head_text, height, shade, tick_text, ticks_text, title_text, way_text};
+ghost use Rattle.qc_picture.specs.PictureText.{bay_label, bay_style, column_ground, column_text, front_text, ground_text, hatch_label, hatch_style, head_text, height, shade, tick_text, ticks_text, title_text, way_text};
 ghost use Rattle.qc_picture.specs.Views.{HasPaper, paper_view};
 
 use crate::elements::{label, line, rect};
@@ -109,14 +109,10 @@ impl Paper<'_> {
         ensures text { result ≡ hatch_label (paper_view self.now) hatch y }
         ensures length { length result ≤ 130 }
     {
-        let x = self.middle(u64::from(self.drawn.places[hatch as usize]));
+        let bay = u64::from(self.drawn.places[hatch as usize]);
         let number = u64::from(self.drawn.hatches[hatch as usize]);
-        label(
-            x,
-            y,
-            b"font-size=\"90\" text-anchor=\"middle\"",
-            number_text(number).as_bytes(),
-        )
+        let style = hatch_style(self.column_wide(bay));
+        label(self.middle(bay), y, style, number_text(number).as_bytes())
     }
 
     /// The shade of the column of a hatch.
@@ -137,7 +133,7 @@ impl Paper<'_> {
         ensures { result ≡ bay_label (paper_view self.now) hatch }
     {
         let bay = u64::from(self.drawn.places[hatch as usize]);
-        let style = b"font-size=\"80\" fill=\"#666666\" text-anchor=\"middle\"";
+        let style = bay_style(self.column_wide(bay));
         label(self.middle(bay), 11_680, style, number_text(bay).as_bytes())
     }
 
@@ -198,6 +194,30 @@ impl Paper<'_> {
             page.put(self.tick(number).as_bytes())?;
         }
         Ok(())
+    }
+}
+
+/// How the number of a hatch is written over and under a column so wide.
+fn hatch_style(wide: u64) -> &'static [u8]
+    ensures style { result.now ≡ hatch_style wide }
+    ensures short { length result.now ≤ 40 }
+{
+    if wide >= 500 {
+        b"font-size=\"150\" text-anchor=\"middle\""
+    } else {
+        b"font-size=\"90\" text-anchor=\"middle\""
+    }
+}
+
+/// How its bay is written under that.
+fn bay_style(wide: u64) -> &'static [u8]
+    ensures style { result.now ≡ bay_style wide }
+    ensures short { length result.now ≤ 60 }
+{
+    if wide >= 500 {
+        b"font-size=\"120\" fill=\"#666666\" text-anchor=\"middle\""
+    } else {
+        b"font-size=\"80\" fill=\"#666666\" text-anchor=\"middle\""
     }
 }
 

@@ -1,3 +1,4 @@
 pub mod StoreLemmas
 pub mod FoundLemmas
 pub mod PlanLemmas
+pub mod OutlookLemmas

@@ -16,11 +16,13 @@ use crate::answer::PlanAnswer;
 use crate::asked::PlanAsked;
 use crate::found::answer_of;
 use crate::given::{EFFORT, earlier};
+use crate::outlook::{root_bound, tell};
 use crate::report::report;
 use crate::store::{store_best, store_tree};
 use qc_io::{Shelf, Sink, WriteFault};
 use qc_model::{Instance, Schedule, direction_of};
 use qc_motion::Track;
+use qc_num::Tick;
 use qc_run::{Broken, OwnJob, Status, Stop, broken_of, read_own_job, report_stop};
 use qc_search::Search;
 use qc_sweep::first_plan;
@@ -29,12 +31,13 @@ use std::alloc::Global;
 /// Runs the search, writes its tree and the plan of the best schedule that it knows, and answers what is told of
 /// it. A schedule of the planner's own goes one way; the search begins with it, or with one that the sweeps found
 /// and that ends earlier. The plan's file is begun first, so that one that can't be made is told before the search
-/// is run.
+/// is run; the bound is only told to whoever waits.
 fn plan_instance<S: Shelf>(
     asked: &PlanAsked<'_>,
     job: OwnJob,
     swept: Option<Schedule>,
     mut search: Search,
+    bound: Option<Tick>,
     track: Track,
     shelf: &mut S,
 ) -> PlanAnswer
@@ -54,6 +57,7 @@ fn plan_instance<S: Shelf>(
         return PlanAnswer::WriteFault;
     }
     let given = earlier(&mut search, &inst, own.as_ref(), swept.as_ref());
+    tell(&mut search, given, asked.nodes, bound, shelf);
     let Ok(done) = store_tree(search, given, asked.tree, shelf) else {
         return PlanAnswer::WriteFault;
     };
@@ -95,7 +99,8 @@ fn serve<S: Shelf>(alloc: Global, asked: &PlanAsked<'_>, shelf: &mut S) -> Resul
     let track = Track::new(alloc, job.inst.task_count())?;
     let swept = first_plan(alloc, &job.inst, EFFORT)?;
     let search = Search::open(alloc, &job.inst, asked.nodes)?;
-    Ok(plan_instance(asked, job, swept, search, track, shelf))
+    let bound = root_bound(alloc, &job.inst).ok();
+    Ok(plan_instance(asked, job, swept, search, bound, track, shelf))
 }
 
 /// Plans, and reports to `out`.

@@ -8,6 +8,7 @@ mod asked;
 mod command;
 mod found;
 mod given;
+mod outlook;
 mod report;
 mod store;
 

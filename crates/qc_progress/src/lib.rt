@@ -2,5 +2,6 @@
 #![tactic(auto)]
 
 mod progress;
+mod sight;
 
 pub use progress::Progress;

@@ -1,28 +1,23 @@
-//! A shelf that tells how many branchings were written to it.
+//! A shelf that tells how far a search has come whose tree is written to it.
 ghost use Rattle.std.specs.Prelude.{◌≡◌};
 
-use qc_io::{Failed, Shelf, Sink};
-use std::rt::Clock;
-use std::time::Instant;
+use crate::sight::Sight;
+use qc_io::{Failed, Outlook, Shelf, Sink};
 
-/// How many branchings are told at a time.
-const STEP: u32 = 1_000;
-
-/// A shelf that counts the lines of branchings that are written to it, and tells every thousandth on standard error, in a
-/// line that is written over. To whoever reads from it or writes to it, it is the shelf that it wraps.
+/// A shelf that sees the lines of the tree that a search writes to it, and tells on standard error how far the search
+/// has come, in a line that is written over. To whoever reads from it or writes to it, it is the shelf that it wraps.
 #[derive(Drop)]
 pub struct Progress<'a, S, R> {
     shelf: S,
     rt: &'a R,
     /// Whether anybody looks.
     is_shown: bool,
-    /// When it began; none where no clock can be read.
-    began: Option<Instant>,
-    branchings: u32,
+    /// What is known of the search that runs; none where none does, or nobody looks.
+    sight: Option<Sight>,
 }
 
-impl<'a, S: Shelf, R: Eprint + Clock> Progress<'a, S, R> {
-    /// No branching was written. Nothing is told where nobody looks.
+impl<'a, S: Shelf, R: Eprint> Progress<'a, S, R> {
+    /// No search runs. Nothing is told where nobody looks.
     pub fn new(shelf: S, rt: &'a R, is_shown: bool) -> Self
         ensures { result.shelf ≡ shelf }
     {
@@ -30,15 +25,7 @@ impl<'a, S: Shelf, R: Eprint + Clock> Progress<'a, S, R> {
             shelf,
             rt,
             is_shown,
-            began: Instant::now(rt).ok(),
-            branchings: 0,
-        }
-    }
-
-    /// Clears the line.
-    fn clear(&self) {
-        if self.is_shown && self.branchings >= STEP {
-            let _ = self.rt.eprint("\r\x1b[K");
+            sight: None,
         }
     }
 
@@ -50,50 +37,44 @@ impl<'a, S: Shelf, R: Eprint + Clock> Progress<'a, S, R> {
             shelf,
             rt: _,
             is_shown: _,
-            began: _,
-            branchings: _,
+            sight: _,
         } = self;
         shelf
     }
 
-    /// The seconds since it began.
-    fn seconds(&self) -> Option<u64> {
-        let began = self.began?;
-        let passed = began.elapsed(self.rt).ok()?;
-        Some(passed.as_secs())
+    /// Tells what is known, over what was told before.
+    fn show(&mut self, sight: Sight)
+        ensures { self.new.shelf ≡ self.old.shelf }
+    {
+        self.sight = Some(sight);
+        let _ = self.rt.eprint(format_args!("\r{sight}\x1b[K"));
     }
 
-    /// Tells how many branchings there are.
-    fn tell(&self) {
-        let thousands = self.branchings / STEP;
-        let _ = match self.seconds() {
-            Some(seconds) => self
-                .rt
-                .eprint(format_args!("\r{thousands},000 branchings, {seconds} s")),
-            None => self.rt.eprint(format_args!("\r{thousands},000 branchings")),
-        };
-    }
-
-    /// Counts a line that is a branching.
+    /// Sees a line that is written, and tells it where it is worth it.
     fn see(&mut self, line: &[u8])
         ensures { self.new.shelf ≡ self.old.shelf }
     {
-        if !self.is_shown || !is_branching(line) {
+        let Some(mut sight) = self.sight else {
             return;
+        };
+        if sight.sees(line) {
+            self.show(sight);
+        } else {
+            self.sight = Some(sight);
         }
-        self.branchings = self.branchings.saturating_add(1);
-        if self.branchings % STEP == 0 {
-            self.tell();
+    }
+
+    /// Clears the line: the search runs no more.
+    fn clear(&mut self)
+        ensures { self.new.shelf ≡ self.old.shelf }
+    {
+        if self.sight.take().is_some() {
+            let _ = self.rt.eprint("\r\x1b[K");
         }
     }
 }
 
-/// Whether a line of a tree is a branching.
-fn is_branching(line: &[u8]) -> bool {
-    line.starts_with(b"A ") || line.starts_with(b"O ")
-}
-
-impl<S: Shelf, R: Eprint + Clock> Sink for Progress<'_, S, R> {
+impl<S: Shelf, R: Eprint> Sink for Progress<'_, S, R> {
     ghost view = { λ progress. S.Sink.view progress.shelf };
 
     fn write(&mut self, piece: &[u8]) -> Result<usize, Failed> {
@@ -106,7 +87,7 @@ impl<S: Shelf, R: Eprint + Clock> Sink for Progress<'_, S, R> {
     }
 }
 
-impl<S: Shelf, R: Eprint + Clock> Shelf for Progress<'_, S, R> {
+impl<S: Shelf, R: Eprint> Shelf for Progress<'_, S, R> {
     ghost rest_told = { λ progress. S.rest_told progress.shelf };
 
     ghost tells_alike = { λ before after. S.tells_alike before.shelf after.shelf };
@@ -120,11 +101,22 @@ impl<S: Shelf, R: Eprint + Clock> Shelf for Progress<'_, S, R> {
     }
 
     fn create(&mut self, name: &str) -> Result<(), Failed> {
-        self.shelf.create(name)
+        let begun = self.shelf.create(name);
+        if begun.is_err() {
+            self.clear();
+        }
+        begun
     }
 
     fn finish(&mut self) -> Result<(), Failed> {
         self.clear();
         self.shelf.finish()
+    }
+
+    fn tell(&mut self, outlook: Outlook) {
+        if self.is_shown {
+            self.show(Sight::new(outlook));
+        }
+        self.shelf.tell(outlook);
     }
 }

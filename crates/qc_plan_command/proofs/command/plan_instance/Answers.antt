@@ -1,4 +1,5 @@
 use Rattle.std.proofs.Common.{◌≡◌, true, false, ap, arith, option_map, subst, sym, ◌∙◌, is_err}
+use Rattle.qc_io.specs.Outside.{View}
 use Rattle.qc_model.specs.Instance.{InstanceView}
 use Rattle.qc_search.specs.Run.{SearchView}
 use Rattle.qc_tree.specs.Trees.{NoneEarlier}
@@ -23,70 +24,82 @@ returns-then-is_err-clause-serves g c =
 
 pub returns-in_default-clause-serves : goal.returns-in_default-clause-serves
 returns-in_default-clause-serves g c =
-    let view = g.S.Sink.view in (
-      (
-        omega (arith, c.create.ensures.counts.never_falls, c.in_default.ensures.counts.rose),
-        at_tree (planning c.args.asked.now) c.args.job c.requires.goes c.earlier-given.new.search
-            (view c.args.shelf.now).files
-            (view c.create.new.self).files (view c.store_tree.new.shelf).files
-            (view c.store_tree.new.shelf).files
-            (c.earlier-given.ensures.stays ∙ c.requires.search) c.requires.due c.create.ensures.files_stay
-            c.args.swept (option_map (λ sched. sched.now) c.earlier-given.result)
-            (rw (c.as_ref.ensures.value, c.as_ref-2.ensures.value) at c.earlier-given.ensures.chosen)
-            c.in_default.ensures.err,
-      ),
-      c.in_default.ensures.read_faults ∙ c.create.ensures.read_faults_stay,
-    )
-
-pub returns-clause-serves : goal.returns-clause-serves
-returns-clause-serves g c =
-    let view = g.S.Sink.view in (
+    let view = g.S.Sink.view in
+    let told = c.tell.ensures.shelf_stays in
+    let same = ap (λ (v : View). v.files) told ∙ c.create.ensures.files_stay in (
       (
         omega (
           arith,
           c.create.ensures.counts.never_falls,
+          ap (λ (v : View). v.faults) told,
+          c.in_default.ensures.counts.rose,
+        ),
+        at_tree (planning c.args.asked.now) c.args.job c.requires.goes c.tell.new.search
+            (view c.args.shelf.now).files
+            (view c.tell.new.shelf).files (view c.store_tree.new.shelf).files
+            (view c.store_tree.new.shelf).files
+            (c.tell.ensures.stays ∙ c.earlier-given.ensures.stays ∙ c.requires.search) c.requires.due same
+            c.args.swept (option_map (λ sched. sched.now) c.earlier-given.result)
+            (rw (c.as_ref.ensures.value, c.as_ref-2.ensures.value) at c.earlier-given.ensures.chosen)
+            c.in_default.ensures.err,
+      ),
+      c.in_default.ensures.read_faults ∙ ap (λ (v : View). v.read_faults) told ∙ c.create.ensures.read_faults_stay,
+    )
+
+pub returns-clause-serves : goal.returns-clause-serves
+returns-clause-serves g c =
+    let view = g.S.Sink.view in
+    let told = c.tell.ensures.shelf_stays in
+    let same = ap (λ (v : View). v.files) told ∙ c.create.ensures.files_stay in (
+      (
+        omega (
+          arith,
+          c.create.ensures.counts.never_falls,
+          ap (λ (v : View). v.faults) told,
           c.in-Ok.ensures.counts.never_falls,
           c.in-Err.ensures.counts.rose,
         ),
-        at_plan (planning c.args.asked.now) c.args.job c.requires.goes c.earlier-given.new.search
+        at_plan (planning c.args.asked.now) c.args.job c.requires.goes c.tell.new.search
             (view c.args.shelf.now).files
-            (view c.create.new.self).files (view c.store_tree.new.shelf).files
+            (view c.tell.new.shelf).files (view c.store_tree.new.shelf).files
             (view c.store_best.new.shelf).files
-            (c.earlier-given.ensures.stays ∙ c.requires.search) c.requires.due c.create.ensures.files_stay
+            (c.tell.ensures.stays ∙ c.earlier-given.ensures.stays ∙ c.requires.search) c.requires.due same
             c.args.swept (option_map (λ sched. sched.now) c.earlier-given.result)
             (rw (c.as_ref.ensures.value, c.as_ref-2.ensures.value) at c.earlier-given.ensures.chosen)
             c.in-Ok.done c.in-Ok.ensures.ok c.in-Err.ensures.err,
       ),
-      c.in-Err.ensures.read_faults ∙ c.in-Ok.ensures.read_faults ∙ c.create.ensures.read_faults_stay,
+      c.in-Err.ensures.read_faults ∙ c.in-Ok.ensures.read_faults ∙ ap (λ (v : View). v.read_faults) told ∙ c.create.ensures.read_faults_stay,
     )
 
 pub returns-in-Ok-store_best-clause-serves : goal.returns-in-Ok-store_best-clause-serves
 returns-in-Ok-store_best-clause-serves g c =
     let view = g.S.Sink.view in
+    let told = c.tell.ensures.shelf_stays in
+    let same = ap (λ (v : View). v.files) told ∙ c.create.ensures.files_stay in
     let came : is_err c.create.result ≡ false = sym c.is_err.ensures.value ∙ c.if-is_err.false in (
       writes_told (planning c.args.asked.now) (view c.args.shelf.now)
           (view c.store_best.new.shelf) c.args.job.inst c.in-Ok.done
           c.answer_of.result c.answer_of.ensures.tells
           (c.in-Ok-store_best.ensures.counts.unfailed ∙ c.in-Ok.ensures.counts.unfailed
-          ∙ by_ok c.create.result came c.create.ensures.counts.unfailed)
-          (at_end (planning c.args.asked.now) c.args.job c.requires.goes c.earlier-given.new.search
+          ∙ ap (λ (v : View). v.faults) told ∙ by_ok c.create.result came c.create.ensures.counts.unfailed)
+          (at_end (planning c.args.asked.now) c.args.job c.requires.goes c.tell.new.search
           (view c.args.shelf.now).files
-          (view c.create.new.self).files (view c.store_tree.new.shelf).files (view c.store_best.new.shelf).files
-          (c.earlier-given.ensures.stays ∙ c.requires.search) c.requires.due c.create.ensures.files_stay
+          (view c.tell.new.shelf).files (view c.store_tree.new.shelf).files (view c.store_best.new.shelf).files
+          (c.tell.ensures.stays ∙ c.earlier-given.ensures.stays ∙ c.requires.search) c.requires.due same
           c.args.swept (option_map (λ sched. sched.now) c.earlier-given.result)
           (rw (c.as_ref.ensures.value, c.as_ref-2.ensures.value) at c.earlier-given.ensures.chosen)
           c.in-Ok.done c.answer_of.result c.in-Ok.ensures.ok
           c.in-Ok-store_best.ensures.ok c.answer_of.ensures.tells),
-      c.in-Ok-store_best.ensures.read_faults ∙ c.in-Ok.ensures.read_faults ∙ c.create.ensures.read_faults_stay,
+      c.in-Ok-store_best.ensures.read_faults ∙ c.in-Ok.ensures.read_faults ∙ ap (λ (v : View). v.read_faults) told ∙ c.create.ensures.read_faults_stay,
     )
 
 pub answer_of-requires-clause-none_earlier : goal.answer_of-requires-clause-none_earlier
 answer_of-requires-clause-none_earlier g c =
     subst (λ (i : InstanceView). NoneEarlier i c.in-Ok.done.bound)
-    (ap (λ (s : SearchView). s.inst) (c.earlier-given.ensures.stays ∙ c.requires.search))
+    (ap (λ (s : SearchView). s.inst) (c.tell.ensures.stays ∙ c.earlier-given.ensures.stays ∙ c.requires.search))
     c.in-Ok.ensures.sound.none_earlier
 
 pub answer_of-requires-clause-reread : goal.answer_of-requires-clause-reread
 answer_of-requires-clause-reread g c =
-    let is = rw (c.earlier-given.ensures.stays ∙ c.requires.search) at c.in-Ok.ensures.sound in
+    let is = rw (c.tell.ensures.stays ∙ c.earlier-given.ensures.stays ∙ c.requires.search) at c.in-Ok.ensures.sound in
     rereads c.args.job.inst c.in-Ok.done.best is.judgeable is.soon c.in-Ok-store_best.ensures.reread
