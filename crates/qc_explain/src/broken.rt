@@ -1,10 +1,8 @@
 //! Plans that break a rule, and the number that keeps it.
 
 use crate::doing::{Doing, bays_needed, bays_short, done_by, travel};
-use crate::page::Page;
-use crate::shown::{Bays, Ticks, Word, text_of};
-use crate::table::table_of;
 use qc_gantt::read_plan;
+use qc_hints::{Bays, Page, Ticks, Word, table_of, text_of};
 use qc_model::{Break, Crane, Direction, Instance, Rule, Schedule, first_break};
 use qc_num::{Bay, OutOfMemory, Tick};
 use std::alloc::Global;

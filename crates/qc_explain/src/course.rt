@@ -1,11 +1,9 @@
 //! Faults of a log of ticks and of tasks that are done.
 
 use crate::log::{is_open, word};
-use crate::page::Page;
-use crate::place::{Place, line_of, raw_line};
-use crate::shown::Shown;
 use qc_dispatch::{DispatchError, DispatchFault, DispatchKind, follow_log};
 use qc_gantt::{PlanError, read_plan};
+use qc_hints::{Page, Place, Shown, line_of, raw_line};
 use qc_model::Instance;
 use qc_num::OutOfMemory;
 use qc_sheet_command::broken_rule;

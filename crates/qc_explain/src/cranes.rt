@@ -1,9 +1,6 @@
 //! Names of cranes.
 
-use crate::near::nearest;
-use crate::page::Page;
-use crate::place::Place;
-use crate::shown::{Shown, text_of};
+use qc_hints::{Page, Place, Shown, nearest, text_of};
 use qc_model::Crane;
 use qc_num::OutOfMemory;
 

@@ -1,8 +1,6 @@
 //! A task as a plan has it done.
 
-use crate::place::Place;
-use crate::shown::{Word, text_of};
-use crate::table::Table;
+use qc_hints::{Place, Table, Word, text_of};
 use qc_model::{Crane, Instance, Schedule, Task};
 use qc_num::{Bay, Tick};
 use std::fmt;

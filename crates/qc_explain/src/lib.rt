@@ -3,31 +3,13 @@
 #![tactic(auto)]
 
 mod broken;
-mod bytes;
 mod course;
 mod cranes;
 mod doing;
-mod facts;
-mod form;
-mod forms;
-mod keys;
 mod log;
-mod near;
-mod not_toml;
-mod notes;
-mod page;
-mod place;
 mod plan;
-mod ship;
-mod shown;
-mod sorted;
-mod stow;
-mod table;
 mod texts;
-mod toml_lines;
 mod tree;
-mod usage;
 mod voice;
-mod wanted;
 
 pub use voice::explain;

@@ -1,10 +1,7 @@
 //! Faults of a log of places.
 
-use crate::bytes::{are_digits, piece_at};
 use crate::cranes::say_no_crane;
-use crate::page::Page;
-use crate::place::{Place, line_of, raw_line};
-use crate::shown::Shown;
+use qc_hints::{Page, Place, Shown, are_digits, line_of, piece_at, raw_line};
 use qc_num::OutOfMemory;
 use qc_ship::Ship;
 use qc_watch::{WatchError, WatchFault, WatchKind, read_reports};

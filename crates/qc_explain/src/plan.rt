@@ -2,11 +2,10 @@
 
 use crate::cranes::say_no_crane;
 use crate::doing::TaskName;
-use crate::form::Sort;
-use crate::page::Page;
-use crate::shown::{Shown, Ticks, Word, text_of};
-use crate::table::{Table, is_blank, say_fields, say_header, table_of};
 use qc_gantt::{PlanError, PlanFault, PlanKind, read_plan};
+use qc_hints::{
+    Page, Shown, Sort, Table, Ticks, Word, is_blank, say_fields, say_header, table_of, text_of,
+};
 use qc_model::{Instance, Task};
 use qc_num::{OutOfMemory, plain_number};
 use std::alloc::Global;

@@ -44,6 +44,17 @@ fn of_plan<'a>(ship: &'a str, stow: &'a str, plan: Option<&'a str>) -> Names<'a>
     }
 }
 
+/// The names of the files of a command that shows a plan; none for one that reads no file.
+fn of_shown<'a>(request: &Request<'a>) -> Names<'a> {
+    match *request {
+        Request::Show { ship, stow, plan }
+        | Request::Sheet { ship, stow, plan }
+        | Request::Picture { ship, stow, plan }
+        | Request::Report { ship, stow, plan } => of_plan(ship, stow, Some(plan)),
+        _ => no_names(),
+    }
+}
+
 /// The names of the files of a request.
 pub(crate) fn names_of<'a>(request: &Request<'a>) -> Names<'a> {
     match *request {
@@ -68,10 +79,6 @@ pub(crate) fn names_of<'a>(request: &Request<'a>) -> Names<'a> {
             ..of_plan(ship, stow, plan)
         },
         Request::Tasks { ship, stow } => of_plan(ship, stow, None),
-        Request::Show { ship, stow, plan }
-        | Request::Sheet { ship, stow, plan }
-        | Request::Picture { ship, stow, plan }
-        | Request::Report { ship, stow, plan } => of_plan(ship, stow, Some(plan)),
         Request::Dispatch {
             ship,
             stow,
@@ -86,7 +93,7 @@ pub(crate) fn names_of<'a>(request: &Request<'a>) -> Names<'a> {
             log: Some(log),
             ..no_names()
         },
-        Request::Make { .. } | Request::Help(_) | Request::Version | Request::Usage => no_names(),
+        _ => of_shown(request),
     }
 }
 

@@ -1,9 +1,6 @@
 //! Faults of a bound tree's file.
 
-use crate::form::{Sort, say_form};
-use crate::page::Page;
-use crate::place::{Place, line_of, raw_line};
-use crate::shown::Shown;
+use qc_hints::{Page, Place, Shown, Sort, line_of, raw_line, say_form};
 use qc_num::OutOfMemory;
 use qc_replay::{TreeFault, TreeKind};
 

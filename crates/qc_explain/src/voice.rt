@@ -5,17 +5,11 @@ ghost use Rattle.qc_explain.specs.Frame.{LeavesFiles};
 
 use crate::broken::say_broken;
 use crate::course::say_course;
-use crate::facts::facts_of;
 use crate::log::say_log;
-use crate::notes::say_notes;
-use crate::page::Page;
 use crate::plan::say_plan;
-use crate::ship::say_ship;
-use crate::shown::Word;
-use crate::stow::say_stow;
 use crate::texts::{Names, Text, Texts, names_of, read_text, read_texts};
 use crate::tree::say_tree;
-use crate::usage::say_usage;
+use qc_hints::{Page, Word, counts_decimetres, say_notes, say_ship, say_stow, say_usage};
 use qc_io::{Shelf, Sink, put_all};
 use qc_model::Instance;
 use qc_num::OutOfMemory;
@@ -156,11 +150,8 @@ fn say_bad_plan(
 
 /// Whether a ship file counts places in decimetres.
 fn is_in_decimetres(alloc: Global, text: &Text) -> Result<bool, OutOfMemory> {
-    let Some(bytes) = text.bytes() else {
-        return Ok(false);
-    };
-    match facts_of(alloc, "", bytes)? {
-        Some(facts) => Ok(facts.in_decimetres()),
+    match text.bytes() {
+        Some(bytes) => counts_decimetres(alloc, bytes),
         None => Ok(false),
     }
 }

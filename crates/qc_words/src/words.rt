@@ -159,56 +159,40 @@ fn make_from<'a>(matches: &ArgMatches<'a>) -> Request<'a>
 fn asked_in<'a>(name: CommandName, matches: &ArgMatches<'a>) -> Request<'a>
     ensures { asked_for result ≡ asked_in name (rows_of (found_of matches.now)) }
 {
+    let ship = value_of(matches, "ship");
+    let stow = value_of(matches, "stow");
+    let plan = value_of(matches, "plan");
     match name {
         CommandName::Plan => plan_of(
-            value_of(matches, "ship"),
-            value_of(matches, "stow"),
-            value_of(matches, "plan"),
+            ship,
+            stow,
+            plan,
             value_of(matches, "tree"),
             nodes_in(text_of(matches, "nodes")),
             text_of(matches, "from"),
         ),
         CommandName::Check => Request::Check {
-            ship: value_of(matches, "ship"),
-            stow: value_of(matches, "stow"),
-            plan: plan_name(value_of(matches, "plan")),
+            ship,
+            stow,
+            plan: plan_name(plan),
             tree: value_of(matches, "tree"),
         },
-        CommandName::Tasks => Request::Tasks {
-            ship: value_of(matches, "ship"),
-            stow: value_of(matches, "stow"),
-        },
-        CommandName::Show => Request::Show {
-            ship: value_of(matches, "ship"),
-            stow: value_of(matches, "stow"),
-            plan: value_of(matches, "plan"),
-        },
+        CommandName::Tasks => Request::Tasks { ship, stow },
+        CommandName::Show => Request::Show { ship, stow, plan },
         CommandName::Make => make_from(matches),
-        CommandName::Sheet => Request::Sheet {
-            ship: value_of(matches, "ship"),
-            stow: value_of(matches, "stow"),
-            plan: value_of(matches, "plan"),
-        },
+        CommandName::Sheet => Request::Sheet { ship, stow, plan },
         CommandName::Watch => Request::Watch {
-            ship: value_of(matches, "ship"),
+            ship,
             log: value_of(matches, "log"),
         },
         CommandName::Dispatch => Request::Dispatch {
-            ship: value_of(matches, "ship"),
-            stow: value_of(matches, "stow"),
-            plan: value_of(matches, "plan"),
+            ship,
+            stow,
+            plan,
             log: value_of(matches, "log"),
         },
-        CommandName::Picture => Request::Picture {
-            ship: value_of(matches, "ship"),
-            stow: value_of(matches, "stow"),
-            plan: value_of(matches, "plan"),
-        },
-        CommandName::Report => Request::Report {
-            ship: value_of(matches, "ship"),
-            stow: value_of(matches, "stow"),
-            plan: value_of(matches, "plan"),
-        },
+        CommandName::Picture => Request::Picture { ship, stow, plan },
+        CommandName::Report => Request::Report { ship, stow, plan },
     }
 }
 

@@ -12,14 +12,14 @@ use std::alloc::Global;
 
 /// The records of a table, with the text in which they stand.
 #[derive(Drop)]
-pub(crate) struct Table<'a> {
-    pub(crate) file: &'a str,
+pub struct Table<'a> {
+    pub file: &'a str,
     text: &'a [u8],
     records: Vec<ByteRecord>,
 }
 
 /// The first records of a table, up to the one with a number.
-pub(crate) fn table_of<'a>(
+pub fn table_of<'a>(
     alloc: Global,
     file: &'a str,
     bytes: &'a [u8],
@@ -56,7 +56,7 @@ impl<'a> Table<'a> {
     }
 
     /// The number of the first record behind the header whose first field is this one.
-    pub(crate) fn record_of(&self, name: &[u8]) -> Option<u32> {
+    pub fn record_of(&self, name: &[u8]) -> Option<u32> {
         for number in 2..self.count().saturating_add(1) {
             if self.field(number, 0) == name {
                 return Some(number);
@@ -66,7 +66,7 @@ impl<'a> Table<'a> {
     }
 
     /// Where a record stands.
-    pub(crate) fn place(&self, number: u32) -> Place<'a> {
+    pub fn place(&self, number: u32) -> Place<'a> {
         Place {
             file: self.file,
             line: self.line(number).unwrap_or(0),
@@ -82,7 +82,7 @@ impl<'a> Table<'a> {
     }
 
     /// A field of a record, from 0; empty where there is none.
-    pub(crate) fn field(&self, number: u32, at: usize) -> &[u8] {
+    pub fn field(&self, number: u32, at: usize) -> &[u8] {
         match self.record(number) {
             Some(record) => record.get(at).unwrap_or(&[]),
             None => &[],
@@ -158,7 +158,7 @@ fn why_no_header(alloc: Global, line: &[u8], header: &str) -> Result<&'static st
 }
 
 /// Says what is wrong with the header of a table.
-pub(crate) fn say_header(
+pub fn say_header(
     page: &mut Page,
     table: &Table<'_>,
     header: &str,
@@ -199,7 +199,7 @@ fn why_not_four(fields: &ByteRecord) -> &'static str {
 }
 
 /// Says what is wrong with the fields of a record that hasn't four.
-pub(crate) fn say_fields(
+pub fn say_fields(
     page: &mut Page,
     table: &Table<'_>,
     number: u32,
@@ -216,7 +216,7 @@ pub(crate) fn say_fields(
 }
 
 /// Whether a record has no more than empty fields.
-pub(crate) fn is_blank(table: &Table<'_>, number: u32) -> bool {
+pub fn is_blank(table: &Table<'_>, number: u32) -> bool {
     match table.record(number) {
         Some(fields) => fields.as_slice().trim_ascii().is_empty(),
         None => false,

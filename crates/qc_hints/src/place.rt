@@ -7,15 +7,15 @@ use std::fmt;
 /// Where something stands: the file's name as it was typed, the line from 1, and the record of a table from 1. A
 /// number that isn't known is 0 and isn't told.
 #[derive(Clone, Copy)]
-pub(crate) struct Place<'a> {
-    pub(crate) file: &'a str,
-    pub(crate) line: usize,
-    pub(crate) record: u32,
+pub struct Place<'a> {
+    pub file: &'a str,
+    pub line: usize,
+    pub record: u32,
 }
 
 impl<'a> Place<'a> {
     /// The file itself.
-    pub(crate) fn whole(file: &'a str) -> Place<'a> {
+    pub fn whole(file: &'a str) -> Place<'a> {
         Place {
             file,
             line: 0,
@@ -24,7 +24,7 @@ impl<'a> Place<'a> {
     }
 
     /// A line of a file.
-    pub(crate) fn at_line(file: &'a str, line: usize) -> Place<'a> {
+    pub fn at_line(file: &'a str, line: usize) -> Place<'a> {
         Place {
             file,
             line,
@@ -60,7 +60,7 @@ pub(crate) fn line_at(text: &[u8], offset: usize) -> usize {
 }
 
 /// A line of a text by its number, from 1, without its line feed; empty where there is none.
-pub(crate) fn raw_line(text: &[u8], number: usize) -> &[u8] {
+pub fn raw_line(text: &[u8], number: usize) -> &[u8] {
     match number.checked_sub(1) {
         Some(number) => piece_at(text, b'\n', number).unwrap_or(&[]),
         None => &[],
@@ -68,7 +68,7 @@ pub(crate) fn raw_line(text: &[u8], number: usize) -> &[u8] {
 }
 
 /// A line of a text by its number, from 1, without what ends it.
-pub(crate) fn line_of(text: &[u8], number: usize) -> &[u8] {
+pub fn line_of(text: &[u8], number: usize) -> &[u8] {
     let line = raw_line(text, number);
     line.strip_suffix(b"\r").unwrap_or(line)
 }

@@ -206,7 +206,7 @@ fn say_no_command(page: &mut Page, word: &str) -> Result<(), OutOfMemory> {
 }
 
 /// Says which of the words is wrong.
-pub(crate) fn say_usage(page: &mut Page, words: &[String]) -> Result<(), OutOfMemory> {
+pub fn say_usage(page: &mut Page, words: &[String]) -> Result<(), OutOfMemory> {
     let Some((first, rest)) = words.split_first() else {
         return page.say(
             "no word was given, or one that isn't text in UTF-8; a command stands first, and qc --help says what they are",

@@ -27,7 +27,7 @@ fn fault_of(alloc: Global, bytes: &[u8]) -> Result<Option<ShipFault>, OutOfMemor
 }
 
 /// Says what is wrong with a ship file.
-pub(crate) fn say_ship(page: &mut Page, file: &str, bytes: &[u8]) -> Result<(), OutOfMemory> {
+pub fn say_ship(page: &mut Page, file: &str, bytes: &[u8]) -> Result<(), OutOfMemory> {
     let Some(fault) = fault_of(page.alloc(), bytes)? else {
         return Ok(());
     };

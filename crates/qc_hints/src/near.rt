@@ -24,7 +24,7 @@ pub(crate) fn is_near(alloc: Global, word: &str, other: &str) -> Result<bool, Ou
 }
 
 /// The first of the words that is near.
-pub(crate) fn nearest<'a>(
+pub fn nearest<'a>(
     alloc: Global,
     word: &str,
     others: &[&'a str],

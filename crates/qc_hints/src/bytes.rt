@@ -1,7 +1,7 @@
 //! Questions on bytes.
 
 /// The piece of a text with a number, from 0, where a sign stands between pieces.
-pub(crate) fn piece_at(text: &[u8], sign: u8, number: usize) -> Option<&[u8]> {
+pub fn piece_at(text: &[u8], sign: u8, number: usize) -> Option<&[u8]> {
     text.split(|byte| *byte == sign).nth(number)
 }
 
@@ -44,7 +44,7 @@ pub(crate) fn are_digits_or(bytes: &[u8], sign: u8) -> bool {
 }
 
 /// Whether each byte is a digit.
-pub(crate) fn are_digits(bytes: &[u8]) -> bool {
+pub fn are_digits(bytes: &[u8]) -> bool {
     are_digits_or(bytes, b'0')
 }
 

@@ -20,7 +20,7 @@ const FAR: i64 = 10;
 const LEAST_CLEAR: i64 = 100;
 
 /// Says what of a ship file isn't read, and what in it is unusual.
-pub(crate) fn say_notes(page: &mut Page, file: &str, bytes: &[u8]) -> Result<(), OutOfMemory> {
+pub fn say_notes(page: &mut Page, file: &str, bytes: &[u8]) -> Result<(), OutOfMemory> {
     let Some(facts) = facts_of(page.alloc(), file, bytes)? else {
         return Ok(());
     };

@@ -6,14 +6,14 @@ use std::fmt::Display;
 
 /// The lines that are said, each with the program's name ahead.
 #[derive(Drop)]
-pub(crate) struct Page {
+pub struct Page {
     alloc: Global,
     text: String,
 }
 
 impl Page {
     /// Nothing is said yet.
-    pub(crate) fn new(alloc: Global) -> Page {
+    pub fn new(alloc: Global) -> Page {
         Page {
             alloc,
             text: String::new(alloc),
@@ -21,19 +21,19 @@ impl Page {
     }
 
     /// What takes memory takes it from here.
-    pub(crate) fn alloc(&self) -> Global {
+    pub fn alloc(&self) -> Global {
         self.alloc
     }
 
     /// Says a line.
-    pub(crate) fn say<D: Display + Drop>(&mut self, what: D) -> Result<(), OutOfMemory> {
+    pub fn say<D: Display + Drop>(&mut self, what: D) -> Result<(), OutOfMemory> {
         let line = format!(in self.alloc; "qc: {what}\n")?;
         self.text.push_str(line.as_str())?;
         Ok(())
     }
 
     /// The lines so far.
-    pub(crate) fn as_bytes(&self) -> &[u8] {
+    pub fn as_bytes(&self) -> &[u8] {
         self.text.as_bytes()
     }
 }

@@ -25,12 +25,7 @@ fn fault_of(alloc: Global, bytes: &[u8], ship: &Ship) -> Result<Option<StowFault
 }
 
 /// Says what is wrong with a stowage list of a ship.
-pub(crate) fn say_stow(
-    page: &mut Page,
-    file: &str,
-    bytes: &[u8],
-    ship: &Ship,
-) -> Result<(), OutOfMemory> {
+pub fn say_stow(page: &mut Page, file: &str, bytes: &[u8], ship: &Ship) -> Result<(), OutOfMemory> {
     let Some(fault) = fault_of(page.alloc(), bytes, ship)? else {
         return Ok(());
     };

@@ -7,7 +7,7 @@ use qc_num::OutOfMemory;
 
 /// What a text is, as far as its first line tells.
 #[derive(Clone, Copy, Debug, PartialEq, Eq)]
-pub(crate) enum Sort {
+pub enum Sort {
     Ship,
     Stow,
     Plan,
@@ -75,7 +75,7 @@ fn sort_of(bytes: &[u8]) -> Option<Sort> {
 }
 
 /// Says what is wrong with a file as a whole, and answers whether something was.
-pub(crate) fn say_form(
+pub fn say_form(
     page: &mut Page,
     file: &str,
     bytes: &[u8],

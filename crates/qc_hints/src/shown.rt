@@ -7,7 +7,7 @@ const MOST_SHOWN: usize = 60;
 
 /// Bytes of a file between double quotes: text as it is, and all else by its bytes. A long one is cut.
 #[derive(Clone, Copy)]
-pub(crate) struct Shown<'a>(pub(crate) &'a [u8]);
+pub struct Shown<'a>(pub &'a [u8]);
 
 /// Writes a character, and a question mark for one that steers a terminal.
 fn write_plain<W: fmt::Write>(c: char, f: &mut fmt::Formatter<W>) -> fmt::Result {
@@ -42,7 +42,7 @@ impl fmt::Display for Shown<'_> {
 
 /// A word as it is, but for what steers a terminal.
 #[derive(Clone, Copy)]
-pub(crate) struct Word<'a>(pub(crate) &'a str);
+pub struct Word<'a>(pub &'a str);
 
 impl fmt::Display for Word<'_> {
     fn fmt<W: fmt::Write>(&self, f: &mut fmt::Formatter<W>) -> fmt::Result {
@@ -54,15 +54,15 @@ impl fmt::Display for Word<'_> {
 }
 
 /// A text of bytes; empty where they are none.
-pub(crate) fn text_of(bytes: &[u8]) -> &str {
+pub fn text_of(bytes: &[u8]) -> &str {
     std::str::from_utf8(bytes).unwrap_or("")
 }
 
 /// An amount of bays or of decimetres.
 #[derive(Clone, Copy)]
-pub(crate) struct Bays {
-    pub(crate) count: u64,
-    pub(crate) in_decimetres: bool,
+pub struct Bays {
+    pub count: u64,
+    pub in_decimetres: bool,
 }
 
 impl fmt::Display for Bays {
@@ -80,7 +80,7 @@ impl fmt::Display for Bays {
 
 /// An amount of ticks.
 #[derive(Clone, Copy)]
-pub(crate) struct Ticks(pub(crate) u64);
+pub struct Ticks(pub u64);
 
 impl fmt::Display for Ticks {
     fn fmt<W: fmt::Write>(&self, f: &mut fmt::Formatter<W>) -> fmt::Result {

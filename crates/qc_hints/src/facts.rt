@@ -39,6 +39,14 @@ pub(crate) fn facts_of<'a>(
     }
 }
 
+/// Whether a ship file counts places in decimetres; false where it is no text in TOML.
+pub fn counts_decimetres(alloc: Global, bytes: &[u8]) -> Result<bool, OutOfMemory> {
+    match facts_of(alloc, "", bytes)? {
+        Some(facts) => Ok(facts.in_decimetres()),
+        None => Ok(false),
+    }
+}
+
 impl<'a> Facts<'a> {
     /// Whether places are in decimetres.
     pub(crate) fn in_decimetres(&self) -> bool {
