@@ -182,8 +182,8 @@ impl Crew {
     }
 
     /// Whether the assignment is closed at an end: a count of the cranes' time shows that no schedule with
-    /// this assignment ends before it; `false` shows nothing. It is closed at each end before one at which
-    /// it is.
+    /// this assignment ends before it, of those that go up where cranes go one way; `false` shows nothing.
+    /// It is closed at each end before one at which it is.
     pub fn closed(&self, end: Tick) -> bool
         requires some { 0 < end }
         requires limit { end ≤ LAST_CLOSED }

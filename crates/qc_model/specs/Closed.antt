@@ -145,7 +145,8 @@ abbrev pub is_closed : InstanceView → Turn → List (Option ℕ) → ℕ → B
 is_closed inst turn cranes end =
     is_short_before inst turn (no_cranes inst) end || is_short_before inst turn cranes end
 
--- no schedule that follows the assignment, and that cranes with this turn can keep, ends before this end
+-- no schedule that follows the assignment ends before this end: of those that go up where cranes go one way, and of all
+-- that are feasible where they go to and fro
 abbrev pub IsClosedBound : InstanceView → Turn → List (Option ℕ) → ℕ → Type 0
 IsClosedBound inst turn cranes end =
     (sched : List Slot) → GoesBy turn inst sched → Follows inst cranes sched → end ≤ ends inst sched
