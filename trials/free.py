@@ -135,7 +135,7 @@ class FreeNode(Node):
                 yield i, j
 
     def packed_value(self, tasks):
-        """The value of a leaf `Q`: work and travel after the least of their least starts; None where it doesn't hold."""
+        """The value of a leaf `Q`, work and travel after the first of the least starts; None where it doesn't hold."""
         if not self.is_solvable() or not self.is_packed(tasks):
             return None
         work = sum(self.inst.tasks[j].ticks for j in tasks) + self.inst.travel * self.span(tasks)

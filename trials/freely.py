@@ -26,7 +26,7 @@ from closed import Ends, greatest, made, ship, tiny
 from compare import SearchJudge, text_of
 from free import (FreeMotion, FreeNode, FreeReader, FreeSearch, are_short, counts_of, first_break, free_crane_lines,
                   free_lists, free_report, freecheck_report, numbers_of, tight_free)
-from packed import bare, least_feasible_end, random_instance, random_node, ring_of
+from packed import Search, bare, least_feasible_end, random_instance, random_node, ring_of
 from reference import (NEVER, PHASES, Crane, Instance, Task, TreeFault, bound_text, dump, end_of, instance_of,
                        least_end, plan_text, read_plan, read_ship)
 
@@ -48,6 +48,13 @@ def of(ship_text, rows):
     return instance_of(read_ship(ship_text.encode()), text.encode())
 
 
+def changes(*pairs):
+    """Two hatches of each pair change a container, and each has one more to discharge and one to load."""
+    return [row for a, b in pairs for h, other in ((a, b), (b, a))
+            for row in (f"R{h},D,{h:02}0082,40", f"D{h},D,{h:02}0084,40", f"R{other},L,{h:02}0082,40",
+                        f"L{h},L,{h:02}0084,40")]
+
+
 def deck(**counts):
     """So many moves off the deck of each hatch."""
     return [f"{hatch}{i},D,{int(hatch[1:]):02}00{82 + 2 * i},40" for hatch, count in counts.items()
@@ -58,10 +65,24 @@ ALONE = of(B.replace("[2, 6, 10, 14]", "[2, 6]") + C1, deck(h2=2, h6=1))
 NONE = of(B + C1 + C2, [])
 FAR = of(B + C1 + C2, deck(h2=2, h14=3))
 NEAR = of(B + C1 + C2, deck(h2=2, h6=2))
+NEAR_ALONE = of(B + C1, deck(h2=2, h6=2))
+# Two cranes begin amidships and work towards bow and stern: each works 20, goes a bay in 5 and works 20. Two tasks each
+# take no less. Upward hatch 2 is begun at 5 at the earliest, and its crane has another task behind it, which ends at 50
+# at the earliest; downward the same is true of hatch 18.
+AMIDSHIPS = of("""hatches = [2, 6, 10, 14, 18]
+margin = 1
+travel = 5
+deck_move = 10
+hold_move = 10
+""" + C1.replace("bay = 1", "bay = 2") + C2.replace("bay = 3", "bay = 4"), deck(h2=2, h6=2, h14=2, h18=2))
 APART = of("apart = [[2, 14]]\n" + B + C1 + C2, deck(h2=2, h14=3))
 OUT = of(B + C1 + "from = 1\nto = 1\n", deck(h6=1))
 SWAPPED = of('restows = "ordered"\n' + B + C1, SWAP)
 UNTIED = of(B + C1, SWAP)
+# Each crane discharges two hatches and loads them on the way back: four times 20, and a bay there and back, 82. Five
+# tasks take longer, so each has four; a crane that goes one bay alone does a hatch and then its neighbour, which don't
+# change a container: 6 and 10, and 2 and 14 are three bays apart. One way it takes 104, by trying every choice.
+CHANGED = of('restows = "ordered"\n' + B + C1 + C2, changes((2, 6), (10, 14)))
 PHASED = of("cover = 5\n" + B + C1, ["a,D,020082,40", "b,D,020002,40", "c,L,020002,40", "d,L,020082,40"])
 TURNED = of(B + C1, ["a,D,020082,40", "b,D,100082,40", "c,L,100082,40"])
 
@@ -78,6 +99,8 @@ SEARCHES = [
     ("a change that no way of one direction does", SWAPPED, None, 20_000, 0, ["Optimal", "end 42", "bound 42"]),
     ("the same without branchings", SWAPPED, None, 0, 12, ["Budget", "bound 41", "branched 0"]),
     ("the same, not ordered", UNTIED, None, 20_000, 0, ["Optimal", "end 41", "bound 41"]),
+    ("two cranes amidships", AMIDSHIPS, None, 20_000, 0, ["Optimal", "end 45", "bound 45"]),
+    ("hatches that change a container", CHANGED, None, 20_000, 0, ["Optimal", "end 82", "bound 82"]),
     ("four phases", PHASED, None, 20_000, 0, ["Optimal", "end 50", "bound 50"]),
 ]
 
@@ -151,7 +174,16 @@ RING = of(B + C1, deck(h2=1, h6=1, h10=1))
 AROUND = "QCFREE 1\nA 1\nA 2\nA 3\nO 1 2\nO 1 3\nP\nO 2 3\n%s\n"
 TREES += [(RING, AROUND % "C 1 2 3\nP\nP\nend 6 0", "Bound 0"), (RING, AROUND % "C 2 3 1\nP\nP\nend 6 0", "Bound 0"),
           (RING, AROUND % "C 3 2 1", "BadTree NotCycle 9"), (RING, AROUND % "Q 1 2 3", "BadTree NotClash 9"),
-          (RING, AROUND % "P 1 2 3\nP\nP\nend 6 0", "Bound 0"), (RING, AROUND % "P 3 1 2 3 1\nP\nP\nend 6 0", "Bound 0")]
+          (RING, AROUND % "P 1 2 3\nP\nP\nend 6 0", "Bound 0"),
+          (RING, AROUND % "P 3 1 2 3 1\nP\nP\nend 6 0", "Bound 0")]
+# What a wrong count would take: the turn of one way, a way that always comes back, a grain that leaves out ready times.
+AMIDST = made(1, 1, (3,), [(1, 37), (2, 8)], 2)
+TREES += [(AMIDST, "QCFREE 1\nA 1\nA 2\nW 47\nend 2 47\n", "Bound 47"),
+          (AMIDST, "QCFREE 1\nA 1\nA 2\nW 48\n", "BadTree WorkShort 4"),
+          (NEAR_ALONE, "QCFREE 1\nA 1\nA 2\nW 41\nend 2 41\n", "Bound 41"),
+          (NEAR_ALONE, "QCFREE 1\nA 1\nA 2\nW 42\n", "BadTree WorkShort 4"),
+          (made(10, 1, ((1, 3),), [(1, 10)]), "QCFREE 1\nW 13\nend 0 13\n", "Bound 13"),
+          (made(10, 1, ((1, 3),), [(1, 10)]), "QCFREE 1\nW 14\n", "BadTree WorkShort 2")]
 
 
 def try_rows():
@@ -188,6 +220,12 @@ def try_plans():
         assert status == 0 and lines[:5] == ["Optimal", "end 41", "bound 41", "branched 0", "given 41"]
         assert tree == ["QCFREE 1", "Q 1 2", "end 0 41"] and len(text_of(tree)) == 24
     assert free_report(OUT, None, 100)[3] == ["QCFREE 1", "A 1", "X", "end 1 never"]
+    # From amidships each way: the plan and its tracks, and what one way can't do.
+    status, lines, plan, _ = free_report(AMIDSHIPS, None, 20_000)
+    assert plan == [(0, 25), (0, 0), (1, 0), (1, 25)] and least_end(AMIDSHIPS) == 50
+    assert lines[5:] == ["crane C1 0:10 20:10 25:5 45:5", "crane C2 0:20 20:20 25:25 45:25"]
+    assert least_end(CHANGED) == 104 and free_report(CHANGED, None, 20_000)[2] == [
+        (0, 0), (0, 62), (0, 21), (0, 41), (1, 0), (1, 62), (1, 21), (1, 41)]
     # A plan is tight where the orders that it has leave no start earlier, those of apart tasks too.
     assert tight_free(NEAR, [(0, 5), (1, 40)]) == [(0, 0), (1, 21)]
     assert tight_free(NEAR, [(0, 40), (1, 5)]) == [(0, 22), (1, 1)]
@@ -199,6 +237,9 @@ def try_tracks():
     plan = [(0, 0), (0, 12), (0, 25)]
     assert free_crane_lines(TURNED, plan) == ["crane C1 0:1 10:1 12:3 22:3 23.5:1.5 25:3 35:3"]
     assert free_crane_lines(NONE, []) == ["crane C1 0:1", "crane C2 0:3"]
+    # C1 stands at its berth until it is ready, and C2 waits for it.
+    late = of(B + C1.replace("bay = 1", "bay = 2\nready = 100") + C2.replace("bay = 3", "bay = 4"), deck(h10=1))
+    assert free_crane_lines(late, [(1, 101)]) == ["crane C1 0:2 100:2 101:1 111:1", "crane C2 0:4 100:4 101:3 111:3"]
     # A plan of one way: the crane makes way as late as it may, and here comes back from it.
     assert free_crane_lines(NEAR, [(0, 22), (1, 1)]) == ["crane C1 0:1 1:0 21:0 22:1 42:1",
                                                          "crane C2 0:3 1:2 21:2 22:3 42:3"]
@@ -235,6 +276,36 @@ def try_counts():
 
 # ---------------------------------------------------------------- brute force
 
+class OneWay(Search):
+    """The search in one direction, with the plan that it met last."""
+
+    def __init__(self, inst, nodes):
+        self.seen, self.met = inst, None
+        super().__init__(inst, NEVER, nodes)
+
+    def closing(self, node):
+        before = self.best
+        leaf = super().closing(node)
+        if self.best < before:
+            plan = list(zip(node.crane, node.starts))
+            self.met = plan if node.inst is self.seen else self.seen.mirrored(plan)
+        return leaf
+
+
+def try_given(inst, least, counts):
+    """Whether a search that begins with a plan of one way keeps what is good of it."""
+    met = OneWay(inst, 30).met
+    if met is None:
+        return
+    counts["plans of one way to begin with"] += 1
+    ends = end_of(inst, met)
+    if tight_free(inst, met) != met:
+        yield f"{met} is tight one way, and not in any direction"
+    status, lines, plan, _ = free_report(inst, met, 100_000)
+    if status or f"given {ends}" not in lines or end_of(inst, plan) != least or (least == ends and plan != met):
+        yield f"begun with {met}: {lines}, least end {least}"
+
+
 def try_ship(inst, rng, least, counts):
     """What is wrong with what is said of the instance, if anything is."""
     upward, root = least_end(inst), FreeNode(inst)
@@ -269,7 +340,8 @@ def judge(inst, search, given, least, step, counts):
     counts["nodes judged"] += watch.branched + watch.leaves.total()
     for kind, number in watch.leaves.items():
         counts[f"leaves {kind}"] += number
-    if search.value > least or (reader.value, reader.branched, watch.met) != (search.value, search.branched, search.best):
+    seen = reader.value, reader.branched, watch.met
+    if search.value > least or seen != (search.value, search.branched, search.best):
         yield f"given {given}: a tree says {reader.value}, least end {least}"
     yield from watch.complaints
 
@@ -409,6 +481,7 @@ def try_bounds(first, number):
         inst = some_instance(rng)
         least = least_feasible_end(inst, [None] * len(inst.tasks))
         troubles = [*try_ship(inst, rng, least, counts), *try_closed(inst, rng, counts)]
+        troubles += try_given(inst, least, counts)
         for _ in range(3):
             troubles += try_random_tree(inst, rng, least, counts)
         for trouble in troubles:
@@ -449,7 +522,8 @@ def try_run(side, inst, given, nodes, step, numbers, written, counts):
     search = FreeSearch(inst, given, nodes, step)
     due = [search.kind, f"end {'none' if search.best == NEVER else search.best}", f"bound {bound_text(search.value)}",
            f"branched {search.branched}"]
-    words = [side, "--free", "--step", str(step), numbers, "none" if given == NEVER else str(given), str(nodes), written]
+    end = "none" if given == NEVER else str(given)
+    words = [side, "--free", "--step", str(step), numbers, end, str(nodes), written]
     done = subprocess.run(words, capture_output=True, text=True, timeout=60, check=False)
     watch = SearchJudge(inst, nodes, None if given == NEVER else given)
     try:
