@@ -2,7 +2,7 @@
 """Tries the second opinion of plans that go to and fro (free.py), and the search in C++ beside it.
 
     freely.py rows
-    freely.py bounds [--first SEED] [--count SHIPS]
+    freely.py bounds [--first SEED] [--count SHIPS] [--short]
     freely.py side SIDE [--first SEED] [--count SHIPS] [--wide]
 
 `rows`: plans, trees, faults and tracks that were worked out by hand. `bounds`: on random ships of at most five tasks
@@ -356,14 +356,13 @@ def judge_plan(inst, plan, counts):
         yield f"{late} ends before its tight form"
     for some in (plan, late):
         motion = FreeMotion(inst, some)
-        for parts in (1, 2, 3):
+        for parts in (1, 2, 3) if motion.ends < 300 else ():
             if motion.unsafe(parts):
                 yield f"{some}: {motion.unsafe(parts)}"
-        points = [len(motion.waypoints(k)) for k in range(len(inst.cranes))]
-        counts["waypoints in halves of a tick"] += sum(at % 2 for k in range(len(inst.cranes))
-                                                       for at, _ in motion.waypoints(k))
-        if max(points) > 4 * len(plan) + 36:
-            yield f"{some} has {points} waypoints"
+        tracks = [motion.waypoints(k) for k in range(len(inst.cranes))] if motion.ends < 3000 else []
+        counts["waypoints in halves of a tick"] += sum(at % 2 for track in tracks for at, _ in track)
+        if any(len(track) > 4 * len(plan) + 36 for track in tracks):
+            yield f"{some} has {list(map(len, tracks))} waypoints"
 
 
 def slowed_feasible(inst, plan):
@@ -388,7 +387,8 @@ def try_closed(inst, rng, counts):
                 if sorted(closed) != closed or closed[2] > end:
                     yield f"{crane}, {kind}: closed at {closed}, least end {end}"
                 counts_now = counts_of(seen, crane, free)
-                tried = range(1, closed[2] + 2 * seen.grain + 3)
+                last = closed[2] + 2 * seen.grain + 3
+                tried = range(1, last) if last < 300 else {closed[2] or 1, closed[2] + 1, rng.randrange(1, last)}
                 if any(are_short(seen, counts_now, v) != (v <= closed[2]) for v in tried):
                     yield f"{crane}, {kind}: closed at {closed[2]}, and not at each earlier end"
 
@@ -474,22 +474,49 @@ def some_instance(rng):
     return random_instance(rng, 4) if kind < 0.2 else tiny(rng) if kind < 0.5 else dense(rng)
 
 
-def try_bounds(first, number):
-    counts, wrong = Counter(), 0
-    for seed in range(first, first + number):
-        rng = random.Random(seed)
-        inst = some_instance(rng)
-        least = least_feasible_end(inst, [None] * len(inst.tasks))
-        troubles = [*try_ship(inst, rng, least, counts), *try_closed(inst, rng, counts)]
-        troubles += try_given(inst, least, counts)
-        for _ in range(3):
-            troubles += try_random_tree(inst, rng, least, counts)
-        for trouble in troubles:
-            wrong += 1
-            print(f"seed {seed}: {trouble}", flush=True)
+def try_all(inst, rng, least, counts):
+    yield from try_ship(inst, rng, least, counts)
+    yield from try_closed(inst, rng, counts)
+    yield from try_given(inst, least, counts)
+    for _ in range(3):
+        yield from try_random_tree(inst, rng, least, counts)
+
+
+def try_ends(inst, rng, least, counts):
+    """The search from nothing and its tree, a random tree and a node, and no more."""
+    search, upward = FreeSearch(inst, NEVER, 100_000), least_end(inst)
+    counts["ships that no plan can do"] += least == NEVER
+    counts["ships that only plans to and fro can do"] += least < upward == NEVER
+    counts["ships on which to and fro ends earlier"] += least < upward < NEVER
+    value = FreeReader(inst, text_of(search.lines)).read().value
+    counts["nodes read"] += len(search.lines) - 2
+    if {search.best, search.value, value} != {least} or least > upward:
+        yield f"{search.kind} {search.best}, bound {search.value}, read {value}, least end {least}"
+    yield from try_random_tree(inst, rng, least, counts)
+    crane = random_node(inst, rng).crane
+    closed, end = closed_ends(inst, crane, True), Ends(inst).least(crane, True)
+    counts["nodes closed"] += 1
+    counts["closed at the least end itself"] += closed[2] == end
+    if sorted(closed) != closed or closed[2] > end:
+        yield f"{crane}: closed at {closed}, least end {end}"
+
+
+def try_bounds(first, number, trial):
+    """Tries so many ships; where it is interrupted it tells what was seen by then."""
+    counts, wrong, done = Counter(), 0, 0
+    try:
+        for seed in range(first, first + number):
+            rng = random.Random(seed)
+            inst = some_instance(rng)
+            for trouble in trial(inst, rng, least_feasible_end(inst, [None] * len(inst.tasks)), counts):
+                wrong += 1
+                print(f"seed {seed}: {trouble}", flush=True)
+            done += 1
+    except KeyboardInterrupt:
+        print("interrupted")
     for what, much in sorted(counts.items()):
         print(f"{much:9} {what}")
-    print(f"{number} ships from {first}, {wrong} differences")
+    print(f"{done} ships from {first}, {wrong} differences")
     return wrong
 
 
@@ -547,12 +574,13 @@ def main():
     parser.add_argument("side", nargs="?")
     parser.add_argument("--first", type=int, default=1)
     parser.add_argument("--count", type=int, default=100)
-    parser.add_argument("--wide", action="store_true")
+    parser.add_argument("--wide", action="store_true", help="larger ships, with side")
+    parser.add_argument("--short", action="store_true", help="few trials of each ship, with bounds")
     words = parser.parse_args()
     if words.what == "rows":
         wrong = try_rows()
     elif words.what == "bounds":
-        wrong = try_bounds(words.first, words.count)
+        wrong = try_bounds(words.first, words.count, try_ends if words.short else try_all)
     else:
         wrong = try_side(words.side, words.first, words.count, words.wide)
     sys.exit(1 if wrong else 0)
