@@ -261,7 +261,9 @@ class Search:
             for child in children:
                 self.visit(child)
             return
-        ways = [self.chain(node), (node.work_bound, f"W {node.work_bound}")] + lists_of(node) if leaf is None else [leaf]
+        ways = [leaf]
+        if leaf is None:
+            ways = [self.chain(node), (node.work_bound, f"W {node.work_bound}")] + self.lists(node)
         value, line = max(ways, key=lambda way: way[0])
         self.lines.append(line)
         self.value = min(self.value, value)
@@ -277,12 +279,15 @@ class Search:
             return self.chain(node)
         if node.end >= self.best:
             return self.chain(node)
-        for value, line in lists_of(node):
+        for value, line in self.lists(node):
             if value >= self.best:
                 return value, line
         if self.best < NEVER and node.work_holds(max(1, self.best)):
             return self.best, f"W {self.best}"
         return None
+
+    def lists(self, node):
+        return lists_of(node)
 
     def chain(self, node):
         """A chain of the node's end."""

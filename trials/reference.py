@@ -608,9 +608,13 @@ class TreeReader:
         """Goes through the whole file; raises the first fault."""
         self.version = int(self.line("title"))
         self.line("up")
-        self.part(self.inst)
+        self.part(Node(self.inst, version=self.version))
         self.line("down")
-        self.part(self.inst.mirror)
+        self.part(Node(self.inst.mirror, version=self.version))
+        return self.finish()
+
+    def finish(self):
+        """The last line, and that nothing follows."""
         told = self.line("end")
         if told != f"{self.branched} {bound_text(self.value)}":
             raise TreeFault("Counts", self.number)
@@ -624,7 +628,7 @@ class TreeReader:
         if feed < 0:
             too_long = len(self.data) - self.place >= 1200
             raise TreeFault("LineTooLong" if too_long else "Cut", self.number)
-        parsed = parse_line(self.data[self.place:feed])
+        parsed = self.parse(self.data[self.place:feed])
         self.place = feed + 1
         if parsed is None or self.newest < 3 and (parsed[0] == "Q" or parsed == ("title", "3")):
             raise TreeFault("Spelling", self.number)
@@ -632,8 +636,12 @@ class TreeReader:
             raise TreeFault("Place", self.number)
         return parsed if len(kinds) > 1 else parsed[1]
 
-    def part(self, inst):
-        waiting = [Node(inst, version=self.version)]
+    @staticmethod
+    def parse(text):
+        return parse_line(text)
+
+    def part(self, root):
+        waiting, inst = [root], root.inst
         while waiting:
             node = waiting.pop()
             kind, fields = self.line(*("AOPCQXW" if self.version == 3 else "AOPCXW"))
@@ -650,8 +658,8 @@ class TreeReader:
                 self.visit(node, kind, value)
 
     def children(self, node, kind, numbers):
-        if kind == "O" and tuple(numbers) not in node.inst.apart:
-            raise TreeFault("NotApart", self.number)
+        if kind == "O":
+            self.expect_pair(node, *numbers)
         if node.crane[numbers[0]] is not None if kind == "A" else node.is_settled(*numbers):
             raise TreeFault("Decided", self.number)
         if self.branched == 100_000:
@@ -660,6 +668,10 @@ class TreeReader:
         if kind == "A":
             return [node.child("A", numbers[0], crane) for crane in range(len(node.inst.cranes))]
         return [node.child("O", *numbers), node.child("O", *reversed(numbers))]
+
+    def expect_pair(self, node, i, j):
+        if (i, j) not in node.inst.apart:
+            raise TreeFault("NotApart", self.number)
 
     def leaf(self, node, kind, numbers):
         """The value of a leaf, or the fault of one that doesn't hold."""
