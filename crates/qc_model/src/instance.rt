@@ -3,11 +3,12 @@
 ghost use Rattle.std.specs.Prelude.{◌≡◌, ◌↔◌, ◌<◌, ◌≤◌, pos, AllPairs, Contains, IsTrue, length, sum_by};
 ghost use Rattle.qc_model.specs.declared.limits.TheConstants.{MOST_CRANES, MOST_READY, MOST_TASKS, MOST_WORK};
 ghost use Rattle.qc_model.specs.Bays.{at_least_zero};
-ghost use Rattle.qc_model.specs.Instance.{IsApart, IsBefore, IsEarlier, IsOnRail, Valid, crane, task, InstanceView};
+ghost use Rattle.qc_model.specs.Instance.{IsApart, IsBefore, IsEarlier, IsOnRail, Valid, crane, task, with_turn, InstanceView};
 ghost use Rattle.qc_model.specs.InstanceFields.{view_of, IsKept};
+ghost use Rattle.qc_model.specs.declared.turn.Turn.TheVariants.{OneWay};
 
 use crate::seen::seen_post;
-use crate::{Crane, Direction, Pair, Post, Task};
+use crate::{Crane, Direction, Pair, Post, Task, Turn};
 use qc_num::{Bay, Tick};
 use std::marker::Model;
 
@@ -21,6 +22,7 @@ pub struct Instance {
     cranes: Vec<Crane>,
     before: Vec<Pair>,
     apart: Vec<Pair>,
+    turn: Turn,
 }
 
 impl Model for Instance {
@@ -32,7 +34,7 @@ impl Model for Instance {
 }
 
 impl Instance {
-    /// An instance of these parts.
+    /// An instance of these parts, with cranes that go one way.
     pub fn of(
         bays: Bay,
         travel: Tick,
@@ -50,6 +52,7 @@ impl Instance {
           cranes = cranes.items;
           before = before.items;
           apart = apart.items;
+          turn = OneWay;
         }) }
         ensures { result ≡ record {
           bays = at_least_zero bays;
@@ -59,6 +62,7 @@ impl Instance {
           cranes = cranes.items;
           before = before.items;
           apart = apart.items;
+          turn = OneWay;
         } }
     {
         Instance {
@@ -69,7 +73,23 @@ impl Instance {
             cranes,
             before,
             apart,
+            turn: Turn::OneWay,
         }
+    }
+
+    /// The same instance with cranes that may go this way.
+    pub fn with_turn(mut self, turn: Turn) -> Instance
+        ensures { result ≡ with_turn self turn }
+    {
+        self.turn = turn;
+        self
+    }
+
+    /// Which way cranes may go.
+    pub fn turn(&self) -> Turn
+        ensures { result ≡ self.now.turn }
+    {
+        self.turn
     }
 
     /// The number of crane bays; with places in decimetres the greatest place.
