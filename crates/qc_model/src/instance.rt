@@ -1,9 +1,10 @@
 //! What is to be planned.
 
-ghost use Rattle.std.specs.Prelude.{◌≡◌, ◌↔◌, ◌<◌, ◌≤◌, pos, AllPairs, Contains, IsTrue, length, sum_by};
-ghost use Rattle.qc_model.specs.declared.limits.TheConstants.{MOST_CRANES, MOST_READY, MOST_TASKS, MOST_WORK};
+ghost use Rattle.std.specs.Prelude.{◌≡◌, ◌↔◌, ◌-◌, ◌*◌, ◌/◌, ◌<◌, ◌≤◌, pos, AllPairs, Contains, IsTrue, length, sum_by};
+ghost use Rattle.qc_model.specs.declared.limits.TheConstants.{MOST_CRANES, MOST_ORDERS, MOST_READY, MOST_TASKS, MOST_WORK};
 ghost use Rattle.qc_model.specs.Bays.{at_least_zero};
 ghost use Rattle.qc_model.specs.Instance.{IsApart, IsBefore, IsEarlier, IsOnRail, Valid, crane, task, with_turn, InstanceView};
+ghost use Rattle.qc_model.specs.Nodes.{order_pairs};
 ghost use Rattle.qc_model.specs.InstanceFields.{view_of, IsKept};
 ghost use Rattle.qc_model.specs.declared.turn.Turn.TheVariants.{OneWay};
 
@@ -167,6 +168,18 @@ impl Instance {
         self.cranes().len() as u16
     }
 
+    /// How many pairs of tasks may get an order: the apart pairs, and where cranes go as they like all.
+    pub fn order_pairs(&self) -> u32
+        ensures count { result ≡ order_pairs self.now }
+        ensures bound { result ≤ MOST_ORDERS }
+        ensures valid { Valid self.now }
+    {
+        match self.turn {
+            Turn::OneWay => self.apart.len() as u32,
+            Turn::Free => all_pairs(self.task_count() as u32),
+        }
+    }
+
     /// A task by its number, from 0.
     pub fn task(&self, number: u16) -> Task
         requires { number < length self.now.tasks }
@@ -223,6 +236,15 @@ impl Instance {
     {
         holds(self.apart.as_slice(), Pair { first, second })
     }
+}
+
+/// How many pairs so many tasks make.
+fn all_pairs(tasks: u32) -> u32
+    requires { tasks ≤ MOST_TASKS }
+    ensures count { result ≡ tasks * (tasks - 1) / 2 }
+    ensures bound { result ≤ MOST_ORDERS }
+{
+    tasks * tasks.saturating_sub(1) / 2
 }
 
 /// Whether a list of pairs in order has a pair.

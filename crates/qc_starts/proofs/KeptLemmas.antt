@@ -8,6 +8,7 @@ use Rattle.qc_dist.specs.Node.{IsOpen}
 use Rattle.qc_model.specs.declared.decision.Decision.{Decision}
 use Rattle.qc_model.specs.declared.decision.Decision.TheVariants.{Assign, Order}
 use Rattle.qc_model.specs.Instance.{InstanceView, IsApart, pair_of}
+use Rattle.qc_model.proofs.NodeLemmas.{conflict_inside}
 use Rattle.qc_model.specs.declared.pair.Pair.{Pair}
 use Rattle.qc_model.specs.Nodes.{HasStarts, IsInReach, IsNodeEnd, IsSettled, Meets, forced, head}
 use Rattle.qc_starts.specs.Arcs.{IsArc}
@@ -110,10 +111,7 @@ module _ (net : NodeArcs) (d : Decision) (ds : List Decision) (olds cells : List
     (same : (j : ℕ) → j < length net.inst.tasks → start_at olds j ≡ start_at cells j) where
   root_inside : (e : Decision) → IsOpen net.inst ds e → root_of e < length net.inst.tasks
   root_inside (Assign t k) open_ = open_.0
-  root_inside (Order g h) open_ = elim open_.0 [
-    | inl a ↦ let r = sound.valid.apart.range g h a in r.1
-    | inr a ↦ let r = sound.valid.apart.range h g a in omega (arith, r.0, r.1)
-  ]
+  root_inside (Order g h) open_ = (conflict_inside net.inst sound.valid ds g h open_.0).1
 
   head_kept : (e : Decision) (j : ℕ) → j ≢ root_of e → head net.inst (e ∷ ds) j ≡ head net.inst ds j
   head_kept (Assign t k) j other = head_same net.inst ds t k j other

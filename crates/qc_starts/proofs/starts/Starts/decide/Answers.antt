@@ -4,6 +4,7 @@ use Rattle.qc_dist.specs.Node.{IsOpen}
 use Rattle.qc_dist.proofs.Room.{fits_room}
 use Rattle.qc_model.specs.declared.decision.Decision.{Decision}
 use Rattle.qc_model.specs.Instance.{InstanceView}
+use Rattle.qc_model.specs.Nodes.{order_pairs}
 use Rattle.qc_starts.specs.declared.starts.Starts.TheInside.{Inside}
 use Rattle.qc_starts.specs.Fields.{IsKept, node_of}
 use Rattle.qc_starts.specs.Opened.{HasBegun}
@@ -18,9 +19,9 @@ push_reserved-requires g c =
     let f = c.self.inside in
     let is = c.self.invariant in
     let count = nested_count _ _ _ _ _ is.nested in
-    let fits = fits_room c.add.new.self.inst c.add.new.self.decisions c.add.ensures.sound.fits in
+    let fits = fits_room c.add.new.self.inst c.add.ensures.sound.valid c.add.new.self.decisions c.add.ensures.sound.fits in
     let more = ap (length {A = Decision}) c.add.ensures.decisions in
-    let room = ap (λ (i : InstanceView). length i.tasks + length i.apart) c.add.ensures.inst in
+    let room = ap (λ (i : InstanceView). length i.tasks + order_pairs i) c.add.ensures.inst in
     omega (arith, count, length-reverse f.marks.items, fits, more, room, is.room)
 
 pub settle-self-inside-requires-clause-rooting : goal.settle-self-inside-requires-clause-rooting
