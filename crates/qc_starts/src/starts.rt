@@ -281,6 +281,15 @@ impl Starts {
         is_complete(self.network.decisions())
     }
 
+    /// Whether the order of two tasks may be decided: they are apart, or clash on their cranes.
+    pub fn conflict(&self, i: u16, j: u16) -> bool
+        requires first { i < length self.now.inst.tasks }
+        requires second { j < length self.now.inst.tasks }
+        ensures { IsTrue result ↔ Conflicts self.now.inst self.now.decisions i j }
+    {
+        self.network.decisions().conflict(i, j)
+    }
+
     /// Whether one of two tasks is forced to start after the other.
     pub fn settled(&self, i: u16, j: u16) -> bool
         requires first { i < length self.now.inst.tasks }

@@ -10,7 +10,7 @@ use Rattle.qc_starts.specs.Fields.{IsKept, node_of}
 use Rattle.qc_starts.specs.Opened.{HasBegun}
 use Rattle.qc_starts.specs.Seen.{IsNoted, IsReached, IsStep, StartsNode, taken_back}
 use Rattle.qc_starts.proofs.DecideLemmas.{begun_notes, decided}
-use Rattle.qc_starts.proofs.KeptLemmas.{home_rest, nested_count, rooting_of, settled_step, soon_kept, step_of}
+use Rattle.qc_starts.proofs.KeptLemmas.{home_rest, nested_count, root_task, rooting_of, settled_step, soon_kept, step_of}
 use Rattle.qc_starts.proofs.starts.Starts.decide.Goals as goal
 use Rattle.qc_starts.proofs.starts.Starts.decide.Goals.{After-settle-self-inside}
 
@@ -23,6 +23,13 @@ push_reserved-requires g c =
     let more = ap (length {A = Decision}) c.add.ensures.decisions in
     let room = ap (λ (i : InstanceView). length i.tasks + order_pairs i) c.add.ensures.inst in
     omega (arith, count, length-reverse f.marks.items, fits, more, room, is.room)
+
+pub begin-requires-clause-root : goal.begin-requires-clause-root
+begin-requires-clause-root g c =
+    let f = c.self.inside in
+    let open_ = subst (λ (n : StartsNode). IsOpen n.inst n.decisions c.args.decision) (sym c.self.view_is) c.requires.open in
+    let low = root_task f.network.inst c.self.invariant.sound.valid f.network.decisions c.args.decision open_ in
+    omega (arith, low, c.root_of-self-inside.ensures, c.self.invariant.sized.pending)
 
 pub settle-self-inside-requires-clause-rooting : goal.settle-self-inside-requires-clause-rooting
 settle-self-inside-requires-clause-rooting g c =
