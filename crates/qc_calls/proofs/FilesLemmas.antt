@@ -1,11 +1,11 @@
--- What is known of the instance of two files, and of tasks that are apart.
-use Rattle.std.proofs.Common.{◌≡◌, ◌↔◌, ◌⊎◌, ℕ, Bool, true, false, not, IsTrue, List, Result, Ok, Err, IfOk, IfErr, refl, subst, IsOkAnd}
+-- What is known of the instance of two files, and of tasks that conflict.
+use Rattle.std.proofs.Common.{◌≡◌, ◌↔◌, ℕ, Bool, true, false, not, IsTrue, List, Result, Ok, Err, IfOk, IfErr, refl, subst, IsOkAnd}
 use Rattle.qc_num.specs.declared.memory.OutOfMemory.{OutOfMemory}
 use Rattle.std.proofs.lemmas.Bool.{false≢true}
 use Rattle.qc_model.specs.declared.decision.Decision.{Decision}
 use Rattle.qc_model.specs.declared.decision.Decision.TheVariants.{Order}
-use Rattle.qc_model.specs.Instance.{InstanceView, IsApart}
-use Rattle.qc_model.specs.Nodes.{IsSettled}
+use Rattle.qc_model.specs.Instance.{InstanceView}
+use Rattle.qc_model.specs.Nodes.{Conflicts, IsSettled}
 use Rattle.qc_dist.specs.Node.{IsOpen}
 use Rattle.qc_ship.specs.ShipFile.{ship_file}
 use Rattle.qc_stow.specs.Stow.{moves_in}
@@ -63,11 +63,11 @@ pub fails : (result : Result Verdict OutOfMemory) (P : Type 0) → IfOk result (
 fails (Ok verdict) P failed none = (λ held. absurd (failed held), λ p. absurd (none p))
 fails (Err e) P failed none = tt
 
--- two tasks that are apart may be ordered just where they aren't settled
+-- two tasks that conflict may be ordered just where they aren't settled
 pub order_open : (inst : InstanceView) (ds : List Decision) (i j : ℕ) (settled : Bool)
-    → IsApart inst i j ⊎ IsApart inst j i → IsTrue settled ↔ IsSettled inst ds i j
+    → Conflicts inst ds i j → IsTrue settled ↔ IsSettled inst ds i j
     → IsTrue (not settled) ↔ IsOpen inst ds (Order i j)
-order_open inst ds i j true apart settles =
+order_open inst ds i j true conflict settles =
     (λ no. absurd (false≢true no), λ open_. absurd (open_.1 (settles.0 refl)))
-order_open inst ds i j false apart settles =
-    (λ _. (apart, λ is. false≢true (settles.1 is)), λ _. refl)
+order_open inst ds i j false conflict settles =
+    (λ _. (conflict, λ is. false≢true (settles.1 is)), λ _. refl)

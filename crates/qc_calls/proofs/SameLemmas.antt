@@ -7,8 +7,8 @@ use Rattle.qc_calls.specs.Calls.{AreAgain}
 pub same_parts : (one other : InstanceView)
     → one.bays ≡ other.bays → one.travel ≡ other.travel → one.gap ≡ other.gap
     → one.tasks ≡ other.tasks → one.cranes ≡ other.cranes → one.before ≡ other.before → one.apart ≡ other.apart
-    → one ≡ other
-same_parts one other bays travel gap tasks cranes before apart =
+    → one.turn ≡ other.turn → one ≡ other
+same_parts one other bays travel gap tasks cranes before apart turn =
     let parts : ◌≡◌ {A = InstanceView} (record {
       bays = one.bays;
       travel = one.travel;
@@ -17,7 +17,8 @@ same_parts one other bays travel gap tasks cranes before apart =
       cranes = one.cranes;
       before = one.before;
       apart = one.apart;
-    }) other = rw (bays, travel, gap, tasks, cranes, before, apart) refl in
+      turn = one.turn;
+    }) other = rw (bays, travel, gap, tasks, cranes, before, apart, turn) refl in
     parts
 
 -- what holds of the instance that was read holds of this one

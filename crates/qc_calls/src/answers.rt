@@ -1,7 +1,8 @@
 //! Makes calls, and compares what they answer.
 
-ghost use Rattle.std.specs.Prelude.{◌≡◌, ◌↔◌, ◌<◌, ◌⊎◌, IfOk, IsTrue, drop, length};
-ghost use Rattle.qc_model.specs.Instance.{IsApart, Valid, bay_of, crane};
+ghost use Rattle.std.specs.Prelude.{◌≡◌, ◌↔◌, ◌<◌, IfOk, IsTrue, drop, length};
+ghost use Rattle.qc_model.specs.Instance.{Valid, bay_of, crane};
+ghost use Rattle.qc_model.specs.Nodes.{Conflicts};
 ghost use Rattle.qc_model.specs.OneWay.{mirror};
 ghost use Rattle.qc_dist.specs.Node.{IsOpen};
 ghost use Rattle.qc_calls.specs.Calls.{AreAgain, CanBeMade, IsAnswered, after, newest};
@@ -36,13 +37,13 @@ pub fn are_tasks(inst: &Instance, first: u16, second: u16) -> bool
     is_task(inst, first) && is_task(inst, second)
 }
 
-/// Whether both are tasks that are apart.
-pub fn are_apart(inst: &Instance, first: u16, second: u16) -> bool
-    ensures apart { IsTrue result ↔ (IsApart inst.now first second ⊎ IsApart inst.now second first) }
-    ensures first { IsTrue result → first < length inst.now.tasks }
-    ensures second { IsTrue result → second < length inst.now.tasks }
+/// Whether both are tasks whose order may be decided.
+fn conflict(decisions: &Decisions, first: u16, second: u16) -> bool
+    ensures conflict { IsTrue result ↔ Conflicts decisions.now.inst decisions.now.decisions first second }
+    ensures first { IsTrue result → first < length decisions.now.inst.tasks }
+    ensures second { IsTrue result → second < length decisions.now.inst.tasks }
 {
-    are_tasks(inst, first, second) && (inst.is_apart(first, second) || inst.is_apart(second, first))
+    are_tasks(decisions.instance(), first, second) && decisions.conflict(first, second)
 }
 
 /// Whether the decision may be made.
@@ -55,7 +56,7 @@ fn is_open(decisions: &Decisions, decision: Decision) -> bool
             is_task(inst, task) && is_crane(inst, crane) && decisions.crane_of(task).is_none()
         }
         Decision::Order(first, second) => {
-            are_apart(inst, first, second) && !decisions.settled(first, second)
+            conflict(decisions, first, second) && !decisions.settled(first, second)
         }
     }
 }

@@ -59,6 +59,7 @@ fn is_same(one: &Instance, other: &Instance) -> bool
         && are_same_cranes(one.cranes(), other.cranes())
         && are_same_pairs(one.before(), other.before())
         && are_same_pairs(one.apart(), other.apart())
+        && one.turn() == other.turn()
 }
 
 /// Whether the copy of an instance and the mirror of its mirror are both the wanted one.

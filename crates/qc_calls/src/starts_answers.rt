@@ -8,7 +8,7 @@ ghost use Rattle.qc_starts.specs.Seen.{IsReached, IsStep, IsWhy};
 ghost use Rattle.qc_close.specs.Crews.{IsCrewOf};
 ghost use Rattle.qc_calls.specs.StartsCalls.{CanBeMade, HandsOut, HasLeaf, HasRingOf, HasSpent, IsAnswered, after};
 
-use crate::answers::{are_apart, are_tasks, is_crane, is_task};
+use crate::answers::{are_tasks, is_crane, is_task};
 use crate::row::StartsCall;
 use qc_arena::Edge;
 use qc_bounds::{LeafKind, close, spent, work_bound};
@@ -34,7 +34,9 @@ fn is_open(starts: &Starts, decision: Decision) -> bool
                 && in_reach(inst, task, crane)
         }
         Decision::Order(first, second) => {
-            are_apart(inst, first, second) && !starts.settled(first, second)
+            are_tasks(inst, first, second)
+                && starts.conflict(first, second)
+                && !starts.settled(first, second)
         }
     }
 }

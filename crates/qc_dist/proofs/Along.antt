@@ -7,7 +7,7 @@ use mathlib.Core.Logic.{∥∥₁_elim}
 use denote.Struct.Props.{props}
 use Rattle.qc_model.specs.Bays.{bays_up}
 use Rattle.qc_model.specs.Instance.{InstanceView, Valid, HasBayLimits, HasPlaceLimits, bay_of, ticks_of}
-use Rattle.qc_model.specs.Nodes.{crane_ticks}
+use Rattle.qc_model.specs.Nodes.{upward_ticks}
 use Rattle.qc_model.specs.Ticks.{task_distance}
 use Rattle.qc_model.proofs.Bays.{bays}
 use Rattle.qc_dist.specs.declared.heads.Heads.{Heads}
@@ -85,7 +85,7 @@ module _ (inst : InstanceView) (valid : Valid inst) (i v j w : ℕ) (first : i <
     | inr over ↦ absurd (omega (arith, mul-le-mul_left inst.travel over))
   ]
 
-  pub pair_none : (v < w) ⊎ (along inst j w ≤ along inst i v) → crane_ticks inst i j (Some v) (Some w) ≡ None
+  pub pair_none : (v < w) ⊎ (along inst j w ≤ along inst i v) → upward_ticks inst i v j w ≡ None
   pair_none near =
       cond_both (eqb v w) _ _ (λ o. o ≡ None)
       (λ same. cond_both (int_lt x y) _ _ (λ o. o ≡ None)
@@ -104,7 +104,7 @@ module _ (inst : InstanceView) (valid : Valid inst) (i v j w : ℕ) (first : i <
       (λ _. refl))
 
   pub pair_some : w ≤ v → along inst i v < along inst j w
-      → crane_ticks inst i j (Some v) (Some w) ≡ Some (ticks_of inst i + (along inst j w - along inst i v))
+      → upward_ticks inst i v j w ≡ Some (ticks_of inst i + (along inst j w - along inst i v))
   pair_some low far =
       let less = less_of far in
       cond_both (eqb v w) _ _ (λ o. o ≡ Some (ticks_of inst i + (along inst j w - along inst i v)))
@@ -138,12 +138,12 @@ module _ (inst : InstanceView) (valid : Valid inst) (i v j w : ℕ) (first : i <
   to_is : slice_index b.along w ≡ along inst j w
   to_is = (of_second.along.values w other).0
 
-  pub heads_near : slice_index b.along w ≤ slice_index a.along v → None ≡ crane_ticks inst i j (Some v) (Some w)
+  pub heads_near : slice_index b.along w ≤ slice_index a.along v → None ≡ upward_ticks inst i v j w
   heads_near near =
       sym (pair_none inst valid i v j w first second (omega (arith, valid.cranes.count.1)) (inr (omega (arith, from_is, to_is))))
 
   pub heads_far : (ticks : ℕ) → ticks ≡ ticks_of inst i → w ≤ v → slice_index a.along v < slice_index b.along w
-      → Some (ticks + (slice_index b.along w - slice_index a.along v)) ≡ crane_ticks inst i j (Some v) (Some w)
+      → Some (ticks + (slice_index b.along w - slice_index a.along v)) ≡ upward_ticks inst i v j w
   heads_far ticks is low far =
       ap Some (omega (arith, is, from_is, to_is))
       ∙ sym (pair_some inst valid i v j w first second (omega (arith, valid.cranes.count.1)) low (omega (arith, from_is, to_is)))

@@ -7,25 +7,24 @@ use Rattle.qc_dist.specs.declared.made.Made.{Made}
 use Rattle.qc_model.specs.declared.decision.Decision.{Decision}
 use Rattle.qc_model.specs.declared.decision.Decision.TheVariants.{Assign, Order}
 use Rattle.qc_model.specs.declared.task.Task.{Task}
-use Rattle.qc_model.specs.Instance.{InstanceView, IsApart, task}
-use Rattle.qc_model.specs.Nodes.{Fits, IsSettled, assigned, is_ordered}
+use Rattle.qc_model.specs.Instance.{InstanceView, Valid, task}
+use Rattle.qc_model.specs.Nodes.{Conflicts, Fits, IsSettled, assigned, is_ordered, order_pairs}
 use Rattle.qc_dist.specs.Fields.{IsKept, node_of}
 use Rattle.qc_dist.specs.Kept.{AreKept, Beside, crane_load, decisions_of}
 use Rattle.qc_dist.specs.Loads.{load_with}
 use Rattle.qc_dist.specs.Node.{Node}
-use Rattle.qc_model.proofs.NodeLemmas.{unsettled_unordered}
-use Rattle.qc_dist.proofs.Facts.{apart_inside}
+use Rattle.qc_model.proofs.NodeLemmas.{conflict_inside, unsettled_unordered}
 use Rattle.qc_dist.proofs.Assigned.{assigned_here, assigned_other, load_here, load_other, ordered_here, ordered_other, ticks_after}
 use Rattle.qc_dist.proofs.Room.{fits_room}
 use Rattle.qc_dist.proofs.Tables.{grid_write, table_write}
 
 -- a further decision finds room
-pub made_room : (inst : InstanceView) (made : List Made) (capacity : ℕ) (d : Decision)
+pub made_room : (inst : InstanceView) → Valid inst → (made : List Made) (capacity : ℕ) (d : Decision)
     → Fits inst (d ∷ decisions_of (reverse made))
-    → length inst.tasks + length inst.apart ≤ capacity → length made < capacity
-made_room inst made capacity d fits room =
+    → length inst.tasks + order_pairs inst ≤ capacity → length made < capacity
+made_room inst valid made capacity d fits room =
     let count = length-map (reverse made) (λ (m : Made). m.decision) in
-    omega (arith, fits_room inst (d ∷ decisions_of (reverse made)) fits, count, length-reverse made)
+    omega (arith, fits_room inst valid (d ∷ decisions_of (reverse made)) fits, count, length-reverse made)
 
 -- the task can be assigned to the crane
 pub record CanAssign (inst : InstanceView) (ds : List Decision) (j k : ℕ) : Type 0 where
@@ -39,21 +38,21 @@ can_assign f node j k view = subst (λ (n : Node). CanAssign n.inst n.decisions 
 
 -- the first task can be ordered before the second
 pub record CanOrder (inst : InstanceView) (ds : List Decision) (i j : ℕ) : Type 0 where
-  pub apart : IsApart inst i j ⊎ IsApart inst j i
+  pub conflict : Conflicts inst ds i j
   pub one : IsFalse (is_ordered ds i j)
   pub other : IsFalse (is_ordered ds j i)
   pub first : i < length inst.tasks
   pub second : j < length inst.tasks
 
 pub can_order : (f : Inside) → IsKept f → (node : Node) (i j : ℕ) → node_of f ≡ node
-    → IsApart node.inst i j ⊎ IsApart node.inst j i → (¬ IsSettled node.inst node.decisions i j)
+    → Conflicts node.inst node.decisions i j → (¬ IsSettled node.inst node.decisions i j)
     → CanOrder f.inst (decisions_of (reverse f.made.items)) i j
-can_order f kept node i j view apart unsettled =
-    let at = subst (λ (n : Node). IsApart n.inst i j ⊎ IsApart n.inst j i) (sym view) apart in
+can_order f kept node i j view conflict unsettled =
+    let at = subst (λ (n : Node). Conflicts n.inst n.decisions i j) (sym view) conflict in
     let settled = subst (λ (n : Node). ¬ IsSettled n.inst n.decisions i j) (sym view) unsettled in
     let free = unsettled_unordered f.inst (decisions_of (reverse f.made.items)) i j settled in
-    let range = apart_inside f.inst kept.valid i j at in
-    record { apart = at; one = free.0; other = free.1; first = range.0; second = range.1 }
+    let range = conflict_inside f.inst kept.valid (decisions_of (reverse f.made.items)) i j at in
+    record { conflict = at; one = free.0; other = free.1; first = range.0; second = range.1 }
 
 -- a task was assigned
 pub after_assign :
@@ -99,7 +98,7 @@ after_order inst made more room b i j at kept can is pushed held =
     let m : Made = record { decision = Order i j; load = None } in
     rw (pushed, held, is, reverse-append made (m ∷ [])) (record {
       valid = kept.valid;
-      fits = (can.apart, can.one, can.other, kept.fits);
+      fits = (can.conflict, can.one, can.other, kept.fits);
       room = kept.room;
       cranes = kept.cranes;
       before = kept.before;
@@ -155,7 +154,7 @@ pub newest_range :
     → (i < length inst.tasks) × (j < length inst.tasks)
 newest_range inst made left m b i j all popped is =
     let kept = subst (λ ms. AreKept inst ms b) (newest_is made left m (Order i j) popped is) all in
-    apart_inside inst kept.valid i j kept.fits.0
+    conflict_inside inst kept.valid (decisions_of (reverse left)) i j kept.fits.0
 
 -- the order of two tasks was taken back
 pub after_unorder :
@@ -165,7 +164,7 @@ pub after_unorder :
 after_unorder inst made left m room b i j at all popped is found held =
     let ds = decisions_of (reverse left) in
     let kept = subst (λ ms. AreKept inst ms b) (newest_is made left m (Order i j) popped is) all in
-    let range = apart_inside inst kept.valid i j kept.fits.0 in
+    let range = conflict_inside inst kept.valid ds i j kept.fits.0 in
     rw (held, found) (record {
       valid = kept.valid;
       fits = kept.fits.3;

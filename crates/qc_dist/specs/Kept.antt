@@ -7,7 +7,7 @@ use Rattle.qc_model.specs.declared.decision.Decision.{Decision}
 use Rattle.qc_model.specs.declared.decision.Decision.TheVariants.{Assign, Order}
 use Rattle.qc_model.specs.Instance.{InstanceView, Valid}
 use Rattle.qc_model.specs.Work.{open_tasks, tasks_on, ticks_over}
-use Rattle.qc_model.specs.Nodes.{Fits, assigned, is_ordered, is_sooner}
+use Rattle.qc_model.specs.Nodes.{Fits, assigned, is_ordered, is_sooner, order_pairs}
 use Rattle.qc_dist.specs.Heads.{IsHeadTable}
 use Rattle.qc_dist.specs.Loads.{load_of}
 use Rattle.qc_dist.specs.Tables.{IsGrid, IsTable}
@@ -47,7 +47,7 @@ pub record Beside : Type 0 where
 pub record AreKept (inst : InstanceView) (made : List Made) (b : Beside) : Type 0 where
   pub valid : Valid inst
   pub fits : Fits inst (decisions_of made)
-  pub room : length inst.tasks + length inst.apart ≤ b.room
+  pub room : length inst.tasks + order_pairs inst ≤ b.room
   pub cranes : IsTable (assigned (decisions_of made)) (length inst.tasks) b.cranes
   pub before : IsGrid (is_sooner inst []) (length inst.tasks) b.before
   pub ordered : IsGrid (is_ordered (decisions_of made)) (length inst.tasks) b.ordered

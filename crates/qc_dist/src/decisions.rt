@@ -1,10 +1,10 @@
 //! The decisions of a search node, with tables beside them.
 
-ghost use Rattle.std.specs.Prelude.{◌≡◌, ◌*◌, ◌<◌, ◌≤◌, ◌⊎◌, None, [], ◌∷◌, IfOk, IfSome, MatchOption, length};
+ghost use Rattle.std.specs.Prelude.{◌≡◌, ◌*◌, ◌<◌, ◌≤◌, None, [], ◌∷◌, IfOk, IfSome, MatchOption, length};
 ghost use Rattle.qc_model.specs.declared.decision.Decision.TheVariants.{Assign, Order};
 ghost use Rattle.qc_model.specs.declared.limits.TheConstants.{MOST_TASKS, MOST_WORK};
-ghost use Rattle.qc_model.specs.Instance.{IsApart, Valid};
-ghost use Rattle.qc_model.specs.Nodes.{Fits, IsSettled, assigned, is_sooner};
+ghost use Rattle.qc_model.specs.Instance.{Valid};
+ghost use Rattle.qc_model.specs.Nodes.{Conflicts, Fits, IsSettled, assigned, is_sooner};
 ghost use Rattle.qc_dist.specs.Heads.{IsHeads};
 ghost use Rattle.qc_dist.specs.Kept.{crane_load, unassigned_ticks};
 ghost use Rattle.qc_dist.specs.Loads.{IsLoad};
@@ -58,12 +58,12 @@ fn all_ticks(inst: &Instance) -> Tick
 }
 
 impl Decisions {
-    /// No decision for the instance, and room for one a task and one an apart pair.
+    /// No decision for the instance, and room for one a task and one a pair that may get an order.
     pub fn new(alloc: Global, inst: &Instance) -> Result<Decisions, OutOfMemory>
         ensures { IfOk result (λ made. made ≡ record { inst = inst.now; decisions = [] }) }
     {
         let tasks = inst.task_count();
-        let room = tasks as usize + inst.apart().len();
+        let room = tasks as usize + inst.order_pairs() as usize;
         Ok(Decisions {
             made: Vec::with_capacity(alloc, room)?,
             cranes: vec![in alloc; None; tasks as usize]?,
@@ -117,9 +117,9 @@ impl Decisions {
         self.open_ticks -= job.ticks;
     }
 
-    /// Decides which of two apart tasks is done first.
+    /// Decides which of two tasks that conflict is done first.
     fn order(&mut self, first: u16, second: u16)
-        requires apart { IsApart self.old.inst first second ⊎ IsApart self.old.inst second first }
+        requires conflict { Conflicts self.old.inst self.old.decisions first second }
         requires unsettled { ¬ IsSettled self.old.inst self.old.decisions first second }
         ensures added { self.new ≡ record self.old {
           decisions = Order first second ∷ self.old.decisions;

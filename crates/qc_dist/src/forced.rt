@@ -2,11 +2,12 @@
 
 ghost use Rattle.std.specs.Prelude.{◌≡◌, ◌+◌, ◌<◌, ◌≤◌, ◌↔◌, Some, IfSome, IsTrue, length};
 ghost use Rattle.qc_model.specs.declared.limits.TheConstants.{MOST_DISTANCE, MOST_READY, MOST_WORK};
-ghost use Rattle.qc_model.specs.Nodes.{IsSettled, assigned, crane_ticks, forced, greater, head, head1, sooner_ticks};
+ghost use Rattle.qc_model.specs.Nodes.{IsSettled, assigned, clear_ticks, crane_ticks, forced, greater, head, head1, is_sooner, pair_ticks, sooner_ticks, upward_ticks};
 ghost use Rattle.qc_dist.specs.Added.{excess};
 
 use crate::Decisions;
-use crate::travel::arrival;
+use crate::travel::{arrival, separation};
+use qc_model::Turn;
 use qc_num::Tick;
 
 /// The greater of two numbers that may be missing.
@@ -35,7 +36,7 @@ fn excess(one: Option<Tick>, other: Option<Tick>) -> Option<Tick>
 
 impl Decisions {
     /// The time lag from task `i` to task `j`: the ticks by which `j` must start after the start of
-    /// `i` in every upward schedule that agrees with the decisions; `None` exactly where nothing is
+    /// `i` in every schedule of the instance's turn that agrees with the decisions; `None` exactly where nothing is
     /// forced.
     pub fn forced(&self, i: u16, j: u16) -> Option<Tick>
         requires first { i < length self.now.inst.tasks }
@@ -46,14 +47,14 @@ impl Decisions {
         greater(self.sooner_ticks(i, j), self.crane_ticks(i, j))
     }
 
-    /// What cranes ask for that do two tasks: one crane goes up from the one to the other, or the lower
+    /// What cranes ask for that go one way: one crane goes up from the one task to the other, or the lower
     /// of two cranes gives way.
-    fn pair_ticks(&self, i: u16, v: u16, j: u16, w: u16) -> Option<Tick>
+    fn upward_ticks(&self, i: u16, v: u16, j: u16, w: u16) -> Option<Tick>
         requires first_task { i < length self.now.inst.tasks }
         requires first_crane { v < length self.now.inst.cranes }
         requires second_task { j < length self.now.inst.tasks }
         requires second_crane { w < length self.now.inst.cranes }
-        ensures ticks { result ≡ crane_ticks self.now.inst i j (Some v) (Some w) }
+        ensures ticks { result ≡ upward_ticks self.now.inst i v j w }
         ensures bound { IfSome result (λ ticks. ticks ≤ MOST_WORK + MOST_DISTANCE) }
     {
         if v < w {
@@ -67,11 +68,46 @@ impl Decisions {
         Some(self.instance().task(i).ticks + (to - from))
     }
 
+    /// What cranes ask for that go as they like: where the one task is sooner, time to be clear of it.
+    fn clear_ticks(&self, i: u16, v: u16, j: u16, w: u16) -> Option<Tick>
+        requires first_task { i < length self.now.inst.tasks }
+        requires first_crane { v < length self.now.inst.cranes }
+        requires second_task { j < length self.now.inst.tasks }
+        requires second_crane { w < length self.now.inst.cranes }
+        ensures ticks { result ≡ clear_ticks self.now.inst
+            (is_sooner self.now.inst self.now.decisions i j) i v j w }
+        ensures bound { IfSome result (λ ticks. ticks ≤ MOST_WORK + MOST_DISTANCE) }
+    {
+        if self.is_sooner(i, j) {
+            let inst = self.instance();
+            Some(inst.task(i).ticks + separation(inst, i, v, j, w))
+        } else {
+            None
+        }
+    }
+
+    /// What the cranes of two tasks ask for, by the turn of the instance.
+    fn pair_ticks(&self, i: u16, v: u16, j: u16, w: u16) -> Option<Tick>
+        requires first_task { i < length self.now.inst.tasks }
+        requires first_crane { v < length self.now.inst.cranes }
+        requires second_task { j < length self.now.inst.tasks }
+        requires second_crane { w < length self.now.inst.cranes }
+        ensures ticks { result ≡ pair_ticks self.now.inst.turn self.now.inst
+            (is_sooner self.now.inst self.now.decisions i j) i v j w }
+        ensures bound { IfSome result (λ ticks. ticks ≤ MOST_WORK + MOST_DISTANCE) }
+    {
+        match self.instance().turn() {
+            Turn::OneWay => self.upward_ticks(i, v, j, w),
+            Turn::Free => self.clear_ticks(i, v, j, w),
+        }
+    }
+
     /// What the cranes of two tasks ask for, where both are assigned.
     fn crane_ticks(&self, i: u16, j: u16) -> Option<Tick>
         requires first { i < length self.now.inst.tasks }
         requires second { j < length self.now.inst.tasks }
-        ensures ticks { result ≡ crane_ticks self.now.inst i j
+        ensures ticks { result ≡ crane_ticks self.now.inst
+            (is_sooner self.now.inst self.now.decisions i j) i j
             (assigned self.now.decisions i) (assigned self.now.decisions j) }
         ensures bound { IfSome result (λ ticks. ticks ≤ MOST_WORK + MOST_DISTANCE) }
     {
@@ -101,7 +137,8 @@ impl Decisions {
         requires first { i < length self.now.inst.tasks }
         requires second { j < length self.now.inst.tasks }
         ensures ticks { result ≡ excess (sooner_ticks self.now.inst self.now.decisions i j)
-            (crane_ticks self.now.inst i j (assigned self.now.decisions i) (assigned self.now.decisions j)) }
+            (crane_ticks self.now.inst (is_sooner self.now.inst self.now.decisions i j) i j
+                (assigned self.now.decisions i) (assigned self.now.decisions j)) }
         ensures bound { IfSome result (λ ticks. ticks ≤ MOST_WORK + MOST_DISTANCE) }
     {
         let more = self.crane_ticks(i, j)?;

@@ -3,6 +3,7 @@
 #![tactic(auto)]
 
 mod children;
+mod clash;
 mod decisions;
 mod forced;
 mod grid;

@@ -3,7 +3,7 @@
 ghost use Rattle.std.specs.Prelude.{◌≡◌, ◌+◌, ◌<◌, ◌≤◌, length};
 ghost use Rattle.qc_model.specs.declared.limits.TheConstants.{MOST_DISTANCE, MOST_READY, MOST_WORK};
 ghost use Rattle.qc_model.specs.Instance.{bay_of, ticks_of};
-ghost use Rattle.qc_model.specs.Nodes.{berth_wait, free, reaches};
+ghost use Rattle.qc_model.specs.Nodes.{berth_wait, free, reaches, separation};
 ghost use Rattle.qc_model.specs.Ticks.{arrival, task_distance, travel_between};
 ghost use Rattle.qc_dist.specs.Heads.{along};
 
@@ -21,6 +21,23 @@ pub fn distance(inst: &Instance, i: u16, v: u16, j: u16, w: u16) -> Tick
     ensures bound { result ≤ MOST_DISTANCE }
 {
     qc_model::distance(inst, v, inst.task(i).bay, w, inst.task(j).bay)
+}
+
+/// The ticks by which task `i` on crane `v` and task `j` on crane `w` are clear of each other, whichever
+/// is first: the travel between them on one crane, and their distance on two.
+pub(crate) fn separation(inst: &Instance, i: u16, v: u16, j: u16, w: u16) -> Tick
+    requires first_task { i < length inst.now.tasks }
+    requires first_crane { v < length inst.now.cranes }
+    requires second_task { j < length inst.now.tasks }
+    requires second_crane { w < length inst.now.cranes }
+    ensures ticks { result ≡ separation inst.now i v j w }
+    ensures bound { result ≤ MOST_DISTANCE }
+{
+    if v == w {
+        travel_over(inst, bays_between(inst.task(i).bay, inst.task(j).bay))
+    } else {
+        distance(inst, i, v, j, w)
+    }
 }
 
 /// The position of task `j` in crane `w`'s own coordinates, in ticks of travel: bay times travel,

@@ -1,4 +1,5 @@
--- A complete node with starts that meet it is an upward schedule, as decided, with these starts.
+-- A complete node with starts that meet it is a schedule as decided, with these starts, and where cranes go one way an
+-- upward one.
 use Rattle.std.proofs.Common.{◌≡◌, ◌≢◌, ℕ, ◌+◌, ◌*◌, ◌<◌, ◌≤◌, true, false, eqb, ◌&&◌, ◌⊎◌, inl, inr, List, [], ◌∷◌, length, get_or, Option, None, Some, IfSome, IsSome, unwrap_or, ℤ, ◌≤ℤ◌, ◌<ℤ◌, refl, ap, ap₂, sym, subst, ◌∙◌, arith, ext_get_or, mul-zero, int_lt, nat_lt, slice_index}
 use Rattle.std.proofs.lemmas.Bool.{and_from, and_parts, cases_Bool, cond-false, cond-true, cond_both, eq-eqb, eqb-true, false≢true, lt-ltb, ne_eqb, or_left, or_right}
 use Rattle.std.proofs.lemmas.Int.{by_lt_z, ints}
@@ -8,16 +9,18 @@ use Rattle.std.proofs.lemmas.Option.{same_Some}
 use Rattle.qc_model.specs.declared.decision.Decision.{Decision}
 use Rattle.qc_model.specs.declared.decision.Decision.TheVariants.{Assign, Order}
 use Rattle.qc_model.specs.declared.schedule.Slot.{Slot}
+use Rattle.qc_model.specs.declared.turn.Turn.{Turn}
+use Rattle.qc_model.specs.declared.turn.Turn.TheVariants.{OneWay, Free}
 use Rattle.qc_model.specs.Bays.{bays_between, bays_up}
-use Rattle.qc_model.specs.Instance.{InstanceView, IsApart, Valid, bay_of, ticks_of}
-use Rattle.qc_model.specs.Nodes.{Agrees, Fits, IsComplete, IsInReach, Meets, assigned, berth_wait, crane_ticks, forced, free, greater, head_by, is_ordered, is_sooner, reaches, schedule_with, slot_with, sooner_ticks}
+use Rattle.qc_model.specs.Instance.{InstanceView, Valid, bay_of, ticks_of}
+use Rattle.qc_model.specs.Nodes.{Agrees, Fits, IsComplete, IsInReach, Meets, assigned, berth_wait, crane_ticks, forced, free, greater, head_by, is_ordered, is_sooner, pair_ticks, reaches, schedule_with, slot_with, sooner_ticks, upward_ticks}
 use Rattle.qc_model.specs.OneWay.{GoesUp}
 use Rattle.qc_model.specs.Rules.{Feasible, IsClear, KeepsApart, KeepsBerth, KeepsMargin, KeepsTravel, crane_of, end_of, ends, last_end, no_slot, start_of, starts}
 use Rattle.qc_model.specs.Ticks.{berth_clear, berth_distance, climb, lead, task_distance, travel_between}
 use Rattle.qc_model.proofs.Bays.{bays}
 use Rattle.qc_model.proofs.Extremes.{le_greatest}
 use Rattle.qc_model.proofs.GoesLemmas.{by_order, distance_swapped}
-use Rattle.qc_model.proofs.NodeLemmas.{IsStep, T_true, greater_keeps, if_some, sooner_before, start_at, true_T}
+use Rattle.qc_model.proofs.NodeLemmas.{IsStep, T_true, conflict_inside, greater_keeps, if_some, sooner_before, start_at, true_T}
 
 -- ---- what the decisions say
 
@@ -39,20 +42,22 @@ placed inst (Assign g k ∷ ds) fits reach j =
     (λ other. placed inst ds fits.3 reach.1 j)
 
 -- a schedule is as decided where each assigned task is on its crane, and each pair in its order
-agrees_of : (inst : InstanceView) (sched : List Slot) (ds : List Decision) → Fits inst ds
+agrees_of : (inst : InstanceView) → Valid inst → (sched : List Slot) (ds : List Decision) → Fits inst ds
     → ((j k : ℕ) → assigned ds j ≡ Some k → crane_of sched j ≡ k)
-    → ((i j : ℕ) → IsApart inst i j ⊎ IsApart inst j i → is_ordered ds i j ≡ true → end_of inst sched i ≤ start_of sched j)
+    → ((i j : ℕ) → i < length inst.tasks → j < length inst.tasks → is_ordered ds i j ≡ true
+        → end_of inst sched i ≤ start_of sched j)
     → Agrees inst ds sched
-agrees_of inst sched [] fits cranes orders = tt
-agrees_of inst sched (Order i j ∷ ds) fits cranes orders =
+agrees_of inst valid sched [] fits cranes orders = tt
+agrees_of inst valid sched (Order i j ∷ ds) fits cranes orders =
+    let inside = conflict_inside inst valid ds i j fits.0 in
     let itself = and_from (eqb i i) (eqb j j) (eq-eqb i i refl) (eq-eqb j j refl) in (
-      orders i j fits.0 (or_left (eqb i i && eqb j j) (is_ordered ds i j) itself),
-      agrees_of inst sched ds fits.3 cranes
-          (λ g h pair t. orders g h pair (or_right (eqb i g && eqb j h) (is_ordered ds g h) t)),
+      orders i j inside.0 inside.1 (or_left (eqb i i && eqb j j) (is_ordered ds i j) itself),
+      agrees_of inst valid sched ds fits.3 cranes
+          (λ g h low high t. orders g h low high (or_right (eqb i g && eqb j h) (is_ordered ds g h) t)),
     )
-agrees_of inst sched (Assign i k ∷ ds) fits cranes orders = (
+agrees_of inst valid sched (Assign i k ∷ ds) fits cranes orders = (
   cranes i k (cond-true (eqb i i) (Some k) (assigned ds i) (eq-eqb i i refl)),
-  agrees_of inst sched ds fits.3 (λ j v e. cranes j v (other j v e (cases_Bool (eqb i j)))) orders,
+  agrees_of inst valid sched ds fits.3 (λ j v e. cranes j v (other j v e (cases_Bool (eqb i j)))) orders,
 )
   where
     other : (j v : ℕ) → assigned ds j ≡ Some v → (eqb i j ≡ true) ⊎ (eqb i j ≡ false)
@@ -67,12 +72,12 @@ agrees_of inst sched (Assign i k ∷ ds) fits cranes orders = (
 
 module _ (inst : InstanceView) (i j v w : ℕ) where
   climb_asked : v ≡ w → bay_of inst i <ℤ bay_of inst j
-      → crane_ticks inst i j (Some v) (Some w) ≡ Some (climb inst i j)
+      → upward_ticks inst i v j w ≡ Some (climb inst i j)
   climb_asked same up =
       cond-true (eqb v w) _ _ (eq-eqb v w same) ∙ cond-true (int_lt (bay_of inst i) (bay_of inst j)) _ _ (T_true up.lt)
 
   lead_asked : w < v → 0 < task_distance inst i v j w
-      → crane_ticks inst i j (Some v) (Some w) ≡ Some (lead inst i v j w)
+      → upward_ticks inst i v j w ≡ Some (lead inst i v j w)
   lead_asked lower near =
       let both =
       and_from (nat_lt w v) (nat_lt 0 (task_distance inst i v j w)) (lt-ltb w v lower) (lt-ltb 0 _ near) in
@@ -86,17 +91,22 @@ IsLong inst i step = IfSome step (λ n. ticks_of inst i ≤ n)
 pub forced_ticks : (inst : InstanceView) (ds : List Decision) (i j : ℕ)
     → IfSome (forced inst ds i j) (λ n. ticks_of inst i ≤ n)
 forced_ticks inst ds i j =
-    greater_keeps (λ n. ticks_of inst i ≤ n) (sooner_ticks inst ds i j) (crane_ticks inst i j (assigned ds i) (assigned ds j))
+    greater_keeps (λ n. ticks_of inst i ≤ n) (sooner_ticks inst ds i j)
+    (crane_ticks inst (is_sooner inst ds i j) i j (assigned ds i) (assigned ds j))
     (cond_both (is_sooner inst ds i j) _ _ (IsLong inst i) (λ _. omega arith) (λ _. tt))
     (of_cranes (assigned ds i) (assigned ds j))
   where
-    of_cranes : (p q : Option ℕ) → IsLong inst i (crane_ticks inst i j p q)
-    of_cranes None q = tt
-    of_cranes (Some v) None = tt
-    of_cranes (Some v) (Some w) =
+    of_pair : (turn : Turn) (v w : ℕ) → IsLong inst i (pair_ticks turn inst (is_sooner inst ds i j) i v j w)
+    of_pair Free v w = cond_both (is_sooner inst ds i j) _ _ (IsLong inst i) (λ _. omega arith) (λ _. tt)
+    of_pair OneWay v w =
         cond_both (eqb v w) _ _ (IsLong inst i)
         (λ _. cond_both (int_lt (bay_of inst i) (bay_of inst j)) _ _ (IsLong inst i) (λ _. omega arith) (λ _. tt))
         (λ _. cond_both (nat_lt w v && nat_lt 0 (task_distance inst i v j w)) _ _ (IsLong inst i) (λ _. omega arith) (λ _. tt))
+
+    of_cranes : (p q : Option ℕ) → IsLong inst i (crane_ticks inst (is_sooner inst ds i j) i j p q)
+    of_cranes None q = tt
+    of_cranes (Some v) None = tt
+    of_cranes (Some v) (Some w) = of_pair inst.turn v w
 
 -- what the greater of two steps keeps, the first keeps, and so does the second
 pub greater_first : (s t : ℕ) (a b : Option ℕ) → IsStep s t (greater a b) → IsStep s t a
@@ -161,38 +171,10 @@ module _ (inst : InstanceView) (ds : List Decision) (begins : List ℕ) (sched :
       → end_of inst sched i ≤ start_of sched j
   sooner_done i j low high t =
       let step =
-      greater_first _ _ (sooner_ticks inst ds i j) (crane_ticks inst i j (assigned ds i) (assigned ds j)) (forced_done i j low high) in
+      greater_first _ _ (sooner_ticks inst ds i j)
+      (crane_ticks inst (is_sooner inst ds i j) i j (assigned ds i) (assigned ds j)) (forced_done i j low high) in
       let is = cond-true (is_sooner inst ds i j) (Some (ticks_of inst i)) None t in
       subst (IsStep (start_of sched i) (start_of sched j)) is step
-
-  cranes_done : (i j n : ℕ) → i < length inst.tasks → j < length inst.tasks
-      → crane_ticks inst i j (Some (crane_of sched i)) (Some (crane_of sched j)) ≡ Some n
-      → start_of sched i + n ≤ start_of sched j
-  cranes_done i j n low high e =
-      let step =
-      greater_second _ _ (sooner_ticks inst ds i j) (crane_ticks inst i j (assigned ds i) (assigned ds j)) (forced_done i j low high) in
-      let is = ap₂ (crane_ticks inst i j) (d.cranes i low) (d.cranes j high) ∙ e in
-      subst (IsStep (start_of sched i) (start_of sched j)) is step
-
-  climb_done : (i j : ℕ) → i < length inst.tasks → j < length inst.tasks
-      → crane_of sched i ≡ crane_of sched j
-      → bay_of inst i <ℤ bay_of inst j → start_of sched i + climb inst i j ≤ start_of sched j
-  climb_done i j low high same up = cranes_done i j _ low high (climb_asked inst i j _ _ same up)
-
-  lead_done : (i j : ℕ) → i < length inst.tasks → j < length inst.tasks
-      → crane_of sched j < crane_of sched i
-      → 0 < task_distance inst i (crane_of sched i) j (crane_of sched j)
-      → start_of sched i + lead inst i (crane_of sched i) j (crane_of sched j) ≤ start_of sched j
-  lead_done i j low high lower near = cranes_done i j _ low high (lead_asked inst i j _ _ lower near)
-
-  margin_done : (i j : ℕ) → i < length inst.tasks → j < length inst.tasks → KeepsMargin inst sched i j
-  margin_done i j low high differ near = by_order (crane_of sched i) (crane_of sched j)
-      (λ e. absurd (differ e))
-      (λ l.
-      let e =
-      distance_swapped inst (crane_of sched i) (bay_of inst i) (crane_of sched j) (bay_of inst j) in
-      inr (omega (arith, e, lead_done j i high low l (omega (arith, e, near)))))
-      (λ l. inl (omega (arith, lead_done i j low high l near)))
 
   free_done : (j : ℕ) → j < length inst.tasks → free inst j (crane_of sched j) ≤ start_of sched j
   free_done j low =
@@ -221,59 +203,92 @@ module _ (inst : InstanceView) (ds : List Decision) (begins : List ℕ) (sched :
       gone g h None some long step = absurd (false≢true some)
       gone g h (Some n) some long step = omega arith
 
-  -- between two tasks of a crane: up from the lower to the higher, and at one bay in the order of their phases
-  travel_done : Valid inst → (i j : ℕ) → i < length inst.tasks → j < length inst.tasks → i ≢ j
-      → KeepsTravel inst sched i j
-  travel_done v i j low high differ same = by_lt_z (bay_of inst i) (bay_of inst j)
-      (λ up.
-      let way = ap (λ n. inst.travel * n) (one_way (bay_of inst i) (bay_of inst j) up) in
-      inl (omega (arith, climb_done i j low high same up, way)))
-      (λ over. by_lt_z (bay_of inst j) (bay_of inst i)
-      (λ up.
-      let way = ap (λ n. inst.travel * n) (back (bay_of inst i) (bay_of inst j) up) in
-      inr (omega (arith, climb_done j i high low (sym same) up, way)))
-      (λ under. beside (equal _ _ over under)))
-    where
-      one_way : (x y : ℤ) → x <ℤ y → bays_up x y ≡ bays_between x y
-      one_way x y up = omega (arith, bays)
+  -- where cranes go one way
+  module _ (one : inst.turn ≡ OneWay) where
+    cranes_done : (i j n : ℕ) → i < length inst.tasks → j < length inst.tasks
+        → upward_ticks inst i (crane_of sched i) j (crane_of sched j) ≡ Some n
+        → start_of sched i + n ≤ start_of sched j
+    cranes_done i j n low high e =
+        let step =
+        greater_second _ _ (sooner_ticks inst ds i j)
+        (crane_ticks inst (is_sooner inst ds i j) i j (assigned ds i) (assigned ds j)) (forced_done i j low high) in
+        let is = ap₂ (crane_ticks inst (is_sooner inst ds i j) i j) (d.cranes i low) (d.cranes j high)
+        ∙ ap (λ turn. pair_ticks turn inst (is_sooner inst ds i j) i (crane_of sched i) j (crane_of sched j)) one ∙ e in
+        subst (IsStep (start_of sched i) (start_of sched j)) is step
 
-      back : (x y : ℤ) → y <ℤ x → bays_up y x ≡ bays_between x y
-      back x y up = omega (arith, bays)
+    climb_done : (i j : ℕ) → i < length inst.tasks → j < length inst.tasks
+        → crane_of sched i ≡ crane_of sched j
+        → bay_of inst i <ℤ bay_of inst j → start_of sched i + climb inst i j ≤ start_of sched j
+    climb_done i j low high same up = cranes_done i j _ low high (climb_asked inst i j _ _ same up)
 
-      equal : (x y : ℤ) → y ≤ℤ x → x ≤ℤ y → x ≡ y
-      equal x y over under = omega (arith, ints)
+    lead_done : (i j : ℕ) → i < length inst.tasks → j < length inst.tasks
+        → crane_of sched j < crane_of sched i
+        → 0 < task_distance inst i (crane_of sched i) j (crane_of sched j)
+        → start_of sched i + lead inst i (crane_of sched i) j (crane_of sched j) ≤ start_of sched j
+    lead_done i j low high lower near = cranes_done i j _ low high (lead_asked inst i j _ _ lower near)
 
-      here : (x y : ℤ) → x ≡ y → bays_between x y ≡ 0
-      here x y e = omega (arith, bays)
+    margin_done : (i j : ℕ) → i < length inst.tasks → j < length inst.tasks → KeepsMargin inst sched i j
+    margin_done i j low high differ near = by_order (crane_of sched i) (crane_of sched j)
+        (λ e. absurd (differ e))
+        (λ l.
+        let e =
+        distance_swapped inst (crane_of sched i) (bay_of inst i) (crane_of sched j) (bay_of inst j) in
+        inr (omega (arith, e, lead_done j i high low l (omega (arith, e, near)))))
+        (λ l. inl (omega (arith, lead_done i j low high l near)))
 
-      beside : bay_of inst i ≡ bay_of inst j
-          → IsClear inst sched (travel_between inst (bay_of inst i) (bay_of inst j)) i j
-      beside e =
-          let hatch = (v.tasks.hatches i j low high).0 e in
-          let none =
-          ap (λ n. inst.travel * n) (here (bay_of inst i) (bay_of inst j) e) ∙ mul-zero inst.travel in
-          by_order i j (λ s. absurd (differ s))
-          (λ l.
-          let before = sooner_before inst ds i j (v.before.phases i j l high hatch) in
-          inl (omega (arith, none, sooner_done i j low high before)))
-          (λ l.
-          let before = sooner_before inst ds j i (v.before.phases j i l low (sym hatch)) in
-          inr (omega (arith, none, sooner_done j i high low before)))
+    -- between two tasks of a crane: up from the lower to the higher, and at one bay in the order of their phases
+    travel_done : Valid inst → (i j : ℕ) → i < length inst.tasks → j < length inst.tasks → i ≢ j
+        → KeepsTravel inst sched i j
+    travel_done v i j low high differ same = by_lt_z (bay_of inst i) (bay_of inst j)
+        (λ up.
+        let way = ap (λ n. inst.travel * n) (one_way (bay_of inst i) (bay_of inst j) up) in
+        inl (omega (arith, climb_done i j low high same up, way)))
+        (λ over. by_lt_z (bay_of inst j) (bay_of inst i)
+        (λ up.
+        let way = ap (λ n. inst.travel * n) (back (bay_of inst i) (bay_of inst j) up) in
+        inr (omega (arith, climb_done j i high low (sym same) up, way)))
+        (λ under. beside (equal _ _ over under)))
+      where
+        one_way : (x y : ℤ) → x <ℤ y → bays_up x y ≡ bays_between x y
+        one_way x y up = omega (arith, bays)
 
-  feasible_done : Valid inst → IsComplete inst ds → Feasible inst sched
-  feasible_done v complete = record {
-    all_tasks = d.all_tasks;
-    crane_range = λ j low. (d.places j low).crane;
-    reach = λ j low.
-        let both = and_parts _ _ (d.places j low).reach in
-        (record { le = true_T both.0 }, record { le = true_T both.1 });
-    ready = λ j low. omega (arith, free_done j low);
-    travel = travel_done v;
-    before = λ i j low high b. sooner_done i j low high (sooner_before inst ds i j b);
-    apart = apart_done complete;
-    margin = margin_done;
-    berth = berth_done;
-  }
+        back : (x y : ℤ) → y <ℤ x → bays_up y x ≡ bays_between x y
+        back x y up = omega (arith, bays)
+
+        equal : (x y : ℤ) → y ≤ℤ x → x ≤ℤ y → x ≡ y
+        equal x y over under = omega (arith, ints)
+
+        here : (x y : ℤ) → x ≡ y → bays_between x y ≡ 0
+        here x y e = omega (arith, bays)
+
+        beside : bay_of inst i ≡ bay_of inst j
+            → IsClear inst sched (travel_between inst (bay_of inst i) (bay_of inst j)) i j
+        beside e =
+            let hatch = (v.tasks.hatches i j low high).0 e in
+            let none =
+            ap (λ n. inst.travel * n) (here (bay_of inst i) (bay_of inst j) e) ∙ mul-zero inst.travel in
+            by_order i j (λ s. absurd (differ s))
+            (λ l.
+            let before = sooner_before inst ds i j (v.before.phases i j l high hatch) in
+            inl (omega (arith, none, sooner_done i j low high before)))
+            (λ l.
+            let before = sooner_before inst ds j i (v.before.phases j i l low (sym hatch)) in
+            inr (omega (arith, none, sooner_done j i high low before)))
+
+    feasible_done : Valid inst → IsComplete inst ds → Feasible inst sched
+    feasible_done v complete = record {
+      all_tasks = d.all_tasks;
+      crane_range = λ j low. (d.places j low).crane;
+      reach = λ j low.
+          let both = and_parts _ _ (d.places j low).reach in
+          (record { le = true_T both.0 }, record { le = true_T both.1 });
+      ready = λ j low. omega (arith, free_done j low);
+      travel = travel_done v;
+      before = λ i j low high b. sooner_done i j low high (sooner_before inst ds i j b);
+      apart = apart_done complete;
+      margin = margin_done;
+      berth = berth_done;
+    }
 
 -- ---- a complete node with starts that meet it
 
@@ -283,29 +298,22 @@ module _ (inst : InstanceView) (ds : List Decision) (begins : List ℕ) (v : Val
   done : IsDone inst ds begins (schedule_with inst ds begins)
   done = done_with inst ds begins fits complete reach meets
 
-  -- it goes upward
-  pub goes_with : GoesUp inst (schedule_with inst ds begins)
-  goes_with = record {
-    feasible = feasible_done inst ds begins _ done v complete;
-    upward = record { one_crane = climb_done inst ds begins _ done; two_cranes = lead_done inst ds begins _ done };
+  -- where cranes go one way it goes upward
+  pub goes_with : inst.turn ≡ OneWay → GoesUp inst (schedule_with inst ds begins)
+  goes_with one = record {
+    feasible = feasible_done inst ds begins _ done one v complete;
+    upward = record { one_crane = climb_done inst ds begins _ done one; two_cranes = lead_done inst ds begins _ done one };
   }
 
   -- it is as decided
   pub agrees_with : Agrees inst ds (schedule_with inst ds begins)
-  agrees_with = agrees_of inst (schedule_with inst ds begins) ds fits
+  agrees_with = agrees_of inst v (schedule_with inst ds begins) ds fits
       (λ j k e. let p = placed_at j k e in same_Some _ _ (sym (done.cranes j p.task) ∙ e))
-      (λ i j pair t.
-      let r = in_range i j pair in
-      sooner_done inst ds begins _ done i j r.0 r.1 (or_right _ (is_ordered ds i j) t))
+      (λ i j low high t. sooner_done inst ds begins _ done i j low high (or_right _ (is_ordered ds i j) t))
     where
       placed_at : (j k : ℕ) → assigned ds j ≡ Some k → IsPlaced inst j k
       placed_at j k e =
           subst (λ (o : Option ℕ). IfSome o (IsPlaced inst j)) e (placed inst ds fits reach j)
-
-      in_range : (i j : ℕ) → IsApart inst i j ⊎ IsApart inst j i
-          → (i < length inst.tasks) × (j < length inst.tasks)
-      in_range i j (inl a) = let r = v.apart.range i j a in (omega arith, r.1)
-      in_range i j (inr a) = let r = v.apart.range j i a in (r.1, omega arith)
 
 -- its starts are those, and so is its end
 pub starts_with : (inst : InstanceView) (ds : List Decision) (begins : List ℕ)

@@ -3,6 +3,7 @@ pub mod LimitsOf
 pub mod SeenLemmas
 pub mod OnRail
 pub mod MirrorLemmas
+pub mod TurnLemmas
 pub mod GoesLemmas
 pub mod PairOrder
 mod RuleOrder

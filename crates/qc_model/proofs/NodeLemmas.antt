@@ -1,6 +1,6 @@
--- What a node asks for holds of every upward schedule that agrees with it.
-use Rattle.std.proofs.Common.{◌≡◌, ℕ, zero, suc, ◌+◌, ◌<◌, ◌≤◌, max, Bool, true, false, eqb, ◌&&◌, ◌==◌, inl, inr, T, List, [], ◌∷◌, length, get_or, map, Contains, Option, None, Some, IfSome, IsSome, ℤ, refl, ap, sym, subst, subst₂, ◌∙◌, arith, mul-zero, pos_of_ne-zero, filter, int_lt, nat_lt, slice_index}
-use Rattle.std.proofs.lemmas.Bool.{and_from, and_parts, cases_lt, cond-true, cond_both, eq-eqb, eqb-false, eqb-true, false_from_ne_true, false≢true, le-ltb, ltb-true, or_cases, or_left, or_right}
+-- What a node asks for holds of every schedule of the instance's turn that agrees with it.
+use Rattle.std.proofs.Common.{◌≡◌, ℕ, zero, suc, ◌+◌, ◌*◌, ◌<◌, ◌≤◌, max, Bool, true, false, eqb, ◌&&◌, ◌==◌, inl, inr, T, List, [], ◌∷◌, length, get_or, map, Contains, Option, None, Some, IfSome, IsSome, ◌≢◌, ◌⊎◌, ℤ, refl, ap, sym, subst, subst₂, ◌∙◌, arith, mul-zero, pos_of_ne-zero, filter, int_lt, nat_lt, slice_index}
+use Rattle.std.proofs.lemmas.Bool.{and_from, and_parts, cases_eq, cases_lt, cond-true, cond_both, eq-eqb, eqb-false, eqb-true, false_from_ne_true, false≢true, le-ltb, ltb-true, or_cases, or_left, or_right}
 use Rattle.std.proofs.lemmas.List.{length-map}
 use Rattle.std.proofs.lemmas.List.Folds.{list_any_at}
 use Rattle.std.specs.List.{list_any, range_with_len}
@@ -9,13 +9,20 @@ use Rattle.qc_model.specs.declared.decision.Decision.TheVariants.{Assign, Order}
 use Rattle.qc_model.specs.declared.pair.Pair.{Pair}
 use Rattle.qc_model.specs.declared.schedule.Slot.{Slot}
 use Rattle.qc_model.specs.declared.task.Task.{Task}
-use Rattle.qc_model.specs.Instance.{InstanceView, IsBefore, bay_of, no_task, pair_of, ticks_of}
-use Rattle.qc_model.specs.Nodes.{Agrees, Fits, IsInReach, IsSettled, Meets, assigned, berth_wait, crane_ticks, forced, free, greater, greatest, head, head1, head_by, is_before, is_ordered, is_sooner, reaches, sooner_ticks}
+use Rattle.qc_model.specs.declared.turn.Turn.{Turn}
+use Rattle.qc_model.specs.declared.turn.Turn.TheVariants.{OneWay, Free}
+use Rattle.qc_model.specs.Bays.{bays_between}
+use Rattle.qc_model.specs.Frames.{GoesBy}
+use Rattle.qc_model.specs.Instance.{InstanceView, IsApart, IsBefore, Valid, bay_of, no_task, pair_of, ticks_of}
+use Rattle.qc_model.specs.Nodes.{Agrees, Clash, Conflicts, Fits, IsInReach, IsSettled, Meets, assigned, berth_wait, clear_ticks, crane_ticks, forced, free, greater, greatest, head, head1, head_by, is_before, is_ordered, is_sooner, pair_ticks, reaches, separation, sooner_ticks, upward_ticks}
 use Rattle.qc_model.specs.OneWay.{GoesUp}
-use Rattle.qc_model.specs.Rules.{Feasible, KeepsReach, crane_of, end_of, last_end, start_of, starts}
-use Rattle.qc_model.specs.Ticks.{arrival, berth_distance, distance, lead, task_distance}
+use Rattle.qc_model.specs.Rules.{Feasible, KeepsReach, crane_of, end_of, last_end, slot_distance, start_of, starts}
+use Rattle.qc_model.specs.Ticks.{arrival, berth_distance, distance, lead, task_distance, travel_between}
+use Rattle.qc_model.proofs.Bays.{bays}
 use Rattle.qc_model.proofs.Extremes.{greatest_le, least_le, least_rises}
+use Rattle.qc_model.proofs.GoesLemmas.{distance_swapped}
 use Rattle.qc_model.proofs.PairOrder.{same_pair}
+use Rattle.qc_model.proofs.TurnLemmas.{by_feasible, goes_by}
 
 -- ---- steps: numbers that may be missing
 
@@ -43,7 +50,7 @@ greater_some n (Some m) = refl
 ordered_forced : (inst : InstanceView) (ds : List Decision) (i j : ℕ) → is_ordered ds i j ≡ true
     → IsSome (forced inst ds i j)
 ordered_forced inst ds i j t =
-    let cranes = crane_ticks inst i j (assigned ds i) (assigned ds j) in
+    let cranes = crane_ticks inst (is_sooner inst ds i j) i j (assigned ds i) (assigned ds j) in
     let sooner : is_sooner inst ds i j ≡ true = or_right (is_before inst i j) (is_ordered ds i j) t in
     let ticks : sooner_ticks inst ds i j ≡ Some (ticks_of inst i) = cond-true (is_sooner inst ds i j) _ None sooner in
     subst (λ (o : Option ℕ). IsSome (greater o cranes)) (sym ticks) (greater_some (ticks_of inst i) cranes)
@@ -55,6 +62,51 @@ unsettled_unordered inst ds i j unsettled = (
   false_from_ne_true (is_ordered ds i j) (λ h. unsettled (inl (ordered_forced inst ds i j h))),
   false_from_ne_true (is_ordered ds j i) (λ h. unsettled (inr (ordered_forced inst ds j i h))),
 )
+
+-- ---- tasks that conflict
+
+pub conflict_inside : (inst : InstanceView) → Valid inst → (ds : List Decision) (i j : ℕ) → Conflicts inst ds i j
+    → (i < length inst.tasks) × (j < length inst.tasks)
+conflict_inside inst v ds i j (inl (inl at)) = let r = v.apart.range i j at in (omega (arith, r.0, r.1), r.1)
+conflict_inside inst v ds i j (inl (inr at)) = let r = v.apart.range j i at in (r.1, omega (arith, r.0, r.1))
+conflict_inside inst v ds i j (inr clash) = (clash.first, clash.second)
+
+pub conflict_differs : (inst : InstanceView) → Valid inst → (ds : List Decision) (i j : ℕ) → Conflicts inst ds i j → i ≢ j
+conflict_differs inst v ds i j (inl (inl at)) same = let r = v.apart.range i j at in absurd (omega (arith, r.0, same))
+conflict_differs inst v ds i j (inl (inr at)) same = let r = v.apart.range j i at in absurd (omega (arith, r.0, same))
+conflict_differs inst v ds i j (inr clash) same = clash.differ same
+
+clash_turned : (inst : InstanceView) (ds : List Decision) (i j : ℕ) → Clash inst ds i j → Clash inst ds j i
+clash_turned inst ds i j clash = record {
+  free = clash.free;
+  first = clash.second;
+  second = clash.first;
+  differ = λ same. clash.differ (sym same);
+  first_crane = clash.second_crane;
+  second_crane = clash.first_crane;
+  of_first = clash.of_second;
+  of_second = clash.of_first;
+  near = elim clash.near [
+    | inl same ↦ inl (sym same)
+    | inr near ↦
+        let e = distance_swapped inst clash.first_crane (bay_of inst i) clash.second_crane (bay_of inst j) in
+        inr (omega (arith, e, near))
+  ];
+}
+
+pub conflict_turned : (inst : InstanceView) (ds : List Decision) (i j : ℕ) → Conflicts inst ds i j → Conflicts inst ds j i
+conflict_turned inst ds i j (inl (inl at)) = inl (inr at)
+conflict_turned inst ds i j (inl (inr at)) = inl (inl at)
+conflict_turned inst ds i j (inr clash) = inr (clash_turned inst ds i j clash)
+
+-- where cranes go one way, only apart tasks conflict
+pub one_way_apart : (inst : InstanceView) → inst.turn ≡ OneWay → (ds : List Decision) (i j : ℕ) → Conflicts inst ds i j
+    → IsApart inst i j ⊎ IsApart inst j i
+one_way_apart inst one ds i j (inl at) = at
+one_way_apart inst one ds i j (inr clash) = absurd (two_turns (sym one ∙ clash.free))
+  where
+    two_turns : OneWay ≡ Free → ⊥
+    two_turns e = cc
 
 -- ---- what the decisions say
 
@@ -133,23 +185,18 @@ ends_by (t ∷ ts) (s ∷ ss) zero e low = omega arith
 ends_by (t ∷ ts) (s ∷ ss) (suc j) e low =
     let rest = ends_by ts ss j (omega arith) (omega arith) in omega arith
 
--- ---- an upward schedule that agrees with a node meets it
+-- ---- what the cranes ask for holds
 
-module _ (inst : InstanceView) (ds : List Decision) (sched : List Slot) (g : GoesUp inst sched)
-    (a : Agrees inst ds sched) where
-  sooner_kept : (i j : ℕ) → i < length inst.tasks → j < length inst.tasks → is_sooner inst ds i j ≡ true
-      → end_of inst sched i ≤ start_of sched j
-  sooner_kept i j low high t = elim (or_cases (list_any (is_pair i j) inst.before) (is_ordered ds i j) t) [
-    | inl e ↦ g.feasible.before i j low high (before_found i j inst.before e)
-    | inr e ↦ ordered_is inst sched ds a i j e
-  ]
+-- where it is known which of two is first, they are clear of each other that way
+clear_step : (s p t q n : ℕ) → s + p ≤ t → (s + p + n ≤ t) ⊎ (t + q + n ≤ s) → s + (p + n) ≤ t
+clear_step s p t q n first (inl h) = omega arith
+clear_step s p t q n first (inr h) = omega arith
 
-  cranes_kept : (i j : ℕ) → i < length inst.tasks → j < length inst.tasks → (p q : Option ℕ)
-      → IfSome p (λ k. crane_of sched i ≡ k) → IfSome q (λ k. crane_of sched j ≡ k)
-      → IsStep (start_of sched i) (start_of sched j) (crane_ticks inst i j p q)
-  cranes_kept i j low high None q c d = tt
-  cranes_kept i j low high (Some v) None c d = tt
-  cranes_kept i j low high (Some v) (Some w) c d =
+module _ (inst : InstanceView) (sched : List Slot) where
+  upward_kept : GoesUp inst sched → (i j v w : ℕ) → i < length inst.tasks → j < length inst.tasks
+      → crane_of sched i ≡ v → crane_of sched j ≡ w
+      → IsStep (start_of sched i) (start_of sched j) (upward_ticks inst i v j w)
+  upward_kept g i j v w low high c d =
       cond_both (eqb v w) _ _ (IsStep (start_of sched i) (start_of sched j))
       (λ same. cond_both (int_lt (bay_of inst i) (bay_of inst j)) _ _ (IsStep (start_of sched i) (start_of sched j))
       (λ up. g.upward.one_crane i j low high (c ∙ eqb-true v w same ∙ sym d) (record { lt = true_T up }))
@@ -162,11 +209,67 @@ module _ (inst : InstanceView) (ds : List Decision) (sched : List Slot) (g : Goe
       subst₂ leads c d (g.upward.two_cranes i j low high) (ltb-true w v parts.0) (ltb-true 0 _ parts.1))
       (λ _. tt))
 
+  -- a task that is first is clear of the second by their separation
+  separation_kept : Feasible inst sched → (i j : ℕ) → i < length inst.tasks → j < length inst.tasks
+      → end_of inst sched i ≤ start_of sched j
+      → start_of sched i + (ticks_of inst i + separation inst i (crane_of sched i) j (crane_of sched j)) ≤ start_of sched j
+  separation_kept f i j low high first =
+      cond_both (eqb (crane_of sched i) (crane_of sched j)) _ _ (λ n. start_of sched i + (ticks_of inst i + n) ≤ start_of sched j)
+      (λ same. elim (cases_eq i j) [
+        | inl one ↦ omega (arith, still (bay_of inst i) (bay_of inst j) (ap (bay_of inst) one))
+        | inr differ ↦ clear_step _ _ _ (ticks_of inst j) _ first
+            (f.travel i j low high differ (eqb-true (crane_of sched i) (crane_of sched j) same))
+      ])
+      (λ other. elim (cases_lt 0 (slot_distance inst sched i j)) [
+        | inl near ↦ clear_step _ _ _ (ticks_of inst j) _ first
+            (f.margin i j low high (eqb-false (crane_of sched i) (crane_of sched j) other) near)
+        | inr far ↦ omega arith
+      ])
+    where
+      here : (x y : ℤ) → x ≡ y → bays_between x y ≡ 0
+      here x y e = omega (arith, bays)
+
+      still : (x y : ℤ) → x ≡ y → travel_between inst x y ≡ 0
+      still x y e = ap (λ n. inst.travel * n) (here x y e) ∙ mul-zero inst.travel
+
+  pair_kept : (turn : Turn) → GoesBy turn inst sched → (i j v w : ℕ) → i < length inst.tasks → j < length inst.tasks
+      → crane_of sched i ≡ v → crane_of sched j ≡ w
+      → (sooner : Bool) → (sooner ≡ true → end_of inst sched i ≤ start_of sched j)
+      → IsStep (start_of sched i) (start_of sched j) (pair_ticks turn inst sooner i v j w)
+  pair_kept OneWay g i j v w low high c d sooner first = upward_kept g i j v w low high c d
+  pair_kept Free f i j v w low high c d sooner first =
+      subst₂ (λ (x y : ℕ). IsStep (start_of sched i) (start_of sched j) (clear_ticks inst sooner i x j y)) c d
+      (cond_both sooner _ _ (IsStep (start_of sched i) (start_of sched j))
+      (λ t. separation_kept f i j low high (first t))
+      (λ _. tt))
+
+-- ---- a schedule of the instance's turn that agrees with a node meets it
+
+module _ (inst : InstanceView) (ds : List Decision) (sched : List Slot) (g : GoesBy inst.turn inst sched)
+    (a : Agrees inst ds sched) where
+  feasible : Feasible inst sched
+  feasible = by_feasible inst.turn inst sched g
+
+  sooner_kept : (i j : ℕ) → i < length inst.tasks → j < length inst.tasks → is_sooner inst ds i j ≡ true
+      → end_of inst sched i ≤ start_of sched j
+  sooner_kept i j low high t = elim (or_cases (list_any (is_pair i j) inst.before) (is_ordered ds i j) t) [
+    | inl e ↦ feasible.before i j low high (before_found i j inst.before e)
+    | inr e ↦ ordered_is inst sched ds a i j e
+  ]
+
+  cranes_kept : (i j : ℕ) → i < length inst.tasks → j < length inst.tasks → (p q : Option ℕ)
+      → IfSome p (λ k. crane_of sched i ≡ k) → IfSome q (λ k. crane_of sched j ≡ k)
+      → IsStep (start_of sched i) (start_of sched j) (crane_ticks inst (is_sooner inst ds i j) i j p q)
+  cranes_kept i j low high None q c d = tt
+  cranes_kept i j low high (Some v) None c d = tt
+  cranes_kept i j low high (Some v) (Some w) c d =
+      pair_kept inst sched inst.turn g i j v w low high c d (is_sooner inst ds i j) (sooner_kept i j low high)
+
   forced_kept : (i j : ℕ) → i < length inst.tasks → j < length inst.tasks
       → IsStep (start_of sched i) (start_of sched j) (forced inst ds i j)
   forced_kept i j low high =
       greater_keeps (λ n. start_of sched i + n ≤ start_of sched j)
-      (sooner_ticks inst ds i j) (crane_ticks inst i j (assigned ds i) (assigned ds j))
+      (sooner_ticks inst ds i j) (crane_ticks inst (is_sooner inst ds i j) i j (assigned ds i) (assigned ds j))
       (cond_both (is_sooner inst ds i j) _ _ (IsStep (start_of sched i) (start_of sched j))
       (λ t. sooner_kept i j low high t)
       (λ _. tt))
@@ -174,7 +277,7 @@ module _ (inst : InstanceView) (ds : List Decision) (sched : List Slot) (g : Goe
       (assigned_is inst sched ds a i) (assigned_is inst sched ds a j))
 
   free_kept : (j : ℕ) → j < length inst.tasks → free inst j (crane_of sched j) ≤ start_of sched j
-  free_kept j low = omega (arith, g.feasible.ready j low, berths)
+  free_kept j low = omega (arith, feasible.ready j low, berths)
     where
       waits : (v : ℕ) → v < 0 + length inst.cranes
           → berth_wait inst j (crane_of sched j) v ≤ start_of sched j
@@ -184,7 +287,7 @@ module _ (inst : InstanceView) (ds : List Decision) (sched : List Slot) (g : Goe
           (λ away.
           let far = eqb-false (berth_distance inst v (crane_of sched j) (bay_of inst j)) 0 away in
           let differ = λ (e : v ≡ crane_of sched j). far (one_crane_apart inst v (crane_of sched j) _ _ e) in
-          g.feasible.berth j v low (omega arith) differ (omega (arith, pos_of_ne-zero far)))
+          feasible.berth j v low (omega arith) differ (omega (arith, pos_of_ne-zero far)))
 
       berths : greatest (map (berth_wait inst j (crane_of sched j)) (range_with_len 0 (length inst.cranes)))
           ≤ start_of sched j
@@ -195,22 +298,27 @@ module _ (inst : InstanceView) (ds : List Decision) (sched : List Slot) (g : Goe
       → head_by inst (free inst j) j o ≤ start_of sched j
   head_kept j low (Some k) is = subst (λ (v : ℕ). free inst j v ≤ start_of sched j) is (free_kept j low)
   head_kept j low None is =
-      let range = g.feasible.crane_range j low in
-      let reach = within_reach inst sched j (g.feasible.reach j low) in
+      let range = feasible.crane_range j low in
+      let reach = within_reach inst sched j (feasible.reach j low) in
       omega (
         arith,
         free_kept j low,
         least_le (free inst j) (reaches inst j) (crane_of sched j) 0 (length inst.cranes) (omega arith) (omega arith) reach,
       )
 
-  pub meets_of : Meets inst ds (starts sched)
-  meets_of = record {
-    all_tasks = length-map sched (λ slot. slot.start) ∙ g.feasible.all_tasks;
+  pub meets_by : Meets inst ds (starts sched)
+  meets_by = record {
+    all_tasks = length-map sched (λ slot. slot.start) ∙ feasible.all_tasks;
     heads = λ j low. omega (arith, start_at sched j, head_kept j low (assigned ds j) (assigned_is inst sched ds a j));
     steps = λ i j ticks low high e.
         let kept = subst (IsStep (start_of sched i) (start_of sched j)) e (forced_kept i j low high) in
         omega (arith, start_at sched i, start_at sched j, kept);
   }
+
+-- one that goes up goes by either turn
+pub meets_of : (inst : InstanceView) (ds : List Decision) (sched : List Slot) → GoesUp inst sched → Agrees inst ds sched
+    → Meets inst ds (starts sched)
+meets_of inst ds sched g a = meets_by inst ds sched (goes_by inst.turn inst sched g) a
 
 -- and its tasks are in reach
 pub in_reach_of : (inst : InstanceView) (sched : List Slot) → Feasible inst sched

@@ -5,6 +5,7 @@ use Rattle.qc_model.specs.declared.task.Task.{Task}
 use Rattle.qc_model.specs.declared.task.Phase.TheVariants.{DeckOut}
 use Rattle.qc_model.specs.declared.crane.Crane.{Crane}
 use Rattle.qc_model.specs.declared.pair.Pair.{Pair}
+use Rattle.qc_model.specs.declared.turn.Turn.{Turn}
 use Rattle.qc_model.specs.Tasks.{task_rank}
 
 -- what is to be planned. A place on the rail is a whole number, since a start bay may lie before the
@@ -22,6 +23,8 @@ pub record InstanceView : Type 0 where
   pub before : List Pair
   -- pairs that may not run at the same time
   pub apart : List Pair
+  -- which way its cranes may go; no rule of a schedule reads it
+  pub turn : Turn
 
 -- what stands for a task or a crane past the end of its list; no rule speaks of such a one
 abbrev pub no_task : Task
@@ -29,6 +32,10 @@ no_task = record { hatch = 0; phase = DeckOut; bay = pos 0; ticks = 0 }
 
 abbrev pub no_crane : Crane
 no_crane = record { name = []; ready = 0; bay = pos 0; from = pos 0; to = pos 0 }
+
+-- the same instance whose cranes may go the other way
+abbrev pub with_turn : InstanceView → Turn → InstanceView
+with_turn inst turn = record inst { turn = turn }
 
 abbrev pub task : InstanceView → ℕ → Task
 task inst j = slice_index_or inst.tasks j no_task

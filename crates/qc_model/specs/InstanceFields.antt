@@ -13,6 +13,7 @@ view_of f = record {
   cranes = f.cranes.items;
   before = f.before.items;
   apart = f.apart.items;
+  turn = f.turn;
 }
 
 -- the fields are those of a valid instance

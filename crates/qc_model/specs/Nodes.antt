@@ -1,12 +1,15 @@
--- public: nodes of a search: lists of decisions, and what they ask of every upward schedule that agrees with them.
-use Rattle.std.specs.Prelude.{◌≡◌, ℕ, ◌+◌, ◌<◌, ◌≤◌, ◌⊎◌, max, min, Bool, false, IsTrue, IsFalse, ◌&&◌, ◌||◌, ◌==◌, nat_lt, int_le, int_lt, if◌then◌else◌, List, [], ◌∷◌, map, filter, length, slice_index, Option, None, Some, IsSome, unwrap_or}
+-- public: nodes of a search: lists of decisions, and what they ask of every schedule of the instance's turn
+-- that agrees with them.
+use Rattle.std.specs.Prelude.{◌≡◌, ◌≢◌, ℕ, ◌+◌, ◌-◌, ◌*◌, ◌/◌, ◌<◌, ◌≤◌, ◌⊎◌, max, min, Bool, false, IsTrue, IsFalse, ◌&&◌, ◌||◌, ◌==◌, nat_lt, int_le, int_lt, if◌then◌else◌, List, [], ◌∷◌, map, filter, length, slice_index, Option, None, Some, IsSome, unwrap_or}
 use Rattle.std.specs.List.{list_any, range_with_len}
 use Rattle.qc_model.specs.declared.decision.Decision.{Decision}
 use Rattle.qc_model.specs.declared.decision.Decision.TheVariants.{Assign, Order}
 use Rattle.qc_model.specs.declared.schedule.Slot.{Slot}
+use Rattle.qc_model.specs.declared.turn.Turn.{Turn}
+use Rattle.qc_model.specs.declared.turn.Turn.TheVariants.{OneWay, Free}
 use Rattle.qc_model.specs.Instance.{InstanceView, bay_of, ticks_of, crane, IsApart}
 use Rattle.qc_model.specs.Rules.{crane_of, start_of, end_of, last_end}
-use Rattle.qc_model.specs.Ticks.{arrival, berth_clear, berth_distance, task_distance, climb, lead}
+use Rattle.qc_model.specs.Ticks.{arrival, berth_clear, berth_distance, task_distance, travel_between, climb, lead}
 
 -- the crane of an assigned task
 abbrev pub assigned : List Decision → ℕ → Option ℕ
@@ -14,21 +17,51 @@ assigned [] j = None
 assigned (Assign i k ∷ ds) j = if i == j then Some k else assigned ds j
 assigned (Order i k ∷ ds) j = assigned ds j
 
--- task i is decided to be done before the apart task j
+-- task i is decided to be done before task j
 abbrev pub is_ordered : List Decision → ℕ → ℕ → Bool
 is_ordered [] i j = false
 is_ordered (Assign h k ∷ ds) i j = is_ordered ds i j
 is_ordered (Order h k ∷ ds) i j = ((h == i) && (k == j)) || is_ordered ds i j
 
--- what a list of decisions keeps: its tasks and cranes are those of the instance, ordered pairs are apart in one
--- order or the other, and no task is assigned twice and no pair ordered twice
+-- the ticks by which tasks i on crane v and j on crane w must be clear of each other, whichever is first: the travel
+-- between them on one crane, the distance of the two on two
+abbrev pub separation : InstanceView → ℕ → ℕ → ℕ → ℕ → ℕ
+separation inst i v j w =
+    if v == w then travel_between inst (bay_of inst i) (bay_of inst j) else task_distance inst i v j w
+
+-- two tasks that can't run at the same time on their cranes, which go as they like: one crane has both, or the two
+-- would come too near
+pub record Clash (inst : InstanceView) (ds : List Decision) (i j : ℕ) : Type 0 where
+  pub free : inst.turn ≡ Free
+  pub first : i < length inst.tasks
+  pub second : j < length inst.tasks
+  pub differ : i ≢ j
+  pub first_crane : ℕ
+  pub second_crane : ℕ
+  pub of_first : assigned ds i ≡ Some first_crane
+  pub of_second : assigned ds j ≡ Some second_crane
+  pub near : (first_crane ≡ second_crane) ⊎ (0 < task_distance inst i first_crane j second_crane)
+
+-- the order of the two tasks can be decided: they are apart, or clash on their cranes
+abbrev pub Conflicts : InstanceView → List Decision → ℕ → ℕ → Type 0
+Conflicts inst ds i j = (IsApart inst i j ⊎ IsApart inst j i) ⊎ Clash inst ds i j
+
+-- how many pairs of tasks may get an order
+abbrev pub order_pairs_by : Turn → InstanceView → ℕ
+order_pairs_by OneWay inst = length inst.apart
+order_pairs_by Free inst = length inst.tasks * (length inst.tasks - 1) / 2
+
+abbrev pub order_pairs : InstanceView → ℕ
+order_pairs inst = order_pairs_by inst.turn inst
+
+-- what a list of decisions keeps: its tasks and cranes are those of the instance, ordered pairs conflict, and no task is
+-- assigned twice and no pair ordered twice
 abbrev pub Fits : InstanceView → List Decision → Type 0
 Fits inst [] = Unit {0}
 Fits inst (Assign i k ∷ ds) =
     (i < length inst.tasks) × (k < length inst.cranes) × (assigned ds i ≡ None) × Fits inst ds
 Fits inst (Order i j ∷ ds) =
-    (IsApart inst i j ⊎ IsApart inst j i)
-    × IsFalse (is_ordered ds i j) × IsFalse (is_ordered ds j i) × Fits inst ds
+    Conflicts inst ds i j × IsFalse (is_ordered ds i j) × IsFalse (is_ordered ds j i) × Fits inst ds
 
 -- the schedule is as decided
 abbrev pub Agrees : InstanceView → List Decision → List Slot → Type 0
@@ -53,18 +86,31 @@ is_sooner inst ds i j = is_before inst i j || is_ordered ds i j
 abbrev pub sooner_ticks : InstanceView → List Decision → ℕ → ℕ → Option ℕ
 sooner_ticks inst ds i j = if is_sooner inst ds i j then Some (ticks_of inst i) else None
 
--- what the cranes v of task i and w of task j ask for: one crane climbs from i to j, and a lower crane gives way to
--- a higher one
-abbrev pub crane_ticks : InstanceView → ℕ → ℕ → Option ℕ → Option ℕ → Option ℕ
-crane_ticks inst i j (Some v) (Some w) =
+-- what the cranes v of task i and w of task j ask for where cranes go one way: one crane climbs from i to j, and a lower
+-- crane gives way to a higher one
+abbrev pub upward_ticks : InstanceView → ℕ → ℕ → ℕ → ℕ → Option ℕ
+upward_ticks inst i v j w =
     if v == w
     then (if int_lt (bay_of inst i) (bay_of inst j) then Some (climb inst i j) else None)
     else (if nat_lt w v && nat_lt 0 (task_distance inst i v j w) then Some (lead inst i v j w) else None)
-crane_ticks inst i j _ _ = None
+
+-- and what they ask for where cranes go as they like: where i is sooner than j, time to give way
+abbrev pub clear_ticks : InstanceView → Bool → ℕ → ℕ → ℕ → ℕ → Option ℕ
+clear_ticks inst sooner i v j w = if sooner then Some (ticks_of inst i + separation inst i v j w) else None
+
+abbrev pub pair_ticks : Turn → InstanceView → Bool → ℕ → ℕ → ℕ → ℕ → Option ℕ
+pair_ticks OneWay inst sooner i v j w = upward_ticks inst i v j w
+pair_ticks Free inst sooner i v j w = clear_ticks inst sooner i v j w
+
+-- what the cranes of two tasks ask for by the turn of the instance; nothing while one has none
+abbrev pub crane_ticks : InstanceView → Bool → ℕ → ℕ → Option ℕ → Option ℕ → Option ℕ
+crane_ticks inst sooner i j (Some v) (Some w) = pair_ticks inst.turn inst sooner i v j w
+crane_ticks inst sooner i j _ _ = None
 
 -- the ticks by which task j must start after the start of task i; none where nothing is forced
 abbrev pub forced : InstanceView → List Decision → ℕ → ℕ → Option ℕ
-forced inst ds i j = greater (sooner_ticks inst ds i j) (crane_ticks inst i j (assigned ds i) (assigned ds j))
+forced inst ds i j =
+    greater (sooner_ticks inst ds i j) (crane_ticks inst (is_sooner inst ds i j) i j (assigned ds i) (assigned ds j))
 
 -- one of the two tasks is forced to start after the other
 abbrev pub IsSettled : InstanceView → List Decision → ℕ → ℕ → Type 0

@@ -45,6 +45,10 @@ most_work = 502400000
 abbrev pub most_apart : ℕ
 most_apart = 1600
 
+-- the most pairs of tasks that may get an order: all pairs of the most tasks
+abbrev pub most_orders : ℕ
+most_orders = 28680
+
 -- the last tick at which a task may start in a schedule that is judged: twelve digits
 abbrev pub most_start : ℕ
 most_start = 999999999999

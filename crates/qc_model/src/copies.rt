@@ -29,5 +29,6 @@ pub fn copy(alloc: Global, inst: &Instance) -> Result<Instance, OutOfMemory>
         copy_cranes(alloc, inst.cranes())?,
         Vec::from_slice(alloc, inst.before())?,
         Vec::from_slice(alloc, inst.apart())?,
-    ))
+    )
+    .with_turn(inst.turn()))
 }

@@ -1,13 +1,15 @@
 //! What is to be planned.
 
-ghost use Rattle.std.specs.Prelude.{◌≡◌, ◌↔◌, ◌<◌, ◌≤◌, pos, AllPairs, Contains, IsTrue, length, sum_by};
-ghost use Rattle.qc_model.specs.declared.limits.TheConstants.{MOST_CRANES, MOST_READY, MOST_TASKS, MOST_WORK};
+ghost use Rattle.std.specs.Prelude.{◌≡◌, ◌↔◌, ◌-◌, ◌*◌, ◌/◌, ◌<◌, ◌≤◌, pos, AllPairs, Contains, IsTrue, length, sum_by};
+ghost use Rattle.qc_model.specs.declared.limits.TheConstants.{MOST_CRANES, MOST_ORDERS, MOST_READY, MOST_TASKS, MOST_WORK};
 ghost use Rattle.qc_model.specs.Bays.{at_least_zero};
-ghost use Rattle.qc_model.specs.Instance.{IsApart, IsBefore, IsEarlier, IsOnRail, Valid, crane, task, InstanceView};
+ghost use Rattle.qc_model.specs.Instance.{IsApart, IsBefore, IsEarlier, IsOnRail, Valid, crane, task, with_turn, InstanceView};
+ghost use Rattle.qc_model.specs.Nodes.{order_pairs};
 ghost use Rattle.qc_model.specs.InstanceFields.{view_of, IsKept};
+ghost use Rattle.qc_model.specs.declared.turn.Turn.TheVariants.{OneWay};
 
 use crate::seen::seen_post;
-use crate::{Crane, Direction, Pair, Post, Task};
+use crate::{Crane, Direction, Pair, Post, Task, Turn};
 use qc_num::{Bay, Tick};
 use std::marker::Model;
 
@@ -21,6 +23,7 @@ pub struct Instance {
     cranes: Vec<Crane>,
     before: Vec<Pair>,
     apart: Vec<Pair>,
+    turn: Turn,
 }
 
 impl Model for Instance {
@@ -32,7 +35,7 @@ impl Model for Instance {
 }
 
 impl Instance {
-    /// An instance of these parts.
+    /// An instance of these parts, with cranes that go one way.
     pub fn of(
         bays: Bay,
         travel: Tick,
@@ -50,6 +53,7 @@ impl Instance {
           cranes = cranes.items;
           before = before.items;
           apart = apart.items;
+          turn = OneWay;
         }) }
         ensures { result ≡ record {
           bays = at_least_zero bays;
@@ -59,6 +63,7 @@ impl Instance {
           cranes = cranes.items;
           before = before.items;
           apart = apart.items;
+          turn = OneWay;
         } }
     {
         Instance {
@@ -69,7 +74,23 @@ impl Instance {
             cranes,
             before,
             apart,
+            turn: Turn::OneWay,
         }
+    }
+
+    /// The same instance with cranes that may go this way.
+    pub fn with_turn(mut self, turn: Turn) -> Instance
+        ensures { result ≡ with_turn self turn }
+    {
+        self.turn = turn;
+        self
+    }
+
+    /// Which way cranes may go.
+    pub fn turn(&self) -> Turn
+        ensures { result ≡ self.now.turn }
+    {
+        self.turn
     }
 
     /// The number of crane bays; with places in decimetres the greatest place.
@@ -147,6 +168,18 @@ impl Instance {
         self.cranes().len() as u16
     }
 
+    /// How many pairs of tasks may get an order: the apart pairs, and where cranes go as they like all.
+    pub fn order_pairs(&self) -> u32
+        ensures count { result ≡ order_pairs self.now }
+        ensures bound { result ≤ MOST_ORDERS }
+        ensures valid { Valid self.now }
+    {
+        match self.turn {
+            Turn::OneWay => self.apart.len() as u32,
+            Turn::Free => all_pairs(self.task_count() as u32),
+        }
+    }
+
     /// A task by its number, from 0.
     pub fn task(&self, number: u16) -> Task
         requires { number < length self.now.tasks }
@@ -203,6 +236,15 @@ impl Instance {
     {
         holds(self.apart.as_slice(), Pair { first, second })
     }
+}
+
+/// How many pairs so many tasks make.
+fn all_pairs(tasks: u32) -> u32
+    requires { tasks ≤ MOST_TASKS }
+    ensures count { result ≡ tasks * (tasks - 1) / 2 }
+    ensures bound { result ≤ MOST_ORDERS }
+{
+    tasks * tasks.saturating_sub(1) / 2
 }
 
 /// Whether a list of pairs in order has a pair.

@@ -1,7 +1,7 @@
 //! The limits of every instance.
 
 ghost use Rattle.std.specs.Prelude.{◌≡◌};
-ghost use Rattle.qc_model.specs.Numbers.{most_apart, most_bays, most_cranes, most_distance, most_end, most_gap, most_gap_by_places, most_hatches, most_place, most_ready, most_start, most_tasks, most_travel, most_travel_by_places, most_work};
+ghost use Rattle.qc_model.specs.Numbers.{most_apart, most_bays, most_orders, most_cranes, most_distance, most_end, most_gap, most_gap_by_places, most_hatches, most_place, most_ready, most_start, most_tasks, most_travel, most_travel_by_places, most_work};
 
 use qc_num::Tick;
 
@@ -38,6 +38,9 @@ pub const MOST_WORK: Tick = 502_400_000;
 /// The most pairs of tasks that may not run at the same time.
 pub const MOST_APART: usize = 1_600;
 
+/// The most pairs of tasks that may get an order.
+pub const MOST_ORDERS: u32 = 28_680;
+
 /// The last tick at which a task may start in a schedule that is judged: twelve digits.
 pub const MOST_START: Tick = 999_999_999_999;
 
@@ -64,6 +67,7 @@ fn limits_are_the_definitions()
     ensures ready { MOST_READY ≡ most_ready }
     ensures work { MOST_WORK ≡ most_work }
     ensures apart { MOST_APART ≡ most_apart }
+    ensures orders { MOST_ORDERS ≡ most_orders }
     ensures start { MOST_START ≡ most_start }
     ensures end { MOST_END ≡ most_end }
     ensures bays { MOST_BAYS ≡ most_bays }

@@ -76,5 +76,6 @@ pub fn mirror(alloc: Global, inst: &Instance) -> Result<Instance, OutOfMemory>
         mirror_cranes(alloc, inst)?,
         Vec::from_slice(alloc, inst.before())?,
         Vec::from_slice(alloc, inst.apart())?,
-    ))
+    )
+    .with_turn(inst.turn()))
 }

@@ -11,12 +11,13 @@ use Rattle.qc_model.specs.Instance.{InstanceView, Valid, IsOnRail, bay_of, ticks
 use Rattle.qc_model.specs.Assignments.{cranes_of}
 use Rattle.qc_model.specs.Leaves.{Leaf, Version, are_tasks, chain, chain_end, chain_ticks, has_packed, head_in, is_ring, is_out_of_reach, leaf_value, packed, packed_end, reach, ring, with_berths, with_packed, without_berths, work, work_over}
 use Rattle.qc_model.specs.Work.{crane_numbers, highest, is_overfull, lowest, spare, tasks_on, ticks_over, open_tasks, used, used_for, work_holds}
-use Rattle.qc_model.specs.Nodes.{Fits, assigned, berth_wait, crane_ticks, forced, free, head, head_by, least, reaches, sooner_ticks, is_sooner}
+use Rattle.qc_model.specs.Nodes.{Fits, assigned, berth_wait, crane_ticks, forced, free, head, head_by, is_sooner, least, pair_ticks, reaches, separation, sooner_ticks}
 use Rattle.qc_model.specs.Packs.{pack}
-use Rattle.qc_model.specs.Ticks.{arrival, berth_clear, berth_distance, climb, distance, lead, task_distance}
+use Rattle.qc_model.specs.Ticks.{arrival, berth_clear, berth_distance, climb, distance, lead, task_distance, travel_between}
 use Rattle.qc_model.specs.declared.limits.TheConstants.{MOST_APART, MOST_BAYS, MOST_DISTANCE, MOST_GAP_BY_PLACES, MOST_READY, MOST_TASKS, MOST_TRAVEL, MOST_WORK}
 use Rattle.qc_model.specs.declared.direction.Direction.TheVariants.{Up}
-use Rattle.qc_model.specs.declared.turn.Turn.TheVariants.{OneWay}
+use Rattle.qc_model.specs.declared.turn.Turn.{Turn}
+use Rattle.qc_model.specs.declared.turn.Turn.TheVariants.{OneWay, Free}
 use Rattle.qc_model.proofs.Bays.{bays}
 use Rattle.qc_model.proofs.Extremes.{greatest_le}
 use Rattle.qc_model.proofs.LeafLemmas.{joined}
@@ -144,12 +145,10 @@ module _ (inst : InstanceView) (valid : Valid inst) where
   abbrev IsStepFew : ℕ → Type 0
   IsStepFew n = n ≤ MOST_WORK + MOST_DISTANCE
 
-  crane_few : (i j : ℕ) (p q : Option ℕ) → IfSome p (λ k. k < length inst.cranes)
-      → IfSome q (λ k. k < length inst.cranes)
-      → IfSome (crane_ticks inst i j p q) IsStepFew
-  crane_few i j None q low high = tt
-  crane_few i j (Some v) None low high = tt
-  crane_few i j (Some v) (Some w) low high =
+  -- what cranes v and w ask for
+  pair_few : (turn : Turn) (sooner : Bool) (i v j w : ℕ) → v < length inst.cranes → w < length inst.cranes
+      → IfSome (pair_ticks turn inst sooner i v j w) IsStepFew
+  pair_few OneWay sooner i v j w low high =
       let up =
       travel_few (bays_up (bay_of inst i) (bay_of inst j))
       (up_rail (bay_of inst i) (bay_of inst j) (task_rail i) (task_rail j)) in
@@ -161,13 +160,31 @@ module _ (inst : InstanceView) (valid : Valid inst) where
       (λ _. cond_both (nat_lt w v && nat_lt 0 (task_distance inst i v j w)) (Some (lead inst i v j w)) None
       (λ o. IfSome o IsStepFew)
       (λ _. omega (arith, few_ticks inst valid i, far)) (λ _. tt))
+  pair_few Free sooner i v j w low high =
+      let x = bay_of inst i in
+      let y = bay_of inst j in
+      let way = travel_few (bays_between x y) (between_rail x y (task_rail i) (task_rail j)) in
+      let far = distance_few v w x y low high (task_rail i) (task_rail j) in
+      cond_both sooner (Some (ticks_of inst i + separation inst i v j w)) None (λ o. IfSome o IsStepFew)
+      (λ _. cond_both (v == w) (travel_between inst x y) (task_distance inst i v j w) (λ n. IsStepFew (ticks_of inst i + n))
+      (λ _. omega (arith, few_ticks inst valid i, way))
+      (λ _. omega (arith, few_ticks inst valid i, far)))
+      (λ _. tt)
+
+  crane_few : (sooner : Bool) (i j : ℕ) (p q : Option ℕ) → IfSome p (λ k. k < length inst.cranes)
+      → IfSome q (λ k. k < length inst.cranes)
+      → IfSome (crane_ticks inst sooner i j p q) IsStepFew
+  crane_few sooner i j None q low high = tt
+  crane_few sooner i j (Some v) None low high = tt
+  crane_few sooner i j (Some v) (Some w) low high = pair_few inst.turn sooner i v j w low high
 
   forced_few : (ds : List Decision) → Fits inst ds → (i j : ℕ) → IfSome (forced inst ds i j) IsStepFew
   forced_few ds fits i j =
-      greater_keeps IsStepFew (sooner_ticks inst ds i j) (crane_ticks inst i j (assigned ds i) (assigned ds j))
+      greater_keeps IsStepFew (sooner_ticks inst ds i j)
+      (crane_ticks inst (is_sooner inst ds i j) i j (assigned ds i) (assigned ds j))
       (cond_both (is_sooner inst ds i j) (Some (ticks_of inst i)) None (λ o. IfSome o IsStepFew)
       (λ _. omega (arith, few_ticks inst valid i)) (λ _. tt))
-      (crane_few i j (assigned ds i) (assigned ds j) (assigned_range inst ds fits i)
+      (crane_few (is_sooner inst ds i j) i j (assigned ds i) (assigned ds j) (assigned_range inst ds fits i)
       (assigned_range inst ds fits j))
 
   chain_few : (ds : List Decision) → Fits inst ds → (i : ℕ) (js : List ℕ)

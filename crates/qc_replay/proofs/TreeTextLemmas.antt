@@ -73,7 +73,7 @@ module _ (inst : InstanceView) (valid : Valid inst) (v : Version) where
       numbers_fit (λ k. decide.Assign j k ∷ ds) 0 (length inst.cranes) (λ k low. (h.0, omega (arith, low), h.1, fits))
   children_fit ds (trees.on_pair i j) fits h =
       let un = unsettled_unordered inst ds i j h.1 in
-      ((inl h.0, un.0, un.1, fits), ((inr h.0, un.1, un.0, fits), tt))
+      ((inl (inl h.0), un.0, un.1, fits), ((inl (inr h.0), un.1, un.0, fits), tt))
 
   pub due_fit : (ds : List Decision) (due : List (List Decision)) (sign : Sign) → AllFit (ds ∷ due) → Holds v inst ds sign
       → AllFit (children inst ds sign ++ due)

@@ -1,5 +1,6 @@
 //! The files that a command reads.
 ghost use Rattle.std.specs.Prelude.{◌≡◌, ◌⊎◌, Err, IfOk, IfSome, Some, All, IsSome};
+ghost use Rattle.qc_model.specs.declared.turn.Turn.TheVariants.{OneWay};
 ghost use Rattle.qc_model.specs.Judge.{IsJudgeable};
 ghost use Rattle.qc_ship.specs.Ship.{place_of_bay};
 ghost use Rattle.qc_tree.specs.Trees.{NoneEarlier};
@@ -93,8 +94,9 @@ pub fn read_instance<S: Shelf>(
     shelf: &mut S,
 ) -> Result<Instance, Stop>
     requires { IsSome (names_of inputs.now).stow }
-    ensures { IsStep instance_due (names_of inputs.now)
+    ensures step { IsStep instance_due (names_of inputs.now)
         (S.Sink.view shelf.old) (S.Sink.view shelf.new) result }
+    ensures one_way { IfOk result (λ inst. inst.turn ≡ OneWay) }
 {
     let ship = read_ship_file(alloc, inputs, shelf)?;
     let moves = read_moves(alloc, inputs, &ship, shelf)?;
@@ -180,6 +182,7 @@ pub fn read_own_job<S: Shelf>(
     ensures step { IsStep (own_job_due (names_of inputs.now).own) (names_of inputs.now)
         (S.Sink.view shelf.old) (S.Sink.view shelf.new) result }
     ensures judgeable { IfOk result (λ job. IfSome job.own (IsJudgeable job.inst)) }
+    ensures one_way { IfOk result (λ job. job.inst.turn ≡ OneWay) }
 {
     let inst = read_instance(alloc, inputs, shelf)?;
     let own = read_own(alloc, inputs, &inst, shelf)?;

@@ -4,7 +4,7 @@ use Rattle.std.proofs.Math.Nat.{mul_comm, one-le-pow, pow-le-pow_right, pow-suc,
 use Rattle.std.proofs.lemmas.List.FromFn.{length-range_with_len}
 use Rattle.std.proofs.lemmas.List.Sums.{sum_by-append, sum_by-cons}
 use Rattle.qc_model.proofs.NodeLemmas.{unsettled_unordered}
-use Rattle.qc_dist.proofs.Room.{assigned_less, counted, ordered_less, unassigned, unordered}
+use Rattle.qc_dist.proofs.Room.{assigned_less, none_counted, ordered_less, unassigned, unordered}
 use Rattle.qc_model.specs.declared.decision.Decision.{Decision}
 use Rattle.qc_model.specs.declared.decision.Decision.TheVariants as decide
 use Rattle.qc_model.specs.declared.direction.Direction.TheVariants.{Down}
@@ -106,7 +106,7 @@ module _ (inst : InstanceView) (version : Version) (base : ℕ) (two : 2 ≤ bas
         arith,
         few nodes ([] ∷ []) [] is,
         sum_by-cons room [] [],
-        less_room n [] (omega (arith, counted inst [] tt)),
+        less_room n [] (omega (arith, none_counted inst)),
         some n,
       )
 

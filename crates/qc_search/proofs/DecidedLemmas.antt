@@ -1,18 +1,22 @@
 -- What a schedule decides asks for no less than a complete node that it is of.
-use Rattle.std.proofs.Common.{◌≡◌, ℕ, zero, suc, ◌+◌, ◌<◌, ◌≤◌, ◌⊎◌, inl, inr, true, false, eqb, ◌&&◌, List, [], ◌∷◌, ◌++◌, length, map, Contains, Option, None, Some, IfSome, IsSome, refl, ap, ap₂, sym, subst, subst₂, ◌∙◌, arith, nat_le, slice_index, slice_index_or}
+use Rattle.std.proofs.Common.{◌≡◌, ℕ, zero, suc, ◌+◌, ◌<◌, ◌≤◌, ◌⊎◌, inl, inr, Bool, true, false, eqb, ◌&&◌, List, [], ◌∷◌, ◌++◌, length, map, Contains, Option, None, Some, IfSome, IsSome, refl, ap, ap₂, sym, subst, subst₂, ◌∙◌, arith, nat_le, slice_index, slice_index_or}
 use Rattle.std.proofs.lemmas.Bool.{and_parts, cond-true, cond_both, eq-eqb, eqb-true, false≢true, le-leb, leb-true, or_cases, or_left, or_right}
 use Rattle.std.specs.List.{range_with_len}
 use Rattle.qc_model.specs.declared.decision.Decision.{Decision}
 use Rattle.qc_model.specs.declared.decision.Decision.TheVariants.{Assign, Order}
+use Rattle.qc_model.specs.declared.direction.Direction.{Direction}
+use Rattle.qc_model.specs.declared.direction.Direction.TheVariants.{Up, Down}
 use Rattle.qc_model.specs.declared.pair.Pair.{Pair}
 use Rattle.qc_model.specs.declared.schedule.Slot.{Slot}
+use Rattle.qc_model.specs.declared.turn.Turn.TheVariants.{OneWay}
 use Rattle.qc_model.specs.Instance.{InstanceView, IsApart, Valid, pair_of, ticks_of}
 use Rattle.qc_model.specs.Work.{task_numbers}
-use Rattle.qc_model.specs.Nodes.{Agrees, AreLeast, Fits, IsComplete, IsInReach, Meets, assigned, crane_ticks, forced, free, head_by, is_before, is_ordered, is_sooner, schedule_with, sooner_ticks}
+use Rattle.qc_model.specs.Nodes.{Agrees, AreLeast, Fits, IsComplete, IsInReach, Meets, assigned, crane_ticks, forced, free, head_by, is_before, is_ordered, is_sooner, pair_ticks, schedule_with, sooner_ticks}
 use Rattle.qc_model.specs.OneWay.{GoesUp}
 use Rattle.qc_model.specs.Rules.{IsClear, crane_of, end_of, start_of, starts}
+use Rattle.qc_model.specs.Seen.{seen}
 use Rattle.qc_model.proofs.CompleteNodes.{agrees_with, goes_with, greater_first, greater_second, starts_with}
-use Rattle.qc_model.proofs.NodeLemmas.{IsStep, assigned_is, greater_keeps, if_some, meets_of, ordered_is}
+use Rattle.qc_model.proofs.NodeLemmas.{IsStep, assigned_is, greater_keeps, if_some, meets_of, one_way_apart, ordered_is}
 use Rattle.qc_dist.proofs.Assigned.{ordered_here}
 use Rattle.qc_starts.specs.Tight.{decided_by, order_in}
 
@@ -124,11 +128,24 @@ module _ (inst : InstanceView) (sched : List Slot) where
           let one = v.tasks.ticks i r.1 in
           omega (arith, first, second, one)
 
+-- the mirror leaves the turn as it is
+pub seen_one_way : (home : InstanceView) → home.turn ≡ OneWay → (way : Direction) → (seen home way).turn ≡ OneWay
+seen_one_way home one Up = one
+seen_one_way home one Down = one
+
+-- where cranes go one way they ask for the same whatever the order
+same_asked : (inst : InstanceView) → inst.turn ≡ OneWay → (s r : Bool) (i j : ℕ) (p q : Option ℕ)
+    → crane_ticks inst s i j p q ≡ crane_ticks inst r i j p q
+same_asked inst one s r i j None q = refl
+same_asked inst one s r i j (Some v) None = refl
+same_asked inst one s r i j (Some v) (Some w) =
+    ap (λ turn. pair_ticks turn inst s i v j w) one ∙ sym (ap (λ turn. pair_ticks turn inst r i v j w) one)
+
 -- ---- the schedule of a complete node
 
 module _ (inst : InstanceView) (ds : List Decision) (begins : List ℕ) (v : Valid inst)
     (fits : Fits inst ds) (complete : IsComplete inst ds) (reach : IsInReach inst ds)
-    (least : AreLeast inst ds begins) where
+    (least : AreLeast inst ds begins) (one : inst.turn ≡ OneWay) where
   abbrev sched : List Slot
   sched = schedule_with inst ds begins
 
@@ -136,7 +153,7 @@ module _ (inst : InstanceView) (ds : List Decision) (begins : List ℕ) (v : Val
   decided = decided_by inst sched
 
   goes : GoesUp inst sched
-  goes = goes_with inst ds begins v fits complete reach least.meets
+  goes = goes_with inst ds begins v fits complete reach least.meets one
 
   agrees : Agrees inst ds sched
   agrees = agrees_with inst ds begins v fits complete reach least.meets
@@ -154,7 +171,8 @@ module _ (inst : InstanceView) (ds : List Decision) (begins : List ℕ) (v : Val
   ordered_apart (Order h k ∷ es) f i j t = elim (or_cases (eqb h i && eqb k j) (is_ordered es i j) t) [
     | inl e ↦
         let p = and_parts (eqb h i) (eqb k j) e in
-        subst₂ (λ (x y : ℕ). IsApart inst x y ⊎ IsApart inst y x) (eqb-true h i p.0) (eqb-true k j p.1) f.0
+        subst₂ (λ (x y : ℕ). IsApart inst x y ⊎ IsApart inst y x) (eqb-true h i p.0) (eqb-true k j p.1)
+        (one_way_apart inst one es h k f.0)
     | inr e ↦ ordered_apart es f.3 i j e
   ]
 
@@ -185,13 +203,15 @@ module _ (inst : InstanceView) (ds : List Decision) (begins : List ℕ) (v : Val
           let kept : IsStep s t (forced inst decided i j) =
           if_some (forced inst decided i j) (λ n. s + n ≤ t) (λ n e. m.steps i j n low high e) in
           let soon = sooner_ticks inst decided i j in
-          let cranes = crane_ticks inst i j (assigned decided i) (assigned decided j) in
-          greater_keeps (λ n. s + n ≤ t) (sooner_ticks inst ds i j) (crane_ticks inst i j (assigned ds i) (assigned ds j))
+          let cranes = crane_ticks inst (is_sooner inst decided i j) i j (assigned decided i) (assigned decided j) in
+          greater_keeps (λ n. s + n ≤ t) (sooner_ticks inst ds i j)
+          (crane_ticks inst (is_sooner inst ds i j) i j (assigned ds i) (assigned ds j))
           (cond_both (is_sooner inst ds i j) (Some (ticks_of inst i)) None (IsStep s t)
           (λ is. subst (IsStep s t) (cond-true (is_sooner inst decided i j) (Some (ticks_of inst i)) None (sooner_too i j is))
           (greater_first s t soon cranes kept))
           (λ _. tt))
-          (subst (IsStep s t) (ap₂ (crane_ticks inst i j) (same_crane i low) (same_crane j high))
+          (subst (IsStep s t) (same_asked inst one (is_sooner inst decided i j) (is_sooner inst ds i j) i j _ _
+          ∙ ap₂ (crane_ticks inst (is_sooner inst ds i j) i j) (same_crane i low) (same_crane j high))
           (greater_second s t soon cranes kept))
 
   -- its starts are the least with what it decides

@@ -51,7 +51,7 @@ module _ (inst : InstanceView) where
   pub branch_child : Valid inst → (ds : List Decision) (branch : Branch) → IsOpenBranch inst ds branch
       → HasStarts inst ds → IsChild inst ds (first_of branch)
   branch_child v ds (Task j) is_open starts = ((is_open.0, v.cranes.count.0, is_open.1), starts)
-  branch_child v ds (Pair i j) is_open starts = ((inl is_open.0, is_open.1), starts)
+  branch_child v ds (Pair i j) is_open starts = ((inl (inl is_open.0), is_open.1), starts)
 
   few_children : Valid inst → (ds : List Decision) (branch : Branch)
       → length (children inst ds (sign_of branch)) ≤ most_cranes

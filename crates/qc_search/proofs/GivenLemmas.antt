@@ -12,6 +12,7 @@ use Rattle.qc_model.specs.declared.direction.Direction.{Direction}
 use Rattle.qc_model.specs.declared.direction.Direction.TheVariants.{Up, Down}
 use Rattle.qc_model.specs.declared.pair.Pair.{Pair}
 use Rattle.qc_model.specs.declared.schedule.Slot.{Slot}
+use Rattle.qc_model.specs.declared.turn.Turn.TheVariants.{OneWay}
 use Rattle.qc_model.specs.Instance.{InstanceView, IsApart, Valid, ticks_of}
 use Rattle.qc_model.specs.Judge.{IsDirection, IsJudgeable}
 use Rattle.qc_model.specs.Nodes.{Agrees, AreLeast, IsComplete, IsSettled, Meets, assigned, forced, schedule_with}
@@ -29,7 +30,7 @@ use Rattle.qc_search.specs.declared.progress.Progress.{Progress}
 use Rattle.qc_search.specs.Earned.{IsKnownEnd, node_at}
 use Rattle.qc_search.specs.Progress.{IsBegun, IsBegunWith, IsKept, IsProgress, IsTightened, begun}
 use Rattle.qc_search.specs.Run.{IsTightEnd}
-use Rattle.qc_search.proofs.DecidedLemmas.{decided_least}
+use Rattle.qc_search.proofs.DecidedLemmas.{decided_least, seen_one_way}
 use Rattle.qc_search.proofs.ShownLemmas.{shown_tight, turned_as_met}
 use Rattle.qc_search.proofs.TightLemmas.{seen_end}
 use Rattle.qc_tree.specs.Trees.{on_task}
@@ -124,7 +125,7 @@ number_back : (home : InstanceView) (way : Direction) (k : ℕ) → k < length h
 number_back home Up k low = refl
 number_back home Down k low = omega (arith, low)
 
-module _ (home : InstanceView) (v : Valid home) (given : List Slot) (way : Direction) (kept : List Slot) (end : ℕ)
+module _ (home : InstanceView) (v : Valid home) (one : home.turn ≡ OneWay) (given : List Slot) (way : Direction) (kept : List Slot) (end : ℕ)
     (judgeable : IsJudgeable home given) (goes : GoesUp (seen home way) (seen_schedule home given way))
     (t : IsTightened (seen home way) (seen_schedule home given way) kept end) where
   abbrev inst : InstanceView
@@ -147,7 +148,7 @@ module _ (home : InstanceView) (v : Valid home) (given : List Slot) (way : Direc
   made = schedule_with inst t.decisions t.begins
 
   made_goes : GoesUp inst made
-  made_goes = goes_with inst t.decisions t.begins valid t.fits t.complete t.in_reach t.least.meets
+  made_goes = goes_with inst t.decisions t.begins valid t.fits t.complete t.in_reach t.least.meets (seen_one_way home one way)
 
   made_agrees : Agrees inst t.decisions made
   made_agrees = agrees_with inst t.decisions t.begins valid t.fits t.complete t.in_reach t.least.meets
@@ -188,7 +189,7 @@ module _ (home : InstanceView) (v : Valid home) (given : List Slot) (way : Direc
     least = subst (λ (s : List Slot). AreLeast inst (decided_by inst turned) (starts s)) (sym (back ∙ t.is))
         (subst (λ (ds : List Decision). AreLeast inst ds (starts made))
         (same_decided inst t.decisions valid t.complete made turned made_meets given_meets made_agrees t.agrees)
-        (decided_least inst t.decisions t.begins valid t.fits t.complete t.in_reach t.least));
+        (decided_least inst t.decisions t.begins valid t.fits t.complete t.in_reach t.least (seen_one_way home one way)));
   }
 
   end_is : end ≡ ends home form
@@ -256,7 +257,7 @@ module _ (home : InstanceView) (v : Valid home) (given : List Slot) (way : Direc
     first = Some form;
     begins = form_is direction;
     tight = subst (λ (s : List Slot). IsTight home (seen_schedule home s way)) (sym t.is)
-        (shown_tight home (Some form) v (progress_of limit path) [] end (first_kept limit path));
+        (shown_tight home (Some form) v one (progress_of limit path) [] end (first_kept limit path));
     no_later = omega (arith, no_later, end_is);
     progress = first_progress limit path;
     known = ap Least end_is;
@@ -312,10 +313,10 @@ mirrored_soon home given judgeable j low =
     omega (arith, seen-start_of home given Down j (omega (arith, judgeable.all_tasks, here)), judgeable.start_range j here)
 
 -- a search that begins with a schedule
-pub begun_with : (home : InstanceView) (v : Valid home) (given : List Slot) (limit : ℕ) (path : SmallVec ℕ) (now : Progress)
+pub begun_with : (home : InstanceView) (v : Valid home) (one : home.turn ≡ OneWay) (given : List Slot) (limit : ℕ) (path : SmallVec ℕ) (now : Progress)
     → IsJudgeable home given → IsBegunWith home given limit path now → HasRoom most_tasks path
     → IsBegun home (Some given) limit now
-begun_with home v given limit path now judgeable b room =
+begun_with home v one given limit path now judgeable b room =
     subst (IsBegun home (Some given) limit) (sym b.is)
-    (begins_with home v given b.way now.incumbent b.end judgeable (goes_seen home given b.way b.direction) b.tightened limit
+    (begins_with home v one given b.way now.incumbent b.end judgeable (goes_seen home given b.way b.direction) b.tightened limit
     path b.direction room)

@@ -80,8 +80,8 @@ module _ (inst : InstanceView) (sched : List Slot) (p : Pair) (ds : List Decisio
   order_open apart unsettled =
       cond_both (nat_le (end_of inst sched p.first) (start_of sched p.second)) (Order p.first p.second)
       (Order p.second p.first) (IsOpen inst ds)
-      (λ _. (inl apart, unsettled))
-      (λ _. (inr apart, turned inst ds p.first p.second unsettled))
+      (λ _. (inl (inl apart), unsettled))
+      (λ _. (inl (inr apart), turned inst ds p.first p.second unsettled))
 
   pub order_reached : IsReached inst order
   order_reached =
@@ -97,8 +97,8 @@ module _ (inst : InstanceView) (sched : List Slot) (p : Pair) (ds : List Decisio
   order_settles unsettled =
       cond_both (nat_le (end_of inst sched p.first) (start_of sched p.second)) (Order p.first p.second)
       (Order p.second p.first) (λ (d : Decision). IsSettledPair inst (d ∷ ds) p)
-      (λ _. inl (ap is_some (ordered_here_is inst ds p.first p.second unsettled)))
-      (λ _. inr (ap is_some (ordered_here_is inst ds p.second p.first (turned inst ds p.first p.second unsettled))))
+      (λ _. inl (ap is_some (ordered_here_is inst ds p.first p.second unsettled).1))
+      (λ _. inr (ap is_some (ordered_here_is inst ds p.second p.first (turned inst ds p.first p.second unsettled)).1))
 
   pub order_agreed : Valid inst → GoesUp inst sched → IsApart inst p.first p.second → Agrees inst ds sched
       → Agrees inst (order ∷ ds) sched

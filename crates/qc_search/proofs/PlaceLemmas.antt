@@ -85,11 +85,12 @@ opened f node d e view is_open same =
     subst (IsOpen f.starts.inst f.starts.decisions) same
     (subst (λ (n : StartsNode). IsOpen n.inst n.decisions d) (sym view) is_open)
 
-pub placed : (inst : InstanceView) (ds : List Decision) (new : StartsNode) (crew : CrewView) → Valid inst
+pub placed : (inst : InstanceView) (ds : List Decision) (new : StartsNode) (crew : CrewView) → Valid inst → inst.turn ≡ OneWay
     → new.inst ≡ inst → new.decisions ≡ ds → Fits inst ds → IsCrewOf crew inst ds
     → IsPlaced (record { starts = new; crew = crew })
-placed inst ds new crew valid same made fits is = record {
+placed inst ds new crew valid one same made fits is = record {
   valid = subst Valid (sym same) valid;
+  one_way = ap (λ (i : InstanceView). i.turn) same ∙ one;
   fits = subst₂ Fits (sym same) (sym made) fits;
   crew = subst₂ (IsCrewOf crew) (sym same) (sym made) is;
 }

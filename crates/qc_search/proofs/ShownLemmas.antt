@@ -6,6 +6,7 @@ use Rattle.qc_num.specs.declared.bound.Bound.TheVariants.{Least, Never}
 use Rattle.qc_model.specs.declared.direction.Direction.{Direction}
 use Rattle.qc_model.specs.declared.direction.Direction.TheVariants.{Up, Down}
 use Rattle.qc_model.specs.declared.schedule.Slot.{Slot}
+use Rattle.qc_model.specs.declared.turn.Turn.TheVariants.{OneWay}
 use Rattle.qc_model.specs.Numbers.{most_start}
 use Rattle.qc_model.specs.Instance.{InstanceView, Valid}
 use Rattle.qc_model.specs.Judge.{Goes, IsJudgeable}
@@ -21,7 +22,7 @@ use Rattle.qc_search.specs.declared.progress.Progress.{Progress}
 use Rattle.qc_search.specs.Progress.{IsProgress, IsKept, shown_best}
 use Rattle.qc_search.specs.Earned.{TreeNode}
 use Rattle.qc_starts.specs.Tight.{IsTight, decided_by}
-use Rattle.qc_search.proofs.DecidedLemmas.{decided_least}
+use Rattle.qc_search.proofs.DecidedLemmas.{decided_least, seen_one_way}
 
 -- turned twice, a schedule is as it was
 turned_back : (cranes : ℕ) (sched : List Slot)
@@ -68,8 +69,8 @@ goes_as home Up sched met same low goes = subst (GoesUp home) (sym same) goes
 goes_as home Down sched met same low goes =
     record { crane_range = low; mirrored = subst (GoesUp (mirror home)) (sym same) goes }
 
-module _ (home : InstanceView) (first : Option (List Slot)) (v : Valid home) (done : Progress) (nodes : List TreeNode)
-    (end : ℕ) (k : IsKept home first done nodes end) where
+module _ (home : InstanceView) (first : Option (List Slot)) (v : Valid home) (one : home.turn ≡ OneWay) (done : Progress)
+    (nodes : List TreeNode) (end : ℕ) (k : IsKept home first done nodes end) where
   abbrev inst : InstanceView
   inst = seen home k.node.way
 
@@ -82,10 +83,12 @@ module _ (home : InstanceView) (first : Option (List Slot)) (v : Valid home) (do
   kept_goes : GoesUp inst kept
   kept_goes =
       goes_with inst k.node.decisions k.begins kept_valid k.fits k.solved.complete k.solved.in_reach k.solved.least.meets
+      (seen_one_way home one k.node.way)
 
   kept_least : AreLeast inst (decided_by inst kept) (starts kept)
   kept_least =
       decided_least inst k.node.decisions k.begins kept_valid k.fits k.solved.complete k.solved.in_reach k.solved.least
+      (seen_one_way home one k.node.way)
 
   kept_count : length kept ≡ length home.tasks
   kept_count = kept_goes.feasible.all_tasks ∙ seen-task_count home k.node.way
@@ -157,17 +160,17 @@ some_shown : (N : Type 0) (P : List Slot → Type 0) (o : Option (List Slot)) �
 some_shown N P None h = tt
 some_shown N P (Some s) h = h
 
-module _ (home : InstanceView) (first : Option (List Slot)) (v : Valid home) (done : Progress) (nodes : List TreeNode)
-    (course : IsProgress home first done nodes) where
+module _ (home : InstanceView) (first : Option (List Slot)) (v : Valid home) (one : home.turn ≡ OneWay) (done : Progress)
+    (nodes : List TreeNode) (course : IsProgress home first done nodes) where
   pub cranes_low : (end : ℕ) → done.incumbent_end ≡ Least end → All (λ (s : Slot). s.crane < length home.cranes) done.incumbent
-  cranes_low end e = kept_cranes home first v done nodes end (course.best end e)
+  cranes_low end e = kept_cranes home first v one done nodes end (course.best end e)
 
   pub judgeable_is : IfSome (shown_best (length home.cranes) done.incumbent_end done.way done.incumbent) (IsJudgeable home)
   judgeable_is = some_shown _ (IsJudgeable home) _ (best_shown home first done nodes course (IsJudgeable home) (λ end e k.
       subst (λ (s : List Slot). IsJudgeable home (seen_schedule home s k.node.way)) (sym k.is)
-      (shown_judgeable home first v done nodes end k)))
+      (shown_judgeable home first v one done nodes end k)))
 
   pub tight_is : IfSome (shown_best (length home.cranes) done.incumbent_end done.way done.incumbent) (IsTight home)
   tight_is = some_shown _ (IsTight home) _ (best_shown home first done nodes course (IsTight home) (λ end e k.
       subst (λ (s : List Slot). IsTight home (seen_schedule home s k.node.way)) (sym k.is)
-      (shown_tight home first v done nodes end k)))
+      (shown_tight home first v one done nodes end k)))

@@ -3,6 +3,7 @@
 ghost use Rattle.std.specs.Prelude.{◌≡◌, ℕ, ◌<◌, ◌≤◌, [], ◌∷◌, None, IfSome, IsTrue, All, length, option_map, slice_index_or};
 ghost use Rattle.qc_dist.specs.Node.{IsOpen};
 ghost use Rattle.qc_model.specs.declared.decision.Decision.TheVariants.{Assign};
+ghost use Rattle.qc_model.specs.declared.turn.Turn.TheVariants.{OneWay};
 ghost use Rattle.qc_model.specs.Instance.{IsApart, Valid, pair_of};
 ghost use Rattle.qc_model.specs.Judge.{IsDirection, IsJudgeable};
 ghost use Rattle.qc_model.specs.Nodes.{Agrees, HasStarts, IsComplete, IsSettled, assigned};
@@ -165,6 +166,7 @@ fn tighten_given(
     ensures up_root { up.new.decisions ≡ [] }
     ensures down_root { down.new.decisions ≡ [] }
     ensures valid { Valid up.old.inst }
+    ensures one_way { up.old.inst.turn ≡ OneWay }
     ensures direction { IsDirection up.old.inst given.now result.0 }
     ensures tightened { IsTightened (seen up.old.inst result.0) (seen_schedule up.old.inst given.now result.0)
         tight.new result.1 }
@@ -228,6 +230,7 @@ fn begin_with(
     ensures up_root { up.new.decisions ≡ [] }
     ensures down_root { down.new.decisions ≡ [] }
     ensures valid { Valid up.old.inst }
+    ensures one_way { up.old.inst.turn ≡ OneWay }
     ensures begins { IsBegunWith up.old.inst given.now limit path result }
 {
     let (way, end) = tighten_given(given, up, down, &mut incumbent);

@@ -2,6 +2,7 @@
 ghost use Rattle.std.specs.Prelude.{◌≡◌, ◌∷◌, [], ◌<◌, ◌≤◌, ℕ, IfOk, IfSome, None, length};
 ghost use Rattle.qc_close.specs.Crews.{IsCrewOf};
 ghost use Rattle.qc_dist.specs.Node.{IsOpen};
+ghost use Rattle.qc_model.specs.declared.turn.Turn.TheVariants.{OneWay};
 ghost use Rattle.qc_model.specs.Instance.{Valid};
 ghost use Rattle.qc_model.specs.Nodes.{HasStarts};
 ghost use Rattle.qc_model.specs.Numbers.{most_start};
@@ -39,6 +40,7 @@ impl Model for Node {
 impl Node {
     /// The root for an instance. All memory is taken here.
     pub(crate) fn open(alloc: Global, inst: &Instance) -> Result<Node, OutOfMemory>
+        requires { inst.now.turn ≡ OneWay }
         ensures inst { IfOk result (λ node. node.inst ≡ inst.now) }
         ensures decisions { IfOk result (λ node. node.decisions ≡ []) }
     {
@@ -51,6 +53,7 @@ impl Node {
     pub(crate) fn instance(&self) -> &Instance
         ensures same { result.now ≡ self.now.inst }
         ensures valid { Valid self.now.inst }
+        ensures one_way { self.now.inst.turn ≡ OneWay }
     {
         self.starts.instance()
     }

@@ -5,6 +5,7 @@ ghost use Rattle.qc_io.specs.Writes.{Counts};
 ghost use Rattle.qc_model.specs.Judge.{IsJudgeable};
 ghost use Rattle.qc_model.specs.Numbers.{most_branchings};
 ghost use Rattle.qc_model.specs.OneWay.{GoesOneWay};
+ghost use Rattle.qc_model.specs.declared.turn.Turn.TheVariants.{OneWay};
 ghost use Rattle.qc_num.specs.declared.bound.Bound.TheVariants.{Least};
 ghost use Rattle.qc_search.specs.Progress.{bound_end, shown_best};
 ghost use Rattle.qc_search.specs.Run.{outcome, SearchView, IsCutOff, IsSearched, IsSound, IsTightEnd};
@@ -65,9 +66,10 @@ fn told(progress: Progress, first: Bound, cranes: u16) -> Done
 }
 
 impl Search {
-    /// A search for the instance with at most so many branchings. All memory is taken here.
+    /// A search for the instance, whose cranes go one way, with at most so many branchings. All memory is taken here.
     pub fn open(alloc: Global, inst: &Instance, limit: u32) -> Result<Search, OutOfMemory>
-        requires { limit ≤ most_branchings }
+        requires one_way { inst.now.turn ≡ OneWay }
+        requires few { limit ≤ most_branchings }
         ensures { IfOk result (λ search. search ≡ record { inst = inst.now; nodes = limit }) }
     {
         let incumbent = Schedule::new(alloc, inst.task_count())?;

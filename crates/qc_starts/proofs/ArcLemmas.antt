@@ -1,6 +1,6 @@
 -- Arcs that are those of a node: what a push keeps, and that there are few.
 use Rattle.std.proofs.Common.{◌≡◌, ◌≢◌, ℕ, zero, suc, ◌+◌, ◌-◌, ◌*◌, ◌<◌, ◌≤◌, Bool, true, false, ◌||◌, cond, eqb, inl, inr, ◌⊎◌, List, [], ◌∷◌, ◌++◌, length, Option, None, Some, IfSome, refl, sym, ap, ap₂, subst, subst₂, ◌∙◌, append_assoc, arith, count_by}
-use Rattle.std.proofs.lemmas.Bool.{and_parts, cases_Bool, cases_eq, cases_lt, cases_order, cond-false, cond-true, cond_both, eqb-true}
+use Rattle.std.proofs.lemmas.Bool.{and_parts, cases_Bool, cases_eq, cases_lt, cases_order, cond-false, cond-true, cond_both, eqb-true, or_left, or_right}
 use Rattle.std.proofs.lemmas.Option.{none-some, same_Some}
 use Rattle.std.specs.List.{AllByRecursion}
 use Rattle.qc_arena.specs.declared.edge.Edge.{Edge}
@@ -10,13 +10,13 @@ use Rattle.qc_dist.proofs.Tables.{pair_differs, pair_is}
 use Rattle.qc_model.specs.declared.decision.Decision.{Decision}
 use Rattle.qc_model.specs.declared.decision.Decision.TheVariants.{Assign, Order}
 use Rattle.qc_model.specs.Instance.{InstanceView, Valid, ticks_of}
-use Rattle.qc_model.specs.Nodes.{Fits, assigned, crane_ticks, forced, greater, is_before, sooner_ticks}
+use Rattle.qc_model.specs.Nodes.{Fits, assigned, crane_ticks, forced, greater, is_before, is_sooner, sooner_ticks}
 use Rattle.qc_model.proofs.CompleteNodes.{forced_ticks}
 use Rattle.qc_model.proofs.NodeLemmas.{before_found}
 use Rattle.qc_starts.specs.Arcs.{AreArcs, AreOpening, IsArc, IsOver, added, arc_between, joins, leads, most_arcs, newest_length, with_added}
 use Rattle.qc_starts.proofs.Counts.{IsBetween, arcs_few, count_cons}
 use Rattle.qc_starts.specs.Spread.{IsIn, one_of}
-use Rattle.qc_starts.proofs.Growth.{assigned_same, excess_by, forced_grows, greater_more, greater_same, one_way, open_from, open_to, ordered_here_is, ordered_same, unsettled_from, unsettled_to}
+use Rattle.qc_starts.proofs.Growth.{assigned_same, both_ask, excess_by, forced_grows, greater_more, greater_same, open_from, open_to, ordered_here_is, ordered_same, unsettled_from, unsettled_to}
 use Rattle.qc_starts.proofs.SelfLemmas.{self_free}
 
 -- ---- arcs of a list
@@ -181,6 +181,46 @@ none_between i j (arc ∷ arcs) one two = elim (cases_Bool (leads i j arc)) [
   ]
 ]
 
+-- an arc of one kind is one that joins, if those of this kind join
+some_between : (i j g h n : ℕ) (arcs : List Edge) → ((arc : Edge) → leads g h arc ≡ true → joins i j arc ≡ true)
+    → newest_length g h arcs ≡ Some n → 1 ≤ count_by (joins i j) arcs
+some_between i j g h n [] joined is = absurd (none-some n is)
+some_between i j g h n (arc ∷ arcs) joined is = elim (cases_Bool (leads g h arc)) [
+  | inl here ↦ omega (arith, count_cons (joins i j) arc arcs, ap one_of (joined arc here))
+  | inr away ↦
+      let rest = some_between i j g h n arcs joined
+      (sym (cond-false (leads g h arc) (Some arc.len) (newest_length g h arcs) away) ∙ is) in
+      omega (arith, count_cons (joins i j) arc arcs, rest)
+]
+
+-- arcs both ways are two that join
+two_between : (i j a b : ℕ) (arcs : List Edge) → i ≢ j → newest_length i j arcs ≡ Some a → newest_length j i arcs ≡ Some b
+    → 2 ≤ count_by (joins i j) arcs
+two_between i j a b [] differ one two = absurd (none-some a one)
+two_between i j a b (arc ∷ arcs) differ one two = elim (cases_Bool (leads i j arc)) [
+  | inl here ↦ elim (cases_Bool (leads j i arc)) [
+    | inl back ↦
+        let p = and_parts (eqb arc.from i) (eqb arc.to j) here in
+        let q = and_parts (eqb arc.from j) (eqb arc.to i) back in
+        absurd (differ (sym (eqb-true arc.from i p.0) ∙ eqb-true arc.from j q.0))
+    | inr off ↦
+        let rest = some_between i j j i b arcs (λ x t. or_right (leads i j x) (leads j i x) t)
+        (sym (cond-false (leads j i arc) (Some arc.len) (newest_length j i arcs) off) ∙ two) in
+        omega (arith, count_cons (joins i j) arc arcs, ap one_of (or_left (leads i j arc) (leads j i arc) here), rest)
+  ]
+  | inr away ↦ elim (cases_Bool (leads j i arc)) [
+    | inl back ↦
+        let rest = some_between i j i j a arcs (λ x t. or_left (leads i j x) (leads j i x) t)
+        (sym (cond-false (leads i j arc) (Some arc.len) (newest_length i j arcs) away) ∙ one) in
+        omega (arith, count_cons (joins i j) arc arcs, ap one_of (or_right (leads i j arc) (leads j i arc) back), rest)
+    | inr off ↦
+        let rest = two_between i j a b arcs differ
+        (sym (cond-false (leads i j arc) (Some arc.len) (newest_length i j arcs) away) ∙ one)
+        (sym (cond-false (leads j i arc) (Some arc.len) (newest_length j i arcs) off) ∙ two) in
+        omega (arith, count_cons (joins i j) arc arcs, rest)
+  ]
+]
+
 -- ---- the arc of an order
 
 pub order_arcs : (inst : InstanceView) (ds : List Decision) (g h len : ℕ) (arcs : List Edge) → Valid inst
@@ -298,24 +338,35 @@ module _ (inst : InstanceView) (ds : List Decision) (t k : ℕ) (valid : Valid i
     few = is.few;
   }
 
-  both_some : (i j n : ℕ) (a b : Option ℕ) → crane_ticks inst i j a b ≡ Some n
+  both_some : (s : Bool) (i j n : ℕ) (a b : Option ℕ) → crane_ticks inst s i j a b ≡ Some n
       → (most_arcs a b ≡ 2) × (most_arcs b a ≡ 2)
-  both_some i j n None b e = absurd (none-some n e)
-  both_some i j n (Some v) None e = absurd (none-some n e)
-  both_some i j n (Some v) (Some w) e = (refl, refl)
+  both_some s i j n None b e = absurd (none-some n e)
+  both_some s i j n (Some v) None e = absurd (none-some n e)
+  both_some s i j n (Some v) (Some w) e = (refl, refl)
 
-  not_back : (i j n : ℕ) → added inst news i j ≡ Some n → (o : Option ℕ) → added inst news j i ≡ o → o ≡ None
-  not_back i j n is None back = refl
-  not_back i j n is (Some m) back =
-      absurd (one_way inst i j n m (assigned news i) (assigned news j)
-      (excess_by (sooner_ticks inst news i j) _ n is) (excess_by (sooner_ticks inst news j i) _ m back))
+  sooner_is : (i j : ℕ) → is_sooner inst news i j ≡ true → sooner_ticks inst ds i j ≡ Some (ticks_of inst i)
+  sooner_is i j t = cond-true (is_sooner inst ds i j) (Some (ticks_of inst i)) None t
+
+  -- cranes add something at most one way: else an arc led each way before
+  not_back : (arcs : List Edge) (o n : ℕ) → o < length inst.tasks → t ≢ o → IsAssigning inst ds t k arcs o
+      → added inst news t o ≡ Some n → (r : Option ℕ) → added inst news o t ≡ r → r ≡ None
+  not_back arcs o n low differ so_far is None back = refl
+  not_back arcs o n low differ so_far is (Some m) back =
+      let both = both_ask inst (is_sooner inst news t o) (is_sooner inst news o t) t o n m (assigned news t) (assigned news o)
+      (excess_by (sooner_ticks inst news t o) _ n is) (excess_by (sooner_ticks inst news o t) _ m back) in
+      let two = two_between t o (ticks_of inst t) (ticks_of inst o) arcs differ
+      (so_far.still_from o (omega arith) low ∙ sooner_is t o both.0)
+      (so_far.still_to o (omega arith) low ∙ sooner_is o t both.1) in
+      absurd (omega (arith, two, (so_far.still_few o (omega arith)).0))
 
   -- what is forced where nothing is added
   unadded : (i j : ℕ) → added inst news i j ≡ None → forced inst news i j ≡ sooner_ticks inst ds i j
-  unadded i j is = greater_same (sooner_ticks inst news i j) (crane_ticks inst i j (assigned news i) (assigned news j)) is
+  unadded i j is =
+      greater_same (sooner_ticks inst news i j) (crane_ticks inst (is_sooner inst news i j) i j (assigned news i) (assigned news j)) is
 
   is_added : (i j n : ℕ) → added inst news i j ≡ Some n → forced inst news i j ≡ Some n
-  is_added i j n is = greater_more (sooner_ticks inst news i j) (crane_ticks inst i j (assigned news i) (assigned news j)) n is
+  is_added i j n is =
+      greater_more (sooner_ticks inst news i j) (crane_ticks inst (is_sooner inst news i j) i j (assigned news i) (assigned news j)) n is
 
   up_to : (P : ℕ → Type 0) (o : ℕ) → ((j : ℕ) → j < o → P j) → P o → (j : ℕ) → j < o + 1 → P j
   up_to P o below here j low = elim (cases_eq j o) [
@@ -372,7 +423,7 @@ module _ (inst : InstanceView) (ds : List Decision) (t k : ℕ) (valid : Valid i
       more = arc_between f g len ∷ arcs
 
       two : (most_arcs (assigned news f) (assigned news g) ≡ 2) × (most_arcs (assigned news g) (assigned news f) ≡ 2)
-      two = both_some f g len (assigned news f) (assigned news g) (excess_by (sooner_ticks inst news f g) _ len add)
+      two = both_some (is_sooner inst news f g) f g len (assigned news f) (assigned news g) (excess_by (sooner_ticks inst news f g) _ len add)
 
   module _ (fits : Fits inst (Assign t k ∷ ds)) (task : t < length inst.tasks) where
     not_self : (o len : ℕ) (f g : ℕ) → f ≡ g → added inst news f g ≡ Some len → ⊥
@@ -387,7 +438,7 @@ module _ (inst : InstanceView) (ds : List Decision) (t k : ℕ) (valid : Valid i
     assign_step arcs o None None low one two is = none_added arcs o low one two is
     assign_step arcs o (Some len) b low one two is =
         let differ = λ (e : t ≡ o). not_self o len t o e one in
-        let back = not_back t o len one (added inst news o t) refl in
+        let back = not_back arcs o len low differ is one (added inst news o t) refl in
         one_added arcs o t o len task low one (is.still_few o (omega arith))
         (λ i j first second e f. first (sym e)) (λ j other e f. other (sym f)) (λ i other e f. differ (sym f))
         (newest_here t o len arcs ∙ sym (is_added t o len one))
@@ -506,9 +557,9 @@ module _ (inst : InstanceView) (ds news : List Decision) (valid : Valid inst) (f
       pub order_after : AreArcs inst news (with_added g h (forced inst news g h) None arcs)
       order_after =
           let one = ordered_here_is inst ds g h able.1 in
-          let done = order_arcs inst ds g h (ticks_of inst g) arcs valid able low high one are in
+          let done = order_arcs inst ds g h one.0 arcs valid able low high one.1 are in
           subst (λ (xs : List Decision). AreArcs inst xs (with_added g h (forced inst xs g h) None arcs)) (sym is)
-          (subst (λ (o : Option ℕ). AreArcs inst (Order g h ∷ ds) (with_added g h o None arcs)) (sym one) done)
+          (subst (λ (o : Option ℕ). AreArcs inst (Order g h ∷ ds) (with_added g h o None arcs)) (sym one.1) done)
 
     module _ (t k : ℕ) (is : news ≡ (Assign t k ∷ ds)) (none : assigned ds t ≡ None) (task : t < length inst.tasks)
         (o : ℕ) (low : o < length inst.tasks) (so_far : IsAssigning inst ds t k arcs o) where

@@ -8,7 +8,7 @@ use Rattle.std.specs.List.{range_with_len}
 use Rattle.qc_dist.proofs.Room.{fits_room}
 use Rattle.qc_model.specs.declared.decision.Decision.{Decision}
 use Rattle.qc_model.specs.Instance.{InstanceView}
-use Rattle.qc_model.specs.Nodes.{AreLeast, HasStarts, IsInReach}
+use Rattle.qc_model.specs.Nodes.{AreLeast, HasStarts, IsInReach, order_pairs}
 use Rattle.qc_starts.specs.declared.spread.Spread.{Spread}
 use Rattle.qc_starts.specs.declared.starts.Starts.TheInside.{Inside}
 use Rattle.qc_starts.specs.declared.step.Step.{Step}
@@ -61,12 +61,12 @@ module _ (f : Inside) (node : StartsNode) (is : IsKept f) (view : node_of f ≡ 
   abbrev n : ℕ
   n = length f.network.inst.tasks
 
-  room_for : 2 * n * length f.network.decisions + 2 * n ≤ 2 * n * (n + length f.network.inst.apart)
+  room_for : 2 * n * length f.network.decisions + 2 * n ≤ 2 * n * (n + order_pairs f.network.inst)
   room_for =
-      let fits = fits_room g.network.inst g.network.decisions sound.fits in
-      let same = ap (λ (i : InstanceView). length i.tasks + length i.apart) home in
+      let fits = fits_room g.network.inst sound.valid g.network.decisions sound.fits in
+      let same = ap (λ (i : InstanceView). length i.tasks + order_pairs i) home in
       let more = ap (length {A = Decision}) ds_is in
-      let up : length f.network.decisions + 1 ≤ n + length f.network.inst.apart = omega (arith, fits, same, more) in
+      let up : length f.network.decisions + 1 ≤ n + order_pairs f.network.inst = omega (arith, fits, same, more) in
       let product = mul-le-mul_left (2 * n) up in
       omega (arith, product)
 
@@ -147,7 +147,7 @@ module _ (f : Inside) (node : StartsNode) (is : IsKept f) (view : node_of f ≡ 
           AreNested i xs (reverse g.marks.items) g.spread.values.trail.notes g.spread.values.cells) (sym home) (sym ds_is)
           (subst (λ (ms : List ℕ). AreNested f.network.inst (d ∷ f.network.decisions) ms g.spread.values.trail.notes
           g.spread.values.cells) (sym marks_reversed) nested);
-      room = omega (arith, is.room, ap (λ (i : InstanceView). length i.tasks + length i.apart) home);
+      room = omega (arith, is.room, ap (λ (i : InstanceView). length i.tasks + order_pairs i) home);
       state = settled_step g.network g.root g.spread.olds.items g.spread.values.cells g.step sound settled;
     }
 

@@ -8,8 +8,10 @@ use Rattle.qc_dist.specs.Node.{IsOpen}
 use Rattle.qc_dist.proofs.Assigned.{assigned_here, assigned_other, ordered_here, ordered_other}
 use Rattle.qc_model.specs.declared.decision.Decision.{Decision}
 use Rattle.qc_model.specs.declared.decision.Decision.TheVariants.{Assign, Order}
+use Rattle.qc_model.specs.declared.turn.Turn.{Turn}
+use Rattle.qc_model.specs.declared.turn.Turn.TheVariants.{OneWay, Free}
 use Rattle.qc_model.specs.Instance.{InstanceView, bay_of, ticks_of}
-use Rattle.qc_model.specs.Nodes.{IsSettled, Meets, assigned, crane_ticks, forced, free, greater, head, head_by, is_before, is_ordered, is_sooner, reaches, sooner_ticks}
+use Rattle.qc_model.specs.Nodes.{IsSettled, Meets, assigned, crane_ticks, forced, free, greater, head, head_by, is_before, is_ordered, is_sooner, pair_ticks, reaches, sooner_ticks, upward_ticks}
 use Rattle.qc_model.specs.Ticks.{task_distance}
 use Rattle.qc_model.proofs.Extremes.{least_le}
 use Rattle.qc_starts.specs.Seen.{IsReached}
@@ -71,16 +73,14 @@ some_true false o n e = absurd (none-some n e)
 rises : (x y : ℤ) → int_lt x y ≡ true → x <ℤ y
 rises x y t = record { lt = subst T (sym t) tt }
 
-pub ticks_none : (inst : InstanceView) (i j : ℕ) (a : Option ℕ) → crane_ticks inst i j a None ≡ None
-ticks_none inst i j None = refl
-ticks_none inst i j (Some v) = refl
+pub ticks_none : (inst : InstanceView) (sooner : Bool) (i j : ℕ) (a : Option ℕ) → crane_ticks inst sooner i j a None ≡ None
+ticks_none inst sooner i j None = refl
+ticks_none inst sooner i j (Some v) = refl
 
--- cranes ask for something at most one way
-pub one_way : (inst : InstanceView) (i j n m : ℕ) (a b : Option ℕ) → crane_ticks inst i j a b ≡ Some n
-    → crane_ticks inst j i b a ≡ Some m → ⊥
-one_way inst i j n m None b e f = none-some n e
-one_way inst i j n m (Some v) None e f = none-some n e
-one_way inst i j n m (Some v) (Some w) e f = elim (cases_eq v w) [
+-- cranes that go one way ask for something at most one way
+one_way : (inst : InstanceView) (i j n m v w : ℕ) → upward_ticks inst i v j w ≡ Some n
+    → upward_ticks inst j w i v ≡ Some m → ⊥
+one_way inst i j n m v w e f = elim (cases_eq v w) [
   | inl same ↦
       let up = some_true (int_lt (bay_of inst i) (bay_of inst j)) _ n (sym (cond-true (eqb v w) _ _ (eq-eqb v w same)) ∙ e) in
       let down = some_true (int_lt (bay_of inst j) (bay_of inst i)) _ m
@@ -98,24 +98,36 @@ one_way inst i j n m (Some v) (Some w) e f = elim (cases_eq v w) [
       omega arith
 ]
 
+pair_both : (turn : Turn) (inst : InstanceView) (s r : Bool) (i j n m v w : ℕ)
+    → pair_ticks turn inst s i v j w ≡ Some n → pair_ticks turn inst r j w i v ≡ Some m → (s ≡ true) × (r ≡ true)
+pair_both OneWay inst s r i j n m v w e f = absurd (one_way inst i j n m v w e f)
+pair_both Free inst s r i j n m v w e f = (some_true s _ n e, some_true r _ m f)
+
+-- cranes ask for something both ways only where each task is sooner than the other
+pub both_ask : (inst : InstanceView) (s r : Bool) (i j n m : ℕ) (a b : Option ℕ) → crane_ticks inst s i j a b ≡ Some n
+    → crane_ticks inst r j i b a ≡ Some m → (s ≡ true) × (r ≡ true)
+both_ask inst s r i j n m None b e f = absurd (none-some n e)
+both_ask inst s r i j n m (Some v) None e f = absurd (none-some n e)
+both_ask inst s r i j n m (Some v) (Some w) e f = pair_both inst.turn inst s r i j n m v w e f
+
 -- ---- a task that gets its crane
 
 module _ (inst : InstanceView) (ds : List Decision) (t k : ℕ) where
   pub assigned_same : (i j : ℕ) → i ≢ t → j ≢ t → forced inst (Assign t k ∷ ds) i j ≡ forced inst ds i j
   assigned_same i j first second =
-      ap₂ (λ (a b : Option ℕ). greater (sooner_ticks inst ds i j) (crane_ticks inst i j a b))
+      ap₂ (λ (a b : Option ℕ). greater (sooner_ticks inst ds i j) (crane_ticks inst (is_sooner inst ds i j) i j a b))
       (assigned_other ds t k i (λ e. first (sym e))) (assigned_other ds t k j (λ e. second (sym e)))
 
   module _ (none : assigned ds t ≡ None) where
     pub open_from : (j : ℕ) → forced inst ds t j ≡ sooner_ticks inst ds t j
     open_from j =
-        ap (λ (a : Option ℕ). greater (sooner_ticks inst ds t j) (crane_ticks inst t j a (assigned ds j))) none
+        ap (λ (a : Option ℕ). greater (sooner_ticks inst ds t j) (crane_ticks inst (is_sooner inst ds t j) t j a (assigned ds j))) none
         ∙ greater_none (sooner_ticks inst ds t j)
 
     pub open_to : (i : ℕ) → forced inst ds i t ≡ sooner_ticks inst ds i t
     open_to i =
-        ap (λ (a : Option ℕ). greater (sooner_ticks inst ds i t) (crane_ticks inst i t (assigned ds i) a)) none
-        ∙ ap (greater (sooner_ticks inst ds i t)) (ticks_none inst i t (assigned ds i))
+        ap (λ (a : Option ℕ). greater (sooner_ticks inst ds i t) (crane_ticks inst (is_sooner inst ds i t) i t (assigned ds i) a)) none
+        ∙ ap (greater (sooner_ticks inst ds i t)) (ticks_none inst (is_sooner inst ds i t) i t (assigned ds i))
         ∙ greater_none (sooner_ticks inst ds i t)
 
     assign_grows : (i j : ℕ) → IsNoLess (forced inst ds i j) (forced inst (Assign t k ∷ ds) i j)
@@ -151,23 +163,22 @@ pub head_same : (inst : InstanceView) (ds : List Decision) (t k j : ℕ) → j �
 head_same inst ds t k j other =
     ap (λ (o : Option ℕ). head_by inst (free inst j) j o) (assigned_other ds t k j (λ e. other (sym e)))
 
--- ---- two apart tasks that get their order
+-- ---- two tasks that get their order
 
 none_of : (o : Option ℕ) → (IsSome o → ⊥) → o ≡ None
 none_of None h = refl
 none_of (Some n) h = absurd (h refl)
 
-greater_parts : (a b : Option ℕ) → greater a b ≡ None → b ≡ None
-greater_parts None b e = e
-greater_parts (Some m) None e = refl
-greater_parts (Some m) (Some n) e = absurd (none-some _ (sym e))
+some_greater : (m : ℕ) (o : Option ℕ) → (n : ℕ) × (greater (Some m) o ≡ Some n)
+some_greater m None = (m, refl)
+some_greater m (Some n) = (_, refl)
 
 module _ (inst : InstanceView) (ds : List Decision) (g h : ℕ) where
   pub ordered_same : (i j : ℕ) → (g ≡ i → h ≡ j → ⊥)
       → forced inst (Order g h ∷ ds) i j ≡ forced inst ds i j
   ordered_same i j differ =
       ap (λ (b : Bool). greater (cond (is_before inst i j || b) (Some (ticks_of inst i)) None)
-      (crane_ticks inst i j (assigned ds i) (assigned ds j))) (ordered_other ds g h i j differ)
+      (crane_ticks inst (is_before inst i j || b) i j (assigned ds i) (assigned ds j))) (ordered_other ds g h i j differ)
 
   module _ (unsettled : ¬ IsSettled inst ds g h) where
     pub unsettled_from : forced inst ds g h ≡ None
@@ -176,12 +187,15 @@ module _ (inst : InstanceView) (ds : List Decision) (g h : ℕ) where
     pub unsettled_to : forced inst ds h g ≡ None
     unsettled_to = none_of (forced inst ds h g) (λ some. unsettled (inr some))
 
-    pub ordered_here_is : forced inst (Order g h ∷ ds) g h ≡ Some (ticks_of inst g)
+    -- something is forced from the first to the second
+    pub ordered_here_is : (len : ℕ) × (forced inst (Order g h ∷ ds) g h ≡ Some len)
     ordered_here_is =
-        let asked = or_right (is_before inst g h) (is_ordered (Order g h ∷ ds) g h) (ordered_here ds g h) in
-        ap₂ greater
-        (cond-true (is_sooner inst (Order g h ∷ ds) g h) (Some (ticks_of inst g)) None asked)
-        (greater_parts (sooner_ticks inst ds g h) (crane_ticks inst g h (assigned ds g) (assigned ds h)) unsettled_from)
+        let news = Order g h ∷ ds in
+        let asked = or_right (is_before inst g h) (is_ordered news g h) (ordered_here ds g h) in
+        let cranes = crane_ticks inst (is_sooner inst news g h) g h (assigned ds g) (assigned ds h) in
+        let more = some_greater (ticks_of inst g) cranes in
+        (more.0, ap (λ (o : Option ℕ). greater o cranes)
+        (cond-true (is_sooner inst news g h) (Some (ticks_of inst g)) None asked) ∙ more.1)
 
     order_grows : (i j : ℕ) → IsNoLess (forced inst ds i j) (forced inst (Order g h ∷ ds) i j)
     order_grows i j = elim (cases_eq g i) [

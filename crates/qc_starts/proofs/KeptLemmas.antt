@@ -7,7 +7,8 @@ use Rattle.std.proofs.Math.Seq.{drop-append_seam, take-append_seam}
 use Rattle.qc_dist.specs.Node.{IsOpen}
 use Rattle.qc_model.specs.declared.decision.Decision.{Decision}
 use Rattle.qc_model.specs.declared.decision.Decision.TheVariants.{Assign, Order}
-use Rattle.qc_model.specs.Instance.{InstanceView, IsApart, pair_of}
+use Rattle.qc_model.specs.Instance.{InstanceView, IsApart, Valid, pair_of}
+use Rattle.qc_model.proofs.NodeLemmas.{conflict_inside}
 use Rattle.qc_model.specs.declared.pair.Pair.{Pair}
 use Rattle.qc_model.specs.Nodes.{HasStarts, IsInReach, IsNodeEnd, IsSettled, Meets, forced, head}
 use Rattle.qc_starts.specs.Arcs.{IsArc}
@@ -101,6 +102,12 @@ pub state_reasons : (net : NodeArcs) (cells : List ℕ) (root : ℕ) (step : Ste
 state_reasons net cells root Raised state = state.reasons
 state_reasons net cells root Cycle state = state.1.raising.reasons
 
+-- the task behind which a decision raises starts is one of the instance
+pub root_task : (inst : InstanceView) → Valid inst → (ds : List Decision) (d : Decision) → IsOpen inst ds d
+    → root_of d < length inst.tasks
+root_task inst v ds (Assign t k) open_ = open_.0
+root_task inst v ds (Order g h) open_ = (conflict_inside inst v ds g h open_.0).1
+
 -- ---- a decision begins
 
 module _ (net : NodeArcs) (d : Decision) (ds : List Decision) (olds cells : List ℕ) (sound : IsSound net)
@@ -108,13 +115,6 @@ module _ (net : NodeArcs) (d : Decision) (ds : List Decision) (olds cells : List
     (rest : AreRest net.inst ds cells)
     (soon : (j : ℕ) → j < length net.inst.tasks → start_at cells j ≤ 999999999999)
     (same : (j : ℕ) → j < length net.inst.tasks → start_at olds j ≡ start_at cells j) where
-  root_inside : (e : Decision) → IsOpen net.inst ds e → root_of e < length net.inst.tasks
-  root_inside (Assign t k) open_ = open_.0
-  root_inside (Order g h) open_ = elim open_.0 [
-    | inl a ↦ let r = sound.valid.apart.range g h a in r.1
-    | inr a ↦ let r = sound.valid.apart.range h g a in omega (arith, r.0, r.1)
-  ]
-
   head_kept : (e : Decision) (j : ℕ) → j ≢ root_of e → head net.inst (e ∷ ds) j ≡ head net.inst ds j
   head_kept (Assign t k) j other = head_same net.inst ds t k j other
   head_kept (Order g h) j other = refl
@@ -125,7 +125,7 @@ module _ (net : NodeArcs) (d : Decision) (ds : List Decision) (olds cells : List
   forced_kept (Order g h) i j first second = ordered_same net.inst ds g h i j (λ e f. second (sym f))
 
   root_in : root_of d < length net.inst.tasks
-  root_in = root_inside d able
+  root_in = root_task net.inst sound.valid ds d able
 
   new_head : (j : ℕ) → j ≢ root_of d → head net.inst net.decisions j ≡ head net.inst ds j
   new_head j other = ap (λ (xs : List Decision). head net.inst xs j) is ∙ head_kept d j other

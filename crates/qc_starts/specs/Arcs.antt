@@ -7,7 +7,7 @@ use Rattle.qc_dist.specs.Added.{excess}
 use Rattle.qc_model.specs.declared.decision.Decision.{Decision}
 use Rattle.qc_model.specs.declared.limits.TheConstants.{MOST_TASKS}
 use Rattle.qc_model.specs.Instance.{InstanceView}
-use Rattle.qc_model.specs.Nodes.{assigned, crane_ticks, forced, sooner_ticks}
+use Rattle.qc_model.specs.Nodes.{assigned, crane_ticks, forced, is_sooner, sooner_ticks}
 
 -- the arc leads from i to j
 abbrev pub leads : ℕ → ℕ → Edge → Bool
@@ -59,7 +59,7 @@ with_added i j None None arcs = arcs
 -- what the cranes of two tasks add to what is forced from one to the other
 abbrev pub added : InstanceView → List Decision → ℕ → ℕ → Option ℕ
 added inst ds i j =
-    excess (sooner_ticks inst ds i j) (crane_ticks inst i j (assigned ds i) (assigned ds j))
+    excess (sooner_ticks inst ds i j) (crane_ticks inst (is_sooner inst ds i j) i j (assigned ds i) (assigned ds j))
 
 -- arcs with others on top
 abbrev pub IsOver : List Edge → List Edge → Type 0

@@ -2,7 +2,7 @@
 use Rattle.std.specs.Prelude.{◌≡◌, ℕ, ◌+◌, ◌-◌, ◌*◌, ◌≤◌, List, [], ◌∷◌, drop, length, reverse, take, vec_capacity}
 use Rattle.qc_model.specs.declared.decision.Decision.{Decision}
 use Rattle.qc_model.specs.Instance.{InstanceView}
-use Rattle.qc_model.specs.Nodes.{IsInReach}
+use Rattle.qc_model.specs.Nodes.{IsInReach, order_pairs}
 use Rattle.qc_starts.specs.declared.starts.Starts.TheInside.{Inside}
 use Rattle.qc_starts.specs.declared.step.Step.{Step}
 use Rattle.qc_starts.specs.declared.step.Step.TheVariants.{Raised, Cycle}
@@ -52,5 +52,5 @@ pub record IsKept (f : Inside) : Type 0 where
   pub nested :
       AreNested f.network.inst f.network.decisions (reverse f.marks.items) f.spread.values.trail.notes
       f.spread.values.cells
-  pub room : length f.network.inst.tasks + length f.network.inst.apart ≤ vec_capacity f.marks
+  pub room : length f.network.inst.tasks + order_pairs f.network.inst ≤ vec_capacity f.marks
   pub state : IsStateOf f.network f.spread.values.cells f.root f.step

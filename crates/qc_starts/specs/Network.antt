@@ -3,7 +3,7 @@ use Rattle.std.specs.Prelude.{ℕ, ◌+◌, ◌-◌, ◌≤◌, List, [], ◌∷
 use Rattle.qc_arena.specs.declared.edge.Edge.{Edge}
 use Rattle.qc_model.specs.declared.decision.Decision.{Decision}
 use Rattle.qc_model.specs.Instance.{InstanceView, Valid}
-use Rattle.qc_model.specs.Nodes.{Fits}
+use Rattle.qc_model.specs.Nodes.{Fits, order_pairs}
 use Rattle.qc_starts.specs.declared.network.Network.TheInside.{Inside}
 use Rattle.qc_starts.specs.Arcs.{AreArcs, AreLow, IsRoomy}
 use Rattle.qc_starts.specs.NodeArcs.{NodeArcs}
@@ -31,4 +31,4 @@ pub record IsKept (f : Inside) : Type 0 where
   pub arcs : AreArcs f.decisions.inst f.decisions.decisions (reverse f.arena.arcs)
   pub low : AreLow (reverse f.arena.arcs)
   pub levels : AreLevels f.decisions.inst f.decisions.decisions (reverse f.marks.items) (reverse f.arena.arcs)
-  pub room : length f.decisions.inst.tasks + length f.decisions.inst.apart ≤ vec_capacity f.marks
+  pub room : length f.decisions.inst.tasks + order_pairs f.decisions.inst ≤ vec_capacity f.marks

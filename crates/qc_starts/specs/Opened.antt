@@ -1,6 +1,7 @@
 -- inner: values before any decision, and when a decision begins.
 use Rattle.std.specs.Prelude.{◌≡◌, ℕ, ◌+◌, ◌*◌, ◌<◌, [], All, length, replicate, false, true, slice_index_or}
 use Rattle.qc_model.specs.Instance.{InstanceView}
+use Rattle.qc_model.specs.Nodes.{order_pairs}
 use Rattle.qc_starts.specs.declared.spread.Spread.{Spread}
 use Rattle.qc_starts.specs.Noting.{marks}
 use Rattle.qc_starts.specs.Spread.{IsOnly}
@@ -33,5 +34,5 @@ pub record AreSized (inst : InstanceView) (s : Spread) : Type 0 where
   pub noted : length s.values.noted.items ≡ 2 * length inst.tasks
   pub olds : length s.olds.items ≡ length inst.tasks
   pub pending : length s.pending.items ≡ length inst.tasks
-  pub cap : s.values.trail.cap ≡ 2 * length inst.tasks * (length inst.tasks + length inst.apart)
+  pub cap : s.values.trail.cap ≡ 2 * length inst.tasks * (length inst.tasks + order_pairs inst)
   pub places : All (λ note. note.place < length s.values.cells) s.values.trail.notes

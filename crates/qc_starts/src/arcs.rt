@@ -82,7 +82,7 @@ fn assign(decisions: &mut Decisions, task: u16, crane: u16, arena: &mut ArcArena
     }
 }
 
-/// Puts one of two apart tasks first, and adds the arc of this.
+/// Puts one of two tasks that conflict first, and adds the arc of this.
 fn order(decisions: &mut Decisions, first: u16, second: u16, arena: &mut ArcArena)
     requires open { IsOpen decisions.old.inst decisions.old.decisions (Order first second) }
     requires first { first < length decisions.old.inst.tasks }

@@ -56,7 +56,7 @@ impl Network {
     {
         let decisions = Decisions::new(alloc, inst)?;
         let arena = open_arena(alloc, &decisions)?;
-        let room = inst.task_count() as usize + inst.apart().len();
+        let room = inst.task_count() as usize + inst.order_pairs() as usize;
         Ok(Network {
             decisions,
             arena,

@@ -1,10 +1,10 @@
 //! The earliest start times of a search node, kept while decisions are made and taken back.
 
-ghost use Rattle.std.specs.Prelude.{◌≡◌, ◌↔◌, ◌+◌, ◌*◌, ◌<◌, ◌≤◌, ◌⊎◌, None, [], ◌∷◌, IfOk, IfSome, IsTrue, drop, length, sum, take};
+ghost use Rattle.std.specs.Prelude.{◌≡◌, ◌↔◌, ◌+◌, ◌*◌, ◌<◌, ◌≤◌, None, [], ◌∷◌, IfOk, IfSome, IsTrue, drop, length, sum, take};
 ghost use Rattle.qc_model.specs.declared.decision.Decision.TheVariants.{Assign, Order};
 ghost use Rattle.qc_model.specs.declared.limits.TheConstants.{MOST_DISTANCE, MOST_READY, MOST_START};
-ghost use Rattle.qc_model.specs.Instance.{IsApart, Valid};
-ghost use Rattle.qc_model.specs.Nodes.{Fits, HasStarts, IsComplete, IsInReach, IsNodeEnd, IsSettled, assigned, head, reaches};
+ghost use Rattle.qc_model.specs.Instance.{Valid};
+ghost use Rattle.qc_model.specs.Nodes.{Conflicts, Fits, HasStarts, IsComplete, IsInReach, IsNodeEnd, IsSettled, assigned, head, reaches};
 ghost use Rattle.qc_num.specs.Paths.{HasRoom};
 ghost use Rattle.qc_starts.specs.Opened.{AreSized};
 ghost use Rattle.qc_starts.specs.NodeArcs.{IsSound};
@@ -79,7 +79,7 @@ fn open_spread<L: Ledger>(
 {
     let mut steps = Steps::<L>::new(blank);
     let count = network.task_count();
-    let room = count as u32 + network.instance().apart().len() as u32;
+    let room = count as u32 + network.instance().order_pairs();
     let mut spread = Spread::open(alloc, count, room)?;
     spread.place_all(network, &mut steps);
     Ok(spread)
@@ -94,7 +94,7 @@ impl Starts {
     {
         let network = Network::open(alloc, inst)?;
         let spread = open_spread::<Brand>(alloc, &network, Blank::new(1))?;
-        let room = inst.task_count() as usize + inst.apart().len();
+        let room = inst.task_count() as usize + inst.order_pairs() as usize;
         Ok(Starts {
             network,
             spread,
@@ -150,10 +150,10 @@ impl Starts {
         self.decide(Decision::Assign(task, crane), steps)
     }
 
-    /// Puts one of two apart tasks first. `Cycle` exactly where no starts meet the node any more.
+    /// Puts one of two tasks that conflict first. `Cycle` exactly where no starts meet the node any more.
     pub fn order<L: Ledger>(&mut self, i: u16, j: u16, steps: &mut Steps<L>) -> Step
         requires starts { HasStarts self.old.inst self.old.decisions }
-        requires apart { IsApart self.old.inst i j ⊎ IsApart self.old.inst j i }
+        requires conflict { Conflicts self.old.inst self.old.decisions i j }
         requires unsettled { ¬ IsSettled self.old.inst self.old.decisions i j }
         ensures inst { self.new.inst ≡ self.old.inst }
         ensures decisions { self.new.decisions ≡ Order i j ∷ self.old.decisions }
@@ -279,6 +279,15 @@ impl Starts {
         ensures { IsTrue result ↔ IsComplete self.now.inst self.now.decisions }
     {
         is_complete(self.network.decisions())
+    }
+
+    /// Whether the order of two tasks may be decided: they are apart, or clash on their cranes.
+    pub fn conflict(&self, i: u16, j: u16) -> bool
+        requires first { i < length self.now.inst.tasks }
+        requires second { j < length self.now.inst.tasks }
+        ensures { IsTrue result ↔ Conflicts self.now.inst self.now.decisions i j }
+    {
+        self.network.decisions().conflict(i, j)
     }
 
     /// Whether one of two tasks is forced to start after the other.

@@ -13,6 +13,7 @@ use Rattle.qc_model.specs.declared.task.Task.{Task}
 use Rattle.qc_model.specs.declared.crane.Crane.{Crane}
 use Rattle.qc_model.specs.declared.pair.Pair.{Pair}
 use Rattle.qc_model.specs.Tasks.{phase_rank}
+use Rattle.qc_model.specs.declared.turn.Turn.TheVariants.{OneWay}
 use Rattle.qc_model.specs.Instance.{InstanceView, HasBayLimits, HasPlaceLimits, HasValidTasks, HasValidCranes, HasValidBefore, HasValidApart, IsFrom, IsPath, Valid, no_crane, no_task, pair_of}
 use Rattle.qc_ship.specs.declared.ship.HatchPair.{HatchPair}
 use Rattle.qc_ship.specs.Ship.{ShipView, IsShip, greatest_place}
@@ -261,7 +262,7 @@ module _ (ship : ShipView) (is : IsShip ship) (rows : List Row) where
   }
 
 -- an instance part by part
-pub same_instance : (ship : ShipView) (rows : List Row) (bays travel gap : ℕ) (tasks : List Task) (cranes : List Crane) (before apart : List Pair) → bays ≡ greatest_place ship → travel ≡ ship.travel → gap ≡ ship.gap → tasks ≡ tasks_of ship rows → cranes ≡ ship.cranes → before ≡ before_of ship.ordered rows tasks → apart ≡ apart_of ship.apart tasks → ◌≡◌ {A = InstanceView} (record { bays = bays; travel = travel; gap = gap; tasks = tasks; cranes = cranes; before = before; apart = apart }) (instance_of ship rows)
+pub same_instance : (ship : ShipView) (rows : List Row) (bays travel gap : ℕ) (tasks : List Task) (cranes : List Crane) (before apart : List Pair) → bays ≡ greatest_place ship → travel ≡ ship.travel → gap ≡ ship.gap → tasks ≡ tasks_of ship rows → cranes ≡ ship.cranes → before ≡ before_of ship.ordered rows tasks → apart ≡ apart_of ship.apart tasks → ◌≡◌ {A = InstanceView} (record { bays = bays; travel = travel; gap = gap; tasks = tasks; cranes = cranes; before = before; apart = apart; turn = OneWay }) (instance_of ship rows)
 same_instance ship rows bays travel gap tasks cranes before apart e₁ e₂ e₃ e₄ e₅ e₆ e₇ =
     let e₈ = e₆ ∙ ap (before_of ship.ordered rows) e₄ in
     let e₉ = e₇ ∙ ap (apart_of ship.apart) e₄ in

@@ -8,6 +8,7 @@ use Rattle.qc_model.specs.declared.task.Phase.TheVariants.{DeckOut, HoldOut, Hol
 use Rattle.qc_model.specs.declared.task.Task.{Task}
 use Rattle.qc_model.specs.declared.pair.Pair.{Pair}
 use Rattle.qc_model.specs.Tasks.{phase_rank}
+use Rattle.qc_model.specs.declared.turn.Turn.TheVariants.{OneWay}
 use Rattle.qc_model.specs.Instance.{InstanceView, pair_of, no_task}
 use Rattle.qc_ship.specs.declared.ship.HatchPair.{HatchPair}
 use Rattle.qc_ship.specs.Ship.{ShipView, takes, greatest_place}
@@ -123,6 +124,7 @@ instance_with ship rows tasks = record {
   cranes = ship.cranes;
   before = before_of ship.ordered rows tasks;
   apart = apart_of ship.apart tasks;
+  turn = OneWay;
 }
 
 -- the instance of a ship and its moves

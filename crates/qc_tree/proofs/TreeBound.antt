@@ -64,7 +64,7 @@ module _ (inst : InstanceView) (v : Valid inst) (version : Version) (sched : Lis
       → (¬ IsSettled inst ds i j) → Fits inst (decide.Order i j ∷ ds)
   apart_fits ds i j fits apart unsettled =
       let unordered = unsettled_unordered inst ds i j unsettled in
-      (apart, unordered.0, unordered.1, fits)
+      (inl apart, unordered.0, unordered.1, fits)
 
   -- a schedule that agrees with a branching agrees with one of its children
   on_one_task : (ds : List Decision) (j : ℕ) → Meets ds → Holds version inst ds (on_task j)

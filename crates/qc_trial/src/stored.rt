@@ -4,6 +4,7 @@ ghost use Rattle.std.specs.Prelude.{◌≡◌, List, IfOk, IfSome, IsSome, IsSom
 ghost use Rattle.std.specs.FinMap.{get};
 ghost use Rattle.qc_make.specs.OneWayWork.{HasOneWay};
 ghost use Rattle.qc_model.specs.declared.schedule.Slot.{Slot};
+ghost use Rattle.qc_model.specs.declared.turn.Turn.TheVariants.{OneWay};
 ghost use Rattle.qc_model.specs.Judge.{IsJudgeable};
 ghost use Rattle.qc_model.specs.Rules.{ends};
 ghost use Rattle.qc_tree.specs.Trees.{NoneEarlier, Tree, tree_value};
@@ -35,6 +36,7 @@ pub(crate) fn store_search<S: Shelf>(
     inst: &Instance,
     shelf: &mut S,
 ) -> Result<Done, OutOfMemory>
+    requires { inst.now.turn ≡ OneWay }
     ensures { IfOk result (λ done. IfSome (S.Sink.view shelf.old).files (λ held.
         IsSomeAnd (S.Sink.view shelf.new).files (λ files. AreStored inst.now files done))) }
 {

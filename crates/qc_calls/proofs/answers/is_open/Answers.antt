@@ -1,17 +1,13 @@
-use Rattle.std.proofs.Common.{◌⊎◌, ◌↔◌, IsTrue, not, subst, sym}
+use Rattle.std.proofs.Common.{◌↔◌, IsTrue, not, subst, sym}
 use Rattle.qc_model.specs.declared.decision.Decision.{Decision}
-use Rattle.qc_model.specs.Instance.{InstanceView, IsApart}
 use Rattle.qc_dist.specs.Node.{IsOpen}
 use Rattle.qc_calls.proofs.FilesLemmas.{order_open}
 use Rattle.qc_calls.proofs.answers.is_open.Goals as goal
 
-pub returns-then-are_apart : goal.returns-then-are_apart
-returns-then-are_apart c =
+pub returns-then-conflict : goal.returns-then-conflict
+returns-then-conflict c =
     let inst = c.args.decisions.now.inst in
     let ds = c.args.decisions.now.decisions in
-    let i = c.in-Order.first in
-    let j = c.in-Order.second in
-    let apart = subst (λ (k : InstanceView). IsApart k i j ⊎ IsApart k j i) c.instance-inst.ensures.same
-    (c.are_apart.ensures.apart.0 c.if-are_apart.true) in
     subst (λ (d : Decision). IsTrue (not c.settled.result) ↔ IsOpen inst ds d) (sym c.in-Order.is)
-    (order_open inst ds i j c.settled.result apart c.settled.ensures)
+    (order_open inst ds c.in-Order.first c.in-Order.second c.settled.result
+    (c.conflict.ensures.conflict.0 c.if-conflict.true) c.settled.ensures)

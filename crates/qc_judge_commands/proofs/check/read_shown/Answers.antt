@@ -9,4 +9,4 @@ pub returns-in_err-inst-clause-none : goal.returns-in_err-inst-clause-none
 returns-in_err-inst-clause-none g c = λ fault is.
     let e = rw is at c.from_residual.ensures.1 in
     no_fault_yet instance_due instance_early (names_of c.args.inputs.now) (g.S.Sink.view c.args.shelf.now) (g.S.Sink.view c.read_instance.new.shelf)
-    _ c.in_err-inst.ensures.err fault (ap Err (sym e)) (λ held. IsNoneShown (names_of c.args.inputs.now) held)
+    _ c.in_err-inst.ensures.step.err fault (ap Err (sym e)) (λ held. IsNoneShown (names_of c.args.inputs.now) held)

@@ -12,4 +12,4 @@ pub go-requires-2-clause-open : goal.go-requires-2-clause-open
 go-requires-2-clause-open c =
     let same = c.go_back.ensures ∙ ap (λ (mark : ℕ). taken_back mark c.go.new.starts) c.mark-mark.ensures ∙ c.go.ensures.back in
     subst (λ (s : StartsNode). IsOpen s.inst s.decisions (Order c.args.second c.args.first)) (sym same)
-    (swap c.requires.apart, λ settled. c.requires.unsettled (swap settled))
+    (inl (swap c.requires.apart), λ settled. c.requires.unsettled (swap settled))

@@ -13,7 +13,7 @@ push_reserved-requires c =
     let f = c.self.inside in
     let kept = c.self.invariant in
     let can = can_assign f _ c.args.task c.args.crane c.self.view_is (record { task = c.requires.task; crane = c.requires.crane; none = c.requires.none }) in
-    let room = made_room f.inst f.made.items _ (Assign c.args.task c.args.crane) (can.task, can.crane, can.none, kept.fits) kept.room in
+    let room = made_room f.inst kept.valid f.made.items _ (Assign c.args.task c.args.crane) (can.task, can.crane, can.none, kept.fits) kept.room in
     omega (arith, f.made.ok.0, room)
 
 pub load_with-requires-clause-load : goal.load_with-requires-clause-load

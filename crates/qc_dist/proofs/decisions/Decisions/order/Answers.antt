@@ -10,33 +10,33 @@ pub push_reserved-requires : goal.push_reserved-requires
 push_reserved-requires c =
     let f = c.self.inside in
     let kept = c.self.invariant in
-    let can = can_order f kept _ c.args.first c.args.second c.self.view_is c.requires.apart c.requires.unsettled in
-    let room = made_room f.inst f.made.items _ (Order c.args.first c.args.second) (can.apart, can.one, can.other, kept.fits) kept.room in
+    let can = can_order f kept _ c.args.first c.args.second c.self.view_is c.requires.conflict c.requires.unsettled in
+    let room = made_room f.inst kept.valid f.made.items _ (Order c.args.first c.args.second) (can.conflict, can.one, can.other, kept.fits) kept.room in
     omega (arith, f.made.ok.0, room)
 
 pub cell-requires-clause-first : goal.cell-requires-clause-first
 cell-requires-clause-first c =
     let kept = c.self.invariant in
-    let can = can_order c.self.inside kept _ c.args.first c.args.second c.self.view_is c.requires.apart c.requires.unsettled in
+    let can = can_order c.self.inside kept _ c.args.first c.args.second c.self.view_is c.requires.conflict c.requires.unsettled in
     omega (arith, kept.valid.tasks.count, can.first)
 
 pub cell-requires-clause-second : goal.cell-requires-clause-second
 cell-requires-clause-second c =
     let kept = c.self.invariant in
-    let can = can_order c.self.inside kept _ c.args.first c.args.second c.self.view_is c.requires.apart c.requires.unsettled in
+    let can = can_order c.self.inside kept _ c.args.first c.args.second c.self.view_is c.requires.conflict c.requires.unsettled in
     omega (arith, kept.valid.tasks.count, can.second)
 
 pub index_mut-requires : goal.index_mut-requires
 index_mut-requires c =
     let f = c.self.inside in
     let kept = c.self.invariant in
-    let can = can_order f kept _ c.args.first c.args.second c.self.view_is c.requires.apart c.requires.unsettled in
+    let can = can_order f kept _ c.args.first c.args.second c.self.view_is c.requires.conflict c.requires.unsettled in
     omega (arith, kept.valid.tasks.count, kept.ordered.count, f.ordered.ok.0, can.first, can.second)
 
 pub invariant_of-self : goal.invariant_of-self
 invariant_of-self c =
     let f = c.self.inside in
-    let can = can_order f c.self.invariant _ c.args.first c.args.second c.self.view_is c.requires.apart c.requires.unsettled in
+    let can = can_order f c.self.invariant _ c.args.first c.args.second c.self.view_is c.requires.conflict c.requires.unsettled in
     after_order f.inst f.made.items c.push_reserved.new.self.items _ (beside f) c.args.first c.args.second c.cell.result
     c.self.invariant can c.cell.ensures c.push_reserved.ensures.items c.push_reserved.ensures.capacity
 
@@ -44,7 +44,7 @@ pub returns-clause-fits : goal.returns-clause-fits
 returns-clause-fits c =
     let f = c.self.inside in
     let kept = c.self.invariant in
-    let can = can_order f kept _ c.args.first c.args.second c.self.view_is c.requires.apart c.requires.unsettled in
+    let can = can_order f kept _ c.args.first c.args.second c.self.view_is c.requires.conflict c.requires.unsettled in
     let m : Made = record { decision = Order c.args.first c.args.second; load = None } in
     rw (c.push_reserved.ensures.items, reverse-append f.made.items (m ∷ []))
-    (can.apart, can.one, can.other, kept.fits)
+    (can.conflict, can.one, can.other, kept.fits)

@@ -16,4 +16,4 @@ returns-clause-nodes c =
 pub add-requires : goal.add-requires
 add-requires c =
     subst (λ (s : Standing). IsOpen s.inst s.decisions (Order c.args.first c.args.second)) (sym c.self.view_is)
-    (inl c.requires.apart, c.requires.unsettled)
+    (inl (inl c.requires.apart), c.requires.unsettled)

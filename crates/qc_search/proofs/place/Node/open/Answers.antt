@@ -17,6 +17,7 @@ invariant_of-result c =
     let none = sym c.in_ok-starts.ensures.decisions in
     record {
       valid = c.instance.ensures.valid;
+      one_way = ap (λ (i : InstanceView). i.turn) c.in_ok-starts.ensures.inst ∙ c.requires;
       fits = subst (λ (ds : List Decision). Fits inst ds) none tt;
       crew = subst (λ (ds : List Decision). IsCrewOf c.in_ok-crew.crew inst ds) none
           (crew_root inst c.in_ok-crew.crew (c.in_ok-crew.ensures ∙ ap root_crew c.instance.ensures.same));

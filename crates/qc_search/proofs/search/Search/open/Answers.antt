@@ -18,5 +18,5 @@ invariant_of-result c =
           ∙ c.task_count.ensures.count
           ∙ ap (λ (i : InstanceView). length i.tasks) made;
       room = omega (arith, c.in_ok-path.ensures.capacity);
-      few = c.requires;
+      few = c.requires.few;
     }

@@ -12,7 +12,7 @@ told-requires g c = λ end e.
     let w = (rw c.begin-progress.ensures.up_inst at c.in_ok-write_tree.ensures) b.first b.progress in
     let count = rw c.instance.ensures.same at c.crane_count-cranes.ensures.count in
     subst (λ (n : ℕ). All (λ (s : Slot). s.crane < n) c.write_tree.new.progress.incumbent) (sym count)
-    (went_cranes home c.instance.ensures.valid (option_map (λ sched. sched.now) c.args.given) c.begin-progress.result
+    (went_cranes home c.instance.ensures.valid c.instance.ensures.one_way (option_map (λ sched. sched.now) c.args.given) c.begin-progress.result
     c.write_tree.new.progress c.self.inside.limit b w end e)
 
 pub returns-clause-searched : goal.returns-clause-searched
@@ -30,7 +30,7 @@ returns-clause-searched g c =
     c.told.ensures ∙ ap (λ (n : ℕ). told_with n old.incumbent_end now) count in
     subst (IsSearched c.args.self given before after) (sym told)
     (subst (λ (s : SearchView). IsSearched s given before after (told_of home old.incumbent_end now)) c.self.view_is
-    (went_searched home c.instance.ensures.valid given old now c.self.inside.limit b w))
+    (went_searched home c.instance.ensures.valid c.instance.ensures.one_way given old now c.self.inside.limit b w))
 
 pub returns-clause-sound : goal.returns-clause-sound
 returns-clause-sound g c =
@@ -45,7 +45,7 @@ returns-clause-sound g c =
     c.told.ensures ∙ ap (λ (n : ℕ). told_with n old.incumbent_end now) count in
     subst (IsSound c.args.self given) (sym told)
     (subst (λ (s : SearchView). IsSound s given (told_of home old.incumbent_end now)) c.self.view_is
-    (went_sound home c.instance.ensures.valid given old now c.self.inside.limit b w))
+    (went_sound home c.instance.ensures.valid c.instance.ensures.one_way given old now c.self.inside.limit b w))
 
 pub returns-in_err-write_tree-clause-cut : goal.returns-in_err-write_tree-clause-cut
 returns-in_err-write_tree-clause-cut g c =

@@ -9,6 +9,6 @@ pub push_reserved-requires : goal.push_reserved-requires
 push_reserved-requires c =
     let is = c.self.invariant in
     let count = levels_count _ _ _ _ is.levels in
-    let fits = fits_room c.self.inside.decisions.inst c.decide.new.decisions.decisions c.decide.ensures.fits in
+    let fits = fits_room c.self.inside.decisions.inst is.valid c.decide.new.decisions.decisions c.decide.ensures.fits in
     let more = ap (λ (n : Node). length n.decisions) c.decide.ensures.decisions in
     omega (arith, count, length-reverse c.self.inside.marks.items, fits, more, is.room)

@@ -4,12 +4,13 @@ use Rattle.qc_dist.specs.Node.{IsOpen}
 use Rattle.qc_dist.proofs.Room.{fits_room}
 use Rattle.qc_model.specs.declared.decision.Decision.{Decision}
 use Rattle.qc_model.specs.Instance.{InstanceView}
+use Rattle.qc_model.specs.Nodes.{order_pairs}
 use Rattle.qc_starts.specs.declared.starts.Starts.TheInside.{Inside}
 use Rattle.qc_starts.specs.Fields.{IsKept, node_of}
 use Rattle.qc_starts.specs.Opened.{HasBegun}
 use Rattle.qc_starts.specs.Seen.{IsNoted, IsReached, IsStep, StartsNode, taken_back}
 use Rattle.qc_starts.proofs.DecideLemmas.{begun_notes, decided}
-use Rattle.qc_starts.proofs.KeptLemmas.{home_rest, nested_count, rooting_of, settled_step, soon_kept, step_of}
+use Rattle.qc_starts.proofs.KeptLemmas.{home_rest, nested_count, root_task, rooting_of, settled_step, soon_kept, step_of}
 use Rattle.qc_starts.proofs.starts.Starts.decide.Goals as goal
 use Rattle.qc_starts.proofs.starts.Starts.decide.Goals.{After-settle-self-inside}
 
@@ -18,10 +19,17 @@ push_reserved-requires g c =
     let f = c.self.inside in
     let is = c.self.invariant in
     let count = nested_count _ _ _ _ _ is.nested in
-    let fits = fits_room c.add.new.self.inst c.add.new.self.decisions c.add.ensures.sound.fits in
+    let fits = fits_room c.add.new.self.inst c.add.ensures.sound.valid c.add.new.self.decisions c.add.ensures.sound.fits in
     let more = ap (length {A = Decision}) c.add.ensures.decisions in
-    let room = ap (λ (i : InstanceView). length i.tasks + length i.apart) c.add.ensures.inst in
+    let room = ap (λ (i : InstanceView). length i.tasks + order_pairs i) c.add.ensures.inst in
     omega (arith, count, length-reverse f.marks.items, fits, more, room, is.room)
+
+pub begin-requires-clause-root : goal.begin-requires-clause-root
+begin-requires-clause-root g c =
+    let f = c.self.inside in
+    let open_ = subst (λ (n : StartsNode). IsOpen n.inst n.decisions c.args.decision) (sym c.self.view_is) c.requires.open in
+    let low = root_task f.network.inst c.self.invariant.sound.valid f.network.decisions c.args.decision open_ in
+    omega (arith, low, c.root_of-self-inside.ensures, c.self.invariant.sized.pending)
 
 pub settle-self-inside-requires-clause-rooting : goal.settle-self-inside-requires-clause-rooting
 settle-self-inside-requires-clause-rooting g c =

@@ -2,7 +2,7 @@ use Rattle.std.proofs.Common.{ap, ◌∙◌, arith}
 use Rattle.qc_model.specs.declared.task.Task.{Task}
 use Rattle.qc_model.specs.Instance.{InstanceView, ticks_of}
 use Rattle.qc_dist.proofs.Along.{heads_far, heads_near}
-use Rattle.qc_dist.proofs.decisions.Decisions.pair_ticks.Goals as goal
+use Rattle.qc_dist.proofs.decisions.Decisions.upward_ticks.Goals as goal
 
 pub returns-then-to-from-clause-ticks : goal.returns-then-to-from-clause-ticks
 returns-then-to-from-clause-ticks c =
