@@ -43,8 +43,8 @@ module _ (inst : InstanceView) where
   turned_first ds i j up is_open = (
     (conflict_turned inst ds i j is_open.0, λ settled. is_open.1 (elim settled [ inl s ↦ inr s | inr s ↦ inl s ])),
     cond-true (nat_lt i j) _ _ (lt-ltb i j up)
-    ∙ ap (λ (rest : List (List Decision)). (Order j i ∷ ds) ∷ rest)
-    (sym (cond-false (nat_lt j i) ((Order i j ∷ ds) ∷ []) [] (le-ltb j i (omega arith)))),
+        ∙ ap (λ (rest : List (List Decision)). (Order j i ∷ ds) ∷ rest)
+        (sym (cond-false (nat_lt j i) ((Order i j ∷ ds) ∷ []) [] (le-ltb j i (omega arith)))),
   )
 
   pub turned_last : (ds : List Decision) (i j : ℕ) → j ≤ i → later inst ds (Order i j) ≡ []

@@ -138,7 +138,7 @@ impl Decisions {
         requires second { j < length self.now.inst.tasks }
         ensures ticks { result ≡ excess (sooner_ticks self.now.inst self.now.decisions i j)
             (crane_ticks self.now.inst (is_sooner self.now.inst self.now.decisions i j) i j
-                (assigned self.now.decisions i) (assigned self.now.decisions j)) }
+            (assigned self.now.decisions i) (assigned self.now.decisions j)) }
         ensures bound { IfSome result (λ ticks. ticks ≤ MOST_WORK + MOST_DISTANCE) }
     {
         let more = self.crane_ticks(i, j)?;

@@ -45,7 +45,7 @@ placed inst (Assign g k ∷ ds) fits reach j =
 agrees_of : (inst : InstanceView) → Valid inst → (sched : List Slot) (ds : List Decision) → Fits inst ds
     → ((j k : ℕ) → assigned ds j ≡ Some k → crane_of sched j ≡ k)
     → ((i j : ℕ) → i < length inst.tasks → j < length inst.tasks → is_ordered ds i j ≡ true
-        → end_of inst sched i ≤ start_of sched j)
+    → end_of inst sched i ≤ start_of sched j)
     → Agrees inst ds sched
 agrees_of inst valid sched [] fits cranes orders = tt
 agrees_of inst valid sched (Order i j ∷ ds) fits cranes orders =

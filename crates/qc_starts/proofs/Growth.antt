@@ -193,9 +193,11 @@ module _ (inst : InstanceView) (ds : List Decision) (g h : ℕ) where
         let news = Order g h ∷ ds in
         let asked = or_right (is_before inst g h) (is_ordered news g h) (ordered_here ds g h) in
         let cranes = crane_ticks inst (is_sooner inst news g h) g h (assigned ds g) (assigned ds h) in
-        let more = some_greater (ticks_of inst g) cranes in
-        (more.0, ap (λ (o : Option ℕ). greater o cranes)
-        (cond-true (is_sooner inst news g h) (Some (ticks_of inst g)) None asked) ∙ more.1)
+        let more = some_greater (ticks_of inst g) cranes in (
+          more.0,
+          ap (λ (o : Option ℕ). greater o cranes)
+              (cond-true (is_sooner inst news g h) (Some (ticks_of inst g)) None asked) ∙ more.1,
+        )
 
     order_grows : (i j : ℕ) → IsNoLess (forced inst ds i j) (forced inst (Order g h ∷ ds) i j)
     order_grows i j = elim (cases_eq g i) [
