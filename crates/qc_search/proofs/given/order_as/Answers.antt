@@ -3,8 +3,10 @@ use Rattle.std.proofs.lemmas.Bool.{false≢true}
 use Rattle.qc_dist.specs.Node.{IsOpen}
 use Rattle.qc_model.specs.declared.decision.Decision.{Decision}
 use Rattle.qc_model.specs.declared.pair.Pair.{Pair}
+use Rattle.qc_model.specs.Nodes.{IsSettled}
+use Rattle.qc_starts.specs.Tight.{order_in}
 use Rattle.qc_starts.proofs.KeptLemmas.{IsSettledPair}
-use Rattle.qc_search.proofs.OrderLemmas.{has_starts_of, order_open, order_settles}
+use Rattle.qc_search.proofs.OrderLemmas.{has_starts_of, order_open, order_settles, settled_more}
 use Rattle.qc_search.proofs.given.order_as.Goals as goal
 
 pub go-requires-clause-starts : goal.go-requires-clause-starts
@@ -30,3 +32,14 @@ returns-clause-settled c =
     (subst (λ (es : List Decision). IsSettledPair inst es pair)
     (sym (c.go.ensures.decisions ∙ ap (λ (d : Decision). d ∷ ds) is))
     (order_settles inst c.args.sched.now pair ds (λ s. false≢true (sym c.if-settled.false ∙ c.settled.ensures.1 s))))
+
+pub returns-clause-stays : goal.returns-clause-stays
+returns-clause-stays c = λ i j settled.
+    let inst = c.args.starts.now.inst in
+    let ds = c.args.starts.now.decisions in
+    let pair = c.apart_at-pair.result in
+    let is = rw c.instance.ensures.same at c.order_of-order.ensures in
+    let is_open = order_open inst c.args.sched.now pair ds c.apart_at-pair.ensures.apart
+    (λ s. false≢true (sym c.if-settled.false ∙ c.settled.ensures.1 s)) in
+    subst (λ (es : List Decision). IsSettled inst es i j) (sym (c.go.ensures.decisions ∙ ap (λ (d : Decision). d ∷ ds) is))
+    (settled_more inst ds (order_in inst c.args.sched.now pair) is_open i j settled)
