@@ -1,5 +1,5 @@
 -- What is told of a search follows from what it came to.
-use Rattle.std.proofs.Common.{◌≡◌, ◌≤◌, ℕ, Bool, true, false, arith, List, Option, None, Some, refl, sym, inl, inr, ap, ◌∙◌, subst, IfSome, MatchOption, nat_le, nat_lt, if◌then◌else◌}
+use Rattle.std.proofs.Common.{◌≡◌, ◌≤◌, ℕ, Bool, true, false, arith, List, Option, None, Some, refl, sym, inl, inr, ap, ◌∙◌, subst, Bor, IfSome, MatchOption, option_map, nat_le, nat_lt, if◌then◌else◌}
 use Rattle.std.proofs.lemmas.Bool.{leb-true, ltb-true}
 use Rattle.std.proofs.lemmas.List.{length-map}
 use Rattle.qc_num.specs.declared.bound.Bound.{Bound}
@@ -86,6 +86,12 @@ kind_none inst done bound is best same =
 pub of_some : {A : Type 0} (P : A → Type 0) (o : Option A) (a : A) → o ≡ Some a → IfSome o P → P a
 of_some P None a e h = absurd (cc e)
 of_some P (Some b) a e h = let same : b ≡ a = cc in subst P same h
+
+-- what holds of the value that is kept holds of the one that is looked at
+pub copied_keeps : {V : Type 0} (P : V → Type 0) (r : Option (Bor V)) (s : Option V)
+    → option_map (λ (x : Bor V). x.now) r ≡ s → IfSome s P → IfSome r (λ (x : Bor V). P x.now)
+copied_keeps P None s is h = tt
+copied_keeps P (Some x) s is h = of_some P s x.now (sym is) h
 
 pub is_best :
     (inst : InstanceView) (nodes : ℕ) (own : Option (List Slot)) (tree : Tree) (done : DoneView)

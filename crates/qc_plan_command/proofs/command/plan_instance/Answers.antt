@@ -1,12 +1,19 @@
 use Rattle.std.proofs.Common.{◌≡◌, true, false, ap, arith, option_map, subst, sym, ◌∙◌, is_err}
+use Rattle.std.proofs.lemmas.Option.{IfSome_then}
 use Rattle.qc_io.specs.Outside.{View}
 use Rattle.qc_model.specs.Instance.{InstanceView}
+use Rattle.qc_model.specs.OneWay.{GoesOneWay}
 use Rattle.qc_search.specs.Run.{SearchView}
 use Rattle.qc_tree.specs.Trees.{NoneEarlier}
 use Rattle.qc_plan_command.specs.Asked.{planning}
-use Rattle.qc_plan_command.proofs.FoundLemmas.{rereads}
+use Rattle.qc_plan_command.proofs.FoundLemmas.{copied_keeps, rereads}
 use Rattle.qc_plan_command.proofs.StoreLemmas.{at_begin, at_end, at_plan, at_tree, by_err, by_ok, writes_told}
 use Rattle.qc_plan_command.proofs.command.plan_instance.Goals as goal
+
+pub earlier-given-requires-clause-goes : goal.earlier-given-requires-clause-goes
+earlier-given-requires-clause-goes g c =
+    copied_keeps (GoesOneWay c.args.job.inst) c.as_ref-2.result c.args.swept c.as_ref-2.ensures.value
+    (IfSome_then c.args.swept c.requires.swept (λ sched is. is.one_way))
 
 pub returns-then-is_err-clause-serves : goal.returns-then-is_err-clause-serves
 returns-then-is_err-clause-serves g c =
