@@ -3,7 +3,6 @@ use Rattle.std.specs.Prelude.{◌≡◌, ℕ, List, Option}
 use Rattle.qc_model.specs.declared.decision.Decision.{Decision}
 use Rattle.qc_model.specs.Instance.{InstanceView}
 use Rattle.qc_model.specs.declared.turn.Turn.{Turn}
-use Rattle.qc_model.specs.declared.turn.Turn.TheVariants.{OneWay}
 use Rattle.qc_model.specs.Assignments.{cranes_of}
 
 -- the instance, whether cranes go one way, and the crane of each task that has one
@@ -12,9 +11,8 @@ pub record CrewView : Type 0 where
   pub turn : Turn
   pub cranes : List (Option ℕ)
 
--- the crew is that of the decisions: of their instance, with cranes that go one way, and each task has the crane
--- that they give it
+-- the crew is that of the decisions: of their instance and its turn, and each task has the crane that they give it
 pub record IsCrewOf (crew : CrewView) (inst : InstanceView) (ds : List Decision) : Type 0 where
   pub same : crew.inst ≡ inst
-  pub turn : crew.turn ≡ OneWay
+  pub turn : crew.turn ≡ inst.turn
   pub cranes : crew.cranes ≡ cranes_of inst ds

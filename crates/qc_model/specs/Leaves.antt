@@ -1,4 +1,5 @@
--- public: leaves of a bound tree: what shows, for all upward schedules that agree with a node, an end that none beats.
+-- public: leaves of a bound tree: what shows an end that none beats of the schedules that agree with a node: of the upward
+-- ones where cranes go one way, and of all that are feasible where they go as they like.
 use Rattle.std.specs.Prelude.{ℕ, ◌+◌, Bool, true, false, not, ◌&&◌, nat_lt, nat_le, if◌then◌else◌, List, [], ◌∷◌, ◌++◌, map, length, Option, None, Some, is_some, option_map, option_and_then}
 use Rattle.std.specs.List.{list_all}
 use Rattle.qc_model.specs.Numbers.{most_tasks}
@@ -6,10 +7,10 @@ use Rattle.qc_num.specs.declared.bound.Bound.{Bound}
 use Rattle.qc_num.specs.declared.bound.Bound.TheVariants.{Least, Never}
 use Rattle.qc_model.specs.declared.decision.Decision.{Decision}
 use Rattle.qc_model.specs.declared.decision.Decision.TheVariants.{Assign, Order}
-use Rattle.qc_model.specs.declared.turn.Turn.TheVariants.{OneWay}
 use Rattle.qc_model.specs.Assignments.{cranes_of}
 use Rattle.qc_model.specs.Closed.{is_closed}
 use Rattle.qc_model.specs.Instance.{InstanceView, ticks_of}
+use Rattle.qc_model.specs.Early.{early}
 use Rattle.qc_model.specs.Nodes.{forced, head, head1, least, reaches}
 use Rattle.qc_model.specs.Packs.{pack}
 use Rattle.qc_model.specs.Work.{work_holds}
@@ -63,17 +64,18 @@ is_ring inst ds (j ∷ js) = is_some (chain_ticks inst ds j (js ++ j ∷ []))
 abbrev pub are_tasks : InstanceView → List ℕ → Bool
 are_tasks inst tasks = nat_le (length tasks) most_tasks && list_all (λ j. nat_lt j (length inst.tasks)) tasks
 
--- the end that packed tasks show: they begin at the least of their heads
+-- the end that packed tasks show: they begin when the first of them can
 abbrev pub packed_end : InstanceView → List Decision → List ℕ → Option ℕ
 packed_end inst ds tasks =
-    option_map (λ ticks. least (map (head inst ds) tasks) + ticks) (pack inst (cranes_of inst ds) tasks)
+    option_and_then (λ begins.
+    option_map (λ ticks. least (map begins tasks) + ticks) (pack inst (cranes_of inst ds) tasks)) (early inst ds)
 
 -- the work of a node doesn't fit before an end: some crane can't be done with its own tasks, or what is left is more than
 -- the time of all cranes together; or, where the version counts cranes, the assignment is closed at the end
 abbrev pub work_over : Version → InstanceView → List Decision → ℕ → Bool
 work_over without_berths inst ds end = work_holds inst ds end
 work_over with_berths inst ds end = work_holds inst ds end
-work_over with_packed inst ds end = is_closed inst OneWay (cranes_of inst ds) end
+work_over with_packed inst ds end = is_closed inst inst.turn (cranes_of inst ds) end
 
 -- the newest decision puts a task on a crane that doesn't reach it
 abbrev pub is_out_of_reach : InstanceView → List Decision → Bool

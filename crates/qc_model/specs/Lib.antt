@@ -12,6 +12,7 @@ pub mod Judge
 pub mod Judged
 pub mod Nodes
 pub mod Work
+pub mod Early
 pub mod Assignments
 pub mod Packs
 pub mod Frames

@@ -8,7 +8,7 @@ use Rattle.qc_model.specs.declared.schedule.Slot.{Slot}
 use Rattle.qc_model.specs.declared.turn.Turn.{Turn}
 use Rattle.qc_model.specs.declared.turn.Turn.TheVariants.{OneWay, Free}
 use Rattle.qc_model.specs.Instance.{InstanceView, bay_of, ticks_of, crane, IsApart}
-use Rattle.qc_model.specs.Rules.{crane_of, start_of, end_of, last_end}
+use Rattle.qc_model.specs.Rules.{Feasible, crane_of, start_of, end_of, last_end}
 use Rattle.qc_model.specs.Ticks.{arrival, berth_clear, berth_distance, task_distance, travel_between, climb, lead}
 
 -- the crane of an assigned task
@@ -187,14 +187,22 @@ pub record HasStarts (inst : InstanceView) (ds : List Decision) : Type 0 where
   pub starts : List ℕ
   pub meets : Meets inst ds starts
 
--- every task is assigned and every apart pair settled
-pub record IsComplete (inst : InstanceView) (ds : List Decision) : Type 0 where
-  pub tasks : (j : ℕ) → j < length inst.tasks → IsSome (assigned ds j)
-  pub pairs : (i j : ℕ) → IsApart inst i j → IsSettled inst ds i j
-
 -- the schedule of a complete node with these starts
 abbrev pub slot_with : List Decision → List ℕ → ℕ → Slot
 slot_with ds starts j = record { crane = unwrap_or (assigned ds j) 0; start = slice_index starts j }
 
 abbrev pub schedule_with : InstanceView → List Decision → List ℕ → List Slot
 schedule_with inst ds starts = map (slot_with ds starts) (range_with_len 0 (length inst.tasks))
+
+-- the least starts of the node, with the cranes that its tasks have, are a feasible schedule
+pub record IsLeastFeasible (inst : InstanceView) (ds : List Decision) : Type 0 where
+  pub starts : List ℕ
+  pub least : AreLeast inst ds starts
+  pub feasible : Feasible inst (schedule_with inst ds starts)
+
+-- nothing is left to decide: every task is assigned, and where cranes go one way every apart pair is settled; where they
+-- go as they like, the least starts are a schedule, whatever pairs are still open
+pub record IsComplete (inst : InstanceView) (ds : List Decision) : Type 0 where
+  pub tasks : (j : ℕ) → j < length inst.tasks → IsSome (assigned ds j)
+  pub pairs : inst.turn ≡ OneWay → (i j : ℕ) → IsApart inst i j → IsSettled inst ds i j
+  pub least : inst.turn ≡ Free → IsLeastFeasible inst ds

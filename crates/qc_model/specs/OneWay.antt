@@ -4,6 +4,8 @@ use Rattle.std.specs.Prelude.{◌≡◌, ℕ, ◌+◌, ◌-◌, ◌<◌, ◌≤�
 use Rattle.qc_model.specs.declared.task.Task.{Task}
 use Rattle.qc_model.specs.declared.crane.Crane.{Crane}
 use Rattle.qc_model.specs.declared.schedule.Slot.{Slot}
+use Rattle.qc_model.specs.declared.turn.Turn.{Turn}
+use Rattle.qc_model.specs.declared.turn.Turn.TheVariants as turn
 use Rattle.qc_model.specs.Instance.{InstanceView, bay_of, mirror_bay}
 use Rattle.qc_model.specs.Rules.{crane_of, start_of, Feasible}
 use Rattle.qc_model.specs.Ticks.{climb, lead, task_distance}
@@ -66,3 +68,11 @@ pub record GoesDown (inst : InstanceView) (sched : List Slot) : Type 0 where
 -- the schedule goes one way, upward or downward
 abbrev pub GoesOneWay : InstanceView → List Slot → Type 0
 GoesOneWay inst sched = GoesUp inst sched ⊎ GoesDown inst sched
+
+-- the schedules that cranes with this turn may follow: those that go one way, or all that are feasible
+abbrev pub IsAllowedBy : Turn → InstanceView → List Slot → Type 0
+IsAllowedBy turn.OneWay inst sched = GoesOneWay inst sched
+IsAllowedBy turn.Free inst sched = Feasible inst sched
+
+abbrev pub IsAllowed : InstanceView → List Slot → Type 0
+IsAllowed inst sched = IsAllowedBy inst.turn inst sched

@@ -1,5 +1,5 @@
 -- public: what a tree's file shows, line by line, or its first fault.
-use Rattle.std.specs.Prelude.{ℕ, ◌+◌, ◌-◌, Bool, not, ◌&&◌, ◌||◌, ◌==◌, nat_lt, nat_le, if◌then◌else◌, List, [], ◌∷◌, ◌++◌, map, length, drop, Option, is_none, is_some, Result, Ok, Err, ok_or, ⊤}
+use Rattle.std.specs.Prelude.{ℕ, ◌+◌, ◌-◌, Bool, true, false, not, ◌&&◌, ◌||◌, ◌==◌, nat_lt, nat_le, if◌then◌else◌, List, [], ◌∷◌, ◌++◌, map, length, drop, Option, Some, is_none, is_some, Result, Ok, Err, ok_or, ⊤}
 use Rattle.std.specs.List.{list_all, list_any, slice_split}
 use Rattle.qc_num.specs.declared.bound.Bound.{Bound}
 use Rattle.qc_num.specs.declared.bound.Bound.TheVariants.{Never}
@@ -9,12 +9,15 @@ use Rattle.qc_model.specs.declared.decision.Decision.{Decision}
 use Rattle.qc_model.specs.declared.decision.Decision.TheVariants as decide
 use Rattle.qc_model.specs.declared.direction.Direction.{Direction}
 use Rattle.qc_model.specs.declared.direction.Direction.TheVariants as way
+use Rattle.qc_model.specs.declared.turn.Turn.{Turn}
+use Rattle.qc_model.specs.declared.turn.Turn.TheVariants as turn
 use Rattle.qc_model.specs.Instance.{InstanceView}
 use Rattle.qc_model.specs.Leaves.{Version, chain, has_packed, packed, ring, reach, work, without_berths, with_berths, with_packed, leaf_value}
 use Rattle.qc_model.specs.Work.{crane_numbers}
 use Rattle.qc_model.specs.Nodes.{assigned, forced}
 use Rattle.qc_model.specs.Numbers.{most_branchings}
 use Rattle.qc_model.specs.Seen.{seen}
+use Rattle.qc_model.specs.Ticks.{task_distance}
 use Rattle.qc_tree.specs.declared.line.Line.{Line}
 use Rattle.qc_tree.specs.declared.line.Line.TheVariants as line
 use Rattle.qc_tree.specs.LineIn.{line_in}
@@ -36,11 +39,16 @@ pub record Reading : Type 0 where
   pub branched : ℕ
   pub bound : Bound
 
+-- the lines of a tree of one node a part: where cranes go as they like it has one part, and no word begins it
+abbrev pub first_lines : Turn → List Coming
+first_lines turn.OneWay = title ∷ up ∷ node way.Up [] ∷ down ∷ node way.Down [] ∷ end ∷ []
+first_lines turn.Free = title ∷ node way.Up [] ∷ end ∷ []
+
 -- nothing is read; the version is that of the title once this has come
-abbrev pub start : Reading
-start = record {
+abbrev pub start : InstanceView → Reading
+start inst = record {
   version = with_packed;
-  coming = title ∷ up ∷ node way.Up [] ∷ down ∷ node way.Down [] ∷ end ∷ [];
+  coming = first_lines inst.turn;
   branched = 0;
   bound = Never;
 }
@@ -83,10 +91,26 @@ on_task inst d ds r j = do
   _ ← require (is_none (assigned ds j)) kind.Decided
   branched_to r (map (λ k. node d (decide.Assign j k ∷ ds)) (crane_numbers inst))
 
--- branching on an apart pair: a node for each order
+-- the two tasks conflict on the cranes that they have
+abbrev pub clash : InstanceView → ℕ → ℕ → Option ℕ → Option ℕ → Bool
+clash inst i j (Some v) (Some w) = not (i == j) && ((v == w) || nat_lt 0 (task_distance inst i v j w))
+clash inst i j v w = false
+
+-- the order of the two may be branched on
+abbrev pub may_order : Turn → InstanceView → List Decision → ℕ → ℕ → Bool
+may_order turn.OneWay inst ds i j = is_apart inst i j
+may_order turn.Free inst ds i j =
+    nat_lt i j && (is_apart inst i j || clash inst i j (assigned ds i) (assigned ds j))
+
+-- the fault of a pair of which it may not
+abbrev pub no_order : Turn → TreeKind
+no_order turn.OneWay = kind.NotApart
+no_order turn.Free = kind.NotConflict
+
+-- branching on a pair: a node for each order
 abbrev pub on_pair : InstanceView → Direction → List Decision → Reading → ℕ → ℕ → Result Reading TreeKind
 on_pair inst d ds r i j = do
-  _ ← require (is_apart inst i j) kind.NotApart
+  _ ← require (may_order inst.turn inst ds i j) (no_order inst.turn)
   _ ← require (not (is_settled inst ds i j)) kind.Decided
   branched_to r (node d (decide.Order i j ∷ ds) ∷ node d (decide.Order j i ∷ ds) ∷ [])
 
@@ -113,17 +137,34 @@ at_node inst d ds r line.Clash list = do
 at_node inst d ds r _ list = Err kind.Place
 
 -- a line where this must come
-abbrev pub at : InstanceView → Reading → Coming → Line → List ℕ → Result Reading TreeKind
-at inst r title line.Title list = Ok (record (came r) { version = without_berths })
-at inst r title line.Title2 list = Ok (record (came r) { version = with_berths })
-at inst r title line.Title3 list = Ok (record (came r) { version = with_packed })
-at inst r up line.Up list = Ok (came r)
-at inst r down line.Down list = Ok (came r)
-at inst r end (line.End b x) list = do
+abbrev pub at_due : InstanceView → Reading → Coming → Line → List ℕ → Result Reading TreeKind
+at_due inst r title line.Title list = Ok (record (came r) { version = without_berths })
+at_due inst r title line.Title2 list = Ok (record (came r) { version = with_berths })
+at_due inst r title line.Title3 list = Ok (record (came r) { version = with_packed })
+at_due inst r title line.FreeTitle list = Ok (record (came r) { version = with_packed })
+at_due inst r up line.Up list = Ok (came r)
+at_due inst r down line.Down list = Ok (came r)
+at_due inst r end (line.End b x) list = do
   _ ← require ((b == r.branched) && is_bound x r.bound) kind.Counts
   Ok (came r)
-at inst r (node d ds) line list = at_node (seen inst d) d ds r line list
-at inst r _ line list = Err kind.Place
+at_due inst r (node d ds) line list = at_node (seen inst d) d ds r line list
+at_due inst r _ line list = Err kind.Place
+
+-- the line is one of trees for cranes with this turn
+abbrev pub is_known : Turn → Line → Bool
+is_known turn.OneWay line.FreeTitle = false
+is_known turn.OneWay line = true
+is_known turn.Free line.Title = false
+is_known turn.Free line.Title2 = false
+is_known turn.Free line.Title3 = false
+is_known turn.Free line.Up = false
+is_known turn.Free line.Down = false
+is_known turn.Free line = true
+
+abbrev pub at : InstanceView → Reading → Coming → Line → List ℕ → Result Reading TreeKind
+at inst r c line list = do
+  _ ← require (is_known inst.turn line) kind.Spelling
+  at_due inst r c line list
 
 -- the greatest length of a line with its line feed
 abbrev pub most_bytes : ℕ
@@ -169,4 +210,4 @@ texts_from inst n r (text ∷ next ∷ more) = do
 
 -- what a tree's file shows for an instance, or its first fault
 abbrev pub tree_in : InstanceView → List ℕ → Result Replayed TreeFault
-tree_in inst bytes = texts_from inst 1 start (slice_split (λ b. b == 10) bytes)
+tree_in inst bytes = texts_from inst 1 (start inst) (slice_split (λ b. b == 10) bytes)

@@ -8,7 +8,7 @@ use Rattle.qc_num.specs.Bounds.{IsAtMost}
 use Rattle.qc_model.specs.declared.schedule.Slot.{Slot}
 use Rattle.qc_model.specs.Instance.{InstanceView}
 use Rattle.qc_model.specs.Judge.{IsJudgeable}
-use Rattle.qc_model.specs.Nodes.{schedule_with}
+use Rattle.qc_model.specs.Nodes.{order_pairs, schedule_with}
 use Rattle.qc_model.specs.Numbers.{most_start}
 use Rattle.qc_model.specs.Rules.{ends}
 use Rattle.qc_model.specs.Seen.{seen, seen_schedule}
@@ -65,7 +65,7 @@ pub record IsRun (inst : InstanceView) (most : ℕ) (first : Option (List Slot))
 
 -- every tree of the instance has fewer branchings
 abbrev pub branching_limit : InstanceView → ℕ
-branching_limit inst = 2 * max 2 (length inst.cranes) ^ (length inst.tasks + length inst.apart)
+branching_limit inst = 2 * max 2 (length inst.cranes) ^ (length inst.tasks + order_pairs inst)
 
 -- a search that isn't run yet: for this instance, with so many branchings
 pub record SearchView : Type 0 where
@@ -104,7 +104,7 @@ pub record IsGivenTold (inst : InstanceView) (given : List Slot) (done : DoneVie
 
 -- what holds of each search that comes to its end, whether the sink tells its bytes or not
 pub record IsSound (search : SearchView) (given : Option (List Slot)) (done : DoneView) : Type 0 where
-  -- no schedule that goes one way ends before the bound; where it is Never, there is none
+  -- no schedule of the instance's turn ends before the bound; where it is Never, there is none
   pub none_earlier : NoneEarlier search.inst done.bound
   -- the best schedule can be judged, and is semi-active
   pub judgeable : IfSome done.best (IsJudgeable search.inst)

@@ -5,7 +5,7 @@ use Rattle.std.specs.Str.Parse.{digits_value}
 use Rattle.qc_num.specs.declared.bound.Bound.{Bound}
 use Rattle.qc_num.specs.declared.bound.Bound.TheVariants.{Least, Never}
 use Rattle.qc_tree.specs.declared.line.Line.{Line}
-use Rattle.qc_tree.specs.declared.line.Line.TheVariants.{Title, Title2, Title3, Up, Down, Assign, Order, Chain, Ring, Reach, Work, Clash, End}
+use Rattle.qc_tree.specs.declared.line.Line.TheVariants.{Title, Title2, Title3, FreeTitle, Up, Down, Assign, Order, Chain, Ring, Reach, Work, Clash, End}
 use Rattle.qc_tree.specs.Lines.{line_text}
 
 -- a line with its list
@@ -36,6 +36,7 @@ title_by word =
 abbrev pub candidate : List (List ℕ) → Listed
 candidate ws =
     if is_word ws 0 (codes "QCTREE") then alone (title_by (get_or ws 1 []))
+    else if is_word ws 0 (codes "QCFREE") then alone FreeTitle
     else if is_word ws 0 (codes "up") then alone Up
     else if is_word ws 0 (codes "down") then alone Down
     else if is_word ws 0 (codes "X") then alone Reach

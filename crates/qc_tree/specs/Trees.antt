@@ -1,4 +1,5 @@
--- public: bound trees: branchings over nodes, ended by leaves, that show an end which no one-way schedule beats.
+-- public: bound trees: branchings over nodes, ended by leaves, that show an end which no schedule of the instance's turn
+-- beats.
 use Rattle.std.specs.Prelude.{◌≡◌, ℕ, ◌+◌, ◌<◌, ◌≤◌, Bool, true, false, List, [], ◌∷◌, ◌++◌, map, length, count_by, unwrap_or, None, IsSome}
 use Rattle.std.specs.List.{flat_map}
 use Rattle.qc_num.specs.declared.bound.Bound.{Bound}
@@ -7,15 +8,17 @@ use Rattle.qc_num.specs.Bounds.{IsAtMost, lesser, least_bound}
 use Rattle.qc_model.specs.declared.decision.Decision.{Decision}
 use Rattle.qc_model.specs.declared.decision.Decision.TheVariants as decide
 use Rattle.qc_model.specs.declared.schedule.Slot.{Slot}
+use Rattle.qc_model.specs.declared.turn.Turn.{Turn}
+use Rattle.qc_model.specs.declared.turn.Turn.TheVariants.{OneWay, Free}
 use Rattle.qc_model.specs.Instance.{InstanceView, IsApart}
 use Rattle.qc_model.specs.Leaves.{Leaf, Version, chain, packed, ring, reach, work, without_berths, with_berths, with_packed, leaf_value}
 use Rattle.qc_model.specs.Work.{crane_numbers}
-use Rattle.qc_model.specs.Nodes.{IsSettled, assigned}
+use Rattle.qc_model.specs.Nodes.{Conflicts, IsSettled, assigned}
 use Rattle.qc_model.specs.Numbers.{most_branchings}
-use Rattle.qc_model.specs.OneWay.{GoesOneWay, mirror}
+use Rattle.qc_model.specs.OneWay.{IsAllowed, mirror}
 use Rattle.qc_model.specs.Rules.{ends}
 use Rattle.qc_tree.specs.declared.line.Line.{Line}
-use Rattle.qc_tree.specs.declared.line.Line.TheVariants.{Title, Title2, Title3, Up, Down, Assign, Order, Chain, Ring, Reach, Work, Clash, End}
+use Rattle.qc_tree.specs.declared.line.Line.TheVariants.{Title, Title2, Title3, FreeTitle, Up, Down, Assign, Order, Chain, Ring, Reach, Work, Clash, End}
 use Rattle.qc_tree.specs.Lines.{line_text}
 
 -- what the line of a node says; tasks are numbered from 0
@@ -24,7 +27,7 @@ pub data Sign : Type 0 where
   leaf : (shows : Leaf) → Sign
   -- which crane does the task
   on_task : (task : ℕ) → Sign
-  -- which of two apart tasks is first
+  -- which of two tasks is first
   on_pair : (first second : ℕ) → Sign
 
 -- a node: its decisions, newest first, and what its line says
@@ -32,11 +35,20 @@ pub record Node : Type 0 where
   pub decisions : List Decision
   pub sign : Sign
 
+-- the order of two tasks may be branched on: where cranes go one way that of an apart pair, and else that of all tasks
+-- that conflict, told by the lower number first
+abbrev pub MayOrderBy : Turn → InstanceView → List Decision → ℕ → ℕ → Type 0
+MayOrderBy OneWay inst ds i j = IsApart inst i j
+MayOrderBy Free inst ds i j = (i < j) × Conflicts inst ds i j
+
+abbrev pub MayOrder : InstanceView → List Decision → ℕ → ℕ → Type 0
+MayOrder inst ds i j = MayOrderBy inst.turn inst ds i j
+
 -- the line holds where it stands: a leaf shows something, a branching is on what is open
 abbrev pub Holds : Version → InstanceView → List Decision → Sign → Type 0
 Holds version inst ds (leaf shows) = IsSome (leaf_value version inst ds shows)
 Holds version inst ds (on_task j) = (j < length inst.tasks) × (assigned ds j ≡ None)
-Holds version inst ds (on_pair i j) = IsApart inst i j × (¬ IsSettled inst ds i j)
+Holds version inst ds (on_pair i j) = MayOrder inst ds i j × (¬ IsSettled inst ds i j)
 
 -- the decisions of a node's children, in the order of the file: one for each crane, or one for each order
 abbrev pub children : InstanceView → List Decision → Sign → List (List Decision)
@@ -56,7 +68,8 @@ Leads version inst (ds ∷ more) (node ∷ nodes) left =
 abbrev pub IsPart : Version → InstanceView → List Node → Type 0
 IsPart version inst nodes = Leads version inst ([] ∷ []) nodes []
 
--- a part for the instance, and one for its mirror, each as its nodes in the order of the file
+-- a part for the instance, and one for its mirror, each as its nodes in the order of the file; where cranes go as they
+-- like the second has none
 pub record Tree : Type 0 where
   pub version : Version
   pub up : List Node
@@ -85,13 +98,18 @@ branchings = count_by (λ node. branches node.sign)
 abbrev pub tree_branchings : Tree → ℕ
 tree_branchings tree = branchings tree.up + branchings tree.down
 
+-- the second part: where cranes go one way that of the mirror; else there is none, and trees have the latest version
+abbrev pub IsSecond : Turn → InstanceView → Version → List Node → Type 0
+IsSecond OneWay inst version nodes = IsPart version (mirror inst) nodes
+IsSecond Free inst version nodes = (version ≡ with_packed) × (nodes ≡ [])
+
 -- the tree is one of the instance
 pub record IsTree (inst : InstanceView) (tree : Tree) : Type 0 where
   pub up : IsPart tree.version inst tree.up
-  pub down : IsPart tree.version (mirror inst) tree.down
+  pub down : IsSecond inst.turn inst tree.version tree.down
   pub few : tree_branchings tree ≤ most_branchings
 
--- what the tree shows: no one-way schedule of the instance ends earlier
+-- what the tree shows: no schedule of the instance's turn ends earlier
 abbrev pub tree_value : InstanceView → Tree → Bound
 tree_value inst tree =
     lesser (part_value tree.version inst tree.up) (part_value tree.version (mirror inst) tree.down)
@@ -126,15 +144,20 @@ title without_berths = Title
 title with_berths = Title2
 title with_packed = Title3
 
--- the file of a tree
-abbrev pub tree_text : InstanceView → Tree → List ℕ
-tree_text inst tree =
+-- the lines ahead of the last one
+abbrev pub lines_by : Turn → Tree → List ℕ
+lines_by OneWay tree =
     whole_line (title tree.version) []
     ++ whole_line Up [] ++ part_text tree.up
     ++ whole_line Down [] ++ part_text tree.down
-    ++ whole_line (End (tree_branchings tree) (tree_value inst tree)) []
+lines_by Free tree = whole_line FreeTitle [] ++ part_text tree.up
 
--- no schedule that goes one way ends before the bound; where it is Never, there is none
+-- the file of a tree
+abbrev pub tree_text : InstanceView → Tree → List ℕ
+tree_text inst tree =
+    lines_by inst.turn tree ++ whole_line (End (tree_branchings tree) (tree_value inst tree)) []
+
+-- no schedule of the instance's turn ends before the bound; where it is Never, there is none
 abbrev pub NoneEarlier : InstanceView → Bound → Type 0
 NoneEarlier inst bound =
-    (sched : List Slot) → GoesOneWay inst sched → IsAtMost bound (Least (ends inst sched))
+    (sched : List Slot) → IsAllowed inst sched → IsAtMost bound (Least (ends inst sched))
