@@ -12,6 +12,7 @@ use crate::about::{help_text, version_text};
 use qc_dispatch_command::dispatch;
 use qc_io::{Shelf, Sink};
 use qc_judge_commands::{check_plan, check_tree, list_tasks, show};
+use qc_model::Turn;
 use qc_num::OutOfMemory;
 use qc_picture_command::{draw_picture, report_figures};
 use qc_plan_command::{PlanAsked, plan};
@@ -22,8 +23,10 @@ use qc_watch_command::watch;
 use qc_words::{Request, request_of};
 use std::alloc::Global;
 
-/// The names of the files that a command reads: a plan's and a tree's where it reads one.
+/// The names of the files that a command reads: a plan's and a tree's where it reads one; with the turn of the
+/// schedules that it is asked about.
 fn inputs_of<'a>(
+    turn: Turn,
     ship: &'a str,
     stow: &'a str,
     plan: Option<&'a str>,
@@ -34,6 +37,7 @@ fn inputs_of<'a>(
       stow = Some stow.now;
       plan = option_map (λ name. name.now) plan.entry;
       tree = option_map (λ name. name.now) tree.entry;
+      turn = turn;
     } }
 {
     Inputs {
@@ -43,6 +47,7 @@ fn inputs_of<'a>(
         tree,
         own: None,
         log: None,
+        turn,
     }
 }
 
@@ -57,6 +62,7 @@ fn log_of<'a>(ship: &'a str, log: &'a str) -> Inputs<'a>
         tree: None,
         own: None,
         log: Some(log),
+        turn: Turn::OneWay,
     }
 }
 
@@ -76,6 +82,7 @@ fn dispatch_of<'a>(ship: &'a str, stow: &'a str, plan: &'a str, log: &'a str) ->
         tree: None,
         own: None,
         log: Some(log),
+        turn: Turn::OneWay,
     }
 }
 
@@ -128,22 +135,23 @@ fn serve<S: Shelf, K: Sink>(
             plan(alloc, &asked, shelf, out)
         }
         Request::Check {
+            turn,
             ship,
             stow,
             plan,
             tree,
         } => {
-            let inputs = inputs_of(ship, stow, plan, Some(tree));
+            let inputs = inputs_of(turn, ship, stow, plan, Some(tree));
             match plan {
                 Some(_) => check_plan(alloc, &inputs, shelf, out),
                 None => check_tree(alloc, &inputs, shelf, out),
             }
         }
         Request::Tasks { ship, stow } => {
-            list_tasks(alloc, &inputs_of(ship, stow, None, None), shelf, out)
+            list_tasks(alloc, &inputs_of(Turn::OneWay, ship, stow, None, None), shelf, out)
         }
         Request::Show { ship, stow, plan } => {
-            show(alloc, &inputs_of(ship, stow, Some(plan), None), shelf, out)
+            show(alloc, &inputs_of(Turn::OneWay, ship, stow, Some(plan), None), shelf, out)
         }
         Request::Make {
             number,
@@ -151,7 +159,7 @@ fn serve<S: Shelf, K: Sink>(
             cranes,
         } => make(alloc, number, hatches, cranes, out),
         Request::Sheet { ship, stow, plan } => {
-            print_sheet(alloc, &inputs_of(ship, stow, Some(plan), None), shelf, out)
+            print_sheet(alloc, &inputs_of(Turn::OneWay, ship, stow, Some(plan), None), shelf, out)
         }
         Request::Watch { ship, log } => watch(alloc, &log_of(ship, log), shelf, out),
         Request::Dispatch {
@@ -161,10 +169,10 @@ fn serve<S: Shelf, K: Sink>(
             log,
         } => dispatch(alloc, &dispatch_of(ship, stow, plan, log), shelf, out),
         Request::Picture { ship, stow, plan } => {
-            draw_picture(alloc, &inputs_of(ship, stow, Some(plan), None), shelf, out)
+            draw_picture(alloc, &inputs_of(Turn::OneWay, ship, stow, Some(plan), None), shelf, out)
         }
         Request::Report { ship, stow, plan } => {
-            report_figures(alloc, &inputs_of(ship, stow, Some(plan), None), shelf, out)
+            report_figures(alloc, &inputs_of(Turn::OneWay, ship, stow, Some(plan), None), shelf, out)
         }
         Request::Help(of) => report_text(Status::Done, help_text(of), out),
         Request::Version => report_text(Status::Done, version_text(), out),
