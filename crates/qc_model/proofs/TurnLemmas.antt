@@ -7,7 +7,7 @@ use Rattle.qc_model.specs.declared.turn.Turn.{Turn}
 use Rattle.qc_model.specs.declared.turn.Turn.TheVariants.{OneWay, Free}
 use Rattle.qc_model.specs.Frames.{GoesBy}
 use Rattle.qc_model.specs.Instance.{InstanceView, HasBayLimits, HasPlaceLimits, Valid, with_turn}
-use Rattle.qc_model.specs.OneWay.{GoesDown, GoesOneWay, GoesUp, Upward, mirror, mirror_schedule}
+use Rattle.qc_model.specs.OneWay.{GoesDown, GoesOneWay, GoesUp, mirror, mirror_schedule}
 use Rattle.qc_model.specs.Rules.{Feasible}
 
 pub two_turns : OneWay ≡ Free → ⊥
