@@ -8,6 +8,7 @@ mod complete;
 mod latest;
 mod network;
 mod noted;
+mod overlap;
 mod place;
 mod spread;
 mod starts;
