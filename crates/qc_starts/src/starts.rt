@@ -2,7 +2,7 @@
 
 ghost use Rattle.std.specs.Prelude.{◌≡◌, ◌↔◌, ◌+◌, ◌*◌, ◌<◌, ◌≤◌, None, [], ◌∷◌, IfOk, IfSome, IsTrue, MatchOption, drop, length, sum, take};
 ghost use Rattle.qc_model.specs.declared.decision.Decision.TheVariants.{Assign, Order};
-ghost use Rattle.qc_model.specs.declared.limits.TheConstants.{MOST_DISTANCE, MOST_READY, MOST_START};
+ghost use Rattle.qc_model.specs.declared.limits.TheConstants.{MOST_DISTANCE, MOST_READY, MOST_START, MOST_TASKS, MOST_WORK};
 ghost use Rattle.qc_model.specs.declared.turn.Turn.TheVariants.{Free};
 ghost use Rattle.qc_model.specs.Instance.{Valid};
 ghost use Rattle.qc_model.specs.Nodes.{Conflicts, Fits, HasStarts, IsComplete, IsInReach, IsNodeEnd, IsSettled, assigned, head, reaches};
@@ -245,6 +245,7 @@ impl Starts {
         requires task { j < length self.now.inst.tasks }
         ensures start { IsNodeStart self.now.inst self.now.decisions j result }
         ensures bound { result ≤ MOST_START }
+        ensures soon { result + (MOST_TASKS * MOST_WORK + MOST_DISTANCE) ≤ MOST_START }
     {
         self.spread.values.start(j)
     }
