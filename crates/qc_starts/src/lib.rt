@@ -6,6 +6,7 @@
 mod arcs;
 mod complete;
 mod latest;
+mod moves;
 mod network;
 mod noted;
 mod place;
@@ -14,5 +15,6 @@ mod starts;
 mod step;
 mod walk;
 
+pub use moves::{go, go_back};
 pub use starts::Starts;
 pub use step::Step;
