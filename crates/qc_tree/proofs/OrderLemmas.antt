@@ -1,5 +1,5 @@
 -- Which orders may be branched on, and that a feasible schedule has one of them.
-use Rattle.std.proofs.Common.{◌≡◌, ℕ, ◌+◌, ◌<◌, ◌≤◌, ◌⊎◌, inl, inr, List, length, Option, IfSome, sym, subst, subst₂, ◌∙◌, arith}
+use Rattle.std.proofs.Common.{◌≡◌, ℕ, ◌<◌, ◌≤◌, ◌⊎◌, inl, inr, List, Option, Some, IfSome, sym, subst, subst₂, ◌∙◌, arith}
 use Rattle.std.proofs.lemmas.Bool.{cases_eq}
 use Rattle.qc_model.specs.declared.decision.Decision.{Decision}
 use Rattle.qc_model.specs.declared.schedule.Slot.{Slot}
@@ -57,12 +57,12 @@ module _ (inst : InstanceView) (v : Valid inst) (ds : List Decision) (sched : Li
       elim clash.near [
         | inl one ↦ same_over i j clash (first ∙ one ∙ sym second)
         | inr near ↦ elim (cases_eq (crane_of sched i) (crane_of sched j)) [
-            | inl same ↦ same_over i j clash same
-            | inr two ↦
-                over_of (slot_distance inst sched i j) i j
-                (f.margin i j clash.first clash.second two
-                (subst₂ (λ (x y : ℕ). 0 < task_distance inst i x j y) (sym first) (sym second) near))
-          ]
+          | inl same ↦ same_over i j clash same
+          | inr two ↦
+              over_of (slot_distance inst sched i j) i j
+              (f.margin i j clash.first clash.second two
+              (subst₂ (λ (x y : ℕ). 0 < task_distance inst i x j y) (sym first) (sym second) near))
+        ]
       ]
 
   -- in a feasible schedule, two tasks that conflict are done one after the other
