@@ -6,6 +6,7 @@
 mod arcs;
 mod complete;
 mod latest;
+mod moves;
 mod network;
 mod noted;
 mod overlap;
@@ -15,5 +16,6 @@ mod starts;
 mod step;
 mod walk;
 
+pub use moves::{go, go_back};
 pub use starts::Starts;
 pub use step::Step;
