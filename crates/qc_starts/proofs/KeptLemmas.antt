@@ -304,7 +304,7 @@ module _ (f : Inside) (node : StartsNode) (is : IsKept f) (view : node_of f ≡ 
   pub seen_back : (P : InstanceView → List Decision → Type 0) → P node.inst node.decisions → P f.network.inst f.network.decisions
   seen_back P holds = subst (λ (n : StartsNode). P n.inst n.decisions) (sym view) holds
 
-  seen_on : (P : InstanceView → List Decision → Type 0) → P f.network.inst f.network.decisions → P node.inst node.decisions
+  pub seen_on : (P : InstanceView → List Decision → Type 0) → P f.network.inst f.network.decisions → P node.inst node.decisions
   seen_on P holds = subst (λ (n : StartsNode). P n.inst n.decisions) view holds
 
   pub tasks_are : length f.network.inst.tasks ≡ length node.inst.tasks
