@@ -1,18 +1,19 @@
 //! Packed tasks that show when a node ends at the soonest.
 
-ghost use Rattle.std.specs.Prelude.{◌≡◌, ◌+◌, ◌<◌, ◌≤◌, All, IfSome, length, map, min};
+ghost use Rattle.std.specs.Prelude.{◌≡◌, ◌+◌, ◌<◌, ◌≤◌, All, IfSome, IsSome, length, map, min};
 ghost use Rattle.std.specs.Option.{option_map_or};
 ghost use Rattle.qc_close.specs.Crews.{IsCrewOf};
-ghost use Rattle.qc_model.specs.declared.limits.TheConstants.{MOST_DISTANCE, MOST_READY, MOST_START};
+ghost use Rattle.qc_model.specs.declared.limits.TheConstants.{MOST_START};
+ghost use Rattle.qc_model.specs.Early.{early};
 ghost use Rattle.qc_model.specs.Leaves.{packed_end};
-ghost use Rattle.qc_model.specs.Nodes.{head, least};
+ghost use Rattle.qc_model.specs.Nodes.{least};
 ghost use Rattle.qc_num.specs.Paths.{HasRoom};
-ghost use Rattle.qc_bounds.specs.Packed.{IsPackedFrom};
+ghost use Rattle.qc_bounds.specs.Packed.{IsPackedFrom, IsSoon, early_at};
 
 use crate::lists::{List, Outer, Window, begins_bay, outer_cranes};
 use crate::spread::spread;
 use qc_close::Crew;
-use qc_model::{Instance, bays_up};
+use qc_model::{Instance, Turn, bays_up};
 use qc_num::{Path, Tick};
 use qc_starts::Starts;
 
@@ -24,28 +25,44 @@ fn sooner(least: Option<Tick>, tick: Tick) -> Tick
     least.map_or(tick, |other| other.min(tick))
 }
 
-/// The least release time of these tasks; 0 where there is none.
-fn least_lead(node: &Starts, tasks: &[u16]) -> Tick
-    requires { All (λ j. j < length node.now.inst.tasks) tasks.now }
-    ensures ticks { result ≡ least (map (head node.now.inst node.now.decisions) tasks.now) }
-    ensures bound { result ≤ MOST_READY + MOST_DISTANCE }
+/// From when a task can start: where cranes go one way when its crane can be at it, which is cheap to tell,
+/// and where they go as they like its earliest start.
+fn early(node: &Starts, task: u16) -> Tick
+    requires known { IsSome (early node.now.inst node.now.decisions) }
+    requires task { task < length node.now.inst.tasks }
+    ensures tick { result ≡ early_at node.now.inst node.now.decisions task }
+    ensures soon { IsSoon result }
+{
+    match node.instance().turn() {
+        Turn::OneWay => node.lead(task),
+        Turn::Free => node.start(task),
+    }
+}
+
+/// From when the first of these tasks can start; 0 where there is none.
+fn least_early(node: &Starts, tasks: &[u16]) -> Tick
+    requires known { IsSome (early node.now.inst node.now.decisions) }
+    requires tasks { All (λ j. j < length node.now.inst.tasks) tasks.now }
+    ensures tick { result ≡ least (map (early_at node.now.inst node.now.decisions) tasks.now) }
+    ensures soon { IsSoon result }
 {
     let mut least: Option<Tick> = None;
     for task in tasks {
-        least = Some(sooner(least, node.lead(*task)));
+        least = Some(sooner(least, early(node, *task)));
     }
     least.unwrap_or(0)
 }
 
 /// The end that packed tasks show; `None` exactly where they aren't packed.
 fn packed_end(node: &Starts, crew: &Crew, tasks: &[u16]) -> Option<Tick>
+    requires known { IsSome (early node.now.inst node.now.decisions) }
     requires crew { IsCrewOf crew.now node.now.inst node.now.decisions }
     requires tasks { All (λ j. j < length node.now.inst.tasks) tasks.now }
     ensures end { result ≡ packed_end node.now.inst node.now.decisions tasks.now }
     ensures soon { IfSome result (λ end. end ≤ MOST_START) }
 {
     let ticks = crew.pack(tasks)?;
-    Some(least_lead(node, tasks) + ticks)
+    Some(least_early(node, tasks) + ticks)
 }
 
 /// The most ticks of travel between packed tasks.
@@ -57,11 +74,12 @@ fn most_travel(inst: &Instance) -> Tick {
 
 /// The latest end that a list of tasks may show which take so many ticks.
 fn latest_end(node: &Starts, crew: &Crew, ticks: Tick, tasks: &[u16]) -> Tick
+    requires known { IsSome (early node.now.inst node.now.decisions) }
     requires node { All (λ j. j < length node.now.inst.tasks) tasks.now }
     requires crew { All (λ j. j < length crew.now.inst.tasks) tasks.now }
 {
     let travel = crew.instance().travel().saturating_mul(spread(crew, tasks));
-    least_lead(node, tasks)
+    least_early(node, tasks)
         .saturating_add(ticks)
         .saturating_add(travel)
 }
@@ -76,6 +94,7 @@ struct Wanted {
 
 /// Tries a list: the end that it shows, where that is wanted.
 fn try_list(node: &Starts, crew: &Crew, list: List, wanted: Wanted, path: &mut Path) -> Option<Tick>
+    requires known { IsSome (early node.now.inst node.now.decisions) }
     requires crew { IsCrewOf crew.now node.now.inst node.now.decisions }
     requires room { HasRoom (length node.now.inst.tasks) path.old }
     requires count { length path.old.items ≤ length node.now.inst.tasks }
@@ -103,6 +122,7 @@ fn try_window(
     wanted: Wanted,
     path: &mut Path,
 ) -> Option<Tick>
+    requires known { IsSome (early node.now.inst node.now.decisions) }
     requires crew { IsCrewOf crew.now node.now.inst node.now.decisions }
     requires room { HasRoom (length node.now.inst.tasks) path.old }
     requires count { length path.old.items ≤ length node.now.inst.tasks }
@@ -120,6 +140,7 @@ fn try_window(
 
 /// Looks for packed tasks that show this end or a later one.
 pub(crate) fn late_tasks(node: &Starts, crew: &Crew, end: Tick, path: &mut Path) -> Option<Tick>
+    requires known { IsSome (early node.now.inst node.now.decisions) }
     requires crew { IsCrewOf crew.now node.now.inst node.now.decisions }
     requires room { HasRoom (length node.now.inst.tasks) path.old }
     ensures shows { IfSome result (IsPackedFrom node.now.inst node.now.decisions end path.new.items) }
@@ -134,7 +155,7 @@ pub(crate) fn late_tasks(node: &Starts, crew: &Crew, end: Tick, path: &mut Path)
     for first in 0..inst.task_count() {
         window.reach(crew, outer, first);
         if begins_bay(inst, first) {
-            let ticks = end.saturating_sub(node.lead(first).saturating_add(travel));
+            let ticks = end.saturating_sub(early(node, first).saturating_add(travel));
             let lists = window.lists(outer, first);
             if let Some(end) = try_window(node, crew, lists, Wanted { end, ticks }, path) {
                 return Some(end);
@@ -147,6 +168,7 @@ pub(crate) fn late_tasks(node: &Starts, crew: &Crew, end: Tick, path: &mut Path)
 
 /// Looks for the packed tasks that show the latest end, where that is this one or a later one.
 pub(crate) fn latest_tasks(node: &Starts, crew: &Crew, end: Tick, path: &mut Path) -> Option<Tick>
+    requires known { IsSome (early node.now.inst node.now.decisions) }
     requires crew { IsCrewOf crew.now node.now.inst node.now.decisions }
     requires room { HasRoom (length node.now.inst.tasks) path.old }
     requires soon { end ≤ MOST_START + 1 }

@@ -1,5 +1,5 @@
--- What leaves show holds: a ring has no solution, and the end that a leaf shows is at most that of every
--- upward schedule that agrees with the node.
+-- What leaves show holds: a ring has no solution, and the end that a leaf shows is at most that of every schedule of the
+-- instance's turn that agrees with the node.
 use Rattle.std.proofs.Common.{◌≡◌, ℕ, ◌+◌, ◌<◌, ◌≤◌, Bool, true, ◌&&◌, leb, List, [], ◌∷◌, ◌++◌, length, Option, None, Some, IfSome, is_some, sym, subst, refl, ◌∙◌, arith, nat_le, nat_lt, option_and_then, option_map, slice_index}
 use Rattle.std.proofs.lemmas.Bool.{and_parts, cond_both, false≢true, leb-true, ltb-true, not-true}
 use Rattle.std.specs.List.{list_all}
@@ -12,14 +12,17 @@ use Rattle.qc_model.specs.Numbers.{most_tasks}
 use Rattle.qc_model.specs.declared.schedule.Slot.{Slot}
 use Rattle.qc_model.specs.Instance.{InstanceView, Valid, ticks_of}
 use Rattle.qc_model.specs.Leaves.{Leaf, Version, are_tasks, chain, chain_end, chain_ticks, has_packed, head_in, is_out_of_reach, is_ring, leaf_value, packed, packed_end, reach, ring, with_berths, with_packed, without_berths, work, work_over}
-use Rattle.qc_model.specs.declared.turn.Turn.TheVariants.{OneWay}
+use Rattle.qc_model.specs.declared.turn.Turn.{Turn}
+use Rattle.qc_model.specs.declared.turn.Turn.TheVariants.{OneWay, Free}
 use Rattle.qc_model.specs.Assignments.{cranes_of}
 use Rattle.qc_model.specs.Closed.{is_closed}
 use Rattle.qc_model.specs.Nodes.{Agrees, Fits, Meets, forced, head, reaches}
-use Rattle.qc_model.specs.OneWay.{GoesUp}
-use Rattle.qc_model.specs.Rules.{ends, last_end, starts}
+use Rattle.qc_model.specs.Work.{work_holds}
+use Rattle.qc_model.specs.Frames.{GoesBy}
+use Rattle.qc_model.specs.Rules.{Feasible, ends, last_end, starts}
 use Rattle.qc_model.proofs.CompleteNodes.{forced_ticks}
-use Rattle.qc_model.proofs.NodeLemmas.{IsStep, ends_by, head1_le, if_some, in_reach_of, meets_of}
+use Rattle.qc_model.proofs.NodeLemmas.{IsStep, ends_by, head1_le, if_some, in_reach_of, meets_by}
+use Rattle.qc_model.proofs.TurnLemmas.{by_feasible}
 use Rattle.qc_model.proofs.WorkLemmas.{work_end_le}
 
 -- the tasks are those of the instance
@@ -121,53 +124,61 @@ module _ (inst : InstanceView) (ds : List Decision) (begins : List ℕ) (m : Mee
 
 -- a decision that is out of reach is that of no schedule
 in_reach : (inst : InstanceView) (ds : List Decision) (sched : List Slot) → Fits inst ds
-    → GoesUp inst sched → Agrees inst ds sched
+    → Feasible inst sched → Agrees inst ds sched
     → is_out_of_reach inst ds ≡ true → ⊥
-in_reach inst [] sched fits g a t = false≢true t
-in_reach inst (Order i j ∷ ds) sched fits g a t = false≢true t
-in_reach inst (Assign j k ∷ ds) sched fits g a t =
-    let r = in_reach_of inst sched g.feasible (Assign j k ∷ ds) fits a in
+in_reach inst [] sched fits f a t = false≢true t
+in_reach inst (Order i j ∷ ds) sched fits f a t = false≢true t
+in_reach inst (Assign j k ∷ ds) sched fits f a t =
+    let r = in_reach_of inst sched f (Assign j k ∷ ds) fits a in
     false≢true (sym (not-true (reaches inst j k) t) ∙ r.0)
 
 module _ (inst : InstanceView) (ds : List Decision) (sched : List Slot) (v : Valid inst)
-    (fits : Fits inst ds) (g : GoesUp inst sched) (a : Agrees inst ds sched)
+    (fits : Fits inst ds) (g : GoesBy inst.turn inst sched) (a : Agrees inst ds sched)
     (packs : (tasks : List ℕ) (end : ℕ) → packed_end inst ds tasks ≡ Some end → end ≤ ends inst sched)
-    (closes : (end : ℕ) → is_closed inst OneWay (cranes_of inst ds) end ≡ true → end ≤ ends inst sched) where
-  over_le : (version : Version) (end : ℕ) → work_over version inst ds end ≡ true → 1 ≤ end → end ≤ ends inst sched
-  over_le without_berths end over some = work_end_le inst ds sched v fits g a end over some
-  over_le with_berths end over some = work_end_le inst ds sched v fits g a end over some
-  over_le with_packed end over some = closes end over
+    (closes : (end : ℕ) → is_closed inst inst.turn (cranes_of inst ds) end ≡ true → end ≤ ends inst sched) where
+  -- what one crane's way comes to is said of cranes that go one way; with the others all counts are of the last version
+  work_le : (turn : Turn) → GoesBy turn inst sched → (version : Version) → (turn ≡ Free → version ≡ with_packed)
+      → (¬ version ≡ with_packed) → (end : ℕ) → work_holds inst ds end ≡ true → 1 ≤ end → end ≤ ends inst sched
+  work_le OneWay up version latest first end over some = work_end_le inst ds sched v fits up a end over some
+  work_le Free f version latest first end over some = absurd (first (latest refl))
+
+  over_le : (version : Version) → (inst.turn ≡ Free → version ≡ with_packed) → (end : ℕ)
+      → work_over version inst ds end ≡ true → 1 ≤ end → end ≤ ends inst sched
+  over_le without_berths latest end over some = work_le inst.turn g without_berths latest (λ e. cc e) end over some
+  over_le with_berths latest end over some = work_le inst.turn g with_berths latest (λ e. cc e) end over some
+  over_le with_packed latest end over some = closes end over
 
   abbrev Shows : Option Bound → Type 0
   Shows o = IfSome o (λ bound. IsAtMost bound (Least (ends inst sched)))
 
-  leaf_shows : (version : Version) (leaf : Leaf) → Shows (leaf_value version inst ds leaf)
-  leaf_shows version (chain tasks) =
+  leaf_shows : (version : Version) → (inst.turn ≡ Free → version ≡ with_packed) → (leaf : Leaf)
+      → Shows (leaf_value version inst ds leaf)
+  leaf_shows version latest (chain tasks) =
       cond_both (are_tasks inst tasks) (option_map Least (chain_end version inst ds tasks)) None Shows
       (λ all.
-      let met = chain_end_met inst ds (starts sched) (meets_of inst ds sched g a) version tasks (within inst tasks all) in
+      let met = chain_end_met inst ds (starts sched) (meets_by inst ds sched g a) version tasks (within inst tasks all) in
       number (chain_end version inst ds tasks) met)
       (λ _. tt)
     where
       number : (o : Option ℕ) → IfSome o (λ end. end ≤ ends inst sched) → Shows (option_map Least o)
       number None h = tt
       number (Some end) h = h
-  leaf_shows version (ring tasks) =
+  leaf_shows version latest (ring tasks) =
       cond_both (are_tasks inst tasks && nat_le 2 (length tasks) && is_ring inst ds tasks) (Some Never) None Shows
       (λ t.
       let parts = and_parts (are_tasks inst tasks && nat_le 2 (length tasks)) (is_ring inst ds tasks) t in
       let all = and_parts (are_tasks inst tasks) (nat_le 2 (length tasks)) parts.0 in
-      no_ring_met inst ds (starts sched) (meets_of inst ds sched g a) v tasks parts.1 all.0)
+      no_ring_met inst ds (starts sched) (meets_by inst ds sched g a) v tasks parts.1 all.0)
       (λ _. tt)
-  leaf_shows version reach =
-      cond_both (is_out_of_reach inst ds) (Some Never) None Shows (λ t. in_reach inst ds sched fits g a t) (λ _. tt)
-  leaf_shows version (work end) =
+  leaf_shows version latest reach =
+      cond_both (is_out_of_reach inst ds) (Some Never) None Shows (λ t. in_reach inst ds sched fits (by_feasible inst.turn inst sched g) a t) (λ _. tt)
+  leaf_shows version latest (work end) =
       cond_both (nat_le 1 end && work_over version inst ds end) (Some (Least end)) None Shows
       (λ t.
       let parts = and_parts (nat_le 1 end) (work_over version inst ds end) t in
-      over_le version end parts.1 (leb-true 1 end parts.0))
+      over_le version latest end parts.1 (leb-true 1 end parts.0))
       (λ _. tt)
-  leaf_shows version (packed tasks) =
+  leaf_shows version latest (packed tasks) =
       cond_both (has_packed version) (option_map Least (packed_end inst ds tasks)) None Shows
       (λ _. number (packed_end inst ds tasks) (packs tasks)) (λ _. tt)
     where
@@ -176,7 +187,7 @@ module _ (inst : InstanceView) (ds : List Decision) (sched : List Slot) (v : Val
       number (Some end) h = h end refl
 
   -- what a leaf shows is at most the end of the schedule: it never shows Never
-  pub leaf_value_le : (version : Version) (leaf : Leaf) (bound : Bound)
+  pub leaf_value_le : (version : Version) → (inst.turn ≡ Free → version ≡ with_packed) → (leaf : Leaf) (bound : Bound)
       → leaf_value version inst ds leaf ≡ Some bound
       → IsAtMost bound (Least (ends inst sched))
-  leaf_value_le version leaf bound e = subst Shows e (leaf_shows version leaf)
+  leaf_value_le version latest leaf bound e = subst Shows e (leaf_shows version latest leaf)

@@ -12,6 +12,7 @@ pub mod Extremes
 pub mod NodeLemmas
 pub mod CompleteNodes
 pub mod Sums
+pub mod LeastStarts
 mod WorkLemmas
 pub mod LeafLemmas
 pub mod Scaled

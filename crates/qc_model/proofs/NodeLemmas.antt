@@ -22,7 +22,7 @@ use Rattle.qc_model.proofs.Bays.{bays}
 use Rattle.qc_model.proofs.Extremes.{greatest_le, least_le, least_rises}
 use Rattle.qc_model.proofs.GoesLemmas.{distance_swapped}
 use Rattle.qc_model.proofs.PairOrder.{same_pair}
-use Rattle.qc_model.proofs.TurnLemmas.{by_feasible, goes_by}
+use Rattle.qc_model.proofs.TurnLemmas.{by_feasible, goes_by, two_turns}
 
 -- ---- steps: numbers that may be missing
 
@@ -104,9 +104,6 @@ pub one_way_apart : (inst : InstanceView) → inst.turn ≡ OneWay → (ds : Lis
     → IsApart inst i j ⊎ IsApart inst j i
 one_way_apart inst one ds i j (inl at) = at
 one_way_apart inst one ds i j (inr clash) = absurd (two_turns (sym one ∙ clash.free))
-  where
-    two_turns : OneWay ≡ Free → ⊥
-    two_turns e = cc
 
 -- ---- what the decisions say
 
@@ -210,7 +207,7 @@ module _ (inst : InstanceView) (sched : List Slot) where
       (λ _. tt))
 
   -- a task that is first is clear of the second by their separation
-  separation_kept : Feasible inst sched → (i j : ℕ) → i < length inst.tasks → j < length inst.tasks
+  pub separation_kept : Feasible inst sched → (i j : ℕ) → i < length inst.tasks → j < length inst.tasks
       → end_of inst sched i ≤ start_of sched j
       → start_of sched i + (ticks_of inst i + separation inst i (crane_of sched i) j (crane_of sched j)) ≤ start_of sched j
   separation_kept f i j low high first =

@@ -1,14 +1,17 @@
 -- Which way cranes may go is no part of the rules: the same instance with the other turn is valid where it was, and has
 -- the same schedules.
-use Rattle.std.proofs.Common.{◌⊎◌, inl, inr, List}
+use Rattle.std.proofs.Common.{◌≡◌, ◌⊎◌, inl, inr, List}
 use Rattle.std.proofs.Math.Logic.{∥∥₁_map}
 use Rattle.qc_model.specs.declared.schedule.Slot.{Slot}
 use Rattle.qc_model.specs.declared.turn.Turn.{Turn}
 use Rattle.qc_model.specs.declared.turn.Turn.TheVariants.{OneWay, Free}
 use Rattle.qc_model.specs.Frames.{GoesBy}
 use Rattle.qc_model.specs.Instance.{InstanceView, HasBayLimits, HasPlaceLimits, Valid, with_turn}
-use Rattle.qc_model.specs.OneWay.{GoesDown, GoesOneWay, GoesUp, Upward, mirror, mirror_schedule}
+use Rattle.qc_model.specs.OneWay.{GoesDown, GoesOneWay, GoesUp, mirror, mirror_schedule}
 use Rattle.qc_model.specs.Rules.{Feasible}
+
+pub two_turns : OneWay ≡ Free → ⊥
+two_turns e = cc
 
 limits_turn : (inst : InstanceView) (turn : Turn) → HasBayLimits inst ⊎ HasPlaceLimits inst
     → HasBayLimits (with_turn inst turn) ⊎ HasPlaceLimits (with_turn inst turn)

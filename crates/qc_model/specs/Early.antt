@@ -12,7 +12,7 @@ use Rattle.qc_model.specs.Work.{task_numbers}
 
 -- when task i, with these starts, lets task j start; 0 where it forces nothing
 abbrev pub let_by : InstanceView → List Decision → List ℕ → ℕ → ℕ → ℕ
-let_by inst ds starts j i = option_map_or (λ ticks. slice_index starts i + ticks) 0 (forced inst ds i j)
+let_by inst ds starts j i = option_map_or (λ ticks. slice_index starts i + ticks) (forced inst ds i j) 0
 
 -- the start of task j, put off until all others let it start
 abbrev pub put_off : InstanceView → List Decision → List ℕ → ℕ → ℕ

@@ -11,6 +11,7 @@ pub mod Seen
 pub mod Judge
 pub mod Judged
 pub mod Nodes
+pub mod Clear
 pub mod Work
 pub mod Early
 pub mod Assignments

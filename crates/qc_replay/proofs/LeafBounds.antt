@@ -1,6 +1,7 @@
 -- What a leaf shows at a node that fits a valid instance has at most 15 digits.
-use Rattle.std.proofs.Common.{◌≡◌, ℕ, zero, suc, ◌+◌, ◌-◌, ◌*◌, ◌<◌, ◌≤◌, ◌^◌, Bool, true, ◌&&◌, ◌==◌, inl, inr, List, [], ◌∷◌, length, map, Option, None, Some, IfSome, ℤ, pos, ◌+ℤ◌, arith, filter, int_lt, nat_le, nat_lt, option_map}
+use Rattle.std.proofs.Common.{◌≡◌, ℕ, zero, suc, ◌+◌, ◌-◌, ◌*◌, ◌<◌, ◌≤◌, ◌^◌, Bool, true, ◌&&◌, ◌==◌, inl, inr, List, [], ◌∷◌, length, map, Option, None, Some, IfSome, ℤ, pos, ◌+ℤ◌, arith, filter, int_lt, nat_le, nat_lt, option_and_then, option_map, slice_index}
 use Rattle.std.specs.List.{list_all, list_any, range_with_len, sum_by}
+use Rattle.std.specs.Option.{option_map_or}
 use Rattle.std.proofs.lemmas.Bool.{and_parts, cond_both, false≢true, leb-true, ltb-true, or_cases}
 use Rattle.std.proofs.lemmas.List.Sums.{sum_by-cons}
 use Rattle.std.proofs.lemmas.Nat.{mul-le}
@@ -10,7 +11,8 @@ use Rattle.qc_model.specs.Bays.{bays_up, bays_between}
 use Rattle.qc_model.specs.Instance.{InstanceView, Valid, IsOnRail, bay_of, ticks_of, crane}
 use Rattle.qc_model.specs.Assignments.{cranes_of}
 use Rattle.qc_model.specs.Leaves.{Leaf, Version, are_tasks, chain, chain_end, chain_ticks, has_packed, head_in, is_ring, is_out_of_reach, leaf_value, packed, packed_end, reach, ring, with_berths, with_packed, without_berths, work, work_over}
-use Rattle.qc_model.specs.Work.{crane_numbers, highest, is_overfull, lowest, spare, tasks_on, ticks_over, open_tasks, used, used_for, work_holds}
+use Rattle.qc_model.specs.Work.{crane_numbers, highest, is_overfull, lowest, spare, task_numbers, tasks_on, ticks_over, open_tasks, used, used_for, work_holds}
+use Rattle.qc_model.specs.Early.{are_met, early, early_by, is_in_reach, let_by, put_off, starts_after}
 use Rattle.qc_model.specs.Nodes.{Fits, assigned, berth_wait, crane_ticks, forced, free, head, head_by, is_sooner, least, pair_ticks, reaches, separation, sooner_ticks}
 use Rattle.qc_model.specs.Packs.{pack}
 use Rattle.qc_model.specs.Ticks.{arrival, berth_clear, berth_distance, climb, distance, lead, task_distance, travel_between}
@@ -249,20 +251,66 @@ module _ (inst : InstanceView) (valid : Valid inst) where
       → work_over version inst ds end ≡ true → end < 10 ^ 15
   over_few without_berths ds fits end over = work_few ds fits end over
   over_few with_berths ds fits end over = work_few ds fits end over
-  over_few with_packed ds fits end over = omega (arith, closed_soon inst OneWay (cranes_of inst ds) end valid over)
+  over_few with_packed ds fits end over = omega (arith, closed_soon inst inst.turn (cranes_of inst ds) end valid over)
+
+  -- how late a task starts at the least, after so many rounds of putting off
+  abbrev latest : ℕ → ℕ
+  latest n = MOST_READY + MOST_DISTANCE + n * (MOST_WORK + MOST_DISTANCE)
+
+  mapped_few : (f : ℕ → ℕ) (m : ℕ) → ((j : ℕ) → f j ≤ m) → (xs : List ℕ) (j : ℕ) → slice_index (map f xs) j ≤ m
+  mapped_few f m few [] j = omega arith
+  mapped_few f m few (x ∷ xs) zero = few x
+  mapped_few f m few (x ∷ xs) (suc j) = mapped_few f m few xs j
+
+  let_few : (o : Option ℕ) (s b : ℕ) → s ≤ b → IfSome o IsStepFew
+      → option_map_or (λ ticks. s + ticks) 0 o ≤ b + (MOST_WORK + MOST_DISTANCE)
+  let_few None s b soon few = omega arith
+  let_few (Some n) s b soon few = omega (arith, soon, few)
+
+  starts_few : (ds : List Decision) → Fits inst ds → (n j : ℕ) → slice_index (starts_after inst ds n) j ≤ latest n
+  starts_few ds fits zero j =
+      mapped_few (head inst ds) (latest 0) (λ i. omega (arith, head_few with_packed ds fits i)) (task_numbers inst) j
+  starts_few ds fits (suc n) j =
+      mapped_few (put_off inst ds (starts_after inst ds n)) (latest (suc n)) (λ i.
+      let lets =
+      greatest_le (let_by inst ds (starts_after inst ds n) i) (latest n + (MOST_WORK + MOST_DISTANCE)) 0
+      (length inst.tasks) (λ h low.
+      let_few (forced inst ds h i) (slice_index (starts_after inst ds n) h) (latest n) (starts_few ds fits n h)
+      (forced_few ds fits h i)) in
+      omega (arith, lets, starts_few ds fits n i)) (task_numbers inst) j
 
   -- packed tasks begin soon, and don't take long
-  with_first : (o : Option ℕ) (h : ℕ) → h ≤ MOST_READY + MOST_DISTANCE
+  abbrev soon : ℕ
+  soon = latest MOST_TASKS
+
+  early_few : (ds : List Decision) → Fits inst ds → (turn : Turn) → IfSome (early_by turn inst ds) (λ begins. (j : ℕ) → begins j ≤ soon)
+  early_few ds fits OneWay = λ j. omega (arith, head_few with_packed ds fits j)
+  early_few ds fits Free =
+      let starts = starts_after inst ds (length inst.tasks) in
+      cond_both (is_in_reach inst ds && are_met inst ds starts) (Some starts) None
+      (λ o. IfSome (option_map (λ (s : List ℕ) (j : ℕ). slice_index s j) o) (λ begins. (j : ℕ) → begins j ≤ soon))
+      (λ _ j.
+      let few = starts_few ds fits (length inst.tasks) j in
+      omega (arith, few, valid.tasks.count))
+      (λ _. tt)
+
+  with_first : (o : Option ℕ) (h : ℕ) → h ≤ soon
       → IfSome o (λ n. n ≤ MOST_TASKS * MOST_WORK + MOST_DISTANCE)
       → IfSome (option_map Least (option_map (λ ticks. h + ticks) o)) IsValue
-  with_first None h soon few = tt
-  with_first (Some n) h soon few = omega arith
+  with_first None h early few = tt
+  with_first (Some n) h early few = omega arith
+
+  with_begins : (tasks : List ℕ) (o : Option (ℕ → ℕ)) (p : Option ℕ) → IfSome o (λ begins. (j : ℕ) → begins j ≤ soon)
+      → IfSome p (λ n. n ≤ MOST_TASKS * MOST_WORK + MOST_DISTANCE)
+      → IfSome (option_map Least (option_and_then (λ begins. option_map (λ ticks. least (map begins tasks) + ticks) p) o)) IsValue
+  with_begins tasks None p early few = tt
+  with_begins tasks (Some begins) p early few =
+      with_first p (least (map begins tasks)) (least_of_few begins soon early tasks) few
 
   packed_value : (ds : List Decision) → Fits inst ds → (tasks : List ℕ)
       → IfSome (option_map Least (packed_end inst ds tasks)) IsValue
   packed_value ds fits tasks =
-      with_first (pack inst (cranes_of inst ds) tasks) (least (map (head inst ds) tasks))
-      (least_of_few (head inst ds) (MOST_READY + MOST_DISTANCE) (head_few with_packed ds fits) tasks)
+      with_begins tasks (early inst ds) (pack inst (cranes_of inst ds) tasks) (early_few ds fits inst.turn)
       (pack_few inst valid (cranes_of inst ds) (cranes_range inst ds fits) tasks)
 
   pub leaf_few : (version : Version) (ds : List Decision) → Fits inst ds → (shows : Leaf)

@@ -3,6 +3,8 @@ pub mod CrewFacts
 pub mod DescentFacts
 pub mod LeafFacts
 pub mod NodeFacts
+pub mod OrderFacts
+pub mod EarlyFacts
 pub mod StepFacts
 pub mod SignLemmas
 pub mod ReadLemmas

@@ -7,6 +7,8 @@ use Rattle.qc_num.specs.Bounds.{is_bound}
 use Rattle.qc_num.proofs.ReadingLemmas.{same_ok}
 use Rattle.qc_model.specs.declared.decision.Decision.{Decision}
 use Rattle.qc_model.specs.declared.decision.Decision.TheVariants as decide
+use Rattle.qc_model.specs.declared.turn.Turn.{Turn}
+use Rattle.qc_model.specs.declared.turn.Turn.TheVariants.{OneWay, Free}
 use Rattle.qc_model.specs.Instance.{InstanceView}
 use Rattle.qc_model.specs.Leaves.{Version}
 use Rattle.qc_model.specs.Work.{crane_numbers}
@@ -20,8 +22,8 @@ use Rattle.qc_tree.specs.Trees.{Sign, branches, children, leaf, on_pair, on_task
 use Rattle.qc_replay.specs.declared.fault.TreeKind.TheVariants as kind
 use Rattle.qc_replay.specs.Read.{with_line}
 use Rattle.qc_replay.specs.Stages.{lines_left}
-use Rattle.qc_replay.specs.Walk.{Coming, Reading, at, down, end, node, title, up}
-use Rattle.qc_replay.proofs.ReadLemmas.{reading}
+use Rattle.qc_replay.specs.Walk.{Coming, Reading, at_due, down, end, first_lines, node, start, title, up}
+use Rattle.qc_replay.proofs.ReadLemmas.{known_due, reading}
 use Rattle.qc_replay.proofs.SignLemmas.{accepted, counts, failed, tested}
 
 -- a node has as many children as there are cranes, or two
@@ -47,11 +49,12 @@ module _ (inst : InstanceView) (cranes : length inst.cranes ≤ most_cranes) (v 
   came_on : (w : Version) (x : Bound) → reading w more n x ≡ now → lines_left now < length more + 1 + most_cranes * (most_branchings - n)
   came_on w x e = subst (λ (r : Reading). lines_left r < length more + 1 + most_cranes * (most_branchings - n)) e (omega arith)
 
-  fewer_at : (c : Coming) (l : Line) (list : List ℕ) → at inst (reading v (c ∷ more) n b) c l list ≡ Ok now
+  fewer_at : (c : Coming) (l : Line) (list : List ℕ) → at_due inst (reading v (c ∷ more) n b) c l list ≡ Ok now
       → lines_left now < length more + 1 + most_cranes * (most_branchings - n)
   fewer_at title line.Title list e = came_on _ b (same_ok e)
   fewer_at title line.Title2 list e = came_on _ b (same_ok e)
   fewer_at title line.Title3 list e = came_on _ b (same_ok e)
+  fewer_at title line.FreeTitle list e = came_on _ b (same_ok e)
   fewer_at up line.Up list e = came_on v b (same_ok e)
   fewer_at down line.Down list e = came_on v b (same_ok e)
   fewer_at end (line.End m x) list e =
@@ -78,6 +81,15 @@ fewer_left inst cranes r now seen_line e =
     by_coming : (coming : List Coming) → r.coming ≡ coming → lines_left now < lines_left r
     by_coming [] is = failed kind.After now (sym (ap (λ c. with_line inst (record r { coming = c }) seen_line) is) ∙ e)
     by_coming (c ∷ more) is =
-        let here = fewer_at inst cranes r.version more r.branched r.bound now c seen_line.line seen_line.list
+        let leads = known_due inst (reading r.version (c ∷ more) r.branched r.bound) c seen_line.line seen_line.list now
         (sym (ap (λ cs. with_line inst (record r { coming = cs }) seen_line) is) ∙ e) in
+        let here = fewer_at inst cranes r.version more r.branched r.bound now c seen_line.line seen_line.list leads.1 in
         omega (arith, here, ap length is)
+
+-- before the first line
+pub first_left : (inst : InstanceView) → lines_left (start inst) ≤ 800006
+first_left inst = by_turn inst.turn
+  where
+    by_turn : (turn : Turn) → lines_left (record (start inst) { coming = first_lines turn }) ≤ 800006
+    by_turn OneWay = omega arith
+    by_turn Free = omega arith

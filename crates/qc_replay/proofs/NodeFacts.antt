@@ -20,7 +20,6 @@ use Rattle.qc_model.specs.declared.decision.Decision.TheVariants as decide
 use Rattle.qc_model.specs.Nodes.{IsSettled, assigned, forced}
 use Rattle.qc_model.specs.Leaves.{Leaf, are_tasks, chain, chain_end, has_packed, is_ring, leaf_value, packed, packed_end, ring}
 use Rattle.qc_model.specs.Work.{crane_numbers}
-use Rattle.qc_model.proofs.NodeLemmas.{before_found}
 use Rattle.qc_tree.specs.declared.line.Line.{Line}
 use Rattle.qc_tree.specs.declared.line.Line.TheVariants.{Chain, Clash, Ring}
 use Rattle.qc_tree.specs.declared.line.Line.TheVariants as line
@@ -30,7 +29,7 @@ use Rattle.qc_replay.specs.declared.leaf.TreeVersion.{TreeVersion}
 use Rattle.qc_replay.specs.declared.node.Tally.{Tally}
 use Rattle.qc_dist.specs.Children.{behind}
 use Rattle.qc_replay.specs.Part.{IsJudged, Shows, Standing, nodes, version_of, with_branching, within}
-use Rattle.qc_replay.specs.Walk.{Coming, Reading, at_node, branched_to, came, ended_by, from_file, is_apart, is_number, is_settled, node, on_pair, on_task}
+use Rattle.qc_replay.specs.Walk.{Coming, Reading, at_node, branched_to, came, ended_by, from_file, is_apart, is_number, is_settled, may_order, no_order, node, on_pair, on_task}
 
 number_inside : (inst : InstanceView) (i : ℕ) → is_number inst i ≡ true → nat_lt (i - 1) (length inst.tasks) ≡ true
 number_inside inst i is =
@@ -126,13 +125,6 @@ pub none_of : (o : Option ℕ) → is_some o ≡ false → o ≡ None
 none_of None none = refl
 none_of (Some n) none = absurd (true≢false none)
 
--- a pair is in the list exactly where a search for it finds it
-pub apart_found : (inst : InstanceView) (i j : ℕ) (found : Bool) → (IsTrue found ↔ IsApart inst i j)
-    → found ≡ is_apart inst i j
-apart_found inst i j true is = sym (apart_listed inst i j (is.0 refl))
-apart_found inst i j false is =
-    sym (false_from_ne_true (is_apart inst i j) (λ t. true≢false (sym (is.1 (before_found i j inst.apart t)))))
-
 -- a branching that was counted
 pub branching_made : (t now : Tally) → with_branching t ≡ Ok now
     → (nat_lt t.branched most_branchings ≡ true) × (record t { branched = t.branched + 1 } ≡ now)
@@ -223,7 +215,7 @@ module _ (version : TreeVersion) (before after : Standing) (live : before.live �
     pair_line way more =
         ap (λ b. require b kind.UnknownTask >>= λ _. on_pair before.inst way before.decisions (here way more) (i - 1) (j - 1)) numbers
 
-    module _ (apart : is_apart before.inst (i - 1) (j - 1) ≡ true) where
+    module _ (may : may_order before.inst.turn before.inst before.decisions (i - 1) (j - 1) ≡ true) where
       abbrev orders : List (List Decision)
       orders =
           (decide.Order (i - 1) (j - 1) ∷ before.decisions) ∷ (decide.Order (j - 1) (i - 1) ∷ before.decisions) ∷ []
@@ -234,8 +226,8 @@ module _ (version : TreeVersion) (before after : Standing) (live : before.live �
           >>= λ _. branched_to (here way more) (map (node way) orders))
       tested_pair way more =
           pair_line way more
-          ∙ ap (λ b. require b kind.NotApart >>= λ _. (require (not (is_settled before.inst before.decisions (i - 1) (j - 1))) kind.Decided
-          >>= λ _. branched_to (here way more) (map (node way) orders))) apart
+          ∙ ap (λ b. require b (no_order before.inst.turn) >>= λ _. (require (not (is_settled before.inst before.decisions (i - 1) (j - 1))) kind.Decided
+          >>= λ _. branched_to (here way more) (map (node way) orders))) may
 
       -- a branching on a pair
       pub pair_judged : (now : Tally) → (¬ IsSettled before.inst before.decisions (i - 1) (j - 1)) → with_branching tally ≡ Ok now

@@ -5,6 +5,8 @@ use Rattle.std.proofs.lemmas.List.{append_cancel_left}
 use Rattle.std.proofs.lemmas.Option.{same_Some}
 use Rattle.qc_model.specs.declared.decision.Decision.{Decision}
 use Rattle.qc_model.specs.declared.direction.Direction.TheVariants as way
+use Rattle.qc_model.specs.declared.turn.Turn.{Turn}
+use Rattle.qc_model.specs.declared.turn.Turn.TheVariants.{OneWay, Free}
 use Rattle.qc_model.specs.Instance.{InstanceView, Valid}
 use Rattle.qc_model.specs.Leaves.{Version, chain, packed, reach, ring, with_berths, with_packed, without_berths, work}
 use Rattle.qc_model.specs.OneWay.{mirror}
@@ -13,10 +15,10 @@ use Rattle.qc_tree.specs.declared.line.Line.{Line}
 use Rattle.qc_tree.specs.declared.line.Line.TheVariants as line
 use Rattle.qc_tree.specs.LineIn.{Listed, line_in}
 use Rattle.qc_tree.specs.Lines.{IsTextOf, line_text}
-use Rattle.qc_tree.specs.Trees.{IsTree, Leads, Node, Sign, Tree, children, leaf, on_pair, on_task, part_text, sign_text, title, tree_branchings, tree_text, tree_value, whole_line}
+use Rattle.qc_tree.specs.Trees.{IsSecond, IsTree, Leads, Node, Sign, Tree, children, leaf, lines_by, on_pair, on_task, part_text, sign_text, title, tree_branchings, tree_text, tree_value, whole_line}
 use Rattle.qc_tree.proofs.LineInLemmas.{line_in_of, split_line}
 use Rattle.qc_replay.specs.Walk.{from_file}
-use Rattle.qc_replay.proofs.ReadLemmas.{texts_after}
+use Rattle.qc_replay.proofs.ReadLemmas.{one_text, texts_after}
 use Rattle.qc_replay.proofs.SignLemmas.{file_back, line_of, list_of, spelled, text_of}
 use Rattle.qc_replay.proofs.TreeTextLemmas.{AllFit, due_fit}
 
@@ -105,34 +107,56 @@ titled without_berths = record { same = refl; in_range = tt; list = refl }
 titled with_berths = record { same = refl; in_range = tt; list = refl }
 titled with_packed = record { same = refl; in_range = tt; list = refl }
 
--- the text behind the title
+abbrev last_line : InstanceView → Tree → List ℕ
+last_line inst t = whole_line (line.End (tree_branchings t) (tree_value inst t)) []
+
+-- the text behind the title, of a tree of two parts
 abbrev behind_title : InstanceView → Tree → List ℕ
 behind_title inst t =
-    whole_line line.Up [] ++ (part_text t.up ++ (whole_line line.Down [] ++ (part_text t.down
-    ++ (whole_line (line.End (tree_branchings t) (tree_value inst t)) [] ++ []))))
+    whole_line line.Up [] ++ (part_text t.up ++ (whole_line line.Down [] ++ (part_text t.down ++ (last_line inst t ++ []))))
 
-text_is : (inst : InstanceView) (t : Tree) → tree_text inst t ≡ whole_line (title t.version) [] ++ behind_title inst t
+text_is : (inst : InstanceView) (t : Tree)
+    → lines_by OneWay t ++ last_line inst t ≡ whole_line (title t.version) [] ++ behind_title inst t
 text_is inst t =
     sym (texts_after (whole_line (title t.version) []) (whole_line line.Up []) (part_text t.up) (whole_line line.Down [])
-    (part_text t.down) (whole_line (line.End (tree_branchings t) (tree_value inst t)) []))
+    (part_text t.down) (last_line inst t))
+
+free_text_is : (inst : InstanceView) (t : Tree)
+    → lines_by Free t ++ last_line inst t ≡ whole_line line.FreeTitle [] ++ (part_text t.up ++ (last_line inst t ++ []))
+free_text_is inst t = sym (one_text (whole_line line.FreeTitle []) (part_text t.up) (last_line inst t))
+
+same_parts : (t u : Tree) → t.version ≡ u.version → t.up ≡ u.up → t.down ≡ u.down → t ≡ u
+same_parts t u version ups downs =
+    ap (λ (w : Version). record { version = w; up = t.up; down = t.down }) version
+    ∙ ap (λ (ns : List Node). record { version = u.version; up = ns; down = t.down }) ups
+    ∙ ap (λ (ns : List Node). record { version = u.version; up = u.up; down = ns }) downs
+
+module _ (inst : InstanceView) (valid : Valid inst) (t u : Tree) (is : IsTree inst t) (other : IsTree inst u) where
+  same_by : (turn : Turn) → IsSecond turn inst t.version t.down → IsSecond turn inst u.version u.down
+      → lines_by turn t ++ last_line inst t ≡ lines_by turn u ++ last_line inst u → t ≡ u
+  same_by OneWay second third e =
+      let head = same_line (title t.version) (title u.version) [] [] (behind_title inst t) (behind_title inst u)
+      (titled t.version) (titled u.version) (sym (text_is inst t) ∙ e ∙ text_is inst u) in
+      let version : t.version ≡ u.version =
+      sym (version_back t.version) ∙ ap (λ (i : Listed). version_in i.line) head.0 ∙ version_back u.version in
+      let ups = one_part inst valid t.version t.up u.up ([] ∷ []) is.up
+      (subst (λ (w : Version). Leads w inst ([] ∷ []) u.up []) (sym version) other.up) (tt, tt) _ _
+      (append_cancel_left (whole_line line.Up []) _ _ head.1) in
+      let downs = one_part (mirror inst) (seen_valid inst valid way.Down) t.version t.down u.down ([] ∷ []) second
+      (subst (λ (w : Version). Leads w (mirror inst) ([] ∷ []) u.down []) (sym version) third) (tt, tt) _ _
+      (append_cancel_left (whole_line line.Down []) _ _ ups.1) in
+      same_parts t u version ups.0 downs.0
+  same_by Free second third e =
+      let version : t.version ≡ u.version = second.0 ∙ sym third.0 in
+      let ups = one_part inst valid t.version t.up u.up ([] ∷ []) is.up
+      (subst (λ (w : Version). Leads w inst ([] ∷ []) u.up []) (sym version) other.up) (tt, tt) _ _
+      (append_cancel_left (whole_line line.FreeTitle []) _ _ (sym (free_text_is inst t) ∙ e ∙ free_text_is inst u)) in
+      same_parts t u version ups.0 (second.1 ∙ sym third.1)
 
 -- trees of an instance with one text are the same
 pub same_tree : (inst : InstanceView) → Valid inst → (t u : Tree) → IsTree inst t → IsTree inst u
     → tree_text inst t ≡ tree_text inst u → t ≡ u
-same_tree inst valid t u is other e =
-    let head = same_line (title t.version) (title u.version) [] [] (behind_title inst t) (behind_title inst u)
-    (titled t.version) (titled u.version) (sym (text_is inst t) ∙ e ∙ text_is inst u) in
-    let version : t.version ≡ u.version =
-    sym (version_back t.version) ∙ ap (λ (i : Listed). version_in i.line) head.0 ∙ version_back u.version in
-    let ups = one_part inst valid t.version t.up u.up ([] ∷ []) is.up
-    (subst (λ (w : Version). Leads w inst ([] ∷ []) u.up []) (sym version) other.up) (tt, tt) _ _
-    (append_cancel_left (whole_line line.Up []) _ _ head.1) in
-    let downs = one_part (mirror inst) (seen_valid inst valid way.Down) t.version t.down u.down ([] ∷ []) is.down
-    (subst (λ (w : Version). Leads w (mirror inst) ([] ∷ []) u.down []) (sym version) other.down) (tt, tt) _ _
-    (append_cancel_left (whole_line line.Down []) _ _ ups.1) in
-    ap (λ (w : Version). record { version = w; up = t.up; down = t.down }) version
-    ∙ ap (λ (ns : List Node). record { version = u.version; up = ns; down = t.down }) ups.0
-    ∙ ap (λ (ns : List Node). record { version = u.version; up = u.up; down = ns }) downs.0
+same_tree inst valid t u is other e = same_by inst valid t u is other inst.turn is.down other.down e
 
 -- a file is the text of one tree at most
 pub one_tree : (inst : InstanceView) → Valid inst → (file : Option (List ℕ)) (t u : Tree) → IsTree inst t → IsTree inst u

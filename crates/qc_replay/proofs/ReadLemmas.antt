@@ -1,6 +1,6 @@
 -- Lines that are read without a fault are those of a tree.
 use Rattle.std.proofs.Common.{◌≡◌, ℕ, ◌+◌, ◌<◌, ◌≤◌, Bool, true, false, cond, ◌==◌, ◌&&◌, List, [], ◌∷◌, ◌++◌, map, Option, None, Some, IfSome, refl, ap, ap₂, sym, subst, ◌∙◌, append_assoc, arith, Ok}
-use Rattle.std.proofs.lemmas.Bool.{and_parts, eqb-true, false≢true}
+use Rattle.std.proofs.lemmas.Bool.{and_parts, eqb-true, false≢true, true≢false}
 use Rattle.std.proofs.lemmas.List.{append-nil, map-append}
 use Rattle.qc_num.specs.declared.bound.Bound.{Bound}
 use Rattle.qc_num.specs.declared.bound.Bound.TheVariants.{Least, Never}
@@ -10,20 +10,23 @@ use Rattle.qc_num.proofs.ReadingLemmas.{bind_ok, same_ok}
 use Rattle.qc_model.specs.declared.decision.Decision.{Decision}
 use Rattle.qc_model.specs.declared.direction.Direction.{Direction}
 use Rattle.qc_model.specs.declared.direction.Direction.TheVariants as way
+use Rattle.qc_model.specs.declared.turn.Turn.{Turn}
+use Rattle.qc_model.specs.declared.turn.Turn.TheVariants.{OneWay, Free}
 use Rattle.qc_model.specs.Instance.{InstanceView, Valid}
 use Rattle.qc_model.specs.Leaves.{Version, with_berths, with_packed, without_berths}
 use Rattle.qc_model.specs.Numbers.{most_branchings}
+use Rattle.qc_model.specs.OneWay.{mirror}
 use Rattle.qc_model.specs.Rules.{ends}
 use Rattle.qc_model.specs.Seen.{seen}
 use Rattle.qc_tree.specs.declared.line.Line.{Line}
 use Rattle.qc_tree.specs.declared.line.Line.TheVariants as line
 use Rattle.qc_tree.specs.LineIn.{Listed}
-use Rattle.qc_tree.specs.Trees.{IsTree, Leads, Node, NoneEarlier, Sign, Tree, branches, branchings, children, part_text, part_value, sign_text, sign_value, tree_branchings, tree_text, tree_value, whole_line}
+use Rattle.qc_tree.specs.Trees.{IsSecond, IsTree, Leads, Node, NoneEarlier, Sign, Tree, branches, branchings, children, lines_by, part_text, part_value, sign_text, sign_value, tree_branchings, tree_text, tree_value, whole_line}
 use Rattle.qc_tree.specs.Trees as trees
 use Rattle.qc_tree.proofs.NodeLemmas.{branchings_then}
 use Rattle.qc_tree.proofs.TreeBound.{tree_bound}
 use Rattle.qc_replay.specs.declared.fault.TreeKind.TheVariants as kind
-use Rattle.qc_replay.specs.Walk.{Coming, Reading, at, down, end, node, replayed, start, title, up}
+use Rattle.qc_replay.specs.Walk.{Coming, Reading, at, at_due, down, end, first_lines, is_known, node, replayed, start, title, up}
 use Rattle.qc_replay.specs.Read.{IsReached, lines_text, with_line, with_lines}
 use Rattle.qc_replay.specs.Shown.{IsShown}
 use Rattle.qc_replay.proofs.SignLemmas.{accepted, counts, failed, tested}
@@ -55,6 +58,16 @@ children_due d cs due more =
 abbrev pub reading : Version → List Coming → ℕ → Bound → Reading
 reading version coming branched bound =
     record { version = version; coming = coming; branched = branched; bound = bound }
+
+-- a line that came through is one of trees for the turn, and came through where it was due
+pub known_due : (inst : InstanceView) (r : Reading) (c : Coming) (l : Line) (list : List ℕ) (now : Reading)
+    → at inst r c l list ≡ Ok now → (is_known inst.turn l ≡ true) × (at_due inst r c l list ≡ Ok now)
+known_due inst r c l list now e = tested (is_known inst.turn l) kind.Spelling (λ _. at_due inst r c l list) now e
+
+-- a line that trees for this turn don't have
+unknown : {C : Type 0} (inst : InstanceView) (turn : Turn) (l : Line) → inst.turn ≡ turn → is_known turn l ≡ false
+    → is_known inst.turn l ≡ true → C
+unknown inst turn l same no yes = absurd (true≢false (sym yes ∙ ap (λ t. is_known t l) same ∙ no))
 
 module _ (inst : InstanceView) (last : Reading) (over : last.coming ≡ []) where
   -- ---- a line around the parts
@@ -107,7 +120,8 @@ module _ (inst : InstanceView) (last : Reading) (over : last.coming ≡ []) wher
       let i = seen inst d in
       let past = map (node d) due ++ more in
       let s = bind_ok (with_line inst (reading v (node d ds ∷ past) n b) seen_line) (λ now. with_lines inst now lines) last e in
-      let a = accepted i d v ds past n b seen_line.line seen_line.list s.0 s.1 in
+      let due_here = known_due inst (reading v (node d ds ∷ past) n b) (node d ds) seen_line.line seen_line.list s.0 s.1 in
+      let a = accepted i d v ds past n b seen_line.line seen_line.list s.0 due_here.1 in
       let m = n + counts a.sign in
       let x = lesser b (sign_value v i ds a.sign) in
       let next = reading v (map (node d) (children i ds a.sign ++ due) ++ more) m x in
@@ -135,30 +149,47 @@ module _ (inst : InstanceView) (last : Reading) (over : last.coming ≡ []) wher
   -- ---- what the lines around the parts say
 
   module _ (v : Version) (more : List Coming) (n : ℕ) (b : Bound) (now : Reading) where
-    title_line : (l : Line) (list : List ℕ) → at inst (reading v (title ∷ more) n b) title l list ≡ Ok now
+    abbrev Came : Coming → Line → List ℕ → Type 0
+    Came c l list = at inst (reading v (c ∷ more) n b) c l list ≡ Ok now
+
+    due : (c : Coming) (l : Line) (list : List ℕ) → Came c l list
+        → (is_known inst.turn l ≡ true) × (at_due inst (reading v (c ∷ more) n b) c l list ≡ Ok now)
+    due c l list e = known_due inst (reading v (c ∷ more) n b) c l list now e
+
+    title_line : inst.turn ≡ OneWay → (l : Line) (list : List ℕ) → Came title l list
         → (w : Version) × (whole_line l list ≡ whole_line (trees.title w) []) × (reading w more n b ≡ now)
-    title_line line.Title list e = (without_berths, refl, same_ok e)
-    title_line line.Title2 list e = (with_berths, refl, same_ok e)
-    title_line line.Title3 list e = (with_packed, refl, same_ok e)
-    title_line _ list e = failed kind.Place now e
+    title_line one line.Title list e = (without_berths, refl, same_ok (due title line.Title list e).1)
+    title_line one line.Title2 list e = (with_berths, refl, same_ok (due title line.Title2 list e).1)
+    title_line one line.Title3 list e = (with_packed, refl, same_ok (due title line.Title3 list e).1)
+    title_line one line.FreeTitle list e = unknown inst OneWay line.FreeTitle one refl (due title line.FreeTitle list e).0
+    title_line one l list e = failed kind.Place now (due title l list e).1
 
-    up_line : (l : Line) (list : List ℕ) → at inst (reading v (up ∷ more) n b) up l list ≡ Ok now
+    free_line : inst.turn ≡ Free → (l : Line) (list : List ℕ) → Came title l list
+        → (whole_line l list ≡ whole_line line.FreeTitle []) × (reading with_packed more n b ≡ now)
+    free_line free line.Title list e = unknown inst Free line.Title free refl (due title line.Title list e).0
+    free_line free line.Title2 list e = unknown inst Free line.Title2 free refl (due title line.Title2 list e).0
+    free_line free line.Title3 list e = unknown inst Free line.Title3 free refl (due title line.Title3 list e).0
+    free_line free line.FreeTitle list e = (refl, same_ok (due title line.FreeTitle list e).1)
+    free_line free l list e = failed kind.Place now (due title l list e).1
+
+    up_line : (l : Line) (list : List ℕ) → Came up l list
         → (whole_line l list ≡ whole_line line.Up []) × (reading v more n b ≡ now)
-    up_line line.Up list e = (refl, same_ok e)
-    up_line _ list e = failed kind.Place now e
+    up_line line.Up list e = (refl, same_ok (due up line.Up list e).1)
+    up_line l list e = failed kind.Place now (due up l list e).1
 
-    down_line : (l : Line) (list : List ℕ) → at inst (reading v (down ∷ more) n b) down l list ≡ Ok now
+    down_line : (l : Line) (list : List ℕ) → Came down l list
         → (whole_line l list ≡ whole_line line.Down []) × (reading v more n b ≡ now)
-    down_line line.Down list e = (refl, same_ok e)
-    down_line _ list e = failed kind.Place now e
+    down_line line.Down list e = (refl, same_ok (due down line.Down list e).1)
+    down_line l list e = failed kind.Place now (due down l list e).1
 
-    end_line : (l : Line) (list : List ℕ) → at inst (reading v (end ∷ more) n b) end l list ≡ Ok now
+    end_line : (l : Line) (list : List ℕ) → Came end l list
         → (whole_line l list ≡ whole_line (line.End n b) []) × (reading v more n b ≡ now)
     end_line (line.End m x) list e =
-        let t = tested ((m == n) && is_bound x b) kind.Counts (λ _. Ok (reading v more n b)) now e in
+        let t = tested ((m == n) && is_bound x b) kind.Counts (λ _. Ok (reading v more n b)) now
+        (due end (line.End m x) list e).1 in
         let same = and_parts (m == n) (is_bound x b) t.0 in
         (ap₂ (λ (y : ℕ) (z : Bound). whole_line (line.End y z) []) (eqb-true m n same.0) (same_bound x b same.1), same_ok t.1)
-    end_line _ list e = failed kind.Place now e
+    end_line l list e = failed kind.Place now (due end l list e).1
 
   nothing_more : (v : Version) (n : ℕ) (b : Bound) (lines : List Listed) → with_lines inst (reading v [] n b) lines ≡ Ok last
       → (lines ≡ []) × (reading v [] n b ≡ last)
@@ -181,12 +212,19 @@ module _ (inst : InstanceView) (last : Reading) (over : last.coming ≡ []) wher
   }
 
   module _ (more : List Coming) (n : ℕ) (b : Bound) (lines : List Listed) where
-    title_taken : with_lines inst (reading with_packed (title ∷ more) n b) lines ≡ Ok last
+    title_taken : inst.turn ≡ OneWay → with_lines inst (reading with_packed (title ∷ more) n b) lines ≡ Ok last
         → (w : Version) × Taken (whole_line (trees.title w) []) (reading w more n b) lines
-    title_taken e =
+    title_taken one e =
         let f = frame_read with_packed title more n b lines e in
-        let l = title_line with_packed more n b f.now f.here.line f.here.list f.leads in
+        let l = title_line with_packed more n b f.now one f.here.line f.here.list f.leads in
         (l.0, taken f.here lines f.rest (whole_line (trees.title l.0) []) (reading l.0 more n b) f.now f.are l.1 l.2 f.reads)
+
+    free_taken : inst.turn ≡ Free → with_lines inst (reading with_packed (title ∷ more) n b) lines ≡ Ok last
+        → Taken (whole_line line.FreeTitle []) (reading with_packed more n b) lines
+    free_taken free e =
+        let f = frame_read with_packed title more n b lines e in
+        let l = free_line with_packed more n b f.now free f.here.line f.here.list f.leads in
+        taken f.here lines f.rest (whole_line line.FreeTitle []) (reading with_packed more n b) f.now f.are l.0 l.1 f.reads
 
     module _ (w : Version) where
       up_taken : with_lines inst (reading w (up ∷ more) n b) lines ≡ Ok last
@@ -262,13 +300,13 @@ pub record IsRead (inst : InstanceView) (r : Reading) (lines : List Listed) : Ty
   pub branched : r.branched ≡ tree_branchings tree
   pub text : lines_text lines ≡ tree_text inst tree
 
--- the parts of a tree, and what its lines come to
-tree_from : (inst : InstanceView) (lines : List Listed) (r : Reading) (over : r.coming ≡ []) (w : Version)
-    (rest : List Listed) → lines_text lines ≡ whole_line (trees.title w) [] ++ lines_text rest
+-- a tree of two parts, and what its lines come to
+tree_from : (inst : InstanceView) → inst.turn ≡ OneWay → (lines : List Listed) (r : Reading) (over : r.coming ≡ [])
+    (w : Version) (rest : List Listed) → lines_text lines ≡ whole_line (trees.title w) [] ++ lines_text rest
     → (u : WordRead inst r over w way.Up (whole_line line.Up []) (down ∷ node way.Down [] ∷ end ∷ []) 0 Never rest)
     → (d : WordRead inst r over w way.Down (whole_line line.Down []) (end ∷ []) (0 + branchings u.nodes)
     (part_value w inst u.nodes) u.rest) → IsRead inst r lines
-tree_from inst lines r over w rest titled u d =
+tree_from inst one lines r over w rest titled u d =
     let x = lesser (part_value w inst u.nodes) (part_value w (seen inst way.Down) d.nodes) in
     let m = 0 + branchings u.nodes + branchings d.nodes in
     let last = ended inst r over w m x d.rest d.reads in
@@ -278,11 +316,12 @@ tree_from inst lines r over w rest titled u d =
     let p = part_text u.nodes in
     let b = whole_line line.Down [] in
     let q = part_text d.nodes in
+    let tree : Tree = record { version = w; up = u.nodes; down = d.nodes } in
     record {
-      tree = record { version = w; up = u.nodes; down = d.nodes };
+      tree = tree;
       is_tree = record {
         up = u.leads;
-        down = d.leads;
+        down = subst (λ (t : Turn). IsSecond t inst w d.nodes) (sym one) d.leads;
         few = subst (λ (c : ℕ). c ≤ most_branchings) count (d.few (u.few none_counted));
       };
       bound = ap (λ (s : Reading). s.bound) (sym last.1);
@@ -291,20 +330,63 @@ tree_from inst lines r over w rest titled u d =
           titled ∙ ap (λ (s : List ℕ). t ++ s) u.text ∙ ap (λ (s : List ℕ). t ++ (a ++ (p ++ s))) d.text
           ∙ ap (λ (s : List ℕ). t ++ (a ++ (p ++ (b ++ (q ++ s))))) last.0
           ∙ texts_after t a p b q (whole_line (line.End m x) [])
-          ∙ ap (λ (c : ℕ). t ++ a ++ p ++ b ++ q ++ whole_line (line.End c x) []) count;
+          ∙ ap (λ (c : ℕ). t ++ a ++ p ++ b ++ q ++ whole_line (line.End c x) []) count
+          ∙ ap (λ (t : Turn). lines_by t tree ++ whole_line (line.End (tree_branchings tree) x) []) (sym one);
     }
 
-pub tree_of_lines : (inst : InstanceView) (lines : List Listed) (r : Reading)
-    → with_lines inst start lines ≡ Ok r → r.coming ≡ [] → IsRead inst r lines
-tree_of_lines inst lines r e over =
+-- texts, one after the other, of a tree of one part
+pub one_text : (t p e : List ℕ) → t ++ (p ++ (e ++ [])) ≡ t ++ p ++ e
+one_text t p e = simp (append_assoc, append-nil)
+
+-- a tree of one part, and what its lines come to
+free_from : (inst : InstanceView) → inst.turn ≡ Free → (lines : List Listed) (r : Reading) (over : r.coming ≡ [])
+    (rest : List Listed) → lines_text lines ≡ whole_line line.FreeTitle [] ++ lines_text rest
+    → (u : PartRead inst r over with_packed way.Up ([] ∷ []) (end ∷ []) 0 Never rest) → IsRead inst r lines
+free_from inst free lines r over rest titled u =
+    let x = part_value with_packed inst u.nodes in
+    let m = 0 + branchings u.nodes in
+    let last = ended inst r over with_packed m x u.rest u.reads in
+    let t = whole_line line.FreeTitle [] in
+    let p = part_text u.nodes in
+    let tree : Tree = record { version = with_packed; up = u.nodes; down = [] } in
+    let count : m ≡ tree_branchings tree = omega arith in
+    let value : x ≡ tree_value inst tree = sym (lesser_never x) in
+    record {
+      tree = tree;
+      is_tree = record {
+        up = u.leads;
+        down = subst (λ (t : Turn). IsSecond t inst with_packed []) (sym free) (refl, refl);
+        few = subst (λ (c : ℕ). c ≤ most_branchings) count (u.few none_counted);
+      };
+      bound = ap (λ (s : Reading). s.bound) (sym last.1) ∙ value;
+      branched = ap (λ (s : Reading). s.branched) (sym last.1) ∙ count;
+      text =
+          titled ∙ ap (λ (s : List ℕ). t ++ s) u.text ∙ ap (λ (s : List ℕ). t ++ (p ++ s)) last.0
+          ∙ one_text t p (whole_line (line.End m x) [])
+          ∙ ap₂ (λ (c : ℕ) (y : Bound). t ++ p ++ whole_line (line.End c y) []) count value
+          ∙ ap (λ (s : Turn). lines_by s tree ++ whole_line (line.End (tree_branchings tree) (tree_value inst tree)) [])
+          (sym free);
+    }
+
+tree_by : (inst : InstanceView) (lines : List Listed) (r : Reading) → r.coming ≡ [] → (turn : Turn) → inst.turn ≡ turn
+    → with_lines inst (reading with_packed (first_lines turn) 0 Never) lines ≡ Ok r → IsRead inst r lines
+tree_by inst lines r over OneWay one e =
     let in_down = node way.Down [] ∷ end ∷ [] in
-    let t = title_taken inst r over (up ∷ node way.Up [] ∷ down ∷ in_down) 0 Never lines e in
+    let t = title_taken inst r over (up ∷ node way.Up [] ∷ down ∷ in_down) 0 Never lines one e in
     let u = word_read inst r over t.0 way.Up (whole_line line.Up []) (down ∷ in_down) 0 Never t.1.rest
     (up_taken inst r over (node way.Up [] ∷ down ∷ in_down) 0 Never t.1.rest t.0 t.1.reads) in
     let d = word_read inst r over t.0 way.Down (whole_line line.Down []) (end ∷ []) (0 + branchings u.nodes)
     (part_value t.0 inst u.nodes) u.rest
     (down_taken inst r over in_down (0 + branchings u.nodes) (part_value t.0 inst u.nodes) u.rest t.0 u.reads) in
-    tree_from inst lines r over t.0 t.1.rest t.1.text u d
+    tree_from inst one lines r over t.0 t.1.rest t.1.text u d
+tree_by inst lines r over Free free e =
+    let t = free_taken inst r over (node way.Up [] ∷ end ∷ []) 0 Never lines free e in
+    free_from inst free lines r over t.rest t.text
+    (part_read inst r over with_packed way.Up (end ∷ []) t.rest ([] ∷ []) 0 Never t.reads)
+
+pub tree_of_lines : (inst : InstanceView) (lines : List Listed) (r : Reading)
+    → with_lines inst (start inst) lines ≡ Ok r → r.coming ≡ [] → IsRead inst r lines
+tree_of_lines inst lines r e over = tree_by inst lines r over inst.turn refl e
 
 -- ---- what is believed of lines that were read to the end
 

@@ -1,5 +1,5 @@
 -- The line of a node: where it is accepted it says something that holds, and what holds is accepted.
-use Rattle.std.proofs.Common.{◌≡◌, ℕ, ◌+◌, ◌-◌, ◌*◌, ◌<◌, ◌≤◌, ◌^◌, Bool, true, false, ◌&&◌, cond, List, [], ◌∷◌, ◌++◌, length, map, All, Option, None, Some, IfSome, IsSome, inl, inr, refl, ap, ap₂, sym, ◌∙◌, arith, Err, Ok, Result, decimal, is_none, is_some, nat_le, nat_lt, not, ok_or, option_map, unwrap_or}
+use Rattle.std.proofs.Common.{◌≡◌, ℕ, ◌+◌, ◌-◌, ◌*◌, ◌<◌, ◌≤◌, ◌^◌, Bool, true, false, ◌&&◌, cond, List, [], ◌∷◌, ◌++◌, length, map, All, Option, None, Some, IfSome, IsSome, inl, inr, refl, ap, ap₂, sym, ◌∙◌, arith, Err, Ok, Result, decimal, is_none, is_some, nat_le, nat_lt, not, ok_or, option_and_then, option_map, unwrap_or}
 use Rattle.std.proofs.lemmas.Bool.{and_from, and_parts, cond_both, false≢true, le-leb, leb-true, lt-ltb, ltb-true, not-true, or_left, or_right}
 use Rattle.std.proofs.lemmas.Fmt.{length-decimal-le}
 use Rattle.std.proofs.lemmas.List.{length-append, length-map}
@@ -20,21 +20,24 @@ use Rattle.qc_model.specs.Instance.{InstanceView, Valid}
 use Rattle.qc_model.specs.Assignments.{cranes_of}
 use Rattle.qc_model.specs.Leaves.{Leaf, Version, are_tasks, chain, has_packed, is_ring, leaf_value, packed, packed_end, reach, ring, work, work_over}
 use Rattle.qc_model.specs.Work.{crane_numbers}
-use Rattle.qc_model.specs.Nodes.{Fits, IsSettled, assigned, forced, head, least}
+use Rattle.qc_model.specs.Early.{early}
+use Rattle.qc_model.specs.Nodes.{Fits, IsSettled, assigned, forced, least}
 use Rattle.qc_model.specs.Numbers.{most_branchings, most_tasks}
 use Rattle.qc_model.specs.Packs.{pack}
-use Rattle.qc_model.proofs.NodeLemmas.{before_found}
+use Rattle.qc_model.proofs.NodeLemmas.{conflict_inside}
 use Rattle.qc_close.proofs.PackBounds.{packed_listed, some_packed}
 use Rattle.qc_tree.specs.declared.line.Line.{Line}
 use Rattle.qc_tree.specs.declared.line.Line.TheVariants as line
 use Rattle.qc_tree.specs.Lines.{AreTasks, IsLine, IsTask, IsValue, fields, line_list, line_text}
-use Rattle.qc_tree.specs.Trees.{Holds, Sign, branches, children, in_file, leaf, sign_text, sign_value, whole_line}
+use Rattle.qc_tree.specs.Trees.{Holds, MayOrder, Sign, branches, children, in_file, leaf, sign_text, sign_value, whole_line}
 use Rattle.qc_tree.specs.Trees as trees
+use Rattle.qc_tree.proofs.OrderLemmas.{may_conflict}
 use Rattle.qc_replay.specs.declared.fault.TreeKind.{TreeKind}
 use Rattle.qc_replay.specs.declared.fault.TreeKind.TheVariants as kind
-use Rattle.qc_replay.specs.Walk.{Coming, Reading, at_node, branched_to, came, ended_by, from_file, is_apart, is_number, is_settled, most_bytes, node, on_pair, on_task}
+use Rattle.qc_replay.specs.Walk.{Coming, Reading, at_node, branched_to, came, ended_by, from_file, is_number, is_settled, may_order, most_bytes, no_order, node, on_pair, on_task}
 use Rattle.qc_replay.proofs.LeafBounds.{leaf_few}
-use Rattle.qc_replay.proofs.NodeFacts.{apart_listed, unsettled_false}
+use Rattle.qc_replay.proofs.NodeFacts.{unsettled_false}
+use Rattle.qc_replay.proofs.OrderFacts.{may_of, test_of}
 
 -- ---- steps that came through
 
@@ -177,19 +180,20 @@ module _ (inst : InstanceView) (d : Direction) (v : Version) (ds : List Decision
       (ap (λ (x : ℕ). whole_line (line.Assign x) []) (sym back)) (low, none_of (assigned ds (i - 1)) t.0) refl refl
       (task_children (i - 1)) t.1
 
-  pair_accepted : (i j : ℕ) (list : List ℕ) (now : Reading) → (i - 1) + 1 ≡ i → (j - 1) + 1 ≡ j
+  pair_accepted : (i j : ℕ) (list : List ℕ) (now : Reading) → i - 1 < length inst.tasks → j - 1 < length inst.tasks
+      → (i - 1) + 1 ≡ i → (j - 1) + 1 ≡ j
       → on_pair inst d ds here (i - 1) (j - 1) ≡ Ok now → Accepted (line.Order i j) list now
-  pair_accepted i j list now one other e =
+  pair_accepted i j list now low high one other e =
       let k = i - 1 in
       let m = j - 1 in
       let cs = node d (decide.Order k m ∷ ds) ∷ node d (decide.Order m k ∷ ds) ∷ [] in
       let onward = λ (_ : ⊤). branched_to here cs in
-      let apart = tested (is_apart inst k m) kind.NotApart
+      let may = tested (may_order inst.turn inst ds k m) (no_order inst.turn)
       (λ _. require (not (is_settled inst ds k m)) kind.Decided >>= onward) now e in
-      let free = tested (not (is_settled inst ds k m)) kind.Decided onward now apart.1 in
+      let free = tested (not (is_settled inst ds k m)) kind.Decided onward now may.1 in
       branched_accepted (trees.on_pair k m) cs (line.Order i j) list now
       (ap₂ (λ (x y : ℕ). whole_line (line.Order x y) []) (sym one) (sym other))
-      (before_found k m inst.apart apart.0, unsettled inst ds k m free.0) refl refl refl free.1
+      (may_of inst ds k m inst.turn refl low high may.0, unsettled inst ds k m free.0) refl refl refl free.1
 
   pub accepted : (l : Line) (list : List ℕ) (now : Reading) → at_node inst d ds here l list ≡ Ok now
       → Accepted l list now
@@ -201,7 +205,9 @@ module _ (inst : InstanceView) (d : Direction) (v : Version) (ds : List Decision
       let onward = λ (_ : ⊤). on_pair inst d ds here (i - 1) (j - 1) in
       let t = tested (is_number inst i && is_number inst j) kind.UnknownTask onward now e in
       let numbers = and_parts (is_number inst i) (is_number inst j) t.0 in
-      pair_accepted i j list now (numbered inst i numbers.0).1 (numbered inst j numbers.1).1 t.1
+      let first = numbered inst i numbers.0 in
+      let second = numbered inst j numbers.1 in
+      pair_accepted i j list now first.0 second.0 first.1 second.1 t.1
   accepted line.Chain list now e =
       let onward = λ (_ : ⊤). ended_by here kind.NotForced (leaf_value v inst ds (chain (from_file list))) in
       let t = tested (list_all (is_number inst) list) kind.UnknownTask onward now e in
@@ -316,6 +322,12 @@ module _ (inst : InstanceView) (valid : Valid inst) (v : Version) (ds : List Dec
   some_of h None none = absurd (cc none)
   some_of h (Some n) some = refl
 
+  some_pack : (tasks : List ℕ) (o : Option (ℕ → ℕ)) (p : Option ℕ)
+      → IsSome (option_map Least (option_and_then (λ begins. option_map (λ ticks. least (map begins tasks) + ticks) p) o))
+      → IsSome p
+  some_pack tasks None p none = absurd (cc none)
+  some_pack tasks (Some begins) p some = some_of (least (map begins tasks)) p some
+
   packed_tasks : (tasks : List ℕ) → IsSome (leaf_value v inst ds (packed tasks))
       → (has_packed v ≡ true) × HasTasks tasks × (1 ≤ length tasks)
   packed_tasks tasks =
@@ -323,7 +335,7 @@ module _ (inst : InstanceView) (valid : Valid inst) (v : Version) (ds : List Dec
       (λ o. IsSome o → (has_packed v ≡ true) × HasTasks tasks × (1 ≤ length tasks))
       (λ may some.
       let cranes = cranes_of inst ds in
-      let ticks = some_of (least (map (head inst ds) tasks)) (pack inst cranes tasks) some in
+      let ticks = some_pack tasks (early inst ds) (pack inst cranes tasks) some in
       let l = packed_listed inst cranes tasks (some_packed inst cranes tasks ticks) in
       (may, record { few = omega (arith, l.few, valid.tasks.count); below = l.below }, l.some))
       (λ _ none. absurd (cc none))
@@ -362,6 +374,9 @@ module _ (inst : InstanceView) (valid : Valid inst) (v : Version) (ds : List Dec
   work_short n small =
       omega (arith, length-append (decimal n) [], length-decimal-le 15 n (omega arith) small (omega (arith, small)))
 
+  inside_of : (i j : ℕ) → MayOrder inst ds i j → (i < length inst.tasks) × (j < length inst.tasks)
+  inside_of i j may = conflict_inside inst valid ds i j (may_conflict inst.turn inst ds i j may)
+
   -- what holds at a node that fits is spelled
   pub spelled : Fits inst ds → (sign : Sign) → Holds v inst ds sign → IsSpelled sign
   spelled fits (leaf (chain tasks)) some =
@@ -389,8 +404,8 @@ module _ (inst : InstanceView) (valid : Valid inst) (v : Version) (ds : List Dec
       let small = number_few j h.0 in
       record { in_range = omega (arith, small); listed = refl; short = task_short (j + 1) small }
   spelled fits (trees.on_pair i j) h =
-      let range = valid.apart.range i j h.0 in
-      let first = number_few i (omega (arith, range.0, range.1)) in
+      let range = inside_of i j h.0 in
+      let first = number_few i range.0 in
       let second = number_few j range.1 in
       record {
         in_range = (omega (arith, first), omega (arith, second));
@@ -449,7 +464,7 @@ module _ (inst : InstanceView) (valid : Valid inst) (v : Version) (ds : List Dec
         (branched (trees.on_task j) (map (λ k. node d (decide.Assign j k ∷ ds)) (crane_numbers inst)) refl refl
         (task_children inst d v ds more n b j) (omega (arith, few)))
     accepts (trees.on_pair i j) h few =
-        let range = valid.apart.range i j h.0 in
-        rw (number_of i (omega (arith, range.0, range.1)), number_of j range.1, back_one i, back_one j, apart_listed inst i j h.0, unsettled_false inst ds i j h.1)
+        let range = inside_of i j h.0 in
+        rw (number_of i range.0, number_of j range.1, back_one i, back_one j, test_of inst ds i j valid inst.turn h.0, unsettled_false inst ds i j h.1)
         (branched (trees.on_pair i j) (node d (decide.Order i j ∷ ds) ∷ node d (decide.Order j i ∷ ds) ∷ []) refl refl refl
         (omega (arith, few)))

@@ -26,7 +26,7 @@ at_bytes Q P (Some x) (Some y) h none k = k x y h none
 module _ (inst : InstanceView) (file : Option (List ℕ)) (read : Replayed) (through : IsReadThrough inst file read) where
   abbrev IsLed : List ℕ → List ℕ → Type 0
   IsLed x y = (x ≡ lines_text through.leads.lines ++ y)
-      × (texts_from inst 1 start (texts x) ≡ texts_from inst through.number through.last (texts y))
+      × (texts_from inst 1 (start inst) (texts x) ≡ texts_from inst through.number through.last (texts y))
 
   pub read_in : IfSome file (λ bytes. tree_in inst bytes ≡ Ok read)
   read_in = at_bytes IsLed (λ x _. tree_in inst x ≡ Ok read) file through.rest through.leads.taken through.all
@@ -83,7 +83,7 @@ one_value inst v file read through tree is text =
 
 -- the text of a tree has no fault
 pub never_faulty : (inst : InstanceView) → Valid inst → (file : Option (List ℕ)) (fault : TreeFault)
-    → Fails inst 1 start file fault → (tree : Tree) → IsTree inst tree → file ≡ Some (tree_text inst tree) → ⊥
+    → Fails inst 1 (start inst) file fault → (tree : Tree) → IsTree inst tree → file ≡ Some (tree_text inst tree) → ⊥
 never_faulty inst v None fault fails tree is text = cc
 never_faulty inst v (Some bytes) fault fails tree is text =
     let same : bytes ≡ tree_text inst tree = cc in

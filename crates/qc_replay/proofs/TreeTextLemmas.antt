@@ -8,31 +8,35 @@ use Rattle.std.proofs.lemmas.List.Splits.{length-slice_split}
 use Rattle.qc_num.specs.declared.bound.Bound.{Bound}
 use Rattle.qc_num.specs.declared.bound.Bound.TheVariants.{Least, Never}
 use Rattle.qc_num.specs.Bounds.{is_bound, lesser}
-use Rattle.qc_num.specs.Reading.{◌>>=◌}
+use Rattle.qc_num.specs.Reading.{◌>>=◌, require}
 use Rattle.qc_num.proofs.BoundLemmas.{lesser_assoc, lesser_never}
 use Rattle.qc_model.specs.declared.decision.Decision.{Decision}
 use Rattle.qc_model.specs.declared.decision.Decision.TheVariants as decide
 use Rattle.qc_model.specs.declared.direction.Direction.{Direction}
 use Rattle.qc_model.specs.declared.direction.Direction.TheVariants as way
+use Rattle.qc_model.specs.declared.turn.Turn.{Turn}
+use Rattle.qc_model.specs.declared.turn.Turn.TheVariants.{OneWay, Free}
 use Rattle.qc_model.specs.Instance.{InstanceView, Valid}
-use Rattle.qc_model.specs.Leaves.{Version, leaf_value, with_berths, with_packed, without_berths}
+use Rattle.qc_model.specs.Leaves.{Version, chain, leaf_value, packed, reach, ring, with_berths, with_packed, without_berths, work}
 use Rattle.qc_model.specs.Nodes.{Fits}
 use Rattle.qc_model.specs.Numbers.{most_branchings}
 use Rattle.qc_model.specs.OneWay.{mirror}
 use Rattle.qc_model.specs.Seen.{seen}
 use Rattle.qc_model.proofs.MirrorLemmas.{seen_valid}
-use Rattle.qc_model.proofs.NodeLemmas.{unsettled_unordered}
+use Rattle.qc_model.proofs.NodeLemmas.{conflict_turned, unsettled_unordered}
 use Rattle.qc_tree.specs.declared.line.Line.{Line}
 use Rattle.qc_tree.specs.declared.line.Line.TheVariants as line
 use Rattle.qc_tree.specs.Lines.{IsLine, IsValue, bound_field, line_list, line_text}
-use Rattle.qc_tree.specs.Trees.{Holds, IsTree, Leads, Node, Sign, Tree, branchings, children, leaf, node_value, part_text, part_value, sign_text, sign_value, title, tree_branchings, tree_text, tree_value, whole_line}
+use Rattle.qc_tree.specs.Trees.{Holds, IsPart, IsSecond, IsTree, Leads, Node, Sign, Tree, branchings, children, leaf, lines_by, node_value, part_text, part_value, sign_text, sign_value, title, tree_branchings, tree_text, tree_value, whole_line}
 use Rattle.qc_tree.specs.Trees as trees
 use Rattle.qc_tree.proofs.LineInLemmas.{line_in_of, split_line}
+use Rattle.qc_tree.proofs.OrderLemmas.{may_conflict}
+use Rattle.qc_replay.specs.declared.fault.TreeKind.TheVariants as kind
 use Rattle.qc_replay.specs.declared.fault.Replayed.{Replayed}
-use Rattle.qc_replay.specs.Walk.{Coming, Reading, at, at_text, down, end, most_bytes, next_of, node, numbered, start, texts_from, tree_in, up}
+use Rattle.qc_replay.specs.Walk.{Coming, Reading, at_due, at_text, down, end, first_lines, is_known, most_bytes, next_of, node, numbered, start, texts_from, tree_in, up}
 use Rattle.qc_replay.specs.Walk as walk
 use Rattle.qc_replay.proofs.LeafBounds.{leaf_few}
-use Rattle.qc_replay.proofs.ReadLemmas.{branchings_more, children_due, reading, texts_after}
+use Rattle.qc_replay.proofs.ReadLemmas.{branchings_more, children_due, one_text, reading, texts_after}
 use Rattle.qc_replay.proofs.SignLemmas.{accepts, behind_line, counts, line_of, list_of, spelled, text_of}
 
 -- ---- bounds
@@ -73,7 +77,8 @@ module _ (inst : InstanceView) (valid : Valid inst) (v : Version) where
       numbers_fit (λ k. decide.Assign j k ∷ ds) 0 (length inst.cranes) (λ k low. (h.0, omega (arith, low), h.1, fits))
   children_fit ds (trees.on_pair i j) fits h =
       let un = unsettled_unordered inst ds i j h.1 in
-      ((inl (inl h.0), un.0, un.1, fits), ((inl (inr h.0), un.1, un.0, fits), tt))
+      let conflict = may_conflict inst.turn inst ds i j h.0 in
+      ((conflict, un.0, un.1, fits), ((conflict_turned inst ds i j conflict, un.1, un.0, fits), tt))
 
   pub due_fit : (ds : List Decision) (due : List (List Decision)) (sign : Sign) → AllFit (ds ∷ due) → Holds v inst ds sign
       → AllFit (children inst ds sign ++ due)
@@ -96,6 +101,31 @@ module _ (inst : InstanceView) (valid : Valid inst) (v : Version) where
 
 -- ---- one line
 
+-- a line that trees for this turn have
+pub known_in : (inst : InstanceView) (turn : Turn) (l : Line) → inst.turn ≡ turn → is_known turn l ≡ true
+    → is_known inst.turn l ≡ true
+known_in inst turn l same known = ap (λ t. is_known t l) same ∙ known
+
+known_sign : (turn : Turn) (sign : Sign) → is_known turn (line_of sign) ≡ true
+known_sign OneWay (leaf (chain tasks)) = refl
+known_sign OneWay (leaf (ring tasks)) = refl
+known_sign OneWay (leaf (packed tasks)) = refl
+known_sign OneWay (leaf reach) = refl
+known_sign OneWay (leaf (work end)) = refl
+known_sign OneWay (trees.on_task j) = refl
+known_sign OneWay (trees.on_pair i j) = refl
+known_sign Free (leaf (chain tasks)) = refl
+known_sign Free (leaf (ring tasks)) = refl
+known_sign Free (leaf (packed tasks)) = refl
+known_sign Free (leaf reach) = refl
+known_sign Free (leaf (work end)) = refl
+known_sign Free (trees.on_task j) = refl
+known_sign Free (trees.on_pair i j) = refl
+
+known_end : (turn : Turn) (b : ℕ) (x : Bound) → is_known turn (line.End b x) ≡ true
+known_end OneWay b x = refl
+known_end Free b x = refl
+
 abbrev feeds : List ℕ → List (List ℕ)
 feeds = slice_split (λ b. b == 10)
 
@@ -105,17 +135,18 @@ module _ (inst : InstanceView) (value : Replayed) where
   GoesOn r bytes = (n : ℕ) → texts_from inst n r (feeds bytes) ≡ Ok value
 
   at_text_is : (r now : Reading) (c : Coming) (l : Line) (list : List ℕ) → next_of r.coming ≡ Ok c → IsLine l list
-      → list ≡ line_list l list → length (line_text l list) < most_bytes → at inst r c l list ≡ Ok now
-      → at_text inst r (line_text l list) ≡ Ok now
-  at_text_is r now c l list next ranges listed short same =
+      → list ≡ line_list l list → length (line_text l list) < most_bytes → is_known inst.turn l ≡ true
+      → at_due inst r c l list ≡ Ok now → at_text inst r (line_text l list) ≡ Ok now
+  at_text_is r now c l list next ranges listed short known same =
       let seen_here = line_in_of (line_text l list) l list (record { same = refl; in_range = ranges; list = listed }) in
       let few = lt-ltb (length (line_text l list)) most_bytes short in
-      rw (next, few, seen_here) same
+      rw (next, few, seen_here)
+      (ap (λ k. require k kind.Spelling >>= λ _. at_due inst r c l list) known ∙ same)
 
   one_line : (r now : Reading) (c : Coming) (l : Line) (list rest : List ℕ) → next_of r.coming ≡ Ok c → IsLine l list
-      → list ≡ line_list l list → length (line_text l list) < most_bytes → at inst r c l list ≡ Ok now
-      → GoesOn now rest → GoesOn r (whole_line l list ++ rest)
-  one_line r now c l list rest next ranges listed short same goes = λ n.
+      → list ≡ line_list l list → length (line_text l list) < most_bytes → is_known inst.turn l ≡ true
+      → at_due inst r c l list ≡ Ok now → GoesOn now rest → GoesOn r (whole_line l list ++ rest)
+  one_line r now c l list rest next ranges listed short known same goes = λ n.
       ap (texts_from inst n r) (split_line l list rest ranges)
       ∙ step n (feeds rest) (omega (arith, length-slice_split (λ b. b == 10) rest)) goes
     where
@@ -124,7 +155,7 @@ module _ (inst : InstanceView) (value : Replayed) where
       step n [] some more = absurd (omega arith)
       step n (t ∷ ts) some more =
           ap (λ o. numbered n o >>= λ s. texts_from inst (n + 1) s (t ∷ ts))
-          (at_text_is r now c l list next ranges listed short same) ∙ more (n + 1)
+          (at_text_is r now c l list next ranges listed short known same) ∙ more (n + 1)
 
   -- ---- the nodes of a part
 
@@ -166,7 +197,7 @@ module _ (inst : InstanceView) (value : Replayed) where
         (ap (λ (t : List ℕ). t ++ (part_text nodes ++ rest)) (sym (text_of sign))
         ∙ sym (append_assoc (sign_text sign) (part_text nodes) rest))
         (one_line (reading v (node d ds ∷ past) n b) next (node d ds) (line_of sign) (list_of sign)
-        (part_text nodes ++ rest) refl spells.in_range spells.listed spells.short
+        (part_text nodes ++ rest) refl spells.in_range spells.listed spells.short (known_sign inst.turn sign)
         (accepts is (seen_valid inst valid d) v ds d past n b sign h.1 (omega (arith, few, count))) then_next)
 
 -- the value in the last line is short
@@ -199,11 +230,15 @@ module _ (inst : InstanceView) (valid : Valid inst) (tree : Tree) (is_tree : IsT
   abbrev goes_on : Reading → List ℕ → Type 0
   goes_on r bytes = GoesOn inst read r bytes
 
+  second_few : (turn : Turn) → IsSecond turn inst v tree.down → IsValue (part_value v (mirror inst) tree.down)
+  second_few OneWay part = part_few (mirror inst) (seen_valid inst valid way.Down) v tree.down ([] ∷ []) part (tt, tt)
+  second_few Free none = subst (λ (ns : List Node). IsValue (part_value v (mirror inst) ns)) (sym none.1) tt
+
   value_few : IsValue (tree_value inst tree)
   value_few =
       lesser_value value_up (part_value v (mirror inst) tree.down)
       (part_few inst valid v tree.up ([] ∷ []) is_tree.up (tt, tt))
-      (part_few (mirror inst) (seen_valid inst valid way.Down) v tree.down ([] ∷ []) is_tree.down (tt, tt))
+      (second_few inst.turn is_tree.down)
 
   ended : goes_on (reading v [] (tree_branchings tree) (tree_value inst tree)) []
   ended n = refl
@@ -215,51 +250,100 @@ module _ (inst : InstanceView) (valid : Valid inst) (tree : Tree) (is_tree : IsT
       one_line inst read r (reading v [] (tree_branchings tree) (tree_value inst tree)) end
       (line.End (tree_branchings tree) (tree_value inst tree)) [] [] refl (few, value_few) refl
       (end_short (tree_branchings tree) (tree_value inst tree) few value_few)
+      (known_end inst.turn (tree_branchings tree) (tree_value inst tree))
       (rw (eq-eqb (tree_branchings tree) (tree_branchings tree) refl, is_bound_same (tree_value inst tree)) refl) ended
 
-  abbrev from_down : List ℕ
-  from_down = whole_line line.Down [] ++ (part_text tree.down ++ (last ++ []))
+  -- ---- of two parts
 
-  down_on : goes_on (reading v (down ∷ node way.Down [] ∷ end ∷ []) (branchings tree.up) value_up) from_down
-  down_on =
-      one_line inst read (reading v (down ∷ node way.Down [] ∷ end ∷ []) (branchings tree.up) value_up)
-      (reading v (node way.Down [] ∷ end ∷ []) (branchings tree.up) value_up)
-      down line.Down [] (part_text tree.down ++ (last ++ [])) refl tt refl (omega arith) refl
-      (part_goes_on inst read valid v way.Down (end ∷ []) (last ++ []) tree.down ([] ∷ []) is_tree.down (tt, tt)
-      (branchings tree.up) value_up is_tree.few end_read)
+  module _ (one : inst.turn ≡ OneWay) (second : IsPart v (mirror inst) tree.down) where
+    known : (l : Line) → is_known OneWay l ≡ true → is_known inst.turn l ≡ true
+    known l is = known_in inst OneWay l one is
 
-  abbrev from_up : List ℕ
-  from_up = whole_line line.Up [] ++ (part_text tree.up ++ from_down)
+    abbrev from_down : List ℕ
+    from_down = whole_line line.Down [] ++ (part_text tree.down ++ (last ++ []))
 
-  up_on : goes_on (reading v (up ∷ node way.Up [] ∷ down ∷ node way.Down [] ∷ end ∷ []) 0 Never) from_up
-  up_on =
-      let more = down ∷ node way.Down [] ∷ end ∷ [] in
-      let count : branchings tree.up ≡ 0 + branchings tree.up = omega arith in
-      one_line inst read (reading v (up ∷ node way.Up [] ∷ more) 0 Never) (reading v (node way.Up [] ∷ more) 0 Never)
-      up line.Up [] (part_text tree.up ++ from_down) refl tt refl (omega arith) refl
-      (part_goes_on inst read valid v way.Up more from_down tree.up ([] ∷ []) is_tree.up (tt, tt) 0 Never
-      (omega (arith, is_tree.few))
-      (subst (λ (n : ℕ). goes_on (reading v more n value_up) from_down) count down_on))
+    down_on : goes_on (reading v (down ∷ node way.Down [] ∷ end ∷ []) (branchings tree.up) value_up) from_down
+    down_on =
+        one_line inst read (reading v (down ∷ node way.Down [] ∷ end ∷ []) (branchings tree.up) value_up)
+        (reading v (node way.Down [] ∷ end ∷ []) (branchings tree.up) value_up)
+        down line.Down [] (part_text tree.down ++ (last ++ [])) refl tt refl (omega arith) (known line.Down refl) refl
+        (part_goes_on inst read valid v way.Down (end ∷ []) (last ++ []) tree.down ([] ∷ []) second (tt, tt)
+        (branchings tree.up) value_up is_tree.few end_read)
 
-  titled : (w : Version) (bytes : List ℕ)
-      → goes_on (reading w (up ∷ node way.Up [] ∷ down ∷ node way.Down [] ∷ end ∷ []) 0 Never) bytes
-      → goes_on start (whole_line (title w) [] ++ bytes)
-  titled without_berths bytes leads =
-      one_line inst read start (reading without_berths (up ∷ node way.Up [] ∷ down ∷ node way.Down [] ∷ end ∷ []) 0 Never)
-      walk.title line.Title [] bytes refl tt refl (omega arith) refl leads
-  titled with_berths bytes leads =
-      one_line inst read start (reading with_berths (up ∷ node way.Up [] ∷ down ∷ node way.Down [] ∷ end ∷ []) 0 Never)
-      walk.title line.Title2 [] bytes refl tt refl (omega arith) refl leads
-  titled with_packed bytes leads =
-      one_line inst read start (reading with_packed (up ∷ node way.Up [] ∷ down ∷ node way.Down [] ∷ end ∷ []) 0 Never)
-      walk.title line.Title3 [] bytes refl tt refl (omega arith) refl leads
+    abbrev from_up : List ℕ
+    from_up = whole_line line.Up [] ++ (part_text tree.up ++ from_down)
 
-  all_read : goes_on start (tree_text inst tree)
-  all_read =
-      subst (goes_on start)
-      (texts_after (whole_line (title v) []) (whole_line line.Up []) (part_text tree.up) (whole_line line.Down [])
-      (part_text tree.down) last)
-      (titled v from_up up_on)
+    up_on : goes_on (reading v (up ∷ node way.Up [] ∷ down ∷ node way.Down [] ∷ end ∷ []) 0 Never) from_up
+    up_on =
+        let more = down ∷ node way.Down [] ∷ end ∷ [] in
+        let count : branchings tree.up ≡ 0 + branchings tree.up = omega arith in
+        one_line inst read (reading v (up ∷ node way.Up [] ∷ more) 0 Never) (reading v (node way.Up [] ∷ more) 0 Never)
+        up line.Up [] (part_text tree.up ++ from_down) refl tt refl (omega arith) (known line.Up refl) refl
+        (part_goes_on inst read valid v way.Up more from_down tree.up ([] ∷ []) is_tree.up (tt, tt) 0 Never
+        (omega (arith, is_tree.few))
+        (subst (λ (n : ℕ). goes_on (reading v more n value_up) from_down) count down_on))
+
+    abbrev first : Reading
+    first = reading with_packed (first_lines OneWay) 0 Never
+
+    abbrev behind : Version → Reading
+    behind w = reading w (up ∷ node way.Up [] ∷ down ∷ node way.Down [] ∷ end ∷ []) 0 Never
+
+    titled : (w : Version) (bytes : List ℕ) → goes_on (behind w) bytes → goes_on first (whole_line (title w) [] ++ bytes)
+    titled without_berths bytes leads =
+        one_line inst read first (behind without_berths) walk.title line.Title [] bytes refl tt refl (omega arith)
+        (known line.Title refl) refl leads
+    titled with_berths bytes leads =
+        one_line inst read first (behind with_berths) walk.title line.Title2 [] bytes refl tt refl (omega arith)
+        (known line.Title2 refl) refl leads
+    titled with_packed bytes leads =
+        one_line inst read first (behind with_packed) walk.title line.Title3 [] bytes refl tt refl (omega arith)
+        (known line.Title3 refl) refl leads
+
+    two_parts : goes_on first (lines_by OneWay tree ++ last)
+    two_parts =
+        subst (goes_on first)
+        (texts_after (whole_line (title v) []) (whole_line line.Up []) (part_text tree.up) (whole_line line.Down [])
+        (part_text tree.down) last)
+        (titled v from_up up_on)
+
+  -- ---- of one part
+
+  module _ (free : inst.turn ≡ Free) (latest : v ≡ with_packed) (none : tree.down ≡ []) where
+    count_is : 0 + branchings tree.up ≡ tree_branchings tree
+    count_is = omega (arith, ap branchings none)
+
+    value_is : value_up ≡ tree_value inst tree
+    value_is = sym (lesser_never value_up) ∙ ap (λ (ns : List Node). lesser value_up (part_value v (mirror inst) ns)) (sym none)
+
+    abbrev from_nodes : List ℕ
+    from_nodes = part_text tree.up ++ (last ++ [])
+
+    nodes_on : goes_on (reading v (node way.Up [] ∷ end ∷ []) 0 Never) from_nodes
+    nodes_on =
+        part_goes_on inst read valid v way.Up (end ∷ []) (last ++ []) tree.up ([] ∷ []) is_tree.up (tt, tt) 0 Never
+        (omega (arith, count_is, is_tree.few))
+        (subst (λ (r : Reading). goes_on r (last ++ [])) (ap₂ (reading v (end ∷ [])) (sym count_is) (sym value_is))
+        end_read)
+
+    abbrev first_free : Reading
+    first_free = reading with_packed (first_lines Free) 0 Never
+
+    one_part : goes_on first_free (lines_by Free tree ++ last)
+    one_part =
+        subst (goes_on first_free) (one_text (whole_line line.FreeTitle []) (part_text tree.up) last)
+        (one_line inst read first_free (reading with_packed (node way.Up [] ∷ end ∷ []) 0 Never)
+        walk.title line.FreeTitle [] from_nodes refl tt refl (omega arith)
+        (known_in inst Free line.FreeTitle free refl) refl
+        (subst (λ (w : Version). goes_on (reading w (node way.Up [] ∷ end ∷ []) 0 Never) from_nodes) latest nodes_on))
+
+  read_by : (turn : Turn) → inst.turn ≡ turn → IsSecond turn inst v tree.down
+      → goes_on (reading with_packed (first_lines turn) 0 Never) (lines_by turn tree ++ last)
+  read_by OneWay one second = two_parts one second
+  read_by Free free second = one_part free second.0 second.1
+
+  all_read : goes_on (start inst) (tree_text inst tree)
+  all_read = read_by inst.turn refl is_tree.down
 
 pub tree_read : (inst : InstanceView) → Valid inst → (tree : Tree) → IsTree inst tree
     → tree_in inst (tree_text inst tree) ≡ Ok (record { bound = tree_value inst tree; branched = tree_branchings tree })

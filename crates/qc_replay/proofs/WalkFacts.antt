@@ -1,21 +1,29 @@
 -- A line that is taken at each stage.
-use Rattle.std.proofs.Common.{◌≡◌, ℕ, true, false, List, [], ◌∷◌, ◌++◌, map, Result, Err, refl, ap, sym, ◌∙◌, if◌then◌else◌}
-use Rattle.qc_num.specs.Reading.{◌>>=◌}
+use Rattle.std.proofs.Common.{◌≡◌, ℕ, Bool, true, false, List, [], ◌∷◌, ◌++◌, map, Option, None, Some, Result, Err, refl, ap, sym, subst, ◌∙◌, if◌then◌else◌}
+use Rattle.std.proofs.lemmas.Bool.{true≢false}
+use Rattle.qc_num.specs.Reading.{◌>>=◌, require}
 use Rattle.qc_dist.specs.Children.{behind}
+use Rattle.qc_model.specs.declared.direction.Direction.{Direction}
 use Rattle.qc_model.specs.declared.direction.Direction.TheVariants as way
+use Rattle.qc_model.specs.declared.turn.Turn.{Turn}
+use Rattle.qc_model.specs.declared.turn.Turn.TheVariants.{OneWay, Free}
 use Rattle.qc_model.specs.Instance.{InstanceView}
+use Rattle.qc_model.specs.Seen.{seen}
+use Rattle.qc_num.specs.declared.bound.Bound.TheVariants.{Never}
 use Rattle.qc_tree.specs.declared.line.Line.{Line}
 use Rattle.qc_tree.specs.LineIn.{Listed}
 use Rattle.qc_replay.specs.declared.fault.TreeKind.{TreeKind}
+use Rattle.qc_replay.specs.declared.fault.TreeKind.TheVariants as kind
 use Rattle.qc_replay.specs.declared.leaf.TreeVersion.{TreeVersion}
+use Rattle.qc_replay.specs.declared.leaf.TreeVersion.TheVariants.{WithPacked}
 use Rattle.qc_replay.specs.declared.node.Tally.{Tally}
 use Rattle.qc_replay.specs.declared.walk.Stage.{Stage}
-use Rattle.qc_replay.specs.declared.walk.Stage.TheVariants.{Title, Up, InUp, InDown, Done}
+use Rattle.qc_replay.specs.declared.walk.Stage.TheVariants.{Title, Up, Part, Done}
 use Rattle.qc_replay.specs.declared.walk.Walk.TheInside.{Inside}
 use Rattle.qc_replay.specs.Part.{IsJudged, Standing, nodes, version_of}
-use Rattle.qc_replay.specs.Read.{with_line}
-use Rattle.qc_replay.specs.Stages.{IsKeptWalk, WalkView, from_down, leading, reading_at, walk_of, word_of}
-use Rattle.qc_replay.specs.Walk.{Reading, at, at_node, came, down, end, next_of, node, title}
+use Rattle.qc_replay.specs.Read.{with_known, with_line}
+use Rattle.qc_replay.specs.Stages.{IsKeptWalk, WalkView, behind_part, behind_title, is_over, leading, none_due, reading_at, second_root, walk_of, word_of}
+use Rattle.qc_replay.specs.Walk.{Coming, Reading, at_due, at_node, came, down, end, first_lines, is_known, next_of, node, start, title}
 use Rattle.qc_replay.proofs.NodeFacts.{nodes_here}
 
 -- a fault that is handed on
@@ -27,72 +35,118 @@ handed_on f g result out why e h = ap (leading f) e ∙ sym (ap (leading g) h)
 pub none_left : (s : Standing) → s.live ≡ false → nodes s ≡ []
 none_left s over = ap (λ b. if b then s.decisions ∷ behind s.inst s.decisions else []) over
 
+-- ---- a line that trees for the turn have, or not
+
+module _ (inst : InstanceView) (r : Reading) (taken : Listed) where
+  -- nothing may come any more
+  pub after_all : is_over r ≡ true → with_line inst r taken ≡ Err kind.After
+  after_all over = by_coming r.coming refl over
+    where
+      by_coming : (coming : List Coming) → r.coming ≡ coming → none_due coming ≡ true → with_line inst r taken ≡ Err kind.After
+      by_coming [] is none = ap (λ cs. with_line inst (record r { coming = cs }) taken) is
+      by_coming (c ∷ more) is none = absurd (true≢false (sym none))
+
+  abbrev tested_line : Bool → Coming → Result Reading TreeKind
+  tested_line known c = require known kind.Spelling >>= λ _. at_due inst r c taken.line taken.list
+
+  pub unknown_line : is_over r ≡ false → is_known inst.turn taken.line ≡ false → with_line inst r taken ≡ Err kind.Spelling
+  unknown_line due unknown = by_coming r.coming refl due
+    where
+      by_coming : (coming : List Coming) → r.coming ≡ coming → none_due coming ≡ false → with_line inst r taken ≡ Err kind.Spelling
+      by_coming [] is none = absurd (true≢false none)
+      by_coming (c ∷ more) is none =
+          ap (λ cs. next_of cs >>= tested_line (is_known inst.turn taken.line)) is
+          ∙ ap (λ known. tested_line known c) unknown
+
+  pub known_line : is_known inst.turn taken.line ≡ true → with_line inst r taken ≡ with_known inst r taken
+  known_line known = ap (λ k. next_of r.coming >>= tested_line k) known
+
+-- the first reading
+pub start_is : (inst : InstanceView) (first : Standing) → first ≡ record { inst = inst; decisions = []; live = true }
+    → (second : Option Standing) → second ≡ second_root inst.turn inst
+    → reading_at Title WithPacked way.Up first second (record { branched = 0; bound = Never }) ≡ start inst
+start_is inst first is second both =
+    ap (λ (f : Standing). reading_at Title WithPacked way.Up f second (record { branched = 0; bound = Never })) is
+    ∙ ap (λ (s : Option Standing). reading_at Title WithPacked way.Up (record { inst = inst; decisions = []; live = true }) s
+    (record { branched = 0; bound = Never })) both
+    ∙ by_turn inst.turn
+  where
+    by_turn : (turn : Turn)
+        → ◌≡◌ {A = Reading} (reading_at Title WithPacked way.Up (record { inst = inst; decisions = []; live = true })
+        (second_root turn inst) (record { branched = 0; bound = Never }))
+        (record (start inst) { coming = first_lines turn })
+    by_turn OneWay = refl
+    by_turn Free = refl
+
+-- ---- at each stage
+
 module _ (w : Inside) (old : WalkView) (is : walk_of w ≡ old) (kept : IsKeptWalk w) (line : Line) (list : List ℕ) where
   abbrev taken : Listed
   taken = record { line = line; list = list }
 
   abbrev here : Stage → Reading
-  here stage = reading_at stage w.version w.up w.down w.tally
+  here stage = reading_at stage w.version w.way w.part w.second w.tally
 
   abbrev Takes : Result Reading TreeKind → Type 0
-  Takes result = with_line old.inst old.reading taken ≡ result
+  Takes result = with_known old.inst old.reading taken ≡ result
 
-  begins : (stage : Stage) → w.stage ≡ stage → Takes (with_line w.up.inst (here stage) taken)
+  begins : (stage : Stage) → w.stage ≡ stage → Takes (with_known w.inst (here stage) taken)
   begins stage at_stage =
-      ap (λ (v : WalkView). with_line v.inst v.reading taken) (sym is)
-      ∙ ap (λ s. with_line w.up.inst (here s) taken) at_stage
+      ap (λ (v : WalkView). with_known v.inst v.reading taken) (sym is)
+      ∙ ap (λ s. with_known w.inst (here s) taken) at_stage
 
   pub title_taken : w.stage ≡ Title → (result : Result TreeVersion TreeKind)
-      → ((inst : InstanceView) (r : Reading) (list : List ℕ) → at inst r title line list ≡ leading (λ version. record (came r) { version = version_of version }) result)
-      → Takes (leading (λ version. reading_at Up version w.up w.down w.tally) result)
-  title_taken stage result judged = begins Title stage ∙ judged w.up.inst (here Title) list
+      → ((inst : InstanceView) (r : Reading) (list : List ℕ) → at_due inst r title line list ≡ leading (λ version. record (came r) { version = version_of version }) result)
+      → Takes (leading (λ version. reading_at (behind_title w.second) version w.way w.part w.second w.tally) result)
+  title_taken stage result judged = begins Title stage ∙ by_second w.second
+    where
+      by_second : (second : Option Standing)
+          → with_known w.inst (reading_at Title w.version w.way w.part second w.tally) taken
+          ≡ leading (λ version. reading_at (behind_title second) version w.way w.part second w.tally) result
+      by_second None = judged w.inst (reading_at Title w.version w.way w.part None w.tally) list
+      by_second (Some s) = judged w.inst (reading_at Title w.version w.way w.part (Some s) w.tally) list
 
   pub up_taken : w.stage ≡ Up → {A : Type 0} (result : Result A TreeKind)
       → ((inst : InstanceView) (r : Reading) (list : List ℕ)
-      → at inst r (word_of way.Up) line list ≡ leading (λ _. came r) result)
-      → Takes (leading (λ _. here InUp) result)
-  up_taken stage result judged = begins Up stage ∙ judged w.up.inst (here Up) list
+      → at_due inst r (word_of way.Up) line list ≡ leading (λ _. came r) result)
+      → Takes (leading (λ _. here Part) result)
+  up_taken stage result judged = begins Up stage ∙ judged w.inst (here Up) list
 
-  pub down_taken : w.stage ≡ InUp → w.up.live ≡ false → {A : Type 0} (result : Result A TreeKind)
+  -- behind the last node of a part
+  behind_last : w.stage ≡ Part → w.part.live ≡ false → (second : Option Standing) → w.second ≡ second
+      → Takes (with_known w.inst (record (here Part) { coming = behind_part second }) taken)
+  behind_last stage over second which =
+      begins Part stage
+      ∙ ap (λ ns. with_known w.inst (record (here Part) { coming = map (node w.way) ns ++ behind_part w.second }) taken)
+      (none_left w.part over)
+      ∙ ap (λ s. with_known w.inst (record (here Part) { coming = behind_part s }) taken) which
+
+  pub down_taken : w.stage ≡ Part → w.part.live ≡ false → (second : Standing) → w.second ≡ Some second
+      → {A : Type 0} (result : Result A TreeKind)
       → ((inst : InstanceView) (r : Reading) (list : List ℕ)
-      → at inst r (word_of way.Down) line list ≡ leading (λ _. came r) result)
-      → Takes (leading (λ _. here InDown) result)
-  down_taken stage over result judged =
-      let past = down ∷ from_down w.down in
-      let now = record (here InUp) { coming = past } in
-      begins InUp stage
-      ∙ ap (λ ns. with_line w.up.inst (record (here InUp) { coming = map (node way.Up) ns ++ past }) taken)
-      (none_left w.up over)
-      ∙ judged w.up.inst now list
+      → at_due inst r (word_of way.Down) line list ≡ leading (λ _. came r) result)
+      → Takes (leading (λ _. reading_at Part w.version way.Down second None w.tally) result)
+  down_taken stage over second which result judged =
+      behind_last stage over (Some second) which
+      ∙ judged w.inst (record (here Part) { coming = behind_part (Some second) }) list
 
-  pub end_taken : w.stage ≡ InDown → w.down.live ≡ false → {A : Type 0} (result : Result A TreeKind)
+  pub end_taken : w.stage ≡ Part → w.part.live ≡ false → w.second ≡ None → {A : Type 0} (result : Result A TreeKind)
       → ((inst : InstanceView) (r : Reading) (list : List ℕ) → r.branched ≡ w.tally.branched → r.bound ≡ w.tally.bound
-      → at inst r end line list ≡ leading (λ _. came r) result)
-      → Takes (leading (λ _. here Done) result)
-  end_taken stage over result judged =
-      let now = record (here InDown) { coming = end ∷ [] } in
-      begins InDown stage
-      ∙ ap (λ ns. with_line w.up.inst (record (here InDown) { coming = map (node way.Down) ns ++ end ∷ [] }) taken)
-      (none_left w.down over)
-      ∙ judged w.up.inst now list refl refl
+      → at_due inst r end line list ≡ leading (λ _. came r) result)
+      → (second : Option Standing) → Takes (leading (λ _. reading_at Done w.version w.way w.part second w.tally) result)
+  end_taken stage over which result judged second =
+      behind_last stage over None which
+      ∙ judged w.inst (record (here Part) { coming = end ∷ [] }) list refl refl
 
   -- a node of a part
-  pub up_node_taken : w.stage ≡ InUp → w.up.live ≡ true → (after : Standing) (result : Result Tally TreeKind)
-      → IsJudged w.version w.up w.tally line list after result
-      → Takes (leading (λ tally. reading_at w.stage w.version after w.down tally) result)
-  up_node_taken stage live after result judged =
-      let past = down ∷ from_down w.down in
-      begins InUp stage
-      ∙ ap (λ ns. next_of (map (node way.Up) ns ++ past) >>= λ c. at w.up.inst (here InUp) c line list)
-      (nodes_here w.version w.up after live w.tally)
-      ∙ judged way.Up past ∙ ap (λ s. leading (λ tally. reading_at s w.version after w.down tally) result) (sym stage)
-
-  pub down_node_taken : w.stage ≡ InDown → w.down.live ≡ true → (after : Standing) (result : Result Tally TreeKind)
-      → IsJudged w.version w.down w.tally line list after result
-      → Takes (leading (λ tally. reading_at w.stage w.version w.up after tally) result)
-  down_node_taken stage live after result judged =
-      begins InDown stage
-      ∙ ap (λ ns. next_of (map (node way.Down) ns ++ end ∷ []) >>= λ c. at w.up.inst (here InDown) c line list)
-      (nodes_here w.version w.down after live w.tally)
-      ∙ ap (λ i. at_node i way.Down w.down.decisions (here InDown) line list) (sym kept)
-      ∙ judged way.Down (end ∷ []) ∙ ap (λ s. leading (λ tally. reading_at s w.version w.up after tally) result) (sym stage)
+  pub node_taken : w.stage ≡ Part → w.part.live ≡ true → (after : Standing) (result : Result Tally TreeKind)
+      → IsJudged w.version w.part w.tally line list after result
+      → Takes (leading (λ tally. reading_at w.stage w.version w.way after w.second tally) result)
+  node_taken stage live after result judged =
+      let past = behind_part w.second in
+      begins Part stage
+      ∙ ap (λ ns. next_of (map (node w.way) ns ++ past) >>= λ c. at_due w.inst (here Part) c line list)
+      (nodes_here w.version w.part after live w.tally)
+      ∙ ap (λ i. at_node i w.way w.part.decisions (here Part) line list) (sym kept.part)
+      ∙ judged w.way past
+      ∙ ap (λ s. leading (λ tally. reading_at s w.version w.way after w.second tally) result) (sym stage)

@@ -4,6 +4,7 @@ use Rattle.qc_close.specs.Crews.{IsCrewOf}
 use Rattle.qc_dist.specs.Node.{IsOpen, Node}
 use Rattle.qc_model.specs.declared.decision.Decision.{Decision}
 use Rattle.qc_model.specs.Instance.{InstanceView}
+use Rattle.qc_replay.specs.Earliest.{HasEarly}
 use Rattle.qc_replay.specs.declared.crewed_node.CrewedNode.TheInside.{Inside}
 
 -- each decision was open where it was made
@@ -17,3 +18,4 @@ node_of f = f.node
 pub record IsCrewed (f : Inside) : Type 0 where
   pub were_open : WereOpen f.node.inst f.node.decisions
   pub crew : IsCrewOf f.crew f.node.inst f.node.decisions
+  pub begun : HasEarly f.node.inst.turn f.node.inst f.node.decisions f.begun

@@ -34,7 +34,7 @@ pub record IsReadThrough (inst : InstanceView) (left : Option (List ℕ)) (read 
   pub number : ℕ
   pub last : Reading
   pub rest : Option (List ℕ)
-  pub leads : Leads inst 1 start left number last rest
+  pub leads : Leads inst 1 (start inst) left number last rest
   pub over : last.coming ≡ []
   pub same : read ≡ replayed last
   pub all : IfSome rest (λ bytes. bytes ≡ [])

@@ -6,13 +6,19 @@ use Rattle.qc_model.specs.Instance.{InstanceView}
 use Rattle.qc_tree.specs.LineIn.{Listed}
 use Rattle.qc_tree.specs.Trees.{whole_line}
 use Rattle.qc_replay.specs.declared.fault.TreeKind.{TreeKind}
-use Rattle.qc_replay.specs.Walk.{Reading, at, next_of, start}
+use Rattle.qc_replay.specs.Walk.{Reading, at, at_due, next_of, start}
 
 -- one line more
 abbrev pub with_line : InstanceView → Reading → Listed → Result Reading TreeKind
 with_line inst r seen = do
   c ← next_of r.coming
   at inst r c seen.line seen.list
+
+-- one line more that trees for the turn of the instance have
+abbrev pub with_known : InstanceView → Reading → Listed → Result Reading TreeKind
+with_known inst r seen = do
+  c ← next_of r.coming
+  at_due inst r c seen.line seen.list
 
 -- all these lines
 abbrev pub with_lines : InstanceView → Reading → List Listed → Result Reading TreeKind
@@ -26,5 +32,5 @@ lines_text = flat_map (λ (seen : Listed). whole_line seen.line seen.list)
 -- so far is read by lines without a fault; where the file is told, they are what was taken of it
 pub record IsReached (inst : InstanceView) (r : Reading) (file left : Option (List ℕ)) : Type 0 where
   pub lines : List Listed
-  pub reading : with_lines inst start lines ≡ Ok r
+  pub reading : with_lines inst (start inst) lines ≡ Ok r
   pub taken : IfSome file (λ bytes. IfSome left (λ rest. bytes ≡ lines_text lines ++ rest))

@@ -1,16 +1,19 @@
 -- inner: how far a tree is read, as it is kept.
-use Rattle.std.specs.Prelude.{◌≡◌, ℕ, ◌+◌, ◌-◌, ◌*◌, length, Bool, true, false, List, [], ◌∷◌, ◌++◌, map, Result, Ok}
+use Rattle.std.specs.Prelude.{◌≡◌, ℕ, ◌+◌, ◌-◌, ◌*◌, length, Bool, true, false, List, [], ◌∷◌, ◌++◌, map, Option, None, Some, IfSome, Result, Ok}
 use Rattle.qc_num.specs.Reading.{◌>>=◌}
 use Rattle.qc_model.specs.declared.direction.Direction.{Direction}
 use Rattle.qc_model.specs.declared.direction.Direction.TheVariants as way
+use Rattle.qc_model.specs.declared.turn.Turn.{Turn}
+use Rattle.qc_model.specs.declared.turn.Turn.TheVariants.{OneWay, Free}
 use Rattle.qc_model.specs.Instance.{InstanceView}
 use Rattle.qc_model.specs.Numbers.{most_branchings, most_cranes}
 use Rattle.qc_model.specs.OneWay.{mirror}
+use Rattle.qc_model.specs.Seen.{seen}
 use Rattle.qc_replay.specs.declared.fault.TreeKind.{TreeKind}
 use Rattle.qc_replay.specs.declared.leaf.TreeVersion.{TreeVersion}
 use Rattle.qc_replay.specs.declared.node.Tally.{Tally}
 use Rattle.qc_replay.specs.declared.walk.Stage.{Stage}
-use Rattle.qc_replay.specs.declared.walk.Stage.TheVariants.{Title, Up, InUp, InDown, Done}
+use Rattle.qc_replay.specs.declared.walk.Stage.TheVariants.{Title, Up, Part, Done}
 use Rattle.qc_replay.specs.declared.walk.Walk.TheInside.{Inside}
 use Rattle.qc_replay.specs.Part.{Standing, nodes, version_of}
 use Rattle.qc_replay.specs.Walk.{Coming, Reading, down, end, node, title, up}
@@ -41,32 +44,48 @@ abbrev pub word_of : Direction → Coming
 word_of way.Up = up
 word_of way.Down = down
 
--- what must come from these nodes of the part for the mirror on
-abbrev pub from_down : Standing → List Coming
-from_down d = map (node way.Down) (nodes d) ++ end ∷ []
+-- the part for the mirror before its first line, which a tree has where cranes go one way
+abbrev pub second_root : Turn → InstanceView → Option Standing
+second_root OneWay inst = Some (record { inst = mirror inst; decisions = []; live = true })
+second_root Free inst = None
 
--- the same from these of the part for the instance on
-abbrev pub from_up : Standing → Standing → List Coming
-from_up u d = map (node way.Up) (nodes u) ++ down ∷ from_down d
+-- what stands behind the title
+abbrev pub behind_title : Option Standing → Stage
+behind_title (Some second) = Up
+behind_title None = Part
+
+-- what must come behind the nodes of a part: the part for the mirror, if it must still come, and the last line
+abbrev pub behind_part : Option Standing → List Coming
+behind_part (Some second) = down ∷ map (node way.Down) (nodes second) ++ end ∷ []
+behind_part None = end ∷ []
+
+-- what must come from these nodes of a part on
+abbrev pub from_part : Direction → Standing → Option Standing → List Coming
+from_part d part second = map (node d) (nodes part) ++ behind_part second
 
 -- what must come at each stage
-abbrev pub coming_at : Stage → Standing → Standing → List Coming
-coming_at Title u d = title ∷ up ∷ from_up u d
-coming_at Up u d = up ∷ from_up u d
-coming_at InUp u d = from_up u d
-coming_at InDown u d = from_down d
-coming_at Done u d = []
+abbrev pub coming_at : Stage → Direction → Standing → Option Standing → List Coming
+coming_at Title d part (Some second) = title ∷ up ∷ from_part d part (Some second)
+coming_at Title d part None = title ∷ from_part d part None
+coming_at Up d part second = up ∷ from_part d part second
+coming_at Part d part second = from_part d part second
+coming_at Done d part second = []
 
-abbrev pub reading_at : Stage → TreeVersion → Standing → Standing → Tally → Reading
-reading_at stage version u d tally = record {
+abbrev pub reading_at : Stage → TreeVersion → Direction → Standing → Option Standing → Tally → Reading
+reading_at stage version d part second tally = record {
   version = version_of version;
-  coming = coming_at stage u d;
+  coming = coming_at stage d part second;
   branched = tally.branched;
   bound = tally.bound;
 }
 
 abbrev pub walk_of : Inside → WalkView
-walk_of w = record { inst = w.up.inst; reading = reading_at w.stage w.version w.up w.down w.tally }
+walk_of w = record {
+  inst = w.inst;
+  reading = reading_at w.stage w.version w.way w.part w.second w.tally;
+}
 
-abbrev pub IsKeptWalk : Inside → Type 0
-IsKeptWalk w = w.down.inst ≡ mirror w.up.inst
+-- the parts are those of the instance
+pub record IsKeptWalk (w : Inside) : Type 0 where
+  pub part : w.part.inst ≡ seen w.inst w.way
+  pub second : IfSome w.second (λ (s : Standing). s.inst ≡ mirror w.inst)

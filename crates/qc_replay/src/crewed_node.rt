@@ -4,19 +4,23 @@ ghost use Rattle.qc_close.specs.Crews.{IsCrewOf};
 ghost use Rattle.qc_dist.specs.Node.{IsOpen, Node};
 ghost use Rattle.qc_model.specs.Instance.{Valid};
 ghost use Rattle.qc_replay.specs.Crewed.{IsCrewed, WereOpen, node_of};
+ghost use Rattle.qc_replay.specs.Earliest.{HasEarly};
 
+use crate::earliest::{EarlyStarts, early_first, early_with, early_without};
 use qc_close::Crew;
 use qc_dist::Decisions;
-use qc_model::{Decision, Instance, Turn};
+use qc_model::{Decision, Instance};
 use qc_num::OutOfMemory;
 use std::alloc::Global;
 use std::marker::Model;
 
-/// The decisions of a node, and the crew that they give. All memory is taken by `new`.
+/// The decisions of a node, and the crew that they give; where cranes go as they like, its least starts
+/// too. All memory is taken by `new`.
 #[derive(Drop)]
 pub(crate) struct CrewedNode {
     node: Decisions,
     crew: Crew,
+    begun: Option<EarlyStarts>,
 }
 
 impl Model for CrewedNode {
@@ -34,7 +38,8 @@ impl CrewedNode {
     {
         Ok(CrewedNode {
             node: Decisions::new(alloc, inst)?,
-            crew: Crew::open(alloc, inst, Turn::OneWay)?,
+            crew: Crew::open(alloc, inst, inst.turn())?,
+            begun: early_first(alloc, inst)?,
         })
     }
 
@@ -61,11 +66,19 @@ impl CrewedNode {
         &self.crew
     }
 
+    /// The least starts, where cranes go as they like.
+    pub(crate) fn begun(&self) -> &Option<EarlyStarts>
+        ensures { HasEarly self.now.inst.turn self.now.inst self.now.decisions result.now }
+    {
+        &self.begun
+    }
+
     /// Decides one thing more.
     pub(crate) fn add(&mut self, decision: Decision)
         requires { IsOpen self.old.inst self.old.decisions decision }
         ensures { self.new ≡ record self.old { decisions = decision ∷ self.old.decisions } }
     {
+        self.begun = early_with(self.begun.take(), &self.node, decision);
         self.node.add(decision);
         match decision {
             Decision::Assign(task, crane) => self.crew.put(task, crane),
@@ -83,6 +96,7 @@ impl CrewedNode {
         ensures was_open { IfSome result (IsOpen self.new.inst self.new.decisions) }
     {
         let decision = self.node.undo()?;
+        self.begun = early_without(self.begun.take(), &self.node);
         match decision {
             Decision::Assign(task, _) => {
                 self.crew.take(task);

@@ -4,14 +4,16 @@ ghost use Rattle.qc_close.specs.Crews.{IsCrewOf};
 ghost use Rattle.qc_dist.specs.Node.{IsOpen, Node};
 ghost use Rattle.qc_model.specs.declared.decision.Decision.{Decision};
 ghost use Rattle.qc_model.specs.declared.decision.Decision.TheVariants.{Assign, Order};
-ghost use Rattle.qc_model.specs.Instance.{IsApart, Valid};
+ghost use Rattle.qc_model.specs.Instance.{Valid};
 ghost use Rattle.qc_model.specs.Work.{crane_numbers};
-ghost use Rattle.qc_model.specs.Nodes.{IsSettled, assigned};
+ghost use Rattle.qc_model.specs.Nodes.{Conflicts, IsSettled, assigned};
 ghost use Rattle.qc_dist.specs.Children.{behind};
 ghost use Rattle.qc_replay.specs.Crewed.{WereOpen};
+ghost use Rattle.qc_replay.specs.Earliest.{HasEarly};
 ghost use Rattle.qc_replay.specs.Part.{nodes, Standing, standing_of};
 
 use crate::crewed_node::CrewedNode;
+use crate::earliest::EarlyStarts;
 use qc_close::Crew;
 use qc_dist::{Decisions, next_child};
 use qc_model::{Decision, Instance};
@@ -67,6 +69,13 @@ impl Descent {
         self.node.crew()
     }
 
+    /// The least starts of the next node, where cranes go as they like.
+    pub(crate) fn begun(&self) -> &Option<EarlyStarts>
+        ensures { HasEarly self.now.inst.turn self.now.inst self.now.decisions result.now }
+    {
+        self.node.begun()
+    }
+
     /// The next node branches on the crane of a task.
     pub(crate) fn on_task(&mut self, task: u16)
         requires valid { Valid self.old.inst }
@@ -81,11 +90,11 @@ impl Descent {
         self.node.add(Decision::Assign(task, 0));
     }
 
-    /// The next node branches on the order of an apart pair.
+    /// The next node branches on the order of two tasks that conflict, the lower first.
     pub(crate) fn on_pair(&mut self, first: u16, second: u16)
-        requires valid { Valid self.old.inst }
         requires live { self.old.live ≡ true }
-        requires apart { IsApart self.old.inst first second }
+        requires low { first < second }
+        requires conflict { Conflicts self.old.inst self.old.decisions first second }
         requires unsettled { ¬ IsSettled self.old.inst self.old.decisions first second }
         ensures inst { self.new.inst ≡ self.old.inst }
         ensures nodes { nodes self.new ≡ (Order first second ∷ self.old.decisions)

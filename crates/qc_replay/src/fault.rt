@@ -22,6 +22,9 @@ pub enum TreeKind {
     UnknownTask,
     /// The two tasks, the lower first, are no apart pair of the instance.
     NotApart,
+    /// The two tasks, the lower first, don't conflict: where cranes go as they like the order of apart
+    /// tasks may be branched on, and of those that can't run at the same time on their cranes.
+    NotConflict,
     /// What it branches on is decided: the task has a crane, or one of the pair is forced to wait.
     Decided,
     /// A tree has at most 100,000 branchings.
@@ -30,7 +33,8 @@ pub enum TreeKind {
     NotForced,
     /// A task of the ring isn't forced to come after the one before it, or the first after the last.
     NotCycle,
-    /// Two of the tasks can run together, one is listed twice, or no crane can do one.
+    /// Two of the tasks can run together, one is listed twice, or no crane can do one; where cranes go
+    /// as they like also that no starts meet the node, or a decision is out of reach.
     NotClash,
     /// The newest decision doesn't put a task on a crane that can't reach it.
     InReach,
@@ -55,6 +59,7 @@ impl TreeKind {
             TreeKind::Place => "Place",
             TreeKind::UnknownTask => "UnknownTask",
             TreeKind::NotApart => "NotApart",
+            TreeKind::NotConflict => "NotConflict",
             TreeKind::Decided => "Decided",
             TreeKind::Branchings => "Branchings",
             TreeKind::NotForced => "NotForced",
@@ -79,7 +84,7 @@ pub struct TreeFault {
 /// What a tree shows.
 #[derive(Clone, Copy, Debug, PartialEq, Eq)]
 pub struct Replayed {
-    /// No schedule that goes one way ends before this tick; `Never`: there is no such schedule.
+    /// No schedule that cranes of this turn may follow ends before this tick; `Never`: there is none.
     pub bound: Bound,
     /// How many branchings the tree has, at most 100,000.
     pub branched: u32,

@@ -1,17 +1,16 @@
 //! What leaves show at a node.
-ghost use Rattle.std.specs.Prelude.{◌≡◌, ◌+◌, ◌*◌, ◌<◌, ◌≤◌, ◌++◌, ◌^◌, ℕ, List, None, All, IfSome, IsTrue, MatchOption, drop, length, map, min, option_map, is_some, take};
-ghost use Rattle.std.specs.Option.{option_map_or};
+ghost use Rattle.std.specs.Prelude.{◌≡◌, ◌+◌, ◌*◌, ◌<◌, ◌≤◌, ◌++◌, ◌^◌, ℕ, List, None, All, IfSome, IsTrue, MatchOption, drop, length, option_map, is_some, take};
 ghost use Rattle.qc_close.specs.Crews.{IsCrewOf};
 ghost use Rattle.qc_model.specs.Numbers.{most_distance, most_ready, most_tasks, most_work};
 ghost use Rattle.qc_model.specs.Instance.{ticks_of};
-ghost use Rattle.qc_model.specs.declared.turn.Turn.TheVariants.{OneWay};
 ghost use Rattle.qc_model.specs.Assignments.{cranes_of};
 ghost use Rattle.qc_model.specs.Closed.{is_closed};
 ghost use Rattle.qc_model.specs.Leaves.{chain, chain_end, chain_ticks, has_packed, head_in, is_ring, leaf_value, packed_end, reach, ring, work, work_over};
-ghost use Rattle.qc_model.specs.Nodes.{head, least};
+ghost use Rattle.qc_replay.specs.Earliest.{HasEarly};
 ghost use Rattle.qc_replay.specs.Part.{IsNumber, version_of};
 ghost use Rattle.qc_replay.specs.Walk.{from_file};
 
+use crate::earliest::{EarlyStarts, least_begin};
 use qc_close::Crew;
 use qc_dist::Decisions;
 use qc_model::MOST_TASKS;
@@ -58,7 +57,7 @@ fn is_closed(node: &Decisions, crew: &Crew, end: Tick) -> bool
     requires crew { IsCrewOf crew.now node.now.inst node.now.decisions }
     requires some { 1 ≤ end }
     requires digits { end < 10 ^ 15 }
-    ensures { result ≡ is_closed node.now.inst OneWay (cranes_of node.now.inst node.now.decisions) end }
+    ensures { result ≡ is_closed node.now.inst node.now.inst.turn (cranes_of node.now.inst node.now.decisions) end }
 {
     crew.closed(end)
 }
@@ -142,31 +141,16 @@ fn tasks_of(numbers: &[u16]) -> [u16; MOST_TASKS as usize]
     tasks
 }
 
-/// The earlier of a tick and those before it, if there were any.
-fn earlier(before: Option<Tick>, tick: Tick) -> Tick
-    ensures least { result ≡ option_map_or (λ other. min other tick) before tick }
-    ensures bound { result ≤ tick }
-{
-    before.map_or(tick, |other| other.min(tick))
-}
-
-/// When the first of some tasks can start at the least.
-fn least_lead(node: &Decisions, tasks: &[u16]) -> Tick
-    requires tasks { All (λ j. j < length node.now.inst.tasks) tasks.now }
-    ensures least { result ≡ least (map (head node.now.inst node.now.decisions) tasks.now) }
-    ensures bound { result ≤ most_ready + most_distance }
-{
-    let mut least: Option<Tick> = None;
-    for task in tasks {
-        least = Some(earlier(least, node.lead(*task)));
-    }
-    least.unwrap_or(0)
-}
-
-/// The end that packed tasks show, which begin at the least of their heads; `None` exactly where they
-/// aren't packed.
-pub(crate) fn packed_end(node: &Decisions, crew: &Crew, numbers: &[u16]) -> Option<Tick>
+/// The end that packed tasks show, which begin when the first of them can; `None` exactly where they
+/// aren't packed, or the node has no least starts where those count.
+pub(crate) fn packed_end(
+    node: &Decisions,
+    crew: &Crew,
+    begun: &Option<EarlyStarts>,
+    numbers: &[u16],
+) -> Option<Tick>
     requires crew { IsCrewOf crew.now node.now.inst node.now.decisions }
+    requires begun { HasEarly node.now.inst.turn node.now.inst node.now.decisions begun.now }
     requires numbers { All (IsNumber node.now.inst) numbers.now }
     requires few { length numbers.now ≤ most_tasks }
     ensures { result ≡ packed_end node.now.inst node.now.decisions (from_file numbers.now) }
@@ -174,5 +158,6 @@ pub(crate) fn packed_end(node: &Decisions, crew: &Crew, numbers: &[u16]) -> Opti
     let tasks = tasks_of(numbers);
     let listed = &tasks[..numbers.len()];
     let ticks = crew.pack(listed)?;
-    Some(least_lead(node, listed) + ticks)
+    let begin = least_begin(node, begun, listed)?;
+    Some(begin + ticks)
 }

@@ -4,6 +4,7 @@
 
 mod crewed_node;
 mod descent;
+mod earliest;
 mod fault;
 mod leaf;
 mod lines;

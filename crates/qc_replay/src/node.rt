@@ -6,17 +6,19 @@ ghost use Rattle.qc_model.specs.Numbers.{most_tasks};
 ghost use Rattle.qc_model.specs.Instance.{Valid};
 ghost use Rattle.qc_model.specs.Leaves.{is_out_of_reach};
 ghost use Rattle.qc_replay.specs.Crewed.{WereOpen};
+ghost use Rattle.qc_replay.specs.Earliest.{HasEarly};
 ghost use Rattle.qc_replay.specs.Part.{IsJudged, IsNoBranching, Shows, with_branching};
-ghost use Rattle.qc_replay.specs.Walk.{is_apart, is_number};
+ghost use Rattle.qc_replay.specs.Walk.{is_number, may_order, no_order};
 ghost use Rattle.qc_tree.specs.declared.line.Line.TheVariants.{Assign, Chain, Clash, Order, Reach, Ring, Work};
 ghost use Rattle.qc_tree.specs.Lines.{IsLine};
 
 use crate::descent::Descent;
+use crate::earliest::EarlyStarts;
 use crate::fault::TreeKind;
 use crate::leaf::{TreeVersion, chain_end, is_ring, is_work_over, packed_end};
 use qc_close::Crew;
 use qc_dist::{Decisions, in_reach};
-use qc_model::Decision;
+use qc_model::{Decision, Turn};
 use qc_num::{Bound, Tick};
 use qc_tree::{Line, MOST_BRANCHINGS};
 
@@ -85,10 +87,12 @@ fn ring_bound(node: &Decisions, version: TreeVersion, numbers: &[u16]) -> Result
 fn clash_bound(
     node: &Decisions,
     crew: &Crew,
+    begun: &Option<EarlyStarts>,
     version: TreeVersion,
     numbers: &[u16],
 ) -> Result<Bound, TreeKind>
     requires crew { IsCrewOf crew.now node.now.inst node.now.decisions }
+    requires begun { HasEarly node.now.inst.turn node.now.inst node.now.decisions begun.now }
     requires few { length numbers.now ≤ most_tasks }
     ensures { Shows node.now.inst node.now.decisions version Clash numbers.now result }
 {
@@ -98,7 +102,7 @@ fn clash_bound(
     if !are_numbers(node, numbers) {
         return Err(TreeKind::UnknownTask);
     }
-    match packed_end(node, crew, numbers) {
+    match packed_end(node, crew, begun, numbers) {
         Some(end) => Ok(Bound::Least(end)),
         None => Err(TreeKind::NotClash),
     }
@@ -150,11 +154,13 @@ fn work_bound(
 fn leaf_bound(
     node: &Decisions,
     crew: &Crew,
+    begun: &Option<EarlyStarts>,
     version: TreeVersion,
     line: Line,
     numbers: &[u16],
 ) -> Result<Bound, TreeKind>
     requires crew { IsCrewOf crew.now node.now.inst node.now.decisions }
+    requires begun { HasEarly node.now.inst.turn node.now.inst node.now.decisions begun.now }
     requires were_open { WereOpen node.now.inst node.now.decisions }
     requires in_range { IsLine line numbers.now }
     requires leaf { IsNoBranching line }
@@ -165,7 +171,7 @@ fn leaf_bound(
         Line::Ring => ring_bound(node, version, numbers),
         Line::Reach => reach_bound(node, version),
         Line::Work(end) => work_bound(node, crew, version, end),
-        Line::Clash => clash_bound(node, crew, version, numbers),
+        Line::Clash => clash_bound(node, crew, begun, version, numbers),
         _ => Err(TreeKind::Place),
     }
 }
@@ -211,14 +217,27 @@ fn on_task(
     Ok(now)
 }
 
-/// Whether two tasks are an apart pair, in this order.
-fn is_apart(node: &Decisions, first: u16, second: u16) -> bool
-    ensures { result ≡ is_apart node.now.inst first second }
+/// Whether the order of two tasks may be branched on: the lower is first, and they are apart or, where
+/// cranes go as they like, can't run at the same time on their cranes.
+fn may_order(node: &Decisions, first: u16, second: u16) -> bool
+    requires first { first < length node.now.inst.tasks }
+    requires second { second < length node.now.inst.tasks }
+    ensures { result ≡ may_order node.now.inst.turn node.now.inst node.now.decisions first second }
 {
-    node.instance().is_apart(first, second)
+    first < second && node.conflict(first, second)
 }
 
-/// Branching on the order of an apart pair.
+/// The fault of a pair of which it may not.
+fn no_order(turn: Turn) -> TreeKind
+    ensures { result ≡ no_order turn }
+{
+    match turn {
+        Turn::OneWay => TreeKind::NotApart,
+        Turn::Free => TreeKind::NotConflict,
+    }
+}
+
+/// Branching on the order of two tasks.
 fn on_pair(
     version: TreeVersion,
     descent: &mut Descent,
@@ -236,8 +255,8 @@ fn on_pair(
         return Err(TreeKind::UnknownTask);
     }
     let (first, second) = (one - 1, other - 1);
-    if !is_apart(node, first, second) {
-        return Err(TreeKind::NotApart);
+    if !may_order(node, first, second) {
+        return Err(no_order(node.instance().turn()));
     }
     if node.settled(first, second) {
         return Err(TreeKind::Decided);
@@ -261,7 +280,7 @@ fn on_leaf(
     ensures inst { descent.new.inst ≡ descent.old.inst }
     ensures judged { IsJudged version descent.old tally line numbers.now descent.new result }
 {
-    match leaf_bound(descent.node(), descent.crew(), version, line, numbers) {
+    match leaf_bound(descent.node(), descent.crew(), descent.begun(), version, line, numbers) {
         Ok(value) => {
             descent.leave();
             Ok(Tally {

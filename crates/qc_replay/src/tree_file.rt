@@ -21,8 +21,8 @@ use qc_io::Shelf;
 use qc_model::Instance;
 use std::alloc::Global;
 
-/// What the tree in a file shows for an instance: an end in ticks that no schedule beats which goes
-/// one way, or that there is none. The file is read line by line to its end, or to its first fault.
+/// What the tree in a file shows for an instance: an end in ticks that no schedule beats which its cranes
+/// may follow, one way or as they like by its turn, or that there is none. The file is read line by line to its end, or to its first fault.
 pub fn replay<S: Shelf>(
     alloc: Global,
     inst: &Instance,
@@ -70,7 +70,7 @@ fn read_lines<S: Shelf>(
     lines: &mut TreeLines,
     shelf: &mut S,
 ) -> Result<Replayed, ReplayError>
-    requires start { walk.old.reading ≡ start }
+    requires start { walk.old.reading ≡ start walk.old.inst }
     requires valid { Valid walk.old.inst }
     requires first { lines.old.number ≡ 1 }
     requires room { HasRoom 240 lines.old.path }
@@ -78,7 +78,7 @@ fn read_lines<S: Shelf>(
     ensures read { IfOk result (IsReadThrough walk.old.inst
         (prepend_known lines.old.reader (S.Sink.view shelf.old).rest)) }
     ensures fault { (fault : TreeFault) → result ≡ Err (ReplayError.Tree fault)
-        → Fails walk.old.inst 1 start (prepend_known lines.old.reader (S.Sink.view shelf.old).rest) fault }
+        → Fails walk.old.inst 1 (start walk.old.inst) (prepend_known lines.old.reader (S.Sink.view shelf.old).rest) fault }
     ensures last { (fault : TreeFault) → result ≡ Err (ReplayError.Tree fault)
         → fault.line ≤ 800007 }
     ensures reads { ReadsOn (S.Sink.view shelf.old) (S.Sink.view shelf.new)

@@ -1,17 +1,18 @@
 //! The way through a tree, line by line.
 ghost use Rattle.std.specs.Prelude.{◌≡◌, ℕ, List, IfOk, Ok};
+ghost use Rattle.qc_model.specs.declared.turn.Turn.{Turn};
 ghost use Rattle.qc_model.specs.Instance.{InstanceView, Valid};
 ghost use Rattle.qc_tree.specs.Lines.{IsLine};
 ghost use Rattle.qc_replay.specs.Part.{version_of};
-ghost use Rattle.qc_replay.specs.Read.{with_line};
-ghost use Rattle.qc_replay.specs.Stages.{is_over, leading, word_of, WalkView, IsKeptWalk, walk_of};
-ghost use Rattle.qc_replay.specs.Walk.{Reading, at, came, end, start, title, replayed};
+ghost use Rattle.qc_replay.specs.Read.{with_known, with_line};
+ghost use Rattle.qc_replay.specs.Stages.{behind_title, is_over, leading, second_root, word_of, WalkView, IsKeptWalk, walk_of};
+ghost use Rattle.qc_replay.specs.Walk.{Reading, at_due, came, end, is_known, start, title, replayed};
 
 use crate::descent::Descent;
 use crate::fault::{Replayed, TreeKind};
 use crate::leaf::TreeVersion;
 use crate::node::{Tally, on_line};
-use qc_model::{Direction, Instance, mirror};
+use qc_model::{Direction, Instance, Turn, copy, mirror};
 use qc_num::{Bound, OutOfMemory};
 use qc_tree::Line;
 use std::alloc::Global;
@@ -24,10 +25,8 @@ pub(crate) enum Stage {
     Title,
     /// The title: the word of the part for the instance is due.
     Up,
-    /// That word: a node of the part is due, or behind its last the word of the other part.
-    InUp,
-    /// The word of the part for the mirror: a node of it is due, or behind its last the last line.
-    InDown,
+    /// The first line of a part, or its word: a node of it is due, or behind its last what follows it.
+    Part,
     /// The last line.
     Done,
 }
@@ -35,11 +34,15 @@ pub(crate) enum Stage {
 /// How far a tree is read, and what its lines come to. All memory is taken by `new`.
 #[derive(Drop)]
 pub(crate) struct Walk {
+    inst: Instance,
     stage: Stage,
     version: TreeVersion,
     tally: Tally,
-    up: Descent,
-    down: Descent,
+    /// The part that is read, and which way it goes.
+    part: Descent,
+    way: Direction,
+    /// The part for the mirror, as long as it must still come. Where cranes go as they like there is none.
+    second: Option<Descent>,
 }
 
 impl Model for Walk {
@@ -50,22 +53,49 @@ impl Model for Walk {
     ghost invariant = { IsKeptWalk };
 }
 
+/// The part for the mirror, which a tree has where cranes go one way.
+fn second_root(alloc: Global, inst: &Instance) -> Result<Option<Descent>, OutOfMemory>
+    ensures { IfOk result (λ second. second ≡ second_root inst.now.turn inst.now) }
+{
+    match inst.turn() {
+        Turn::OneWay => {
+            let mirrored = mirror(alloc, inst)?;
+            Ok(Some(Descent::new(alloc, &mirrored)?))
+        }
+        Turn::Free => Ok(None),
+    }
+}
+
+/// Whether the line is one of trees for cranes with this turn.
+fn is_known(turn: Turn, line: Line) -> bool
+    ensures { result ≡ is_known turn line }
+{
+    match turn {
+        Turn::OneWay => !matches!(line, Line::FreeTitle),
+        Turn::Free => !matches!(
+            line,
+            Line::Title | Line::Title2 | Line::Title3 | Line::Up | Line::Down
+        ),
+    }
+}
+
 impl Walk {
     /// Before the first line of a tree of the instance.
     pub(crate) fn new(alloc: Global, inst: &Instance) -> Result<Walk, OutOfMemory>
-        ensures start { IfOk result (λ new. new ≡ record { inst = inst.now; reading = start }) }
+        ensures start { IfOk result (λ new. new ≡ record { inst = inst.now; reading = start inst.now }) }
         ensures valid { IfOk result (λ new. Valid inst.now) }
     {
-        let mirrored = mirror(alloc, inst)?;
         Ok(Walk {
+            inst: copy(alloc, inst)?,
             stage: Stage::Title,
             version: TreeVersion::WithPacked,
             tally: Tally {
                 branched: 0,
                 bound: Bound::Never,
             },
-            up: Descent::new(alloc, inst)?,
-            down: Descent::new(alloc, &mirrored)?,
+            part: Descent::new(alloc, inst)?,
+            way: Direction::Up,
+            second: second_root(alloc, inst)?,
         })
     }
 
@@ -93,46 +123,76 @@ impl Walk {
         ensures taken { with_line self.old.inst self.old.reading
             (record { line = line; list = numbers.now }) ≡ leading (λ _. self.new.reading) result }
     {
+        if self.is_over() {
+            return Err(TreeKind::After);
+        }
+        if !is_known(self.inst.turn(), line) {
+            return Err(TreeKind::Spelling);
+        }
+        self.take_known(line, numbers)
+    }
+
+    /// The same of a line that trees for this turn have.
+    fn take_known(&mut self, line: Line, numbers: &[u16]) -> Result<(), TreeKind>
+        requires { IsLine line numbers.now }
+        ensures inst { self.new.inst ≡ self.old.inst }
+        ensures taken { with_known self.old.inst self.old.reading
+            (record { line = line; list = numbers.now }) ≡ leading (λ _. self.new.reading) result }
+    {
         match self.stage {
             Stage::Title => {
                 self.version = titled(line)?;
-                self.stage = Stage::Up;
+                self.stage = behind_title(&self.second);
+                Ok(())
             }
             Stage::Up => {
                 expect_word(Direction::Up, line)?;
-                self.stage = Stage::InUp;
+                self.stage = Stage::Part;
+                Ok(())
             }
-            Stage::InUp => {
-                if self.up.is_live() {
-                    self.tally = on_line(self.version, &mut self.up, self.tally, line, numbers)?;
-                } else {
-                    expect_word(Direction::Down, line)?;
-                    self.stage = Stage::InDown;
+            Stage::Part => {
+                if self.part.is_live() {
+                    self.tally = on_line(self.version, &mut self.part, self.tally, line, numbers)?;
+                    return Ok(());
+                }
+                match self.second.take() {
+                    None => {
+                        expect_end(self.tally, line)?;
+                        self.stage = Stage::Done;
+                        Ok(())
+                    }
+                    Some(second) => {
+                        let word = expect_word(Direction::Down, line);
+                        self.part = second;
+                        self.way = Direction::Down;
+                        word
+                    }
                 }
             }
-            Stage::InDown => {
-                if self.down.is_live() {
-                    self.tally = on_line(self.version, &mut self.down, self.tally, line, numbers)?;
-                } else {
-                    expect_end(self.tally, line)?;
-                    self.stage = Stage::Done;
-                }
-            }
-            Stage::Done => return Err(TreeKind::After),
+            Stage::Done => Err(TreeKind::After),
         }
-        Ok(())
+    }
+}
+
+/// What stands before the line behind the title: only where there are two parts do words begin them.
+fn behind_title(second: &Option<Descent>) -> Stage
+    ensures { result ≡ behind_title second.now }
+{
+    match second {
+        Some(_) => Stage::Up,
+        None => Stage::Part,
     }
 }
 
 /// The version that the title tells.
 fn titled(line: Line) -> Result<TreeVersion, TreeKind>
-    ensures { (inst : InstanceView) (r : Reading) (list : List ℕ) → at inst r title line list
+    ensures { (inst : InstanceView) (r : Reading) (list : List ℕ) → at_due inst r title line list
         ≡ leading (λ version. record (came r) { version = version_of version }) result }
 {
     match line {
         Line::Title => Ok(TreeVersion::WithoutBerths),
         Line::Title2 => Ok(TreeVersion::WithBerths),
-        Line::Title3 => Ok(TreeVersion::WithPacked),
+        Line::Title3 | Line::FreeTitle => Ok(TreeVersion::WithPacked),
         _ => Err(TreeKind::Place),
     }
 }
@@ -140,7 +200,7 @@ fn titled(line: Line) -> Result<TreeVersion, TreeKind>
 /// The line must begin the part that goes this way.
 fn expect_word(way: Direction, line: Line) -> Result<(), TreeKind>
     ensures { (inst : InstanceView) (r : Reading) (list : List ℕ)
-        → at inst r (word_of way) line list ≡ leading (λ _. came r) result }
+        → at_due inst r (word_of way) line list ≡ leading (λ _. came r) result }
 {
     match way {
         Direction::Up => match line {
@@ -158,7 +218,7 @@ fn expect_word(way: Direction, line: Line) -> Result<(), TreeKind>
 fn expect_end(tally: Tally, line: Line) -> Result<(), TreeKind>
     ensures { (inst : InstanceView) (r : Reading) (list : List ℕ)
         → r.branched ≡ tally.branched → r.bound ≡ tally.bound
-        → at inst r end line list ≡ leading (λ _. came r) result }
+        → at_due inst r end line list ≡ leading (λ _. came r) result }
 {
     match line {
         Line::End(branched, bound) => {

@@ -6,13 +6,16 @@
 mod arcs;
 mod complete;
 mod latest;
+mod moves;
 mod network;
 mod noted;
+mod overlap;
 mod place;
 mod spread;
 mod starts;
 mod step;
 mod walk;
 
+pub use moves::{go, go_back};
 pub use starts::Starts;
 pub use step::Step;

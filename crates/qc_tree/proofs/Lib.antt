@@ -1,5 +1,6 @@
 pub mod Digits
 pub mod OneSpelling
 pub mod NodeLemmas
+pub mod OrderLemmas
 pub mod TreeBound
 pub mod LineInLemmas

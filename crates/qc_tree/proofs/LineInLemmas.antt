@@ -15,7 +15,7 @@ use Rattle.qc_num.specs.declared.bound.Bound.{Bound}
 use Rattle.qc_num.specs.declared.bound.Bound.TheVariants.{Least, Never}
 use Rattle.qc_tree.specs.declared.line.BadLine.{BadLine}
 use Rattle.qc_tree.specs.declared.line.Line.{Line}
-use Rattle.qc_tree.specs.declared.line.Line.TheVariants.{Title, Title2, Title3, Up, Down, Assign, Order, Chain, Ring, Reach, Work, Clash, End}
+use Rattle.qc_tree.specs.declared.line.Line.TheVariants.{Title, Title2, Title3, FreeTitle, Up, Down, Assign, Order, Chain, Ring, Reach, Work, Clash, End}
 use Rattle.qc_tree.specs.Lines.{AreTasks, IsLine, IsTask, IsTextOf, IsValue, Reads, bound_field, fields, line_list, line_text}
 use Rattle.qc_tree.specs.LineIn.{Listed, alone, are_tasks, candidate, in_range, is_task, is_value, is_word, is_written, line_in, title_by, words}
 use Rattle.qc_tree.specs.Trees.{whole_line}
@@ -55,6 +55,7 @@ pub line_of : (line : Line) (list : List ℕ) → in_range line list ≡ true �
 line_of Title list e = tt
 line_of Title2 list e = tt
 line_of Title3 list e = tt
+line_of FreeTitle list e = tt
 line_of Up list e = tt
 line_of Down list e = tt
 line_of Reach list e = tt
@@ -80,6 +81,7 @@ pub in_range_of : (line : Line) (list : List ℕ) → IsLine line list → in_ra
 in_range_of Title list h = refl
 in_range_of Title2 list h = refl
 in_range_of Title3 list h = refl
+in_range_of FreeTitle list h = refl
 in_range_of Up list h = refl
 in_range_of Down list h = refl
 in_range_of Reach list h = refl
@@ -111,6 +113,7 @@ title_listed word =
 candidate_listed : (ws : List (List ℕ)) → IsListed (candidate ws)
 candidate_listed ws =
     cond_both (is_word ws 0 (codes "QCTREE")) _ _ IsListed (λ _. title_listed (get_or ws 1 []))
+    (λ _. cond_both (is_word ws 0 (codes "QCFREE")) _ _ IsListed (λ _. refl)
     (λ _. cond_both (is_word ws 0 (codes "up")) _ _ IsListed (λ _. refl)
     (λ _. cond_both (is_word ws 0 (codes "down")) _ _ IsListed (λ _. refl)
     (λ _. cond_both (is_word ws 0 (codes "X")) _ _ IsListed (λ _. refl)
@@ -119,7 +122,7 @@ candidate_listed ws =
     (λ _. cond_both (is_word ws 0 (codes "W")) _ _ IsListed (λ _. refl)
     (λ _. cond_both (is_word ws 0 (codes "P")) _ _ IsListed (λ _. refl)
     (λ _. cond_both (is_word ws 0 (codes "C")) _ _ IsListed (λ _. refl)
-    (λ _. cond_both (is_word ws 0 (codes "Q")) _ _ IsListed (λ _. refl) (λ _. refl))))))))))
+    (λ _. cond_both (is_word ws 0 (codes "Q")) _ _ IsListed (λ _. refl) (λ _. refl)))))))))))
 
 written_is : (text : List ℕ) (seen : Listed) → IsListed seen → is_written text seen ≡ true
     → IsTextOf text seen.line seen.list
@@ -231,6 +234,7 @@ candidate_of : (line : Line) (list : List ℕ) → IsLine line list → list ≡
 candidate_of Title list h e = rw e refl
 candidate_of Title2 list h e = rw e refl
 candidate_of Title3 list h e = rw e refl
+candidate_of FreeTitle list h e = rw e refl
 candidate_of Up list h e = rw e refl
 candidate_of Down list h e = rw e refl
 candidate_of Reach list h e = rw e refl
@@ -318,6 +322,7 @@ pub line_free : (line : Line) (list : List ℕ) → IsLine line list → IsFreeO
 line_free Title list h = written_free 10 (codes "QCTREE 1") refl
 line_free Title2 list h = written_free 10 (codes "QCTREE 2") refl
 line_free Title3 list h = written_free 10 (codes "QCTREE 3") refl
+line_free FreeTitle list h = written_free 10 (codes "QCFREE 1") refl
 line_free Up list h = written_free 10 (codes "up") refl
 line_free Down list h = written_free 10 (codes "down") refl
 line_free Reach list h = written_free 10 (codes "X") refl

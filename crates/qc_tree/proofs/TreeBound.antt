@@ -1,4 +1,4 @@
--- No schedule that goes one way ends earlier than the value of a tree.
+-- No schedule of the instance's turn ends earlier than the value of a tree.
 use Rattle.std.proofs.Common.{◌≡◌, ℕ, zero, suc, ◌+◌, ◌<◌, ◌≤◌, inl, inr, List, [], ◌∷◌, ◌++◌, length, map, Option, None, Some, IsSome, ◌⊎◌, max, refl, ap, subst, sym, arith, unwrap_or}
 use Rattle.std.proofs.lemmas.Bool.{cases_lt, false≢true}
 use Rattle.std.specs.List.{range_with_len}
@@ -10,15 +10,20 @@ use Rattle.qc_model.specs.declared.decision.Decision.{Decision}
 use Rattle.qc_model.specs.declared.decision.Decision.TheVariants as decide
 use Rattle.qc_model.specs.declared.schedule.Slot.{Slot}
 use Rattle.qc_model.specs.declared.task.Task.{Task}
-use Rattle.qc_model.specs.Instance.{InstanceView, IsApart, Valid}
-use Rattle.qc_model.specs.Leaves.{Version, leaf_value}
-use Rattle.qc_model.specs.Nodes.{Agrees, Fits, IsSettled}
-use Rattle.qc_model.specs.OneWay.{GoesOneWay, GoesUp, mirror, mirror_schedule, mirror_slot, mirror_task}
-use Rattle.qc_model.specs.Rules.{crane_of, ends, last_end, starts}
+use Rattle.qc_model.specs.declared.turn.Turn.{Turn}
+use Rattle.qc_model.specs.declared.turn.Turn.TheVariants.{OneWay, Free}
+use Rattle.qc_model.specs.Frames.{GoesBy}
+use Rattle.qc_model.specs.Instance.{InstanceView, Valid}
+use Rattle.qc_model.specs.Leaves.{Version, leaf_value, with_packed}
+use Rattle.qc_model.specs.Nodes.{Agrees, Conflicts, Fits, IsSettled}
+use Rattle.qc_model.specs.OneWay.{IsAllowedBy, mirror, mirror_schedule, mirror_slot, mirror_task}
+use Rattle.qc_model.specs.Rules.{Feasible, crane_of, ends, last_end, starts}
 use Rattle.qc_close.proofs.NodeLemmas.{leaf_le}
 use Rattle.qc_model.proofs.MirrorLemmas.{mirror_valid}
-use Rattle.qc_model.proofs.NodeLemmas.{unsettled_unordered}
-use Rattle.qc_tree.specs.Trees.{Holds, IsTree, Leads, Node, Sign, Tree, children, leaf, node_value, on_pair, on_task, part_value, sign_value, tree_value}
+use Rattle.qc_model.proofs.NodeLemmas.{conflict_turned, unsettled_unordered}
+use Rattle.qc_model.proofs.TurnLemmas.{by_feasible, goes_by}
+use Rattle.qc_tree.specs.Trees.{Holds, IsSecond, IsTree, Leads, Node, NoneEarlier, Sign, Tree, children, leaf, node_value, on_pair, on_task, part_value, sign_value, tree_value}
+use Rattle.qc_tree.proofs.OrderLemmas.{conflict_clear, may_conflict}
 
 other_way : {A B : Type 0} → A ⊎ B → B ⊎ A
 other_way (inl a) = inr a
@@ -29,9 +34,13 @@ shown_through : (o : Option Bound) (c : Bound) → IsSome o → ((b : Bound) →
 shown_through None c some h = absurd (false≢true some)
 shown_through (Some b) c some h = h b refl
 
--- ---- nodes that come, for an upward schedule that agrees with one that must come
+-- ---- nodes that come, for a schedule that agrees with one that must come
 
-module _ (inst : InstanceView) (v : Valid inst) (version : Version) (sched : List Slot) (g : GoesUp inst sched) where
+module _ (inst : InstanceView) (v : Valid inst) (version : Version) (latest : inst.turn ≡ Free → version ≡ with_packed)
+    (sched : List Slot) (g : GoesBy inst.turn inst sched) where
+  feasible : Feasible inst sched
+  feasible = by_feasible inst.turn inst sched g
+
   -- the schedule agrees with the node of these decisions
   abbrev Meets : List Decision → Type 0
   Meets ds = Fits inst ds × Agrees inst ds sched
@@ -59,31 +68,31 @@ module _ (inst : InstanceView) (v : Valid inst) (version : Version) (sched : Lis
         inl (subst (λ (x : ℕ). Meets (f x)) e h)
   ]
 
-  -- the apart task i is first
-  apart_fits : (ds : List Decision) (i j : ℕ) → Fits inst ds → IsApart inst i j ⊎ IsApart inst j i
+  -- task i is first of two that conflict
+  order_fits : (ds : List Decision) (i j : ℕ) → Fits inst ds → Conflicts inst ds i j
       → (¬ IsSettled inst ds i j) → Fits inst (decide.Order i j ∷ ds)
-  apart_fits ds i j fits apart unsettled =
+  order_fits ds i j fits conflict unsettled =
       let unordered = unsettled_unordered inst ds i j unsettled in
-      (inl apart, unordered.0, unordered.1, fits)
+      (conflict, unordered.0, unordered.1, fits)
 
   -- a schedule that agrees with a branching agrees with one of its children
   on_one_task : (ds : List Decision) (j : ℕ) → Meets ds → Holds version inst ds (on_task j)
       → MeetsOne (children inst ds (on_task j))
   on_one_task ds j m holds =
       let k = crane_of sched j in
-      let there : k < length inst.cranes = g.feasible.crane_range j holds.0 in
+      let there : k < length inst.cranes = feasible.crane_range j holds.0 in
       among_numbers (λ c. decide.Assign j c ∷ ds) k 0 (length inst.cranes) (omega arith) (omega arith)
       ((holds.0, there, holds.1, m.0), (refl, m.1))
 
   on_one_pair : (ds : List Decision) (i j : ℕ) → Meets ds → Holds version inst ds (on_pair i j)
       → MeetsOne (children inst ds (on_pair i j))
   on_one_pair ds i j m holds =
-      let r = v.apart.range i j holds.0 in
-      elim (g.feasible.apart i j (omega (arith, r.0, r.1)) r.1 holds.0) [
-        | inl sooner ↦ inl (apart_fits ds i j m.0 (inl holds.0) holds.1, (omega arith, m.1))
+      let conflict = may_conflict inst.turn inst ds i j holds.0 in
+      elim (conflict_clear inst v ds sched feasible m.1 i j conflict) [
+        | inl sooner ↦ inl (order_fits ds i j m.0 conflict holds.1, (sooner, m.1))
         | inr later ↦
             let unsettled = λ (s : IsSettled inst ds j i). holds.1 (other_way s) in
-            inr (inl (apart_fits ds j i m.0 (inr holds.0) unsettled, (omega arith, m.1)))
+            inr (inl (order_fits ds j i m.0 (conflict_turned inst ds i j conflict) unsettled, (later, m.1)))
       ]
 
   -- where it agrees with a node that must come, the next node shows no later end, or it agrees with one that must
@@ -95,7 +104,7 @@ module _ (inst : InstanceView) (v : Valid inst) (version : Version) (sched : Lis
   line_met sign ds more holds (inr m) = inr (among_second (children inst ds sign) more m)
   line_met (leaf shows) ds more holds (inl m) =
       inl (shown_through (leaf_value version inst ds shows) (Least (ends inst sched)) holds
-      (λ b e. leaf_le inst ds sched g m.1 v m.0 version shows b e))
+      (λ b e. leaf_le inst ds sched g m.1 v m.0 version latest shows b e))
   line_met (on_task j) ds more holds (inl m) =
       inr (among_first (children inst ds (on_task j)) more (on_one_task ds j m holds))
   line_met (on_pair i j) ds more holds (inl m) =
@@ -119,7 +128,7 @@ module _ (inst : InstanceView) (v : Valid inst) (version : Version) (sched : Lis
             (nodes_met nodes (children inst ds node.sign ++ more) h.2 next)
       ]
 
--- ---- a tree, for every schedule that goes one way
+-- ---- a tree, for every schedule that cranes may follow
 
 -- the end of a schedule is that of its mirror
 mirrored_end : (inst : InstanceView) (tasks : List Task) (sched : List Slot)
@@ -128,16 +137,37 @@ mirrored_end inst [] sched = refl
 mirrored_end inst (t ∷ ts) [] = refl
 mirrored_end inst (t ∷ ts) (s ∷ ss) = ap (λ n. max (s.start + t.ticks) n) (mirrored_end inst ts ss)
 
+module _ (inst : InstanceView) (v : Valid inst) (tree : Tree) (is : IsTree inst tree) (sched : List Slot) where
+  one_only : {C : Type 0} → inst.turn ≡ OneWay → inst.turn ≡ Free → C
+  one_only one free = absurd (cc (one, free))
+
+  abbrev up : Bound
+  up = part_value tree.version inst tree.up
+
+  abbrev down : Bound
+  down = part_value tree.version (mirror inst) tree.down
+
+  abbrev end : Bound
+  end = Least (ends inst sched)
+
+  bound_by : (turn : Turn) → inst.turn ≡ turn → IsSecond turn inst tree.version tree.down
+      → IsAllowedBy turn inst sched → IsAtMost (tree_value inst tree) end
+  bound_by OneWay one second (inl goes) =
+      first_through up down end
+      (nodes_met inst v tree.version (one_only one) sched (goes_by inst.turn inst sched goes) tree.up ([] ∷ []) is.up
+      (inl (tt, tt)))
+  bound_by OneWay one second (inr goes) =
+      let turned = mirror_schedule inst sched in
+      let met =
+      nodes_met (mirror inst) (mirror_valid inst v) tree.version (one_only one) turned
+      (goes_by inst.turn (mirror inst) turned goes.mirrored) tree.down ([] ∷ []) second (inl (tt, tt)) in
+      let same : ends (mirror inst) turned ≡ ends inst sched = mirrored_end inst inst.tasks sched in
+      second_through up down end (subst (λ (n : ℕ). IsAtMost down (Least n)) same met)
+  bound_by Free free second goes =
+      first_through up down end
+      (nodes_met inst v tree.version (λ _. second.0) sched (subst (λ (t : Turn). GoesBy t inst sched) (sym free) goes)
+      tree.up ([] ∷ []) is.up (inl (tt, tt)))
+
 pub tree_bound : (inst : InstanceView) → Valid inst → (tree : Tree) → IsTree inst tree
-    → (sched : List Slot) → GoesOneWay inst sched → IsAtMost (tree_value inst tree) (Least (ends inst sched))
-tree_bound inst v tree is sched (inl up) =
-    first_through (part_value tree.version inst tree.up) (part_value tree.version (mirror inst) tree.down)
-    (Least (ends inst sched)) (nodes_met inst v tree.version sched up tree.up ([] ∷ []) is.up (inl (tt, tt)))
-tree_bound inst v tree is sched (inr down) =
-    let turned = mirror_schedule inst sched in
-    let met =
-    nodes_met (mirror inst) (mirror_valid inst v) tree.version turned down.mirrored tree.down ([] ∷ []) is.down (inl (tt, tt)) in
-    let end : ends (mirror inst) turned ≡ ends inst sched = mirrored_end inst inst.tasks sched in
-    second_through (part_value tree.version inst tree.up) (part_value tree.version (mirror inst) tree.down)
-    (Least (ends inst sched))
-    (subst (λ (n : ℕ). IsAtMost (part_value tree.version (mirror inst) tree.down) (Least n)) end met)
+    → NoneEarlier inst (tree_value inst tree)
+tree_bound inst v tree is sched goes = bound_by inst v tree is sched inst.turn refl is.down goes

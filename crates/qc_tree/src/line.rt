@@ -24,8 +24,8 @@ pub enum Line {
     /// The title of a tree of version 3: heads count them, leaves may list packed tasks, and those of
     /// work count how many cranes must come to each bay.
     Title3,
-    /// The title of a tree over all feasible schedules, whichever way cranes go: it has one part, and the leaves
-    /// of version 3.
+    /// The title of a tree over all feasible schedules, whichever way cranes go: it has one part, and
+    /// the leaves of version 3.
     FreeTitle,
     /// Here begins the part of the upward schedules.
     Up,

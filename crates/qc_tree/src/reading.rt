@@ -116,6 +116,8 @@ fn title_in(rest: &[u8]) -> Option<Line>
         Some(Line::Title2)
     } else if rest == b"CTREE 1".as_slice() {
         Some(Line::Title)
+    } else if rest == b"CFREE 1".as_slice() {
+        Some(Line::FreeTitle)
     } else {
         None
     }

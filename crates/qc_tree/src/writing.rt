@@ -30,6 +30,7 @@ fn text_of(line: &Line, path: &[u16]) -> Text<ROOM>
         Line::Title => text.push(b"QCTREE 1"),
         Line::Title2 => text.push(b"QCTREE 2"),
         Line::Title3 => text.push(b"QCTREE 3"),
+        Line::FreeTitle => text.push(b"QCFREE 1"),
         Line::Up => text.push(b"up"),
         Line::Down => text.push(b"down"),
         Line::Assign(task) => push_listed(&mut text, b"A", &[task]),

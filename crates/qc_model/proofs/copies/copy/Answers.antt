@@ -1,4 +1,4 @@
-use Rattle.std.proofs.Common.{◌≡◌, sym, ap₂, subst, ◌∙◌, arith}
+use Rattle.std.proofs.Common.{sym, ap₂, subst, ◌∙◌, arith}
 use Rattle.qc_model.specs.declared.turn.Turn.TheVariants.{OneWay}
 use Rattle.qc_model.specs.Instance.{Valid, with_turn}
 use Rattle.qc_model.proofs.LimitsOf.{limits_of}

@@ -44,8 +44,8 @@ returns-clause-read g c =
 pub returns-clause-fault : goal.returns-clause-fault
 returns-clause-fault g c = λ fault is.
     let file = file_at (g.S.Sink.view c.args.shelf.now).files c.args.name.now in
-    subst (λ (w : WalkView). Fails w.inst 1 start file fault) c.in_ok-walk.ensures.start
-    (subst (λ f. Fails c.in_ok-walk.walk.inst 1 start f fault) c.in_ok-lines.ensures.whole
+    subst (λ (w : WalkView). Fails w.inst 1 (start w.inst) file fault) c.in_ok-walk.ensures.start
+    (subst (λ f. Fails c.in_ok-walk.walk.inst 1 (start c.in_ok-walk.walk.inst) f fault) c.in_ok-lines.ensures.whole
     (c.read_lines.ensures.fault fault is))
 
 pub returns-clause-shown : goal.returns-clause-shown
@@ -71,8 +71,8 @@ pub returns-clause-every_tree : goal.returns-clause-every_tree
 returns-clause-every_tree g c = λ tree fault is_tree text is.
     let file = file_at (g.S.Sink.view c.args.shelf.now).files c.args.name.now in
     never_faulty c.args.inst.now c.in_ok-walk.ensures.valid file fault
-    (subst (λ (w : WalkView). Fails w.inst 1 start file fault) c.in_ok-walk.ensures.start
-    (subst (λ f. Fails c.in_ok-walk.walk.inst 1 start f fault) c.in_ok-lines.ensures.whole
+    (subst (λ (w : WalkView). Fails w.inst 1 (start w.inst) file fault) c.in_ok-walk.ensures.start
+    (subst (λ f. Fails c.in_ok-walk.walk.inst 1 (start c.in_ok-walk.walk.inst) f fault) c.in_ok-lines.ensures.whole
     (c.read_lines.ensures.fault fault is))) tree is_tree text
 
 pub returns-clause-one_value : goal.returns-clause-one_value
