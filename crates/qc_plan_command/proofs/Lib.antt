@@ -1,4 +1,6 @@
+pub mod AheadLemmas
 pub mod StoreLemmas
 pub mod FoundLemmas
+pub mod LineLemmas
 pub mod PlanLemmas
 pub mod OutlookLemmas
