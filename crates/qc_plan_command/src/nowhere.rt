@@ -5,6 +5,7 @@ ghost use Rattle.qc_io.specs.Outside.{sink_view};
 use qc_io::{Failed, Sink};
 
 /// A sink that takes every piece and keeps nothing.
+#[derive(Drop)]
 pub(crate) struct Nowhere;
 
 impl Sink for Nowhere {
