@@ -67,7 +67,7 @@ known_due inst r c l list now e = tested (is_known inst.turn l) kind.Spelling (�
 -- a line that trees for this turn don't have
 unknown : {C : Type 0} (inst : InstanceView) (turn : Turn) (l : Line) → inst.turn ≡ turn → is_known turn l ≡ false
     → is_known inst.turn l ≡ true → C
-unknown inst turn l same no yes = absurd (true≢false (sym yes ∙ ap (λ t. is_known t l) same ∙ no))
+unknown inst turn l same not_known known = absurd (true≢false (sym known ∙ ap (λ t. is_known t l) same ∙ not_known))
 
 module _ (inst : InstanceView) (last : Reading) (over : last.coming ≡ []) where
   -- ---- a line around the parts

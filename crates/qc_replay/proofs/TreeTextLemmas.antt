@@ -111,14 +111,14 @@ known_sign OneWay (leaf (chain tasks)) = refl
 known_sign OneWay (leaf (ring tasks)) = refl
 known_sign OneWay (leaf (packed tasks)) = refl
 known_sign OneWay (leaf reach) = refl
-known_sign OneWay (leaf (work end)) = refl
+known_sign OneWay (leaf (work tick)) = refl
 known_sign OneWay (trees.on_task j) = refl
 known_sign OneWay (trees.on_pair i j) = refl
 known_sign Free (leaf (chain tasks)) = refl
 known_sign Free (leaf (ring tasks)) = refl
 known_sign Free (leaf (packed tasks)) = refl
 known_sign Free (leaf reach) = refl
-known_sign Free (leaf (work end)) = refl
+known_sign Free (leaf (work tick)) = refl
 known_sign Free (trees.on_task j) = refl
 known_sign Free (trees.on_pair i j) = refl
 

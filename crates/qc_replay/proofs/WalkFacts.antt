@@ -130,6 +130,14 @@ module _ (w : Inside) (old : WalkView) (is : walk_of w ≡ old) (kept : IsKeptWa
       behind_last stage over (Some second) which
       ∙ judged w.inst (record (here Part) { coming = behind_part (Some second) }) list
 
+  -- the walk with the second part in the place of the first
+  pub down_read : w.stage ≡ Part → (second part : Standing) → part ≡ second → (after : Option Standing) → after ≡ None
+      → reading_at Part w.version way.Down second None w.tally ≡ reading_at w.stage w.version way.Down part after w.tally
+  down_read stage second part same after none =
+      ap (λ s. reading_at s w.version way.Down second None w.tally) (sym stage)
+      ∙ ap (λ p. reading_at w.stage w.version way.Down p None w.tally) (sym same)
+      ∙ ap (λ o. reading_at w.stage w.version way.Down part o w.tally) (sym none)
+
   pub end_taken : w.stage ≡ Part → w.part.live ≡ false → w.second ≡ None → {A : Type 0} (result : Result A TreeKind)
       → ((inst : InstanceView) (r : Reading) (list : List ℕ) → r.branched ≡ w.tally.branched → r.bound ≡ w.tally.bound
       → at_due inst r end line list ≡ leading (λ _. came r) result)

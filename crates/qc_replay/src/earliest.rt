@@ -68,11 +68,12 @@ impl EarlyStarts {
         requires open { IsOpen node.now.inst node.now.decisions decision }
         ensures { AreEarly node.now.inst (decision ∷ node.now.decisions) self.new }
     {
+        let inst = node.instance();
         if self.are_none() {
             self.past += 1;
             return;
         }
-        if !is_reached(node.instance(), decision) {
+        if !is_reached(inst, decision) {
             self.past += 1;
             return;
         }
@@ -118,6 +119,7 @@ impl EarlyStarts {
             (least_starts node.now.inst node.now.decisions) }
         ensures bound { IfSome result (λ tick. tick ≤ most_start) }
     {
+        let _inst = node.instance();
         if self.are_none() {
             None
         } else {

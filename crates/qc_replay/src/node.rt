@@ -220,6 +220,7 @@ fn on_task(
 /// Whether the order of two tasks may be branched on: the lower is first, and they are apart or, where
 /// cranes go as they like, can't run at the same time on their cranes.
 fn may_order(node: &Decisions, first: u16, second: u16) -> bool
+    requires valid { Valid node.now.inst }
     requires first { first < length node.now.inst.tasks }
     requires second { second < length node.now.inst.tasks }
     ensures { result ≡ may_order node.now.inst.turn node.now.inst node.now.decisions first second }
