@@ -1,21 +1,19 @@
 -- The least starts of a node, from decision to decision, and when the first of some tasks can start.
-use Rattle.std.proofs.Common.{◌≡◌, ℕ, zero, suc, ◌+◌, ◌-◌, ◌<◌, ◌≤◌, ◌⊎◌, inl, inr, false, List, [], ◌∷◌, length, map, drop, Option, None, Some, refl, ap, sym, subst, subst₂, ◌∙◌, arith, option_map, unwrap_or}
+use Rattle.std.proofs.Common.{◌≡◌, ℕ, zero, suc, ◌+◌, ◌-◌, ◌<◌, ◌⊎◌, inl, inr, false, List, [], ◌∷◌, length, map, drop, Option, None, Some, refl, ap, sym, subst₂, ◌∙◌, arith, option_map, unwrap_or}
 use Rattle.std.proofs.lemmas.Bool.{cases_lt}
 use Rattle.qc_dist.specs.Node.{IsOpen}
 use Rattle.qc_model.specs.declared.decision.Decision.{Decision}
 use Rattle.qc_model.specs.declared.decision.Decision.TheVariants.{Assign, Order}
-use Rattle.qc_model.specs.declared.turn.Turn.{Turn}
-use Rattle.qc_model.specs.declared.turn.Turn.TheVariants.{OneWay, Free}
-use Rattle.qc_model.specs.Early.{early_by, least_starts}
+use Rattle.qc_model.specs.Early.{least_starts}
 use Rattle.qc_model.specs.Instance.{InstanceView, Valid}
-use Rattle.qc_model.specs.Nodes.{AreLeast, Fits, HasStarts, IsInReach, head, least}
+use Rattle.qc_model.specs.Nodes.{AreLeast, Fits, HasStarts, IsInReach, least}
 use Rattle.qc_model.proofs.LeastStarts.{found_of, least_found, reach_fact, reach_test}
 use Rattle.qc_model.proofs.NodeLemmas.{unsettled_unordered}
 use Rattle.qc_starts.proofs.Growth.{meets_before}
-use Rattle.qc_starts.specs.Seen.{IsNodeStart, IsReached, StartsNode, first_of}
+use Rattle.qc_starts.specs.Seen.{IsNodeStart, IsReached}
 use Rattle.qc_replay.specs.declared.earliest.EarlyStarts.{EarlyStarts}
 use Rattle.qc_replay.specs.Crewed.{WereOpen}
-use Rattle.qc_replay.specs.Earliest.{AreEarly, HasEarly, HaveNone, IsEnded, IsFirstStart, start_in}
+use Rattle.qc_replay.specs.Earliest.{AreEarly, HaveNone, IsEnded, IsFirstStart, start_in}
 use Rattle.qc_replay.proofs.LeafFacts.{least_option}
 
 -- decisions that were open fit
@@ -39,9 +37,6 @@ pub none_more : (inst : InstanceView) (ds : List Decision) (d : Decision) → Is
 none_more inst ds d able none reach has =
     let parts = in_reach_parts inst d ds reach in
     none parts.1 (record { starts = has.starts; meets = meets_before inst ds d able parts.0 has.starts has.meets })
-
-pub none_reached : (inst : InstanceView) (ds : List Decision) (d : Decision) → (¬ IsReached inst d) → HaveNone inst (d ∷ ds)
-none_reached inst ds d out reach has = out (in_reach_parts inst d ds reach).0
 
 -- and none are found
 pub least_none : (inst : InstanceView) (ds : List Decision) → HaveNone inst ds → least_starts inst ds ≡ None
@@ -88,68 +83,17 @@ module _ (inst : InstanceView) (ds : List Decision) (old : EarlyStarts) where
         none zero low = more
         none (suc k) low = are.none k (omega arith)
 
-    -- one decision more that the starts follow
-    pub early_gone : AreEarly inst ds old → old.past ≡ 0 → (now : StartsNode) → now.inst ≡ old.starts.inst
-        → now.decisions ≡ (d ∷ old.starts.decisions)
-        → AreEarly inst (d ∷ ds) (record { starts = now; past = old.past })
-    early_gone are none now same made = record {
-      same = same ∙ are.same;
-      made =
-          made ∙ ap (λ (xs : List Decision). d ∷ xs) (all_made are none)
-          ∙ sym (ap (λ m. drop m (d ∷ ds)) none);
-      few = omega (arith, none);
-      none = λ k low. absurd (omega (arith, none, low));
+-- the newest decision is taken back, which was past the starts
+pub early_less : (inst : InstanceView) (ds : List Decision) (d : Decision) (old : EarlyStarts) → AreEarly inst (d ∷ ds) old
+    → 0 < old.past → AreEarly inst ds (record { starts = old.starts; past = old.past - 1 })
+early_less inst ds d old are some =
+    let count : old.past ≡ suc (old.past - 1) = omega arith in
+    record {
+      same = are.same;
+      made = are.made ∙ ap (λ m. drop m (d ∷ ds)) count;
+      few = omega (arith, are.few, count);
+      none = λ k low. are.none (suc k) (omega (arith, low));
     }
-
-module _ (inst : InstanceView) (ds : List Decision) (d : Decision) (old : EarlyStarts) (are : AreEarly inst (d ∷ ds) old) where
-  -- the newest decision is taken back: it was past the starts
-  pub early_less : 0 < old.past → AreEarly inst ds (record { starts = old.starts; past = old.past - 1 })
-  early_less some =
-      let count : old.past ≡ suc (old.past - 1) = omega arith in
-      record {
-        same = are.same;
-        made = are.made ∙ ap (λ m. drop m (d ∷ ds)) count;
-        few = omega (arith, are.few, count);
-        none = λ k low. are.none (suc k) (omega (arith, low));
-      }
-
-  -- or the starts followed it
-  pub one_made : old.past ≡ 0 → old.starts.decisions ≡ (d ∷ ds)
-  one_made none = are.made ∙ ap (λ m. drop m (d ∷ ds)) none
-
-  pub some_made : old.past ≡ 0 → 1 ≤ length old.starts.decisions
-  some_made none = omega (arith, ap length (one_made none))
-
-  pub early_back : old.past ≡ 0 → (now : StartsNode) → now.inst ≡ old.starts.inst
-      → now.decisions ≡ first_of (length old.starts.decisions - 1) old.starts.decisions
-      → AreEarly inst ds (record { starts = now; past = old.past })
-  early_back none now same made =
-      let one : length (d ∷ ds) - (length (d ∷ ds) - 1) ≡ 1 = omega arith in
-      let left = made ∙ ap (λ (xs : List Decision). first_of (length xs - 1) xs) (one_made none)
-      ∙ ap (λ n. drop n (d ∷ ds)) one in
-      record {
-        same = same ∙ are.same;
-        made = left ∙ sym (ap (λ m. drop m ds) none);
-        few = omega (arith, none);
-        none = λ k low. absurd (omega (arith, none, low));
-      }
-
--- ---- by the turn
-
-pub no_early : (turn : Turn) (inst : InstanceView) (ds es : List Decision) → HasEarly turn inst ds None
-    → HasEarly turn inst es None
-no_early OneWay inst ds es has = tt
-no_early Free inst ds es has = absurd has
-
-pub early_of : (turn : Turn) (inst : InstanceView) (ds : List Decision) (early : EarlyStarts)
-    → HasEarly turn inst ds (Some early) → AreEarly inst ds early
-early_of OneWay inst ds early has = absurd has
-early_of Free inst ds early has = has
-
-pub early_kept : (turn : Turn) (inst : InstanceView) (ds es : List Decision) (early now : EarlyStarts)
-    → HasEarly turn inst ds (Some early) → AreEarly inst es now → HasEarly turn inst es (Some now)
-early_kept OneWay inst ds es early now has are = absurd has
-early_kept Free inst ds es early now has are = are
 
 -- ---- the first of some tasks
 
@@ -189,23 +133,3 @@ module _ (inst : InstanceView) (ds : List Decision) (tasks : List ℕ) where
       let all = all_made inst ds early are ended.0 in
       first_found v (subst₂ IsInReach are.same all ended.2) tick
       (subst₂ (λ (i : InstanceView) (d : List Decision). IsFirstStart i d tasks tick) are.same all first)
-
-  abbrev begins_first : (ℕ → ℕ) → ℕ
-  begins_first begins = least (map begins tasks)
-
-  -- by heads where cranes go one way
-  pub heads_first : (turn : Turn) → HasEarly turn inst ds None
-      → Some (least (map (head inst ds) tasks)) ≡ option_map begins_first (early_by turn inst ds)
-  heads_first OneWay has = refl
-  heads_first Free has = absurd has
-
-  -- and by least starts where they go as they like
-  pub starts_first : (turn : Turn) (early : EarlyStarts) → HasEarly turn inst ds (Some early)
-      → option_map first_in (least_starts inst ds) ≡ option_map begins_first (early_by turn inst ds)
-  starts_first OneWay early has = absurd has
-  starts_first Free early has = by_starts (least_starts inst ds)
-    where
-      by_starts : (o : Option (List ℕ))
-          → option_map first_in o ≡ option_map begins_first (option_map (λ (starts : List ℕ) (j : ℕ). start_in starts j) o)
-      by_starts None = refl
-      by_starts (Some starts) = refl

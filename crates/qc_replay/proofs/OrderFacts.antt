@@ -1,5 +1,5 @@
 -- Whether the order of two tasks may be branched on: as a test, and as a fact.
-use Rattle.std.proofs.Common.{◌≡◌, ◌↔◌, ℕ, ◌+◌, ◌-◌, ◌<◌, Bool, true, false, not, ◌&&◌, ◌||◌, ◌==◌, nat_lt, inl, inr, List, length, Option, None, Some, IsTrue, refl, ap, ap₂, sym, subst, ◌∙◌, arith}
+use Rattle.std.proofs.Common.{◌≡◌, ◌↔◌, ℕ, ◌-◌, ◌<◌, Bool, true, false, not, ◌&&◌, ◌||◌, ◌==◌, nat_lt, inl, inr, List, length, Option, None, Some, IsTrue, refl, ap, ap₂, sym, subst, ◌∙◌, arith}
 use Rattle.std.proofs.lemmas.Bool.{and_from, and_parts, eq-eqb, eqb-true, false_from_ne_true, false≢true, lt-ltb, ltb-true, ne_eqb, not-true, or_cases, or_left, or_right, true≢false}
 use Rattle.qc_model.specs.declared.decision.Decision.{Decision}
 use Rattle.qc_model.specs.declared.turn.Turn.{Turn}
@@ -103,9 +103,10 @@ pub order_at : (node : Node) (inst : InstanceView) (ds : List Decision) → node
     → may_order node.inst.turn node.inst node.decisions (one - 1) (other - 1) ≡ true
     → (one - 1 < other - 1) × Conflicts inst ds (one - 1) (other - 1)
 order_at node inst ds is valid one other numbers may =
-    subst (λ (n : Node). (one - 1 < other - 1) × Conflicts n.inst n.decisions (one - 1) (other - 1)) is
-    (may_order_low turn node.inst valid node.decisions (one - 1) (other - 1) found,
-    may_conflict turn node.inst node.decisions (one - 1) (other - 1) found)
+    subst (λ (n : Node). (one - 1 < other - 1) × Conflicts n.inst n.decisions (one - 1) (other - 1)) is (
+      may_order_low turn node.inst valid node.decisions (one - 1) (other - 1) found,
+      may_conflict turn node.inst node.decisions (one - 1) (other - 1) found,
+    )
   where
     turn : Turn
     turn = node.inst.turn

@@ -15,7 +15,6 @@ use Rattle.qc_model.specs.declared.turn.Turn.TheVariants.{OneWay, Free}
 use Rattle.qc_model.specs.Instance.{InstanceView, Valid}
 use Rattle.qc_model.specs.Leaves.{Version, with_berths, with_packed, without_berths}
 use Rattle.qc_model.specs.Numbers.{most_branchings}
-use Rattle.qc_model.specs.OneWay.{mirror}
 use Rattle.qc_model.specs.Rules.{ends}
 use Rattle.qc_model.specs.Seen.{seen}
 use Rattle.qc_tree.specs.declared.line.Line.{Line}

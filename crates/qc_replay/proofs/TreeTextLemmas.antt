@@ -1,5 +1,5 @@
 -- The text of every tree is read, and shows the tree's value.
-use Rattle.std.proofs.Common.{◌≡◌, ℕ, zero, suc, ◌+◌, ◌<◌, ◌≤◌, ◌^◌, true, ◌==◌, inl, inr, List, [], ◌∷◌, ◌++◌, length, map, Option, None, Some, IfSome, refl, ap, ap₂, sym, subst, ◌∙◌, arith, Ok, decimal, unwrap_or}
+use Rattle.std.proofs.Common.{◌≡◌, ℕ, zero, suc, ◌+◌, ◌<◌, ◌≤◌, ◌^◌, true, ◌==◌, List, [], ◌∷◌, ◌++◌, length, map, Option, None, Some, IfSome, refl, ap, ap₂, sym, subst, ◌∙◌, arith, Ok, decimal, unwrap_or}
 use Rattle.std.specs.List.{range_with_len, slice_split}
 use Rattle.std.proofs.lemmas.Bool.{eq-eqb, lt-ltb}
 use Rattle.std.proofs.lemmas.Fmt.{length-decimal-le}

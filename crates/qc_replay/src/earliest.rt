@@ -129,7 +129,10 @@ impl EarlyStarts {
 }
 
 /// The least starts of the root of a part, where cranes go as they like.
-pub(crate) fn early_first(alloc: Global, inst: &Instance) -> Result<Option<EarlyStarts>, OutOfMemory>
+pub(crate) fn early_first(
+    alloc: Global,
+    inst: &Instance,
+) -> Result<Option<EarlyStarts>, OutOfMemory>
     ensures { IfOk result (HasEarly inst.now.turn inst.now []) }
 {
     match inst.turn() {

@@ -281,7 +281,14 @@ fn on_leaf(
     ensures inst { descent.new.inst ≡ descent.old.inst }
     ensures judged { IsJudged version descent.old tally line numbers.now descent.new result }
 {
-    match leaf_bound(descent.node(), descent.crew(), descent.begun(), version, line, numbers) {
+    match leaf_bound(
+        descent.node(),
+        descent.crew(),
+        descent.begun(),
+        version,
+        line,
+        numbers,
+    ) {
         Ok(value) => {
             descent.leave();
             Ok(Tally {

@@ -12,6 +12,7 @@ returns-then-first-second c =
 pub returns-else-first-second : goal.returns-else-first-second
 returns-else-first-second c =
     order_test c.args.node.now.inst c.args.node.now.decisions c.args.first c.args.second c.requires.valid c.requires.first
-    c.requires.second _
-    (λ t. absurd (omega (arith, ltb-true c.args.first c.args.second t, c.if-first-second.false)),
-    λ both. lt-ltb c.args.first c.args.second both.0)
+    c.requires.second _ (
+      λ t. absurd (omega (arith, ltb-true c.args.first c.args.second t, c.if-first-second.false)),
+      λ both. lt-ltb c.args.first c.args.second both.0,
+    )

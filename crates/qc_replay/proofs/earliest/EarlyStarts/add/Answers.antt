@@ -21,8 +21,9 @@ returns-then-are_none c =
 
 pub is_reached-requires : goal.is_reached-requires
 is_reached-requires c = record {
-  «open» =
-      (c.args.node.now.decisions,
-      subst (λ (i : InstanceView). IsOpen i c.args.node.now.decisions c.args.decision) (sym c.instance-inst.ensures.same)
-      c.requires.open);
+  «open» = (
+    c.args.node.now.decisions,
+    subst (λ (i : InstanceView). IsOpen i c.args.node.now.decisions c.args.decision) (sym c.instance-inst.ensures.same)
+        c.requires.open,
+  );
 }

@@ -2,7 +2,7 @@ use Rattle.std.proofs.Common.{◌∙◌, None, Ok, ap, rules, sym}
 use Rattle.qc_replay.specs.Stages.{leading, reading_at}
 use Rattle.qc_replay.specs.declared.walk.Stage.{Stage}
 use Rattle.qc_replay.proofs.FileFacts.{handed}
-use Rattle.qc_replay.proofs.WalkFacts.{down_read, down_taken, end_taken, handed_on, node_taken, title_taken, up_taken}
+use Rattle.qc_replay.proofs.WalkFacts.{down_read, down_taken, end_taken, handed_on, title_taken, up_taken}
 use Rattle.qc_replay.proofs.walk.Walk.take_known.Goals as goal
 
 pub returns-in_err-self-inside-in-Title-clause-taken : goal.returns-in_err-self-inside-in-Title-clause-taken
