@@ -9,7 +9,6 @@ use Rattle.qc_close.proofs.KeptLemmas.{closed_falls}
 use Rattle.qc_close.proofs.LimitLemmas.{closed_soon}
 use Rattle.qc_model.specs.declared.decision.Decision.{Decision}
 use Rattle.qc_model.specs.declared.limits.TheConstants.{MOST_START}
-use Rattle.qc_model.specs.declared.turn.Turn.TheVariants.{OneWay}
 use Rattle.qc_model.specs.Assignments.{cranes_of}
 use Rattle.qc_model.specs.Closed.{is_closed}
 use Rattle.qc_model.specs.Closing.{IsWorkBound, IsWorkLate}
@@ -18,9 +17,9 @@ use Rattle.qc_bounds.specs.Work.{IsWorkShown}
 
 module _ (crew : CrewView) (inst : InstanceView) (ds : List Decision) (of : IsCrewOf crew inst ds) where
   -- what the crew says of ends is said of the node's
-  moved : (P : CrewView → Type 0) → P crew → P (record { inst = inst; turn = OneWay; cranes = cranes_of inst ds })
+  moved : (P : CrewView → Type 0) → P crew → P (record { inst = inst; turn = inst.turn; cranes = cranes_of inst ds })
   moved P h =
-      subst (λ i. P (record { inst = i; turn = OneWay; cranes = cranes_of inst ds })) of.same
+      subst (λ i. P (record { inst = i; turn = inst.turn; cranes = cranes_of inst ds })) of.same
       (subst (λ t. P (record { inst = crew.inst; turn = t; cranes = cranes_of inst ds })) of.turn
       (subst (λ cs. P (record { inst = crew.inst; turn = crew.turn; cranes = cs })) of.cranes h))
 
@@ -43,9 +42,9 @@ module _ (crew : CrewView) (inst : InstanceView) (ds : List Decision) (of : IsCr
   pub work_early : (end : ℕ) → Valid crew.inst → 0 < end
       → (end ≤ MOST_START → is_closed crew.inst crew.turn crew.cranes end ≡ false) → ¬ IsWorkLate inst ds (Least end)
   work_early end valid some none late = elim (cases_lt MOST_START end) [
-    | inl far ↦ omega (arith, closed_soon inst OneWay (cranes_of inst ds) late.end home late.holds, late.late, far)
+    | inl far ↦ omega (arith, closed_soon inst inst.turn (cranes_of inst ds) late.end home late.holds, late.late, far)
     | inr soon ↦
-        let closed = closed_falls inst OneWay (cranes_of inst ds) end late.end home late.late late.holds in
+        let closed = closed_falls inst inst.turn (cranes_of inst ds) end late.end home late.late late.holds in
         false≢true (sym (moved (λ c. is_closed c.inst c.turn c.cranes end ≡ false) (none soon)) ∙ closed)
   ]
     where
@@ -58,8 +57,8 @@ module _ (crew : CrewView) (inst : InstanceView) (ds : List Decision) (of : IsCr
       let here = moved (λ c. is_closed c.inst c.turn c.cranes end ≡ true) closed in
       record {
         is = refl;
-        shows = cond-true (nat_le 1 end && is_closed inst OneWay (cranes_of inst ds) end) (Some (Least end)) None
-            (and_from (nat_le 1 end) (is_closed inst OneWay (cranes_of inst ds) end) (le-leb 1 end (omega arith)) here);
+        shows = cond-true (nat_le 1 end && is_closed inst inst.turn (cranes_of inst ds) end) (Some (Least end)) None
+            (and_from (nat_le 1 end) (is_closed inst inst.turn (cranes_of inst ds) end) (le-leb 1 end (omega arith)) here);
         soon = soon;
       }
 

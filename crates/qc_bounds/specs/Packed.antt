@@ -1,9 +1,19 @@
 -- inner: packed tasks that show when a node ends at the soonest.
-use Rattle.std.specs.Prelude.{◌≡◌, ℕ, ◌≤◌, List, Some}
+use Rattle.std.specs.Prelude.{◌≡◌, ℕ, ◌+◌, ◌*◌, ◌≤◌, List, Some}
+use Rattle.std.specs.Option.{option_map_or}
 use Rattle.qc_model.specs.declared.decision.Decision.{Decision}
-use Rattle.qc_model.specs.declared.limits.TheConstants.{MOST_START}
+use Rattle.qc_model.specs.declared.limits.TheConstants.{MOST_DISTANCE, MOST_START, MOST_TASKS, MOST_WORK}
+use Rattle.qc_model.specs.Early.{early}
 use Rattle.qc_model.specs.Instance.{InstanceView}
 use Rattle.qc_model.specs.Leaves.{packed_end}
+
+-- from when a task can start; 0 where that isn't known
+abbrev pub early_at : InstanceView → List Decision → ℕ → ℕ
+early_at inst ds j = option_map_or (λ begins. begins j) (early inst ds) 0
+
+-- so soon that packed tasks which begin then end by the last start
+abbrev pub IsSoon : ℕ → Type 0
+IsSoon tick = tick + (MOST_TASKS * MOST_WORK + MOST_DISTANCE) ≤ MOST_START
 
 -- the tasks are packed and show this end
 pub record IsPackedShown (inst : InstanceView) (ds : List Decision) (tasks : List ℕ) (end : ℕ) : Type 0 where

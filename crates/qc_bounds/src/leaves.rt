@@ -3,13 +3,14 @@
 ghost use Rattle.std.specs.Prelude.{◌≡◌, ◌↔◌, ◌≤◌, [], IfSome, IsSome, IsTrue, MatchOption, length};
 ghost use Rattle.qc_close.specs.Crews.{IsCrewOf};
 ghost use Rattle.qc_model.specs.Closing.{IsClosable};
+ghost use Rattle.qc_model.specs.Early.{early};
 ghost use Rattle.qc_num.specs.Bounds.{IsAtMost};
 ghost use Rattle.qc_num.specs.declared.bound.Bound.TheVariants.{Least};
 ghost use Rattle.qc_num.specs.Paths.{HasRoom};
 ghost use Rattle.qc_bounds.specs.Closed.{IsClosedBy, IsSpentBy};
 ghost use Rattle.qc_bounds.specs.Packed.{IsPackedShown};
 
-use crate::packed::{late_tasks, latest_tasks};
+use crate::tries::{late_tasks, latest_tasks};
 use crate::work::{late_work, work_bound};
 use qc_close::Crew;
 use qc_num::{Bound, Path, Tick};
@@ -41,6 +42,7 @@ fn is_late(end: Tick, bound: Bound) -> bool
 
 /// Packed tasks that show a bound, if it is a number, or a later end.
 fn late_by(node: &Starts, crew: &Crew, bound: Bound, path: &mut Path) -> Option<Tick>
+    requires known { IsSome (early node.now.inst node.now.decisions) }
     requires crew { IsCrewOf crew.now node.now.inst node.now.decisions }
     requires room { HasRoom (length node.now.inst.tasks) path.old }
     ensures shows { IfSome result (λ end. IsPackedShown node.now.inst node.now.decisions path.new.items end
@@ -68,6 +70,7 @@ pub fn close(node: &Starts, crew: &Crew, best: Bound, path: &mut Path) -> Option
     ensures count { length path.new.items ≤ length node.now.inst.tasks }
     ensures room { path.new.capacity ≡ path.old.capacity }
 {
+    let _inst = node.instance();
     if node.stuck() {
         node.cycle(path);
         return Some(LeafKind::Ring);
@@ -95,6 +98,7 @@ pub fn spent(node: &Starts, crew: &Crew, path: &mut Path) -> LeafKind
     ensures count { length path.new.items ≤ length node.now.inst.tasks }
     ensures room { path.new.capacity ≡ path.old.capacity }
 {
+    let _inst = node.instance();
     if node.stuck() {
         node.cycle(path);
         return LeafKind::Ring;

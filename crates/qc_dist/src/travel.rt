@@ -25,7 +25,7 @@ pub fn distance(inst: &Instance, i: u16, v: u16, j: u16, w: u16) -> Tick
 
 /// The ticks by which task `i` on crane `v` and task `j` on crane `w` are clear of each other, whichever
 /// is first: the travel between them on one crane, and their distance on two.
-pub(crate) fn separation(inst: &Instance, i: u16, v: u16, j: u16, w: u16) -> Tick
+pub fn separation(inst: &Instance, i: u16, v: u16, j: u16, w: u16) -> Tick
     requires first_task { i < length inst.now.tasks }
     requires first_crane { v < length inst.now.cranes }
     requires second_task { j < length inst.now.tasks }

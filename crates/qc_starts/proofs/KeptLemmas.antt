@@ -304,7 +304,7 @@ module _ (f : Inside) (node : StartsNode) (is : IsKept f) (view : node_of f ≡ 
   pub seen_back : (P : InstanceView → List Decision → Type 0) → P node.inst node.decisions → P f.network.inst f.network.decisions
   seen_back P holds = subst (λ (n : StartsNode). P n.inst n.decisions) (sym view) holds
 
-  seen_on : (P : InstanceView → List Decision → Type 0) → P f.network.inst f.network.decisions → P node.inst node.decisions
+  pub seen_on : (P : InstanceView → List Decision → Type 0) → P f.network.inst f.network.decisions → P node.inst node.decisions
   seen_on P holds = subst (λ (n : StartsNode). P n.inst n.decisions) view holds
 
   pub tasks_are : length f.network.inst.tasks ≡ length node.inst.tasks
@@ -316,9 +316,13 @@ module _ (f : Inside) (node : StartsNode) (is : IsKept f) (view : node_of f ≡ 
   pub rest_kept : HasStarts node.inst node.decisions → AreRest node.inst node.decisions f.spread.values.cells
   rest_kept starts = seen_on (λ i ds. AreRest i ds f.spread.values.cells) (home_rest starts)
 
+  pub early_kept : HasStarts node.inst node.decisions → (j : ℕ) → j < length f.network.inst.tasks
+      → start_at f.spread.values.cells j ≤ 600000000000
+  early_kept starts j low = omega (arith, soon_of f.network f.spread.values.cells is.sound (home_rest starts) j low)
+
   pub soon_kept : HasStarts node.inst node.decisions → (j : ℕ) → j < length f.network.inst.tasks
       → start_at f.spread.values.cells j ≤ 999999999999
-  soon_kept starts j low = omega (arith, soon_of f.network f.spread.values.cells is.sound (home_rest starts) j low)
+  soon_kept starts j low = omega (arith, early_kept starts j low)
 
   pub start_kept : HasStarts node.inst node.decisions → (j : ℕ) → j < length node.inst.tasks
       → IsNodeStart node.inst node.decisions j (start_at f.spread.values.cells j)
@@ -348,7 +352,7 @@ module _ (f : Inside) (node : StartsNode) (is : IsKept f) (view : node_of f ≡ 
   end_low : HasStarts node.inst node.decisions → (last : Option ℕ) → IsLatest f.network.inst f.spread.values.cells (length f.network.inst.tasks) last
       → end_by f.network.inst f.spread.values.cells last ≤ 999999999999
   end_low starts None latest = omega arith
-  end_low starts (Some j) latest = soon_of f.network f.spread.values.cells is.sound (home_rest starts) j latest.0
+  end_low starts (Some j) latest = omega (arith, soon_of f.network f.spread.values.cells is.sound (home_rest starts) j latest.0)
 
   pub end_soon : HasStarts node.inst node.decisions → (end : ℕ) → HasLastEnd f.network.inst f.spread.values.cells end
       → end ≤ 999999999999

@@ -13,3 +13,4 @@ pub mod PlaceLemmas
 pub mod RaisedLemmas
 pub mod KeptLemmas
 pub mod DecideLemmas
+pub mod OverlapLemmas

@@ -190,7 +190,7 @@ module _ (net : NodeArcs) (cells : List ℕ) (sound : IsSound net) (is : AreRest
   -- the chain to a task shows its end
   pub chain_shows : (last : ℕ) (path : List ℕ) → IsBackTo ways last path
       → (leaf_value with_packed inst ds (chain path) ≡ Some (Least (end_in inst cells last)))
-      × (length path ≤ length inst.tasks) × (end_in inst cells last ≤ 999999999999)
+      × (length path ≤ length inst.tasks) × (end_in inst cells last ≤ 600000000000)
   chain_shows last [] back = absurd back
   chain_shows last (i ∷ js) back =
       let way = back.0 in
@@ -206,7 +206,7 @@ module _ (net : NodeArcs) (cells : List ℕ) (sound : IsSound net) (is : AreRest
         omega (arith, shown, ticks.3, is.low i way.inside.0, few, valid.tasks.count),
       )
 
-  pub soon_of : (j : ℕ) → j < length inst.tasks → end_in inst cells j ≤ 999999999999
+  pub soon_of : (j : ℕ) → j < length inst.tasks → end_in inst cells j ≤ 600000000000
   soon_of j under =
       let path = chain_exists ways (backed_of inst ds cells valid is.reasons) rising_of j under in
       (chain_shows j path.0 path.1).2

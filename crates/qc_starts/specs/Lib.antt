@@ -7,6 +7,8 @@ pub mod Network
 pub mod Noting
 pub mod NodeArcs
 pub mod Opened
+pub mod Overlaps
+pub mod Overlapping
 pub mod Place
 pub mod Roots
 pub mod Spread

@@ -1,13 +1,12 @@
-//! Whether all is decided.
+//! Whether all tasks have a crane, and all apart pairs an order.
 
 ghost use Rattle.std.specs.Prelude.{◌≡◌, ◌↔◌, IsTrue};
-ghost use Rattle.qc_model.specs.Nodes.{IsComplete};
 ghost use Rattle.qc_starts.specs.Seen.{AreAssigned, AreSettled};
 
 use qc_dist::Decisions;
 
 /// Whether all tasks have a crane.
-fn are_assigned(decisions: &Decisions) -> bool
+pub(crate) fn are_assigned(decisions: &Decisions) -> bool
     ensures { IsTrue result ↔ AreAssigned decisions.now.inst decisions.now.decisions }
 {
     for task in 0..decisions.instance().task_count() {
@@ -19,7 +18,7 @@ fn are_assigned(decisions: &Decisions) -> bool
 }
 
 /// Whether all apart pairs are settled.
-fn are_settled(decisions: &Decisions) -> bool
+pub(crate) fn are_settled(decisions: &Decisions) -> bool
     ensures { IsTrue result ↔ AreSettled decisions.now.inst decisions.now.decisions }
 {
     for pair in decisions.instance().apart() {
@@ -28,11 +27,4 @@ fn are_settled(decisions: &Decisions) -> bool
         }
     }
     true
-}
-
-/// Whether all is decided.
-pub(crate) fn is_complete(decisions: &Decisions) -> bool
-    ensures { IsTrue result ↔ IsComplete decisions.now.inst decisions.now.decisions }
-{
-    are_assigned(decisions) && are_settled(decisions)
 }

@@ -9,6 +9,7 @@ mod latest;
 mod moves;
 mod network;
 mod noted;
+mod overlap;
 mod place;
 mod spread;
 mod starts;

@@ -1,28 +1,31 @@
 //! The earliest start times of a search node, kept while decisions are made and taken back.
 
-ghost use Rattle.std.specs.Prelude.{◌≡◌, ◌↔◌, ◌+◌, ◌*◌, ◌<◌, ◌≤◌, None, [], ◌∷◌, IfOk, IfSome, IsTrue, drop, length, sum, take};
+ghost use Rattle.std.specs.Prelude.{◌≡◌, ◌↔◌, ◌+◌, ◌*◌, ◌<◌, ◌≤◌, None, [], ◌∷◌, IfOk, IfSome, IsTrue, MatchOption, drop, length, sum, take};
 ghost use Rattle.qc_model.specs.declared.decision.Decision.TheVariants.{Assign, Order};
-ghost use Rattle.qc_model.specs.declared.limits.TheConstants.{MOST_DISTANCE, MOST_READY, MOST_START};
+ghost use Rattle.qc_model.specs.declared.limits.TheConstants.{MOST_DISTANCE, MOST_READY, MOST_START, MOST_TASKS, MOST_WORK};
+ghost use Rattle.qc_model.specs.declared.turn.Turn.TheVariants.{Free};
 ghost use Rattle.qc_model.specs.Instance.{Valid};
 ghost use Rattle.qc_model.specs.Nodes.{Conflicts, Fits, HasStarts, IsComplete, IsInReach, IsNodeEnd, IsSettled, assigned, head, reaches};
 ghost use Rattle.qc_num.specs.Paths.{HasRoom};
 ghost use Rattle.qc_starts.specs.Opened.{AreSized};
 ghost use Rattle.qc_starts.specs.NodeArcs.{IsSound};
 ghost use Rattle.qc_starts.specs.Roots.{root_of};
-ghost use Rattle.qc_starts.specs.Seen.{AreNotes, HasNone, HoldsForced, HoldsStarts, IsCycle, IsNodeStart, IsWhy, first_of, taken_back, StartsNode, IsNoted, IsReached, IsStep};
+ghost use Rattle.qc_starts.specs.Overlaps.{IsOverlap};
+ghost use Rattle.qc_starts.specs.Seen.{AreAssigned, AreNotes, HasNone, HoldsForced, HoldsStarts, IsCycle, IsNodeStart, IsWhy, first_of, taken_back, StartsNode, IsNoted, IsReached, IsStep};
 ghost use Rattle.qc_trail.specs.Trails.{written_back};
 ghost use Rattle.qc_starts.specs.Values.{AreRest};
 ghost use Rattle.qc_starts.specs.Fields.{node_of, IsKept};
 ghost use Rattle.qc_dist.specs.Node.{IsOpen, newest};
 
-use crate::complete::is_complete;
+use crate::complete::{are_assigned, are_settled};
 use crate::latest::{last_end, latest};
 use crate::network::Network;
+use crate::overlap::{first_overlap, has_overlap};
 use crate::spread::Spread;
 use crate::step::Step;
 use crate::walk::{chain_to, ring_behind};
 use qc_arena::ArcArena;
-use qc_model::{Decision, Instance};
+use qc_model::{Decision, Instance, Pair, Turn};
 use qc_num::{OutOfMemory, Path, Steps, Tick};
 use qc_trail::{Cells, Trail};
 use std::alloc::Global;
@@ -242,6 +245,7 @@ impl Starts {
         requires task { j < length self.now.inst.tasks }
         ensures start { IsNodeStart self.now.inst self.now.decisions j result }
         ensures bound { result ≤ MOST_START }
+        ensures soon { result + (MOST_TASKS * MOST_WORK + MOST_DISTANCE) ≤ MOST_START }
     {
         self.spread.values.start(j)
     }
@@ -274,11 +278,50 @@ impl Starts {
         self.network.decisions().lead(j)
     }
 
-    /// Whether all tasks have a crane and all apart pairs are settled.
+    /// Whether nothing is left to decide: all tasks have a crane, and where cranes go one way all apart pairs are
+    /// settled, or else the earliest starts are a feasible schedule.
     pub fn complete(&self) -> bool
         ensures { IsTrue result ↔ IsComplete self.now.inst self.now.decisions }
     {
-        is_complete(self.network.decisions())
+        are_assigned(self.network.decisions()) && self.settles()
+    }
+
+    /// Whether nothing is left to decide, where all tasks have a crane.
+    fn settles(&self) -> bool
+        requires { AreAssigned self.now.inst self.now.decisions }
+        ensures { IsTrue result ↔ IsComplete self.now.inst self.now.decisions }
+    {
+        match self.instance().turn() {
+            Turn::OneWay => are_settled(self.network.decisions()),
+            Turn::Free => self.starts_feasibly(),
+        }
+    }
+
+    /// Whether the earliest starts are a feasible schedule, where all tasks have a crane and cranes go as
+    /// they like.
+    fn starts_feasibly(&self) -> bool
+        requires free { self.now.inst.turn ≡ Free }
+        requires assigned { AreAssigned self.now.inst self.now.decisions }
+        ensures { IsTrue result ↔ IsComplete self.now.inst self.now.decisions }
+    {
+        if self.stuck() {
+            return false;
+        }
+        !has_overlap(&self.network, &self.spread.values)
+    }
+
+    /// Of the pairs of tasks whose order is open and that overlap in the earliest starts that which does so
+    /// first, where all tasks have a crane and cranes go as they like; `None` exactly where nothing is left
+    /// to decide.
+    pub fn overlap(&self) -> Option<Pair>
+        requires free { self.now.inst.turn ≡ Free }
+        requires starts { HasStarts self.now.inst self.now.decisions }
+        requires assigned { AreAssigned self.now.inst self.now.decisions }
+        ensures { MatchOption result
+            (IsComplete self.now.inst self.now.decisions)
+            (λ pair. IsOverlap self.now.inst self.now.decisions pair.first pair.second) }
+    {
+        first_overlap(&self.network, &self.spread.values)
     }
 
     /// Whether the order of two tasks may be decided: they are apart, or clash on their cranes.

@@ -4,8 +4,14 @@ use Rattle.qc_num.specs.Bounds.{IsAtMost}
 use Rattle.qc_num.specs.declared.bound.Bound.TheVariants.{Least}
 use Rattle.qc_model.specs.Nodes.{IsComplete}
 use Rattle.qc_bounds.proofs.ClosedLemmas.{chain_closes, never_closable, work_closes}
+use Rattle.qc_bounds.proofs.PackedLemmas.{early_known}
 use Rattle.qc_bounds.proofs.leaves.close.Goals as goal
 use Rattle.qc_bounds.proofs.leaves.close.Goals.{then-is_late-via-then-is_late, then-is_late-via-else-is_late+then-complete}
+
+pub late_by-requires-clause-known : goal.late_by-requires-clause-known
+late_by-requires-clause-known c =
+    early_known c.args.node.now.inst c.args.node.now.decisions c.instance-inst.ensures.valid c.if-stuck.ensures.in_reach
+    c.ends.result c.ends.ensures.end
 
 pub returns-then-is_late-clause-leaf : goal.returns-then-is_late-clause-leaf
 returns-then-is_late-clause-leaf c =

@@ -1,16 +1,16 @@
 use Rattle.std.proofs.Common.{ℕ, ◌<◌, length, min, ap, ◌∙◌, arith}
 use Rattle.std.specs.Option.{option_map_or}
-use Rattle.qc_model.specs.Nodes.{head}
+use Rattle.qc_bounds.specs.Packed.{early_at}
 use Rattle.qc_bounds.proofs.PackedLemmas.{least_more}
-use Rattle.qc_bounds.proofs.packed.least_lead.Goals as goal
+use Rattle.qc_bounds.proofs.packed.least_early.Goals as goal
 
 pub loop-task-preserved : goal.loop-task-preserved
 loop-task-preserved c =
-    let f = head c.args.node.now.inst c.args.node.now.decisions in
+    let f = early_at c.args.node.now.inst c.args.node.now.decisions in
     let before = c.loop-task.least in
     let low : c.loop-task.task-index < length c.args.tasks.now = omega arith in
-    let is = c.sooner.ensures.least ∙ ap (λ (t : ℕ). option_map_or (λ m. min m t) before t) c.lead.ensures.ticks in
+    let is = c.sooner.ensures.least ∙ ap (λ (t : ℕ). option_map_or (λ m. min m t) before t) c.early.ensures.tick in
     record {
       so_far = least_more f c.args.tasks.now c.loop-task.task-index before c.sooner.result low c.loop-task.invariant.so_far is;
-      bound = omega (arith, c.sooner.ensures.bound, c.lead.ensures.bound);
+      soon = omega (arith, c.sooner.ensures.bound, c.early.ensures.soon);
     }

@@ -1,0 +1,166 @@
+//! Tasks whose order is still open and which overlap in the earliest starts.
+
+ghost use Rattle.std.specs.Prelude.{◌≡◌, ◌↔◌, ℕ, ◌+◌, ◌*◌, ◌<◌, ◌≤◌, ◌⊎◌, None, Some, IfSome, IsTrue, MatchOption, length};
+ghost use Rattle.qc_model.specs.declared.limits.TheConstants.{MOST_START};
+ghost use Rattle.qc_dist.specs.Node.{IsOpen};
+ghost use Rattle.qc_model.specs.Clear.{AreClear};
+ghost use Rattle.qc_model.specs.declared.decision.Decision.TheVariants.{Order};
+ghost use Rattle.qc_starts.specs.Overlaps.{Overlaps};
+ghost use Rattle.qc_starts.specs.Overlapping.{HasOverlap, IsFound, OverlapsLater};
+ghost use Rattle.qc_starts.specs.Values.{start_at};
+
+use crate::network::Network;
+use crate::noted::Noted;
+use qc_dist::{Decisions, separation};
+use qc_model::Pair;
+use qc_num::Tick;
+
+/// Whether one of two tasks ends so long before the other starts that their cranes can give way.
+fn are_clear(network: &Network, values: &Noted, i: u16, v: u16, j: u16, w: u16) -> bool
+    requires count { length values.now.cells ≡ 2 * length network.now.inst.tasks }
+    requires soon { (j : ℕ) → j < length network.now.inst.tasks
+        → start_at values.now.cells j ≤ MOST_START }
+    requires first_task { i < length network.now.inst.tasks }
+    requires first_crane { v < length network.now.inst.cranes }
+    requires second_task { j < length network.now.inst.tasks }
+    requires second_crane { w < length network.now.inst.cranes }
+    ensures { IsTrue result ↔ AreClear network.now.inst values.now.cells i v j w }
+{
+    let inst = network.instance();
+    let ticks = separation(inst, i, v, j, w);
+    let (one, other) = (values.start(i), values.start(j));
+    one + inst.task(i).ticks + ticks <= other || other + inst.task(j).ticks + ticks <= one
+}
+
+/// Whether the order of two tasks is still open: they conflict, and neither is forced after the other.
+fn is_open(decisions: &Decisions, i: u16, j: u16) -> bool
+    requires first { i < length decisions.now.inst.tasks }
+    requires second { j < length decisions.now.inst.tasks }
+    ensures { IsTrue result ↔ IsOpen decisions.now.inst decisions.now.decisions (Order i j) }
+{
+    decisions.conflict(i, j) && !decisions.settled(i, j)
+}
+
+/// Whether two tasks that have cranes, and whose order is still open, aren't clear of each other.
+fn overlaps(network: &Network, values: &Noted, i: u16, j: u16) -> bool
+    requires count { length values.now.cells ≡ 2 * length network.now.inst.tasks }
+    requires soon { (j : ℕ) → j < length network.now.inst.tasks
+        → start_at values.now.cells j ≤ MOST_START }
+    requires first { i < length network.now.inst.tasks }
+    requires second { j < length network.now.inst.tasks }
+    ensures { IsTrue result
+        ↔ Overlaps network.now.inst network.now.decisions values.now.cells i j }
+{
+    let decisions = network.decisions();
+    match (decisions.crane_of(i), decisions.crane_of(j)) {
+        (Some(v), Some(w)) => {
+            !are_clear(network, values, i, v, j, w) && is_open(decisions, i, j)
+        }
+        _ => false,
+    }
+}
+
+/// Whether a task overlaps with a later one.
+fn overlaps_later(network: &Network, values: &Noted, i: u16) -> bool
+    requires count { length values.now.cells ≡ 2 * length network.now.inst.tasks }
+    requires soon { (j : ℕ) → j < length network.now.inst.tasks
+        → start_at values.now.cells j ≤ MOST_START }
+    requires first { i < length network.now.inst.tasks }
+    ensures { IsTrue result
+        ↔ OverlapsLater network.now.inst network.now.decisions values.now.cells i }
+{
+    let count = network.task_count();
+    for j in i + 1..count {
+        if overlaps(network, values, i, j) {
+            return true;
+        }
+    }
+    false
+}
+
+/// Whether any two tasks overlap.
+pub(crate) fn has_overlap(network: &Network, values: &Noted) -> bool
+    requires count { length values.now.cells ≡ 2 * length network.now.inst.tasks }
+    requires soon { (j : ℕ) → j < length network.now.inst.tasks
+        → start_at values.now.cells j ≤ MOST_START }
+    ensures { IsTrue result
+        ↔ HasOverlap network.now.inst network.now.decisions values.now.cells }
+{
+    for i in 0..network.task_count() {
+        if overlaps_later(network, values, i) {
+            return true;
+        }
+    }
+    false
+}
+
+/// Two tasks that overlap, and when both have started.
+#[derive(Clone, Copy)]
+struct Overlap {
+    pair: Pair,
+    from: Tick,
+}
+
+/// Of two pairs that which overlaps sooner, the first of them where both do at the same tick.
+fn sooner(before: Option<Overlap>, this: Overlap) -> Overlap
+    ensures { (result ≡ this) ⊎ (before ≡ Some result) }
+{
+    match before {
+        Some(other) => { if other.from <= this.from { other } else { this } }
+        None => this,
+    }
+}
+
+/// Of the pairs of a task and a later one that overlap, and one that was found before them, that which does
+/// so first.
+fn first_later(
+    network: &Network,
+    values: &Noted,
+    i: u16,
+    before: Option<Overlap>,
+) -> Option<Overlap>
+    requires count { length values.now.cells ≡ 2 * length network.now.inst.tasks }
+    requires soon { (j : ℕ) → j < length network.now.inst.tasks
+        → start_at values.now.cells j ≤ MOST_START }
+    requires first { i < length network.now.inst.tasks }
+    requires before { IfSome before (λ found. IsFound network.now.inst network.now.decisions
+        values.now.cells found.pair.first found.pair.second) }
+    ensures is { IfSome result (λ found. IsFound network.now.inst network.now.decisions
+        values.now.cells found.pair.first found.pair.second) }
+    ensures none { result ≡ None → (before ≡ None)
+        × (¬ OverlapsLater network.now.inst network.now.decisions values.now.cells i) }
+{
+    let count = network.task_count();
+    let mut first = before;
+    for j in i + 1..count {
+        if overlaps(network, values, i, j) {
+            let from = values.start(i).max(values.start(j));
+            let pair = Pair {
+                first: i,
+                second: j,
+            };
+            first = Some(sooner(first, Overlap { pair, from }));
+        }
+    }
+    first
+}
+
+/// Of the pairs that overlap that which does so first; `None` exactly where none does.
+pub(crate) fn first_overlap(network: &Network, values: &Noted) -> Option<Pair>
+    requires count { length values.now.cells ≡ 2 * length network.now.inst.tasks }
+    requires soon { (j : ℕ) → j < length network.now.inst.tasks
+        → start_at values.now.cells j ≤ MOST_START }
+    ensures { MatchOption result
+        (¬ HasOverlap network.now.inst network.now.decisions values.now.cells)
+        (λ pair. IsFound network.now.inst network.now.decisions values.now.cells
+        pair.first pair.second) }
+{
+    let mut first = None;
+    for i in 0..network.task_count() {
+        first = first_later(network, values, i, first);
+    }
+    match first {
+        Some(found) => Some(found.pair),
+        None => None,
+    }
+}
