@@ -132,8 +132,8 @@ pub(crate) fn late_tasks(node: &Starts, crew: &Crew, end: Tick, path: &mut Path)
     let travel = most_travel(inst);
     let mut window = Window::before_all(crew, outer);
     for first in 0..inst.task_count() {
-        window.reach(crew, outer, first);
         if begins_bay(inst, first) {
+            window.reach(crew, outer, first);
             let ticks = end.saturating_sub(node.lead(first).saturating_add(travel));
             let lists = window.lists(outer, first);
             if let Some(end) = try_window(node, crew, lists, Wanted { end, ticks }, path) {
