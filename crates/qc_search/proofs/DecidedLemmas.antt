@@ -5,8 +5,6 @@ use Rattle.std.proofs.lemmas.Bool.{and_parts, cond-true, cond_both, eq-eqb, eqb-
 use Rattle.std.specs.List.{range_with_len}
 use Rattle.qc_model.specs.declared.decision.Decision.{Decision}
 use Rattle.qc_model.specs.declared.decision.Decision.TheVariants.{Assign, Order}
-use Rattle.qc_model.specs.declared.direction.Direction.{Direction}
-use Rattle.qc_model.specs.declared.direction.Direction.TheVariants.{Up, Down}
 use Rattle.qc_model.specs.declared.pair.Pair.{Pair}
 use Rattle.qc_model.specs.declared.schedule.Slot.{Slot}
 use Rattle.qc_model.specs.declared.turn.Turn.{Turn}
@@ -14,9 +12,8 @@ use Rattle.qc_model.specs.declared.turn.Turn.TheVariants.{OneWay, Free}
 use Rattle.qc_model.specs.Frames.{GoesBy}
 use Rattle.qc_model.specs.Instance.{InstanceView, Valid, pair_of, ticks_of}
 use Rattle.qc_model.specs.Work.{task_numbers}
-use Rattle.qc_model.specs.Nodes.{Agrees, AreLeast, Conflicts, Fits, IsComplete, IsInReach, Meets, assigned, clear_ticks, crane_ticks, forced, free, head_by, is_before, is_ordered, is_sooner, pair_ticks, schedule_with, sooner_ticks}
+use Rattle.qc_model.specs.Nodes.{Agrees, AreLeast, Conflicts, Fits, IsComplete, IsInReach, Meets, assigned, crane_ticks, forced, free, head_by, is_before, is_ordered, is_sooner, pair_ticks, schedule_with, sooner_ticks}
 use Rattle.qc_model.specs.Rules.{IsClear, crane_of, end_of, start_of, starts}
-use Rattle.qc_model.specs.Seen.{seen}
 use Rattle.qc_model.proofs.CompleteNodes.{agrees_with, goes_least, greater_first, greater_second, starts_with}
 use Rattle.qc_model.proofs.NodeLemmas.{IsStep, assigned_is, greater_keeps, if_some, meets_by, ordered_is}
 use Rattle.qc_dist.proofs.Assigned.{assigned_other, ordered_here}
@@ -259,6 +256,7 @@ module _ (inst : InstanceView) (ds : List Decision) (begins : List ℕ) (v : Val
           (subst (IsStep s t) (ap₂ (crane_ticks inst (is_sooner inst ds i j) i j) (same_crane i low) (same_crane j high))
           (more_asked inst (is_sooner inst ds i j) (is_sooner inst decided i j) (sooner_too i j) i j s t (assigned decided i)
           (assigned decided j) (greater_second s t soon cranes kept)))
+
   -- its starts are the least with what it decides
   pub decided_least : AreLeast inst decided (starts sched)
   decided_least = record {

@@ -19,7 +19,7 @@ use Rattle.qc_model.specs.Instance.{InstanceView, Valid, ticks_of}
 use Rattle.qc_model.specs.Judge.{IsDirection, IsJudgeable}
 use Rattle.qc_model.specs.Nodes.{Agrees, AreLeast, IsSettled, Meets, assigned, forced, schedule_with}
 use Rattle.qc_model.specs.Numbers.{most_start, most_tasks}
-use Rattle.qc_model.specs.OneWay.{GoesUp, mirror, mirror_schedule}
+use Rattle.qc_model.specs.OneWay.{GoesUp}
 use Rattle.qc_model.specs.Rules.{Feasible, crane_of, end_of, ends, start_of, starts}
 use Rattle.qc_model.specs.Seen.{seen, seen_number, seen_schedule}
 use Rattle.qc_model.proofs.Bounded.{last_end_le}

@@ -11,7 +11,7 @@ use Rattle.qc_model.specs.declared.schedule.Slot.{Slot}
 use Rattle.qc_model.specs.declared.turn.Turn.{Turn}
 use Rattle.qc_model.specs.declared.turn.Turn.TheVariants.{OneWay, Free}
 use Rattle.qc_model.specs.Frames.{GoesBy}
-use Rattle.qc_model.specs.Instance.{InstanceView, IsApart, Valid, pair_of}
+use Rattle.qc_model.specs.Instance.{InstanceView, Valid, pair_of}
 use Rattle.qc_model.specs.Nodes.{Agrees, AreLeast, Conflicts, Fits, HasStarts, IsComplete, IsInReach, IsSettled, assigned, reaches}
 use Rattle.qc_model.specs.Rules.{IsClear, crane_of, end_of, start_of, starts}
 use Rattle.qc_model.proofs.CompleteNodes.{complete_where}

@@ -91,7 +91,11 @@ impl Roots {
     }
 
     /// Searches the parts, and writes the lines of the tree.
-    pub(crate) fn write<K: Sink>(self, progress: &mut Progress, sink: &mut K) -> Result<(), WriteFault>
+    pub(crate) fn write<K: Sink>(
+        self,
+        progress: &mut Progress,
+        sink: &mut K,
+    ) -> Result<(), WriteFault>
         requires count { length progress.old.incumbent ≡ length self.tasks }
         requires room { HasRoom most_tasks progress.old.path }
         requires begun { (first : Option (List Slot)) × IsProgress self first progress.old [] }
