@@ -1,6 +1,6 @@
 use Rattle.std.proofs.Common.{◌≡◌, ◌+◌, ◌≤◌}
 use Rattle.qc_model.specs.declared.limits.TheConstants.{MOST_START}
-use Rattle.qc_bounds.proofs.packed.latest_tasks.Given as goal
+use Rattle.qc_bounds.proofs.tries.latest_tasks.Given as goal
 
 abbrev pub invariant-loop : goal.invariant-loop
 invariant-loop l = record {

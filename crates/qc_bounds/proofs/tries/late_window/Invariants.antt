@@ -1,5 +1,5 @@
 use Rattle.std.proofs.Common.{◌≡◌, ◌≤◌, length}
-use Rattle.qc_bounds.proofs.packed.late_tasks.Given as goal
+use Rattle.qc_bounds.proofs.tries.late_window.Given as goal
 
 abbrev pub invariant-loop-first : goal.invariant-loop-first
 invariant-loop-first l = record {
