@@ -68,11 +68,12 @@ impl EarlyStarts {
         requires open { IsOpen node.now.inst node.now.decisions decision }
         ensures { AreEarly node.now.inst (decision ∷ node.now.decisions) self.new }
     {
+        let inst = node.instance();
         if self.are_none() {
             self.past += 1;
             return;
         }
-        if !is_reached(node.instance(), decision) {
+        if !is_reached(inst, decision) {
             self.past += 1;
             return;
         }
@@ -118,6 +119,7 @@ impl EarlyStarts {
             (least_starts node.now.inst node.now.decisions) }
         ensures bound { IfSome result (λ tick. tick ≤ most_start) }
     {
+        let _inst = node.instance();
         if self.are_none() {
             None
         } else {
@@ -127,7 +129,10 @@ impl EarlyStarts {
 }
 
 /// The least starts of the root of a part, where cranes go as they like.
-pub(crate) fn early_first(alloc: Global, inst: &Instance) -> Result<Option<EarlyStarts>, OutOfMemory>
+pub(crate) fn early_first(
+    alloc: Global,
+    inst: &Instance,
+) -> Result<Option<EarlyStarts>, OutOfMemory>
     ensures { IfOk result (HasEarly inst.now.turn inst.now []) }
 {
     match inst.turn() {
