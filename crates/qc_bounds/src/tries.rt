@@ -79,8 +79,8 @@ fn late_window(node: &Starts, crew: &Crew, end: Tick, path: &mut Path) -> Option
     let travel = most_travel(inst);
     let mut window = Window::before_all(crew, outer);
     for first in 0..inst.task_count() {
-        window.reach(crew, outer, first);
         if begins_bay(inst, first) {
+            window.reach(crew, outer, first);
             let ticks = least_ticks(end, early(node, first), travel);
             let lists = window.lists(outer, first);
             if let Some(end) = try_window(node, crew, lists, Wanted { end, ticks }, path) {

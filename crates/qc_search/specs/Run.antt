@@ -6,6 +6,8 @@ use Rattle.qc_num.specs.declared.bound.Bound.{Bound}
 use Rattle.qc_num.specs.declared.bound.Bound.TheVariants.{Least, Never}
 use Rattle.qc_num.specs.Bounds.{IsAtMost}
 use Rattle.qc_model.specs.declared.schedule.Slot.{Slot}
+use Rattle.qc_model.specs.declared.turn.Turn.{Turn}
+use Rattle.qc_model.specs.declared.turn.Turn.TheVariants.{OneWay, Free}
 use Rattle.qc_model.specs.Instance.{InstanceView}
 use Rattle.qc_model.specs.Judge.{IsJudgeable}
 use Rattle.qc_model.specs.Nodes.{order_pairs, schedule_with}
@@ -63,9 +65,14 @@ pub record IsRun (inst : InstanceView) (most : ℕ) (first : Option (List Slot))
   -- under Budget all branchings are spent
   pub spent : kind ≡ Budget → tree_branchings tree ≡ most
 
+-- how many parts a tree has
+abbrev pub parts_by : Turn → ℕ
+parts_by OneWay = 2
+parts_by Free = 1
+
 -- every tree of the instance has fewer branchings
 abbrev pub branching_limit : InstanceView → ℕ
-branching_limit inst = 2 * max 2 (length inst.cranes) ^ (length inst.tasks + order_pairs inst)
+branching_limit inst = parts_by inst.turn * max 2 (length inst.cranes) ^ (length inst.tasks + order_pairs inst)
 
 -- a search that isn't run yet: for this instance, with so many branchings
 pub record SearchView : Type 0 where
