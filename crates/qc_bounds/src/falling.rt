@@ -331,6 +331,31 @@ fn is_ordered(node: &Starts) -> bool {
     }
 }
 
+/// The ticks of all jobs that begin no sooner than a tick.
+fn ticks_from(jobs: &[Job], from: Tick) -> Tick {
+    let mut ticks: Tick = 0;
+    for job in jobs {
+        if from <= job.begins {
+            ticks = ticks.saturating_add(job.ticks);
+        }
+    }
+    ticks
+}
+
+/// The heaviest list of the jobs that begin no sooner than a tick, with its ticks; `None` where all of them
+/// together take fewer than so many ticks, or it does.
+fn heaviest_from(jobs: &[Job], from: Tick, least: Tick) -> Option<(Marks, Tick)> {
+    if ticks_from(jobs, from) < least {
+        return None;
+    }
+    let sweep = swept(jobs, from);
+    let ticks = sweep.heaviest().ticks;
+    if ticks < least {
+        return None;
+    }
+    Some((marks_of(jobs, &sweep), ticks))
+}
+
 /// Looks along the jobs for packed tasks that show this end or a later one.
 fn late_along(node: &Starts, crew: &Crew, jobs: &[Job], end: Tick, path: &mut Path) -> Option<Tick>
     requires known { IsSome (early node.now.inst node.now.decisions) }
@@ -344,10 +369,9 @@ fn late_along(node: &Starts, crew: &Crew, jobs: &[Job], end: Tick, path: &mut Pa
 {
     let travel = most_travel(crew.instance());
     for job in jobs {
-        let sweep = swept(jobs, job.begins);
-        let ticks = sweep.heaviest().ticks;
-        if least_ticks(end, job.begins, travel) <= ticks {
-            marks_of(jobs, &sweep).write(crew, path);
+        let least = least_ticks(end, job.begins, travel);
+        if let Some((marks, ticks)) = heaviest_from(jobs, job.begins, least) {
+            marks.write(crew, path);
             if let Some(shown) = judge(node, crew, ticks, end, path.as_slice()) {
                 return Some(shown);
             }

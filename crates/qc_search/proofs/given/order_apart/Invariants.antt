@@ -3,7 +3,7 @@ use Rattle.qc_model.specs.Instance.{pair_of}
 use Rattle.qc_model.specs.Nodes.{Agrees}
 use Rattle.qc_starts.specs.Seen.{AreAssigned}
 use Rattle.qc_starts.proofs.KeptLemmas.{IsSettledPair}
-use Rattle.qc_search.proofs.given.order_all.Given as goal
+use Rattle.qc_search.proofs.given.order_apart.Given as goal
 
 abbrev pub invariant-loop-number : goal.invariant-loop-number
 invariant-loop-number l = record {

@@ -2,7 +2,7 @@ use Rattle.std.proofs.Common.{◌≡◌, ℕ, ◌<◌, None, IfSome, slice_index
 use Rattle.qc_model.specs.Instance.{IsApart, pair_of}
 use Rattle.qc_model.specs.Nodes.{IsSettled}
 use Rattle.qc_starts.proofs.KeptLemmas.{IsSettledPair}
-use Rattle.qc_search.proofs.choice.next_pair.Given as goal
+use Rattle.qc_search.proofs.choice.next_apart.Given as goal
 
 abbrev pub invariant-loop-number : goal.invariant-loop-number
 invariant-loop-number l = record {

@@ -7,8 +7,8 @@ use Rattle.qc_model.specs.Nodes.{IsSettled}
 use Rattle.qc_starts.proofs.KeptLemmas.{IsSettledPair}
 use Rattle.qc_search.specs.declared.choice.Unsettled.{Unsettled}
 use Rattle.qc_search.proofs.OrderLemmas.{all_settled}
-use Rattle.qc_search.proofs.choice.next_pair.Goals as goal
-use Rattle.qc_search.proofs.choice.next_pair.Goals.{then-not-settled, else-not-settled}
+use Rattle.qc_search.proofs.choice.next_apart.Goals as goal
+use Rattle.qc_search.proofs.choice.next_apart.Goals.{then-not-settled, else-not-settled}
 
 abbrev IsOpenPair : InstanceView → List Decision → Unsettled → Type 0
 IsOpenPair inst ds u = IsApart inst u.pair.first u.pair.second × (¬ IsSettled inst ds u.pair.first u.pair.second)
@@ -54,5 +54,5 @@ pub unreachable-requires : goal.unreachable-requires
 unreachable-requires c =
     let inst = c.args.starts.now.inst in
     let e = rw c.instance.ensures.same at c.apart-number-end.ensures.apart in
-    c.requires.undecided (all_settled inst c.args.starts.now.decisions c.requires.assigned (λ k low.
+    c.requires.undecided (all_settled inst c.args.starts.now.decisions c.requires.one_way c.requires.assigned (λ k low.
     c.loop-number.invariant.none c.in-None.is k (omega (arith, low, c.loop-number-test.false, ap (length {A = Pair}) e))))
