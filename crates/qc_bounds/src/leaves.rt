@@ -10,7 +10,7 @@ ghost use Rattle.qc_num.specs.Paths.{HasRoom};
 ghost use Rattle.qc_bounds.specs.Closed.{IsClosedBy, IsSpentBy};
 ghost use Rattle.qc_bounds.specs.Packed.{IsPackedShown};
 
-use crate::packed::{late_tasks, latest_tasks};
+use crate::tries::{late_tasks, latest_tasks};
 use crate::work::{late_work, work_bound};
 use qc_close::Crew;
 use qc_num::{Bound, Path, Tick};

@@ -2,10 +2,12 @@
 //! which no two can run together, or the end before which the work doesn't fit.
 #![tactic(auto)]
 
+mod falling;
 mod leaves;
 mod lists;
 mod packed;
 mod spread;
+mod tries;
 mod work;
 
 pub use leaves::{LeafKind, close, spent};

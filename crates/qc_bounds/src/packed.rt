@@ -1,4 +1,4 @@
-//! Packed tasks that show when a node ends at the soonest.
+//! When a node ends at the soonest, as packed tasks show it.
 
 ghost use Rattle.std.specs.Prelude.{◌≡◌, ◌+◌, ◌<◌, ◌≤◌, All, IfSome, IsSome, length, map, min};
 ghost use Rattle.std.specs.Option.{option_map_or};
@@ -7,14 +7,12 @@ ghost use Rattle.qc_model.specs.declared.limits.TheConstants.{MOST_START};
 ghost use Rattle.qc_model.specs.Early.{early};
 ghost use Rattle.qc_model.specs.Leaves.{packed_end};
 ghost use Rattle.qc_model.specs.Nodes.{least};
-ghost use Rattle.qc_num.specs.Paths.{HasRoom};
 ghost use Rattle.qc_bounds.specs.Packed.{IsPackedFrom, IsSoon, early_at};
 
-use crate::lists::{List, Outer, Window, begins_bay, outer_cranes};
 use crate::spread::spread;
 use qc_close::Crew;
 use qc_model::{Instance, Turn, bays_up};
-use qc_num::{Path, Tick};
+use qc_num::Tick;
 use qc_starts::Starts;
 
 /// The lesser of a tick and those before it, if there were any.
@@ -27,7 +25,7 @@ fn sooner(least: Option<Tick>, tick: Tick) -> Tick
 
 /// From when a task can start: where cranes go one way when its crane can be at it, which is cheap to tell,
 /// and where they go as they like its earliest start.
-fn early(node: &Starts, task: u16) -> Tick
+pub(crate) fn early(node: &Starts, task: u16) -> Tick
     requires known { IsSome (early node.now.inst node.now.decisions) }
     requires task { task < length node.now.inst.tasks }
     ensures tick { result ≡ early_at node.now.inst node.now.decisions task }
@@ -66,7 +64,7 @@ fn packed_end(node: &Starts, crew: &Crew, tasks: &[u16]) -> Option<Tick>
 }
 
 /// The most ticks of travel between packed tasks.
-fn most_travel(inst: &Instance) -> Tick {
+pub(crate) fn most_travel(inst: &Instance) -> Tick {
     let gaps = bays_up(0, inst.gap()).saturating_mul(Tick::from(inst.crane_count()));
     let bays = bays_up(0, inst.bays()).saturating_add(gaps);
     inst.travel().saturating_mul(bays)
@@ -84,108 +82,28 @@ fn latest_end(node: &Starts, crew: &Crew, ticks: Tick, tasks: &[u16]) -> Tick
         .saturating_add(travel)
 }
 
-/// What is looked for: a list that shows this end or a later one, and whose tasks take so many ticks at
-/// the least.
-#[derive(Clone, Copy)]
-struct Wanted {
-    end: Tick,
-    ticks: Tick,
+/// How many ticks tasks must take at the least to show an end, where the first of them can start at a tick
+/// and there are so many ticks of travel between them at the most.
+pub(crate) fn least_ticks(end: Tick, begins: Tick, travel: Tick) -> Tick {
+    end.saturating_sub(begins.saturating_add(travel))
 }
 
-/// Tries a list: the end that it shows, where that is wanted.
-fn try_list(node: &Starts, crew: &Crew, list: List, wanted: Wanted, path: &mut Path) -> Option<Tick>
-    requires known { IsSome (early node.now.inst node.now.decisions) }
-    requires crew { IsCrewOf crew.now node.now.inst node.now.decisions }
-    requires room { HasRoom (length node.now.inst.tasks) path.old }
-    requires count { length path.old.items ≤ length node.now.inst.tasks }
-    ensures shows { IfSome result
-        (IsPackedFrom node.now.inst node.now.decisions wanted.end path.new.items) }
-    ensures count { length path.new.items ≤ length node.now.inst.tasks }
-    ensures room { path.new.capacity ≡ path.old.capacity }
-{
-    if list.ticks < wanted.ticks {
-        return None;
-    }
-    list.write(crew, path);
-    if latest_end(node, crew, list.ticks, path.as_slice()) < wanted.end {
-        return None;
-    }
-    let end = packed_end(node, crew, path.as_slice())?;
-    if end < wanted.end { None } else { Some(end) }
-}
-
-/// Tries the lists of a window: with the tasks beside it, and alone.
-fn try_window(
+/// Judges tasks that take so many ticks: the end that they show, where it is this one or a later one.
+pub(crate) fn judge(
     node: &Starts,
     crew: &Crew,
-    lists: (List, Option<List>),
-    wanted: Wanted,
-    path: &mut Path,
+    ticks: Tick,
+    end: Tick,
+    tasks: &[u16],
 ) -> Option<Tick>
     requires known { IsSome (early node.now.inst node.now.decisions) }
     requires crew { IsCrewOf crew.now node.now.inst node.now.decisions }
-    requires room { HasRoom (length node.now.inst.tasks) path.old }
-    requires count { length path.old.items ≤ length node.now.inst.tasks }
-    ensures shows { IfSome result
-        (IsPackedFrom node.now.inst node.now.decisions wanted.end path.new.items) }
-    ensures count { length path.new.items ≤ length node.now.inst.tasks }
-    ensures room { path.new.capacity ≡ path.old.capacity }
+    requires tasks { All (λ j. j < length node.now.inst.tasks) tasks.now }
+    ensures { IfSome result (IsPackedFrom node.now.inst node.now.decisions end tasks.now) }
 {
-    let (long, short) = lists;
-    if let Some(end) = try_list(node, crew, long, wanted, path) {
-        return Some(end);
-    }
-    try_list(node, crew, short?, wanted, path)
-}
-
-/// Looks for packed tasks that show this end or a later one.
-pub(crate) fn late_tasks(node: &Starts, crew: &Crew, end: Tick, path: &mut Path) -> Option<Tick>
-    requires known { IsSome (early node.now.inst node.now.decisions) }
-    requires crew { IsCrewOf crew.now node.now.inst node.now.decisions }
-    requires room { HasRoom (length node.now.inst.tasks) path.old }
-    ensures shows { IfSome result (IsPackedFrom node.now.inst node.now.decisions end path.new.items) }
-    ensures count { length path.new.items ≤ length node.now.inst.tasks }
-    ensures room { path.new.capacity ≡ path.old.capacity }
-{
-    path.clear();
-    let inst = node.instance();
-    let outer = outer_cranes(inst);
-    let travel = most_travel(inst);
-    let mut window = Window::before_all(crew, outer);
-    for first in 0..inst.task_count() {
-        window.reach(crew, outer, first);
-        if begins_bay(inst, first) {
-            let ticks = end.saturating_sub(early(node, first).saturating_add(travel));
-            let lists = window.lists(outer, first);
-            if let Some(end) = try_window(node, crew, lists, Wanted { end, ticks }, path) {
-                return Some(end);
-            }
-        }
-        window.leave(crew, outer, first);
-    }
-    None
-}
-
-/// Looks for the packed tasks that show the latest end, where that is this one or a later one.
-pub(crate) fn latest_tasks(node: &Starts, crew: &Crew, end: Tick, path: &mut Path) -> Option<Tick>
-    requires known { IsSome (early node.now.inst node.now.decisions) }
-    requires crew { IsCrewOf crew.now node.now.inst node.now.decisions }
-    requires room { HasRoom (length node.now.inst.tasks) path.old }
-    requires soon { end ≤ MOST_START + 1 }
-    ensures shows { IfSome result (IsPackedFrom node.now.inst node.now.decisions end path.new.items) }
-    ensures count { length path.new.items ≤ length node.now.inst.tasks }
-    ensures room { path.new.capacity ≡ path.old.capacity }
-{
-    let mut next = end;
-    for _ in 0..2 * node.instance().task_count() {
-        let Some(found) = late_tasks(node, crew, next, path) else {
-            break;
-        };
-        next = found + 1;
-    }
-    if next == end {
-        path.clear();
+    if latest_end(node, crew, ticks, tasks) < end {
         return None;
     }
-    late_tasks(node, crew, next - 1, path)
+    let shown = packed_end(node, crew, tasks)?;
+    if shown < end { None } else { Some(shown) }
 }

@@ -1,5 +1,6 @@
 -- public: when a row passes.
 use Rattle.std.specs.Prelude.{[]}
+use Rattle.qc_model.specs.Instance.{with_turn}
 use Rattle.qc_calls.specs.declared.row.CallRow.{CallRow}
 use Rattle.qc_calls.specs.declared.row.DispatchRow.{DispatchRow}
 use Rattle.qc_calls.specs.declared.row.StartsRow.{StartsRow}
@@ -12,9 +13,10 @@ use Rattle.qc_calls.specs.StartsCalls.{AreStartsAnswered}
 abbrev pub PassesCalls : CallRow → Type 0
 PassesCalls row = OfFiles row.ship.now row.list.now (λ inst. AreAnswered inst [] row.calls.now)
 
--- the calls on least starts answer as the row says, from no decision on
+-- the calls on least starts, with cranes that go as the row says, answer as it says, from no decision on
 abbrev pub PassesStarts : StartsRow → Type 0
-PassesStarts row = OfFiles row.ship.now row.list.now (λ inst. AreStartsAnswered inst [] row.calls.now)
+PassesStarts row =
+    OfFiles row.ship.now row.list.now (λ inst. AreStartsAnswered (with_turn inst row.turn) [] row.calls.now)
 
 -- the calls of a dispatcher answer as the row says, from its opening on
 abbrev pub PassesDispatch : DispatchRow → Type 0

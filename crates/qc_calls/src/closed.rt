@@ -6,6 +6,7 @@ use crate::row::StartsCall::{Close, Decide, Ends, Retract, Spent, WorkBound};
 use crate::row::StartsRow;
 use qc_bounds::LeafKind;
 use qc_model::Decision::Assign;
+use qc_model::Turn;
 use qc_num::Bound::{Least, Never};
 use qc_starts::Step::{Cycle, Raised};
 
@@ -16,6 +17,7 @@ macro_rules! row {
             name: $name,
             ship: $ship,
             list: $list,
+            turn: Turn::OneWay,
             calls: &[$($call),*],
         }
     };

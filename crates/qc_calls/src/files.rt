@@ -39,6 +39,11 @@ pub const THREE: &str = ship!(
     "{name = 'C1', bay = 1}, {name = 'C2', bay = 3}, {name = 'C3', bay = 5}"
 );
 
+pub const CLOSE: &str = ship!(
+    "margin = 0",
+    "{name = 'C1', bay = 1}, {name = 'C2', bay = 2}, {name = 'C3', bay = 3}, {name = 'C4', bay = 4}"
+);
+
 macro_rules! list {
     ($($row:literal)*) => {
         concat!("id,move,cell,length\n", $($row, ",40\n",)*)
@@ -58,3 +63,5 @@ pub const AT_10: &str = list!("A,D,100082");
 pub const DECK_HOLD: &str = list!("A,D,020082" "B,D,020002");
 // The tasks 2-DD, 2-DH and 14-DD of 10 ticks.
 pub const DECK_HOLD_AND_14: &str = list!("A,D,020082" "B,D,020002" "C,D,140082");
+// The tasks 2-DD, 6-DD, 10-DD and 14-DD of 10 ticks.
+pub const ONE_A_BAY: &str = list!("A,D,020082" "B,D,060082" "C,D,100082" "D,D,140082");

@@ -1,7 +1,8 @@
 //! Runs tables of inner calls and prints one line a row: whether it answers as it must.
 //!
 //! `calls.rt` has calls on decisions and on the mirror, `starts.rt` calls on least starts, `closed.rt`
-//! calls on the leaves that close nodes, and `courses.rt` calls of a dispatcher.
+//! calls on the leaves that close nodes, `free.rt` both of cranes that go as they like, and `courses.rt`
+//! calls of a dispatcher.
 //! A line is `ok NAME` or `FAILED NAME: ` with what is otherwise; the status is 1 where a row failed.
 #![tactic(auto)]
 
@@ -12,6 +13,7 @@ mod course_answers;
 mod course_run;
 mod courses;
 mod files;
+mod free;
 mod instance;
 mod row;
 mod run;
@@ -26,6 +28,7 @@ use calls::CALLS;
 use closed::CLOSED;
 use course_run::verdict_on_course;
 use courses::COURSES;
+use free::FREE;
 use row::{CallRow, DispatchRow, StartsRow};
 use run::verdict_on_calls;
 use starts::STARTS;
@@ -73,8 +76,9 @@ fn main(rt: HostRuntime) -> Result<ExitCode> {
     let calls_hold = run_calls(&rt, CALLS)?;
     let starts_hold = run_starts(&rt, STARTS)?;
     let closed_hold = run_starts(&rt, CLOSED)?;
+    let free_hold = run_starts(&rt, FREE)?;
     let courses_hold = run_courses(&rt, COURSES)?;
-    if calls_hold && starts_hold && closed_hold && courses_hold {
+    if calls_hold && starts_hold && closed_hold && free_hold && courses_hold {
         Ok(ExitCode::SUCCESS)
     } else {
         Ok(ExitCode::FAILURE)

@@ -3,7 +3,7 @@
 use qc_arena::Edge;
 use qc_bounds::LeafKind;
 use qc_dispatch::Grant;
-use qc_model::Decision;
+use qc_model::{Decision, Turn};
 use qc_num::{Bay, Bound, Tick};
 use qc_starts::Step;
 
@@ -59,6 +59,8 @@ pub struct StartsRow {
     pub ship: &'static str,
     /// The stowage list.
     pub list: &'static str,
+    /// Which way cranes may go.
+    pub turn: Turn,
     /// The first call finds no decision.
     pub calls: &'static [StartsCall],
 }

@@ -9,6 +9,7 @@ use crate::row::StartsCall::{
 use crate::row::StartsRow;
 use qc_arena::Edge;
 use qc_model::Decision::{Assign, Order};
+use qc_model::Turn;
 use qc_starts::Step::{Cycle, Raised};
 
 // A name, the ship and the list, and the calls.
@@ -18,6 +19,7 @@ macro_rules! row {
             name: $name,
             ship: $ship,
             list: $list,
+            turn: Turn::OneWay,
             calls: &[$($call),*],
         }
     };

@@ -14,7 +14,7 @@ use qc_arena::Edge;
 use qc_bounds::{LeafKind, close, spent, work_bound};
 use qc_close::Crew;
 use qc_dist::in_reach;
-use qc_model::{Decision, Instance, Turn};
+use qc_model::{Decision, Instance};
 use qc_num::{Bound, OutOfMemory, Path, Steps, Tick};
 use qc_starts::{Starts, Step};
 use std::alloc::Global;
@@ -111,8 +111,9 @@ fn is_ring_of(alloc: Global, starts: &Starts, count: usize) -> Result<bool, OutO
 fn crew_of(alloc: Global, starts: &Starts) -> Result<Crew, OutOfMemory>
     ensures { IfOk result (λ crew. IsCrewOf crew starts.now.inst starts.now.decisions) }
 {
-    let mut crew = Crew::open(alloc, starts.instance(), Turn::OneWay)?;
-    for task in 0..starts.instance().task_count() {
+    let inst = starts.instance();
+    let mut crew = Crew::open(alloc, inst, inst.turn())?;
+    for task in 0..inst.task_count() {
         if let Some(crane) = starts.crane_of(task) {
             crew.put(task, crane);
         }

@@ -52,7 +52,7 @@ pub fn verdict_on_starts(alloc: Global, row: &StartsRow) -> Result<Verdict, OutO
     ensures { IfOk result (λ verdict. IsHeld verdict → PassesStarts row.now) }
 {
     match instance_in(alloc, row.ship, row.list)? {
-        Ok(inst) => run_counted(alloc, &inst, row.calls),
+        Ok(inst) => run_counted(alloc, &inst.with_turn(row.turn), row.calls),
         Err(why) => failed(alloc, why),
     }
 }

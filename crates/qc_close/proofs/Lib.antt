@@ -15,6 +15,8 @@ pub mod PackBounds
 mod SumLemmas
 mod WalkLemmas
 mod ShortLemmas
+mod RestLemmas
+mod ComeLemmas
 mod OwnLemmas
 mod CrewLemmas
 mod SpotLemmas

@@ -1,5 +1,6 @@
 -- The greatest and the least sums of so many numbers: of more of them, and of greater ones.
-use Rattle.std.proofs.Common.{◌≡◌, ℕ, zero, suc, ◌+◌, ◌-◌, ◌<◌, ◌≤◌, max, List, [], ◌∷◌, ◌++◌, length, get_or, map, take, refl, ap, sym, ◌∙◌, arith, sum}
+use Rattle.std.proofs.Common.{◌≡◌, ℕ, zero, suc, ◌+◌, ◌-◌, ◌*◌, ◌<◌, ◌≤◌, max, List, [], ◌∷◌, ◌++◌, length, get_or, map, take, refl, ap, sym, ◌∙◌, arith, sum}
+use Rattle.std.proofs.Math.Nat.{add-mul, suc-mul, zero-mul}
 use Rattle.std.proofs.lemmas.List.{length-map, map_more}
 use Rattle.std.proofs.lemmas.List.Sums.{sum_by-cons}
 use Rattle.qc_model.specs.Closed.{fewest, most}
@@ -92,4 +93,56 @@ module _ {X : Type 0} (f : X → ℕ) (xs : List X) (n k : ℕ) (sums : List ℕ
         all (k - n) (omega arith),
         most_all k (map f xs) (omega arith),
         ap (λ i. most i (map f xs)) others,
+      )
+
+-- ---- numbers that are all the same
+
+module _ {X : Type 0} (f : X → ℕ) (b : ℕ) where
+  abbrev pub AllAre : List X → Type 0
+  AllAre xs = (i : ℕ) (d : X) → i < length xs → f (get_or xs i d) ≡ b
+
+  behind : (x : X) (xs : List X) → AllAre (x ∷ xs) → AllAre xs
+  behind x xs all i d low = all (suc i) d (omega arith)
+
+  most_few : (n : ℕ) (xs : List X) → AllAre xs → most n (map f xs) ≤ n * b
+  most_few zero xs all = omega arith
+  most_few (suc n) [] all = omega arith
+  most_few (suc n) (x ∷ xs) all =
+      omega (
+        arith,
+        all 0 x (omega arith),
+        most_few n xs (behind x xs all),
+        most_few (suc n) xs (behind x xs all),
+        suc-mul n b,
+      )
+
+  most_many : (n : ℕ) (xs : List X) → AllAre xs → n ≤ length xs → n * b ≤ most n (map f xs)
+  most_many zero xs all low = omega (arith, zero-mul b)
+  most_many (suc n) [] all low = absurd (omega arith)
+  most_many (suc n) (x ∷ xs) all low =
+      omega (arith, all 0 x (omega arith), most_many n xs (behind x xs all) (omega arith), suc-mul n b)
+
+  sum_same : (xs : List X) → AllAre xs → sum (map f xs) ≡ length xs * b
+  sum_same [] all = omega (arith, zero-mul b)
+  sum_same (x ∷ xs) all =
+      omega (
+        arith,
+        all 0 x (omega arith),
+        sum_same xs (behind x xs all),
+        sum_by-cons (λ (k : ℕ). k) (f x) (map f xs),
+        suc-mul (length xs) b,
+      )
+
+  pub fewest_same : (n : ℕ) (xs : List X) → AllAre xs → n ≤ length xs → n * b ≡ fewest n (map f xs)
+  fewest_same n xs all low =
+      let others : length (map f xs) - n ≡ length xs - n = omega (arith, length-map xs f) in
+      let parts : length xs ≡ length xs - n + n = omega arith in
+      omega (
+        arith,
+        ap (λ i. most i (map f xs)) others,
+        most_few (length xs - n) xs all,
+        most_many (length xs - n) xs all (omega arith),
+        sum_same xs all,
+        ap (λ k. k * b) parts,
+        add-mul (length xs - n) n b,
       )

@@ -1,6 +1,6 @@
 -- The table of what each crane's tasks come to: of no tasks, and as one task gets its crane or loses it.
 use Rattle.std.proofs.Common.{◌≡◌, ◌≢◌, ℕ, zero, suc, ◌+◌, ◌-◌, ◌*◌, ◌<◌, ◌≤◌, ◌^◌, inl, inr, Bool, true, false, ◌&&◌, eqb, cond, List, [], ◌∷◌, length, get_or, set, filter, replicate, Option, None, Some, refl, ap, sym, subst, ◌∙◌, arith, add-one}
-use Rattle.std.proofs.lemmas.Bool.{and_parts, cases_Bool, cases_eq, cases_lt, cond-false, cond-true, eqb-true, false≢true}
+use Rattle.std.proofs.lemmas.Bool.{and_parts, cases_Bool, cases_eq, cases_lt, cond-false, cond-true, eqb-true, false_from_ne_true, false≢true}
 use Rattle.std.proofs.lemmas.List.{get_or_past, get_or-replicate, get_or-set_other, get_or-set_same, length-replicate, length-set}
 use Rattle.std.specs.List.{range_with_len}
 use Rattle.std.specs.Option.{option_map_or}
@@ -17,7 +17,7 @@ use Rattle.qc_close.specs.declared.bars.TheConstants.{NEVER}
 use Rattle.qc_close.specs.declared.spots.Spots.{Spots}
 use Rattle.qc_close.proofs.BarLemmas.{bars_cons, bars_same, filter_same, none_joined, none_pass}
 use Rattle.qc_close.proofs.CrewLemmas.{none_there}
-use Rattle.qc_close.proofs.Members.{Among, filter_among}
+use Rattle.qc_close.proofs.Members.{Among, filter_among, range_among}
 use Rattle.qc_close.proofs.OwnLemmas.{one_more}
 
 -- ---- what the tasks of a cell come to, from the last task to the first
@@ -49,13 +49,44 @@ module _ (inst : InstanceView) (cranes : List (Option ℕ)) (p : ℕ → Bool) (
   bars_skip fails =
       is ∙ ap (bars_of inst cranes) (sym (with_next ∙ cond-false (p last) (last ∷ behind) behind fails))
 
-pub bars_all : (inst : InstanceView) (cranes : List (Option ℕ)) (p : ℕ → Bool) (count done : ℕ) (bars : Bars)
-    → bars ≡ bars_of inst cranes (filter p (range_with_len (count - done) done)) → count ≡ length inst.tasks → done ≡ count
-    → bars ≡ bars_of inst cranes (filter p (task_numbers inst))
-bars_all inst cranes p count done bars is many end =
-    let first : count - done ≡ 0 = omega (arith, end) in
-    is ∙ ap (λ from. bars_of inst cranes (filter p (range_with_len from done))) first
-    ∙ ap (λ n. bars_of inst cranes (filter p (range_with_len 0 n))) (end ∙ many)
+-- a test that only numbers from a to before b pass
+module _ (p : ℕ → Bool) where
+  pass_front : (a k m : ℕ) → ((j : ℕ) → a ≤ j → j < a + k → p j ≡ false)
+      → filter p (range_with_len a (k + m)) ≡ filter p (range_with_len (a + k) m)
+  pass_front a zero m none =
+      let same : 0 + m ≡ m = omega arith in
+      let here : a ≡ a + 0 = omega arith in
+      ap (λ n. filter p (range_with_len a n)) same ∙ ap (λ b. filter p (range_with_len b m)) here
+  pass_front a (suc k) m none =
+      let more : suc k + m ≡ suc (k + m) = omega arith in
+      let on : a + 1 + k ≡ a + suc k = omega arith in
+      ap (λ n. filter p (range_with_len a n)) more
+      ∙ cond-false (p a) (a ∷ filter p (range_with_len (a + 1) (k + m))) (filter p (range_with_len (a + 1) (k + m)))
+      (none a (omega arith) (omega arith))
+      ∙ pass_front (a + 1) k m (λ j up low. none j (omega arith) (omega arith))
+      ∙ ap (λ b. filter p (range_with_len b m)) on
+
+  pass_back : (a m k : ℕ) → ((j : ℕ) → a + m ≤ j → j < a + (m + k) → p j ≡ false)
+      → filter p (range_with_len a (m + k)) ≡ filter p (range_with_len a m)
+  pass_back a zero k none =
+      none_pass p (range_with_len a (0 + k)) (λ j b. let r = range_among j a (0 + k) b in none j (omega (arith, r.0)) r.1)
+  pass_back a (suc m) k none =
+      let more : suc m + k ≡ suc (m + k) = omega arith in
+      ap (λ n. filter p (range_with_len a n)) more
+      ∙ ap (λ js. cond (p a) (a ∷ js) js) (pass_back (a + 1) m k (λ j up low. none j (omega arith) (omega arith)))
+
+  pub pass_within : (a b n : ℕ) → ((j : ℕ) → j < n → p j ≡ true → (a ≤ j) × (j < b)) → b ≤ n
+      → filter p (range_with_len 0 n) ≡ filter p (range_with_len (b - (b - a)) (b - a))
+  pass_within a b n within le =
+      let fails = λ (j : ℕ) (out : p j ≡ true → ⊥). false_from_ne_true (p j) out in
+      let all : n ≡ b - (b - a) + (n - (b - (b - a))) = omega arith in
+      let rest : n - (b - (b - a)) ≡ b - a + (n - b) = omega arith in
+      let from : 0 + (b - (b - a)) ≡ b - (b - a) = omega arith in
+      ap (λ m. filter p (range_with_len 0 m)) all
+      ∙ pass_front 0 (b - (b - a)) (n - (b - (b - a))) (λ j up low. fails j (λ t. let w = within j (omega arith) t in omega (arith, w.0, w.1)))
+      ∙ ap (λ s. filter p (range_with_len s (n - (b - (b - a))))) from
+      ∙ ap (λ m. filter p (range_with_len (b - (b - a)) m)) rest
+      ∙ pass_back (b - (b - a)) (b - a) (n - b) (λ j up low. fails j (λ t. let w = within j (omega arith) t in omega (arith, w.0, w.1)))
 
 -- a task of a row has the row's crane
 has_some : (o : Option ℕ) (row : ℕ) → option_map_or (λ v. eqb (v + 1) row) o false ≡ true
@@ -68,6 +99,17 @@ pub soonest_at : (inst : InstanceView) (cranes : List (Option ℕ)) (list : List
 soonest_at inst cranes list s spots row k j t =
     let r = has_some (crane_in cranes j) row (and_parts (in_row cranes row j) (eqb (get_or spots j 0) k) t).0 in
     s.is j r.0 r.1 ∙ sym (ap (λ (o : Option ℕ). option_map_or (free inst j) o 0) r.1)
+
+pub bars_within : (inst : InstanceView) (cranes : List (Option ℕ)) (spots : List ℕ) (row spot first behind done : ℕ) (bars : Bars)
+    → length spots ≡ length inst.tasks → ((j : ℕ) → j < length spots → get_or spots j 0 ≡ spot → (first ≤ j) × (j < behind))
+    → behind ≤ length inst.tasks → done ≡ behind - first
+    → bars ≡ bars_of inst cranes (filter (row_at cranes spots row spot) (range_with_len (behind - done) done))
+    → bars ≡ bars_of inst cranes (filter (row_at cranes spots row spot) (task_numbers inst))
+bars_within inst cranes spots row spot first behind done bars many within few end is =
+    is
+    ∙ ap (λ n. bars_of inst cranes (filter (row_at cranes spots row spot) (range_with_len (behind - n) n))) end
+    ∙ ap (bars_of inst cranes) (sym (pass_within (row_at cranes spots row spot) first behind (length inst.tasks) (λ j low t.
+    within j (omega (arith, low, many)) (eqb-true (get_or spots j 0) spot (and_parts (in_row cranes row j) (eqb (get_or spots j 0) spot) t).1)) few))
 
 -- ---- sums over a row
 

@@ -21,6 +21,10 @@ pub record IsNear (f : Frame) : Type 0 where
 abbrev pub AreNear : List Frame → Type 0
 AreNear frames = (i : ℕ) (d : Frame) → i < length frames → IsNear (slice_index_or frames i d)
 
+-- a number is the same of each crane
+abbrev pub AreSame : (Frame → ℕ) → ℕ → List Frame → Type 0
+AreSame f n frames = (i : ℕ) (d : Frame) → i < length frames → f (slice_index_or frames i d) ≡ n
+
 -- the bays at which work is left, where the list says how much is left at each
 abbrev pub bays_of : List ℕ → List ℕ
 bays_of left = filter (λ x. nat_lt 0 (slice_index left x)) (range_with_len 1 (length left - 1))
@@ -78,6 +82,15 @@ pub record IsWalked (t : Try) (way : Direction) (xs : List ℕ) (w : Walk) : Typ
   pub leg_sum : w.legs ≡ legs t way xs numbers
   pub least : (ns : List ℕ) → Suffice t way xs ns
       → (legs t way xs numbers ≤ legs t way xs ns) × (slice_index numbers 0 ≤ slice_index ns 0)
+
+-- numbers that suffice have been found for which cranes go the least
+pub record IsCounted (t : Try) (way : Direction) (xs : List ℕ) (w : Walk) : Type 0 where
+  pub numbers : List ℕ
+  pub sufficient : Suffice t way xs numbers
+  pub stop : IsStop w.last xs numbers
+  pub work : w.work ≡ sum_by t.work xs
+  pub leg_sum : w.legs ≡ legs t way xs numbers
+  pub least : (ns : List ℕ) → Suffice t way xs ns → legs t way xs numbers ≤ legs t way xs ns
 
 -- no numbers suffice
 abbrev pub NoneSuffice : Try → Direction → List ℕ → Type 0

@@ -1,6 +1,6 @@
 //! Tasks that may bar the way of cranes next to theirs.
 
-ghost use Rattle.std.specs.Prelude.{◌≡◌, ◌+◌, ◌-◌, ◌*◌, ◌<◌, ◌≤◌, ◌^◌, List, Option, ℕ, IfOk, filter, length, replicate, slice_set};
+ghost use Rattle.std.specs.Prelude.{◌≡◌, ◌+◌, ◌-◌, ◌*◌, ◌<◌, ◌≤◌, ◌^◌, List, Option, ℕ, IfOk, filter, length, replicate, slice_index, slice_set};
 ghost use Rattle.qc_model.specs.Assignments.{no_cranes};
 ghost use Rattle.qc_model.specs.Work.{task_numbers};
 ghost use Rattle.qc_close.specs.Bars.{AreSmall, AreSums, Changes, Everywhere, From, IsTable, UpTo, bars_of, joined, no_bars, own_in, row_at, sum_before, sum_from};
@@ -121,7 +121,7 @@ fn one_bars(task: Task, soonest: Tick) -> Bars
     }
 }
 
-/// What the tasks of a row at a spot come to.
+/// What the tasks of a row at a spot come to, which all lie from one number to before another.
 fn bars_at(
     inst: &Instance,
     cranes: &[Option<u16>],
@@ -129,19 +129,24 @@ fn bars_at(
     soonest: &[Tick],
     row: usize,
     spot: usize,
+    first: u16,
+    behind: u16,
 ) -> Bars
     requires count { length cranes.now ≡ length inst.now.tasks }
     requires spots { length spots.now ≡ length inst.now.tasks }
     requires soonest { AreSoonest inst.now cranes.now soonest.now }
     requires row { 0 < row }
+    requires within { (j : ℕ) → j < length spots.now → slice_index spots.now j ≡ spot
+        → (first ≤ j) × (j < behind) }
+    requires behind { behind ≤ length inst.now.tasks }
+    requires few { behind ≤ 240 }
     ensures bars { result ≡ bars_of inst.now cranes.now
         (filter (row_at cranes.now spots.now row spot) (task_numbers inst.now)) }
     ensures small { result.ticks < 2 ^ 38 }
 {
     let mut bars = NOTHING;
-    let count = inst.task_count();
-    for done in 0..count {
-        let task = count - 1 - done;
+    for done in 0..behind.saturating_sub(first) {
+        let task = behind - 1 - done;
         if is_at(cranes, spots, task, row, spot) {
             let one = one_bars(inst.task(task), soonest[task as usize]);
             bars = joined(one, bars);
@@ -238,6 +243,15 @@ pub(crate) fn keep_table(
     let _cranes = inst.crane_count();
     let row = crane as usize + 1;
     let spot = spots.of_task[task as usize] as usize;
-    let bars = bars_at(inst, cranes, spots.of_task.as_slice(), soonest, row, spot);
+    let bars = bars_at(
+        inst,
+        cranes,
+        spots.of_task.as_slice(),
+        soonest,
+        row,
+        spot,
+        spots.first_task[spot],
+        spots.behind_task[spot].min(inst.task_count()),
+    );
     put_bars(table, row, spot, spots.bays.len(), bars);
 }

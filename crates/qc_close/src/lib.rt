@@ -6,6 +6,7 @@
 mod barred;
 mod bars;
 mod closed;
+mod come;
 mod crew;
 mod frames;
 mod grain;
@@ -13,6 +14,7 @@ mod laws;
 mod left;
 mod limit;
 mod packs;
+mod rest;
 mod short;
 mod spots;
 mod sums;

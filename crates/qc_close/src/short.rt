@@ -4,11 +4,14 @@ ghost use Rattle.std.specs.Prelude.{◌≡◌, ◌&&◌, ◌+◌, ◌-◌, ◌*�
 ghost use Rattle.std.specs.List.{list_any};
 ghost use Rattle.qc_model.specs.declared.direction.Direction.TheVariants.{Up, Down};
 ghost use Rattle.qc_model.specs.Closed.{along, bays_to, is_served, is_short, last_before};
-ghost use Rattle.qc_close.specs.Counts.{AreNear, IsWalked, try_by};
+ghost use Rattle.qc_close.specs.Counts.{AreNear, IsCounted, bays_of, try_by};
 ghost use Rattle.qc_close.specs.Lasts.{IsLast};
+ghost use Rattle.qc_close.specs.Rests.{IsRestOf};
 
+use crate::come::count_along;
+use crate::rest::{Rest, rest_of};
 use crate::sums::{bays_to, room};
-use crate::walk::{Walk, walk_along};
+use crate::walk::Walk;
 use qc_model::{Direction, Frame};
 use qc_num::Tick;
 
@@ -45,9 +48,9 @@ fn has_room(travel: Tick, tick: Tick, frames: &[Frame], up: Walk, down: Walk) ->
     requires up_legs { up.legs ≤ 2 ^ 37 }
     requires down_legs { down.legs ≤ 2 ^ 37 }
     ensures { (left : List ℕ)
-        → IsWalked (try_by travel tick frames.now left) Up
+        → IsCounted (try_by travel tick frames.now left) Up
         (along (try_by travel tick frames.now left) Up) up
-        → IsWalked (try_by travel tick frames.now left) Down
+        → IsCounted (try_by travel tick frames.now left) Down
         (along (try_by travel tick frames.now left) Down) down
         → result ≡ is_served (try_by travel tick frames.now left) }
 {
@@ -63,6 +66,30 @@ fn has_room(travel: Tick, tick: Tick, frames: &[Frame], up: Walk, down: Walk) ->
     }
 }
 
+/// Whether the count lets cranes do by a tick what is left to them, which this comes to.
+fn can_serve(travel: Tick, tick: Tick, frames: &[Frame], left: &[Tick], rest: Rest) -> bool
+    requires few { length frames.now ≤ 8 }
+    requires near { AreNear frames.now }
+    requires travel { travel < 2 ^ 16 }
+    requires tick { tick < 2 ^ 56 }
+    requires bays { (1 ≤ length left.now) × (length left.now < 2 ^ 13) }
+    requires work { (x : ℕ) → slice_index left.now x < 2 ^ 37 }
+    requires rest { IsRestOf left.now (bays_of left.now) rest }
+    requires bound { rest.work ≤ 2 ^ 50 }
+    ensures { result ≡ is_served (try_by travel tick frames.now left.now) }
+{
+    if all_rooms(travel, tick, frames, rest.low, rest.high) < rest.work {
+        return false;
+    }
+    match count_along(travel, tick, frames, left, Direction::Up, rest) {
+        None => false,
+        Some(up) => match count_along(travel, tick, frames, left, Direction::Down, rest) {
+            None => false,
+            Some(down) => has_room(travel, tick, frames, up, down),
+        },
+    }
+}
+
 /// Whether the count lets cranes do by a tick what is left to them.
 fn is_served(travel: Tick, tick: Tick, frames: &[Frame], left: &[Tick]) -> bool
     requires few { length frames.now ≤ 8 }
@@ -73,12 +100,9 @@ fn is_served(travel: Tick, tick: Tick, frames: &[Frame], left: &[Tick]) -> bool
     requires work { (x : ℕ) → slice_index left.now x < 2 ^ 37 }
     ensures { result ≡ is_served (try_by travel tick frames.now left.now) }
 {
-    match walk_along(travel, tick, frames, left, Direction::Up) {
-        None => false,
-        Some(up) => match walk_along(travel, tick, frames, left, Direction::Down) {
-            None => false,
-            Some(down) => has_room(travel, tick, frames, up, down),
-        },
+    match rest_of(left) {
+        None => true,
+        Some(rest) => can_serve(travel, tick, frames, left, rest),
     }
 }
 

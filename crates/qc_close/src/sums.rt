@@ -1,8 +1,8 @@
 //! The greatest sums of so many numbers, one for each crane.
 
-ghost use Rattle.std.specs.Prelude.{◌≡◌, ◌+◌, ◌-◌, ◌*◌, ◌<◌, ◌≤◌, ◌^◌, ℕ, max, length, map, slice_index};
+ghost use Rattle.std.specs.Prelude.{◌≡◌, ◌+◌, ◌-◌, ◌*◌, ◌<◌, ◌≤◌, ◌^◌, ℕ, IfSome, max, length, map, slice_index};
 ghost use Rattle.qc_model.specs.Closed.{bays_to, fewest, most};
-ghost use Rattle.qc_close.specs.Counts.{AreNear, IsNear};
+ghost use Rattle.qc_close.specs.Counts.{AreNear, AreSame, IsNear};
 
 use qc_model::{Direction, Frame, bays_up};
 use qc_num::{Bay, Tick};
@@ -84,6 +84,41 @@ fn most_legs(frames: &[Frame], way: Direction, from: u16, to: u16) -> Sums
     sums
 }
 
+/// The bays that a crane goes from one bay on to another.
+fn leg_of(way: Direction, frame: &Frame, from: u16, to: u16) -> Tick
+    requires { IsNear frame.now }
+    ensures bays { result ≡ bays_to way frame.now to - bays_to way frame.now from }
+    ensures bound { result < 2 ^ 18 }
+{
+    bays_to(way, frame, to).saturating_sub(bays_to(way, frame, from))
+}
+
+/// The bays that each crane goes from one bay on to another, where all go as many.
+fn same_leg(frames: &[Frame], way: Direction, from: u16, to: u16) -> Option<Tick>
+    requires { AreNear frames.now }
+    ensures same { IfSome result (λ bays.
+        AreSame (λ f. bays_to way f to - bays_to way f from) bays frames.now) }
+    ensures bound { IfSome result (λ bays. bays < 2 ^ 18) }
+{
+    let bays = leg_of(way, frames.first()?, from, to);
+    for frame in frames {
+        if leg_of(way, frame, from, to) != bays {
+            return None;
+        }
+    }
+    Some(bays)
+}
+
+/// So many times as many bays.
+fn times(cranes: usize, bays: Tick) -> Tick
+    requires cranes { cranes ≤ 8 }
+    requires bays { bays < 2 ^ 18 }
+    ensures bays { result ≡ cranes * bays }
+    ensures bound { result < 2 ^ 24 }
+{
+    cranes as Tick * bays
+}
+
 /// The bays that so many cranes go together from one bay on to another, at the least.
 pub(crate) fn leg(frames: &[Frame], way: Direction, cranes: usize, from: u16, to: u16) -> Tick
     requires few { length frames.now ≤ 8 }
@@ -92,6 +127,9 @@ pub(crate) fn leg(frames: &[Frame], way: Direction, cranes: usize, from: u16, to
     ensures leg { result ≡ fewest cranes (map (λ f. bays_to way f to - bays_to way f from) frames.now) }
     ensures bound { result < 2 ^ 24 }
 {
+    if let Some(bays) = same_leg(frames, way, from, to) {
+        return times(cranes, bays);
+    }
     let sums = most_legs(frames, way, from, to);
     let count = frames.len();
     sums[count] - sums[count - cranes]

@@ -25,10 +25,6 @@ is_unordered ds p = not (is_ordered ds p.first p.second || is_ordered ds p.secon
 abbrev pub unassigned : InstanceView → List Decision → ℕ
 unassigned inst ds = count_by (λ j. is_none (assigned ds j)) (range_with_len 0 (length inst.tasks))
 
--- how many apart pairs have no order
-abbrev pub unordered : InstanceView → List Decision → ℕ
-unordered inst ds = count_by (is_unordered ds) inst.apart
-
 -- all pairs of the first so many tasks, the lower first
 abbrev pairs_below : ℕ → List Pair
 pairs_below zero = []
@@ -87,11 +83,6 @@ less_of pairs ds i j (inr at) one other =
     count_less after (is_unordered ds) (ordered_before ds i j) pairs at.0 (pair_of j i) at.1
     (ap (is_unordered ds) at.2 ∙ either (is_ordered ds j i) (is_ordered ds i j) other one)
     (ap after at.2 ∙ second_of_two (ordered j i) (ordered i j) (ordered_here ds i j))
-
-pub ordered_less : (inst : InstanceView) (ds : List Decision) (i j : ℕ) → IsApart inst i j ⊎ IsApart inst j i
-    → is_ordered ds i j ≡ false → is_ordered ds j i ≡ false
-    → unordered inst (Order i j ∷ ds) + 1 ≤ unordered inst ds
-ordered_less inst ds i j at one other = less_of inst.apart ds i j at one other
 
 -- two tasks that differ are a pair
 pair_below : (n i j : ℕ) → i < j → j < n → Contains (pairs_below n) (pair_of i j)
@@ -153,8 +144,22 @@ orders_count inst = by_turn inst.turn
         omega (arith, count_below n)
 
 -- how many pairs that may get an order have none
-abbrev unordered_left : InstanceView → List Decision → ℕ
+abbrev pub unordered_left : InstanceView → List Decision → ℕ
 unordered_left inst ds = count_by (is_unordered ds) (orders inst)
+
+-- an order more leaves less
+pub order_less : (inst : InstanceView) → Valid inst → (ds : List Decision) (i j : ℕ) → Conflicts inst ds i j
+    → is_ordered ds i j ≡ false → is_ordered ds j i ≡ false
+    → unordered_left inst (Order i j ∷ ds) + 1 ≤ unordered_left inst ds
+order_less inst valid ds i j conflict one other =
+    less_of (orders inst) ds i j (in_orders inst valid ds i j conflict) one other
+
+-- before any decision all tasks are unassigned and all these pairs without an order
+pub none_left : (inst : InstanceView) → unassigned inst [] + unordered_left inst [] ≤ length inst.tasks + order_pairs inst
+none_left inst =
+    let tasks = count_by-le-length (λ (j : ℕ). true) (range_with_len 0 (length inst.tasks)) in
+    let pairs = count_by-le-length (λ (p : Pair). true) (orders inst) in
+    omega (arith, tasks, pairs, orders_count inst, length-range_with_len 0 (length inst.tasks))
 
 pub assigned_less : (inst : InstanceView) (ds : List Decision) (i k : ℕ)
     → i < length inst.tasks → assigned ds i ≡ None
@@ -168,23 +173,13 @@ assigned_less inst ds i k inside none =
     (ap (λ j. is_none (assigned ds j)) at ∙ ap is_none none)
     (ap (λ j. is_none (assigned (Assign i k ∷ ds) j)) at ∙ ap (λ b. is_none (cond b (Some k) (assigned ds i))) (eq-eqb i i refl))
 
--- before any decision all tasks are unassigned and all apart pairs without an order
-pub none_counted : (inst : InstanceView) → unassigned inst [] + unordered inst [] ≤ length inst.tasks + length inst.apart
-none_counted inst =
-    let tasks = count_by-le-length (λ (j : ℕ). true) (range_with_len 0 (length inst.tasks)) in
-    let pairs = count_by-le-length (λ (p : Pair). true) inst.apart in
-    omega (arith, tasks, pairs, length-range_with_len 0 (length inst.tasks))
-
 counted : (inst : InstanceView) → Valid inst → (ds : List Decision) → Fits inst ds
     → length ds + (unassigned inst ds + unordered_left inst ds) ≤ length inst.tasks + order_pairs inst
-counted inst valid [] f =
-    let tasks = count_by-le-length (λ (j : ℕ). true) (range_with_len 0 (length inst.tasks)) in
-    let pairs = count_by-le-length (λ (p : Pair). true) (orders inst) in
-    omega (arith, tasks, pairs, orders_count inst, length-range_with_len 0 (length inst.tasks))
+counted inst valid [] f = omega (arith, none_left inst)
 counted inst valid (Assign i k ∷ ds) f =
     omega (arith, counted inst valid ds f.3, assigned_less inst ds i k f.0 f.2)
 counted inst valid (Order i j ∷ ds) f =
-    omega (arith, counted inst valid ds f.3, less_of (orders inst) ds i j (in_orders inst valid ds i j f.0) f.1 f.2)
+    omega (arith, counted inst valid ds f.3, order_less inst valid ds i j f.0 f.1 f.2)
 
 one_more : (b : Bool) (j : ℕ) (js : List ℕ) → length (cond b (j ∷ js) js) ≤ length js + 1
 one_more true j js = omega arith

@@ -49,6 +49,7 @@ impl Decisions {
 
     /// What cranes ask for that go one way: one crane goes up from the one task to the other, or the lower
     /// of two cranes gives way.
+    #[inline(always)]
     fn upward_ticks(&self, i: u16, v: u16, j: u16, w: u16) -> Option<Tick>
         requires first_task { i < length self.now.inst.tasks }
         requires first_crane { v < length self.now.inst.cranes }
@@ -87,6 +88,7 @@ impl Decisions {
     }
 
     /// What the cranes of two tasks ask for, by the turn of the instance.
+    #[inline(always)]
     fn pair_ticks(&self, i: u16, v: u16, j: u16, w: u16) -> Option<Tick>
         requires first_task { i < length self.now.inst.tasks }
         requires first_crane { v < length self.now.inst.cranes }
@@ -103,6 +105,7 @@ impl Decisions {
     }
 
     /// What the cranes of two tasks ask for, where both are assigned.
+    #[inline(always)]
     fn crane_ticks(&self, i: u16, j: u16) -> Option<Tick>
         requires first { i < length self.now.inst.tasks }
         requires second { j < length self.now.inst.tasks }

@@ -6,11 +6,12 @@ use Rattle.qc_dist.proofs.Assigned.{assigned_here}
 use Rattle.qc_dist.specs.Node.{IsOpen, Node}
 use Rattle.qc_model.specs.declared.decision.Decision.{Decision}
 use Rattle.qc_model.specs.declared.decision.Decision.TheVariants.{Assign}
-use Rattle.qc_model.specs.declared.turn.Turn.TheVariants.{OneWay}
 use Rattle.qc_model.specs.Assignments.{crane_in, no_cranes}
 use Rattle.qc_model.specs.Instance.{InstanceView}
 use Rattle.qc_model.specs.Nodes.{assigned}
+use Rattle.qc_replay.specs.declared.earliest.EarlyStarts.{EarlyStarts}
 use Rattle.qc_replay.specs.Crewed.{WereOpen}
+use Rattle.qc_replay.specs.Earliest.{HasEarly}
 
 -- the crew of a node
 abbrev pub IsCrew : CrewView → Node → Type 0
@@ -22,7 +23,7 @@ with node d = record node { decisions = d ∷ node.decisions }
 
 -- nothing is decided
 pub crew_none : (inst : InstanceView) (crew : CrewView) (node : Node) → node ≡ record { inst = inst; decisions = [] }
-    → crew ≡ record { inst = inst; turn = OneWay; cranes = no_cranes inst } → IsCrew crew node
+    → crew ≡ record { inst = inst; turn = inst.turn; cranes = no_cranes inst } → IsCrew crew node
 crew_none inst crew node none same =
     subst (IsCrew crew) (sym none) (record {
       same = ap (λ (c : CrewView). c.inst) same;
@@ -73,6 +74,13 @@ module _ (node next : Node) (d : Decision) (more : node ≡ with next d) (were :
 
   pub were_open_less : WereOpen next.inst next.decisions
   were_open_less = all_open.1
+
+-- the least starts that are kept, with the newest decision apart
+pub begun_apart : (node next : Node) (d : Decision) → node ≡ with next d → (begun : Option EarlyStarts)
+    → HasEarly node.inst.turn node.inst node.decisions begun
+    → HasEarly next.inst.turn next.inst (d ∷ next.decisions) begun
+begun_apart node next d more begun has =
+    subst (λ (m : Node). HasEarly m.inst.turn m.inst m.decisions begun) more has
 
 module _ (node next : Node) (crew : CrewView) (is : IsCrew crew node) (j k : ℕ)
     (more : node ≡ with next (Assign j k)) (low : j < length next.inst.tasks) where

@@ -263,7 +263,7 @@ module _ (inst : InstanceView) (valid : Valid inst) where
   mapped_few f m few (x ∷ xs) (suc j) = mapped_few f m few xs j
 
   let_few : (o : Option ℕ) (s b : ℕ) → s ≤ b → IfSome o IsStepFew
-      → option_map_or (λ ticks. s + ticks) 0 o ≤ b + (MOST_WORK + MOST_DISTANCE)
+      → option_map_or (λ ticks. s + ticks) o 0 ≤ b + (MOST_WORK + MOST_DISTANCE)
   let_few None s b soon few = omega arith
   let_few (Some n) s b soon few = omega (arith, soon, few)
 
@@ -283,15 +283,23 @@ module _ (inst : InstanceView) (valid : Valid inst) where
   abbrev soon : ℕ
   soon = latest MOST_TASKS
 
-  early_few : (ds : List Decision) → Fits inst ds → (turn : Turn) → IfSome (early_by turn inst ds) (λ begins. (j : ℕ) → begins j ≤ soon)
-  early_few ds fits OneWay = λ j. omega (arith, head_few with_packed ds fits j)
+  -- each task can start by then
+  abbrev IsSoon : (ℕ → ℕ) → Type 0
+  IsSoon begins = (j : ℕ) → begins j ≤ soon
+
+  heads_soon : (ds : List Decision) → Fits inst ds → IsSoon (head inst ds)
+  heads_soon ds fits j = omega (arith, head_few with_packed ds fits j)
+
+  starts_soon : (ds : List Decision) → Fits inst ds → IsSoon (λ j. slice_index (starts_after inst ds (length inst.tasks)) j)
+  starts_soon ds fits j = omega (arith, starts_few ds fits (length inst.tasks) j, valid.tasks.count)
+
+  early_few : (ds : List Decision) → Fits inst ds → (turn : Turn) → IfSome (early_by turn inst ds) IsSoon
+  early_few ds fits OneWay = heads_soon ds fits
   early_few ds fits Free =
       let starts = starts_after inst ds (length inst.tasks) in
       cond_both (is_in_reach inst ds && are_met inst ds starts) (Some starts) None
-      (λ o. IfSome (option_map (λ (s : List ℕ) (j : ℕ). slice_index s j) o) (λ begins. (j : ℕ) → begins j ≤ soon))
-      (λ _ j.
-      let few = starts_few ds fits (length inst.tasks) j in
-      omega (arith, few, valid.tasks.count))
+      (λ (o : Option (List ℕ)). IfSome (option_map (λ (s : List ℕ) (j : ℕ). slice_index s j) o) IsSoon)
+      (λ _. starts_soon ds fits)
       (λ _. tt)
 
   with_first : (o : Option ℕ) (h : ℕ) → h ≤ soon
@@ -300,7 +308,7 @@ module _ (inst : InstanceView) (valid : Valid inst) where
   with_first None h early few = tt
   with_first (Some n) h early few = omega arith
 
-  with_begins : (tasks : List ℕ) (o : Option (ℕ → ℕ)) (p : Option ℕ) → IfSome o (λ begins. (j : ℕ) → begins j ≤ soon)
+  with_begins : (tasks : List ℕ) (o : Option (ℕ → ℕ)) (p : Option ℕ) → IfSome o IsSoon
       → IfSome p (λ n. n ≤ MOST_TASKS * MOST_WORK + MOST_DISTANCE)
       → IfSome (option_map Least (option_and_then (λ begins. option_map (λ ticks. least (map begins tasks) + ticks) p) o)) IsValue
   with_begins tasks None p early few = tt

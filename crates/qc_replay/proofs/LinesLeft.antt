@@ -7,8 +7,6 @@ use Rattle.qc_num.specs.Bounds.{is_bound}
 use Rattle.qc_num.proofs.ReadingLemmas.{same_ok}
 use Rattle.qc_model.specs.declared.decision.Decision.{Decision}
 use Rattle.qc_model.specs.declared.decision.Decision.TheVariants as decide
-use Rattle.qc_model.specs.declared.turn.Turn.{Turn}
-use Rattle.qc_model.specs.declared.turn.Turn.TheVariants.{OneWay, Free}
 use Rattle.qc_model.specs.Instance.{InstanceView}
 use Rattle.qc_model.specs.Leaves.{Version}
 use Rattle.qc_model.specs.Work.{crane_numbers}
@@ -22,7 +20,7 @@ use Rattle.qc_tree.specs.Trees.{Sign, branches, children, leaf, on_pair, on_task
 use Rattle.qc_replay.specs.declared.fault.TreeKind.TheVariants as kind
 use Rattle.qc_replay.specs.Read.{with_line}
 use Rattle.qc_replay.specs.Stages.{lines_left}
-use Rattle.qc_replay.specs.Walk.{Coming, Reading, at_due, down, end, first_lines, node, start, title, up}
+use Rattle.qc_replay.specs.Walk.{Coming, Reading, at_due, down, end, node, title, up}
 use Rattle.qc_replay.proofs.ReadLemmas.{known_due, reading}
 use Rattle.qc_replay.proofs.SignLemmas.{accepted, counts, failed, tested}
 
@@ -85,11 +83,3 @@ fewer_left inst cranes r now seen_line e =
         (sym (ap (λ cs. with_line inst (record r { coming = cs }) seen_line) is) ∙ e) in
         let here = fewer_at inst cranes r.version more r.branched r.bound now c seen_line.line seen_line.list leads.1 in
         omega (arith, here, ap length is)
-
--- before the first line
-pub first_left : (inst : InstanceView) → lines_left (start inst) ≤ 800006
-first_left inst = by_turn inst.turn
-  where
-    by_turn : (turn : Turn) → lines_left (record (start inst) { coming = first_lines turn }) ≤ 800006
-    by_turn OneWay = omega arith
-    by_turn Free = omega arith

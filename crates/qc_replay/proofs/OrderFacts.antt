@@ -1,5 +1,5 @@
 -- Whether the order of two tasks may be branched on: as a test, and as a fact.
-use Rattle.std.proofs.Common.{◌≡◌, ◌↔◌, ℕ, ◌+◌, ◌<◌, Bool, true, false, not, ◌&&◌, ◌||◌, ◌==◌, nat_lt, inl, inr, List, length, Option, None, Some, IsTrue, refl, ap, ap₂, sym, ◌∙◌, arith}
+use Rattle.std.proofs.Common.{◌≡◌, ◌↔◌, ℕ, ◌-◌, ◌<◌, Bool, true, false, not, ◌&&◌, ◌||◌, ◌==◌, nat_lt, inl, inr, List, length, Option, None, Some, IsTrue, refl, ap, ap₂, sym, subst, ◌∙◌, arith}
 use Rattle.std.proofs.lemmas.Bool.{and_from, and_parts, eq-eqb, eqb-true, false_from_ne_true, false≢true, lt-ltb, ltb-true, ne_eqb, not-true, or_cases, or_left, or_right, true≢false}
 use Rattle.qc_model.specs.declared.decision.Decision.{Decision}
 use Rattle.qc_model.specs.declared.turn.Turn.{Turn}
@@ -10,8 +10,9 @@ use Rattle.qc_model.specs.Ticks.{task_distance}
 use Rattle.qc_model.proofs.NodeLemmas.{before_found, one_way_apart}
 use Rattle.qc_tree.specs.Trees.{MayOrderBy}
 use Rattle.qc_tree.proofs.OrderLemmas.{may_conflict, may_order_low}
-use Rattle.qc_replay.specs.Walk.{clash, is_apart, may_order}
-use Rattle.qc_replay.proofs.NodeFacts.{apart_listed}
+use Rattle.qc_dist.specs.Node.{Node}
+use Rattle.qc_replay.specs.Walk.{clash, is_apart, is_number, may_order}
+use Rattle.qc_replay.proofs.NodeFacts.{apart_listed, number_inside}
 
 module _ (inst : InstanceView) (ds : List Decision) (i j : ℕ) where
   -- on two cranes, too near each other
@@ -95,3 +96,25 @@ module _ (inst : InstanceView) (ds : List Decision) (i j : ℕ) where
         sym (false_from_ne_true (may_order inst.turn inst ds i j) (λ t.
         let may = may_of inst.turn refl low high t in
         true≢false (sym (is.1 (may_order_low inst.turn inst v ds i j may, may_conflict inst.turn inst ds i j may)))))
+
+-- two numbers of tasks of which the order may be branched on, told of a node by another name
+pub order_at : (node : Node) (inst : InstanceView) (ds : List Decision) → node ≡ record { inst = inst; decisions = ds }
+    → Valid node.inst → (one other : ℕ) → (is_number node.inst one && is_number node.inst other) ≡ true
+    → may_order node.inst.turn node.inst node.decisions (one - 1) (other - 1) ≡ true
+    → (one - 1 < other - 1) × Conflicts inst ds (one - 1) (other - 1)
+order_at node inst ds is valid one other numbers may =
+    subst (λ (n : Node). (one - 1 < other - 1) × Conflicts n.inst n.decisions (one - 1) (other - 1)) is (
+      may_order_low turn node.inst valid node.decisions (one - 1) (other - 1) found,
+      may_conflict turn node.inst node.decisions (one - 1) (other - 1) found,
+    )
+  where
+    turn : Turn
+    turn = node.inst.turn
+
+    low : (i : ℕ) → is_number node.inst i ≡ true → i - 1 < length node.inst.tasks
+    low i t = ltb-true (i - 1) (length node.inst.tasks) (number_inside node.inst i t)
+
+    found : MayOrderBy turn node.inst node.decisions (one - 1) (other - 1)
+    found =
+        let parts = and_parts (is_number node.inst one) (is_number node.inst other) numbers in
+        may_of node.inst node.decisions (one - 1) (other - 1) turn refl (low one parts.0) (low other parts.1) may

@@ -15,7 +15,6 @@ use Rattle.qc_model.specs.declared.turn.Turn.TheVariants.{OneWay, Free}
 use Rattle.qc_model.specs.Instance.{InstanceView, Valid}
 use Rattle.qc_model.specs.Leaves.{Version, with_berths, with_packed, without_berths}
 use Rattle.qc_model.specs.Numbers.{most_branchings}
-use Rattle.qc_model.specs.OneWay.{mirror}
 use Rattle.qc_model.specs.Rules.{ends}
 use Rattle.qc_model.specs.Seen.{seen}
 use Rattle.qc_tree.specs.declared.line.Line.{Line}
@@ -67,7 +66,7 @@ known_due inst r c l list now e = tested (is_known inst.turn l) kind.Spelling (�
 -- a line that trees for this turn don't have
 unknown : {C : Type 0} (inst : InstanceView) (turn : Turn) (l : Line) → inst.turn ≡ turn → is_known turn l ≡ false
     → is_known inst.turn l ≡ true → C
-unknown inst turn l same no yes = absurd (true≢false (sym yes ∙ ap (λ t. is_known t l) same ∙ no))
+unknown inst turn l same not_known known = absurd (true≢false (sym known ∙ ap (λ t. is_known t l) same ∙ not_known))
 
 module _ (inst : InstanceView) (last : Reading) (over : last.coming ≡ []) where
   -- ---- a line around the parts

@@ -1,5 +1,5 @@
 -- The text of every tree is read, and shows the tree's value.
-use Rattle.std.proofs.Common.{◌≡◌, ℕ, zero, suc, ◌+◌, ◌<◌, ◌≤◌, ◌^◌, true, ◌==◌, inl, inr, List, [], ◌∷◌, ◌++◌, length, map, Option, None, Some, IfSome, refl, ap, ap₂, sym, subst, ◌∙◌, arith, Ok, decimal, unwrap_or}
+use Rattle.std.proofs.Common.{◌≡◌, ℕ, zero, suc, ◌+◌, ◌<◌, ◌≤◌, ◌^◌, true, ◌==◌, List, [], ◌∷◌, ◌++◌, length, map, Option, None, Some, IfSome, refl, ap, ap₂, sym, subst, ◌∙◌, arith, Ok, decimal, unwrap_or}
 use Rattle.std.specs.List.{range_with_len, slice_split}
 use Rattle.std.proofs.lemmas.Bool.{eq-eqb, lt-ltb}
 use Rattle.std.proofs.lemmas.Fmt.{length-decimal-le}
@@ -111,14 +111,14 @@ known_sign OneWay (leaf (chain tasks)) = refl
 known_sign OneWay (leaf (ring tasks)) = refl
 known_sign OneWay (leaf (packed tasks)) = refl
 known_sign OneWay (leaf reach) = refl
-known_sign OneWay (leaf (work end)) = refl
+known_sign OneWay (leaf (work tick)) = refl
 known_sign OneWay (trees.on_task j) = refl
 known_sign OneWay (trees.on_pair i j) = refl
 known_sign Free (leaf (chain tasks)) = refl
 known_sign Free (leaf (ring tasks)) = refl
 known_sign Free (leaf (packed tasks)) = refl
 known_sign Free (leaf reach) = refl
-known_sign Free (leaf (work end)) = refl
+known_sign Free (leaf (work tick)) = refl
 known_sign Free (trees.on_task j) = refl
 known_sign Free (trees.on_pair i j) = refl
 

@@ -1,29 +1,22 @@
 -- A line that is taken at each stage.
-use Rattle.std.proofs.Common.{◌≡◌, ℕ, Bool, true, false, List, [], ◌∷◌, ◌++◌, map, Option, None, Some, Result, Err, refl, ap, sym, subst, ◌∙◌, if◌then◌else◌}
-use Rattle.std.proofs.lemmas.Bool.{true≢false}
+use Rattle.std.proofs.Common.{◌≡◌, ℕ, true, false, List, [], ◌∷◌, ◌++◌, map, Option, None, Some, Result, Err, refl, ap, sym, ◌∙◌, if◌then◌else◌}
 use Rattle.qc_num.specs.Reading.{◌>>=◌, require}
 use Rattle.qc_dist.specs.Children.{behind}
-use Rattle.qc_model.specs.declared.direction.Direction.{Direction}
 use Rattle.qc_model.specs.declared.direction.Direction.TheVariants as way
-use Rattle.qc_model.specs.declared.turn.Turn.{Turn}
-use Rattle.qc_model.specs.declared.turn.Turn.TheVariants.{OneWay, Free}
 use Rattle.qc_model.specs.Instance.{InstanceView}
-use Rattle.qc_model.specs.Seen.{seen}
-use Rattle.qc_num.specs.declared.bound.Bound.TheVariants.{Never}
 use Rattle.qc_tree.specs.declared.line.Line.{Line}
 use Rattle.qc_tree.specs.LineIn.{Listed}
 use Rattle.qc_replay.specs.declared.fault.TreeKind.{TreeKind}
 use Rattle.qc_replay.specs.declared.fault.TreeKind.TheVariants as kind
 use Rattle.qc_replay.specs.declared.leaf.TreeVersion.{TreeVersion}
-use Rattle.qc_replay.specs.declared.leaf.TreeVersion.TheVariants.{WithPacked}
 use Rattle.qc_replay.specs.declared.node.Tally.{Tally}
 use Rattle.qc_replay.specs.declared.walk.Stage.{Stage}
 use Rattle.qc_replay.specs.declared.walk.Stage.TheVariants.{Title, Up, Part, Done}
 use Rattle.qc_replay.specs.declared.walk.Walk.TheInside.{Inside}
 use Rattle.qc_replay.specs.Part.{IsJudged, Standing, nodes, version_of}
 use Rattle.qc_replay.specs.Read.{with_known, with_line}
-use Rattle.qc_replay.specs.Stages.{IsKeptWalk, WalkView, behind_part, behind_title, is_over, leading, none_due, reading_at, second_root, walk_of, word_of}
-use Rattle.qc_replay.specs.Walk.{Coming, Reading, at_due, at_node, came, down, end, first_lines, is_known, next_of, node, start, title}
+use Rattle.qc_replay.specs.Stages.{IsKeptWalk, WalkView, behind_part, behind_title, leading, reading_at, walk_of, word_of}
+use Rattle.qc_replay.specs.Walk.{Reading, at_due, at_node, came, end, is_known, next_of, node, title}
 use Rattle.qc_replay.proofs.NodeFacts.{nodes_here}
 
 -- a fault that is handed on
@@ -35,48 +28,11 @@ handed_on f g result out why e h = ap (leading f) e ∙ sym (ap (leading g) h)
 pub none_left : (s : Standing) → s.live ≡ false → nodes s ≡ []
 none_left s over = ap (λ b. if b then s.decisions ∷ behind s.inst s.decisions else []) over
 
--- ---- a line that trees for the turn have, or not
-
-module _ (inst : InstanceView) (r : Reading) (taken : Listed) where
-  -- nothing may come any more
-  pub after_all : is_over r ≡ true → with_line inst r taken ≡ Err kind.After
-  after_all over = by_coming r.coming refl over
-    where
-      by_coming : (coming : List Coming) → r.coming ≡ coming → none_due coming ≡ true → with_line inst r taken ≡ Err kind.After
-      by_coming [] is none = ap (λ cs. with_line inst (record r { coming = cs }) taken) is
-      by_coming (c ∷ more) is none = absurd (true≢false (sym none))
-
-  abbrev tested_line : Bool → Coming → Result Reading TreeKind
-  tested_line known c = require known kind.Spelling >>= λ _. at_due inst r c taken.line taken.list
-
-  pub unknown_line : is_over r ≡ false → is_known inst.turn taken.line ≡ false → with_line inst r taken ≡ Err kind.Spelling
-  unknown_line due unknown = by_coming r.coming refl due
-    where
-      by_coming : (coming : List Coming) → r.coming ≡ coming → none_due coming ≡ false → with_line inst r taken ≡ Err kind.Spelling
-      by_coming [] is none = absurd (true≢false none)
-      by_coming (c ∷ more) is none =
-          ap (λ cs. next_of cs >>= tested_line (is_known inst.turn taken.line)) is
-          ∙ ap (λ known. tested_line known c) unknown
-
-  pub known_line : is_known inst.turn taken.line ≡ true → with_line inst r taken ≡ with_known inst r taken
-  known_line known = ap (λ k. next_of r.coming >>= tested_line k) known
-
--- the first reading
-pub start_is : (inst : InstanceView) (first : Standing) → first ≡ record { inst = inst; decisions = []; live = true }
-    → (second : Option Standing) → second ≡ second_root inst.turn inst
-    → reading_at Title WithPacked way.Up first second (record { branched = 0; bound = Never }) ≡ start inst
-start_is inst first is second both =
-    ap (λ (f : Standing). reading_at Title WithPacked way.Up f second (record { branched = 0; bound = Never })) is
-    ∙ ap (λ (s : Option Standing). reading_at Title WithPacked way.Up (record { inst = inst; decisions = []; live = true }) s
-    (record { branched = 0; bound = Never })) both
-    ∙ by_turn inst.turn
-  where
-    by_turn : (turn : Turn)
-        → ◌≡◌ {A = Reading} (reading_at Title WithPacked way.Up (record { inst = inst; decisions = []; live = true })
-        (second_root turn inst) (record { branched = 0; bound = Never }))
-        (record (start inst) { coming = first_lines turn })
-    by_turn OneWay = refl
-    by_turn Free = refl
+-- a line that trees for the turn have
+pub known_line : (inst : InstanceView) (r : Reading) (taken : Listed) → is_known inst.turn taken.line ≡ true
+    → with_line inst r taken ≡ with_known inst r taken
+known_line inst r taken known =
+    ap (λ k. next_of r.coming >>= λ c. require k kind.Spelling >>= λ _. at_due inst r c taken.line taken.list) known
 
 -- ---- at each stage
 
@@ -129,6 +85,14 @@ module _ (w : Inside) (old : WalkView) (is : walk_of w ≡ old) (kept : IsKeptWa
   down_taken stage over second which result judged =
       behind_last stage over (Some second) which
       ∙ judged w.inst (record (here Part) { coming = behind_part (Some second) }) list
+
+  -- the walk with the second part in the place of the first
+  pub down_read : w.stage ≡ Part → (second part : Standing) → part ≡ second → (after : Option Standing) → after ≡ None
+      → reading_at Part w.version way.Down second None w.tally ≡ reading_at w.stage w.version way.Down part after w.tally
+  down_read stage second part same after none =
+      ap (λ s. reading_at s w.version way.Down second None w.tally) (sym stage)
+      ∙ ap (λ p. reading_at w.stage w.version way.Down p None w.tally) (sym same)
+      ∙ ap (λ o. reading_at w.stage w.version way.Down part o w.tally) (sym none)
 
   pub end_taken : w.stage ≡ Part → w.part.live ≡ false → w.second ≡ None → {A : Type 0} (result : Result A TreeKind)
       → ((inst : InstanceView) (r : Reading) (list : List ℕ) → r.branched ≡ w.tally.branched → r.bound ≡ w.tally.bound

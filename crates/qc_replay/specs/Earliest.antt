@@ -39,5 +39,5 @@ IsEnded early false =
 -- the least start of the first of some tasks
 pub record IsFirstStart (inst : InstanceView) (ds : List Decision) (tasks : List ℕ) (tick : ℕ) : Type 0 where
   pub starts : List ℕ
-  pub least : AreLeast inst ds starts
+  pub are : AreLeast inst ds starts
   pub is : tick ≡ least (map (start_in starts) tasks)

@@ -68,11 +68,12 @@ impl EarlyStarts {
         requires open { IsOpen node.now.inst node.now.decisions decision }
         ensures { AreEarly node.now.inst (decision ∷ node.now.decisions) self.new }
     {
+        let inst = node.instance();
         if self.are_none() {
             self.past += 1;
             return;
         }
-        if !is_reached(node.instance(), decision) {
+        if !is_reached(inst, decision) {
             self.past += 1;
             return;
         }
@@ -118,6 +119,7 @@ impl EarlyStarts {
             (least_starts node.now.inst node.now.decisions) }
         ensures bound { IfSome result (λ tick. tick ≤ most_start) }
     {
+        let _inst = node.instance();
         if self.are_none() {
             None
         } else {
@@ -127,7 +129,10 @@ impl EarlyStarts {
 }
 
 /// The least starts of the root of a part, where cranes go as they like.
-pub(crate) fn early_first(alloc: Global, inst: &Instance) -> Result<Option<EarlyStarts>, OutOfMemory>
+pub(crate) fn early_first(
+    alloc: Global,
+    inst: &Instance,
+) -> Result<Option<EarlyStarts>, OutOfMemory>
     ensures { IfOk result (HasEarly inst.now.turn inst.now []) }
 {
     match inst.turn() {
@@ -136,39 +141,29 @@ pub(crate) fn early_first(alloc: Global, inst: &Instance) -> Result<Option<Early
     }
 }
 
-/// The same with one decision more than a node has.
-pub(crate) fn early_with(
-    begun: Option<EarlyStarts>,
-    node: &Decisions,
-    decision: Decision,
-) -> Option<EarlyStarts>
-    requires begun { HasEarly node.now.inst.turn node.now.inst node.now.decisions begun }
+/// Decides one thing more at a node.
+pub(crate) fn begun_more(begun: &mut Option<EarlyStarts>, node: &Decisions, decision: Decision)
+    requires begun { HasEarly node.now.inst.turn node.now.inst node.now.decisions begun.old }
     requires were_open { WereOpen node.now.inst node.now.decisions }
     requires open { IsOpen node.now.inst node.now.decisions decision }
-    ensures { HasEarly node.now.inst.turn node.now.inst (decision ∷ node.now.decisions) result }
+    ensures { HasEarly node.now.inst.turn node.now.inst (decision ∷ node.now.decisions) begun.new }
 {
     match begun {
-        None => None,
-        Some(mut starts) => {
-            starts.add(node, decision);
-            Some(starts)
-        }
+        None => {}
+        Some(starts) => starts.add(node, decision),
     }
 }
 
-/// The same without the newest decision, which leaves the node.
-pub(crate) fn early_without(begun: Option<EarlyStarts>, node: &Decisions) -> Option<EarlyStarts>
+/// Takes the newest decision back, which leaves the node.
+pub(crate) fn begun_less(begun: &mut Option<EarlyStarts>, node: &Decisions)
     requires { (d : Decision)
-        × HasEarly node.now.inst.turn node.now.inst (d ∷ node.now.decisions) begun }
-    ensures { (d : Decision) → HasEarly node.now.inst.turn node.now.inst (d ∷ node.now.decisions) begun
-        → HasEarly node.now.inst.turn node.now.inst node.now.decisions result }
+        × HasEarly node.now.inst.turn node.now.inst (d ∷ node.now.decisions) begun.old }
+    ensures { (d : Decision) → HasEarly node.now.inst.turn node.now.inst (d ∷ node.now.decisions) begun.old
+        → HasEarly node.now.inst.turn node.now.inst node.now.decisions begun.new }
 {
     match begun {
-        None => None,
-        Some(mut starts) => {
-            starts.undo(node);
-            Some(starts)
-        }
+        None => {}
+        Some(starts) => starts.undo(node),
     }
 }
 

@@ -220,6 +220,7 @@ fn on_task(
 /// Whether the order of two tasks may be branched on: the lower is first, and they are apart or, where
 /// cranes go as they like, can't run at the same time on their cranes.
 fn may_order(node: &Decisions, first: u16, second: u16) -> bool
+    requires valid { Valid node.now.inst }
     requires first { first < length node.now.inst.tasks }
     requires second { second < length node.now.inst.tasks }
     ensures { result ≡ may_order node.now.inst.turn node.now.inst node.now.decisions first second }
@@ -280,7 +281,14 @@ fn on_leaf(
     ensures inst { descent.new.inst ≡ descent.old.inst }
     ensures judged { IsJudged version descent.old tally line numbers.now descent.new result }
 {
-    match leaf_bound(descent.node(), descent.crew(), descent.begun(), version, line, numbers) {
+    match leaf_bound(
+        descent.node(),
+        descent.crew(),
+        descent.begun(),
+        version,
+        line,
+        numbers,
+    ) {
         Ok(value) => {
             descent.leave();
             Ok(Tally {

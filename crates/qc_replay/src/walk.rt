@@ -162,16 +162,23 @@ impl Walk {
                         Ok(())
                     }
                     Some(second) => {
-                        let word = expect_word(Direction::Down, line);
-                        self.part = second;
+                        expect_word(Direction::Down, line)?;
                         self.way = Direction::Down;
-                        word
+                        go_on_with(&mut self.part, second);
+                        Ok(())
                     }
                 }
             }
             Stage::Done => Err(TreeKind::After),
         }
     }
+}
+
+/// Puts the second part in the place of the first.
+fn go_on_with(part: &mut Descent, second: Descent)
+    ensures { part.new ≡ second }
+{
+    *part = second;
 }
 
 /// What stands before the line behind the title: only where there are two parts do words begin them.

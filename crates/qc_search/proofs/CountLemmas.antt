@@ -1,29 +1,34 @@
 -- No tree has more branchings than what is left to decide allows.
-use Rattle.std.proofs.Common.{◌≡◌, ℕ, suc, ◌+◌, ◌-◌, ◌*◌, ◌^◌, ◌<◌, ◌≤◌, cond, max, List, [], ◌∷◌, ◌++◌, length, map, inl, inr, ap, ◌∙◌, arith, mul-le-mul_left, sum_by}
+use Rattle.std.proofs.Common.{◌≡◌, ℕ, suc, ◌+◌, ◌-◌, ◌*◌, ◌^◌, ◌<◌, ◌≤◌, cond, max, List, [], ◌∷◌, ◌++◌, length, map, ◌/◌, refl, ap, ap₂, ◌∙◌, arith, mul-le-mul_left, sum_by}
 use Rattle.std.proofs.Math.Nat.{mul_comm, one-le-pow, pow-le-pow_right, pow-suc, suc-mul}
 use Rattle.std.proofs.lemmas.List.FromFn.{length-range_with_len}
 use Rattle.std.proofs.lemmas.List.Sums.{sum_by-append, sum_by-cons}
-use Rattle.qc_model.proofs.NodeLemmas.{unsettled_unordered}
-use Rattle.qc_dist.proofs.Room.{assigned_less, none_counted, ordered_less, unassigned, unordered}
+use Rattle.qc_model.proofs.NodeLemmas.{conflict_turned, unsettled_unordered}
+use Rattle.qc_dist.proofs.Room.{assigned_less, none_left, order_less, unassigned, unordered_left}
 use Rattle.qc_model.specs.declared.decision.Decision.{Decision}
 use Rattle.qc_model.specs.declared.decision.Decision.TheVariants as decide
 use Rattle.qc_model.specs.declared.direction.Direction.TheVariants.{Down}
-use Rattle.qc_model.specs.Instance.{InstanceView}
+use Rattle.qc_model.specs.declared.turn.Turn.{Turn}
+use Rattle.qc_model.specs.declared.turn.Turn.TheVariants.{OneWay, Free}
+use Rattle.qc_model.specs.Instance.{InstanceView, Valid}
 use Rattle.qc_model.specs.Leaves.{Version}
+use Rattle.qc_model.specs.Nodes.{order_pairs, order_pairs_by}
 use Rattle.qc_model.specs.Work.{crane_numbers}
 use Rattle.qc_model.specs.OneWay.{mirror}
+use Rattle.qc_model.proofs.MirrorLemmas.{seen_valid}
 use Rattle.qc_model.proofs.SeenLemmas.{seen-crane_count, seen-task_count}
-use Rattle.qc_tree.specs.Trees.{Holds, IsPart, IsTree, Leads, Node, Sign, Tree, branches, branchings, children, leaf, on_pair, on_task, tree_branchings}
+use Rattle.qc_tree.proofs.OrderLemmas.{may_conflict}
+use Rattle.qc_tree.specs.Trees.{Holds, IsPart, IsSecond, IsTree, Leads, Node, Sign, Tree, branches, branchings, children, leaf, on_pair, on_task, tree_branchings}
 use Rattle.qc_search.specs.Run.{branching_limit}
 
 -- of base parts, each with room for q branchings, one is left over for the branching itself
 more_base : (base n q : ℕ) → base ^ n ≡ suc q → base ^ suc n ≡ q * base + base
 more_base base n q e = pow-suc base n ∙ ap (λ x. x * base) e ∙ suc-mul q base
 
-module _ (inst : InstanceView) (version : Version) (base : ℕ) (two : 2 ≤ base) (cranes : length inst.cranes ≤ base) where
+module _ (inst : InstanceView) (v : Valid inst) (version : Version) (base : ℕ) (two : 2 ≤ base) (cranes : length inst.cranes ≤ base) where
   -- how much is left to decide
   abbrev open_count : List Decision → ℕ
-  open_count ds = unassigned inst ds + unordered inst ds
+  open_count ds = unassigned inst ds + unordered_left inst ds
 
   -- how many branchings a part of this node has at most
   abbrev room : List Decision → ℕ
@@ -66,8 +71,9 @@ module _ (inst : InstanceView) (version : Version) (base : ℕ) (two : 2 ≤ bas
   step_room ds (on_pair i j) holds =
       let n = open_count ds - 1 in
       let un = unsettled_unordered inst ds i j holds.1 in
-      let first = ordered_less inst ds i j (inl holds.0) un.0 un.1 in
-      let second = ordered_less inst ds j i (inr holds.0) un.1 un.0 in
+      let conflict = may_conflict inst.turn inst ds i j holds.0 in
+      let first = order_less inst v ds i j conflict un.0 un.1 in
+      let second = order_less inst v ds j i (conflict_turned inst ds i j conflict) un.1 un.0 in
       let q = base ^ n - 1 in
       let one = decide.Order i j ∷ ds in
       let other = decide.Order j i ∷ ds in
@@ -99,22 +105,45 @@ module _ (inst : InstanceView) (version : Version) (base : ℕ) (two : 2 ≤ bas
       )
 
   pub few_in_part : (nodes : List Node) → IsPart version inst nodes
-      → branchings nodes + 1 ≤ base ^ (length inst.tasks + length inst.apart)
+      → branchings nodes + 1 ≤ base ^ (length inst.tasks + order_pairs inst)
   few_in_part nodes is =
-      let n = length inst.tasks + length inst.apart in
+      let n = length inst.tasks + order_pairs inst in
       omega (
         arith,
         few nodes ([] ∷ []) [] is,
         sum_by-cons room [] [],
-        less_room n [] (omega (arith, none_counted inst)),
+        less_room n [] (omega (arith, none_left inst)),
         some n,
       )
 
+-- the mirror has as many pairs that may get an order
+mirror_pairs : (inst : InstanceView) → order_pairs (mirror inst) ≡ order_pairs inst
+mirror_pairs inst = by_turn inst.turn
+  where
+    by_turn : (turn : Turn) → order_pairs_by turn (mirror inst) ≡ order_pairs_by turn inst
+    by_turn OneWay = refl
+    by_turn Free = ap (λ (n : ℕ). n * (n - 1) / 2) (seen-task_count inst Down)
+
+-- the second part has fewer branchings than half the limit
+few_in_second : (inst : InstanceView) → Valid inst → (version : Version) (base : ℕ) → 2 ≤ base → length inst.cranes ≤ base
+    → (nodes : List Node) → IsSecond inst.turn inst version nodes
+    → branchings nodes + 1 ≤ base ^ (length inst.tasks + order_pairs inst)
+few_in_second inst v version base two cranes nodes is = by_turn inst.turn is
+  where
+    by_turn : (turn : Turn) → IsSecond turn inst version nodes → branchings nodes + 1 ≤ base ^ (length inst.tasks + order_pairs inst)
+    by_turn OneWay part =
+        let same = seen-crane_count inst Down in
+        let n = few_in_part (mirror inst) (seen_valid inst v Down) version base two (omega (arith, same, cranes)) nodes part in
+        omega (arith, n, ap₂ (λ (m k : ℕ). base ^ (m + k)) (seen-task_count inst Down) (mirror_pairs inst))
+    by_turn Free none =
+        let some = one-le-pow (length inst.tasks + order_pairs inst) base (omega (arith, two)) in
+        omega (arith, ap branchings none.1, some)
+
 -- a tree has fewer branchings than the limit
-pub few_in_tree : (inst : InstanceView) (tree : Tree) → IsTree inst tree → tree_branchings tree < branching_limit inst
-few_in_tree inst tree is =
+pub few_in_tree : (inst : InstanceView) → Valid inst → (tree : Tree) → IsTree inst tree
+    → tree_branchings tree < branching_limit inst
+few_in_tree inst v tree is =
     let base = max 2 (length inst.cranes) in
-    let up = few_in_part inst tree.version base (omega arith) (omega arith) tree.up is.up in
-    let same = seen-crane_count inst Down in
-    let down = few_in_part (mirror inst) tree.version base (omega arith) (omega (arith, same)) tree.down is.down in
-    omega (arith, up, down, ap (λ n. base ^ (n + length inst.apart)) (seen-task_count inst Down))
+    let up = few_in_part inst v tree.version base (omega arith) (omega arith) tree.up is.up in
+    let down = few_in_second inst v tree.version base (omega arith) (omega arith) tree.down is.down in
+    omega (arith, up, down)

@@ -1,24 +1,24 @@
 -- What a schedule decides asks for no less than a complete node that it is of.
 use Rattle.std.proofs.Common.{◌≡◌, ℕ, zero, suc, ◌+◌, ◌<◌, ◌≤◌, ◌⊎◌, inl, inr, Bool, true, false, eqb, ◌&&◌, List, [], ◌∷◌, ◌++◌, length, map, Contains, Option, None, Some, IfSome, IsSome, refl, ap, ap₂, sym, subst, subst₂, ◌∙◌, arith, nat_le, slice_index, slice_index_or}
+use Rattle.std.proofs.lemmas.Option.{same_Some}
 use Rattle.std.proofs.lemmas.Bool.{and_parts, cond-true, cond_both, eq-eqb, eqb-true, false≢true, le-leb, leb-true, or_cases, or_left, or_right}
 use Rattle.std.specs.List.{range_with_len}
 use Rattle.qc_model.specs.declared.decision.Decision.{Decision}
 use Rattle.qc_model.specs.declared.decision.Decision.TheVariants.{Assign, Order}
-use Rattle.qc_model.specs.declared.direction.Direction.{Direction}
-use Rattle.qc_model.specs.declared.direction.Direction.TheVariants.{Up, Down}
 use Rattle.qc_model.specs.declared.pair.Pair.{Pair}
 use Rattle.qc_model.specs.declared.schedule.Slot.{Slot}
-use Rattle.qc_model.specs.declared.turn.Turn.TheVariants.{OneWay}
-use Rattle.qc_model.specs.Instance.{InstanceView, IsApart, Valid, pair_of, ticks_of}
+use Rattle.qc_model.specs.declared.turn.Turn.{Turn}
+use Rattle.qc_model.specs.declared.turn.Turn.TheVariants.{OneWay, Free}
+use Rattle.qc_model.specs.Frames.{GoesBy}
+use Rattle.qc_model.specs.Instance.{InstanceView, Valid, pair_of, ticks_of}
 use Rattle.qc_model.specs.Work.{task_numbers}
-use Rattle.qc_model.specs.Nodes.{Agrees, AreLeast, Fits, IsComplete, IsInReach, Meets, assigned, crane_ticks, forced, free, head_by, is_before, is_ordered, is_sooner, pair_ticks, schedule_with, sooner_ticks}
-use Rattle.qc_model.specs.OneWay.{GoesUp}
+use Rattle.qc_model.specs.Nodes.{Agrees, AreLeast, Conflicts, Fits, IsComplete, IsInReach, Meets, assigned, crane_ticks, forced, free, head_by, is_before, is_ordered, is_sooner, pair_ticks, schedule_with, sooner_ticks}
 use Rattle.qc_model.specs.Rules.{IsClear, crane_of, end_of, start_of, starts}
-use Rattle.qc_model.specs.Seen.{seen}
-use Rattle.qc_model.proofs.CompleteNodes.{agrees_with, goes_with, greater_first, greater_second, starts_with}
-use Rattle.qc_model.proofs.NodeLemmas.{IsStep, assigned_is, greater_keeps, if_some, meets_of, one_way_apart, ordered_is}
-use Rattle.qc_dist.proofs.Assigned.{ordered_here}
-use Rattle.qc_starts.specs.Tight.{decided_by, order_in}
+use Rattle.qc_model.proofs.CompleteNodes.{agrees_with, goes_least, greater_first, greater_second, starts_with}
+use Rattle.qc_model.proofs.NodeLemmas.{IsStep, assigned_is, greater_keeps, if_some, meets_by, ordered_is}
+use Rattle.qc_dist.proofs.Assigned.{assigned_other, ordered_here}
+use Rattle.qc_starts.specs.Tight.{decided_by, order_in, ordered_pairs}
+use Rattle.qc_search.proofs.PairLemmas.{conflict_listed, ordered_clear, ordered_rise}
 
 pub some_is : (o : Option ℕ) (k : ℕ) → IsSome o → IfSome o (λ v. k ≡ v) → o ≡ Some k
 some_is None k some is = absurd (false≢true some)
@@ -63,12 +63,12 @@ module _ (inst : InstanceView) (sched : List Slot) where
   cranes_agree [] ds h = h
   cranes_agree (k ∷ ks) ds h = (refl, cranes_agree ks ds h)
 
-  pub decided_agrees : GoesUp inst sched → ((i j : ℕ) → IsApart inst i j → (i < length inst.tasks) × (j < length inst.tasks))
-      → Agrees inst (decided_by inst sched) sched
-  decided_agrees g range =
-      cranes_agree (task_numbers inst) (orders inst.apart)
-      (orders_agree inst.apart (λ p c.
-      let r = range p.first p.second c in g.feasible.apart p.first p.second r.0 r.1 c))
+  abbrev pairs : List Pair
+  pairs = ordered_pairs inst.turn inst sched
+
+  pub decided_agrees : Valid inst → GoesBy inst.turn inst sched → Agrees inst (decided_by inst sched) sched
+  decided_agrees v g =
+      cranes_agree (task_numbers inst) (orders pairs) (orders_agree pairs (ordered_clear inst v sched g))
 
   -- ---- what it decides
 
@@ -88,7 +88,7 @@ module _ (inst : InstanceView) (sched : List Slot) where
       other f e = false≢true (sym f ∙ eq-eqb a j e)
 
   pub decided_crane : (j : ℕ) → j < length inst.tasks → assigned (decided_by inst sched) j ≡ Some (crane_of sched j)
-  decided_crane j low = assigned_in 0 (length inst.tasks) (orders inst.apart) j (omega arith) (omega arith)
+  decided_crane j low = assigned_in 0 (length inst.tasks) (orders pairs) j (omega arith) (omega arith)
 
   behind_cranes : (ks : List ℕ) (ds : List Decision) (i j : ℕ) → is_ordered ds i j ≡ true
       → is_ordered (map on_crane ks ++ ds) i j ≡ true
@@ -104,13 +104,13 @@ module _ (inst : InstanceView) (sched : List Slot) where
   ordered_at (q ∷ qs) (suc k) p low e i j is =
       ordered_more (order_in inst sched q) (orders qs) i j (ordered_at qs k p (omega (arith, low)) e i j is)
 
-  ordered_as : (p : Pair) → Contains inst.apart p → (i j : ℕ) → order_in inst sched p ≡ Order i j
+  ordered_as : (p : Pair) → Contains pairs p → (i j : ℕ) → order_in inst sched p ≡ Order i j
       → is_ordered (decided_by inst sched) i j ≡ true
   ordered_as p c i j is =
-      behind_cranes (task_numbers inst) (orders inst.apart) i j (ordered_at inst.apart c.0 p c.1 c.2 i j is)
+      behind_cranes (task_numbers inst) (orders pairs) i j (ordered_at pairs c.0 p c.1 c.2 i j is)
 
   -- a pair that the schedule has in this order is so decided
-  pub decided_order : Valid inst → (i j : ℕ) → IsApart inst i j ⊎ IsApart inst j i
+  pub decided_order : Valid inst → (i j : ℕ) → Contains pairs (pair_of i j) ⊎ Contains pairs (pair_of j i)
       → end_of inst sched i ≤ start_of sched j → is_ordered (decided_by inst sched) i j ≡ true
   decided_order v i j (inl a) first =
       ordered_as (pair_of i j) a i j
@@ -124,36 +124,87 @@ module _ (inst : InstanceView) (sched : List Slot) where
     where
       both_first : end_of inst sched j ≤ start_of sched i → ⊥
       both_first second =
-          let r = v.apart.range j i a in
+          let r = ordered_rise inst v sched (pair_of j i) a in
           let one = v.tasks.ticks i r.1 in
           omega (arith, first, second, one)
 
--- the mirror leaves the turn as it is
-pub seen_one_way : (home : InstanceView) → home.turn ≡ OneWay → (way : Direction) → (seen home way).turn ≡ OneWay
-seen_one_way home one Up = one
-seen_one_way home one Down = one
+-- ---- what is ordered conflicts, still
 
--- where cranes go one way they ask for the same whatever the order
-same_asked : (inst : InstanceView) → inst.turn ≡ OneWay → (s r : Bool) (i j : ℕ) (p q : Option ℕ)
-    → crane_ticks inst s i j p q ≡ crane_ticks inst r i j p q
-same_asked inst one s r i j None q = refl
-same_asked inst one s r i j (Some v) None = refl
-same_asked inst one s r i j (Some v) (Some w) =
-    ap (λ turn. pair_ticks turn inst s i v j w) one ∙ sym (ap (λ turn. pair_ticks turn inst r i v j w) one)
+conflict_ordered : (inst : InstanceView) (ds : List Decision) (h k i j : ℕ) → Conflicts inst ds i j
+    → Conflicts inst (Order h k ∷ ds) i j
+conflict_ordered inst ds h k i j (inl at) = inl at
+conflict_ordered inst ds h k i j (inr clash) = inr (record {
+  free = clash.free;
+  first = clash.first;
+  second = clash.second;
+  differ = clash.differ;
+  first_crane = clash.first_crane;
+  second_crane = clash.second_crane;
+  of_first = clash.of_first;
+  of_second = clash.of_second;
+  near = clash.near;
+})
+
+none_some : (o : Option ℕ) (k : ℕ) → o ≡ None → o ≡ Some k → ⊥
+none_some o k e f = cc
+
+conflict_assigned : (inst : InstanceView) (ds : List Decision) (h k i j : ℕ) → assigned ds h ≡ None → Conflicts inst ds i j
+    → Conflicts inst (Assign h k ∷ ds) i j
+conflict_assigned inst ds h k i j none (inl at) = inl at
+conflict_assigned inst ds h k i j none (inr clash) = inr (record {
+  free = clash.free;
+  first = clash.first;
+  second = clash.second;
+  differ = clash.differ;
+  first_crane = clash.first_crane;
+  second_crane = clash.second_crane;
+  of_first = assigned_other ds h k i (other i clash.first_crane clash.of_first) ∙ clash.of_first;
+  of_second = assigned_other ds h k j (other j clash.second_crane clash.of_second) ∙ clash.of_second;
+  near = clash.near;
+})
+  where
+    other : (t v : ℕ) → assigned ds t ≡ Some v → ¬ (h ≡ t)
+    other t v is e = none_some (assigned ds t) v (subst (λ (n : ℕ). assigned ds n ≡ None) e none) is
+
+pub ordered_conflicts : (inst : InstanceView) (ds : List Decision) → Fits inst ds → (i j : ℕ) → is_ordered ds i j ≡ true
+    → Conflicts inst ds i j
+ordered_conflicts inst [] fits i j t = absurd (false≢true t)
+ordered_conflicts inst (Assign h k ∷ ds) fits i j t =
+    conflict_assigned inst ds h k i j fits.2 (ordered_conflicts inst ds fits.3 i j t)
+ordered_conflicts inst (Order h k ∷ ds) fits i j t = elim (or_cases (eqb h i && eqb k j) (is_ordered ds i j) t) [
+  | inl e ↦
+      let p = and_parts (eqb h i) (eqb k j) e in
+      conflict_ordered inst ds h k i j (subst₂ (Conflicts inst ds) (eqb-true h i p.0) (eqb-true k j p.1) fits.0)
+  | inr e ↦ conflict_ordered inst ds h k i j (ordered_conflicts inst ds fits.3 i j e)
+]
+
+-- what cranes ask for where two tasks are ordered, they ask for where they are ordered too
+more_asked : (inst : InstanceView) (s r : Bool) → (s ≡ true → r ≡ true) → (i j x y : ℕ) (p q : Option ℕ)
+    → IsStep x y (crane_ticks inst r i j p q) → IsStep x y (crane_ticks inst s i j p q)
+more_asked inst s r too i j x y None q step = tt
+more_asked inst s r too i j x y (Some v) None step = tt
+more_asked inst s r too i j x y (Some v) (Some w) step = by_turn inst.turn step
+  where
+    by_turn : (turn : Turn) → IsStep x y (pair_ticks turn inst r i v j w) → IsStep x y (pair_ticks turn inst s i v j w)
+    by_turn OneWay kept = kept
+    by_turn Free kept =
+        cond_both s _ _ (IsStep x y)
+        (λ t. subst (IsStep x y) (cond-true r _ None (too t)) kept)
+        (λ _. tt)
 
 -- ---- the schedule of a complete node
 
 module _ (inst : InstanceView) (ds : List Decision) (begins : List ℕ) (v : Valid inst)
     (fits : Fits inst ds) (complete : IsComplete inst ds) (reach : IsInReach inst ds)
-    (least : AreLeast inst ds begins) (one : inst.turn ≡ OneWay) where
+    (least : AreLeast inst ds begins) where
   abbrev sched : List Slot
   sched = schedule_with inst ds begins
 
   abbrev decided : List Decision
   decided = decided_by inst sched
 
-  goes : GoesUp inst sched
-  goes = goes_with inst ds begins v fits complete reach least.meets one
+  goes : GoesBy inst.turn inst sched
+  goes = goes_least inst ds begins v fits complete reach least
 
   agrees : Agrees inst ds sched
   agrees = agrees_with inst ds begins v fits complete reach least.meets
@@ -163,18 +214,8 @@ module _ (inst : InstanceView) (ds : List Decision) (begins : List ℕ) (v : Val
       decided_crane inst sched j low
       ∙ sym (some_is (assigned ds j) (crane_of sched j) (complete.tasks j low) (assigned_is inst sched ds agrees j))
 
-  -- an ordered pair is one of the apart pairs
-  ordered_apart : (es : List Decision) → Fits inst es → (i j : ℕ) → is_ordered es i j ≡ true
-      → IsApart inst i j ⊎ IsApart inst j i
-  ordered_apart [] f i j t = absurd (false≢true t)
-  ordered_apart (Assign h k ∷ es) f i j t = ordered_apart es f.3 i j t
-  ordered_apart (Order h k ∷ es) f i j t = elim (or_cases (eqb h i && eqb k j) (is_ordered es i j) t) [
-    | inl e ↦
-        let p = and_parts (eqb h i) (eqb k j) e in
-        subst₂ (λ (x y : ℕ). IsApart inst x y ⊎ IsApart inst y x) (eqb-true h i p.0) (eqb-true k j p.1)
-        (one_way_apart inst one es h k f.0)
-    | inr e ↦ ordered_apart es f.3 i j e
-  ]
+  has_crane : (j k : ℕ) → j < length inst.tasks → assigned ds j ≡ Some k → crane_of sched j ≡ k
+  has_crane j k low e = same_Some _ _ (sym (decided_crane inst sched j low) ∙ same_crane j low ∙ e)
 
   sooner_too : (i j : ℕ) → is_sooner inst ds i j ≡ true → is_sooner inst decided i j ≡ true
   sooner_too i j t = by_case (or_cases (is_before inst i j) (is_ordered ds i j) t)
@@ -183,7 +224,9 @@ module _ (inst : InstanceView) (ds : List Decision) (begins : List ℕ) (v : Val
       by_case (inl e) = or_left (is_before inst i j) (is_ordered decided i j) e
       by_case (inr e) =
           or_right (is_before inst i j) (is_ordered decided i j)
-          (decided_order inst sched v i j (ordered_apart ds fits i j e) (ordered_is inst sched ds agrees i j e))
+          (decided_order inst sched v i j
+          (conflict_listed inst v sched ds has_crane i j (ordered_conflicts inst ds fits i j e))
+          (ordered_is inst sched ds agrees i j e))
 
   -- starts that keep what the schedule decides keep the node
   pub node_met : (others : List ℕ) → Meets inst decided others → Meets inst ds others
@@ -210,15 +253,14 @@ module _ (inst : InstanceView) (ds : List Decision) (begins : List ℕ) (v : Val
           (λ is. subst (IsStep s t) (cond-true (is_sooner inst decided i j) (Some (ticks_of inst i)) None (sooner_too i j is))
           (greater_first s t soon cranes kept))
           (λ _. tt))
-          (subst (IsStep s t) (same_asked inst one (is_sooner inst decided i j) (is_sooner inst ds i j) i j _ _
-          ∙ ap₂ (crane_ticks inst (is_sooner inst ds i j) i j) (same_crane i low) (same_crane j high))
-          (greater_second s t soon cranes kept))
+          (subst (IsStep s t) (ap₂ (crane_ticks inst (is_sooner inst ds i j) i j) (same_crane i low) (same_crane j high))
+          (more_asked inst (is_sooner inst ds i j) (is_sooner inst decided i j) (sooner_too i j) i j s t (assigned decided i)
+          (assigned decided j) (greater_second s t soon cranes kept)))
 
   -- its starts are the least with what it decides
   pub decided_least : AreLeast inst decided (starts sched)
   decided_least = record {
-    meets = meets_of inst decided sched goes (decided_agrees inst sched goes (λ i j a.
-        let r = v.apart.range i j a in (omega (arith, r.0, r.1), r.1)));
+    meets = meets_by inst decided sched goes (decided_agrees inst sched v goes);
     least = λ others m j low.
         subst (λ (b : List ℕ). slice_index b j ≤ slice_index others j)
         (sym (starts_with inst ds begins least.meets.all_tasks)) (least.least others (node_met others m) j low);

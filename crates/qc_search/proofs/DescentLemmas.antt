@@ -1,5 +1,5 @@
 -- The nodes that must still come, and the decisions that lead to them.
-use Rattle.std.proofs.Common.{◌≡◌, ℕ, ◌+◌, ◌-◌, ◌<◌, ◌≤◌, inl, Bool, true, false, cond, List, [], ◌∷◌, ◌++◌, length, map, sym, ap, refl, subst, arith, None, Some, Option, IfSome}
+use Rattle.std.proofs.Common.{◌≡◌, ℕ, ◌+◌, ◌-◌, ◌<◌, ◌≤◌, Bool, true, false, cond, List, [], ◌∷◌, ◌++◌, length, map, sym, ap, refl, subst, arith, None, Some, Option, IfSome}
 use Rattle.std.proofs.lemmas.Bool.{lt-ltb}
 use Rattle.std.proofs.lemmas.List.{length-append, length-map}
 use Rattle.qc_num.specs.declared.bound.Bound.{Bound}
@@ -14,7 +14,10 @@ use Rattle.qc_model.specs.Work.{crane_numbers}
 use Rattle.qc_model.specs.Nodes.{HasStarts, IsInReach}
 use Rattle.qc_model.specs.Numbers.{most_cranes}
 use Rattle.qc_starts.specs.Seen.{HasNone}
+use Rattle.qc_model.proofs.NodeLemmas.{conflict_inside}
 use Rattle.qc_tree.specs.Trees.{children}
+use Rattle.qc_tree.proofs.OrderLemmas.{may_conflict, may_order_low}
+use Rattle.qc_search.specs.Lines.{IsNamed}
 use Rattle.qc_search.specs.declared.branch.Branch.{Branch}
 use Rattle.qc_search.specs.declared.branch.Branch.TheVariants.{Pair, Task}
 use Rattle.qc_search.specs.Walk.{IsChild, IsOpenBranch, WereMade, first_of, from_child, from_node, sign_of, steps_left}
@@ -46,12 +49,19 @@ module _ (inst : InstanceView) where
       ap (λ ks. map (λ k. Assign j k ∷ ds) ks ++ behind inst ds) (cranes_from inst 0 v.cranes.count.0)
   branch_due v ds (Pair i j) is_open =
       ap (λ b. (Order i j ∷ ds) ∷ (cond b ((Order j i ∷ ds) ∷ []) [] ++ behind inst ds))
-      (sym (lt-ltb i j (v.apart.range i j is_open.0).0))
+      (sym (lt-ltb i j (may_order_low inst.turn inst v ds i j is_open.0)))
 
   pub branch_child : Valid inst → (ds : List Decision) (branch : Branch) → IsOpenBranch inst ds branch
       → HasStarts inst ds → IsChild inst ds (first_of branch)
   branch_child v ds (Task j) is_open starts = ((is_open.0, v.cranes.count.0, is_open.1), starts)
-  branch_child v ds (Pair i j) is_open starts = ((inl (inl is_open.0), is_open.1), starts)
+  branch_child v ds (Pair i j) is_open starts = ((may_conflict inst.turn inst ds i j is_open.0, is_open.1), starts)
+
+  -- a line can name the tasks of a branching
+  pub branch_named : Valid inst → (ds : List Decision) (branch : Branch) → IsOpenBranch inst ds branch → IsNamed branch
+  branch_named v ds (Task j) is_open = omega (arith, is_open.0, v.tasks.count)
+  branch_named v ds (Pair i j) is_open =
+      let r = conflict_inside inst v ds i j (may_conflict inst.turn inst ds i j is_open.0) in
+      (omega (arith, r.0, v.tasks.count), omega (arith, r.1, v.tasks.count))
 
   few_children : Valid inst → (ds : List Decision) (branch : Branch)
       → length (children inst ds (sign_of branch)) ≤ most_cranes

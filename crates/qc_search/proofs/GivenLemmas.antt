@@ -12,32 +12,37 @@ use Rattle.qc_model.specs.declared.direction.Direction.{Direction}
 use Rattle.qc_model.specs.declared.direction.Direction.TheVariants.{Up, Down}
 use Rattle.qc_model.specs.declared.pair.Pair.{Pair}
 use Rattle.qc_model.specs.declared.schedule.Slot.{Slot}
-use Rattle.qc_model.specs.declared.turn.Turn.TheVariants.{OneWay}
-use Rattle.qc_model.specs.Instance.{InstanceView, IsApart, Valid, ticks_of}
+use Rattle.qc_model.specs.declared.turn.Turn.{Turn}
+use Rattle.qc_model.specs.declared.turn.Turn.TheVariants.{OneWay, Free}
+use Rattle.qc_model.specs.Frames.{GoesBy}
+use Rattle.qc_model.specs.Instance.{InstanceView, Valid, ticks_of}
 use Rattle.qc_model.specs.Judge.{IsDirection, IsJudgeable}
-use Rattle.qc_model.specs.Nodes.{Agrees, AreLeast, IsComplete, IsSettled, Meets, assigned, forced, schedule_with}
+use Rattle.qc_model.specs.Nodes.{Agrees, AreLeast, IsSettled, Meets, assigned, forced, schedule_with}
 use Rattle.qc_model.specs.Numbers.{most_start, most_tasks}
-use Rattle.qc_model.specs.OneWay.{GoesUp, mirror, mirror_schedule}
-use Rattle.qc_model.specs.Rules.{crane_of, end_of, ends, start_of, starts}
+use Rattle.qc_model.specs.OneWay.{GoesUp}
+use Rattle.qc_model.specs.Rules.{Feasible, crane_of, end_of, ends, start_of, starts}
 use Rattle.qc_model.specs.Seen.{seen, seen_number, seen_schedule}
 use Rattle.qc_model.proofs.Bounded.{last_end_le}
-use Rattle.qc_model.proofs.CompleteNodes.{agrees_with, ends_with, forced_ticks, goes_with}
+use Rattle.qc_model.proofs.CompleteNodes.{agrees_with, ends_with, feasible_least, forced_ticks, goes_least}
 use Rattle.qc_model.proofs.MirrorLemmas.{seen_valid}
-use Rattle.qc_model.proofs.NodeLemmas.{assigned_is, ends_by, meets_of, start_at}
+use Rattle.qc_model.proofs.NodeLemmas.{assigned_is, ends_by, meets_by, start_at}
+use Rattle.qc_model.proofs.TurnLemmas.{by_feasible, goes_by}
 use Rattle.qc_model.proofs.SeenLemmas.{seen-crane_count, seen-crane_of, seen-ends, seen-start_of, seen-task_count}
-use Rattle.qc_starts.specs.Tight.{IsTight, IsTightForm, decided_by, order_in}
+use Rattle.qc_starts.specs.Seen.{AreAssigned}
+use Rattle.qc_starts.specs.Tight.{IsSeenSo, IsTight, IsTightForm, decided_by, order_in, ordered_pairs}
 use Rattle.qc_search.specs.declared.progress.Progress.{Progress}
 use Rattle.qc_search.specs.Earned.{IsKnownEnd, node_at}
-use Rattle.qc_search.specs.Progress.{IsBegun, IsBegunWith, IsKept, IsProgress, IsTightened, begun}
+use Rattle.qc_search.specs.Progress.{AreOrdered, IsBegun, IsBegunWith, IsKept, IsProgress, IsTightened, begun}
 use Rattle.qc_search.specs.Run.{IsTightEnd}
-use Rattle.qc_search.proofs.DecidedLemmas.{decided_least, seen_one_way}
+use Rattle.qc_search.proofs.DecidedLemmas.{decided_least}
+use Rattle.qc_search.proofs.PairLemmas.{Rises, ordered_rise, same_pairs}
 use Rattle.qc_search.proofs.ShownLemmas.{shown_tight, turned_as_met}
 use Rattle.qc_search.proofs.TightLemmas.{seen_end}
 use Rattle.qc_tree.specs.Trees.{on_task}
 
--- ---- the order of an apart pair
+-- ---- the order of a pair
 
-module _ (inst : InstanceView) (v : Valid inst) (sched : List Slot) (p : Pair) (apart : IsApart inst p.first p.second) where
+module _ (inst : InstanceView) (v : Valid inst) (sched : List Slot) (p : Pair) (rises : Rises inst p) where
   first_in : end_of inst sched p.first ≤ start_of sched p.second → order_in inst sched p ≡ Order p.first p.second
   first_in first =
       cond-true (nat_le (end_of inst sched p.first) (start_of sched p.second)) (Order p.first p.second)
@@ -52,8 +57,7 @@ module _ (inst : InstanceView) (v : Valid inst) (sched : List Slot) (p : Pair) (
     where
       both_first : end_of inst sched p.first ≤ start_of sched p.second → ⊥
       both_first first =
-          let r = v.apart.range p.first p.second apart in
-          let one = v.tasks.ticks p.second r.1 in
+          let one = v.tasks.ticks p.second rises.1 in
           omega (arith, first, second, one)
 
 -- what is forced is kept by the schedule whose starts meet the node
@@ -69,34 +73,29 @@ kept_order inst ds sched meets i j low high some =
     by (Some n) is some long =
         omega (arith, meets.steps i j n low high is, start_at sched i, start_at sched j, long)
 
--- ---- two schedules that agree with a complete node decide the same
+-- ---- two schedules that agree with a node that settles what the one decides decide the same
 
-module _ (inst : InstanceView) (ds : List Decision) (v : Valid inst) (complete : IsComplete inst ds)
-    (one two : List Slot) (one_meets : Meets inst ds (starts one)) (two_meets : Meets inst ds (starts two))
-    (one_agrees : Agrees inst ds one) (two_agrees : Agrees inst ds two) where
+module _ (inst : InstanceView) (ds : List Decision) (v : Valid inst) (given : AreAssigned inst ds)
+    (one two : List Slot) (ordered : AreOrdered inst ds two) (one_meets : Meets inst ds (starts one))
+    (two_meets : Meets inst ds (starts two)) (one_agrees : Agrees inst ds one) (two_agrees : Agrees inst ds two) where
   pub same_crane : (j : ℕ) → j < length inst.tasks → crane_of one j ≡ crane_of two j
   same_crane j low =
-      by (assigned ds j) (complete.tasks j low) (assigned_is inst one ds one_agrees j) (assigned_is inst two ds two_agrees j)
+      by (assigned ds j) (given j low) (assigned_is inst one ds one_agrees j) (assigned_is inst two ds two_agrees j)
     where
       by : (o : Option ℕ) → IsSome o → IfSome o (λ k. crane_of one j ≡ k) → IfSome o (λ k. crane_of two j ≡ k)
           → crane_of one j ≡ crane_of two j
       by None some a b = absurd (false≢true some)
       by (Some k) some a b = a ∙ sym b
 
-  same_order : (p : Pair) → IsApart inst p.first p.second → order_in inst one p ≡ order_in inst two p
-  same_order p apart = by (complete.pairs p.first p.second apart)
-    where
-      by : IsSettled inst ds p.first p.second → order_in inst one p ≡ order_in inst two p
-      by (inl some) =
-          let r = v.apart.range p.first p.second apart in
-          let low : p.first < length inst.tasks = omega (arith, r.0, r.1) in
-          first_in inst v one p apart (kept_order inst ds one one_meets p.first p.second low r.1 some)
-          ∙ sym (first_in inst v two p apart (kept_order inst ds two two_meets p.first p.second low r.1 some))
-      by (inr some) =
-          let r = v.apart.range p.first p.second apart in
-          let low : p.first < length inst.tasks = omega (arith, r.0, r.1) in
-          second_in inst v one p apart (kept_order inst ds one one_meets p.second p.first r.1 low some)
-          ∙ sym (second_in inst v two p apart (kept_order inst ds two two_meets p.second p.first r.1 low some))
+  same_order : (p : Pair) → Rises inst p → IsSettled inst ds p.first p.second → order_in inst one p ≡ order_in inst two p
+  same_order p r (inl some) =
+      let low : p.first < length inst.tasks = omega (arith, r.0, r.1) in
+      first_in inst v one p r (kept_order inst ds one one_meets p.first p.second low r.1 some)
+      ∙ sym (first_in inst v two p r (kept_order inst ds two two_meets p.first p.second low r.1 some))
+  same_order p r (inr some) =
+      let low : p.first < length inst.tasks = omega (arith, r.0, r.1) in
+      second_in inst v one p r (kept_order inst ds one one_meets p.second p.first r.1 low some)
+      ∙ sym (second_in inst v two p r (kept_order inst ds two two_meets p.second p.first r.1 low some))
 
   same_cranes : (a n : ℕ) → a + n ≤ length inst.tasks
       → map (λ j. Assign j (crane_of one j)) (range_with_len a n) ≡ map (λ j. Assign j (crane_of two j)) (range_with_len a n)
@@ -105,17 +104,20 @@ module _ (inst : InstanceView) (ds : List Decision) (v : Valid inst) (complete :
       ap₂ (λ (k : ℕ) (more : List Decision). Assign a k ∷ more) (same_crane a (omega (arith, few)))
       (same_cranes (a + 1) n (omega (arith, few)))
 
-  same_orders : (pairs : List Pair) → ((p : Pair) → Contains pairs p → IsApart inst p.first p.second)
+  same_orders : (pairs : List Pair) → ((p : Pair) → Contains pairs p → Rises inst p × IsSettled inst ds p.first p.second)
       → map (order_in inst one) pairs ≡ map (order_in inst two) pairs
   same_orders [] are = refl
   same_orders (p ∷ pairs) are =
-      ap₂ (λ (d : Decision) (more : List Decision). d ∷ more) (same_order p (are p (0, omega arith, refl)))
+      let is = are p (0, omega arith, refl) in
+      ap₂ (λ (d : Decision) (more : List Decision). d ∷ more) (same_order p is.0 is.1)
       (same_orders pairs (λ q c. are q (suc c.0, omega (arith, c.1), c.2)))
 
   pub same_decided : decided_by inst one ≡ decided_by inst two
   same_decided =
+      let pairs = ordered_pairs inst.turn inst two in
       ap₂ (λ (cranes orders : List Decision). cranes ++ orders) (same_cranes 0 (length inst.tasks) (omega arith))
-      (same_orders inst.apart (λ p c. c))
+      (ap (map (order_in inst one)) (same_pairs inst one two same_crane)
+      ∙ same_orders pairs (λ p c. (ordered_rise inst v two p c, ordered p c)))
 
 -- ---- the tight form of a given schedule
 
@@ -125,8 +127,13 @@ number_back : (home : InstanceView) (way : Direction) (k : ℕ) → k < length h
 number_back home Up k low = refl
 number_back home Down k low = omega (arith, low)
 
-module _ (home : InstanceView) (v : Valid home) (one : home.turn ≡ OneWay) (given : List Slot) (way : Direction) (kept : List Slot) (end : ℕ)
-    (judgeable : IsJudgeable home given) (goes : GoesUp (seen home way) (seen_schedule home given way))
+-- where cranes go as they like a schedule is seen as it is
+pub so_only_up : (home : InstanceView) (given : List Slot) (way : Direction) → IsSeenSo home.turn home given way
+    → home.turn ≡ Free → way ≡ Up
+so_only_up home given way so as_free = (subst (λ (t : Turn). IsSeenSo t home given way) as_free so).1
+
+module _ (home : InstanceView) (v : Valid home) (given : List Slot) (way : Direction) (kept : List Slot) (end : ℕ)
+    (judgeable : IsJudgeable home given) (goes : GoesBy (seen home way).turn (seen home way) (seen_schedule home given way))
     (t : IsTightened (seen home way) (seen_schedule home given way) kept end) where
   abbrev inst : InstanceView
   inst = seen home way
@@ -142,33 +149,36 @@ module _ (home : InstanceView) (v : Valid home) (one : home.turn ≡ OneWay) (gi
   valid = seen_valid home v way
 
   given_meets : Meets inst t.decisions (starts turned)
-  given_meets = meets_of inst t.decisions turned goes t.agrees
+  given_meets = meets_by inst t.decisions turned goes t.agrees
 
   abbrev made : List Slot
   made = schedule_with inst t.decisions t.begins
 
-  made_goes : GoesUp inst made
-  made_goes = goes_with inst t.decisions t.begins valid t.fits t.complete t.in_reach t.least.meets (seen_one_way home one way)
+  made_goes : GoesBy inst.turn inst made
+  made_goes = goes_least inst t.decisions t.begins valid t.fits t.complete t.in_reach t.least
+
+  made_feasible : Feasible inst made
+  made_feasible = feasible_least inst t.decisions t.begins valid t.fits t.complete t.in_reach t.least
 
   made_agrees : Agrees inst t.decisions made
   made_agrees = agrees_with inst t.decisions t.begins valid t.fits t.complete t.in_reach t.least.meets
 
   made_meets : Meets inst t.decisions (starts made)
-  made_meets = meets_of inst t.decisions made made_goes made_agrees
+  made_meets = meets_by inst t.decisions made made_goes made_agrees
 
   pub kept_count : length kept ≡ length home.tasks
-  kept_count = ap (λ (s : List Slot). length s) t.is ∙ made_goes.feasible.all_tasks ∙ seen-task_count home way
+  kept_count = ap (λ (s : List Slot). length s) t.is ∙ made_feasible.all_tasks ∙ seen-task_count home way
 
   crane_same : (j : ℕ) → j < length home.tasks → crane_of kept j ≡ crane_of turned j
   crane_same j low =
       let n = seen-task_count home way in
       ap (λ (s : List Slot). crane_of s j) t.is
-      ∙ same_crane inst t.decisions valid t.complete made turned made_meets given_meets made_agrees t.agrees j (omega (arith, n, low))
+      ∙ same_crane inst t.decisions valid t.complete.tasks made turned t.ordered made_meets given_meets made_agrees t.agrees j (omega (arith, n, low))
 
   kept_low : (j : ℕ) → j < length home.tasks → crane_of kept j < length home.cranes
   kept_low j low =
       let n = seen-task_count home way in
-      let c = goes.feasible.crane_range j (omega (arith, n, low)) in
+      let c = (by_feasible inst.turn inst turned goes).crane_range j (omega (arith, n, low)) in
       omega (arith, c, seen-crane_count home way, crane_same j low)
 
   back : seen_schedule home form way ≡ kept
@@ -181,15 +191,15 @@ module _ (home : InstanceView) (v : Valid home) (one : home.turn ≡ OneWay) (gi
       ∙ ap (seen_number home way) (crane_same j low ∙ seen-crane_of home given way j (omega (arith, judgeable.all_tasks, low)))
       ∙ number_back home way (crane_of given j) (judgeable.crane_range j low)
 
-  pub form_is : IsDirection home given way → IsTightForm home given form
+  pub form_is : IsSeenSo home.turn home given way → IsTightForm home given form
   form_is direction = record {
     way = way;
     direction = direction;
     cranes = crane_back;
     least = subst (λ (s : List Slot). AreLeast inst (decided_by inst turned) (starts s)) (sym (back ∙ t.is))
         (subst (λ (ds : List Decision). AreLeast inst ds (starts made))
-        (same_decided inst t.decisions valid t.complete made turned made_meets given_meets made_agrees t.agrees)
-        (decided_least inst t.decisions t.begins valid t.fits t.complete t.in_reach t.least (seen_one_way home one way)));
+        (same_decided inst t.decisions valid t.complete.tasks made turned t.ordered made_meets given_meets made_agrees t.agrees)
+        (decided_least inst t.decisions t.begins valid t.fits t.complete t.in_reach t.least));
   }
 
   end_is : end ≡ ends home form
@@ -208,7 +218,7 @@ module _ (home : InstanceView) (v : Valid home) (one : home.turn ≡ OneWay) (gi
       )) in
       omega (arith, late, t.ends, seen-ends home given way)
 
-  pub tight_end_is : IsDirection home given way → IsTightEnd home given end
+  pub tight_end_is : IsSeenSo home.turn home given way → IsTightEnd home given end
   tight_end_is direction = record {
     first = form;
     form = form_is direction;
@@ -220,8 +230,9 @@ module _ (home : InstanceView) (v : Valid home) (one : home.turn ≡ OneWay) (gi
   abbrev progress_of : ℕ → SmallVec ℕ → Progress
   progress_of limit path = record (begun limit kept path) { incumbent_end = Least end; way = way }
 
-  abbrev first_kept : (limit : ℕ) (path : SmallVec ℕ) → IsKept home (Some form) (progress_of limit path) [] end
-  first_kept limit path = record {
+  abbrev first_kept : (home.turn ≡ Free → way ≡ Up) → (limit : ℕ) (path : SmallVec ℕ)
+      → IsKept home (Some form) (progress_of limit path) [] end
+  first_kept only_up limit path = record {
     node = node_at way t.decisions (on_task 0);
     from = inr refl;
     begins = t.begins;
@@ -230,6 +241,7 @@ module _ (home : InstanceView) (v : Valid home) (one : home.turn ≡ OneWay) (gi
     ends = t.ends;
     soon = t.soon;
     way = refl;
+    only_up = only_up;
     is = t.is;
   }
 
@@ -240,32 +252,36 @@ module _ (home : InstanceView) (v : Valid home) (one : home.turn ≡ OneWay) (gi
     least = λ other k d low. absurd (omega (arith, low));
   }
 
-  first_progress : (limit : ℕ) (path : SmallVec ℕ) → IsProgress home (Some form) (progress_of limit path) []
-  first_progress limit path = record {
+  first_progress : (home.turn ≡ Free → way ≡ Up) → (limit : ℕ) (path : SmallVec ℕ)
+      → IsProgress home (Some form) (progress_of limit path) []
+  first_progress only_up limit path = record {
     few = omega arith;
     branched = refl;
     bound = refl;
     known = first_known;
     best = λ other e.
-        subst (IsKept home (Some form) (progress_of limit path) []) (same_least end other e) (first_kept limit path);
+        subst (IsKept home (Some form) (progress_of limit path) []) (same_least end other e)
+        (first_kept only_up limit path);
     late = λ left. tt;
   }
 
-  pub begins_with : (limit : ℕ) (path : SmallVec ℕ) → IsDirection home given way → HasRoom most_tasks path
+  pub begins_with : (limit : ℕ) (path : SmallVec ℕ) → IsSeenSo home.turn home given way → HasRoom most_tasks path
       → IsBegun home (Some given) limit (progress_of limit path)
-  begins_with limit path direction room = record {
-    first = Some form;
-    begins = form_is direction;
-    tight = subst (λ (s : List Slot). IsTight home (seen_schedule home s way)) (sym t.is)
-        (shown_tight home (Some form) v one (progress_of limit path) [] end (first_kept limit path));
-    no_later = omega (arith, no_later, end_is);
-    progress = first_progress limit path;
-    known = ap Least end_is;
-    limit_is = refl;
-    bound = refl;
-    count = kept_count;
-    room = room;
-  }
+  begins_with limit path direction room =
+      let only_up = so_only_up home given way direction in
+      record {
+        first = Some form;
+        begins = form_is direction;
+        tight = subst (λ (s : List Slot). IsTight home (seen_schedule home s way)) (sym t.is)
+            (shown_tight home (Some form) v (progress_of limit path) [] end (first_kept only_up limit path));
+        no_later = omega (arith, no_later, end_is);
+        progress = first_progress only_up limit path;
+        known = ap Least end_is;
+        limit_is = refl;
+        bound = refl;
+        count = kept_count;
+        room = room;
+      }
 
 -- where none is given, nothing is known before the first line
 pub begins_without : (home : InstanceView) (limit : ℕ) (incumbent : List Slot) (path : SmallVec ℕ)
@@ -296,27 +312,39 @@ begins_without home limit incumbent path count room = record {
 }
 
 -- what goes one way in its direction goes up as it is seen there
-pub goes_seen : (home : InstanceView) (given : List Slot) (way : Direction) → IsDirection home given way
+up_seen : (home : InstanceView) (given : List Slot) (way : Direction) → IsDirection home given way
     → GoesUp (seen home way) (seen_schedule home given way)
-goes_seen home given Up direction = direction
-goes_seen home given Down direction = direction.0.mirrored
+up_seen home given Up direction = direction
+up_seen home given Down direction = direction.0.mirrored
 
-pub mirrored_goes : (home : InstanceView) (given : List Slot) → IsDirection home given Down
-    → GoesUp (mirror home) (mirror_schedule home given)
-mirrored_goes home given direction = direction.0.mirrored
+feasible_seen : (home : InstanceView) (given : List Slot) (way : Direction) → home.turn ≡ Free → Feasible home given
+    → way ≡ Up → GoesBy (seen home way).turn (seen home way) (seen_schedule home given way)
+feasible_seen home given Up as_free f up = subst (λ (t : Turn). GoesBy t home given) (sym as_free) f
+feasible_seen home given Down as_free f up = absurd (cc up)
 
-pub mirrored_soon : (home : InstanceView) (given : List Slot) → IsJudgeable home given
-    → (j : ℕ) → j < length (mirror home).tasks → start_of (mirror_schedule home given) j ≤ most_start
-mirrored_soon home given judgeable j low =
-    let n = seen-task_count home Down in
+-- what cranes may follow they may as it is seen
+pub goes_seen : (home : InstanceView) (given : List Slot) (way : Direction) → IsSeenSo home.turn home given way
+    → GoesBy (seen home way).turn (seen home way) (seen_schedule home given way)
+goes_seen home given way so = by_turn home.turn refl so
+  where
+    by_turn : (turn : Turn) → home.turn ≡ turn → IsSeenSo turn home given way
+        → GoesBy (seen home way).turn (seen home way) (seen_schedule home given way)
+    by_turn OneWay one direction =
+        goes_by (seen home way).turn (seen home way) (seen_schedule home given way) (up_seen home given way direction)
+    by_turn Free as_free f = feasible_seen home given way as_free f.0 f.1
+
+pub seen_soon : (home : InstanceView) (given : List Slot) (way : Direction) → IsJudgeable home given
+    → (j : ℕ) → j < length (seen home way).tasks → start_of (seen_schedule home given way) j ≤ most_start
+seen_soon home given way judgeable j low =
+    let n = seen-task_count home way in
     let here : j < length home.tasks = omega (arith, n, low) in
-    omega (arith, seen-start_of home given Down j (omega (arith, judgeable.all_tasks, here)), judgeable.start_range j here)
+    omega (arith, seen-start_of home given way j (omega (arith, judgeable.all_tasks, here)), judgeable.start_range j here)
 
 -- a search that begins with a schedule
-pub begun_with : (home : InstanceView) (v : Valid home) (one : home.turn ≡ OneWay) (given : List Slot) (limit : ℕ) (path : SmallVec ℕ) (now : Progress)
+pub begun_with : (home : InstanceView) (v : Valid home) (given : List Slot) (limit : ℕ) (path : SmallVec ℕ) (now : Progress)
     → IsJudgeable home given → IsBegunWith home given limit path now → HasRoom most_tasks path
     → IsBegun home (Some given) limit now
-begun_with home v one given limit path now judgeable b room =
+begun_with home v given limit path now judgeable b room =
     subst (IsBegun home (Some given) limit) (sym b.is)
-    (begins_with home v one given b.way now.incumbent b.end judgeable (goes_seen home given b.way b.direction) b.tightened limit
+    (begins_with home v given b.way now.incumbent b.end judgeable (goes_seen home given b.way b.direction) b.tightened limit
     path b.direction room)

@@ -6,6 +6,7 @@ pub mod DescentLemmas
 pub mod CountLemmas
 pub mod BestLemmas
 pub mod LineLemmas
+pub mod PairLemmas
 pub mod DecidedLemmas
 pub mod OrderLemmas
 pub mod ShownLemmas

@@ -1,5 +1,5 @@
 -- Which leaves can be written.
-use Rattle.std.proofs.Common.{◌≡◌, ℕ, ◌+◌, ◌*◌, ◌<◌, ◌≤◌, Bool, true, false, IsTrue, map, option_map, List, [], ◌∷◌, All, length, drop, Option, None, Some, refl, ap, sym, subst, ◌∙◌, cond, arith, ◌&&◌, nat_le, nat_lt}
+use Rattle.std.proofs.Common.{◌≡◌, ℕ, ◌+◌, ◌*◌, ◌<◌, ◌≤◌, Bool, true, false, IsTrue, map, option_and_then, option_map, List, [], ◌∷◌, All, length, drop, Option, None, Some, refl, ap, sym, subst, ◌∙◌, cond, arith, ◌&&◌, nat_le, nat_lt}
 use Rattle.std.proofs.lemmas.Bool.{and_parts, leb-true, ltb-true}
 use Rattle.std.proofs.lemmas.List.{length-map, take_at}
 use Rattle.std.proofs.lemmas.List.Elements.{All-cons, All-map}
@@ -13,7 +13,8 @@ use Rattle.qc_model.specs.Instance.{InstanceView}
 use Rattle.qc_model.specs.Leaves.{are_tasks, is_ring, leaf_value, with_packed, work, work_over}
 use Rattle.qc_model.specs.Work.{ticks_over}
 use Rattle.qc_model.specs.Assignments.{cranes_of}
-use Rattle.qc_model.specs.Nodes.{head, least}
+use Rattle.qc_model.specs.Early.{early}
+use Rattle.qc_model.specs.Nodes.{least}
 use Rattle.qc_model.specs.Packs.{all_clash, all_differ, is_doable, is_packed, span}
 use Rattle.qc_close.proofs.SpanLemmas.{packed_few, packed_range}
 use Rattle.qc_tree.specs.Lines.{AreTasks, IsLine, IsTask}
@@ -58,10 +59,13 @@ work_shown inst ds end e =
     (leb-true 1 end both.0, both.1)
 
 -- tasks that show an end are packed
-packed_shown : (b : Bool) (ticks head end : ℕ)
-    → option_map Least (option_map (λ n. head + n) (cond b (Some ticks) None)) ≡ Some (Least end) → b ≡ true
-packed_shown true ticks head end e = refl
-packed_shown false ticks head end e = absurd (cc e)
+packed_shown : (b : Bool) (ticks end : ℕ) (first : (ℕ → ℕ) → ℕ) (starts : Option (ℕ → ℕ))
+    → option_map Least (option_and_then (λ begins. option_map (λ n. first begins + n) (cond b (Some ticks) None)) starts)
+    ≡ Some (Least end)
+    → b ≡ true
+packed_shown true ticks end first starts e = refl
+packed_shown false ticks end first None e = absurd (cc e)
+packed_shown false ticks end first (Some begins) e = absurd (cc e)
 
 pub writable : (inst : InstanceView) (ds : List Decision) (leaf : LeafKind) (tasks : List ℕ)
     → length inst.tasks ≤ most_tasks → IsLeafBy inst ds leaf tasks → IsWritable leaf tasks
@@ -76,8 +80,8 @@ writable inst ds (kind.Work end) tasks few h =
     (subst AreNumbers (sym h.0) (omega arith, λ k d low. absurd (omega arith)), (work_shown inst ds end h.2).0, h.1)
 writable inst ds (kind.Clash end) tasks few h =
     let cranes = cranes_of inst ds in
-    let all = packed_shown (is_packed inst cranes tasks) (ticks_over inst tasks + inst.travel * span inst cranes tasks)
-    (least (map (head inst ds) tasks)) end h.1 in
+    let all = packed_shown (is_packed inst cranes tasks) (ticks_over inst tasks + inst.travel * span inst cranes tasks) end
+    (λ begins. least (map begins tasks)) (early inst ds) h.1 in
     let range = packed_range inst cranes tasks all in
     let some = and_parts (nat_lt 0 (length tasks)) (list_all (is_doable inst cranes) tasks)
     (and_parts (nat_lt 0 (length tasks) && list_all (is_doable inst cranes) tasks) (all_differ tasks)

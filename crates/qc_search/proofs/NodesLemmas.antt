@@ -17,13 +17,12 @@ use Rattle.qc_model.specs.declared.schedule.Slot.{Slot}
 use Rattle.qc_model.specs.Instance.{InstanceView}
 use Rattle.qc_model.specs.Leaves.{with_packed}
 use Rattle.qc_model.specs.Numbers.{most_tasks}
-use Rattle.qc_model.specs.Seen.{seen}
 use Rattle.qc_tree.specs.Trees.{Node, Sign, branchings, children, part_text, sign_text}
 use Rattle.qc_tree.proofs.NodeLemmas.{all_given_up, given_up, leads_then, none_branched}
 use Rattle.qc_search.specs.declared.progress.Progress.{Progress}
 use Rattle.qc_search.specs.Earned.{TreeNode, branchings_in, node_at, part_nodes}
 use Rattle.qc_search.specs.Run.{best_end}
-use Rattle.qc_search.specs.Progress.{AreEarned, Comes, IsAlong, IsKept, IsProgress, IsStep, WritesNodes, emptied, left_by}
+use Rattle.qc_search.specs.Progress.{AreEarned, Comes, IsAlong, IsKept, IsPartOf, IsProgress, IsStep, WritesNodes, emptied, left_by}
 use Rattle.qc_search.proofs.EarnedLemmas.{branched_in, branchings-append, earned_then}
 
 -- ---- nodes one behind the other
@@ -68,6 +67,7 @@ by_path home first now path nodes p = record {
         ends = k.ends;
         soon = k.soon;
         way = k.way;
+        only_up = k.only_up;
         is = k.is;
       };
   late = p.late;
@@ -181,7 +181,7 @@ module _ {inst : InstanceView} {way : Direction} where
 
   step_few : (ds : List Decision) (sign : Sign) (old new : Progress) → IsStep inst way ds sign old new
       → (rest : List Node) → branchings rest ≡ 0 → (home : InstanceView) (first : Option (List Slot))
-      (earlier : List TreeNode) → seen home way ≡ inst → IsProgress home first old earlier
+      (earlier : List TreeNode) → IsPartOf home way inst → IsProgress home first old earlier
       → branchings_in (earlier ++ part_nodes way (record { decisions = ds; sign = sign } ∷ rest)) ≤ old.limit
   step_few ds sign old new step rest none home first earlier seen_so p =
       let told = (step.earned home first earlier seen_so p).1 in

@@ -1,5 +1,5 @@
 -- Decisions as a schedule has them: what they are open for, and what they settle.
-use Rattle.std.proofs.Common.{◌≡◌, ℕ, ◌+◌, ◌-◌, ◌<◌, inl, inr, Bool, true, false, List, [], ◌∷◌, length, get_or, Option, None, Some, IsSome, refl, ap, subst, ◌∙◌, arith, is_some, nat_le}
+use Rattle.std.proofs.Common.{◌≡◌, ℕ, ◌+◌, ◌-◌, ◌<◌, inl, inr, Bool, true, false, List, [], ◌∷◌, length, get_or, Contains, ◌⊎◌, Option, None, Some, IfSome, IsSome, refl, ap, subst, ◌∙◌, arith, is_some, nat_le}
 use Rattle.std.proofs.lemmas.Bool.{and_from, cases_eq, cond_both, false≢true}
 use Rattle.std.proofs.lemmas.List.{drop_all}
 use Rattle.qc_dist.specs.Node.{IsOpen}
@@ -8,34 +8,41 @@ use Rattle.qc_model.specs.declared.decision.Decision.{Decision}
 use Rattle.qc_model.specs.declared.decision.Decision.TheVariants.{Assign, Order}
 use Rattle.qc_model.specs.declared.pair.Pair.{Pair}
 use Rattle.qc_model.specs.declared.schedule.Slot.{Slot}
-use Rattle.qc_model.specs.Instance.{InstanceView, IsApart, Valid, pair_of}
-use Rattle.qc_model.specs.Nodes.{Agrees, HasStarts, IsComplete, IsSettled, assigned, reaches}
-use Rattle.qc_model.specs.OneWay.{GoesUp}
-use Rattle.qc_model.specs.Rules.{crane_of, end_of, start_of, starts}
-use Rattle.qc_model.proofs.NodeLemmas.{T_true, meets_of}
+use Rattle.qc_model.specs.declared.turn.Turn.{Turn}
+use Rattle.qc_model.specs.declared.turn.Turn.TheVariants.{OneWay, Free}
+use Rattle.qc_model.specs.Frames.{GoesBy}
+use Rattle.qc_model.specs.Instance.{InstanceView, Valid, pair_of}
+use Rattle.qc_model.specs.Nodes.{Agrees, AreLeast, Conflicts, Fits, HasStarts, IsComplete, IsInReach, IsSettled, assigned, reaches}
+use Rattle.qc_model.specs.Rules.{IsClear, crane_of, end_of, start_of, starts}
+use Rattle.qc_model.proofs.CompleteNodes.{complete_where}
+use Rattle.qc_model.proofs.NodeLemmas.{T_true, assigned_is, conflict_turned, meets_by}
+use Rattle.qc_model.proofs.TurnLemmas.{by_feasible}
 use Rattle.qc_starts.specs.Seen.{AreAssigned, HasNone, IsReached, first_of}
-use Rattle.qc_starts.specs.Tight.{order_in}
+use Rattle.qc_starts.specs.Tight.{order_in, ordered_pairs}
 use Rattle.qc_starts.proofs.Growth.{IsNoLess, forced_grows, ordered_here_is}
 use Rattle.qc_starts.proofs.KeptLemmas.{IsSettledPair, settled_at}
-use Rattle.qc_search.proofs.DecidedLemmas.{order_agrees}
+use Rattle.qc_starts.proofs.OverlapLemmas.{complete_one_way}
+use Rattle.qc_search.specs.Progress.{AreOrdered}
+use Rattle.qc_search.proofs.DecidedLemmas.{order_agrees, some_is}
+use Rattle.qc_search.proofs.PairLemmas.{conflict_listed, listed_conflict, ordered_clear, ordered_rise}
 
--- starts meet a node with which an upward schedule agrees
-pub has_starts_of : (inst : InstanceView) (ds : List Decision) (sched : List Slot) → GoesUp inst sched
+-- starts meet a node with which a schedule of the instance's turn agrees
+pub has_starts_of : (inst : InstanceView) (ds : List Decision) (sched : List Slot) → GoesBy inst.turn inst sched
     → Agrees inst ds sched → HasStarts inst ds
 has_starts_of inst ds sched goes agrees =
-    record { starts = starts sched; meets = meets_of inst ds sched goes agrees }
+    record { starts = starts sched; meets = meets_by inst ds sched goes agrees }
 
-pub reached_of : (inst : InstanceView) (sched : List Slot) (j : ℕ) → GoesUp inst sched → j < length inst.tasks
+pub reached_of : (inst : InstanceView) (sched : List Slot) (j : ℕ) → GoesBy inst.turn inst sched → j < length inst.tasks
     → reaches inst j (crane_of sched j) ≡ true
 reached_of inst sched j goes low =
-    let r = goes.feasible.reach j low in and_from _ _ (T_true r.0.le) (T_true r.1.le)
+    let r = (by_feasible inst.turn inst sched goes).reach j low in and_from _ _ (T_true r.0.le) (T_true r.1.le)
 
 -- nothing is left of what is taken back whole
 pub all_gone : (ds : List Decision) → first_of 0 ds ≡ []
 all_gone ds = drop_all (length ds - 0) ds (omega arith)
 
 -- such a node isn't stuck
-pub unstuck : (inst : InstanceView) (ds : List Decision) (sched : List Slot) → GoesUp inst sched → Agrees inst ds sched
+pub unstuck : (inst : InstanceView) (ds : List Decision) (sched : List Slot) → GoesBy inst.turn inst sched → Agrees inst ds sched
     → (stuck : Bool) → HasNone inst ds stuck → stuck ≡ true → ⊥
 unstuck inst ds sched goes agrees true none is = none (has_starts_of inst ds sched goes agrees)
 unstuck inst ds sched goes agrees false none is = absurd (false≢true is)
@@ -76,12 +83,12 @@ module _ (inst : InstanceView) (sched : List Slot) (p : Pair) (ds : List Decisio
   abbrev order : Decision
   order = order_in inst sched p
 
-  pub order_open : IsApart inst p.first p.second → ¬ IsSettled inst ds p.first p.second → IsOpen inst ds order
-  order_open apart unsettled =
+  pub order_open : Conflicts inst ds p.first p.second → ¬ IsSettled inst ds p.first p.second → IsOpen inst ds order
+  order_open conflict unsettled =
       cond_both (nat_le (end_of inst sched p.first) (start_of sched p.second)) (Order p.first p.second)
       (Order p.second p.first) (IsOpen inst ds)
-      (λ _. (inl (inl apart), unsettled))
-      (λ _. (inl (inr apart), turned inst ds p.first p.second unsettled))
+      (λ _. (conflict, unsettled))
+      (λ _. (conflict_turned inst ds p.first p.second conflict, turned inst ds p.first p.second unsettled))
 
   pub order_reached : IsReached inst order
   order_reached =
@@ -100,15 +107,82 @@ module _ (inst : InstanceView) (sched : List Slot) (p : Pair) (ds : List Decisio
       (λ _. inl (ap is_some (ordered_here_is inst ds p.first p.second unsettled).1))
       (λ _. inr (ap is_some (ordered_here_is inst ds p.second p.first (turned inst ds p.first p.second unsettled)).1))
 
-  pub order_agreed : Valid inst → GoesUp inst sched → IsApart inst p.first p.second → Agrees inst ds sched
+  pub order_agreed : Valid inst → GoesBy inst.turn inst sched → Conflicts inst ds p.first p.second → Agrees inst ds sched
       → Agrees inst (order ∷ ds) sched
-  order_agreed v goes apart agrees =
-      let r = v.apart.range p.first p.second apart in
-      order_agrees inst sched p ds
-      (goes.feasible.apart p.first p.second (omega (arith, r.0, r.1)) r.1 apart) agrees
+  order_agreed v goes conflict agrees =
+      order_agrees inst sched p ds (conflict_clear (conflict_listed inst v sched ds has p.first p.second conflict)) agrees
+    where
+      has : (j k : ℕ) → j < length inst.tasks → assigned ds j ≡ Some k → crane_of sched j ≡ k
+      has j k low e = subst (λ (o : Option ℕ). IfSome o (λ v. crane_of sched j ≡ v)) e (assigned_is inst sched ds agrees j)
 
--- every pair is settled where each by its number is
-pub all_settled : (inst : InstanceView) (ds : List Decision) → AreAssigned inst ds
+      conflict_clear : Contains (ordered_pairs inst.turn inst sched) (pair_of p.first p.second)
+          ⊎ Contains (ordered_pairs inst.turn inst sched) (pair_of p.second p.first)
+          → IsClear inst sched 0 p.first p.second
+      conflict_clear (inl c) = ordered_clear inst v sched goes (pair_of p.first p.second) c
+      conflict_clear (inr c) = elim (ordered_clear inst v sched goes (pair_of p.second p.first) c) [
+        | inl h ↦ inr h
+        | inr h ↦ inl h
+      ]
+
+-- tasks that conflict do so whatever is decided that leaves their cranes
+pub conflict_moves : (inst : InstanceView) (ds es : List Decision) → ((j : ℕ) → assigned es j ≡ assigned ds j) → (i j : ℕ)
+    → Conflicts inst ds i j → Conflicts inst es i j
+conflict_moves inst ds es same i j (inl at) = inl at
+conflict_moves inst ds es same i j (inr clash) = inr (record {
+  free = clash.free;
+  first = clash.first;
+  second = clash.second;
+  differ = clash.differ;
+  first_crane = clash.first_crane;
+  second_crane = clash.second_crane;
+  of_first = same i ∙ clash.of_first;
+  of_second = same j ∙ clash.of_second;
+  near = clash.near;
+})
+
+module _ (inst : InstanceView) (v : Valid inst) (ds : List Decision) (sched : List Slot) (given : AreAssigned inst ds)
+    (agrees : Agrees inst ds sched) where
+  crane_is : (j : ℕ) → j < length inst.tasks → assigned ds j ≡ Some (crane_of sched j)
+  crane_is j low = some_is (assigned ds j) (crane_of sched j) (given j low) (assigned_is inst sched ds agrees j)
+
+  -- where each two that conflict are settled, each pair is whose order the schedule decides
+  pub conflicts_ordered : ((i j : ℕ) → i < j → j < length inst.tasks → Conflicts inst ds i j → IsSettled inst ds i j)
+      → AreOrdered inst ds sched
+  conflicts_ordered settled p c =
+      let conflict = listed_conflict inst v sched ds crane_is p c in
+      let r = ordered_rise inst v sched p c in
+      settled p.first p.second r.0 r.1 conflict
+
+  -- and then nothing is left to decide
+  pub ordered_complete : (begins : List ℕ) → Fits inst ds → IsInReach inst ds → AreOrdered inst ds sched
+      → AreLeast inst ds begins → IsComplete inst ds
+  ordered_complete begins fits reach ordered least = by_turn inst.turn refl ordered
+    where
+      has : (j k : ℕ) → j < length inst.tasks → assigned ds j ≡ Some k → crane_of sched j ≡ k
+      has j k low e = subst (λ (o : Option ℕ). IfSome o (λ v. crane_of sched j ≡ v)) e (assigned_is inst sched ds agrees j)
+
+      settled : (i j : ℕ) → Conflicts inst ds i j → IsSettled inst ds i j
+      settled i j conflict = elim (conflict_listed inst v sched ds has i j conflict) [
+        | inl c ↦ ordered (pair_of i j) c
+        | inr c ↦ swapped inst ds i j (ordered (pair_of j i) c)
+      ]
+
+      by_turn : (turn : Turn) → inst.turn ≡ turn
+          → ((p : Pair) → Contains (ordered_pairs inst.turn inst sched) p → IsSettled inst ds p.first p.second)
+          → IsComplete inst ds
+      by_turn OneWay one all = complete_one_way inst ds one given (λ i j a. settled i j (inl (inl a)))
+      by_turn Free as_free all =
+          (complete_where inst ds begins v fits reach as_free given least).1
+          (record { clear = λ i j x y rising high on_x on_y conflict unsettled. absurd (unsettled (settled i j conflict)) })
+
+-- the apart pairs by their numbers
+pub apart_ordered : (inst : InstanceView) (ds : List Decision) (sched : List Slot) → inst.turn ≡ OneWay
+    → ((k : ℕ) → k < length inst.apart → IsSettledPair inst ds (get_or inst.apart k (pair_of 0 0))) → AreOrdered inst ds sched
+apart_ordered inst ds sched one each p c =
+    let apart = subst (λ (t : Turn). Contains (ordered_pairs t inst sched) p) one c in
+    settled_at inst ds p.first p.second apart (each apart.0 apart.1)
+
+pub all_settled : (inst : InstanceView) (ds : List Decision) → inst.turn ≡ OneWay → AreAssigned inst ds
     → ((k : ℕ) → k < length inst.apart → IsSettledPair inst ds (get_or inst.apart k (pair_of 0 0))) → IsComplete inst ds
-all_settled inst ds given each =
-    record { tasks = given; pairs = λ i j a. settled_at inst ds i j a (each a.0 a.1) }
+all_settled inst ds one given each =
+    complete_one_way inst ds one given (λ i j a. settled_at inst ds i j a (each a.0 a.1))

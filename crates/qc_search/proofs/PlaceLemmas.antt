@@ -6,7 +6,6 @@ use Rattle.qc_dist.proofs.Assigned.{assigned_here}
 use Rattle.qc_dist.specs.Node.{IsOpen, newest}
 use Rattle.qc_model.specs.declared.decision.Decision.{Decision}
 use Rattle.qc_model.specs.declared.decision.Decision.TheVariants.{Assign, Order}
-use Rattle.qc_model.specs.declared.turn.Turn.TheVariants.{OneWay}
 use Rattle.qc_model.specs.Assignments.{crane_in, no_cranes}
 use Rattle.qc_model.specs.Instance.{InstanceView, Valid}
 use Rattle.qc_model.specs.Nodes.{Fits, assigned}
@@ -22,7 +21,7 @@ module _ (inst : InstanceView) where
       let free = unsettled_unordered inst ds i j is_open.1 in
       (is_open.0, free.0, free.1, fits)
 
-  pub crew_root : (crew : CrewView) → crew ≡ record { inst = inst; turn = OneWay; cranes = no_cranes inst }
+  pub crew_root : (crew : CrewView) → crew ≡ record { inst = inst; turn = inst.turn; cranes = no_cranes inst }
       → IsCrewOf crew inst []
   crew_root crew e = record {
     same = ap (λ (c : CrewView). c.inst) e;
@@ -85,12 +84,11 @@ opened f node d e view is_open same =
     subst (IsOpen f.starts.inst f.starts.decisions) same
     (subst (λ (n : StartsNode). IsOpen n.inst n.decisions d) (sym view) is_open)
 
-pub placed : (inst : InstanceView) (ds : List Decision) (new : StartsNode) (crew : CrewView) → Valid inst → inst.turn ≡ OneWay
+pub placed : (inst : InstanceView) (ds : List Decision) (new : StartsNode) (crew : CrewView) → Valid inst
     → new.inst ≡ inst → new.decisions ≡ ds → Fits inst ds → IsCrewOf crew inst ds
     → IsPlaced (record { starts = new; crew = crew })
-placed inst ds new crew valid one same made fits is = record {
+placed inst ds new crew valid same made fits is = record {
   valid = subst Valid (sym same) valid;
-  one_way = ap (λ (i : InstanceView). i.turn) same ∙ one;
   fits = subst₂ Fits (sym same) (sym made) fits;
   crew = subst₂ (IsCrewOf crew) (sym same) (sym made) is;
 }

@@ -8,7 +8,6 @@ use Rattle.qc_num.specs.declared.bound.Bound.TheVariants.{Least, Never}
 use Rattle.qc_num.specs.Bounds.{IsAtMost}
 use Rattle.qc_model.specs.declared.direction.Direction.{Direction}
 use Rattle.qc_model.specs.declared.schedule.Slot.{Slot}
-use Rattle.qc_model.specs.declared.turn.Turn.TheVariants.{OneWay}
 use Rattle.qc_model.specs.Instance.{InstanceView, Valid}
 use Rattle.qc_model.specs.Rules.{ends}
 use Rattle.qc_model.specs.Seen.{seen_schedule}
@@ -65,7 +64,7 @@ given_told home (Some given) None done form no_later is best = absurd form
 given_told home (Some given) (Some sched) done form no_later is best =
     record { first = sched; form = form; told = is; no_later = no_later; best = best }
 
-module _ (home : InstanceView) (v : Valid home) (one : home.turn ≡ OneWay) (given : Option (List Slot)) {before after : View} (old now : Progress)
+module _ (home : InstanceView) (v : Valid home) (given : Option (List Slot)) {before after : View} (old now : Progress)
     (limit : ℕ) (b : IsBegun home given limit old) (w : WritesTree before after home b.first old now (Ok tt)) where
   -- the best schedule as it is answered, and its end
   best_is : MatchOption (shown_best (length home.cranes) now.incumbent_end now.way now.incumbent)
@@ -137,20 +136,20 @@ module _ (home : InstanceView) (v : Valid home) (one : home.turn ≡ OneWay) (gi
   }
 
   pub went_cranes : (end : ℕ) → now.incumbent_end ≡ Least end → All (λ (s : Slot). s.crane < length home.cranes) now.incumbent
-  went_cranes = cranes_low home b.first v one now _ w.progress
+  went_cranes = cranes_low home b.first v now _ w.progress
 
   pub went_sound : IsSound (record { inst = home; nodes = limit }) given (told_of home old.incumbent_end now)
   went_sound =
       let ends_is = best_end_is home b.first now _ w.progress in
       record {
         none_earlier = subst (NoneEarlier home) (sym bound_told) (tree_bound home v w.tree w.is_tree);
-        judgeable = judgeable_is home b.first v one now _ w.progress;
-        tight = tight_is home b.first v one now _ w.progress;
+        judgeable = judgeable_is home b.first v now _ w.progress;
+        tight = tight_is home b.first v now _ w.progress;
         soon = best_soon home b.first now _ w.progress _ ends_is;
         kind = ap (outcome now.bound) (sym ends_is);
         spent = spent_is;
         begins = given_told home given b.first (told_of home old.incumbent_end now) b.begins b.no_later
             (ap bound_end b.known ∙ told_end home b.first)
             (subst (λ (e : Bound). IsAtMost e (best_end home b.first)) (sym ends_is) w.progress.known.given);
-        decides = λ enough kind. omega (arith, enough, spent_is kind, branched_told, few_in_tree home w.tree w.is_tree);
+        decides = λ enough kind. omega (arith, enough, spent_is kind, branched_told, few_in_tree home v w.tree w.is_tree);
       }

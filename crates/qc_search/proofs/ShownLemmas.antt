@@ -6,23 +6,25 @@ use Rattle.qc_num.specs.declared.bound.Bound.TheVariants.{Least, Never}
 use Rattle.qc_model.specs.declared.direction.Direction.{Direction}
 use Rattle.qc_model.specs.declared.direction.Direction.TheVariants.{Up, Down}
 use Rattle.qc_model.specs.declared.schedule.Slot.{Slot}
-use Rattle.qc_model.specs.declared.turn.Turn.TheVariants.{OneWay}
+use Rattle.qc_model.specs.declared.turn.Turn.{Turn}
+use Rattle.qc_model.specs.declared.turn.Turn.TheVariants.{OneWay, Free}
+use Rattle.qc_model.specs.Frames.{GoesBy}
 use Rattle.qc_model.specs.Numbers.{most_start}
 use Rattle.qc_model.specs.Instance.{InstanceView, Valid}
 use Rattle.qc_model.specs.Judge.{Goes, IsJudgeable}
 use Rattle.qc_model.specs.Nodes.{AreLeast, schedule_with}
 use Rattle.qc_model.specs.OneWay.{GoesUp, flipped, mirror}
-use Rattle.qc_model.specs.Rules.{crane_of, no_slot, start_of, starts}
+use Rattle.qc_model.specs.Rules.{Feasible, crane_of, no_slot, start_of, starts}
 use Rattle.qc_model.specs.Seen.{seen, seen_schedule}
-use Rattle.qc_model.proofs.CompleteNodes.{goes_with, starts_with}
+use Rattle.qc_model.proofs.CompleteNodes.{feasible_least, goes_least, starts_with}
 use Rattle.qc_model.proofs.MirrorLemmas.{seen_valid}
 use Rattle.qc_model.proofs.NodeLemmas.{ends_by, start_at}
 use Rattle.qc_model.proofs.SeenLemmas.{seen-crane_count, seen-crane_of, seen-start_of, seen-task_count}
 use Rattle.qc_search.specs.declared.progress.Progress.{Progress}
 use Rattle.qc_search.specs.Progress.{IsProgress, IsKept, shown_best}
 use Rattle.qc_search.specs.Earned.{TreeNode}
-use Rattle.qc_starts.specs.Tight.{IsTight, decided_by}
-use Rattle.qc_search.proofs.DecidedLemmas.{decided_least, seen_one_way}
+use Rattle.qc_starts.specs.Tight.{IsAllowedSo, IsTight, decided_by}
+use Rattle.qc_search.proofs.DecidedLemmas.{decided_least}
 
 -- turned twice, a schedule is as it was
 turned_back : (cranes : ℕ) (sched : List Slot)
@@ -69,7 +71,32 @@ goes_as home Up sched met same low goes = subst (GoesUp home) (sym same) goes
 goes_as home Down sched met same low goes =
     record { crane_range = low; mirrored = subst (GoesUp (mirror home)) (sym same) goes }
 
-module _ (home : InstanceView) (first : Option (List Slot)) (v : Valid home) (one : home.turn ≡ OneWay) (done : Progress)
+-- the mirror leaves the turn as it is
+pub seen_turn : (home : InstanceView) (way : Direction) → (seen home way).turn ≡ home.turn
+seen_turn home Up = refl
+seen_turn home Down = refl
+
+-- what is seen as it is is feasible as it is seen
+feasible_so : (home : InstanceView) (way : Direction) (sched : List Slot) → way ≡ Up → Feasible (seen home way) sched
+    → Feasible home (seen_schedule home sched way)
+feasible_so home Up sched up f = f
+feasible_so home Down sched up f = absurd (cc up)
+
+-- where cranes may follow what is met, they may follow it as it is answered
+pub allowed_as : (home : InstanceView) (way : Direction) (met : List Slot) → GoesBy (seen home way).turn (seen home way) met
+    → Feasible (seen home way) met → (home.turn ≡ Free → way ≡ Up)
+    → seen_schedule home (seen_schedule home met way) way ≡ met
+    → ((j : ℕ) → j < length home.tasks → crane_of (seen_schedule home met way) j < length home.cranes)
+    → IsAllowedSo home.turn home (seen_schedule home met way) way
+allowed_as home way met goes f only_up same low = by_turn home.turn refl
+  where
+    by_turn : (turn : Turn) → home.turn ≡ turn → IsAllowedSo turn home (seen_schedule home met way) way
+    by_turn OneWay one =
+        goes_as home way (seen_schedule home met way) met same low
+        (subst (λ (t : Turn). GoesBy t (seen home way) met) (seen_turn home way ∙ one) goes)
+    by_turn Free as_free = (feasible_so home way met (only_up as_free) f, only_up as_free)
+
+module _ (home : InstanceView) (first : Option (List Slot)) (v : Valid home) (done : Progress)
     (nodes : List TreeNode) (end : ℕ) (k : IsKept home first done nodes end) where
   abbrev inst : InstanceView
   inst = seen home k.node.way
@@ -80,23 +107,25 @@ module _ (home : InstanceView) (first : Option (List Slot)) (v : Valid home) (on
   kept_valid : Valid inst
   kept_valid = seen_valid home v k.node.way
 
-  kept_goes : GoesUp inst kept
+  kept_goes : GoesBy inst.turn inst kept
   kept_goes =
-      goes_with inst k.node.decisions k.begins kept_valid k.fits k.solved.complete k.solved.in_reach k.solved.least.meets
-      (seen_one_way home one k.node.way)
+      goes_least inst k.node.decisions k.begins kept_valid k.fits k.solved.complete k.solved.in_reach k.solved.least
+
+  kept_feasible : Feasible inst kept
+  kept_feasible =
+      feasible_least inst k.node.decisions k.begins kept_valid k.fits k.solved.complete k.solved.in_reach k.solved.least
 
   kept_least : AreLeast inst (decided_by inst kept) (starts kept)
   kept_least =
       decided_least inst k.node.decisions k.begins kept_valid k.fits k.solved.complete k.solved.in_reach k.solved.least
-      (seen_one_way home one k.node.way)
 
   kept_count : length kept ≡ length home.tasks
-  kept_count = kept_goes.feasible.all_tasks ∙ seen-task_count home k.node.way
+  kept_count = kept_feasible.all_tasks ∙ seen-task_count home k.node.way
 
   kept_low : (j : ℕ) → j < length home.tasks → crane_of kept j < length home.cranes
   kept_low j low =
       let n = seen-task_count home k.node.way in
-      let c = kept_goes.feasible.crane_range j (omega (arith, n, low)) in
+      let c = kept_feasible.crane_range j (omega (arith, n, low)) in
       omega (arith, c, seen-crane_count home k.node.way)
 
   kept_soon : (j : ℕ) → j < length home.tasks → start_of kept j ≤ most_start
@@ -134,7 +163,7 @@ module _ (home : InstanceView) (first : Option (List Slot)) (v : Valid home) (on
       let same = turned_as_met home k.node.way kept (λ j low. kept_low j (omega (arith, kept_count, low))) in
       record {
         way = k.node.way;
-        goes = goes_as home k.node.way shown kept same shown_low kept_goes;
+        goes = allowed_as home k.node.way kept kept_goes kept_feasible k.only_up same shown_low;
         least = subst (λ (s : List Slot). AreLeast inst (decided_by inst s) (starts s)) (sym same) kept_least;
       }
 
@@ -160,17 +189,17 @@ some_shown : (N : Type 0) (P : List Slot → Type 0) (o : Option (List Slot)) �
 some_shown N P None h = tt
 some_shown N P (Some s) h = h
 
-module _ (home : InstanceView) (first : Option (List Slot)) (v : Valid home) (one : home.turn ≡ OneWay) (done : Progress)
+module _ (home : InstanceView) (first : Option (List Slot)) (v : Valid home) (done : Progress)
     (nodes : List TreeNode) (course : IsProgress home first done nodes) where
   pub cranes_low : (end : ℕ) → done.incumbent_end ≡ Least end → All (λ (s : Slot). s.crane < length home.cranes) done.incumbent
-  cranes_low end e = kept_cranes home first v one done nodes end (course.best end e)
+  cranes_low end e = kept_cranes home first v done nodes end (course.best end e)
 
   pub judgeable_is : IfSome (shown_best (length home.cranes) done.incumbent_end done.way done.incumbent) (IsJudgeable home)
   judgeable_is = some_shown _ (IsJudgeable home) _ (best_shown home first done nodes course (IsJudgeable home) (λ end e k.
       subst (λ (s : List Slot). IsJudgeable home (seen_schedule home s k.node.way)) (sym k.is)
-      (shown_judgeable home first v one done nodes end k)))
+      (shown_judgeable home first v done nodes end k)))
 
   pub tight_is : IfSome (shown_best (length home.cranes) done.incumbent_end done.way done.incumbent) (IsTight home)
   tight_is = some_shown _ (IsTight home) _ (best_shown home first done nodes course (IsTight home) (λ end e k.
       subst (λ (s : List Slot). IsTight home (seen_schedule home s k.node.way)) (sym k.is)
-      (shown_tight home first v one done nodes end k)))
+      (shown_tight home first v done nodes end k)))

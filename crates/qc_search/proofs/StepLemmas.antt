@@ -10,6 +10,8 @@ use Rattle.smallvec.specs.SmallVec.{SmallVec}
 use Rattle.qc_bounds.proofs.ClosedLemmas.{one_end}
 use Rattle.qc_model.specs.declared.decision.Decision.{Decision}
 use Rattle.qc_model.specs.declared.direction.Direction.{Direction}
+use Rattle.qc_model.specs.declared.direction.Direction.TheVariants.{Up}
+use Rattle.qc_model.specs.declared.turn.Turn.TheVariants.{Free}
 use Rattle.qc_model.specs.Closing.{IsClosable, complete}
 use Rattle.qc_model.specs.declared.schedule.Slot.{Slot}
 use Rattle.qc_model.specs.Instance.{InstanceView}
@@ -22,7 +24,7 @@ use Rattle.qc_search.specs.declared.branch.Branch.{Branch}
 use Rattle.qc_search.specs.declared.branch.Branch.TheVariants.{Pair, Task}
 use Rattle.qc_search.specs.declared.progress.Progress.{Progress}
 use Rattle.qc_search.specs.Earned.{IsClosedAt, IsEarnedBehind, IsGivenUp, IsKnownEnd, IsClashLate, IsSolvedBy, MayStand, TreeNode, branchings_in, node_at}
-use Rattle.qc_search.specs.Progress.{Improves, IsAlong, IsFrom, IsKept, IsPassed, IsProgress, IsSoon, IsStep, IsTaken, value_in}
+use Rattle.qc_search.specs.Progress.{Improves, IsAlong, IsFrom, IsKept, IsPartOf, IsPassed, IsProgress, IsSoon, IsStep, IsTaken, value_in}
 use Rattle.qc_search.specs.Run.{best_end}
 use Rattle.qc_search.specs.Walk.{IsOpenBranch, sign_of}
 use Rattle.qc_search.proofs.BestLemmas.{at_most_of, not_late}
@@ -64,6 +66,7 @@ kept_as home first old new nodes more end way same on k = record {
   ends = k.ends;
   soon = k.soon;
   way = k.way ∙ sym way;
+  only_up = k.only_up;
   is = same ∙ k.is;
 }
   where
@@ -99,8 +102,8 @@ pub record IsLeafStep
   pub meets : IsPassed inst ds old mid ⊎ IsTaken inst way ds old mid
   pub late : old.branched < old.limit → IsAtMost mid.incumbent_end (sign_value with_packed inst ds (leaf shows))
 
-module _ (home : InstanceView) (first : Option (List Slot)) (way : Direction) (ds : List Decision)
-    (before : List TreeNode) where
+module _ (home : InstanceView) (first : Option (List Slot)) (way : Direction) (only_up : home.turn ≡ Free → way ≡ Up)
+    (ds : List Decision) (before : List TreeNode) where
   module _ (sign : Sign) where
     abbrev here : TreeNode
     here = node_at way ds sign
@@ -151,6 +154,7 @@ module _ (home : InstanceView) (first : Option (List Slot)) (way : Direction) (d
           ends = is;
           soon = omega (arith, is, t.soon);
           way = sym (ap (λ (c : Progress). c.way) t.is);
+          only_up = only_up;
           is = ap (λ (c : Progress). c.incumbent) t.is;
         }
 
@@ -216,9 +220,9 @@ leaf_step inst way ds shows old mid path capacity soon s =
           × IsProgress home first (record mid {
             bound = lesser mid.bound (sign_value with_packed i ds (leaf shows));
             path = path;
-          }) (before ++ node_at way ds (leaf shows) ∷ [])) seen_so
-          (leaf_earned home first way ds before shows old mid path now
-          (subst (λ (i : InstanceView). IsLeafStep i way ds shows old mid) (sym seen_so) s));
+          }) (before ++ node_at way ds (leaf shows) ∷ [])) seen_so.same
+          (leaf_earned home first way seen_so.only_up ds before shows old mid path now
+          (subst (λ (i : InstanceView). IsLeafStep i way ds shows old mid) (sym seen_so.same) s));
     }
 
 -- ---- a branching
@@ -230,7 +234,7 @@ module _ (inst : InstanceView) (way : Direction) (ds : List Decision) (old : Pro
   branched = record old { branched = old.branched + 1 }
 
   branch_earned : (sign : Sign) (home : InstanceView) (first : Option (List Slot)) (before : List TreeNode)
-      → seen home way ≡ inst
+      → IsPartOf home way inst
       → branchings_in (node_at way ds sign ∷ []) ≡ 1
       → sign_value with_packed (seen home way) ds sign ≡ Never
       → MayStand (seen home way) ds old.incumbent_end (branchings_in before) old.limit sign
@@ -246,7 +250,7 @@ module _ (inst : InstanceView) (way : Direction) (ds : List Decision) (old : Pro
           bound = now.bound ∙ sym (lesser_never (value_in home before))
               ∙ ap (lesser (value_in home before)) (sym worthless) ∙ sym (value_push home before node);
           known = met_passed home (best_end home first) before old.incumbent_end now.known node (λ end by. absurd (unclosed (complete
-              (subst (λ (i : InstanceView). IsComplete i ds) seen_so by.solved.complete))));
+              (subst (λ (i : InstanceView). IsComplete i ds) seen_so.same by.solved.complete))));
           best = λ end e. kept_on home first old branched before node end refl refl (now.best end e);
           late = λ more. now.late left;
         },
@@ -255,8 +259,8 @@ module _ (inst : InstanceView) (way : Direction) (ds : List Decision) (old : Pro
   along : IsAlong inst old branched
   along = record { limit = refl; count = λ h. h; room = λ h. h; soon = λ h. h }
 
-  stands_open : (home : InstanceView) → seen home way ≡ inst → ¬ IsClosable (seen home way) ds old.incumbent_end
-  stands_open home seen_so = subst (λ (i : InstanceView). ¬ IsClosable i ds old.incumbent_end) (sym seen_so) unclosed
+  stands_open : (home : InstanceView) → IsPartOf home way inst → ¬ IsClosable (seen home way) ds old.incumbent_end
+  stands_open home seen_so = subst (λ (i : InstanceView). ¬ IsClosable i ds old.incumbent_end) (sym seen_so.same) unclosed
 
   pub branch_step : (branch : Branch) → IsOpenBranch inst ds branch
       → IsStep inst way ds (sign_of branch) old branched

@@ -5,3 +5,4 @@ pub mod Walk
 pub mod Lines
 pub mod Progress
 pub mod Places
+pub mod Roots

@@ -1,7 +1,5 @@
 -- inner: the fields of the node at which a search stands, as clauses see them and as they are kept.
-use Rattle.std.specs.Prelude.{◌≡◌}
 use Rattle.qc_close.specs.Crews.{IsCrewOf}
-use Rattle.qc_model.specs.declared.turn.Turn.TheVariants.{OneWay}
 use Rattle.qc_model.specs.Instance.{Valid}
 use Rattle.qc_model.specs.Nodes.{Fits}
 use Rattle.qc_starts.specs.Seen.{StartsNode}
@@ -10,9 +8,8 @@ use Rattle.qc_search.specs.declared.place.Node.TheInside.{Inside}
 abbrev pub node_of : Inside → StartsNode
 node_of f = f.starts
 
--- cranes go one way, the decisions fit the instance, and the crew is theirs
+-- the decisions fit the instance, and the crew is theirs
 pub record IsPlaced (f : Inside) : Type 0 where
   pub valid : Valid f.starts.inst
-  pub one_way : f.starts.inst.turn ≡ OneWay
   pub fits : Fits f.starts.inst f.starts.decisions
   pub crew : IsCrewOf f.crew f.starts.inst f.starts.decisions

@@ -12,20 +12,21 @@ use Rattle.smallvec.specs.SmallVec.{SmallVec}
 use Rattle.qc_model.specs.declared.decision.Decision.{Decision}
 use Rattle.qc_model.specs.declared.direction.Direction.{Direction}
 use Rattle.qc_model.specs.declared.direction.Direction.TheVariants.{Up, Down}
+use Rattle.qc_model.specs.declared.pair.Pair.{Pair}
 use Rattle.qc_model.specs.declared.schedule.Slot.{Slot}
+use Rattle.qc_model.specs.declared.turn.Turn.TheVariants.{Free}
 use Rattle.qc_model.specs.Instance.{InstanceView}
 use Rattle.qc_model.specs.Leaves.{with_packed}
-use Rattle.qc_model.specs.Nodes.{Agrees, AreLeast, Fits, IsComplete, IsInReach, schedule_with}
+use Rattle.qc_model.specs.Nodes.{Agrees, AreLeast, Fits, IsComplete, IsInReach, IsSettled, schedule_with}
 use Rattle.qc_model.specs.Numbers.{most_start, most_tasks}
 use Rattle.qc_model.specs.OneWay.{flipped}
-use Rattle.qc_model.specs.Judge.{IsDirection}
 use Rattle.qc_model.specs.Rules.{ends, last_end}
 use Rattle.qc_model.specs.Seen.{seen, seen_schedule}
 use Rattle.qc_tree.specs.Trees.{Holds, IsTree, Leads, Node, Sign, Tree, part_text, sign_value, tree_text}
 use Rattle.qc_search.specs.declared.progress.Progress.{Progress}
 use Rattle.qc_search.specs.Earned.{IsEarnedBehind, IsKnownEnd, IsSolved, TreeNode, branchings_in, node_at, part_nodes, solved_end, tree_nodes}
 use Rattle.qc_search.specs.Run.{IsFirst, best_end}
-use Rattle.qc_starts.specs.Tight.{IsTight}
+use Rattle.qc_starts.specs.Tight.{IsSeenSo, IsTight, ordered_pairs}
 
 -- the progress before the first line
 abbrev pub begun : (limit : ℕ) → List Slot → SmallVec ℕ → Progress
@@ -64,6 +65,7 @@ pub record IsKept (home : InstanceView) (first : Option (List Slot)) (now : Prog
   pub ends : end ≡ solved_end home node begins
   pub soon : end ≤ most_start
   pub way : node.way ≡ now.way
+  pub only_up : home.turn ≡ Free → node.way ≡ Up
   pub is : now.incumbent ≡ schedule_with (seen home node.way) node.decisions begins
 
 -- this is what the nodes come to, behind the schedule that the search began with
@@ -95,13 +97,18 @@ pub record IsAlong (inst : InstanceView) (old new : Progress) : Type 0 where
   pub room : HasRoom most_tasks old.path → HasRoom most_tasks new.path
   pub soon : IsSoon old.bound → IsSoon new.bound
 
+-- the part is that of the instance as it is seen this way; where cranes go as they like there is one, as it is
+pub record IsPartOf (home : InstanceView) (way : Direction) (inst : InstanceView) : Type 0 where
+  pub same : seen home way ≡ inst
+  pub only_up : home.turn ≡ Free → way ≡ Up
+
 -- the line holds at its node, which is earned there, and leads from one progress to another
 pub record IsStep
     (inst : InstanceView) (way : Direction) (ds : List Decision) (sign : Sign) (old new : Progress) : Type 0 where
   pub holds : Holds with_packed inst ds sign
   pub along : IsAlong inst old new
   pub earned :
-      (home : InstanceView) (first : Option (List Slot)) (before : List TreeNode) → seen home way ≡ inst
+      (home : InstanceView) (first : Option (List Slot)) (before : List TreeNode) → IsPartOf home way inst
       → IsProgress home first old before
       → IsEarnedBehind home old.limit (best_end home first) before (node_at way ds sign)
       × IsProgress home first new (before ++ node_at way ds sign ∷ [])
@@ -110,7 +117,7 @@ pub record IsStep
 pub record Comes (inst : InstanceView) (way : Direction) (nodes : List Node) (old new : Progress) : Type 0 where
   pub along : IsAlong inst old new
   pub earned :
-      (home : InstanceView) (first : Option (List Slot)) (before : List TreeNode) → seen home way ≡ inst
+      (home : InstanceView) (first : Option (List Slot)) (before : List TreeNode) → IsPartOf home way inst
       → IsProgress home first old before
       → AreEarned home old.limit (best_end home first) before (part_nodes way nodes)
       × IsProgress home first new (before ++ part_nodes way nodes)
@@ -124,7 +131,7 @@ pub record WritesNodes
   pub leads : Leads with_packed inst due nodes left
   pub writes : Writes before after (front ++ part_text nodes) result
   pub few :
-      (home : InstanceView) (first : Option (List Slot)) (earlier : List TreeNode) → seen home way ≡ inst
+      (home : InstanceView) (first : Option (List Slot)) (earlier : List TreeNode) → IsPartOf home way inst
       → IsProgress home first old earlier → branchings_in (earlier ++ part_nodes way nodes) ≤ old.limit
   pub comes : OnOk result (Comes inst way nodes old new)
 
@@ -189,11 +196,18 @@ shown_best cranes Never way best = None
 shown_best cranes (Least end) Up best = Some best
 shown_best cranes (Least end) Down best = Some (map (flipped cranes) best)
 
--- the starts of a schedule were made the least ones of a node that it agrees with, and it ends then
+-- each pair whose order the schedule decides is settled at the node
+abbrev pub AreOrdered : InstanceView → List Decision → List Slot → Type 0
+AreOrdered inst ds sched =
+    (pair : Pair) → Contains (ordered_pairs inst.turn inst sched) pair → IsSettled inst ds pair.first pair.second
+
+-- the starts of a schedule were made the least ones of a node that it agrees with and that has its order of tasks, and it
+-- ends then
 pub record IsTightened (inst : InstanceView) (old new : List Slot) (end : ℕ) : Type 0 where
   pub decisions : List Decision
   pub agrees : Agrees inst decisions old
   pub fits : Fits inst decisions
+  pub ordered : AreOrdered inst decisions old
   pub complete : IsComplete inst decisions
   pub in_reach : IsInReach inst decisions
   pub begins : List ℕ
@@ -206,7 +220,7 @@ pub record IsTightened (inst : InstanceView) (old new : List Slot) (end : ℕ) :
 pub record IsBegunWith (home : InstanceView) (given : List Slot) (limit : ℕ) (path : SmallVec ℕ) (now : Progress)
     : Type 0 where
   pub way : Direction
-  pub direction : IsDirection home given way
+  pub direction : IsSeenSo home.turn home given way
   pub end : ℕ
   pub tightened : IsTightened (seen home way) (seen_schedule home given way) now.incumbent end
   pub is : now ≡ record (begun limit now.incumbent path) { incumbent_end = Least end; way = way }

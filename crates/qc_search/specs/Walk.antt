@@ -4,11 +4,11 @@ use Rattle.qc_dist.specs.Children.{behind}
 use Rattle.qc_dist.specs.Node.{IsOpen}
 use Rattle.qc_model.specs.declared.decision.Decision.{Decision}
 use Rattle.qc_model.specs.declared.decision.Decision.TheVariants as decide
-use Rattle.qc_model.specs.Instance.{InstanceView, IsApart}
+use Rattle.qc_model.specs.Instance.{InstanceView}
 use Rattle.qc_model.specs.Nodes.{HasStarts, IsSettled, assigned}
 use Rattle.qc_model.specs.Numbers.{most_cranes}
 use Rattle.qc_starts.specs.Seen.{AreAssigned, IsReached}
-use Rattle.qc_tree.specs.Trees.{Sign, on_pair, on_task}
+use Rattle.qc_tree.specs.Trees.{MayOrder, Sign, on_pair, on_task}
 use Rattle.qc_search.specs.declared.branch.Branch.{Branch}
 use Rattle.qc_search.specs.declared.branch.Branch.TheVariants.{Pair, Task}
 
@@ -53,7 +53,7 @@ first_of (Pair i j) = decide.Order i j
 abbrev pub IsOpenTask : InstanceView → List Decision → ℕ → Type 0
 IsOpenTask inst ds j = (j < length inst.tasks) × (assigned ds j ≡ None)
 
--- the branching is on what is open: on an unassigned task or, where there is none, on an apart pair
+-- the branching is on what is open: on an unassigned task or, where there is none, on a pair that may be ordered
 abbrev pub IsOpenBranch : InstanceView → List Decision → Branch → Type 0
 IsOpenBranch inst ds (Task j) = IsOpenTask inst ds j
-IsOpenBranch inst ds (Pair i j) = IsApart inst i j × (¬ IsSettled inst ds i j) × AreAssigned inst ds
+IsOpenBranch inst ds (Pair i j) = MayOrder inst ds i j × (¬ IsSettled inst ds i j) × AreAssigned inst ds

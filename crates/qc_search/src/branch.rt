@@ -9,7 +9,7 @@ use qc_model::Decision;
 pub(crate) enum Branch {
     /// On the crane of a task.
     Task(u16),
-    /// On which of two apart tasks is first.
+    /// On which of two tasks is first.
     Pair(u16, u16),
 }
 

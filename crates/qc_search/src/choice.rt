@@ -1,13 +1,14 @@
 //! Which branching comes next. It decides how much is shown within a budget, and nothing else: any
 //! choice of an open branching is right.
 ghost use Rattle.std.specs.Prelude.{◌≡◌, ◌<◌, ◌⊎◌, Some, MatchOption, length};
+ghost use Rattle.qc_model.specs.declared.turn.Turn.TheVariants.{OneWay, Free};
 ghost use Rattle.qc_model.specs.Nodes.{HasStarts, IsComplete};
 ghost use Rattle.qc_starts.specs.Seen.{AreAssigned};
 ghost use Rattle.qc_search.specs.Walk.{IsOpenBranch, IsOpenTask};
 
 use crate::branch::Branch;
 use crate::given::apart_at;
-use qc_model::Pair;
+use qc_model::{Pair, Turn};
 use qc_num::Tick;
 use qc_starts::Starts;
 
@@ -59,7 +60,8 @@ fn sooner(before: Option<Unsettled>, this: Unsettled) -> Unsettled
 
 /// The apart pair to settle: of those that overlap in the earliest starts the one that does so first,
 /// else the first of all.
-fn next_pair(starts: &Starts) -> Branch
+fn next_apart(starts: &Starts) -> Branch
+    requires one_way { starts.now.inst.turn ≡ OneWay }
     requires starts { HasStarts starts.now.inst starts.now.decisions }
     requires assigned { AreAssigned starts.now.inst starts.now.decisions }
     requires undecided { ¬ IsComplete starts.now.inst starts.now.decisions }
@@ -79,7 +81,34 @@ fn next_pair(starts: &Starts) -> Branch
     }
 }
 
-/// The lowest unassigned task; where there is none, an apart pair that isn't settled.
+/// The pair to settle where cranes go as they like: of those that overlap in the earliest starts.
+fn next_overlap(starts: &Starts) -> Branch
+    requires free { starts.now.inst.turn ≡ Free }
+    requires starts { HasStarts starts.now.inst starts.now.decisions }
+    requires assigned { AreAssigned starts.now.inst starts.now.decisions }
+    requires undecided { ¬ IsComplete starts.now.inst starts.now.decisions }
+    ensures { IsOpenBranch starts.now.inst starts.now.decisions result }
+{
+    match starts.overlap() {
+        Some(pair) => Branch::Pair(pair.first, pair.second),
+        None => unreachable!(),
+    }
+}
+
+/// The pair to settle, where all tasks have a crane.
+fn next_pair(starts: &Starts) -> Branch
+    requires starts { HasStarts starts.now.inst starts.now.decisions }
+    requires assigned { AreAssigned starts.now.inst starts.now.decisions }
+    requires undecided { ¬ IsComplete starts.now.inst starts.now.decisions }
+    ensures { IsOpenBranch starts.now.inst starts.now.decisions result }
+{
+    match starts.instance().turn() {
+        Turn::OneWay => next_apart(starts),
+        Turn::Free => next_overlap(starts),
+    }
+}
+
+/// The lowest unassigned task; where there is none, a pair whose order is open.
 pub(crate) fn pick(starts: &Starts) -> Branch
     requires starts { HasStarts starts.now.inst starts.now.decisions }
     requires undecided { ¬ IsComplete starts.now.inst starts.now.decisions }

@@ -10,9 +10,9 @@ use std::marker::Model;
 /// How a search came out.
 #[derive(Clone, Copy, Debug, PartialEq, Eq)]
 pub enum Kind {
-    /// No schedule that goes one way ends before the incumbent.
+    /// No schedule of the instance's turn ends before the incumbent.
     Optimal,
-    /// No schedule goes one way.
+    /// There is no schedule of the instance's turn.
     Infeasible,
     /// All branchings are spent, and the lower bound is less than the incumbent's end, or there is no
     /// incumbent.
@@ -49,7 +49,8 @@ impl Done {
         self.kind
     }
 
-    /// The lower bound, in ticks, which is the tree's value: no schedule that goes one way ends earlier; `Never`: there is none.
+    /// The lower bound, in ticks, which is the tree's value: no schedule of the instance's turn ends earlier; `Never`: there
+    /// is none.
     pub fn bound(&self) -> Bound
         ensures { result ≡ self.now.bound }
     {

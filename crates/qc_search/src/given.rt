@@ -1,33 +1,33 @@
 //! What a search begins with: nothing, or the tight form of a given schedule. This has the same cranes and the same order
-//! of apart tasks, and the earliest starts with these.
-ghost use Rattle.std.specs.Prelude.{◌≡◌, ℕ, ◌<◌, ◌≤◌, [], ◌∷◌, None, IfSome, IsTrue, All, length, option_map, slice_index_or};
+//! of apart tasks, or of all tasks that conflict where cranes go as they like, and the earliest starts with these.
+ghost use Rattle.std.specs.Prelude.{◌≡◌, ◌+◌, ℕ, ◌<◌, ◌≤◌, [], ◌∷◌, None, IfSome, IsTrue, All, length, option_map, slice_index_or};
 ghost use Rattle.qc_dist.specs.Node.{IsOpen};
 ghost use Rattle.qc_model.specs.declared.decision.Decision.TheVariants.{Assign};
-ghost use Rattle.qc_model.specs.declared.turn.Turn.TheVariants.{OneWay};
+ghost use Rattle.qc_model.specs.declared.turn.Turn.TheVariants.{OneWay, Free};
+ghost use Rattle.qc_model.specs.Frames.{GoesBy};
 ghost use Rattle.qc_model.specs.Instance.{IsApart, Valid, pair_of};
 ghost use Rattle.qc_model.specs.Judge.{IsDirection, IsJudgeable};
-ghost use Rattle.qc_model.specs.Nodes.{Agrees, HasStarts, IsComplete, IsSettled, assigned};
-ghost use Rattle.qc_model.specs.Numbers.{most_branchings, most_start, most_tasks};
-ghost use Rattle.qc_model.specs.OneWay.{GoesOneWay, GoesUp, mirror};
+ghost use Rattle.qc_model.specs.Nodes.{Agrees, Conflicts, HasStarts, IsSettled, assigned};
+ghost use Rattle.qc_model.specs.Numbers.{most_start, most_tasks};
+ghost use Rattle.qc_model.specs.OneWay.{GoesOneWay, IsAllowed};
 ghost use Rattle.qc_model.specs.Rules.{crane_of, start_of};
 ghost use Rattle.qc_model.specs.Seen.{seen, seen_schedule};
 ghost use Rattle.qc_num.specs.Paths.{HasRoom};
 ghost use Rattle.qc_starts.specs.Seen.{AreAssigned};
-ghost use Rattle.qc_starts.specs.Tight.{order_in};
-ghost use Rattle.qc_search.specs.Progress.{IsBegun, IsBegunWith, IsTightened};
+ghost use Rattle.qc_starts.specs.Tight.{IsSeenSo, order_in};
+ghost use Rattle.qc_search.specs.Progress.{AreOrdered, IsBegun, IsBegunWith, IsTightened};
 ghost use Rattle.qc_search.specs.Run.{IsTightEnd};
 
 use crate::best::keep;
-use crate::moves::{go, go_back};
-use crate::place::Node;
 use crate::progress::{Progress, first_progress};
-use qc_model::{Decision, Direction, Instance, Pair, Schedule, direction_of};
+use crate::roots::Roots;
+use qc_model::{Decision, Direction, Instance, Pair, Schedule, Turn, direction_of};
 use qc_num::{Bound, Path, Tick};
-use qc_starts::Starts;
+use qc_starts::{Starts, go, go_back};
 
 /// Puts a task on its crane of the schedule.
 fn assign_as(starts: &mut Starts, sched: &Schedule, task: u16)
-    requires goes { GoesUp starts.old.inst sched.now }
+    requires goes { GoesBy starts.old.inst.turn starts.old.inst sched.now }
     requires agrees { Agrees starts.old.inst starts.old.decisions sched.now }
     requires task { task < length starts.old.inst.tasks }
     requires none { assigned starts.old.decisions task ≡ None }
@@ -41,7 +41,7 @@ fn assign_as(starts: &mut Starts, sched: &Schedule, task: u16)
 /// Puts each task on its crane of the schedule.
 fn assign_all(starts: &mut Starts, sched: &Schedule)
     requires root { starts.old.decisions ≡ [] }
-    requires goes { GoesUp starts.old.inst sched.now }
+    requires goes { GoesBy starts.old.inst.turn starts.old.inst sched.now }
     ensures inst { starts.new.inst ≡ starts.old.inst }
     ensures agrees { Agrees starts.old.inst starts.new.decisions sched.now }
     ensures assigned { AreAssigned starts.old.inst starts.new.decisions }
@@ -51,7 +51,7 @@ fn assign_all(starts: &mut Starts, sched: &Schedule)
     }
 }
 
-/// The order in which the schedule has two apart tasks.
+/// The order in which the schedule has two tasks.
 fn order_of(inst: &Instance, sched: &Schedule, pair: Pair) -> Decision
     requires first { pair.first < length inst.now.tasks }
     requires second { pair.second < length inst.now.tasks }
@@ -79,21 +79,21 @@ pub(crate) fn apart_at(starts: &Starts, number: usize) -> Pair
     starts.instance().apart()[number]
 }
 
-/// Orders an apart pair, by its number, as the schedule has it, where it isn't settled yet.
-fn order_as(starts: &mut Starts, sched: &Schedule, number: usize)
-    requires goes { GoesUp starts.old.inst sched.now }
+/// Orders two tasks that conflict as the schedule has them, where neither is forced after the other yet.
+fn order_as(starts: &mut Starts, sched: &Schedule, pair: Pair)
+    requires goes { GoesBy starts.old.inst.turn starts.old.inst sched.now }
     requires soon { (j : ℕ) → j < length starts.old.inst.tasks → start_of sched.now j ≤ most_start }
     requires agrees { Agrees starts.old.inst starts.old.decisions sched.now }
-    requires number { number < length starts.old.inst.apart }
+    requires first { pair.first < length starts.old.inst.tasks }
+    requires second { pair.second < length starts.old.inst.tasks }
+    requires conflict { Conflicts starts.old.inst starts.old.decisions pair.first pair.second }
     ensures inst { starts.new.inst ≡ starts.old.inst }
     ensures agrees { Agrees starts.old.inst starts.new.decisions sched.now }
     ensures cranes { (j : ℕ) → assigned starts.new.decisions j ≡ assigned starts.old.decisions j }
-    ensures settled { let pair = slice_index_or starts.old.inst.apart number (pair_of 0 0) in
-        IsSettled starts.old.inst starts.new.decisions pair.first pair.second }
+    ensures settled { IsSettled starts.old.inst starts.new.decisions pair.first pair.second }
     ensures stays { (i j : ℕ) → IsSettled starts.old.inst starts.old.decisions i j
         → IsSettled starts.old.inst starts.new.decisions i j }
 {
-    let pair = apart_at(starts, number);
     if starts.settled(pair.first, pair.second) {
         return;
     }
@@ -101,26 +101,88 @@ fn order_as(starts: &mut Starts, sched: &Schedule, number: usize)
     go(starts, order);
 }
 
-/// Orders each apart pair that isn't settled yet as the schedule has it.
-fn order_all(starts: &mut Starts, sched: &Schedule)
-    requires goes { GoesUp starts.old.inst sched.now }
+/// Orders each apart pair as the schedule has it, where cranes go one way.
+fn order_apart(starts: &mut Starts, sched: &Schedule)
+    requires one_way { starts.old.inst.turn ≡ OneWay }
+    requires goes { GoesBy starts.old.inst.turn starts.old.inst sched.now }
     requires soon { (j : ℕ) → j < length starts.old.inst.tasks → start_of sched.now j ≤ most_start }
     requires agrees { Agrees starts.old.inst starts.old.decisions sched.now }
     requires assigned { AreAssigned starts.old.inst starts.old.decisions }
     ensures inst { starts.new.inst ≡ starts.old.inst }
     ensures agrees { Agrees starts.old.inst starts.new.decisions sched.now }
-    ensures complete { IsComplete starts.old.inst starts.new.decisions }
+    ensures assigned { AreAssigned starts.old.inst starts.new.decisions }
+    ensures ordered { AreOrdered starts.old.inst starts.new.decisions sched.now }
 {
     for number in 0..starts.instance().apart().len() {
-        order_as(starts, sched, number);
+        let pair = apart_at(starts, number);
+        order_as(starts, sched, pair);
     }
 }
 
-/// Makes the starts of a schedule that goes upward the earliest with its cranes and its order of apart tasks, and
-/// answers when it then ends.
+/// Orders a task and each lower one that conflicts with it as the schedule has them.
+fn order_below(starts: &mut Starts, sched: &Schedule, task: u16)
+    requires goes { GoesBy starts.old.inst.turn starts.old.inst sched.now }
+    requires soon { (j : ℕ) → j < length starts.old.inst.tasks → start_of sched.now j ≤ most_start }
+    requires agrees { Agrees starts.old.inst starts.old.decisions sched.now }
+    requires task { task < length starts.old.inst.tasks }
+    ensures inst { starts.new.inst ≡ starts.old.inst }
+    ensures agrees { Agrees starts.old.inst starts.new.decisions sched.now }
+    ensures cranes { (j : ℕ) → assigned starts.new.decisions j ≡ assigned starts.old.decisions j }
+    ensures settled { (i : ℕ) → i < task → Conflicts starts.old.inst starts.old.decisions i task
+        → IsSettled starts.old.inst starts.new.decisions i task }
+    ensures stays { (i j : ℕ) → IsSettled starts.old.inst starts.old.decisions i j
+        → IsSettled starts.old.inst starts.new.decisions i j }
+{
+    for other in 0..task {
+        if starts.conflict(other, task) {
+            let pair = Pair {
+                first: other,
+                second: task,
+            };
+            order_as(starts, sched, pair);
+        }
+    }
+}
+
+/// Orders each two tasks that conflict as the schedule has them, where cranes go as they like.
+fn order_conflicts(starts: &mut Starts, sched: &Schedule)
+    requires goes { GoesBy starts.old.inst.turn starts.old.inst sched.now }
+    requires soon { (j : ℕ) → j < length starts.old.inst.tasks → start_of sched.now j ≤ most_start }
+    requires agrees { Agrees starts.old.inst starts.old.decisions sched.now }
+    requires assigned { AreAssigned starts.old.inst starts.old.decisions }
+    ensures inst { starts.new.inst ≡ starts.old.inst }
+    ensures agrees { Agrees starts.old.inst starts.new.decisions sched.now }
+    ensures assigned { AreAssigned starts.old.inst starts.new.decisions }
+    ensures ordered { AreOrdered starts.old.inst starts.new.decisions sched.now }
+{
+    for task in 0..starts.instance().task_count() {
+        order_below(starts, sched, task);
+    }
+}
+
+/// Orders each pair whose order the schedule decides as the schedule has it.
+fn order_all(starts: &mut Starts, sched: &Schedule)
+    requires goes { GoesBy starts.old.inst.turn starts.old.inst sched.now }
+    requires soon { (j : ℕ) → j < length starts.old.inst.tasks → start_of sched.now j ≤ most_start }
+    requires agrees { Agrees starts.old.inst starts.old.decisions sched.now }
+    requires assigned { AreAssigned starts.old.inst starts.old.decisions }
+    ensures inst { starts.new.inst ≡ starts.old.inst }
+    ensures agrees { Agrees starts.old.inst starts.new.decisions sched.now }
+    ensures assigned { AreAssigned starts.old.inst starts.new.decisions }
+    ensures valid { Valid starts.old.inst }
+    ensures ordered { AreOrdered starts.old.inst starts.new.decisions sched.now }
+{
+    match starts.instance().turn() {
+        Turn::OneWay => order_apart(starts, sched),
+        Turn::Free => order_conflicts(starts, sched),
+    }
+}
+
+/// Makes the starts of a schedule that cranes may follow as it is the earliest with its cranes and its order of tasks,
+/// and answers when it then ends.
 pub(crate) fn tighten(starts: &mut Starts, sched: &mut Schedule) -> Tick
     requires root { starts.old.decisions ≡ [] }
-    requires goes { GoesUp starts.old.inst sched.old }
+    requires goes { GoesBy starts.old.inst.turn starts.old.inst sched.old }
     requires soon { (j : ℕ) → j < length starts.old.inst.tasks → start_of sched.old j ≤ most_start }
     ensures inst { starts.new.inst ≡ starts.old.inst }
     ensures root { starts.new.decisions ≡ [] }
@@ -147,93 +209,91 @@ fn copy_slots(from: &Schedule, tasks: u16, to: &mut Schedule)
     }
 }
 
-/// Writes the tight form of a schedule that goes one way, as it is seen that way, over another of as many tasks, and
-/// answers that way and when it ends.
-fn tighten_given(
-    given: &Schedule,
-    up: &mut Node,
-    down: &mut Node,
-    tight: &mut Schedule,
-) -> (Direction, Tick)
-    requires turned { down.old.inst ≡ mirror up.old.inst }
-    requires up { up.old.decisions ≡ [] }
-    requires down { down.old.decisions ≡ [] }
-    requires judgeable { IsJudgeable up.old.inst given.now }
-    requires goes { GoesOneWay up.old.inst given.now }
-    requires count { length tight.old ≡ length up.old.inst.tasks }
-    ensures up_inst { up.new.inst ≡ up.old.inst }
-    ensures down_inst { down.new.inst ≡ down.old.inst }
-    ensures up_root { up.new.decisions ≡ [] }
-    ensures down_root { down.new.decisions ≡ [] }
-    ensures valid { Valid up.old.inst }
-    ensures one_way { up.old.inst.turn ≡ OneWay }
-    ensures direction { IsDirection up.old.inst given.now result.0 }
-    ensures tightened { IsTightened (seen up.old.inst result.0) (seen_schedule up.old.inst given.now result.0)
-        tight.new result.1 }
+/// The way in which a schedule is seen that cranes may follow: that in which it goes, or upward where they go as they
+/// like.
+fn way_of(inst: &Instance, given: &Schedule) -> Direction
+    requires judgeable { IsJudgeable inst.now given.now }
+    requires allowed { IsAllowed inst.now given.now }
+    ensures { IsSeenSo inst.now.turn inst.now given.now result }
 {
-    let Ok(way) = direction_of(up.instance(), given) else {
+    match inst.turn() {
+        Turn::OneWay => way_it_goes(inst, given),
+        Turn::Free => Direction::Up,
+    }
+}
+
+/// The way in which a schedule goes that goes one way.
+fn way_it_goes(inst: &Instance, given: &Schedule) -> Direction
+    requires judgeable { IsJudgeable inst.now given.now }
+    requires goes { GoesOneWay inst.now given.now }
+    ensures { IsDirection inst.now given.now result }
+{
+    let Ok(way) = direction_of(inst, given) else {
         unreachable!()
     };
-    copy_slots(given, up.instance().task_count(), tight);
-    let end = match way {
-        Direction::Up => up.tighten(tight),
-        Direction::Down => {
-            tight.flip(up.instance().crane_count());
-            down.tighten(tight)
-        }
-    };
+    way
+}
+
+/// Turns a schedule so that it is as it is seen that way.
+fn see(inst: &Instance, way: Direction, sched: &mut Schedule)
+    requires { IsJudgeable inst.now sched.old }
+    ensures { sched.new ≡ seen_schedule inst.now sched.old way }
+{
+    match way {
+        Direction::Up => {}
+        Direction::Down => sched.flip(inst.crane_count()),
+    }
+}
+
+/// Writes the tight form of a schedule that cranes may follow, as it is seen, over another of as many tasks, and answers
+/// the way in which it is seen and when it ends.
+fn tighten_given(given: &Schedule, roots: &mut Roots, tight: &mut Schedule) -> (Direction, Tick)
+    requires judgeable { IsJudgeable roots.old given.now }
+    requires allowed { IsAllowed roots.old given.now }
+    requires count { length tight.old ≡ length roots.old.tasks }
+    ensures stays { roots.new ≡ roots.old }
+    ensures valid { Valid roots.old }
+    ensures way { IsSeenSo roots.old.turn roots.old given.now result.0 }
+    ensures tightened { IsTightened (seen roots.old result.0) (seen_schedule roots.old given.now result.0)
+        tight.new result.1 }
+{
+    let way = way_of(roots.instance(), given);
+    copy_slots(given, roots.instance().task_count(), tight);
+    see(roots.instance(), way, tight);
+    let end = roots.tighten(way, tight);
     (way, end)
 }
 
-/// When the tight form of a schedule that goes one way ends; its slots are written over those of another of as many
+/// When the tight form of a schedule that cranes may follow ends; its slots are written over those of another of as many
 /// tasks.
-pub(crate) fn tight_end(
-    given: &Schedule,
-    up: &mut Node,
-    down: &mut Node,
-    tight: &mut Schedule,
-) -> Tick
-    requires turned { down.old.inst ≡ mirror up.old.inst }
-    requires up { up.old.decisions ≡ [] }
-    requires down { down.old.decisions ≡ [] }
-    requires judgeable { IsJudgeable up.old.inst given.now }
-    requires goes { GoesOneWay up.old.inst given.now }
-    requires count { length tight.old ≡ length up.old.inst.tasks }
-    ensures up_inst { up.new.inst ≡ up.old.inst }
-    ensures down_inst { down.new.inst ≡ down.old.inst }
-    ensures up_root { up.new.decisions ≡ [] }
-    ensures down_root { down.new.decisions ≡ [] }
-    ensures count { length tight.new ≡ length up.old.inst.tasks }
-    ensures is { IsTightEnd up.old.inst given.now result }
+pub(crate) fn tight_end(given: &Schedule, roots: &mut Roots, tight: &mut Schedule) -> Tick
+    requires judgeable { IsJudgeable roots.old given.now }
+    requires allowed { IsAllowed roots.old given.now }
+    requires count { length tight.old ≡ length roots.old.tasks }
+    ensures stays { roots.new ≡ roots.old }
+    ensures count { length tight.new ≡ length roots.old.tasks }
+    ensures is { IsTightEnd roots.old given.now result }
 {
-    let (_, end) = tighten_given(given, up, down, tight);
+    let (_, end) = tighten_given(given, roots, tight);
     end
 }
 
-/// The progress before the first line where a schedule is given that goes one way.
+/// The progress before the first line where a schedule is given that cranes may follow.
 fn begin_with(
     given: &Schedule,
-    up: &mut Node,
-    down: &mut Node,
+    roots: &mut Roots,
     mut incumbent: Schedule,
     path: Path,
     limit: u32,
 ) -> Progress
-    requires turned { down.old.inst ≡ mirror up.old.inst }
-    requires up { up.old.decisions ≡ [] }
-    requires down { down.old.decisions ≡ [] }
-    requires judgeable { IsJudgeable up.old.inst given.now }
-    requires goes { GoesOneWay up.old.inst given.now }
-    requires count { length incumbent ≡ length up.old.inst.tasks }
-    ensures up_inst { up.new.inst ≡ up.old.inst }
-    ensures down_inst { down.new.inst ≡ down.old.inst }
-    ensures up_root { up.new.decisions ≡ [] }
-    ensures down_root { down.new.decisions ≡ [] }
-    ensures valid { Valid up.old.inst }
-    ensures one_way { up.old.inst.turn ≡ OneWay }
-    ensures begins { IsBegunWith up.old.inst given.now limit path result }
+    requires judgeable { IsJudgeable roots.old given.now }
+    requires allowed { IsAllowed roots.old given.now }
+    requires count { length incumbent ≡ length roots.old.tasks }
+    ensures stays { roots.new ≡ roots.old }
+    ensures valid { Valid roots.old }
+    ensures begins { IsBegunWith roots.old given.now limit path result }
 {
-    let (way, end) = tighten_given(given, up, down, &mut incumbent);
+    let (way, end) = tighten_given(given, roots, &mut incumbent);
     Progress {
         incumbent_end: Bound::Least(end),
         way,
@@ -241,30 +301,23 @@ fn begin_with(
     }
 }
 
-/// The progress before the first line. A schedule that is given goes one way, and its tight form is the incumbent.
+/// The progress before the first line. Cranes may follow a schedule that is given, and its tight form is the incumbent.
 pub(crate) fn begin(
     given: Option<&Schedule>,
-    up: &mut Node,
-    down: &mut Node,
+    roots: &mut Roots,
     incumbent: Schedule,
     path: Path,
     limit: u32,
 ) -> Progress
-    requires turned { down.old.inst ≡ mirror up.old.inst }
-    requires up { up.old.decisions ≡ [] }
-    requires down { down.old.decisions ≡ [] }
-    requires judgeable { IfSome given (λ sched. IsJudgeable up.old.inst sched.now) }
-    requires goes { IfSome given (λ sched. GoesOneWay up.old.inst sched.now) }
-    requires count { length incumbent ≡ length up.old.inst.tasks }
+    requires judgeable { IfSome given (λ sched. IsJudgeable roots.old sched.now) }
+    requires allowed { IfSome given (λ sched. IsAllowed roots.old sched.now) }
+    requires count { length incumbent ≡ length roots.old.tasks }
     requires room { HasRoom most_tasks path }
-    ensures up_inst { up.new.inst ≡ up.old.inst }
-    ensures down_inst { down.new.inst ≡ down.old.inst }
-    ensures up_root { up.new.decisions ≡ [] }
-    ensures down_root { down.new.decisions ≡ [] }
-    ensures begins { IsBegun up.old.inst (option_map (λ sched. sched.now) given.entry) limit result }
+    ensures stays { roots.new ≡ roots.old }
+    ensures begins { IsBegun roots.old (option_map (λ sched. sched.now) given.entry) limit result }
 {
     match given {
         None => first_progress(incumbent, path, limit),
-        Some(sched) => begin_with(sched, up, down, incumbent, path, limit),
+        Some(sched) => begin_with(sched, roots, incumbent, path, limit),
     }
 }

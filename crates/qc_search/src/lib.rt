@@ -1,7 +1,7 @@
-//! The search for the best one-way plan: branch and bound over nodes, with a bound tree that shows what
-//! was found. The tree is written line by line and never held whole. A bound is a lower bound, on the ends of
-//! all schedules that go one way; the incumbent is the best schedule that is known: one that was given to begin with, or
-//! one that was met.
+//! The search for the best plan: branch and bound over nodes, with a bound tree that shows what was found. The tree is
+//! written line by line and never held whole. A bound is a lower bound, on the ends of all schedules that go one way, or
+//! of all that are feasible where cranes go as they like; the incumbent is the best schedule that is known: one that was
+//! given to begin with, or one that was met.
 #![tactic(auto)]
 
 mod best;
@@ -10,12 +10,12 @@ mod choice;
 mod done;
 mod given;
 mod lines;
-mod moves;
 mod node;
 mod outcome;
 mod part;
 mod place;
 mod progress;
+mod roots;
 mod search;
 mod tree;
 

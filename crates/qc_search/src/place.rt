@@ -2,22 +2,20 @@
 ghost use Rattle.std.specs.Prelude.{◌≡◌, ◌∷◌, [], ◌<◌, ◌≤◌, ℕ, IfOk, IfSome, None, length};
 ghost use Rattle.qc_close.specs.Crews.{IsCrewOf};
 ghost use Rattle.qc_dist.specs.Node.{IsOpen};
-ghost use Rattle.qc_model.specs.declared.turn.Turn.TheVariants.{OneWay};
+ghost use Rattle.qc_model.specs.Frames.{GoesBy};
 ghost use Rattle.qc_model.specs.Instance.{Valid};
 ghost use Rattle.qc_model.specs.Nodes.{HasStarts};
 ghost use Rattle.qc_model.specs.Numbers.{most_start};
-ghost use Rattle.qc_model.specs.OneWay.{GoesUp};
 ghost use Rattle.qc_model.specs.Rules.{start_of};
 ghost use Rattle.qc_starts.specs.Seen.{IsReached, StartsNode};
 ghost use Rattle.qc_search.specs.Places.{IsPlaced, node_of};
 ghost use Rattle.qc_search.specs.Progress.{IsTightened};
 
 use crate::given::tighten;
-use crate::moves::{go, go_back};
 use qc_close::Crew;
-use qc_model::{Decision, Instance, Schedule, Turn};
+use qc_model::{Decision, Instance, Schedule};
 use qc_num::{OutOfMemory, Tick};
-use qc_starts::Starts;
+use qc_starts::{Starts, go, go_back};
 use std::alloc::Global;
 use std::marker::Model;
 
@@ -40,12 +38,12 @@ impl Model for Node {
 impl Node {
     /// The root for an instance. All memory is taken here.
     pub(crate) fn open(alloc: Global, inst: &Instance) -> Result<Node, OutOfMemory>
-        requires { inst.now.turn ≡ OneWay }
         ensures inst { IfOk result (λ node. node.inst ≡ inst.now) }
         ensures decisions { IfOk result (λ node. node.decisions ≡ []) }
     {
         let starts = Starts::open(alloc, inst)?;
-        let crew = Crew::open(alloc, starts.instance(), Turn::OneWay)?;
+        let home = starts.instance();
+        let crew = Crew::open(alloc, home, home.turn())?;
         Ok(Node { starts, crew })
     }
 
@@ -53,7 +51,6 @@ impl Node {
     pub(crate) fn instance(&self) -> &Instance
         ensures same { result.now ≡ self.now.inst }
         ensures valid { Valid self.now.inst }
-        ensures one_way { self.now.inst.turn ≡ OneWay }
     {
         self.starts.instance()
     }
@@ -73,11 +70,11 @@ impl Node {
         &self.crew
     }
 
-    /// Makes the starts of a schedule that goes upward the earliest with its cranes and its order of
-    /// apart tasks, and answers when it then ends. The node is the root, and is left as it was.
+    /// Makes the starts of a schedule that cranes may follow as it is the earliest with its cranes and its
+    /// order of tasks, and answers when it then ends. The node is the root, and is left as it was.
     pub(crate) fn tighten(&mut self, sched: &mut Schedule) -> Tick
         requires root { self.old.decisions ≡ [] }
-        requires goes { GoesUp self.old.inst sched.old }
+        requires goes { GoesBy self.old.inst.turn self.old.inst sched.old }
         requires soon { (j : ℕ) → j < length self.old.inst.tasks → start_of sched.old j ≤ most_start }
         ensures inst { self.new.inst ≡ self.old.inst }
         ensures root { self.new.decisions ≡ [] }

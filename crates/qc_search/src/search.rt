@@ -1,11 +1,10 @@
-//! A search of both parts of a tree.
+//! A search of the parts of a tree.
 ghost use Rattle.std.specs.Prelude.{◌≡◌, ◌<◌, ◌≤◌, ℕ, All, OnErr, IfOk, IfSome, option_map};
 ghost use Rattle.qc_io.specs.Outside.{beside};
 ghost use Rattle.qc_io.specs.Writes.{Counts};
 ghost use Rattle.qc_model.specs.Judge.{IsJudgeable};
 ghost use Rattle.qc_model.specs.Numbers.{most_branchings};
-ghost use Rattle.qc_model.specs.OneWay.{GoesOneWay};
-ghost use Rattle.qc_model.specs.declared.turn.Turn.TheVariants.{OneWay};
+ghost use Rattle.qc_model.specs.OneWay.{IsAllowed};
 ghost use Rattle.qc_num.specs.declared.bound.Bound.TheVariants.{Least};
 ghost use Rattle.qc_search.specs.Progress.{bound_end, shown_best};
 ghost use Rattle.qc_search.specs.Run.{outcome, SearchView, IsCutOff, IsSearched, IsSound, IsTightEnd};
@@ -15,21 +14,19 @@ use crate::best::shown_best;
 use crate::done::Done;
 use crate::given::{begin, tight_end};
 use crate::outcome::{end_of, outcome};
-use crate::place::Node;
 use crate::progress::Progress;
-use crate::tree::write_tree;
+use crate::roots::Roots;
 use qc_io::{Sink, WriteFault};
-use qc_model::{Instance, MOST_TASKS, Schedule, mirror};
+use qc_model::{Instance, MOST_TASKS, Schedule};
 use qc_num::{Bound, OutOfMemory, Path, Tick};
 use std::alloc::Global;
 use std::marker::Model;
 
-/// A search that isn't run yet. It keeps its own copies of the instance and of its mirror, and all
-/// memory that the run needs.
+/// A search that isn't run yet. It keeps its own copies of the instance and, where cranes go one way, of its mirror,
+/// and all memory that the run needs.
 #[derive(Drop)]
 pub struct Search {
-    up: Node,
-    down: Node,
+    roots: Roots,
     incumbent: Schedule,
     path: Path,
     /// How many branchings it may write.
@@ -66,43 +63,39 @@ fn told(progress: Progress, first: Bound, cranes: u16) -> Done
 }
 
 impl Search {
-    /// A search for the instance, whose cranes go one way, with at most so many branchings. All memory is taken here.
+    /// A search for the instance with at most so many branchings. All memory is taken here.
     pub fn open(alloc: Global, inst: &Instance, limit: u32) -> Result<Search, OutOfMemory>
-        requires one_way { inst.now.turn ≡ OneWay }
         requires few { limit ≤ most_branchings }
         ensures { IfOk result (λ search. search ≡ record { inst = inst.now; nodes = limit }) }
     {
         let incumbent = Schedule::new(alloc, inst.task_count())?;
         let path = Path::with_capacity(alloc, MOST_TASKS as usize)?;
-        let turned = mirror(alloc, inst)?;
-        let up = Node::open(alloc, inst)?;
-        let down = Node::open(alloc, &turned)?;
+        let roots = Roots::open(alloc, inst)?;
         Ok(Search {
-            up,
-            down,
+            roots,
             incumbent,
             path,
             limit,
         })
     }
 
-    /// When the tight form of a schedule that goes one way ends: with its cranes, its order of apart tasks and its
-    /// direction no task starts earlier.
+    /// When the tight form of a schedule that cranes may follow ends: with its cranes and its order of tasks, and in its
+    /// direction where they go one way, no task starts earlier.
     pub fn tight_end(&mut self, given: &Schedule) -> Tick
         requires judgeable { IsJudgeable self.old.inst given.now }
-        requires goes { GoesOneWay self.old.inst given.now }
+        requires allowed { IsAllowed self.old.inst given.now }
         ensures stays { self.new ≡ self.old }
         ensures is { IsTightEnd self.old.inst given.now result }
     {
-        tight_end(given, &mut self.up, &mut self.down, &mut self.incumbent)
+        tight_end(given, &mut self.roots, &mut self.incumbent)
     }
 
     /// Searches, and writes the tree to the sink, each line when its node is met and by a `put_all` of
-    /// its own. Where a schedule that goes one way is given, its tight form is the first incumbent: no answer ends
+    /// its own. Where a schedule that cranes may follow is given, its tight form is the first incumbent: no answer ends
     /// later. After `WriteFault` a part of a tree's text was written, from its front.
     pub fn run<K: Sink>(self, given: Option<&Schedule>, sink: &mut K) -> Result<Done, WriteFault>
         requires judgeable { IfSome given (λ sched. IsJudgeable self.inst sched.now) }
-        requires goes { IfSome given (λ sched. GoesOneWay self.inst sched.now) }
+        requires allowed { IfSome given (λ sched. IsAllowed self.inst sched.now) }
         ensures searched { IfOk result
             (IsSearched self (option_map (λ sched. sched.now) given.entry) (K.view sink.old).written (K.view sink.new).written) }
 
@@ -115,16 +108,15 @@ impl Search {
         ensures beside_stays { beside (K.view sink.new) ≡ beside (K.view sink.old) }
     {
         let Search {
-            mut up,
-            mut down,
+            mut roots,
             incumbent,
             path,
             limit,
         } = self;
-        let cranes = up.instance().crane_count();
-        let mut progress = begin(given, &mut up, &mut down, incumbent, path, limit);
+        let cranes = roots.instance().crane_count();
+        let mut progress = begin(given, &mut roots, incumbent, path, limit);
         let first = progress.incumbent_end;
-        write_tree(&mut up, &mut down, &mut progress, sink)?;
+        roots.write(&mut progress, sink)?;
         Ok(told(progress, first, cranes))
     }
 }

@@ -2,6 +2,7 @@
 ghost use Rattle.std.specs.Prelude.{◌≡◌, ◌≤◌, List, Option, [], ◌∷◌, length};
 ghost use Rattle.qc_io.specs.Writes.{Writes};
 ghost use Rattle.qc_model.specs.declared.schedule.Slot.{Slot};
+ghost use Rattle.qc_model.specs.declared.turn.Turn.TheVariants.{OneWay, Free};
 ghost use Rattle.qc_model.specs.Numbers.{most_branchings, most_tasks};
 ghost use Rattle.qc_model.specs.OneWay.{mirror};
 ghost use Rattle.qc_num.specs.Paths.{HasRoom};
@@ -60,13 +61,14 @@ fn put_end<K: Sink>(progress: &Progress, sink: &mut K) -> Result<(), WriteFault>
     )
 }
 
-/// Searches both parts, and writes the lines of the tree.
-pub(crate) fn write_tree<K: Sink>(
+/// Searches both parts, and writes the lines of the tree, where cranes go one way.
+pub(crate) fn write_both<K: Sink>(
     up: &mut Node,
     down: &mut Node,
     progress: &mut Progress,
     sink: &mut K,
 ) -> Result<(), WriteFault>
+    requires one_way { up.old.inst.turn ≡ OneWay }
     requires turned { down.old.inst ≡ mirror up.old.inst }
     requires up { up.old.decisions ≡ [] }
     requires down { down.old.decisions ≡ [] }
@@ -82,5 +84,27 @@ pub(crate) fn write_tree<K: Sink>(
     write_line(&Line::Title3, &progress.path, sink)?;
     put_part(up, Direction::Up, progress, sink)?;
     put_part(down, Direction::Down, progress, sink)?;
+    put_end(progress, sink)
+}
+
+/// Searches the one part, and writes the lines of the tree, where cranes go as they like.
+pub(crate) fn write_one<K: Sink>(
+    up: &mut Node,
+    progress: &mut Progress,
+    sink: &mut K,
+) -> Result<(), WriteFault>
+    requires free { up.old.inst.turn ≡ Free }
+    requires up { up.old.decisions ≡ [] }
+    requires count { length progress.old.incumbent ≡ length up.old.inst.tasks }
+    requires room { HasRoom most_tasks progress.old.path }
+    requires begun { (first : Option (List Slot)) × IsProgress up.old.inst first progress.old [] }
+    requires few { progress.old.limit ≤ most_branchings }
+    requires soon { IsSoon progress.old.bound }
+    ensures { (first : Option (List Slot)) → IsProgress up.old.inst first progress.old []
+        → WritesTree (K.view sink.old) (K.view sink.new) up.old.inst first progress.old progress.new
+        result }
+{
+    write_line(&Line::FreeTitle, &progress.path, sink)?;
+    search_part(up, Direction::Up, progress, sink)?;
     put_end(progress, sink)
 }

@@ -1,5 +1,5 @@
 -- Nothing is forced from a task to itself.
-use Rattle.std.proofs.Common.{◌≡◌, ℕ, Bool, true, false, ◌&&◌, ◌∙◌, eqb, inl, inr, ◌⊎◌, List, [], ◌∷◌, Option, None, Some, T, ℤ, ◌<ℤ◌, refl, sym, ap₂, subst, subst₂, arith, int_lt, nat_lt}
+use Rattle.std.proofs.Common.{◌≡◌, ℕ, Bool, true, false, ◌&&◌, ◌∙◌, eqb, inl, inr, List, [], ◌∷◌, Option, None, Some, T, ℤ, ◌<ℤ◌, refl, sym, ap₂, subst, arith, int_lt, nat_lt}
 use Rattle.std.proofs.lemmas.Bool.{and_parts, or_cases, cond_both, cond-false, eqb-true, ltb-true, false≢true, false_from_ne_true}
 use Rattle.std.proofs.lemmas.Int.{ints}
 use Rattle.qc_model.specs.declared.decision.Decision.{Decision}

@@ -1,5 +1,5 @@
 -- public: what contracts see of the least starts of a node, and what is answered of it.
-use Rattle.std.specs.Prelude.{◌≡◌, ℕ, ◌+◌, ◌-◌, ◌*◌, ◌<◌, ◌≤◌, Bool, true, false, List, [], ◌∷◌, count_by, drop, length, nat_lt, sum, take, reverse, slice_index, IsSome, IsTrue, Some}
+use Rattle.std.specs.Prelude.{◌≡◌, ℕ, ◌+◌, ◌-◌, ◌*◌, ◌<◌, ◌≤◌, Bool, true, false, List, ◌∷◌, count_by, drop, length, nat_lt, sum, take, reverse, slice_index, IsSome, IsTrue, Some}
 use Rattle.qc_arena.specs.Arcs.{Arcs}
 use Rattle.qc_model.specs.declared.decision.Decision.{Decision}
 use Rattle.qc_model.specs.declared.decision.Decision.TheVariants.{Assign, Order}

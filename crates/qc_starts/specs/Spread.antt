@@ -66,6 +66,10 @@ pub record IsRooting (net : NodeArcs) (root : ℕ) (olds cells : List ℕ) : Typ
 abbrev pub is_pending : List Bool → ℕ → Bool
 is_pending pending j = slice_index_or pending j false
 
+-- the tasks that are still to be looked at come from one number on, before another
+abbrev pub AreWithin : List Bool → ℕ → ℕ → Type 0
+AreWithin pending first behind = (j : ℕ) → is_pending pending j ≡ true → (first ≤ j) × (j < behind)
+
 -- the arcs are met, but for those from tasks that are still to be looked at and those to come from this one
 pub record IsSpreading
     (net : NodeArcs) (root : ℕ) (olds cells : List ℕ) (pending : List Bool) (rest : List Edge) : Type 0 where

@@ -4,7 +4,7 @@ ghost use Rattle.std.specs.Prelude.{◌≡◌, ℕ, ◌+◌, ◌*◌, ◌^◌, �
 ghost use Rattle.qc_starts.specs.NodeArcs.{IsSound};
 ghost use Rattle.qc_starts.specs.Noting.{HasNotes, Wrote};
 ghost use Rattle.qc_starts.specs.Opened.{HasBegun, IsOpened};
-ghost use Rattle.qc_starts.specs.Spread.{IsLifted, IsLooked, IsOnly, IsPick, IsRooting, IsSettledTo, IsSpread, IsSpreading, from_task, is_late, left};
+ghost use Rattle.qc_starts.specs.Spread.{AreWithin, IsLifted, IsLooked, IsOnly, IsPick, IsRooting, IsSettledTo, IsSpread, IsSpreading, from_task, is_late, left};
 ghost use Rattle.qc_starts.specs.Values.{raised, start_at};
 
 use crate::network::Network;
@@ -23,6 +23,10 @@ pub(crate) struct Spread {
     pub(crate) olds: Vec<Tick>,
     /// Whether the arcs from a task are still to be looked at.
     pub(crate) pending: Vec<bool>,
+    /// None of these tasks comes before this one.
+    pub(crate) first: u16,
+    /// Each comes before this one.
+    pub(crate) behind: u16,
 }
 
 /// Copies the first values.
@@ -46,6 +50,8 @@ impl Spread {
             values: Noted::open(alloc, 2 * count as u32, decisions)?,
             olds: vec![in alloc; 0u64; count as usize]?,
             pending: vec![in alloc; true; count as usize]?,
+            first: 0,
+            behind: count,
         })
     }
 
@@ -54,12 +60,16 @@ impl Spread {
         requires root { root < length self.old.pending.items }
         requires olds { length self.old.olds.items ≤ length self.old.values.cells }
         requires few { length self.old.olds.items < 2 ^ 16 }
+        requires many { length self.old.pending.items < 2 ^ 16 }
         ensures begun { HasBegun self.old self.new root }
+        ensures within { AreWithin self.new.pending.items self.new.first self.new.behind }
     {
         self.values.begin();
         self.keep_starts();
         self.clear_pending();
         self.pending[root as usize] = true;
+        self.first = root;
+        self.behind = root + 1;
     }
 
     /// Copies the starts.
@@ -102,6 +112,8 @@ impl Spread {
             then slice_set self.old.pending.items arc.to true
             else self.old.pending.items) }
         ensures olds { self.new.olds.items ≡ self.old.olds.items }
+        ensures within { AreWithin self.old.pending.items self.old.first self.old.behind
+            → AreWithin self.new.pending.items self.new.first self.new.behind }
         ensures wrote { Wrote self.old.values self.new.values steps.old steps.new }
         ensures back { result ≡ (is_late self.old.values.cells arc && (arc.to == root)) }
     {
@@ -113,6 +125,8 @@ impl Spread {
         self.values
             .raise(count, arc.to, start, Some(arc.from), steps);
         self.pending[arc.to as usize] = true;
+        self.first = self.first.min(arc.to);
+        self.behind = self.behind.max(arc.to + 1);
         arc.to == root
     }
 
@@ -132,10 +146,11 @@ impl Spread {
     fn earliest(&self) -> Option<u16>
         requires size { length self.now.olds.items ≡ length self.now.pending.items }
         requires few { length self.now.pending.items < 2 ^ 16 }
+        requires within { AreWithin self.now.pending.items self.now.first self.now.behind }
         ensures { IsPick self.now.pending.items (length self.now.pending.items) result }
     {
         let mut first = None;
-        for task in 0..self.pending.len() as u16 {
+        for task in self.first..self.behind.min(self.pending.len() as u16) {
             if self.pending[task as usize] && self.is_earlier(first, task) {
                 first = Some(task);
             }
@@ -157,6 +172,8 @@ impl Spread {
             self.old.pending.items (from_task task network.now.arcs) }
         requires lifted { IsLifted root self.old.olds.items self.old.values.cells task }
         requires notes { HasNotes self.old.values }
+        requires within { AreWithin self.old.pending.items self.old.first self.old.behind }
+        ensures within { AreWithin self.new.pending.items self.new.first self.new.behind }
         ensures size { length self.new.pending.items ≡ length self.old.pending.items }
         ensures olds { self.new.olds.items ≡ self.old.olds.items }
         ensures wrote { Wrote self.old.values self.new.values steps.old steps.new }
@@ -184,6 +201,7 @@ impl Spread {
             self.old.pending.items [] }
         requires size { length self.old.olds.items ≡ length network.now.inst.tasks }
         requires notes { HasNotes self.old.values }
+        requires within { AreWithin self.old.pending.items self.old.first self.old.behind }
         ensures size { length self.new.pending.items ≡ length self.old.pending.items }
         ensures olds { self.new.olds.items ≡ self.old.olds.items }
         ensures wrote { Wrote self.old.values self.new.values steps.old steps.new }
@@ -206,6 +224,8 @@ impl Spread {
         requires notes { HasNotes self.old.values }
         ensures olds { self.new.olds.items ≡ self.old.olds.items }
         ensures pending { self.new.pending.items ≡ self.old.pending.items }
+        ensures first { self.new.first ≡ self.old.first }
+        ensures behind { self.new.behind ≡ self.old.behind }
         ensures wrote { Wrote self.old.values self.new.values steps.old steps.new }
         ensures spreading { IsSpreading network.now root self.new.olds.items self.new.values.cells
             self.new.pending.items [] }
@@ -229,6 +249,7 @@ impl Spread {
         requires size { length self.old.olds.items ≡ length network.now.inst.tasks }
         requires only { IsOnly self.old.pending.items (length network.now.inst.tasks) root }
         requires notes { HasNotes self.old.values }
+        requires within { AreWithin self.old.pending.items self.old.first self.old.behind }
         ensures size { length self.new.pending.items ≡ length self.old.pending.items }
         ensures olds { self.new.olds.items ≡ self.old.olds.items }
         ensures wrote { Wrote self.old.values self.new.values steps.old steps.new }

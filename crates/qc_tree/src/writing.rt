@@ -17,15 +17,17 @@ pub fn write_line<K: Sink>(line: &Line, path: &Path, sink: &mut K) -> Result<(),
     ensures writes { Writes (K.view sink.old) (K.view sink.new)
         (line_text line.now path.now.items ++ 10 ∷ []) result }
 {
-    put_all(sink, text_of(line, path.as_slice()).as_bytes())
+    let mut text = Text::new();
+    push_line(&mut text, line, path.as_slice());
+    put_all(sink, text.as_bytes())
 }
 
-/// The line's text and its line feed.
-fn text_of(line: &Line, path: &[u16]) -> Text<ROOM>
+/// Puts the line's text and its line feed into the empty text.
+fn push_line(text: &mut Text<ROOM>, line: &Line, path: &[u16])
+    requires empty { text.old ≡ [] }
     requires in_range { IsLine line.now path.now }
-    ensures { result ≡ line_text line.now path.now ++ 10 ∷ [] }
+    ensures { text.new ≡ line_text line.now path.now ++ 10 ∷ [] }
 {
-    let mut text = Text::new();
     match *line {
         Line::Title => text.push(b"QCTREE 1"),
         Line::Title2 => text.push(b"QCTREE 2"),
@@ -33,11 +35,11 @@ fn text_of(line: &Line, path: &[u16]) -> Text<ROOM>
         Line::FreeTitle => text.push(b"QCFREE 1"),
         Line::Up => text.push(b"up"),
         Line::Down => text.push(b"down"),
-        Line::Assign(task) => push_listed(&mut text, b"A", &[task]),
-        Line::Order(first, second) => push_listed(&mut text, b"O", &[first, second]),
-        Line::Chain => push_listed(&mut text, b"P", path),
-        Line::Ring => push_listed(&mut text, b"C", path),
-        Line::Clash => push_listed(&mut text, b"Q", path),
+        Line::Assign(task) => push_listed(text, b"A", &[task]),
+        Line::Order(first, second) => push_listed(text, b"O", &[first, second]),
+        Line::Chain => push_listed(text, b"P", path),
+        Line::Ring => push_listed(text, b"C", path),
+        Line::Clash => push_listed(text, b"Q", path),
         Line::Reach => text.push(b"X"),
         Line::Work(value) => {
             text.push(b"W ");
@@ -46,11 +48,10 @@ fn text_of(line: &Line, path: &[u16]) -> Text<ROOM>
         Line::End(branched, bound) => {
             text.push(b"end ");
             text.push_number(u64::from(branched));
-            push_bound(&mut text, bound);
+            push_bound(text, bound);
         }
     }
     text.push(b"\n");
-    text
 }
 
 /// Puts a tree's value behind the text, after one space.

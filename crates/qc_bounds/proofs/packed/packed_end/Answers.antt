@@ -1,4 +1,4 @@
-use Rattle.std.proofs.Common.{sym, ◌∙◌}
+use Rattle.std.proofs.Common.{sym}
 use Rattle.qc_bounds.proofs.PackedLemmas.{packed_shown}
 use Rattle.qc_bounds.proofs.packed.packed_end.Goals as goal
 

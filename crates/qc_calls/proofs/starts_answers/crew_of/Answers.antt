@@ -39,7 +39,7 @@ loop-task-preserved c =
     let task = c.loop-task.task in
     let cranes = c.loop-task.crew.cranes in
     let inv = c.loop-task.invariant in
-    let count = ap (λ (i : InstanceView). length i.tasks) c.instance-2.ensures.same in
+    let count = ap (λ (i : InstanceView). length i.tasks) c.instance-inst.ensures.same in
     let low : task < length cranes =
     omega (arith, inv.count, count, c.task_count-task-end.ensures.count, c.loop-task-test.true) in
     elim c.match-crane_of.branch [
@@ -72,7 +72,7 @@ pub returns : goal.returns
 returns c =
     let node = c.args.starts.now in
     let inv = c.loop-task.invariant in
-    let count = ap (λ (i : InstanceView). length i.tasks) c.instance-2.ensures.same in
+    let count = ap (λ (i : InstanceView). length i.tasks) c.instance-inst.ensures.same in
     record {
       same = inv.same;
       turn = inv.turn;

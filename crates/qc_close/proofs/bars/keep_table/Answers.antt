@@ -7,6 +7,22 @@ use Rattle.qc_close.proofs.SpotLemmas.{spot_at}
 use Rattle.qc_close.proofs.TableLemmas.{table_kept}
 use Rattle.qc_close.proofs.bars.keep_table.Goals as goal
 
+pub index-requires-2 : goal.index-requires-2
+index-requires-2 c =
+    let s = c.requires.spots in
+    let j = c.args.task in
+    let read = get_or_read c.args.spots.now.of_task.items j c.index.result.now (omega (arith, c.requires.task, s.of_task.many)) c.index.ensures 0 in
+    let at = spot_at c.args.inst.now c.args.spots.now.bays.items s.bays j _ c.requires.task (s.of_task.each j c.requires.task) in
+    omega (arith, read, at.0, s.firsts)
+
+pub index-requires-3 : goal.index-requires-3
+index-requires-3 c =
+    let s = c.requires.spots in
+    let j = c.args.task in
+    let read = get_or_read c.args.spots.now.of_task.items j c.index.result.now (omega (arith, c.requires.task, s.of_task.many)) c.index.ensures 0 in
+    let at = spot_at c.args.inst.now c.args.spots.now.bays.items s.bays j _ c.requires.task (s.of_task.each j c.requires.task) in
+    omega (arith, read, at.0, s.behinds)
+
 pub put_bars-requires-clause-row : goal.put_bars-requires-clause-row
 put_bars-requires-clause-row c = omega (arith, c.requires.crane, c.crane_count-cranes.ensures.count, c.crane_count-cranes.ensures.bound)
 

@@ -1,6 +1,5 @@
 use Rattle.std.proofs.Common.{◌∙◌, List, Option, ℕ, ap}
 use Rattle.qc_model.specs.declared.turn.Turn.{Turn}
-use Rattle.qc_model.specs.declared.turn.Turn.TheVariants.{OneWay}
 use Rattle.qc_model.specs.Closed.{is_closed}
 use Rattle.qc_model.specs.Instance.{InstanceView}
 use Rattle.qc_replay.proofs.leaf.is_closed.Goals as goal
@@ -12,4 +11,4 @@ returns c =
     let is = c.requires.crew in
     c.closed.ensures.closed ∙ ap (λ (i : InstanceView). is_closed i crew.turn crew.cranes c.args.end) is.same
     ∙ ap (λ (t : Turn). is_closed inst t crew.cranes c.args.end) is.turn
-    ∙ ap (λ (cranes : List (Option ℕ)). is_closed inst OneWay cranes c.args.end) is.cranes
+    ∙ ap (λ (cranes : List (Option ℕ)). is_closed inst inst.turn cranes c.args.end) is.cranes

@@ -26,6 +26,12 @@ returns-in_err-lines-clause-missing g c = λ none ample.
     (c.in_err-lines.ensures.missing none
     (λ is. ample (error_through _ c.from_residual-in_err-lines.result why OutOfMemory refl same is)))
 
+pub returns-in_err-lines-clause-read_fault : goal.returns-in_err-lines-clause-read_fault
+returns-in_err-lines-clause-read_fault g c = λ is.
+    let why = c.in_err-lines.field-0.0 in
+    let same = handed c.from_residual-in_err-lines.result why c.from_residual-in_err-lines.ensures.1 in
+    c.in_err-lines.ensures.read_fault (error_through c.from_residual-in_err-lines.result _ why ReadFault same refl is)
+
 pub returns-clause-reads : goal.returns-clause-reads
 returns-clause-reads g c =
     reads_then (g.S.Sink.view c.args.shelf.now) (g.S.Sink.view c.open.new.shelf) (g.S.Sink.view c.read_lines.new.shelf)

@@ -3,7 +3,6 @@ use Rattle.qc_search.proofs.given.begin.Goals as goal
 
 pub returns-in-Some-clause-begins : goal.returns-in-Some-clause-begins
 returns-in-Some-clause-begins c =
-    let home = c.args.up.now.inst in
     rw c.in-Some.is
-    (begun_with home c.begin_with.ensures.valid c.begin_with.ensures.one_way c.in-Some.sched.now c.args.limit c.args.path c.begin_with.result
+    (begun_with c.args.roots.now c.begin_with.ensures.valid c.in-Some.sched.now c.args.limit c.args.path c.begin_with.result
     (rw c.in-Some.is at c.requires.judgeable) c.begin_with.ensures.begins c.requires.room)

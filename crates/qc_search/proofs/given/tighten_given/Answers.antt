@@ -1,22 +1,16 @@
-use Rattle.std.proofs.Common.{◌≡◌, ℕ, List, map, ap₂, sym, subst₂, ◌∙◌}
+use Rattle.std.proofs.Common.{◌≤◌, List, ap₂, sym, subst, ◌∙◌}
 use Rattle.qc_model.specs.declared.schedule.Slot.{Slot}
-use Rattle.qc_model.specs.OneWay.{GoesUp, flipped, mirror_schedule}
-use Rattle.qc_search.proofs.GivenLemmas.{mirrored_goes, mirrored_soon}
+use Rattle.qc_model.specs.Instance.{InstanceView}
+use Rattle.qc_model.specs.Numbers.{most_start}
+use Rattle.qc_model.specs.Rules.{start_of}
+use Rattle.qc_model.specs.Seen.{seen_schedule}
+use Rattle.qc_search.proofs.GivenLemmas.{seen_soon}
 use Rattle.qc_search.proofs.given.tighten_given.Goals as goal
 
-pub tighten-end-requires-in-Down-clause-goes : goal.tighten-end-requires-in-Down-clause-goes
-tighten-end-requires-in-Down-clause-goes c =
-    let home = c.args.up.now.inst in
-    let cranes = rw c.instance-in-Down.ensures.same at c.crane_count.ensures.count in
-    let turned : c.flip.new.self ≡ mirror_schedule home c.args.given.now =
-    c.flip.ensures ∙ ap₂ (λ (n : ℕ) (s : List Slot). map (flipped n) s) cranes c.copy_slots.ensures in
-    subst₂ GoesUp (sym c.requires.turned) (sym turned)
-    (mirrored_goes home c.args.given.now (rw (c.instance.ensures.same, c.in-Down.is) at c.in-Ok.ensures.direction))
-
-pub tighten-end-requires-in-Down-clause-soon : goal.tighten-end-requires-in-Down-clause-soon
-tighten-end-requires-in-Down-clause-soon c = λ j low.
-    let home = c.args.up.now.inst in
-    let cranes = rw c.instance-in-Down.ensures.same at c.crane_count.ensures.count in
-    let turned : c.flip.new.self ≡ mirror_schedule home c.args.given.now =
-    c.flip.ensures ∙ ap₂ (λ (n : ℕ) (s : List Slot). map (flipped n) s) cranes c.copy_slots.ensures in
-    rw turned (mirrored_soon home c.args.given.now c.requires.judgeable j (rw c.requires.turned at low))
+pub tighten-end-requires-clause-soon : goal.tighten-end-requires-clause-soon
+tighten-end-requires-clause-soon c = λ j low.
+    let way = c.way_of-way.result in
+    let is = c.see.ensures
+    ∙ ap₂ (λ (i : InstanceView) (s : List Slot). seen_schedule i s way) c.instance-3.ensures.same c.copy_slots.ensures in
+    subst (λ (s : List Slot). start_of s j ≤ most_start) (sym is)
+    (seen_soon c.args.roots.now c.args.given.now way c.requires.judgeable j low)

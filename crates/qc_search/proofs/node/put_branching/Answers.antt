@@ -2,10 +2,14 @@ use Rattle.std.proofs.Common.{[], ◌∷◌, ◌+◌, ◌<◌, Ok, sym, subst}
 use Rattle.qc_model.specs.declared.decision.Decision.{Decision}
 use Rattle.qc_search.specs.Progress.{WritesNodes}
 use Rattle.qc_search.specs.Walk.{IsChild, from_node, steps_left}
-use Rattle.qc_search.proofs.DescentLemmas.{branch_child, branch_fewer}
+use Rattle.qc_search.proofs.DescentLemmas.{branch_child, branch_fewer, branch_named}
 use Rattle.qc_search.proofs.LeafSteps.{branch_written}
 use Rattle.qc_search.proofs.NodesLemmas.{on_fault}
 use Rattle.qc_search.proofs.node.put_branching.Goals as goal
+
+pub put_branch-requires : goal.put_branch-requires
+put_branch-requires g c =
+    branch_named c.args.starts.now.inst c.requires.valid c.args.starts.now.decisions c.pick-branch.result c.pick-branch.ensures
 
 pub returns-in_err-put_branch-clause-goes : goal.returns-in_err-put_branch-clause-goes
 returns-in_err-put_branch-clause-goes g c =

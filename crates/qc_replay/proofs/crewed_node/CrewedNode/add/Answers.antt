@@ -1,4 +1,6 @@
-use Rattle.std.proofs.Common.{◌∙◌, ap, refl}
+use Rattle.std.proofs.Common.{◌∙◌, ap, refl, subst, sym}
+use Rattle.qc_dist.specs.Node.{Node}
+use Rattle.qc_replay.specs.Earliest.{HasEarly}
 use Rattle.qc_model.specs.declared.decision.Decision.TheVariants.{Assign}
 use Rattle.qc_replay.proofs.CrewFacts.{crew_at, crew_puts, opens, were_open_more, with}
 use Rattle.qc_replay.proofs.crewed_node.CrewedNode.add.Goals as goal
@@ -21,6 +23,9 @@ invariant_of-self c =
           were_open_more node c.add.new.self c.args.decision added
           (opens node c.args.self.now c.args.decision c.args.decision c.self.view_is refl c.requires)
           c.self.invariant.were_open;
+      begun =
+          subst (λ (n : Node). HasEarly n.inst.turn n.inst n.decisions c.begun_more.new.begun) (sym added)
+          c.begun_more.ensures;
       crew =
           crew_puts node c.self.inside.crew c.self.invariant.crew c.in-Assign.task c.in-Assign.crane c.put.new.self
           c.add.new.self one.0 c.put.ensures (added ∙ ap (with node) c.in-Assign.is);

@@ -1,6 +1,6 @@
 use Rattle.std.proofs.Common.{◌∙◌, ap}
 use Rattle.qc_model.specs.declared.decision.Decision.TheVariants.{Assign}
-use Rattle.qc_replay.proofs.CrewFacts.{crew_some, crew_takes, was_open, were_open_less, with}
+use Rattle.qc_replay.proofs.CrewFacts.{begun_apart, crew_some, crew_takes, was_open, were_open_less, with}
 use Rattle.qc_replay.proofs.crewed_node.CrewedNode.undo.Goals as goal
 
 pub take-requires-clause-some : goal.take-requires-clause-some
@@ -20,6 +20,8 @@ invariant_of-self-in-Assign c =
     let one = was_open node next d more c.self.invariant.were_open in
     record {
       were_open = were_open_less node next d more c.self.invariant.were_open;
+      begun =
+          c.begun_less.ensures d (begun_apart node next d more c.self.inside.begun c.self.invariant.begun);
       crew =
           crew_takes node next c.self.inside.crew c.self.invariant.crew c.in-Assign.task c.in-Assign.field-1 more one.0
           c.take.new.self one.2 c.take.ensures;

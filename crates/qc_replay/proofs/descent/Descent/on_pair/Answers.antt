@@ -1,4 +1,4 @@
-use Rattle.std.proofs.Common.{◌∙◌, ◌∷◌, ap, inl, subst, sym}
+use Rattle.std.proofs.Common.{◌∙◌, ◌∷◌, ap, subst, sym}
 use Rattle.qc_dist.specs.Node.{IsOpen, Node}
 use Rattle.qc_model.specs.declared.decision.Decision.TheVariants.{Order}
 use Rattle.qc_replay.specs.Part.{Standing}
@@ -8,7 +8,7 @@ use Rattle.qc_replay.proofs.descent.Descent.on_pair.Goals as goal
 pub returns-clause-nodes : goal.returns-clause-nodes
 returns-clause-nodes c =
     pair_nodes c.args.self.now _ c.requires.live c.args.first c.args.second
-    (c.requires.valid.apart.range c.args.first c.args.second c.requires.apart).0
+    c.requires.low
     (ap (λ (n : Node). record { inst = n.inst; decisions = n.decisions; live = c.self.inside.live }) c.add.ensures
     ∙ ap (λ (s : Standing). record { inst = s.inst; decisions = Order c.args.first c.args.second ∷ s.decisions; live = s.live })
     c.self.view_is)
@@ -16,4 +16,4 @@ returns-clause-nodes c =
 pub add-requires : goal.add-requires
 add-requires c =
     subst (λ (s : Standing). IsOpen s.inst s.decisions (Order c.args.first c.args.second)) (sym c.self.view_is)
-    (inl (inl c.requires.apart), c.requires.unsettled)
+    (c.requires.conflict, c.requires.unsettled)

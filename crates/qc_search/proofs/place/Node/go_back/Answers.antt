@@ -35,6 +35,6 @@ invariant_of-self c =
     c.newest.ensures c.in_ok-newest.was c.mark-mark.ensures c.go_back.ensures.decisions c.in-Assign.is in
     let fits = subst (λ (ds : List Decision). Fits inst ds) is c.self.invariant.fits in
     let crew = subst (λ (ds : List Decision). IsCrewOf c.self.inside.crew inst ds) is c.self.invariant.crew in
-    placed inst new c.go_back.new.starts c.take.new.self c.self.invariant.valid c.self.invariant.one_way c.go_back.ensures.inst refl fits.3
+    placed inst new c.go_back.new.starts c.take.new.self c.self.invariant.valid c.go_back.ensures.inst refl fits.3
     (crew_taken inst new c.self.inside.crew c.take.new.self c.in-Assign.task c.in-Assign.field-1 crew fits.0 fits.2
     c.take.ensures)

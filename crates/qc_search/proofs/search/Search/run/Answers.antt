@@ -7,78 +7,78 @@ use Rattle.qc_search.proofs.search.Search.run.Goals as goal
 
 pub told-requires : goal.told-requires
 told-requires g c = λ end e.
-    let home = c.self.inside.up.inst in
+    let home = c.self.inside.roots in
     let b = c.begin-progress.ensures.begins in
-    let w = (rw c.begin-progress.ensures.up_inst at c.in_ok-write_tree.ensures) b.first b.progress in
+    let w = (rw c.begin-progress.ensures.stays at c.in_ok-write.ensures) b.first b.progress in
     let count = rw c.instance.ensures.same at c.crane_count-cranes.ensures.count in
-    subst (λ (n : ℕ). All (λ (s : Slot). s.crane < n) c.write_tree.new.progress.incumbent) (sym count)
-    (went_cranes home c.instance.ensures.valid c.instance.ensures.one_way (option_map (λ sched. sched.now) c.args.given) c.begin-progress.result
-    c.write_tree.new.progress c.self.inside.limit b w end e)
+    subst (λ (n : ℕ). All (λ (s : Slot). s.crane < n) c.write.new.progress.incumbent) (sym count)
+    (went_cranes home c.instance.ensures.valid (option_map (λ sched. sched.now) c.args.given) c.begin-progress.result
+    c.write.new.progress c.self.inside.limit b w end e)
 
 pub returns-clause-searched : goal.returns-clause-searched
 returns-clause-searched g c =
-    let home = c.self.inside.up.inst in
+    let home = c.self.inside.roots in
     let given = option_map (λ sched. sched.now) c.args.given in
-    let now = c.write_tree.new.progress in
+    let now = c.write.new.progress in
     let old = c.begin-progress.result in
     let before = (g.K.Sink.view c.args.sink.now).written in
-    let after = (g.K.Sink.view c.write_tree.new.sink).written in
+    let after = (g.K.Sink.view c.write.new.sink).written in
     let b = c.begin-progress.ensures.begins in
-    let w = (rw c.begin-progress.ensures.up_inst at c.in_ok-write_tree.ensures) b.first b.progress in
+    let w = (rw c.begin-progress.ensures.stays at c.in_ok-write.ensures) b.first b.progress in
     let count = rw c.instance.ensures.same at c.crane_count-cranes.ensures.count in
     let told : c.told.result ≡ told_of home old.incumbent_end now =
     c.told.ensures ∙ ap (λ (n : ℕ). told_with n old.incumbent_end now) count in
     subst (IsSearched c.args.self given before after) (sym told)
     (subst (λ (s : SearchView). IsSearched s given before after (told_of home old.incumbent_end now)) c.self.view_is
-    (went_searched home c.instance.ensures.valid c.instance.ensures.one_way given old now c.self.inside.limit b w))
+    (went_searched home c.instance.ensures.valid given old now c.self.inside.limit b w))
 
 pub returns-clause-sound : goal.returns-clause-sound
 returns-clause-sound g c =
-    let home = c.self.inside.up.inst in
+    let home = c.self.inside.roots in
     let given = option_map (λ sched. sched.now) c.args.given in
-    let now = c.write_tree.new.progress in
+    let now = c.write.new.progress in
     let old = c.begin-progress.result in
     let b = c.begin-progress.ensures.begins in
-    let w = (rw c.begin-progress.ensures.up_inst at c.in_ok-write_tree.ensures) b.first b.progress in
+    let w = (rw c.begin-progress.ensures.stays at c.in_ok-write.ensures) b.first b.progress in
     let count = rw c.instance.ensures.same at c.crane_count-cranes.ensures.count in
     let told : c.told.result ≡ told_of home old.incumbent_end now =
     c.told.ensures ∙ ap (λ (n : ℕ). told_with n old.incumbent_end now) count in
     subst (IsSound c.args.self given) (sym told)
     (subst (λ (s : SearchView). IsSound s given (told_of home old.incumbent_end now)) c.self.view_is
-    (went_sound home c.instance.ensures.valid c.instance.ensures.one_way given old now c.self.inside.limit b w))
+    (went_sound home c.instance.ensures.valid given old now c.self.inside.limit b w))
 
-pub returns-in_err-write_tree-clause-cut : goal.returns-in_err-write_tree-clause-cut
-returns-in_err-write_tree-clause-cut g c =
+pub returns-in_err-write-clause-cut : goal.returns-in_err-write-clause-cut
+returns-in_err-write-clause-cut g c =
     let b = c.begin-progress.ensures.begins in
-    let w = (rw c.begin-progress.ensures.up_inst at c.in_err-write_tree.ensures) b.first b.progress in
+    let w = (rw c.begin-progress.ensures.stays at c.in_err-write.ensures) b.first b.progress in
     on_err c.from_residual.result
-    (subst (λ (s : SearchView). IsCutOff s.inst (g.K.Sink.view c.args.sink.now).written (g.K.Sink.view c.write_tree.new.sink).written)
+    (subst (λ (s : SearchView). IsCutOff s.inst (g.K.Sink.view c.args.sink.now).written (g.K.Sink.view c.write.new.sink).written)
     c.self.view_is (record { tree = w.tree; is_tree = w.is_tree; part = w.writes.part }))
 
-pub returns-in_err-write_tree-clause-counts : goal.returns-in_err-write_tree-clause-counts
-returns-in_err-write_tree-clause-counts g c =
+pub returns-in_err-write-clause-counts : goal.returns-in_err-write-clause-counts
+returns-in_err-write-clause-counts g c =
     let b = c.begin-progress.ensures.begins in
-    let w = (rw c.begin-progress.ensures.up_inst at c.in_err-write_tree.ensures) b.first b.progress in
+    let w = (rw c.begin-progress.ensures.stays at c.in_err-write.ensures) b.first b.progress in
     record {
       unfailed = not_ok _ c.from_residual.result c.from_residual.ensures.0;
       rose = on_err c.from_residual.result w.writes.rose;
       never_falls = w.writes.never_falls;
     }
 
-pub returns-in_err-write_tree-clause-beside_stays : goal.returns-in_err-write_tree-clause-beside_stays
-returns-in_err-write_tree-clause-beside_stays g c =
+pub returns-in_err-write-clause-beside_stays : goal.returns-in_err-write-clause-beside_stays
+returns-in_err-write-clause-beside_stays g c =
     let b = c.begin-progress.ensures.begins in
-    let w = (rw c.begin-progress.ensures.up_inst at c.in_err-write_tree.ensures) b.first b.progress in
+    let w = (rw c.begin-progress.ensures.stays at c.in_err-write.ensures) b.first b.progress in
     w.writes.beside_stays
 
 pub returns-clause-counts : goal.returns-clause-counts
 returns-clause-counts g c =
     let b = c.begin-progress.ensures.begins in
-    let w = (rw c.begin-progress.ensures.up_inst at c.in_ok-write_tree.ensures) b.first b.progress in
+    let w = (rw c.begin-progress.ensures.stays at c.in_ok-write.ensures) b.first b.progress in
     record { unfailed = w.writes.unfailed; rose = tt; never_falls = w.writes.never_falls }
 
 pub returns-clause-beside_stays : goal.returns-clause-beside_stays
 returns-clause-beside_stays g c =
     let b = c.begin-progress.ensures.begins in
-    let w = (rw c.begin-progress.ensures.up_inst at c.in_ok-write_tree.ensures) b.first b.progress in
+    let w = (rw c.begin-progress.ensures.stays at c.in_ok-write.ensures) b.first b.progress in
     w.writes.beside_stays

@@ -1,4 +1,5 @@
-use Rattle.std.proofs.Common.{ℕ, Bool, true, false, List, length, ap, ◌∙◌, arith, slice_index_or}
+use Rattle.std.proofs.Common.{ℕ, inl, inr, Bool, true, false, List, length, ap, sym, ◌∙◌, arith, slice_index_or}
+use Rattle.std.proofs.lemmas.Bool.{cases_eq, false≢true}
 use Rattle.std.proofs.lemmas.List.{get_or-set_other, get_or-set_same}
 use Rattle.std.proofs.Math.ListN.{length-set}
 use Rattle.qc_starts.specs.declared.noted.Noted.{Noted}
@@ -32,4 +33,9 @@ returns c =
           others = λ j other. get_or-set_other cleared c.args.root j true false other ∙ all_clear cleared c.clear_pending.ensures.clear j;
         };
       };
+      within = λ j t. elim (cases_eq j c.args.root) [
+        | inl same ↦ (omega (arith, same), omega (arith, same))
+        | inr other ↦
+            absurd (false≢true (sym (get_or-set_other cleared c.args.root j true false other ∙ all_clear cleared c.clear_pending.ensures.clear j) ∙ t))
+      ];
     }

@@ -2,7 +2,7 @@ use Rattle.std.proofs.Common.{ℕ, [], ◌<◌, false, List, length, ap, sym, su
 use Rattle.std.proofs.Math.ListN.{length-set}
 use Rattle.qc_starts.specs.Spread.{IsLooked, IsPick, IsSpreading, from_task, left}
 use Rattle.qc_starts.proofs.NotingLemmas.{wrote_then}
-use Rattle.qc_starts.proofs.SpreadLemmas.{look_begins, look_from, look_less, spread_ends}
+use Rattle.qc_starts.proofs.SpreadLemmas.{look_begins, look_from, look_less, spread_ends, within_less}
 use Rattle.qc_starts.proofs.spread.Spread.raise_behind.Goals as goal
 use Rattle.qc_starts.proofs.spread.Spread.raise_behind.Goals.{Else-raise_from}
 
@@ -17,6 +17,11 @@ raise_from-requires-clause-spreading g c =
     (look_begins net c.args.root c.args.self.now.olds.items cells pending task
     (omega (arith, c.in-Some.ensures.0, c.loop-task.invariant.spreading.size)) c.in-Some.ensures.1
     c.loop-task.invariant.spreading (from_task task net.arcs) (look_from task net.arcs))
+
+pub raise_from-requires-clause-within : goal.raise_from-requires-clause-within
+raise_from-requires-clause-within g c =
+    within_less c.loop-task.self.pending.items c.loop-task.self.first c.loop-task.self.behind c.loop-task.invariant.within
+    c.in-Some.task c.in-Some.ensures.0
 
 pub returns-then-raise_from-clause-wrote : goal.returns-then-raise_from-clause-wrote
 returns-then-raise_from-clause-wrote g c =
@@ -61,6 +66,7 @@ loop-task-preserved g c = record {
   size = c.raise_from.ensures.size
       ∙ length-set c.loop-task.self.pending.items c.in-Some.task false ∙ c.loop-task.invariant.size;
   olds = c.raise_from.ensures.olds ∙ c.loop-task.invariant.olds;
+  within = c.raise_from.ensures.within;
   wrote = wrote_then c.args.self.now.values c.loop-task.self.values c.raise_from.new.self.values
       c.args.steps.now c.loop-task.steps c.raise_from.new.steps c.loop-task.invariant.wrote c.raise_from.ensures.wrote;
 }
