@@ -2,6 +2,7 @@
 ghost use Rattle.std.specs.Prelude.{IfSome, length};
 ghost use Rattle.qc_model.specs.Judge.{IsJudgeable};
 ghost use Rattle.qc_starts.specs.Tight.{IsTight};
+ghost use Rattle.qc_tree.specs.Trees.{NoneEarlier};
 ghost use Rattle.qc_plan_command.specs.Found.{IsReread, Tells};
 ghost use Rattle.qc_plan_command.specs.Reports.{CanBeTold};
 ghost use Rattle.qc_plan_command.specs.Rooms.{IsRoom};
@@ -14,6 +15,7 @@ use qc_search::Done;
 
 /// The answer that tells what a search came to; the room is for its motion.
 pub(crate) fn answer_of(inst: Instance, done: Done, room: Room) -> PlanAnswer
+    requires none_earlier { NoneEarlier inst done.bound }
     requires judgeable { IfSome done.best (IsJudgeable inst) }
     requires tight { IfSome done.best (IsTight inst) }
     requires reread { IfSome done.best (IsReread inst) }
