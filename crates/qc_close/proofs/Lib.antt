@@ -6,6 +6,10 @@ pub mod SpanLemmas
 mod LoopLemmas
 mod FrameLemmas
 mod BarredLemmas
+mod Paths
+mod Trips
+mod Tracks
+mod WayLemmas
 mod CountLemmas
 mod GrainLemmas
 pub mod ClosedLemmas
