@@ -24,6 +24,7 @@ mod CrewLemmas
 mod SpotLemmas
 mod BarLemmas
 mod TableLemmas
+mod TripLemmas
 mod StretchLemmas
 mod PlaceLemmas
 pub mod KeptLemmas

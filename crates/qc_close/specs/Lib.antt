@@ -8,3 +8,4 @@ pub mod Lefts
 pub mod Lasts
 pub mod Spots
 pub mod Bars
+pub mod Trips

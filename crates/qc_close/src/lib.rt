@@ -16,6 +16,7 @@ mod packs;
 mod short;
 mod spots;
 mod sums;
+mod trip;
 mod walk;
 
 pub use closed::LAST_CLOSED;
