@@ -28,4 +28,5 @@ mod TripLemmas
 mod StretchLemmas
 mod PlaceLemmas
 pub mod KeptLemmas
+mod LongestLemmas
 pub mod LimitLemmas

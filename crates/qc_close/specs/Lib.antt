@@ -9,3 +9,4 @@ pub mod Lasts
 pub mod Spots
 pub mod Bars
 pub mod Trips
+pub mod Moves

@@ -4,6 +4,7 @@ use Rattle.qc_model.specs.Instance.{InstanceView, IsFrom, crane}
 use Rattle.qc_model.specs.Ways.{trip_along, trip_from}
 use Rattle.qc_model.specs.Work.{task_numbers}
 use Rattle.qc_model.specs.declared.way.Trip.{Trip}
+use Rattle.qc_model.specs.declared.way.Way.{Way}
 use Rattle.qc_close.specs.declared.trip.Trips.{Trips}
 
 -- where cranes stand on the rail, and by all gaps beyond it
@@ -41,3 +42,9 @@ pub record AreTrips (inst : InstanceView) (cranes : List (Option ℕ)) (spots : 
   pub many : length trips.cells.items ≡ 1920
   pub each : (w k : ℕ) → w < length inst.cranes → k < 240
       → slice_index_or trips.cells.items (240 * w + k) no_trip ≡ trip_of inst cranes spots w k
+
+-- a way that goes no further than this
+pub record IsShortWay (way : Way) : Type 0 where
+  pub bays : way.bays ≤ 16592000
+  pub low : IsWide way.low
+  pub high : IsWide way.high

@@ -18,6 +18,7 @@ mod spots;
 mod sums;
 mod trip;
 mod walk;
+mod way;
 
 pub use closed::LAST_CLOSED;
 pub use crew::Crew;
