@@ -24,6 +24,7 @@ use Rattle.qc_close.specs.Crews.{CrewView}
 use Rattle.qc_close.specs.Lasts.{IsLast}
 use Rattle.qc_close.specs.Lefts.{IsLeft}
 use Rattle.qc_close.specs.Spots.{AreSoonest, AreSpots}
+use Rattle.qc_close.specs.Trips.{AreTrips}
 use Rattle.qc_close.proofs.ClosedLemmas.{closed_end_le}
 use Rattle.qc_close.proofs.CrewLemmas.{at, bay_index, cranes_else, cranes_there, last_test, left_put, left_take, none_there, put_room, work_within}
 use Rattle.qc_close.proofs.GrainLemmas.{grain_is, travel_range}
@@ -162,9 +163,10 @@ no_soonest inst cranes soonest none many = record {
 -- ---- a crew as it is opened
 
 pub kept_open : (f : Inside) (inst : InstanceView) → f.inst ≡ inst → Valid inst → f.cranes.items ≡ no_cranes inst
-    → AreSpots inst f.spots → length f.soonest.items ≡ length inst.tasks → IsTable inst (no_cranes inst) f.spots f.table → IsLeft inst (no_cranes inst) f.left.items
+    → AreSpots inst f.spots → length f.soonest.items ≡ length inst.tasks → IsTable inst (no_cranes inst) f.spots f.table
+    → ((spots : List ℕ) → AreTrips inst (no_cranes inst) spots f.trips) → IsLeft inst (no_cranes inst) f.left.items
     → f.step ≡ grain inst → IsLast (is_short_before inst f.turn (no_cranes inst)) LAST_CLOSED f.bare → IsKept f
-kept_open f inst e valid none spots many table left step bare =
+kept_open f inst e valid none spots many table trips left step bare =
     let back = sym e in
     let none_is = none ∙ ap no_cranes back in
     record {
@@ -174,6 +176,8 @@ kept_open f inst e valid none spots many table left step bare =
       spots = subst (λ i. AreSpots i f.spots) back spots;
       soonest = no_soonest f.inst f.cranes.items f.soonest.items none_is (many ∙ ap (λ (i : InstanceView). length i.tasks) back);
       table = subst (λ cs. IsTable f.inst cs f.spots f.table) (sym none_is) (subst (λ i. IsTable i (no_cranes i) f.spots f.table) back table);
+      trips = subst (λ cs. AreTrips f.inst cs f.spots.of_task.items f.trips) (sym none_is)
+          (subst (λ i. AreTrips i (no_cranes i) f.spots.of_task.items f.trips) back (trips f.spots.of_task.items));
       left = subst (λ cs. IsLeft f.inst cs f.left.items) (sym none_is) (subst (λ i. IsLeft i (no_cranes i) f.left.items) back left);
       step = step ∙ ap grain back;
       bare = subst (λ i. IsLast (is_short_before i f.turn (no_cranes i)) LAST_CLOSED f.bare) back bare;

@@ -5,7 +5,7 @@ use Rattle.std.proofs.Math.Nat.{mul-add, mul-le-mul_left, mul-zero, mul_comm}
 use Rattle.std.proofs.lemmas.Bool.{and_from, and_parts, cases_Bool, cases_lt, cond_both, eqb-true, false_from_ne_true, le-leb, leb-true, ltb-true, or_from, true≢false}
 use Rattle.std.proofs.lemmas.Int.{ints}
 use Rattle.std.proofs.lemmas.List.{length-reverse}
-use Rattle.std.proofs.lemmas.List.FromFn.{length-range_with_len}
+use Rattle.std.proofs.lemmas.List.FromFn.{get_or-map-range_with_len, length-map-range_with_len, length-range_with_len}
 use Rattle.std.proofs.lemmas.List.Sums.{sum_by-append, sum_by-cons}
 use Rattle.std.proofs.lemmas.Nat.Gcd.{le_of_dvd}
 use Rattle.std.specs.Option.{option_map_or}
@@ -25,7 +25,7 @@ use Rattle.qc_model.specs.declared.limits.TheConstants.{MOST_START}
 use Rattle.qc_model.proofs.Bays.{bays}
 use Rattle.qc_model.proofs.LimitsOf.{limits_of}
 use Rattle.qc_model.proofs.OnRail.{ticks_bounded}
-use Rattle.qc_close.specs.Counts.{IsNear}
+use Rattle.qc_close.specs.Counts.{AreNear, IsNear}
 use Rattle.qc_model.specs.Ways.{longest_way, own_bays, way_frame}
 use Rattle.std.specs.Int.{int_min}
 use Rattle.qc_close.specs.Trips.{IsShortWay}
@@ -444,6 +444,14 @@ module _ (inst : InstanceView) (valid : Valid inst) where
         (late_tick end late) (crane_numbers inst)
         (omega (arith, length-range_with_len 0 (length inst.cranes), valid.cranes.count.0))
         (λ w a. omega (arith, (range_among w 0 (length inst.cranes) a).1))
+
+-- the bays of frames with the longest ways are near
+pub ways_near : (inst : InstanceView) (turn : Turn) (cranes : List (Option ℕ)) → Valid inst → AreInRange inst cranes
+    → (frames : List Frame) → frames ≡ map (way_frame inst turn cranes) (crane_numbers inst) → AreNear frames
+ways_near inst turn cranes valid range frames are i d low =
+    let many : i < length inst.cranes = omega (arith, low, ap length are, length-map-range_with_len (way_frame inst turn cranes) 0 (length inst.cranes)) in
+    let is = ap (λ fs. get_or fs i d) are ∙ get_or-map-range_with_len (way_frame inst turn cranes) 0 (length inst.cranes) i i d many (omega arith) in
+    subst IsNear (sym is) (way_modest inst valid turn i many cranes range).near
 
 -- no assignment is closed at an end of more than twelve digits
 pub closed_never : (inst : InstanceView) (turn : Turn) (cranes : List (Option ℕ)) (end : ℕ) → Valid inst

@@ -1,6 +1,6 @@
 -- The longest way of a crane, found from the spots of its trips; and that ways are short.
-use Rattle.std.proofs.Common.{◌≡◌, ℕ, zero, suc, ◌+◌, ◌-◌, ◌*◌, ◌<◌, ◌≤◌, min, inl, inr, Bool, true, false, eqb, nat_lt, cond, List, [], ◌∷◌, length, get_or, map, filter, Option, None, Some, max, ◌||◌, ℤ, pos, ◌≤ℤ◌, ◌<ℤ◌, refl, ap, sym, subst, ◌∙◌, arith, add-one}
-use Rattle.std.proofs.lemmas.Bool.{cases_lt, cond_both, eqb-true, le-ltb, ltb-true, ne_eqb}
+use Rattle.std.proofs.Common.{◌≡◌, ℕ, zero, suc, ◌+◌, ◌-◌, ◌*◌, ◌<◌, ◌≤◌, min, inl, inr, Bool, true, false, eqb, nat_lt, cond, List, [], ◌∷◌, length, get_or, map, Option, max, ◌||◌, ℤ, pos, ◌≤ℤ◌, refl, ap, sym, subst, ◌∙◌, arith, add-one}
+use Rattle.std.proofs.lemmas.Bool.{cases_lt, cond_both, le-ltb, ltb-true, ne_eqb}
 use Rattle.std.proofs.lemmas.Int.{by_lt_z, int_max_is, int_min_is, ints}
 use Rattle.std.specs.Int.{int_max, int_min}
 use Rattle.std.specs.List.{range_with_len}
@@ -11,22 +11,22 @@ use Rattle.qc_model.specs.declared.way.Trip.{Trip}
 use Rattle.qc_model.specs.declared.way.Way.{Way}
 use Rattle.qc_model.specs.Assignments.{AreInRange}
 use Rattle.qc_model.specs.Barred.{barred_frame}
-use Rattle.qc_model.specs.Bays.{at_least_zero, bays_between, bays_up}
+use Rattle.qc_model.specs.Bays.{at_least_zero, bays_up}
 use Rattle.qc_model.specs.Frames.{frame, frame_of, own, turn_bays, turn_high}
-use Rattle.qc_model.specs.Instance.{InstanceView, IsOnRail, Valid, bay_of, crane}
+use Rattle.qc_model.specs.Instance.{InstanceView, Valid, bay_of, crane}
 use Rattle.qc_model.specs.Ways.{frame_along, longest, longest_way, own_bays, own_way, tasks_at, trip_along, trip_from, way_at, way_frame, way_with}
 use Rattle.qc_model.specs.Work.{highest, lowest, task_numbers, ticks_over}
 use Rattle.qc_model.proofs.Bays.{bays}
-use Rattle.qc_model.proofs.LimitsOf.{counted, limits_of}
+use Rattle.qc_model.proofs.LimitsOf.{counted}
 use Rattle.qc_close.specs.Owns.{bays_by, own_of, spent_with, ticks_by}
 use Rattle.qc_close.specs.declared.frames.Own.{Own}
-use Rattle.qc_close.specs.Spots.{AreBays, AreSpots, AreTaskSpots, spot_bay}
-use Rattle.qc_close.specs.Trips.{AreTrips, IsShortWay, IsWide, IsWideTrip, at_spot, no_trip, trip_of}
+use Rattle.qc_close.specs.Spots.{AreSpots, spot_bay}
+use Rattle.qc_close.specs.Trips.{AreTrips, IsShortWay, IsWide, IsWideTrip, no_trip}
 use Rattle.qc_close.specs.declared.spots.Spots.{Spots}
 use Rattle.qc_close.specs.declared.trip.Trips.{Trips}
 use Rattle.qc_close.proofs.BarLemmas.{none_pass}
 use Rattle.qc_close.proofs.BarredLemmas.{highest_at, lowest_at}
-use Rattle.qc_close.proofs.Members.{Among, map_among, range_among}
+use Rattle.qc_close.proofs.Members.{map_among, range_among}
 use Rattle.qc_close.proofs.TripLemmas.{max_wide, min_wide, tasks_there, trip_wide}
 use Rattle.qc_close.proofs.WayLemmas.{longest_is}
 

@@ -15,7 +15,6 @@ use Rattle.qc_model.specs.declared.task.Task.{Task}
 use Rattle.qc_model.specs.declared.turn.Turn.{Turn}
 use Rattle.qc_model.specs.declared.turn.Turn.TheVariants.{OneWay, Free}
 use Rattle.qc_model.specs.Assignments.{crane_in}
-use Rattle.qc_model.specs.Barred.{barred_frame}
 use Rattle.qc_model.specs.Frames.{frame_of, turn_high}
 use Rattle.qc_model.specs.Instance.{InstanceView, IsOnRail, bay_of, task, ticks_of}
 use Rattle.qc_model.specs.Work.{crane_numbers, highest, lowest, ticks_over}

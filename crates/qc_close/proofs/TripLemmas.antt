@@ -1,15 +1,13 @@
 -- The trips of cranes task by task, what changes them, and that they stay near the rail.
-use Rattle.std.proofs.Common.{◌≡◌, ◌≢◌, ℕ, zero, suc, ◌+◌, ◌-◌, ◌*◌, ◌/◌, ◌<◌, ◌≤◌, ◌⊎◌, inl, inr, Bool, true, false, ◌&&◌, eqb, nat_lt, cond, List, [], ◌∷◌, length, get_or, set, filter, replicate, Option, None, Some, ℤ, pos, negsuc, ◌+ℤ◌, ◌-ℤ◌, ◌≤ℤ◌, of_z, to_z, w32, refl, ap, sym, subst, ◌∙◌, arith, add-one}
-use Rattle.std.proofs.Math.Nat.{mul-le-mul_left}
+use Rattle.std.proofs.Common.{◌≡◌, ◌≢◌, ℕ, zero, suc, ◌+◌, ◌-◌, ◌*◌, ◌/◌, ◌<◌, ◌≤◌, ◌⊎◌, inl, inr, Bool, true, false, ◌&&◌, eqb, nat_lt, cond, List, [], ◌∷◌, length, get_or, set, filter, Option, None, Some, ℤ, pos, negsuc, ◌+ℤ◌, ◌-ℤ◌, ◌≤ℤ◌, of_z, to_z, w32, refl, ap, sym, subst, ◌∙◌, arith}
 use Rattle.std.proofs.lemmas.Bool.{and_from, cases_lt, cond-false, cond-true, cond_both, eq-eqb, eqb-true, false≢true, lt-ltb, ne_eqb}
 use Rattle.std.proofs.lemmas.Int.{int_max_is, int_min_is, ints}
-use Rattle.std.proofs.lemmas.List.{get_or-replicate, get_or-set_other, get_or-set_same, length-set}
+use Rattle.std.proofs.lemmas.List.{get_or-set_other, get_or-set_same, length-set}
 use Rattle.std.proofs.lemmas.Nat.{mul-le}
 use Rattle.std.specs.Int.{int_max, int_min}
 use Rattle.std.specs.List.{range_with_len}
 use Rattle.qc_model.specs.declared.task.Phase.{Phase}
 use Rattle.qc_model.specs.declared.task.Phase.TheVariants.{DeckOut, HoldOut, HoldIn, DeckIn}
-use Rattle.qc_model.specs.declared.task.Task.{Task}
 use Rattle.qc_model.specs.declared.way.Trip.{Trip}
 use Rattle.qc_model.specs.Assignments.{AreInRange, crane_in, no_cranes}
 use Rattle.qc_model.specs.Bays.{at_least_zero, bays_between}
@@ -21,7 +19,7 @@ use Rattle.qc_model.specs.Work.{task_numbers}
 use Rattle.qc_model.proofs.Bays.{bays}
 use Rattle.qc_model.proofs.LimitsOf.{counted, limits_of}
 use Rattle.qc_close.specs.Bars.{Changes}
-use Rattle.qc_close.specs.Spots.{AreBays, AreSpots, AreTaskSpots, IsCount, spot_bay}
+use Rattle.qc_close.specs.Spots.{AreBays, AreTaskSpots, spot_bay}
 use Rattle.qc_close.specs.Trips.{AreTogether, AreTrips, IsWide, IsWideTrip, at_spot, no_trip, trip_of}
 use Rattle.qc_close.specs.declared.trip.Trips.{Trips}
 use Rattle.qc_close.proofs.BarLemmas.{filter_same, none_pass, same_test}

@@ -126,13 +126,7 @@ fn first_at(spots: &[u16], task: u16) -> u16
 }
 
 /// The trip of a crane for the tasks at the spot of the first of them.
-fn trip_at(
-    inst: &Instance,
-    cranes: &[Option<u16>],
-    spots: &[u16],
-    crane: u16,
-    first: u16,
-) -> Trip
+fn trip_at(inst: &Instance, cranes: &[Option<u16>], spots: &[u16], crane: u16, first: u16) -> Trip
     requires count { length cranes.now ≡ length inst.now.tasks }
     requires range { AreInRange inst.now cranes.now }
     requires spots { length spots.now ≡ length inst.now.tasks }

@@ -1,4 +1,3 @@
-use Rattle.std.proofs.Common.{◌≤◌}
 use Rattle.qc_close.proofs.TripLemmas.{AreFilled}
 use Rattle.qc_close.proofs.trip.fill_trips.Given as goal
 

@@ -1,4 +1,4 @@
-use Rattle.std.proofs.Common.{List, ℕ, ◌≡◌, ◌<◌, ◌∙◌, ap, arith, get_or, length, sym, subst}
+use Rattle.std.proofs.Common.{List, ℕ, ◌≡◌, ◌∙◌, ap, arith, get_or, length, sym, subst}
 use Rattle.qc_close.specs.Trips.{AreTogether, trip_of}
 use Rattle.qc_close.proofs.TripLemmas.{AreKept, all_kept, few_spots, one_kept, together}
 use Rattle.qc_close.proofs.trip.keep_trips.Goals as goal

@@ -1,4 +1,4 @@
-use Rattle.std.proofs.Common.{◌≤◌, length, slice_index}
+use Rattle.std.proofs.Common.{slice_index}
 use Rattle.qc_close.specs.Trips.{trip_of}
 use Rattle.qc_close.proofs.TripLemmas.{AreKept}
 use Rattle.qc_close.proofs.trip.keep_trips.Given as goal

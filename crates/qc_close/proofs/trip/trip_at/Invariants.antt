@@ -1,6 +1,4 @@
 use Rattle.std.proofs.Common.{◌≡◌, ◌-◌, ◌≤◌, length, slice_index}
-use Rattle.qc_model.specs.Instance.{crane}
-use Rattle.qc_model.specs.Ways.{trip_from}
 use Rattle.qc_close.specs.Trips.{IsWideTrip, at_spot, trip_of}
 use Rattle.qc_close.proofs.TripLemmas.{from_task}
 use Rattle.qc_close.proofs.trip.trip_at.Given as goal

@@ -1,6 +1,5 @@
-use Rattle.std.proofs.Common.{◌≡◌, ◌<◌, ◌+◌, ◌*◌, ◌∙◌, List, Option, ℕ, ap, arith, get_or, length, subst, sym}
+use Rattle.std.proofs.Common.{◌<◌, ◌+◌, ◌*◌, ◌∙◌, ap, arith, length, subst, sym}
 use Rattle.std.proofs.lemmas.List.{get_or_read}
-use Rattle.qc_model.specs.declared.turn.Turn.{Turn}
 use Rattle.qc_model.specs.declared.way.Trip.{Trip}
 use Rattle.qc_model.specs.declared.way.Way.{Way}
 use Rattle.qc_close.specs.Trips.{at_spot, no_trip}

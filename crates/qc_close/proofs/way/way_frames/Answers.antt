@@ -1,6 +1,5 @@
-use Rattle.std.proofs.Common.{◌≡◌, ◌<◌, ◌∙◌, List, Option, ℕ, arith, length, map, sym, take}
+use Rattle.std.proofs.Common.{◌≡◌, ◌<◌, ◌∙◌, List, Option, ℕ, arith, length, map, take}
 use Rattle.std.proofs.lemmas.List.{length-set}
-use Rattle.qc_model.specs.declared.frame.Frame.{Frame}
 use Rattle.qc_model.specs.Barred.{barred_frame}
 use Rattle.qc_model.specs.Ways.{way_frame}
 use Rattle.qc_model.specs.Work.{crane_numbers}
