@@ -249,7 +249,7 @@ module _ (inst : InstanceView) (valid : Valid inst) where
       → work_over version inst ds end ≡ true → end < 10 ^ 15
   over_few without_berths ds fits end over = work_few ds fits end over
   over_few with_berths ds fits end over = work_few ds fits end over
-  over_few with_packed ds fits end over = omega (arith, closed_soon inst OneWay (cranes_of inst ds) end valid over)
+  over_few with_packed ds fits end over = omega (arith, closed_soon inst OneWay (cranes_of inst ds) end valid (cranes_range inst ds fits) over)
 
   -- packed tasks begin soon, and don't take long
   with_first : (o : Option ℕ) (h : ℕ) → h ≤ MOST_READY + MOST_DISTANCE
