@@ -11,9 +11,10 @@ ghost use Rattle.qc_starts.specs.Values.{start_at};
 
 use crate::network::Network;
 use crate::noted::Noted;
+use crate::tails::Tails;
 use qc_dist::{Decisions, separation};
 use qc_model::Pair;
-use qc_num::Tick;
+use qc_num::{Bound, Tick};
 
 /// Whether one of two tasks ends so long before the other starts that their cranes can give way.
 fn are_clear(network: &Network, values: &Noted, i: u16, v: u16, j: u16, w: u16) -> bool
@@ -94,29 +95,68 @@ pub(crate) fn has_overlap(network: &Network, values: &Noted) -> bool
     false
 }
 
-/// Two tasks that overlap, and when both have started.
-#[derive(Clone, Copy)]
+/// Two tasks that overlap. The least is branched on first.
+#[derive(Clone, Copy, PartialEq, Eq, PartialOrd, Ord)]
 struct Overlap {
-    pair: Pair,
+    /// How many of the two orders may leave an end before the best one.
+    early: u8,
+    /// When both have started.
     from: Tick,
+    pair: Pair,
 }
 
-/// Of two pairs that which overlaps sooner, the first of them where both do at the same tick.
+/// How many of two orders may leave an end before the best one.
+fn early_orders(network: &Network, values: &Noted, tails: &Tails, pair: Pair, best: Bound) -> u8
+    requires count { length values.now.cells ≡ 2 * length network.now.inst.tasks }
+    requires first { pair.first < length network.now.inst.tasks }
+    requires second { pair.second < length network.now.inst.tasks }
+{
+    let decisions = network.decisions();
+    let (Some(v), Some(w)) = (
+        decisions.crane_of(pair.first),
+        decisions.crane_of(pair.second),
+    ) else {
+        return 2;
+    };
+    let inst = network.instance();
+    let ticks = separation(inst, pair.first, v, pair.second, w);
+    let one = inst.task(pair.first).ticks.saturating_add(ticks);
+    let other = inst.task(pair.second).ticks.saturating_add(ticks);
+    let behind_one = values.start(pair.first).saturating_add(one);
+    let behind_other = values.start(pair.second).saturating_add(other);
+    u8::from(!tails.is_late(behind_one, pair.second, pair.first, best))
+        + u8::from(!tails.is_late(behind_other, pair.first, pair.second, best))
+}
+
+/// Two tasks that overlap, as they are ranked.
+fn ranked(network: &Network, values: &Noted, tails: &Tails, pair: Pair, best: Bound) -> Overlap
+    requires count { length values.now.cells ≡ 2 * length network.now.inst.tasks }
+    requires first { pair.first < length network.now.inst.tasks }
+    requires second { pair.second < length network.now.inst.tasks }
+    ensures { result.pair ≡ pair }
+{
+    let early = early_orders(network, values, tails, pair, best);
+    let from = values.start(pair.first).max(values.start(pair.second));
+    Overlap { early, from, pair }
+}
+
+/// The lesser of two pairs, the first of them where they are the same.
 fn sooner(before: Option<Overlap>, this: Overlap) -> Overlap
     ensures { (result ≡ this) ⊎ (before ≡ Some result) }
 {
     match before {
-        Some(other) => { if other.from <= this.from { other } else { this } }
+        Some(other) => { if other <= this { other } else { this } }
         None => this,
     }
 }
 
-/// Of the pairs of a task and a later one that overlap, and one that was found before them, that which does
-/// so first.
+/// The least of the pairs of a task and a later one that overlap, and of one that was found before them.
 fn first_later(
     network: &Network,
     values: &Noted,
+    tails: &Tails,
     i: u16,
+    best: Bound,
     before: Option<Overlap>,
 ) -> Option<Overlap>
     requires count { length values.now.cells ≡ 2 * length network.now.inst.tasks }
@@ -134,19 +174,19 @@ fn first_later(
     let mut first = before;
     for j in i + 1..count {
         if overlaps(network, values, i, j) {
-            let from = values.start(i).max(values.start(j));
             let pair = Pair {
                 first: i,
                 second: j,
             };
-            first = Some(sooner(first, Overlap { pair, from }));
+            let overlap = ranked(network, values, tails, pair, best);
+            first = Some(sooner(first, overlap));
         }
     }
     first
 }
 
-/// Of the pairs that overlap that which does so first; `None` exactly where none does.
-pub(crate) fn first_overlap(network: &Network, values: &Noted) -> Option<Pair>
+/// The least of the pairs that overlap; `None` exactly where none does.
+pub(crate) fn first_overlap(network: &Network, values: &Noted, best: Bound) -> Option<Pair>
     requires count { length values.now.cells ≡ 2 * length network.now.inst.tasks }
     requires soon { (j : ℕ) → j < length network.now.inst.tasks
         → start_at values.now.cells j ≤ MOST_START }
@@ -155,9 +195,10 @@ pub(crate) fn first_overlap(network: &Network, values: &Noted) -> Option<Pair>
         (λ pair. IsFound network.now.inst network.now.decisions values.now.cells
         pair.first pair.second) }
 {
+    let tails = Tails::of(network, values);
     let mut first = None;
     for i in 0..network.task_count() {
-        first = first_later(network, values, i, first);
+        first = first_later(network, values, &tails, i, best, first);
     }
     match first {
         Some(found) => Some(found.pair),
