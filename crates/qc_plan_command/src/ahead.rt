@@ -37,11 +37,7 @@ pub(crate) enum Ahead {
 }
 
 /// A search for a plan that goes one way, with at most so many branchings.
-fn one_way_search(
-    alloc: Global,
-    inst: &Instance,
-    nodes: u32,
-) -> Result<OneWaySearch, OutOfMemory>
+fn one_way_search(alloc: Global, inst: &Instance, nodes: u32) -> Result<OneWaySearch, OutOfMemory>
     requires { nodes ≤ most_branchings }
     ensures inst { IfOk result (λ one. one.inst ≡ with_turn inst.now OneWay) }
     ensures is { IfOk result IsOneWaySearch }

@@ -24,9 +24,7 @@ use crate::room::{Room, room_for};
 use crate::store::{store_best, store_tree};
 use qc_io::{Shelf, Sink, WriteFault};
 use qc_num::Tick;
-use qc_run::{
-    Broken, OwnJob, Status, Stop, broken_by, broken_of, read_own_job, report_stop,
-};
+use qc_run::{Broken, OwnJob, Status, Stop, broken_by, broken_of, read_own_job, report_stop};
 use qc_search::Search;
 use std::alloc::Global;
 
