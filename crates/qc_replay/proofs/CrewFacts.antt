@@ -76,10 +76,10 @@ module _ (node next : Node) (d : Decision) (more : node ≡ with next d) (were :
   were_open_less = all_open.1
 
 -- the least starts that are kept, with the newest decision apart
-pub begun_less : (node next : Node) (d : Decision) → node ≡ with next d → (begun : Option EarlyStarts)
+pub begun_apart : (node next : Node) (d : Decision) → node ≡ with next d → (begun : Option EarlyStarts)
     → HasEarly node.inst.turn node.inst node.decisions begun
     → HasEarly next.inst.turn next.inst (d ∷ next.decisions) begun
-begun_less node next d more begun has =
+begun_apart node next d more begun has =
     subst (λ (m : Node). HasEarly m.inst.turn m.inst m.decisions begun) more has
 
 module _ (node next : Node) (crew : CrewView) (is : IsCrew crew node) (j k : ℕ)

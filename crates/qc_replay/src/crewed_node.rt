@@ -6,7 +6,7 @@ ghost use Rattle.qc_model.specs.Instance.{Valid};
 ghost use Rattle.qc_replay.specs.Crewed.{IsCrewed, WereOpen, node_of};
 ghost use Rattle.qc_replay.specs.Earliest.{HasEarly};
 
-use crate::earliest::{EarlyStarts, early_first, early_with, early_without};
+use crate::earliest::{EarlyStarts, begun_less, begun_more, early_first};
 use qc_close::Crew;
 use qc_dist::Decisions;
 use qc_model::{Decision, Instance};
@@ -78,7 +78,7 @@ impl CrewedNode {
         requires { IsOpen self.old.inst self.old.decisions decision }
         ensures { self.new ≡ record self.old { decisions = decision ∷ self.old.decisions } }
     {
-        self.begun = early_with(self.begun.take(), &self.node, decision);
+        begun_more(&mut self.begun, &self.node, decision);
         self.node.add(decision);
         match decision {
             Decision::Assign(task, crane) => self.crew.put(task, crane),
@@ -96,7 +96,7 @@ impl CrewedNode {
         ensures was_open { IfSome result (IsOpen self.new.inst self.new.decisions) }
     {
         let decision = self.node.undo()?;
-        self.begun = early_without(self.begun.take(), &self.node);
+        begun_less(&mut self.begun, &self.node);
         match decision {
             Decision::Assign(task, _) => {
                 self.crew.take(task);

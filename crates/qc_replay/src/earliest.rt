@@ -141,39 +141,29 @@ pub(crate) fn early_first(
     }
 }
 
-/// The same with one decision more than a node has.
-pub(crate) fn early_with(
-    begun: Option<EarlyStarts>,
-    node: &Decisions,
-    decision: Decision,
-) -> Option<EarlyStarts>
-    requires begun { HasEarly node.now.inst.turn node.now.inst node.now.decisions begun }
+/// Decides one thing more at a node.
+pub(crate) fn begun_more(begun: &mut Option<EarlyStarts>, node: &Decisions, decision: Decision)
+    requires begun { HasEarly node.now.inst.turn node.now.inst node.now.decisions begun.old }
     requires were_open { WereOpen node.now.inst node.now.decisions }
     requires open { IsOpen node.now.inst node.now.decisions decision }
-    ensures { HasEarly node.now.inst.turn node.now.inst (decision ∷ node.now.decisions) result }
+    ensures { HasEarly node.now.inst.turn node.now.inst (decision ∷ node.now.decisions) begun.new }
 {
     match begun {
-        None => None,
-        Some(mut starts) => {
-            starts.add(node, decision);
-            Some(starts)
-        }
+        None => {}
+        Some(starts) => starts.add(node, decision),
     }
 }
 
-/// The same without the newest decision, which leaves the node.
-pub(crate) fn early_without(begun: Option<EarlyStarts>, node: &Decisions) -> Option<EarlyStarts>
+/// Takes the newest decision back, which leaves the node.
+pub(crate) fn begun_less(begun: &mut Option<EarlyStarts>, node: &Decisions)
     requires { (d : Decision)
-        × HasEarly node.now.inst.turn node.now.inst (d ∷ node.now.decisions) begun }
-    ensures { (d : Decision) → HasEarly node.now.inst.turn node.now.inst (d ∷ node.now.decisions) begun
-        → HasEarly node.now.inst.turn node.now.inst node.now.decisions result }
+        × HasEarly node.now.inst.turn node.now.inst (d ∷ node.now.decisions) begun.old }
+    ensures { (d : Decision) → HasEarly node.now.inst.turn node.now.inst (d ∷ node.now.decisions) begun.old
+        → HasEarly node.now.inst.turn node.now.inst node.now.decisions begun.new }
 {
     match begun {
-        None => None,
-        Some(mut starts) => {
-            starts.undo(node);
-            Some(starts)
-        }
+        None => {}
+        Some(starts) => starts.undo(node),
     }
 }
 

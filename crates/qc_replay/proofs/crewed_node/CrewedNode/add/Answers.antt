@@ -24,8 +24,8 @@ invariant_of-self c =
           (opens node c.args.self.now c.args.decision c.args.decision c.self.view_is refl c.requires)
           c.self.invariant.were_open;
       begun =
-          subst (λ (n : Node). HasEarly n.inst.turn n.inst n.decisions c.early_with.result) (sym added)
-          c.early_with.ensures;
+          subst (λ (n : Node). HasEarly n.inst.turn n.inst n.decisions c.begun_more.new.begun) (sym added)
+          c.begun_more.ensures;
       crew =
           crew_puts node c.self.inside.crew c.self.invariant.crew c.in-Assign.task c.in-Assign.crane c.put.new.self
           c.add.new.self one.0 c.put.ensures (added ∙ ap (with node) c.in-Assign.is);

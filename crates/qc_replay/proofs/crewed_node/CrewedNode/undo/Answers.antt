@@ -1,12 +1,10 @@
-use Rattle.std.proofs.Common.{◌∙◌, ◌∷◌, Option, ap, subst, sym}
+use Rattle.std.proofs.Common.{◌∙◌, ap}
 use Rattle.qc_model.specs.declared.decision.Decision.TheVariants.{Assign}
-use Rattle.qc_replay.specs.declared.earliest.EarlyStarts.{EarlyStarts}
-use Rattle.qc_replay.specs.Earliest.{HasEarly}
-use Rattle.qc_replay.proofs.CrewFacts.{begun_less, crew_some, crew_takes, was_open, were_open_less, with}
+use Rattle.qc_replay.proofs.CrewFacts.{begun_apart, crew_some, crew_takes, was_open, were_open_less, with}
 use Rattle.qc_replay.proofs.crewed_node.CrewedNode.undo.Goals as goal
 
-pub take-requires-in-Assign-clause-some : goal.take-requires-in-Assign-clause-some
-take-requires-in-Assign-clause-some c =
+pub take-requires-clause-some : goal.take-requires-clause-some
+take-requires-clause-some c =
     let node = c.self.inside.node in
     let next = c.undo.new.self in
     let more = c.in_ok-decision.ensures.undone ∙ ap (with next) c.in-Assign.is in
@@ -23,10 +21,8 @@ invariant_of-self-in-Assign c =
     record {
       were_open = were_open_less node next d more c.self.invariant.were_open;
       begun =
-          c.early_without.ensures d
-          (subst (λ (o : Option EarlyStarts). HasEarly next.inst.turn next.inst (d ∷ next.decisions) o)
-          (sym c.take.ensures.value) (begun_less node next d more c.self.inside.begun c.self.invariant.begun));
+          c.begun_less.ensures d (begun_apart node next d more c.self.inside.begun c.self.invariant.begun);
       crew =
           crew_takes node next c.self.inside.crew c.self.invariant.crew c.in-Assign.task c.in-Assign.field-1 more one.0
-          c.take-in-Assign.new.self one.2 c.take-in-Assign.ensures;
+          c.take.new.self one.2 c.take.ensures;
     }

@@ -8,8 +8,8 @@ use Rattle.qc_model.specs.Assignments.{crane_in}
 use Rattle.qc_model.specs.Instance.{InstanceView}
 use Rattle.qc_model.specs.Nodes.{assigned}
 use Rattle.qc_close.specs.Crews.{CrewView}
-use Rattle.qc_calls.proofs.starts_answers.crew_of.Goals as goal
-use Rattle.qc_calls.proofs.starts_answers.crew_of.Goals.{in-Some, in_default}
+use Rattle.qc_calls.proofs.starts_answers.crew_by.Goals as goal
+use Rattle.qc_calls.proofs.starts_answers.crew_by.Goals.{in-Some, in_default}
 
 -- the task that comes next has its crane too
 next_put : (cranes : List (Option ℕ)) (ds : List Decision) (t k : ℕ) → t < length cranes → assigned ds t ≡ Some k
@@ -39,7 +39,7 @@ loop-task-preserved c =
     let task = c.loop-task.task in
     let cranes = c.loop-task.crew.cranes in
     let inv = c.loop-task.invariant in
-    let count = ap (λ (i : InstanceView). length i.tasks) c.instance-inst.ensures.same in
+    let count = ap (λ (i : InstanceView). length i.tasks) c.instance-2.ensures.same in
     let low : task < length cranes =
     omega (arith, inv.count, count, c.task_count-task-end.ensures.count, c.loop-task-test.true) in
     elim c.match-crane_of.branch [
@@ -72,10 +72,10 @@ pub returns : goal.returns
 returns c =
     let node = c.args.starts.now in
     let inv = c.loop-task.invariant in
-    let count = ap (λ (i : InstanceView). length i.tasks) c.instance-inst.ensures.same in
-    record {
-      same = inv.same;
-      turn = inv.turn;
-      cranes = fill_by_all (assigned node.decisions) c.loop-task.crew.cranes (length node.inst.tasks) None inv.count
-          (λ j low. inv.done j (omega (arith, low, count, c.task_count-task-end.ensures.count, c.loop-task-test.false)));
-    }
+    let crew = c.loop-task.crew in
+    let count = ap (λ (i : InstanceView). length i.tasks) c.instance-2.ensures.same in
+    let cranes = fill_by_all (assigned node.decisions) c.loop-task.crew.cranes (length node.inst.tasks) None inv.count
+    (λ j low. inv.done j (omega (arith, low, count, c.task_count-task-end.ensures.count, c.loop-task-test.false))) in
+    ap {B = CrewView} (λ i. record { inst = i; turn = c.loop-task.crew.turn; cranes = c.loop-task.crew.cranes }) inv.same
+    ∙ ap {B = CrewView} (λ t. record { inst = node.inst; turn = t; cranes = c.loop-task.crew.cranes }) inv.turn
+    ∙ ap {B = CrewView} (λ ks. record { inst = node.inst; turn = c.args.turn; cranes = ks }) cranes
