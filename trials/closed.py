@@ -168,6 +168,12 @@ ROWS = [
     ("C1 stands while C2 works beside it", ship([(1, 20), (2, 10), (4, 20)]), (1, 2, 0), False, [28, 33, 33], 33, None),
     # C2 goes to bay 2 and back to 4: 3 beside the work of 10. C1 waits 11, makes way a bay and comes two back.
     ("one hatch, C2 and then C1", ship([(2, 10), (2, 1)]), (2, 1), False, [11, 12, 13], 14, None),
+    # C2 stands at bay 3 until 100 and goes three bays up to make way; the task comes behind.
+    ("a crane without tasks that makes way", made(1, 2, (1, (3, 100)), [(4, 10)]), (1,), False, [13, 13, 103], 113,
+     None),
+    # C2 makes way three bays up, and from its berth comes two down: at 18 5 and 13, at 19 6 and 14. C1 can do all by 33.
+    ("a crane that makes way and then shares", ship([(1, 10), (1, 10), (4, 10)]), (0, 0, 1), False, [18, 18, 19], 33,
+     None),
     ("no cranes say more than the one that is given", ship([(1, 10), (1, 10), (3, 10)]), (1, 0, 0), False, [16, 16, 16],
      20, (Count, None, 15)),
     # Making way alone reaches 26: the third count may say less than the second.

@@ -55,10 +55,10 @@ pub const CLOSED: &[StartsRow] = &[
     },
     // By 16 both cranes have 32 ticks for 30 of work, the bay that one goes up at the least, and the 2 bays
     // that they go down, since both must come to the first bay. With the task at the far bay the first crane
-    // goes 3 bays and works 10: by 17 it can do 4 of the other 20 ticks, and the second crane, which goes
-    // down 2 bays, 15.
+    // goes 3 bays and works 10: by 18 it can do 5 of the other 20 ticks. The second crane makes way for it up
+    // to the sixth bay, 3 bays, and from its berth goes 2 down: by 18 it can do 13. By 19 they can do 20.
     row! { "work-shared-with-a-busy-crane": APART, DECK_HOLD_AND_14;
-        WorkBound(17), Decide(Assign(2, 0), Raised), WorkBound(18), Retract(0), WorkBound(17),
+        WorkBound(17), Decide(Assign(2, 0), Raised), WorkBound(19), Retract(0), WorkBound(17),
     },
     // The first crane is ready at 100. Without a task it isn't waited for: the second goes 3 bays and works
     // 40 ticks. With the first task it goes 1 bay and works 20.
