@@ -195,7 +195,7 @@ def try_rows():
         assert seen == due, (text, seen, due)
     try_plans()
     try_tracks()
-    print(f"{len(SEARCHES)} searches, {len(TREES)} trees, plans, tracks and counts as by hand")
+    print(f"{len(SEARCHES)} searches, {len(TREES)} trees, plans and tracks as by hand")
 
 
 def try_plans():
