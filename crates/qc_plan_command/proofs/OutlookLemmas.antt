@@ -1,14 +1,15 @@
 -- No schedule that goes one way ends before the bound that is told before a search.
-use Rattle.std.proofs.Common.{◌≡◌, ℕ, zero, suc, ◌≤◌, arith, List, [], min, inl, inr}
+use Rattle.std.proofs.Common.{◌≡◌, ℕ, zero, suc, ◌≤◌, arith, List, [], min, inl, inr, subst}
 use Rattle.qc_close.specs.Crews.{CrewView, IsCrewOf}
 use Rattle.qc_close.proofs.NodeLemmas.{closed_node_le}
 use Rattle.qc_model.specs.declared.direction.Direction.TheVariants.{Down}
 use Rattle.qc_model.specs.declared.schedule.Slot.{Slot}
+use Rattle.qc_model.specs.declared.turn.Turn.{Turn}
 use Rattle.qc_model.specs.declared.turn.Turn.TheVariants.{OneWay}
 use Rattle.qc_model.specs.Assignments.{no_cranes}
 use Rattle.qc_model.specs.Closing.{IsWorkBound}
 use Rattle.qc_model.specs.Instance.{InstanceView, Valid}
-use Rattle.qc_model.specs.OneWay.{GoesUp, mirror, mirror_schedule}
+use Rattle.qc_model.specs.OneWay.{GoesOneWay, GoesUp, IsAllowedBy, mirror, mirror_schedule}
 use Rattle.qc_model.specs.Rules.{ends}
 use Rattle.qc_model.proofs.SeenLemmas.{seen-ends}
 use Rattle.qc_num.specs.declared.bound.Bound.TheVariants.{Least}
@@ -31,8 +32,11 @@ module _ (inst : InstanceView) (valid : Valid inst) where
   root_sooner crew bound is shows = work_sooner bound (shows (crew_root inst crew is))
 
 -- the lesser of what both directions show
-pub both_sooner : (inst : InstanceView) (up down : ℕ) → NoneSooner inst up → NoneSooner (mirror inst) down
-    → NoneEarlier inst (Least (min up down))
-both_sooner inst up down h k sched (inl g) = omega (arith, h sched g)
-both_sooner inst up down h k sched (inr g) =
-    omega (arith, k (mirror_schedule inst sched) g.mirrored, seen-ends inst sched Down)
+pub both_sooner : (inst : InstanceView) → inst.turn ≡ OneWay → (up down : ℕ) → NoneSooner inst up
+    → NoneSooner (mirror inst) down → NoneEarlier inst (Least (min up down))
+both_sooner inst one_way up down h k sched allowed =
+    by (subst (λ (t : Turn). IsAllowedBy t inst sched) one_way allowed)
+  where
+    by : GoesOneWay inst sched → min up down ≤ ends inst sched
+    by (inl g) = omega (arith, h sched g)
+    by (inr g) = omega (arith, k (mirror_schedule inst sched) g.mirrored, seen-ends inst sched Down)

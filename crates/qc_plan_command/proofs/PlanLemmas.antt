@@ -340,7 +340,7 @@ module _ (asked : Planning) (before after pb pa : View) (ended : Status)
         → Ends held status.Broken
     broken_ends held is told b =
         inl (rw (comes_due (own_job_due asked.inputs.own) asked.inputs held before.files is (Ok b.job) b.due)
-        (neither_ends b.job b.sched b.own b.tells.neither))
+        (neither_ends b.job b.sched b.own b.tells.is.not_allowed))
 
     searched_ends : (held : Files) (a : PlanAnswer) (files : Option Files) → files ≡ Some held
         → IfSome files (λ held. IsWritten asked held after.files a)

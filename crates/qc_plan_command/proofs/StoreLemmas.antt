@@ -9,11 +9,12 @@ use Rattle.qc_search.specs.Run.{DoneView, IsSound, SearchView}
 use Rattle.qc_search.specs.Run.{IsSearched as Searched}
 use Rattle.qc_tree.specs.Trees.{tree_text}
 use Rattle.qc_run.specs.declared.reading.OwnJob.{OwnJob}
-use Rattle.qc_run.specs.Due.{own_job_due}
+use Rattle.qc_run.specs.Due.{contents_in, own_job_due}
 use Rattle.qc_run.specs.declared.broken.Broken.{Broken}
 use Rattle.qc_run.specs.Broken.{TellsBreak}
 use Rattle.qc_run.specs.Inputs.{Names}
 use Rattle.qc_run.specs.Steps.{ComesTo, IsStep}
+use Rattle.qc_run.proofs.DueLemmas.{own_job_turn}
 use Rattle.qc_plan_command.specs.declared.answer.PlanAnswer.{PlanAnswer}
 use Rattle.qc_plan_command.specs.declared.answer.PlanAnswer.TheVariants as answer
 use Rattle.qc_plan_command.specs.Account.{IsLeft, IsPlanning, IsSearched, IsStopped, IsWritten, Writes}
@@ -111,6 +112,7 @@ module _ (asked : Planning) (job : OwnJob) (goes : IfSome job.own (GoesOneWay jo
     inst = job.inst;
     own = job.own;
     due = due_is;
+    turn = own_job_turn asked.inputs.own (contents_in held asked.inputs) job due_is;
     goes = goes;
     tree = stored.tree;
     done = done;

@@ -21,12 +21,13 @@ use Rattle.qc_plan_command.specs.Found.{IsFound, Tells}
 use Rattle.qc_plan_command.specs.Reports.{plan_prints, plan_prints_part, plan_status}
 use Rattle.qc_plan_command.specs.Stored.{with_plan, with_tree}
 
--- the search of the instance of the two files came to this; a plan of the planner's own, where one is named, goes
--- one way
+-- the search of the instance of the two files, with the turn that is asked about, came to this; a plan of the planner's
+-- own, where one is named, goes one way
 pub record IsSearched (asked : Planning) (held : Files) : Type 0 where
   pub inst : InstanceView
   pub own : Option (List Slot)
   pub due : own_job_due asked.inputs.own (contents_in held asked.inputs) ≡ Ok (record { inst = inst; own = own })
+  pub turn : inst.turn ≡ asked.inputs.turn
   pub goes : IfSome own (GoesOneWay inst)
   pub tree : Tree
   pub done : DoneView

@@ -2,7 +2,7 @@
 use Rattle.std.specs.Prelude.{◌≡◌, ◌≢◌, ℕ, ◌≤◌, ◌⊎◌, List, Option, None, Some, Ok, codes, IfSome}
 use Rattle.qc_io.specs.Outside.{Files, Rose, View}
 use Rattle.qc_model.specs.declared.schedule.Slot.{Slot}
-use Rattle.qc_model.specs.OneWay.{GoesOneWay}
+use Rattle.qc_model.specs.OneWay.{GoesOneWay, IsAllowed}
 use Rattle.qc_search.specs.declared.done.Kind.{Kind}
 use Rattle.qc_search.specs.declared.done.Kind.TheVariants as kind
 use Rattle.qc_search.specs.Run.{branching_limit}
@@ -58,13 +58,13 @@ pub record IsUnplannedTold (asked : Planning) (held : Files) (now : Option Files
   pub report : Prints (unplanned_text bound branched) before.written after.written
   pub spent : branched ≡ asked.nodes
 
--- no schedule goes one way, as the tree shows that is written; all other files are as they were
+-- there is no schedule that cranes may follow, as the tree shows that is written; all other files are as they were
 pub record IsInfeasibleTold (asked : Planning) (held : Files) (now : Option Files)
     (before after : View) : Type 0 where
   pub branched : ℕ
   pub written : IsWritten asked held now (answer.Infeasible branched)
   pub kind : written.search.done.kind ≡ kind.Infeasible
-  pub none : (sched : List Slot) → ¬ GoesOneWay written.search.inst sched
+  pub none : (sched : List Slot) → ¬ IsAllowed written.search.inst sched
   pub report : Prints (infeasible_text branched) before.written after.written
 
 -- the planner's own plan breaks a rule, which is told

@@ -1,9 +1,11 @@
 //! What a plan is asked for with.
 
 ghost use Rattle.std.specs.Prelude.{◌≡◌};
+ghost use Rattle.qc_model.specs.declared.turn.Turn.TheVariants.{OneWay};
 ghost use Rattle.qc_run.specs.Inputs.{names_of};
 ghost use Rattle.qc_plan_command.specs.Asked.{planning};
 
+use qc_model::Turn;
 use qc_run::Inputs;
 
 /// The names of a plan's files, and its limit of branchings.
@@ -26,7 +28,8 @@ pub struct PlanAsked<'a> {
 impl<'a> PlanAsked<'a> {
     /// The files that are read.
     pub(crate) fn inputs(&self) -> Inputs<'a>
-        ensures { names_of result ≡ (planning self.now).inputs }
+        ensures files { names_of result ≡ (planning self.now).inputs }
+        ensures one_way { result.turn ≡ OneWay }
     {
         Inputs {
             ship: self.ship,
@@ -35,6 +38,7 @@ impl<'a> PlanAsked<'a> {
             tree: None,
             own: self.own,
             log: None,
+            turn: Turn::OneWay,
         }
     }
 }

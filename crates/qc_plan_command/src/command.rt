@@ -1,5 +1,6 @@
 //! The command that plans.
 ghost use Rattle.std.specs.Prelude.{◌≡◌, ◌≤◌, IfOk, IfSome, IsSomeAnd, None, Ok, length};
+ghost use Rattle.qc_model.specs.declared.turn.Turn.TheVariants.{OneWay};
 ghost use Rattle.qc_model.specs.Judge.{IsJudgeable};
 ghost use Rattle.qc_model.specs.Numbers.{most_branchings};
 ghost use Rattle.qc_model.specs.OneWay.{GoesOneWay};
@@ -47,6 +48,7 @@ fn plan_instance<S: Shelf>(
         (S.Sink.view shelf.old).files (Ok job) }
     requires judgeable { IfSome job.own (IsJudgeable job.inst) }
     requires goes { IfSome job.own (GoesOneWay job.inst) }
+    requires one_way { job.inst.turn ≡ OneWay }
     requires swept { IfSome swept (IsFirstPlan job.inst) }
     ensures serves { IsPlanning (planning asked.now) (S.Sink.view shelf.old) (S.Sink.view shelf.new) (Ok result) }
     ensures ready { CanBeTold result }

@@ -1,5 +1,6 @@
 //! What is told of a search.
 ghost use Rattle.std.specs.Prelude.{◌≤◌, IfSome, length};
+ghost use Rattle.qc_model.specs.declared.turn.Turn.TheVariants.{OneWay};
 ghost use Rattle.qc_model.specs.Judge.{IsJudgeable};
 ghost use Rattle.qc_tree.specs.Trees.{NoneEarlier};
 ghost use Rattle.qc_starts.specs.Tight.{IsTight};
@@ -14,6 +15,7 @@ use qc_search::Done;
 
 /// The answer that tells what a search came to; the track is for its motion.
 pub(crate) fn answer_of(inst: Instance, done: Done, track: Track) -> PlanAnswer
+    requires one_way { inst.turn ≡ OneWay }
     requires none_earlier { NoneEarlier inst done.bound }
     requires judgeable { IfSome done.best (IsJudgeable inst) }
     requires tight { IfSome done.best (IsTight inst) }

@@ -1,6 +1,7 @@
 //! What is known before a search, and told to whoever waits for it.
 ghost use Rattle.std.specs.Prelude.{◌≡◌, ◌≤◌, List, IfOk, IfSome};
 ghost use Rattle.qc_model.specs.declared.schedule.Slot.{Slot};
+ghost use Rattle.qc_model.specs.declared.turn.Turn.TheVariants.{OneWay};
 ghost use Rattle.qc_model.specs.Judge.{IsJudgeable};
 ghost use Rattle.qc_model.specs.OneWay.{GoesOneWay, GoesUp};
 ghost use Rattle.qc_model.specs.Rules.{ends};
@@ -26,6 +27,7 @@ fn upward_bound(alloc: Global, inst: &Instance) -> Result<Tick, OutOfMemory>
 
 /// An end that no schedule that goes one way comes before, by its work.
 pub(crate) fn root_bound(alloc: Global, inst: &Instance) -> Result<Tick, OutOfMemory>
+    requires { inst.now.turn ≡ OneWay }
     ensures { IfOk result (λ bound. NoneEarlier inst.now (Least bound)) }
 {
     let turned = mirror(alloc, inst)?;

@@ -43,6 +43,14 @@ command_help name.Make =
     ++ codes "prints a summary. NUMBER is 0 to 2147483647, HATCHES 1 to 60, CRANES 1 to 8. No file is touched.\n"
     ++ codes "Ends with 0.\n"
     ++ codes "Faults end with 2 to 9, 15 and 17, and are told by their kind and place: man 5 qc.\n"
+command_help name.FreeCheck =
+    codes "qc freecheck SHIP STOW PLAN TREE\n"
+    ++ codes "\n"
+    ++ codes "Judges a plan of any origin, whichever way its cranes go, and tells by a tree of all feasible plans\n"
+    ++ codes "whether any of them can end earlier. With - for PLAN it tells the bound of the tree alone. It\n"
+    ++ codes "searches nothing.\n"
+    ++ codes "Ends with 0 Optimal or Bound, 10 Infeasible, 13 Broken, 14 Weaker.\n"
+    ++ codes "Faults end with 2 to 9, 15 and 17, and are told by their kind and place: man 5 qc.\n"
 command_help name.Sheet =
     codes "qc sheet SHIP STOW PLAN\n"
     ++ codes "\n"
@@ -93,6 +101,8 @@ help_text None =
     ++ codes "    where the cranes of a plan stand, and a drawing in letters\n"
     ++ codes "qc make NUMBER HATCHES CRANES\n"
     ++ codes "    a ship made from a number, planned and checked in memory\n"
+    ++ codes "qc freecheck SHIP STOW PLAN TREE\n"
+    ++ codes "    the same for plans whose cranes go to and fro, with a tree of all feasible plans\n"
     ++ codes "qc sheet SHIP STOW PLAN\n"
     ++ codes "    for each crane its containers in the order of the work, with their ticks\n"
     ++ codes "qc dispatch SHIP STOW PLAN LOG\n"

@@ -4,6 +4,7 @@ use Rattle.std.specs.Prelude.{◌≡◌, ◌⊎◌, ℕ, List, Option, None, Som
 use Rattle.std.specs.FinMap.{get}
 use Rattle.qc_io.specs.Outside.{View}
 use Rattle.qc_dispatch_command.specs.Promises.{DispatchPromises}
+use Rattle.qc_model.specs.declared.turn.Turn.{Turn}
 use Rattle.qc_judge_commands.specs.Promises.{PlanCheckPromises, ShowPromises, TasksPromises, TreePromises}
 use Rattle.qc_picture_command.specs.Planned.{TellsFigures, TellsPicture}
 use Rattle.qc_picture_command.specs.Promises.{PrintedPromises}
@@ -33,10 +34,11 @@ pub record Promises (words : List (List ℕ)) (before after out_before out_after
   -- what each command promises
   pub plans : (s w p t : List ℕ) (n : ℕ) (o : Option (List ℕ)) → Asks words (plan s w p t n o)
       → PlanPromises (plan_of s w p t n o) before after out_before out_after ended
-  pub checks_tree : (s w t : List ℕ) → Asks words (check s w None t)
-      → TreePromises (check_names s w None t) before after out_before out_after ended
-  pub checks_plan : (s w p t : List ℕ) → Asks words (check s w (Some p) t)
-      → PlanCheckPromises (check_names s w (Some p) t) before after out_before out_after ended
+  -- a check of schedules that go one way, and one of all that are feasible
+  pub checks_tree : (turn : Turn) (s w t : List ℕ) → Asks words (check turn s w None t)
+      → TreePromises (check_names turn s w None t) before after out_before out_after ended
+  pub checks_plan : (turn : Turn) (s w p t : List ℕ) → Asks words (check turn s w (Some p) t)
+      → PlanCheckPromises (check_names turn s w (Some p) t) before after out_before out_after ended
   pub lists_tasks : (s w : List ℕ) → Asks words (tasks s w)
       → TasksPromises (tasks_names s w) before after out_before out_after ended
   pub shows : (s w p : List ℕ) → Asks words (show s w p)

@@ -16,6 +16,8 @@ qc show SHIP STOW PLAN
     where the cranes of a plan stand, and a drawing in letters
 qc make NUMBER HATCHES CRANES
     a ship made from a number, planned and checked in memory
+qc freecheck SHIP STOW PLAN TREE
+    the same for plans whose cranes go to and fro, with a tree of all feasible plans
 qc sheet SHIP STOW PLAN
     for each crane its containers in the order of the work, with their ticks
 qc dispatch SHIP STOW PLAN LOG
@@ -75,6 +77,15 @@ Ends with 0.
 Faults end with 2 to 9, 15 and 17, and are told by their kind and place: man 5 qc.
 ";
 
+const FREE_CHECK: &[u8] = b"qc freecheck SHIP STOW PLAN TREE
+
+Judges a plan of any origin, whichever way its cranes go, and tells by a tree of all feasible plans
+whether any of them can end earlier. With - for PLAN it tells the bound of the tree alone. It
+searches nothing.
+Ends with 0 Optimal or Bound, 10 Infeasible, 13 Broken, 14 Weaker.
+Faults end with 2 to 9, 15 and 17, and are told by their kind and place: man 5 qc.
+";
+
 const SHEET: &[u8] = b"qc sheet SHIP STOW PLAN
 
 Prints for each crane its tasks, and for each task its containers in the order in which they are
@@ -128,6 +139,7 @@ fn command_help(of: CommandName) -> &'static [u8]
         CommandName::Tasks => TASKS,
         CommandName::Show => SHOW,
         CommandName::Make => MAKE,
+        CommandName::FreeCheck => FREE_CHECK,
         CommandName::Sheet => SHEET,
         CommandName::Dispatch => DISPATCH,
         CommandName::Watch => WATCH,

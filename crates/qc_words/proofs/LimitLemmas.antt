@@ -46,6 +46,7 @@ command_kept name.Plan rows =
     plan_kept (value_of (codes "ship") rows) (value_of (codes "stow") rows) (value_of (codes "plan") rows) (value_of (codes "tree") rows) _ _
     (nodes_kept (first_of (codes "nodes") rows))
 command_kept name.Check rows = tt
+command_kept name.FreeCheck rows = tt
 command_kept name.Tasks rows = tt
 command_kept name.Show rows = tt
 command_kept name.Sheet rows = tt

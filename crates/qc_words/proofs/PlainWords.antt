@@ -14,12 +14,14 @@ use Rattle.clap.specs.Words.{Row, Shape, Text}
 use Rattle.clap.specs.declared.builder.value_parser.Reading.TheVariants.{AsWritten}
 use Rattle.clap.specs.declared.parser.matches.ValueSource.TheVariants.{CommandLine}
 use Rattle.qc_model.specs.Numbers.{most_branchings, most_cranes, most_hatches}
+use Rattle.qc_model.specs.declared.turn.Turn.{Turn}
+use Rattle.qc_model.specs.declared.turn.Turn.TheVariants.{OneWay, Free}
 use Rattle.qc_num.proofs.DigitLemmas.{decimal_digits, fits, number_in-decimal}
 use Rattle.qc_words.specs.declared.commands.CommandName.{CommandName}
 use Rattle.qc_words.specs.declared.commands.CommandName.TheVariants as name
 use Rattle.qc_words.specs.Asked.{Asked, plan, check, tasks, show, make, sheet, watch, dispatch, picture, report, most_number, usage, help, version}
 use Rattle.qc_words.specs.Commands.{command_of}
-use Rattle.qc_words.specs.Words.{Canonical, asked_by, asked_in, asked_of, is_check_word, is_file_word, make_of, number_between, own_words, plan_name, plan_of, usual_branchings}
+use Rattle.qc_words.specs.Words.{Canonical, asked_by, asked_in, asked_of, check_name, is_check_word, is_file_word, make_of, number_between, own_words, plan_name, plan_of, usual_branchings}
 use Rattle.qc_words.proofs.WordWalk.{Goes, IsOperand, at, goes_nowhere, goes_on, goes_past, lone_dash, other_first, read_along}
 
 file_operand : (word : Text) → is_file_word word ≡ true → IsOperand word
@@ -153,10 +155,10 @@ report_asked s w p is iw ip =
     (goes_past c (held (row (codes "ship") s ∷ []) (codes "stow") w) idle 3 p [] _ ip refl
     (goes_nowhere c (at after idle 4))))) refl)
 
-check_asked : (s w p t : Text) → IsOperand s → IsOperand w → IsOperand p → IsOperand t
-    → asked_by (codes "check" ∷ s ∷ w ∷ p ∷ t ∷ []) ≡ check s w (plan_name p) t
+one_way_asked : (s w p t : Text) → IsOperand s → IsOperand w → IsOperand p → IsOperand t
+    → asked_by (codes "check" ∷ s ∷ w ∷ p ∷ t ∷ []) ≡ check OneWay s w (plan_name p) t
 unfolding defaults_fault
-check_asked s w p t is iw ip it =
+one_way_asked s w p t is iw ip it =
     let c = shape name.Check in
     let rows = row (codes "ship") s ∷ row (codes "stow") w ∷ row (codes "plan") p ∷ [] in
     let after = held rows (codes "tree") t in
@@ -167,6 +169,26 @@ check_asked s w p t is iw ip it =
     (goes_past c (held (row (codes "ship") s ∷ []) (codes "stow") w) idle 3 p (t ∷ []) _ ip refl
     (goes_past c (held (row (codes "ship") s ∷ row (codes "stow") w ∷ []) (codes "plan") p) idle 4 t [] _ it refl
     (goes_nowhere c (at after idle 5)))))) refl)
+
+free_asked : (s w p t : Text) → IsOperand s → IsOperand w → IsOperand p → IsOperand t
+    → asked_by (codes "freecheck" ∷ s ∷ w ∷ p ∷ t ∷ []) ≡ check Free s w (plan_name p) t
+unfolding defaults_fault
+free_asked s w p t is iw ip it =
+    let c = shape name.FreeCheck in
+    let rows = row (codes "ship") s ∷ row (codes "stow") w ∷ row (codes "plan") p ∷ [] in
+    let after = held rows (codes "tree") t in
+    ap (λ o. option_map_or (asked_in name.FreeCheck) o usage)
+    (read_along c (command_of name.FreeCheck) (codes "freecheck") (s ∷ w ∷ p ∷ t ∷ []) after 5 refl refl
+    (goes_past c nothing_held idle 1 s (w ∷ p ∷ t ∷ []) _ is refl
+    (goes_past c (held [] (codes "ship") s) idle 2 w (p ∷ t ∷ []) _ iw refl
+    (goes_past c (held (row (codes "ship") s ∷ []) (codes "stow") w) idle 3 p (t ∷ []) _ ip refl
+    (goes_past c (held (row (codes "ship") s ∷ row (codes "stow") w ∷ []) (codes "plan") p) idle 4 t [] _ it refl
+    (goes_nowhere c (at after idle 5)))))) refl)
+
+check_asked : (turn : Turn) (s w p t : Text) → IsOperand s → IsOperand w → IsOperand p → IsOperand t
+    → asked_by (check_name turn ∷ s ∷ w ∷ p ∷ t ∷ []) ≡ check turn s w (plan_name p) t
+check_asked OneWay s w p t is iw ip it = one_way_asked s w p t is iw ip it
+check_asked Free s w p t is iw ip it = free_asked s w p t is iw ip it
 
 make_asked : (n h k : Text) → IsOperand n → IsOperand h → IsOperand k → asked_by (codes "make" ∷ n ∷ h ∷ k ∷ [])
     ≡ make_of (number_between 0 most_number n) (number_between 1 most_hatches h) (number_between 1 most_cranes k)
@@ -299,18 +321,18 @@ canonical_asked words (plan s w p t n own) h =
       | inr said ↦ ap asked_by said ∙ said_asked s w p t (decimal n) own h.0.1 is iw ip it (number_operand n small)
           ∙ ap (λ o. plan_of s w p t o own) (number_asked_for 0 most_branchings n (omega arith) h.1.1 small) ∙ as_plan
     ]
-canonical_asked words (check s w None t) h =
+canonical_asked words (check turn s w None t) h =
     let fs = both (is_check_word s) _ h.0.0 in
     let fw = both (is_check_word w) _ fs.1 in
     let ft = both (is_check_word t) _ fw.1 in
-    ap asked_by h.0.1 ∙ check_asked s w (45 ∷ []) t (check_operand s fs.0) (check_operand w fw.0) lone_dash (check_operand t ft.0)
-canonical_asked words (check s w (Some p) t) h =
+    ap asked_by h.0.1 ∙ check_asked turn s w (45 ∷ []) t (check_operand s fs.0) (check_operand w fw.0) lone_dash (check_operand t ft.0)
+canonical_asked words (check turn s w (Some p) t) h =
     let fp = both (is_file_word p) _ h.0.0 in
     let fs = both (is_check_word s) _ fp.1 in
     let fw = both (is_check_word w) _ fs.1 in
     let ft = both (is_check_word t) _ fw.1 in
-    ap asked_by h.0.1 ∙ check_asked s w p t (check_operand s fs.0) (check_operand w fw.0) (file_operand p fp.0) (check_operand t ft.0)
-    ∙ ap (λ o. check s w o t) (named_plan p fp.0)
+    ap asked_by h.0.1 ∙ check_asked turn s w p t (check_operand s fs.0) (check_operand w fw.0) (file_operand p fp.0) (check_operand t ft.0)
+    ∙ ap (λ o. check turn s w o t) (named_plan p fp.0)
 canonical_asked words (tasks s w) h =
     let fs = both (is_file_word s) _ h.0.0 in
     let fw = both (is_file_word w) _ fs.1 in

@@ -15,12 +15,13 @@ command_name word =
     else (if bytes_eq word (codes "tasks") then Some name.Tasks
     else (if bytes_eq word (codes "show") then Some name.Show
     else (if bytes_eq word (codes "make") then Some name.Make
+    else (if bytes_eq word (codes "freecheck") then Some name.FreeCheck
     else (if bytes_eq word (codes "sheet") then Some name.Sheet
     else (if bytes_eq word (codes "watch") then Some name.Watch
     else (if bytes_eq word (codes "dispatch") then Some name.Dispatch
     else (if bytes_eq word (codes "picture") then Some name.Picture
     else (if bytes_eq word (codes "report") then Some name.Report
-    else None)))))))))
+    else None))))))))))
 
 -- and that of a command line
 abbrev pub named : List (List ℕ) → Option CommandName
@@ -48,6 +49,8 @@ command_of name.Tasks = command_with (codes "tasks") (codes "ship" ∷ codes "st
 command_of name.Show = command_with (codes "show") (codes "ship" ∷ codes "stow" ∷ codes "plan" ∷ [])
 command_of name.Make =
     command_with (codes "make") (codes "number" ∷ codes "hatches" ∷ codes "cranes" ∷ [])
+command_of name.FreeCheck =
+    command_with (codes "freecheck") (codes "ship" ∷ codes "stow" ∷ codes "plan" ∷ codes "tree" ∷ [])
 command_of name.Sheet = command_with (codes "sheet") (codes "ship" ∷ codes "stow" ∷ codes "plan" ∷ [])
 command_of name.Watch = command_with (codes "watch") (codes "ship" ∷ codes "log" ∷ [])
 command_of name.Dispatch =

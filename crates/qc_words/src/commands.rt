@@ -16,6 +16,7 @@ pub enum CommandName {
     Tasks,
     Show,
     Make,
+    FreeCheck,
     Sheet,
     Watch,
     Dispatch,
@@ -33,6 +34,7 @@ pub(crate) fn command_name(word: &str) -> Option<CommandName>
         "tasks" => Some(CommandName::Tasks),
         "show" => Some(CommandName::Show),
         "make" => Some(CommandName::Make),
+        "freecheck" => Some(CommandName::FreeCheck),
         "sheet" => Some(CommandName::Sheet),
         "watch" => Some(CommandName::Watch),
         "dispatch" => Some(CommandName::Dispatch),
@@ -81,6 +83,9 @@ pub fn command_of<'a>(alloc: Global, name: CommandName) -> Result<Command<'a>, A
         CommandName::Tasks => command_with(alloc, "tasks", &["ship", "stow"]),
         CommandName::Show => command_with(alloc, "show", &["ship", "stow", "plan"]),
         CommandName::Make => command_with(alloc, "make", &["number", "hatches", "cranes"]),
+        CommandName::FreeCheck => {
+            command_with(alloc, "freecheck", &["ship", "stow", "plan", "tree"])
+        }
         CommandName::Sheet => command_with(alloc, "sheet", &["ship", "stow", "plan"]),
         CommandName::Watch => command_with(alloc, "watch", &["ship", "log"]),
         CommandName::Dispatch => command_with(alloc, "dispatch", &["ship", "stow", "plan", "log"]),

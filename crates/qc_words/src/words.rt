@@ -6,14 +6,14 @@ ghost use Rattle.clap.specs.Words.{app_of, found_of, rows_of, first_of, is_simpl
 ghost use Rattle.qc_words.specs.Asked.{Asked, asked_for, usage, KeepsLimits, are_different, is_own};
 ghost use Rattle.qc_words.specs.Commands.{command_of, named, read_by};
 ghost use Rattle.qc_words.specs.declared.commands.CommandName.TheVariants as name;
-ghost use Rattle.qc_words.specs.Words.{Asks, Canonical, about, asked_in, make_of, nodes_in, number_between, plan_name, plan_of, texts, value_of};
+ghost use Rattle.qc_words.specs.Words.{Asks, Canonical, about, asked_in, check_in, make_of, nodes_in, number_between, plan_name, plan_of, texts, value_of};
 
 use crate::about::about;
 use crate::asked::{MOST_NUMBER, Request};
 use crate::commands::{CommandName, command_of, named};
 use clap::error::ErrorKind;
 use clap::{ArgMatches, Command};
-use qc_model::{MOST_CRANES, MOST_HATCHES};
+use qc_model::{MOST_CRANES, MOST_HATCHES, Turn};
 use qc_num::{OutOfMemory, plain_number};
 use qc_tree::MOST_BRANCHINGS;
 use std::alloc::Global;
@@ -130,11 +130,24 @@ fn plan_of<'a>(
     }
 }
 
-/// The plan that `check` is asked about: none for `-`.
+/// The plan that `check` or `freecheck` is asked about: none for `-`.
 fn plan_name(word: &str) -> Option<&str>
     ensures { option_map (λ name. name.now) result ≡ plan_name word.now }
 {
     if word == "-" { None } else { Some(word) }
+}
+
+/// A check by schedules of this turn.
+fn check_in<'a>(turn: Turn, matches: &ArgMatches<'a>) -> Request<'a>
+    ensures { asked_for result ≡ check_in turn (rows_of (found_of matches.now)) }
+{
+    Request::Check {
+        turn,
+        ship: value_of(matches, "ship"),
+        stow: value_of(matches, "stow"),
+        plan: plan_name(value_of(matches, "plan")),
+        tree: value_of(matches, "tree"),
+    }
 }
 
 /// What is made by the three numbers, where they are in range.
@@ -171,12 +184,8 @@ fn asked_in<'a>(name: CommandName, matches: &ArgMatches<'a>) -> Request<'a>
             nodes_in(text_of(matches, "nodes")),
             text_of(matches, "from"),
         ),
-        CommandName::Check => Request::Check {
-            ship,
-            stow,
-            plan: plan_name(plan),
-            tree: value_of(matches, "tree"),
-        },
+        CommandName::Check => check_in(Turn::OneWay, matches),
+        CommandName::FreeCheck => check_in(Turn::Free, matches),
         CommandName::Tasks => Request::Tasks { ship, stow },
         CommandName::Show => Request::Show { ship, stow, plan },
         CommandName::Make => make_from(matches),

@@ -1,5 +1,5 @@
-use Rattle.qc_sheet_command.proofs.RuleLemmas.{rule_broken}
-use Rattle.qc_sheet_command.proofs.rules.broken_rule.Goals as goal
+use Rattle.qc_run.proofs.RuleLemmas.{rule_broken}
+use Rattle.qc_run.proofs.rules.broken_rule.Goals as goal
 
 pub returns-else-eq-clause-broken : goal.returns-else-eq-clause-broken
 returns-else-eq-clause-broken c =
