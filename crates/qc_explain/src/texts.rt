@@ -62,12 +62,14 @@ fn of_shown<'a>(request: &Request<'a>) -> Names<'a> {
 pub(crate) fn names_of<'a>(request: &Request<'a>) -> Names<'a> {
     match *request {
         Request::Plan {
+            turn,
             ship,
             stow,
             plan,
             own,
             ..
         } => Names {
+            turn,
             own,
             written: Some(plan),
             ..of_plan(ship, stow, None)

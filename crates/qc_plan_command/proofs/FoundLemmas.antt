@@ -16,7 +16,7 @@ use Rattle.qc_search.specs.declared.done.Kind.{Kind}
 use Rattle.qc_search.specs.declared.done.Kind.TheVariants as kind
 use Rattle.qc_search.specs.Run.{DoneView, IsGivenTold, IsTightEnd, best_end, outcome}
 use Rattle.qc_starts.specs.Tight.{IsAllowedSo, IsTight}
-use Rattle.qc_tree.specs.Trees.{Tree}
+use Rattle.qc_tree.specs.Trees.{NoneEarlier, Tree}
 use Rattle.qc_num.specs.Bounds.{IsAtMost}
 use Rattle.qc_num.proofs.BoundLemmas.{at_most_through}
 use Rattle.qc_model.specs.Rules.{ends, starts}
@@ -45,6 +45,14 @@ allowed_so turn.Free inst sched way goes = goes.0
 
 pub tight_allowed : (inst : InstanceView) (sched : List Slot) → IsTight inst sched → IsAllowed inst sched
 tight_allowed inst sched tight = allowed_so inst.turn inst sched tight.way tight.goes
+
+-- where no schedule ends before Never, none is known
+pub none_best : (inst : InstanceView) (bound : Bound) (best : Option (List Slot)) → bound ≡ Never
+    → NoneEarlier inst bound → IfSome best (IsTight inst) → best ≡ None
+none_best inst bound None never none tight = refl
+none_best inst bound (Some sched) never none tight =
+    absurd (subst (λ (b : Bound). IsAtMost b (Least (ends inst sched))) never
+    (none sched (tight_allowed inst sched tight)))
 
 -- ---- the status of a plan that was found
 

@@ -1,16 +1,17 @@
 //! What a plan is asked for with.
 
 ghost use Rattle.std.specs.Prelude.{◌≡◌};
-ghost use Rattle.qc_model.specs.declared.turn.Turn.TheVariants.{OneWay};
 ghost use Rattle.qc_run.specs.Inputs.{names_of};
 ghost use Rattle.qc_plan_command.specs.Asked.{planning};
 
 use qc_model::Turn;
 use qc_run::Inputs;
 
-/// The names of a plan's files, and its limit of branchings.
+/// Which plans are asked about, the names of a plan's files, and its limit of branchings.
 #[derive(Clone, Copy, Debug)]
 pub struct PlanAsked<'a> {
+    /// Whether those that go one way are asked about, or all that are feasible.
+    pub turn: Turn,
     /// The ship file, which is read.
     pub ship: &'a str,
     /// The stowage list, which is read.
@@ -28,8 +29,7 @@ pub struct PlanAsked<'a> {
 impl<'a> PlanAsked<'a> {
     /// The files that are read.
     pub(crate) fn inputs(&self) -> Inputs<'a>
-        ensures files { names_of result ≡ (planning self.now).inputs }
-        ensures one_way { result.turn ≡ OneWay }
+        ensures { names_of result ≡ (planning self.now).inputs }
     {
         Inputs {
             ship: self.ship,
@@ -38,7 +38,7 @@ impl<'a> PlanAsked<'a> {
             tree: None,
             own: self.own,
             log: None,
-            turn: Turn::OneWay,
+            turn: self.turn,
         }
     }
 }

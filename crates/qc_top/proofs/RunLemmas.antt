@@ -182,22 +182,22 @@ module _ (words : List (List ℕ)) (before after pb pa : View) (ended : Status) 
   read reader names =
       served (λ v. IsReaderRun reader names before v pb pa ended) (λ reports. as_reader before pb pa ended reports reader names)
 
-  plans : (s w p t : List ℕ) (n : ℕ) (o : Option (List ℕ)) → Asks words (plan s w p t n o)
-      → PlanPromises (plan_of s w p t n o) before after pb pa ended
-  plans s w p t n o asks =
-      let asked = plan_of s w p t n o in
+  plans : (turn : Turn) (s w p t : List ℕ) (n : ℕ) (o : Option (List ℕ)) → Asks words (plan turn s w p t n o)
+      → PlanPromises (plan_of turn s w p t n o) before after pb pa ended
+  plans turn s w p t n o asks =
+      let asked = plan_of turn s w p t n o in
       plan_promises asked before after pb pa ended
-      (served (λ v. IsPlanRun asked before v pb pa ended) (λ reports. as_plan before pb pa ended reports asked) (serves (plan s w p t n o) asks))
+      (served (λ v. IsPlanRun asked before v pb pa ended) (λ reports. as_plan before pb pa ended reports asked) (serves (plan turn s w p t n o) asks))
 
-  own_stays : (s w p t : List ℕ) (n : ℕ) (o : List ℕ) → Asks words (plan s w p t n (Some o))
+  own_stays : (turn : Turn) (s w p t : List ℕ) (n : ℕ) (o : List ℕ) → Asks words (plan turn s w p t n (Some o))
       → IfSome before.files (λ held. IfSome after.files (λ now. get now o ≡ get held o))
-  own_stays s w p t n o asks =
+  own_stays turn s w p t n o asks =
       let limits = subst KeepsLimits asks (asked_kept words) in
       let apart = (and_parts (are_different s w p t) (is_own (Some o) s w p t) limits.0).1 in
-      all_other (plan_of s w p t n (Some o)) o
+      all_other (plan_of turn s w p t n (Some o)) o
       (third_fails (bytes_eq o s) (bytes_eq o w) (bytes_eq o p) (bytes_eq o t) apart)
       (fourth_fails (bytes_eq o s) (bytes_eq o w) (bytes_eq o p) (bytes_eq o t) apart)
-      before.files after.files (plans s w p t n (Some o) asks).plan_stopped
+      before.files after.files (plans turn s w p t n (Some o) asks).plan_stopped
 
   checks_tree : (turn : Turn) (s w t : List ℕ) → Asks words (check turn s w None t)
       → TreePromises (check_names turn s w None t) before after pb pa ended
@@ -300,8 +300,8 @@ module _ (words : List (List ℕ)) (before after pb pa : View) (ended : Status) 
   }
 
   whatever : (asked : Asked) → Asks words asked → Whatever asked
-  whatever (plan s w p t n o) asks =
-      let p = plans s w p t n o asks in
+  whatever (plan turn s w p t n o) asks =
+      let p = plans turn s w p t n o asks in
       record { stays = λ never. absurd (never tt); usage_words = λ e. absurd (p.no_usage e); memory = p.out_of_memory }
   whatever (check turn s w None t) asks = by_reads (check turn s w None t) (checks_tree turn s w t asks).reads
   whatever (check turn s w (Some p) t) asks =

@@ -64,7 +64,7 @@ pub record IsMakeRun (number hatches cranes : ℕ) (before after out_before out_
 
 -- what is asked for is served by its command
 abbrev pub IsRunOf : Asked → (before after out_before out_after : View) → Status → Type 0
-IsRunOf (plan s w p t n o) = IsPlanRun (plan_of s w p t n o)
+IsRunOf (plan turn s w p t n o) = IsPlanRun (plan_of turn s w p t n o)
 IsRunOf (check turn s w None t) = IsTreeRun (check_names turn s w None t)
 IsRunOf (check turn s w (Some p) t) = IsPlanCheckRun (check_names turn s w (Some p) t)
 IsRunOf (tasks s w) = IsReaderRun tasks_reader (tasks_names s w)

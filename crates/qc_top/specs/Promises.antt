@@ -27,13 +27,13 @@ use Rattle.qc_top.specs.About.{help_text, version_text}
 
 -- a plan is asked for
 abbrev pub IsPlan : Asked → Type 0
-IsPlan (plan s w p t n o) = Unit {0}
+IsPlan (plan turn s w p t n o) = Unit {0}
 IsPlan _ = ⊥
 
 pub record Promises (words : List (List ℕ)) (before after out_before out_after : View) (ended : Status) : Type 0 where
-  -- what each command promises
-  pub plans : (s w p t : List ℕ) (n : ℕ) (o : Option (List ℕ)) → Asks words (plan s w p t n o)
-      → PlanPromises (plan_of s w p t n o) before after out_before out_after ended
+  -- what each command promises: a plan by schedules that go one way, and one by all that are feasible
+  pub plans : (turn : Turn) (s w p t : List ℕ) (n : ℕ) (o : Option (List ℕ)) → Asks words (plan turn s w p t n o)
+      → PlanPromises (plan_of turn s w p t n o) before after out_before out_after ended
   -- a check of schedules that go one way, and one of all that are feasible
   pub checks_tree : (turn : Turn) (s w t : List ℕ) → Asks words (check turn s w None t)
       → TreePromises (check_names turn s w None t) before after out_before out_after ended
@@ -49,7 +49,7 @@ pub record Promises (words : List (List ℕ)) (before after out_before out_after
       → DispatchPromises (dispatch_names s w p l) before after out_before out_after ended
   pub makes : (n h c : ℕ) → Asks words (make n h c) → TrialPromises n h c out_before out_after ended
   -- a plan leaves the planner's own plan as it is
-  pub own_stays : (s w p t : List ℕ) (n : ℕ) (o : List ℕ) → Asks words (plan s w p t n (Some o))
+  pub own_stays : (turn : Turn) (s w p t : List ℕ) (n : ℕ) (o : List ℕ) → Asks words (plan turn s w p t n (Some o))
       → IfSome before.files (λ held. IfSome after.files (λ now. get now o ≡ get held o))
   pub sheets : (s w p : List ℕ) → Asks words (sheet s w p)
       → SheetPromises (show_names s w p) before after out_before out_after ended

@@ -101,6 +101,7 @@ fn dispatch_of<'a>(ship: &'a str, stow: &'a str, plan: &'a str, log: &'a str) ->
 
 /// What a plan is asked for with.
 fn asked_of<'a>(
+    turn: Turn,
     ship: &'a str,
     stow: &'a str,
     plan: &'a str,
@@ -108,11 +109,12 @@ fn asked_of<'a>(
     nodes: u32,
     own: Option<&'a str>,
 ) -> PlanAsked<'a>
-    ensures asked { planning result ≡ plan_of ship.now stow.now plan.now tree.now nodes
+    ensures asked { planning result ≡ plan_of turn ship.now stow.now plan.now tree.now nodes
         (option_map (λ name. name.now) own.entry) }
     ensures nodes { result.nodes ≡ nodes }
 {
     PlanAsked {
+        turn,
         ship,
         stow,
         plan,
@@ -137,6 +139,7 @@ fn serve<S: Shelf, K: Sink>(
 {
     match *request {
         Request::Plan {
+            turn,
             ship,
             stow,
             plan: name,
@@ -144,7 +147,7 @@ fn serve<S: Shelf, K: Sink>(
             nodes,
             own,
         } => {
-            let asked = asked_of(ship, stow, name, tree, nodes, own);
+            let asked = asked_of(turn, ship, stow, name, tree, nodes, own);
             plan(alloc, &asked, shelf, out)
         }
         Request::Check {

@@ -13,8 +13,8 @@ most_number = 2147483647
 
 pub data Asked : Type 0 where
   -- a plan and its tree, for a ship file and a stowage list, with at most so many branchings, beside the planner's own
-  -- plan where one is named
-  plan : (ship stow plan tree : List ℕ) (nodes : ℕ) (own : Option (List ℕ)) → Asked
+  -- plan where one is named: by the schedules that go one way, or by all that are feasible
+  plan : (turn : Turn) (ship stow plan tree : List ℕ) (nodes : ℕ) (own : Option (List ℕ)) → Asked
   -- what a tree shows for a ship file and a stowage list, and of a plan where one is named: of the schedules that go one
   -- way, or of all that are feasible
   check : (turn : Turn) (ship stow : List ℕ) (plan : Option (List ℕ)) (tree : List ℕ) → Asked
@@ -43,8 +43,8 @@ pub data Asked : Type 0 where
 
 -- what a request of the program asks for
 abbrev pub asked_for : Request → Asked
-asked_for (request.Plan ship stow plan_name tree nodes own) =
-    plan ship.now stow.now plan_name.now tree.now nodes (option_map (λ name. name.now) own)
+asked_for (request.Plan turn ship stow plan_name tree nodes own) =
+    plan turn ship.now stow.now plan_name.now tree.now nodes (option_map (λ name. name.now) own)
 asked_for (request.Check turn ship stow plan_name tree) =
     check turn ship.now stow.now (option_map (λ name. name.now) plan_name) tree.now
 asked_for (request.Tasks ship stow) = tasks ship.now stow.now
@@ -72,7 +72,7 @@ is_own (Some own) s w p t = not (bytes_eq own s || bytes_eq own w || bytes_eq ow
 
 -- a plan's names are different, and each number that is asked for is in its range
 abbrev pub KeepsLimits : Asked → Type 0
-KeepsLimits (plan s w p t nodes own) =
+KeepsLimits (plan turn s w p t nodes own) =
     IsTrue (are_different s w p t && is_own own s w p t) × (nodes ≤ most_branchings)
 KeepsLimits (make number hatches cranes) =
     (number ≤ most_number) × (1 ≤ hatches) × (hatches ≤ most_hatches)

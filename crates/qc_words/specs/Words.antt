@@ -69,12 +69,17 @@ abbrev pub check_name : Turn → List ℕ
 check_name OneWay = codes "check"
 check_name Free = codes "freecheck"
 
+-- the name of the command that plans by schedules of this turn
+abbrev pub search_name : Turn → List ℕ
+search_name OneWay = codes "plan"
+search_name Free = codes "free"
+
 -- the words are a command's name and its operands in order, which say this; in `check` and `freecheck` a word may be
 -- `-`, which as PLAN stands for no plan
 abbrev pub Spell : List (List ℕ) → Asked → Type 0
-Spell words (plan s w p t n own) = AreFileWords (s ∷ w ∷ p ∷ t ∷ []) × IfSome own (λ o. IsTrue (is_file_word o))
-    × (((words ≡ codes "plan" ∷ s ∷ w ∷ p ∷ t ∷ own_words own) × (n ≡ usual_branchings))
-    ⊎ (words ≡ codes "plan" ∷ s ∷ w ∷ p ∷ t ∷ codes "--nodes" ∷ decimal n ∷ own_words own))
+Spell words (plan turn s w p t n own) = AreFileWords (s ∷ w ∷ p ∷ t ∷ []) × IfSome own (λ o. IsTrue (is_file_word o))
+    × (((words ≡ search_name turn ∷ s ∷ w ∷ p ∷ t ∷ own_words own) × (n ≡ usual_branchings))
+    ⊎ (words ≡ search_name turn ∷ s ∷ w ∷ p ∷ t ∷ codes "--nodes" ∷ decimal n ∷ own_words own))
 Spell words (check turn s w None t) =
     IsTrue (list_all is_check_word (s ∷ w ∷ t ∷ []))
     × (words ≡ check_name turn ∷ s ∷ w ∷ codes "-" ∷ t ∷ [])
@@ -121,9 +126,10 @@ nodes_in None = Some usual_branchings
 nodes_in (Some text) = number_between 0 most_branchings text
 
 -- a plan with so many branchings, where its names are different
-abbrev pub plan_of : (ship stow plan tree : List ℕ) → Option ℕ → Option (List ℕ) → Asked
-plan_of s w p t None own = usage
-plan_of s w p t (Some n) own = if are_different s w p t && is_own own s w p t then plan s w p t n own else usage
+abbrev pub plan_of : Turn → (ship stow plan tree : List ℕ) → Option ℕ → Option (List ℕ) → Asked
+plan_of turn s w p t None own = usage
+plan_of turn s w p t (Some n) own =
+    if are_different s w p t && is_own own s w p t then plan turn s w p t n own else usage
 
 -- the plan that `check` or `freecheck` is asked about: none for `-`
 abbrev pub plan_name : List ℕ → Option (List ℕ)
@@ -139,12 +145,17 @@ abbrev pub check_in : Turn → List Row → Asked
 check_in turn rows = check turn (value_of (codes "ship") rows) (value_of (codes "stow") rows)
     (plan_name (value_of (codes "plan") rows)) (value_of (codes "tree") rows)
 
+-- a plan by schedules of this turn
+abbrev pub plan_in : Turn → List Row → Asked
+plan_in turn rows =
+    plan_of turn (value_of (codes "ship") rows) (value_of (codes "stow") rows) (value_of (codes "plan") rows)
+    (value_of (codes "tree") rows) (nodes_in (first_of (codes "nodes") rows)) (first_of (codes "from") rows)
+
 -- what a command asks for by the values that were read
 abbrev pub asked_in : CommandName → List Row → Asked
-asked_in name.Plan rows =
-    plan_of (value_of (codes "ship") rows) (value_of (codes "stow") rows) (value_of (codes "plan") rows)
-    (value_of (codes "tree") rows) (nodes_in (first_of (codes "nodes") rows)) (first_of (codes "from") rows)
+asked_in name.Plan rows = plan_in OneWay rows
 asked_in name.Check rows = check_in OneWay rows
+asked_in name.Free rows = plan_in Free rows
 asked_in name.FreeCheck rows = check_in Free rows
 asked_in name.Tasks rows =
     tasks (value_of (codes "ship") rows) (value_of (codes "stow") rows)

@@ -10,8 +10,9 @@ pub const MOST_NUMBER: u32 = 2_147_483_647;
 #[derive(Clone, Copy, Debug, PartialEq, Eq)]
 pub enum Request<'a> {
     /// A plan and its tree, with at most so many branchings, that ends no later than the planner's own plan where
-    /// one is named.
+    /// one is named: by the schedules that go one way, or by all that are feasible.
     Plan {
+        turn: Turn,
         ship: &'a str,
         stow: &'a str,
         plan: &'a str,

@@ -11,14 +11,14 @@ pub returns-in-Some-clause-serves : goal.returns-in-Some-clause-serves
 returns-in-Some-clause-serves g c =
     let view = g.S.Sink.view in
     own_broken (planning c.args.asked.now) (names_of c.inputs.result) (view c.args.shelf.now)
-    (view c.read_own_job.new.shelf) c.in_ok-job.job c.in-Some.broken c.inputs.ensures.files c.in_ok-job.ensures.step
-    c.in-Some.ensures.some
+    (view c.read_own_job.new.shelf) c.in_ok-job.job c.in-Some.broken c.inputs.ensures c.in_ok-job.ensures.step
+    c.in_ok-job.ensures.turn c.in-Some.ensures.some
 
 pub plan_instance-requires-clause-due : goal.plan_instance-requires-clause-due
 plan_instance-requires-clause-due g c =
     let view = g.S.Sink.view in
     let step = subst (λ (n : Names). IsStep (own_job_due n.own) n (view c.args.shelf.now) (view c.read_own_job.new.shelf)
-    (Ok c.in_ok-job.job)) c.inputs.ensures.files c.in_ok-job.ensures.step in
+    (Ok c.in_ok-job.job)) c.inputs.ensures c.in_ok-job.ensures.step in
     let asked = (planning c.args.asked.now).inputs in
     subst (λ (files : Option Files). ComesTo (own_job_due asked.own) asked files (Ok c.in_ok-job.job)) (sym step.files) step.ok.1
 

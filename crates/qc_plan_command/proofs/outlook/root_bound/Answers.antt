@@ -10,4 +10,4 @@ returns c =
     let inst = c.args.inst.now in
     let down = subst (λ (i : InstanceView). NoneSooner i c.in_ok-down.down) c.in_ok-turned.ensures.mirror c.in_ok-down.ensures in
     subst (λ (n : ℕ). NoneEarlier inst (Least n)) (sym c.min.ensures)
-    (both_sooner inst c.requires c.in_ok-up.up c.in_ok-down.down c.in_ok-up.ensures down)
+    (both_sooner inst c.in_ok-up.up c.in_ok-down.down c.in_ok-up.ensures down)

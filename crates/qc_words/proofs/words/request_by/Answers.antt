@@ -13,6 +13,7 @@ each_is_simple name.Check = refl
 each_is_simple name.Tasks = refl
 each_is_simple name.Show = refl
 each_is_simple name.Make = refl
+each_is_simple name.Free = refl
 each_is_simple name.FreeCheck = refl
 each_is_simple name.Sheet = refl
 each_is_simple name.Watch = refl
