@@ -6,11 +6,11 @@
 
 `rows`: ends up to which small assignments are closed, worked out by hand, with what a count that is wrong in one
 place says; they are asserted before all else. `bounds`: on random ships of at most five tasks, in nodes of both parts
-in which random tasks have a crane, no closed end is above the least end of all schedules that go upward with these cranes, or,
-counted as for plans of any direction, above that of all schedules that keep the rules; with an end each earlier one is
-closed too; a count in which cranes wait for their neighbours shows no less than one in which they don't, and this no
-less than the work of the older versions; and the counts themselves say what they say when every choice of numbers of
-cranes is tried. Status 1 where anything differs.
+in which random tasks have a crane, no closed end is above the least end of all schedules that go upward with these
+cranes, or, counted as for plans of any direction, above that of all schedules that keep the rules; with an end each
+earlier one is closed too; where cranes make way no less is closed than where they only wait for their neighbours, there
+no less than where they don't, and there no less than by the work of the older versions; and the counts themselves say
+what they say when every choice of numbers of cranes is tried. Status 1 where anything differs.
 """
 import argparse
 import itertools
@@ -21,27 +21,18 @@ from collections import Counter
 sys.dont_write_bytecode = True
 
 from packed import least_feasible_end, random_instance, random_node
-from reference import NEVER, PHASES, Count, Crane, Instance, Node, Task, arcs_up, best_orders
-
-def plain(inst, crane, free):
-    """A count in which no crane waits for its neighbours."""
-    return Count(inst, crane, free, lines=False)
+from reference import (NEVER, PHASES, Count, Crane, Instance, Node, Task, Ways, arcs_up, are_short, best_orders,
+                       counts_of)
 
 
-class Closing:
-    """The ends that a node is closed at, by a count of its cranes and one of none."""
+def closed_at(inst, counts):
+    """The greatest end at which something is closed by these counts, or 0."""
+    return greatest(lambda v: are_short(inst, counts, v))
 
-    def __init__(self, node, free=False, count=Count, bare=Count):
-        self.inst, nothing = node.inst, [None] * len(node.crane)
-        self.counts = [count(self.inst, node.crane, free)] + ([bare(self.inst, nothing, free)] if bare else [])
 
-    def holds(self, v):
-        last = (v - 1) // self.inst.grain * self.inst.grain
-        return any(count.is_short(last) for count in self.counts)
-
-    @property
-    def greatest(self):
-        return greatest(self.holds)
+def closed_ends(inst, crane, free):
+    """The greatest closed ends with these cranes by the way of each alone, by its neighbours too, and by making way."""
+    return [closed_at(inst, counts_of(inst, crane, free, step)) for step in (1, 2, 3)]
 
 
 def greatest(holds):
@@ -150,50 +141,78 @@ class OneTooMany(Count):
         return super().steps(differences, needed + 1)
 
 
+class ThereAndBack(Ways):
+    """A crane always comes back from where it goes beside making way."""
+
+    def further(self, above, below, to_top, to_bottom):
+        return 2 * above + 2 * below
+
+
 def turned(inst, crane, free):
     """A count for any direction that turns as on the way up."""
     return Count(inst, crane)
 
 
-# Name, instance, cranes, whether in any direction, the greatest closed end where no crane waits for its neighbours and
-# where it does, the least end of all; and a wrong count for the node, one for no cranes or None, and what they say.
+# Name, instance, cranes, whether in any direction, the greatest closed ends where no crane waits for its neighbours,
+# where it does and where it makes way for them too, the least end of all; and a wrong count for the node, one for no
+# cranes or None, and what they say.
 ROWS = [
     ("two hatches side by side: at 20 the second has 20 and 19, at 21 21 and 20",
-     ship([(1, 20), (2, 20)]), (0, 0), False, 21, 21, 41, None),
-    ("the same from the stern", ship([(1, 20), (2, 20)]).mirror, (0, 0), False, 21, 21, 41, None),
-    ("one crane alone: 20, a tick, 20", made(1, 2, (1,), [(1, 20), (2, 20)], 2), (0, 0), False, 41, 41, 41, None),
-    ("four hatches", ship([(1, 20), (2, 20), (3, 20), (4, 20)]), (0, 0, 0, 0), False, 41, 41, 41, None),
-    ("C1 stands while C2 works beside it", ship([(1, 20), (2, 10), (4, 20)]), (1, 2, 0), False, 28, 33, 33, None),
-    ("one hatch, C2 and then C1", ship([(2, 10), (2, 1)]), (2, 1), False, 11, 12, 14, None),
-    ("no cranes say more than the one that is given", ship([(1, 10), (1, 10), (3, 10)]), (1, 0, 0), False, 16, 16, 20,
-     (Count, None, 15)),
-    ("C2 before C1, a task left", ship([(1, 10), (2, 10), (2, 10)]), (2, 0, 1), False, 17, 27, 35, None),
-    ("to and fro", ship([(2, 10), (2, 1), (2, 1)]), (2, 1, 2), True, 12, 13, 17, None),
-    ("one crane amid its bays", made(1, 1, (3,), [(1, 37), (2, 8)], 2), (1, 1), True, 47, 47, 47, (turned, turned, 48)),
-    ("a neighbour that may begin first", made(1, 2, ((-2, 3), 0, 3), [(1, 2), (1, 3), (5, 14)]), (2, 2, 1), False, 24,
-     24, 26, (WithoutTheirStart, Count, 29)),
+     ship([(1, 20), (2, 20)]), (0, 0), False, [21, 21, 21], 41, None),
+    ("the same from the stern", ship([(1, 20), (2, 20)]).mirror, (0, 0), False, [21, 21, 21], 41, None),
+    ("one crane alone: 20, a tick, 20", made(1, 2, (1,), [(1, 20), (2, 20)], 2), (0, 0), False, [41, 41, 41], 41, None),
+    ("the same with its tasks", made(1, 2, (1,), [(1, 20), (2, 20)], 2), (1, 1), False, [41, 41, 41], 41,
+     (ThereAndBack, Count, 42)),
+    ("four hatches", ship([(1, 20), (2, 20), (3, 20), (4, 20)]), (0, 0, 0, 0), False, [41, 41, 41], 41, None),
+    # C1 makes way a bay down from its own, which only shows 21 of the 30 for which it is barred.
+    ("C1 stands while C2 works beside it", ship([(1, 20), (2, 10), (4, 20)]), (1, 2, 0), False, [28, 33, 33], 33, None),
+    # C2 goes to bay 2 and back to 4: 3 beside the work of 10. C1 waits 11, makes way a bay and comes two back.
+    ("one hatch, C2 and then C1", ship([(2, 10), (2, 1)]), (2, 1), False, [11, 12, 13], 14, None),
+    # C2 stands at bay 3 until 100 and goes three bays up to make way; the task comes behind.
+    ("a crane without tasks that makes way", made(1, 2, (1, (3, 100)), [(4, 10)]), (1,), False, [13, 13, 103], 113,
+     None),
+    # C2 makes way three bays up, and from its berth comes two down: at 18 5 and 13, at 19 6 and 14. C1 can do all by 33.
+    ("a crane that makes way and then shares", ship([(1, 10), (1, 10), (4, 10)]), (0, 0, 1), False, [18, 18, 19], 33,
+     None),
+    ("no cranes say more than the one that is given", ship([(1, 10), (1, 10), (3, 10)]), (1, 0, 0), False, [16, 16, 16],
+     20, (Count, None, 15)),
+    # Making way alone reaches 26: the third count may say less than the second.
+    ("C2 before C1, a task left", ship([(1, 10), (2, 10), (2, 10)]), (2, 0, 1), False, [17, 27, 27], 35,
+     (Ways, Count, 26)),
+    # C2 goes to bay 2, makes way to bay 4 and comes back: 1 and 2 and 2 beside the work of 11.
+    ("to and fro", ship([(2, 10), (2, 1), (2, 1)]), (2, 1, 2), True, [12, 13, 16], 17, None),
+    ("one crane amid its bays", made(1, 1, (3,), [(1, 37), (2, 8)], 2), (1, 1), True, [47, 47, 47], 47,
+     (turned, turned, 48)),
+    # C2 makes way 7 bays for C1, which is 12 with its work; C1 is at its bay after 3 and 7, for 14.
+    ("a neighbour that may begin first", made(1, 2, ((-2, 3), 0, 3), [(1, 2), (1, 3), (5, 14)]), (2, 2, 1), False,
+     [24, 24, 24], 26, (WithoutTheirStart, Count, 29)),
     ("a neighbour just far enough", made(2, 1, (4, (5, 10)), [(1, 20), (1, 9), (2, 3), (2, 20)]), (1, 0, 2, 2), True,
-     39, 39, 39, (FurtherOn, Count, 50)),
-    ("neighbours just far enough", made(2, 1, (4, (5, 10)), [(1, 20), (1, 9), (2, 3), (2, 20)]), (1, 0, 2, 2), True, 39,
-     39, 39, (FurtherOnBothSides, Count, 55)),
-    ("cranes that begin amid the bays", made(4, 1, ((3, 11), (4, 0), (6, 12)), [(2, 7), (8, 10)]), (0, 0), False, 23,
-     23, 30, (FromTheFirstBay, FromTheFirstBay, 34)),
-    ("as many as must come", made(30, 3, (4, 9, 12), [(2, 60), (2, 80), (10, 150)]), (0, 0, 0), False, 200, 200, 200,
-     (OneTooMany, OneTooMany, 220)),
+     [39, 39, 39], 39, (FurtherOn, Count, 50)),
+    ("neighbours just far enough", made(2, 1, (4, (5, 10)), [(1, 20), (1, 9), (2, 3), (2, 20)]), (1, 0, 2, 2), True,
+     [39, 39, 39], 39, (FurtherOnBothSides, Count, 55)),
+    ("cranes that begin amid the bays", made(4, 1, ((3, 11), (4, 0), (6, 12)), [(2, 7), (8, 10)]), (0, 0), False,
+     [23, 23, 23], 30, (FromTheFirstBay, FromTheFirstBay, 34)),
+    ("as many as must come", made(30, 3, (4, 9, 12), [(2, 60), (2, 80), (10, 150)]), (0, 0, 0), False, [200, 200, 200],
+     200, (OneTooMany, OneTooMany, 220)),
 ]
 
 
+def said_by(inst, crane, free, count, bare):
+    """The greatest end that is closed by a count with these cranes, and by one with none where there is one."""
+    counts = [count(inst, crane, free)] + ([bare(inst, [None] * len(crane), free)] if bare else [])
+    return closed_at(inst, counts)
+
+
 def try_rows(tells=False):
-    for name, inst, cranes, free, without, due, least, wrong in ROWS:
+    for name, inst, cranes, free, due, least, wrong in ROWS:
         node = node_of(inst, cranes)
-        seen = Closing(node, free, plain, plain).greatest, Closing(node, free).greatest
-        end = Ends(inst).least(node.crane, free)
-        said = Closing(node, free, *wrong[:2]).greatest if wrong else None
+        seen, end = closed_ends(inst, node.crane, free), Ends(inst).least(node.crane, free)
+        said = said_by(inst, node.crane, free, *wrong[:2]) if wrong else None
         if tells:
             print(f"{name}: {seen}, least end {end}, wrong {said}")
-        assert seen == (without, due) and end == least, (name, seen, end)
+        assert (seen, end) == (due, least), (name, seen, end)
         assert not wrong or said == wrong[2], (name, said)
-        assert node.work_bound == due or free, (name, node.work_bound)
+        assert node.work_bound == due[2] or free, (name, node.work_bound)
     near, far = ship([(1, 20), (2, 20)]), made(1, 250, (100, 400), [(100, 2000), (260, 2000)])
     # In a list the least head counts, 0 and not 1; and places as seen from one crane, not the 160 between the hatches.
     assert Node(near).packed_value([0, 1]) == 41 and sorted(map(Node(near).head, (0, 1))) == [0, 1]
@@ -246,7 +265,7 @@ def takes_room(node, v, free):
 
 def is_short_by_trying(count, last):
     """`is_short`, by trying every choice of so many cranes at each bay where work is left."""
-    if any(own and spent > last for own, spent in zip(count.own, count.spent)):
+    if any(works and spent > last for works, spent in zip(count.works, count.spent)):
         return True
     bays, cranes, travel = sorted(count.left), range(len(count.own)), count.inst.travel
 
@@ -271,20 +290,22 @@ def is_short_by_trying(count, last):
 def try_node(node, free, end, rng, counts):
     """What is wrong with the ends that the node is closed at, if anything is."""
     inst, kind = node.inst, "any way" if free else "upward"
-    lined, without = Closing(node, free), Closing(node, free, plain, plain)
-    ends = [greatest(lambda v: takes_room(node, v, free)), without.greatest, lined.greatest]
+    by_step = [counts_of(inst, node.crane, free, step) for step in (1, 2, 3)]
+    ends = [greatest(lambda v: takes_room(node, v, free))] + [closed_at(inst, some) for some in by_step]
     counts[f"nodes, {kind}"] += 1
     counts[f"nodes, {kind}, without a schedule"] += end == NEVER
-    counts[f"ends that are the least one, {kind}"] += ends[2] == end
+    counts[f"ends that are the least one, {kind}"] += ends[3] == end
+    counts[f"ends that are later since cranes make way, {kind}"] += ends[2] < ends[3]
     counts[f"ends that are later since cranes wait, {kind}"] += ends[1] < ends[2]
     counts[f"ends that are later than by work alone, {kind}"] += ends[0] < ends[1]
-    counts[f"ends that only no cranes say, {kind}"] += Closing(node, free, bare=None).greatest < ends[2]
-    if sorted(ends) != ends or ends[2] > end or not free and node.work_bound != ends[2]:
+    counts[f"ends that only no cranes say, {kind}"] += closed_at(inst, by_step[2][1:]) < ends[3]
+    counts[f"ends that making way alone doesn't say, {kind}"] += closed_at(inst, by_step[2][2:]) < ends[3]
+    if sorted(ends) != ends or ends[3] > end or not free and node.work_bound != ends[3]:
         return f"closed at {ends}, least end {end}"
-    for closing, last in ((lined, ends[2]), (without, ends[1])):
-        if any(closing.holds(v) != (v <= last) for v in range(1, last + 3 * inst.grain + 3)):
+    for some, last in zip(by_step, ends[1:]):
+        if any(are_short(inst, some, v) != (v <= last) for v in range(1, last + 3 * inst.grain + 3)):
             return f"closed at {last}, and not at each earlier end or at a later one"
-    for count in lined.counts + without.counts:
+    for count in by_step[2] + by_step[0][1:]:
         border = greatest(lambda v: count.is_short(v)) if count.is_short(1) else 0
         for last in {0, border, border + 1, rng.randint(0, 2 * border + 2)}:
             counts["counts tried with all choices of numbers"] += 1

@@ -1,7 +1,7 @@
 #!/usr/bin/env python3
 """Compares the built program with the second opinion of reference.py on random small ships.
 
-    compare.py PROGRAM KEPT [--first SEED] [--count SHIPS] [--minutes M] [--wide]
+    compare.py PROGRAM KEPT [--first SEED] [--count SHIPS] [--minutes M] [--wide] [--step 2]
 
 Each seed makes one ship and its list. `plan` runs with several numbers of branchings, `check`, `show`, `sheet` and
 `tasks` on what it wrote, then `check`, `show` and `sheet` on plans that were changed, `check` on trees that were
@@ -9,7 +9,8 @@ changed, and on trees that were made here. Every report and every file is compar
 from the definitions. Of each difference the files and the two answers are kept in a folder under KEPT. Prints counts
 and the first differences; status 1 where there is any. With `--wide` the ships have 8 to 18 tasks, so that the trees
 are large, and the least end isn't known. The program may be one that writes trees of version 2 and knows no later one,
-or one that writes version 3; which of both is seen at its first tree, and every other must be of that version.
+or one that writes version 3; which of both is seen at its first tree, and every other must be of that version. With
+`--step 2` it is one that doesn't count yet that cranes make way for others.
 """
 import argparse
 import itertools
@@ -521,9 +522,9 @@ def first_unsafe(motion, parts):
 class Case:
     """One ship and list in a folder of their own, and what differs."""
 
-    def __init__(self, program, newest, seed, kept, counts, wide):
+    def __init__(self, program, newest, seed, kept, counts, wide, step):
         self.program, self.newest, self.seed = program, newest, seed
-        self.kept, self.counts, self.wide = kept, counts, wide
+        self.kept, self.counts, self.wide, self.step = kept, counts, wide, step
         self.rng = random.Random(seed)
         self.differences = []
         self.folder = Path(tempfile.mkdtemp(prefix="compare-"))
@@ -618,7 +619,7 @@ class Case:
             self.counts[f"given {'the least end' if given == least else 'a later end'}"] += 1
             self.expect(f"{name}: given a plan", least <= given, True)
         try:
-            reader = TreeReader(self.inst, self.read("tree.txt"), judge.visit, self.newest).read()
+            reader = TreeReader(self.inst, self.read("tree.txt"), judge.visit, self.newest, self.step).read()
         except TreeFault as fault:
             self.expect(f"{name}: tree", seen, ("BadTree", fault.kind, fault.line))
             return
@@ -670,7 +671,7 @@ class Case:
     def check(self, plan):
         """`check` with the plan, or with `-`, on the files as they stand."""
         data = self.read(plan) if plan != "-" else None
-        due = check_report(self.inst, data, self.read("tree.txt"), self.newest)
+        due = check_report(self.inst, data, self.read("tree.txt"), self.newest, self.step)
         self.expect(f"check {plan}", self.run("check", "ship", "stow", plan, "tree.txt"), due)
 
     def show(self):
@@ -698,6 +699,7 @@ def main():
     parser.add_argument("--count", type=int, default=100)
     parser.add_argument("--minutes", type=float, default=1e9)
     parser.add_argument("--wide", action="store_true")
+    parser.add_argument("--step", type=int, default=3)
     words = parser.parse_args()
     words.kept.mkdir(parents=True, exist_ok=True)
     program = words.program.resolve()
@@ -708,7 +710,7 @@ def main():
         if time.monotonic() > last:
             break
         counts["ships"] += 1
-        found = Case(program, newest, seed, words.kept, counts, words.wide).compare()
+        found = Case(program, newest, seed, words.kept, counts, words.wide, words.step).compare()
         if found:
             differing.append((seed, found))
             print(f"seed {seed}: {found[:3]}", flush=True)

@@ -14,13 +14,12 @@ some pairs which is done first; two tasks conflict where they may not run side b
 """
 import itertools
 import sys
-from functools import cached_property
 
 sys.dont_write_bytecode = True
 
 from packed import Search, lists_of, longest_from
-from reference import (NEVER, Count, Motion, Node, TreeFault, TreeReader, bound_text, breaks_up, end_of, instance_of,
-                       least_starts, parse_line, plan_text, read_plan, read_ship)
+from reference import (NEVER, Motion, Node, TreeFault, TreeReader, bound_text, breaks_up, end_of, instance_of,
+                       parse_line, plan_text, read_plan, read_ship)
 
 
 def first_break(inst, plan):
@@ -28,68 +27,15 @@ def first_break(inst, plan):
     return next((broken for broken in breaks_up(inst, plan) if broken[0] != "OneWay"), None)
 
 
-# ---------------------------------------------------------------- counts of crane time
-
-class Ways(Count):
-    """A count in which a crane goes out of the way of the tasks of a hatch that others have, and comes back to those
-    that it has itself. `works`: whether a crane has something to do, if only to make way."""
-
-    def __init__(self, inst, crane, free=False):
-        super().__init__(inst, crane, free)
-        self.given, self.works = crane, [bool(own) for own in self.own]
-        hatches = sorted({task.bay for task, v in zip(inst.tasks, crane) if v is not None})
-        for k, data in enumerate(inst.cranes):
-            bays = [inst.tasks[j].bay for j in self.own[k]]
-            usual = self.way(k, bays or [data.bay]) - data.ready
-            ways = [self.hatch_way(k, hatch, bays) for hatch in hatches]
-            bays_moved, low, high = max(ways, key=lambda way: way[0], default=(0, 0, 0))
-            if inst.travel * bays_moved > usual:
-                spent = data.ready + self.ticks(self.own[k]) + inst.travel * bays_moved
-                self.spent[k] = max(self.spent[k], spent)
-                self.low[k], self.high[k], self.works[k] = low, high, True
-
-    def hatch_way(self, k, hatch, bays):
-        """The bays that crane k moves at the least to be where the hatch's tasks want it, one after the other, and at
-        all these bays besides; and the lowest and the highest place that it comes to."""
-        inst, place, moved = self.inst, self.inst.cranes[k].bay, 0
-        low = high = place
-        for task, v in zip(inst.tasks, self.given):
-            if v is None or task.bay != hatch:
-                continue
-            least = hatch + inst.gap * (k - v) if v <= k else -NEVER
-            most = hatch - inst.gap * (v - k) if v >= k else NEVER
-            wanted = min(max(place, least), most)
-            moved += abs(wanted - place)
-            place, low, high = wanted, min(low, wanted), max(high, wanted)
-        top, bottom = max([high] + bays), min([low] + bays)
-        above, below = top - high, low - bottom
-        more = min(2 * above + 2 * below, top - place + 2 * below, 2 * above + place - bottom)
-        return moved + more, bottom, top
-
-    def is_short(self, last):
-        return any(works and spent > last for works, spent in zip(self.works, self.spent)) or super().is_short(last)
-
-
-def counts_of(inst, crane, free, step=3):
-    """The counts of which one must be short: where no task has a crane; and with these cranes, by the way of each
-    alone, from the second step on with the time for which neighbours bar it, and in the third with making way too."""
-    return [inst.bare_count, Count(inst, crane, free, lines=step > 1)] + ([Ways(inst, crane, free)] if step > 2 else [])
-
-
-def are_short(inst, counts, v):
-    """Whether nothing ends before v by these counts."""
-    last = (v - 1) // inst.grain * inst.grain
-    return any(count.is_short(last) for count in counts)
-
-
 # ---------------------------------------------------------------- nodes
 
 class FreeNode(Node):
     """A list of decisions in a tree of plans that go any way."""
 
+    is_free = True
+
     def __init__(self, inst, decisions=(), step=3):
-        super().__init__(inst, decisions)
-        self.step = step
+        super().__init__(inst, decisions, step=step)
 
     def child(self, *decision):
         return FreeNode(self.inst, self.decisions + (decision,), self.step)
@@ -141,13 +87,6 @@ class FreeNode(Node):
         work = sum(self.inst.tasks[j].ticks for j in tasks) + self.inst.travel * self.span(tasks)
         return work + min(self.starts[j] for j in tasks)
 
-    def work_holds(self, v):
-        return are_short(self.inst, self.counts, v)
-
-    @cached_property
-    def counts(self):
-        return counts_of(self.inst, self.crane, True, self.step)
-
 
 def node_of_plan(inst, plan):
     """The node with the cranes of a feasible plan and the orders of its conflicting pairs."""
@@ -171,8 +110,7 @@ class FreeReader(TreeReader):
     """Reads a tree of plans in any direction: one part, without directions."""
 
     def __init__(self, inst, data, visit=None, step=3):
-        super().__init__(inst, data, visit)
-        self.step = step
+        super().__init__(inst, data, visit, step=step)
 
     def read(self):
         self.line("title")

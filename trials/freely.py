@@ -25,12 +25,13 @@ from pathlib import Path
 
 sys.dont_write_bytecode = True
 
-from closed import Ends, greatest, made, ship, tiny
+from closed import Ends, closed_ends, made, ship, tiny
 from compare import Maker, SearchJudge, text_of
-from free import (FreeMotion, FreeNode, FreeReader, FreeSearch, are_short, counts_of, first_break, free_crane_lines,
-                  free_lists, free_report, freecheck_report, numbers_of, tight_free)
+from free import (FreeMotion, FreeNode, FreeReader, FreeSearch, first_break, free_crane_lines, free_lists, free_report,
+                  freecheck_report, numbers_of, tight_free)
 from packed import Search, bare, least_feasible_end, random_instance, random_node, ring_of
-from reference import (NEVER, PHASES, Crane, Instance, Task, TreeFault, TreeReader, bound_text, crane_lines, dump, end_of,
+from reference import (NEVER, PHASES, Crane, Instance, Task, TreeFault, TreeReader, are_short, bound_text, counts_of,
+                       crane_lines, dump, end_of,
                        instance_of, least_end, plan_text, read_plan, read_ship)
 
 # ---------------------------------------------------------------- rows by hand
@@ -198,8 +199,7 @@ def try_rows():
         assert seen == due, (text, seen, due)
     try_plans()
     try_tracks()
-    try_counts()
-    print(f"{len(SEARCHES)} searches, {len(TREES)} trees, plans, tracks and counts as by hand")
+    print(f"{len(SEARCHES)} searches, {len(TREES)} trees, plans and tracks as by hand")
 
 
 def try_plans():
@@ -246,35 +246,6 @@ def try_tracks():
     # A plan of one way: the crane makes way as late as it may, and here comes back from it.
     assert free_crane_lines(NEAR, [(0, 22), (1, 1)]) == ["crane C1 0:1 1:0 21:0 22:1 42:1",
                                                          "crane C2 0:3 1:2 21:2 22:3 42:3"]
-
-
-# Cranes at bays 1 and 3, two apart: the greatest closed ends by the way alone, with neighbours and with making way, and
-# the least end of all; in any direction or upward.
-COUNTS = [
-    # C2 goes to bay 2, makes way to bay 4 and comes back: 1 and 2 and 2 beside the work of 11.
-    ("to and fro", ship([(2, 10), (2, 1), (2, 1)]), (1, 0, 1), True, [12, 13, 16], 17),
-    # C2 goes to bay 2 and back to 4: 3 beside the work of 10. C1 waits 11, makes way a bay and comes two back.
-    ("one hatch, C2 and then C1", ship([(2, 10), (2, 1)]), (1, 0), False, [11, 12, 13], 14),
-    ("C1 stands while C2 works beside it", ship([(1, 20), (2, 10), (4, 20)]), (0, 1, None), False, [28, 33, 33], 33),
-    ("no cranes say more than the one that is given", ship([(1, 10), (1, 10), (3, 10)]), (0, None, None), False,
-     [16, 16, 16], 20),
-    # Making way alone reaches 26: the third count may say less than the second.
-    ("C2 before C1, a task left", ship([(1, 10), (2, 10), (2, 10)]), (1, None, 0), False, [17, 27, 27], 35),
-    ("one crane amid its bays", made(1, 1, (3,), [(1, 37), (2, 8)], 2), (0, 0), True, [47, 47, 47], 47),
-]
-
-
-def closed_ends(inst, crane, free):
-    return [greatest(lambda v: are_short(inst, counts_of(inst, crane, free, step), v)) for step in (1, 2, 3)]
-
-
-def try_counts():
-    for name, inst, crane, free, due, least in COUNTS:
-        seen, end = closed_ends(inst, crane, free), Ends(inst).least(crane, free)
-        assert (seen, end) == (due, least), (name, seen, end)
-    name, inst, crane, free, *_ = COUNTS[4]
-    alone = counts_of(inst, crane, free)[2]
-    assert greatest(lambda v: alone.is_short((v - 1) // inst.grain * inst.grain)) == 26
 
 
 # ---------------------------------------------------------------- brute force

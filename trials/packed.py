@@ -8,8 +8,8 @@
 `rows`: trees with values and faults that were worked out by hand. `bounds`: on random ships of at most five tasks, no
 packed list says more than the least end of all schedules that keep the rules, one way or not, with the cranes that the
 node has given; nor does a random tree say more than the least end of all that go one way. `side`: SIDE is
-`bench/side.cpp`, built; on random ships, with no plan to begin with, the best or one that ends later, and with several
-numbers of branchings, it must find the end, bound and number of branchings that the search below finds, and the end must
+`bench/side.cpp`, built; on random ships, with no plan to begin with, the best or one that ends later, with several
+numbers of branchings, and counting as much as now or as in an earlier step, it must find the end, bound and number of branchings that the search below finds, and the end must
 be the least of all where it says so; the tree that it writes must be one that such a search may write. With `--wide` the
 ships have 8 to 18 tasks, and the least end isn't known. Status 1 where anything differs.
 """
@@ -231,15 +231,15 @@ def try_random_tree(inst, rng, seed, counts):
 # ---------------------------------------------------------------- the search
 
 class Search:
-    """The search that writes trees of version 3, plain and slow."""
+    """The search that writes trees of version 3, plain and slow. `step`: how much the counts of its nodes know."""
 
-    def __init__(self, inst, given, nodes):
+    def __init__(self, inst, given, nodes, step=3):
         self.inst, self.nodes, self.best = inst, nodes, given
         self.value, self.branched = NEVER, 0
         self.lines = ["QCTREE 3", "up"]
-        self.visit(Node(inst))
+        self.visit(Node(inst, step=step))
         self.lines.append("down")
-        self.visit(Node(inst.mirror))
+        self.visit(Node(inst.mirror, step=step))
         self.lines.append(f"end {self.branched} {bound_text(self.value)}")
 
     @property
@@ -388,14 +388,16 @@ def try_side(side, first, count, wide):
             least = None if wide else least_end(inst)
             for nodes in (0, 1, rng.randint(2, 40), 150 if wide else 20_000):
                 for given in givens(inst, least, rng):
-                    search = Search(inst, NEVER if given is None else given, nodes)
+                    step = rng.choice((1, 2, 3, 3))
+                    search = Search(inst, NEVER if given is None else given, nodes, step)
                     due = [search.kind, f"end {'none' if search.best == NEVER else search.best}",
                            f"bound {bound_text(search.value)}", f"branched {search.branched}"]
-                    words = [side, numbers, "none" if given is None else str(given), str(nodes), written]
+                    words = [side, "--step", str(step), numbers, "none" if given is None else str(given), str(nodes),
+                             written]
                     done = subprocess.run(words, capture_output=True, text=True, timeout=60, check=False)
                     judge = SearchJudge(inst, nodes, given)
                     try:
-                        reader = TreeReader(inst, written.read_bytes(), judge.visit).read()
+                        reader = TreeReader(inst, written.read_bytes(), judge.visit, step=step).read()
                         told = [f"version {reader.version}"] * (reader.version != 3) + judge.complaints
                     except TreeFault as fault:
                         told = [f"{fault.kind} {fault.line}"]
@@ -408,7 +410,7 @@ def try_side(side, first, count, wide):
                     best = wide or search.kind == "Budget" or min(search.best, search.value) == least
                     if done.stdout.splitlines()[:4] != due or told or not (same and best):
                         wrong += 1
-                        print(f"seed {seed}, given {given}, {nodes} branchings: {done.stdout.split()}, due {due}; "
+                        print(f"seed {seed}, given {given}, {nodes} branchings, step {step}: {done.stdout.split()}, due {due}; "
                               f"least end {least}; {told[:2]}", flush=True)
     for what, number in sorted(counts.items()):
         print(f"{number:9} {what}")

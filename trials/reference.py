@@ -328,14 +328,16 @@ def least_end(inst):
 class Count:
     """What the cranes must spend at the least, where each task has the crane given for it or, for None, any.
 
-    Of each crane: `own`, the tasks that it has; `spent`, the ticks that are gone whatever comes, the wait, its own
-    tasks and the travel to them; `low` and `high`, the places between which it needs no further travel. With `free` the plan
-    may go any way, else it goes upward. Without `lines` no crane waits for its neighbours.
+    Of each crane: `own`, the tasks that it has; `works`, whether it has something to do; `spent`, the ticks that are gone
+    whatever comes, the wait, its own tasks and the travel to them; `low` and `high`, the places between which it needs no
+    further travel. With `free` the plan may go any way, else it goes upward. Without `lines` no crane waits for its
+    neighbours.
     """
 
     def __init__(self, inst, crane, free=False, lines=True):
         self.inst, self.free = inst, free
         self.own = [[j for j, v in enumerate(crane) if v == k] for k in range(len(inst.cranes))]
+        self.works = [bool(own) for own in self.own]
         self.left = {}  # the ticks of the tasks without a crane, by their bays
         for task, v in zip(inst.tasks, crane):
             if v is None:
@@ -399,7 +401,7 @@ class Count:
 
     def is_short(self, last):
         """Whether what is left can't be done by that moment."""
-        if any(own and spent > last for own, spent in zip(self.own, self.spent)):
+        if any(works and spent > last for works, spent in zip(self.works, self.spent)):
             return True
         if not self.left:
             return False
@@ -434,14 +436,67 @@ class Count:
         return sum(sorted(differences)[:needed])
 
 
+class Ways(Count):
+    """A count in which a crane goes out of the way of the tasks of a hatch that others have, and comes back to those
+    that it has itself. A crane works too where it only makes way."""
+
+    def __init__(self, inst, crane, free=False):
+        super().__init__(inst, crane, free)
+        self.given = crane
+        hatches = sorted({task.bay for task, v in zip(inst.tasks, crane) if v is not None})
+        for k, data in enumerate(inst.cranes):
+            bays = [inst.tasks[j].bay for j in self.own[k]]
+            usual = self.way(k, bays or [data.bay]) - data.ready
+            ways = [self.hatch_way(k, hatch, bays) for hatch in hatches]
+            bays_moved, low, high = max(ways, key=lambda way: way[0], default=(0, 0, 0))
+            if inst.travel * bays_moved > usual:
+                spent = data.ready + self.ticks(self.own[k]) + inst.travel * bays_moved
+                self.spent[k] = max(self.spent[k], spent)
+                self.low[k], self.high[k], self.works[k] = low, high, True
+
+    def hatch_way(self, k, hatch, bays):
+        """The bays that crane k moves at the least to be where the hatch's tasks want it, one after the other, and at
+        all these bays besides; and the lowest and the highest place that it comes to."""
+        inst, place, moved = self.inst, self.inst.cranes[k].bay, 0
+        low = high = place
+        for task, v in zip(inst.tasks, self.given):
+            if v is None or task.bay != hatch:
+                continue
+            least = hatch + inst.gap * (k - v) if v <= k else -NEVER
+            most = hatch - inst.gap * (v - k) if v >= k else NEVER
+            wanted = min(max(place, least), most)
+            moved += abs(wanted - place)
+            place, low, high = wanted, min(low, wanted), max(high, wanted)
+        top, bottom = max([high] + bays), min([low] + bays)
+        return moved + self.further(top - high, low - bottom, top - place, place - bottom), bottom, top
+
+    def further(self, above, below, to_top, to_bottom):
+        """The bays that it moves further to be so far above and below: there and back, or once to where it ends."""
+        return min(2 * above + 2 * below, to_top + 2 * below, 2 * above + to_bottom)
+
+
+def counts_of(inst, crane, free, step=3):
+    """The counts of which one must be short: where no task has a crane; and with these cranes, by the way of each
+    alone, from the second step on with the time for which neighbours bar it, and in the third with making way too."""
+    return [inst.bare_count, Count(inst, crane, free, lines=step > 1)] + ([Ways(inst, crane, free)] if step > 2 else [])
+
+
+def are_short(inst, counts, v):
+    """Whether nothing ends before v by these counts. All moments may be taken for multiples of the grain."""
+    last = (v - 1) // inst.grain * inst.grain
+    return any(count.is_short(last) for count in counts)
+
+
 # ---------------------------------------------------------------- nodes and bound trees
 
 class Node:
     """A list of decisions ('A', task, crane) and ('O', first, second) of an instance that is read upward, in a tree of
-    that version."""
+    that version. `step`: how much its counts know, where they count at all."""
 
-    def __init__(self, inst, decisions=(), version=3):
-        self.inst, self.decisions, self.version = inst, decisions, version
+    is_free = False
+
+    def __init__(self, inst, decisions=(), version=3, step=3):
+        self.inst, self.decisions, self.version, self.step = inst, decisions, version, step
         self.crane = [None] * len(inst.tasks)
         self.ordered = set(inst.before)
         for kind, first, second in decisions:
@@ -451,7 +506,7 @@ class Node:
                 self.ordered.add((first, second))
 
     def child(self, *decision):
-        return Node(self.inst, self.decisions + (decision,), self.version)
+        return Node(self.inst, self.decisions + (decision,), self.version, self.step)
 
     def forced(self, i, j):
         """By how many ticks j starts after i at the least, or None."""
@@ -506,13 +561,12 @@ class Node:
 
     def is_closed(self, v):
         """What `W v` asks in the third version: a count of the cranes' time shows that nothing ends before v, with the
-        cranes that the tasks have, or with none given. All moments may be taken for multiples of the grain."""
-        last = (v - 1) // self.inst.grain * self.inst.grain
-        return self.inst.bare_count.is_short(last) or self.count.is_short(last)
+        cranes that the tasks have, or with none given."""
+        return are_short(self.inst, self.counts, v)
 
     @cached_property
-    def count(self):
-        return Count(self.inst, self.crane)
+    def counts(self):
+        return counts_of(self.inst, self.crane, self.is_free, self.step)
 
     def lacks_room(self, v):
         """Whether a crane can't do its own tasks before v, or all of them together not the tasks without a crane."""
@@ -597,10 +651,11 @@ class TreeFault(Exception):
 
 class TreeReader:
     """Reads a bound tree. `visit`, where it is given, gets each node with its line's kind and value. `newest` is the
-    newest version that is known: a program that writes trees of version 2 has never heard of a `Q`."""
+    newest version that is known: a program that writes trees of version 2 has never heard of a `Q`. `step`: how much
+    the counts of its nodes know."""
 
-    def __init__(self, inst, data, visit=None, newest=3):
-        self.inst, self.data, self.visit, self.newest = inst, data, visit, newest
+    def __init__(self, inst, data, visit=None, newest=3, step=3):
+        self.inst, self.data, self.visit, self.newest, self.step = inst, data, visit, newest, step
         self.number, self.place = 0, 0
         self.value, self.branched, self.version = NEVER, 0, None
 
@@ -608,9 +663,9 @@ class TreeReader:
         """Goes through the whole file; raises the first fault."""
         self.version = int(self.line("title"))
         self.line("up")
-        self.part(Node(self.inst, version=self.version))
+        self.part(Node(self.inst, version=self.version, step=self.step))
         self.line("down")
-        self.part(Node(self.inst.mirror, version=self.version))
+        self.part(Node(self.inst.mirror, version=self.version, step=self.step))
         return self.finish()
 
     def finish(self):
@@ -889,14 +944,14 @@ def sheet_report(ship, stow, inst, data):
     return 0, lines
 
 
-def check_report(inst, data, tree, newest=3):
+def check_report(inst, data, tree, newest=3, step=3):
     """The report on a plan's file, or None for `-`, with a tree."""
     if data is not None:
         plan, _, refused = refusal(inst, data)
         if refused:
             return refused
     try:
-        value = TreeReader(inst, tree, newest=newest).read().value
+        value = TreeReader(inst, tree, newest=newest, step=step).read().value
     except TreeFault as fault:
         return 7, [f"BadTree {fault.kind} {fault.line}"]
     if data is None:
