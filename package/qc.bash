@@ -1,5 +1,5 @@
 # Completion of qc for bash: its commands as qc --help lists them, the names of files, -q ahead of a command, and
-# --nodes and --from of plan.
+# --nodes and --from of plan and free.
 
 _qc() {
     local word=${COMP_WORDS[COMP_CWORD]} before=${COMP_WORDS[COMP_CWORD - 1]}
@@ -19,13 +19,13 @@ _qc() {
     fi
     case ${COMP_WORDS[first]}:$before:$word in
         make:*) return ;;
-        plan:--from:=) word= ;;
-        plan:--from:*) ;;
-        plan:--nodes:= | plan:--nodes:*)
+        plan:--from:= | free:--from:=) word= ;;
+        plan:--from:* | free:--from:*) ;;
+        plan:--nodes:= | plan:--nodes:* | free:--nodes:= | free:--nodes:*)
             mapfile -t COMPREPLY < <(compgen -W '0 1000 20000 100000' -- "${word#=}")
             return
             ;;
-        plan:*:-*)
+        plan:*:-* | free:*:-*)
             mapfile -t COMPREPLY < <(compgen -W '--nodes --from --help' -- "$word")
             return
             ;;

@@ -1,5 +1,5 @@
 # Completion of qc for fish: its commands as qc --help lists them, the names of files, -q ahead of a command, and
-# --nodes and --from of plan.
+# --nodes and --from of plan and free.
 
 # The words behind qc and -q, without the one that is typed.
 function __qc_words
@@ -34,5 +34,5 @@ complete -c qc -n __qc_wants_command -f -l version -d 'which program this is'
 complete -c qc -n '__qc_wants_command; and test (count (commandline -opc)) -eq 1' -f -s q -d 'say nothing on standard error'
 complete -c qc -f -l help -d 'what the program or a command does'
 complete -c qc -n '__qc_is make' -f
-complete -c qc -n '__qc_is plan' -l nodes -x -a '0 1000 20000 100000' -d 'at most so many branchings'
-complete -c qc -n '__qc_is plan' -l from -r -F -d 'a plan to begin with'
+complete -c qc -n '__qc_is plan; or __qc_is free' -l nodes -x -a '0 1000 20000 100000' -d 'at most so many branchings'
+complete -c qc -n '__qc_is plan; or __qc_is free' -l from -r -F -d 'a plan to begin with'

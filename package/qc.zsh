@@ -1,6 +1,6 @@
 #compdef qc
 # Completion of qc for zsh: its commands as qc --help lists them, the names of files, -q ahead of a command, and
-# --nodes and --from of plan.
+# --nodes and --from of plan and free.
 
 _qc() {
     local first=2
@@ -17,7 +17,7 @@ _qc() {
     shift $(( first - 1 )) words
     (( CURRENT -= first - 1 ))
     case $name in
-        plan)
+        plan|free)
             _arguments '--nodes=[at most so many branchings]:N:(0 1000 20000 100000)' \
                 '--from=[a plan to begin with]:OWN:_files' '--help[what the command does]' '*:file:_files'
             ;;

@@ -31,8 +31,11 @@ DATA = ROOT / "crates/qc_rows/data"
 sys.path.append(str(ROOT / "fuzz"))
 
 from faults import list_fault, ship_or_fault
-from fuzz import ROLES, case_input
+from free import freecheck_report
+from fuzz import ROLES as FUZZED, case_input
 from reference import NEVER, TreeFault, TreeReader, check_report, end_of, instance_of, refusal, show_report, tasks_report
+
+ROLES = {**FUZZED, "freecheck": FUZZED["check"]}
 
 # The cases of crates/qc_rows/data of which `--write` makes cut cases: the files of the worked examples, a file that
 # several of them share once. The command is that of the new case.
@@ -53,6 +56,9 @@ WORKED = {
         check/work-0 check/line-too-long check/end-branchings check/task-leading-zero check/not-forced check/work-short
         check/unknown-task check/end-value check/empty-line-after-end check/berths check/berths-first-version
         check/plan-berths check/plan-berths-first-version check/plan-berths-bad-tree check/no-tasks check/packed""",
+    "freecheck tree": """freecheck/to-and-fro freecheck/to-and-fro-tree-alone freecheck/both-cranes-packed freecheck/infeasible
+        freecheck/ring freecheck/byte-after-end freecheck/not-conflict-turned""",
+    "freecheck plan": "freecheck/to-and-fro freecheck/to-and-fro-too-soon",
 }
 
 
@@ -90,7 +96,7 @@ def read_case(path):
         return None, None
     roles = ROLES[words[0]]
     names, more = words[1:len(roles) + 1], words[len(roles) + 1:]
-    minus = words[0] == "check" and names[2:3] == ["-"]
+    minus = words[0] in ("check", "freecheck") and names[2:3] == ["-"]
     is_plain = len(names) == len(roles) == len(set(names)) and not any(
         word.startswith("-") and not (minus and word == "-") for word in names)
     takes_more = words[0] == "plan" and len(more) == 2 and more[0] == "--nodes" and more[1].isdigit() and (
@@ -142,7 +148,7 @@ def first_fault(case):
 
 
 def answer(case):
-    """Status and report of `tasks`, `show` or `check`, or of a refusal of `plan`; None where `plan` goes on."""
+    """Status and report of `tasks`, `show`, `check` or `freecheck`, or of a refusal of `plan`; None where `plan` goes on."""
     inst, refused = first_fault(case)
     if refused or case.command == "plan":
         return refused
@@ -153,9 +159,19 @@ def answer(case):
         return 3, ["ReadFault plan"]
     if case.command == "show":
         return show_report(inst, plan)
+    if case.command == "freecheck":
+        return free_answer(inst, plan, case.files.get("tree"))
     if "tree" not in case.files:
         return refusal(inst, plan)[2] if plan is not None and refusal(inst, plan)[2] else (3, ["ReadFault tree"])
     return check_report(inst, None if case.minus else plan, case.files["tree"])
+
+
+def free_answer(inst, plan, tree):
+    """Status and report of `freecheck`; a tree that isn't there is missed only where the plan holds."""
+    if tree is not None:
+        return freecheck_report(inst, plan, tree)
+    refused = freecheck_report(inst, plan, b"") if plan is not None else (7, [])
+    return (3, ["ReadFault tree"]) if refused[0] == 7 else refused
 
 
 def judge_plan(case, seen, left):

@@ -35,6 +35,7 @@ BASES = {
 
 TASKS = "tasks ship.toml stow.csv"
 CHECK = "check ship.toml stow.csv plan.csv tree.txt"
+FREE_CHECK = "freecheck ship.toml stow.csv plan.csv tree.txt"
 SHOW = "show ship.toml stow.csv plan.csv"
 PLAN = "plan ship.toml stow.csv new.csv newtree.txt"
 WATCH = "watch ship.toml log.txt"
@@ -534,7 +535,8 @@ MISTAKES = [
     plan("to and fro", [("10-LD,C1,22,42", "10-LD,C1,34,54"), ("14-DD,C2,43,53", "14-DD,C1,23,33")],
          "Broken OneWay 10-LD 14-DD",
          ["qc: plan.csv, line 3, record 3: the plan can be worked, but its cranes go to and fro: from 14-DD to 10-LD the way is "
-          "down, and other tasks go up; no bound speaks of such a plan; qc sheet, qc picture and qc report print it"],
+          "down, and other tasks go up; only a tree of all feasible plans speaks of such a plan, and qc freecheck judges it; qc "
+          "sheet, qc picture and qc report print it"],
          base="restows", words=SHOW, status=13),
     # ---- the tree
     tree("Windows' lines", ("crlf",), "BadTree Spelling 1",
@@ -558,6 +560,15 @@ MISTAKES = [
          ['qc: tree.txt, line 11: "": the file goes on behind its last line: delete what stands there, or plan again']),
     tree("a long line", [("P 1 2\n", "P 1 2" + " 1" * 700 + "\n")], "BadTree LineTooLong 5",
          ["qc: tree.txt, line 5: " + cut("P 1 2" + " 1" * 700) + ": the line has more than 1200 bytes, so it is none of a tree"]),
+    tree("a tree of all plans", "QCFREE 1\nQ 1 2\nend 0 31\n", "BadTree Spelling 1",
+         ["qc: tree.txt, line 1: this is a tree of all feasible plans, whichever way their cranes go: check it with qc "
+          "freecheck"]),
+    ("a tree of one-way plans", "first", FREE_CHECK, {}, 7, "BadTree Spelling 1",
+     ["qc: tree.txt, line 1: this is a tree of plans that go one way: check it with qc check"]),
+    ("an order of tasks without cranes", "first", FREE_CHECK, {"tree.txt": "QCFREE 1\nO 1 2\nP\nP\nend 1 0\n"}, 7,
+     "BadTree NotConflict 2",
+     ['qc: tree.txt, line 2: "O 1 2": it branches on the order of two tasks that can run together by their cranes so far, or '
+      'names the higher one first', OF_OTHERS]),
     ("the tree of another ship", "restows", "check ship.toml stow.csv - tree.txt",
      {"tree.txt": ("examples", "first/tree.txt")}, 7, "BadTree Place 6",
      ['qc: tree.txt, line 6: "down": another line is due here: the file was changed, or is no tree of this ship and list',

@@ -9,7 +9,7 @@ use Rattle.qc_close.proofs.KeptLemmas.{closed_falls}
 use Rattle.qc_close.proofs.LimitLemmas.{closed_soon}
 use Rattle.qc_model.specs.declared.decision.Decision.{Decision}
 use Rattle.qc_model.specs.declared.limits.TheConstants.{MOST_START}
-use Rattle.qc_model.specs.Assignments.{cranes_of}
+use Rattle.qc_model.specs.Assignments.{AreInRange, cranes_of}
 use Rattle.qc_model.specs.Closed.{is_closed}
 use Rattle.qc_model.specs.Closing.{IsWorkBound, IsWorkLate}
 use Rattle.qc_model.specs.Instance.{InstanceView, Valid}
@@ -39,10 +39,10 @@ module _ (crew : CrewView) (inst : InstanceView) (ds : List Decision) (of : IsCr
   never_late late = late.late
 
   -- an end that no closed one comes up to
-  pub work_early : (end : ℕ) → Valid crew.inst → 0 < end
+  pub work_early : (end : ℕ) → Valid crew.inst → AreInRange crew.inst crew.cranes → 0 < end
       → (end ≤ MOST_START → is_closed crew.inst crew.turn crew.cranes end ≡ false) → ¬ IsWorkLate inst ds (Least end)
-  work_early end valid some none late = elim (cases_lt MOST_START end) [
-    | inl far ↦ omega (arith, closed_soon inst inst.turn (cranes_of inst ds) late.end home late.holds, late.late, far)
+  work_early end valid range some none late = elim (cases_lt MOST_START end) [
+    | inl far ↦ omega (arith, closed_soon inst inst.turn (cranes_of inst ds) late.end home (moved (λ c. AreInRange c.inst c.cranes) range) late.holds, late.late, far)
     | inr soon ↦
         let closed = closed_falls inst inst.turn (cranes_of inst ds) end late.end home late.late late.holds in
         false≢true (sym (moved (λ c. is_closed c.inst c.turn c.cranes end ≡ false) (none soon)) ∙ closed)

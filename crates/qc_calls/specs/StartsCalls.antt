@@ -5,6 +5,9 @@ use Rattle.qc_arena.specs.Arcs.{Arcs, leaving}
 use Rattle.qc_arena.specs.declared.edge.Edge.{Edge}
 use Rattle.qc_num.specs.declared.bound.Bound.{Bound}
 use Rattle.qc_model.specs.declared.decision.Decision.{Decision}
+use Rattle.qc_model.specs.declared.turn.Turn.TheVariants.{Free}
+use Rattle.qc_model.specs.Assignments.{cranes_of}
+use Rattle.qc_model.specs.Closed.{is_closed}
 use Rattle.qc_model.specs.Closing.{IsClosable, IsWorkBound}
 use Rattle.qc_model.specs.Instance.{InstanceView}
 use Rattle.qc_model.specs.Nodes.{HasStarts, IsComplete, IsNodeEnd, IsSettled, assigned}
@@ -12,8 +15,9 @@ use Rattle.qc_dist.specs.Node.{IsOpen}
 use Rattle.qc_starts.specs.Seen.{HasNone, HoldsForced, IsCycle, IsNodeStart, IsReached, IsStep, IsWhy, first_of}
 use Rattle.qc_bounds.specs.declared.leaves.LeafKind.{LeafKind}
 use Rattle.qc_bounds.specs.Closed.{IsClosedBy, IsSpentBy}
+use Rattle.qc_close.specs.Lasts.{IsLatest}
 use Rattle.qc_calls.specs.declared.row.StartsCall.{StartsCall}
-use Rattle.qc_calls.specs.declared.row.StartsCall.TheVariants.{Decide, Retract, Stuck, Mark, Start, Cell, Ends, HasCrane, Settles, Complete, Leaving, WhyPath, Ring, WorkBound, Close, Spent}
+use Rattle.qc_calls.specs.declared.row.StartsCall.TheVariants.{Decide, Retract, Stuck, Mark, Start, Cell, Ends, HasCrane, Settles, Complete, Leaving, WhyPath, Ring, WorkBound, FreeBound, Close, Spent}
 
 -- the tasks of the call are there, what it decides is open, and where it speaks of starts or of a ring
 -- there are such
@@ -68,6 +72,7 @@ IsAnswered inst ds (Leaving i arcs) = HandsOut inst ds i arcs.now
 IsAnswered inst ds (WhyPath path) = IsWhy inst ds path.now
 IsAnswered inst ds (Ring count) = HasRingOf inst ds count
 IsAnswered inst ds (WorkBound bound) = IsWorkBound inst ds bound
+IsAnswered inst ds (FreeBound bound) = IsLatest (is_closed inst Free (cranes_of inst ds)) bound
 IsAnswered inst ds (Close u leaf) = MatchOption leaf (¬ IsClosable inst ds u) (HasLeaf inst ds u)
 IsAnswered inst ds (Spent leaf) = HasSpent inst ds leaf
 

@@ -1,8 +1,11 @@
 //! Calls on the work of nodes and the leaves that close them, and what they must answer. Tasks and
 //! cranes are counted from 0.
 
-use crate::files::{APART, AT_2_AND_6, AT_2_AND_14, DECK_HOLD, DECK_HOLD_AND_14, LATE, ONE, TWO};
-use crate::row::StartsCall::{Close, Decide, Ends, Retract, Spent, WorkBound};
+use crate::files::{
+    APART, AT_2_6_AND_14, AT_2_AND_6, AT_2_AND_14, DECK_AND_DECK_HOLD, DECK_HOLD, DECK_HOLD_AND_10,
+    DECK_HOLD_AND_14, DECK_HOLD_AT_6, HOLD_TWICE_AT_6, LATE, ONE, QUICK_HOLD, TWO,
+};
+use crate::row::StartsCall::{Close, Decide, Ends, FreeBound, Retract, Spent, WorkBound};
 use crate::row::StartsRow;
 use qc_bounds::LeafKind;
 use qc_model::Decision::Assign;
@@ -55,10 +58,38 @@ pub const CLOSED: &[StartsRow] = &[
     },
     // By 16 both cranes have 32 ticks for 30 of work, the bay that one goes up at the least, and the 2 bays
     // that they go down, since both must come to the first bay. With the task at the far bay the first crane
-    // goes 3 bays and works 10: by 18 it can do 5 of the other 20 ticks. The second crane makes way for it up
-    // to the sixth bay, 3 bays, and from its berth goes 2 down: by 18 it can do 13. By 19 they can do 20.
+    // goes 3 bays and works 10: by 18 it can do 5 of the other 20 ticks. The second crane goes 2 bays down to
+    // them, and 3 up from its berth to make way for the first: by 18 it can do 13 of them.
     row! { "work-shared-with-a-busy-crane": APART, DECK_HOLD_AND_14;
         WorkBound(17), Decide(Assign(2, 0), Raised), WorkBound(19), Retract(0), WorkBound(17),
+    },
+    // The first crane works 20 ticks at bay 1, and can't come to the last bay while the second works 10 at
+    // bay 2: by 32 it has no tick left for the last bay's 20, and the second crane, which goes a bay down and
+    // 2 up, has 19.
+    row! { "waits-for-its-neighbour": TWO, AT_2_6_AND_14;
+        Decide(Assign(0, 0), Raised), Decide(Assign(1, 1), Raised), WorkBound(33),
+    },
+    // The second crane comes a bay down, works 10 ticks and goes 2 bays up, out of the way of the first.
+    row! { "makes-way-upward": QUICK_HOLD, DECK_HOLD_AT_6;
+        Decide(Assign(0, 1), Raised), Decide(Assign(1, 0), Raised), WorkBound(13), FreeBound(13),
+    },
+    // It comes a bay down and works 10 ticks, goes 2 bays up, and comes 2 bays down again to work a tick: no
+    // crane that goes one way can.
+    row! { "makes-way-and-comes-back": QUICK_HOLD, HOLD_TWICE_AT_6;
+        Decide(Assign(0, 1), Raised), Decide(Assign(1, 0), Raised), Decide(Assign(2, 1), Cycle),
+        FreeBound(16),
+    },
+    // With the first task on the first crane the count lets 15 pass. But if no task had a crane both would have
+    // to come to the first bay for its 20 ticks: the second goes 2 bays down, and by 15 they have 30 ticks
+    // together for 30 of work and this way.
+    row! { "closed-whichever-cranes-tasks-have": TWO, DECK_HOLD_AND_10;
+        WorkBound(16), Decide(Assign(0, 0), Raised), WorkBound(16),
+    },
+    // Each crane waits while the other works beside it: 10 ticks of its own, 10 of the other's, and one of
+    // travel. By 26 the first has 5 left for the third task, and the second, which goes a bay up to it, 4. Where
+    // each goes its longest way it comes past that bay, so the ways alone say less.
+    row! { "a-wait-says-more-than-a-way": TWO, DECK_AND_DECK_HOLD;
+        Decide(Assign(0, 1), Raised), Decide(Assign(2, 0), Raised), WorkBound(27),
     },
     // The first crane is ready at 100. Without a task it isn't waited for: the second goes 3 bays and works
     // 40 ticks. With the first task it goes 1 bay and works 20.

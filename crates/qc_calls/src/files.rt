@@ -24,6 +24,12 @@ pub const TWO: &str = ship!(
     "{name = 'C1', bay = 1}, {name = 'C2', bay = 3}"
 );
 
+// The same cranes, and a move in the hold takes 1 tick.
+pub const QUICK_HOLD: &str = concat!(
+    "hatches = [2, 6, 10, 14]\ntravel = 1\ndeck_move = 10\nhold_move = 1\nmargin = 1\n",
+    "crane = [{name = 'C1', bay = 1}, {name = 'C2', bay = 3}]\n"
+);
+
 pub const APART: &str = ship!(
     "margin = 1\napart = [[2, 14]]",
     "{name = 'C1', bay = 1}, {name = 'C2', bay = 3}"
@@ -65,3 +71,14 @@ pub const DECK_HOLD: &str = list!("A,D,020082" "B,D,020002");
 pub const DECK_HOLD_AND_14: &str = list!("A,D,020082" "B,D,020002" "C,D,140082");
 // The tasks 2-DD, 6-DD, 10-DD and 14-DD of 10 ticks.
 pub const ONE_A_BAY: &str = list!("A,D,020082" "B,D,060082" "C,D,100082" "D,D,140082");
+// The tasks 2-DD of 20, 6-DD of 10 and 14-DD of 20 ticks.
+pub const AT_2_6_AND_14: &str =
+    list!("A,D,020082" "B,D,020084" "C,D,060082" "D,D,140082" "E,D,140084");
+// The tasks 6-DD and 6-DH of one move.
+pub const DECK_HOLD_AT_6: &str = list!("A,D,060082" "B,D,060002");
+// The tasks 6-DD, 6-DH and 6-LH of one move.
+pub const HOLD_TWICE_AT_6: &str = list!("A,D,060082" "B,D,060002" "C,L,060002");
+// The tasks 2-DD, 2-DH and 10-DD of 10 ticks.
+pub const DECK_HOLD_AND_10: &str = list!("A,D,020082" "B,D,020002" "C,D,100082");
+// The tasks 2-DD, 6-DD and 6-DH of 10 ticks.
+pub const DECK_AND_DECK_HOLD: &str = list!("A,D,020082" "B,D,060082" "C,D,060002");

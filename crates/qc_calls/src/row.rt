@@ -88,6 +88,8 @@ pub enum StartsCall {
     /// The number of tasks in the ring.
     Ring(usize),
     WorkBound(Tick),
+    /// The last end at which the assignment is closed, where cranes go to and fro.
+    FreeBound(Tick),
     /// The bound at which the node may be closed, and the leaf.
     Close(Bound, Option<LeafKind>),
     Spent(LeafKind),

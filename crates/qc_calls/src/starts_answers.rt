@@ -6,6 +6,10 @@ ghost use Rattle.qc_dist.specs.Node.{IsOpen};
 ghost use Rattle.qc_model.specs.Closing.{IsClosable, IsWorkBound};
 ghost use Rattle.qc_starts.specs.Seen.{IsReached, IsStep, IsWhy};
 ghost use Rattle.qc_close.specs.Crews.{IsCrewOf};
+ghost use Rattle.qc_close.specs.Lasts.{IsLatest};
+ghost use Rattle.qc_model.specs.Assignments.{cranes_of};
+ghost use Rattle.qc_model.specs.Closed.{is_closed};
+ghost use Rattle.qc_model.specs.declared.turn.Turn.TheVariants.{Free};
 ghost use Rattle.qc_calls.specs.StartsCalls.{CanBeMade, HandsOut, HasLeaf, HasRingOf, HasSpent, IsAnswered, after};
 
 use crate::answers::{are_tasks, is_crane, is_task};
@@ -55,7 +59,8 @@ pub fn can_be_made(starts: &Starts, call: StartsCall) -> bool
         StartsCall::HasCrane(j, _) | StartsCall::Leaving(j, _) => is_task(inst, j),
         StartsCall::Settles(i, j, _) => are_tasks(inst, i, j),
         StartsCall::Stuck(_) | StartsCall::Mark(_) | StartsCall::Complete(_) => true,
-        StartsCall::WorkBound(_) | StartsCall::Close(_, _) | StartsCall::Spent(_) => true,
+        StartsCall::WorkBound(_) | StartsCall::FreeBound(_) => true,
+        StartsCall::Close(_, _) | StartsCall::Spent(_) => true,
     }
 }
 
@@ -107,18 +112,37 @@ fn is_ring_of(alloc: Global, starts: &Starts, count: usize) -> Result<bool, OutO
     Ok(path.len() == count)
 }
 
-/// The cranes of the tasks, by the decisions.
-fn crew_of(alloc: Global, starts: &Starts) -> Result<Crew, OutOfMemory>
-    ensures { IfOk result (λ crew. IsCrewOf crew starts.now.inst starts.now.decisions) }
+/// The cranes of the tasks, by the decisions, where cranes turn so.
+fn crew_by(alloc: Global, starts: &Starts, turn: Turn) -> Result<Crew, OutOfMemory>
+    ensures { IfOk result (λ crew. crew ≡ record {
+      inst = starts.now.inst;
+      turn = turn;
+      cranes = cranes_of starts.now.inst starts.now.decisions;
+    }) }
 {
-    let inst = starts.instance();
-    let mut crew = Crew::open(alloc, inst, inst.turn())?;
-    for task in 0..inst.task_count() {
+    let mut crew = Crew::open(alloc, starts.instance(), turn)?;
+    for task in 0..starts.instance().task_count() {
         if let Some(crane) = starts.crane_of(task) {
             crew.put(task, crane);
         }
     }
     Ok(crew)
+}
+
+/// The same where they turn as the instance says.
+fn crew_of(alloc: Global, starts: &Starts) -> Result<Crew, OutOfMemory>
+    ensures { IfOk result (λ crew. IsCrewOf crew starts.now.inst starts.now.decisions) }
+{
+    crew_by(alloc, starts, starts.instance().turn())
+}
+
+/// Whether this is the last end at which the assignment is closed, where cranes go to and fro.
+fn is_free_bound(alloc: Global, starts: &Starts, bound: Tick) -> Result<bool, OutOfMemory>
+    ensures { IfOk result (λ is. IsTrue is → IsLatest
+        (is_closed starts.now.inst Free (cranes_of starts.now.inst starts.now.decisions)) bound) }
+{
+    let crew = crew_by(alloc, starts, Turn::Free)?;
+    Ok(crew.latest_closed() == bound)
 }
 
 /// Whether the work of the node fits no sooner than behind this end.
@@ -185,6 +209,7 @@ pub fn answers<L: Ledger>(
         StartsCall::WhyPath(tasks) => is_why(alloc, starts, tasks),
         StartsCall::Ring(count) => is_ring_of(alloc, starts, count),
         StartsCall::WorkBound(bound) => is_work_bound(alloc, starts, bound),
+        StartsCall::FreeBound(bound) => is_free_bound(alloc, starts, bound),
         StartsCall::Close(bound, leaf) => is_closed_by(alloc, starts, bound, leaf),
         StartsCall::Spent(leaf) => is_spent_by(alloc, starts, leaf),
     }

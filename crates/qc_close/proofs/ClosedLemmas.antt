@@ -1,9 +1,9 @@
 -- No schedule that follows an assignment ends before an end at which it is closed.
-use Rattle.std.proofs.Common.{◌≡◌, ℕ, ℤ, zero, suc, ◌+◌, ◌-◌, ◌*◌, ◌<◌, ◌≤◌, inl, inr, Bool, true, false, not, ◌&&◌, eqb, leb, cond, List, [], ◌∷◌, ◌++◌, length, get_or, map, max, min, replicate, reverse, Option, None, Some, refl, ap, sym, subst, ◌∙◌, arith, filter, is_none, nat_lt, sum, sum_by, count_by}
+use Rattle.std.proofs.Common.{◌≡◌, ℕ, ℤ, zero, suc, ◌+◌, ◌-◌, ◌*◌, ◌<◌, ◌≤◌, inl, inr, Bool, true, false, not, ◌&&◌, ◌||◌, eqb, leb, cond, List, [], ◌∷◌, ◌++◌, length, get_or, map, max, min, replicate, reverse, Option, None, Some, refl, ap, sym, subst, ◌∙◌, arith, filter, is_none, nat_lt, sum, sum_by, count_by}
 use Prim.Native.Nat.{◌∣◌}
 use mathlib.Core.List.{reverse-cons}
 use Rattle.std.proofs.Math.Nat.{dvd-add, dvd-mul_right_of_dvd, dvd-zero, mul-add, mul-le-mul_left, mul-zero}
-use Rattle.std.proofs.lemmas.Bool.{and_from, and_parts, cases_Bool, cases_lt, cond_both, eq-eqb, eqb-true, le-leb, le-ltb, leb-true, lt-ltb, ltb-true, not-true, or_cases, true≢false}
+use Rattle.std.proofs.lemmas.Bool.{and_from, and_parts, cases_Bool, cases_lt, cond-true, cond_both, eq-eqb, eqb-true, le-leb, le-ltb, leb-true, lt-ltb, ltb-true, not-true, or_cases, true≢false}
 use Rattle.std.proofs.lemmas.Int.{ints}
 use Rattle.std.proofs.lemmas.List.{get_or_past, length-map, length-reverse}
 use Rattle.std.proofs.lemmas.List.Sums.{count_by-le-length, sum-map, sum_by-cons}
@@ -16,7 +16,7 @@ use Rattle.qc_model.specs.declared.frame.Frame.{Frame}
 use Rattle.qc_model.specs.declared.schedule.Slot.{Slot}
 use Rattle.qc_model.specs.declared.turn.Turn.{Turn}
 use Rattle.qc_model.specs.Assignments.{Follows, crane_in, no_cranes}
-use Rattle.qc_model.specs.Closed.{IsClosedBound, Try, along, bays_to, fewest, first, grain, has_room, is_closed, is_served, is_short, is_short_before, last_before, left_at, left_bays, leg, legs, lists_to, load, most, numbers, room, suffices, try_of, work_at}
+use Rattle.qc_model.specs.Closed.{IsClosedBound, Try, along, bays_to, fewest, first, grain, has_room, is_closed, is_served, is_short, is_short_along, is_short_before, last_before, left_at, left_bays, leg, legs, lists_to, load, most, numbers, room, suffices, try_of, try_with, work_at}
 use Rattle.qc_model.specs.Barred.{all_done, barred_frame, barring, both_done, done_in, lies, own_or_left, soonest}
 use Rattle.qc_model.specs.Frames.{GoesBy, frame, frame_of, own}
 use Rattle.qc_model.specs.Instance.{InstanceView, Valid, bay_of, crane, no_crane, ticks_of}
@@ -30,6 +30,9 @@ use Rattle.qc_close.proofs.BarredLemmas.{among_done, barred_time}
 use Rattle.qc_close.proofs.FrameLemmas.{HasTime, at_bay, bay_at, beside, does_open, feasible_by, some_term}
 use Rattle.qc_close.proofs.GrainLemmas.{AreMultiples, grain_is, multiple_to}
 use Rattle.qc_close.proofs.LoopLemmas.{least_steps}
+use Rattle.qc_model.specs.Ways.{frame_along, longest_way, way_frame}
+use Rattle.qc_model.specs.declared.way.Way.{Way}
+use Rattle.qc_close.proofs.WayLemmas.{way_time}
 use Rattle.qc_close.proofs.Members.{Among, among_either, among_filter, among_first, among_flat, among_map, among_range, among_second, any_at, any_from, filter_among, map_among, range_among}
 
 -- ---- bays in the order in which cranes come to them
@@ -123,24 +126,19 @@ among_lists most f (x ∷ xs) h =
 -- ---- the cranes that come to a bay
 
 module _ (inst : InstanceView) (turn : Turn) (cranes : List (Option ℕ)) (sched : List Slot) (valid : Valid inst)
-    (g : GoesBy turn inst sched) (follows : Follows inst cranes sched) where
+    (g : GoesBy turn inst sched) (follows : Follows inst cranes sched) (fr : ℕ → Frame)
+    (time : (w : ℕ) → HasTime inst turn cranes sched valid g follows w (fr w)) where
   abbrev ws : List ℕ
   ws = crane_numbers inst
 
   abbrev js : List ℕ
   js = task_numbers inst
 
-  abbrev fr : ℕ → Frame
-  fr w = barred_frame inst turn cranes w
-
   abbrev opens : ℕ → ℕ → Bool
   opens w j = does_open inst turn cranes sched valid g follows w j
 
   abbrev at : ℕ → ℕ
   at j = bay_at inst turn cranes sched valid g follows 0 j
-
-  abbrev time : (w : ℕ) → HasTime inst turn cranes sched valid g follows w (fr w)
-  time w = barred_time inst turn cranes sched valid g follows w
 
   abbrev far : ℕ → ℕ
   far w = (time w).far
@@ -274,7 +272,7 @@ module _ (inst : InstanceView) (turn : Turn) (cranes : List (Option ℕ)) (sched
   comers way x = count_by (λ w. nat_lt 0 (over way x w)) ws
 
   abbrev tried : ℕ → Try
-  tried tick = try_of inst turn cranes tick
+  tried tick = try_with inst cranes fr tick
 
   -- what crane w has still to go beyond bay x
   abbrev ahead : Direction → ℕ → ℕ → ℕ
@@ -498,6 +496,13 @@ module _ (inst : InstanceView) (turn : Turn) (cranes : List (Option ℕ)) (sched
 
 -- ---- multiples of the grain
 
+map_range : {X : Type 0} (f g : ℕ → X) (a n : ℕ) → ((k : ℕ) → k < a + n → f k ≡ g k)
+    → map f (range_with_len a n) ≡ map g (range_with_len a n)
+map_range f g a zero h = refl
+map_range f g a (suc n) h =
+    ap (λ y. y ∷ map f (range_with_len (a + 1) n)) (h a (omega arith))
+    ∙ ap (λ ys. g a ∷ ys) (map_range f g (a + 1) n (λ k low. h k (omega (arith, low))))
+
 dvd_sum : (g : ℕ) (f : ℕ → ℕ) (xs : List ℕ) → ((x : ℕ) → Among xs x → g ∣ f x) → g ∣ sum_by f xs
 dvd_sum g f [] h = dvd-zero g
 dvd_sum g f (x ∷ xs) h =
@@ -593,6 +598,14 @@ module _ (inst : InstanceView) (g : ℕ) (grain : AreMultiples inst g) where
         one n (inl e) = subst (λ (n : ℕ). g ∣ n) e (dvd_gone turn w (own inst cranes w) (λ j a. in_all _ j a))
         one n (inr a) = among_done inst turn cranes w (λ (n : ℕ). g ∣ n) dvd_done (own_or_left inst cranes w) n a
 
+    dvd_way : (way : Way) → g ∣ (frame_along inst turn cranes w way).gone
+    dvd_way way =
+        dvd_max (barred_frame inst turn cranes w).gone _ dvd_barred
+        (dvd_add3 (dvd_ready w) (dvd_ticks (own inst cranes w) (λ j a. in_all _ j a)) (dvd-mul_right_of_dvd g grain.travel way.bays))
+      where
+        dvd_add3 : {a b c : ℕ} → g ∣ a → g ∣ b → g ∣ c → g ∣ a + b + c
+        dvd_add3 p q r = dvd-add g (dvd-add g p q) r
+
 module _ (inst : InstanceView) (turn : Turn) (cranes : List (Option ℕ)) (sched : List Slot) (valid : Valid inst)
     (goes : GoesBy turn inst sched) (follows : Follows inst cranes sched) (g : ℕ) (grain : AreMultiples inst g)
     (end : ℕ) (early : ends inst sched < end) where
@@ -602,35 +615,70 @@ module _ (inst : InstanceView) (turn : Turn) (cranes : List (Option ℕ)) (sched
   abbrev work : ℕ → ℕ
   work w = beside inst turn cranes sched valid goes follows w
 
-  abbrev has : (w : ℕ) → HasTime inst turn cranes sched valid goes follows w (barred_frame inst turn cranes w)
-  has w = barred_time inst turn cranes sched valid goes follows w
+  abbrev Time : ℕ → Frame → Type 0
+  Time w fr = HasTime inst turn cranes sched valid goes follows w fr
 
   -- what is a multiple and over when the schedule ends is so by the tick
   by_tick : (n : ℕ) → g ∣ n → n ≤ ends inst sched → n ≤ tick
   by_tick n divides low = multiple_to g (end - 1) n grain.some divides (omega (arith, low, early))
 
-  gone_divides : (w : ℕ) → g ∣ (barred_frame inst turn cranes w).gone
-  gone_divides w = dvd_barred inst g grain turn cranes w
+  -- with frames that the cranes have the time for, and that are multiples
+  module _ (fr : ℕ → Frame) (has : (w : ℕ) → Time w (fr w)) (gone_divides : (w : ℕ) → g ∣ (fr w).gone) where
+    done_by : (w : ℕ) → (fr w).works ≡ true → (fr w).gone ≤ tick
+    done_by w works = by_tick (fr w).gone (gone_divides w) ((has w).done works)
 
-  done_by : (w : ℕ) → (barred_frame inst turn cranes w).works ≡ true → (barred_frame inst turn cranes w).gone ≤ tick
-  done_by w works = by_tick (barred_frame inst turn cranes w).gone (gone_divides w) ((has w).done works)
+    fits_by : (w : ℕ) → 0 < work w → (fr w).gone + work w + inst.travel * ((has w).far + (has w).deep) ≤ tick
+    fits_by w some =
+        by_tick ((fr w).gone + work w + inst.travel * ((has w).far + (has w).deep))
+        (dvd-add g (dvd-add g (gone_divides w) work_divides) (dvd-mul_right_of_dvd g grain.travel ((has w).far + (has w).deep)))
+        ((has w).fits some)
+      where
+        work_divides : g ∣ work w
+        work_divides =
+            dvd_sum g (λ j. cond (does_open inst turn cranes sched valid goes follows w j) (ticks_of inst j) 0) (task_numbers inst)
+            (λ j a. dvd_cond inst g grain (does_open inst turn cranes sched valid goes follows w j) (ticks_of inst j)
+            (grain.tasks j (omega (arith, (range_among j 0 (length inst.tasks) a).1))))
 
-  fits_by : (w : ℕ) → 0 < work w
-      → (barred_frame inst turn cranes w).gone + work w + inst.travel * ((has w).far + (has w).deep) ≤ tick
-  fits_by w some =
-      by_tick ((barred_frame inst turn cranes w).gone + work w + inst.travel * ((has w).far + (has w).deep))
-      (dvd-add g (dvd-add g (gone_divides w) work_divides) (dvd-mul_right_of_dvd g grain.travel ((has w).far + (has w).deep)))
-      ((has w).fits some)
+    -- the cranes have the time by the greatest multiple of the grain before an end that comes later
+    long_enough : is_short (try_with inst cranes fr tick) ≡ true → ⊥
+    long_enough = not_short inst turn cranes sched valid goes follows fr has tick done_by fits_by
+
+  -- where neighbours bar their ways
+  barred_enough : is_short (try_of inst turn cranes tick) ≡ true → ⊥
+  barred_enough =
+      long_enough (barred_frame inst turn cranes) (barred_time inst turn cranes sched valid goes follows)
+      (dvd_barred inst g grain turn cranes)
+
+  -- by the longest of their ways; a number of no crane counts as if it had none
+  abbrev is_crane : ℕ → Bool
+  is_crane w = nat_lt w (length inst.cranes)
+
+  abbrev frame_of_way : ℕ → Frame
+  frame_of_way w = cond (is_crane w) (way_frame inst turn cranes w) (barred_frame inst turn cranes w)
+
+  along_time : (w : ℕ) → Time w (frame_of_way w)
+  along_time w =
+      cond_both (is_crane w) (way_frame inst turn cranes w) (barred_frame inst turn cranes w) (Time w)
+      (λ t. way_time inst turn cranes sched valid goes follows w (ltb-true w (length inst.cranes) t))
+      (λ _. barred_time inst turn cranes sched valid goes follows w)
+
+  along_divides : (w : ℕ) → g ∣ (frame_of_way w).gone
+  along_divides w =
+      cond_both (is_crane w) (way_frame inst turn cranes w) (barred_frame inst turn cranes w) (λ fr. g ∣ fr.gone)
+      (λ _. dvd_way inst g grain turn cranes w (longest_way inst turn cranes w))
+      (λ _. dvd_barred inst g grain turn cranes w)
+
+  along_enough : is_short (try_with inst cranes (way_frame inst turn cranes) tick) ≡ true → ⊥
+  along_enough short = long_enough frame_of_way along_time along_divides (subst Short (sym same) short)
     where
-      work_divides : g ∣ work w
-      work_divides =
-          dvd_sum g (λ j. cond (does_open inst turn cranes sched valid goes follows w j) (ticks_of inst j) 0) (task_numbers inst)
-          (λ j a. dvd_cond inst g grain (does_open inst turn cranes sched valid goes follows w j) (ticks_of inst j)
-          (grain.tasks j (omega (arith, (range_among j 0 (length inst.tasks) a).1))))
+      Short : List Frame → Type 0
+      Short frames =
+          is_short (record { travel = inst.travel; frames = frames; bays = left_bays inst cranes; work = work_at inst cranes; tick = tick }) ≡ true
 
-  -- the cranes have the time by the greatest multiple of the grain before an end that comes later
-  long_enough : is_short (try_of inst turn cranes tick) ≡ true → ⊥
-  long_enough = not_short inst turn cranes sched valid goes follows tick done_by fits_by
+      same : map frame_of_way (crane_numbers inst) ≡ map (way_frame inst turn cranes) (crane_numbers inst)
+      same =
+          map_range frame_of_way (way_frame inst turn cranes) 0 (length inst.cranes) (λ w low.
+          cond-true (is_crane w) _ _ (lt-ltb w (length inst.cranes) (omega arith)))
 
 none_there : (n j : ℕ) → crane_in (replicate n None) j ≡ None
 none_there zero j = refl
@@ -651,10 +699,15 @@ pub closed_end_le : (inst : InstanceView) (turn : Turn) (cranes : List (Option �
 closed_end_le inst turn cranes end valid closed sched goes follows = elim (cases_lt (ends inst sched) end) [
   | inl early ↦
       let multiples = grain_is inst (least_steps inst valid).0 in
-      absurd (elim (or_cases (is_short_before inst turn (no_cranes inst) end) (is_short_before inst turn cranes end) closed) [
+      let bare = is_short_before inst turn (no_cranes inst) end in
+      absurd (elim (or_cases (is_short_before inst turn (no_cranes inst) end)
+      (is_short_before inst turn cranes end || is_short_along inst turn cranes end) closed) [
         | inl bare ↦
-            long_enough inst turn (no_cranes inst) sched valid goes (bare_follows inst sched) (grain inst) multiples end early bare
-        | inr own ↦ long_enough inst turn cranes sched valid goes follows (grain inst) multiples end early own
+            barred_enough inst turn (no_cranes inst) sched valid goes (bare_follows inst sched) (grain inst) multiples end early bare
+        | inr some ↦ elim (or_cases (is_short_before inst turn cranes end) (is_short_along inst turn cranes end) some) [
+          | inl own ↦ barred_enough inst turn cranes sched valid goes follows (grain inst) multiples end early own
+          | inr way ↦ along_enough inst turn cranes sched valid goes follows (grain inst) multiples end early way
+        ]
       ])
   | inr long ↦ long
 ]

@@ -11,11 +11,9 @@ use Rattle.qc_dist.proofs.Ranges.{sum_more}
 use Rattle.qc_model.specs.declared.frame.Frame.{Frame}
 use Rattle.qc_model.specs.declared.limits.TheConstants.{MOST_TASKS, MOST_WORK}
 use Rattle.qc_model.specs.declared.task.Task.{Task}
-use Rattle.qc_model.specs.declared.turn.Turn.{Turn}
 use Rattle.qc_model.specs.Assignments.{crane_in, no_cranes}
-use Rattle.qc_model.specs.Barred.{barred_frame}
 use Rattle.qc_model.specs.Bays.{at_least_zero}
-use Rattle.qc_model.specs.Closed.{Try, grain, is_short, is_short_before, last_before, left_at, left_bays, try_of, work_at}
+use Rattle.qc_model.specs.Closed.{Try, grain, is_short, last_before, left_at, left_bays, try_with, work_at}
 use Rattle.qc_model.specs.Instance.{InstanceView, Valid, bay_of, no_task, ticks_of}
 use Rattle.qc_model.specs.Work.{crane_numbers, task_numbers, ticks_over}
 use Rattle.qc_model.proofs.Bays.{bays}
@@ -207,13 +205,13 @@ module _ (inst : InstanceView) where
         ap (λ (p : ℕ → Bool). filter p (range_with_len 1 (length left - 1))) (fun_ext some_left)
         ∙ ap (λ n. filter (λ x. nat_lt 0 (length (left_at inst cranes x))) (range_with_len 1 n)) many
 
-    pub try_same : (turn : Turn) (tick : ℕ) (frames : List Frame) → frames ≡ map (barred_frame inst turn cranes) (crane_numbers inst)
-        → try_by inst.travel tick frames left ≡ try_of inst turn cranes tick
-    try_same turn tick frames same =
+    pub try_same : (of : ℕ → Frame) (tick : ℕ) (frames : List Frame) → frames ≡ map of (crane_numbers inst)
+        → try_by inst.travel tick frames left ≡ try_with inst cranes of tick
+    try_same of tick frames same =
         let P : List Frame → List ℕ → (ℕ → ℕ) → Try = λ fs bs w. record { travel = inst.travel; frames = fs; bays = bs; work = w; tick = tick } in
         ap (λ fs. P fs (bays_of left) (λ x. get_or left x 0)) same
-        ∙ ap (λ bs. P (map (barred_frame inst turn cranes) (crane_numbers inst)) bs (λ x. get_or left x 0)) bays_same
-        ∙ ap (λ w. P (map (barred_frame inst turn cranes) (crane_numbers inst)) (left_bays inst cranes) w) (fun_ext is.work)
+        ∙ ap (λ bs. P (map of (crane_numbers inst)) bs (λ x. get_or left x 0)) bays_same
+        ∙ ap (λ w. P (map of (crane_numbers inst)) (left_bays inst cranes) w) (fun_ext is.work)
 
 -- ---- the loop that fills the list
 
@@ -318,15 +316,16 @@ added_all inst n left is added = all_added inst left (subst (λ (k : ℕ). AreAd
 
 -- ---- what code asks for
 
-pub short_same : (inst : InstanceView) (turn : Turn) (cranes : List (Option ℕ)) (left : List ℕ) → Valid inst
+pub short_same : (inst : InstanceView) (of : ℕ → Frame) (cranes : List (Option ℕ)) (left : List ℕ) → Valid inst
     → IsLeft inst cranes left → (travel step n : ℕ) (frames whole : List Frame) → travel ≡ inst.travel → step ≡ grain inst
     → frames ≡ take n whole → n ≡ length inst.cranes
-    → take (length inst.cranes) whole ≡ map (barred_frame inst turn cranes) (crane_numbers inst) → (end : ℕ)
-    → is_short (try_by travel (last_before step end) frames left) ≡ is_short_before inst turn cranes end
-short_same inst turn cranes left valid is travel step n frames whole is_travel is_step is_frames is_n all end =
+    → take (length inst.cranes) whole ≡ map of (crane_numbers inst) → (end : ℕ)
+    → is_short (try_by travel (last_before step end) frames left)
+    ≡ is_short (try_with inst cranes of (last_before (grain inst) end))
+short_same inst of cranes left valid is travel step n frames whole is_travel is_step is_frames is_n all end =
     ap (λ t. is_short (try_by t (last_before step end) frames left)) is_travel
     ∙ ap (λ g. is_short (try_by inst.travel (last_before g end) frames left)) is_step
-    ∙ ap is_short (try_same inst valid cranes left is turn (last_before (grain inst) end) frames
+    ∙ ap is_short (try_same inst valid cranes left is of (last_before (grain inst) end) frames
     (is_frames ∙ ap (λ k. take k whole) is_n ∙ all))
 
 -- ---- the last ends

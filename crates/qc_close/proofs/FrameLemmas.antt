@@ -359,7 +359,7 @@ module _ (inst : InstanceView) (turn : Turn) (cranes : List (Option ℕ)) (sched
       by None h t = absurd (false≢true t)
       by (Some k) h t = h k refl ∙ eqb-true k w t
 
-  sums : ticks_over inst (own inst cranes w) + beside
+  pub sums : ticks_over inst (own inst cranes w) + beside
       ≤ ticks_over inst (filter (λ j. eqb (crane_of sched j) w) (task_numbers inst))
   sums =
       let is_own = λ (j : ℕ). option_map_or (λ k. eqb k w) (crane_in cranes j) false in

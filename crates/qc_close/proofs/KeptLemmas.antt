@@ -10,9 +10,10 @@ use Rattle.qc_model.specs.declared.turn.Turn.{Turn}
 use Rattle.qc_model.specs.Assignments.{AreInRange, crane_in, no_cranes}
 use Rattle.qc_model.specs.Barred.{barred_frame}
 use Rattle.qc_model.specs.Bays.{at_least_zero}
-use Rattle.qc_model.specs.Closed.{IsClosedBound, grain, is_closed, is_short_before, last_before, left_bays, work_at}
+use Rattle.qc_model.specs.Closed.{IsClosedBound, grain, is_closed, is_short_along, is_short_before, last_before, left_bays, work_at}
 use Rattle.qc_model.specs.Instance.{InstanceView, Valid, bay_of, task, ticks_of}
 use Rattle.qc_model.specs.Nodes.{free}
+use Rattle.qc_model.specs.Ways.{way_frame}
 use Rattle.qc_model.specs.Work.{crane_numbers}
 use Rattle.qc_model.proofs.LimitsOf.{limits_of}
 use Rattle.qc_close.specs.declared.closed.TheConstants.{LAST_CLOSED}
@@ -23,6 +24,7 @@ use Rattle.qc_close.specs.Crews.{CrewView}
 use Rattle.qc_close.specs.Lasts.{IsLast}
 use Rattle.qc_close.specs.Lefts.{IsLeft}
 use Rattle.qc_close.specs.Spots.{AreSoonest, AreSpots}
+use Rattle.qc_close.specs.Trips.{AreTrips}
 use Rattle.qc_close.proofs.ClosedLemmas.{closed_end_le}
 use Rattle.qc_close.proofs.CrewLemmas.{at, bay_index, cranes_else, cranes_there, last_test, left_put, left_take, none_there, put_room, work_within}
 use Rattle.qc_close.proofs.GrainLemmas.{grain_is, travel_range}
@@ -161,9 +163,10 @@ no_soonest inst cranes soonest none many = record {
 -- ---- a crew as it is opened
 
 pub kept_open : (f : Inside) (inst : InstanceView) → f.inst ≡ inst → Valid inst → f.cranes.items ≡ no_cranes inst
-    → AreSpots inst f.spots → length f.soonest.items ≡ length inst.tasks → IsTable inst (no_cranes inst) f.spots f.table → IsLeft inst (no_cranes inst) f.left.items
+    → AreSpots inst f.spots → length f.soonest.items ≡ length inst.tasks → IsTable inst (no_cranes inst) f.spots f.table
+    → ((spots : List ℕ) → AreTrips inst (no_cranes inst) spots f.trips) → IsLeft inst (no_cranes inst) f.left.items
     → f.step ≡ grain inst → IsLast (is_short_before inst f.turn (no_cranes inst)) LAST_CLOSED f.bare → IsKept f
-kept_open f inst e valid none spots many table left step bare =
+kept_open f inst e valid none spots many table trips left step bare =
     let back = sym e in
     let none_is = none ∙ ap no_cranes back in
     record {
@@ -173,6 +176,8 @@ kept_open f inst e valid none spots many table left step bare =
       spots = subst (λ i. AreSpots i f.spots) back spots;
       soonest = no_soonest f.inst f.cranes.items f.soonest.items none_is (many ∙ ap (λ (i : InstanceView). length i.tasks) back);
       table = subst (λ cs. IsTable f.inst cs f.spots f.table) (sym none_is) (subst (λ i. IsTable i (no_cranes i) f.spots f.table) back table);
+      trips = subst (λ cs. AreTrips f.inst cs f.spots.of_task.items f.trips) (sym none_is)
+          (subst (λ i. AreTrips i (no_cranes i) f.spots.of_task.items f.trips) back (trips f.spots.of_task.items));
       left = subst (λ cs. IsLeft f.inst cs f.left.items) (sym none_is) (subst (λ i. IsLeft i (no_cranes i) f.left.items) back left);
       step = step ∙ ap grain back;
       bare = subst (λ i. IsLast (is_short_before i f.turn (no_cranes i)) LAST_CLOSED f.bare) back bare;
@@ -188,15 +193,26 @@ falls inst valid turn cranes n m le =
     (last_before (grain inst) n) (last_before (grain inst) m)
     (last_rises (grain inst) n m (grain_is inst (travel_range inst valid).0).some le)
 
+falls_along : (inst : InstanceView) → Valid inst → (turn : Turn) (cranes : List (Option ℕ)) (n m : ℕ) → n ≤ m
+    → is_short_along inst turn cranes m ≡ true → is_short_along inst turn cranes n ≡ true
+falls_along inst valid turn cranes n m le =
+    short_sooner inst.travel (map (way_frame inst turn cranes) (crane_numbers inst)) (left_bays inst cranes) (work_at inst cranes)
+    (last_before (grain inst) n) (last_before (grain inst) m)
+    (last_rises (grain inst) n m (grain_is inst (travel_range inst valid).0).some le)
+
 -- an assignment that is closed at an end is so at each earlier one
 pub closed_falls : (inst : InstanceView) (turn : Turn) (cranes : List (Option ℕ)) (n m : ℕ) → Valid inst → n ≤ m
     → is_closed inst turn cranes m ≡ true → is_closed inst turn cranes n ≡ true
 closed_falls inst turn cranes n m valid le closed =
     let bare = λ (end : ℕ). is_short_before inst turn (no_cranes inst) end in
     let own = λ (end : ℕ). is_short_before inst turn cranes end in
-    elim (or_cases (bare m) (own m) closed) [
-      | inl short ↦ or_left (bare n) (own n) (falls inst valid turn (no_cranes inst) n m le short)
-      | inr short ↦ or_right (bare n) (own n) (falls inst valid turn cranes n m le short)
+    let way = λ (end : ℕ). is_short_along inst turn cranes end in
+    elim (or_cases (bare m) (own m || way m) closed) [
+      | inl short ↦ or_left (bare n) (own n || way n) (falls inst valid turn (no_cranes inst) n m le short)
+      | inr some ↦ or_right (bare n) (own n || way n) (elim (or_cases (own m) (way m) some) [
+        | inl short ↦ or_left (own n) (way n) (falls inst valid turn cranes n m le short)
+        | inr short ↦ or_right (own n) (way n) (falls_along inst valid turn cranes n m le short)
+      ])
     ]
 
 module _ (f : Inside) (k : IsKept f) where
@@ -204,7 +220,7 @@ module _ (f : Inside) (k : IsKept f) where
   bare n = is_short_before f.inst f.turn (no_cranes f.inst) n
 
   abbrev own : ℕ → Bool
-  own n = is_short_before f.inst f.turn f.cranes.items n
+  own n = is_short_before f.inst f.turn f.cranes.items n || is_short_along f.inst f.turn f.cranes.items n
 
   tests : (end : ℕ) → 0 < end → end ≤ LAST_CLOSED → leb end f.bare ≡ bare end
   tests end some within =
@@ -222,9 +238,11 @@ module _ (f : Inside) (k : IsKept f) where
         (or_left (bare f.bare) (own f.bare) (k.bare.passes some))
 
     pub closed_late : (end : ℕ) → 0 < end → end ≤ LAST_CLOSED → f.bare < end
-        → is_short_before v.inst v.turn v.cranes end ≡ is_closed v.inst v.turn v.cranes end
+        → (is_short_before v.inst v.turn v.cranes end || is_short_along v.inst v.turn v.cranes end)
+        ≡ is_closed v.inst v.turn v.cranes end
     closed_late end some within late =
-        subst (λ (w : CrewView). is_short_before w.inst w.turn w.cranes end ≡ is_closed w.inst w.turn w.cranes end) is
+        subst (λ (w : CrewView). (is_short_before w.inst w.turn w.cranes end || is_short_along w.inst w.turn w.cranes end)
+        ≡ is_closed w.inst w.turn w.cranes end) is
         (sym (ap (λ b. b || own end) (sym (tests end some within) ∙ lt-leb end f.bare late)))
 
     -- an end at which the assignment is closed is a bound

@@ -6,6 +6,10 @@ pub mod SpanLemmas
 mod LoopLemmas
 mod FrameLemmas
 mod BarredLemmas
+mod Paths
+mod Trips
+mod Tracks
+mod WayLemmas
 mod CountLemmas
 mod GrainLemmas
 pub mod ClosedLemmas
@@ -22,7 +26,9 @@ mod CrewLemmas
 mod SpotLemmas
 mod BarLemmas
 mod TableLemmas
+mod TripLemmas
 mod StretchLemmas
 mod PlaceLemmas
 pub mod KeptLemmas
+mod LongestLemmas
 pub mod LimitLemmas

@@ -5,7 +5,7 @@ use Rattle.std.proofs.Math.Nat.{mul-add, mul-le-mul_left, mul-zero, mul_comm}
 use Rattle.std.proofs.lemmas.Bool.{and_from, and_parts, cases_Bool, cases_lt, cond_both, eqb-true, false_from_ne_true, le-leb, leb-true, ltb-true, or_from, true≢false}
 use Rattle.std.proofs.lemmas.Int.{ints}
 use Rattle.std.proofs.lemmas.List.{length-reverse}
-use Rattle.std.proofs.lemmas.List.FromFn.{length-range_with_len}
+use Rattle.std.proofs.lemmas.List.FromFn.{get_or-map-range_with_len, length-map-range_with_len, length-range_with_len}
 use Rattle.std.proofs.lemmas.List.Sums.{sum_by-append, sum_by-cons}
 use Rattle.std.proofs.lemmas.Nat.Gcd.{le_of_dvd}
 use Rattle.std.specs.Option.{option_map_or}
@@ -15,17 +15,22 @@ use Rattle.qc_model.specs.declared.direction.Direction.TheVariants.{Up, Down}
 use Rattle.qc_model.specs.declared.frame.Frame.{Frame}
 use Rattle.qc_model.specs.declared.turn.Turn.{Turn}
 use Rattle.qc_model.specs.declared.turn.Turn.TheVariants.{OneWay, Free}
-use Rattle.qc_model.specs.Assignments.{crane_in, no_cranes}
-use Rattle.qc_model.specs.Closed.{Try, along, bays_to, fewest, first, grain, has_room, is_closed, is_served, is_short, is_short_before, last_before, left_at, left_bays, legs, lists_to, load, most, numbers, room, suffices, work_at}
+use Rattle.qc_model.specs.Assignments.{AreInRange, crane_in, no_cranes}
+use Rattle.qc_model.specs.Closed.{Try, along, bays_to, fewest, first, grain, has_room, is_closed, is_served, is_short, is_short_along, is_short_before, last_before, left_at, left_bays, legs, lists_to, load, most, numbers, room, suffices, work_at}
 use Rattle.qc_model.specs.Barred.{all_done, barred_frame, barring, both_done, done_in, is_barred, lies, own_or_left}
-use Rattle.qc_model.specs.Frames.{frame, frame_of, own, turn_bays}
+use Rattle.qc_model.specs.Frames.{frame, frame_of, own, turn_bays, turn_high}
 use Rattle.qc_model.specs.Instance.{InstanceView, IsOnRail, Valid, bay_of, crane, ticks_of}
 use Rattle.qc_model.specs.Work.{crane_numbers, highest, lowest, task_numbers, ticks_over}
 use Rattle.qc_model.specs.declared.limits.TheConstants.{MOST_START}
 use Rattle.qc_model.proofs.Bays.{bays}
 use Rattle.qc_model.proofs.LimitsOf.{limits_of}
 use Rattle.qc_model.proofs.OnRail.{ticks_bounded}
-use Rattle.qc_close.specs.Counts.{IsNear}
+use Rattle.qc_close.specs.Counts.{AreNear, IsNear}
+use Rattle.qc_model.specs.Ways.{longest_way, own_bays, way_frame}
+use Rattle.std.specs.Int.{int_min}
+use Rattle.qc_close.specs.Trips.{IsShortWay}
+use Rattle.qc_close.proofs.LongestLemmas.{longest_short}
+use Rattle.qc_close.proofs.TripLemmas.{rail_wide}
 use Rattle.qc_close.specs.Lasts.{IsLatest}
 use Rattle.qc_close.proofs.ClosedLemmas.{InOrder, among_lists, beyond_after, beyond_at, falling, from_reverse, rising, to_rises}
 use Rattle.qc_close.proofs.CountLemmas.{most_cons, sum_filter, sum_le, sums_within}
@@ -263,7 +268,7 @@ module _ (inst : InstanceView) (valid : Valid inst) where
     modest_by : (os : List ℕ) → ((j : ℕ) → Among os j → j < length inst.tasks) → ticks_over inst os ≤ 120576000000
         → IsModest 500000000000 (frame_of inst turn w os)
     modest_by [] range few = record {
-      near = record { low = berth; high = berth };
+      near = record { low = rail_wide (crane inst w).bay berth; high = rail_wide (crane inst w).bay berth };
       gone = omega (arith, valid.cranes.ready w low);
     }
     modest_by (j ∷ js) range few =
@@ -274,8 +279,8 @@ module _ (inst : InstanceView) (valid : Valid inst) where
         (turn_few turn (crane inst w).bay (lowest inst j js) (highest inst j js) berth l h) in
         record {
           near = record {
-            low = rail_min (lowest inst j js) (crane inst w).bay l berth;
-            high = rail_high turn (crane inst w).bay (highest inst j js) berth h;
+            low = rail_wide (int_min (lowest inst j js) (crane inst w).bay) (rail_min (lowest inst j js) (crane inst w).bay l berth);
+            high = rail_wide (turn_high turn (crane inst w).bay (highest inst j js)) (rail_high turn (crane inst w).bay (highest inst j js) berth h);
           };
           gone = omega (arith, valid.cranes.ready w low, few, way);
         }
@@ -354,6 +359,33 @@ module _ (inst : InstanceView) (valid : Valid inst) where
           by (inl e) = omega (arith, e, modest.gone)
           by (inr a) = among_done inst turn cranes w (λ n. n ≤ 650000000000) done_few (own_or_left inst cranes w) _ a
 
+      -- and with the longest of its ways
+      own_way_few : (os : List ℕ) → ((j : ℕ) → Among os j → j < length inst.tasks) → own_bays inst turn w os ≤ 68000
+      own_way_few [] range = omega arith
+      own_way_few (j ∷ js) range =
+          let on = λ (k : ℕ) (a : Among (j ∷ js) k). task_on_rail k (range k a) in
+          turn_few turn (crane inst w).bay (lowest inst j js) (highest inst j js) berth (low_rail j js on) (high_rail j js on)
+        where
+          task_on_rail : (k : ℕ) → k < length inst.tasks → IsOnRail (bay_of inst k)
+          task_on_rail k low =
+              let at_bay = valid.tasks.bays k low in
+              let most = (limits_of inst valid).bays.1 in
+              (omega (arith, ints, at_bay.0), omega (arith, ints, at_bay.1, most))
+
+      pub short_way : AreInRange inst cranes → IsShortWay (longest_way inst turn cranes w)
+      short_way range =
+          longest_short inst valid turn w low cranes range modest.near.low modest.near.high
+          (own_way_few (own inst cranes w) own_range)
+
+      pub way_modest : AreInRange inst cranes → IsModest 650000000000 (way_frame inst turn cranes w)
+      way_modest range =
+          let way = short_way range in
+          let far = travel_few (longest_way inst turn cranes w).bays 16592000 way.bays in
+          record {
+            near = record { low = way.low; high = way.high };
+            gone = omega (arith, barred_modest.gone, valid.cranes.ready w low, among_tasks_few is_own, far);
+          }
+
   -- ---- late ends
 
   module _ (turn : Turn) (cranes : List (Option ℕ)) where
@@ -368,7 +400,7 @@ module _ (inst : InstanceView) (valid : Valid inst) where
         let r = range_among x 1 inst.bays (filter_among (λ y. nat_lt 0 (length (left_at inst cranes y))) (range_with_len 1 inst.bays) x a).0 in
         (r.0, omega (arith, r.1, (limits_of inst valid).bays.1))
 
-    far_few : (way : Direction) (fr : Frame) (x : ℕ) → IsNear fr → x ≤ 6000 → bays_to way fr x ≤ 34000
+    far_few : (way : Direction) (fr : Frame) (x : ℕ) → IsNear fr → x ≤ 6000 → bays_to way fr x ≤ 40000
     far_few Up fr x n le = omega (arith, bays, n.high.0, n.high.1, le)
     far_few Down fr x n le = omega (arith, bays, n.low.0, n.low.1, le)
 
@@ -380,8 +412,8 @@ module _ (inst : InstanceView) (valid : Valid inst) where
     served_late of each tick late (w ∷ ws) some range =
         let m = each w (range w (inl refl)) in
         let total = work_le inst cranes valid xs rises in
-        not_short inst.travel (of w) (map of ws) xs (work_at inst cranes) tick 650000000000 120576000000 34000
-        m.gone (omega (arith, late, travel_few (34000 + 34000) 68000 (omega arith)))
+        not_short inst.travel (of w) (map of ws) xs (work_at inst cranes) tick 650000000000 120576000000 40000
+        m.gone (omega (arith, late, travel_few (40000 + 40000) 80000 (omega arith)))
         rises (falling xs rises) (λ x a. far_few Up (of w) x m.near (on_ship x a).1)
         (λ x a. far_few Down (of w) x m.near (on_ship x (from_reverse xs x a)).1)
         total (omega (arith, total, sum_back (work_at inst cranes) xs))
@@ -406,25 +438,43 @@ module _ (inst : InstanceView) (valid : Valid inst) where
         (omega (arith, length-range_with_len 0 (length inst.cranes), valid.cranes.count.0))
         (λ w a. omega (arith, (range_among w 0 (length inst.cranes) a).1))
 
+    never_along : AreInRange inst cranes → (end : ℕ) → MOST_START < end → is_short_along inst turn cranes end ≡ false
+    never_along range end late =
+        served_late (way_frame inst turn cranes) (λ w low. way_modest turn w low cranes range) (last_before (grain inst) end)
+        (late_tick end late) (crane_numbers inst)
+        (omega (arith, length-range_with_len 0 (length inst.cranes), valid.cranes.count.0))
+        (λ w a. omega (arith, (range_among w 0 (length inst.cranes) a).1))
+
+-- the bays of frames with the longest ways are near
+pub ways_near : (inst : InstanceView) (turn : Turn) (cranes : List (Option ℕ)) → Valid inst → AreInRange inst cranes
+    → (frames : List Frame) → frames ≡ map (way_frame inst turn cranes) (crane_numbers inst) → AreNear frames
+ways_near inst turn cranes valid range frames are i d low =
+    let many : i < length inst.cranes = omega (arith, low, ap length are, length-map-range_with_len (way_frame inst turn cranes) 0 (length inst.cranes)) in
+    let is = ap (λ fs. get_or fs i d) are ∙ get_or-map-range_with_len (way_frame inst turn cranes) 0 (length inst.cranes) i i d many (omega arith) in
+    subst IsNear (sym is) (way_modest inst valid turn i many cranes range).near
+
 -- no assignment is closed at an end of more than twelve digits
 pub closed_never : (inst : InstanceView) (turn : Turn) (cranes : List (Option ℕ)) (end : ℕ) → Valid inst
-    → MOST_START < end → is_closed inst turn cranes end ≡ false
-closed_never inst turn cranes end valid late =
-    or_from (is_short_before inst turn (no_cranes inst) end) (is_short_before inst turn cranes end)
-    (never_short inst valid turn (no_cranes inst) end late) (never_short inst valid turn cranes end late)
+    → AreInRange inst cranes → MOST_START < end → is_closed inst turn cranes end ≡ false
+closed_never inst turn cranes end valid range late =
+    or_from (is_short_before inst turn (no_cranes inst) end)
+    (is_short_before inst turn cranes end || is_short_along inst turn cranes end)
+    (never_short inst valid turn (no_cranes inst) end late)
+    (or_from (is_short_before inst turn cranes end) (is_short_along inst turn cranes end)
+    (never_short inst valid turn cranes end late) (never_along inst valid turn cranes range end late))
 
 pub closed_soon : (inst : InstanceView) (turn : Turn) (cranes : List (Option ℕ)) (end : ℕ) → Valid inst
-    → is_closed inst turn cranes end ≡ true → end ≤ MOST_START
-closed_soon inst turn cranes end valid closed = elim (cases_lt MOST_START end) [
-  | inl late ↦ absurd (true≢false (sym closed ∙ closed_never inst turn cranes end valid late))
+    → AreInRange inst cranes → is_closed inst turn cranes end ≡ true → end ≤ MOST_START
+closed_soon inst turn cranes end valid range closed = elim (cases_lt MOST_START end) [
+  | inl late ↦ absurd (true≢false (sym closed ∙ closed_never inst turn cranes end valid range late))
   | inr soon ↦ soon
 ]
 
 -- one at which it is closed, or 0
 pub closed_or_none : (inst : InstanceView) (turn : Turn) (cranes : List (Option ℕ)) (end : ℕ) → Valid inst
-    → (0 < end → is_closed inst turn cranes end ≡ true) → end ≤ MOST_START
-closed_or_none inst turn cranes end valid closed = elim (cases_lt 0 end) [
-  | inl some ↦ closed_soon inst turn cranes end valid (closed some)
+    → AreInRange inst cranes → (0 < end → is_closed inst turn cranes end ≡ true) → end ≤ MOST_START
+closed_or_none inst turn cranes end valid range closed = elim (cases_lt 0 end) [
+  | inl some ↦ closed_soon inst turn cranes end valid range (closed some)
   | inr none ↦ omega arith
 ]
 

@@ -15,7 +15,6 @@ use Rattle.qc_model.specs.declared.task.Task.{Task}
 use Rattle.qc_model.specs.declared.turn.Turn.{Turn}
 use Rattle.qc_model.specs.declared.turn.Turn.TheVariants.{OneWay, Free}
 use Rattle.qc_model.specs.Assignments.{crane_in}
-use Rattle.qc_model.specs.Barred.{barred_frame}
 use Rattle.qc_model.specs.Frames.{frame_of, turn_high}
 use Rattle.qc_model.specs.Instance.{InstanceView, IsOnRail, bay_of, task, ticks_of}
 use Rattle.qc_model.specs.Work.{crane_numbers, highest, lowest, ticks_over}
@@ -125,19 +124,27 @@ left_all inst cranes count done left is many end =
 
 -- ---- the frames of all cranes
 
-pub frames_all : (inst : InstanceView) (turn : Turn) (cranes : List (Option ℕ)) (frames : List Frame) (d : Frame)
+pub frames_all : (inst : InstanceView) (of : ℕ → Frame) (frames : List Frame) (d : Frame)
     → length frames ≡ 8 → length inst.cranes ≤ 8
-    → ((w : ℕ) → w < length inst.cranes → get_or frames w d ≡ barred_frame inst turn cranes w)
-    → take (length inst.cranes) frames ≡ map (barred_frame inst turn cranes) (crane_numbers inst)
-frames_all inst turn cranes frames d is few each =
+    → ((w : ℕ) → w < length inst.cranes → get_or frames w d ≡ of w)
+    → take (length inst.cranes) frames ≡ map of (crane_numbers inst)
+frames_all inst of frames d is few each =
     let n = length inst.cranes in
     let many : length (take n frames) ≡ n = omega (arith, length-take n frames) in
-    ext_get_or d (take n frames) (map (barred_frame inst turn cranes) (crane_numbers inst))
-    (many ∙ sym (length-map-range_with_len (barred_frame inst turn cranes) 0 n))
+    ext_get_or d (take n frames) (map of (crane_numbers inst))
+    (many ∙ sym (length-map-range_with_len of 0 n))
     (λ w low.
     let in_range : w < n = omega (arith, many) in
     get_or-take n frames w d in_range ∙ each w in_range
-    ∙ sym (get_or-map-range_with_len (barred_frame inst turn cranes) 0 n w w d in_range (omega arith)))
+    ∙ sym (get_or-map-range_with_len of 0 n w w d in_range (omega arith)))
+
+-- and one of them
+pub frame_at : (inst : InstanceView) (of : ℕ → Frame) (frames : List Frame) (d : Frame)
+    → take (length inst.cranes) frames ≡ map of (crane_numbers inst) → (w : ℕ) → w < length inst.cranes
+    → get_or frames w d ≡ of w
+frame_at inst of frames d all w low =
+    sym (get_or-take (length inst.cranes) frames w d low) ∙ ap (λ fs. get_or fs w d) all
+    ∙ get_or-map-range_with_len of 0 (length inst.cranes) w w d low (omega arith)
 
 -- a frame with another time
 pub with_gone : (a b : Frame) (n m : ℕ) → a ≡ b → n ≡ m

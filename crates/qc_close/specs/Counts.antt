@@ -5,7 +5,7 @@ use Rattle.qc_model.specs.declared.direction.Direction.{Direction}
 use Rattle.qc_model.specs.declared.direction.Direction.TheVariants.{Up, Down}
 use Rattle.qc_model.specs.declared.frame.Frame.{Frame}
 use Rattle.qc_model.specs.Closed.{Try, bays_to, fewest, legs, suffices}
-use Rattle.qc_model.specs.Instance.{IsOnRail}
+use Rattle.qc_close.specs.Trips.{IsWide}
 use Rattle.qc_close.specs.declared.walk.Stop.{Stop}
 use Rattle.qc_close.specs.declared.walk.Walk.{Walk}
 
@@ -13,10 +13,10 @@ use Rattle.qc_close.specs.declared.walk.Walk.{Walk}
 abbrev pub no_frame : Frame
 no_frame = record { works = false; gone = 0; low = pos 0; high = pos 0 }
 
--- the bays of a crane lie on the rail
+-- the bays of a crane lie on the rail, or by some gaps beyond it
 pub record IsNear (f : Frame) : Type 0 where
-  pub low : IsOnRail f.low
-  pub high : IsOnRail f.high
+  pub low : IsWide f.low
+  pub high : IsWide f.high
 
 abbrev pub AreNear : List Frame → Type 0
 AreNear frames = (i : ℕ) (d : Frame) → i < length frames → IsNear (slice_index_or frames i d)

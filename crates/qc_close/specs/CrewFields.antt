@@ -10,6 +10,7 @@ use Rattle.qc_close.specs.Crews.{CrewView}
 use Rattle.qc_close.specs.Lasts.{IsLast}
 use Rattle.qc_close.specs.Lefts.{IsLeft}
 use Rattle.qc_close.specs.Spots.{AreSoonest, AreSpots}
+use Rattle.qc_close.specs.Trips.{AreTrips}
 
 abbrev pub view_of : Inside → CrewView
 view_of f = record { inst = f.inst; turn = f.turn; cranes = f.cranes.items }
@@ -21,6 +22,7 @@ pub record IsKept (f : Inside) : Type 0 where
   pub spots : AreSpots f.inst f.spots
   pub soonest : AreSoonest f.inst f.cranes.items f.soonest.items
   pub table : IsTable f.inst f.cranes.items f.spots f.table
+  pub trips : AreTrips f.inst f.cranes.items f.spots.of_task.items f.trips
   pub left : IsLeft f.inst f.cranes.items f.left.items
   pub step : f.step ≡ grain f.inst
   pub bare : IsLast (is_short_before f.inst f.turn (no_cranes f.inst)) LAST_CLOSED f.bare

@@ -9,3 +9,5 @@ pub mod Lasts
 pub mod Spots
 pub mod Bars
 pub mod Rests
+pub mod Trips
+pub mod Moves

@@ -45,3 +45,17 @@ pub record IsSmall (n : ℕ) (o : Own) : Type 0 where
   pub ticks : o.ticks ≤ n * MOST_WORK
   pub low : IsOnRail o.low
   pub high : IsOnRail o.high
+
+-- the bays that crane w goes to them alone
+abbrev pub bays_by : InstanceView → Turn → ℕ → Option Own → ℕ
+bays_by inst turn w None = 0
+bays_by inst turn w (Some o) = turn_bays turn (crane inst w).bay o.low o.high
+
+-- their ticks
+abbrev pub ticks_by : Option Own → ℕ
+ticks_by None = 0
+ticks_by (Some o) = o.ticks
+
+-- what crane w spends on them with a way of so many bays
+abbrev pub spent_with : InstanceView → ℕ → Option Own → ℕ → ℕ
+spent_with inst w o bays = (crane inst w).ready + ticks_by o + inst.travel * bays

@@ -1,30 +1,50 @@
 //! The ends at which an assignment is closed.
 
-ghost use Rattle.std.specs.Prelude.{◌≡◌, ◌≤◌, ◌<◌, ◌^◌, length};
+ghost use Rattle.std.specs.Prelude.{◌≡◌, ◌||◌, ◌≤◌, ◌<◌, ◌^◌, ℕ, List, Option, length, map, take};
 ghost use Rattle.qc_model.specs.Assignments.{AreInRange};
-ghost use Rattle.qc_model.specs.Closed.{grain, is_short_before};
+ghost use Rattle.qc_model.specs.Closed.{grain, is_short, is_short_along, is_short_before, last_before, try_with};
+ghost use Rattle.qc_model.specs.Work.{crane_numbers};
+ghost use Rattle.qc_close.specs.Counts.{AreNear};
 ghost use Rattle.qc_close.specs.Lasts.{IsLast};
 ghost use Rattle.qc_close.specs.Lefts.{IsLeft};
 ghost use Rattle.qc_close.specs.Bars.{IsTable};
 ghost use Rattle.qc_close.specs.Spots.{AreSpots};
+ghost use Rattle.qc_close.specs.Trips.{AreTrips};
 
 use crate::bars::Table;
 use crate::frames::{first_frames, frames};
 use crate::short::{is_short_at, last_short};
 use crate::spots::Spots;
-use qc_model::{Instance, Turn};
+use crate::trip::Trips;
+use crate::way::way_frames;
+use qc_model::{Frame, Instance, Turn};
 use qc_num::Tick;
 
 /// The last end that is asked for: fifteen digits.
 pub const LAST_CLOSED: Tick = 999_999_999_999_999;
 
-/// Whether the count shows that not all can be done before an end, where tasks have these cranes.
-pub(crate) fn is_short_before(
+/// Whether the count shows that not all can be done before an end, where cranes have spent so much.
+fn is_short_with(inst: &Instance, left: &[Tick], step: Tick, frames: &[Frame; 8], end: Tick) -> bool
+    requires left { (cranes : List (Option ℕ)) × IsLeft inst.now cranes left.now }
+    requires step { step ≡ grain inst.now }
+    requires near { AreNear (take (length inst.now.cranes) frames.now) }
+    requires end { end < 2 ^ 50 }
+    ensures { (cranes : List (Option ℕ)) (of : ℕ → Frame) → IsLeft inst.now cranes left.now
+        → take (length inst.now.cranes) frames.now ≡ map of (crane_numbers inst.now)
+        → result ≡ is_short (try_with inst.now cranes of (last_before (grain inst.now) end)) }
+{
+    let frames = first_frames(frames, inst.crane_count() as usize);
+    is_short_at(inst.travel(), step, frames, left, end)
+}
+
+/// Whether it shows so where tasks have these cranes, or where each crane goes the longest of its ways.
+pub(crate) fn is_short_by(
     inst: &Instance,
     turn: Turn,
     cranes: &[Option<u16>],
     spots: &Spots,
     table: &Table,
+    trips: &Trips,
     left: &[Tick],
     step: Tick,
     end: Tick,
@@ -33,14 +53,20 @@ pub(crate) fn is_short_before(
     requires range { AreInRange inst.now cranes.now }
     requires spots { AreSpots inst.now spots.now }
     requires table { IsTable inst.now cranes.now spots.now table.now }
+    requires trips { AreTrips inst.now cranes.now spots.now.of_task.items trips.now }
     requires left { IsLeft inst.now cranes.now left.now }
     requires step { step ≡ grain inst.now }
     requires end { end < 2 ^ 50 }
-    ensures { result ≡ is_short_before inst.now turn cranes.now end }
+    ensures { result ≡ (is_short_before inst.now turn cranes.now end
+        || is_short_along inst.now turn cranes.now end) }
 {
+    let _cranes = inst.crane_count();
     let frames = frames(inst, turn, cranes, spots, table);
-    let frames = first_frames(&frames, inst.crane_count() as usize);
-    is_short_at(inst.travel(), step, frames, left, end)
+    if is_short_with(inst, left, step, &frames, end) {
+        return true;
+    }
+    let ways = way_frames(inst, turn, spots, table, trips, &frames);
+    is_short_with(inst, left, step, &ways, end)
 }
 
 /// The last end up to a limit for which it shows so, and 0 where there is none.

@@ -1,19 +1,20 @@
 //! Which crane has which task.
 
-ghost use Rattle.std.specs.Prelude.{◌≡◌, ◌<◌, ◌≤◌, None, Some, IfOk, IsSome, IsTrue, length, replicate, slice_set, true};
+ghost use Rattle.std.specs.Prelude.{◌≡◌, ◌||◌, ◌<◌, ◌≤◌, None, Some, IfOk, IsSome, IsTrue, length, replicate, slice_set, true};
 ghost use Rattle.qc_model.specs.Instance.{Valid};
 ghost use Rattle.qc_model.specs.Assignments.{AreInRange, crane_in, no_cranes};
-ghost use Rattle.qc_model.specs.Closed.{IsClosedBound, is_closed, is_short_before};
+ghost use Rattle.qc_model.specs.Closed.{IsClosedBound, is_closed, is_short_along, is_short_before};
 ghost use Rattle.qc_close.specs.Crews.{CrewView};
 ghost use Rattle.qc_close.specs.CrewFields.{view_of, IsKept};
 ghost use Rattle.qc_close.specs.Lasts.{IsLast};
 ghost use Rattle.qc_close.specs.declared.closed.TheConstants.{LAST_CLOSED};
 
 use crate::bars::{Table, keep_table, table_of};
-use crate::closed::{LAST_CLOSED, is_short_before, last_short_end};
+use crate::closed::{LAST_CLOSED, is_short_by, last_short_end};
 use crate::grain::grain;
 use crate::left::work_left;
 use crate::spots::{Spots, spots_of};
+use crate::trip::{Trips, keep_trips, trips_of};
 use qc_dist::head;
 use qc_model::{Instance, Turn, copy};
 use qc_num::{OutOfMemory, Tick};
@@ -34,6 +35,8 @@ pub struct Crew {
     soonest: Vec<Tick>,
     /// What the tasks of each crane come to at each spot, before it and from it on.
     table: Table,
+    /// The trip of each crane for the tasks at each spot.
+    trips: Trips,
     /// The ticks of the tasks without a crane at each bay, from bay 0.
     left: Vec<Tick>,
     /// The greatest number of which all ticks of the instance are multiples.
@@ -82,6 +85,7 @@ impl Crew {
         let spots = spots_of(alloc, inst, left.as_slice())?;
         let soonest = no_starts(alloc, tasks as usize)?;
         let table = table_of(alloc, inst, &spots)?;
+        let trips = trips_of(alloc, inst)?;
         let step = grain(inst);
         let bare = last_short_end(
             inst,
@@ -100,6 +104,7 @@ impl Crew {
             spots,
             soonest,
             table,
+            trips,
             left,
             step,
             bare,
@@ -138,6 +143,13 @@ impl Crew {
             task,
             crane,
         );
+        keep_trips(
+            &mut self.trips,
+            &self.inst,
+            self.cranes.as_slice(),
+            &self.spots,
+            task,
+        );
     }
 
     /// Takes a task from its crane.
@@ -171,6 +183,13 @@ impl Crew {
             task,
             crane,
         );
+        keep_trips(
+            &mut self.trips,
+            &self.inst,
+            self.cranes.as_slice(),
+            &self.spots,
+            task,
+        );
     }
 
     /// The crane that a task has; `None` exactly where it has none.
@@ -201,18 +220,21 @@ impl Crew {
         self.bare
     }
 
-    /// Whether the count shows that not all can be done before an end with the cranes that tasks have.
+    /// Whether the count shows that not all can be done before an end with the cranes that tasks have, by
+    /// the longest way of each crane too.
     fn is_short(&self, end: Tick) -> bool
         requires { end ≤ LAST_CLOSED }
-        ensures { result ≡ is_short_before self.now.inst self.now.turn self.now.cranes end }
+        ensures { result ≡ (is_short_before self.now.inst self.now.turn self.now.cranes end
+            || is_short_along self.now.inst self.now.turn self.now.cranes end) }
     {
         let cranes = self.cranes.as_slice();
-        is_short_before(
+        is_short_by(
             &self.inst,
             self.turn,
             cranes,
             &self.spots,
             &self.table,
+            &self.trips,
             self.left.as_slice(),
             self.step,
             end,

@@ -47,7 +47,7 @@ fn with_task(own: Option<Own>, task: Task) -> Own
 }
 
 /// The bays that a crane goes from its start bay to come to a low and a high bay.
-fn turn_bays(turn: Turn, berth: Bay, low: Bay, high: Bay) -> Tick
+pub(crate) fn turn_bays(turn: Turn, berth: Bay, low: Bay, high: Bay) -> Tick
     requires berth { IsOnRail berth }
     requires low { IsOnRail low }
     requires high { IsOnRail high }

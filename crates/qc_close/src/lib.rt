@@ -18,7 +18,9 @@ mod rest;
 mod short;
 mod spots;
 mod sums;
+mod trip;
 mod walk;
+mod way;
 
 pub use closed::LAST_CLOSED;
 pub use crew::Crew;

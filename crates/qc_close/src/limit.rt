@@ -4,6 +4,7 @@ ghost use Rattle.std.specs.Prelude.{◌≡◌, ◌+◌, ◌*◌, ◌<◌, ◌≤
 ghost use Rattle.qc_close.specs.Lasts.{IsLatest};
 ghost use Rattle.qc_model.specs.declared.limits.TheConstants.{MOST_START};
 ghost use Rattle.qc_model.specs.declared.turn.Turn.{Turn};
+ghost use Rattle.qc_model.specs.Assignments.{AreInRange};
 ghost use Rattle.qc_model.specs.Closed.{is_closed};
 ghost use Rattle.qc_model.specs.Instance.{InstanceView, Valid};
 
@@ -62,5 +63,5 @@ impl Crew {
 /// all that is left.
 fn closed_ends_are_soon()
     ensures { (inst : InstanceView) (turn : Turn) (cranes : List (Option ℕ)) (end : ℕ) → Valid inst
-        → is_closed inst turn cranes end ≡ true → end ≤ MOST_START }
+        → AreInRange inst cranes → is_closed inst turn cranes end ≡ true → end ≤ MOST_START }
 {}

@@ -13,7 +13,7 @@ use Rattle.qc_run.specs.declared.refusal.Stop.{Stop}
 use Rattle.qc_run.specs.declared.refusal.Stop.TheVariants as stop
 use Rattle.qc_run.specs.declared.status.Status.{Status}
 use Rattle.qc_run.specs.declared.status.Status.TheVariants as status
-use Rattle.qc_run.specs.Broken.{broken_text}
+use Rattle.qc_run.specs.Broken.{TellsRule, broken_text}
 use Rattle.qc_run.specs.Due.{Contents, contents_in, input_due, job_due}
 use Rattle.qc_run.specs.Inputs.{Names}
 use Rattle.qc_run.specs.Reports.{Prints}
@@ -25,7 +25,6 @@ use Rattle.qc_run.proofs.DueLemmas.{comes_due, stop_is}
 use Rattle.qc_run.proofs.StatusLemmas.{IsAnswer}
 use Rattle.qc_run.proofs.StepLemmas.{IsEarly, input_early, job_early}
 use Rattle.qc_run.proofs.ToldLemmas.{stop_due}
-use Rattle.qc_sheet_command.specs.Listed.{TellsRule}
 use Rattle.qc_dispatch_command.specs.declared.answer.Dispatching.{Dispatching}
 use Rattle.qc_dispatch_command.specs.declared.answer.Dispatching.TheVariants as dispatching
 use Rattle.qc_dispatch_command.specs.Account.{IsDispatching, IsDispatchRun, IsLogRefused, IsStoppedAtLog, StopsDispatch, dispatch_report}
@@ -130,7 +129,7 @@ module _ (names : Names) (before after pb pa : View) (ended : Status) (run : IsD
 
     answers_end : (a : Dispatching) → found a → Ends contents (dispatching_status a)
     answers_end (dispatching.Broken broken) is =
-        rw (job_is is.read is.due) (record { infeasible = λ _. refl; feasible = λ f. absurd (is.tells.is.infeasible f) })
+        rw (job_is is.read is.due) (record { infeasible = λ _. refl; feasible = λ f. absurd (is.tells.is.not_allowed f) })
     answers_end (dispatching.Dispatched told) is =
         let tells = is.tells.tells in
         rw (job_is is.read is.due, ← is.tells.job_told) (record {

@@ -15,10 +15,10 @@ use Rattle.qc_run.specs.declared.refusal.Stop.{Stop}
 use Rattle.qc_run.specs.declared.refusal.Stop.TheVariants as stop
 use Rattle.qc_run.specs.declared.status.Status.{Status}
 use Rattle.qc_run.specs.Account.{IsFound, IsReading, IsRunWith, Reporting, texts}
+use Rattle.qc_run.specs.Broken.{TellsRule}
 use Rattle.qc_run.specs.Due.{input_due, job_due}
 use Rattle.qc_run.specs.Inputs.{Names}
 use Rattle.qc_run.specs.Steps.{ComesTo, Stops}
-use Rattle.qc_sheet_command.specs.Listed.{TellsRule}
 use Rattle.qc_dispatch_command.specs.declared.answer.Dispatched.{Dispatched}
 use Rattle.qc_dispatch_command.specs.declared.answer.Dispatching.{Dispatching}
 use Rattle.qc_dispatch_command.specs.declared.answer.Dispatching.TheVariants as dispatching

@@ -9,13 +9,12 @@ use Rattle.qc_run.specs.declared.reading.Job.{Job}
 use Rattle.qc_run.specs.declared.refusal.LogFault.TheVariants as log
 use Rattle.qc_run.specs.declared.status.Status.{Status}
 use Rattle.qc_run.specs.declared.status.Status.TheVariants as status
-use Rattle.qc_run.specs.Broken.{broken_text}
+use Rattle.qc_run.specs.Broken.{TellsRule, broken_text}
 use Rattle.qc_run.specs.Due.{Contents, contents_in, input_due, job_due}
 use Rattle.qc_run.specs.Inputs.{Names}
 use Rattle.qc_run.specs.Reports.{Prints}
 use Rattle.qc_run.specs.Texts.{bad_log_text}
 use Rattle.qc_run.specs.Told.{EndsAsDue, EndsBy, IsTold, ReadPromises}
-use Rattle.qc_sheet_command.specs.Listed.{TellsRule}
 use Rattle.qc_dispatch_command.specs.declared.answer.Dispatched.{Dispatched}
 use Rattle.qc_dispatch_command.specs.Account.{IsDispatchAccount, dispatch_report}
 use Rattle.qc_dispatch_command.specs.Told.{TellsCourse, dispatched_text}

@@ -8,8 +8,7 @@ use crate::answer::{Dispatched, Dispatching};
 use crate::log::read_log;
 use crate::report::report;
 use qc_io::{Shelf, Sink};
-use qc_run::{Inputs, Status, Stop, broken_of, read_job, report_stop};
-use qc_sheet_command::broken_rule;
+use qc_run::{Inputs, Status, Stop, broken_of, broken_rule, read_job, report_stop};
 use std::alloc::Global;
 
 /// Reads the ship file, the stowage list and the plan's file and judges the plan; where it is feasible the log

@@ -6,7 +6,7 @@ use qc_gantt::{PlanError, read_plan};
 use qc_hints::{Page, Place, Shown, line_of, raw_line};
 use qc_model::Instance;
 use qc_num::OutOfMemory;
-use qc_sheet_command::broken_rule;
+use qc_run::broken_rule;
 use std::alloc::Global;
 
 /// The first fault of a log by which a plan is followed.

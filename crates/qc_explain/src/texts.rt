@@ -2,6 +2,7 @@
 ghost use Rattle.qc_explain.specs.Frame.{LeavesFiles};
 
 use qc_io::{ReadAll, Shelf, read_all};
+use qc_model::Turn;
 use qc_num::{Bytes, OutOfMemory};
 use qc_words::Request;
 use std::alloc::Global;
@@ -9,7 +10,7 @@ use std::alloc::Global;
 /// The greatest length of a file that is read whole, in bytes.
 const FILE_LIMIT: usize = 8_388_608;
 
-/// The names of the files that a command reads, and of the plan that it writes.
+/// The names of the files that a command reads, and of the plan that it writes; and which schedules it asks about.
 #[derive(Clone, Copy)]
 pub(crate) struct Names<'a> {
     pub(crate) ship: Option<&'a str>,
@@ -19,6 +20,7 @@ pub(crate) struct Names<'a> {
     pub(crate) tree: Option<&'a str>,
     pub(crate) log: Option<&'a str>,
     pub(crate) written: Option<&'a str>,
+    pub(crate) turn: Turn,
 }
 
 /// No names.
@@ -31,6 +33,7 @@ fn no_names<'a>() -> Names<'a> {
         tree: None,
         log: None,
         written: None,
+        turn: Turn::OneWay,
     }
 }
 
@@ -59,22 +62,26 @@ fn of_shown<'a>(request: &Request<'a>) -> Names<'a> {
 pub(crate) fn names_of<'a>(request: &Request<'a>) -> Names<'a> {
     match *request {
         Request::Plan {
+            turn,
             ship,
             stow,
             plan,
             own,
             ..
         } => Names {
+            turn,
             own,
             written: Some(plan),
             ..of_plan(ship, stow, None)
         },
         Request::Check {
+            turn,
             ship,
             stow,
             plan,
             tree,
         } => Names {
+            turn,
             tree: Some(tree),
             ..of_plan(ship, stow, plan)
         },

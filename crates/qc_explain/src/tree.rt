@@ -1,6 +1,7 @@
 //! Faults of a bound tree's file.
 
 use qc_hints::{Page, Place, Shown, Sort, line_of, raw_line, say_form};
+use qc_model::Turn;
 use qc_num::OutOfMemory;
 use qc_replay::{TreeFault, TreeKind};
 
@@ -16,6 +17,9 @@ fn why(kind: TreeKind) -> &'static str {
             "another line is due here: the file was changed, or is no tree of this ship and list",
         TreeKind::UnknownTask => "it names a task that the ship file and the list haven't",
         TreeKind::NotApart => "it branches on two tasks that no pair of apart keeps apart",
+        TreeKind::NotConflict => {
+            "it branches on the order of two tasks that can run together by their cranes so far, or names the higher one first"
+        }
         TreeKind::Decided => "it branches on what is decided above it",
         TreeKind::Branchings => "this is a branching behind the 100000th, and a tree has no more",
         TreeKind::NotForced => "its tasks don't wait for each other as it says",
@@ -43,11 +47,25 @@ fn is_of_others(kind: TreeKind) -> bool {
     )
 }
 
-/// Says what is wrong with a tree. The bytes are those of a front part of its file.
+/// What a tree of the other kind is, and which command checks it.
+fn other_kind(title: &[u8], turn: Turn) -> Option<&'static str> {
+    if turn == Turn::OneWay && title.starts_with(b"QCFREE ") {
+        Some(
+            "this is a tree of all feasible plans, whichever way their cranes go: check it with qc freecheck",
+        )
+    } else if turn == Turn::Free && title.starts_with(b"QCTREE ") {
+        Some("this is a tree of plans that go one way: check it with qc check")
+    } else {
+        None
+    }
+}
+
+/// Says what is wrong with a tree for schedules of this turn. The bytes are those of a front part of its file.
 pub(crate) fn say_tree(
     page: &mut Page,
     file: &str,
     bytes: &[u8],
+    turn: Turn,
     fault: TreeFault,
 ) -> Result<(), OutOfMemory> {
     if say_form(page, file, bytes, Sort::Tree)? {
@@ -60,6 +78,9 @@ pub(crate) fn say_tree(
         return page.say(format_args!(
             "{place}: the lines end with a carriage return, as on Windows: a tree's end with a line feed alone; plan again"
         ));
+    }
+    if let Some(what) = other_kind(line_of(bytes, 1), turn) {
+        return page.say(format_args!("{place}: {what}"));
     }
     page.say(format_args!("{place}: {shown}: {why}"))?;
     if is_of_others(fault.kind) {

@@ -11,7 +11,7 @@ use crate::texts::{Names, Text, Texts, names_of, read_text, read_texts};
 use crate::tree::say_tree;
 use qc_hints::{Page, Word, counts_decimetres, say_notes, say_ship, say_stow, say_usage};
 use qc_io::{Shelf, Sink, put_all};
-use qc_model::Instance;
+use qc_model::{Instance, Turn};
 use qc_num::OutOfMemory;
 use qc_replay::{ReplayError, TreeFault, replay};
 use qc_run::Status;
@@ -42,6 +42,18 @@ fn instance_in(alloc: Global, ship: &Ship, text: &Text) -> Result<Option<Instanc
         Ok(moves) => Ok(Some(tasks_of(alloc, ship, &moves)?)),
         Err(StowError::Fault(_)) => Ok(None),
         Err(StowError::OutOfMemory) => Err(OutOfMemory),
+    }
+}
+
+/// The instance of the ship file and the list, with this turn; none where one of them has a fault.
+fn turned_instance(
+    alloc: Global,
+    texts: &Texts,
+    turn: Turn,
+) -> Result<Option<Instance>, OutOfMemory> {
+    match instance_of(alloc, texts)? {
+        Some(inst) => Ok(Some(inst.with_turn(turn))),
+        None => Ok(None),
     }
 }
 
@@ -229,7 +241,7 @@ fn say_bad_tree<S: Shelf>(
         return Ok(());
     };
     let text = read_text(page.alloc(), shelf, Some(name))?;
-    say_tree(page, name, text.bytes().unwrap_or(&[]), fault)
+    say_tree(page, name, text.bytes().unwrap_or(&[]), inst.turn(), fault)
 }
 
 /// Says that a plan isn't of this run, where there is one.
@@ -272,7 +284,7 @@ fn say_files<S: Shelf>(
     let texts = read_texts(page.alloc(), shelf, names)?;
     say_texts(page, names, &texts, ended)?;
     let inst = if ended == Status::BadTree {
-        instance_of(page.alloc(), &texts)?
+        turned_instance(page.alloc(), &texts, names.turn)?
     } else {
         None
     };

@@ -65,7 +65,7 @@ fn sort_of(bytes: &[u8]) -> Option<Sort> {
         Some(Sort::Stow)
     } else if text.starts_with(b"task,crane,") || text.starts_with(b"task;crane;") {
         Some(Sort::Plan)
-    } else if text.starts_with(b"QCTREE") {
+    } else if text.starts_with(b"QCTREE") || text.starts_with(b"QCFREE") {
         Some(Sort::Tree)
     } else if has(text, b"[[crane]]") || text.starts_with(b"hatches") {
         Some(Sort::Ship)

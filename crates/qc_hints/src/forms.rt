@@ -5,12 +5,14 @@ use qc_num::OutOfMemory;
 use std::alloc::Global;
 
 /// The commands, each with its operands and with its options in brackets.
-const LINES: [&str; 10] = [
+const LINES: [&str; 12] = [
     "plan SHIP STOW PLAN TREE [--nodes N] [--from OWN]",
     "check SHIP STOW PLAN TREE",
     "tasks SHIP STOW",
     "show SHIP STOW PLAN",
     "make NUMBER HATCHES CRANES",
+    "free SHIP STOW PLAN TREE [--nodes N] [--from OWN]",
+    "freecheck SHIP STOW PLAN TREE",
     "sheet SHIP STOW PLAN",
     "dispatch SHIP STOW PLAN LOG",
     "watch SHIP LOG",

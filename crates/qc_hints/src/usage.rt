@@ -33,7 +33,7 @@ fn say_number(
     Ok(true)
 }
 
-/// Says which two of the names of `plan` are one.
+/// Says which two of the names of a command that plans are one.
 fn say_equal(page: &mut Page, form: &Form, sorted: &Sorted<'_>) -> Result<(), OutOfMemory> {
     for (at, name) in sorted.operands.iter().enumerate() {
         let word = Word(name);
@@ -44,9 +44,9 @@ fn say_equal(page: &mut Page, form: &Form, sorted: &Sorted<'_>) -> Result<(), Ou
             ));
         }
         if let Some(later) = equal_behind(sorted, at, name) {
-            let that = form.operand(later).unwrap_or("");
+            let (that, command) = (form.operand(later).unwrap_or(""), form.name);
             return page.say(format_args!(
-                "{this} and {that} are the same file \"{word}\": plan needs four different names"
+                "{this} and {that} are the same file \"{word}\": {command} needs four different names"
             ));
         }
     }
@@ -170,7 +170,7 @@ fn say_values(page: &mut Page, form: &Form, sorted: &Sorted<'_>) -> Result<(), O
             return Ok(());
         }
     }
-    if form.name == "plan" {
+    if form.name == "plan" || form.name == "free" {
         return say_equal(page, form, sorted);
     }
     Ok(())

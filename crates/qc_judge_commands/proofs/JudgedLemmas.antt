@@ -21,7 +21,7 @@ use Rattle.qc_run.specs.declared.refusal.Stop.TheVariants as stop
 use Rattle.qc_run.specs.declared.status.Status.{Status}
 use Rattle.qc_run.specs.declared.status.Status.TheVariants as status
 use Rattle.qc_run.specs.Account.{IsReaderRun}
-use Rattle.qc_run.specs.Broken.{TellsBreak, broken_text}
+use Rattle.qc_run.specs.Broken.{TellsBreakBy, broken_text}
 use Rattle.qc_run.specs.Due.{Contents, contents_in, job_due, tree_due}
 use Rattle.qc_run.specs.Inputs.{Names}
 use Rattle.qc_run.specs.Reports.{Prints}
@@ -30,7 +30,7 @@ use Rattle.qc_run.specs.Steps.{ComesTo}
 use Rattle.qc_run.specs.Texts.{refusal_status, refusal_text, stop_status}
 use Rattle.qc_run.specs.Told.{EndsBy, NoneFailed}
 use Rattle.qc_run.proofs.AccountLemmas.{answer_found, ends_as, ends_due, fault_of, fault_told, is_bad_plan, is_told, reader_promises, reading_promises, refusal_found, told_of}
-use Rattle.qc_run.proofs.DueLemmas.{comes_due, stop_is}
+use Rattle.qc_run.proofs.DueLemmas.{comes_due, instance_turn, stop_is}
 use Rattle.qc_run.proofs.StatusLemmas.{IsAnswer}
 use Rattle.qc_run.proofs.ToldLemmas.{stop_due}
 use Rattle.qc_judge_commands.specs.declared.answer.Compared.{Compared}
@@ -101,6 +101,7 @@ module _ (names : Names) (before after pb pa : View) (ended : Status) (run : IsP
       record {
         job = is.read;
         due = is.due;
+        turn = instance_turn (contents_in held names) is.read.inst (job_inst (contents_in held names) is.read is.due);
         goes = is.tells.tells.goes;
         told = told;
         end = is.tells.tells.end;
@@ -146,7 +147,7 @@ module _ (names : Names) (before after pb pa : View) (ended : Status) (run : IsP
   broken_told : (a : Judged) → found a → judged_status a ≡ status.Broken → Prints (judged_text a) pb.written pa.written
       → IfSome before.files (λ held. IsBrokenTold names held pb pa)
   broken_told (judged.Broken told) is e report =
-      told_of job_due (λ job. TellsBreak job.inst job.sched) (λ told. Prints (broken_text told)) names pb pa before.files is.read told is.due is.tells report
+      told_of job_due (λ job. TellsBreakBy job.inst.turn job.inst job.sched) (λ told. Prints (broken_text told)) names pb pa before.files is.read told is.due is.tells report
   broken_told (judged.Compared told) is e report = absurd (compared_ends told status.Broken e)
 
   late_bad_plan : (fault : PlanFault) (files : Option Files) → ((inst : InstanceView) × ComesTo (tree_due inst) names files (Err (refusal.BadPlan fault)))
@@ -178,8 +179,8 @@ module _ (names : Names) (before after pb pa : View) (ended : Status) (run : IsP
         let refused : tree_due late.job.inst (contents_in held names) ≡ Err why =
         stop_is (tree_due late.job.inst) names before after held told none.reading why late.tree in
         inl (rw (job_is late.job late.due) (record {
-          neither = λ neither. absurd (neither late.goes);
-          one_way = λ goes. rw refused refl;
+          not_allowed = λ not. absurd (not late.goes);
+          allowed = λ goes. rw refused refl;
         }))
 
     stops_end : (why : Stop) → stops why → Ends (contents_in held names) (stop_status why) ⊎ (stop_status why ≡ status.OutOfMemory)
@@ -190,14 +191,14 @@ module _ (names : Names) (before after pb pa : View) (ended : Status) (run : IsP
 
     judged_ends : (a : Judged) → found a → Ends (contents_in held names) (judged_status a)
     judged_ends (judged.Broken broken) is =
-        rw (job_is is.read is.due) (record { neither = λ _. refl; one_way = λ goes. absurd (is.tells.neither goes) })
+        rw (job_is is.read is.due) (record { not_allowed = λ _. refl; allowed = λ goes. absurd (is.tells.is.not_allowed goes) })
     judged_ends (judged.Compared compared) is =
         let c = is.tells in
         let read : tree_due is.read.inst (contents_in held names) ≡ Ok c.read =
         comes_due (tree_due is.read.inst) names held before.files told (Ok c.read) c.tree in
         rw (job_is is.read is.due) (record {
-          neither = λ neither. absurd (neither c.tells.goes);
-          one_way = λ _. rw (read, c.tells.bound_told, ← c.tells.end) refl;
+          not_allowed = λ not. absurd (not c.tells.goes);
+          allowed = λ _. rw (read, c.tells.bound_told, ← c.tells.end) refl;
         })
 
   pub plan_check_promises : PlanCheckPromises names before after pb pa ended
@@ -227,7 +228,7 @@ is_shown (showing.Shown told) e = (told, refl)
 is_shown (showing.Broken told) e = absurd (cc e)
 
 showing_ends : (job : Job) (a : Showing) → TellsShowing job a → EndsShown job (showing_status a)
-showing_ends job (showing.Broken told) is = record { neither = λ _. refl; one_way = λ goes. absurd (is.neither goes) }
+showing_ends job (showing.Broken told) is = record { neither = λ _. refl; one_way = λ goes. absurd (is.is.not_allowed goes) }
 showing_ends job (showing.Shown told) is = record { neither = λ neither. absurd (neither is.goes); one_way = λ _. refl }
 
 module _ (names : Names) (before after pb pa : View) (ended : Status) (run : IsReaderRun show_reader names before after pb pa ended) where

@@ -16,7 +16,7 @@ use Rattle.qc_run.specs.Inputs.{Names}
 use Rattle.qc_run.specs.Shown.{IsNoTree, IsTreeShown}
 use Rattle.qc_run.specs.Steps.{ComesTo, IsStep, Stops}
 use Rattle.qc_run.proofs.AccountLemmas.{reads_found, reads_stopped}
-use Rattle.qc_run.proofs.DueLemmas.{stops_from}
+use Rattle.qc_run.proofs.DueLemmas.{instance_turn, stops_from}
 use Rattle.qc_judge_commands.specs.declared.answer.Judged.{Judged}
 use Rattle.qc_judge_commands.specs.Account.{IsJudged, IsJudging, IsStoppedAtTree, IsTreeChecked, ShowsNone, StopsPlan}
 use Rattle.qc_judge_commands.specs.Shown.{IsBoundShown, IsNoneShown}
@@ -33,7 +33,9 @@ job_inst contents job e =
 pub shown_bound : (names : Names) (files : Option Files) (job : Job) (bound : Bound) → ComesTo job_due names files (Ok job)
     → IfSome files (λ held. IsTreeShown job.inst (contents_in held names).tree bound) → IfSome files (λ held. IsBoundShown names held bound)
 shown_bound names None job bound h shown = tt
-shown_bound names (Some held) job bound h shown = record { inst = job.inst; due = job_inst (contents_in held names) job h; shown = shown }
+shown_bound names (Some held) job bound h shown =
+    let due = job_inst (contents_in held names) job h in
+    record { inst = job.inst; due = due; turn = instance_turn (contents_in held names) job.inst due; shown = shown }
 
 pub shown_none : (names : Names) (files : Option Files) (job : Job) → ComesTo job_due names files (Ok job)
     → IfSome files (λ held. IsNoTree job.inst (contents_in held names).tree) → IfSome files (λ held. IsNoneShown names held)

@@ -3,7 +3,7 @@ use Rattle.std.specs.Prelude.{◌≡◌, ◌⊎◌, Option, Result, Ok, IfSome}
 use Rattle.qc_io.specs.Outside.{Files, View}
 use Rattle.qc_num.specs.declared.bound.Bound.TheVariants.{Least}
 use Rattle.qc_model.specs.Instance.{InstanceView}
-use Rattle.qc_model.specs.OneWay.{GoesOneWay}
+use Rattle.qc_model.specs.OneWay.{IsAllowed}
 use Rattle.qc_replay.specs.declared.fault.Replayed.{Replayed}
 use Rattle.qc_replay.specs.declared.fault.TreeFault.{TreeFault}
 use Rattle.qc_tasks.specs.TasksText.{tasks_text}
@@ -15,7 +15,7 @@ use Rattle.qc_run.specs.declared.refusal.Stop.TheVariants as stop
 use Rattle.qc_run.specs.declared.status.Status.{Status}
 use Rattle.qc_run.specs.declared.status.Status.TheVariants as status
 use Rattle.qc_run.specs.Account.{IsFound, IsReading, IsRunWith, Reader, Reporting, texts}
-use Rattle.qc_run.specs.Broken.{TellsBreak}
+use Rattle.qc_run.specs.Broken.{TellsBreak, TellsBreakBy}
 use Rattle.qc_run.specs.Due.{instance_due, job_due, shown_due, tree_due}
 use Rattle.qc_run.specs.Inputs.{Names}
 use Rattle.qc_run.specs.Steps.{ComesTo, Stops}
@@ -66,7 +66,7 @@ IsTreeRun names before after = IsRunWith (IsTreeChecked names before after) tree
 
 -- ---- a plan
 
--- the schedule of the plan goes one way, and the tree's file is one of a tree
+-- cranes may follow the schedule of the plan, and the tree's file is one of a tree
 pub record IsCompared (names : Names) (files : Option Files) (job : Job) (told : Compared) : Type 0 where
   pub read : Replayed
   pub tree : ComesTo (tree_due job.inst) names files (Ok read)
@@ -74,22 +74,22 @@ pub record IsCompared (names : Names) (files : Option Files) (job : Job) (told :
   pub none_earlier : NoneEarlier job.inst (Least told.bound)
   pub shown : IfSome files (λ held. IsBoundShown names held (Least told.bound))
 
--- the schedule of the plan breaks a rule, or it is compared
+-- cranes may not follow the schedule of the plan, or it is compared
 abbrev pub TellsJudged : Names → Option Files → Job → Judged → Type 0
-TellsJudged names files job (judged.Broken told) = TellsBreak job.inst job.sched told
+TellsJudged names files job (judged.Broken told) = TellsBreakBy job.inst.turn job.inst job.sched told
 TellsJudged names files job (judged.Compared told) = IsCompared names files job told
 
 abbrev pub IsJudged : Names → Option Files → Judged → Type 0
 IsJudged names files = IsFound job_due (TellsJudged names files) names files
 
--- the schedule of the plan goes one way, and its tree's file was refused
+-- cranes may follow the schedule of the plan, and its tree's file was refused
 pub record IsStoppedAtTree (names : Names) (before after : View) (why : Stop) : Type 0 where
   pub job : Job
   pub due : ComesTo job_due names before.files (Ok job)
-  pub goes : GoesOneWay job.inst job.sched
+  pub goes : IsAllowed job.inst job.sched
   pub tree : Stops (tree_due job.inst) names before after why
 
--- a refusal comes before the schedule is judged, or of the tree's file where it goes one way
+-- a refusal comes before the schedule is judged, or of the tree's file where cranes may follow it
 abbrev pub StopsPlan : Names → View → View → Stop → Type 0
 StopsPlan names before after why =
     (Stops job_due names before after why ⊎ IsStoppedAtTree names before after why) × ShowsNone names before.files why

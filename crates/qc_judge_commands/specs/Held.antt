@@ -6,14 +6,14 @@ use Rattle.qc_model.specs.declared.schedule.Slot.{Slot}
 use Rattle.qc_model.specs.Instance.{InstanceView}
 use Rattle.qc_model.specs.Judge.{IsDirection}
 use Rattle.qc_model.specs.Motion.{IsSafe}
-use Rattle.qc_model.specs.OneWay.{GoesOneWay}
+use Rattle.qc_model.specs.OneWay.{GoesOneWay, IsAllowed}
 use Rattle.qc_model.specs.Rules.{ends}
 use Rattle.qc_judge_commands.specs.declared.answer.Compared.{Compared}
 use Rattle.qc_judge_commands.specs.declared.answer.Shown.{Shown}
 
--- the schedule goes one way; its end and the tree's value are told
+-- cranes may follow the schedule; its end and the tree's value are told
 pub record TellsHeld (inst : InstanceView) (sched : List Slot) (bound : Bound) (told : Compared) : Type 0 where
-  pub goes : GoesOneWay inst sched
+  pub goes : IsAllowed inst sched
   pub end : told.end ≡ ends inst sched
   pub bound_told : bound ≡ Least told.bound
 

@@ -4,7 +4,7 @@ use Rattle.qc_num.specs.declared.bound.Bound.{Bound}
 use Rattle.qc_num.specs.declared.bound.Bound.TheVariants.{Least, Never}
 use Rattle.qc_io.specs.Outside.{Files, View}
 use Rattle.qc_model.specs.Instance.{InstanceView}
-use Rattle.qc_model.specs.OneWay.{GoesOneWay}
+use Rattle.qc_model.specs.OneWay.{GoesOneWay, IsAllowed}
 use Rattle.qc_model.specs.Rules.{ends}
 use Rattle.qc_replay.specs.declared.fault.Replayed.{Replayed}
 use Rattle.qc_tasks.specs.TasksText.{tasks_text}
@@ -13,7 +13,7 @@ use Rattle.qc_run.specs.declared.refusal.Refusal.{Refusal}
 use Rattle.qc_run.specs.declared.refusal.Refusal.TheVariants as refusal
 use Rattle.qc_run.specs.declared.status.Status.{Status}
 use Rattle.qc_run.specs.declared.status.Status.TheVariants as status
-use Rattle.qc_run.specs.Broken.{TellsBreak, broken_text}
+use Rattle.qc_run.specs.Broken.{TellsBreak, TellsBreakBy, broken_text}
 use Rattle.qc_run.specs.Due.{contents_in, instance_due, job_due, shown_due, tree_due}
 use Rattle.qc_run.specs.Inputs.{Names}
 use Rattle.qc_run.specs.Reports.{Prints}
@@ -41,13 +41,13 @@ pub record TasksPromises (names : Names) (before after out_before out_after : Vi
 
 -- ---- a tree alone
 
--- the value of the tree was printed, an end that no schedule beats
+-- the value of the tree was printed, an end that no schedule of the turn beats that was asked about
 pub record IsEndTold (names : Names) (held : Files) (before after : View) : Type 0 where
   pub end : ℕ
   pub shown : IsBoundShown names held (Least end)
   pub report : Prints (codes "Bound " ++ decimal end ++ codes "\n") before.written after.written
 
--- it was printed that no schedule goes one way, as the tree shows
+-- it was printed that there is no such schedule, as the tree shows
 pub record IsNoneTold (names : Names) (held : Files) (before after : View) : Type 0 where
   pub shown : IsBoundShown names held Never
   pub report : Prints (codes "Infeasible\n") before.written after.written
@@ -65,19 +65,20 @@ pub record TreePromises (names : Names) (before after out_before out_after : Vie
 
 -- ---- a plan
 
--- the plan that was checked goes one way, the tree's file is the text of a tree of the instance, and the plan's end
--- and the tree's value were printed
+-- cranes may follow the plan that was checked: it goes one way, or it is feasible where all such plans are asked about; the
+-- tree's file is the text of a tree of the instance, and the plan's end and the tree's value were printed
 pub record IsComparedTold (names : Names) (held : Files) (before after : View) (first : List ℕ) : Type 0 where
   pub job : Job
   pub due : job_due (contents_in held names) ≡ Ok job
-  pub goes : GoesOneWay job.inst job.sched
+  pub turn : job.inst.turn ≡ names.turn
+  pub goes : IsAllowed job.inst job.sched
   pub told : Compared
   pub end : told.end ≡ ends job.inst job.sched
   pub shown : IsTreeShown job.inst (contents_in held names).tree (Least told.bound)
   pub report : Prints (compared_text told) before.written after.written
   pub word : compared_word told ≡ first
 
--- and the tree's value is at least the plan's end, so no schedule that goes one way ends earlier
+-- and the tree's value is at least the plan's end, so no schedule that cranes may follow ends earlier
 pub record IsBestTold (names : Names) (held : Files) (before after : View) : Type 0 where
   pub plan : IsComparedTold names held before after (codes "Optimal")
   pub enough : plan.told.end ≤ plan.told.bound
@@ -88,23 +89,24 @@ pub record IsWeakerTold (names : Names) (held : Files) (before after : View) : T
   pub plan : IsComparedTold names held before after (codes "Weaker")
   pub weaker : plan.told.bound < plan.told.end
 
--- the plan goes neither way, and the first rule that it breaks was printed
+-- cranes may not follow the plan, and the first rule that it breaks was printed
 abbrev pub IsBrokenTold : Names → (held : Files) → (before after : View) → Type 0
-IsBrokenTold = IsTold job_due (λ job. TellsBreak job.inst job.sched) (λ told. Prints (broken_text told))
+IsBrokenTold =
+    IsTold job_due (λ job. TellsBreakBy job.inst.turn job.inst job.sched) (λ told. Prints (broken_text told))
 
 -- the plan's file has a fault, which was printed
 abbrev pub IsBadPlanTold : Names → (held : Files) → (before after : View) → Type 0
 IsBadPlanTold = IsFaultTold job_due refusal.BadPlan
 
--- a plan that goes one way ends so, by what its tree's file comes to
+-- a plan that cranes may follow ends so, by what its tree's file comes to
 abbrev pub held_status : ℕ → Bound → Status
 held_status end (Least bound) = compared_status (record { end = end; bound = bound })
 held_status end Never = status.Optimal
 
 -- a plan that is judged ends so where nothing fails
 pub record EndsJudged (job : Job) (tree : Result Replayed Refusal) (ended : Status) : Type 0 where
-  pub neither : ¬ GoesOneWay job.inst job.sched → ended ≡ status.Broken
-  pub one_way : GoesOneWay job.inst job.sched
+  pub not_allowed : ¬ IsAllowed job.inst job.sched → ended ≡ status.Broken
+  pub allowed : IsAllowed job.inst job.sched
       → EndsBy (λ read end. end ≡ held_status (ends job.inst job.sched) read.bound) tree ended
 
 pub record PlanCheckPromises (names : Names) (before after out_before out_after : View) (ended : Status)
@@ -118,7 +120,7 @@ pub record PlanCheckPromises (names : Names) (before after out_before out_after 
   pub check_bad_plan :
       ended ≡ status.BadPlan → IfSome before.files (λ held. IsBadPlanTold names held out_before out_after)
   pub check_plan_bad_tree : ended ≡ status.BadTree → IfSome before.files (λ held. IsNoneShown names held)
-  -- where no call failed: Broken exactly where the plan goes neither way, and else what its tree's file comes to
+  -- where no call failed: Broken exactly where cranes may not follow the plan, and else what its tree's file comes to
   pub check_complete :
       EndsAsDue (λ contents. EndsBy (λ job. EndsJudged job (tree_due job.inst contents)) (job_due contents))
       names before after out_before out_after ended
@@ -130,6 +132,10 @@ pub record PlanCheckPromises (names : Names) (before after out_before out_after 
 abbrev pub IsMotionTold : Names → (held : Files) → (before after : View) → Type 0
 IsMotionTold = IsTold job_due (λ job. TellsShown job.inst job.sched) IsShownPrinted
 
+-- the plan goes neither way, and the first rule that it breaks was printed
+abbrev pub IsNeitherTold : Names → (held : Files) → (before after : View) → Type 0
+IsNeitherTold = IsTold job_due (λ job. TellsBreak job.inst job.sched) (λ told. Prints (broken_text told))
+
 -- a plan that is shown ends so where nothing fails
 pub record EndsShown (job : Job) (ended : Status) : Type 0 where
   pub neither : ¬ GoesOneWay job.inst job.sched → ended ≡ status.Broken
@@ -139,7 +145,8 @@ pub record ShowPromises (names : Names) (before after out_before out_after : Vie
   pub reads : ReaderPromises show_reader names before after out_before out_after ended
   -- Done, Broken and BadPlan
   pub show_done : ended ≡ status.Done → IfSome before.files (λ held. IsMotionTold names held out_before out_after)
-  pub show_broken : ended ≡ status.Broken → IfSome before.files (λ held. IsBrokenTold names held out_before out_after)
+  pub show_broken : ended ≡ status.Broken
+      → IfSome before.files (λ held. IsNeitherTold names held out_before out_after)
   pub show_bad_plan :
       ended ≡ status.BadPlan → IfSome before.files (λ held. IsBadPlanTold names held out_before out_after)
   -- where no call failed it is Broken exactly where the plan goes neither way

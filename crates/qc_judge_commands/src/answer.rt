@@ -10,7 +10,7 @@ use qc_run::Broken;
 pub struct Compared {
     /// When the plan's last task ends, in ticks.
     pub end: Tick,
-    /// No schedule that goes one way ends before this tick, as the tree shows.
+    /// No schedule that cranes may follow ends before this tick, as the tree shows.
     pub bound: Tick,
 }
 

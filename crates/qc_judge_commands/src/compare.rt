@@ -2,7 +2,7 @@
 ghost use Rattle.std.specs.Prelude.{◌≡◌, ◌≤◌, Ok, IsSome};
 ghost use Rattle.qc_num.specs.declared.bound.Bound.{Bound};
 ghost use Rattle.qc_model.specs.Judge.{IsJudgeable};
-ghost use Rattle.qc_model.specs.OneWay.{GoesOneWay};
+ghost use Rattle.qc_model.specs.OneWay.{IsAllowed};
 ghost use Rattle.qc_tree.specs.Trees.{NoneEarlier};
 ghost use Rattle.qc_run.specs.Due.{job_due};
 ghost use Rattle.qc_run.specs.Inputs.{names_of};
@@ -14,15 +14,15 @@ ghost use Rattle.qc_judge_commands.specs.Held.{TellsHeld};
 use crate::answer::{Compared, Judged};
 use crate::judged::report;
 use qc_io::{Shelf, Sink};
-use qc_model::{Instance, Schedule, direction_of, ends};
+use qc_model::{Instance, Schedule, ends};
 use qc_num::Bound;
-use qc_run::{Inputs, Job, Status, Stop, broken_of, read_job, read_tree, report_stop};
+use qc_run::{Inputs, Job, Status, Stop, broken_by, broken_of, read_job, read_tree, report_stop};
 use std::alloc::Global;
 
-/// What is told of a schedule that goes one way, beside what a tree shows.
+/// What is told of a schedule that cranes may follow, beside what a tree shows.
 fn compared_of(inst: &Instance, sched: &Schedule, bound: Bound) -> Compared
     requires judgeable { IsJudgeable inst.now sched.now }
-    requires goes { GoesOneWay inst.now sched.now }
+    requires goes { IsAllowed inst.now sched.now }
     requires none_earlier { NoneEarlier inst.now bound }
     ensures { TellsHeld inst.now sched.now bound result }
 {
@@ -35,7 +35,7 @@ fn compared_of(inst: &Instance, sched: &Schedule, bound: Bound) -> Compared
     }
 }
 
-/// Replays the tree beside a schedule that goes one way.
+/// Replays the tree beside a schedule that cranes may follow.
 fn compare<S: Shelf>(
     alloc: Global,
     inputs: &Inputs<'_>,
@@ -45,7 +45,7 @@ fn compare<S: Shelf>(
     requires tree { IsSome (names_of inputs.now).tree }
     requires due { ComesTo job_due (names_of inputs.now) (S.Sink.view shelf.old).files (Ok job.now) }
     requires judgeable { IsJudgeable job.now.inst job.now.sched }
-    requires goes { GoesOneWay job.now.inst job.now.sched }
+    requires goes { IsAllowed job.now.inst job.now.sched }
     ensures { IsJudging (names_of inputs.now) (S.Sink.view shelf.old) (S.Sink.view shelf.new) result }
 {
     match read_tree(alloc, inputs, &job.inst, shelf) {
@@ -54,8 +54,8 @@ fn compare<S: Shelf>(
     }
 }
 
-/// Reads the ship file, the stowage list and the plan's file and judges the plan; the tree's file is
-/// opened only where the plan holds.
+/// Reads the ship file, the stowage list and the plan's file and judges the plan: it must go one way, or be feasible
+/// where all such plans are asked about. The tree's file is opened only where the plan holds.
 fn judge<S: Shelf>(alloc: Global, inputs: &Inputs<'_>, shelf: &mut S) -> Result<Judged, Stop>
     requires stow { IsSome (names_of inputs.now).stow }
     requires plan { IsSome (names_of inputs.now).plan }
@@ -66,9 +66,9 @@ fn judge<S: Shelf>(alloc: Global, inputs: &Inputs<'_>, shelf: &mut S) -> Result<
         Ok(job) => job,
         Err(stop) => return Err(stop),
     };
-    match direction_of(&job.inst, &job.sched) {
-        Ok(_) => compare(alloc, inputs, &job, shelf),
-        Err(broken) => Ok(Judged::Broken(broken_of(&job.inst, broken))),
+    match broken_by(job.inst.turn(), &job.inst, &job.sched) {
+        None => compare(alloc, inputs, &job, shelf),
+        Some(broken) => Ok(Judged::Broken(broken_of(&job.inst, broken))),
     }
 }
 

@@ -8,7 +8,7 @@ use qc_io::Sink;
 use qc_num::{Bound, Text};
 use qc_run::{Status, report_broken, report_text};
 
-/// Whether no schedule that goes one way ends before the plan.
+/// Whether no schedule that cranes may follow ends before the plan.
 fn is_best(told: Compared) -> bool
     ensures { result ≡ nat_le told.end told.bound }
 {

@@ -16,6 +16,7 @@ use Rattle.qc_model.specs.declared.turn.Turn.{Turn}
 use Rattle.qc_model.specs.Assignments.{Follows, crane_in, no_cranes}
 use Rattle.qc_model.specs.Barred.{barred_frame}
 use Rattle.qc_model.specs.Frames.{GoesBy}
+use Rattle.qc_model.specs.Ways.{way_frame}
 
 -- the greatest sum of n of these numbers: of all where there are fewer
 abbrev pub most : ℕ → List ℕ → ℕ
@@ -124,26 +125,35 @@ grain inst = greatest (filter (are_multiples inst) (range_with_len 1 inst.travel
 abbrev pub last_before : ℕ → ℕ → ℕ
 last_before g end = (end - 1) / g * g
 
--- the tasks without a crane are to be done by a tick, after what each crane spends on its own and on waiting for its
--- neighbours
-abbrev pub try_of : InstanceView → Turn → List (Option ℕ) → ℕ → Try
-try_of inst turn cranes tick = record {
+-- the tasks without a crane are to be done by a tick, after what each crane spends by its frame
+abbrev pub try_with : InstanceView → List (Option ℕ) → (ℕ → Frame) → ℕ → Try
+try_with inst cranes frames tick = record {
   travel = inst.travel;
-  frames = map (barred_frame inst turn cranes) (crane_numbers inst);
+  frames = map frames (crane_numbers inst);
   bays = left_bays inst cranes;
   work = work_at inst cranes;
   tick = tick;
 }
 
+-- after what each spends on its own and on waiting for its neighbours
+abbrev pub try_of : InstanceView → Turn → List (Option ℕ) → ℕ → Try
+try_of inst turn cranes tick = try_with inst cranes (barred_frame inst turn cranes) tick
+
 -- the count shows that not all can be done before the end
 abbrev pub is_short_before : InstanceView → Turn → List (Option ℕ) → ℕ → Bool
 is_short_before inst turn cranes end = is_short (try_of inst turn cranes (last_before (grain inst) end))
 
+-- it shows so where each crane goes the longest of its ways
+abbrev pub is_short_along : InstanceView → Turn → List (Option ℕ) → ℕ → Bool
+is_short_along inst turn cranes end =
+    is_short (try_with inst cranes (way_frame inst turn cranes) (last_before (grain inst) end))
+
 -- the assignment is closed at the end: the count shows that not all can be done before it with the cranes that tasks
--- have, or it shows so even if no task had one
+-- have, with the longest ways or without, or it shows so even if no task had one
 abbrev pub is_closed : InstanceView → Turn → List (Option ℕ) → ℕ → Bool
 is_closed inst turn cranes end =
-    is_short_before inst turn (no_cranes inst) end || is_short_before inst turn cranes end
+    is_short_before inst turn (no_cranes inst) end
+    || (is_short_before inst turn cranes end || is_short_along inst turn cranes end)
 
 -- no schedule that follows the assignment ends before this end: of those that go up where cranes go one way, and of all
 -- that are feasible where they go to and fro

@@ -18,6 +18,7 @@ pub mod Assignments
 pub mod Packs
 pub mod Frames
 pub mod Barred
+pub mod Ways
 pub mod Closed
 pub mod Leaves
 pub mod Closing

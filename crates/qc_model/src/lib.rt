@@ -19,6 +19,7 @@ mod seen;
 mod task;
 mod ticks;
 mod turn;
+mod way;
 
 pub use copies::{copy, copy_cranes};
 pub use crane::Crane;
@@ -39,5 +40,6 @@ pub use rules::{Break, Rule, direction_of, first_break};
 pub use schedule::{Schedule, Slot, ends};
 pub use seen::{Post, seen_number, seen_place};
 pub use task::{Phase, Task, TaskText};
-pub use ticks::{bays_between, bays_up, distance, travel_over};
+pub use ticks::{bays_between, bays_up, distance, gap_over, travel_over};
 pub use turn::Turn;
+pub use way::{Trip, Way};

@@ -48,7 +48,7 @@ pub(crate) fn place_of(inst: &Instance, bay: Bay) -> i64
 }
 
 /// How many bays two cranes are apart at least whose numbers differ by so much.
-pub(crate) fn gap_over(inst: &Instance, cranes: u16) -> Bay
+pub fn gap_over(inst: &Instance, cranes: u16) -> Bay
     requires { cranes < length inst.now.cranes }
     ensures bays { result ≡ pos (inst.now.gap * cranes) }
     ensures bound { result ≤ℤ pos 16000 }

@@ -38,7 +38,7 @@ picture_told load text is = is.planned.feasible
 module _ (tells : Load → List ℕ → Type 0) (told_feasible : (load : Load) (text : List ℕ) → tells load text → Feasible load.cargo.inst load.sched)
     (names : Names) (before after pb pa : View) (ended : Status) (run : IsReaderRun (printer tells) names before after pb pa ended) where
   ends : (load : Load) (a : Printed) → TellsPrinted tells load a → EndsPrinted load (printed_status a)
-  ends load (printed.Broken told) is = record { infeasible = λ _. refl; feasible = λ feasible. absurd (is.is.infeasible feasible) }
+  ends load (printed.Broken told) is = record { infeasible = λ _. refl; feasible = λ feasible. absurd (is.is.not_allowed feasible) }
   ends load (printed.Text text) is = record { infeasible = λ infeasible. absurd (infeasible (told_feasible load text is)); feasible = λ _. refl }
 
   pub printed_promises : PrintedPromises tells names before after pb pa ended

@@ -1,9 +1,9 @@
 -- public: the account of the commands that tell of a plan by its waypoints: what their answers tell of the plan.
 use Rattle.std.specs.Prelude.{ℕ, List}
 use Rattle.qc_run.specs.Account.{Reader, texts}
+use Rattle.qc_run.specs.Broken.{TellsRule}
 use Rattle.qc_sheet_command.specs.declared.load.Load.{Load}
 use Rattle.qc_sheet_command.specs.Due.{load_due}
-use Rattle.qc_sheet_command.specs.Listed.{TellsRule}
 use Rattle.qc_picture_command.specs.declared.answer.Printed.{Printed}
 use Rattle.qc_picture_command.specs.declared.answer.Printed.TheVariants as printed
 use Rattle.qc_picture_command.specs.Planned.{TellsFigures, TellsPicture, printed_status, printed_text}

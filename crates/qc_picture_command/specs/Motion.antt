@@ -1,7 +1,8 @@
 -- inner: what is known of a plan whose drawing or figures are to be printed.
 use Rattle.std.specs.Prelude.{◌≡◌}
+use Rattle.qc_run.specs.Broken.{TellsRule}
 use Rattle.qc_sheet_command.specs.declared.load.Load.{Load}
-use Rattle.qc_sheet_command.specs.Listed.{IsLoad, TellsRule}
+use Rattle.qc_sheet_command.specs.Listed.{IsLoad}
 use Rattle.qc_picture_command.specs.declared.answer.Motion.{Motion}
 use Rattle.qc_picture_command.specs.declared.answer.Motion.TheVariants as motion
 use Rattle.qc_picture_command.specs.declared.answer.Planned.{Planned}

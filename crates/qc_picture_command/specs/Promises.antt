@@ -3,7 +3,7 @@
 use Rattle.std.specs.Prelude.{◌≡◌, ℕ, List, IfSome}
 use Rattle.qc_io.specs.Outside.{Files, View}
 use Rattle.qc_model.specs.Rules.{Feasible}
-use Rattle.qc_run.specs.Broken.{broken_text}
+use Rattle.qc_run.specs.Broken.{TellsRule, broken_text}
 use Rattle.qc_run.specs.declared.refusal.Refusal.TheVariants as refusal
 use Rattle.qc_run.specs.declared.status.Status.{Status}
 use Rattle.qc_run.specs.declared.status.Status.TheVariants as status
@@ -12,7 +12,6 @@ use Rattle.qc_run.specs.Reports.{Prints}
 use Rattle.qc_run.specs.Told.{EndsAsDue, EndsBy, IsFaultTold, IsTold, ReaderPromises}
 use Rattle.qc_sheet_command.specs.declared.load.Load.{Load}
 use Rattle.qc_sheet_command.specs.Due.{load_due}
-use Rattle.qc_sheet_command.specs.Listed.{TellsRule}
 use Rattle.qc_picture_command.specs.Account.{printer}
 
 -- the plan is feasible, and a text that tells of it was printed

@@ -15,8 +15,8 @@ use qc_figures::tracks_of;
 use qc_io::Shelf;
 use qc_model::{Direction, Instance, Schedule, direction_of};
 use qc_num::OutOfMemory;
-use qc_run::{Inputs, Stop, broken_of};
-use qc_sheet_command::{Load, broken_rule, read_load};
+use qc_run::{Inputs, Stop, broken_of, broken_rule};
+use qc_sheet_command::{Load, read_load};
 use std::alloc::Global;
 
 /// The way in which a schedule goes; `None` where it goes neither way.

@@ -9,12 +9,14 @@ use Rattle.qc_model.specs.declared.direction.Direction.TheVariants.{Up, Down}
 use Rattle.qc_model.specs.declared.schedule.Slot.{Slot}
 use Rattle.qc_model.specs.Instance.{InstanceView}
 use Rattle.qc_model.specs.Judge.{Goes, IsJudgeable}
-use Rattle.qc_model.specs.OneWay.{GoesOneWay}
+use Rattle.qc_model.specs.declared.turn.Turn.{Turn}
+use Rattle.qc_model.specs.declared.turn.Turn.TheVariants as turn
+use Rattle.qc_model.specs.OneWay.{GoesOneWay, IsAllowed, IsAllowedBy}
 use Rattle.qc_search.specs.declared.done.Kind.{Kind}
 use Rattle.qc_search.specs.declared.done.Kind.TheVariants as kind
 use Rattle.qc_search.specs.Run.{DoneView, IsGivenTold, IsTightEnd, best_end, outcome}
-use Rattle.qc_starts.specs.Tight.{IsTight}
-use Rattle.qc_tree.specs.Trees.{Tree}
+use Rattle.qc_starts.specs.Tight.{IsAllowedSo, IsTight}
+use Rattle.qc_tree.specs.Trees.{NoneEarlier, Tree}
 use Rattle.qc_num.specs.Bounds.{IsAtMost}
 use Rattle.qc_num.proofs.BoundLemmas.{at_most_through}
 use Rattle.qc_model.specs.Rules.{ends, starts}
@@ -35,8 +37,22 @@ goes_one_way : (inst : InstanceView) (sched : List Slot) (way : Direction) → G
 goes_one_way inst sched Up goes = inl goes
 goes_one_way inst sched Down goes = inr goes
 
-pub tight_goes : (inst : InstanceView) (sched : List Slot) → IsTight inst sched → GoesOneWay inst sched
-tight_goes inst sched tight = goes_one_way inst sched tight.way tight.goes
+-- one that cranes may follow as it is seen they may follow
+allowed_so : (t : Turn) (inst : InstanceView) (sched : List Slot) (way : Direction) → IsAllowedSo t inst sched way
+    → IsAllowedBy t inst sched
+allowed_so turn.OneWay inst sched way goes = goes_one_way inst sched way goes
+allowed_so turn.Free inst sched way goes = goes.0
+
+pub tight_allowed : (inst : InstanceView) (sched : List Slot) → IsTight inst sched → IsAllowed inst sched
+tight_allowed inst sched tight = allowed_so inst.turn inst sched tight.way tight.goes
+
+-- where no schedule ends before Never, none is known
+pub none_best : (inst : InstanceView) (bound : Bound) (best : Option (List Slot)) → bound ≡ Never
+    → NoneEarlier inst bound → IfSome best (IsTight inst) → best ≡ None
+none_best inst bound None never none tight = refl
+none_best inst bound (Some sched) never none tight =
+    absurd (subst (λ (b : Bound). IsAtMost b (Least (ends inst sched))) never
+    (none sched (tight_allowed inst sched tight)))
 
 -- ---- the status of a plan that was found
 
@@ -99,7 +115,7 @@ pub is_best :
     → IsFound inst nodes own tree done → (tells : TellsPlan inst done told)
     → nat_le told.end told.bound ≡ true → IsBest inst tells.sched
 is_best inst nodes own tree done told found tells le = record {
-  goes = tight_goes inst tells.sched
+  goes = tight_allowed inst tells.sched
       (of_some (IsTight inst) done.best tells.sched tells.best found.came.sound.tight);
   least = λ other goes.
       let late : told.bound ≤ ends inst other =
@@ -112,7 +128,7 @@ is_best inst nodes own tree done told found tells le = record {
 
 -- where no schedule ends before Never there is none
 pub none_goes : (inst : InstanceView) (nodes : ℕ) (own : Option (List Slot)) (tree : Tree) (done : DoneView)
-    → IsFound inst nodes own tree done → done.bound ≡ Never → (sched : List Slot) → ¬ GoesOneWay inst sched
+    → IsFound inst nodes own tree done → done.bound ≡ Never → (sched : List Slot) → ¬ IsAllowed inst sched
 none_goes inst nodes own tree done found never sched goes =
     subst (λ b. IsAtMost b (Least (ends inst sched))) never (found.came.sound.none_earlier sched goes)
 

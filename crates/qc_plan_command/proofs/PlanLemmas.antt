@@ -5,7 +5,8 @@ use Rattle.qc_num.specs.declared.bound.Bound.TheVariants.{Least, Never}
 use Rattle.qc_num.proofs.ReadingLemmas.{same_ok}
 use Rattle.qc_io.specs.Outside.{Files, View}
 use Rattle.qc_model.specs.declared.schedule.Slot.{Slot}
-use Rattle.qc_model.specs.OneWay.{GoesOneWay}
+use Rattle.qc_model.specs.declared.turn.Turn.{Turn}
+use Rattle.qc_model.specs.OneWay.{IsAllowed, IsAllowedBy}
 use Rattle.qc_search.specs.declared.done.Kind.{Kind}
 use Rattle.qc_search.specs.declared.done.Kind.TheVariants as kind
 use Rattle.qc_search.specs.Run.{branching_limit}
@@ -16,7 +17,7 @@ use Rattle.qc_run.specs.declared.broken.Broken.{Broken}
 use Rattle.qc_run.specs.declared.reading.OwnJob.{OwnJob}
 use Rattle.qc_run.specs.Broken.{broken_text}
 use Rattle.qc_run.specs.Due.{contents_in, own_job_due}
-use Rattle.qc_run.proofs.DueLemmas.{comes_due}
+use Rattle.qc_run.proofs.DueLemmas.{comes_due, own_job_turn}
 use Rattle.qc_run.specs.Reports.{Prints, answer_prints, answer_status}
 use Rattle.qc_run.specs.Told.{EndsBy, IsCutTold, NoneFailed}
 use Rattle.qc_run.proofs.StatusLemmas.{IsOwn, stop_is_not}
@@ -310,28 +311,27 @@ module _ (asked : Planning) (before after pb pa : View) (ended : Status)
     Ends held s = EndsBy EndsPlanned (own_job_due asked.inputs.own (contents_in held asked.inputs)) s
         ⊎ (s ≡ status.OutOfMemory)
 
-    -- a schedule of the planner's own that goes one way leaves a search its end
-    one_way_ends : (job : OwnJob) (s : Status) → IfSome job.own (GoesOneWay job.inst) → IsSearchEnd s
+    -- a schedule of the planner's own that cranes may follow leaves a search its end
+    allowed_ends : (job : OwnJob) (s : Status) → IfSome job.own (IsAllowed job.inst) → IsSearchEnd s
         → EndsPlanned job s
-    one_way_ends job s goes end = record { neither = never job.own goes; one_way = λ _. end }
+    allowed_ends job s allowed end = record { not_allowed = never job.own allowed; allowed = λ _. end }
       where
-        never : (own : Option (List Slot)) → IfSome own (GoesOneWay job.inst)
-            → IfSome own (λ sched. ¬ GoesOneWay job.inst sched → s ≡ status.Broken)
-        never None goes = tt
-        never (Some sched) goes = λ none. absurd (none goes)
+        never : (own : Option (List Slot)) → IfSome own (IsAllowed job.inst)
+            → IfSome own (λ sched. ¬ IsAllowed job.inst sched → s ≡ status.Broken)
+        never None allowed = tt
+        never (Some sched) allowed = λ none. absurd (none allowed)
 
-    -- one that goes neither way ends it with Broken
-    neither_ends : (job : OwnJob) (sched : List Slot) → job.own ≡ Some sched → ¬ GoesOneWay job.inst sched
+    -- one that they may not follow ends it with Broken
+    not_ends : (job : OwnJob) (sched : List Slot) → job.own ≡ Some sched → ¬ IsAllowed job.inst sched
         → EndsPlanned job status.Broken
-    neither_ends job sched is neither =
+    not_ends job sched is not =
         record {
-          neither = all job.own;
-          one_way = λ goes. absurd
-              (neither (of_some (GoesOneWay job.inst) job.own sched is goes));
+          not_allowed = all job.own;
+          allowed = λ allowed. absurd (not (of_some (IsAllowed job.inst) job.own sched is allowed));
         }
       where
         all : (own : Option (List Slot))
-            → IfSome own (λ sched. ¬ GoesOneWay job.inst sched → status.Broken ≡ status.Broken)
+            → IfSome own (λ sched. ¬ IsAllowed job.inst sched → status.Broken ≡ status.Broken)
         all None = tt
         all (Some sched) = λ _. refl
 
@@ -339,8 +339,11 @@ module _ (asked : Planning) (before after pb pa : View) (ended : Status)
         → IsOwnBroken asked before after told
         → Ends held status.Broken
     broken_ends held is told b =
-        inl (rw (comes_due (own_job_due asked.inputs.own) asked.inputs held before.files is (Ok b.job) b.due)
-        (neither_ends b.job b.sched b.own b.tells.neither))
+        let due = comes_due (own_job_due asked.inputs.own) asked.inputs held before.files is (Ok b.job) b.due in
+        let turn = own_job_turn asked.inputs.own (contents_in held asked.inputs) b.job due in
+        inl (rw due (not_ends b.job b.sched b.own
+        (λ allowed. b.tells.is.not_allowed
+        (subst (λ (t : Turn). IsAllowedBy t b.job.inst b.sched) turn allowed))))
 
     searched_ends : (held : Files) (a : PlanAnswer) (files : Option Files) → files ≡ Some held
         → IfSome files (λ held. IsWritten asked held after.files a)
@@ -350,8 +353,8 @@ module _ (asked : Planning) (before after pb pa : View) (ended : Status)
         let same : other ≡ held = cc in
         inl (subst (λ files. EndsBy EndsPlanned
         (own_job_due asked.inputs.own (contents_in files asked.inputs)) s) same
-        (rw (h.search.due) (one_way_ends
-        (record { inst = h.search.inst; own = h.search.own }) s h.search.goes end)))
+        (rw (h.search.due) (allowed_ends
+        (record { inst = h.search.inst; own = h.search.own }) s h.search.allowed end)))
 
     answer_ends : (held : Files) → before.files ≡ Some held → (r : Result PlanAnswer Stop) → account r
         → Ends held (answer_status plan_status r)

@@ -3,17 +3,19 @@ use Rattle.std.proofs.Common.{◌≡◌, ℕ, true, false, List, Option, None, S
 use Rattle.std.specs.Io.KnownBytes.{append_known}
 use Rattle.qc_io.specs.Outside.{Beside, Files, Rose, View, begun, beside, finished, with_file}
 use Rattle.qc_model.specs.declared.schedule.Slot.{Slot}
+use Rattle.qc_model.specs.declared.turn.Turn.{Turn}
 use Rattle.qc_model.specs.Instance.{InstanceView}
-use Rattle.qc_model.specs.OneWay.{GoesOneWay}
+use Rattle.qc_model.specs.OneWay.{IsAllowed}
 use Rattle.qc_search.specs.Run.{DoneView, IsSound, SearchView}
 use Rattle.qc_search.specs.Run.{IsSearched as Searched}
 use Rattle.qc_tree.specs.Trees.{tree_text}
 use Rattle.qc_run.specs.declared.reading.OwnJob.{OwnJob}
-use Rattle.qc_run.specs.Due.{own_job_due}
+use Rattle.qc_run.specs.Due.{contents_in, own_job_due}
 use Rattle.qc_run.specs.declared.broken.Broken.{Broken}
-use Rattle.qc_run.specs.Broken.{TellsBreak}
+use Rattle.qc_run.specs.Broken.{TellsBreakBy}
 use Rattle.qc_run.specs.Inputs.{Names}
 use Rattle.qc_run.specs.Steps.{ComesTo, IsStep}
+use Rattle.qc_run.proofs.DueLemmas.{own_job_turn}
 use Rattle.qc_plan_command.specs.declared.answer.PlanAnswer.{PlanAnswer}
 use Rattle.qc_plan_command.specs.declared.answer.PlanAnswer.TheVariants as answer
 use Rattle.qc_plan_command.specs.Account.{IsLeft, IsPlanning, IsSearched, IsStopped, IsWritten, Writes}
@@ -96,7 +98,7 @@ tree_left search given name (Some held) after written now done ran sound (inr e)
 
 -- ---- what the command comes to
 
-module _ (asked : Planning) (job : OwnJob) (goes : IfSome job.own (GoesOneWay job.inst))
+module _ (asked : Planning) (job : OwnJob) (allowed : IfSome job.own (IsAllowed job.inst))
     (found given : Option (List Slot))
     (chosen : IsChosen job.inst job.own found given) (before mid after : Option Files)
     (due_is : ComesTo (own_job_due asked.inputs.own) asked.inputs before (Ok job)) where
@@ -111,7 +113,8 @@ module _ (asked : Planning) (job : OwnJob) (goes : IfSome job.own (GoesOneWay jo
     inst = job.inst;
     own = job.own;
     due = due_is;
-    goes = goes;
+    turn = own_job_turn asked.inputs.own (contents_in held asked.inputs) job due_is;
+    allowed = allowed;
     tree = stored.tree;
     done = done;
     found = record { found = found; given = given; chosen = chosen; came = stored.came };
@@ -176,20 +179,21 @@ module _ (asked : Planning) (job : OwnJob) (goes : IfSome job.own (GoesOneWay jo
       }
 
 -- the writing of the search that is due was stopped
-stopped : (asked : Planning) (job : OwnJob) → IfSome job.own (GoesOneWay job.inst) → (before now : Option Files)
+stopped : (asked : Planning) (job : OwnJob) → IfSome job.own (IsAllowed job.inst) → (before now : Option Files)
     → ComesTo (own_job_due asked.inputs.own) asked.inputs before (Ok job)
     → IfSome before (λ held. IsLeft asked held now) → IfSome before (λ held. IsStopped asked held now)
-stopped asked job goes None now due left = tt
-stopped asked job goes (Some held) now due left = record { job = job; due = due; goes = goes; left = left }
+stopped asked job allowed None now due left = tt
+stopped asked job allowed (Some held) now due left =
+    record { job = job; due = due; allowed = allowed; left = left }
 
 -- where the plan's file was begun, which changed no file
-module _ (asked : Planning) (job : OwnJob) (goes : IfSome job.own (GoesOneWay job.inst)) (search : SearchView)
+module _ (asked : Planning) (job : OwnJob) (allowed : IfSome job.own (IsAllowed job.inst)) (search : SearchView)
     (before created mid after : Option Files) (is : search ≡ record { inst = job.inst; nodes = asked.nodes })
     (due : ComesTo (own_job_due asked.inputs.own) asked.inputs before (Ok job)) (same : created ≡ before) where
   -- it couldn't be begun
   pub at_begin : IfSome before (λ held. IsStopped asked held created)
   at_begin =
-      stopped asked job goes before created due
+      stopped asked job allowed before created due
       (as_it_was (λ held. IsLeft asked held created) before created same (λ held e. inl e))
 
   abbrev due_search : SearchView
@@ -200,7 +204,7 @@ module _ (asked : Planning) (job : OwnJob) (goes : IfSome job.own (GoesOneWay jo
     pub at_tree : IfSome created (λ held. IsTreeLeft search given asked.tree held mid)
         → IfSome before (λ held. IsStopped asked held mid)
     at_tree left =
-        stopped asked job goes before mid due (left_tree asked job goes found given chosen before mid mid due
+        stopped asked job allowed before mid due (left_tree asked job allowed found given chosen before mid mid due
         (subst (λ (f : Option Files). IfSome f (λ held. IsTreeLeft due_search given asked.tree held mid)) same
         (subst (λ (s : SearchView). IfSome created (λ held. IsTreeLeft s given asked.tree held mid)) is left)))
 
@@ -219,8 +223,8 @@ module _ (asked : Planning) (job : OwnJob) (goes : IfSome job.own (GoesOneWay jo
         ⊎ (after ≡ Some (with_plan held asked.plan job.inst done.best)))
         → IfSome before (λ held. IsStopped asked held after)
     at_plan done stored left =
-        stopped asked job goes before after due
-        (left_plan asked job goes found given chosen before mid after due done (stored_is done stored) left)
+        stopped asked job allowed before after due
+        (left_plan asked job allowed found given chosen before mid after due done (stored_is done stored) left)
 
     -- both were made
     pub at_end : (done : DoneView) (a : PlanAnswer)
@@ -229,19 +233,24 @@ module _ (asked : Planning) (job : OwnJob) (goes : IfSome job.own (GoesOneWay jo
         → Tells job.inst done a
         → IfSome before (λ held. IsWritten asked held after a)
     at_end done a stored wrote told =
-        both_written asked job goes found given chosen before mid after due done a
+        both_written asked job allowed found given chosen before mid after due done a
         (stored_is done stored) wrote told
 
 -- the planner's own plan was read, and breaks a rule
 pub own_broken : (asked : Planning) (names : Names) (before after : View) (job : OwnJob) (told : Broken)
     → names ≡ asked.inputs
     → IsStep (own_job_due names.own) names before after (Ok job)
-    → IsSomeAnd job.own (λ sched. TellsBreak job.inst sched told)
+    → job.inst.turn ≡ names.turn
+    → IsSomeAnd job.own (λ sched. TellsBreakBy job.inst.turn job.inst sched told)
     → IsPlanning asked before after (Ok (answer.Broken told))
-own_broken asked names before after job told same step tells =
-    by job.own refl tells (subst (λ (n : Names). IsStep (own_job_due n.own) n before after (Ok job)) same step)
+own_broken asked names before after job told same step turn tells =
+    by job.own refl
+    (subst (λ (t : Turn). IsSomeAnd job.own (λ sched. TellsBreakBy t job.inst sched told))
+    (turn ∙ ap (λ (n : Names). n.turn) same) tells)
+    (subst (λ (n : Names). IsStep (own_job_due n.own) n before after (Ok job)) same step)
   where
-    by : (own : Option (List Slot)) → job.own ≡ own → IsSomeAnd own (λ sched. TellsBreak job.inst sched told)
+    by : (own : Option (List Slot)) → job.own ≡ own
+        → IsSomeAnd own (λ sched. TellsBreakBy asked.inputs.turn job.inst sched told)
         → IsStep (own_job_due asked.inputs.own) asked.inputs before after (Ok job)
         → IsPlanning asked before after (Ok (answer.Broken told))
     by None is tells read = absurd tells

@@ -3,14 +3,14 @@ use Rattle.std.specs.Prelude.{◌≡◌, ◌⊎◌, List, Option, Some, Result, 
 use Rattle.qc_io.specs.Outside.{Files, Rose, View}
 use Rattle.qc_model.specs.declared.schedule.Slot.{Slot}
 use Rattle.qc_model.specs.Instance.{InstanceView}
-use Rattle.qc_model.specs.OneWay.{GoesOneWay}
+use Rattle.qc_model.specs.OneWay.{IsAllowed}
 use Rattle.qc_search.specs.Run.{DoneView}
 use Rattle.qc_tree.specs.Trees.{Tree}
 use Rattle.qc_run.specs.declared.refusal.Stop.{Stop}
 use Rattle.qc_run.specs.declared.status.Status.{Status}
 use Rattle.qc_run.specs.declared.broken.Broken.{Broken}
 use Rattle.qc_run.specs.declared.reading.OwnJob.{OwnJob}
-use Rattle.qc_run.specs.Broken.{TellsBreak}
+use Rattle.qc_run.specs.Broken.{TellsBreakBy}
 use Rattle.qc_run.specs.Due.{contents_in, own_job_due}
 use Rattle.qc_run.specs.Reports.{IsRun}
 use Rattle.qc_run.specs.Steps.{ComesTo, MayStop, Stops}
@@ -21,13 +21,14 @@ use Rattle.qc_plan_command.specs.Found.{IsFound, Tells}
 use Rattle.qc_plan_command.specs.Reports.{plan_prints, plan_prints_part, plan_status}
 use Rattle.qc_plan_command.specs.Stored.{with_plan, with_tree}
 
--- the search of the instance of the two files came to this; a plan of the planner's own, where one is named, goes
--- one way
+-- the search of the instance of the two files, with the turn that is asked about, came to this; cranes may follow a plan
+-- of the planner's own, where one is named
 pub record IsSearched (asked : Planning) (held : Files) : Type 0 where
   pub inst : InstanceView
   pub own : Option (List Slot)
   pub due : own_job_due asked.inputs.own (contents_in held asked.inputs) ≡ Ok (record { inst = inst; own = own })
-  pub goes : IfSome own (GoesOneWay inst)
+  pub turn : inst.turn ≡ asked.inputs.turn
+  pub allowed : IfSome own (IsAllowed inst)
   pub tree : Tree
   pub done : DoneView
   pub found : IsFound inst asked.nodes own tree done
@@ -51,12 +52,12 @@ IsLeft asked held now =
     (now ≡ Some held)
     ⊎ ((s : IsSearched asked held) × ((now ≡ Some (tree_files asked held s)) ⊎ (now ≡ Some (both_files asked held s))))
 
--- the instance of the two files was there to be searched, and a plan of the planner's own, where one is named, goes
--- one way; the writing of that search was stopped
+-- the instance of the two files was there to be searched, and cranes may follow a plan of the planner's own, where one is
+-- named; the writing of that search was stopped
 pub record IsStopped (asked : Planning) (held : Files) (now : Option Files) : Type 0 where
   pub job : OwnJob
   pub due : own_job_due asked.inputs.own (contents_in held asked.inputs) ≡ Ok job
-  pub goes : IfSome job.own (GoesOneWay job.inst)
+  pub allowed : IfSome job.own (IsAllowed job.inst)
   pub left : IsLeft asked held now
 
 -- the planner's own plan breaks a rule, and no file was begun
@@ -65,7 +66,7 @@ pub record IsOwnBroken (asked : Planning) (before after : View) (told : Broken) 
   pub due : ComesTo (own_job_due asked.inputs.own) asked.inputs before.files (Ok job)
   pub sched : List Slot
   pub own : job.own ≡ Some sched
-  pub tells : TellsBreak job.inst sched told
+  pub tells : TellsBreakBy asked.inputs.turn job.inst sched told
   pub files : after.files ≡ before.files
   pub made : after.made ≡ before.made
 

@@ -3,13 +3,18 @@ use Rattle.std.specs.Prelude.{◌≡◌, ℕ, ◌≤◌, List, Option, None, Som
 use Rattle.qc_num.specs.declared.bound.Bound.TheVariants.{Least, Never}
 use Rattle.qc_gantt.specs.Plan.{plan_in}
 use Rattle.qc_gantt.specs.PlanText.{plan_text}
+use Rattle.qc_freemove.specs.FreeMotion.{IsFreeSafe}
 use Rattle.qc_model.specs.declared.schedule.Slot.{Slot}
+use Rattle.qc_model.specs.declared.turn.Turn.{Turn}
+use Rattle.qc_model.specs.declared.turn.Turn.TheVariants as turn
 use Rattle.qc_model.specs.Instance.{InstanceView}
 use Rattle.qc_model.specs.Judge.{IsDirection}
 use Rattle.qc_model.specs.Motion.{IsSafe}
 use Rattle.qc_model.specs.Rules.{ends}
 use Rattle.qc_tree.specs.Trees.{Tree, tree_branchings, tree_value}
 use Rattle.qc_search.specs.Run.{DoneView, IsFirst, IsRun, IsSound, IsTightEnd}
+use Rattle.qc_plan_command.specs.declared.answer.Motion.{Motion}
+use Rattle.qc_plan_command.specs.declared.answer.Motion.TheVariants as motion
 use Rattle.qc_plan_command.specs.declared.answer.Planned.{Planned}
 use Rattle.qc_plan_command.specs.declared.answer.PlanAnswer.{PlanAnswer}
 use Rattle.qc_plan_command.specs.declared.answer.PlanAnswer.TheVariants as answer
@@ -59,9 +64,17 @@ pub record IsByTightEnd (inst : InstanceView) (end : ℕ) (sched : List Slot) : 
 abbrev pub IsReread : InstanceView → List Slot → Type 0
 IsReread inst sched = plan_in inst (plan_text inst sched) ≡ Ok sched
 
+-- the motion of a schedule is told by the turn of its cranes, and is safe: where they go one way in its direction, and
+-- else as that of a feasible schedule
+abbrev pub MovesSafely : Turn → InstanceView → List Slot → Motion → Type 0
+MovesSafely turn.OneWay inst sched (motion.OneWay direction track) =
+    IsDirection inst sched direction × IsSafe inst sched direction
+MovesSafely turn.OneWay inst sched (motion.Free track) = ⊥
+MovesSafely turn.Free inst sched (motion.OneWay direction track) = ⊥
+MovesSafely turn.Free inst sched (motion.Free track) = IsFreeSafe inst sched
+
 -- the best schedule is told, its end, the bound, the number of branchings, the end of the schedule that the
--- search began with, if any, and the best schedule's direction; in that direction its motion is safe, and its
--- plan is read as this schedule
+-- search began with, if any, and the best schedule's motion, which is safe; its plan is read as this schedule
 pub record TellsPlan (inst : InstanceView) (done : DoneView) (told : Planned) : Type 0 where
   pub sched : List Slot
   pub best : done.best ≡ Some sched
@@ -72,8 +85,7 @@ pub record TellsPlan (inst : InstanceView) (done : DoneView) (told : Planned) : 
   pub bound : done.bound ≡ Least told.bound
   pub branched : told.branched ≡ done.branched
   pub given : told.given ≡ done.given
-  pub direction : IsDirection inst sched told.direction
-  pub safe : IsSafe inst sched told.direction
+  pub safe : MovesSafely inst.turn inst sched told.motion
   pub reread : IsReread inst sched
 
 -- what an answer tells of a search

@@ -1,6 +1,9 @@
 pub mod Asked
+pub mod Rooms
+pub mod Ahead
 pub mod Found
 pub mod Stored
 pub mod Reports
+pub mod Lines
 pub mod Account
 pub mod Promises

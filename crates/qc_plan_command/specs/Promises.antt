@@ -2,7 +2,7 @@
 use Rattle.std.specs.Prelude.{◌≡◌, ◌≢◌, ℕ, ◌≤◌, ◌⊎◌, List, Option, None, Some, Ok, codes, IfSome}
 use Rattle.qc_io.specs.Outside.{Files, Rose, View}
 use Rattle.qc_model.specs.declared.schedule.Slot.{Slot}
-use Rattle.qc_model.specs.OneWay.{GoesOneWay}
+use Rattle.qc_model.specs.OneWay.{IsAllowed}
 use Rattle.qc_search.specs.declared.done.Kind.{Kind}
 use Rattle.qc_search.specs.declared.done.Kind.TheVariants as kind
 use Rattle.qc_search.specs.Run.{branching_limit}
@@ -10,7 +10,7 @@ use Rattle.qc_run.specs.declared.status.Status.{Status}
 use Rattle.qc_run.specs.declared.status.Status.TheVariants as status
 use Rattle.qc_run.specs.declared.broken.Broken.{Broken}
 use Rattle.qc_run.specs.declared.reading.OwnJob.{OwnJob}
-use Rattle.qc_run.specs.Broken.{TellsBreak, broken_text}
+use Rattle.qc_run.specs.Broken.{TellsBreakBy, broken_text}
 use Rattle.qc_run.specs.Due.{contents_in, own_job_due}
 use Rattle.qc_run.specs.Reports.{Prints}
 use Rattle.qc_run.specs.Told.{EndsBy, IsBest, IsCutTold, IsRefusal, IsRefusalTold, NoneFailed}
@@ -58,13 +58,13 @@ pub record IsUnplannedTold (asked : Planning) (held : Files) (now : Option Files
   pub report : Prints (unplanned_text bound branched) before.written after.written
   pub spent : branched ≡ asked.nodes
 
--- no schedule goes one way, as the tree shows that is written; all other files are as they were
+-- there is no schedule that cranes may follow, as the tree shows that is written; all other files are as they were
 pub record IsInfeasibleTold (asked : Planning) (held : Files) (now : Option Files)
     (before after : View) : Type 0 where
   pub branched : ℕ
   pub written : IsWritten asked held now (answer.Infeasible branched)
   pub kind : written.search.done.kind ≡ kind.Infeasible
-  pub none : (sched : List Slot) → ¬ GoesOneWay written.search.inst sched
+  pub none : (sched : List Slot) → ¬ IsAllowed written.search.inst sched
   pub report : Prints (infeasible_text branched) before.written after.written
 
 -- the planner's own plan breaks a rule, which is told
@@ -74,7 +74,7 @@ pub record IsOwnBrokenTold (asked : Planning) (held : Files) (before after : Vie
   pub sched : List Slot
   pub own : job.own ≡ Some sched
   pub told : Broken
-  pub tells : TellsBreak job.inst sched told
+  pub tells : TellsBreakBy asked.inputs.turn job.inst sched told
   pub report : Prints (broken_text told) before.written after.written
 
 -- a search ends with this status
@@ -85,10 +85,10 @@ IsSearchEnd status.BudgetPlan = Unit {0}
 IsSearchEnd status.BudgetNone = Unit {0}
 IsSearchEnd _ = ⊥
 
--- how a plan ends where no call failed: Broken exactly where the planner's own plan goes neither way
+-- how a plan ends where no call failed: Broken exactly where cranes may not follow the planner's own plan
 pub record EndsPlanned (job : OwnJob) (ended : Status) : Type 0 where
-  pub neither : IfSome job.own (λ sched. ¬ GoesOneWay job.inst sched → ended ≡ status.Broken)
-  pub one_way : IfSome job.own (GoesOneWay job.inst) → IsSearchEnd ended
+  pub not_allowed : IfSome job.own (λ sched. ¬ IsAllowed job.inst sched → ended ≡ status.Broken)
+  pub allowed : IfSome job.own (IsAllowed job.inst) → IsSearchEnd ended
 
 -- the shelf failed while the plan was written, and the sink got the line of that
 pub record IsStopTold (asked : Planning) (before after out_before out_after : View) : Type 0 where

@@ -4,11 +4,14 @@ ghost use Rattle.std.specs.Prelude.{◌≡◌};
 ghost use Rattle.qc_run.specs.Inputs.{names_of};
 ghost use Rattle.qc_plan_command.specs.Asked.{planning};
 
+use qc_model::Turn;
 use qc_run::Inputs;
 
-/// The names of a plan's files, and its limit of branchings.
+/// Which plans are asked about, the names of a plan's files, and its limit of branchings.
 #[derive(Clone, Copy, Debug)]
 pub struct PlanAsked<'a> {
+    /// Whether those that go one way are asked about, or all that are feasible.
+    pub turn: Turn,
     /// The ship file, which is read.
     pub ship: &'a str,
     /// The stowage list, which is read.
@@ -35,6 +38,7 @@ impl<'a> PlanAsked<'a> {
             tree: None,
             own: self.own,
             log: None,
+            turn: self.turn,
         }
     }
 }

@@ -2,52 +2,52 @@
 ghost use Rattle.std.specs.Prelude.{◌≡◌, ◌≤◌, IfOk, IfSome, IsSomeAnd, None, Ok, length};
 ghost use Rattle.qc_model.specs.Judge.{IsJudgeable};
 ghost use Rattle.qc_model.specs.Numbers.{most_branchings};
-ghost use Rattle.qc_model.specs.OneWay.{GoesOneWay};
-ghost use Rattle.qc_run.specs.Broken.{TellsBreak};
+ghost use Rattle.qc_model.specs.OneWay.{IsAllowed};
+ghost use Rattle.qc_run.specs.Broken.{TellsBreakBy};
 ghost use Rattle.qc_run.specs.Due.{own_job_due};
 ghost use Rattle.qc_run.specs.Steps.{ComesTo};
-ghost use Rattle.qc_sweep.specs.Plans.{IsFirstPlan};
 ghost use Rattle.qc_plan_command.specs.Account.{IsPlanRun, IsPlanning};
+ghost use Rattle.qc_plan_command.specs.Ahead.{IsAhead};
 ghost use Rattle.qc_plan_command.specs.Asked.{planning};
 ghost use Rattle.qc_plan_command.specs.Promises.{PlanPromises};
 ghost use Rattle.qc_plan_command.specs.Reports.{CanBeTold};
+ghost use Rattle.qc_plan_command.specs.Rooms.{IsRoom};
 
+use crate::ahead::{Ahead, ahead_of};
 use crate::answer::PlanAnswer;
 use crate::asked::PlanAsked;
 use crate::found::answer_of;
-use crate::given::{EFFORT, earlier};
+use crate::given::earlier;
 use crate::outlook::{root_bound, tell};
 use crate::report::report;
+use crate::room::{Room, room_for};
 use crate::store::{store_best, store_tree};
 use qc_io::{Shelf, Sink, WriteFault};
-use qc_model::{Instance, Schedule, direction_of};
-use qc_motion::Track;
 use qc_num::Tick;
-use qc_run::{Broken, OwnJob, Status, Stop, broken_of, read_own_job, report_stop};
+use qc_run::{Broken, OwnJob, Status, Stop, broken_by, broken_of, read_own_job, report_stop};
 use qc_search::Search;
-use qc_sweep::first_plan;
 use std::alloc::Global;
 
 /// Runs the search, writes its tree and the plan of the best schedule that it knows, and answers what is told of
-/// it. A schedule of the planner's own goes one way; the search begins with it, or with one that the sweeps found
-/// and that ends earlier. The plan's file is begun first, so that one that can't be made is told before the search
-/// is run; the bound is only told to whoever waits.
+/// it. Cranes may follow a schedule of the planner's own; the search begins with it, or with one that is found ahead
+/// of it and that ends earlier. The plan's file is begun first, so that one that can't be made is told before any
+/// search is run; the bound is only told to whoever waits.
 fn plan_instance<S: Shelf>(
     asked: &PlanAsked<'_>,
     job: OwnJob,
-    swept: Option<Schedule>,
+    ahead: Ahead,
     mut search: Search,
     bound: Option<Tick>,
-    track: Track,
+    room: Room,
     shelf: &mut S,
 ) -> PlanAnswer
     requires search { search ≡ record { inst = job.inst; nodes = asked.now.nodes } }
-    requires room { length job.inst.tasks ≤ track.tasks }
+    requires room { IsRoom job.inst.turn (length job.inst.tasks) room }
     requires due { ComesTo (own_job_due (planning asked.now).inputs.own) (planning asked.now).inputs
         (S.Sink.view shelf.old).files (Ok job) }
     requires judgeable { IfSome job.own (IsJudgeable job.inst) }
-    requires goes { IfSome job.own (GoesOneWay job.inst) }
-    requires swept { IfSome swept (IsFirstPlan job.inst) }
+    requires allowed { IfSome job.own (IsAllowed job.inst) }
+    requires ahead { IsAhead job.inst ahead }
     ensures serves { IsPlanning (planning asked.now) (S.Sink.view shelf.old) (S.Sink.view shelf.new) (Ok result) }
     ensures ready { CanBeTold result }
     ensures never_falls { (S.Sink.view shelf.old).faults ≤ (S.Sink.view shelf.new).faults }
@@ -56,35 +56,38 @@ fn plan_instance<S: Shelf>(
     if shelf.create(asked.plan).is_err() {
         return PlanAnswer::WriteFault;
     }
-    let given = earlier(&mut search, &inst, own.as_ref(), swept.as_ref());
+    let own = own.as_ref();
+    let found = ahead.found(&inst, own);
+    let given = earlier(&mut search, &inst, own, found.as_ref());
     tell(&mut search, given, asked.nodes, bound, shelf);
     let Ok(done) = store_tree(search, given, asked.tree, shelf) else {
         return PlanAnswer::WriteFault;
     };
     match store_best(&inst, &done, asked.plan, shelf) {
-        Ok(()) => answer_of(inst, done, track),
+        Ok(()) => answer_of(inst, done, room),
         Err(WriteFault) => PlanAnswer::WriteFault,
     }
 }
 
-/// What is told of the planner's own schedule where it breaks a rule; none where it goes one way or there is none.
+/// What is told of the planner's own schedule where it breaks a rule; none where cranes may follow it or there is none.
 fn break_of(job: &OwnJob) -> Option<Broken>
     requires { IfSome job.now.own (IsJudgeable job.now.inst) }
-    ensures none { result ≡ None → IfSome job.now.own (GoesOneWay job.now.inst) }
-    ensures some { IfSome result (λ told. IsSomeAnd job.now.own (λ sched. TellsBreak job.now.inst sched told)) }
+    ensures none { result ≡ None → IfSome job.now.own (IsAllowed job.now.inst) }
+    ensures some { IfSome result (λ told. IsSomeAnd job.now.own
+        (λ sched. TellsBreakBy job.now.inst.turn job.now.inst sched told)) }
 {
     match &job.own {
         None => None,
-        Some(sched) => match direction_of(&job.inst, sched) {
-            Ok(_) => None,
-            Err(broken) => Some(broken_of(&job.inst, broken)),
+        Some(sched) => match broken_by(job.inst.turn(), &job.inst, sched) {
+            None => None,
+            Some(broken) => Some(broken_of(&job.inst, broken)),
         },
     }
 }
 
-/// Reads the ship file and the stowage list, and the planner's own plan where one is named, which must go one way;
-/// looks for a first plan of their instance, searches it, and writes the tree and the plan. All memory is taken
-/// before anything is written.
+/// Reads the ship file and the stowage list, and the planner's own plan where one is named, which cranes must be able
+/// to follow; looks for a plan to begin with, searches, and writes the tree and the plan. All memory is taken before
+/// anything is written.
 fn serve<S: Shelf>(alloc: Global, asked: &PlanAsked<'_>, shelf: &mut S) -> Result<PlanAnswer, Stop>
     requires { asked.now.nodes ≤ most_branchings }
     ensures serves { IsPlanning (planning asked.now) (S.Sink.view shelf.old) (S.Sink.view shelf.new) result }
@@ -96,14 +99,14 @@ fn serve<S: Shelf>(alloc: Global, asked: &PlanAsked<'_>, shelf: &mut S) -> Resul
     if let Some(broken) = break_of(&job) {
         return Ok(PlanAnswer::Broken(broken));
     }
-    let track = Track::new(alloc, job.inst.task_count())?;
-    let swept = first_plan(alloc, &job.inst, EFFORT)?;
+    let room = room_for(alloc, &job.inst)?;
+    let ahead = ahead_of(alloc, &job.inst, asked.nodes)?;
     let search = Search::open(alloc, &job.inst, asked.nodes)?;
     let bound = root_bound(alloc, &job.inst).ok();
-    Ok(plan_instance(asked, job, swept, search, bound, track, shelf))
+    Ok(plan_instance(asked, job, ahead, search, bound, room, shelf))
 }
 
-/// Plans, and reports to `out`.
+/// Plans, and reports to `out`: by schedules that go one way, or by all that are feasible, as is asked.
 pub fn plan<S: Shelf, K: Sink>(
     alloc: Global,
     asked: &PlanAsked<'_>,

@@ -1,24 +1,25 @@
 //! What is told of a search.
-ghost use Rattle.std.specs.Prelude.{◌≤◌, IfSome, length};
+ghost use Rattle.std.specs.Prelude.{IfSome, length};
 ghost use Rattle.qc_model.specs.Judge.{IsJudgeable};
-ghost use Rattle.qc_tree.specs.Trees.{NoneEarlier};
 ghost use Rattle.qc_starts.specs.Tight.{IsTight};
+ghost use Rattle.qc_tree.specs.Trees.{NoneEarlier};
 ghost use Rattle.qc_plan_command.specs.Found.{IsReread, Tells};
 ghost use Rattle.qc_plan_command.specs.Reports.{CanBeTold};
+ghost use Rattle.qc_plan_command.specs.Rooms.{IsRoom};
 
 use crate::answer::{PlanAnswer, Planned};
-use qc_model::{Instance, direction_of, ends};
-use qc_motion::Track;
+use crate::room::{Room, motion_of};
+use qc_model::{Instance, ends};
 use qc_num::Bound;
 use qc_search::Done;
 
-/// The answer that tells what a search came to; the track is for its motion.
-pub(crate) fn answer_of(inst: Instance, done: Done, track: Track) -> PlanAnswer
+/// The answer that tells what a search came to; the room is for its motion.
+pub(crate) fn answer_of(inst: Instance, done: Done, room: Room) -> PlanAnswer
     requires none_earlier { NoneEarlier inst done.bound }
     requires judgeable { IfSome done.best (IsJudgeable inst) }
     requires tight { IfSome done.best (IsTight inst) }
     requires reread { IfSome done.best (IsReread inst) }
-    requires room { length inst.tasks ≤ track.tasks }
+    requires room { IsRoom inst.turn (length inst.tasks) room }
     ensures tells { Tells inst done result }
     ensures ready { CanBeTold result }
 {
@@ -31,18 +32,15 @@ pub(crate) fn answer_of(inst: Instance, done: Done, track: Track) -> PlanAnswer
     let Some(sched) = done.into_best() else {
         return PlanAnswer::Unplanned { bound, branched };
     };
-    let Ok(direction) = direction_of(&inst, &sched) else {
-        unreachable!()
-    };
+    let motion = motion_of(&inst, &sched, room);
     PlanAnswer::Planned(Planned {
         kind,
         end: ends(&inst, &sched),
         bound,
         branched,
         given,
-        direction,
+        motion,
         inst,
         sched,
-        track,
     })
 }

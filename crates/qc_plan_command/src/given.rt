@@ -1,7 +1,7 @@
 //! What a search begins with.
 ghost use Rattle.std.specs.Prelude.{◌≡◌, IfSome, option_map};
 ghost use Rattle.qc_model.specs.Judge.{IsJudgeable};
-ghost use Rattle.qc_model.specs.OneWay.{GoesOneWay};
+ghost use Rattle.qc_model.specs.OneWay.{IsAllowed};
 ghost use Rattle.qc_plan_command.specs.Found.{IsChosen, IsEarlier};
 
 use qc_model::{Instance, Schedule, ends};
@@ -20,12 +20,12 @@ fn earlier_of<'a>(
 ) -> &'a Schedule
     requires search { search.old.inst ≡ inst.now }
     requires own_judgeable { IsJudgeable inst.now own.now }
-    requires own_goes { GoesOneWay inst.now own.now }
+    requires own_allowed { IsAllowed inst.now own.now }
     requires judgeable { IsJudgeable inst.now found.now }
-    requires goes { GoesOneWay inst.now found.now }
+    requires allowed { IsAllowed inst.now found.now }
     ensures stays { search.new ≡ search.old }
     ensures judgeable { IsJudgeable inst.now result.now }
-    ensures goes { GoesOneWay inst.now result.now }
+    ensures allowed { IsAllowed inst.now result.now }
     ensures earlier { IsEarlier inst.now own.now found.now result.now }
 {
     if ends(inst, found) < search.tight_end(own) {
@@ -45,12 +45,12 @@ pub(crate) fn earlier<'a>(
 ) -> Option<&'a Schedule>
     requires search { search.old.inst ≡ inst.now }
     requires own_judgeable { IfSome own (λ sched. IsJudgeable inst.now sched.now) }
-    requires own_goes { IfSome own (λ sched. GoesOneWay inst.now sched.now) }
+    requires own_allowed { IfSome own (λ sched. IsAllowed inst.now sched.now) }
     requires judgeable { IfSome found (λ sched. IsJudgeable inst.now sched.now) }
-    requires goes { IfSome found (λ sched. GoesOneWay inst.now sched.now) }
+    requires allowed { IfSome found (λ sched. IsAllowed inst.now sched.now) }
     ensures stays { search.new ≡ search.old }
     ensures judgeable { IfSome result (λ sched. IsJudgeable inst.now sched.now) }
-    ensures goes { IfSome result (λ sched. GoesOneWay inst.now sched.now) }
+    ensures allowed { IfSome result (λ sched. IsAllowed inst.now sched.now) }
     ensures chosen { IsChosen inst.now (option_map (λ sched. sched.now) own.entry)
         (option_map (λ sched. sched.now) found.entry) (option_map (λ sched. sched.now) result) }
 {

@@ -2,7 +2,8 @@
 ghost use Rattle.std.specs.Prelude.{◌≡◌, ◌≤◌, List, IfOk, IfSome};
 ghost use Rattle.qc_model.specs.declared.schedule.Slot.{Slot};
 ghost use Rattle.qc_model.specs.Judge.{IsJudgeable};
-ghost use Rattle.qc_model.specs.OneWay.{GoesOneWay, GoesUp};
+ghost use Rattle.qc_model.specs.Frames.{GoesBy};
+ghost use Rattle.qc_model.specs.OneWay.{IsAllowed};
 ghost use Rattle.qc_model.specs.Rules.{ends};
 ghost use Rattle.qc_num.specs.declared.bound.Bound.TheVariants.{Least};
 ghost use Rattle.qc_tree.specs.Trees.{NoneEarlier};
@@ -10,27 +11,27 @@ ghost use Rattle.qc_tree.specs.Trees.{NoneEarlier};
 use qc_bounds::work_bound;
 use qc_close::Crew;
 use qc_io::{Outlook, Shelf};
-use qc_model::{Instance, Schedule, Turn, mirror};
+use qc_model::{Instance, Schedule, mirror};
 use qc_num::{OutOfMemory, Tick};
 use qc_search::Search;
 use std::alloc::Global;
 
-/// An end before which the work doesn't fit where it goes upward.
-fn upward_bound(alloc: Global, inst: &Instance) -> Result<Tick, OutOfMemory>
-    ensures { IfOk result (λ bound. (sched : List Slot) → GoesUp inst.now sched
+/// An end before which the work doesn't fit: where cranes go one way, where it goes upward.
+fn seen_bound(alloc: Global, inst: &Instance) -> Result<Tick, OutOfMemory>
+    ensures { IfOk result (λ bound. (sched : List Slot) → GoesBy inst.now.turn inst.now sched
         → bound ≤ ends inst.now sched) }
 {
-    let crew = Crew::open(alloc, inst, Turn::OneWay)?;
+    let crew = Crew::open(alloc, inst, inst.turn())?;
     Ok(work_bound(&crew))
 }
 
-/// An end that no schedule that goes one way comes before, by its work.
+/// An end that no schedule comes before that cranes may follow, by its work.
 pub(crate) fn root_bound(alloc: Global, inst: &Instance) -> Result<Tick, OutOfMemory>
     ensures { IfOk result (λ bound. NoneEarlier inst.now (Least bound)) }
 {
     let turned = mirror(alloc, inst)?;
-    let up = upward_bound(alloc, inst)?;
-    let down = upward_bound(alloc, &turned)?;
+    let up = seen_bound(alloc, inst)?;
+    let down = seen_bound(alloc, &turned)?;
     Ok(up.min(down))
 }
 
@@ -43,7 +44,7 @@ pub(crate) fn tell<S: Shelf>(
     shelf: &mut S,
 )
     requires judgeable { IfSome given (λ sched. IsJudgeable search.old.inst sched.now) }
-    requires goes { IfSome given (λ sched. GoesOneWay search.old.inst sched.now) }
+    requires allowed { IfSome given (λ sched. IsAllowed search.old.inst sched.now) }
     ensures stays { search.new ≡ search.old }
     ensures shelf_stays { S.Sink.view shelf.new ≡ S.Sink.view shelf.old }
 {

@@ -1,12 +1,15 @@
 //! The report of a plan.
 ghost use Rattle.std.specs.Prelude.{◌≡◌, ◌≤◌, length};
-ghost use Rattle.qc_run.specs.Moved.{WritesMoved};
 ghost use Rattle.qc_run.specs.Reports.{Reports};
-ghost use Rattle.qc_plan_command.specs.Reports.{CanBeTold, IsPlanCut, IsPlanPrinted, IsReady, found_status, given_text, infeasible_text, kind_word, plan_prints, plan_prints_part, plan_status, planned_text, unplanned_text};
+ghost use Rattle.qc_plan_command.specs.Lines.{WritesLines, WritesPlan};
+ghost use Rattle.qc_plan_command.specs.Reports.{CanBeMoved, CanBeTold, IsPlanCut, IsPlanPrinted, IsReady, found_status, given_text, infeasible_text, kind_word, plan_prints, plan_prints_part, plan_status, planned_text, unplanned_text, way_text};
+ghost use Rattle.qc_model.specs.Judge.{IsJudgeable};
 
-use crate::answer::{PlanAnswer, Planned};
+use crate::answer::{Motion, PlanAnswer, Planned};
+use qc_freemove::write_free_tracks;
 use qc_gantt::write_tracks;
 use qc_io::{Sink, WriteFault, put_all};
+use qc_model::{Instance, Schedule};
 use qc_num::{Text, Tick};
 use qc_run::{Status, direction_text, report_broken, report_text};
 use qc_search::Kind;
@@ -38,6 +41,21 @@ fn given_text(given: Option<Tick>) -> Text<32>
     }
 }
 
+/// The way of a plan whose cranes go one way; that of others isn't told.
+fn way_text(motion: &Motion) -> Text<32>
+    ensures text { result ≡ way_text motion.now }
+    ensures short { length result ≤ 20 }
+{
+    match motion {
+        Motion::OneWay { direction, .. } => {
+            let mut text = Text::of(b"\ndirection ");
+            text.push(direction_text(*direction));
+            text
+        }
+        Motion::Free { .. } => Text::new(),
+    }
+}
+
 /// The summary of a search that knows a schedule.
 fn planned_text(told: &Planned) -> Text<160>
     ensures { result ≡ planned_text told.now }
@@ -52,8 +70,7 @@ fn planned_text(told: &Planned) -> Text<160>
     text.push_number(told.branched);
     text.push(b"\ngiven ");
     text.push(given_text(told.given).as_bytes());
-    text.push(b"\ndirection ");
-    text.push(direction_text(told.direction));
+    text.push(way_text(&told.motion).as_bytes());
     text.push(b"\n");
     text
 }
@@ -70,7 +87,7 @@ fn unplanned_text(bound: Tick, branched: u64) -> Text<64>
     text
 }
 
-/// What is told of a search that showed that no schedule goes one way.
+/// What is told of a search that showed that there is no schedule.
 fn infeasible_text(branched: u64) -> Text<64>
     ensures { result ≡ infeasible_text branched }
 {
@@ -80,21 +97,39 @@ fn infeasible_text(branched: u64) -> Text<64>
     text
 }
 
+/// Writes where each crane stands.
+fn put_lines<K: Sink>(
+    inst: &Instance,
+    sched: &Schedule,
+    motion: Motion,
+    out: &mut K,
+) -> Result<(), WriteFault>
+    requires judgeable { IsJudgeable inst.now sched.now }
+    requires ready { CanBeMoved inst.now sched.now motion }
+    ensures { WritesLines inst.now sched.now motion (K.view out.old) (K.view out.new) result }
+{
+    match motion {
+        Motion::OneWay {
+            direction,
+            mut track,
+        } => write_tracks(inst, sched, direction, &mut track, out),
+        Motion::Free { mut track } => write_free_tracks(inst, sched, &mut track, out),
+    }
+}
+
 /// Writes the summary of a search that knows a schedule, and the motion of each crane.
 fn put_moved<K: Sink>(told: Planned, out: &mut K) -> Result<(), WriteFault>
     requires { IsReady told }
-    ensures { WritesMoved (K.view out.old) (K.view out.new) (planned_text told)
-        told.inst told.sched told.direction result }
+    ensures { WritesPlan told (K.view out.old) (K.view out.new) result }
 {
     put_all(out, planned_text(&told).as_bytes())?;
     let Planned {
         inst,
         sched,
-        mut track,
-        direction,
+        motion,
         ..
     } = told;
-    write_tracks(&inst, &sched, direction, &mut track, out)
+    put_lines(&inst, &sched, motion, out)
 }
 
 /// The status of a plan that was found.

@@ -5,7 +5,7 @@ ghost use Rattle.qc_gantt.specs.Plan.{HasShortEnds};
 ghost use Rattle.qc_gantt.specs.PlanText.{plan_text};
 ghost use Rattle.qc_io.specs.Writes.{Counts};
 ghost use Rattle.qc_model.specs.Judge.{IsJudgeable};
-ghost use Rattle.qc_model.specs.OneWay.{GoesOneWay};
+ghost use Rattle.qc_model.specs.OneWay.{IsAllowed};
 ghost use Rattle.qc_search.specs.Run.{IsSound};
 ghost use Rattle.qc_plan_command.specs.Found.{IsReread};
 ghost use Rattle.qc_plan_command.specs.Stored.{IsTreeLeft, IsTreeStored, with_plan};
@@ -23,7 +23,7 @@ pub fn store_tree<S: Shelf>(
     shelf: &mut S,
 ) -> Result<Done, WriteFault>
     requires judgeable { IfSome given (λ sched. IsJudgeable search.inst sched.now) }
-    requires goes { IfSome given (λ sched. GoesOneWay search.inst sched.now) }
+    requires allowed { IfSome given (λ sched. IsAllowed search.inst sched.now) }
     ensures ok { IfOk result (λ done. IfSome (S.Sink.view shelf.old).files (λ held.
         IsTreeStored search (option_map (λ sched. sched.now) given.entry) name.now held
         (S.Sink.view shelf.new).files done)) }

@@ -251,7 +251,7 @@ module _ (inst : InstanceView) (valid : Valid inst) where
       → work_over version inst ds end ≡ true → end < 10 ^ 15
   over_few without_berths ds fits end over = work_few ds fits end over
   over_few with_berths ds fits end over = work_few ds fits end over
-  over_few with_packed ds fits end over = omega (arith, closed_soon inst inst.turn (cranes_of inst ds) end valid over)
+  over_few with_packed ds fits end over = omega (arith, closed_soon inst inst.turn (cranes_of inst ds) end valid (cranes_range inst ds fits) over)
 
   -- how late a task starts at the least, after so many rounds of putting off
   abbrev latest : ℕ → ℕ

@@ -25,7 +25,7 @@ pub(crate) enum Stage {
     Title,
     /// The title: the word of the part for the instance is due.
     Up,
-    /// The first line of a part, or its word: a node of it is due, or behind its last what follows it.
+    /// What begins a part, and some of its nodes: a node is due, or behind the last what follows the part.
     Part,
     /// The last line.
     Done,

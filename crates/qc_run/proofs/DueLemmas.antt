@@ -1,15 +1,20 @@
--- What stopped is due where no call failed.
-use Rattle.std.proofs.Common.{◌≡◌, ℕ, List, Option, None, Some, Result, Err, refl, sym, ap, inl, inr, ◌∙◌, ◌⊎◌, subst, subst₂, IfSome, IsSomeAnd, option_and_then}
+-- What stopped is due where no call failed, and the turn of what came through.
+use Rattle.std.proofs.Common.{◌≡◌, ℕ, List, Option, None, Some, Result, Ok, Err, refl, sym, ap, inl, inr, ◌∙◌, ◌⊎◌, subst, subst₂, IfSome, IsSomeAnd, option_and_then}
 use Rattle.std.specs.FinMap.{get}
+use Rattle.qc_num.specs.Reading.{◌>>=◌}
+use Rattle.qc_num.proofs.ReadingLemmas.{bind_ok, same_ok}
 use Rattle.qc_io.specs.Outside.{Files, View, IsMissing, Rose}
+use Rattle.qc_model.specs.Instance.{InstanceView, with_turn}
+use Rattle.qc_tasks.specs.InstanceOf.{instance_of}
 use Rattle.qc_run.specs.declared.inputs.Input.{Input}
 use Rattle.qc_run.specs.declared.inputs.Input.TheVariants as input
 use Rattle.qc_run.specs.declared.refusal.Refusal.{Refusal}
 use Rattle.qc_run.specs.declared.refusal.Refusal.TheVariants as refusal
 use Rattle.qc_run.specs.declared.refusal.Stop.{Stop}
 use Rattle.qc_run.specs.declared.refusal.Stop.TheVariants as stop
+use Rattle.qc_run.specs.declared.reading.OwnJob.{OwnJob}
 use Rattle.qc_run.specs.Inputs.{Names, name_of}
-use Rattle.qc_run.specs.Due.{Contents, contents_in, without}
+use Rattle.qc_run.specs.Due.{Contents, contents_in, instance_due, moves_due, own_due, own_job_due, ship_due, without}
 use Rattle.qc_run.specs.Steps.{ComesTo, Stops}
 
 some_and : {A : Type 0} {P : A → Type 0} (o : Option A) → IsSomeAnd o P → (a : A) × (o ≡ Some a) × P a
@@ -61,3 +66,17 @@ module _ {A : Type 0} (step : Contents → Result A Refusal) (names : Names) whe
   }
   stops_from before mid after files reads (stop.Refused why) h =
       (h.0 ∙ reads, subst (λ (f : Option Files). ComesTo step names f (Err why)) files h.1)
+
+-- ---- the instance that is due has the turn that is asked about
+
+pub instance_turn : (contents : Contents) (inst : InstanceView) → instance_due contents ≡ Ok inst → inst.turn ≡ contents.turn
+instance_turn contents inst e =
+    let (ship, first, rest) = bind_ok (ship_due contents) (λ ship. moves_due ship contents >>= λ rows. Ok (with_turn (instance_of ship rows) contents.turn)) inst e in
+    let (rows, second, made) = bind_ok (moves_due ship contents) (λ rows. Ok (with_turn (instance_of ship rows) contents.turn)) inst rest in
+    sym (ap (λ (i : InstanceView). i.turn) (same_ok made))
+
+pub own_job_turn : (name : Option (List ℕ)) (contents : Contents) (job : OwnJob) → own_job_due name contents ≡ Ok job → job.inst.turn ≡ contents.turn
+own_job_turn name contents job e =
+    let (inst, first, rest) = bind_ok (instance_due contents) (λ inst. own_due name inst contents >>= λ own. Ok (record { inst = inst; own = own })) job e in
+    let (own, second, made) = bind_ok (own_due name inst contents) (λ own. Ok (record { inst = inst; own = own })) job rest in
+    ap (λ (j : OwnJob). j.inst.turn) (sym (same_ok made)) ∙ instance_turn contents inst first

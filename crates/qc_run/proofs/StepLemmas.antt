@@ -5,7 +5,7 @@ use Rattle.std.specs.FinMap.{get}
 use Rattle.qc_num.specs.Reading.{◌>>=◌, with_fault}
 use Rattle.qc_io.specs.Outside.{Files, View, IsMissing, file_at}
 use Rattle.qc_gantt.specs.Plan.{plan_in}
-use Rattle.qc_model.specs.Instance.{InstanceView}
+use Rattle.qc_model.specs.Instance.{InstanceView, with_turn}
 use Rattle.qc_tree.specs.Trees.{Tree, IsTree, tree_text}
 use Rattle.qc_replay.specs.declared.fault.TreeFault.{TreeFault}
 use Rattle.qc_replay.specs.Walk.{tree_in}
@@ -96,10 +96,10 @@ then_early (Err e) next first second = first
 
 pub instance_early : (contents : Contents) → IfErr (instance_due contents) IsEarly
 instance_early contents =
-    then_early (ship_due contents) (λ ship. moves_due ship contents >>= λ rows. Ok (instance_of ship rows))
+    then_early (ship_due contents) (λ ship. moves_due ship contents >>= λ rows. Ok (with_turn (instance_of ship rows) contents.turn))
     (then_early (input_due input.Ship contents) (λ bytes. with_fault refusal.BadShip (ship_file bytes)) (input_early input.Ship contents.ship)
     (λ bytes. fault_early refusal.BadShip (λ _. tt) (ship_file bytes)))
-    (λ ship. then_early (moves_due ship contents) (λ rows. Ok (instance_of ship rows))
+    (λ ship. then_early (moves_due ship contents) (λ rows. Ok (with_turn (instance_of ship rows) contents.turn))
     (then_early (input_due input.Stow contents) (λ bytes. with_fault refusal.BadStow (moves_in ship bytes)) (input_early input.Stow contents.stow)
     (λ bytes. fault_early refusal.BadStow (λ _. tt) (moves_in ship bytes)))
     (λ rows. tt))

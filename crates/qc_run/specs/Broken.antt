@@ -4,20 +4,34 @@ use Rattle.qc_model.specs.declared.rules.Break.{Break}
 use Rattle.qc_model.specs.declared.rules.Rule.{Rule}
 use Rattle.qc_model.specs.declared.rules.Rule.TheVariants as rule
 use Rattle.qc_model.specs.declared.schedule.Slot.{Slot}
+use Rattle.qc_model.specs.declared.turn.Turn.{Turn}
+use Rattle.qc_model.specs.declared.turn.Turn.TheVariants.{OneWay, Free}
 use Rattle.qc_model.specs.Instance.{InstanceView, task}
 use Rattle.qc_model.specs.Judge.{IsFirstBreak, rule_text}
-use Rattle.qc_model.specs.OneWay.{GoesOneWay}
+use Rattle.qc_model.specs.OneWay.{IsAllowedBy}
 use Rattle.qc_model.specs.Tasks.{task_text}
 use Rattle.qc_run.specs.declared.broken.Broken.{Broken}
 
--- the schedule goes neither way; the first rule that it breaks on the way up is told, with the names of the tasks
-pub record TellsBreak (inst : InstanceView) (sched : List Slot) (told : Broken) : Type 0 where
-  pub broken : Break
-  pub neither : ¬ GoesOneWay inst sched
+-- cranes with this turn may not follow the schedule, and this is the first rule that it breaks on the way up
+pub record IsBrokenBy (turn : Turn) (inst : InstanceView) (sched : List Slot) (broken : Break) : Type 0 where
+  pub not_allowed : ¬ IsAllowedBy turn inst sched
   pub first : IsFirstBreak inst sched broken
+
+-- that is told, with the names of the tasks
+pub record TellsBreakBy (turn : Turn) (inst : InstanceView) (sched : List Slot) (told : Broken) : Type 0 where
+  pub broken : Break
+  pub is : IsBrokenBy turn inst sched broken
   pub rule_told : told.rule ≡ broken.rule
   pub first_told : told.first ≡ task_text (task inst broken.first)
   pub second_told : told.second ≡ task_text (task inst broken.second)
+
+-- the schedule goes neither way, and its first break is told
+abbrev pub TellsBreak : InstanceView → List Slot → Broken → Type 0
+TellsBreak = TellsBreakBy OneWay
+
+-- the schedule isn't feasible: it breaks a rule other than that of one way, and the first one is told
+abbrev pub TellsRule : InstanceView → List Slot → Broken → Type 0
+TellsRule = TellsBreakBy Free
 
 -- the names of the task or of the two tasks at which a rule is broken
 abbrev pub tasks_named : Rule → List ℕ → List ℕ → List ℕ

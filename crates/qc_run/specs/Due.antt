@@ -5,7 +5,7 @@ use Rattle.qc_num.specs.Reading.{◌>>=◌, with_fault}
 use Rattle.qc_io.specs.Outside.{Files}
 use Rattle.qc_gantt.specs.Plan.{plan_in}
 use Rattle.qc_model.specs.declared.schedule.Slot.{Slot}
-use Rattle.qc_model.specs.Instance.{InstanceView}
+use Rattle.qc_model.specs.Instance.{InstanceView, with_turn}
 use Rattle.qc_replay.specs.declared.fault.Replayed.{Replayed}
 use Rattle.qc_replay.specs.Walk.{tree_in}
 use Rattle.qc_ship.specs.Ship.{ShipView}
@@ -25,7 +25,7 @@ use Rattle.qc_run.specs.declared.reading.OwnJob.{OwnJob}
 use Rattle.qc_run.specs.declared.refusal.LogFault.TheVariants as log
 use Rattle.qc_run.specs.declared.watched.Watched.{Watched}
 
--- the bytes of the files that are read; none where one isn't held or isn't read
+-- the bytes of the files that are read; none where one isn't held or isn't read; and the turn that is asked about
 abbrev pub Contents : Type 0
 Contents = PerInput
 
@@ -47,6 +47,7 @@ contents_in held names = record {
   tree = option_and_then (get held) names.tree;
   own = option_and_then (get held) names.own;
   log = option_and_then (get held) names.log;
+  turn = names.turn;
 }
 
 -- the greatest length of a file that is read whole, in bytes
@@ -74,12 +75,13 @@ moves_due ship contents = do
   bytes ← input_due input.Stow contents
   with_fault refusal.BadStow (moves_in ship bytes)
 
--- the instance of the files, or the first refusal: first of the ship file, then of the stowage list
+-- the instance of the files with the turn that is asked about, or the first refusal: first of the ship file, then of the
+-- stowage list
 abbrev pub instance_due : Contents → Result InstanceView Refusal
 instance_due contents = do
   ship ← ship_due contents
   rows ← moves_due ship contents
-  Ok (instance_of ship rows)
+  Ok (with_turn (instance_of ship rows) contents.turn)
 
 -- the schedule of the plan in a file, or the first refusal of that file
 abbrev pub schedule_due : Input → InstanceView → Contents → Result (List Slot) Refusal

@@ -1,10 +1,13 @@
--- public: the names of the files that a command reads, by what each is for.
+-- public: the names of the files that a command reads, by what each is for, and how cranes may move.
 use Rattle.std.specs.Prelude.{List, ℕ, Option, None, Some, IsSome, option_map}
+use Rattle.qc_model.specs.declared.turn.Turn.{Turn}
+use Rattle.qc_model.specs.declared.turn.Turn.TheVariants.{OneWay}
 use Rattle.qc_run.specs.declared.inputs.Input.{Input}
 use Rattle.qc_run.specs.declared.inputs.Input.TheVariants as input
 use Rattle.qc_run.specs.declared.inputs.Inputs.{Inputs}
 
--- one for each file, by what it is for; none where the command reads no such file
+-- one for each file, by what it is for; none where the command reads no such file; and the turn of the instance: whether
+-- schedules that go one way are asked about, or all that are feasible
 pub record PerInput : Type 0 where
   pub ship : Option (List ℕ)
   pub stow : Option (List ℕ)
@@ -12,6 +15,7 @@ pub record PerInput : Type 0 where
   pub tree : Option (List ℕ)
   pub own : Option (List ℕ)
   pub log : Option (List ℕ)
+  pub turn : Turn
 
 abbrev pub of_input : Input → PerInput → Option (List ℕ)
 of_input input.Ship each = each.ship
@@ -28,9 +32,10 @@ Names = PerInput
 abbrev pub name_of : Input → Names → Option (List ℕ)
 name_of = of_input
 
--- the command reads no file
+-- the command reads no file; cranes go one way
 abbrev pub no_names : Names
-no_names = record { ship = None; stow = None; plan = None; tree = None; own = None; log = None }
+no_names =
+    record { ship = None; stow = None; plan = None; tree = None; own = None; log = None; turn = OneWay }
 
 abbrev pub names_of : Inputs → Names
 names_of inputs = record {
@@ -40,6 +45,7 @@ names_of inputs = record {
   tree = option_map (λ name. name.now) inputs.tree;
   own = option_map (λ name. name.now) inputs.own;
   log = option_map (λ name. name.now) inputs.log;
+  turn = inputs.turn;
 }
 
 -- the command reads the file whole; a tree's file is read line by line

@@ -4,8 +4,8 @@ use Rattle.qc_num.specs.declared.bound.Bound.{Bound}
 use Rattle.qc_model.specs.Instance.{InstanceView}
 use Rattle.qc_tree.specs.Trees.{IsTree, NoneEarlier, Tree, tree_text, tree_value}
 
--- the file is the text of a tree of the instance with this value, which no schedule that goes one way beats; where
--- it is Never, no schedule goes one way
+-- the file is the text of a tree of the instance with this value, which no schedule of the instance's turn beats; where
+-- it is Never, there is none
 pub record IsTreeShown (inst : InstanceView) (file : Option (List ℕ)) (bound : Bound) : Type 0 where
   pub tree : Tree
   pub is_tree : IsTree inst tree

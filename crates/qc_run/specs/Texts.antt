@@ -55,7 +55,7 @@ input_text input.Own = codes "own"
 input_text input.Log = codes "log"
 
 abbrev pub usage_text : List ℕ
-usage_text = codes "Usage\nqc plan SHIP STOW PLAN TREE [--nodes N] [--from OWN]\nqc check SHIP STOW PLAN TREE\nqc tasks SHIP STOW\nqc show SHIP STOW PLAN\nqc make NUMBER HATCHES CRANES\nqc sheet SHIP STOW PLAN\nqc dispatch SHIP STOW PLAN LOG\nqc watch SHIP LOG\nqc picture SHIP STOW PLAN\nqc report SHIP STOW PLAN\n"
+usage_text = codes "Usage\nqc plan SHIP STOW PLAN TREE [--nodes N] [--from OWN]\nqc check SHIP STOW PLAN TREE\nqc tasks SHIP STOW\nqc show SHIP STOW PLAN\nqc make NUMBER HATCHES CRANES\nqc free SHIP STOW PLAN TREE [--nodes N] [--from OWN]\nqc freecheck SHIP STOW PLAN TREE\nqc sheet SHIP STOW PLAN\nqc dispatch SHIP STOW PLAN LOG\nqc watch SHIP LOG\nqc picture SHIP STOW PLAN\nqc report SHIP STOW PLAN\n"
 
 -- a line: the text and a line feed
 abbrev pub line : List ℕ → List ℕ

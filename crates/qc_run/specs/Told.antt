@@ -3,7 +3,7 @@ use Rattle.std.specs.Prelude.{◌≡◌, ◌≢◌, ◌⊎◌, ◌≤◌, List, 
 use Rattle.qc_io.specs.Outside.{Files, Rose, View}
 use Rattle.qc_model.specs.declared.schedule.Slot.{Slot}
 use Rattle.qc_model.specs.Instance.{InstanceView}
-use Rattle.qc_model.specs.OneWay.{GoesOneWay}
+use Rattle.qc_model.specs.OneWay.{IsAllowed}
 use Rattle.qc_model.specs.Rules.{ends}
 use Rattle.qc_run.specs.declared.refusal.Refusal.{Refusal}
 use Rattle.qc_run.specs.declared.refusal.Stop.{Stop}
@@ -16,10 +16,11 @@ use Rattle.qc_run.specs.Inputs.{Names}
 use Rattle.qc_run.specs.Reports.{Printing, Prints, PrintsPart, answer_prints}
 use Rattle.qc_run.specs.Texts.{refusal_status, refusal_text}
 
--- the schedule goes one way, and no schedule that goes one way ends earlier
+-- cranes may follow the schedule, and no schedule that they may follow ends earlier: of those that go one way, or of all
+-- feasible ones, as the instance's turn says
 pub record IsBest (inst : InstanceView) (sched : List Slot) : Type 0 where
-  pub goes : GoesOneWay inst sched
-  pub least : (other : List Slot) → GoesOneWay inst other → ends inst sched ≤ ends inst other
+  pub goes : IsAllowed inst sched
+  pub least : (other : List Slot) → IsAllowed inst other → ends inst sched ≤ ends inst other
 
 -- the status is that of a refusal
 abbrev pub IsRefusal : Status → Type 0

@@ -2,6 +2,8 @@
 ghost use Rattle.std.specs.Prelude.{◌≡◌, option_map};
 ghost use Rattle.qc_run.specs.Inputs.{name_of, names_of};
 
+use qc_model::Turn;
+
 /// A file that a command reads, by what it is for. `Own` is a plan that the planner has already.
 #[derive(Clone, Copy, Debug, PartialEq, Eq)]
 pub enum Input {
@@ -14,7 +16,8 @@ pub enum Input {
 }
 
 /// The names of the files that a command reads, of which every one reads a ship file: the others where it reads
-/// them. `own` is a plan that the planner has already.
+/// them. `own` is a plan that the planner has already. `turn` says which schedules are asked about: those that go
+/// one way, or all that are feasible.
 #[derive(Clone, Copy, Debug)]
 pub struct Inputs<'a> {
     pub ship: &'a str,
@@ -23,6 +26,7 @@ pub struct Inputs<'a> {
     pub tree: Option<&'a str>,
     pub own: Option<&'a str>,
     pub log: Option<&'a str>,
+    pub turn: Turn,
 }
 
 impl<'a> Inputs<'a> {

@@ -8,6 +8,7 @@ mod inputs;
 mod reading;
 mod refusal;
 mod report;
+mod rules;
 mod status;
 mod watched;
 
@@ -19,5 +20,6 @@ pub use reading::{
 };
 pub use refusal::{LogFault, Refusal, Stop};
 pub use report::{direction_text, report_stop, report_text};
+pub use rules::{broken_by, broken_rule};
 pub use status::Status;
 pub use watched::{Watched, read_watched};

@@ -1,6 +1,5 @@
 //! The files that a command reads.
 ghost use Rattle.std.specs.Prelude.{◌≡◌, ◌⊎◌, Err, IfOk, IfSome, Some, All, IsSome};
-ghost use Rattle.qc_model.specs.declared.turn.Turn.TheVariants.{OneWay};
 ghost use Rattle.qc_model.specs.Judge.{IsJudgeable};
 ghost use Rattle.qc_ship.specs.Ship.{place_of_bay};
 ghost use Rattle.qc_tree.specs.Trees.{NoneEarlier};
@@ -87,7 +86,7 @@ pub fn read_moves<S: Shelf>(
     }
 }
 
-/// The instance of the ship file and the stowage list, or why there is none.
+/// The instance of the ship file and the stowage list, with the turn that is asked about, or why there is none.
 pub fn read_instance<S: Shelf>(
     alloc: Global,
     inputs: &Inputs<'_>,
@@ -96,11 +95,11 @@ pub fn read_instance<S: Shelf>(
     requires { IsSome (names_of inputs.now).stow }
     ensures step { IsStep instance_due (names_of inputs.now)
         (S.Sink.view shelf.old) (S.Sink.view shelf.new) result }
-    ensures one_way { IfOk result (λ inst. inst.turn ≡ OneWay) }
+    ensures turn { IfOk result (λ inst. inst.turn ≡ inputs.now.turn) }
 {
     let ship = read_ship_file(alloc, inputs, shelf)?;
     let moves = read_moves(alloc, inputs, &ship, shelf)?;
-    Ok(tasks_of(alloc, &ship, &moves)?)
+    Ok(tasks_of(alloc, &ship, &moves)?.with_turn(inputs.turn))
 }
 
 /// An instance and a schedule for it.
@@ -182,7 +181,7 @@ pub fn read_own_job<S: Shelf>(
     ensures step { IsStep (own_job_due (names_of inputs.now).own) (names_of inputs.now)
         (S.Sink.view shelf.old) (S.Sink.view shelf.new) result }
     ensures judgeable { IfOk result (λ job. IfSome job.own (IsJudgeable job.inst)) }
-    ensures one_way { IfOk result (λ job. job.inst.turn ≡ OneWay) }
+    ensures turn { IfOk result (λ job. job.inst.turn ≡ inputs.now.turn) }
 {
     let inst = read_instance(alloc, inputs, shelf)?;
     let own = read_own(alloc, inputs, &inst, shelf)?;

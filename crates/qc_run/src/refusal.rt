@@ -61,6 +61,8 @@ qc check SHIP STOW PLAN TREE
 qc tasks SHIP STOW
 qc show SHIP STOW PLAN
 qc make NUMBER HATCHES CRANES
+qc free SHIP STOW PLAN TREE [--nodes N] [--from OWN]
+qc freecheck SHIP STOW PLAN TREE
 qc sheet SHIP STOW PLAN
 qc dispatch SHIP STOW PLAN LOG
 qc watch SHIP LOG

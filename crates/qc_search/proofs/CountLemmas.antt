@@ -19,7 +19,7 @@ use Rattle.qc_model.proofs.MirrorLemmas.{seen_valid}
 use Rattle.qc_model.proofs.SeenLemmas.{seen-crane_count, seen-task_count}
 use Rattle.qc_tree.proofs.OrderLemmas.{may_conflict}
 use Rattle.qc_tree.specs.Trees.{Holds, IsPart, IsSecond, IsTree, Leads, Node, Sign, Tree, branches, branchings, children, leaf, on_pair, on_task, tree_branchings}
-use Rattle.qc_search.specs.Run.{branching_limit}
+use Rattle.qc_search.specs.Run.{branching_limit, parts_by}
 
 -- of base parts, each with room for q branchings, one is left over for the branching itself
 more_base : (base n q : ℕ) → base ^ n ≡ suc q → base ^ suc n ≡ q * base + base
@@ -124,26 +124,25 @@ mirror_pairs inst = by_turn inst.turn
     by_turn OneWay = refl
     by_turn Free = ap (λ (n : ℕ). n * (n - 1) / 2) (seen-task_count inst Down)
 
--- the second part has fewer branchings than half the limit
-few_in_second : (inst : InstanceView) → Valid inst → (version : Version) (base : ℕ) → 2 ≤ base → length inst.cranes ≤ base
-    → (nodes : List Node) → IsSecond inst.turn inst version nodes
-    → branchings nodes + 1 ≤ base ^ (length inst.tasks + order_pairs inst)
-few_in_second inst v version base two cranes nodes is = by_turn inst.turn is
-  where
-    by_turn : (turn : Turn) → IsSecond turn inst version nodes → branchings nodes + 1 ≤ base ^ (length inst.tasks + order_pairs inst)
-    by_turn OneWay part =
-        let same = seen-crane_count inst Down in
-        let n = few_in_part (mirror inst) (seen_valid inst v Down) version base two (omega (arith, same, cranes)) nodes part in
-        omega (arith, n, ap₂ (λ (m k : ℕ). base ^ (m + k)) (seen-task_count inst Down) (mirror_pairs inst))
-    by_turn Free none =
-        let some = one-le-pow (length inst.tasks + order_pairs inst) base (omega (arith, two)) in
-        omega (arith, ap branchings none.1, some)
-
 -- a tree has fewer branchings than the limit
 pub few_in_tree : (inst : InstanceView) → Valid inst → (tree : Tree) → IsTree inst tree
     → tree_branchings tree < branching_limit inst
-few_in_tree inst v tree is =
-    let base = max 2 (length inst.cranes) in
-    let up = few_in_part inst v tree.version base (omega arith) (omega arith) tree.up is.up in
-    let down = few_in_second inst v tree.version base (omega arith) (omega arith) tree.down is.down in
-    omega (arith, up, down)
+few_in_tree inst v tree is = by_turn inst.turn is.down
+  where
+    base : ℕ
+    base = max 2 (length inst.cranes)
+
+    most : ℕ
+    most = base ^ (length inst.tasks + order_pairs inst)
+
+    up : branchings tree.up + 1 ≤ most
+    up = few_in_part inst v tree.version base (omega arith) (omega arith) tree.up is.up
+
+    by_turn : (turn : Turn) → IsSecond turn inst tree.version tree.down
+        → branchings tree.up + branchings tree.down < parts_by turn * most
+    by_turn OneWay part =
+        let same = seen-crane_count inst Down in
+        let down = few_in_part (mirror inst) (seen_valid inst v Down) tree.version base (omega arith) (omega (arith, same))
+        tree.down part in
+        omega (arith, up, down, ap₂ (λ (m k : ℕ). base ^ (m + k)) (seen-task_count inst Down) (mirror_pairs inst))
+    by_turn Free none = omega (arith, up, ap branchings none.1)

@@ -9,7 +9,7 @@ ghost use Rattle.qc_search.specs.Walk.{IsOpenBranch, IsOpenTask};
 use crate::branch::Branch;
 use crate::given::apart_at;
 use qc_model::{Pair, Turn};
-use qc_num::Tick;
+use qc_num::{Bound, Tick};
 use qc_starts::Starts;
 
 /// The lowest unassigned task: the first from the bow of the ship, in both parts.
@@ -82,21 +82,21 @@ fn next_apart(starts: &Starts) -> Branch
 }
 
 /// The pair to settle where cranes go as they like: of those that overlap in the earliest starts.
-fn next_overlap(starts: &Starts) -> Branch
+fn next_overlap(starts: &Starts, best: Bound) -> Branch
     requires free { starts.now.inst.turn ≡ Free }
     requires starts { HasStarts starts.now.inst starts.now.decisions }
     requires assigned { AreAssigned starts.now.inst starts.now.decisions }
     requires undecided { ¬ IsComplete starts.now.inst starts.now.decisions }
     ensures { IsOpenBranch starts.now.inst starts.now.decisions result }
 {
-    match starts.overlap() {
+    match starts.overlap(best) {
         Some(pair) => Branch::Pair(pair.first, pair.second),
         None => unreachable!(),
     }
 }
 
 /// The pair to settle, where all tasks have a crane.
-fn next_pair(starts: &Starts) -> Branch
+fn next_pair(starts: &Starts, best: Bound) -> Branch
     requires starts { HasStarts starts.now.inst starts.now.decisions }
     requires assigned { AreAssigned starts.now.inst starts.now.decisions }
     requires undecided { ¬ IsComplete starts.now.inst starts.now.decisions }
@@ -104,18 +104,19 @@ fn next_pair(starts: &Starts) -> Branch
 {
     match starts.instance().turn() {
         Turn::OneWay => next_apart(starts),
-        Turn::Free => next_overlap(starts),
+        Turn::Free => next_overlap(starts, best),
     }
 }
 
-/// The lowest unassigned task; where there is none, a pair whose order is open.
-pub(crate) fn pick(starts: &Starts) -> Branch
+/// The lowest unassigned task; where there is none, a pair whose order is open. What it is best to branch on is told by
+/// the best end that is known.
+pub(crate) fn pick(starts: &Starts, best: Bound) -> Branch
     requires starts { HasStarts starts.now.inst starts.now.decisions }
     requires undecided { ¬ IsComplete starts.now.inst starts.now.decisions }
     ensures { IsOpenBranch starts.now.inst starts.now.decisions result }
 {
     match next_open(starts) {
         Some(task) => Branch::Task(task),
-        None => next_pair(starts),
+        None => next_pair(starts, best),
     }
 }

@@ -158,7 +158,7 @@ fn put_branching<K: Sink>(
         < steps_left (from_node starts.now.inst starts.now.decisions)
         progress.old.limit progress.old.branched) }
 {
-    let branch = pick(starts);
+    let branch = pick(starts, progress.incumbent_end);
     progress.branched += 1;
     put_branch(branch, &progress.path, sink)?;
     Ok(branch.first_child())

@@ -30,7 +30,7 @@ is_broken (listing.Broken told) e = (told, refl)
 is_broken (listing.Listed told) e = absurd (cc e)
 
 ends : (load : Load) (a : Listing) → TellsListing load a → EndsListed load (listing_status a)
-ends load (listing.Broken told) is = record { infeasible = λ _. refl; feasible = λ f. absurd (is.is.infeasible f) }
+ends load (listing.Broken told) is = record { infeasible = λ _. refl; feasible = λ f. absurd (is.is.not_allowed f) }
 ends load (listing.Listed told) is = rw (← is.load_told) (record { infeasible = λ not. absurd (not is.tells.feasible); feasible = λ _. refl })
 
 module _ (names : Names) (before after pb pa : View) (ended : Status) (run : IsReaderRun sheet_reader names before after pb pa ended) where

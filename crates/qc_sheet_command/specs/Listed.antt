@@ -1,18 +1,13 @@
 -- public: what is told of a plan whose work sheet is asked for, and what is printed.
 use Rattle.std.specs.Prelude.{◌≡◌, ℕ, List, All, IsSome}
-use Rattle.qc_model.specs.declared.rules.Break.{Break}
-use Rattle.qc_model.specs.declared.schedule.Slot.{Slot}
-use Rattle.qc_model.specs.Instance.{InstanceView, task}
-use Rattle.qc_model.specs.Judge.{IsFirstBreak, IsJudgeable}
+use Rattle.qc_model.specs.Judge.{IsJudgeable}
 use Rattle.qc_model.specs.Rules.{Feasible}
-use Rattle.qc_model.specs.Tasks.{task_text}
 use Rattle.qc_ship.specs.Ship.{IsShip, place_of_bay}
 use Rattle.qc_stow.specs.Moves.{AreMoves}
 use Rattle.qc_tasks.specs.InstanceOf.{instance_of}
 use Rattle.qc_sheet.specs.Kept.{IsWorkable}
 use Rattle.qc_sheet.specs.Order.{AreOrders}
 use Rattle.qc_sheet.specs.SheetText.{WorkView, sheet_text}
-use Rattle.qc_run.specs.declared.broken.Broken.{Broken}
 use Rattle.qc_run.specs.Broken.{broken_text}
 use Rattle.qc_run.specs.declared.status.Status.{Status}
 use Rattle.qc_run.specs.declared.status.Status.TheVariants as status
@@ -33,19 +28,6 @@ pub record IsCargo (cargo : Cargo) : Type 0 where
 pub record IsLoad (load : Load) : Type 0 where
   pub cargo : IsCargo load.cargo
   pub judgeable : IsJudgeable load.cargo.inst load.sched
-
--- the schedule breaks a rule other than that of one way, and this is the first that it breaks
-pub record IsRuleBroken (inst : InstanceView) (sched : List Slot) (broken : Break) : Type 0 where
-  pub infeasible : ¬ Feasible inst sched
-  pub first : IsFirstBreak inst sched broken
-
--- that is told, with the names of the tasks
-pub record TellsRule (inst : InstanceView) (sched : List Slot) (told : Broken) : Type 0 where
-  pub broken : Break
-  pub is : IsRuleBroken inst sched broken
-  pub rule_told : told.rule ≡ broken.rule
-  pub first_told : told.first ≡ task_text (task inst broken.first)
-  pub second_told : told.second ≡ task_text (task inst broken.second)
 
 -- what the sheet is written from
 abbrev pub work_of : Listed → WorkView

@@ -1,7 +1,7 @@
 -- public: what follows from the account of a work sheet, said by itself for whoever reads one status.
 use Rattle.std.specs.Prelude.{◌≡◌, IfSome}
 use Rattle.qc_io.specs.Outside.{Files, View}
-use Rattle.qc_run.specs.Broken.{broken_text}
+use Rattle.qc_run.specs.Broken.{TellsRule, broken_text}
 use Rattle.qc_model.specs.Rules.{Feasible}
 use Rattle.qc_run.specs.declared.refusal.Refusal.TheVariants as refusal
 use Rattle.qc_run.specs.declared.status.Status.{Status}
@@ -13,7 +13,7 @@ use Rattle.qc_sheet.specs.SheetText.{sheet_text}
 use Rattle.qc_sheet_command.specs.declared.load.Load.{Load}
 use Rattle.qc_sheet_command.specs.Account.{IsListed, sheet_reader}
 use Rattle.qc_sheet_command.specs.Due.{load_due}
-use Rattle.qc_sheet_command.specs.Listed.{TellsRule, work_of}
+use Rattle.qc_sheet_command.specs.Listed.{work_of}
 
 -- the plan is feasible, and its work sheet was printed: it gives the order of each task's moves, each move of the list
 -- stands in it once, and none is lifted from under another or set onto a place whose support isn't there

@@ -4,10 +4,8 @@
 mod answer;
 mod load;
 mod report;
-mod rules;
 mod sheet;
 
 pub use answer::{Listed, Listing};
 pub use load::{Cargo, Load, read_cargo, read_load};
-pub use rules::broken_rule;
 pub use sheet::print_sheet;

@@ -9,10 +9,9 @@ ghost use Rattle.qc_sheet_command.specs.Promises.{SheetPromises};
 use crate::answer::{Listed, Listing};
 use crate::load::read_load;
 use crate::report::report;
-use crate::rules::broken_rule;
 use qc_io::{Shelf, Sink};
 use qc_num::OutOfMemory;
-use qc_run::{Inputs, Status, Stop, broken_of, report_stop};
+use qc_run::{Inputs, Status, Stop, broken_of, broken_rule, report_stop};
 use qc_sheet::Sheet;
 use std::alloc::Global;
 

@@ -14,3 +14,4 @@ pub mod RaisedLemmas
 pub mod KeptLemmas
 pub mod DecideLemmas
 pub mod OverlapLemmas
+pub mod WideLemmas

@@ -14,6 +14,7 @@ mod place;
 mod spread;
 mod starts;
 mod step;
+mod tails;
 mod walk;
 
 pub use moves::{go, go_back};

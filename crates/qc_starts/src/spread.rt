@@ -35,9 +35,7 @@ fn copy_starts(values: &Noted, olds: &mut [Tick])
     requires few { length olds.old < 2 ^ 16 }
     ensures { (j : ℕ) → j < length olds.new → start_at olds.new j ≡ start_at values.now.cells j }
 {
-    for (task, old) in olds.iter_mut().enumerate() {
-        *old = values.start(task as u16);
-    }
+    values.cells.copy_front(olds);
 }
 
 impl Spread {

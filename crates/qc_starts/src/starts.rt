@@ -26,7 +26,7 @@ use crate::step::Step;
 use crate::walk::{chain_to, ring_behind};
 use qc_arena::ArcArena;
 use qc_model::{Decision, Instance, Pair, Turn};
-use qc_num::{OutOfMemory, Path, Steps, Tick};
+use qc_num::{Bound, OutOfMemory, Path, Steps, Tick};
 use qc_trail::{Cells, Trail};
 use std::alloc::Global;
 use std::marker::{Brand, Model};
@@ -310,10 +310,11 @@ impl Starts {
         !has_overlap(&self.network, &self.spread.values)
     }
 
-    /// Of the pairs of tasks whose order is open and that overlap in the earliest starts that which does so
-    /// first, where all tasks have a crane and cranes go as they like; `None` exactly where nothing is left
-    /// to decide.
-    pub fn overlap(&self) -> Option<Pair>
+    /// Two tasks whose order is open and that overlap in the earliest starts, where all tasks have a crane
+    /// and cranes go as they like; `None` exactly where nothing is left to decide. Where there are several
+    /// such pairs, one of which both orders leave no end before the best one comes first, then one of which
+    /// one does; of these the one that overlaps first.
+    pub fn overlap(&self, best: Bound) -> Option<Pair>
         requires free { self.now.inst.turn ≡ Free }
         requires starts { HasStarts self.now.inst self.now.decisions }
         requires assigned { AreAssigned self.now.inst self.now.decisions }
@@ -321,7 +322,7 @@ impl Starts {
             (IsComplete self.now.inst self.now.decisions)
             (λ pair. IsOverlap self.now.inst self.now.decisions pair.first pair.second) }
     {
-        first_overlap(&self.network, &self.spread.values)
+        first_overlap(&self.network, &self.spread.values, best)
     }
 
     /// Whether the order of two tasks may be decided: they are apart, or clash on their cranes.

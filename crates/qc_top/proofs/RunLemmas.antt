@@ -14,6 +14,7 @@ use Rattle.qc_judge_commands.specs.Promises.{PlanCheckPromises, ShowPromises, Ta
 use Rattle.qc_judge_commands.proofs.JudgedLemmas.{plan_check_promises, show_promises}
 use Rattle.qc_judge_commands.proofs.TasksLemmas.{tasks_promises, tree_promises}
 use Rattle.qc_model.specs.declared.schedule.Slot.{Slot}
+use Rattle.qc_model.specs.declared.turn.Turn.{Turn}
 use Rattle.qc_model.specs.Instance.{InstanceView}
 use Rattle.qc_picture_command.specs.Account.{picture_reader, report_reader}
 use Rattle.qc_picture_command.specs.Planned.{TellsFigures, TellsPicture}
@@ -108,8 +109,8 @@ reader_named {reader = reader} {before = before} {after = after} {pb = pb} {pa =
 -- beside the sink nothing changes, whatever is served
 pub out_kept : (asked : Asked) (before after pb pa : View) (ended : Status) → IsRunOf asked before after pb pa ended
     → (beside pa ≡ beside pb) × (pb.faults ≤ pa.faults)
-out_kept (check s w None t) before after pb pa ended h = (h.reports.beside_stays, h.reports.never_falls)
-out_kept (check s w (Some p) t) before after pb pa ended h = (h.reports.beside_stays, h.reports.never_falls)
+out_kept (check turn s w None t) before after pb pa ended h = (h.reports.beside_stays, h.reports.never_falls)
+out_kept (check turn s w (Some p) t) before after pb pa ended h = (h.reports.beside_stays, h.reports.never_falls)
 out_kept (make n k c) before after pb pa ended h = (h.run.reports.beside_stays, h.run.reports.never_falls)
 out_kept other before after pb pa ended h = (h.reports.beside_stays, h.reports.never_falls)
 
@@ -181,34 +182,36 @@ module _ (words : List (List ℕ)) (before after pb pa : View) (ended : Status) 
   read reader names =
       served (λ v. IsReaderRun reader names before v pb pa ended) (λ reports. as_reader before pb pa ended reports reader names)
 
-  plans : (s w p t : List ℕ) (n : ℕ) (o : Option (List ℕ)) → Asks words (plan s w p t n o)
-      → PlanPromises (plan_of s w p t n o) before after pb pa ended
-  plans s w p t n o asks =
-      let asked = plan_of s w p t n o in
+  plans : (turn : Turn) (s w p t : List ℕ) (n : ℕ) (o : Option (List ℕ)) → Asks words (plan turn s w p t n o)
+      → PlanPromises (plan_of turn s w p t n o) before after pb pa ended
+  plans turn s w p t n o asks =
+      let asked = plan_of turn s w p t n o in
       plan_promises asked before after pb pa ended
-      (served (λ v. IsPlanRun asked before v pb pa ended) (λ reports. as_plan before pb pa ended reports asked) (serves (plan s w p t n o) asks))
+      (served (λ v. IsPlanRun asked before v pb pa ended) (λ reports. as_plan before pb pa ended reports asked) (serves (plan turn s w p t n o) asks))
 
-  own_stays : (s w p t : List ℕ) (n : ℕ) (o : List ℕ) → Asks words (plan s w p t n (Some o))
+  own_stays : (turn : Turn) (s w p t : List ℕ) (n : ℕ) (o : List ℕ) → Asks words (plan turn s w p t n (Some o))
       → IfSome before.files (λ held. IfSome after.files (λ now. get now o ≡ get held o))
-  own_stays s w p t n o asks =
+  own_stays turn s w p t n o asks =
       let limits = subst KeepsLimits asks (asked_kept words) in
       let apart = (and_parts (are_different s w p t) (is_own (Some o) s w p t) limits.0).1 in
-      all_other (plan_of s w p t n (Some o)) o
+      all_other (plan_of turn s w p t n (Some o)) o
       (third_fails (bytes_eq o s) (bytes_eq o w) (bytes_eq o p) (bytes_eq o t) apart)
       (fourth_fails (bytes_eq o s) (bytes_eq o w) (bytes_eq o p) (bytes_eq o t) apart)
-      before.files after.files (plans s w p t n (Some o) asks).plan_stopped
+      before.files after.files (plans turn s w p t n (Some o) asks).plan_stopped
 
-  checks_tree : (s w t : List ℕ) → Asks words (check s w None t) → TreePromises (check_names s w None t) before after pb pa ended
-  checks_tree s w t asks =
-      let names = check_names s w None t in
+  checks_tree : (turn : Turn) (s w t : List ℕ) → Asks words (check turn s w None t)
+      → TreePromises (check_names turn s w None t) before after pb pa ended
+  checks_tree turn s w t asks =
+      let names = check_names turn s w None t in
       tree_promises names before after pb pa ended
-      (served (λ v. IsTreeRun names before v pb pa ended) (λ reports. as_tree before pb pa ended reports names) (serves (check s w None t) asks))
+      (served (λ v. IsTreeRun names before v pb pa ended) (λ reports. as_tree before pb pa ended reports names) (serves (check turn s w None t) asks))
 
-  checks_plan : (s w p t : List ℕ) → Asks words (check s w (Some p) t) → PlanCheckPromises (check_names s w (Some p) t) before after pb pa ended
-  checks_plan s w p t asks =
-      let names = check_names s w (Some p) t in
+  checks_plan : (turn : Turn) (s w p t : List ℕ) → Asks words (check turn s w (Some p) t)
+      → PlanCheckPromises (check_names turn s w (Some p) t) before after pb pa ended
+  checks_plan turn s w p t asks =
+      let names = check_names turn s w (Some p) t in
       plan_check_promises names before after pb pa ended
-      (served (λ v. IsPlanCheckRun names before v pb pa ended) (λ reports. as_check before pb pa ended reports names) (serves (check s w (Some p) t) asks))
+      (served (λ v. IsPlanCheckRun names before v pb pa ended) (λ reports. as_check before pb pa ended reports names) (serves (check turn s w (Some p) t) asks))
 
   lists_tasks : (s w : List ℕ) → Asks words (tasks s w) → TasksPromises (tasks_names s w) before after pb pa ended
   lists_tasks s w asks =
@@ -297,11 +300,12 @@ module _ (words : List (List ℕ)) (before after pb pa : View) (ended : Status) 
   }
 
   whatever : (asked : Asked) → Asks words asked → Whatever asked
-  whatever (plan s w p t n o) asks =
-      let p = plans s w p t n o asks in
+  whatever (plan turn s w p t n o) asks =
+      let p = plans turn s w p t n o asks in
       record { stays = λ never. absurd (never tt); usage_words = λ e. absurd (p.no_usage e); memory = p.out_of_memory }
-  whatever (check s w None t) asks = by_reads (check s w None t) (checks_tree s w t asks).reads
-  whatever (check s w (Some p) t) asks = by_reads (check s w (Some p) t) (checks_plan s w p t asks).reads
+  whatever (check turn s w None t) asks = by_reads (check turn s w None t) (checks_tree turn s w t asks).reads
+  whatever (check turn s w (Some p) t) asks =
+      by_reads (check turn s w (Some p) t) (checks_plan turn s w p t asks).reads
   whatever (tasks s w) asks = by_reads (tasks s w) (lists_tasks s w asks).reads
   whatever (show s w p) asks = by_reads (show s w p) (shows s w p asks).reads
   whatever (sheet s w p) asks = by_reads (sheet s w p) (sheets s w p asks).reads

@@ -1,6 +1,7 @@
 -- public: the account of a run, by what the words ask for.
 use Rattle.std.specs.Prelude.{◌≡◌, ◌⊎◌, ℕ, List, Option, None, Some}
 use Rattle.qc_io.specs.Outside.{View}
+use Rattle.qc_model.specs.declared.turn.Turn.{Turn}
 use Rattle.qc_dispatch_command.specs.Account.{IsDispatchRun}
 use Rattle.qc_judge_commands.specs.Account.{IsPlanCheckRun, IsTreeRun, show_reader, tasks_reader}
 use Rattle.qc_picture_command.specs.Account.{picture_reader, report_reader}
@@ -24,9 +25,10 @@ use Rattle.qc_words.specs.Words.{Asks, about}
 use Rattle.qc_top.specs.About.{help_text, version_text}
 
 -- the files that a check, the tasks, a plan that is shown, drawn, reported or put on a sheet, a log that is judged, and
--- a plan that is followed by one read
-abbrev pub check_names : (ship stow : List ℕ) → Option (List ℕ) → (tree : List ℕ) → Names
-check_names ship stow name tree = record no_names { ship = Some ship; stow = Some stow; plan = name; tree = Some tree }
+-- a plan that is followed by one read; of a check with the turn of the schedules that are asked about
+abbrev pub check_names : Turn → (ship stow : List ℕ) → Option (List ℕ) → (tree : List ℕ) → Names
+check_names turn ship stow name tree =
+    record no_names { ship = Some ship; stow = Some stow; plan = name; tree = Some tree; turn = turn }
 
 abbrev pub tasks_names : (ship stow : List ℕ) → Names
 tasks_names ship stow = record no_names { ship = Some ship; stow = Some stow }
@@ -62,9 +64,9 @@ pub record IsMakeRun (number hatches cranes : ℕ) (before after out_before out_
 
 -- what is asked for is served by its command
 abbrev pub IsRunOf : Asked → (before after out_before out_after : View) → Status → Type 0
-IsRunOf (plan s w p t n o) = IsPlanRun (plan_of s w p t n o)
-IsRunOf (check s w None t) = IsTreeRun (check_names s w None t)
-IsRunOf (check s w (Some p) t) = IsPlanCheckRun (check_names s w (Some p) t)
+IsRunOf (plan turn s w p t n o) = IsPlanRun (plan_of turn s w p t n o)
+IsRunOf (check turn s w None t) = IsTreeRun (check_names turn s w None t)
+IsRunOf (check turn s w (Some p) t) = IsPlanCheckRun (check_names turn s w (Some p) t)
 IsRunOf (tasks s w) = IsReaderRun tasks_reader (tasks_names s w)
 IsRunOf (show s w p) = IsReaderRun show_reader (show_names s w p)
 IsRunOf (make n h c) = IsMakeRun n h c

@@ -4,6 +4,7 @@ use Rattle.std.specs.Prelude.{◌≡◌, ◌⊎◌, ℕ, List, Option, None, Som
 use Rattle.std.specs.FinMap.{get}
 use Rattle.qc_io.specs.Outside.{View}
 use Rattle.qc_dispatch_command.specs.Promises.{DispatchPromises}
+use Rattle.qc_model.specs.declared.turn.Turn.{Turn}
 use Rattle.qc_judge_commands.specs.Promises.{PlanCheckPromises, ShowPromises, TasksPromises, TreePromises}
 use Rattle.qc_picture_command.specs.Planned.{TellsFigures, TellsPicture}
 use Rattle.qc_picture_command.specs.Promises.{PrintedPromises}
@@ -26,17 +27,18 @@ use Rattle.qc_top.specs.About.{help_text, version_text}
 
 -- a plan is asked for
 abbrev pub IsPlan : Asked → Type 0
-IsPlan (plan s w p t n o) = Unit {0}
+IsPlan (plan turn s w p t n o) = Unit {0}
 IsPlan _ = ⊥
 
 pub record Promises (words : List (List ℕ)) (before after out_before out_after : View) (ended : Status) : Type 0 where
-  -- what each command promises
-  pub plans : (s w p t : List ℕ) (n : ℕ) (o : Option (List ℕ)) → Asks words (plan s w p t n o)
-      → PlanPromises (plan_of s w p t n o) before after out_before out_after ended
-  pub checks_tree : (s w t : List ℕ) → Asks words (check s w None t)
-      → TreePromises (check_names s w None t) before after out_before out_after ended
-  pub checks_plan : (s w p t : List ℕ) → Asks words (check s w (Some p) t)
-      → PlanCheckPromises (check_names s w (Some p) t) before after out_before out_after ended
+  -- what each command promises: a plan by schedules that go one way, and one by all that are feasible
+  pub plans : (turn : Turn) (s w p t : List ℕ) (n : ℕ) (o : Option (List ℕ)) → Asks words (plan turn s w p t n o)
+      → PlanPromises (plan_of turn s w p t n o) before after out_before out_after ended
+  -- a check of schedules that go one way, and one of all that are feasible
+  pub checks_tree : (turn : Turn) (s w t : List ℕ) → Asks words (check turn s w None t)
+      → TreePromises (check_names turn s w None t) before after out_before out_after ended
+  pub checks_plan : (turn : Turn) (s w p t : List ℕ) → Asks words (check turn s w (Some p) t)
+      → PlanCheckPromises (check_names turn s w (Some p) t) before after out_before out_after ended
   pub lists_tasks : (s w : List ℕ) → Asks words (tasks s w)
       → TasksPromises (tasks_names s w) before after out_before out_after ended
   pub shows : (s w p : List ℕ) → Asks words (show s w p)
@@ -47,7 +49,7 @@ pub record Promises (words : List (List ℕ)) (before after out_before out_after
       → DispatchPromises (dispatch_names s w p l) before after out_before out_after ended
   pub makes : (n h c : ℕ) → Asks words (make n h c) → TrialPromises n h c out_before out_after ended
   -- a plan leaves the planner's own plan as it is
-  pub own_stays : (s w p t : List ℕ) (n : ℕ) (o : List ℕ) → Asks words (plan s w p t n (Some o))
+  pub own_stays : (turn : Turn) (s w p t : List ℕ) (n : ℕ) (o : List ℕ) → Asks words (plan turn s w p t n (Some o))
       → IfSome before.files (λ held. IfSome after.files (λ now. get now o ≡ get held o))
   pub sheets : (s w p : List ℕ) → Asks words (sheet s w p)
       → SheetPromises (show_names s w p) before after out_before out_after ended

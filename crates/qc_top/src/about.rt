@@ -16,6 +16,10 @@ qc show SHIP STOW PLAN
     where the cranes of a plan stand, and a drawing in letters
 qc make NUMBER HATCHES CRANES
     a ship made from a number, planned and checked in memory
+qc free SHIP STOW PLAN TREE [--nodes N] [--from OWN]
+    plans as plan does, where cranes may go to and fro, and writes a tree of all feasible plans
+qc freecheck SHIP STOW PLAN TREE
+    whether a plan holds, whichever way its cranes go, and what such a tree shows
 qc sheet SHIP STOW PLAN
     for each crane its containers in the order of the work, with their ticks
 qc dispatch SHIP STOW PLAN LOG
@@ -41,7 +45,7 @@ early one that goes one way can end.
 Ends with 0 Optimal: no plan that goes one way ends earlier; 10 Infeasible: none goes one way;
 11 Budget: the branchings are spent, the plan is the best that is known, and none that goes one
 way ends before the bound; 12 Budget: the same, and no plan is known; 13 Broken: OWN breaks a rule.
-Of plans in which cranes go to and fro it says nothing.
+Of plans in which cranes go to and fro it says nothing: free does.
 Faults end with 2 to 9, 15 and 17, and are told by their kind and place: man 5 qc.
 ";
 
@@ -72,6 +76,28 @@ const MAKE: &[u8] = b"qc make NUMBER HATCHES CRANES
 Makes a ship and a list from a number, plans them with 500 branchings, checks the plan, and
 prints a summary. NUMBER is 0 to 2147483647, HATCHES 1 to 60, CRANES 1 to 8. No file is touched.
 Ends with 0.
+Faults end with 2 to 9, 15 and 17, and are told by their kind and place: man 5 qc.
+";
+
+const FREE: &[u8] = b"qc free SHIP STOW PLAN TREE [--nodes N] [--from OWN]
+
+Searches as plan does, for plans of any kind: a crane may go to and fro where it pays. It begins with
+the best that plan finds with as many branchings, so it takes longer, and it never writes a later
+one; its tree is one of all feasible plans.
+    --nodes N    at most N branchings of each search, 0 to 100000; 20000 where it isn't given
+    --from OWN   a plan to begin with, whichever way its cranes go: what is written never ends later
+Ends with 0 Optimal: no feasible plan ends earlier; 10 Infeasible: there is none; 11 Budget: the
+branchings are spent, the plan is the best that is known, and none ends before the bound;
+12 Budget: the same, and no plan is known; 13 Broken: OWN breaks a rule.
+Faults end with 2 to 9, 15 and 17, and are told by their kind and place: man 5 qc.
+";
+
+const FREE_CHECK: &[u8] = b"qc freecheck SHIP STOW PLAN TREE
+
+Judges a plan of any origin, whichever way its cranes go, and tells by a tree of all feasible plans
+whether any of them can end earlier. With - for PLAN it tells the bound of the tree alone. It
+searches nothing.
+Ends with 0 Optimal or Bound, 10 Infeasible, 13 Broken, 14 Weaker.
 Faults end with 2 to 9, 15 and 17, and are told by their kind and place: man 5 qc.
 ";
 
@@ -128,6 +154,8 @@ fn command_help(of: CommandName) -> &'static [u8]
         CommandName::Tasks => TASKS,
         CommandName::Show => SHOW,
         CommandName::Make => MAKE,
+        CommandName::Free => FREE,
+        CommandName::FreeCheck => FREE_CHECK,
         CommandName::Sheet => SHEET,
         CommandName::Dispatch => DISPATCH,
         CommandName::Watch => WATCH,

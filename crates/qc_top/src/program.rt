@@ -5,13 +5,14 @@ ghost use Rattle.qc_run.specs.Inputs.{names_of, no_names};
 ghost use Rattle.qc_plan_command.specs.Asked.{plan_of, planning};
 ghost use Rattle.qc_words.specs.Asked.{KeepsLimits, asked_for};
 ghost use Rattle.qc_words.specs.Words.{texts};
-ghost use Rattle.qc_top.specs.Account.{IsRun, IsRunOf};
+ghost use Rattle.qc_top.specs.Account.{IsRun, IsRunOf, check_names};
 ghost use Rattle.qc_top.specs.Promises.{Promises};
 
 use crate::about::{help_text, version_text};
 use qc_dispatch_command::dispatch;
 use qc_io::{Shelf, Sink};
 use qc_judge_commands::{check_plan, check_tree, list_tasks, show};
+use qc_model::Turn;
 use qc_num::OutOfMemory;
 use qc_picture_command::{draw_picture, report_figures};
 use qc_plan_command::{PlanAsked, plan};
@@ -22,27 +23,44 @@ use qc_watch_command::watch;
 use qc_words::{Request, request_of};
 use std::alloc::Global;
 
-/// The names of the files that a command reads: a plan's and a tree's where it reads one.
-fn inputs_of<'a>(
-    ship: &'a str,
-    stow: &'a str,
-    plan: Option<&'a str>,
-    tree: Option<&'a str>,
-) -> Inputs<'a>
+/// The names of the files that a command reads: a plan's where it reads one.
+fn inputs_of<'a>(ship: &'a str, stow: &'a str, plan: Option<&'a str>) -> Inputs<'a>
     ensures { names_of result ≡ record no_names {
       ship = Some ship.now;
       stow = Some stow.now;
       plan = option_map (λ name. name.now) plan.entry;
-      tree = option_map (λ name. name.now) tree.entry;
     } }
 {
     Inputs {
         ship,
         stow: Some(stow),
         plan,
-        tree,
+        tree: None,
         own: None,
         log: None,
+        turn: Turn::OneWay,
+    }
+}
+
+/// The names of the files that a check reads, with the turn of the schedules that it is asked about.
+fn check_of<'a>(
+    turn: Turn,
+    ship: &'a str,
+    stow: &'a str,
+    plan: Option<&'a str>,
+    tree: &'a str,
+) -> Inputs<'a>
+    ensures { names_of result
+        ≡ check_names turn ship.now stow.now (option_map (λ name. name.now) plan.entry) tree.now }
+{
+    Inputs {
+        ship,
+        stow: Some(stow),
+        plan,
+        tree: Some(tree),
+        own: None,
+        log: None,
+        turn,
     }
 }
 
@@ -57,6 +75,7 @@ fn log_of<'a>(ship: &'a str, log: &'a str) -> Inputs<'a>
         tree: None,
         own: None,
         log: Some(log),
+        turn: Turn::OneWay,
     }
 }
 
@@ -76,11 +95,13 @@ fn dispatch_of<'a>(ship: &'a str, stow: &'a str, plan: &'a str, log: &'a str) ->
         tree: None,
         own: None,
         log: Some(log),
+        turn: Turn::OneWay,
     }
 }
 
 /// What a plan is asked for with.
 fn asked_of<'a>(
+    turn: Turn,
     ship: &'a str,
     stow: &'a str,
     plan: &'a str,
@@ -88,11 +109,12 @@ fn asked_of<'a>(
     nodes: u32,
     own: Option<&'a str>,
 ) -> PlanAsked<'a>
-    ensures asked { planning result ≡ plan_of ship.now stow.now plan.now tree.now nodes
+    ensures asked { planning result ≡ plan_of turn ship.now stow.now plan.now tree.now nodes
         (option_map (λ name. name.now) own.entry) }
     ensures nodes { result.nodes ≡ nodes }
 {
     PlanAsked {
+        turn,
         ship,
         stow,
         plan,
@@ -117,6 +139,7 @@ fn serve<S: Shelf, K: Sink>(
 {
     match *request {
         Request::Plan {
+            turn,
             ship,
             stow,
             plan: name,
@@ -124,26 +147,27 @@ fn serve<S: Shelf, K: Sink>(
             nodes,
             own,
         } => {
-            let asked = asked_of(ship, stow, name, tree, nodes, own);
+            let asked = asked_of(turn, ship, stow, name, tree, nodes, own);
             plan(alloc, &asked, shelf, out)
         }
         Request::Check {
+            turn,
             ship,
             stow,
             plan,
             tree,
         } => {
-            let inputs = inputs_of(ship, stow, plan, Some(tree));
+            let inputs = check_of(turn, ship, stow, plan, tree);
             match plan {
                 Some(_) => check_plan(alloc, &inputs, shelf, out),
                 None => check_tree(alloc, &inputs, shelf, out),
             }
         }
         Request::Tasks { ship, stow } => {
-            list_tasks(alloc, &inputs_of(ship, stow, None, None), shelf, out)
+            list_tasks(alloc, &inputs_of(ship, stow, None), shelf, out)
         }
         Request::Show { ship, stow, plan } => {
-            show(alloc, &inputs_of(ship, stow, Some(plan), None), shelf, out)
+            show(alloc, &inputs_of(ship, stow, Some(plan)), shelf, out)
         }
         Request::Make {
             number,
@@ -151,7 +175,7 @@ fn serve<S: Shelf, K: Sink>(
             cranes,
         } => make(alloc, number, hatches, cranes, out),
         Request::Sheet { ship, stow, plan } => {
-            print_sheet(alloc, &inputs_of(ship, stow, Some(plan), None), shelf, out)
+            print_sheet(alloc, &inputs_of(ship, stow, Some(plan)), shelf, out)
         }
         Request::Watch { ship, log } => watch(alloc, &log_of(ship, log), shelf, out),
         Request::Dispatch {
@@ -161,10 +185,10 @@ fn serve<S: Shelf, K: Sink>(
             log,
         } => dispatch(alloc, &dispatch_of(ship, stow, plan, log), shelf, out),
         Request::Picture { ship, stow, plan } => {
-            draw_picture(alloc, &inputs_of(ship, stow, Some(plan), None), shelf, out)
+            draw_picture(alloc, &inputs_of(ship, stow, Some(plan)), shelf, out)
         }
         Request::Report { ship, stow, plan } => {
-            report_figures(alloc, &inputs_of(ship, stow, Some(plan), None), shelf, out)
+            report_figures(alloc, &inputs_of(ship, stow, Some(plan)), shelf, out)
         }
         Request::Help(of) => report_text(Status::Done, help_text(of), out),
         Request::Version => report_text(Status::Done, version_text(), out),

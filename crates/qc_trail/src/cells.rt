@@ -1,4 +1,4 @@
-ghost use Rattle.std.specs.Prelude.{◌≡◌, ◌+◌, ◌<◌, length, IfOk, replicate, slice_index, slice_set, ℕ, List};
+ghost use Rattle.std.specs.Prelude.{◌≡◌, ◌+◌, ◌<◌, ◌≤◌, length, IfOk, replicate, slice_index, slice_set, take, ℕ, List};
 
 use qc_num::{OutOfMemory, Steps};
 use std::alloc::Global;
@@ -32,6 +32,14 @@ impl Cells {
         ensures { result ≡ slice_index self.now place }
     {
         self.values[place as usize]
+    }
+
+    /// Copies what the first cells hold, as many as there is room for.
+    pub fn copy_front(&self, to: &mut [u64])
+        requires { length to.old ≤ length self.now }
+        ensures { to.new ≡ take (length to.old) self.now }
+    {
+        to.copy_from_slice(&self.values[..to.len()]);
     }
 
     /// Writes the cell, in one step.

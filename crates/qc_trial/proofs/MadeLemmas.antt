@@ -16,7 +16,7 @@ use Rattle.qc_model.specs.declared.limits.TheConstants.{MOST_START}
 use Rattle.qc_model.specs.declared.schedule.Slot.{Slot}
 use Rattle.qc_model.specs.Instance.{InstanceView}
 use Rattle.qc_model.specs.Judge.{IsJudgeable}
-use Rattle.qc_model.specs.OneWay.{GoesOneWay}
+use Rattle.qc_model.specs.OneWay.{IsAllowed}
 use Rattle.qc_model.specs.Rules.{ends}
 use Rattle.qc_search.specs.declared.done.Kind.TheVariants as kind
 use Rattle.qc_search.specs.Run.{DoneView, best_end, outcome}
@@ -26,7 +26,7 @@ use Rattle.qc_stow.specs.Stow.{moves_in}
 use Rattle.qc_tree.specs.Trees.{Tree, tree_text}
 use Rattle.qc_plan_command.specs.Stored.{with_plan}
 use Rattle.qc_plan_command.specs.Stored.{IsTreeStored as IsSearchStored}
-use Rattle.qc_plan_command.proofs.FoundLemmas.{of_some, short_ends, tight_goes}
+use Rattle.qc_plan_command.proofs.FoundLemmas.{of_some, short_ends, tight_allowed}
 use Rattle.qc_run.specs.declared.refusal.Stop.{Stop}
 use Rattle.qc_run.specs.declared.refusal.Stop.TheVariants as stop
 use Rattle.qc_run.specs.declared.status.Status.{Status}
@@ -102,15 +102,15 @@ are_stored inst given (Some held) (Some now) after done stored wrote reread =
           reread;
     })
 
--- the best schedule is read of its file, and goes one way
+-- the best schedule is read of its file, and cranes may follow it
 pub best_read : (inst : InstanceView) (files : Files) (done : DoneView) (met sched : List Slot)
     → AreStored inst files done
     → done.best ≡ Some met → (IsPlanStored inst files met → sched ≡ met)
-    → (done.best ≡ Some sched) × GoesOneWay inst sched
+    → (done.best ≡ Some sched) × IsAllowed inst sched
 best_read inst files done met sched stored best read =
     let plan = of_some (IsPlanStored inst files) done.best met best stored.plan_stored in
     let is = best ∙ ap Some (sym (read plan)) in
-    (is, tight_goes inst sched (of_some (IsTight inst) done.best sched is stored.found.came.sound.tight))
+    (is, tight_allowed inst sched (of_some (IsTight inst) done.best sched is stored.found.came.sound.tight))
 
 -- ---- the check
 

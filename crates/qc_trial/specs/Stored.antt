@@ -7,12 +7,17 @@ use Rattle.qc_num.specs.declared.bound.Bound.{Bound}
 use Rattle.qc_num.specs.declared.bound.Bound.TheVariants.{Least, Never}
 use Rattle.qc_model.specs.declared.schedule.Slot.{Slot}
 use Rattle.qc_model.specs.Instance.{InstanceView}
+use Rattle.qc_model.specs.OneWay.{IsAllowed}
 use Rattle.qc_search.specs.Run.{DoneView}
 use Rattle.qc_tree.specs.Trees.{IsTree, Tree, tree_text}
 use Rattle.qc_plan_command.specs.Found.{IsFound, IsReread}
 use Rattle.qc_trial.specs.declared.made.Verdict.{Verdict}
 use Rattle.qc_trial.specs.declared.made.Verdict.TheVariants as verdict
 use Rattle.qc_trial.specs.Made.{made_branchings}
+
+-- there is a schedule of the instance that cranes may follow
+abbrev pub HasSchedule : InstanceView → Type 0
+HasSchedule inst = (sched : List Slot) × IsAllowed inst sched
 
 -- the tree is one of the instance, and stands in its file
 pub record IsTreeStored (inst : InstanceView) (files : Files) (tree : Tree) : Type 0 where

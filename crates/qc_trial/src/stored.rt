@@ -2,14 +2,13 @@
 //! of memory.
 ghost use Rattle.std.specs.Prelude.{◌≡◌, List, IfOk, IfSome, IsSome, IsSomeAnd, Some};
 ghost use Rattle.std.specs.FinMap.{get};
-ghost use Rattle.qc_make.specs.OneWayWork.{HasOneWay};
 ghost use Rattle.qc_model.specs.declared.schedule.Slot.{Slot};
 ghost use Rattle.qc_model.specs.declared.turn.Turn.TheVariants.{OneWay};
 ghost use Rattle.qc_model.specs.Judge.{IsJudgeable};
 ghost use Rattle.qc_model.specs.Rules.{ends};
 ghost use Rattle.qc_tree.specs.Trees.{NoneEarlier, Tree, tree_value};
 ghost use Rattle.qc_trial.specs.Made.{verdict_of};
-ghost use Rattle.qc_trial.specs.Stored.{AreStored, IsPlanStored, IsTreeStored, verdict_at};
+ghost use Rattle.qc_trial.specs.Stored.{AreStored, HasSchedule, IsPlanStored, IsTreeStored, verdict_at};
 
 use crate::made::Verdict;
 use qc_gantt::{PlanError, read_plan};
@@ -105,7 +104,7 @@ fn stored_bound(alloc: Global, inst: &Instance, shelf: &mut MemShelf) -> Result<
 /// What a check says of the stored tree alone.
 fn check_tree(alloc: Global, inst: &Instance, shelf: &mut MemShelf) -> Result<Verdict, OutOfMemory>
     requires stored { (tree : Tree) × IsTreeStored inst.now shelf.old.files tree }
-    requires one_way { HasOneWay inst.now }
+    requires some { HasSchedule inst.now }
     ensures { IfOk result (λ verdict. verdict ≡ Verdict.Bound) }
 {
     match stored_bound(alloc, inst, shelf)? {
@@ -133,7 +132,8 @@ pub(crate) fn check_stored(
     shelf: &mut MemShelf,
 ) -> Result<Verdict, OutOfMemory>
     requires stored { AreStored inst.now shelf.old.files done.now }
-    requires one_way { HasOneWay inst.now }
+    requires one_way { inst.now.turn ≡ OneWay }
+    requires some { HasSchedule inst.now }
     ensures { IfOk result (λ verdict. verdict ≡ verdict_of done.now.kind done.now.best) }
 {
     let Some(_) = done.best() else {

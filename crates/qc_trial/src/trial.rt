@@ -10,6 +10,7 @@ ghost use Rattle.qc_stow.specs.declared.row.Row.{Row};
 ghost use Rattle.qc_tasks.specs.InstanceOf.{instance_of};
 ghost use Rattle.qc_trial.specs.Account.{IsTrialRun, TrialPromises};
 ghost use Rattle.qc_trial.specs.Made.{IsMade, made_instance};
+ghost use Rattle.qc_trial.specs.Stored.{HasSchedule};
 
 use crate::made::Made;
 use crate::stored::{check_stored, store_search};
@@ -52,7 +53,7 @@ fn made_instance(
     requires cranes { (1 ≤ cranes) × (cranes ≤ MOST_CRANES) }
     ensures rows { IfOk result (λ made. made.0 ≡ length (made_rows number hatches)) }
     ensures inst { IfOk result (λ made. made.1 ≡ made_instance number hatches cranes) }
-    ensures one_way { IfOk result (λ made. HasOneWay made.1) }
+    ensures some { IfOk result (λ made. HasSchedule made.1) }
 {
     let ship = made_ship(alloc, hatches, cranes)?;
     let text = list_text(alloc, number, hatches)?;

@@ -6,12 +6,14 @@ use Rattle.std.specs.Option.{option_map_or}
 use Rattle.clap.proofs.WalkLemmas.{both}
 use Rattle.clap.specs.Words.{Row, Text, first_of}
 use Rattle.qc_model.specs.Numbers.{most_branchings, most_cranes, most_hatches}
+use Rattle.qc_model.specs.declared.turn.Turn.{Turn}
+use Rattle.qc_model.specs.declared.turn.Turn.TheVariants.{OneWay, Free}
 use Rattle.qc_num.specs.Digits.{number_in}
 use Rattle.qc_words.specs.declared.commands.CommandName.{CommandName}
 use Rattle.qc_words.specs.declared.commands.CommandName.TheVariants as name
 use Rattle.qc_words.specs.Asked.{Asked, KeepsLimits, are_different, help, is_own, most_number, plan, usage, version}
 use Rattle.qc_words.specs.Commands.{command_name, command_of, named, read_by}
-use Rattle.qc_words.specs.Words.{about, asked_by, asked_in, asked_of, command_about, is_help, make_of, nodes_in, number_between, plan_of, value_of, word_about}
+use Rattle.qc_words.specs.Words.{about, asked_by, asked_in, asked_of, is_help, make_of, nodes_in, number_between, plan_in, plan_of, value_of}
 
 abbrev IsBetween : ℕ → ℕ → Option ℕ → Type 0
 IsBetween least most number = IfSome number (λ n. (least ≤ n) × (n ≤ most))
@@ -28,11 +30,11 @@ nodes_kept : (text : Option Text) → IsBetween 0 most_branchings (nodes_in text
 nodes_kept None = (lit≤ tt, lit≤ tt)
 nodes_kept (Some text) = number_kept 0 most_branchings text
 
-plan_kept : (s w p t : Text) (nodes : Option ℕ) (own : Option Text) → IsBetween 0 most_branchings nodes
-    → KeepsLimits (plan_of s w p t nodes own)
-plan_kept s w p t None own few = tt
-plan_kept s w p t (Some n) own few =
-    cond_both (are_different s w p t && is_own own s w p t) (plan s w p t n own) usage KeepsLimits (λ yes. (yes, few.1)) (λ _. tt)
+plan_kept : (turn : Turn) (s w p t : Text) (nodes : Option ℕ) (own : Option Text) → IsBetween 0 most_branchings nodes
+    → KeepsLimits (plan_of turn s w p t nodes own)
+plan_kept turn s w p t None own few = tt
+plan_kept turn s w p t (Some n) own few =
+    cond_both (are_different s w p t && is_own own s w p t) (plan turn s w p t n own) usage KeepsLimits (λ yes. (yes, few.1)) (λ _. tt)
 
 make_kept : (number hatches cranes : Option ℕ) → IsBetween 0 most_number number → IsBetween 1 most_hatches hatches → IsBetween 1 most_cranes cranes
     → KeepsLimits (make_of number hatches cranes)
@@ -41,11 +43,16 @@ make_kept (Some k) None c n few fewer = tt
 make_kept (Some k) (Some h) None n few fewer = tt
 make_kept (Some k) (Some h) (Some c) n few fewer = (n.1, few.0, few.1, fewer.0, fewer.1)
 
-command_kept : (n : CommandName) (rows : List Row) → KeepsLimits (asked_in n rows)
-command_kept name.Plan rows =
-    plan_kept (value_of (codes "ship") rows) (value_of (codes "stow") rows) (value_of (codes "plan") rows) (value_of (codes "tree") rows) _ _
+search_kept : (turn : Turn) (rows : List Row) → KeepsLimits (plan_in turn rows)
+search_kept turn rows =
+    plan_kept turn (value_of (codes "ship") rows) (value_of (codes "stow") rows) (value_of (codes "plan") rows) (value_of (codes "tree") rows) _ _
     (nodes_kept (first_of (codes "nodes") rows))
+
+command_kept : (n : CommandName) (rows : List Row) → KeepsLimits (asked_in n rows)
+command_kept name.Plan rows = search_kept OneWay rows
+command_kept name.Free rows = search_kept Free rows
 command_kept name.Check rows = tt
+command_kept name.FreeCheck rows = tt
 command_kept name.Tasks rows = tt
 command_kept name.Show rows = tt
 command_kept name.Sheet rows = tt

@@ -2,6 +2,7 @@
 use Rattle.std.specs.Prelude.{ℕ, ◌≤◌, Bool, true, not, ◌&&◌, ◌||◌, IsTrue, List, Option, None, Some, option_map}
 use Rattle.std.specs.Str.{bytes_eq}
 use Rattle.qc_model.specs.Numbers.{most_branchings, most_cranes, most_hatches}
+use Rattle.qc_model.specs.declared.turn.Turn.{Turn}
 use Rattle.qc_words.specs.declared.asked.Request.{Request}
 use Rattle.qc_words.specs.declared.asked.Request.TheVariants as request
 use Rattle.qc_words.specs.declared.commands.CommandName.{CommandName}
@@ -12,10 +13,11 @@ most_number = 2147483647
 
 pub data Asked : Type 0 where
   -- a plan and its tree, for a ship file and a stowage list, with at most so many branchings, beside the planner's own
-  -- plan where one is named
-  plan : (ship stow plan tree : List ℕ) (nodes : ℕ) (own : Option (List ℕ)) → Asked
-  -- what a tree shows for a ship file and a stowage list, and of a plan where one is named
-  check : (ship stow : List ℕ) (plan : Option (List ℕ)) (tree : List ℕ) → Asked
+  -- plan where one is named: by the schedules that go one way, or by all that are feasible
+  plan : (turn : Turn) (ship stow plan tree : List ℕ) (nodes : ℕ) (own : Option (List ℕ)) → Asked
+  -- what a tree shows for a ship file and a stowage list, and of a plan where one is named: of the schedules that go one
+  -- way, or of all that are feasible
+  check : (turn : Turn) (ship stow : List ℕ) (plan : Option (List ℕ)) (tree : List ℕ) → Asked
   -- the tasks of a ship file and a stowage list
   tasks : (ship stow : List ℕ) → Asked
   -- the motion of a plan for a ship file and a stowage list
@@ -41,10 +43,10 @@ pub data Asked : Type 0 where
 
 -- what a request of the program asks for
 abbrev pub asked_for : Request → Asked
-asked_for (request.Plan ship stow plan_name tree nodes own) =
-    plan ship.now stow.now plan_name.now tree.now nodes (option_map (λ name. name.now) own)
-asked_for (request.Check ship stow plan_name tree) =
-    check ship.now stow.now (option_map (λ name. name.now) plan_name) tree.now
+asked_for (request.Plan turn ship stow plan_name tree nodes own) =
+    plan turn ship.now stow.now plan_name.now tree.now nodes (option_map (λ name. name.now) own)
+asked_for (request.Check turn ship stow plan_name tree) =
+    check turn ship.now stow.now (option_map (λ name. name.now) plan_name) tree.now
 asked_for (request.Tasks ship stow) = tasks ship.now stow.now
 asked_for (request.Show ship stow plan_name) = show ship.now stow.now plan_name.now
 asked_for (request.Make number hatches cranes) = make number hatches cranes
@@ -70,7 +72,7 @@ is_own (Some own) s w p t = not (bytes_eq own s || bytes_eq own w || bytes_eq ow
 
 -- a plan's names are different, and each number that is asked for is in its range
 abbrev pub KeepsLimits : Asked → Type 0
-KeepsLimits (plan s w p t nodes own) =
+KeepsLimits (plan turn s w p t nodes own) =
     IsTrue (are_different s w p t && is_own own s w p t) × (nodes ≤ most_branchings)
 KeepsLimits (make number hatches cranes) =
     (number ≤ most_number) × (1 ≤ hatches) × (hatches ≤ most_hatches)

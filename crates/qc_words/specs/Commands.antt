@@ -15,12 +15,14 @@ command_name word =
     else (if bytes_eq word (codes "tasks") then Some name.Tasks
     else (if bytes_eq word (codes "show") then Some name.Show
     else (if bytes_eq word (codes "make") then Some name.Make
+    else (if bytes_eq word (codes "free") then Some name.Free
+    else (if bytes_eq word (codes "freecheck") then Some name.FreeCheck
     else (if bytes_eq word (codes "sheet") then Some name.Sheet
     else (if bytes_eq word (codes "watch") then Some name.Watch
     else (if bytes_eq word (codes "dispatch") then Some name.Dispatch
     else (if bytes_eq word (codes "picture") then Some name.Picture
     else (if bytes_eq word (codes "report") then Some name.Report
-    else None)))))))))
+    else None)))))))))))
 
 -- and that of a command line
 abbrev pub named : List (List ℕ) → Option CommandName
@@ -35,19 +37,26 @@ abbrev pub command_with : List ℕ → List (List ℕ) → App
 command_with name operands =
     record (new_app name) { top = record (new_shape name) { rules = map operand operands } }
 
--- the operands of each command, and of a plan the options `--nodes` and `--from`
-abbrev pub command_of : CommandName → App
-command_of name.Plan = with_rule
+-- a command that plans: its operands, and the options `--nodes` and `--from`
+abbrev pub search_command : List ℕ → App
+search_command name = with_rule
     (with_rule
-    (command_with (codes "plan") (codes "ship" ∷ codes "stow" ∷ codes "plan" ∷ codes "tree" ∷ []))
+    (command_with name (codes "ship" ∷ codes "stow" ∷ codes "plan" ∷ codes "tree" ∷ []))
     (record (new_rule (codes "nodes")) { long = Some (codes "nodes") }))
     (record (new_rule (codes "from")) { long = Some (codes "from") })
+
+-- each command, with its operands
+abbrev pub command_of : CommandName → App
+command_of name.Plan = search_command (codes "plan")
 command_of name.Check =
     command_with (codes "check") (codes "ship" ∷ codes "stow" ∷ codes "plan" ∷ codes "tree" ∷ [])
 command_of name.Tasks = command_with (codes "tasks") (codes "ship" ∷ codes "stow" ∷ [])
 command_of name.Show = command_with (codes "show") (codes "ship" ∷ codes "stow" ∷ codes "plan" ∷ [])
 command_of name.Make =
     command_with (codes "make") (codes "number" ∷ codes "hatches" ∷ codes "cranes" ∷ [])
+command_of name.Free = search_command (codes "free")
+command_of name.FreeCheck =
+    command_with (codes "freecheck") (codes "ship" ∷ codes "stow" ∷ codes "plan" ∷ codes "tree" ∷ [])
 command_of name.Sheet = command_with (codes "sheet") (codes "ship" ∷ codes "stow" ∷ codes "plan" ∷ [])
 command_of name.Watch = command_with (codes "watch") (codes "ship" ∷ codes "log" ∷ [])
 command_of name.Dispatch =

@@ -6,6 +6,8 @@ use Rattle.std.specs.Option.{option_map_or}
 use Rattle.std.specs.Str.{bytes_eq}
 use Rattle.clap.specs.Words.{Row, first_of}
 use Rattle.qc_model.specs.Numbers.{most_branchings, most_cranes, most_hatches}
+use Rattle.qc_model.specs.declared.turn.Turn.{Turn}
+use Rattle.qc_model.specs.declared.turn.Turn.TheVariants.{OneWay, Free}
 use Rattle.qc_num.specs.Digits.{number_in}
 use Rattle.qc_words.specs.Asked.{Asked, plan, check, tasks, show, make, sheet, watch, dispatch, picture, report, usage, KeepsLimits, are_different, is_own, most_number, help, version}
 use Rattle.qc_words.specs.Commands.{command_of, named, read_by, command_name}
@@ -45,7 +47,7 @@ abbrev pub is_file_word : List ℕ → Bool
 is_file_word [] = false
 is_file_word (b ∷ bs) = not (b == 45)
 
--- a word of `check`: it may name a file, or is `-`
+-- a word of `check` and `freecheck`: it may name a file, or is `-`
 abbrev pub is_check_word : List ℕ → Bool
 is_check_word word = is_file_word word || bytes_eq word (codes "-")
 
@@ -62,18 +64,28 @@ abbrev pub own_words : Option (List ℕ) → List (List ℕ)
 own_words None = []
 own_words (Some own) = codes "--from" ∷ own ∷ []
 
--- the words are a command's name and its operands in order, which say this; in `check` a word may be
+-- the name of the command that checks by schedules of this turn
+abbrev pub check_name : Turn → List ℕ
+check_name OneWay = codes "check"
+check_name Free = codes "freecheck"
+
+-- the name of the command that plans by schedules of this turn
+abbrev pub search_name : Turn → List ℕ
+search_name OneWay = codes "plan"
+search_name Free = codes "free"
+
+-- the words are a command's name and its operands in order, which say this; in `check` and `freecheck` a word may be
 -- `-`, which as PLAN stands for no plan
 abbrev pub Spell : List (List ℕ) → Asked → Type 0
-Spell words (plan s w p t n own) = AreFileWords (s ∷ w ∷ p ∷ t ∷ []) × IfSome own (λ o. IsTrue (is_file_word o))
-    × (((words ≡ codes "plan" ∷ s ∷ w ∷ p ∷ t ∷ own_words own) × (n ≡ usual_branchings))
-    ⊎ (words ≡ codes "plan" ∷ s ∷ w ∷ p ∷ t ∷ codes "--nodes" ∷ decimal n ∷ own_words own))
-Spell words (check s w None t) =
+Spell words (plan turn s w p t n own) = AreFileWords (s ∷ w ∷ p ∷ t ∷ []) × IfSome own (λ o. IsTrue (is_file_word o))
+    × (((words ≡ search_name turn ∷ s ∷ w ∷ p ∷ t ∷ own_words own) × (n ≡ usual_branchings))
+    ⊎ (words ≡ search_name turn ∷ s ∷ w ∷ p ∷ t ∷ codes "--nodes" ∷ decimal n ∷ own_words own))
+Spell words (check turn s w None t) =
     IsTrue (list_all is_check_word (s ∷ w ∷ t ∷ []))
-    × (words ≡ codes "check" ∷ s ∷ w ∷ codes "-" ∷ t ∷ [])
-Spell words (check s w (Some p) t) =
+    × (words ≡ check_name turn ∷ s ∷ w ∷ codes "-" ∷ t ∷ [])
+Spell words (check turn s w (Some p) t) =
     IsTrue (is_file_word p && list_all is_check_word (s ∷ w ∷ t ∷ []))
-    × (words ≡ codes "check" ∷ s ∷ w ∷ p ∷ t ∷ [])
+    × (words ≡ check_name turn ∷ s ∷ w ∷ p ∷ t ∷ [])
 Spell words (tasks s w) = AreFileWords (s ∷ w ∷ []) × (words ≡ codes "tasks" ∷ s ∷ w ∷ [])
 Spell words (show s w p) =
     AreFileWords (s ∷ w ∷ p ∷ []) × (words ≡ codes "show" ∷ s ∷ w ∷ p ∷ [])
@@ -114,11 +126,12 @@ nodes_in None = Some usual_branchings
 nodes_in (Some text) = number_between 0 most_branchings text
 
 -- a plan with so many branchings, where its names are different
-abbrev pub plan_of : (ship stow plan tree : List ℕ) → Option ℕ → Option (List ℕ) → Asked
-plan_of s w p t None own = usage
-plan_of s w p t (Some n) own = if are_different s w p t && is_own own s w p t then plan s w p t n own else usage
+abbrev pub plan_of : Turn → (ship stow plan tree : List ℕ) → Option ℕ → Option (List ℕ) → Asked
+plan_of turn s w p t None own = usage
+plan_of turn s w p t (Some n) own =
+    if are_different s w p t && is_own own s w p t then plan turn s w p t n own else usage
 
--- the plan that `check` is asked about: none for `-`
+-- the plan that `check` or `freecheck` is asked about: none for `-`
 abbrev pub plan_name : List ℕ → Option (List ℕ)
 plan_name word = if bytes_eq word (codes "-") then None else Some word
 
@@ -127,13 +140,23 @@ abbrev pub make_of : (number hatches cranes : Option ℕ) → Asked
 make_of (Some n) (Some h) (Some c) = make n h c
 make_of _ _ _ = usage
 
+-- a check by schedules of this turn
+abbrev pub check_in : Turn → List Row → Asked
+check_in turn rows = check turn (value_of (codes "ship") rows) (value_of (codes "stow") rows)
+    (plan_name (value_of (codes "plan") rows)) (value_of (codes "tree") rows)
+
+-- a plan by schedules of this turn
+abbrev pub plan_in : Turn → List Row → Asked
+plan_in turn rows =
+    plan_of turn (value_of (codes "ship") rows) (value_of (codes "stow") rows) (value_of (codes "plan") rows)
+    (value_of (codes "tree") rows) (nodes_in (first_of (codes "nodes") rows)) (first_of (codes "from") rows)
+
 -- what a command asks for by the values that were read
 abbrev pub asked_in : CommandName → List Row → Asked
-asked_in name.Plan rows =
-    plan_of (value_of (codes "ship") rows) (value_of (codes "stow") rows) (value_of (codes "plan") rows)
-    (value_of (codes "tree") rows) (nodes_in (first_of (codes "nodes") rows)) (first_of (codes "from") rows)
-asked_in name.Check rows = check (value_of (codes "ship") rows) (value_of (codes "stow") rows)
-    (plan_name (value_of (codes "plan") rows)) (value_of (codes "tree") rows)
+asked_in name.Plan rows = plan_in OneWay rows
+asked_in name.Check rows = check_in OneWay rows
+asked_in name.Free rows = plan_in Free rows
+asked_in name.FreeCheck rows = check_in Free rows
 asked_in name.Tasks rows =
     tasks (value_of (codes "ship") rows) (value_of (codes "stow") rows)
 asked_in name.Show rows =

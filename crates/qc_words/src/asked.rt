@@ -1,6 +1,7 @@
 //! What the words ask for.
 
 use crate::commands::CommandName;
+use qc_model::Turn;
 
 /// The greatest number that a ship and a list are made from.
 pub const MOST_NUMBER: u32 = 2_147_483_647;
@@ -9,8 +10,9 @@ pub const MOST_NUMBER: u32 = 2_147_483_647;
 #[derive(Clone, Copy, Debug, PartialEq, Eq)]
 pub enum Request<'a> {
     /// A plan and its tree, with at most so many branchings, that ends no later than the planner's own plan where
-    /// one is named.
+    /// one is named: by the schedules that go one way, or by all that are feasible.
     Plan {
+        turn: Turn,
         ship: &'a str,
         stow: &'a str,
         plan: &'a str,
@@ -18,8 +20,10 @@ pub enum Request<'a> {
         nodes: u32,
         own: Option<&'a str>,
     },
-    /// What a tree shows, and of a plan where one is named.
+    /// What a tree shows, and of a plan where one is named: of the schedules that go one way, or of all that are
+    /// feasible.
     Check {
+        turn: Turn,
         ship: &'a str,
         stow: &'a str,
         plan: Option<&'a str>,

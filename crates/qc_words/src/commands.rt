@@ -3,7 +3,7 @@
 ghost use Rattle.std.specs.Prelude.{◌≡◌, IfOk, map};
 ghost use Rattle.qc_words.specs.Words.{texts};
 ghost use Rattle.clap.specs.Words.{app_of};
-ghost use Rattle.qc_words.specs.Commands.{command_name, named, command_with, command_of};
+ghost use Rattle.qc_words.specs.Commands.{command_name, named, command_with, command_of, search_command};
 
 use clap::{Arg, Command};
 use std::alloc::{AllocError, Global};
@@ -16,6 +16,8 @@ pub enum CommandName {
     Tasks,
     Show,
     Make,
+    Free,
+    FreeCheck,
     Sheet,
     Watch,
     Dispatch,
@@ -33,6 +35,8 @@ pub(crate) fn command_name(word: &str) -> Option<CommandName>
         "tasks" => Some(CommandName::Tasks),
         "show" => Some(CommandName::Show),
         "make" => Some(CommandName::Make),
+        "free" => Some(CommandName::Free),
+        "freecheck" => Some(CommandName::FreeCheck),
         "sheet" => Some(CommandName::Sheet),
         "watch" => Some(CommandName::Watch),
         "dispatch" => Some(CommandName::Dispatch),
@@ -65,22 +69,31 @@ fn command_with<'a>(
     Ok(command)
 }
 
+/// A command that plans, with its operands and the options `--nodes` and `--from`.
+fn search_command<'a>(alloc: Global, name: &'a str) -> Result<Command<'a>, AllocError>
+    ensures { IfOk result (λ command. app_of command ≡ search_command name.entry.now) }
+{
+    let nodes = Arg::new(alloc, "nodes").long("nodes");
+    let from = Arg::new(alloc, "from").long("from");
+    command_with(alloc, name, &["ship", "stow", "plan", "tree"])?
+        .arg(nodes)?
+        .arg(from)
+}
+
 /// The command as `clap` is told it.
 pub fn command_of<'a>(alloc: Global, name: CommandName) -> Result<Command<'a>, AllocError>
     ensures { IfOk result (λ command. app_of command ≡ command_of name) }
 {
     match name {
-        CommandName::Plan => {
-            let nodes = Arg::new(alloc, "nodes").long("nodes");
-            let from = Arg::new(alloc, "from").long("from");
-            command_with(alloc, "plan", &["ship", "stow", "plan", "tree"])?
-                .arg(nodes)?
-                .arg(from)
-        }
+        CommandName::Plan => search_command(alloc, "plan"),
         CommandName::Check => command_with(alloc, "check", &["ship", "stow", "plan", "tree"]),
         CommandName::Tasks => command_with(alloc, "tasks", &["ship", "stow"]),
         CommandName::Show => command_with(alloc, "show", &["ship", "stow", "plan"]),
         CommandName::Make => command_with(alloc, "make", &["number", "hatches", "cranes"]),
+        CommandName::Free => search_command(alloc, "free"),
+        CommandName::FreeCheck => {
+            command_with(alloc, "freecheck", &["ship", "stow", "plan", "tree"])
+        }
         CommandName::Sheet => command_with(alloc, "sheet", &["ship", "stow", "plan"]),
         CommandName::Watch => command_with(alloc, "watch", &["ship", "log"]),
         CommandName::Dispatch => command_with(alloc, "dispatch", &["ship", "stow", "plan", "log"]),

@@ -6,14 +6,14 @@ ghost use Rattle.clap.specs.Words.{app_of, found_of, rows_of, first_of, is_simpl
 ghost use Rattle.qc_words.specs.Asked.{Asked, asked_for, usage, KeepsLimits, are_different, is_own};
 ghost use Rattle.qc_words.specs.Commands.{command_of, named, read_by};
 ghost use Rattle.qc_words.specs.declared.commands.CommandName.TheVariants as name;
-ghost use Rattle.qc_words.specs.Words.{Asks, Canonical, about, asked_in, make_of, nodes_in, number_between, plan_name, plan_of, texts, value_of};
+ghost use Rattle.qc_words.specs.Words.{Asks, Canonical, about, asked_in, check_in, make_of, nodes_in, number_between, plan_in, plan_name, plan_of, texts, value_of};
 
 use crate::about::about;
 use crate::asked::{MOST_NUMBER, Request};
 use crate::commands::{CommandName, command_of, named};
 use clap::error::ErrorKind;
 use clap::{ArgMatches, Command};
-use qc_model::{MOST_CRANES, MOST_HATCHES};
+use qc_model::{MOST_CRANES, MOST_HATCHES, Turn};
 use qc_num::{OutOfMemory, plain_number};
 use qc_tree::MOST_BRANCHINGS;
 use std::alloc::Global;
@@ -101,6 +101,7 @@ fn is_own(own: Option<&str>, s: &str, w: &str, p: &str, t: &str) -> bool
 
 /// A plan with so many branchings, where its names are different.
 fn plan_of<'a>(
+    turn: Turn,
     ship: &'a str,
     stow: &'a str,
     plan: &'a str,
@@ -108,13 +109,14 @@ fn plan_of<'a>(
     nodes: Option<u32>,
     own: Option<&'a str>,
 ) -> Request<'a>
-    ensures { asked_for result ≡ plan_of ship.now stow.now plan.now tree.now nodes
+    ensures { asked_for result ≡ plan_of turn ship.now stow.now plan.now tree.now nodes
         (option_map (λ name. name.now) own.entry) }
 {
     match nodes {
         Some(nodes) => {
             if are_different(ship, stow, plan, tree) && is_own(own, ship, stow, plan, tree) {
                 Request::Plan {
+                    turn,
                     ship,
                     stow,
                     plan,
@@ -130,11 +132,39 @@ fn plan_of<'a>(
     }
 }
 
-/// The plan that `check` is asked about: none for `-`.
+/// The plan that `check` or `freecheck` is asked about: none for `-`.
 fn plan_name(word: &str) -> Option<&str>
     ensures { option_map (λ name. name.now) result ≡ plan_name word.now }
 {
     if word == "-" { None } else { Some(word) }
+}
+
+/// A check by schedules of this turn.
+fn check_in<'a>(turn: Turn, matches: &ArgMatches<'a>) -> Request<'a>
+    ensures { asked_for result ≡ check_in turn (rows_of (found_of matches.now)) }
+{
+    Request::Check {
+        turn,
+        ship: value_of(matches, "ship"),
+        stow: value_of(matches, "stow"),
+        plan: plan_name(value_of(matches, "plan")),
+        tree: value_of(matches, "tree"),
+    }
+}
+
+/// A plan by schedules of this turn.
+fn plan_in<'a>(turn: Turn, matches: &ArgMatches<'a>) -> Request<'a>
+    ensures { asked_for result ≡ plan_in turn (rows_of (found_of matches.now)) }
+{
+    plan_of(
+        turn,
+        value_of(matches, "ship"),
+        value_of(matches, "stow"),
+        value_of(matches, "plan"),
+        value_of(matches, "tree"),
+        nodes_in(text_of(matches, "nodes")),
+        text_of(matches, "from"),
+    )
 }
 
 /// What is made by the three numbers, where they are in range.
@@ -163,20 +193,10 @@ fn asked_in<'a>(name: CommandName, matches: &ArgMatches<'a>) -> Request<'a>
     let stow = value_of(matches, "stow");
     let plan = value_of(matches, "plan");
     match name {
-        CommandName::Plan => plan_of(
-            ship,
-            stow,
-            plan,
-            value_of(matches, "tree"),
-            nodes_in(text_of(matches, "nodes")),
-            text_of(matches, "from"),
-        ),
-        CommandName::Check => Request::Check {
-            ship,
-            stow,
-            plan: plan_name(plan),
-            tree: value_of(matches, "tree"),
-        },
+        CommandName::Plan => plan_in(Turn::OneWay, matches),
+        CommandName::Check => check_in(Turn::OneWay, matches),
+        CommandName::Free => plan_in(Turn::Free, matches),
+        CommandName::FreeCheck => check_in(Turn::Free, matches),
         CommandName::Tasks => Request::Tasks { ship, stow },
         CommandName::Show => Request::Show { ship, stow, plan },
         CommandName::Make => make_from(matches),

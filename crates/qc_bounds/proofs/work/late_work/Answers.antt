@@ -28,5 +28,5 @@ returns-else-end-le-MOST_START c = λ inst ds of late.
       | else-end-le-MOST_START-via-then-end-le-MOST_START+else-closed w ↦ λ _. sym w.closed.ensures.closed ∙ w.if-closed.false
       | else-end-le-MOST_START-via-else-end-le-MOST_START w ↦ λ soon. absurd (omega (arith, soon, w.if-end-le-MOST_START.false))
     ] in
-    work_early crew inst ds of end c.instance-inst.ensures.valid some none
+    work_early crew inst ds of end c.instance-inst.ensures.valid c.instance-inst.ensures.range some none
     (subst (λ (b : Bound). IsWorkLate inst ds b) c.in-Least.is late)

@@ -1,6 +1,7 @@
 use Rattle.std.proofs.Common.{ℕ, Bool, subst, arith}
 use Rattle.std.proofs.Math.Path.{fun_ext}
 use Rattle.qc_model.proofs.LimitsOf.{limits_of}
+use Rattle.qc_model.specs.Barred.{barred_frame}
 use Rattle.qc_close.specs.Lasts.{IsLast}
 use Rattle.qc_close.proofs.CrewLemmas.{short_same, work_within}
 use Rattle.qc_close.proofs.GrainLemmas.{grain_is, travel_range}
@@ -27,7 +28,7 @@ last_short-requires-clause-work c = λ x.
 pub returns : goal.returns
 returns c =
     subst (λ (p : ℕ → Bool). IsLast p c.args.limit c.last_short.result)
-    (fun_ext (short_same c.args.inst.now c.args.turn c.args.cranes.now c.args.left.now c.travel.ensures.valid c.requires.left
+    (fun_ext (short_same c.args.inst.now (barred_frame c.args.inst.now c.args.turn c.args.cranes.now) c.args.cranes.now c.args.left.now c.travel.ensures.valid c.requires.left
     c.travel.result c.args.step c.crane_count.result c.first_frames-frames.result.now c.frames-frames.result
     c.travel.ensures.travel c.requires.step c.first_frames-frames.ensures c.crane_count.ensures.count
     c.frames-frames.ensures.frames))

@@ -78,7 +78,7 @@ loop-crane-preserved c =
 
 pub returns-clause-frames : goal.returns-clause-frames
 returns-clause-frames c =
-    frames_all c.args.inst.now c.args.turn c.args.cranes.now c.loop-crane.frames no_frame c.loop-crane.invariant.many
+    frames_all c.args.inst.now (barred_frame c.args.inst.now c.args.turn c.args.cranes.now) c.loop-crane.frames no_frame c.loop-crane.invariant.many
     (omega (arith, c.crane_count-crane-end.ensures.count, c.crane_count-crane-end.ensures.bound))
     (λ w low. c.loop-crane.invariant.frames w no_frame
     (omega (arith, low, c.loop-crane-test.false, c.crane_count-crane-end.ensures.count)))

@@ -17,8 +17,8 @@ returns-in-Err g c =
           (λ held. IsNoneShown (names_of c.args.inputs.now) held),
     )
 
-pub returns-in-Ok-direction_of : goal.returns-in-Ok-direction_of
-returns-in-Ok-direction_of g c =
+pub returns-in-None : goal.returns-in-None
+returns-in-None g c =
     let step = c.in-Ok.ensures.step in
     judging_from (names_of c.args.inputs.now) (g.S.Sink.view c.args.shelf.now) (g.S.Sink.view c.read_job.new.shelf)
     (g.S.Sink.view c.compare.new.shelf) c.compare.result step.files step.made step.faults step.ok.0 c.compare.ensures

@@ -1,19 +1,12 @@
 use Rattle.std.proofs.Common.{◌≡◌, true, false, ap, arith, option_map, subst, sym, ◌∙◌, is_err}
-use Rattle.std.proofs.lemmas.Option.{IfSome_then}
 use Rattle.qc_io.specs.Outside.{View}
 use Rattle.qc_model.specs.Instance.{InstanceView}
-use Rattle.qc_model.specs.OneWay.{GoesOneWay}
 use Rattle.qc_search.specs.Run.{SearchView}
 use Rattle.qc_tree.specs.Trees.{NoneEarlier}
 use Rattle.qc_plan_command.specs.Asked.{planning}
-use Rattle.qc_plan_command.proofs.FoundLemmas.{copied_keeps, rereads}
+use Rattle.qc_plan_command.proofs.FoundLemmas.{rereads}
 use Rattle.qc_plan_command.proofs.StoreLemmas.{at_begin, at_end, at_plan, at_tree, by_err, by_ok, writes_told}
 use Rattle.qc_plan_command.proofs.command.plan_instance.Goals as goal
-
-pub earlier-given-requires-clause-goes : goal.earlier-given-requires-clause-goes
-earlier-given-requires-clause-goes g c =
-    copied_keeps (GoesOneWay c.args.job.inst) c.as_ref-2.result c.args.swept c.as_ref-2.ensures.value
-    (IfSome_then c.args.swept c.requires.swept (λ sched is. is.one_way))
 
 pub returns-then-is_err-clause-serves : goal.returns-then-is_err-clause-serves
 returns-then-is_err-clause-serves g c =
@@ -21,7 +14,7 @@ returns-then-is_err-clause-serves g c =
     let failed : is_err c.create.result ≡ true = sym c.is_err.ensures.value ∙ c.if-is_err.true in (
       (
         by_err c.create.result failed c.create.ensures.counts.rose,
-        at_begin (planning c.args.asked.now) c.args.job c.requires.goes c.args.search
+        at_begin (planning c.args.asked.now) c.args.job c.requires.allowed c.args.search
             (view c.args.shelf.now).files
             (view c.create.new.self).files (view c.create.new.self).files (view c.create.new.self).files
             c.requires.search c.requires.due c.create.ensures.files_stay,
@@ -41,20 +34,20 @@ returns-in_default-clause-serves g c =
           ap (λ (v : View). v.faults) told,
           c.in_default.ensures.counts.rose,
         ),
-        at_tree (planning c.args.asked.now) c.args.job c.requires.goes c.tell.new.search
+        at_tree (planning c.args.asked.now) c.args.job c.requires.allowed c.tell.new.search
             (view c.args.shelf.now).files
             (view c.tell.new.shelf).files (view c.store_tree.new.shelf).files
             (view c.store_tree.new.shelf).files
             (c.tell.ensures.stays ∙ c.earlier-given.ensures.stays ∙ c.requires.search) c.requires.due same
-            c.args.swept (option_map (λ sched. sched.now) c.earlier-given.result)
-            (rw (c.as_ref.ensures.value, c.as_ref-2.ensures.value) at c.earlier-given.ensures.chosen)
+            c.found-found.result (option_map (λ sched. sched.now) c.earlier-given.result)
+            (rw (c.as_ref-own.ensures.value, c.as_ref.ensures.value) at c.earlier-given.ensures.chosen)
             c.in_default.ensures.err,
       ),
       c.in_default.ensures.read_faults ∙ ap (λ (v : View). v.read_faults) told ∙ c.create.ensures.read_faults_stay,
     )
 
-pub returns-clause-serves : goal.returns-clause-serves
-returns-clause-serves g c =
+pub returns-in-Err-clause-serves : goal.returns-in-Err-clause-serves
+returns-in-Err-clause-serves g c =
     let view = g.S.Sink.view in
     let told = c.tell.ensures.shelf_stays in
     let same = ap (λ (v : View). v.files) told ∙ c.create.ensures.files_stay in (
@@ -66,13 +59,13 @@ returns-clause-serves g c =
           c.in-Ok.ensures.counts.never_falls,
           c.in-Err.ensures.counts.rose,
         ),
-        at_plan (planning c.args.asked.now) c.args.job c.requires.goes c.tell.new.search
+        at_plan (planning c.args.asked.now) c.args.job c.requires.allowed c.tell.new.search
             (view c.args.shelf.now).files
             (view c.tell.new.shelf).files (view c.store_tree.new.shelf).files
             (view c.store_best.new.shelf).files
             (c.tell.ensures.stays ∙ c.earlier-given.ensures.stays ∙ c.requires.search) c.requires.due same
-            c.args.swept (option_map (λ sched. sched.now) c.earlier-given.result)
-            (rw (c.as_ref.ensures.value, c.as_ref-2.ensures.value) at c.earlier-given.ensures.chosen)
+            c.found-found.result (option_map (λ sched. sched.now) c.earlier-given.result)
+            (rw (c.as_ref-own.ensures.value, c.as_ref.ensures.value) at c.earlier-given.ensures.chosen)
             c.in-Ok.done c.in-Ok.ensures.ok c.in-Err.ensures.err,
       ),
       c.in-Err.ensures.read_faults ∙ c.in-Ok.ensures.read_faults ∙ ap (λ (v : View). v.read_faults) told ∙ c.create.ensures.read_faults_stay,
@@ -89,12 +82,12 @@ returns-in-Ok-store_best-clause-serves g c =
           c.answer_of.result c.answer_of.ensures.tells
           (c.in-Ok-store_best.ensures.counts.unfailed ∙ c.in-Ok.ensures.counts.unfailed
           ∙ ap (λ (v : View). v.faults) told ∙ by_ok c.create.result came c.create.ensures.counts.unfailed)
-          (at_end (planning c.args.asked.now) c.args.job c.requires.goes c.tell.new.search
+          (at_end (planning c.args.asked.now) c.args.job c.requires.allowed c.tell.new.search
           (view c.args.shelf.now).files
           (view c.tell.new.shelf).files (view c.store_tree.new.shelf).files (view c.store_best.new.shelf).files
           (c.tell.ensures.stays ∙ c.earlier-given.ensures.stays ∙ c.requires.search) c.requires.due same
-          c.args.swept (option_map (λ sched. sched.now) c.earlier-given.result)
-          (rw (c.as_ref.ensures.value, c.as_ref-2.ensures.value) at c.earlier-given.ensures.chosen)
+          c.found-found.result (option_map (λ sched. sched.now) c.earlier-given.result)
+          (rw (c.as_ref-own.ensures.value, c.as_ref.ensures.value) at c.earlier-given.ensures.chosen)
           c.in-Ok.done c.answer_of.result c.in-Ok.ensures.ok
           c.in-Ok-store_best.ensures.ok c.answer_of.ensures.tells),
       c.in-Ok-store_best.ensures.read_faults ∙ c.in-Ok.ensures.read_faults ∙ ap (λ (v : View). v.read_faults) told ∙ c.create.ensures.read_faults_stay,

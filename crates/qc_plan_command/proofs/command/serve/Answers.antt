@@ -12,7 +12,7 @@ returns-in-Some-clause-serves g c =
     let view = g.S.Sink.view in
     own_broken (planning c.args.asked.now) (names_of c.inputs.result) (view c.args.shelf.now)
     (view c.read_own_job.new.shelf) c.in_ok-job.job c.in-Some.broken c.inputs.ensures c.in_ok-job.ensures.step
-    c.in-Some.ensures.some
+    c.in_ok-job.ensures.turn c.in-Some.ensures.some
 
 pub plan_instance-requires-clause-due : goal.plan_instance-requires-clause-due
 plan_instance-requires-clause-due g c =

@@ -1,7 +1,8 @@
 use Rattle.std.proofs.Common.{◌≡◌, ◌⊎◌, ℕ, inl, inr, List, Option, None, Some, IfSome, sym, subst, ◌∙◌, arith}
 use Rattle.std.proofs.lemmas.Bool.{cases_eq, false≢true}
 use Rattle.qc_model.specs.declared.decision.Decision.{Decision}
-use Rattle.qc_model.specs.Instance.{InstanceView, pair_of}
+use Rattle.qc_model.specs.declared.pair.Pair.{Pair}
+use Rattle.qc_model.specs.Instance.{InstanceView}
 use Rattle.qc_starts.specs.declared.overlap.Overlap.{Overlap}
 use Rattle.qc_starts.specs.Overlapping.{IsFound}
 use Rattle.qc_starts.specs.Overlaps.{Overlaps}
@@ -31,13 +32,13 @@ loop-j-preserved c =
     let inv = c.loop-j.invariant in
     elim c.if-overlaps.branch [
       | then-overlaps w ↦
-          let this : Overlap = record { pair = pair_of i j; from = w.max-from.result } in
-          let is : IsPair inst ds cells this = record {
+          let here : IsFound inst ds cells i j = record {
             rising = omega (arith, c.loop-j.auto.j);
             task = omega (arith, c.loop-j-test.true, c.task_count-count.ensures.count);
             overlaps = c.overlaps.ensures.0 w.if-overlaps.true;
           } in
-          let found = picked inst ds cells c.loop-j.first this w.sooner.result is inv.is w.sooner.ensures in
+          let is = subst (λ (p : Pair). IsFound inst ds cells p.first p.second) (sym w.ranked-overlap.ensures) here in
+          let found = picked inst ds cells c.loop-j.first w.ranked-overlap.result w.sooner.result is inv.is w.sooner.ensures in
           record {
             is = subst (λ (o : Option Overlap). IfSome o (IsPair inst ds cells)) (sym w.first-is) found;
             none = λ e. absurd (some_none w.sooner.result c.if-overlaps.first w.first-is e);

@@ -1,11 +1,12 @@
-use Rattle.std.proofs.Common.{◌≡◌, ◌↔◌, ℕ, Bool, IsTrue, List, Some, sym, ◌∙◌}
+use Rattle.std.proofs.Common.{◌≡◌, ◌↔◌, ℕ, ◌<◌, Bool, IfSome, IsTrue, List, Option, Some, length, subst, sym, ◌∙◌}
 use Rattle.std.proofs.lemmas.Bool.{false≢true}
 use Rattle.qc_dist.specs.Node.{IsOpen}
 use Rattle.qc_model.specs.declared.decision.Decision.{Decision}
 use Rattle.qc_model.specs.declared.decision.Decision.TheVariants.{Order}
 use Rattle.qc_model.specs.Clear.{AreClear}
 use Rattle.qc_model.specs.Instance.{InstanceView}
-use Rattle.qc_model.specs.Nodes.{assigned}
+use Rattle.qc_dist.proofs.Facts.{assigned_range}
+use Rattle.qc_model.specs.Nodes.{Fits, assigned}
 use Rattle.qc_starts.specs.Overlaps.{Overlaps}
 use Rattle.qc_starts.proofs.overlap.overlaps.Goals as goal
 
@@ -36,3 +37,16 @@ returns-then-not-are_clear c =
     (sym (rw node at c.crane_of-2.ensures.crane) ∙ c.in-Some-Some.is-1)
     (λ clear. false≢true (sym c.if-not-are_clear.true ∙ c.are_clear.ensures.1 clear))
     (rw node at c.is_open.ensures)
+
+below : (inst : InstanceView) (ds : List Decision) (j k : ℕ) → Fits inst ds → assigned ds j ≡ Some k → k < length inst.cranes
+below inst ds j k fits e = subst (λ (o : Option ℕ). IfSome o (λ v. v < length inst.cranes)) e (assigned_range inst ds fits j)
+
+pub returns-then-are_far : goal.returns-then-are_far
+returns-then-are_far c =
+    let inst = c.args.network.now.inst in
+    let ds = c.args.network.now.decisions in
+    let fits = c.decisions-decisions.ensures.fits in (
+      λ t. absurd (false≢true t),
+      λ lap. absurd (lap.near (c.are_far.ensures c.if-are_far.true lap.first_crane lap.second_crane
+          (below inst ds c.args.i lap.first_crane fits lap.of_first) (below inst ds c.args.j lap.second_crane fits lap.of_second))),
+    )

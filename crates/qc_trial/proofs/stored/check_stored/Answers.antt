@@ -1,4 +1,6 @@
 use Rattle.std.proofs.Common.{sym, subst, ap, ◌∙◌}
+use Rattle.qc_model.specs.declared.turn.Turn.{Turn}
+use Rattle.qc_model.specs.OneWay.{IsAllowedBy}
 use Rattle.qc_trial.specs.Stored.{IsTreeStored, verdict_at}
 use Rattle.qc_trial.proofs.MadeLemmas.{best_read, verdict_is}
 use Rattle.qc_trial.proofs.stored.check_stored.Goals as goal
@@ -8,7 +10,8 @@ unreachable-requires c =
     let (best, goes) = best_read c.args.inst.now c.args.shelf.now.files c.args.done.now c.in-Some.field-0.now
     c.in_ok-sched.sched
     c.requires.stored (sym c.in-Some.ensures) (c.in_ok-sched.ensures.sched c.in-Some.field-0.now) in
-    absurd (cc (c.in_default-direction_of.ensures.one_way.1 goes))
+    let one_way = subst (λ (t : Turn). IsAllowedBy t c.args.inst.now c.in_ok-sched.sched) c.requires.one_way goes in
+    absurd (cc (c.in_default-direction_of.ensures.one_way.1 one_way))
 
 pub returns : goal.returns
 returns c =

@@ -1,8 +1,8 @@
 use Rattle.std.proofs.Common.{ap, ap₂, length, subst, sym, ◌∙◌}
 use Rattle.qc_num.proofs.ReadingLemmas.{same_ok}
 use Rattle.qc_make.specs.MadeList.{made_rows}
-use Rattle.qc_make.specs.OneWayWork.{HasOneWay}
 use Rattle.qc_tasks.specs.InstanceOf.{instance_of}
+use Rattle.qc_trial.specs.Stored.{HasSchedule}
 use Rattle.qc_trial.proofs.MadeLemmas.{moves_read}
 use Rattle.qc_trial.proofs.trial.made_instance.Goals as goal
 
@@ -25,6 +25,6 @@ returns-clause-inst c =
     c.in_ok-ship.ensures.ship c.as_slice.ensures (c.in_ok-text.ensures.moves c.args.cranes) in
     c.in_ok-inst.ensures ∙ ap₂ instance_of c.in_ok-ship.ensures.ship (same_ok (sym c.in-Ok.ensures.moves ∙ good))
 
-pub returns-clause-one_way : goal.returns-clause-one_way
-returns-clause-one_way c =
-    subst HasOneWay (sym (returns-clause-inst c)) (c.in_ok-ship.ensures.one_way (made_rows c.args.number c.args.hatches))
+pub returns-clause-some : goal.returns-clause-some
+returns-clause-some c =
+    subst HasSchedule (sym (returns-clause-inst c)) (c.in_ok-ship.ensures.one_way (made_rows c.args.number c.args.hatches))

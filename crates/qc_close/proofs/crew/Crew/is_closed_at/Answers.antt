@@ -9,4 +9,4 @@ returns-else-end-le-MOST_START-clause-is c =
     let late = c.if-end-le-MOST_START.false in
     lt-leb c.args.end MOST_START late
     ∙ sym (closed_never c.args.self.now.inst c.args.self.now.turn c.args.self.now.cranes c.args.end
-    c.instance-inst.ensures.valid late)
+    c.instance-inst.ensures.valid c.instance-inst.ensures.range late)

@@ -1,0 +1,15 @@
+use Rattle.std.proofs.Common.{◌≡◌, ◌<◌, List, Option, ℕ, get_or, length, map, take}
+use Rattle.qc_model.specs.declared.frame.Frame.{Frame}
+use Rattle.qc_model.specs.Barred.{barred_frame}
+use Rattle.qc_model.specs.Ways.{way_frame}
+use Rattle.qc_model.specs.Work.{crane_numbers}
+use Rattle.qc_close.specs.Moves.{IsMoving}
+use Rattle.qc_close.proofs.way.way_frames.Given as goal
+
+abbrev pub invariant-loop-crane : goal.invariant-loop-crane
+invariant-loop-crane l = record {
+  many : length l.ways ≡ 8;
+  frames : (w : ℕ) (d : Frame) → w < l.crane → (cranes : List (Option ℕ)) → IsMoving l.inst cranes l.spots l.table l.trips
+      → take (length l.inst.cranes) l.frames ≡ map (barred_frame l.inst l.turn cranes) (crane_numbers l.inst)
+      → get_or l.ways w d ≡ way_frame l.inst l.turn cranes w;
+}

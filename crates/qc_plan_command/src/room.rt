@@ -1,0 +1,53 @@
+//! Where the waypoints of a plan's cranes are put, and how its cranes go.
+ghost use Rattle.std.specs.Prelude.{◌≤◌, length, IfOk};
+ghost use Rattle.qc_model.specs.Instance.{Valid};
+ghost use Rattle.qc_model.specs.Judge.{IsJudgeable};
+ghost use Rattle.qc_model.specs.OneWay.{IsAllowed};
+ghost use Rattle.qc_plan_command.specs.Found.{MovesSafely};
+ghost use Rattle.qc_plan_command.specs.Reports.{CanBeMoved};
+ghost use Rattle.qc_plan_command.specs.Rooms.{IsRoom};
+
+use crate::answer::Motion;
+use qc_freemove::FreeTrack;
+use qc_model::{Instance, Schedule, Turn, direction_of};
+use qc_motion::Track;
+use qc_num::OutOfMemory;
+use std::alloc::Global;
+
+/// Where the waypoints of one crane after the other are put, by the way in which cranes may go.
+#[derive(Drop)]
+pub(crate) enum Room {
+    OneWay(Track),
+    Free(FreeTrack),
+}
+
+/// Room for the waypoints of each crane of a schedule of the instance.
+pub(crate) fn room_for(alloc: Global, inst: &Instance) -> Result<Room, OutOfMemory>
+    ensures { IfOk result (IsRoom inst.now.turn (length inst.now.tasks)) }
+{
+    let tasks = inst.task_count();
+    match inst.turn() {
+        Turn::OneWay => Ok(Room::OneWay(Track::new(alloc, tasks)?)),
+        Turn::Free => Ok(Room::Free(FreeTrack::new(alloc, tasks)?)),
+    }
+}
+
+/// How the cranes of a schedule go that they may follow.
+pub(crate) fn motion_of(inst: &Instance, sched: &Schedule, room: Room) -> Motion
+    requires valid { Valid inst.now }
+    requires judgeable { IsJudgeable inst.now sched.now }
+    requires allowed { IsAllowed inst.now sched.now }
+    requires room { IsRoom inst.now.turn (length inst.now.tasks) room }
+    ensures safe { MovesSafely inst.now.turn inst.now sched.now result }
+    ensures ready { CanBeMoved inst.now sched.now result }
+{
+    match room {
+        Room::OneWay(track) => {
+            let Ok(direction) = direction_of(inst, sched) else {
+                unreachable!()
+            };
+            Motion::OneWay { direction, track }
+        }
+        Room::Free(track) => Motion::Free { track },
+    }
+}
