@@ -1,5 +1,6 @@
 //! The files of the system as a shelf.
-ghost use Rattle.std.specs.Prelude.{◌≡◌, ◌≤◌, ◌<◌, [], None, IsErr, Ok, true, length, is_some, option_map, IfOk, IfSome, refl};
+ghost use Rattle.std.specs.Prelude.{◌≡◌, ◌≤◌, ◌<◌, [], None, IsErr, Ok, true, length, is_some, option_map, take, IfOk, IfSome, refl};
+ghost use Rattle.std.specs.Io.KnownBytes.{Appends, append_known};
 ghost use Rattle.std.specs.String.{string_bytes};
 ghost use Rattle.qc_io.specs.Writes.{Counts};
 ghost use Rattle.qc_cli.specs.Once.{ReadsOnce, WritesOnce};
@@ -76,8 +77,13 @@ impl<R: Files> Sink for FileShelf<'_, R> {
     fn write(&mut self, piece: &[u8]) -> Result<usize, Failed>
         ensures unmade { self.old.making ≡ None → (result ≡ Ok (length piece.now)) × (self.new.making ≡ None) }
         ensures writes { IfSome self.old.making (λ before. IfSome self.new.making (λ after.
-            IfSome before.file (λ held. IfSome after.file (λ now.
-            WritesOnce (R.File.contents held) (R.File.contents now) piece.now result)))) }
+            before.held ≡ None → IfSome before.file (λ file. IfSome after.file (λ now.
+            WritesOnce (R.File.contents file) (R.File.contents now) piece.now result)))) }
+        ensures takes { IfSome self.old.making (λ before. IfSome self.new.making (λ after.
+            IfSome before.held (λ held. IfSome after.held (λ waits.
+            IfSome before.file (λ file. IfSome after.file (λ now. IfOk result (λ count.
+            Appends (append_known (R.File.contents file) held.bytes.items)
+            (append_known (R.File.contents now) waits.bytes.items) (take count piece.now)))))))) }
         ensures at_least { IfOk result (λ count. 0 < length piece.now → 0 < count) }
         ensures at_most { IfOk result (λ count. count ≤ length piece.now) }
         ensures counts { Counts self.old.faults self.new.faults result }

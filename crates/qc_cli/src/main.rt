@@ -2,6 +2,7 @@
 #![tactic(auto)]
 
 mod files;
+mod held;
 mod lines;
 mod making;
 mod once;

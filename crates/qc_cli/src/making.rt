@@ -1,9 +1,11 @@
 //! A file that is being made.
-ghost use Rattle.std.specs.Prelude.{◌≡◌, ◌↔◌, ◌≤◌, ◌<◌, length, Some, IsTrue, IsErr, IfOk, IfSome, Contains, string_bytes};
+ghost use Rattle.std.specs.Prelude.{◌≡◌, ◌↔◌, ◌≤◌, ◌<◌, length, take, None, Some, IsTrue, IsErr, IfOk, IfSome, Contains, string_bytes};
+ghost use Rattle.std.specs.Io.KnownBytes.{Appends, append_known};
 ghost use Rattle.qc_io.specs.Writes.{Counts};
 ghost use Rattle.qc_cli.specs.Once.{WritesOnce};
 ghost use Rattle.qc_cli.specs.Used.{NotesOne};
 
+use crate::held::Held;
 use crate::once::write_once;
 use crate::part::{Part, begin_part};
 use crate::same::{Identity, identity_of, is_among, note};
@@ -25,6 +27,8 @@ pub struct Making<'a, R: Files> {
     part: Option<Part<'a, R>>,
     /// What the bytes go into. A file that is written as it stands is opened at its first byte.
     pub file: Option<R::File>,
+    /// The bytes that are to go into a new file with those that follow; None where a file is written as it stands.
+    pub held: Option<Held>,
 }
 
 /// Whether the file is there and in use.
@@ -54,11 +58,12 @@ where
         return Err(io::Error::from(ErrorKind::ResourceBusy));
     }
     let name = String::from_str(rt.alloc(), name)?;
-    let (part, file) = match &found {
-        Some(found) if found.in_place => (None, None),
+    let (part, file, held) = match &found {
+        Some(found) if found.in_place => (None, None, None),
         _ => {
+            let held = Held::new(rt.alloc())?;
             let (part, file) = begin_part(rt, path.as_str(), &found)?;
-            (Some(part), Some(file))
+            (Some(part), Some(file), Some(held))
         }
     };
     Ok(Making {
@@ -67,6 +72,7 @@ where
         path,
         part,
         file,
+        held,
     })
 }
 
@@ -75,6 +81,7 @@ impl<R: Files> Making<'_, R> {
     fn open(&mut self) -> io::Result<()>
         ensures name_stays { self.new.name ≡ self.old.name }
         ensures file_stays { IfSome self.old.file (λ file. self.new.file ≡ Some file) }
+        ensures held_stays { self.new.held ≡ self.old.held }
     {
         if self.file.is_none() {
             self.file = Some(fs::create(self.rt, self.path.as_str())?);
@@ -82,24 +89,31 @@ impl<R: Files> Making<'_, R> {
         Ok(())
     }
 
-    /// Writes once to the file.
+    /// Takes the front of a piece: it goes into a file that is written as it stands, and waits where a new one is made.
     pub fn write(
         &mut self,
         faults: &mut u64,
         why: &mut Option<io::Error>,
         piece: &[u8],
     ) -> Result<usize, Failed>
-        ensures writes { IfSome self.old.file (λ before. IfSome self.new.file (λ after.
+        ensures writes { self.old.held ≡ None → IfSome self.old.file (λ before. IfSome self.new.file (λ after.
             WritesOnce (R.File.contents before) (R.File.contents after) piece.now result)) }
+        ensures takes { IfSome self.old.held (λ held. IfSome self.new.held (λ now.
+            IfSome self.old.file (λ before. IfSome self.new.file (λ after. IfOk result (λ count.
+            Appends (append_known (R.File.contents before) held.bytes.items)
+            (append_known (R.File.contents after) now.bytes.items) (take count piece.now)))))) }
         ensures at_least { IfOk result (λ count. 0 < length piece.now → 0 < count) }
         ensures at_most { IfOk result (λ count. count ≤ length piece.now) }
         ensures counts { Counts faults.old faults.new result }
         ensures name_stays { self.new.name ≡ self.old.name }
     {
         *why = self.open().err();
-        match &mut self.file {
-            Some(file) => write_once(file, faults, why, piece),
-            None => Err(fault(faults)),
+        let Some(file) = &mut self.file else {
+            return Err(fault(faults));
+        };
+        match &mut self.held {
+            Some(held) => held.take(file, faults, why, piece),
+            None => write_once(file, faults, why, piece),
         }
     }
 
@@ -114,10 +128,14 @@ impl<R: Files> Making<'_, R> {
             path,
             part,
             file,
+            held,
         } = self;
-        let Some(file) = file else {
+        let Some(mut file) = file else {
             return Err(io::Error::from(ErrorKind::NotFound));
         };
+        if let Some(held) = held {
+            held.end(&mut file)?;
+        }
         note(identity_of(&file)?, used)?;
         let Some(part) = part else {
             return Ok(());
