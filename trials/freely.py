@@ -613,6 +613,8 @@ def try_program(program, first, number):
             Path(folder, "ship").write_text(ship)
             Path(folder, "stow").write_text(stow)
             inst = instance_of(read_ship(ship.encode()), stow.encode())
+            if not inst.tasks:
+                continue
             upward, least = least_end(inst), least_feasible_end(inst, [None] * len(inst.tasks))
             counts["ships"] += 1
             counts["ships that only plans to and fro can do"] += least < upward == NEVER
