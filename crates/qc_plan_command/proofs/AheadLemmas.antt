@@ -8,11 +8,6 @@ use Rattle.qc_model.specs.Judge.{IsJudgeable}
 use Rattle.qc_model.specs.OneWay.{GoesOneWay, IsAllowed, IsAllowedBy}
 use Rattle.qc_sweep.specs.Plans.{IsFirstPlan}
 
-pub judgeable_turn : (inst : InstanceView) (t : Turn) (sched : List Slot) → IsJudgeable inst sched
-    → IsJudgeable (with_turn inst t) sched
-judgeable_turn inst t sched judged =
-    record { all_tasks = judged.all_tasks; crane_range = judged.crane_range; start_range = judged.start_range }
-
 pub judgeable_back : (inst : InstanceView) (t : Turn) (sched : List Slot) → IsJudgeable (with_turn inst t) sched
     → IsJudgeable inst sched
 judgeable_back inst t sched judged =
@@ -22,11 +17,6 @@ judgeable_back inst t sched judged =
 pub one_way_allowed : (inst : InstanceView) → inst.turn ≡ turn.OneWay → (sched : List Slot) → GoesOneWay inst sched
     → IsAllowed inst sched
 one_way_allowed inst one sched goes = subst (λ (t : Turn). IsAllowedBy t inst sched) (sym one) goes
-
-pub first_judgeable : (inst : InstanceView) (found : Option (List Slot)) → IfSome found (IsFirstPlan inst)
-    → IfSome found (IsJudgeable inst)
-first_judgeable inst None first = tt
-first_judgeable inst (Some sched) first = first.judgeable
 
 pub first_allowed : (inst : InstanceView) → inst.turn ≡ turn.OneWay → (found : Option (List Slot))
     → IfSome found (IsFirstPlan inst) → IfSome found (IsAllowed inst)

@@ -20,6 +20,11 @@ overflow_add-index c =
       c.task-open.ensures.bound,
     )
 
+pub keep_table-requires-clause-crane : goal.keep_table-requires-clause-crane
+keep_table-requires-clause-crane c =
+    let some = ap (λ (v : CrewView). crane_in v.cranes c.args.task) c.self.view_is ∙ c.requires.some in
+    c.self.invariant.range c.args.task c.args.crane some
+
 pub keep_table-requires-clause-soonest : goal.keep_table-requires-clause-soonest
 keep_table-requires-clause-soonest c =
     let k = c.self.invariant in
