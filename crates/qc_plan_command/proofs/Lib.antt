@@ -3,5 +3,8 @@ pub mod StoreLemmas
 pub mod FoundLemmas
 pub mod RoomLemmas
 pub mod LineLemmas
+pub mod InLine
+pub mod Rounds
+pub mod Reach
 pub mod PlanLemmas
 pub mod OutlookLemmas

@@ -29,6 +29,7 @@ use Rattle.qc_plan_command.specs.Asked.{Planning}
 use Rattle.qc_plan_command.specs.Promises.{EndsPlanned, IsBudgetTold, IsInfeasibleTold, IsOptimalTold, IsOwnBrokenTold, IsSearchEnd, IsStopTold, IsUnplannedTold, PlanPromises}
 use Rattle.qc_plan_command.specs.Reports.{found_status, plan_prints, plan_prints_part, plan_status}
 use Rattle.qc_plan_command.proofs.FoundLemmas.{found_is_not, in_time, is_best, kind_by, kind_none, none_goes, of_some, own_found, own_no_later, own_none, search_end, too_late}
+use Rattle.qc_plan_command.proofs.Reach.{out_of_reach}
 use Rattle.qc_plan_command.proofs.StoreLemmas.{as_it_was}
 
 own : (a : PlanAnswer) → IsOwn (plan_status a)
@@ -154,6 +155,10 @@ module _ (asked : Planning) (before after pb pa : View) (ended : Status)
         kind = kind_none h.search.inst h.search.done Never h.search.found.came.sound.kind h.told.0 h.told.1;
         none = none_goes h.search.inst asked.nodes h.search.own h.search.tree h.search.done h.search.found
             h.told.1;
+        out_of_reach = λ free. out_of_reach h.search.inst h.search.valid
+            (λ sched feasible. none_goes h.search.inst asked.nodes h.search.own h.search.tree h.search.done
+            h.search.found h.told.1 sched
+            (subst (λ (t : Turn). IsAllowedBy t h.search.inst sched) (sym (h.search.turn ∙ free)) feasible));
         report = report;
       }
   infeasible_told (Ok (answer.Planned told)) serves e report = absurd (not_found told.kind e)

@@ -4,7 +4,7 @@ use Rattle.std.specs.Io.KnownBytes.{append_known}
 use Rattle.qc_io.specs.Outside.{Beside, Files, Rose, View, begun, beside, finished, with_file}
 use Rattle.qc_model.specs.declared.schedule.Slot.{Slot}
 use Rattle.qc_model.specs.declared.turn.Turn.{Turn}
-use Rattle.qc_model.specs.Instance.{InstanceView}
+use Rattle.qc_model.specs.Instance.{InstanceView, Valid}
 use Rattle.qc_model.specs.OneWay.{IsAllowed}
 use Rattle.qc_search.specs.Run.{DoneView, IsSound, SearchView}
 use Rattle.qc_search.specs.Run.{IsSearched as Searched}
@@ -98,7 +98,7 @@ tree_left search given name (Some held) after written now done ran sound (inr e)
 
 -- ---- what the command comes to
 
-module _ (asked : Planning) (job : OwnJob) (allowed : IfSome job.own (IsAllowed job.inst))
+module _ (asked : Planning) (job : OwnJob) (allowed : IfSome job.own (IsAllowed job.inst)) (valid : Valid job.inst)
     (found given : Option (List Slot))
     (chosen : IsChosen job.inst job.own found given) (before mid after : Option Files)
     (due_is : ComesTo (own_job_due asked.inputs.own) asked.inputs before (Ok job)) where
@@ -114,6 +114,7 @@ module _ (asked : Planning) (job : OwnJob) (allowed : IfSome job.own (IsAllowed 
     own = job.own;
     due = due_is;
     turn = own_job_turn asked.inputs.own (contents_in held asked.inputs) job due_is;
+    valid = valid;
     allowed = allowed;
     tree = stored.tree;
     done = done;
@@ -199,12 +200,13 @@ module _ (asked : Planning) (job : OwnJob) (allowed : IfSome job.own (IsAllowed 
   abbrev due_search : SearchView
   due_search = record { inst = job.inst; nodes = asked.nodes }
 
-  module _ (found given : Option (List Slot)) (chosen : IsChosen job.inst job.own found given) where
+  module _ (valid : Valid job.inst) (found given : Option (List Slot))
+      (chosen : IsChosen job.inst job.own found given) where
     -- the tree's file couldn't be made
     pub at_tree : IfSome created (λ held. IsTreeLeft search given asked.tree held mid)
         → IfSome before (λ held. IsStopped asked held mid)
     at_tree left =
-        stopped asked job allowed before mid due (left_tree asked job allowed found given chosen before mid mid due
+        stopped asked job allowed before mid due (left_tree asked job allowed valid found given chosen before mid mid due
         (subst (λ (f : Option Files). IfSome f (λ held. IsTreeLeft due_search given asked.tree held mid)) same
         (subst (λ (s : SearchView). IfSome created (λ held. IsTreeLeft s given asked.tree held mid)) is left)))
 
@@ -224,7 +226,7 @@ module _ (asked : Planning) (job : OwnJob) (allowed : IfSome job.own (IsAllowed 
         → IfSome before (λ held. IsStopped asked held after)
     at_plan done stored left =
         stopped asked job allowed before after due
-        (left_plan asked job allowed found given chosen before mid after due done (stored_is done stored) left)
+        (left_plan asked job allowed valid found given chosen before mid after due done (stored_is done stored) left)
 
     -- both were made
     pub at_end : (done : DoneView) (a : PlanAnswer)
@@ -233,7 +235,7 @@ module _ (asked : Planning) (job : OwnJob) (allowed : IfSome job.own (IsAllowed 
         → Tells job.inst done a
         → IfSome before (λ held. IsWritten asked held after a)
     at_end done a stored wrote told =
-        both_written asked job allowed found given chosen before mid after due done a
+        both_written asked job allowed valid found given chosen before mid after due done a
         (stored_is done stored) wrote told
 
 -- the planner's own plan was read, and breaks a rule

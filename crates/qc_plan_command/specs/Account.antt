@@ -2,7 +2,7 @@
 use Rattle.std.specs.Prelude.{◌≡◌, ◌⊎◌, List, Option, Some, Result, Ok, Err, IfSome}
 use Rattle.qc_io.specs.Outside.{Files, Rose, View}
 use Rattle.qc_model.specs.declared.schedule.Slot.{Slot}
-use Rattle.qc_model.specs.Instance.{InstanceView}
+use Rattle.qc_model.specs.Instance.{InstanceView, Valid}
 use Rattle.qc_model.specs.OneWay.{IsAllowed}
 use Rattle.qc_search.specs.Run.{DoneView}
 use Rattle.qc_tree.specs.Trees.{Tree}
@@ -21,13 +21,14 @@ use Rattle.qc_plan_command.specs.Found.{IsFound, Tells}
 use Rattle.qc_plan_command.specs.Reports.{plan_prints, plan_prints_part, plan_status}
 use Rattle.qc_plan_command.specs.Stored.{with_plan, with_tree}
 
--- the search of the instance of the two files, with the turn that is asked about, came to this; cranes may follow a plan
--- of the planner's own, where one is named
+-- the search of the instance of the two files, which is valid, with the turn that is asked about, came to this; cranes may
+-- follow a plan of the planner's own, where one is named
 pub record IsSearched (asked : Planning) (held : Files) : Type 0 where
   pub inst : InstanceView
   pub own : Option (List Slot)
   pub due : own_job_due asked.inputs.own (contents_in held asked.inputs) ≡ Ok (record { inst = inst; own = own })
   pub turn : inst.turn ≡ asked.inputs.turn
+  pub valid : Valid inst
   pub allowed : IfSome own (IsAllowed inst)
   pub tree : Tree
   pub done : DoneView

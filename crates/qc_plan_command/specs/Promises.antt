@@ -1,7 +1,10 @@
 -- public: what follows from a plan's account, said by itself for whoever reads one status.
-use Rattle.std.specs.Prelude.{◌≡◌, ◌≢◌, ℕ, ◌≤◌, ◌⊎◌, List, Option, None, Some, Ok, codes, IfSome}
+use Rattle.std.specs.Prelude.{◌≡◌, ◌≢◌, ℕ, ◌<◌, ◌≤◌, ◌⊎◌, false, List, length, Option, None, Some, Ok, codes, IfSome}
 use Rattle.qc_io.specs.Outside.{Files, Rose, View}
 use Rattle.qc_model.specs.declared.schedule.Slot.{Slot}
+use Rattle.qc_model.specs.declared.turn.Turn.TheVariants.{Free}
+use Rattle.qc_model.specs.Instance.{InstanceView}
+use Rattle.qc_model.specs.Nodes.{reaches}
 use Rattle.qc_model.specs.OneWay.{IsAllowed}
 use Rattle.qc_search.specs.declared.done.Kind.{Kind}
 use Rattle.qc_search.specs.declared.done.Kind.TheVariants as kind
@@ -58,13 +61,20 @@ pub record IsUnplannedTold (asked : Planning) (held : Files) (now : Option Files
   pub report : Prints (unplanned_text bound branched) before.written after.written
   pub spent : branched ≡ asked.nodes
 
--- there is no schedule that cranes may follow, as the tree shows that is written; all other files are as they were
+-- no crane reaches the task
+abbrev pub IsOutOfReach : InstanceView → ℕ → Type 0
+IsOutOfReach inst j = (k : ℕ) → k < length inst.cranes → reaches inst j k ≡ false
+
+-- there is no schedule that cranes may follow, as the tree shows that is written; all other files are as they were. Where
+-- cranes go as they like that is so only where some task lies in no crane's reach
 pub record IsInfeasibleTold (asked : Planning) (held : Files) (now : Option Files)
     (before after : View) : Type 0 where
   pub branched : ℕ
   pub written : IsWritten asked held now (answer.Infeasible branched)
   pub kind : written.search.done.kind ≡ kind.Infeasible
   pub none : (sched : List Slot) → ¬ IsAllowed written.search.inst sched
+  pub out_of_reach : asked.inputs.turn ≡ Free
+      → (j : ℕ) × (j < length written.search.inst.tasks) × IsOutOfReach written.search.inst j
   pub report : Prints (infeasible_text branched) before.written after.written
 
 -- the planner's own plan breaks a rule, which is told

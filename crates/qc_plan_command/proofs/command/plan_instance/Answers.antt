@@ -1,6 +1,6 @@
 use Rattle.std.proofs.Common.{◌≡◌, true, false, ap, arith, option_map, subst, sym, ◌∙◌, is_err}
 use Rattle.qc_io.specs.Outside.{View}
-use Rattle.qc_model.specs.Instance.{InstanceView}
+use Rattle.qc_model.specs.Instance.{InstanceView, Valid}
 use Rattle.qc_search.specs.Run.{SearchView}
 use Rattle.qc_tree.specs.Trees.{NoneEarlier}
 use Rattle.qc_plan_command.specs.Asked.{planning}
@@ -39,6 +39,7 @@ returns-in_default-clause-serves g c =
             (view c.tell.new.shelf).files (view c.store_tree.new.shelf).files
             (view c.store_tree.new.shelf).files
             (c.tell.ensures.stays ∙ c.earlier-given.ensures.stays ∙ c.requires.search) c.requires.due same
+            (subst Valid c.inst.view_is c.inst.invariant)
             c.found-found.result (option_map (λ sched. sched.now) c.earlier-given.result)
             (rw (c.as_ref-own.ensures.value, c.as_ref.ensures.value) at c.earlier-given.ensures.chosen)
             c.in_default.ensures.err,
@@ -64,6 +65,7 @@ returns-in-Err-clause-serves g c =
             (view c.tell.new.shelf).files (view c.store_tree.new.shelf).files
             (view c.store_best.new.shelf).files
             (c.tell.ensures.stays ∙ c.earlier-given.ensures.stays ∙ c.requires.search) c.requires.due same
+            (subst Valid c.inst.view_is c.inst.invariant)
             c.found-found.result (option_map (λ sched. sched.now) c.earlier-given.result)
             (rw (c.as_ref-own.ensures.value, c.as_ref.ensures.value) at c.earlier-given.ensures.chosen)
             c.in-Ok.done c.in-Ok.ensures.ok c.in-Err.ensures.err,
@@ -86,6 +88,7 @@ returns-in-Ok-store_best-clause-serves g c =
           (view c.args.shelf.now).files
           (view c.tell.new.shelf).files (view c.store_tree.new.shelf).files (view c.store_best.new.shelf).files
           (c.tell.ensures.stays ∙ c.earlier-given.ensures.stays ∙ c.requires.search) c.requires.due same
+          (subst Valid c.inst.view_is c.inst.invariant)
           c.found-found.result (option_map (λ sched. sched.now) c.earlier-given.result)
           (rw (c.as_ref-own.ensures.value, c.as_ref.ensures.value) at c.earlier-given.ensures.chosen)
           c.in-Ok.done c.answer_of.result c.in-Ok.ensures.ok
