@@ -138,8 +138,13 @@ module _ (inst : InstanceView) (can : CanLine inst) where
         clear i j (travel_between inst (bay_of inst i) (bay_of inst j)) il jl other
         (omega (arith, ahead_le i j il jl)) (omega (arith, back_le i j il jl));
     before = λ i j il jl has.
-        omega (arith, start_is i il, start_is j jl, far_le i il,
-        steps gap (key i) (key j) (below i j il (can.rises i j has)));
+        omega (
+          arith,
+          start_is i il,
+          start_is j jl,
+          far_le i il,
+          steps gap (key i) (key j) (below i j il (can.rises i j has)),
+        );
     apart = λ i j il jl has.
         clear i j 0 il jl (can.apart i j has) (omega (arith, far_le i il)) (omega (arith, far_le j jl));
     margin = λ i j il jl differ some.

@@ -40,9 +40,12 @@ module _ (inst : InstanceView) (valid : Valid inst) where
       elim (cases_Bool (some_below test n)) [
         | inl some ↦
             let found = found_below test n some in
-            let j = last_below test n in
-            (j, found.0, λ k low.
-              none_below (reaches inst j) (length inst.cranes) k (off (has_crane j) found.1) low)
+            let j = last_below test n in (
+              j,
+              found.0,
+              λ k low.
+                  none_below (reaches inst j) (length inst.cranes) k (off (has_crane j) found.1) low,
+            )
         | inr all ↦
             let can_line = can (λ j low. on (has_crane j) (none_below test n j all low)) in
             absurd (none (in_line inst can_line) (line_feasible inst can_line))
