@@ -18,7 +18,7 @@ use qc_arena::Edge;
 use qc_bounds::{LeafKind, close, spent, work_bound};
 use qc_close::Crew;
 use qc_dist::in_reach;
-use qc_model::{Decision, Instance};
+use qc_model::{Decision, Instance, Turn};
 use qc_num::{Bound, OutOfMemory, Path, Steps, Tick};
 use qc_starts::{Starts, Step};
 use std::alloc::Global;
