@@ -1,7 +1,7 @@
 #!/usr/bin/env python3
 """Refuses memory to the built program: one allocation after the other, and all from one on.
 
-    trials/memory.py PROGRAM [--nodes N] [--voice]
+    trials/memory.py PROGRAM [--nodes N] [--voice] [--only WORD]
 
 For each command below it first counts the allocations of a run, then runs it twice for each number n: once with the
 nth refused, once with the nth and all after it. Each run must come to one of
@@ -13,6 +13,8 @@ nth refused, once with the nth and all after it. Each run must come to one of
 
 The program is run with `-q`, and nothing may stand on standard error. With --voice it is run without, and lines may
 stand there that begin with `qc: `.
+
+With --only those commands are run whose name has the word.
 
 Printed is how often each came, how many allocations were made before the first file was begun, and how many after
 that. Only Python's standard library and gcc are needed. It ends with 1 where a run came to anything else.
@@ -31,6 +33,7 @@ FOUR = (b"hatches = [2, 6, 10, 14]\nmargin = 1\ntravel = 1\ndeck_move = 10\nhold
 MOVES = b"id,move,cell,length\nA1,D,020082,40\nA2,D,020084,40\nB1,D,060082,40\nB2,D,060084,40\n"
 PLAN = b"task,crane,start,end\n2-DD,C1,0,20\n6-DD,C1,21,41\n"
 TREE = b"QCTREE 2\nup\nP 2\ndown\nP 2\nend 0 21\n"
+FREE_TREE = b"QCFREE 1\nQ 1 2\nend 0 41\n"
 
 
 def read(*path):
@@ -53,6 +56,7 @@ def inputs(program, nodes):
     first = {"s": read("examples/first/ship.toml"), "m": read("examples/first/stow.csv")}
     four = {"s": FOUR, "m": MOVES}
     vessel = {"s": read("examples/vessel/ship.toml"), "m": read("examples/vessel/stow.csv")}
+    fro = {"s": read("examples/to-and-fro/ship.toml"), "m": read("examples/to-and-fro/stow.csv")}
     judged = dict(four, p=PLAN, t=TREE)
     vessel_judged = planned(program, vessel)
     unreached = dict(four, s=FOUR.replace(b"bay = 3\n", b"bay = 3\nto = 1\n").replace(b"bay = 1\n", b"bay = 1\nto = 1\n"))
@@ -62,6 +66,11 @@ def inputs(program, nodes):
         ("plan, Infeasible", ["plan", "s", "m", "p", "t"], unreached),
         ("plan, no branching", ["plan", "s", "m", "p", "t", "--nodes", "0"], four),
         ("plan over old files", ["plan", "s", "m", "p", "t"], judged),
+        ("free, four moves", ["free", "s", "m", "p", "t"], four),
+        ("free, to and fro", ["free", "s", "m", "p", "t"], fro),
+        ("free over old files, from one's own", ["free", "s", "m", "q", "t", "--from", "p"], dict(judged, t=FREE_TREE)),
+        ("freecheck", ["freecheck", "s", "m", "p", "t"], dict(judged, t=FREE_TREE)),
+        ("freecheck of a tree alone", ["freecheck", "s", "m", "-", "t"], dict(judged, t=FREE_TREE)),
         ("check", ["check", "s", "m", "p", "t"], judged),
         ("check of a tree alone", ["check", "s", "m", "-", "t"], judged),
         ("tasks", ["tasks", "s", "m"], four),
@@ -131,13 +140,14 @@ def main():
     parser.add_argument("program")
     parser.add_argument("--nodes", default="30")
     parser.add_argument("--voice", action="store_true")
+    parser.add_argument("--only", default="", help="only what has this in its name")
     args = parser.parse_args()
     program, wrong, total = os.path.abspath(args.program), 0, collections.Counter()
     with tempfile.TemporaryDirectory() as folder:
         library = os.path.join(folder, "refuse.so")
         subprocess.run(["gcc", "-O1", "-shared", "-fPIC", "-o", library, f"{HERE}/refuse.c", "-ldl"], check=True)
         runs = Runs(program, library, folder, args.voice)
-        for name, words, files in inputs(program, args.nodes):
+        for name, words, files in (one for one in inputs(program, args.nodes) if args.only in one[0]):
             whole, (calls, before_first, before_last) = runs.count(words, files)
             seen = collections.Counter()
             for number in range(1, calls + 1):

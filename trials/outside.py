@@ -314,13 +314,13 @@ def changes_meanwhile():
         room = Room.__new__(Room)
         room.path = tempfile.mkdtemp(prefix="qc-trial-")
         room.write("s", VESSEL), room.write("m", VESSEL_STOW)
-        process = subprocess.Popen([PROGRAM] + PLANNED + ["--nodes", "100000"], cwd=room.path, stdout=subprocess.DEVNULL)
-        time.sleep(0.05 + 0.02 * turn)
+        process = subprocess.Popen([PROGRAM, "free"] + PLANNED[1:] + ["--nodes", "100000"], cwd=room.path, stdout=subprocess.DEVNULL)
+        time.sleep(0.05 + 0.01 * turn)
         process.kill()
         process.wait()
         right += room.read("t") is None and room.read("p") is None
         begun += room.parts() == ["t.part"]
-    told("plan is killed while it searches, 20 times", right == 20 and begun > 0,
+    told("free is killed while it searches, 20 times", right == 20 and begun > 0,
          f"{right} times neither file is there, {begun} times a part of the tree is left behind")
 
 
