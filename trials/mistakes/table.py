@@ -28,6 +28,7 @@ ORDERED_LIST = "id,move,cell,length\nX,D,020082,40\nY,D,060082,40\nX,L,060082,40
 BASES = {
     "first": ("first", {"plan.csv": FIRST_PLAN, "tree.txt": ("examples", "first/tree.txt"),
                         "happened.txt": ("examples", "first/happened.txt")}),
+    "infeasible": ("infeasible", {}),
     "vessel": ("vessel", {}),
     "places": ("places", {"log.txt": ("examples", "places/log.txt")}),
     "restows": ("restows", {"plan.csv": RESTOWS_PLAN}),
@@ -157,10 +158,17 @@ MISTAKES = [
          ["qc: note: ship.toml, line 4: clear isn't read without places; margin takes its place"], base="first", status=0),
     ("an old plan beside Infeasible", "first", "plan ship.toml stow.csv plan.csv newtree.txt",
      {"ship.toml": [("bay = 1\n", "bay = 1\nto = 1\n")]}, 10, "Infeasible",
-     ["qc: note: plan.csv: this plan was there before and isn't of this run"]),
+     ["qc: note: 6-DD lies where no crane comes, by from and to of the ship file",
+      "qc: note: plan.csv: this plan was there before and isn't of this run"]),
+    ("a task that no crane reaches, to and fro", "first", "free ship.toml stow.csv newplan.csv newtree.txt",
+     {"ship.toml": [("bay = 1\n", "bay = 1\nto = 1\n")]}, 10, "Infeasible",
+     ["qc: note: 6-DD lies where no crane comes, by from and to of the ship file"]),
+    ("no plan that goes one way", "infeasible", "plan ship.toml stow.csv newplan.csv newtree.txt", {}, 10, "Infeasible",
+     ["qc: note: no plan goes one way; qc free looks for one in which cranes go to and fro"]),
     ("an old plan beside no plan", "first", "plan ship.toml stow.csv plan.csv newtree.txt --nodes 0",
      {"ship.toml": ORDERED_SHIP, "stow.csv": ORDERED_LIST}, 12, "Budget",
-     ["qc: note: plan.csv: this plan was there before and isn't of this run"]),
+     ["qc: note: no plan was found yet: --nodes N allows up to 100000 branchings, and --from OWN begins with a plan of yours",
+      "qc: note: plan.csv: this plan was there before and isn't of this run"]),
     # ---- ship files that are no TOML
     ship("decimal comma", [("travel = 60\n", "travel = 1,5\n")], "BadShip NotToml",
          ['qc: ship.toml, line 7: "travel = 1,5" isn\'t TOML: numbers are whole and have no comma: choose a smaller tick']),
@@ -536,7 +544,7 @@ MISTAKES = [
          "Broken OneWay 10-LD 14-DD",
          ["qc: plan.csv, line 3, record 3: the plan can be worked, but its cranes go to and fro: from 14-DD to 10-LD the way is "
           "down, and other tasks go up; only a tree of all feasible plans speaks of such a plan, and qc freecheck judges it; qc "
-          "sheet, qc picture and qc report print it"],
+          "sheet, qc dispatch, qc picture and qc report take it"],
          base="restows", words=SHOW, status=13),
     # ---- the tree
     tree("Windows' lines", ("crlf",), "BadTree Spelling 1",

@@ -180,7 +180,7 @@ impl fmt::Display for Reaching<'_> {
 }
 
 /// Whether any crane reaches a bay.
-fn is_reached(inst: &Instance, bay: Bay) -> bool {
+pub(crate) fn is_reached(inst: &Instance, bay: Bay) -> bool {
     for crane in inst.cranes() {
         if reaches(crane, bay) {
             return true;
@@ -326,6 +326,6 @@ fn say_one_way(page: &mut Page, story: Story<'_>) -> Result<(), OutOfMemory> {
     let (early, late) = story.in_order();
     let (place, first, second) = (late.place, early.name(), late.name());
     page.say(format_args!(
-        "{place}: the plan can be worked, but its cranes go to and fro: from {first} to {second} the way is down, and other tasks go up; only a tree of all feasible plans speaks of such a plan, and qc freecheck judges it; qc sheet, qc picture and qc report print it"
+        "{place}: the plan can be worked, but its cranes go to and fro: from {first} to {second} the way is down, and other tasks go up; only a tree of all feasible plans speaks of such a plan, and qc freecheck judges it; qc sheet, qc dispatch, qc picture and qc report take it"
     ))
 }

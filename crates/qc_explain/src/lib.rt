@@ -2,6 +2,7 @@
 //! people.
 #![tactic(auto)]
 
+mod answer;
 mod broken;
 mod course;
 mod cranes;

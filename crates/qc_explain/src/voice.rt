@@ -3,6 +3,7 @@ ghost use Rattle.std.specs.Prelude.{◌≡◌};
 ghost use Rattle.qc_io.specs.Outside.{beside};
 ghost use Rattle.qc_explain.specs.Frame.{LeavesFiles};
 
+use crate::answer::{say_infeasible, say_spent};
 use crate::broken::say_broken;
 use crate::course::say_course;
 use crate::log::say_log;
@@ -184,6 +185,25 @@ fn say_ship_notes(page: &mut Page, names: &Names<'_>, texts: &Texts) -> Result<(
     }
 }
 
+/// Says what may help on where a search came to no plan.
+fn say_planless(
+    page: &mut Page,
+    names: &Names<'_>,
+    texts: &Texts,
+    ended: Status,
+) -> Result<(), OutOfMemory> {
+    if names.written.is_none() {
+        return Ok(());
+    }
+    if ended == Status::BudgetNone {
+        return say_spent(page);
+    }
+    match turned_instance(page.alloc(), texts, names.turn)? {
+        Some(inst) => say_infeasible(page, &inst),
+        None => Ok(()),
+    }
+}
+
 /// Says what there is to say of the files that are read whole.
 fn say_texts(
     page: &mut Page,
@@ -203,11 +223,13 @@ fn say_texts(
         }
         Status::OutOfMemory => page.say("the system gave no more memory; no file was changed"),
         Status::Usage | Status::WriteFault | Status::BadTree => Ok(()),
+        Status::Infeasible | Status::BudgetNone => {
+            say_ship_notes(page, names, texts)?;
+            say_planless(page, names, texts, ended)
+        }
         Status::Optimal
         | Status::Done
-        | Status::Infeasible
         | Status::BudgetPlan
-        | Status::BudgetNone
         | Status::Weaker
         | Status::Breach => say_ship_notes(page, names, texts),
     }
