@@ -1,50 +1,32 @@
 -- What is told of a search follows from what it came to.
-use Rattle.std.proofs.Common.{◌≡◌, ◌≤◌, ℕ, Bool, true, false, arith, List, Option, None, Some, refl, sym, inl, inr, ap, ◌∙◌, subst, Bor, IfSome, MatchOption, option_map, nat_le, nat_lt, if◌then◌else◌}
+use Rattle.std.proofs.Common.{◌≡◌, ◌≤◌, ℕ, Bool, true, false, arith, List, Option, None, Some, refl, sym, ap, ◌∙◌, subst, IfSome, MatchOption, nat_le, nat_lt, if◌then◌else◌}
 use Rattle.std.proofs.lemmas.Bool.{leb-true, ltb-true}
-use Rattle.std.proofs.lemmas.List.{length-map}
 use Rattle.qc_num.specs.declared.bound.Bound.{Bound}
 use Rattle.qc_num.specs.declared.bound.Bound.TheVariants.{Least, Never}
-use Rattle.qc_model.specs.declared.direction.Direction.{Direction}
-use Rattle.qc_model.specs.declared.direction.Direction.TheVariants.{Up, Down}
 use Rattle.qc_model.specs.declared.schedule.Slot.{Slot}
 use Rattle.qc_model.specs.Instance.{InstanceView}
-use Rattle.qc_model.specs.Judge.{Goes, IsJudgeable}
-use Rattle.qc_model.specs.declared.turn.Turn.{Turn}
-use Rattle.qc_model.specs.declared.turn.Turn.TheVariants as turn
-use Rattle.qc_model.specs.OneWay.{GoesOneWay, IsAllowed, IsAllowedBy}
+use Rattle.qc_model.specs.Judge.{IsJudgeable}
+use Rattle.qc_model.specs.OneWay.{IsAllowed}
 use Rattle.qc_search.specs.declared.done.Kind.{Kind}
 use Rattle.qc_search.specs.declared.done.Kind.TheVariants as kind
 use Rattle.qc_search.specs.Run.{DoneView, IsGivenTold, IsTightEnd, best_end, outcome}
-use Rattle.qc_starts.specs.Tight.{IsAllowedSo, IsTight}
+use Rattle.qc_starts.specs.Tight.{IsTight}
+use Rattle.qc_store.specs.Outcome.{IsChosen, IsFound, IsReread}
+use Rattle.qc_store.proofs.OutcomeLemmas.{of_some, short_ends, tight_allowed}
 use Rattle.qc_tree.specs.Trees.{NoneEarlier, Tree}
 use Rattle.qc_num.specs.Bounds.{IsAtMost}
 use Rattle.qc_num.proofs.BoundLemmas.{at_most_through}
-use Rattle.qc_model.specs.Rules.{ends, starts}
+use Rattle.qc_model.specs.Rules.{ends}
 use Rattle.qc_model.specs.Numbers.{most_start}
-use Rattle.qc_model.proofs.NodeLemmas.{ends_by, start_at}
 use Rattle.qc_gantt.specs.Plan.{HasShortEnds}
 use Rattle.qc_plan_command.specs.declared.answer.Planned.{Planned}
 use Rattle.qc_run.specs.declared.status.Status.{Status}
 use Rattle.qc_run.specs.declared.status.Status.TheVariants as status
 use Rattle.qc_run.specs.Told.{IsBest}
 use Rattle.qc_run.proofs.StatusLemmas.{IsOwn}
-use Rattle.qc_plan_command.specs.Found.{IsByTightEnd, IsChosen, IsFound, IsReread, TellsPlan}
+use Rattle.qc_plan_command.specs.Found.{IsByTightEnd, TellsPlan}
 use Rattle.qc_plan_command.specs.Promises.{IsSearchEnd}
 use Rattle.qc_plan_command.specs.Reports.{found_status}
-
-goes_one_way : (inst : InstanceView) (sched : List Slot) (way : Direction) → Goes inst sched way
-    → GoesOneWay inst sched
-goes_one_way inst sched Up goes = inl goes
-goes_one_way inst sched Down goes = inr goes
-
--- one that cranes may follow as it is seen they may follow
-allowed_so : (t : Turn) (inst : InstanceView) (sched : List Slot) (way : Direction) → IsAllowedSo t inst sched way
-    → IsAllowedBy t inst sched
-allowed_so turn.OneWay inst sched way goes = goes_one_way inst sched way goes
-allowed_so turn.Free inst sched way goes = goes.0
-
-pub tight_allowed : (inst : InstanceView) (sched : List Slot) → IsTight inst sched → IsAllowed inst sched
-tight_allowed inst sched tight = allowed_so inst.turn inst sched tight.way tight.goes
 
 -- where no schedule ends before Never, none is known
 pub none_best : (inst : InstanceView) (bound : Bound) (best : Option (List Slot)) → bound ≡ Never
@@ -97,17 +79,6 @@ pub kind_none :
 kind_none inst done bound is best same =
     is ∙ ap (λ (v : Bound). outcome v (best_end inst done.best)) same
     ∙ ap (λ (o : Option (List Slot)). outcome bound (best_end inst o)) best
-
--- what holds of a value that is there
-pub of_some : {A : Type 0} (P : A → Type 0) (o : Option A) (a : A) → o ≡ Some a → IfSome o P → P a
-of_some P None a e h = absurd (cc e)
-of_some P (Some b) a e h = let same : b ≡ a = cc in subst P same h
-
--- what holds of the value that is kept holds of the one that is looked at
-pub copied_keeps : {V : Type 0} (P : V → Type 0) (r : Option (Bor V)) (s : Option V)
-    → option_map (λ (x : Bor V). x.now) r ≡ s → IfSome s P → IfSome r (λ (x : Bor V). P x.now)
-copied_keeps P None s is h = tt
-copied_keeps P (Some x) s is h = of_some P s x.now (sym is) h
 
 pub is_best :
     (inst : InstanceView) (nodes : ℕ) (own : Option (List Slot)) (tree : Tree) (done : DoneView)
@@ -210,15 +181,6 @@ own_none inst nodes own tree done found none = by own (own_end inst nodes own tr
         late.by)
 
 -- ---- what is written is read again
-
--- where a schedule ends soon, each task does
-pub short_ends : (inst : InstanceView) (sched : List Slot) → IsJudgeable inst sched
-    → ends inst sched ≤ most_start
-    → HasShortEnds inst sched
-short_ends inst sched judged soon = λ j low.
-    let size = length-map sched (λ (s : Slot). s.start) ∙ judged.all_tasks in
-    let by = ends_by inst.tasks (starts sched) j size low in
-    omega (arith, by, start_at sched j, soon)
 
 -- a best schedule ends soon, so its plan is read again
 pub rereads : (inst : InstanceView) (best : Option (List Slot)) → IfSome best (IsJudgeable inst)

@@ -22,13 +22,14 @@ use Rattle.qc_run.specs.Reports.{Prints, answer_prints, answer_status}
 use Rattle.qc_run.specs.Told.{EndsBy, IsCutTold, NoneFailed}
 use Rattle.qc_run.proofs.StatusLemmas.{IsOwn, stop_is_not}
 use Rattle.qc_run.proofs.ToldLemmas.{memory_told, never_usage, of_status, refused_told, stop_due, unfailed, whole_of}
+use Rattle.qc_store.proofs.OutcomeLemmas.{of_some}
 use Rattle.qc_plan_command.specs.declared.answer.PlanAnswer.{PlanAnswer}
 use Rattle.qc_plan_command.specs.declared.answer.PlanAnswer.TheVariants as answer
 use Rattle.qc_plan_command.specs.Account.{IsLeft, IsOwnBroken, IsPlanRun, IsPlanning, IsStopped, IsWritten}
 use Rattle.qc_plan_command.specs.Asked.{Planning}
 use Rattle.qc_plan_command.specs.Promises.{EndsPlanned, IsBudgetTold, IsInfeasibleTold, IsOptimalTold, IsOwnBrokenTold, IsSearchEnd, IsStopTold, IsUnplannedTold, PlanPromises}
 use Rattle.qc_plan_command.specs.Reports.{found_status, plan_prints, plan_prints_part, plan_status}
-use Rattle.qc_plan_command.proofs.FoundLemmas.{found_is_not, in_time, is_best, kind_by, kind_none, none_goes, of_some, own_found, own_no_later, own_none, search_end, too_late}
+use Rattle.qc_plan_command.proofs.FoundLemmas.{found_is_not, in_time, is_best, kind_by, kind_none, none_goes, own_found, own_no_later, own_none, search_end, too_late}
 use Rattle.qc_plan_command.proofs.Reach.{out_of_reach}
 use Rattle.qc_plan_command.proofs.StoreLemmas.{as_it_was}
 

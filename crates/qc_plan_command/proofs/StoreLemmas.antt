@@ -1,14 +1,13 @@
--- What a search leaves in its files, from what the shelf's calls say.
+-- What a plan leaves in its files, from what the storing of its search says.
 use Rattle.std.proofs.Common.{◌≡◌, ℕ, true, false, List, Option, None, Some, Result, Ok, Err, ◌⊎◌, ap, ◌∙◌, inl, inr, refl, subst, IfSome, IsSomeAnd, OnErr, OnOk, is_err}
-use Rattle.std.specs.Io.KnownBytes.{append_known}
-use Rattle.qc_io.specs.Outside.{Beside, Files, Rose, View, begun, beside, finished, with_file}
+use Rattle.qc_io.specs.Outside.{Files, Rose, View}
 use Rattle.qc_model.specs.declared.schedule.Slot.{Slot}
 use Rattle.qc_model.specs.declared.turn.Turn.{Turn}
 use Rattle.qc_model.specs.Instance.{InstanceView, Valid}
 use Rattle.qc_model.specs.OneWay.{IsAllowed}
-use Rattle.qc_search.specs.Run.{DoneView, IsSound, SearchView}
-use Rattle.qc_search.specs.Run.{IsSearched as Searched}
-use Rattle.qc_tree.specs.Trees.{tree_text}
+use Rattle.qc_search.specs.Run.{DoneView, SearchView}
+use Rattle.qc_store.specs.Outcome.{IsChosen}
+use Rattle.qc_store.specs.Stored.{IsTreeLeft, IsTreeStored, with_plan}
 use Rattle.qc_run.specs.declared.reading.OwnJob.{OwnJob}
 use Rattle.qc_run.specs.Due.{contents_in, own_job_due}
 use Rattle.qc_run.specs.declared.broken.Broken.{Broken}
@@ -20,81 +19,13 @@ use Rattle.qc_plan_command.specs.declared.answer.PlanAnswer.{PlanAnswer}
 use Rattle.qc_plan_command.specs.declared.answer.PlanAnswer.TheVariants as answer
 use Rattle.qc_plan_command.specs.Account.{IsLeft, IsPlanning, IsSearched, IsStopped, IsWritten, Writes}
 use Rattle.qc_plan_command.specs.Asked.{Planning}
-use Rattle.qc_plan_command.specs.Found.{IsChosen, Tells}
-use Rattle.qc_plan_command.specs.Stored.{IsTreeLeft, IsTreeStored, with_plan}
-
--- ---- a file that is made
-
-finish_is : (files : Option Files) (name text : List ℕ)
-    → finished files (Some name) (append_known (begun files) text) ≡ with_file files name text
-finish_is None name text = refl
-finish_is (Some held) name text = refl
-
--- where it is finished its name holds the text that was written since it was begun
-pub made_file : (before created wrote : View) (name text : List ℕ) → created.files ≡ before.files
-    → created.made ≡ Some name
-    → created.written ≡ begun before.files → wrote.written ≡ append_known created.written text
-    → beside wrote ≡ beside created
-    → finished wrote.files wrote.made wrote.written ≡ with_file before.files name text
-made_file before created wrote name text same made fresh whole stays =
-    ap (λ (f : Option Files). finished f wrote.made wrote.written) (ap (λ (b : Beside). b.files) stays ∙ same)
-    ∙ ap (λ (m : Option (List ℕ)). finished before.files m wrote.written)
-    (ap (λ (b : Beside). b.made) stays ∙ made)
-    ∙ ap (finished before.files (Some name)) (whole ∙ ap (λ (w : Option (List ℕ)). append_known w text) fresh)
-    ∙ finish_is before.files name text
-
--- a file that couldn't be finished is as it was, or whole
-pub left_file : (before created wrote after : View) (name text : List ℕ) → created.files ≡ before.files
-    → created.made ≡ Some name
-    → created.written ≡ begun before.files → wrote.written ≡ append_known created.written text
-    → beside wrote ≡ beside created
-    → (after.files ≡ wrote.files) ⊎ (after.files ≡ finished wrote.files wrote.made wrote.written)
-    → (after.files ≡ before.files) ⊎ (after.files ≡ with_file before.files name text)
-left_file before created wrote after name text same made fresh whole stays (inl kept) =
-    inl (kept ∙ ap (λ (b : Beside). b.files) stays ∙ same)
-left_file before created wrote after name text same made fresh whole stays (inr put) =
-    inr (put ∙ made_file before created wrote name text same made fresh whole stays)
+use Rattle.qc_plan_command.specs.Found.{Tells}
 
 -- what stays as it was is as it was, told or not
 pub as_it_was : (P : Files → Type 0) (before after : Option Files) → after ≡ before
     → ((held : Files) → after ≡ Some held → P held) → IfSome before P
 as_it_was P None after same by = tt
 as_it_was P (Some held) after same by = by held same
-
--- ---- the tree's file
-
--- the search ran, and its file was finished
-pub tree_stored : (search : SearchView) (given : Option (List Slot)) (name : List ℕ)
-    (before after : Option Files)
-    (written now : Option (List ℕ)) (done : DoneView)
-    → (ran : Searched search given written now done) → IsSound search given done
-    → after ≡ with_file before name (tree_text search.inst ran.tree)
-    → IfSome before (λ held. IsTreeStored search given name held after done)
-tree_stored search given name None after written now done ran sound e = tt
-tree_stored search given name (Some held) after written now done ran sound e = record {
-  tree = ran.tree;
-  came = record {
-    first = ran.first;
-    begins = ran.begins;
-    given_told = ran.told;
-    run = ran.run;
-    bound = ran.bound;
-    branched = ran.branched;
-    sound = sound;
-  };
-  files = e;
-}
-
--- the search ran, and its file couldn't be finished
-pub tree_left : (search : SearchView) (given : Option (List Slot)) (name : List ℕ) (before after : Option Files)
-    (written now : Option (List ℕ)) (done : DoneView)
-    → (ran : Searched search given written now done) → IsSound search given done
-    → (after ≡ before) ⊎ (after ≡ with_file before name (tree_text search.inst ran.tree))
-    → IfSome before (λ held. IsTreeLeft search given name held after)
-tree_left search given name None after written now done ran sound e = tt
-tree_left search given name (Some held) after written now done ran sound (inl same) = inl same
-tree_left search given name (Some held) after written now done ran sound (inr e) =
-    inr (done, tree_stored search given name (Some held) after written now done ran sound e)
 
 -- ---- what the command comes to
 

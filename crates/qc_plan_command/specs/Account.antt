@@ -5,6 +5,8 @@ use Rattle.qc_model.specs.declared.schedule.Slot.{Slot}
 use Rattle.qc_model.specs.Instance.{InstanceView, Valid}
 use Rattle.qc_model.specs.OneWay.{IsAllowed}
 use Rattle.qc_search.specs.Run.{DoneView}
+use Rattle.qc_store.specs.Outcome.{IsFound}
+use Rattle.qc_store.specs.Stored.{with_plan, with_tree}
 use Rattle.qc_tree.specs.Trees.{Tree}
 use Rattle.qc_run.specs.declared.refusal.Stop.{Stop}
 use Rattle.qc_run.specs.declared.status.Status.{Status}
@@ -17,9 +19,8 @@ use Rattle.qc_run.specs.Steps.{ComesTo, MayStop, Stops}
 use Rattle.qc_plan_command.specs.declared.answer.PlanAnswer.{PlanAnswer}
 use Rattle.qc_plan_command.specs.declared.answer.PlanAnswer.TheVariants as answer
 use Rattle.qc_plan_command.specs.Asked.{Planning}
-use Rattle.qc_plan_command.specs.Found.{IsFound, Tells}
+use Rattle.qc_plan_command.specs.Found.{Tells}
 use Rattle.qc_plan_command.specs.Reports.{plan_prints, plan_prints_part, plan_status}
-use Rattle.qc_plan_command.specs.Stored.{with_plan, with_tree}
 
 -- the search of the instance of the two files, which is valid, with the turn that is asked about, came to this; cranes may
 -- follow a plan of the planner's own, where one is named

@@ -2,7 +2,6 @@ pub mod Asked
 pub mod Rooms
 pub mod Ahead
 pub mod Found
-pub mod Stored
 pub mod Reports
 pub mod Lines
 pub mod Account

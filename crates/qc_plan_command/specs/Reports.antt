@@ -14,6 +14,7 @@ use Rattle.qc_model.specs.Rules.{Feasible}
 use Rattle.qc_motion.specs.declared.track.Waypoint.{Waypoint}
 use Rattle.qc_search.specs.declared.done.Kind.{Kind}
 use Rattle.qc_search.specs.declared.done.Kind.TheVariants as kind
+use Rattle.qc_store.specs.Words.{kind_word}
 use Rattle.qc_run.specs.declared.status.Status.{Status}
 use Rattle.qc_run.specs.declared.status.Status.TheVariants as status
 use Rattle.qc_run.specs.Broken.{broken_text}
@@ -24,12 +25,6 @@ use Rattle.qc_plan_command.specs.declared.answer.Motion.TheVariants as motion
 use Rattle.qc_plan_command.specs.declared.answer.Planned.{Planned}
 use Rattle.qc_plan_command.specs.declared.answer.PlanAnswer.{PlanAnswer}
 use Rattle.qc_plan_command.specs.declared.answer.PlanAnswer.TheVariants as answer
-
--- the word for how a search came out, as a plan's report begins
-abbrev pub kind_word : Kind → List ℕ
-kind_word kind.Optimal = codes "Optimal"
-kind_word kind.Infeasible = codes "Infeasible"
-kind_word kind.Budget = codes "Budget"
 
 -- the end of a given schedule, and what is printed where none was given
 abbrev pub given_text : Option ℕ → List ℕ

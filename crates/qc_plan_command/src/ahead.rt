@@ -7,13 +7,14 @@ ghost use Rattle.qc_model.specs.Numbers.{most_branchings};
 ghost use Rattle.qc_model.specs.OneWay.{GoesOneWay, IsAllowed};
 ghost use Rattle.qc_plan_command.specs.Ahead.{IsAhead, IsOneWaySearch};
 
-use crate::given::{EFFORT, earlier};
+use crate::given::earlier;
 use crate::nowhere::Nowhere;
 use qc_io::WriteFault;
 use qc_model::{Instance, Schedule, Turn, copy, direction_of};
 use qc_num::OutOfMemory;
 use qc_run::broken_by;
 use qc_search::Search;
+use qc_store::EFFORT;
 use qc_sweep::first_plan;
 use std::alloc::Global;
 

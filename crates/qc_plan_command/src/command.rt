@@ -21,11 +21,11 @@ use crate::given::earlier;
 use crate::outlook::{root_bound, tell};
 use crate::report::report;
 use crate::room::{Room, room_for};
-use crate::store::{store_best, store_tree};
 use qc_io::{Shelf, Sink, WriteFault};
 use qc_num::Tick;
 use qc_run::{Broken, OwnJob, Status, Stop, broken_by, broken_of, read_own_job, report_stop};
 use qc_search::Search;
+use qc_store::{store_best, store_tree};
 use std::alloc::Global;
 
 /// Runs the search, writes its tree and the plan of the best schedule that it knows, and answers what is told of

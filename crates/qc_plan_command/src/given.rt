@@ -2,13 +2,10 @@
 ghost use Rattle.std.specs.Prelude.{◌≡◌, IfSome, option_map};
 ghost use Rattle.qc_model.specs.Judge.{IsJudgeable};
 ghost use Rattle.qc_model.specs.OneWay.{IsAllowed};
-ghost use Rattle.qc_plan_command.specs.Found.{IsChosen, IsEarlier};
+ghost use Rattle.qc_store.specs.Outcome.{IsChosen, IsEarlier};
 
 use qc_model::{Instance, Schedule, ends};
 use qc_search::Search;
-
-/// How much effort is spent on a first plan: of at most so many states of its sweeps the children are made.
-pub const EFFORT: u32 = 250_000;
 
 /// The schedule that was found where it ends before the tight form of the planner's own one does, and else the
 /// planner's own.

@@ -14,11 +14,7 @@ mod nowhere;
 mod outlook;
 mod report;
 mod room;
-mod store;
 
 pub use answer::{Motion, PlanAnswer, Planned};
 pub use asked::PlanAsked;
 pub use command::plan;
-pub use given::EFFORT;
-pub use report::kind_word;
-pub use store::{store_best, store_tree};

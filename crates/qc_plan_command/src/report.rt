@@ -2,7 +2,7 @@
 ghost use Rattle.std.specs.Prelude.{◌≡◌, ◌≤◌, length};
 ghost use Rattle.qc_run.specs.Reports.{Reports};
 ghost use Rattle.qc_plan_command.specs.Lines.{WritesLines, WritesPlan};
-ghost use Rattle.qc_plan_command.specs.Reports.{CanBeMoved, CanBeTold, IsPlanCut, IsPlanPrinted, IsReady, found_status, given_text, infeasible_text, kind_word, plan_prints, plan_prints_part, plan_status, planned_text, unplanned_text, way_text};
+ghost use Rattle.qc_plan_command.specs.Reports.{CanBeMoved, CanBeTold, IsPlanCut, IsPlanPrinted, IsReady, found_status, given_text, infeasible_text, plan_prints, plan_prints_part, plan_status, planned_text, unplanned_text, way_text};
 ghost use Rattle.qc_model.specs.Judge.{IsJudgeable};
 
 use crate::answer::{Motion, PlanAnswer, Planned};
@@ -13,18 +13,7 @@ use qc_model::{Instance, Schedule};
 use qc_num::{Text, Tick};
 use qc_run::{Status, direction_text, report_broken, report_text};
 use qc_search::Kind;
-
-/// The word for how a search came out.
-pub fn kind_word(kind: Kind) -> &'static [u8]
-    ensures text { result.now ≡ kind_word kind }
-    ensures short { length result.now ≤ 10 }
-{
-    match kind {
-        Kind::Optimal => b"Optimal",
-        Kind::Infeasible => b"Infeasible",
-        Kind::Budget => b"Budget",
-    }
-}
+use qc_store::kind_word;
 
 /// The end of a given schedule, or that none was given.
 fn given_text(given: Option<Tick>) -> Text<32>

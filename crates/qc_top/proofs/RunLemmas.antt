@@ -23,7 +23,7 @@ use Rattle.qc_picture_command.proofs.PrintedLemmas.{figures_told, picture_told, 
 use Rattle.qc_plan_command.specs.Account.{IsLeft, IsPlanRun, both_files, tree_files}
 use Rattle.qc_plan_command.specs.Asked.{Planning, plan_of}
 use Rattle.qc_plan_command.specs.Promises.{PlanPromises}
-use Rattle.qc_plan_command.specs.Stored.{with_plan}
+use Rattle.qc_store.specs.Stored.{with_plan}
 use Rattle.qc_plan_command.proofs.PlanLemmas.{plan_promises}
 use Rattle.qc_run.specs.declared.refusal.Refusal.TheVariants as refusal
 use Rattle.qc_run.specs.declared.refusal.Stop.{Stop}

@@ -24,9 +24,9 @@ use Rattle.qc_starts.specs.Tight.{IsTight}
 use Rattle.qc_ship.specs.Ship.{ShipView}
 use Rattle.qc_stow.specs.Stow.{moves_in}
 use Rattle.qc_tree.specs.Trees.{Tree, tree_text}
-use Rattle.qc_plan_command.specs.Stored.{with_plan}
-use Rattle.qc_plan_command.specs.Stored.{IsTreeStored as IsSearchStored}
-use Rattle.qc_plan_command.proofs.FoundLemmas.{of_some, short_ends, tight_allowed}
+use Rattle.qc_store.specs.Stored.{with_plan}
+use Rattle.qc_store.specs.Stored.{IsTreeStored as IsSearchStored}
+use Rattle.qc_store.proofs.OutcomeLemmas.{of_some, short_ends, tight_allowed}
 use Rattle.qc_run.specs.declared.refusal.Stop.{Stop}
 use Rattle.qc_run.specs.declared.refusal.Stop.TheVariants as stop
 use Rattle.qc_run.specs.declared.status.Status.{Status}

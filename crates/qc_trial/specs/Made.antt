@@ -14,7 +14,7 @@ use Rattle.qc_tree.specs.Trees.{Tree}
 use Rattle.qc_trial.specs.declared.made.Made.{Made}
 use Rattle.qc_trial.specs.declared.made.Verdict.{Verdict}
 use Rattle.qc_trial.specs.declared.made.Verdict.TheVariants as verdict
-use Rattle.qc_plan_command.specs.Found.{IsFound}
+use Rattle.qc_store.specs.Outcome.{IsFound}
 
 -- the instance of the made ship and the made list
 abbrev pub made_instance : (number hatches cranes : ℕ) → InstanceView

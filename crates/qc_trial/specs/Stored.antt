@@ -10,7 +10,7 @@ use Rattle.qc_model.specs.Instance.{InstanceView}
 use Rattle.qc_model.specs.OneWay.{IsAllowed}
 use Rattle.qc_search.specs.Run.{DoneView}
 use Rattle.qc_tree.specs.Trees.{IsTree, Tree, tree_text}
-use Rattle.qc_plan_command.specs.Found.{IsFound, IsReread}
+use Rattle.qc_store.specs.Outcome.{IsFound, IsReread}
 use Rattle.qc_trial.specs.declared.made.Verdict.{Verdict}
 use Rattle.qc_trial.specs.declared.made.Verdict.TheVariants as verdict
 use Rattle.qc_trial.specs.Made.{made_branchings}

@@ -1,6 +1,6 @@
 -- public: the summary of a trial.
 use Rattle.std.specs.Prelude.{ℕ, List, ◌++◌, Option, None, Some, codes, decimal}
-use Rattle.qc_plan_command.specs.Reports.{kind_word}
+use Rattle.qc_store.specs.Words.{kind_word}
 use Rattle.qc_trial.specs.declared.made.Made.{Made}
 use Rattle.qc_trial.specs.declared.made.Verdict.{Verdict}
 use Rattle.qc_trial.specs.declared.made.Verdict.TheVariants as verdict

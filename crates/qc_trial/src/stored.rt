@@ -15,9 +15,9 @@ use qc_gantt::{PlanError, read_plan};
 use qc_io::{MemShelf, ReadAll, Shelf, WriteFault, read_all};
 use qc_model::{Instance, Schedule, direction_of, ends};
 use qc_num::{Bound, Bytes, OutOfMemory, Tick};
-use qc_plan_command::{EFFORT, store_best, store_tree};
 use qc_replay::{ReplayError, replay};
 use qc_search::{Done, Search};
+use qc_store::{EFFORT, store_best, store_tree};
 use qc_sweep::first_plan;
 use std::alloc::Global;
 

@@ -4,7 +4,7 @@ ghost use Rattle.qc_trial.specs.Texts.{end_word, found_text, made_text, size_tex
 
 use crate::made::{Made, Verdict};
 use qc_num::{Text, Tick};
-use qc_plan_command::kind_word;
+use qc_store::kind_word;
 
 fn verdict_word(verdict: Verdict) -> &'static [u8]
     ensures text { result.now ≡ verdict_word verdict }

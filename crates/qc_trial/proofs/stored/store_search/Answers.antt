@@ -1,9 +1,8 @@
 use Rattle.std.proofs.Common.{option_map, ap, subst, sym, IfSome}
 use Rattle.qc_model.specs.Instance.{InstanceView}
 use Rattle.qc_model.specs.OneWay.{IsAllowed}
-use Rattle.qc_plan_command.proofs.AheadLemmas.{first_allowed}
-use Rattle.qc_plan_command.proofs.FoundLemmas.{copied_keeps}
 use Rattle.qc_search.specs.Run.{SearchView}
+use Rattle.qc_trial.proofs.FirstLemmas.{copied_keeps, first_allowed}
 use Rattle.qc_trial.proofs.MadeLemmas.{are_stored}
 use Rattle.qc_trial.proofs.stored.store_search.Goals as goal
 

@@ -7,8 +7,8 @@ ghost use Rattle.qc_io.specs.Writes.{Counts};
 ghost use Rattle.qc_model.specs.Judge.{IsJudgeable};
 ghost use Rattle.qc_model.specs.OneWay.{IsAllowed};
 ghost use Rattle.qc_search.specs.Run.{IsSound};
-ghost use Rattle.qc_plan_command.specs.Found.{IsReread};
-ghost use Rattle.qc_plan_command.specs.Stored.{IsTreeLeft, IsTreeStored, with_plan};
+ghost use Rattle.qc_store.specs.Outcome.{IsReread};
+ghost use Rattle.qc_store.specs.Stored.{IsTreeLeft, IsTreeStored, with_plan};
 
 use qc_gantt::write_plan;
 use qc_io::{Shelf, WriteFault};
