@@ -20,6 +20,7 @@ mod SumLemmas
 mod WalkLemmas
 mod ShortLemmas
 mod RestLemmas
+mod SameLemmas
 mod ComeLemmas
 mod OwnLemmas
 mod CrewLemmas

@@ -13,6 +13,7 @@ ghost use Rattle.qc_close.specs.Trips.{AreTrips};
 
 use crate::bars::Table;
 use crate::frames::{first_frames, frames};
+use crate::same::are_same;
 use crate::short::{is_short_at, last_short};
 use crate::spots::Spots;
 use crate::trip::Trips;
@@ -60,12 +61,16 @@ pub(crate) fn is_short_by(
     ensures { result ≡ (is_short_before inst.now turn cranes.now end
         || is_short_along inst.now turn cranes.now end) }
 {
-    let _cranes = inst.crane_count();
+    let count = inst.crane_count();
     let frames = frames(inst, turn, cranes, spots, table);
     if is_short_with(inst, left, step, &frames, end) {
         return true;
     }
     let ways = way_frames(inst, turn, spots, table, trips, &frames);
+    let usual = first_frames(&frames, count as usize);
+    if are_same(first_frames(&ways, count as usize), usual) {
+        return false;
+    }
     is_short_with(inst, left, step, &ways, end)
 }
 
