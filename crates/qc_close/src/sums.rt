@@ -46,46 +46,45 @@ pub(crate) fn room(travel: Tick, tick: Tick, frame: &Frame, bays: Tick) -> Tick
         .saturating_sub(travel.saturating_mul(bays))
 }
 
-/// The greatest sums of the ticks that are left to the cranes at a bay.
+/// Fills in the greatest sums of the ticks that are left to the cranes at a bay.
 pub(crate) fn most_rooms(
+    sums: &mut Sums,
     travel: Tick,
     tick: Tick,
     frames: &[Frame],
     way: Direction,
     bay: u16,
-) -> Sums
+)
+    requires none { (n : ℕ) → slice_index sums.old n ≡ 0 }
     requires few { length frames.now ≤ 8 }
     requires near { AreNear frames.now }
     requires tick { tick < 2 ^ 56 }
-    ensures { (n : ℕ) → n ≤ length frames.now → slice_index result n
+    ensures { (n : ℕ) → n ≤ length frames.now → slice_index sums.new n
         ≡ most n (map (λ f. tick - f.gone - travel * bays_to way f bay) frames.now) }
 {
-    let mut sums = [0; 9];
     let mut count = 0;
     for frame in frames {
         let ticks = room(travel, tick, frame, bays_to(way, frame, bay));
-        add_number(&mut sums, count, ticks);
+        add_number(sums, count, ticks);
         count += 1;
     }
-    sums
 }
 
-/// The greatest sums of the bays that the cranes go from one bay on to another.
-fn most_legs(frames: &[Frame], way: Direction, from: u16, to: u16) -> Sums
+/// Fills in the greatest sums of the bays that the cranes go from one bay on to another.
+fn most_legs(sums: &mut Sums, frames: &[Frame], way: Direction, from: u16, to: u16)
+    requires none { (n : ℕ) → slice_index sums.old n ≡ 0 }
     requires few { length frames.now ≤ 8 }
     requires near { AreNear frames.now }
-    ensures sums { (n : ℕ) → n ≤ length frames.now → slice_index result n
+    ensures sums { (n : ℕ) → n ≤ length frames.now → slice_index sums.new n
         ≡ most n (map (λ f. bays_to way f to - bays_to way f from) frames.now) }
-    ensures small { (n : ℕ) → n ≤ 8 → slice_index result n ≤ 2 ^ 21 }
+    ensures small { (n : ℕ) → n ≤ 8 → slice_index sums.new n ≤ 2 ^ 21 }
 {
-    let mut sums = [0; 9];
     let mut count = 0;
     for frame in frames {
         let bays = bays_to(way, frame, to).saturating_sub(bays_to(way, frame, from));
-        add_number(&mut sums, count, bays);
+        add_number(sums, count, bays);
         count += 1;
     }
-    sums
 }
 
 /// The bays that a crane goes from one bay on to another.
@@ -134,7 +133,8 @@ pub(crate) fn leg(frames: &[Frame], way: Direction, cranes: usize, from: u16, to
     if let Some(bays) = same_leg(frames, way, from, to) {
         return times(cranes, bays);
     }
-    let sums = most_legs(frames, way, from, to);
+    let mut sums = [0; 9];
+    most_legs(&mut sums, frames, way, from, to);
     let count = frames.len();
     sums[count] - sums[count - cranes]
 }

@@ -84,7 +84,8 @@ fn step(
 {
     let work = walk.work + work;
     let legs = walk.legs + leg_from(frames, way, bay, walk.last);
-    let sums = most_rooms(travel, tick, frames, way, bay);
+    let mut sums = [0; 9];
+    most_rooms(&mut sums, travel, tick, frames, way, bay);
     let cranes = least_number(&sums, frames.len(), work + travel * legs)?;
     Some(Walk {
         last: Some(Stop { bay, cranes }),
