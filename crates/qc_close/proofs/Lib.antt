@@ -21,6 +21,7 @@ mod WalkLemmas
 mod ShortLemmas
 mod RestLemmas
 mod SameLemmas
+mod LeftLemmas
 mod ComeLemmas
 mod OwnLemmas
 mod CrewLemmas

@@ -1,11 +1,29 @@
-use Rattle.std.proofs.Common.{◌||◌, ◌∙◌, ap, sym}
+use Rattle.std.proofs.Common.{◌||◌, ◌∙◌, ap, arith, sym}
 use Rattle.std.proofs.lemmas.Bool.{or_left}
 use Rattle.qc_model.specs.Barred.{barred_frame}
 use Rattle.qc_model.specs.Closed.{grain, is_short_along, is_short_before, last_before}
 use Rattle.qc_model.specs.Ways.{way_frame}
+use Rattle.qc_model.proofs.LimitsOf.{limits_of}
+use Rattle.qc_close.proofs.CrewLemmas.{work_within}
+use Rattle.qc_close.proofs.LeftLemmas.{own_left}
 use Rattle.qc_close.proofs.LimitLemmas.{ways_near}
 use Rattle.qc_close.proofs.SameLemmas.{many_alike, short_alike}
 use Rattle.qc_close.proofs.closed.is_short_by.Goals as goal
+
+pub rest_of-rest-requires-clause-bays : goal.rest_of-rest-requires-clause-bays
+rest_of-rest-requires-clause-bays c =
+    let most = (limits_of c.args.inst.now c.crane_count-count.ensures.valid).bays.1 in
+    (omega (arith, c.requires.left.count), omega (arith, c.requires.left.count, most))
+
+pub rest_of-rest-requires-clause-work : goal.rest_of-rest-requires-clause-work
+rest_of-rest-requires-clause-work c = λ x.
+    omega (arith, c.requires.left.work x, work_within c.args.inst.now c.crane_count-count.ensures.valid c.args.cranes.now x)
+
+pub frames-frames-requires-clause-left : goal.frames-frames-requires-clause-left
+frames-frames-requires-clause-left c =
+    c.own_left.ensures
+    ∙ own_left c.args.inst.now c.crane_count-count.ensures.valid c.args.cranes.now c.args.left.now c.requires.left c.rest_of-rest.result
+    c.rest_of-rest.ensures.rest
 
 pub way_frames-ways-requires : goal.way_frames-ways-requires
 way_frames-ways-requires c = record {
