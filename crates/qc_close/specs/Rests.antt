@@ -1,5 +1,5 @@
 -- inner: what is left for all cranes together.
-use Rattle.std.specs.Prelude.{◌≡◌, ℕ, ◌+◌, ◌≤◌, ◌<◌, List, [], length, reverse, slice_index, sum_by, pos, Option, None, Some}
+use Rattle.std.specs.Prelude.{◌≡◌, ℕ, ◌+◌, ◌-◌, ◌≤◌, ◌<◌, List, [], length, reverse, slice_index, sum_by, pos, Option, None, Some}
 use Rattle.qc_model.specs.declared.direction.Direction.{Direction}
 use Rattle.qc_model.specs.declared.direction.Direction.TheVariants.{Up, Down}
 use Rattle.qc_close.specs.declared.frames.Own.{Own}
@@ -35,3 +35,12 @@ near_bay Down r = r.high
 abbrev pub far_bay : Direction → Rest → ℕ
 far_bay Up r = r.high
 far_bay Down r = r.low
+
+-- how many bays come before the last of these, counted from the far end, and before those behind the first
+abbrev pub far_count : Direction → ℕ → Rest → ℕ
+far_count Up bays r = bays - r.high
+far_count Down bays r = r.low - 1
+
+abbrev pub near_count : Direction → ℕ → Rest → ℕ
+near_count Up bays r = bays - r.low + 1
+near_count Down bays r = r.high

@@ -1,5 +1,5 @@
-use Rattle.std.proofs.Common.{◌≡◌, suc, get_or, ◌+◌, ◌-◌, ◌*◌, ap, ◌∙◌, arith}
-use Rattle.qc_close.specs.Bars.{From, cell, joined, past_bars, sum_from}
+use Rattle.std.proofs.Common.{◌≡◌, suc, ◌+◌, ◌-◌, ap, ◌∙◌, arith}
+use Rattle.qc_close.specs.Bars.{From, cell, joined, sum_from}
 use Rattle.qc_close.specs.declared.bars.Bars.{Bars}
 use Rattle.qc_close.proofs.BarLemmas.{from_low}
 use Rattle.qc_close.proofs.TableLemmas.{sums_put}
