@@ -38,7 +38,7 @@ sum_same f g a (suc n) same =
       sum_by-cons g a (range_with_len (a + 1) n),
     )
 
-sum_changed : (f g : ℕ → ℕ) (d j a n : ℕ) → a ≤ j → j < a + n → f j ≡ g j + d → ((i : ℕ) → i ≢ j → f i ≡ g i)
+pub sum_changed : (f g : ℕ → ℕ) (d j a n : ℕ) → a ≤ j → j < a + n → f j ≡ g j + d → ((i : ℕ) → i ≢ j → f i ≡ g i)
     → sum_by f (range_with_len a n) ≡ sum_by g (range_with_len a n) + d
 sum_changed f g d j a zero low high here other = absurd (omega arith)
 sum_changed f g d j a (suc n) low high here other = elim (cases_lt a j) [

@@ -20,6 +20,8 @@ mod SumLemmas
 mod WalkLemmas
 mod ShortLemmas
 mod RestLemmas
+mod SameLemmas
+mod LeftLemmas
 mod ComeLemmas
 mod OwnLemmas
 mod CrewLemmas

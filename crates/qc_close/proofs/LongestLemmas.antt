@@ -1,6 +1,6 @@
 -- The longest way of a crane, found from the spots of its trips; and that ways are short.
 use Rattle.std.proofs.Common.{◌≡◌, ℕ, zero, suc, ◌+◌, ◌-◌, ◌*◌, ◌<◌, ◌≤◌, min, inl, inr, Bool, true, false, eqb, nat_lt, cond, List, [], ◌∷◌, length, get_or, map, Option, max, ◌||◌, ℤ, pos, ◌≤ℤ◌, refl, ap, sym, subst, ◌∙◌, arith, add-one}
-use Rattle.std.proofs.lemmas.Bool.{cases_lt, cond_both, le-ltb, ltb-true, ne_eqb}
+use Rattle.std.proofs.lemmas.Bool.{cases_lt, cond-false, cond_both, le-ltb, ltb-true, ne_eqb}
 use Rattle.std.proofs.lemmas.Int.{by_lt_z, int_max_is, int_min_is, ints}
 use Rattle.std.specs.Int.{int_max, int_min}
 use Rattle.std.specs.List.{range_with_len}
@@ -27,7 +27,7 @@ use Rattle.qc_close.specs.declared.trip.Trips.{Trips}
 use Rattle.qc_close.proofs.BarLemmas.{none_pass}
 use Rattle.qc_close.proofs.BarredLemmas.{highest_at, lowest_at}
 use Rattle.qc_close.proofs.Members.{map_among, range_among}
-use Rattle.qc_close.proofs.TripLemmas.{max_wide, min_wide, tasks_there, trip_wide}
+use Rattle.qc_close.proofs.TripLemmas.{all_stays, max_wide, min_wide, tasks_there, trip_wide}
 use Rattle.qc_close.proofs.WayLemmas.{longest_is}
 
 -- ---- ways that aren't longer
@@ -148,6 +148,17 @@ module _ (inst : InstanceView) (turn : Turn) (w : ℕ) where
       let idle = idle_own (own inst cranes w) in
       omega (arith, is, idle)
 
+  -- nor where the crane goes nowhere
+  pub idle_trip : (cranes : List (Option ℕ)) (x : ℕ)
+      → (trip_along inst cranes w (trip_from (crane inst w).bay) (tasks_at inst x)).bays ≡ 0
+      → (way_at inst turn cranes w x).bays ≤ (own_way inst turn cranes w).bays
+  idle_trip cranes x none =
+      let P : Trip → ℕ = λ t.
+      (way_with t (int_min t.low (frame inst turn cranes w).low) (int_max t.high (frame inst turn cranes w).high)).bays in
+      let is = ap P (all_stays inst cranes w (crane inst w).bay (tasks_at inst x) none) in
+      let idle = idle_own (own inst cranes w) in
+      omega (arith, is, idle)
+
 -- ---- from spot to spot
 
 -- the first bay behind the spot before this one
@@ -241,7 +252,7 @@ module _ (inst : InstanceView) (valid : Valid inst) (s : Spots) (spots : AreSpot
     Followed u k = IsFollowed inst turn cranes w s.bays.items u k
 
     -- the way with the trip of a spot
-    pub way_there : (k : ℕ) → k < length s.bays.items → (low high : ℤ) → low ≡ (frame inst turn cranes w).low
+    way_there : (k : ℕ) → k < length s.bays.items → (low high : ℤ) → low ≡ (frame inst turn cranes w).low
         → high ≡ (frame inst turn cranes w).high → (t : Trip) → t ≡ get_or trips.cells.items (240 * w + k) no_trip
         → way_with t (int_min t.low low) (int_max t.high high) ≡ way_at inst turn cranes w (at k)
     way_there k in_k low high low_is high_is t t_is =
@@ -257,7 +268,7 @@ module _ (inst : InstanceView) (valid : Valid inst) (s : Spots) (spots : AreSpot
         (int_min (trip_along inst cranes w (trip_from (crane inst w).bay) (tasks_at inst (at k))).low (frame inst turn cranes w).low)
         (int_max (trip_along inst cranes w (trip_from (crane inst w).bay) (tasks_at inst (at k))).high h)) high_is
 
-    pub follow_one : (u : Way) (k : ℕ) → k < length s.bays.items → Followed u k → (v : Way) → v ≡ way_at inst turn cranes w (at k)
+    follow_one : (u : Way) (k : ℕ) → k < length s.bays.items → Followed u k → (v : Way) → v ≡ way_at inst turn cranes w (at k)
         → Followed (cond (nat_lt u.bays v.bays) v u) (k + 1)
     follow_one u k low before v is =
         let next = ap (next_bay s.bays.items) (add-one k) in
@@ -272,6 +283,36 @@ module _ (inst : InstanceView) (valid : Valid inst) (s : Spots) (spots : AreSpot
               (λ t. omega (arith, before.over, ltb-true u.bays v.bays t))
               (λ _. before.over);
         }
+
+    -- where the trip goes nowhere
+    follow_idle : (u : Way) (k : ℕ) → k < length s.bays.items → Followed u k → (t : Trip)
+        → t ≡ get_or trips.cells.items (240 * w + k) no_trip → t.bays ≡ 0 → Followed u (k + 1)
+    follow_idle u k low before t t_is none =
+        let few = spots.bays.along.few in
+        let cell = are.each w k is_crane (omega (arith, low, few)) in
+        let there = tasks_there inst valid s.bays.items spots.bays s.of_task.items spots.of_task k (at k) low (on_ship k low).0 in
+        let trip = t_is ∙ cell ∙ ap (trip_along inst cranes w (trip_from (crane inst w).bay)) there in
+        let idle = idle_trip inst turn w cranes (at k) (sym (ap (λ (x : Trip). x.bays) trip) ∙ none) in
+        let v = way_at inst turn cranes w (at k) in
+        subst (λ (x : Way). Followed x (k + 1))
+        (cond-false (nat_lt u.bays v.bays) v u (le-ltb u.bays v.bays (omega (arith, idle, before.over))))
+        (follow_one u k low before v refl)
+
+    pub follow_with : (u : Way) (k : ℕ) → k < length s.bays.items → Followed u k → (low high : ℤ) → low ≡ (frame inst turn cranes w).low
+        → high ≡ (frame inst turn cranes w).high → (t : Trip) → t ≡ get_or trips.cells.items (240 * w + k) no_trip → (new : Way)
+        → (t.bays ≤ 0 → new ≡ u)
+        → (0 < t.bays → new ≡ cond (nat_lt u.bays (way_with t (int_min t.low low) (int_max t.high high)).bays)
+        (way_with t (int_min t.low low) (int_max t.high high)) u)
+        → Followed new (k + 1)
+    follow_with u k in_k before low high low_is high_is t t_is new idle goes = elim (cases_lt 0 t.bays) [
+      | inl some ↦
+          subst (λ (x : Way). Followed x (k + 1)) (sym (goes some))
+          (follow_one u k in_k before (way_with t (int_min t.low low) (int_max t.high high))
+          (way_there k in_k low high low_is high_is t t_is))
+      | inr none ↦
+          subst (λ (x : Way). Followed x (k + 1)) (sym (idle none))
+          (follow_idle u k in_k before t t_is (omega (arith, none)))
+    ]
 
     pub follow_all : (u : Way) (k : ℕ) → k ≡ length s.bays.items → Followed u k → u ≡ longest_way inst turn cranes w
     follow_all u k end before =

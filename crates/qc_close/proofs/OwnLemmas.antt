@@ -1,7 +1,7 @@
--- What each crane has spent, summed up from the last task to the first.
-use Rattle.std.proofs.Common.{◌≡◌, ℕ, ◌+◌, ◌-◌, ◌*◌, ◌<◌, ◌≤◌, inl, inr, Bool, true, false, eqb, cond, List, [], ◌∷◌, length, get_or, set, map, take, filter, Option, None, Some, IfSome, ℤ, of_z, to_z, w32, refl, ap, sym, subst, ◌∙◌, arith, add-one, is_none}
+-- What each crane has spent.
+use Rattle.std.proofs.Common.{◌≡◌, ℕ, ◌+◌, ◌*◌, ◌<◌, ◌≤◌, inl, inr, Bool, false, eqb, cond, List, [], ◌∷◌, length, get_or, set, map, take, filter, Option, None, Some, IfSome, ℤ, of_z, to_z, w32, refl, ap, sym, subst, ◌∙◌, arith, add-one}
 use Rattle.std.proofs.Math.Nat.{mul-le-mul_left}
-use Rattle.std.proofs.lemmas.Bool.{cases_lt, cond-true, cond-false}
+use Rattle.std.proofs.lemmas.Bool.{cases_lt}
 use Rattle.std.proofs.lemmas.Int.{int_max_is, int_min_is, ints}
 use Rattle.std.proofs.lemmas.List.{ext_get_or, get_or-set_other, get_or-set_same, get_or-take, length-take}
 use Rattle.std.proofs.lemmas.List.FromFn.{get_or-map-range_with_len, length-map-range_with_len}
@@ -19,7 +19,6 @@ use Rattle.qc_model.specs.Frames.{frame_of, turn_high}
 use Rattle.qc_model.specs.Instance.{InstanceView, IsOnRail, bay_of, task, ticks_of}
 use Rattle.qc_model.specs.Work.{crane_numbers, highest, lowest, ticks_over}
 use Rattle.qc_close.specs.declared.frames.Own.{Own}
-use Rattle.qc_close.specs.Bars.{left_of}
 use Rattle.qc_close.specs.Owns.{IsSmall, frame_by, own_of, with_task}
 
 -- ---- one task more
@@ -49,19 +48,6 @@ module _ (inst : InstanceView) (p : ℕ → Bool) (from task_now done : ℕ) (is
       ap (λ k. filter p (range_with_len task_now k)) (add-one done)
       ∙ ap (λ a. cond (p task_now) (task_now ∷ filter p (range_with_len a done)) (filter p (range_with_len a done))) is
 
-  own_next : p task_now ≡ true → own_of inst (filter p (range_with_len task_now (done + 1)))
-      ≡ Some (with_task (own_of inst (filter p (range_with_len from done))) (task inst task_now))
-  own_next passes =
-      ap (own_of inst)
-      (one_more ∙ cond-true (p task_now) (task_now ∷ filter p (range_with_len from done)) (filter p (range_with_len from done)) passes)
-      ∙ own_cons inst task_now (filter p (range_with_len from done))
-
-  own_skip : p task_now ≡ false → own_of inst (filter p (range_with_len task_now (done + 1)))
-      ≡ own_of inst (filter p (range_with_len from done))
-  own_skip fails =
-      ap (own_of inst)
-      (one_more ∙ cond-false (p task_now) (task_now ∷ filter p (range_with_len from done)) (filter p (range_with_len from done)) fails)
-
 -- ---- few tasks
 
 pub some_small : (n m : ℕ) (o : Option Own) → n ≤ m → IfSome o (IsSmall n) → IfSome o (IsSmall m)
@@ -87,40 +73,6 @@ small_more n (Some o) t s few rail = record {
     omega (arith, ints, int_max_is t.bay o.high, rail.1, s.high.1),
   );
 }
-
--- ---- the loop over the tasks that no crane has
-
-module _ (inst : InstanceView) (cranes : List (Option ℕ)) (count done : ℕ) (left : Option Own) (low : done < count)
-    (is : left ≡ own_of inst (filter (λ j. is_none (crane_in cranes j)) (range_with_len (count - done) done))) where
-  abbrev last : ℕ
-  last = count - 1 - done
-
-  abbrev free : ℕ → Bool
-  free j = is_none (crane_in cranes j)
-
-  last_at : count - (done + 1) ≡ last
-  last_at = omega arith
-
-  pub left_next : (new : Own) → crane_in cranes last ≡ None → new ≡ with_task left (task inst last)
-      → Some new ≡ own_of inst (filter free (range_with_len (count - (done + 1)) (done + 1)))
-  left_next new none new_is =
-      ap Some (new_is ∙ ap (λ o. with_task o (task inst last)) is)
-      ∙ sym (own_next inst free (count - done) last done (omega arith) (ap is_none none))
-      ∙ ap (λ from. own_of inst (filter free (range_with_len from (done + 1)))) (sym last_at)
-
-  pub left_skip : (k : ℕ) → crane_in cranes last ≡ Some k
-      → left ≡ own_of inst (filter free (range_with_len (count - (done + 1)) (done + 1)))
-  left_skip k some =
-      is ∙ sym (own_skip inst free (count - done) last done (omega arith) (ap is_none some))
-      ∙ ap (λ from. own_of inst (filter free (range_with_len from (done + 1)))) (sym last_at)
-
-pub left_all : (inst : InstanceView) (cranes : List (Option ℕ)) (count done : ℕ) (left : Option Own)
-    → left ≡ own_of inst (filter (λ j. is_none (crane_in cranes j)) (range_with_len (count - done) done))
-    → count ≡ length inst.tasks → done ≡ count → left ≡ own_of inst (left_of inst cranes)
-left_all inst cranes count done left is many end =
-    let first : count - done ≡ 0 = omega (arith, end) in
-    is ∙ ap (λ from. own_of inst (filter (λ j. is_none (crane_in cranes j)) (range_with_len from done))) first
-    ∙ ap (λ n. own_of inst (filter (λ j. is_none (crane_in cranes j)) (range_with_len 0 n))) (end ∙ many)
 
 -- ---- the frames of all cranes
 

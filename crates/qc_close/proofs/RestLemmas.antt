@@ -1,11 +1,15 @@
 -- What is left for all cranes together, bay by bay.
-use Rattle.std.proofs.Common.{◌≡◌, ℕ, zero, suc, ◌+◌, ◌-◌, ◌*◌, ◌^◌, ◌<◌, ◌≤◌, List, [], ◌∷◌, length, get_or, reverse, Option, None, Some, IfSome, refl, ap, sym, subst, ◌∙◌, arith}
+use Rattle.std.proofs.Common.{◌≡◌, ℕ, zero, suc, ◌+◌, ◌-◌, ◌*◌, ◌^◌, ◌<◌, ◌≤◌, inl, inr, nat_lt, List, [], ◌∷◌, length, get_or, reverse, Option, None, Some, IfSome, refl, ap, sym, subst, ◌∙◌, arith}
+use Rattle.std.proofs.lemmas.Bool.{cases_lt, lt-ltb}
 use Rattle.std.proofs.lemmas.List.{get_or-reverse}
 use Rattle.std.proofs.lemmas.List.Sums.{sum_by-cons}
-use Rattle.qc_model.specs.declared.direction.Direction.TheVariants.{Up}
-use Rattle.qc_close.specs.Counts.{last_bays}
-use Rattle.qc_close.specs.Rests.{IsRest, IsRestOf, with_bay}
+use Rattle.std.specs.List.{range_with_len}
+use Rattle.qc_model.specs.declared.direction.Direction.{Direction}
+use Rattle.qc_model.specs.declared.direction.Direction.TheVariants.{Up, Down}
+use Rattle.qc_close.specs.Counts.{bay_behind, bays_of, last_bays}
+use Rattle.qc_close.specs.Rests.{IsRest, IsRestOf, far_count, near_count, with_bay}
 use Rattle.qc_close.specs.declared.rest.Rest.{Rest}
+use Rattle.qc_close.proofs.Members.{Among, among_filter, among_range, filter_among, range_among}
 use Rattle.qc_close.proofs.WalkLemmas.{last_no, last_yes}
 
 -- one bay more, before the others
@@ -94,3 +98,83 @@ module _ (left : List ℕ) (bays count bay : ℕ) (o : Option Rest) (many : leng
         work = omega (arith, t.work);
         behind = omega (arith, t.behind);
       }
+
+-- ---- from where to where it lies
+
+module _ (left : List ℕ) (r : Rest) (is : IsRestOf left (bays_of left) r) (bays : ℕ) (many : length left ≡ bays + 1) where
+  among_at : (xs : List ℕ) (k : ℕ) → k < length xs → Among xs (get_or xs k 0)
+  among_at [] k low = absurd (omega (arith, low))
+  among_at (x ∷ xs) zero low = inl refl
+  among_at (x ∷ xs) (suc k) low = inr (among_at xs k (omega (arith, low)))
+
+  inside : (xs : List ℕ) → ((k : ℕ) → k < length xs → (r.low ≤ get_or xs k 0) × (get_or xs k 0 ≤ r.high)) → (x : ℕ) → Among xs x
+      → (r.low ≤ x) × (x ≤ r.high)
+  inside [] all x a = absurd a
+  inside (y ∷ ys) all x (inl e) = let first = all 0 (omega arith) in (omega (arith, first.0, e), omega (arith, first.1, e))
+  inside (y ∷ ys) all x (inr a) = inside ys (λ k low. all (suc k) (omega (arith, low))) x a
+
+  on_ship : (x : ℕ) → Among (bays_of left) x → (1 ≤ x) × (x ≤ bays)
+  on_ship x a =
+      let w = range_among x 1 (length left - 1) (filter_among (λ x. nat_lt 0 (get_or left x 0)) (range_with_len 1 (length left - 1)) x a).0 in
+      (w.0, omega (arith, w.1, many))
+
+  pub rest_range : (1 ≤ r.low) × (r.low ≤ r.high) × (r.high ≤ bays)
+  rest_range =
+      let some = is.some in
+      let first = is.within 0 some in
+      let one = on_ship (get_or (bays_of left) 0 0) (among_at (bays_of left) 0 some) in
+      let k = length (bays_of left) - 1 - 0 in
+      let two = on_ship (get_or (bays_of left) k 0) (among_at (bays_of left) k (omega (arith, some))) in
+      let last = is.high ∙ get_or-reverse (bays_of left) 0 0 some in
+      (omega (arith, one.0, is.low), omega (arith, first.0, first.1), omega (arith, two.1, last))
+
+  pub counts_rise : (way : Direction) → far_count way bays r ≤ near_count way bays r
+  counts_rise Up = let range = rest_range in omega (arith, range.1, range.2)
+  counts_rise Down = let range = rest_range in omega (arith, range.1)
+
+  nothing_at : (x : ℕ) → 1 ≤ x → x ≤ bays → (r.low ≤ x → x ≤ r.high → ⊥) → get_or left x 0 ≤ 0
+  nothing_at x from to out = elim (cases_lt 0 (get_or left x 0)) [
+    | inl some ↦
+        let w = inside (bays_of left) is.within x
+        (among_filter (λ x. nat_lt 0 (get_or left x 0)) (range_with_len 1 (length left - 1)) x
+        (among_range x 1 (length left - 1) from (omega (arith, to, many))) (lt-ltb 0 (get_or left x 0) some)) in
+        absurd (out w.0 w.1)
+    | inr none ↦ omega (arith, none)
+  ]
+
+  before_far : (way : Direction) (i : ℕ) → i < far_count way bays r → get_or left (bay_behind way bays i) 0 ≤ 0
+  before_far Up i low = nothing_at (bays - i) (omega (arith, low)) (omega arith) (λ from to. omega (arith, low, to))
+  before_far Down i low =
+      let range = rest_range in
+      nothing_at (i + 1) (omega arith) (omega (arith, low, range.1, range.2)) (λ from to. omega (arith, low, from))
+
+  behind_near : (way : Direction) (i : ℕ) → near_count way bays r ≤ i → i < bays → get_or left (bay_behind way bays i) 0 ≤ 0
+  behind_near Up i from low = nothing_at (bays - i) (omega (arith, low)) (omega arith) (λ up to. omega (arith, from, up, low))
+  behind_near Down i from low = nothing_at (i + 1) (omega arith) (omega (arith, low)) (λ up to. omega (arith, from, to))
+
+  same_over : (way : Direction) (count k : ℕ) → count + k ≤ bays
+      → ((i : ℕ) → count ≤ i → i < count + k → get_or left (bay_behind way bays i) 0 ≤ 0)
+      → last_bays way left (count + k) ≡ last_bays way left count
+  same_over way count zero within none =
+      let e : count + zero ≡ count = omega arith in
+      ap (last_bays way left) e
+  same_over way count (suc k) within none =
+      let e : count + suc k ≡ count + k + 1 = omega arith in
+      ap (last_bays way left) e
+      ∙ last_no left way bays (count + k) many (omega (arith, within)) (none (count + k) (omega arith) (omega arith))
+      ∙ same_over way count k (omega (arith, within)) (λ i up low. none i up (omega (arith, low)))
+
+  -- nothing is left before the last bay, nor behind the first
+  pub none_before : (way : Direction) (first : ℕ) → first ≡ far_count way bays r → first ≤ bays
+      → last_bays way left 0 ≡ last_bays way left first
+  none_before way first first_is within =
+      let e : 0 + first ≡ first = omega arith in
+      sym (ap (last_bays way left) (sym e)
+      ∙ same_over way 0 first (omega (arith, within)) (λ i up low. before_far way i (omega (arith, low, first_is))))
+
+  pub none_after : (way : Direction) (end : ℕ) → end ≡ near_count way bays r → end ≤ bays
+      → last_bays way left end ≡ last_bays way left bays
+  none_after way end end_is within =
+      let e : end + (bays - end) ≡ bays = omega (arith, within) in
+      sym (ap (last_bays way left) (sym e)
+      ∙ same_over way end (bays - end) (omega (arith, within)) (λ i up low. behind_near way i (omega (arith, up, end_is)) (omega (arith, low, within))))

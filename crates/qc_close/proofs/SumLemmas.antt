@@ -1,7 +1,8 @@
 -- The greatest and the least sums of so many numbers: of more of them, and of greater ones.
-use Rattle.std.proofs.Common.{◌≡◌, ℕ, zero, suc, ◌+◌, ◌-◌, ◌*◌, ◌<◌, ◌≤◌, max, List, [], ◌∷◌, ◌++◌, length, get_or, map, take, refl, ap, sym, ◌∙◌, arith, sum}
+use Rattle.std.proofs.Common.{◌≡◌, ℕ, zero, suc, ◌+◌, ◌-◌, ◌*◌, ◌<◌, ◌≤◌, max, inl, inr, List, [], ◌∷◌, ◌++◌, length, get_or, map, take, refl, ap, sym, ◌∙◌, arith, sum}
 use Rattle.std.proofs.Math.Nat.{add-mul, suc-mul, zero-mul}
-use Rattle.std.proofs.lemmas.List.{length-map, map_more}
+use Rattle.std.proofs.lemmas.Bool.{cases_lt}
+use Rattle.std.proofs.lemmas.List.{length-map, length-take-le, map_more}
 use Rattle.std.proofs.lemmas.List.Sums.{sum_by-cons}
 use Rattle.qc_model.specs.Closed.{fewest, most}
 
@@ -50,35 +51,65 @@ most_le f g (suc n) (x ∷ xs) le = omega (arith, le x, most_le f g n xs le, mos
 
 -- ---- the sums with one number more
 
-module _ (sums more : List ℕ) (x : ℕ) (none : get_or more 0 0 ≡ get_or sums 0 0)
-    (some : (n : ℕ) → n < 8 → get_or more (n + 1) 0 ≡ max (x + get_or sums n 0) (get_or sums (n + 1) 0)) where
-  at_next : (n : ℕ) → n < 8 → get_or more (suc n) 0 ≡ max (x + get_or sums n 0) (get_or sums (suc n) 0)
+-- at the index of the number, where it is counted
+module _ (sums more : List ℕ) (count c : ℕ) where
+  pub some_at : (x : ℕ) → count ≡ c
+      → ((n : ℕ) → n ≤ count → get_or more (n + 1) 0 ≡ max (x + get_or sums n 0) (get_or sums (n + 1) 0))
+      → (n : ℕ) → n ≤ c → get_or more (n + 1) 0 ≡ max (x + get_or sums n 0) (get_or sums (n + 1) 0)
+  some_at x is some n low = some n (omega (arith, low, is))
+
+  pub others_at : count ≡ c → ((n : ℕ) → count + 1 < n → get_or more n 0 ≡ get_or sums n 0)
+      → (n : ℕ) → c + 1 < n → get_or more n 0 ≡ get_or sums n 0
+  others_at is others n above = others n (omega (arith, above, is))
+
+module _ (sums more : List ℕ) (c x : ℕ) (none : get_or more 0 0 ≡ get_or sums 0 0)
+    (some : (n : ℕ) → n ≤ c → get_or more (n + 1) 0 ≡ max (x + get_or sums n 0) (get_or sums (n + 1) 0))
+    (others : (n : ℕ) → c + 1 < n → get_or more n 0 ≡ get_or sums n 0) where
+  at_next : (n : ℕ) → n ≤ c → get_or more (suc n) 0 ≡ max (x + get_or sums n 0) (get_or sums (suc n) 0)
   at_next n low =
       let e : suc n ≡ n + 1 = omega arith in
       omega (arith, some n low, ap (λ k. get_or more k 0) e, ap (λ k. get_or sums k 0) e)
 
   pub small_more : (m b : ℕ) → x ≤ b → ((n : ℕ) → n ≤ 8 → get_or sums n 0 ≤ m) → (n : ℕ) → n ≤ 8 → get_or more n 0 ≤ m + b
   small_more m b few small zero low = omega (arith, none, small 0 (omega arith))
-  small_more m b few small (suc n) low =
-      omega (arith, at_next n (omega arith), small n (omega arith), small (suc n) low)
+  small_more m b few small (suc n) low = elim (cases_lt c n) [
+    | inl less ↦ omega (arith, others (suc n) (omega (arith, less)), small (suc n) low)
+    | inr more ↦ omega (arith, at_next n more, small n (omega arith), small (suc n) low, few)
+  ]
 
-  more_of : (xs : List ℕ) → ((n : ℕ) → n ≤ 8 → get_or sums n 0 ≡ most n xs)
-      → (n : ℕ) → n ≤ 8 → get_or more n 0 ≡ most n (xs ++ x ∷ [])
-  more_of xs before zero low = omega (arith, none, before 0 (omega arith))
-  more_of xs before (suc n) low =
-      omega (arith, at_next n (omega arith), before n (omega arith), before (suc n) low, most_more n x xs)
+  -- those of more numbers than there are stay 0
+  pub rest_more : ((n : ℕ) → c < n → get_or sums n 0 ≡ 0) → (n : ℕ) → c + 1 < n → get_or more n 0 ≡ 0
+  rest_more rest n above = others n above ∙ rest n (omega (arith, above))
 
-  pub sums_more : {X : Type 0} (f : X → ℕ) (xs : List X) (i : ℕ) (d : X) → i < length xs → x ≡ f (get_or xs i d)
-      → ((n : ℕ) → n ≤ 8 → get_or sums n 0 ≡ most n (map f (take i xs)))
-      → (n : ℕ) → n ≤ 8 → get_or more n 0 ≡ most n (map f (take (i + 1) xs))
-  sums_more f xs i d low is before n few =
-      more_of (map f (take i xs)) before n few
-      ∙ ap (λ (y : ℕ). most n (map f (take i xs) ++ y ∷ [])) is
-      ∙ ap (most n) (sym (map_more f xs i d low))
+  more_of : (xs : List ℕ) → length xs ≡ c → ((n : ℕ) → n ≤ c → get_or sums n 0 ≡ most n xs)
+      → ((n : ℕ) → c < n → get_or sums n 0 ≡ 0) → (n : ℕ) → n ≤ c + 1 → get_or more n 0 ≡ most n (xs ++ x ∷ [])
+  more_of xs many before rest zero low = omega (arith, none, before 0 (omega arith))
+  more_of xs many before rest (suc n) low = elim (cases_lt n c) [
+    | inl less ↦
+        omega (arith, at_next n (omega arith), before n (omega arith), before (suc n) (omega (arith, less)), most_more n x xs)
+    | inr all ↦
+        omega (
+          arith,
+          at_next n (omega arith),
+          before n (omega arith),
+          rest (suc n) (omega (arith, all)),
+          most_more n x xs,
+          most_all n xs (omega (arith, many, all)),
+          most_all (suc n) xs (omega (arith, many, all)),
+        )
+  ]
+
+  pub sums_more : {X : Type 0} (f : X → ℕ) (xs : List X) (d : X) → c < length xs → x ≡ f (get_or xs c d)
+      → ((n : ℕ) → n ≤ c → get_or sums n 0 ≡ most n (map f (take c xs))) → ((n : ℕ) → c < n → get_or sums n 0 ≡ 0)
+      → (n : ℕ) → n ≤ c + 1 → get_or more n 0 ≡ most n (map f (take (c + 1) xs))
+  sums_more f xs d low is before rest n few =
+      more_of (map f (take c xs)) (length-map (take c xs) f ∙ length-take-le c xs (omega (arith, low))) before rest n few
+      ∙ ap (λ (y : ℕ). most n (map f (take c xs) ++ y ∷ [])) is
+      ∙ ap (most n) (sym (map_more f xs c d low))
 
 -- the least sum is what the greatest of the others leave of all
 module _ {X : Type 0} (f : X → ℕ) (xs : List X) (n k : ℕ) (sums : List ℕ)
-    (all : (m : ℕ) → m ≤ 8 → get_or sums m 0 ≡ most m (map f xs)) (few : length xs ≤ 8) (low : n ≤ length xs)
+    (all : (m : ℕ) → m ≤ length xs → get_or sums m 0 ≡ most m (map f xs)) (low : n ≤ length xs)
     (is : k ≡ length xs) where
   pub leg_fits : get_or sums (k - n) 0 ≤ get_or sums k 0
   leg_fits = omega (arith, all k (omega arith), all (k - n) (omega arith), most_rise (k - n) k (map f xs) (omega arith))

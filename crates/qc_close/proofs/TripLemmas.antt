@@ -109,6 +109,49 @@ module _ (inst : InstanceView) (valid : Valid inst) (w : ℕ) (is_crane : w < le
     trip_wide =
         along_wide 0 (length inst.tasks) 0 240 (trip_from (crane inst w).bay) (omega arith) (omega (arith, valid.tasks.count)) berth_wide
 
+-- ---- trips that go nowhere
+
+stays : (b x : ℤ) → bays_between b x ≡ 0 → trip_to x (trip_from b) ≡ trip_from b
+stays b x none =
+    let e : x ≡ b = omega (arith, bays, none) in
+    let sum : 0 + bays_between b x ≡ 0 = omega (arith, none) in
+    let low : int_min b x ≡ b = omega (arith, ints, int_min_is b x, e) in
+    let high : int_max b x ≡ b = omega (arith, ints, int_max_is b x, e) in
+    ap {B = Trip} (λ y. record { at = y; bays = 0 + bays_between b x; low = int_min b x; high = int_max b x }) e
+    ∙ ap {B = Trip} (λ n. record { at = b; bays = n; low = int_min b x; high = int_max b x }) sum
+    ∙ ap {B = Trip} (λ y. record { at = b; bays = 0; low = y; high = int_max b x }) low
+    ∙ ap {B = Trip} (λ y. record { at = b; bays = 0; low = b; high = y }) high
+
+module _ (inst : InstanceView) (cranes : List (Option ℕ)) (w : ℕ) where
+  no_less : (y : ℤ) (o : Option ℕ) (t : Trip) → t.bays ≤ (trip_for inst w y o t).bays
+  no_less y None t = omega arith
+  no_less y (Some v) t = omega arith
+
+  goes_more : (t : Trip) (js : List ℕ) → t.bays ≤ (trip_along inst cranes w t js).bays
+  goes_more t [] = omega arith
+  goes_more t (j ∷ js) =
+      omega (
+        arith,
+        no_less (bay_of inst j) (crane_in cranes j) t,
+        goes_more (trip_for inst w (bay_of inst j) (crane_in cranes j) t) js,
+      )
+
+  one_stays : (y : ℤ) (o : Option ℕ) (b : ℤ) → (trip_for inst w y o (trip_from b)).bays ≡ 0
+      → trip_for inst w y o (trip_from b) ≡ trip_from b
+  one_stays y None b none = refl
+  one_stays y (Some v) b none = stays b (stand inst w v y b) (omega (arith, none))
+
+  -- a crane that goes nowhere stands at its berth
+  pub all_stays : (b : ℤ) (js : List ℕ) → (trip_along inst cranes w (trip_from b) js).bays ≡ 0
+      → trip_along inst cranes w (trip_from b) js ≡ trip_from b
+  all_stays b [] none = refl
+  all_stays b (j ∷ js) none =
+      let u = trip_for inst w (bay_of inst j) (crane_in cranes j) (trip_from b) in
+      let first : (trip_for inst w (bay_of inst j) (crane_in cranes j) (trip_from b)).bays ≡ 0 = omega (arith, none, goes_more u js) in
+      let is = one_stays (bay_of inst j) (crane_in cranes j) b first in
+      ap (λ t. trip_along inst cranes w t js) is
+      ∙ all_stays b js (sym (ap (λ t. (trip_along inst cranes w t js).bays) is) ∙ none)
+
 -- ---- task by task
 
 module _ (inst : InstanceView) (cranes : List (Option ℕ)) (w : ℕ) (p : ℕ → Bool) where

@@ -1,7 +1,8 @@
 -- inner: what is left for all cranes together.
-use Rattle.std.specs.Prelude.{◌≡◌, ℕ, ◌+◌, ◌≤◌, ◌<◌, List, [], length, reverse, slice_index, sum_by, Option, None, Some}
+use Rattle.std.specs.Prelude.{◌≡◌, ℕ, ◌+◌, ◌-◌, ◌≤◌, ◌<◌, List, [], length, reverse, slice_index, sum_by, pos, Option, None, Some}
 use Rattle.qc_model.specs.declared.direction.Direction.{Direction}
 use Rattle.qc_model.specs.declared.direction.Direction.TheVariants.{Up, Down}
+use Rattle.qc_close.specs.declared.frames.Own.{Own}
 use Rattle.qc_close.specs.declared.rest.Rest.{Rest}
 
 -- the ticks left at these bays, which lie in order, and the first and the last of them
@@ -21,6 +22,11 @@ abbrev pub with_bay : Option Rest → ℕ → ℕ → Rest
 with_bay None x work = record { work = work; low = x; high = x }
 with_bay (Some r) x work = record { work = work + r.work; low = x; high = r.high }
 
+-- as tasks are summed up
+abbrev pub as_own : Option Rest → Option Own
+as_own None = None
+as_own (Some r) = Some (record { ticks = r.work; low = pos r.low; high = pos r.high })
+
 -- of these bays the first to which cranes come that go this way, and the last
 abbrev pub near_bay : Direction → Rest → ℕ
 near_bay Up r = r.low
@@ -29,3 +35,12 @@ near_bay Down r = r.high
 abbrev pub far_bay : Direction → Rest → ℕ
 far_bay Up r = r.high
 far_bay Down r = r.low
+
+-- how many bays come before the last of these, counted from the far end, and before those behind the first
+abbrev pub far_count : Direction → ℕ → Rest → ℕ
+far_count Up bays r = bays - r.high
+far_count Down bays r = r.low - 1
+
+abbrev pub near_count : Direction → ℕ → Rest → ℕ
+near_count Up bays r = bays - r.low + 1
+near_count Down bays r = r.high

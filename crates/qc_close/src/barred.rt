@@ -7,12 +7,12 @@ ghost use Rattle.qc_model.specs.Frames.{frame};
 ghost use Rattle.qc_model.specs.Instance.{IsOnRail};
 ghost use Rattle.qc_close.specs.Bars.{IsAround, IsGreatest, IsIdle, IsKnown, done_by, high_spot, least_high, lie_in, low_spot, most_low, own_between, stretch, sum_along};
 ghost use Rattle.qc_close.specs.Owns.{IsSmall};
-ghost use Rattle.qc_close.specs.Spots.{AreRising, IsCount, spot_bay};
+ghost use Rattle.qc_close.specs.Spots.{AreBefore, AreRising, IsCount, spot_bay};
 ghost use Rattle.qc_close.specs.declared.bars.TheConstants.{NEVER};
 
 use crate::bars::{Bars, Table, joined, own_in};
 use crate::frames::{Own, spent_by, together, travel_over};
-use crate::spots::{Spots, count_before};
+use crate::spots::{Spots, spots_before};
 use qc_model::{Direction, Instance, Turn, bays_up};
 use qc_num::{Bay, Tick};
 
@@ -156,6 +156,7 @@ fn most_low(place: Place) -> Bay
 /// How many stretches there are, at the least, before one that holds them.
 fn skipped(spots: &Spots, way: Direction, place: Place) -> usize
     requires rising { AreRising spots.now.bays.items }
+    requires before { AreBefore spots.now.bays.items spots.now.before.items }
     requires order { place.first ≤ place.last }
     requires within { place.last < length spots.now.bays.items }
     requires left { IfSome place.left (IsSmall MOST_TASKS) }
@@ -165,15 +166,14 @@ fn skipped(spots: &Spots, way: Direction, place: Place) -> usize
         → IsIdle way place (spot_bay spots.now.bays.items (low_spot way place steps))
         (spot_bay spots.now.bays.items (high_spot way place steps)) }
 {
-    let bays = spots.bays.as_slice();
     let most = place.last - place.first;
     match way {
         Direction::Up => {
-            let before = count_before(bays, least_high(place));
+            let before = spots_before(spots, least_high(place));
             before.saturating_sub(place.first).min(most)
         }
         Direction::Down => {
-            let before = count_before(bays, most_low(place));
+            let before = spots_before(spots, most_low(place));
             place.last.saturating_sub(before).min(most)
         }
     }
@@ -206,18 +206,18 @@ fn greatest_done(
 
 /// The place of a crane that has or may get these tasks.
 fn place_of(spots: &Spots, crane: u16, own: Own, all: Own, left: Option<Own>) -> Place
-    requires { AreRising spots.now.bays.items }
+    requires rising { AreRising spots.now.bays.items }
+    requires before { AreBefore spots.now.bays.items spots.now.before.items }
     ensures crane { result.crane ≡ crane }
     ensures own { result.own ≡ own }
     ensures left { result.left ≡ left }
     ensures first { IsCount spots.now.bays.items all.low result.first }
     ensures last { IsCount spots.now.bays.items all.high result.last }
 {
-    let bays = spots.bays.as_slice();
     Place {
         crane,
-        first: count_before(bays, all.low),
-        last: count_before(bays, all.high),
+        first: spots_before(spots, all.low),
+        last: spots_before(spots, all.high),
         own,
         left,
     }

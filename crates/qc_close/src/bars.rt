@@ -165,8 +165,10 @@ fn sum_behind(grid: &[Bars], row: usize, spot: usize, count: usize, before: &mut
     requires known { AreSums (UpTo row spot) (sum_before grid.now) count before.old }
     ensures { AreSums Everywhere (sum_before grid.now) count before.new }
 {
+    let mut sum = before[241 * row + spot];
     for k in spot..count {
-        before[241 * row + k + 1] = joined(before[241 * row + k], grid[240 * row + k]);
+        sum = joined(sum, grid[240 * row + k]);
+        before[241 * row + k + 1] = sum;
     }
 }
 
@@ -180,9 +182,11 @@ fn sum_up_to(grid: &[Bars], row: usize, spot: usize, count: usize, from: &mut [B
     requires known { AreSums (From row (spot + 1)) (λ r k. sum_from grid.now r k (count - k)) count from.old }
     ensures { AreSums Everywhere (λ r k. sum_from grid.now r k (count - k)) count from.new }
 {
+    let mut sum = from[241 * row + spot + 1];
     for done in 0..spot + 1 {
         let k = spot - done;
-        from[241 * row + k] = joined(grid[240 * row + k], from[241 * row + k + 1]);
+        sum = joined(grid[240 * row + k], sum);
+        from[241 * row + k] = sum;
     }
 }
 

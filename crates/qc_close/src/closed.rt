@@ -1,10 +1,11 @@
 //! The ends at which an assignment is closed.
 
-ghost use Rattle.std.specs.Prelude.{◌≡◌, ◌||◌, ◌≤◌, ◌<◌, ◌^◌, ℕ, List, Option, length, map, take};
+ghost use Rattle.std.specs.Prelude.{◌≡◌, ◌||◌, ◌≤◌, ◌<◌, ◌^◌, ℕ, List, Option, IfSome, length, map, take};
 ghost use Rattle.qc_model.specs.Assignments.{AreInRange};
 ghost use Rattle.qc_model.specs.Closed.{grain, is_short, is_short_along, is_short_before, last_before, try_with};
 ghost use Rattle.qc_model.specs.Work.{crane_numbers};
-ghost use Rattle.qc_close.specs.Counts.{AreNear};
+ghost use Rattle.qc_close.specs.Counts.{AreNear, bays_of};
+ghost use Rattle.qc_close.specs.Rests.{IsRest};
 ghost use Rattle.qc_close.specs.Lasts.{IsLast};
 ghost use Rattle.qc_close.specs.Lefts.{IsLeft};
 ghost use Rattle.qc_close.specs.Bars.{IsTable};
@@ -13,6 +14,8 @@ ghost use Rattle.qc_close.specs.Trips.{AreTrips};
 
 use crate::bars::Table;
 use crate::frames::{first_frames, frames};
+use crate::rest::{Rest, own_left, rest_of};
+use crate::same::are_same;
 use crate::short::{is_short_at, last_short};
 use crate::spots::Spots;
 use crate::trip::Trips;
@@ -24,8 +27,17 @@ use qc_num::Tick;
 pub const LAST_CLOSED: Tick = 999_999_999_999_999;
 
 /// Whether the count shows that not all can be done before an end, where cranes have spent so much.
-fn is_short_with(inst: &Instance, left: &[Tick], step: Tick, frames: &[Frame; 8], end: Tick) -> bool
+fn is_short_with(
+    inst: &Instance,
+    left: &[Tick],
+    rest: Option<Rest>,
+    step: Tick,
+    frames: &[Frame; 8],
+    end: Tick,
+) -> bool
     requires left { (cranes : List (Option ℕ)) × IsLeft inst.now cranes left.now }
+    requires rest { IsRest left.now (bays_of left.now) rest }
+    requires bound { IfSome rest (λ r. r.work ≤ 2 ^ 50) }
     requires step { step ≡ grain inst.now }
     requires near { AreNear (take (length inst.now.cranes) frames.now) }
     requires end { end < 2 ^ 50 }
@@ -34,7 +46,7 @@ fn is_short_with(inst: &Instance, left: &[Tick], step: Tick, frames: &[Frame; 8]
         → result ≡ is_short (try_with inst.now cranes of (last_before (grain inst.now) end)) }
 {
     let frames = first_frames(frames, inst.crane_count() as usize);
-    is_short_at(inst.travel(), step, frames, left, end)
+    is_short_at(inst.travel(), step, frames, left, rest, end)
 }
 
 /// Whether it shows so where tasks have these cranes, or where each crane goes the longest of its ways.
@@ -60,13 +72,18 @@ pub(crate) fn is_short_by(
     ensures { result ≡ (is_short_before inst.now turn cranes.now end
         || is_short_along inst.now turn cranes.now end) }
 {
-    let _cranes = inst.crane_count();
-    let frames = frames(inst, turn, cranes, spots, table);
-    if is_short_with(inst, left, step, &frames, end) {
+    let count = inst.crane_count();
+    let rest = rest_of(left);
+    let frames = frames(inst, turn, cranes, spots, table, own_left(rest));
+    if is_short_with(inst, left, rest, step, &frames, end) {
         return true;
     }
     let ways = way_frames(inst, turn, spots, table, trips, &frames);
-    is_short_with(inst, left, step, &ways, end)
+    let usual = first_frames(&frames, count as usize);
+    if are_same(first_frames(&ways, count as usize), usual) {
+        return false;
+    }
+    is_short_with(inst, left, rest, step, &ways, end)
 }
 
 /// The last end up to a limit for which it shows so, and 0 where there is none.
@@ -89,7 +106,9 @@ pub(crate) fn last_short_end(
     requires limit { limit < 2 ^ 50 }
     ensures { IsLast (is_short_before inst.now turn cranes.now) limit result }
 {
-    let frames = frames(inst, turn, cranes, spots, table);
+    let _cranes = inst.crane_count();
+    let rest = rest_of(left);
+    let frames = frames(inst, turn, cranes, spots, table, own_left(rest));
     let frames = first_frames(&frames, inst.crane_count() as usize);
-    last_short(inst.travel(), step, frames, left, limit)
+    last_short(inst.travel(), step, frames, left, rest, limit)
 }

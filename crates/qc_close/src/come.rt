@@ -90,5 +90,5 @@ pub(crate) fn count_along(
     if have_come(frames, way, far_bay(way, rest)) {
         return Some(at_once(frames.len(), way, rest));
     }
-    walk_along(travel, tick, frames, left, way)
+    walk_along(travel, tick, frames, left, way, rest)
 }

@@ -15,6 +15,7 @@ mod left;
 mod limit;
 mod packs;
 mod rest;
+mod same;
 mod short;
 mod spots;
 mod sums;

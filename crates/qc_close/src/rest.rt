@@ -2,9 +2,10 @@
 
 ghost use Rattle.std.specs.Prelude.{◌≡◌, ◌+◌, ◌<◌, ◌≤◌, ◌^◌, ℕ, IfSome, length, slice_index};
 ghost use Rattle.qc_close.specs.Counts.{bays_of};
-ghost use Rattle.qc_close.specs.Rests.{IsRest, with_bay};
+ghost use Rattle.qc_close.specs.Rests.{IsRest, as_own, with_bay};
 
-use qc_num::Tick;
+use crate::frames::Own;
+use qc_num::{Bay, Tick};
 
 /// The bays at which work is left: its ticks, and the first and the last of them.
 #[derive(Clone, Copy)]
@@ -51,4 +52,18 @@ pub(crate) fn rest_of(left: &[Tick]) -> Option<Rest>
         }
     }
     rest
+}
+
+/// What is left, as tasks are summed up.
+pub(crate) fn own_left(rest: Option<Rest>) -> Option<Own>
+    ensures { result ≡ as_own rest }
+{
+    match rest {
+        None => None,
+        Some(rest) => Some(Own {
+            ticks: rest.work,
+            low: Bay::from(rest.low),
+            high: Bay::from(rest.high),
+        }),
+    }
 }

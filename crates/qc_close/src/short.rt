@@ -1,15 +1,15 @@
 //! Whether all that is left can be done by a tick, and the last end before which it can't.
 
-ghost use Rattle.std.specs.Prelude.{◌≡◌, ◌&&◌, ◌+◌, ◌-◌, ◌*◌, ◌<◌, ◌≤◌, ◌^◌, ℕ, List, false, true, length, map, nat_lt, slice_index, sum};
+ghost use Rattle.std.specs.Prelude.{◌≡◌, ◌&&◌, ◌+◌, ◌-◌, ◌*◌, ◌<◌, ◌≤◌, ◌^◌, ℕ, List, IfSome, false, true, length, map, nat_lt, slice_index, sum};
 ghost use Rattle.std.specs.List.{list_any};
 ghost use Rattle.qc_model.specs.declared.direction.Direction.TheVariants.{Up, Down};
 ghost use Rattle.qc_model.specs.Closed.{along, bays_to, is_served, is_short, last_before};
 ghost use Rattle.qc_close.specs.Counts.{AreNear, IsCounted, bays_of, try_by};
 ghost use Rattle.qc_close.specs.Lasts.{IsLast};
-ghost use Rattle.qc_close.specs.Rests.{IsRestOf};
+ghost use Rattle.qc_close.specs.Rests.{IsRest, IsRestOf};
 
 use crate::come::count_along;
-use crate::rest::{Rest, rest_of};
+use crate::rest::Rest;
 use crate::sums::{bays_to, room};
 use crate::walk::Walk;
 use qc_model::{Direction, Frame};
@@ -90,33 +90,37 @@ fn can_serve(travel: Tick, tick: Tick, frames: &[Frame], left: &[Tick], rest: Re
     }
 }
 
-/// Whether the count lets cranes do by a tick what is left to them.
-fn is_served(travel: Tick, tick: Tick, frames: &[Frame], left: &[Tick]) -> bool
+/// Whether the count lets cranes do by a tick what is left to them, if anything is.
+fn is_served(travel: Tick, tick: Tick, frames: &[Frame], left: &[Tick], rest: Option<Rest>) -> bool
     requires few { length frames.now ≤ 8 }
     requires near { AreNear frames.now }
     requires travel { travel < 2 ^ 16 }
     requires tick { tick < 2 ^ 56 }
     requires bays { (1 ≤ length left.now) × (length left.now < 2 ^ 13) }
     requires work { (x : ℕ) → slice_index left.now x < 2 ^ 37 }
+    requires rest { IsRest left.now (bays_of left.now) rest }
+    requires bound { IfSome rest (λ r. r.work ≤ 2 ^ 50) }
     ensures { result ≡ is_served (try_by travel tick frames.now left.now) }
 {
-    match rest_of(left) {
+    match rest {
         None => true,
         Some(rest) => can_serve(travel, tick, frames, left, rest),
     }
 }
 
 /// Whether the count shows that not all can be done by a tick.
-fn is_short(travel: Tick, tick: Tick, frames: &[Frame], left: &[Tick]) -> bool
+fn is_short(travel: Tick, tick: Tick, frames: &[Frame], left: &[Tick], rest: Option<Rest>) -> bool
     requires few { length frames.now ≤ 8 }
     requires near { AreNear frames.now }
     requires travel { travel < 2 ^ 16 }
     requires tick { tick < 2 ^ 56 }
     requires bays { (1 ≤ length left.now) × (length left.now < 2 ^ 13) }
     requires work { (x : ℕ) → slice_index left.now x < 2 ^ 37 }
+    requires rest { IsRest left.now (bays_of left.now) rest }
+    requires bound { IfSome rest (λ r. r.work ≤ 2 ^ 50) }
     ensures { result ≡ is_short (try_by travel tick frames.now left.now) }
 {
-    is_late(frames, tick) || !is_served(travel, tick, frames, left)
+    is_late(frames, tick) || !is_served(travel, tick, frames, left, rest)
 }
 
 /// The greatest multiple of a number below an end.
@@ -134,6 +138,7 @@ pub(crate) fn is_short_at(
     step: Tick,
     frames: &[Frame],
     left: &[Tick],
+    rest: Option<Rest>,
     end: Tick,
 ) -> bool
     requires few { length frames.now ≤ 8 }
@@ -143,9 +148,11 @@ pub(crate) fn is_short_at(
     requires end { end < 2 ^ 56 }
     requires bays { (1 ≤ length left.now) × (length left.now < 2 ^ 13) }
     requires work { (x : ℕ) → slice_index left.now x < 2 ^ 37 }
+    requires rest { IsRest left.now (bays_of left.now) rest }
+    requires bound { IfSome rest (λ r. r.work ≤ 2 ^ 50) }
     ensures { result ≡ is_short (try_by travel (last_before step end) frames.now left.now) }
 {
-    is_short(travel, last_before(step, end), frames, left)
+    is_short(travel, last_before(step, end), frames, left, rest)
 }
 
 /// The greatest end up to a limit for which it shows so, and 0 where there is none.
@@ -154,6 +161,7 @@ pub(crate) fn last_short(
     step: Tick,
     frames: &[Frame],
     left: &[Tick],
+    rest: Option<Rest>,
     limit: Tick,
 ) -> Tick
     requires few { length frames.now ≤ 8 }
@@ -163,6 +171,8 @@ pub(crate) fn last_short(
     requires limit { limit < 2 ^ 55 }
     requires bays { (1 ≤ length left.now) × (length left.now < 2 ^ 13) }
     requires work { (x : ℕ) → slice_index left.now x < 2 ^ 37 }
+    requires rest { IsRest left.now (bays_of left.now) rest }
+    requires bound { IfSome rest (λ r. r.work ≤ 2 ^ 50) }
     ensures { IsLast
         (λ end. is_short (try_by travel (last_before step end) frames.now left.now)) limit result }
 {
@@ -170,7 +180,7 @@ pub(crate) fn last_short(
     let mut high = limit + 1;
     'halving: while low + 1 < high {
         let middle = low + (high - low) / 2;
-        if is_short_at(travel, step, frames, left, middle) {
+        if is_short_at(travel, step, frames, left, rest, middle) {
             low = middle;
         } else {
             high = middle;

@@ -7,19 +7,21 @@ ghost use Rattle.qc_close.specs.Counts.{AreNear, AreSame, IsNear};
 use qc_model::{Direction, Frame, bays_up};
 use qc_num::{Bay, Tick};
 
-/// The greatest sums of none, of one, two and more of some numbers.
+/// The greatest sums of none, of one, two and more of some numbers, up to all of them.
 pub(crate) type Sums = [Tick; 9];
 
-/// Takes one number more into the sums.
-fn add_number(sums: &mut Sums, number: Tick)
+/// Takes one number more into the sums of so many.
+fn add_number(sums: &mut Sums, count: usize, number: Tick)
+    requires count { count < 8 }
     requires number { number < 2 ^ 56 }
     requires sums { (n : ℕ) → n < 9 → slice_index sums.old n < 2 ^ 60 }
     ensures none { slice_index sums.new 0 ≡ slice_index sums.old 0 }
-    ensures some { (n : ℕ) → n < 8
+    ensures some { (n : ℕ) → n ≤ count
         → slice_index sums.new (n + 1) ≡ max (number + slice_index sums.old n) (slice_index sums.old (n + 1)) }
+    ensures others { (n : ℕ) → count + 1 < n → slice_index sums.new n ≡ slice_index sums.old n }
 {
-    for done in 0..8 {
-        let n = 7 - done;
+    for done in 0..count + 1 {
+        let n = count - done;
         sums[n + 1] = sums[n + 1].max(number + sums[n]);
     }
 }
@@ -44,44 +46,45 @@ pub(crate) fn room(travel: Tick, tick: Tick, frame: &Frame, bays: Tick) -> Tick
         .saturating_sub(travel.saturating_mul(bays))
 }
 
-/// The greatest sums of the ticks that are left to the cranes at a bay.
+/// Fills in the greatest sums of the ticks that are left to the cranes at a bay.
 pub(crate) fn most_rooms(
+    sums: &mut Sums,
     travel: Tick,
     tick: Tick,
     frames: &[Frame],
     way: Direction,
     bay: u16,
-) -> Sums
+)
+    requires none { (n : ℕ) → slice_index sums.old n ≡ 0 }
     requires few { length frames.now ≤ 8 }
     requires near { AreNear frames.now }
     requires tick { tick < 2 ^ 56 }
-    ensures { (n : ℕ) → n ≤ 8 → slice_index result n
+    ensures { (n : ℕ) → n ≤ length frames.now → slice_index sums.new n
         ≡ most n (map (λ f. tick - f.gone - travel * bays_to way f bay) frames.now) }
 {
-    let mut sums = [0; 9];
+    let mut count = 0;
     for frame in frames {
-        add_number(
-            &mut sums,
-            room(travel, tick, frame, bays_to(way, frame, bay)),
-        );
+        let ticks = room(travel, tick, frame, bays_to(way, frame, bay));
+        add_number(sums, count, ticks);
+        count += 1;
     }
-    sums
 }
 
-/// The greatest sums of the bays that the cranes go from one bay on to another.
-fn most_legs(frames: &[Frame], way: Direction, from: u16, to: u16) -> Sums
+/// Fills in the greatest sums of the bays that the cranes go from one bay on to another.
+fn most_legs(sums: &mut Sums, frames: &[Frame], way: Direction, from: u16, to: u16)
+    requires none { (n : ℕ) → slice_index sums.old n ≡ 0 }
     requires few { length frames.now ≤ 8 }
     requires near { AreNear frames.now }
-    ensures sums { (n : ℕ) → n ≤ 8 → slice_index result n
+    ensures sums { (n : ℕ) → n ≤ length frames.now → slice_index sums.new n
         ≡ most n (map (λ f. bays_to way f to - bays_to way f from) frames.now) }
-    ensures small { (n : ℕ) → n ≤ 8 → slice_index result n ≤ 2 ^ 21 }
+    ensures small { (n : ℕ) → n ≤ 8 → slice_index sums.new n ≤ 2 ^ 21 }
 {
-    let mut sums = [0; 9];
+    let mut count = 0;
     for frame in frames {
         let bays = bays_to(way, frame, to).saturating_sub(bays_to(way, frame, from));
-        add_number(&mut sums, bays);
+        add_number(sums, count, bays);
+        count += 1;
     }
-    sums
 }
 
 /// The bays that a crane goes from one bay on to another.
@@ -130,7 +133,8 @@ pub(crate) fn leg(frames: &[Frame], way: Direction, cranes: usize, from: u16, to
     if let Some(bays) = same_leg(frames, way, from, to) {
         return times(cranes, bays);
     }
-    let sums = most_legs(frames, way, from, to);
+    let mut sums = [0; 9];
+    most_legs(&mut sums, frames, way, from, to);
     let count = frames.len();
     sums[count] - sums[count - cranes]
 }

@@ -2,8 +2,10 @@
 
 ghost use Rattle.std.specs.Prelude.{◌≡◌, ◌+◌, ◌-◌, ◌*◌, ◌<◌, ◌≤◌, ◌^◌, ℕ, List, ◌∷◌, IfSome, MatchOption, length, slice_index};
 ghost use Rattle.qc_model.specs.Closed.{along};
-ghost use Rattle.qc_close.specs.Counts.{AreNear, IsWalked, NoneSuffice, bay_behind, leg_from, try_by};
+ghost use Rattle.qc_close.specs.Counts.{AreNear, IsWalked, NoneSuffice, bay_behind, bays_of, leg_from, try_by};
+ghost use Rattle.qc_close.specs.Rests.{IsRestOf, far_count, near_count};
 
+use crate::rest::Rest;
 use crate::sums::{Sums, leg, most_rooms};
 use qc_model::{Direction, Frame};
 use qc_num::Tick;
@@ -84,7 +86,8 @@ fn step(
 {
     let work = walk.work + work;
     let legs = walk.legs + leg_from(frames, way, bay, walk.last);
-    let sums = most_rooms(travel, tick, frames, way, bay);
+    let mut sums = [0; 9];
+    most_rooms(&mut sums, travel, tick, frames, way, bay);
     let cranes = least_number(&sums, frames.len(), work + travel * legs)?;
     Some(Walk {
         last: Some(Stop { bay, cranes }),
@@ -104,6 +107,31 @@ fn bay_behind(way: Direction, bays: u16, count: u16) -> u16
     }
 }
 
+/// How many bays come before the last at which work is left, counted from the far end.
+fn far_count(way: Direction, bays: u16, rest: Rest) -> u16
+    requires { (1 ≤ rest.low) × (rest.low ≤ rest.high) × (rest.high ≤ bays) }
+    ensures count { result ≡ far_count way bays rest }
+    ensures bound { result ≤ bays }
+{
+    match way {
+        Direction::Up => bays - rest.high,
+        Direction::Down => rest.low - 1,
+    }
+}
+
+/// How many come before those behind the first at which work is left.
+fn near_count(way: Direction, bays: u16, rest: Rest) -> u16
+    requires low { (1 ≤ rest.low) × (rest.low ≤ rest.high) × (rest.high ≤ bays) }
+    requires few { bays < 2 ^ 13 }
+    ensures count { result ≡ near_count way bays rest }
+    ensures bound { result ≤ bays }
+{
+    match way {
+        Direction::Up => bays - rest.low + 1,
+        Direction::Down => rest.high,
+    }
+}
+
 /// Counts all bays at which work is left; `None` where no numbers of cranes have the time.
 pub(crate) fn walk_along(
     travel: Tick,
@@ -111,6 +139,7 @@ pub(crate) fn walk_along(
     frames: &[Frame],
     left: &[Tick],
     way: Direction,
+    rest: Rest,
 ) -> Option<Walk>
     requires few { length frames.now ≤ 8 }
     requires near { AreNear frames.now }
@@ -118,6 +147,7 @@ pub(crate) fn walk_along(
     requires tick { tick < 2 ^ 56 }
     requires bays { (1 ≤ length left.now) × (length left.now < 2 ^ 13) }
     requires work { (x : ℕ) → slice_index left.now x < 2 ^ 37 }
+    requires rest { IsRestOf left.now (bays_of left.now) rest }
     ensures found { MatchOption result
         (NoneSuffice (try_by travel tick frames.now left.now) way
         (along (try_by travel tick frames.now left.now) way))
@@ -132,7 +162,7 @@ pub(crate) fn walk_along(
         work: 0,
         legs: 0,
     };
-    for count in 0..bays {
+    for count in far_count(way, bays, rest)..near_count(way, bays, rest) {
         let bay = bay_behind(way, bays, count);
         let work = left[bay as usize];
         if work > 0 {

@@ -65,6 +65,21 @@ fn longer(way: Way, other: Way) -> Way
     if way.bays < other.bays { other } else { way }
 }
 
+/// The longer of a way and that with a trip, if the trip goes anywhere.
+fn longer_with(way: Way, trip: Trip, usual: Frame) -> Way
+    requires { trip.bays < 2 ^ 40 }
+    ensures idle { trip.bays ≤ 0 → result ≡ way }
+    ensures goes { 0 < trip.bays → result ≡ (if nat_lt way.bays
+        (way_with trip (int_min trip.low usual.low) (int_max trip.high usual.high)).bays
+        then way_with trip (int_min trip.low usual.low) (int_max trip.high usual.high) else way) }
+{
+    if trip.bays > 0 {
+        longer(way, way_at(trip, usual))
+    } else {
+        way
+    }
+}
+
 /// The longest of a way and of those with the trips of a crane.
 fn longest_way(
     inst: &Instance,
@@ -86,7 +101,7 @@ fn longest_way(
     let mut way = own;
     for spot in 0..spots.bays.len() {
         let trip = trips.cells[240 * crane as usize + spot];
-        way = longer(way, way_at(trip, usual));
+        way = longer_with(way, trip, usual);
     }
     way
 }

@@ -12,6 +12,9 @@ use Rattle.qc_close.proofs.barred.greatest_done.Goals as goal
 pub skipped-step-requires-clause-rising : goal.skipped-step-requires-clause-rising
 skipped-step-requires-clause-rising c = c.requires.known.1.spots.bays.along.rising
 
+pub skipped-step-requires-clause-before : goal.skipped-step-requires-clause-before
+skipped-step-requires-clause-before c = c.requires.known.1.spots.before
+
 pub skipped-step-requires-clause-order : goal.skipped-step-requires-clause-order
 skipped-step-requires-clause-order c = c.requires.known.1.order
 

@@ -1,11 +1,27 @@
-use Rattle.std.proofs.Common.{ℕ, Bool, subst, arith}
+use Rattle.std.proofs.Common.{ℕ, Bool, ◌∙◌, subst, arith}
 use Rattle.std.proofs.Math.Path.{fun_ext}
 use Rattle.qc_model.proofs.LimitsOf.{limits_of}
 use Rattle.qc_model.specs.Barred.{barred_frame}
 use Rattle.qc_close.specs.Lasts.{IsLast}
 use Rattle.qc_close.proofs.CrewLemmas.{short_same, work_within}
+use Rattle.qc_close.proofs.LeftLemmas.{own_left}
 use Rattle.qc_close.proofs.GrainLemmas.{grain_is, travel_range}
 use Rattle.qc_close.proofs.closed.last_short_end.Goals as goal
+
+pub rest_of-rest-requires-clause-bays : goal.rest_of-rest-requires-clause-bays
+rest_of-rest-requires-clause-bays c =
+    let most = (limits_of c.args.inst.now c.crane_count-cranes.ensures.valid).bays.1 in
+    (omega (arith, c.requires.left.count), omega (arith, c.requires.left.count, most))
+
+pub rest_of-rest-requires-clause-work : goal.rest_of-rest-requires-clause-work
+rest_of-rest-requires-clause-work c = λ x.
+    omega (arith, c.requires.left.work x, work_within c.args.inst.now c.crane_count-cranes.ensures.valid c.args.cranes.now x)
+
+pub frames-frames-requires-clause-left : goal.frames-frames-requires-clause-left
+frames-frames-requires-clause-left c =
+    c.own_left.ensures
+    ∙ own_left c.args.inst.now c.crane_count-cranes.ensures.valid c.args.cranes.now c.args.left.now c.requires.left c.rest_of-rest.result
+    c.rest_of-rest.ensures.rest
 
 pub last_short-requires-clause-travel : goal.last_short-requires-clause-travel
 last_short-requires-clause-travel c =

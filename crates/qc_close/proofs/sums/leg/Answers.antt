@@ -6,13 +6,13 @@ use Rattle.qc_close.proofs.sums.leg.Goals as goal
 pub overflow_sub-result-2 : goal.overflow_sub-result-2
 overflow_sub-result-2 c =
     leg_fits (λ f. bays_to c.args.way f c.args.to - bays_to c.args.way f c.args.from) c.args.frames.now c.args.cranes
-    (length c.args.frames.now) c.most_legs-sums.result c.most_legs-sums.ensures.sums c.requires.few c.requires.cranes
+    (length c.args.frames.now) c.most_legs.new.sums c.most_legs.ensures.sums c.requires.cranes
     refl
 
 pub returns-clause-leg : goal.returns-clause-leg
 returns-clause-leg c =
     leg_is (λ f. bays_to c.args.way f c.args.to - bays_to c.args.way f c.args.from) c.args.frames.now c.args.cranes
-    (length c.args.frames.now) c.most_legs-sums.result c.most_legs-sums.ensures.sums c.requires.few c.requires.cranes
+    (length c.args.frames.now) c.most_legs.new.sums c.most_legs.ensures.sums c.requires.cranes
     refl
 
 pub returns-in-Some-clause-leg : goal.returns-in-Some-clause-leg

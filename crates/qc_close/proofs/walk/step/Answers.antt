@@ -8,7 +8,7 @@ returns-in_err-cranes-clause-found c = λ left xs work walked.
     none_more c.args.travel c.args.tick c.args.frames.now left c.args.way c.args.bay xs c.args.walk walked
     (c.args.walk.work + c.args.work + c.args.travel * (c.args.walk.legs + c.leg_from.result))
     (omega (arith, work, ap (λ n. c.args.travel * (c.args.walk.legs + n)) c.leg_from.ensures.leg))
-    (λ n low. omega (arith, c.in_err-cranes.ensures n low, c.most_rooms-sums.ensures n (omega (arith, low)))) in
+    (λ n low. omega (arith, c.in_err-cranes.ensures n low, c.most_rooms.ensures n (omega (arith, low)))) in
     rw c.from_residual.ensures none
 
 pub returns-clause-found : goal.returns-clause-found
@@ -17,6 +17,6 @@ returns-clause-found c = λ left xs work walked.
     (c.args.walk.work + c.args.work + c.args.travel * (c.args.walk.legs + c.leg_from.result))
     (omega (arith, work, ap (λ n. c.args.travel * (c.args.walk.legs + n)) c.leg_from.ensures.leg))
     c.in_ok-cranes.cranes _ c.in_ok-cranes.ensures.0
-    (omega (arith, c.in_ok-cranes.ensures.1, c.in_ok-cranes.ensures.0, c.most_rooms-sums.ensures c.in_ok-cranes.cranes (omega (arith, c.in_ok-cranes.ensures.0))))
-    (λ n low. omega (arith, c.in_ok-cranes.ensures.2 n low, c.most_rooms-sums.ensures n (omega (arith, c.in_ok-cranes.ensures.0))))
+    (omega (arith, c.in_ok-cranes.ensures.1, c.in_ok-cranes.ensures.0, c.most_rooms.ensures c.in_ok-cranes.cranes (omega (arith, c.in_ok-cranes.ensures.0))))
+    (λ n low. omega (arith, c.in_ok-cranes.ensures.2 n low, c.most_rooms.ensures n (omega (arith, c.in_ok-cranes.ensures.0))))
     refl (omega (arith, work)) (omega (arith, c.leg_from.ensures.leg))

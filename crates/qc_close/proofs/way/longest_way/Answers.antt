@@ -1,9 +1,9 @@
-use Rattle.std.proofs.Common.{◌<◌, ◌+◌, ◌*◌, ◌∙◌, ap, arith, length, subst, sym}
+use Rattle.std.proofs.Common.{◌<◌, ◌+◌, ◌*◌, ap, arith, length, subst, sym}
 use Rattle.std.proofs.lemmas.List.{get_or_read}
 use Rattle.qc_model.specs.declared.way.Trip.{Trip}
 use Rattle.qc_model.specs.declared.way.Way.{Way}
 use Rattle.qc_close.specs.Trips.{at_spot, no_trip}
-use Rattle.qc_close.proofs.LongestLemmas.{IsFollowed, follow_all, follow_none, follow_one, way_there}
+use Rattle.qc_close.proofs.LongestLemmas.{IsFollowed, follow_all, follow_none, follow_with}
 use Rattle.qc_close.proofs.TripLemmas.{trip_wide}
 use Rattle.qc_close.proofs.way.longest_way.Goals as goal
 
@@ -12,8 +12,8 @@ loop-spot-init c = λ turn cranes m low high own.
     subst (λ (u : Way). IsFollowed c.args.inst.now turn cranes c.args.crane c.args.spots.now.bays.items u 0) (sym own)
     (follow_none c.args.inst.now turn cranes c.args.crane c.args.spots.now.bays.items)
 
-pub way_at-requires : goal.way_at-requires
-way_at-requires c =
+pub longer_with-way-requires : goal.longer_with-way-requires
+longer_with-way-requires c =
     let cranes = c.requires.known.0 in
     let m = c.requires.known.1 in
     let inst = c.args.inst.now in
@@ -36,11 +36,9 @@ loop-spot-preserved c = λ turn cranes m low high own.
     let few = m.spots.bays.along.few in
     let read = get_or_read c.args.trips.now.cells.items (240 * w + k) c.index-trip.result.now
     (omega (arith, m.kept.many, c.requires.crane, m.valid.cranes.count.1, in_k, few)) c.index-trip.ensures no_trip in
-    let there = way_there inst m.valid spots m.spots cranes turn w c.requires.crane c.args.trips.now m.kept k in_k c.args.usual.low c.args.usual.high low high
-    c.index-trip.result.now read in
-    subst (λ (u : Way). IsFollowed inst turn cranes w spots.bays.items u (k + 1)) (sym c.longer-way.ensures)
-    (follow_one inst m.valid spots m.spots cranes turn w c.requires.crane c.args.trips.now m.kept c.loop-spot.way k in_k
-    (c.loop-spot.invariant turn cranes m low high own) c.way_at.result (c.way_at.ensures ∙ there))
+    follow_with inst m.valid spots m.spots cranes turn w c.requires.crane c.args.trips.now m.kept c.loop-spot.way k in_k
+    (c.loop-spot.invariant turn cranes m low high own) c.args.usual.low c.args.usual.high low high c.index-trip.result.now read
+    c.longer_with-way.result c.longer_with-way.ensures.idle c.longer_with-way.ensures.goes
 
 pub returns : goal.returns
 returns c = λ turn cranes m low high own.
