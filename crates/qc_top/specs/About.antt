@@ -86,15 +86,16 @@ command_help name.Watch =
 command_help name.Picture =
     codes "qc picture SHIP STOW PLAN\n"
     ++ codes "\n"
-    ++ codes "Prints a drawing of a plan that goes one way, as an SVG: ticks downwards, places across, a box for\n"
-    ++ codes "each task, a line and a band for each crane. Open it with any browser.\n"
+    ++ codes "Prints a drawing of a plan, whichever way its cranes go, as an SVG: ticks downwards, places across,\n"
+    ++ codes "a box for each task, a line and a band for each crane. Open it with any browser.\n"
     ++ codes "Ends with 0, or 13 Broken.\n"
     ++ codes "Faults end with 2 to 9, 15 and 17, and are told by their kind and place: man 5 qc.\n"
 command_help name.Report =
     codes "qc report SHIP STOW PLAN\n"
     ++ codes "\n"
-    ++ codes "Prints a CSV with a row for each crane of a plan that goes one way: its tasks and moves, its ticks\n"
-    ++ codes "until it is ready, of work, of moving, of waiting and idle, its last end, its share of all work.\n"
+    ++ codes "Prints a CSV with a row for each crane of a plan, whichever way its cranes go: its tasks and moves,\n"
+    ++ codes "its ticks until it is ready, of work, of moving, of waiting and idle, its last end, its share of all\n"
+    ++ codes "work.\n"
     ++ codes "Ends with 0, or 13 Broken.\n"
     ++ codes "Faults end with 2 to 9, 15 and 17, and are told by their kind and place: man 5 qc.\n"
 
@@ -136,5 +137,5 @@ help_text (Some of) = command_help of
 -- which program this is, and what it was proved with
 abbrev pub version_text : List ℕ
 version_text =
-    codes "qc 0.2.0\n"
+    codes "qc 0.3.0\n"
     ++ codes "proved with rattle-kit-13f logic dac8208d650f15bf\n"

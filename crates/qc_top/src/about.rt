@@ -126,21 +126,22 @@ Faults end with 2 to 9, 15 and 17, and are told by their kind and place: man 5 q
 
 const PICTURE: &[u8] = b"qc picture SHIP STOW PLAN
 
-Prints a drawing of a plan that goes one way, as an SVG: ticks downwards, places across, a box for
-each task, a line and a band for each crane. Open it with any browser.
+Prints a drawing of a plan, whichever way its cranes go, as an SVG: ticks downwards, places across,
+a box for each task, a line and a band for each crane. Open it with any browser.
 Ends with 0, or 13 Broken.
 Faults end with 2 to 9, 15 and 17, and are told by their kind and place: man 5 qc.
 ";
 
 const REPORT: &[u8] = b"qc report SHIP STOW PLAN
 
-Prints a CSV with a row for each crane of a plan that goes one way: its tasks and moves, its ticks
-until it is ready, of work, of moving, of waiting and idle, its last end, its share of all work.
+Prints a CSV with a row for each crane of a plan, whichever way its cranes go: its tasks and moves,
+its ticks until it is ready, of work, of moving, of waiting and idle, its last end, its share of all
+work.
 Ends with 0, or 13 Broken.
 Faults end with 2 to 9, 15 and 17, and are told by their kind and place: man 5 qc.
 ";
 
-const VERSION: &[u8] = b"qc 0.2.0
+const VERSION: &[u8] = b"qc 0.3.0
 proved with rattle-kit-13f logic dac8208d650f15bf
 ";
 
