@@ -226,12 +226,12 @@ def solve(inst, solver, seconds):
 
 
 def version(name):
-    """The version of a solver, as its package or itself says it."""
+    """The version of a solver: that of its Debian package, of HiGHS that of scipy, in which it is."""
     words = {"cbc": ["dpkg-query", "-W", "-f", "${Version}", "coinor-cbc"],
-             "highs": [next(filter(has_scipy, PYTHONS)), "-c", "import scipy; print('scipy', scipy.__version__)"],
-             "gecode": ["fzn-gecode", "--version"]}[name]
-    told = subprocess.run(words, capture_output=True, text=True, check=False)
-    return re.sub(r"^.*?version:? ", "", (told.stdout or told.stderr).splitlines()[0]).strip()
+             "highs": [next(filter(has_scipy, PYTHONS)), "-c", "import scipy; print(scipy.__version__)"],
+             "gecode": ["dpkg-query", "-W", "-f", "${Version}", "flatzinc"]}[name]
+    told = subprocess.run(words, capture_output=True, text=True, check=False).stdout
+    return ("of scipy " if name == "highs" else "") + (re.match(r"[\d.]*", told)[0] or "of a version that isn't known")
 
 
 def solved(ship, stow, seconds):
@@ -240,5 +240,5 @@ def solved(ship, stow, seconds):
     for name, (called, solver, is_there) in SOLVERS.items():
         if is_there():
             end, bound, done, took = solve(inst, solver, seconds)
-            yield {"by": f"{called} ({version(name)})", "end": end and round(end), "bound": bound and int(bound + 1e-6),
+            yield {"by": f"{called} {version(name)}", "end": end and round(end), "bound": bound and int(bound + 1e-6),
                    "proved": ("no", "one way", "the best")[done], "seconds": took}
