@@ -21,6 +21,7 @@ sys.path.append(sys.path.pop(0))  # behind the standard library, which has a mod
 # ruff: noqa: E402
 import argparse
 import contextlib
+import ctypes
 import datetime
 import json
 import math
@@ -61,37 +62,39 @@ SOLVED = [(1, 9, 3), (1, 15, 3), (1, 20, 4)]  # the first numbers with 35, 58 an
 
 # ---------------------------------------------------------------- runs
 
+# Forks a shell that waits for the end of its input and then becomes the program, says which process that is, and ends.
+START = 'exec 3<&0; { read line <&3; exec "$@" 3<&-; } 2>/dev/null & echo $! >&2'
+
+
 class Run:
-    """A run of the program: its status, the lines of its report, its processor seconds, and the most memory in MB that
-    it was seen to hold."""
+    """A run of the program: its status, the lines of its report, its processor seconds, and the most memory in MB.
+
+    It is the child of a shell that is gone before it starts, and so falls to this process: what this one holds itself
+    would count as its memory otherwise.
+    """
 
     def __init__(self, program, *words):
+        reader, writer = os.pipe()
         with tempfile.TemporaryFile("w+", encoding="ascii") as report:
-            child = subprocess.Popen([program, *words], stdout=report, stderr=subprocess.DEVNULL)
-            most = 0
-            while True:
-                ended, status, used = os.wait4(child.pid, os.WNOHANG)
-                if ended:
-                    break
-                most = max(most, held(child.pid))
-                time.sleep(0.001)
-            child.returncode = self.status = os.waitstatus_to_exitcode(status)
+            shell = subprocess.run(["sh", "-c", START, "sh", program, *words], stdin=reader, stdout=report,
+                                   stderr=subprocess.PIPE, text=True, check=True)
+            os.close(reader)
+            os.close(writer)
+            _, status, used = os.wait4(int(shell.stderr), 0)
             report.seek(0)
             self.lines = report.read().splitlines()
-        self.seconds, self.memory = used.ru_utime + used.ru_stime, most / 1024
+        self.status = os.waitstatus_to_exitcode(status)
+        self.seconds, self.memory = used.ru_utime + used.ru_stime, used.ru_maxrss / 1024
 
     @property
     def told(self):
         return dict(line.split(" ", 1) for line in self.lines if " " in line)
 
 
-def held(process):
-    """The most memory in KB that a process has held so far, or 0 where it is no more."""
-    try:
-        with open(f"/proc/{process}/status", encoding="ascii") as status:
-            return max((int(line.split()[1]) for line in status if line.startswith("VmHWM")), default=0)
-    except (FileNotFoundError, ProcessLookupError):
-        return 0
+def take_orphans():
+    """Makes this process the parent of what its children leave behind (PR_SET_CHILD_SUBREAPER of Linux)."""
+    if ctypes.CDLL(None, use_errno=True).prctl(36, 1, 0, 0, 0) != 0:
+        raise OSError(ctypes.get_errno(), "prctl")
 
 
 @contextlib.contextmanager
@@ -378,6 +381,20 @@ def short(kept):
         if times:
             yield (f"- A branching of `{command}` takes {min(times):.1f} to {max(times):.1f} times the processor time of "
                    f"plain C++.")
+    yield from short_solvers(kept.get("solvers", {}).get("rows", []))
+
+
+def short_solvers(rows):
+    """What general solvers come to beside the best that `qc` came to on the same ships."""
+    own = {row["ship"]: row for row in rows if row["by"].startswith("`qc`")}
+    others = [(row, own[row["ship"]]) for row in rows if not row["by"].startswith("`qc`")]
+    if others:
+        counts = [sum(row["end"] is not None and is_so(row["end"] - best["end"]) for row, best in others)
+                  for is_so in (lambda by: by < 0, lambda by: by == 0, lambda by: by > 0)]
+        yield (f"- General solvers with a minute each, {len(others)} runs on {len(own)} ships: {counts[0]} end earlier than "
+               f"`plan`, {counts[1]} at the same tick, {counts[2]} later, {len(others) - sum(counts)} find nothing; "
+               f"{sum(row['proved'] == 'the best' for row, _ in others)} show that their plan is the best, where `plan` "
+               f"shows it on {sum(row['proved'] == 'the best' for row in own.values())} of the ships.")
 
 
 def machine():
@@ -408,10 +425,11 @@ def taken_lines(kept):
             taken = kept[name]["taken"]
             groups.setdefault((taken["program"], taken["machine"]), []).append((name, taken))
     for (program, where), tables in groups.items():
-        dates = sorted([taken["from"] for _, taken in tables] + [taken["to"] for _, taken in tables])
+        first, last = min(taken["from"] for _, taken in tables), max(taken["to"] for _, taken in tables)
+        last = last[11:] if first[:10] == last[:10] else last
         loads = [load for _, taken in tables for load in taken["load"]]
         seconds = sum(taken["seconds"] for _, taken in tables)
-        yield (f"- {', '.join(TABLES[name][0] for name, _ in tables)}: {program}; {where}; {dates[0]} to {dates[-1]} UTC, "
+        yield (f"- {', '.join(TABLES[name][0] for name, _ in tables)}: {program}; {where}; {first} to {last} UTC, "
                f"in {seconds:,.0f} s; the load of the machine, this run in it, {min(loads):.1f} to {max(loads):.1f}.")
 
 
@@ -492,6 +510,7 @@ def main():
     parser.add_argument("--try", dest="few", type=pathlib.Path, metavar="FOLDER")
     parser.add_argument("--draw", action="store_true")
     words = parser.parse_args()
+    take_orphans()
     folder = words.few or ROOT
     data = ROOT / "bench/numbers.json" if folder == ROOT else folder / "numbers.json"
     folder.mkdir(exist_ok=True)
