@@ -1,11 +1,7 @@
-#!/usr/bin/env python3
-"""Gives ships to general solvers, and prints what each found and proved in a minute of processor time.
+"""Gives ships to general solvers, for bench/numbers.py: what each found and proved in its processor time.
 
-    bench/general.py [--seconds S] [--solvers cbc,highs,gecode] [NUMBER HATCHES CRANES ..]
-
-Without ships: `make` ships of 35 tasks on 3 cranes, 58 on 3 and 78 on 4. Each solver has half of the seconds for
-each of the two ways. CBC and Gecode are Debian's coinor-cbc, minizinc and flatzinc; HiGHS is that in Debian's
-python3-scipy. A solver that isn't there is left out. `qc` is asked too where `./qc` was run once.
+CBC and Gecode are Debian's coinor-cbc, minizinc and flatzinc; HiGHS is that in Debian's python3-scipy. Each solver has
+half of its seconds for each of the two ways. One that isn't there is left out.
 
 The model has no start of a task. On the way up a crane does the bays in order, and at a hatch a higher crane comes
 before a lower one; so the phases of a hatch fall to cranes that never rise, and each crane does its share in one go.
@@ -14,7 +10,6 @@ the bay before, plus the way and its work; and no less than when a higher crane 
 Only the end asks whether a crane works at a bay at all, with a constant of no more than the travel along the ship.
 Ships with ready times, reaches, apart pairs or ordered restows aren't taken.
 """
-import argparse
 import json
 import os
 import re
@@ -24,18 +19,17 @@ import subprocess
 import sys
 import tempfile
 
-ROOT = os.path.dirname(os.path.dirname(os.path.abspath(__file__)))
-sys.dont_write_bytecode = True
-sys.path += [os.path.join(ROOT, folder) for folder in ("trials", "fuzz", "bench")]
+HERE = os.path.dirname(os.path.abspath(__file__))
+sys.path.append(os.path.join(os.path.dirname(HERE), "trials"))
 
-SHIPS = [(1, 9, 3), (1, 15, 3), (1, 20, 4)]  # the first numbers with so many tasks
-PROGRAM = os.path.join(ROOT, "crates", "qc_cli", "out", "qc_cli")
 PYTHONS = (sys.executable, "/usr/bin/python3")
+WORKER = "import sys; sys.path.append(sys.argv[1]); import general; general.worker(sys.argv[2])"
 
 
-def instance(number, hatches, cranes):
-    from outcomes import made, read_instance
-    inst = read_instance(*made(number, hatches, cranes))
+def instance(ship, stow):
+    """The instance of a ship file and a list, both as lines."""
+    from reference import instance_of, read_ship
+    inst = instance_of(read_ship("\n".join(ship).encode()), ("\n".join(stow) + "\n").encode())
     simple = all(crane.ready == 0 and (crane.low, crane.high) == (1, inst.bays) for crane in inst.cranes)
     if not simple or inst.apart or any(inst.tasks[i].bay != inst.tasks[j].bay for i, j in inst.before):
         raise ValueError("a ship with ready times, reaches, apart pairs or ordered restows")
@@ -166,7 +160,7 @@ def cbc(model, folder, seconds):
 def highs(model, folder, seconds):
     path = os.path.join(folder, "ship.json")
     model.write_json(path)
-    told = within(seconds, next(filter(has_scipy, PYTHONS)), os.path.abspath(__file__), "--worker", path)
+    told = within(seconds, next(filter(has_scipy, PYTHONS)), "-I", "-B", "-c", WORKER, HERE, path)
     lines = re.findall(r"\d+\s+\d+\s+\d+\s+[\d.]+%\s+(\S+)\s+(\S+)\s+\S+", told)
     closing = re.search(r"Primal bound\s+(\S+)\s+Dual bound\s+(\S+)", told)
     if closing:
@@ -231,46 +225,20 @@ def solve(inst, solver, seconds):
     return min(ends, default=None), bound, sum(done for _, _, done in ways), taken() - before
 
 
-def own(numbers):
-    """What `qc` answers, or nothing where it isn't built."""
-    if not os.path.exists(PROGRAM):
-        return None
-    import bench
-    before = taken()
-    _, _, ended, told, _, _ = bench.plan("made", numbers, 20000)
-    return int(told["end"]), int(told["bound"]), ended == "Optimal", taken() - before
+def version(name):
+    """The version of a solver: that of its Debian package, of HiGHS that of scipy, in which it is."""
+    words = {"cbc": ["dpkg-query", "-W", "-f", "${Version}", "coinor-cbc"],
+             "highs": [next(filter(has_scipy, PYTHONS)), "-c", "import scipy; print(scipy.__version__)"],
+             "gecode": ["dpkg-query", "-W", "-f", "${Version}", "flatzinc"]}[name]
+    told = subprocess.run(words, capture_output=True, text=True, check=False).stdout
+    return ("of scipy " if name == "highs" else "") + (re.match(r"[\d.]*", told)[0] or "of a version that isn't known")
 
 
-def text(number):
-    return "none" if number is None else f"{number:,.0f}"
-
-
-def main():
-    parser = argparse.ArgumentParser(description="ships for general solvers")
-    parser.add_argument("ships", nargs="*", type=int)
-    parser.add_argument("--seconds", type=int, default=60)
-    parser.add_argument("--solvers", default="cbc,highs,gecode")
-    parser.add_argument("--worker")
-    words = parser.parse_args()
-    if words.worker:
-        return worker(words.worker)
-    ships = list(zip(*[iter(words.ships)] * 3)) or SHIPS
-    print("| Ship | Tasks | Cranes | By | End | Bound | Proved | Processor s |\n|---|---|---|---|---|---|---|---|")
-    for numbers in ships:
-        inst = instance(*numbers)
-        front = f"| `made {' '.join(map(str, numbers))}` | {len(inst.tasks)} | {len(inst.cranes)} |"
-        told = own(numbers)
-        if told:
-            proved = "the best" if told[2] else "no"
-            print(f"{front} `qc` | {told[0]:,} | {told[1]:,} | {proved} | {told[3]:.2f} |", flush=True)
-        for name in words.solvers.split(","):
-            called, solver, is_there = SOLVERS[name]
-            if is_there():
-                end, bound, done, took = solve(inst, solver, words.seconds)
-                proved = ("no", "one way", "the best")[done]
-                print(f"{front} {called} | {text(end)} | {text(bound)} | {proved} | {took:.1f} |", flush=True)
-    return 0
-
-
-if __name__ == "__main__":
-    sys.exit(main())
+def solved(ship, stow, seconds):
+    """A row for each solver that is there: the end, the bound, what it proved, and the seconds it took."""
+    inst = instance(ship, stow)
+    for name, (called, solver, is_there) in SOLVERS.items():
+        if is_there():
+            end, bound, done, took = solve(inst, solver, seconds)
+            yield {"by": f"{called} {version(name)}", "end": end and round(end), "bound": bound and int(bound + 1e-6),
+                   "proved": ("no", "one way", "the best")[done], "seconds": took}

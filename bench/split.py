@@ -1,10 +1,4 @@
-#!/usr/bin/env python3
 """Plans a ship as one does by hand, each crane a run of whole hatches, and compares `qc plan` with that.
-
-    bench/split.py SHIP STOW PLAN            writes the plan of the best split, and prints its end or `none`
-    bench/split.py --random COUNT [SEED]     makes ships from the seeds SEED, SEED + 1 and so on, and prints for
-                                             each the ends of the split and of `qc plan --nodes 0`; status 1 where
-                                             a split ends first, or `qc check` doesn't take the split's plan
 
 Of all splits in which the cranes work runs of hatches in the order in which they stand, that one is taken in which
 the last crane is done first, where each works alone: it comes to its run, works it and goes on. It is tried both
@@ -17,10 +11,7 @@ import subprocess
 import sys
 import tempfile
 
-ROOT = os.path.dirname(os.path.dirname(os.path.abspath(__file__)))
-PROGRAM = os.path.join(ROOT, "crates", "qc_cli", "out", "qc_cli")
-sys.dont_write_bytecode = True
-sys.path.insert(0, os.path.join(ROOT, "trials"))
+sys.path.append(os.path.join(os.path.dirname(os.path.dirname(os.path.abspath(__file__))), "trials"))
 
 from reference import NEVER, arcs_up, end_of, instance_of, least_starts, plan_text, read_ship  # noqa: E402
 
@@ -134,26 +125,26 @@ def random_ship(rng):
 
 # ---------------------------------------------------------------- the program beside it
 
-def run(*words):
-    answer = subprocess.run([PROGRAM, *words], capture_output=True, text=True, check=False)
+def run(program, *words):
+    answer = subprocess.run([program, "-q", *words], capture_output=True, text=True, check=False)
     lines = answer.stdout.splitlines()
     return lines[0] if lines else "", dict(line.split(" ", 1) for line in lines if " " in line)
 
 
-def compare(seed):
-    """The first word of the plan, its end, that of the split, and whether the split's plan is taken."""
+def compare(seed, program):
+    """The ends of the first plan and of the split of a random ship, each None where there is none. The split's plan must
+    be one that `check` takes."""
     lines, rows = random_ship(random.Random(seed))
     with tempfile.TemporaryDirectory() as folder:
         ship, stow, own, tree, plan = (os.path.join(folder, f) for f in ("ship", "stow", "own", "tree", "plan"))
         for name, text in ((ship, lines), (stow, rows)):
             with open(name, "w", encoding="ascii") as file:
                 file.write("\n".join(text) + "\n")
-        ended, told = run("plan", ship, stow, plan, tree, "--nodes", "0")
-        end = int(told["end"]) if "end" in told else None
-        by_hand, taken = write_split(ship, stow, own), True
-        if by_hand is not None:
-            taken = run("check", ship, stow, own, tree)[1].get("end") == str(by_hand)
-    return ended, end, by_hand, taken
+        ended, told = run(program, "plan", ship, stow, plan, tree, "--nodes", "0")
+        by_hand = write_split(ship, stow, own)
+        if by_hand is not None and run(program, "check", ship, stow, own, tree)[1].get("end") != str(by_hand):
+            raise ValueError(f"check doesn't take the split of the ship of seed {seed}")
+    return {"seed": seed, "ended": ended, "end": int(told["end"]) if "end" in told else None, "split": by_hand}
 
 
 def write_split(ship, stow, plan):
@@ -169,26 +160,3 @@ def write_split(ship, stow, plan):
     with open(plan, "wb") as file:
         file.write(text if isinstance(text, bytes) else text.encode("ascii"))
     return end_of(inst, found)
-
-
-def main(words):
-    if len(words) == 3 and words[0] != "--random":
-        end = write_split(*words)
-        print("none" if end is None else f"end {end}")
-        return 0
-    if len(words) not in (2, 3) or words[0] != "--random":
-        print(__doc__.strip())
-        return 2
-    worse = 0
-    for seed in range(int(words[2]) if len(words) == 3 else 1, (int(words[2]) if len(words) == 3 else 1) + int(words[1])):
-        ended, end, by_hand, taken = compare(seed)
-        late = by_hand is not None and (end is None or end > by_hand)
-        worse += late or not taken
-        print(f"{seed}: {ended} {end}, split {by_hand}{' LATER' if late else ''}{'' if taken else ' NOT TAKEN'}",
-              flush=True)
-    print(f"{worse} splits end first or aren't taken")
-    return 1 if worse else 0
-
-
-if __name__ == "__main__":
-    sys.exit(main(sys.argv[1:]))
