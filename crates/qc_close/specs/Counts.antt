@@ -25,6 +25,11 @@ AreNear frames = (i : ℕ) (d : Frame) → i < length frames → IsNear (slice_i
 abbrev pub AreSame : (Frame → ℕ) → ℕ → List Frame → Type 0
 AreSame f n frames = (i : ℕ) (d : Frame) → i < length frames → f (slice_index_or frames i d) ≡ n
 
+-- the bays from bay x on to bay y
+abbrev pub apart : Direction → ℕ → ℕ → ℕ
+apart Up x y = y - x
+apart Down x y = x - y
+
 -- the bays at which work is left, where the list says how much is left at each
 abbrev pub bays_of : List ℕ → List ℕ
 bays_of left = filter (λ x. nat_lt 0 (slice_index left x)) (range_with_len 1 (length left - 1))

@@ -1,8 +1,8 @@
 //! The greatest sums of so many numbers, one for each crane.
 
-ghost use Rattle.std.specs.Prelude.{◌≡◌, ◌+◌, ◌-◌, ◌*◌, ◌<◌, ◌≤◌, ◌^◌, ℕ, IfSome, max, length, map, slice_index};
+ghost use Rattle.std.specs.Prelude.{◌≡◌, ◌+◌, ◌-◌, ◌*◌, ◌<◌, ◌≤◌, ◌^◌, ℕ, IfSome, true, max, length, map, slice_index};
 ghost use Rattle.qc_model.specs.Closed.{bays_to, fewest, most};
-ghost use Rattle.qc_close.specs.Counts.{AreNear, AreSame, IsNear};
+ghost use Rattle.qc_close.specs.Counts.{AreNear, AreSame, IsNear, apart};
 
 use qc_model::{Direction, Frame, bays_up};
 use qc_num::{Bay, Tick};
@@ -87,29 +87,41 @@ fn most_legs(sums: &mut Sums, frames: &[Frame], way: Direction, from: u16, to: u
     }
 }
 
-/// The bays that a crane goes from one bay on to another.
-fn leg_of(way: Direction, frame: &Frame, from: u16, to: u16) -> Tick
+/// Whether a crane goes on from a bay: it must come to that first.
+fn goes_on(way: Direction, frame: &Frame, from: u16) -> bool
     requires { IsNear frame.now }
-    ensures bays { result ≡ bays_to way frame.now to - bays_to way frame.now from }
-    ensures bound { result < 2 ^ 18 }
+    ensures { result ≡ true → (to : ℕ) → bays_to way frame.now to - bays_to way frame.now from ≡ apart way from to }
 {
-    bays_to(way, frame, to).saturating_sub(bays_to(way, frame, from))
+    match way {
+        Direction::Up => frame.high <= Bay::from(from),
+        Direction::Down => Bay::from(from) <= frame.low,
+    }
 }
 
-/// The bays that each crane goes from one bay on to another, where all go as many.
+/// The bays from one on to another.
+fn apart(way: Direction, from: u16, to: u16) -> Tick
+    ensures bays { result ≡ apart way from to }
+    ensures bound { result < 2 ^ 18 }
+{
+    match way {
+        Direction::Up => Tick::from(to.saturating_sub(from)),
+        Direction::Down => Tick::from(from.saturating_sub(to)),
+    }
+}
+
+/// The bays that each crane goes from one bay on to another, where all must come to the first.
 fn same_leg(frames: &[Frame], way: Direction, from: u16, to: u16) -> Option<Tick>
     requires { AreNear frames.now }
     ensures same { IfSome result (λ bays.
         AreSame (λ f. bays_to way f to - bays_to way f from) bays frames.now) }
     ensures bound { IfSome result (λ bays. bays < 2 ^ 18) }
 {
-    let bays = leg_of(way, frames.first()?, from, to);
     for frame in frames {
-        if leg_of(way, frame, from, to) != bays {
+        if !goes_on(way, frame, from) {
             return None;
         }
     }
-    Some(bays)
+    Some(apart(way, from, to))
 }
 
 /// So many times as many bays.
