@@ -7,6 +7,7 @@ pub mod Growth
 pub mod LevelLemmas
 pub mod NotingLemmas
 pub mod SpreadLemmas
+pub mod QueueLemmas
 pub mod SoonestLemmas
 pub mod DecidedLemmas
 pub mod PlaceLemmas
