@@ -11,6 +11,7 @@ pub mod QueueLemmas
 pub mod SoonestLemmas
 pub mod DecidedLemmas
 pub mod PlaceLemmas
+pub mod LatestLemmas
 pub mod RaisedLemmas
 pub mod KeptLemmas
 pub mod DecideLemmas
