@@ -3,12 +3,17 @@
 //! lie beside it, where they clash with all of these. It decides how much is shown and how fast, and
 //! nothing else: whatever list is packed shows an end that holds.
 
-ghost use Rattle.std.specs.Prelude.{◌≡◌, ◌<◌, ◌≤◌, All, length};
+ghost use Rattle.std.specs.Prelude.{◌≡◌, ◌<◌, ◌≤◌, All, IsSome, length};
+ghost use Rattle.qc_close.specs.Crews.{IsCrewOf};
+ghost use Rattle.qc_model.specs.Early.{early};
 ghost use Rattle.qc_num.specs.Paths.{HasRoom};
 
+use crate::packed::early;
+use crate::spread::Bands;
 use qc_close::Crew;
-use qc_model::{Instance, bays_between, bays_up};
+use qc_model::{Instance, MOST_TASKS, bays_between, bays_up};
 use qc_num::{Path, Tick};
+use qc_starts::Starts;
 
 /// The cranes at the ends of the rail, by the side of a window on which their tasks are listed.
 #[derive(Clone, Copy)]
@@ -39,6 +44,57 @@ fn outer_cranes(inst: &Instance) -> Outer {
     }
 }
 
+/// Some tasks together.
+#[derive(Clone, Copy)]
+struct Group {
+    ticks: Tick,
+    /// From when the first of them can start; no tick is later where there is none.
+    begins: Tick,
+    /// Where they lie at most.
+    bands: Bands,
+}
+
+impl Group {
+    /// None.
+    fn none() -> Group {
+        Group {
+            ticks: 0,
+            begins: Tick::MAX,
+            bands: Bands::none(),
+        }
+    }
+
+    /// These and one task more.
+    fn with_task(self, node: &Starts, crew: &Crew, task: u16) -> Group
+        requires known { IsSome (early node.now.inst node.now.decisions) }
+        requires node { task < length node.now.inst.tasks }
+        requires crew { task < length crew.now.inst.tasks }
+    {
+        Group {
+            ticks: self.ticks.saturating_add(crew.instance().task(task).ticks),
+            begins: self.begins.min(early(node, task)),
+            bands: self.bands.with_task(crew, task),
+        }
+    }
+
+    /// These and others.
+    fn with(self, more: Group) -> Group {
+        Group {
+            ticks: self.ticks.saturating_add(more.ticks),
+            begins: self.begins.min(more.begins),
+            bands: self.bands.with(more.bands),
+        }
+    }
+
+    /// The latest end that they may show if they are packed.
+    fn latest_end(&self, inst: &Instance) -> Tick {
+        let travel = inst.travel().saturating_mul(self.bands.spread(inst));
+        self.begins
+            .saturating_add(self.ticks)
+            .saturating_add(travel)
+    }
+}
+
 /// A list of tasks.
 #[derive(Clone, Copy)]
 pub(crate) struct List {
@@ -48,11 +104,21 @@ pub(crate) struct List {
     end: u16,
     /// The cranes of which tasks beside the window are listed too.
     outer: Option<Outer>,
-    /// The ticks of all its tasks.
-    pub(crate) ticks: Tick,
+    /// All its tasks.
+    tasks: Group,
 }
 
 impl List {
+    /// The ticks of its tasks.
+    pub(crate) fn ticks(&self) -> Tick {
+        self.tasks.ticks
+    }
+
+    /// The latest end that it may show.
+    pub(crate) fn latest_end(&self, inst: &Instance) -> Tick {
+        self.tasks.latest_end(inst)
+    }
+
     /// Whether it has a task that this crane has, or none.
     fn has(self, task: u16, crane: Option<u16>) -> bool {
         if self.first <= task && task < self.end {
@@ -86,45 +152,46 @@ impl List {
     }
 }
 
-/// The ticks of a task that a crane has; 0 of any other.
-fn ticks_on(crew: &Crew, task: u16, crane: u16) -> Tick
-    requires { task < length crew.now.inst.tasks }
-{
-    if crew.crane_of(task) == Some(crane) {
-        crew.instance().task(task).ticks
-    } else {
-        0
-    }
-}
-
 /// A window that goes along the ship, with what its tasks take and those of the outer cranes beside it.
-#[derive(Clone, Copy)]
+#[derive(Drop)]
 pub(crate) struct Window {
     outer: Outer,
     /// The task behind its last.
     end: u16,
     /// The ticks of its tasks.
     ticks: Tick,
-    /// The ticks of the outer cranes' tasks of lower numbers.
-    lower: Tick,
-    /// The ticks of those of higher numbers.
-    higher: Tick,
+    /// The outer crane's tasks of lower numbers.
+    lower: Group,
+    /// The outer crane's tasks of higher numbers: their ticks, and where all tasks of the crane lie.
+    higher: Group,
+    /// From when those of them can start that have at least a number.
+    begins: [Tick; MOST_TASKS as usize + 1],
 }
 
 impl Window {
     /// The window before the first task.
-    pub(crate) fn before_all(crew: &Crew) -> Window {
+    pub(crate) fn before_all(node: &Starts, crew: &Crew) -> Window
+        requires known { IsSome (early node.now.inst node.now.decisions) }
+        requires crew { IsCrewOf crew.now node.now.inst node.now.decisions }
+    {
         let outer = outer_cranes(crew.instance());
-        let mut higher: Tick = 0;
-        for task in 0..crew.instance().task_count() {
-            higher = higher.saturating_add(ticks_on(crew, task, outer.higher));
+        let mut higher = Group::none();
+        let mut begins = [Tick::MAX; MOST_TASKS as usize + 1];
+        for task in (0..node.instance().task_count()).rev() {
+            if crew.crane_of(task) == Some(outer.higher) {
+                higher = higher.with_task(node, crew, task);
+            }
+            if let Some(place) = begins.get_mut(task as usize) {
+                *place = higher.begins;
+            }
         }
         Window {
             outer,
             end: 0,
             ticks: 0,
-            lower: 0,
+            lower: Group::none(),
             higher,
+            begins,
         }
     }
 
@@ -132,10 +199,11 @@ impl Window {
     fn take(&mut self, crew: &Crew, task: u16)
         requires { task < length crew.now.inst.tasks }
     {
-        self.ticks = self.ticks.saturating_add(crew.instance().task(task).ticks);
-        self.higher = self
-            .higher
-            .saturating_sub(ticks_on(crew, task, self.outer.higher));
+        let ticks = crew.instance().task(task).ticks;
+        self.ticks = self.ticks.saturating_add(ticks);
+        if crew.crane_of(task) == Some(self.outer.higher) {
+            self.higher.ticks = self.higher.ticks.saturating_sub(ticks);
+        }
         self.end = task + 1;
     }
 
@@ -154,18 +222,20 @@ impl Window {
     }
 
     /// Leaves its first task behind.
-    pub(crate) fn leave(&mut self, crew: &Crew, first: u16)
-        requires { first < length crew.now.inst.tasks }
+    pub(crate) fn leave(&mut self, node: &Starts, crew: &Crew, first: u16)
+        requires known { IsSome (early node.now.inst node.now.decisions) }
+        requires node { first < length node.now.inst.tasks }
+        requires crew { first < length crew.now.inst.tasks }
     {
         self.ticks = self.ticks.saturating_sub(crew.instance().task(first).ticks);
-        self.lower = self
-            .lower
-            .saturating_add(ticks_on(crew, first, self.outer.lower));
+        if crew.crane_of(first) == Some(self.outer.lower) {
+            self.lower = self.lower.with_task(node, crew, first);
+        }
     }
 
     /// The ticks of the tasks of the outer cranes beside it.
     fn beside(&self) -> Tick {
-        self.lower.saturating_add(self.higher)
+        self.lower.ticks.saturating_add(self.higher.ticks)
     }
 
     /// The most ticks of its lists.
@@ -173,21 +243,46 @@ impl Window {
         self.ticks.saturating_add(self.beside())
     }
 
+    /// Its tasks.
+    fn tasks(&self, node: &Starts, crew: &Crew, first: u16) -> Group
+        requires known { IsSome (early node.now.inst node.now.decisions) }
+        requires crew { IsCrewOf crew.now node.now.inst node.now.decisions }
+    {
+        let mut tasks = Group::none();
+        for task in first..self.end.min(node.instance().task_count()) {
+            tasks = tasks.with_task(node, crew, task);
+        }
+        tasks
+    }
+
+    /// The tasks of the outer cranes beside it.
+    fn outer_tasks(&self) -> Group {
+        let begins = self.begins.get(self.end as usize).copied();
+        self.lower.with(Group {
+            begins: begins.unwrap_or(Tick::MAX),
+            ..self.higher
+        })
+    }
+
     /// The list of its tasks and of those of the outer cranes beside it, and the list of its tasks
     /// alone, where these are fewer.
-    pub(crate) fn lists(&self, first: u16) -> (List, Option<List>) {
+    pub(crate) fn lists(&self, node: &Starts, crew: &Crew, first: u16) -> (List, Option<List>)
+        requires known { IsSome (early node.now.inst node.now.decisions) }
+        requires crew { IsCrewOf crew.now node.now.inst node.now.decisions }
+    {
+        let tasks = self.tasks(node, crew, first);
         let alone = List {
             first,
             end: self.end,
             outer: None,
-            ticks: self.ticks,
+            tasks,
         };
         if self.beside() == 0 {
             return (alone, None);
         }
         let long = List {
             outer: Some(self.outer),
-            ticks: self.most_ticks(),
+            tasks: tasks.with(self.outer_tasks()),
             ..alone
         };
         (long, Some(alone))
