@@ -152,20 +152,75 @@ impl List {
     }
 }
 
-/// A window that goes along the ship, with what its tasks take and those of the outer cranes beside it.
+/// The tasks from a number on.
+#[derive(Clone, Copy)]
+struct Beyond {
+    /// The ticks of all.
+    all: Tick,
+    /// The ticks of those of an outer crane.
+    outer: Tick,
+    /// From when the first of these can start; no tick is later where there is none.
+    begins: Tick,
+}
+
+impl Beyond {
+    /// None.
+    fn none() -> Beyond {
+        Beyond {
+            all: 0,
+            outer: 0,
+            begins: Tick::MAX,
+        }
+    }
+}
+
+/// For each number of tasks, the tasks from it on.
+#[derive(Drop)]
+struct Rest {
+    from: [Beyond; MOST_TASKS as usize + 1],
+}
+
+impl Rest {
+    /// Nothing of any number.
+    fn new() -> Rest {
+        let nothing = Beyond {
+            all: 0,
+            outer: 0,
+            begins: 0,
+        };
+        Rest {
+            from: [nothing; MOST_TASKS as usize + 1],
+        }
+    }
+
+    /// Says which tasks there are from a number on.
+    fn put(&mut self, task: u16, beyond: Beyond) {
+        if let Some(place) = self.from.get_mut(task as usize) {
+            *place = beyond;
+        }
+    }
+
+    /// The tasks from a number on.
+    fn from(&self, task: u16) -> Beyond {
+        match self.from.get(task as usize) {
+            Some(beyond) => *beyond,
+            None => Beyond::none(),
+        }
+    }
+}
+
+/// A window that goes along the ship, with the tasks of the outer cranes beside it.
 #[derive(Drop)]
 pub(crate) struct Window {
     outer: Outer,
     /// The task behind its last.
     end: u16,
-    /// The ticks of its tasks.
-    ticks: Tick,
     /// The outer crane's tasks of lower numbers.
     lower: Group,
-    /// The outer crane's tasks of higher numbers: their ticks, and where all tasks of the crane lie.
-    higher: Group,
-    /// From when those of them can start that have at least a number.
-    begins: [Tick; MOST_TASKS as usize + 1],
+    /// All tasks, and those of the outer crane of higher numbers.
+    rest: Rest,
+    /// Where all tasks of that crane lie.
+    higher: Bands,
 }
 
 impl Window {
@@ -174,50 +229,40 @@ impl Window {
         requires known { IsSome (early node.now.inst node.now.decisions) }
         requires crew { IsCrewOf crew.now node.now.inst node.now.decisions }
     {
-        let outer = outer_cranes(crew.instance());
-        let mut higher = Group::none();
-        let mut begins = [Tick::MAX; MOST_TASKS as usize + 1];
-        for task in (0..node.instance().task_count()).rev() {
+        let inst = node.instance();
+        let outer = outer_cranes(inst);
+        let (mut rest, mut higher) = (Rest::new(), Bands::none());
+        let mut beyond = Beyond::none();
+        rest.put(inst.task_count(), beyond);
+        for task in (0..inst.task_count()).rev() {
+            let ticks = inst.task(task).ticks;
+            beyond.all = beyond.all.saturating_add(ticks);
             if crew.crane_of(task) == Some(outer.higher) {
-                higher = higher.with_task(node, crew, task);
+                beyond.outer = beyond.outer.saturating_add(ticks);
+                beyond.begins = beyond.begins.min(early(node, task));
+                higher = higher.with_task(crew, task);
             }
-            if let Some(place) = begins.get_mut(task as usize) {
-                *place = higher.begins;
-            }
+            rest.put(task, beyond);
         }
         Window {
             outer,
             end: 0,
-            ticks: 0,
             lower: Group::none(),
+            rest,
             higher,
-            begins,
         }
-    }
-
-    /// Takes the next task in.
-    fn take(&mut self, crew: &Crew, task: u16)
-        requires { task < length crew.now.inst.tasks }
-    {
-        let ticks = crew.instance().task(task).ticks;
-        self.ticks = self.ticks.saturating_add(ticks);
-        if crew.crane_of(task) == Some(self.outer.higher) {
-            self.higher.ticks = self.higher.ticks.saturating_sub(ticks);
-        }
-        self.end = task + 1;
     }
 
     /// Takes in what lies nearer to its first task than two cranes may come.
-    pub(crate) fn reach(&mut self, crew: &Crew, first: u16)
-        requires { first < length crew.now.inst.tasks }
+    pub(crate) fn reach(&mut self, inst: &Instance, first: u16)
+        requires { first < length inst.now.tasks }
     {
-        let inst = crew.instance();
         let (bay, gap) = (inst.task(first).bay, bays_up(0, inst.gap()));
         for task in self.end..inst.task_count() {
             if gap <= bays_between(bay, inst.task(task).bay) {
                 break;
             }
-            self.take(crew, task);
+            self.end = task + 1;
         }
     }
 
@@ -227,7 +272,6 @@ impl Window {
         requires node { first < length node.now.inst.tasks }
         requires crew { first < length crew.now.inst.tasks }
     {
-        self.ticks = self.ticks.saturating_sub(crew.instance().task(first).ticks);
         if crew.crane_of(first) == Some(self.outer.lower) {
             self.lower = self.lower.with_task(node, crew, first);
         }
@@ -235,12 +279,16 @@ impl Window {
 
     /// The ticks of the tasks of the outer cranes beside it.
     fn beside(&self) -> Tick {
-        self.lower.ticks.saturating_add(self.higher.ticks)
+        self.lower
+            .ticks
+            .saturating_add(self.rest.from(self.end).outer)
     }
 
     /// The most ticks of its lists.
-    pub(crate) fn most_ticks(&self) -> Tick {
-        self.ticks.saturating_add(self.beside())
+    pub(crate) fn most_ticks(&self, first: u16) -> Tick {
+        let behind = self.rest.from(self.end).all;
+        let ticks = self.rest.from(first).all.saturating_sub(behind);
+        ticks.saturating_add(self.beside())
     }
 
     /// Its tasks.
@@ -257,10 +305,11 @@ impl Window {
 
     /// The tasks of the outer cranes beside it.
     fn outer_tasks(&self) -> Group {
-        let begins = self.begins.get(self.end as usize).copied();
+        let beyond = self.rest.from(self.end);
         self.lower.with(Group {
-            begins: begins.unwrap_or(Tick::MAX),
-            ..self.higher
+            ticks: beyond.outer,
+            begins: beyond.begins,
+            bands: self.higher,
         })
     }
 

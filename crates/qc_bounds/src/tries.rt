@@ -58,7 +58,7 @@ fn try_window(
     ensures count { length path.new.items ≤ length node.now.inst.tasks }
     ensures room { path.new.capacity ≡ path.old.capacity }
 {
-    if window.most_ticks() < wanted.ticks {
+    if window.most_ticks(first) < wanted.ticks {
         return None;
     }
     let (long, short) = window.lists(node, crew, first);
@@ -83,7 +83,7 @@ fn late_window(node: &Starts, crew: &Crew, end: Tick, path: &mut Path) -> Option
     let mut window = Window::before_all(node, crew);
     for first in 0..inst.task_count() {
         if begins_bay(inst, first) {
-            window.reach(crew, first);
+            window.reach(inst, first);
             let ticks = least_ticks(end, early(node, first), travel);
             let wanted = Wanted { end, ticks };
             if let Some(end) = try_window(node, crew, &window, first, wanted, path) {
