@@ -6,12 +6,12 @@ ghost use Rattle.qc_model.specs.declared.decision.Decision.TheVariants.{Assign, 
 ghost use Rattle.qc_model.specs.declared.turn.Turn.TheVariants.{OneWay};
 ghost use Rattle.qc_model.specs.declared.limits.TheConstants.{MOST_DISTANCE, MOST_TASKS, MOST_WORK};
 ghost use Rattle.qc_model.specs.Instance.{Valid};
-ghost use Rattle.qc_model.specs.Nodes.{Fits, assigned, forced};
+ghost use Rattle.qc_model.specs.Nodes.{Fits, assigned, forced, upward_ticks};
 ghost use Rattle.qc_starts.specs.Arcs.{AreArcs, AreLow, AreOpening, IsOver, IsRoomy, added, with_added};
 
 use qc_arena::ArcArena;
-use qc_dist::Decisions;
-use qc_model::{Decision, Turn};
+use qc_dist::{Decisions, distance};
+use qc_model::{Decision, Instance, Turn};
 use qc_num::{OutOfMemory, Tick};
 use std::alloc::Global;
 
@@ -34,13 +34,31 @@ fn push_forced(decisions: &Decisions, from: u16, to: u16, arena: &mut ArcArena)
     }
 }
 
-/// Whether the cranes of two tasks ask for nothing from the first to the second: cranes go one way, and that of the
-/// first is the lower.
-fn ask_nothing(decisions: &Decisions, v: u16, w: u16) -> bool
-    ensures { IsTrue result → (decisions.now.inst.turn ≡ OneWay) × (v < w) }
+/// Whether two tasks ask for nothing from the first to the second where their cranes go one way: the second lies no
+/// further along for the one crane, or its crane is the higher, or they are clear of each other.
+fn are_free(inst: &Instance, i: u16, v: u16, j: u16, w: u16) -> bool
+    requires first_task { i < length inst.now.tasks }
+    requires first_crane { v < length inst.now.cranes }
+    requires second_task { j < length inst.now.tasks }
+    requires second_crane { w < length inst.now.cranes }
+    ensures { IsTrue result → upward_ticks inst.now i v j w ≡ None }
+{
+    if v == w {
+        return inst.task(j).bay <= inst.task(i).bay;
+    }
+    v < w || distance(inst, i, v, j, w) == 0
+}
+
+/// Whether the cranes of two tasks ask for nothing from the first to the second, as can be told at once.
+fn ask_nothing(decisions: &Decisions, i: u16, v: u16, j: u16, w: u16) -> bool
+    requires first_task { i < length decisions.now.inst.tasks }
+    requires first_crane { v < length decisions.now.inst.cranes }
+    requires second_task { j < length decisions.now.inst.tasks }
+    requires second_crane { w < length decisions.now.inst.cranes }
+    ensures { IsTrue result → (decisions.now.inst.turn ≡ OneWay) × (upward_ticks decisions.now.inst i v j w ≡ None) }
 {
     match decisions.instance().turn() {
-        Turn::OneWay => v < w,
+        Turn::OneWay => are_free(decisions.instance(), i, v, j, w),
         Turn::Free => false,
     }
 }
@@ -49,12 +67,14 @@ fn ask_nothing(decisions: &Decisions, v: u16, w: u16) -> bool
 fn added(decisions: &Decisions, i: u16, v: u16, j: u16, w: u16) -> Option<Tick>
     requires first { i < length decisions.now.inst.tasks }
     requires second { j < length decisions.now.inst.tasks }
+    requires first_crane { v < length decisions.now.inst.cranes }
+    requires second_crane { w < length decisions.now.inst.cranes }
     requires of_first { assigned decisions.now.decisions i ≡ Some v }
     requires of_second { assigned decisions.now.decisions j ≡ Some w }
     ensures ticks { result ≡ added decisions.now.inst decisions.now.decisions i j }
     ensures bound { IfSome result (λ ticks. ticks ≤ MOST_WORK + MOST_DISTANCE) }
 {
-    if ask_nothing(decisions, v, w) {
+    if ask_nothing(decisions, i, v, j, w) {
         return None;
     }
     decisions.forced_by_cranes(i, j)
@@ -63,6 +83,7 @@ fn added(decisions: &Decisions, i: u16, v: u16, j: u16, w: u16) -> Option<Tick>
 /// Adds an arc for what the cranes of two tasks ask for, one way or the other, where the second has one.
 fn push_between(decisions: &Decisions, one: u16, crane: u16, other: u16, arena: &mut ArcArena)
     requires crane { assigned decisions.now.decisions one ≡ Some crane }
+    requires range { crane < length decisions.now.inst.cranes }
     requires one { one < length decisions.now.inst.tasks }
     requires other { other < length decisions.now.inst.tasks }
     requires nodes { arena.old.nodes ≡ length decisions.now.inst.tasks }

@@ -1,5 +1,4 @@
 use Rattle.std.proofs.Common.{◌≡◌, ℕ, ◌<◌, false, cond, ◌&&◌, eqb, List, Option, None, Some, refl, ap, ap₂, sym, ◌∙◌, arith, nat_lt}
-use Rattle.std.proofs.lemmas.Bool.{eqb-true, false_from_ne_true, ltb-true}
 use Rattle.qc_dist.specs.Added.{excess}
 use Rattle.qc_model.specs.declared.decision.Decision.{Decision}
 use Rattle.qc_model.specs.declared.turn.Turn.{Turn}
@@ -9,20 +8,13 @@ use Rattle.qc_model.specs.Nodes.{assigned, crane_ticks, is_sooner, pair_ticks, s
 use Rattle.qc_starts.specs.Arcs.{added}
 use Rattle.qc_starts.proofs.arcs.added.Goals as goal
 
--- nothing is asked for from a lower crane to a higher one that goes the same way
-none_upward : (inst : InstanceView) (i v j w : ℕ) → v < w → upward_ticks inst i v j w ≡ None
-none_upward inst i v j w less =
-    let differ = false_from_ne_true (eqb v w) (λ e. omega (arith, eqb-true v w e, less)) in
-    let over = false_from_ne_true (nat_lt w v) (λ e. omega (arith, ltb-true w v e, less)) in
-    rw (differ, over) refl
-
-none_added : (inst : InstanceView) (ds : List Decision) (i v j w : ℕ) → inst.turn ≡ OneWay → v < w
-    → assigned ds i ≡ Some v → assigned ds j ≡ Some w → None ≡ added inst ds i j
-none_added inst ds i v j w one less of_first of_second =
+none_added : (inst : InstanceView) (ds : List Decision) (i v j w : ℕ) → inst.turn ≡ OneWay
+    → upward_ticks inst i v j w ≡ None → assigned ds i ≡ Some v → assigned ds j ≡ Some w → None ≡ added inst ds i j
+none_added inst ds i v j w one none of_first of_second =
     sym (ap₂ (λ (a b : Option ℕ). excess (sooner_ticks inst ds i j) (crane_ticks inst (is_sooner inst ds i j) i j a b))
     of_first of_second
     ∙ ap (λ (turn : Turn). excess (sooner_ticks inst ds i j) (pair_ticks turn inst (is_sooner inst ds i j) i v j w)) one
-    ∙ ap (excess (sooner_ticks inst ds i j)) (none_upward inst i v j w less))
+    ∙ ap (excess (sooner_ticks inst ds i j)) none)
 
 pub returns-then-ask_nothing-clause-ticks : goal.returns-then-ask_nothing-clause-ticks
 returns-then-ask_nothing-clause-ticks c =
