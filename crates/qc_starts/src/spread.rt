@@ -28,8 +28,8 @@ pub(crate) struct Spread {
     pub(crate) queue: Vec<u16>,
 }
 
-/// A task that is still to be looked at. The least is looked at next.
-#[derive(Clone, Copy, PartialEq, Eq, PartialOrd, Ord)]
+/// A task that is still to be looked at.
+#[derive(Clone, Copy)]
 struct Next {
     /// When it started before the newest decision.
     start: Tick,
@@ -38,12 +38,17 @@ struct Next {
     place: usize,
 }
 
-/// The lesser of two tasks.
+/// Whether a task is looked at ahead of another: it started earlier, or at once and has the lower number.
+fn is_ahead(one: Next, other: Next) -> bool {
+    one.start < other.start || one.start == other.start && one.task < other.task
+}
+
+/// Of two tasks the one that is looked at ahead of the other.
 fn sooner(before: Option<Next>, this: Next) -> Next
     ensures { (result ≡ this) ⊎ (before ≡ Some result) }
 {
     match before {
-        Some(other) => { if other <= this { other } else { this } }
+        Some(other) => { if is_ahead(this, other) { this } else { other } }
         None => this,
     }
 }
