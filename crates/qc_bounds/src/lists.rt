@@ -3,17 +3,12 @@
 //! lie beside it, where they clash with all of these. It decides how much is shown and how fast, and
 //! nothing else: whatever list is packed shows an end that holds.
 
-ghost use Rattle.std.specs.Prelude.{◌≡◌, ◌<◌, ◌≤◌, All, IsSome, length};
-ghost use Rattle.qc_close.specs.Crews.{IsCrewOf};
-ghost use Rattle.qc_model.specs.Early.{early};
+ghost use Rattle.std.specs.Prelude.{◌≡◌, ◌<◌, ◌≤◌, All, length};
 ghost use Rattle.qc_num.specs.Paths.{HasRoom};
 
-use crate::packed::early;
-use crate::spread::Bands;
 use qc_close::Crew;
-use qc_model::{Instance, MOST_TASKS, bays_between, bays_up};
+use qc_model::{Instance, bays_between, bays_up};
 use qc_num::{Path, Tick};
-use qc_starts::Starts;
 
 /// The cranes at the ends of the rail, by the side of a window on which their tasks are listed.
 #[derive(Clone, Copy)]
@@ -44,57 +39,6 @@ fn outer_cranes(inst: &Instance) -> Outer {
     }
 }
 
-/// Some tasks together.
-#[derive(Clone, Copy)]
-struct Group {
-    ticks: Tick,
-    /// From when the first of them can start; no tick is later where there is none.
-    begins: Tick,
-    /// Where they lie at most.
-    bands: Bands,
-}
-
-impl Group {
-    /// None.
-    fn none() -> Group {
-        Group {
-            ticks: 0,
-            begins: Tick::MAX,
-            bands: Bands::none(),
-        }
-    }
-
-    /// These and one task more.
-    fn with_task(self, node: &Starts, crew: &Crew, task: u16) -> Group
-        requires known { IsSome (early node.now.inst node.now.decisions) }
-        requires node { task < length node.now.inst.tasks }
-        requires crew { task < length crew.now.inst.tasks }
-    {
-        Group {
-            ticks: self.ticks.saturating_add(crew.instance().task(task).ticks),
-            begins: self.begins.min(early(node, task)),
-            bands: self.bands.with_task(crew, task),
-        }
-    }
-
-    /// These and others.
-    fn with(self, more: Group) -> Group {
-        Group {
-            ticks: self.ticks.saturating_add(more.ticks),
-            begins: self.begins.min(more.begins),
-            bands: self.bands.with(more.bands),
-        }
-    }
-
-    /// The latest end that they may show if they are packed.
-    fn latest_end(&self, inst: &Instance) -> Tick {
-        let travel = inst.travel().saturating_mul(self.bands.spread(inst));
-        self.begins
-            .saturating_add(self.ticks)
-            .saturating_add(travel)
-    }
-}
-
 /// A list of tasks.
 #[derive(Clone, Copy)]
 pub(crate) struct List {
@@ -104,21 +48,11 @@ pub(crate) struct List {
     end: u16,
     /// The cranes of which tasks beside the window are listed too.
     outer: Option<Outer>,
-    /// All its tasks.
-    tasks: Group,
+    /// The ticks of all its tasks.
+    pub(crate) ticks: Tick,
 }
 
 impl List {
-    /// The ticks of its tasks.
-    pub(crate) fn ticks(&self) -> Tick {
-        self.tasks.ticks
-    }
-
-    /// The latest end that it may show.
-    pub(crate) fn latest_end(&self, inst: &Instance) -> Tick {
-        self.tasks.latest_end(inst)
-    }
-
     /// Whether it has a task that this crane has, or none.
     fn has(self, task: u16, crane: Option<u16>) -> bool {
         if self.first <= task && task < self.end {
@@ -152,186 +86,108 @@ impl List {
     }
 }
 
-/// The tasks from a number on.
+/// The ticks of a task that a crane has; 0 of any other.
+fn ticks_on(crew: &Crew, task: u16, crane: u16) -> Tick
+    requires { task < length crew.now.inst.tasks }
+{
+    if crew.crane_of(task) == Some(crane) {
+        crew.instance().task(task).ticks
+    } else {
+        0
+    }
+}
+
+/// A window that goes along the ship, with what its tasks take and those of the outer cranes beside it.
 #[derive(Clone, Copy)]
-struct Beyond {
-    /// The ticks of all.
-    all: Tick,
-    /// The ticks of those of an outer crane.
-    outer: Tick,
-    /// From when the first of these can start; no tick is later where there is none.
-    begins: Tick,
-}
-
-impl Beyond {
-    /// None.
-    fn none() -> Beyond {
-        Beyond {
-            all: 0,
-            outer: 0,
-            begins: Tick::MAX,
-        }
-    }
-}
-
-/// For each number of tasks, the tasks from it on.
-#[derive(Drop)]
-struct Rest {
-    from: [Beyond; MOST_TASKS as usize + 1],
-}
-
-impl Rest {
-    /// Nothing of any number.
-    fn new() -> Rest {
-        let nothing = Beyond {
-            all: 0,
-            outer: 0,
-            begins: 0,
-        };
-        Rest {
-            from: [nothing; MOST_TASKS as usize + 1],
-        }
-    }
-
-    /// Says which tasks there are from a number on.
-    fn put(&mut self, task: u16, beyond: Beyond) {
-        if let Some(place) = self.from.get_mut(task as usize) {
-            *place = beyond;
-        }
-    }
-
-    /// The tasks from a number on.
-    fn from(&self, task: u16) -> Beyond {
-        match self.from.get(task as usize) {
-            Some(beyond) => *beyond,
-            None => Beyond::none(),
-        }
-    }
-}
-
-/// A window that goes along the ship, with the tasks of the outer cranes beside it.
-#[derive(Drop)]
 pub(crate) struct Window {
     outer: Outer,
     /// The task behind its last.
     end: u16,
-    /// The outer crane's tasks of lower numbers.
-    lower: Group,
-    /// All tasks, and those of the outer crane of higher numbers.
-    rest: Rest,
-    /// Where all tasks of that crane lie.
-    higher: Bands,
+    /// The ticks of its tasks.
+    ticks: Tick,
+    /// The ticks of the outer cranes' tasks of lower numbers.
+    lower: Tick,
+    /// The ticks of those of higher numbers.
+    higher: Tick,
 }
 
 impl Window {
     /// The window before the first task.
-    pub(crate) fn before_all(node: &Starts, crew: &Crew) -> Window
-        requires known { IsSome (early node.now.inst node.now.decisions) }
-        requires crew { IsCrewOf crew.now node.now.inst node.now.decisions }
-    {
-        let inst = node.instance();
-        let outer = outer_cranes(inst);
-        let (mut rest, mut higher) = (Rest::new(), Bands::none());
-        let mut beyond = Beyond::none();
-        rest.put(inst.task_count(), beyond);
-        for task in (0..inst.task_count()).rev() {
-            let ticks = inst.task(task).ticks;
-            beyond.all = beyond.all.saturating_add(ticks);
-            if crew.crane_of(task) == Some(outer.higher) {
-                beyond.outer = beyond.outer.saturating_add(ticks);
-                beyond.begins = beyond.begins.min(early(node, task));
-                higher = higher.with_task(crew, task);
-            }
-            rest.put(task, beyond);
+    pub(crate) fn before_all(crew: &Crew) -> Window {
+        let outer = outer_cranes(crew.instance());
+        let mut higher: Tick = 0;
+        for task in 0..crew.instance().task_count() {
+            higher = higher.saturating_add(ticks_on(crew, task, outer.higher));
         }
         Window {
             outer,
             end: 0,
-            lower: Group::none(),
-            rest,
+            ticks: 0,
+            lower: 0,
             higher,
         }
     }
 
-    /// Takes in what lies nearer to its first task than two cranes may come.
-    pub(crate) fn reach(&mut self, inst: &Instance, first: u16)
-        requires { first < length inst.now.tasks }
+    /// Takes the next task in.
+    fn take(&mut self, crew: &Crew, task: u16)
+        requires { task < length crew.now.inst.tasks }
     {
+        self.ticks = self.ticks.saturating_add(crew.instance().task(task).ticks);
+        self.higher = self
+            .higher
+            .saturating_sub(ticks_on(crew, task, self.outer.higher));
+        self.end = task + 1;
+    }
+
+    /// Takes in what lies nearer to its first task than two cranes may come.
+    pub(crate) fn reach(&mut self, crew: &Crew, first: u16)
+        requires { first < length crew.now.inst.tasks }
+    {
+        let inst = crew.instance();
         let (bay, gap) = (inst.task(first).bay, bays_up(0, inst.gap()));
         for task in self.end..inst.task_count() {
             if gap <= bays_between(bay, inst.task(task).bay) {
                 break;
             }
-            self.end = task + 1;
+            self.take(crew, task);
         }
     }
 
     /// Leaves its first task behind.
-    pub(crate) fn leave(&mut self, node: &Starts, crew: &Crew, first: u16)
-        requires known { IsSome (early node.now.inst node.now.decisions) }
-        requires node { first < length node.now.inst.tasks }
-        requires crew { first < length crew.now.inst.tasks }
+    pub(crate) fn leave(&mut self, crew: &Crew, first: u16)
+        requires { first < length crew.now.inst.tasks }
     {
-        if crew.crane_of(first) == Some(self.outer.lower) {
-            self.lower = self.lower.with_task(node, crew, first);
-        }
+        self.ticks = self.ticks.saturating_sub(crew.instance().task(first).ticks);
+        self.lower = self
+            .lower
+            .saturating_add(ticks_on(crew, first, self.outer.lower));
     }
 
     /// The ticks of the tasks of the outer cranes beside it.
     fn beside(&self) -> Tick {
-        self.lower
-            .ticks
-            .saturating_add(self.rest.from(self.end).outer)
+        self.lower.saturating_add(self.higher)
     }
 
     /// The most ticks of its lists.
-    pub(crate) fn most_ticks(&self, first: u16) -> Tick {
-        let behind = self.rest.from(self.end).all;
-        let ticks = self.rest.from(first).all.saturating_sub(behind);
-        ticks.saturating_add(self.beside())
-    }
-
-    /// Its tasks.
-    fn tasks(&self, node: &Starts, crew: &Crew, first: u16) -> Group
-        requires known { IsSome (early node.now.inst node.now.decisions) }
-        requires crew { IsCrewOf crew.now node.now.inst node.now.decisions }
-    {
-        let mut tasks = Group::none();
-        for task in first..self.end.min(node.instance().task_count()) {
-            tasks = tasks.with_task(node, crew, task);
-        }
-        tasks
-    }
-
-    /// The tasks of the outer cranes beside it.
-    fn outer_tasks(&self) -> Group {
-        let beyond = self.rest.from(self.end);
-        self.lower.with(Group {
-            ticks: beyond.outer,
-            begins: beyond.begins,
-            bands: self.higher,
-        })
+    pub(crate) fn most_ticks(&self) -> Tick {
+        self.ticks.saturating_add(self.beside())
     }
 
     /// The list of its tasks and of those of the outer cranes beside it, and the list of its tasks
     /// alone, where these are fewer.
-    pub(crate) fn lists(&self, node: &Starts, crew: &Crew, first: u16) -> (List, Option<List>)
-        requires known { IsSome (early node.now.inst node.now.decisions) }
-        requires crew { IsCrewOf crew.now node.now.inst node.now.decisions }
-    {
-        let tasks = self.tasks(node, crew, first);
+    pub(crate) fn lists(&self, first: u16) -> (List, Option<List>) {
         let alone = List {
             first,
             end: self.end,
             outer: None,
-            tasks,
+            ticks: self.ticks,
         };
         if self.beside() == 0 {
             return (alone, None);
         }
         let long = List {
             outer: Some(self.outer),
-            tasks: tasks.with(self.outer_tasks()),
+            ticks: self.most_ticks(),
             ..alone
         };
         (long, Some(alone))

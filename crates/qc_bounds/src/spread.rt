@@ -25,14 +25,6 @@ fn joined(one: Option<Band>, other: Band) -> Band {
     }
 }
 
-/// The band that holds two, if there are any.
-fn joined_with(one: Option<Band>, other: Option<Band>) -> Option<Band> {
-    match other {
-        None => one,
-        Some(other) => Some(joined(one, other)),
-    }
-}
-
 /// The bays of a band.
 fn bays(band: Band) -> Tick {
     bays_up(band.low, band.high)
@@ -60,71 +52,27 @@ fn with_open(inst: &Instance, fixed: Option<Band>, open: Band) -> Tick {
     least
 }
 
-/// Where some tasks lie.
-#[derive(Clone, Copy)]
-pub(crate) struct Bands {
-    /// Those that have a crane, as it counts places.
-    fixed: Option<Band>,
-    /// Those that have none.
-    open: Option<Band>,
-}
-
-impl Bands {
-    /// No task.
-    pub(crate) fn none() -> Bands {
-        Bands {
-            fixed: None,
-            open: None,
-        }
-    }
-
-    /// These and one task more.
-    pub(crate) fn with_task(self, crew: &Crew, task: u16) -> Bands
-        requires { task < length crew.now.inst.tasks }
-    {
-        let inst = crew.instance();
-        let bay = inst.task(task).bay;
-        let here = Band {
-            low: bay,
-            high: bay,
-        };
-        match crew.crane_of(task) {
-            Some(crane) => Bands {
-                fixed: Some(joined(self.fixed, for_crane(inst, crane, here))),
-                ..self
-            },
-            None => Bands {
-                open: Some(joined(self.open, here)),
-                ..self
-            },
-        }
-    }
-
-    /// These and others.
-    pub(crate) fn with(self, more: Bands) -> Bands {
-        Bands {
-            fixed: joined_with(self.fixed, more.fixed),
-            open: joined_with(self.open, more.open),
-        }
-    }
-
-    /// The most bays among which the tasks lie if they are packed.
-    pub(crate) fn spread(self, inst: &Instance) -> Tick {
-        match (self.fixed, self.open) {
-            (_, Some(open)) => with_open(inst, self.fixed, open),
-            (Some(fixed), None) => bays(fixed),
-            (None, None) => 0,
-        }
-    }
-}
-
 /// The most bays among which tasks lie that are packed.
 pub(crate) fn spread(crew: &Crew, tasks: &[u16]) -> Tick
     requires { All (λ j. j < length crew.now.inst.tasks) tasks.now }
 {
-    let mut bands = Bands::none();
+    let inst = crew.instance();
+    let mut fixed: Option<Band> = None;
+    let mut open: Option<Band> = None;
     for task in tasks {
-        bands = bands.with_task(crew, *task);
+        let bay = inst.task(*task).bay;
+        let here = Band {
+            low: bay,
+            high: bay,
+        };
+        match crew.crane_of(*task) {
+            Some(crane) => fixed = Some(joined(fixed, for_crane(inst, crane, here))),
+            None => open = Some(joined(open, here)),
+        }
     }
-    bands.spread(crew.instance())
+    match (fixed, open) {
+        (_, Some(open)) => with_open(inst, fixed, open),
+        (Some(fixed), None) => bays(fixed),
+        (None, None) => 0,
+    }
 }

@@ -23,21 +23,21 @@ struct Wanted {
 }
 
 /// Tries a list: the end that it shows, where that is wanted.
-fn try_list(node: &Starts, crew: &Crew, list: List, end: Tick, path: &mut Path) -> Option<Tick>
+fn try_list(node: &Starts, crew: &Crew, list: List, wanted: Wanted, path: &mut Path) -> Option<Tick>
     requires known { IsSome (early node.now.inst node.now.decisions) }
     requires crew { IsCrewOf crew.now node.now.inst node.now.decisions }
     requires room { HasRoom (length node.now.inst.tasks) path.old }
     requires count { length path.old.items ≤ length node.now.inst.tasks }
     ensures shows { IfSome result
-        (IsPackedFrom node.now.inst node.now.decisions end path.new.items) }
+        (IsPackedFrom node.now.inst node.now.decisions wanted.end path.new.items) }
     ensures count { length path.new.items ≤ length node.now.inst.tasks }
     ensures room { path.new.capacity ≡ path.old.capacity }
 {
-    if list.latest_end(crew.instance()) < end {
+    if list.ticks < wanted.ticks {
         return None;
     }
     list.write(crew, path);
-    judge(node, crew, list.ticks(), end, path.as_slice())
+    judge(node, crew, list.ticks, wanted.end, path.as_slice())
 }
 
 /// Tries the lists of a window: with the tasks beside it, and alone.
@@ -58,14 +58,14 @@ fn try_window(
     ensures count { length path.new.items ≤ length node.now.inst.tasks }
     ensures room { path.new.capacity ≡ path.old.capacity }
 {
-    if window.most_ticks(first) < wanted.ticks {
+    if window.most_ticks() < wanted.ticks {
         return None;
     }
-    let (long, short) = window.lists(node, crew, first);
-    if let Some(end) = try_list(node, crew, long, wanted.end, path) {
+    let (long, short) = window.lists(first);
+    if let Some(end) = try_list(node, crew, long, wanted, path) {
         return Some(end);
     }
-    try_list(node, crew, short?, wanted.end, path)
+    try_list(node, crew, short?, wanted, path)
 }
 
 /// Looks in windows along the ship for packed tasks that show this end or a later one.
@@ -80,17 +80,17 @@ fn late_window(node: &Starts, crew: &Crew, end: Tick, path: &mut Path) -> Option
     path.clear();
     let inst = node.instance();
     let travel = most_travel(inst);
-    let mut window = Window::before_all(node, crew);
+    let mut window = Window::before_all(crew);
     for first in 0..inst.task_count() {
         if begins_bay(inst, first) {
-            window.reach(inst, first);
+            window.reach(crew, first);
             let ticks = least_ticks(end, early(node, first), travel);
             let wanted = Wanted { end, ticks };
             if let Some(end) = try_window(node, crew, &window, first, wanted, path) {
                 return Some(end);
             }
         }
-        window.leave(node, crew, first);
+        window.leave(crew, first);
     }
     None
 }
