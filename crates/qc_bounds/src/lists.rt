@@ -12,7 +12,7 @@ use qc_num::{Path, Tick};
 
 /// The cranes at the ends of the rail, by the side of a window on which their tasks are listed.
 #[derive(Clone, Copy)]
-pub(crate) struct Outer {
+struct Outer {
     /// The crane of which tasks of lower numbers are listed.
     lower: u16,
     /// The crane of which tasks of higher numbers are listed.
@@ -20,7 +20,7 @@ pub(crate) struct Outer {
 }
 
 /// Which crane belongs to which side: the last one does to the side of the lower bays.
-pub(crate) fn outer_cranes(inst: &Instance) -> Outer {
+fn outer_cranes(inst: &Instance) -> Outer {
     let last = inst.crane_count() - 1;
     let rises = match (inst.tasks().first(), inst.tasks().last()) {
         (Some(one), Some(other)) => one.bay <= other.bay,
@@ -100,6 +100,7 @@ fn ticks_on(crew: &Crew, task: u16, crane: u16) -> Tick
 /// A window that goes along the ship, with what its tasks take and those of the outer cranes beside it.
 #[derive(Clone, Copy)]
 pub(crate) struct Window {
+    outer: Outer,
     /// The task behind its last.
     end: u16,
     /// The ticks of its tasks.
@@ -112,12 +113,14 @@ pub(crate) struct Window {
 
 impl Window {
     /// The window before the first task.
-    pub(crate) fn before_all(crew: &Crew, outer: Outer) -> Window {
+    pub(crate) fn before_all(crew: &Crew) -> Window {
+        let outer = outer_cranes(crew.instance());
         let mut higher: Tick = 0;
         for task in 0..crew.instance().task_count() {
             higher = higher.saturating_add(ticks_on(crew, task, outer.higher));
         }
         Window {
+            outer,
             end: 0,
             ticks: 0,
             lower: 0,
@@ -126,18 +129,18 @@ impl Window {
     }
 
     /// Takes the next task in.
-    fn take(&mut self, crew: &Crew, outer: Outer, task: u16)
+    fn take(&mut self, crew: &Crew, task: u16)
         requires { task < length crew.now.inst.tasks }
     {
         self.ticks = self.ticks.saturating_add(crew.instance().task(task).ticks);
         self.higher = self
             .higher
-            .saturating_sub(ticks_on(crew, task, outer.higher));
+            .saturating_sub(ticks_on(crew, task, self.outer.higher));
         self.end = task + 1;
     }
 
     /// Takes in what lies nearer to its first task than two cranes may come.
-    pub(crate) fn reach(&mut self, crew: &Crew, outer: Outer, first: u16)
+    pub(crate) fn reach(&mut self, crew: &Crew, first: u16)
         requires { first < length crew.now.inst.tasks }
     {
         let inst = crew.instance();
@@ -146,36 +149,45 @@ impl Window {
             if gap <= bays_between(bay, inst.task(task).bay) {
                 break;
             }
-            self.take(crew, outer, task);
+            self.take(crew, task);
         }
     }
 
     /// Leaves its first task behind.
-    pub(crate) fn leave(&mut self, crew: &Crew, outer: Outer, first: u16)
+    pub(crate) fn leave(&mut self, crew: &Crew, first: u16)
         requires { first < length crew.now.inst.tasks }
     {
         self.ticks = self.ticks.saturating_sub(crew.instance().task(first).ticks);
         self.lower = self
             .lower
-            .saturating_add(ticks_on(crew, first, outer.lower));
+            .saturating_add(ticks_on(crew, first, self.outer.lower));
+    }
+
+    /// The ticks of the tasks of the outer cranes beside it.
+    fn beside(&self) -> Tick {
+        self.lower.saturating_add(self.higher)
+    }
+
+    /// The most ticks of its lists.
+    pub(crate) fn most_ticks(&self) -> Tick {
+        self.ticks.saturating_add(self.beside())
     }
 
     /// The list of its tasks and of those of the outer cranes beside it, and the list of its tasks
     /// alone, where these are fewer.
-    pub(crate) fn lists(&self, outer: Outer, first: u16) -> (List, Option<List>) {
+    pub(crate) fn lists(&self, first: u16) -> (List, Option<List>) {
         let alone = List {
             first,
             end: self.end,
             outer: None,
             ticks: self.ticks,
         };
-        let beside = self.lower.saturating_add(self.higher);
-        if beside == 0 {
+        if self.beside() == 0 {
             return (alone, None);
         }
         let long = List {
-            outer: Some(outer),
-            ticks: self.ticks.saturating_add(beside),
+            outer: Some(self.outer),
+            ticks: self.most_ticks(),
             ..alone
         };
         (long, Some(alone))

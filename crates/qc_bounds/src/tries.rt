@@ -8,7 +8,7 @@ ghost use Rattle.qc_num.specs.Paths.{HasRoom};
 ghost use Rattle.qc_bounds.specs.Packed.{IsPackedFrom};
 
 use crate::falling::late_falling;
-use crate::lists::{List, Outer, Window, begins_bay, outer_cranes};
+use crate::lists::{List, Window, begins_bay};
 use crate::packed::{early, judge, least_ticks, most_travel};
 use qc_close::Crew;
 use qc_num::{Path, Tick};
@@ -44,7 +44,8 @@ fn try_list(node: &Starts, crew: &Crew, list: List, wanted: Wanted, path: &mut P
 fn try_window(
     node: &Starts,
     crew: &Crew,
-    lists: (List, Option<List>),
+    window: &Window,
+    first: u16,
     wanted: Wanted,
     path: &mut Path,
 ) -> Option<Tick>
@@ -57,7 +58,10 @@ fn try_window(
     ensures count { length path.new.items ≤ length node.now.inst.tasks }
     ensures room { path.new.capacity ≡ path.old.capacity }
 {
-    let (long, short) = lists;
+    if window.most_ticks() < wanted.ticks {
+        return None;
+    }
+    let (long, short) = window.lists(first);
     if let Some(end) = try_list(node, crew, long, wanted, path) {
         return Some(end);
     }
@@ -75,19 +79,18 @@ fn late_window(node: &Starts, crew: &Crew, end: Tick, path: &mut Path) -> Option
 {
     path.clear();
     let inst = node.instance();
-    let outer = outer_cranes(inst);
     let travel = most_travel(inst);
-    let mut window = Window::before_all(crew, outer);
+    let mut window = Window::before_all(crew);
     for first in 0..inst.task_count() {
         if begins_bay(inst, first) {
-            window.reach(crew, outer, first);
+            window.reach(crew, first);
             let ticks = least_ticks(end, early(node, first), travel);
-            let lists = window.lists(outer, first);
-            if let Some(end) = try_window(node, crew, lists, Wanted { end, ticks }, path) {
+            let wanted = Wanted { end, ticks };
+            if let Some(end) = try_window(node, crew, &window, first, wanted, path) {
                 return Some(end);
             }
         }
-        window.leave(crew, outer, first);
+        window.leave(crew, first);
     }
     None
 }

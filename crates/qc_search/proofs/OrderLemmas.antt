@@ -175,13 +175,6 @@ module _ (inst : InstanceView) (v : Valid inst) (ds : List Decision) (sched : Li
           (complete_where inst ds begins v fits reach as_free given least).1
           (record { clear = λ i j x y rising high on_x on_y conflict unsettled. absurd (unsettled (settled i j conflict)) })
 
--- the apart pairs by their numbers
-pub apart_ordered : (inst : InstanceView) (ds : List Decision) (sched : List Slot) → inst.turn ≡ OneWay
-    → ((k : ℕ) → k < length inst.apart → IsSettledPair inst ds (get_or inst.apart k (pair_of 0 0))) → AreOrdered inst ds sched
-apart_ordered inst ds sched one each p c =
-    let apart = subst (λ (t : Turn). Contains (ordered_pairs t inst sched) p) one c in
-    settled_at inst ds p.first p.second apart (each apart.0 apart.1)
-
 pub all_settled : (inst : InstanceView) (ds : List Decision) → inst.turn ≡ OneWay → AreAssigned inst ds
     → ((k : ℕ) → k < length inst.apart → IsSettledPair inst ds (get_or inst.apart k (pair_of 0 0))) → IsComplete inst ds
 all_settled inst ds one given each =

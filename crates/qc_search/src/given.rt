@@ -3,7 +3,6 @@
 ghost use Rattle.std.specs.Prelude.{◌≡◌, ◌+◌, ℕ, ◌<◌, ◌≤◌, [], ◌∷◌, None, IfSome, IsTrue, All, length, option_map, slice_index_or};
 ghost use Rattle.qc_dist.specs.Node.{IsOpen};
 ghost use Rattle.qc_model.specs.declared.decision.Decision.TheVariants.{Assign};
-ghost use Rattle.qc_model.specs.declared.turn.Turn.TheVariants.{OneWay, Free};
 ghost use Rattle.qc_model.specs.Frames.{GoesBy};
 ghost use Rattle.qc_model.specs.Instance.{IsApart, Valid, pair_of};
 ghost use Rattle.qc_model.specs.Judge.{IsDirection, IsJudgeable};
@@ -101,24 +100,6 @@ fn order_as(starts: &mut Starts, sched: &Schedule, pair: Pair)
     go(starts, order);
 }
 
-/// Orders each apart pair as the schedule has it, where cranes go one way.
-fn order_apart(starts: &mut Starts, sched: &Schedule)
-    requires one_way { starts.old.inst.turn ≡ OneWay }
-    requires goes { GoesBy starts.old.inst.turn starts.old.inst sched.now }
-    requires soon { (j : ℕ) → j < length starts.old.inst.tasks → start_of sched.now j ≤ most_start }
-    requires agrees { Agrees starts.old.inst starts.old.decisions sched.now }
-    requires assigned { AreAssigned starts.old.inst starts.old.decisions }
-    ensures inst { starts.new.inst ≡ starts.old.inst }
-    ensures agrees { Agrees starts.old.inst starts.new.decisions sched.now }
-    ensures assigned { AreAssigned starts.old.inst starts.new.decisions }
-    ensures ordered { AreOrdered starts.old.inst starts.new.decisions sched.now }
-{
-    for number in 0..starts.instance().apart().len() {
-        let pair = apart_at(starts, number);
-        order_as(starts, sched, pair);
-    }
-}
-
 /// Orders a task and each lower one that conflicts with it as the schedule has them.
 fn order_below(starts: &mut Starts, sched: &Schedule, task: u16)
     requires goes { GoesBy starts.old.inst.turn starts.old.inst sched.now }
@@ -144,23 +125,7 @@ fn order_below(starts: &mut Starts, sched: &Schedule, task: u16)
     }
 }
 
-/// Orders each two tasks that conflict as the schedule has them, where cranes go as they like.
-fn order_conflicts(starts: &mut Starts, sched: &Schedule)
-    requires goes { GoesBy starts.old.inst.turn starts.old.inst sched.now }
-    requires soon { (j : ℕ) → j < length starts.old.inst.tasks → start_of sched.now j ≤ most_start }
-    requires agrees { Agrees starts.old.inst starts.old.decisions sched.now }
-    requires assigned { AreAssigned starts.old.inst starts.old.decisions }
-    ensures inst { starts.new.inst ≡ starts.old.inst }
-    ensures agrees { Agrees starts.old.inst starts.new.decisions sched.now }
-    ensures assigned { AreAssigned starts.old.inst starts.new.decisions }
-    ensures ordered { AreOrdered starts.old.inst starts.new.decisions sched.now }
-{
-    for task in 0..starts.instance().task_count() {
-        order_below(starts, sched, task);
-    }
-}
-
-/// Orders each pair whose order the schedule decides as the schedule has it.
+/// Orders each two tasks that conflict as the schedule has them.
 fn order_all(starts: &mut Starts, sched: &Schedule)
     requires goes { GoesBy starts.old.inst.turn starts.old.inst sched.now }
     requires soon { (j : ℕ) → j < length starts.old.inst.tasks → start_of sched.now j ≤ most_start }
@@ -172,9 +137,8 @@ fn order_all(starts: &mut Starts, sched: &Schedule)
     ensures valid { Valid starts.old.inst }
     ensures ordered { AreOrdered starts.old.inst starts.new.decisions sched.now }
 {
-    match starts.instance().turn() {
-        Turn::OneWay => order_apart(starts, sched),
-        Turn::Free => order_conflicts(starts, sched),
+    for task in 0..starts.instance().task_count() {
+        order_below(starts, sched, task);
     }
 }
 

@@ -95,6 +95,7 @@ module _ (f : Inside) (node : StartsNode) (is : IsKept f) (view : node_of f ≡ 
       (wrote : Wrote mid.values g.spread.values before after)
       (olds_are : g.spread.olds.items ≡ mid.olds.items)
       (pend_size : length g.spread.pending.items ≡ length mid.pending.items)
+      (queue_room : length g.spread.pending.items ≤ vec_capacity g.spread.queue)
       (settled : IsSettledTo g.network g.root g.spread.olds.items g.spread.values.cells g.step) where
     rest : AreRest f.network.inst f.network.decisions f.spread.values.cells
     rest = home_rest f node is view starts
@@ -137,6 +138,7 @@ module _ (f : Inside) (node : StartsNode) (is : IsKept f) (view : node_of f ≡ 
         noted = wrote.notes.size ∙ cells_count;
         olds = ap (length {A = ℕ}) olds_are ∙ begun.size ∙ is.sized.olds;
         pending = pend_size ∙ begun.only.size ∙ is.sized.pending;
+        queue = omega (arith, queue_room, pend_size, begun.only.size, is.sized.pending);
         cap = wrote.cap ∙ ap (λ (t : Notes). t.cap) begun.trail ∙ is.sized.cap;
         places = wrote.notes.places;
       });

@@ -7,9 +7,11 @@ pub mod Growth
 pub mod LevelLemmas
 pub mod NotingLemmas
 pub mod SpreadLemmas
+pub mod QueueLemmas
 pub mod SoonestLemmas
 pub mod DecidedLemmas
 pub mod PlaceLemmas
+pub mod LatestLemmas
 pub mod RaisedLemmas
 pub mod KeptLemmas
 pub mod DecideLemmas

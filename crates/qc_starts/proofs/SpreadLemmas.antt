@@ -1,6 +1,6 @@
 -- Starts that are raised behind a root: what a raise keeps, and what is left at the end.
-use Rattle.std.proofs.Common.{◌≡◌, ◌≢◌, ℕ, ◌+◌, ◌<◌, ◌≤◌, ◌⊎◌, inl, inr, min, Bool, true, false, ◌&&◌, eqb, cond, List, [], ◌∷◌, length, Option, None, Some, refl, sym, ap, subst, subst₂, ◌∙◌, arith, filter, slice_index, slice_set}
-use Rattle.std.proofs.lemmas.Bool.{and_parts, cases_Bool, cases_eq, cases_lt, cond-false, cond-true, cond_both, eq-eqb, eqb-true, false_from_ne_true, ltb-false, ltb-true, false≢true}
+use Rattle.std.proofs.Common.{◌≡◌, ◌≢◌, ℕ, ◌+◌, ◌<◌, ◌≤◌, ◌⊎◌, inl, inr, Bool, true, false, ◌&&◌, eqb, cond, List, [], ◌∷◌, length, Option, None, Some, refl, sym, ap, subst, subst₂, ◌∙◌, arith, filter, slice_index, slice_set}
+use Rattle.std.proofs.lemmas.Bool.{and_parts, cases_Bool, cases_eq, cases_lt, cond-false, cond-true, cond_both, eq-eqb, eqb-true, ltb-false, ltb-true, false≢true}
 use Rattle.std.proofs.lemmas.List.{get_or-set_other, get_or-set_same}
 use Rattle.std.proofs.Math.ListN.{get_or-eq_default, length-set}
 use Rattle.qc_arena.specs.declared.edge.Edge.{Edge}
@@ -8,7 +8,7 @@ use Rattle.qc_model.specs.Nodes.{Meets, forced, head}
 use Rattle.qc_starts.specs.Arcs.{IsArc}
 use Rattle.qc_starts.specs.NodeArcs.{IsSound, NodeArcs}
 use Rattle.qc_starts.specs.Place.{IsReasonBy, IsSoonest}
-use Rattle.qc_starts.specs.Spread.{AreWithin, IsBackAtRoot, IsIn, IsLifted, IsMet, IsOnly, IsPick, IsRaisedBy, IsRaising, IsRooting, IsSpreading, from_task, is_late, is_pending, left, left_of, one_of}
+use Rattle.qc_starts.specs.Spread.{IsBackAtRoot, IsIn, IsLifted, IsMet, IsOnly, IsRaisedBy, IsRaising, IsRooting, IsSpreading, from_task, is_late, is_pending, left, left_of, one_of}
 use Rattle.qc_starts.specs.Values.{AreRest, IsReason, raised, raiser_at, start_at}
 use Rattle.qc_starts.proofs.ArcLemmas.{arc_of, newest_in}
 use Rattle.qc_model.proofs.Sums.{sum_le, sum_raised}
@@ -581,33 +581,3 @@ pub set_size : (after before : List Bool) (late : Bool) (p : ℕ)
     → after ≡ cond late (slice_set before p true) before → length after ≡ length before
 set_size xs ys true p is = ap (length {A = Bool}) is ∙ length-set ys p true
 set_size xs ys false p is = ap (length {A = Bool}) is
-
--- ---- from where to where tasks are still to be looked at
-
-module _ (pending : List Bool) (first behind : ℕ) (within : AreWithin pending first behind) where
-  none_at : (j : ℕ) → (is_pending pending j ≡ true → ⊥) → is_pending pending j ≡ false
-  none_at j out = false_from_ne_true (is_pending pending j) out
-
-  pub none_before : (j : ℕ) → j < first → is_pending pending j ≡ false
-  none_before j low = none_at j (λ t. omega (arith, (within j t).0))
-
-  pub none_behind : (j : ℕ) → behind ≤ j → is_pending pending j ≡ false
-  none_behind j high = none_at j (λ t. omega (arith, (within j t).1))
-
-  -- one task less is to be looked at
-  pub within_less : (z : ℕ) → z < length pending → AreWithin (slice_set pending z false) first behind
-  within_less z inside j t = elim (cases_eq j z) [
-    | inl same ↦
-        absurd (false≢true (sym (get_or-set_same pending z false false inside)
-        ∙ ap (λ k. is_pending (slice_set pending z false) k) (sym same) ∙ t))
-    | inr other ↦ within j (sym (get_or-set_other pending z j false false other) ∙ t)
-  ]
-
--- a pick among those is one among all
-pub pick_all : (pending : List Bool) (first behind count at : ℕ) (pick : Option ℕ) → AreWithin pending first behind
-    → IsPick pending at pick → min behind count ≤ at → IsPick pending count pick
-pick_all pending first behind count at None within none end = λ j low. elim (cases_lt j at) [
-  | inl less ↦ none j less
-  | inr more ↦ none_behind pending first behind within j (omega (arith, end, low, more))
-]
-pick_all pending first behind count at (Some j) within pick end = pick

@@ -10,6 +10,7 @@ pub mod Opened
 pub mod Overlaps
 pub mod Overlapping
 pub mod Place
+pub mod Queue
 pub mod Roots
 pub mod Spread
 pub mod Values

@@ -1,5 +1,5 @@
 -- inner: values before any decision, and when a decision begins.
-use Rattle.std.specs.Prelude.{◌≡◌, ℕ, ◌+◌, ◌*◌, ◌<◌, [], All, length, replicate, false, true, slice_index_or}
+use Rattle.std.specs.Prelude.{◌≡◌, ℕ, ◌+◌, ◌*◌, ◌<◌, ◌≤◌, [], All, length, replicate, false, true, slice_index_or, vec_capacity}
 use Rattle.qc_model.specs.Instance.{InstanceView}
 use Rattle.qc_model.specs.Nodes.{order_pairs}
 use Rattle.qc_starts.specs.declared.spread.Spread.{Spread}
@@ -15,6 +15,7 @@ pub record IsOpened (s : Spread) (count decisions : ℕ) : Type 0 where
   pub noted : length s.values.noted.items ≡ 2 * count
   pub olds : length s.olds.items ≡ count
   pub pending : s.pending.items ≡ replicate count true
+  pub queue : count ≤ vec_capacity s.queue
 
 -- nothing is noted, the starts are copied, and the root alone is to be looked at
 pub record HasBegun (old new : Spread) (root : ℕ) : Type 0 where
@@ -34,5 +35,6 @@ pub record AreSized (inst : InstanceView) (s : Spread) : Type 0 where
   pub noted : length s.values.noted.items ≡ 2 * length inst.tasks
   pub olds : length s.olds.items ≡ length inst.tasks
   pub pending : length s.pending.items ≡ length inst.tasks
+  pub queue : length inst.tasks ≤ vec_capacity s.queue
   pub cap : s.values.trail.cap ≡ 2 * length inst.tasks * (length inst.tasks + order_pairs inst)
   pub places : All (λ note. note.place < length s.values.cells) s.values.trail.notes

@@ -1,5 +1,5 @@
 -- inner: starts while they are raised behind a task, the root, that starts later than before or has new steps behind it.
-use Rattle.std.specs.Prelude.{◌≡◌, ◌≢◌, ℕ, ◌+◌, ◌-◌, ◌*◌, ◌^◌, ◌<◌, ◌≤◌, ◌⊎◌, Bool, true, false, cond, nat_lt, ◌==◌, List, [], ◌∷◌, filter, length, Option, None, Some, slice_index_or, sum_by}
+use Rattle.std.specs.Prelude.{◌≡◌, ◌≢◌, ℕ, ◌+◌, ◌-◌, ◌*◌, ◌^◌, ◌<◌, ◌≤◌, ◌⊎◌, Bool, true, false, cond, nat_lt, ◌==◌, List, [], ◌∷◌, filter, length, Some, slice_index_or, sum_by}
 use Rattle.std.specs.List.{range_with_len}
 use Rattle.qc_arena.specs.declared.edge.Edge.{Edge}
 use Rattle.qc_model.specs.declared.limits.TheConstants.{MOST_START}
@@ -66,10 +66,6 @@ pub record IsRooting (net : NodeArcs) (root : ℕ) (olds cells : List ℕ) : Typ
 abbrev pub is_pending : List Bool → ℕ → Bool
 is_pending pending j = slice_index_or pending j false
 
--- the tasks that are still to be looked at come from one number on, before another
-abbrev pub AreWithin : List Bool → ℕ → ℕ → Type 0
-AreWithin pending first behind = (j : ℕ) → is_pending pending j ≡ true → (first ≤ j) × (j < behind)
-
 -- the arcs are met, but for those from tasks that are still to be looked at and those to come from this one
 pub record IsSpreading
     (net : NodeArcs) (root : ℕ) (olds cells : List ℕ) (pending : List Bool) (rest : List Edge) : Type 0 where
@@ -105,11 +101,6 @@ from_task task arcs = filter (λ arc. arc.from == task) arcs
 
 abbrev pub into_task : ℕ → List Edge → List Edge
 into_task task arcs = filter (λ arc. arc.to == task) arcs
-
--- of the tasks that are still to be looked at one, if there is any
-abbrev pub IsPick : List Bool → ℕ → Option ℕ → Type 0
-IsPick pending count None = (j : ℕ) → j < count → is_pending pending j ≡ false
-IsPick pending count (Some j) = (j < length pending) × (is_pending pending j ≡ true)
 
 -- whether a raise came back to the root, or all arcs from the task are met and less is left to be done
 abbrev pub IsLooked : NodeArcs → ℕ → List ℕ → List ℕ → List Bool → ℕ → Bool → Type 0

@@ -1,17 +1,18 @@
 //! The arcs that a decision adds: one for each number that it makes greater or new.
 
-ghost use Rattle.std.specs.Prelude.{◌≡◌, ◌+◌, ◌-◌, ◌*◌, ◌<◌, ◌≤◌, ◌∷◌, [], IfOk, None, length, reverse};
+ghost use Rattle.std.specs.Prelude.{◌≡◌, ◌+◌, ◌-◌, ◌*◌, ◌<◌, ◌≤◌, ◌∷◌, [], IfOk, IfSome, IsTrue, None, Some, length, reverse};
 ghost use Rattle.qc_dist.specs.Node.{IsOpen};
 ghost use Rattle.qc_model.specs.declared.decision.Decision.TheVariants.{Assign, Order};
-ghost use Rattle.qc_model.specs.declared.limits.TheConstants.{MOST_TASKS};
+ghost use Rattle.qc_model.specs.declared.turn.Turn.TheVariants.{OneWay};
+ghost use Rattle.qc_model.specs.declared.limits.TheConstants.{MOST_DISTANCE, MOST_TASKS, MOST_WORK};
 ghost use Rattle.qc_model.specs.Instance.{Valid};
-ghost use Rattle.qc_model.specs.Nodes.{Fits, forced};
+ghost use Rattle.qc_model.specs.Nodes.{Fits, assigned, forced, upward_ticks};
 ghost use Rattle.qc_starts.specs.Arcs.{AreArcs, AreLow, AreOpening, IsOver, IsRoomy, added, with_added};
 
 use qc_arena::ArcArena;
-use qc_dist::Decisions;
-use qc_model::Decision;
-use qc_num::OutOfMemory;
+use qc_dist::{Decisions, distance};
+use qc_model::{Decision, Instance, Turn};
+use qc_num::{OutOfMemory, Tick};
 use std::alloc::Global;
 
 /// Adds an arc for what is forced from one task to another.
@@ -33,8 +34,56 @@ fn push_forced(decisions: &Decisions, from: u16, to: u16, arena: &mut ArcArena)
     }
 }
 
+/// Whether two tasks ask for nothing from the first to the second where their cranes go one way: the second lies no
+/// further along for the one crane, or its crane is the higher, or they are clear of each other.
+fn are_free(inst: &Instance, i: u16, v: u16, j: u16, w: u16) -> bool
+    requires first_task { i < length inst.now.tasks }
+    requires first_crane { v < length inst.now.cranes }
+    requires second_task { j < length inst.now.tasks }
+    requires second_crane { w < length inst.now.cranes }
+    ensures { IsTrue result → upward_ticks inst.now i v j w ≡ None }
+{
+    if v == w {
+        return inst.task(j).bay <= inst.task(i).bay;
+    }
+    v < w || distance(inst, i, v, j, w) == 0
+}
+
+/// Whether the cranes of two tasks ask for nothing from the first to the second, as can be told at once.
+fn ask_nothing(decisions: &Decisions, i: u16, v: u16, j: u16, w: u16) -> bool
+    requires first_task { i < length decisions.now.inst.tasks }
+    requires first_crane { v < length decisions.now.inst.cranes }
+    requires second_task { j < length decisions.now.inst.tasks }
+    requires second_crane { w < length decisions.now.inst.cranes }
+    ensures { IsTrue result → (decisions.now.inst.turn ≡ OneWay) × (upward_ticks decisions.now.inst i v j w ≡ None) }
+{
+    match decisions.instance().turn() {
+        Turn::OneWay => are_free(decisions.instance(), i, v, j, w),
+        Turn::Free => false,
+    }
+}
+
+/// What the cranes of two tasks add to what is forced from one to the other.
+fn added(decisions: &Decisions, i: u16, v: u16, j: u16, w: u16) -> Option<Tick>
+    requires first { i < length decisions.now.inst.tasks }
+    requires second { j < length decisions.now.inst.tasks }
+    requires first_crane { v < length decisions.now.inst.cranes }
+    requires second_crane { w < length decisions.now.inst.cranes }
+    requires of_first { assigned decisions.now.decisions i ≡ Some v }
+    requires of_second { assigned decisions.now.decisions j ≡ Some w }
+    ensures ticks { result ≡ added decisions.now.inst decisions.now.decisions i j }
+    ensures bound { IfSome result (λ ticks. ticks ≤ MOST_WORK + MOST_DISTANCE) }
+{
+    if ask_nothing(decisions, i, v, j, w) {
+        return None;
+    }
+    decisions.forced_by_cranes(i, j)
+}
+
 /// Adds an arc for what the cranes of two tasks ask for, one way or the other, where the second has one.
-fn push_between(decisions: &Decisions, one: u16, other: u16, arena: &mut ArcArena)
+fn push_between(decisions: &Decisions, one: u16, crane: u16, other: u16, arena: &mut ArcArena)
+    requires crane { assigned decisions.now.decisions one ≡ Some crane }
+    requires range { crane < length decisions.now.inst.cranes }
     requires one { one < length decisions.now.inst.tasks }
     requires other { other < length decisions.now.inst.tasks }
     requires nodes { arena.old.nodes ≡ length decisions.now.inst.tasks }
@@ -50,12 +99,12 @@ fn push_between(decisions: &Decisions, one: u16, other: u16, arena: &mut ArcAren
     ensures nodes { arena.new.nodes ≡ arena.old.nodes }
     ensures cap { arena.new.cap ≡ arena.old.cap }
 {
-    if decisions.crane_of(other).is_none() {
+    let Some(others) = decisions.crane_of(other) else {
         return;
-    }
-    if let Some(len) = decisions.forced_by_cranes(one, other) {
+    };
+    if let Some(len) = added(decisions, one, crane, other, others) {
         arena.push(one, other, len);
-    } else if let Some(len) = decisions.forced_by_cranes(other, one) {
+    } else if let Some(len) = added(decisions, other, others, one, crane) {
         arena.push(other, one, len);
     }
 }
@@ -78,7 +127,7 @@ fn assign(decisions: &mut Decisions, task: u16, crane: u16, arena: &mut ArcArena
     let count = decisions.instance().task_count();
     decisions.add(Decision::Assign(task, crane));
     for other in 0..count {
-        push_between(decisions, task, other, arena);
+        push_between(decisions, task, crane, other, arena);
     }
 }
 

@@ -28,6 +28,13 @@ fn end_in(network: &Network, values: &Noted, task: u16) -> Tick
     values.start(task) + network.instance().task(task).ticks
 }
 
+/// The greater of two ticks.
+fn greater(one: Tick, other: Tick) -> Tick
+    ensures { result ≡ (if nat_lt one other then other else one) }
+{
+    if one < other { other } else { one }
+}
+
 /// The one that ends last of a task and those before it.
 fn later(last: Last, task: u16, end: Tick) -> Last
     ensures { result ≡ (if nat_lt last.end end
@@ -75,5 +82,9 @@ pub(crate) fn last_end(network: &Network, values: &Noted) -> Tick
         → start_at values.now.cells j ≤ MOST_START }
     ensures { HasLastEnd network.now.inst values.now.cells result }
 {
-    last_of(network, values).end
+    let mut end = 0;
+    for task in 0..network.task_count() {
+        end = greater(end, end_in(network, values, task));
+    }
+    end
 }

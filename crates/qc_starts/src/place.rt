@@ -88,6 +88,7 @@ impl Spread {
         ensures trail { self.new.values.trail ≡ self.old.values.trail }
         ensures noted { self.new.values.noted.items ≡ self.old.values.noted.items }
         ensures olds { self.new.olds.items ≡ self.old.olds.items }
+        ensures queue { self.new.queue ≡ self.old.queue }
     {
         let (start, raiser) = self.soonest(network, task);
         self.values
@@ -104,6 +105,7 @@ impl Spread {
         ensures trail { self.new.values.trail ≡ self.old.values.trail }
         ensures noted { self.new.values.noted.items ≡ self.old.values.noted.items }
         ensures olds { self.new.olds.items ≡ self.old.olds.items }
+        ensures queue { self.new.queue ≡ self.old.queue }
         ensures size { length self.new.pending.items ≡ length self.old.pending.items }
     {
         while let Some(task) = self.ready(network) {

@@ -1,10 +1,11 @@
 //! Starts that are raised behind a task, along the arcs, until none is too low.
 
-ghost use Rattle.std.specs.Prelude.{◌≡◌, ℕ, ◌+◌, ◌*◌, ◌^◌, ◌<◌, ◌≤◌, ◌&&◌, ◌==◌, true, false, [], if◌then◌else◌, IfOk, IfSome, IsTrue, MatchOption, None, Some, length, slice_index_or, slice_set};
+ghost use Rattle.std.specs.Prelude.{◌≡◌, ℕ, ◌+◌, ◌*◌, ◌^◌, ◌<◌, ◌≤◌, ◌⊎◌, ◌&&◌, ◌==◌, true, false, [], if◌then◌else◌, IfOk, MatchOption, Some, length, slice_index_or, slice_set, vec_capacity};
 ghost use Rattle.qc_starts.specs.NodeArcs.{IsSound};
 ghost use Rattle.qc_starts.specs.Noting.{HasNotes, Wrote};
 ghost use Rattle.qc_starts.specs.Opened.{HasBegun, IsOpened};
-ghost use Rattle.qc_starts.specs.Spread.{AreWithin, IsLifted, IsLooked, IsOnly, IsPick, IsRooting, IsSettledTo, IsSpread, IsSpreading, from_task, is_late, left};
+ghost use Rattle.qc_starts.specs.Queue.{IsQueued, IsTaken};
+ghost use Rattle.qc_starts.specs.Spread.{IsLifted, IsLooked, IsOnly, IsRooting, IsSettledTo, IsSpread, IsSpreading, from_task, is_late, left};
 ghost use Rattle.qc_starts.specs.Values.{raised, start_at};
 
 use crate::network::Network;
@@ -23,10 +24,33 @@ pub(crate) struct Spread {
     pub(crate) olds: Vec<Tick>,
     /// Whether the arcs from a task are still to be looked at.
     pub(crate) pending: Vec<bool>,
-    /// None of these tasks comes before this one.
-    pub(crate) first: u16,
-    /// Each comes before this one.
-    pub(crate) behind: u16,
+    /// These tasks, in no order.
+    pub(crate) queue: Vec<u16>,
+}
+
+/// A task that is still to be looked at.
+#[derive(Clone, Copy)]
+struct Next {
+    /// When it started before the newest decision.
+    start: Tick,
+    task: u16,
+    /// Where it stands in the queue.
+    place: usize,
+}
+
+/// Whether a task is looked at ahead of another: it started earlier, or at once and has the lower number.
+fn is_ahead(one: Next, other: Next) -> bool {
+    one.start < other.start || one.start == other.start && one.task < other.task
+}
+
+/// Of two tasks the one that is looked at ahead of the other.
+fn sooner(before: Option<Next>, this: Next) -> Next
+    ensures { (result ≡ this) ⊎ (before ≡ Some result) }
+{
+    match before {
+        Some(other) => { if is_ahead(this, other) { this } else { other } }
+        None => this,
+    }
 }
 
 /// Copies the first values.
@@ -48,8 +72,7 @@ impl Spread {
             values: Noted::open(alloc, 2 * count as u32, decisions)?,
             olds: vec![in alloc; 0u64; count as usize]?,
             pending: vec![in alloc; true; count as usize]?,
-            first: 0,
-            behind: count,
+            queue: Vec::with_capacity(alloc, count as usize)?,
         })
     }
 
@@ -58,16 +81,16 @@ impl Spread {
         requires root { root < length self.old.pending.items }
         requires olds { length self.old.olds.items ≤ length self.old.values.cells }
         requires few { length self.old.olds.items < 2 ^ 16 }
-        requires many { length self.old.pending.items < 2 ^ 16 }
+        requires room { length self.old.pending.items ≤ vec_capacity self.old.queue }
         ensures begun { HasBegun self.old self.new root }
-        ensures within { AreWithin self.new.pending.items self.new.first self.new.behind }
+        ensures queued { IsQueued self.new }
     {
         self.values.begin();
         self.keep_starts();
         self.clear_pending();
+        self.queue.clear();
+        self.queue.push_reserved(root);
         self.pending[root as usize] = true;
-        self.first = root;
-        self.behind = root + 1;
     }
 
     /// Copies the starts.
@@ -76,6 +99,7 @@ impl Spread {
         requires few { length self.old.olds.items < 2 ^ 16 }
         ensures values { self.new.values ≡ self.old.values }
         ensures pending { self.new.pending.items ≡ self.old.pending.items }
+        ensures queue { self.new.queue ≡ self.old.queue }
         ensures size { length self.new.olds.items ≡ length self.old.olds.items }
         ensures olds { (j : ℕ) → j < length self.new.olds.items
             → start_at self.new.olds.items j ≡ start_at self.old.values.cells j }
@@ -87,11 +111,28 @@ impl Spread {
     fn clear_pending(&mut self)
         ensures values { self.new.values ≡ self.old.values }
         ensures olds { self.new.olds.items ≡ self.old.olds.items }
+        ensures queue { self.new.queue ≡ self.old.queue }
         ensures size { length self.new.pending.items ≡ length self.old.pending.items }
         ensures clear { (k : ℕ) → k < length self.new.pending.items
             → slice_index_or self.new.pending.items k true ≡ false }
     {
         clear(&mut self.pending);
+    }
+
+    /// A task is to be looked at.
+    fn put(&mut self, task: u16)
+        requires task { task < length self.old.pending.items }
+        requires queued { IsQueued self.old }
+        ensures values { self.new.values ≡ self.old.values }
+        ensures olds { self.new.olds.items ≡ self.old.olds.items }
+        ensures pending { self.new.pending.items ≡ slice_set self.old.pending.items task true }
+        ensures queued { IsQueued self.new }
+    {
+        if self.pending[task as usize] {
+            return;
+        }
+        self.queue.push_reserved(task);
+        self.pending[task as usize] = true;
     }
 
     /// Raises the second task of an arc if it starts too early; whether this is the root.
@@ -102,6 +143,7 @@ impl Spread {
         requires count { length self.old.values.cells ≡ 2 * length self.old.pending.items }
         requires fits { start_at self.old.values.cells arc.from + arc.len < 2 ^ 64 }
         requires notes { HasNotes self.old.values }
+        requires queued { IsQueued self.old }
         ensures cells { self.new.values.cells ≡ (if is_late self.old.values.cells arc
             then raised (length self.old.pending.items) self.old.values.cells arc.to
             (start_at self.old.values.cells arc.from + arc.len) (Some arc.from)
@@ -110,8 +152,7 @@ impl Spread {
             then slice_set self.old.pending.items arc.to true
             else self.old.pending.items) }
         ensures olds { self.new.olds.items ≡ self.old.olds.items }
-        ensures within { AreWithin self.old.pending.items self.old.first self.old.behind
-            → AreWithin self.new.pending.items self.new.first self.new.behind }
+        ensures queued { IsQueued self.new }
         ensures wrote { Wrote self.old.values self.new.values steps.old steps.new }
         ensures back { result ≡ (is_late self.old.values.cells arc && (arc.to == root)) }
     {
@@ -122,38 +163,38 @@ impl Spread {
         let count = self.pending.len() as u16;
         self.values
             .raise(count, arc.to, start, Some(arc.from), steps);
-        self.pending[arc.to as usize] = true;
-        self.first = self.first.min(arc.to);
-        self.behind = self.behind.max(arc.to + 1);
+        self.put(arc.to);
         arc.to == root
     }
 
-    /// Whether a task started earlier than another, if there is another.
-    fn is_earlier(&self, first: Option<u16>, task: u16) -> bool
-        requires task { task < length self.now.olds.items }
-        requires first { IfSome first (λ other. other < length self.now.olds.items) }
-        ensures { first ≡ None → IsTrue result }
-    {
-        match first {
-            None => true,
-            Some(other) => self.olds[task as usize] < self.olds[other as usize],
-        }
-    }
-
-    /// Of the tasks that are still to be looked at the one that started earliest.
-    fn earliest(&self) -> Option<u16>
-        requires size { length self.now.olds.items ≡ length self.now.pending.items }
-        requires few { length self.now.pending.items < 2 ^ 16 }
-        requires within { AreWithin self.now.pending.items self.now.first self.now.behind }
-        ensures { IsPick self.now.pending.items (length self.now.pending.items) result }
+    /// Of the tasks that are still to be looked at the one that started earliest, and of those that started
+    /// at once the lowest.
+    fn earliest(&self) -> Option<Next>
+        ensures { MatchOption result
+            (self.now.queue.items ≡ [])
+            (λ next. next.place < length self.now.queue.items) }
     {
         let mut first = None;
-        for task in self.first..self.behind.min(self.pending.len() as u16) {
-            if self.pending[task as usize] && self.is_earlier(first, task) {
-                first = Some(task);
-            }
+        for place in 0..self.queue.len() {
+            let task = self.queue[place];
+            let start = self.olds.get(task as usize).copied().unwrap_or(0);
+            first = Some(sooner(first, Next { start, task, place }));
         }
         first
+    }
+
+    /// Takes that task out, if there is one.
+    fn take_earliest(&mut self) -> Option<u16>
+        requires { IsQueued self.old }
+        ensures values { self.new.values ≡ self.old.values }
+        ensures olds { self.new.olds.items ≡ self.old.olds.items }
+        ensures queued { IsQueued self.new }
+        ensures taken { IsTaken self.old.pending.items self.new.pending.items result }
+    {
+        let next = self.earliest()?;
+        let task = self.queue.swap_remove(next.place);
+        self.pending[task as usize] = false;
+        Some(task)
     }
 
     /// Looks at the arcs from a task, and raises what starts too early; whether it came back to the
@@ -170,8 +211,8 @@ impl Spread {
             self.old.pending.items (from_task task network.now.arcs) }
         requires lifted { IsLifted root self.old.olds.items self.old.values.cells task }
         requires notes { HasNotes self.old.values }
-        requires within { AreWithin self.old.pending.items self.old.first self.old.behind }
-        ensures within { AreWithin self.new.pending.items self.new.first self.new.behind }
+        requires queued { IsQueued self.old }
+        ensures queued { IsQueued self.new }
         ensures size { length self.new.pending.items ≡ length self.old.pending.items }
         ensures olds { self.new.olds.items ≡ self.old.olds.items }
         ensures wrote { Wrote self.old.values self.new.values steps.old steps.new }
@@ -199,14 +240,14 @@ impl Spread {
             self.old.pending.items [] }
         requires size { length self.old.olds.items ≡ length network.now.inst.tasks }
         requires notes { HasNotes self.old.values }
-        requires within { AreWithin self.old.pending.items self.old.first self.old.behind }
+        requires queued { IsQueued self.old }
+        ensures queued { IsQueued self.new }
         ensures size { length self.new.pending.items ≡ length self.old.pending.items }
         ensures olds { self.new.olds.items ≡ self.old.olds.items }
         ensures wrote { Wrote self.old.values self.new.values steps.old steps.new }
         ensures spread { IsSpread network.now root self.new.olds.items self.new.values.cells result }
     {
-        while let Some(task) = self.earliest() {
-            self.pending[task as usize] = false;
+        while let Some(task) = self.take_earliest() {
             if self.raise_from(network, root, task, steps) {
                 return true;
             }
@@ -222,8 +263,7 @@ impl Spread {
         requires notes { HasNotes self.old.values }
         ensures olds { self.new.olds.items ≡ self.old.olds.items }
         ensures pending { self.new.pending.items ≡ self.old.pending.items }
-        ensures first { self.new.first ≡ self.old.first }
-        ensures behind { self.new.behind ≡ self.old.behind }
+        ensures queued { IsQueued self.old → IsQueued self.new }
         ensures wrote { Wrote self.old.values self.new.values steps.old steps.new }
         ensures spreading { IsSpreading network.now root self.new.olds.items self.new.values.cells
             self.new.pending.items [] }
@@ -247,7 +287,8 @@ impl Spread {
         requires size { length self.old.olds.items ≡ length network.now.inst.tasks }
         requires only { IsOnly self.old.pending.items (length network.now.inst.tasks) root }
         requires notes { HasNotes self.old.values }
-        requires within { AreWithin self.old.pending.items self.old.first self.old.behind }
+        requires queued { IsQueued self.old }
+        ensures queued { IsQueued self.new }
         ensures size { length self.new.pending.items ≡ length self.old.pending.items }
         ensures olds { self.new.olds.items ≡ self.old.olds.items }
         ensures wrote { Wrote self.old.values self.new.values steps.old steps.new }

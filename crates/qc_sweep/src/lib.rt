@@ -8,7 +8,6 @@ mod first;
 mod grain;
 mod hunt;
 mod layer;
-mod moves;
 mod node;
 mod schedule;
 mod split;

@@ -7,14 +7,13 @@ ghost use Rattle.qc_model.specs.Nodes.{HasStarts, IsSettled, assigned};
 ghost use Rattle.qc_model.specs.Seen.{seen};
 ghost use Rattle.qc_sweep.specs.Plans.{IsFirstPlan, better_of};
 
-use crate::moves::{go, go_back};
 use qc_dist::in_reach;
 use qc_model::{
     Decision, Direction, Instance, MOST_START, Pair, Schedule, Slot, direction_of, ends,
     seen_number,
 };
 use qc_num::OutOfMemory;
-use qc_starts::Starts;
+use qc_starts::{Starts, go, go_back};
 use std::alloc::Global;
 
 /// Puts a task on its crane. Whether that can be, and some starts are left.

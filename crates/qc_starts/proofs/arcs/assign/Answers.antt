@@ -1,7 +1,9 @@
 use Rattle.std.proofs.Common.{ℕ, ◌≤◌, ◌+◌, List, [], length, reverse, refl, ap, sym, subst, subst₂, ◌∙◌, arith}
 use Rattle.qc_arena.specs.declared.edge.Edge.{Edge}
 use Rattle.qc_dist.specs.Node.{Node}
+use Rattle.qc_dist.proofs.Assigned.{assigned_here}
 use Rattle.qc_model.specs.Instance.{InstanceView}
+use Rattle.qc_model.specs.Nodes.{assigned}
 use Rattle.qc_starts.specs.Arcs.{AreArcs, IsOver, added, with_added}
 use Rattle.qc_starts.proofs.ArcLemmas.{IsAssigning, assign_after, assign_begins, assign_ends, assign_room, over_added, over_over}
 use Rattle.qc_starts.proofs.arcs.assign.Goals as goal
@@ -14,6 +16,11 @@ loop-other-init c = record {
   low = c.requires.low;
   over = ([], refl);
 }
+
+pub push_between-requires-clause-crane : goal.push_between-requires-clause-crane
+push_between-requires-clause-crane c =
+    ap (λ (n : Node). assigned n.decisions c.args.task) c.add.ensures.added
+    ∙ assigned_here c.args.decisions.now.decisions c.args.task c.args.crane
 
 pub push_between-requires-clause-room : goal.push_between-requires-clause-room
 push_between-requires-clause-room c =

@@ -1,25 +1,10 @@
-use Rattle.std.proofs.Common.{ℕ, ◌+◌, ◌<◌, ◌≤◌, inl, inr, List, Option, None, Some, refl, ap, sym, subst, ◌∙◌, arith, cond, nat_lt}
-use Rattle.std.proofs.lemmas.Bool.{cases_eq, cond_both, ltb-false, ltb-true}
+use Rattle.std.proofs.Common.{ℕ, ◌+◌, ◌≤◌, List, Some, refl, ap, sym, subst, ◌∙◌, arith, cond, nat_lt}
+use Rattle.std.proofs.lemmas.Bool.{cond_both, ltb-false, ltb-true}
 use Rattle.qc_model.specs.Instance.{InstanceView}
 use Rattle.qc_starts.specs.declared.latest.Last.{Last}
-use Rattle.qc_starts.specs.Found.{IsLast, IsLatest, end_by, end_in}
+use Rattle.qc_starts.specs.Found.{IsLast, end_in}
+use Rattle.qc_starts.proofs.LatestLemmas.{still, this_one}
 use Rattle.qc_starts.proofs.latest.last_of.Goals as goal
-
-before_it : (inst : InstanceView) (cells : List ℕ) (t : ℕ) (last : Option ℕ) → IsLatest inst cells t last
-    → (k : ℕ) → k < t → end_in inst cells k ≤ end_by inst cells last
-before_it inst cells t None is k low = absurd (omega arith)
-before_it inst cells t (Some j) is k low = is.1 k low
-
-still : (inst : InstanceView) (cells : List ℕ) (t : ℕ) (last : Option ℕ) → IsLatest inst cells t last
-    → 1 ≤ end_in inst cells t → end_in inst cells t ≤ end_by inst cells last → IsLatest inst cells (t + 1) last
-still inst cells t None is some early = absurd (omega arith)
-still inst cells t (Some j) is some early = (
-  omega (arith, is.0),
-  λ k low. elim (cases_eq k t) [
-    | inl same ↦ subst (λ (i : ℕ). end_in inst cells i ≤ end_in inst cells j) (sym same) early
-    | inr other ↦ is.1 k (omega arith)
-  ],
-)
 
 one_more : (inst : InstanceView) (cells : List ℕ) (t : ℕ) (last : Last) → IsLast inst cells t last
     → 1 ≤ end_in inst cells t
@@ -29,16 +14,7 @@ one_more inst cells t last is some =
     cond_both (nat_lt last.end (end_in inst cells t)) _ _ (IsLast inst cells (t + 1))
     (λ later.
     let less = ltb-true last.end (end_in inst cells t) later in
-    record {
-      latest = (
-        omega arith,
-        λ k low. elim (cases_eq k t) [
-          | inl same ↦ subst (λ (i : ℕ). end_in inst cells i ≤ end_in inst cells t) (sym same) (omega arith)
-          | inr other ↦ omega (arith, before_it inst cells t last.task is.latest k (omega arith), is.end, less)
-        ],
-      );
-      end = refl;
-    })
+    record { latest = this_one inst cells t last.task is.latest (omega (arith, is.end, less)); end = refl })
     (λ early. record {
       latest = still inst cells t last.task is.latest some
           (omega (arith, ltb-false last.end (end_in inst cells t) early, is.end));

@@ -1,12 +1,18 @@
-use Rattle.std.proofs.Common.{ℕ, inl, inr, Bool, true, false, List, length, ap, sym, ◌∙◌, arith, slice_index_or}
-use Rattle.std.proofs.lemmas.Bool.{cases_eq, false≢true}
+use Rattle.std.proofs.Common.{ℕ, [], ◌∷◌, ◌++◌, Bool, true, false, List, length, ap, sym, subst, ◌∙◌, arith, slice_index_or, slice_set, vec_capacity}
 use Rattle.std.proofs.lemmas.List.{get_or-set_other, get_or-set_same}
 use Rattle.std.proofs.Math.ListN.{length-set}
 use Rattle.qc_starts.specs.declared.noted.Noted.{Noted}
 use Rattle.qc_starts.specs.Noting.{marks}
+use Rattle.qc_starts.specs.Queue.{AreListed}
 use Rattle.qc_starts.specs.Values.{start_at}
 use Rattle.qc_starts.proofs.NotingLemmas.{all_clear, marks_none}
+use Rattle.qc_starts.proofs.QueueLemmas.{listed_more, listed_none}
 use Rattle.qc_starts.proofs.spread.Spread.begin.Goals as goal
+
+pub push_reserved-requires : goal.push_reserved-requires
+push_reserved-requires c =
+    let same = c.clear_pending.ensures.queue ∙ c.keep_starts.ensures.queue in
+    omega (arith, c.clear.ensures.len, c.clear.ensures.capacity, ap vec_capacity same, c.requires.room, c.requires.root)
 
 pub returns : goal.returns
 returns c =
@@ -33,9 +39,19 @@ returns c =
           others = λ j other. get_or-set_other cleared c.args.root j true false other ∙ all_clear cleared c.clear_pending.ensures.clear j;
         };
       };
-      within = λ j t. elim (cases_eq j c.args.root) [
-        | inl same ↦ (omega (arith, same), omega (arith, same))
-        | inr other ↦
-            absurd (false≢true (sym (get_or-set_other cleared c.args.root j true false other ∙ all_clear cleared c.clear_pending.ensures.clear j) ∙ t))
-      ];
+      queued = record {
+        listed = subst (AreListed (slice_set cleared c.args.root true))
+            (sym (c.push_reserved.ensures.items ∙ ap (λ (xs : List ℕ). xs ++ c.args.root ∷ []) c.clear.ensures.items))
+            (listed_more cleared [] (listed_none cleared c.clear_pending.ensures.clear) c.args.root
+            (omega (arith, size, c.requires.root)) (all_clear cleared c.clear_pending.ensures.clear c.args.root));
+        room = omega (
+          arith,
+          length-set cleared c.args.root true,
+          size,
+          c.requires.room,
+          c.push_reserved.ensures.capacity,
+          c.clear.ensures.capacity,
+          ap vec_capacity (c.clear_pending.ensures.queue ∙ c.keep_starts.ensures.queue),
+        );
+      };
     }

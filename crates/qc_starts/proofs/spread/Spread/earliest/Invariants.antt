@@ -1,5 +1,5 @@
-use Rattle.qc_starts.specs.Spread.{IsPick}
+use Rattle.std.proofs.Common.{◌≡◌, ◌<◌, MatchOption}
 use Rattle.qc_starts.proofs.spread.Spread.earliest.Given as goal
 
-abbrev pub invariant-loop-task : goal.invariant-loop-task
-invariant-loop-task l = IsPick l.self.pending.items l.task l.first
+abbrev pub invariant-loop-place : goal.invariant-loop-place
+invariant-loop-place l = MatchOption l.first (l.place ≡ 0) (λ next. next.place < l.place)

@@ -9,6 +9,7 @@ invariant-loop-task g l = record {
   trail : l.self.values.trail ≡ l.fn.self.values.trail;
   noted : l.self.values.noted.items ≡ l.fn.self.values.noted.items;
   olds : l.self.olds.items ≡ l.fn.self.olds.items;
+  queue : l.self.queue ≡ l.fn.self.queue;
 }
 
 abbrev pub decreases-loop-task : goal.decreases-loop-task

@@ -1,32 +1,47 @@
-use Rattle.std.proofs.Common.{ℕ, [], ◌<◌, false, List, length, ap, sym, subst, ◌∙◌, arith, slice_set}
+use Rattle.std.proofs.Common.{◌≡◌, ℕ, [], ◌<◌, false, Bool, List, length, ap, ap₂, sym, subst, subst₂, ◌∙◌, arith, slice_set}
 use Rattle.std.proofs.Math.ListN.{length-set}
-use Rattle.qc_starts.specs.Spread.{IsLooked, IsPick, IsSpreading, from_task, left}
+use Rattle.qc_starts.specs.declared.noted.Noted.{Noted}
+use Rattle.qc_starts.specs.Noting.{Wrote}
+use Rattle.qc_starts.specs.Queue.{IsTaken}
+use Rattle.qc_starts.specs.Spread.{IsLifted, IsLooked, IsSpreading, from_task, left}
+use Rattle.qc_starts.specs.Values.{AreRest}
 use Rattle.qc_starts.proofs.NotingLemmas.{wrote_then}
-use Rattle.qc_starts.proofs.SpreadLemmas.{look_begins, look_from, look_less, spread_ends, within_less}
+use Rattle.qc_starts.proofs.SpreadLemmas.{look_begins, look_from, look_less, spread_ends}
 use Rattle.qc_starts.proofs.spread.Spread.raise_behind.Goals as goal
 use Rattle.qc_starts.proofs.spread.Spread.raise_behind.Goals.{Else-raise_from}
 
-pub raise_from-requires-clause-spreading : goal.raise_from-requires-clause-spreading
-raise_from-requires-clause-spreading g c =
-    let net = c.args.network.now in
-    let cells = c.loop-task.self.values.cells in
-    let pending = c.loop-task.self.pending.items in
-    let task = c.in-Some.task in
-    subst (λ (xs : List ℕ). IsSpreading net c.args.root xs cells (slice_set pending task false) (from_task task net.arcs))
-    (sym c.loop-task.invariant.olds)
-    (look_begins net c.args.root c.args.self.now.olds.items cells pending task
-    (omega (arith, c.in-Some.ensures.0, c.loop-task.invariant.spreading.size)) c.in-Some.ensures.1
-    c.loop-task.invariant.spreading (from_task task net.arcs) (look_from task net.arcs))
+wrote_by : (a b c : Noted) (x y : ℕ) → c ≡ b → Wrote a b x y → Wrote a c x y
+wrote_by a b c x y same wrote = subst (λ (v : Noted). Wrote a v x y) (sym same) wrote
 
-pub raise_from-requires-clause-within : goal.raise_from-requires-clause-within
-raise_from-requires-clause-within g c =
-    within_less c.loop-task.self.pending.items c.loop-task.self.first c.loop-task.self.behind c.loop-task.invariant.within
-    c.in-Some.task c.in-Some.ensures.0
+pub raise_from-requires : goal.raise_from-requires
+raise_from-requires g c =
+    let net = c.args.network.now in
+    let root = c.args.root in
+    let task = c.in-Some.task in
+    let is = c.loop-task.invariant.spreading in
+    let taken = c.in-Some.ensures.taken in
+    let low : task < length net.inst.tasks = omega (arith, taken.0, is.size) in
+    let cells = ap (λ (v : Noted). v.cells) c.in-Some.ensures.values in
+    let olds = c.in-Some.ensures.olds ∙ c.loop-task.invariant.olds in
+    let mid = c.take_earliest.new.self in
+    let looking = look_begins net root c.args.self.now.olds.items c.loop-task.self.values.cells c.loop-task.self.pending.items
+    task low taken.1 is (from_task task net.arcs) (look_from task net.arcs) in
+    let there = subst₂ (λ (xs : List ℕ) (marks : List Bool).
+    IsSpreading net root c.args.self.now.olds.items xs marks (from_task task net.arcs)) (sym cells) (sym taken.2) looking in
+    record {
+      task = low;
+      spreading = subst (λ (xs : List ℕ). IsSpreading net root xs mid.values.cells mid.pending.items (from_task task net.arcs))
+          (sym olds) there;
+      lifted = subst₂ (λ (xs ys : List ℕ). IsLifted root xs ys task) (sym olds) (sym cells) (is.pended task taken.1);
+      notes = (wrote_by _ _ _ _ _ c.in-Some.ensures.values c.loop-task.invariant.wrote).notes;
+      queued = c.in-Some.ensures.queued;
+    }
 
 pub returns-then-raise_from-clause-wrote : goal.returns-then-raise_from-clause-wrote
 returns-then-raise_from-clause-wrote g c =
-    wrote_then c.args.self.now.values c.loop-task.self.values c.raise_from.new.self.values
-    c.args.steps.now c.loop-task.steps c.raise_from.new.steps c.loop-task.invariant.wrote c.raise_from.ensures.wrote
+    wrote_then c.args.self.now.values c.take_earliest.new.self.values c.raise_from.new.self.values
+    c.args.steps.now c.loop-task.steps c.raise_from.new.steps
+    (wrote_by _ _ _ _ _ c.in-Some.ensures.values c.loop-task.invariant.wrote) c.raise_from.ensures.wrote
 
 -- the arcs are met, and less is left
 looked : (g : _) (c : Else-raise_from g)
@@ -43,18 +58,21 @@ looked g c =
     let olds = c.args.self.now.olds.items in
     let cells = c.raise_from.new.self.values.cells in
     let pending = c.raise_from.new.self.pending.items in
-    let olds_are = c.raise_from.ensures.olds ∙ c.loop-task.invariant.olds in
-    let mid = slice_set c.loop-task.self.pending.items c.in-Some.task false in
+    let taken = c.in-Some.ensures.taken in
+    let mid = c.take_earliest.new.self in
+    let mid_olds = c.in-Some.ensures.olds ∙ c.loop-task.invariant.olds in
+    let olds_are = c.raise_from.ensures.olds ∙ mid_olds in
     let less = look_less net root olds c.loop-task.self.values.cells c.loop-task.self.pending.items
-    c.in-Some.task (omega (arith, c.in-Some.ensures.0, c.loop-task.invariant.spreading.size)) c.in-Some.ensures.1
-    c.loop-task.invariant.spreading in
+    c.in-Some.task (omega (arith, taken.0, c.loop-task.invariant.spreading.size)) taken.1 c.loop-task.invariant.spreading in
     let looked = subst (IsLooked net root c.raise_from.new.self.olds.items cells pending
-    (left n root c.loop-task.self.olds.items c.loop-task.self.values.cells mid))
+    (left n root mid.olds.items mid.values.cells mid.pending.items))
     c.if-raise_from.false c.raise_from.ensures.looked in
     let olds_then = ap (λ (xs : List ℕ). left n root xs cells pending) olds_are in
-    let olds_mid = ap (λ (xs : List ℕ). left n root xs c.loop-task.self.values.cells mid) c.loop-task.invariant.olds in (
+    let mid_is = ap (λ (xs : List ℕ). left n root xs mid.values.cells mid.pending.items) mid_olds
+    ∙ ap₂ (λ (xs : List ℕ) (marks : List Bool). left n root olds xs marks)
+    (ap (λ (v : Noted). v.cells) c.in-Some.ensures.values) taken.2 in (
       subst (λ (xs : List ℕ). IsSpreading net root xs cells pending []) olds_are looked.0,
-      omega (arith, less, looked.1, olds_then, olds_mid),
+      omega (arith, less, looked.1, olds_then, mid_is),
     )
 
 pub loop-task-smaller : goal.loop-task-smaller
@@ -63,17 +81,34 @@ loop-task-smaller g c = (looked g (goal.at.loop-task-smaller g c).Else-raise_fro
 pub loop-task-preserved : goal.loop-task-preserved
 loop-task-preserved g c = record {
   spreading = (looked g (goal.at.loop-task-preserved g c).Else-raise_from).0;
-  size = c.raise_from.ensures.size
+  size = c.raise_from.ensures.size ∙ ap (length {A = Bool}) c.in-Some.ensures.taken.2
       ∙ length-set c.loop-task.self.pending.items c.in-Some.task false ∙ c.loop-task.invariant.size;
-  olds = c.raise_from.ensures.olds ∙ c.loop-task.invariant.olds;
-  within = c.raise_from.ensures.within;
-  wrote = wrote_then c.args.self.now.values c.loop-task.self.values c.raise_from.new.self.values
-      c.args.steps.now c.loop-task.steps c.raise_from.new.steps c.loop-task.invariant.wrote c.raise_from.ensures.wrote;
+  olds = c.raise_from.ensures.olds ∙ c.in-Some.ensures.olds ∙ c.loop-task.invariant.olds;
+  queued = c.raise_from.ensures.queued;
+  wrote = wrote_then c.args.self.now.values c.take_earliest.new.self.values c.raise_from.new.self.values
+      c.args.steps.now c.loop-task.steps c.raise_from.new.steps
+      (wrote_by _ _ _ _ _ c.in-Some.ensures.values c.loop-task.invariant.wrote) c.raise_from.ensures.wrote;
 }
+
+pub returns-then-raise_from-clause-size : goal.returns-then-raise_from-clause-size
+returns-then-raise_from-clause-size g c =
+    c.raise_from.ensures.size ∙ ap (length {A = Bool}) c.in-Some.ensures.taken.2
+    ∙ length-set c.loop-task.self.pending.items c.in-Some.task false ∙ c.loop-task.invariant.size
+
+pub returns-clause-size : goal.returns-clause-size
+returns-clause-size g c =
+    let none = subst (IsTaken c.loop-task.self.pending.items c.take_earliest.new.self.pending.items) c.in_default.is
+    c.take_earliest.ensures.taken in
+    ap (length {A = Bool}) none.0 ∙ c.loop-task.invariant.size
+
+pub returns-clause-wrote : goal.returns-clause-wrote
+returns-clause-wrote g c = wrote_by _ _ _ _ _ c.take_earliest.ensures.values c.loop-task.invariant.wrote
 
 pub returns-clause-spread : goal.returns-clause-spread
 returns-clause-spread g c =
-    spread_ends c.args.network.now c.args.root c.args.self.now.olds.items c.loop-task.self.values.cells
-    c.loop-task.self.pending.items c.requires.sound
-    (subst (IsPick c.loop-task.self.pending.items (length c.loop-task.self.pending.items)) c.in_default.is c.earliest.ensures)
-    c.loop-task.invariant.spreading
+    let net = c.args.network.now in
+    let none = subst (IsTaken c.loop-task.self.pending.items c.take_earliest.new.self.pending.items) c.in_default.is
+    c.take_earliest.ensures.taken in
+    subst (AreRest net.inst net.decisions) (sym (ap (λ (v : Noted). v.cells) c.take_earliest.ensures.values))
+    (spread_ends net c.args.root c.args.self.now.olds.items c.loop-task.self.values.cells
+    c.loop-task.self.pending.items c.requires.sound (λ j _. none.1 j) c.loop-task.invariant.spreading)

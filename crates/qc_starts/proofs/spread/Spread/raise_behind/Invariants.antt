@@ -1,6 +1,7 @@
 use Rattle.std.proofs.Common.{◌≡◌, [], length}
 use Rattle.qc_starts.specs.Noting.{Wrote}
-use Rattle.qc_starts.specs.Spread.{AreWithin, IsSpreading, left}
+use Rattle.qc_starts.specs.Queue.{IsQueued}
+use Rattle.qc_starts.specs.Spread.{IsSpreading, left}
 use Rattle.qc_starts.proofs.spread.Spread.raise_behind.Given as goal
 
 abbrev pub invariant-loop-task : goal.invariant-loop-task
@@ -8,7 +9,7 @@ invariant-loop-task g l = record {
   spreading : IsSpreading l.network l.root l.fn.self.olds.items l.self.values.cells l.self.pending.items [];
   size : length l.self.pending.items ≡ length l.fn.self.pending.items;
   olds : l.self.olds.items ≡ l.fn.self.olds.items;
-  within : AreWithin l.self.pending.items l.self.first l.self.behind;
+  queued : IsQueued l.self;
   wrote : Wrote l.fn.self.values l.self.values l.fn.steps l.steps;
 }
 

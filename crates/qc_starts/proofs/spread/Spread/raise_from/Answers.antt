@@ -19,7 +19,7 @@ loop-arc-init g c =
           c.requires.spreading c.requires.lifted;
       size = refl;
       olds = refl;
-      within = c.requires.within;
+      queued = c.requires.queued;
       wrote = wrote_none c.args.self.now.values c.args.steps.now c.requires.notes;
     }
 
@@ -53,6 +53,7 @@ raise_by-requires g c =
       count = omega (arith, is.spreading.size, is.spreading.raising.count);
       fits = omega (arith, fits);
       notes = c.loop-arc.invariant.wrote.notes;
+      queued = c.loop-arc.invariant.queued;
     }
 
 -- what a raise keeps
@@ -83,7 +84,7 @@ returns-then-raise_by g c =
     record {
       size = are.0;
       olds = are.1;
-      within = c.raise_by.ensures.within c.loop-arc.invariant.within;
+      queued = c.raise_by.ensures.queued;
       wrote = are.2;
       looked = subst (λ (xs : List ℕ). IsBackAtRoot net c.args.root xs c.raise_by.new.self.values.cells) (sym are.1) back;
     }
@@ -103,6 +104,6 @@ loop-arc-preserved g c =
           (sym c.raise_by.ensures.back ∙ c.if-raise_by.false);
       size = are.0;
       olds = are.1;
-      within = c.raise_by.ensures.within c.loop-arc.invariant.within;
+      queued = c.raise_by.ensures.queued;
       wrote = are.2;
     }

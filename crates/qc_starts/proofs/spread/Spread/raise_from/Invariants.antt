@@ -1,6 +1,7 @@
 use Rattle.std.proofs.Common.{◌≡◌, length}
 use Rattle.qc_starts.specs.Noting.{Wrote}
-use Rattle.qc_starts.specs.Spread.{AreWithin, left}
+use Rattle.qc_starts.specs.Queue.{IsQueued}
+use Rattle.qc_starts.specs.Spread.{left}
 use Rattle.qc_starts.proofs.SpreadLemmas.{IsLooking}
 use Rattle.qc_starts.proofs.spread.Spread.raise_from.Given as goal
 
@@ -12,6 +13,6 @@ invariant-loop-arc g l = record {
       (left (length l.network.inst.tasks) l.root l.fn.self.olds.items l.fn.self.values.cells l.fn.self.pending.items);
   size : length l.self.pending.items ≡ length l.fn.self.pending.items;
   olds : l.self.olds.items ≡ l.fn.self.olds.items;
-  within : AreWithin l.self.pending.items l.self.first l.self.behind;
+  queued : IsQueued l.self;
   wrote : Wrote l.fn.self.values l.self.values l.fn.steps l.steps;
 }

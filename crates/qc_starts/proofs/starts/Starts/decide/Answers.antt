@@ -31,6 +31,10 @@ begin-requires-clause-root g c =
     let low = root_task f.network.inst c.self.invariant.sound.valid f.network.decisions c.args.decision open_ in
     omega (arith, low, c.root_of-self-inside.ensures, c.self.invariant.sized.pending)
 
+pub begin-requires-clause-room : goal.begin-requires-clause-room
+begin-requires-clause-room g c =
+    let sized = c.self.invariant.sized in omega (arith, sized.pending, sized.queue)
+
 pub settle-self-inside-requires-clause-rooting : goal.settle-self-inside-requires-clause-rooting
 settle-self-inside-requires-clause-rooting g c =
     let f = c.self.inside in
@@ -78,7 +82,7 @@ all g c =
     c.mark-mark.result c.args.steps.now c.settle-self-inside.new.steps c.add.ensures.inst c.add.ensures.decisions
     c.add.ensures.sound c.begin.ensures.begun c.requires.starts reach
     c.push_reserved.ensures.items c.mark-mark.ensures (omega (arith, c.push_reserved.ensures.capacity))
-    c.settle-self-inside.ensures.wrote c.settle-self-inside.ensures.olds c.settle-self-inside.ensures.size
+    c.settle-self-inside.ensures.wrote c.settle-self-inside.ensures.olds c.settle-self-inside.ensures.size c.settle-self-inside.ensures.queued.room
     c.settle-self-inside.ensures.settled in (
       are.0,
       subst (λ (n : StartsNode). IsNoted n (node_of (after g c)) c.settle-self-inside.result c.args.steps.now

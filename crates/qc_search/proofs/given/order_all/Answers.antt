@@ -2,7 +2,7 @@ use Rattle.std.proofs.Common.{ℕ, inl, inr, IsSome, sym, subst, ◌∙◌, arit
 use Rattle.std.proofs.lemmas.Bool.{cases_eq}
 use Rattle.qc_model.specs.Nodes.{Conflicts, IsSettled}
 use Rattle.qc_search.proofs.OrderLemmas.{conflict_moves, conflicts_ordered}
-use Rattle.qc_search.proofs.given.order_conflicts.Goals as goal
+use Rattle.qc_search.proofs.given.order_all.Goals as goal
 
 pub loop-task-preserved : goal.loop-task-preserved
 loop-task-preserved c =

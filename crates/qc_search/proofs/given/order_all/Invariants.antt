@@ -1,7 +1,7 @@
 use Rattle.std.proofs.Common.{◌≡◌, ℕ, ◌<◌}
 use Rattle.qc_model.specs.Nodes.{Agrees, Conflicts, IsSettled}
 use Rattle.qc_starts.specs.Seen.{AreAssigned}
-use Rattle.qc_search.proofs.given.order_conflicts.Given as goal
+use Rattle.qc_search.proofs.given.order_all.Given as goal
 
 abbrev pub invariant-loop-task : goal.invariant-loop-task
 invariant-loop-task l = record {
