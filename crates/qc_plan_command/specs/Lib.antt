@@ -3,6 +3,7 @@ pub mod Rooms
 pub mod Ahead
 pub mod Found
 pub mod Stored
+pub mod Chosen
 pub mod Reports
 pub mod Lines
 pub mod Account
