@@ -85,6 +85,8 @@ fn plan_instance<S: Shelf>(
 {
     let OwnJob { inst, own } = job;
     if shelf.create(asked.plan).is_err() {
+        drop(ahead);
+        drop(search);
         return PlanAnswer::WriteFault;
     }
     let Ok(done) = run_search(asked, &inst, own.as_ref(), ahead, search, bound, shelf) else {

@@ -1,4 +1,4 @@
-use Rattle.std.proofs.Common.{◌≡◌, ◌∙◌, ap, arith, option_map}
+use Rattle.std.proofs.Common.{◌∙◌, ap, option_map}
 use Rattle.qc_io.specs.Outside.{View}
 use Rattle.qc_plan_command.proofs.SearchLemmas.{chosen_search}
 use Rattle.qc_plan_command.proofs.command.run_search.Goals as goal
