@@ -58,6 +58,27 @@ fn of_shown<'a>(request: &Request<'a>) -> Names<'a> {
     }
 }
 
+/// The names of the files of a command that reads a log or shows a plan; none for one that reads no file.
+fn of_logged<'a>(request: &Request<'a>) -> Names<'a> {
+    match *request {
+        Request::Dispatch {
+            ship,
+            stow,
+            plan,
+            log,
+        } => Names {
+            log: Some(log),
+            ..of_plan(ship, stow, Some(plan))
+        },
+        Request::Watch { ship, log } => Names {
+            ship: Some(ship),
+            log: Some(log),
+            ..no_names()
+        },
+        _ => of_shown(request),
+    }
+}
+
 /// The names of the files of a request.
 pub(crate) fn names_of<'a>(request: &Request<'a>) -> Names<'a> {
     match *request {
@@ -86,21 +107,7 @@ pub(crate) fn names_of<'a>(request: &Request<'a>) -> Names<'a> {
             ..of_plan(ship, stow, plan)
         },
         Request::Tasks { ship, stow } => of_plan(ship, stow, None),
-        Request::Dispatch {
-            ship,
-            stow,
-            plan,
-            log,
-        } => Names {
-            log: Some(log),
-            ..of_plan(ship, stow, Some(plan))
-        },
-        Request::Watch { ship, log } => Names {
-            ship: Some(ship),
-            log: Some(log),
-            ..no_names()
-        },
-        _ => of_shown(request),
+        _ => of_logged(request),
     }
 }
 

@@ -1,5 +1,6 @@
 pub mod AheadLemmas
 pub mod StoreLemmas
+pub mod SearchLemmas
 pub mod FoundLemmas
 pub mod RoomLemmas
 pub mod LineLemmas

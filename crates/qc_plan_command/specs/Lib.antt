@@ -2,6 +2,7 @@ pub mod Asked
 pub mod Rooms
 pub mod Ahead
 pub mod Found
+pub mod Chosen
 pub mod Reports
 pub mod Lines
 pub mod Account

@@ -1,5 +1,6 @@
 //! The command that plans.
-ghost use Rattle.std.specs.Prelude.{◌≡◌, ◌≤◌, IfOk, IfSome, IsSomeAnd, None, Ok, length};
+ghost use Rattle.std.specs.Prelude.{◌≡◌, ◌≤◌, IfOk, IfSome, IsSomeAnd, None, Ok, length, option_map};
+ghost use Rattle.qc_io.specs.Writes.{Counts};
 ghost use Rattle.qc_model.specs.Judge.{IsJudgeable};
 ghost use Rattle.qc_model.specs.Numbers.{most_branchings};
 ghost use Rattle.qc_model.specs.OneWay.{IsAllowed};
@@ -9,6 +10,7 @@ ghost use Rattle.qc_run.specs.Steps.{ComesTo};
 ghost use Rattle.qc_plan_command.specs.Account.{IsPlanRun, IsPlanning};
 ghost use Rattle.qc_plan_command.specs.Ahead.{IsAhead};
 ghost use Rattle.qc_plan_command.specs.Asked.{planning};
+ghost use Rattle.qc_plan_command.specs.Chosen.{IsChosenSearch};
 ghost use Rattle.qc_plan_command.specs.Promises.{PlanPromises};
 ghost use Rattle.qc_plan_command.specs.Reports.{CanBeTold};
 ghost use Rattle.qc_plan_command.specs.Rooms.{IsRoom};
@@ -22,21 +24,50 @@ use crate::outlook::{root_bound, tell};
 use crate::report::report;
 use crate::room::{Room, room_for};
 use qc_io::{Shelf, Sink, WriteFault};
+use qc_model::{Instance, Schedule};
 use qc_num::Tick;
 use qc_run::{Broken, OwnJob, Status, Stop, broken_by, broken_of, read_own_job, report_stop};
-use qc_search::Search;
+use qc_search::{Done, Search};
 use qc_store::{store_best, store_tree};
 use std::alloc::Global;
 
+/// Runs the search and makes the tree's file. Where cranes may follow a schedule of the planner's own, the search begins
+/// with it, or with one that is found ahead of it and that ends earlier. Whoever waits is told what is known, before
+/// anything is found and before the search.
+fn run_search<S: Shelf>(
+    asked: &PlanAsked<'_>,
+    inst: &Instance,
+    own: Option<&Schedule>,
+    ahead: Ahead,
+    mut search: Search,
+    bound: Option<Tick>,
+    shelf: &mut S,
+) -> Result<Done, WriteFault>
+    requires search { search ≡ record { inst = inst.now; nodes = asked.now.nodes } }
+    requires judgeable { IfSome own (λ sched. IsJudgeable inst.now sched.now) }
+    requires allowed { IfSome own (λ sched. IsAllowed inst.now sched.now) }
+    requires ahead { IsAhead inst.now ahead }
+    ensures searched { IsChosenSearch (record { inst = inst.now; nodes = asked.now.nodes })
+        (option_map (λ sched. sched.now) own.entry) asked.now.tree.now
+        (S.Sink.view shelf.old).files (S.Sink.view shelf.new).files result }
+    ensures counts { Counts (S.Sink.view shelf.old).faults (S.Sink.view shelf.new).faults result }
+    ensures read_faults { (S.Sink.view shelf.new).read_faults ≡ (S.Sink.view shelf.old).read_faults }
+{
+    tell(&mut search, own, asked.nodes, bound, shelf);
+    let found = ahead.found(inst, own);
+    let given = earlier(&mut search, inst, own, found.as_ref());
+    tell(&mut search, given, asked.nodes, bound, shelf);
+    store_tree(search, given, asked.tree, shelf)
+}
+
 /// Runs the search, writes its tree and the plan of the best schedule that it knows, and answers what is told of
-/// it. Cranes may follow a schedule of the planner's own; the search begins with it, or with one that is found ahead
-/// of it and that ends earlier. The plan's file is begun first, so that one that can't be made is told before any
-/// search is run; the bound is only told to whoever waits.
+/// it. The plan's file is begun first, so that one that can't be made is told before any search is run; the bound is
+/// only told to whoever waits.
 fn plan_instance<S: Shelf>(
     asked: &PlanAsked<'_>,
     job: OwnJob,
     ahead: Ahead,
-    mut search: Search,
+    search: Search,
     bound: Option<Tick>,
     room: Room,
     shelf: &mut S,
@@ -54,13 +85,11 @@ fn plan_instance<S: Shelf>(
 {
     let OwnJob { inst, own } = job;
     if shelf.create(asked.plan).is_err() {
+        drop(ahead);
+        drop(search);
         return PlanAnswer::WriteFault;
     }
-    let own = own.as_ref();
-    let found = ahead.found(&inst, own);
-    let given = earlier(&mut search, &inst, own, found.as_ref());
-    tell(&mut search, given, asked.nodes, bound, shelf);
-    let Ok(done) = store_tree(search, given, asked.tree, shelf) else {
+    let Ok(done) = run_search(asked, &inst, own.as_ref(), ahead, search, bound, shelf) else {
         return PlanAnswer::WriteFault;
     };
     match store_best(&inst, &done, asked.plan, shelf) {

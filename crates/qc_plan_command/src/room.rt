@@ -21,15 +21,21 @@ pub(crate) enum Room {
     Free(FreeTrack),
 }
 
+/// Room for the waypoints of each crane of a schedule of so many tasks.
+fn room_of(alloc: Global, turn: Turn, tasks: u16) -> Result<Room, OutOfMemory>
+    ensures { IfOk result (IsRoom turn tasks) }
+{
+    match turn {
+        Turn::OneWay => Ok(Room::OneWay(Track::new(alloc, tasks)?)),
+        Turn::Free => Ok(Room::Free(FreeTrack::new(alloc, tasks)?)),
+    }
+}
+
 /// Room for the waypoints of each crane of a schedule of the instance.
 pub(crate) fn room_for(alloc: Global, inst: &Instance) -> Result<Room, OutOfMemory>
     ensures { IfOk result (IsRoom inst.now.turn (length inst.now.tasks)) }
 {
-    let tasks = inst.task_count();
-    match inst.turn() {
-        Turn::OneWay => Ok(Room::OneWay(Track::new(alloc, tasks)?)),
-        Turn::Free => Ok(Room::Free(FreeTrack::new(alloc, tasks)?)),
-    }
+    room_of(alloc, inst.turn(), inst.task_count())
 }
 
 /// How the cranes of a schedule go that they may follow.

@@ -33,7 +33,10 @@ pub fn store_tree<S: Shelf>(
     ensures counts { Counts (S.Sink.view shelf.old).faults (S.Sink.view shelf.new).faults result }
     ensures read_faults { (S.Sink.view shelf.new).read_faults ≡ (S.Sink.view shelf.old).read_faults }
 {
-    shelf.create(name)?;
+    let Ok(()) = shelf.create(name) else {
+        drop(search);
+        return Err(WriteFault);
+    };
     let done = search.run(given, shelf)?;
     shelf.finish()?;
     Ok(done)

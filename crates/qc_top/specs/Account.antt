@@ -62,6 +62,15 @@ pub record IsMakeRun (number hatches cranes : ℕ) (before after out_before out_
   pub untouched : after ≡ before
   pub run : IsTrialRun number hatches cranes out_before out_after ended
 
+-- what is asked for only reads files and reports
+abbrev pub OnlyReads : Asked → Type 0
+OnlyReads (plan turn s w p t n o) = ⊥
+OnlyReads (make n h c) = ⊥
+OnlyReads (help of) = ⊥
+OnlyReads version = ⊥
+OnlyReads usage = ⊥
+OnlyReads _ = Unit {0}
+
 -- what is asked for is served by its command
 abbrev pub IsRunOf : Asked → (before after out_before out_after : View) → Status → Type 0
 IsRunOf (plan turn s w p t n o) = IsPlanRun (plan_of turn s w p t n o)

@@ -5,7 +5,7 @@ ghost use Rattle.qc_run.specs.Inputs.{names_of, no_names};
 ghost use Rattle.qc_plan_command.specs.Asked.{plan_of, planning};
 ghost use Rattle.qc_words.specs.Asked.{KeepsLimits, asked_for};
 ghost use Rattle.qc_words.specs.Words.{texts};
-ghost use Rattle.qc_top.specs.Account.{IsRun, IsRunOf, check_names};
+ghost use Rattle.qc_top.specs.Account.{IsRun, IsRunOf, OnlyReads, check_names};
 ghost use Rattle.qc_top.specs.Promises.{Promises};
 
 use crate::about::{help_text, version_text};
@@ -124,6 +124,59 @@ fn asked_of<'a>(
     }
 }
 
+/// Runs a command that only reads.
+fn read<S: Shelf, K: Sink>(
+    alloc: Global,
+    request: &Request<'_>,
+    shelf: &mut S,
+    out: &mut K,
+) -> Status
+    requires { OnlyReads (asked_for request.now) }
+    ensures account { IsRunOf (asked_for request.now) (S.Sink.view shelf.old) (S.Sink.view shelf.new)
+        (K.Sink.view out.old) (K.Sink.view out.new) result }
+    ensures faults_never_fall { (S.Sink.view shelf.old).faults ≤ (S.Sink.view shelf.new).faults }
+    ensures reads_never_fall { (S.Sink.view shelf.old).read_faults ≤ (S.Sink.view shelf.new).read_faults }
+{
+    match *request {
+        Request::Check {
+            turn,
+            ship,
+            stow,
+            plan,
+            tree,
+        } => {
+            let inputs = check_of(turn, ship, stow, plan, tree);
+            match plan {
+                Some(_) => check_plan(alloc, &inputs, shelf, out),
+                None => check_tree(alloc, &inputs, shelf, out),
+            }
+        }
+        Request::Tasks { ship, stow } => {
+            list_tasks(alloc, &inputs_of(ship, stow, None), shelf, out)
+        }
+        Request::Show { ship, stow, plan } => {
+            show(alloc, &inputs_of(ship, stow, Some(plan)), shelf, out)
+        }
+        Request::Sheet { ship, stow, plan } => {
+            print_sheet(alloc, &inputs_of(ship, stow, Some(plan)), shelf, out)
+        }
+        Request::Watch { ship, log } => watch(alloc, &log_of(ship, log), shelf, out),
+        Request::Dispatch {
+            ship,
+            stow,
+            plan,
+            log,
+        } => dispatch(alloc, &dispatch_of(ship, stow, plan, log), shelf, out),
+        Request::Picture { ship, stow, plan } => {
+            draw_picture(alloc, &inputs_of(ship, stow, Some(plan)), shelf, out)
+        }
+        Request::Report { ship, stow, plan } => {
+            report_figures(alloc, &inputs_of(ship, stow, Some(plan)), shelf, out)
+        }
+        _ => unreachable!(),
+    }
+}
+
 /// Runs the command that is asked for.
 fn serve<S: Shelf, K: Sink>(
     alloc: Global,
@@ -150,49 +203,15 @@ fn serve<S: Shelf, K: Sink>(
             let asked = asked_of(turn, ship, stow, name, tree, nodes, own);
             plan(alloc, &asked, shelf, out)
         }
-        Request::Check {
-            turn,
-            ship,
-            stow,
-            plan,
-            tree,
-        } => {
-            let inputs = check_of(turn, ship, stow, plan, tree);
-            match plan {
-                Some(_) => check_plan(alloc, &inputs, shelf, out),
-                None => check_tree(alloc, &inputs, shelf, out),
-            }
-        }
-        Request::Tasks { ship, stow } => {
-            list_tasks(alloc, &inputs_of(ship, stow, None), shelf, out)
-        }
-        Request::Show { ship, stow, plan } => {
-            show(alloc, &inputs_of(ship, stow, Some(plan)), shelf, out)
-        }
         Request::Make {
             number,
             hatches,
             cranes,
         } => make(alloc, number, hatches, cranes, out),
-        Request::Sheet { ship, stow, plan } => {
-            print_sheet(alloc, &inputs_of(ship, stow, Some(plan)), shelf, out)
-        }
-        Request::Watch { ship, log } => watch(alloc, &log_of(ship, log), shelf, out),
-        Request::Dispatch {
-            ship,
-            stow,
-            plan,
-            log,
-        } => dispatch(alloc, &dispatch_of(ship, stow, plan, log), shelf, out),
-        Request::Picture { ship, stow, plan } => {
-            draw_picture(alloc, &inputs_of(ship, stow, Some(plan)), shelf, out)
-        }
-        Request::Report { ship, stow, plan } => {
-            report_figures(alloc, &inputs_of(ship, stow, Some(plan)), shelf, out)
-        }
         Request::Help(of) => report_text(Status::Done, help_text(of), out),
         Request::Version => report_text(Status::Done, version_text(), out),
         Request::Usage => report_stop(Stop::Refused(Refusal::Usage), out),
+        _ => read(alloc, request, shelf, out),
     }
 }
 

@@ -1,8 +1,5 @@
-use Rattle.std.proofs.Common.{◌≡◌, true, false, ap, arith, option_map, subst, sym, ◌∙◌, is_err}
-use Rattle.qc_io.specs.Outside.{View}
-use Rattle.qc_model.specs.Instance.{InstanceView, Valid}
-use Rattle.qc_search.specs.Run.{SearchView}
-use Rattle.qc_tree.specs.Trees.{NoneEarlier}
+use Rattle.std.proofs.Common.{◌≡◌, true, false, arith, refl, subst, sym, ◌∙◌, is_err}
+use Rattle.qc_model.specs.Instance.{Valid}
 use Rattle.qc_plan_command.specs.Asked.{planning}
 use Rattle.qc_plan_command.proofs.FoundLemmas.{rereads}
 use Rattle.qc_plan_command.proofs.StoreLemmas.{at_begin, at_end, at_plan, at_tree, by_err, by_ok, writes_told}
@@ -25,84 +22,63 @@ returns-then-is_err-clause-serves g c =
 pub returns-in_default-clause-serves : goal.returns-in_default-clause-serves
 returns-in_default-clause-serves g c =
     let view = g.S.Sink.view in
-    let told = c.tell.ensures.shelf_stays in
-    let same = ap (λ (v : View). v.files) told ∙ c.create.ensures.files_stay in (
+    let job = c.args.job in
+    let searched = c.in_default.ensures.searched in (
       (
-        omega (
-          arith,
-          c.create.ensures.counts.never_falls,
-          ap (λ (v : View). v.faults) told,
-          c.in_default.ensures.counts.rose,
-        ),
-        at_tree (planning c.args.asked.now) c.args.job c.requires.allowed c.tell.new.search
-            (view c.args.shelf.now).files
-            (view c.tell.new.shelf).files (view c.store_tree.new.shelf).files
-            (view c.store_tree.new.shelf).files
-            (c.tell.ensures.stays ∙ c.earlier-given.ensures.stays ∙ c.requires.search) c.requires.due same
-            (subst Valid c.inst.view_is c.inst.invariant)
-            c.found-found.result (option_map (λ sched. sched.now) c.earlier-given.result)
-            (rw (c.as_ref-own.ensures.value, c.as_ref.ensures.value) at c.earlier-given.ensures.chosen)
-            c.in_default.ensures.err,
+        omega (arith, c.create.ensures.counts.never_falls, c.in_default.ensures.counts.rose),
+        at_tree (planning c.args.asked.now) job c.requires.allowed
+            (record { inst = job.inst; nodes = c.args.asked.now.nodes }) (view c.args.shelf.now).files
+            (view c.create.new.self).files (view c.run_search.new.shelf).files (view c.run_search.new.shelf).files
+            refl c.requires.due c.create.ensures.files_stay (subst Valid c.inst.view_is c.inst.invariant)
+            searched.found searched.given (rw c.as_ref.ensures.value at searched.chosen) searched.err,
       ),
-      c.in_default.ensures.read_faults ∙ ap (λ (v : View). v.read_faults) told ∙ c.create.ensures.read_faults_stay,
+      c.in_default.ensures.read_faults ∙ c.create.ensures.read_faults_stay,
     )
 
 pub returns-in-Err-clause-serves : goal.returns-in-Err-clause-serves
 returns-in-Err-clause-serves g c =
     let view = g.S.Sink.view in
-    let told = c.tell.ensures.shelf_stays in
-    let same = ap (λ (v : View). v.files) told ∙ c.create.ensures.files_stay in (
+    let job = c.args.job in
+    let searched = c.in-Ok.ensures.searched in (
       (
         omega (
           arith,
           c.create.ensures.counts.never_falls,
-          ap (λ (v : View). v.faults) told,
           c.in-Ok.ensures.counts.never_falls,
           c.in-Err.ensures.counts.rose,
         ),
-        at_plan (planning c.args.asked.now) c.args.job c.requires.allowed c.tell.new.search
-            (view c.args.shelf.now).files
-            (view c.tell.new.shelf).files (view c.store_tree.new.shelf).files
-            (view c.store_best.new.shelf).files
-            (c.tell.ensures.stays ∙ c.earlier-given.ensures.stays ∙ c.requires.search) c.requires.due same
-            (subst Valid c.inst.view_is c.inst.invariant)
-            c.found-found.result (option_map (λ sched. sched.now) c.earlier-given.result)
-            (rw (c.as_ref-own.ensures.value, c.as_ref.ensures.value) at c.earlier-given.ensures.chosen)
-            c.in-Ok.done c.in-Ok.ensures.ok c.in-Err.ensures.err,
+        at_plan (planning c.args.asked.now) job c.requires.allowed
+            (record { inst = job.inst; nodes = c.args.asked.now.nodes }) (view c.args.shelf.now).files
+            (view c.create.new.self).files (view c.run_search.new.shelf).files (view c.store_best.new.shelf).files
+            refl c.requires.due c.create.ensures.files_stay (subst Valid c.inst.view_is c.inst.invariant)
+            searched.found searched.given (rw c.as_ref.ensures.value at searched.chosen)
+            c.in-Ok.done searched.ok c.in-Err.ensures.err,
       ),
-      c.in-Err.ensures.read_faults ∙ c.in-Ok.ensures.read_faults ∙ ap (λ (v : View). v.read_faults) told ∙ c.create.ensures.read_faults_stay,
+      c.in-Err.ensures.read_faults ∙ c.in-Ok.ensures.read_faults ∙ c.create.ensures.read_faults_stay,
     )
 
 pub returns-in-Ok-store_best-clause-serves : goal.returns-in-Ok-store_best-clause-serves
 returns-in-Ok-store_best-clause-serves g c =
     let view = g.S.Sink.view in
-    let told = c.tell.ensures.shelf_stays in
-    let same = ap (λ (v : View). v.files) told ∙ c.create.ensures.files_stay in
+    let job = c.args.job in
+    let searched = c.in-Ok.ensures.searched in
     let came : is_err c.create.result ≡ false = sym c.is_err.ensures.value ∙ c.if-is_err.false in (
       writes_told (planning c.args.asked.now) (view c.args.shelf.now)
-          (view c.store_best.new.shelf) c.args.job.inst c.in-Ok.done
+          (view c.store_best.new.shelf) job.inst c.in-Ok.done
           c.answer_of.result c.answer_of.ensures.tells
           (c.in-Ok-store_best.ensures.counts.unfailed ∙ c.in-Ok.ensures.counts.unfailed
-          ∙ ap (λ (v : View). v.faults) told ∙ by_ok c.create.result came c.create.ensures.counts.unfailed)
-          (at_end (planning c.args.asked.now) c.args.job c.requires.allowed c.tell.new.search
-          (view c.args.shelf.now).files
-          (view c.tell.new.shelf).files (view c.store_tree.new.shelf).files (view c.store_best.new.shelf).files
-          (c.tell.ensures.stays ∙ c.earlier-given.ensures.stays ∙ c.requires.search) c.requires.due same
-          (subst Valid c.inst.view_is c.inst.invariant)
-          c.found-found.result (option_map (λ sched. sched.now) c.earlier-given.result)
-          (rw (c.as_ref-own.ensures.value, c.as_ref.ensures.value) at c.earlier-given.ensures.chosen)
-          c.in-Ok.done c.answer_of.result c.in-Ok.ensures.ok
+          ∙ by_ok c.create.result came c.create.ensures.counts.unfailed)
+          (at_end (planning c.args.asked.now) job c.requires.allowed
+          (record { inst = job.inst; nodes = c.args.asked.now.nodes }) (view c.args.shelf.now).files
+          (view c.create.new.self).files (view c.run_search.new.shelf).files (view c.store_best.new.shelf).files
+          refl c.requires.due c.create.ensures.files_stay (subst Valid c.inst.view_is c.inst.invariant)
+          searched.found searched.given (rw c.as_ref.ensures.value at searched.chosen)
+          c.in-Ok.done c.answer_of.result searched.ok
           c.in-Ok-store_best.ensures.ok c.answer_of.ensures.tells),
-      c.in-Ok-store_best.ensures.read_faults ∙ c.in-Ok.ensures.read_faults ∙ ap (λ (v : View). v.read_faults) told ∙ c.create.ensures.read_faults_stay,
+      c.in-Ok-store_best.ensures.read_faults ∙ c.in-Ok.ensures.read_faults ∙ c.create.ensures.read_faults_stay,
     )
-
-pub answer_of-requires-clause-none_earlier : goal.answer_of-requires-clause-none_earlier
-answer_of-requires-clause-none_earlier g c =
-    subst (λ (i : InstanceView). NoneEarlier i c.in-Ok.done.bound)
-    (ap (λ (s : SearchView). s.inst) (c.tell.ensures.stays ∙ c.earlier-given.ensures.stays ∙ c.requires.search))
-    c.in-Ok.ensures.sound.none_earlier
 
 pub answer_of-requires-clause-reread : goal.answer_of-requires-clause-reread
 answer_of-requires-clause-reread g c =
-    let is = rw (c.tell.ensures.stays ∙ c.earlier-given.ensures.stays ∙ c.requires.search) at c.in-Ok.ensures.sound in
-    rereads c.args.job.inst c.in-Ok.done.best is.judgeable is.soon c.in-Ok-store_best.ensures.reread
+    let sound = c.in-Ok.ensures.searched.sound in
+    rereads c.args.job.inst c.in-Ok.done.best sound.judgeable sound.soon c.in-Ok-store_best.ensures.reread

@@ -12,5 +12,5 @@ returns-in_err-finish-clause-err g c =
     (tree_left c.args.search (option_map (λ sched. sched.now) c.args.given) c.args.name.now (view c.args.shelf.now).files (view c.finish.new.self).files
     (view c.create.new.self).written (view c.run.new.sink).written c.in_ok-done.done ran c.in_ok-done.ensures.sound
     (left_file (view c.args.shelf.now) (view c.create.new.self) (view c.run.new.sink) (view c.finish.new.self)
-    c.args.name.now (tree_text c.args.search.inst ran.tree) c.in_ok-create.ensures.files_stay c.in_ok-create.ensures.ok_made
-    c.in_ok-create.ensures.ok_begun ran.written c.in_ok-done.ensures.beside_stays c.in_err-finish.ensures.err_files))
+    c.args.name.now (tree_text c.args.search.inst ran.tree) c.in-Ok.ensures.files_stay c.in-Ok.ensures.ok_made
+    c.in-Ok.ensures.ok_begun ran.written c.in_ok-done.ensures.beside_stays c.in_err-finish.ensures.err_files))
