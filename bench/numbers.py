@@ -123,6 +123,8 @@ def search(program, command, kind, numbers, nodes):
         names = [folder / name for name in ("ship", "stow", "plan", "tree")]
         tasks = sum(line.startswith("task ") for line in Run(program, "tasks", *names[:2]).lines)
         run = Run(program, command, *names, "--nodes", str(nodes))
+    if run.status not in (0, 11, 12):
+        raise ValueError(f"{command} of {kind} {numbers} ends with {run.status}: {run.lines[0]}")
     told = {name: number(run.told.get(name)) for name in ("given", "end", "bound", "branched")}
     return {"command": command, "ship": f"{kind} {' '.join(map(str, numbers))}", "tasks": tasks, "cranes": numbers[2],
             "moves": len(stow) - 1, "nodes": nodes, "ended": run.lines[0], **told, "seconds": run.seconds,
@@ -497,7 +499,7 @@ def write(kept, folder):
     text_of_page = (ROOT / "docs/PERFORMANCE.md").read_text(encoding="utf-8")
     (folder / page).write_text(filled(text_of_page, kept), encoding="utf-8")
     rows = [row for name in ("sizes", "plan", "free") for row in kept.get(name, {}).get("rows", [])
-            if row["nodes"] == USUAL and (name == "sizes" or not row["ship"].startswith("made"))]
+            if row["nodes"] == USUAL and row["end"] and (name == "sizes" or not row["ship"].startswith("made"))]
     if rows:
         (folder / page).with_name("gap.svg").write_text(gap.drawn(rows, gap_of), encoding="utf-8")
 

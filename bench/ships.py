@@ -72,7 +72,7 @@ def vessel(number, hatches, cranes):
     draw = draws(number)
     middle = lambda k: 1 + min(k, hatches - 1 - k)
     return (ship(bays_of(hatches), [1 + k * hatches // cranes for k in range(cranes)], 1, 30, 100, 120, 300),
-            listed(hatches, lambda k: min(99, middle(k) * next(draw) // 3)))
+            listed(hatches, lambda k: min(90, middle(k) * next(draw) // 3)))
 
 
 def full(number, hatches, cranes):
