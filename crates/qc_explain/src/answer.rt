@@ -26,7 +26,9 @@ pub(crate) fn say_infeasible(page: &mut Page, inst: &Instance) -> Result<(), Out
     }
     match inst.turn() {
         Turn::OneWay => {
-            page.say("note: no plan goes one way; qc free looks for one in which cranes go to and fro")
+            page.say(
+                "note: no plan goes one way; qc free looks for one in which cranes go to and fro",
+            )
         }
         Turn::Free => Ok(()),
     }
@@ -34,5 +36,7 @@ pub(crate) fn say_infeasible(page: &mut Page, inst: &Instance) -> Result<(), Out
 
 /// Says what may find a plan where none was found with the branchings that were allowed.
 pub(crate) fn say_spent(page: &mut Page) -> Result<(), OutOfMemory> {
-    page.say("note: no plan was found yet: --nodes N allows up to 100000 branchings, and --from OWN begins with a plan of yours")
+    page.say(
+        "note: no plan was found yet: --nodes N allows up to 100000 branchings, and --from OWN begins with a plan of yours",
+    )
 }

@@ -227,11 +227,8 @@ fn say_texts(
             say_ship_notes(page, names, texts)?;
             say_planless(page, names, texts, ended)
         }
-        Status::Optimal
-        | Status::Done
-        | Status::BudgetPlan
-        | Status::Weaker
-        | Status::Breach => say_ship_notes(page, names, texts),
+        Status::Optimal | Status::Done | Status::BudgetPlan | Status::Weaker | Status::Breach =>
+            say_ship_notes(page, names, texts),
     }
 }
 
