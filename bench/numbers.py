@@ -425,14 +425,15 @@ def taken_lines(kept):
     for name in TABLES:
         if name in kept:
             taken = kept[name]["taken"]
-            groups.setdefault((taken["program"], taken["machine"]), []).append((name, taken))
-    for (program, where), tables in groups.items():
+            groups.setdefault((taken["program"], taken["machine"], taken["few"]), []).append((name, taken))
+    for (program, where, few), tables in groups.items():
         first, last = min(taken["from"] for _, taken in tables), max(taken["to"] for _, taken in tables)
         last = last[11:] if first[:10] == last[:10] else last
         loads = [load for _, taken in tables for load in taken["load"]]
         seconds = sum(taken["seconds"] for _, taken in tables)
         yield (f"- {', '.join(TABLES[name][0] for name, _ in tables)}: {program}; {where}; {first} to {last} UTC, "
-               f"in {seconds:,.0f} s; the load of the machine, this run in it, {min(loads):.1f} to {max(loads):.1f}.")
+               f"in {seconds:,.0f} s; the load of the machine, this run in it, {min(loads):.1f} to {max(loads):.1f}"
+               + ("; **a try with few ships, each call timed once**." if few else "."))
 
 
 # ---------------------------------------------------------------- the page
@@ -459,7 +460,7 @@ def measured(name, words):
     to_date = datetime.datetime.now(datetime.timezone.utc)
     taken = {"program": commit(words.program), "machine": machine(), "from": f"{from_date:%Y-%m-%d %H:%M}",
              "to": f"{to_date:%Y-%m-%d %H:%M}", "seconds": round(time.monotonic() - begun),
-             "load": [round(min(loads), 1), round(max(loads), 1)]}
+             "load": [round(min(loads), 1), round(max(loads), 1)], "few": bool(words.few)}
     return {"taken": taken, "rows": rows}
 
 
