@@ -32,12 +32,13 @@ ROOT = Path(__file__).resolve().parent.parent
 DATA = ROOT / "crates/qc_rows/data"
 sys.path.append(str(ROOT / "fuzz"))
 
-from compare import SearchJudge, is_tight, text_of, tight_form
 from faults import list_fault, ship_or_fault
 from fuzz import case_input, content
+from judges import SearchJudge, is_tight, tight_form
 from packed import Search, bare, lists_of
 from reference import (NEVER, TreeReader, bound_text, crane_lines, direction_of, dump, end_of, instance_of, plan_text,
                        read_plan)
+from ships import text_of
 
 LARGE = 30     # tasks of a ship whose search is left to SIDE
 USUAL = 20_000
