@@ -42,6 +42,7 @@ ROOT = os.path.dirname(HERE)
 sys.path.append(f"{ROOT}/trials")
 
 from answers import ROLES, SEARCHES, answer, read_by, split_words
+from reference import read_ship
 
 # The statuses that a command may come to here: files are there, the disk has room, memory too.
 SHOWN = {0, 5, 6, 8, 13, 15}
@@ -134,8 +135,16 @@ def case_input(path):
     return words, files, others
 
 
+def is_long(path):
+    """Whether a case repeats a line so often that its files are too long for us."""
+    with open(path, encoding="utf-8", newline="") as file:
+        return any(int(count) > 2000 for count in re.findall(r"^\*(\d+) ", file.read(), re.MULTILINE))
+
+
 def read_case(path):
     """The files of a case by their roles, or None where they are none for us."""
+    if is_long(path):
+        return None
     words, files, others = case_input(path)
     if not words or words[0] not in ROLES or others & {"word", "fail"}:
         return None
@@ -159,7 +168,7 @@ def events_of(plan):
 
 def places_of(ship, lines):
     """A log of the places in the crane lines of a report, rounded down."""
-    travel, found = int(re.search(rb"travel *= *(\d+)", ship)[1]), []
+    travel, found = read_ship(ship).travel, []
     for line in lines:
         _, name, *points = line.split(" ")
         for at, place in (point.split(":") for point in points):
@@ -171,6 +180,9 @@ def made_files(program, files, folder=None):
     """Files by their roles: what the program makes of a ship file and a list, with logs that follow the plan; the same
     with the plan of `free` where that is another; and the further files of an example."""
     made, plans = dict(files), []
+    if folder is None and len(files["stow"]) > 8000:
+        yield made
+        return
     with tempfile.TemporaryDirectory() as room:
         for role in ("ship", "stow"):
             with open(f"{room}/{role}", "wb") as file:
@@ -214,12 +226,16 @@ def read_inputs(program):
             files = read_case(f"{data}/{command}/{name}")
             if files and files not in found:
                 found.append(files)
+    made = {}
     for files in found:
         if "stow" not in files:
             inputs.append(files)
             continue
-        pair = {role: files[role] for role in ("ship", "stow")}
-        inputs += [{**made, **files} if number == 0 else made for number, made in enumerate(made_files(program, pair))]
+        pair = files["ship"], files["stow"]
+        if pair not in made:
+            made[pair] = list(made_files(program, dict(zip(("ship", "stow"), pair))))
+            inputs += made[pair]
+        inputs.append({**made[pair][0], **files})
     return inputs
 
 

@@ -108,7 +108,7 @@ class Case:
         self.rng, self.counts, self.differences = random.Random(seed), Counter(ships=1), []
         base = "/dev/shm" if Path("/dev/shm").is_dir() else None
         self.folder = Path(tempfile.mkdtemp(prefix="compare-", dir=base))
-        if not wide and self.rng.random() < 0.3:
+        if not wide and self.rng.random() < 0.4:
             ship, stow = dense_files(self.rng)
         else:
             maker = Maker(self.rng, wide)

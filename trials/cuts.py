@@ -1,7 +1,7 @@
 #!/usr/bin/env python3
 """Cuts each file of the cases and of the examples at every byte, and compares what the built program then says.
 
-    trials/cuts.py PROGRAM [--workers N] [--most BYTES] [--only COMMANDS] [--keep FOLDER]
+    trials/cuts.py PROGRAM [--workers N] [--minutes M] [--most BYTES] [--only COMMANDS] [--keep FOLDER]
     trials/cuts.py --write
 
 Each case of crates/qc_rows/data whose words are a plain command on files, and each example under every command with the
@@ -11,7 +11,8 @@ the first faulty file, or, where the cut leaves good files, their answer: of `pl
 plan's end and the bound as the two files give them, and the status that goes with these; of the others the whole report.
 All other files must be as before. A file that a command read before behind the same files is not cut again; ship files and
 lists of more than 3,000 bytes are cut under `tasks` alone. It ends with 1 where anything differs; the input and both
-answers are kept in FOLDER. COMMANDS are those that are tried, with commas between them.
+answers are kept in FOLDER. COMMANDS are those that are tried, with commas between them; after M minutes what is
+left is left out.
 
 `--write` makes the cut cases of the worked examples (the list `WORKED`) in crates/qc_rows/data anew, with the
 outcomes that answers.py gives.
@@ -23,6 +24,7 @@ import os
 import subprocess
 import sys
 import tempfile
+import time
 from pathlib import Path
 
 sys.dont_write_bytecode = True  # no folder of compiled files beside the scripts
@@ -32,7 +34,7 @@ DATA = ROOT / "crates/qc_rows/data"
 sys.path.append(str(ROOT / "fuzz"))
 
 from answers import ROLES, SEARCHES, answer, read_by, search_fault, split_words
-from fuzz import case_input, made_files
+from fuzz import case_input, is_long, made_files
 
 # The cases of crates/qc_rows/data of which `--write` makes cut cases: the files of the worked examples, a file that
 # several of them share once. The command is that of the new case.
@@ -168,11 +170,14 @@ class Runner:
             print(f"{label}: {wrong}", flush=True)
 
 
-def work(program, keep, jobs, counts):
-    """Takes cases from the queue until there are no more."""
+def work(program, keep, last, jobs, counts):
+    """Takes cases from the queue until there are no more; those that come too late are counted alone."""
     runner = Runner(program, keep)
     for case, role, lengths in iter(jobs.get, None):
         for length in lengths:
+            if time.monotonic() > last:
+                runner.counts["too late", 0] += 1
+                continue
             runner.judge(case.cut(role, length), f"{case.name}-{case.command}-{role}-{length}")
     counts.put(runner.counts)
 
@@ -202,11 +207,12 @@ def fresh_jobs(cases, most, totals):
 
 def run_all(args):
     program = os.path.abspath(args.program)
-    cases = [read_case(path)[0] for path in sorted(DATA.glob("*/*.case"))]
+    cases = [read_case(path)[0] for path in sorted(DATA.glob("*/*.case")) if not is_long(path)]
     cases = [case for case in cases if case] + list(read_examples(program))
     cases = [case for case in cases if not args.only or case.command in args.only.split(",")]
     jobs, done, totals = multiprocessing.Queue(100), multiprocessing.Queue(), collections.Counter()
-    workers = [multiprocessing.Process(target=work, args=(program, args.keep, jobs, done)) for _ in range(args.workers)]
+    last = time.monotonic() + 60 * args.minutes
+    workers = [multiprocessing.Process(target=work, args=(program, args.keep, last, jobs, done)) for _ in range(args.workers)]
     for worker in workers:
         worker.start()
     for job in fresh_jobs(cases, args.most, totals):
@@ -214,9 +220,9 @@ def run_all(args):
     for _ in workers:
         jobs.put(None)
     counts = sum((done.get() for _ in workers), collections.Counter())
-    differences = counts.pop(("differences", 0), 0)
+    differences, late = counts.pop(("differences", 0), 0), counts.pop(("too late", 0), 0)
     print(f"{len(cases)} cases; {totals['files']} files of {totals['bytes']} bytes cut at every byte, {totals['left out']} "
-          f"left out for their length; {sum(counts.values())} runs on different inputs")
+          f"left out for their length; {sum(counts.values())} runs on different inputs" + f", and {late} too late" * (late > 0))
     for command in sorted(ROLES):
         of_it = sorted((status, count) for (name, status), count in counts.items() if name == command)
         print(f"{command}: " + ", ".join(f"{status}: {count}" for status, count in of_it))
@@ -278,6 +284,7 @@ def main():
     parser.add_argument("program", nargs="?")
     parser.add_argument("--write", action="store_true")
     parser.add_argument("--workers", type=int, default=2)
+    parser.add_argument("--minutes", type=float, default=1e9)
     parser.add_argument("--most", type=int, default=20_000)
     parser.add_argument("--only", default="")
     parser.add_argument("--keep", default="cuts-reported")

@@ -161,7 +161,7 @@ def least_order(inst, cranes, heads, arcs, rest, best):
             return best
     broken = next(breaks_up(inst, list(zip(cranes, starts))), ("OneWay",))
     assert broken[0] == "OneWay", broken
-    return max(start + task.ticks for start, task in zip(starts, inst.tasks))
+    return max((start + task.ticks for start, task in zip(starts, inst.tasks)), default=0)
 
 
 def random_node(inst, rng):
