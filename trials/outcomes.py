@@ -6,7 +6,7 @@
 
 SIDE is `bench/side.cpp`, built. Each outcome of a case in crates/qc_rows/data/plan and data/make that says what a
 search answered is worked out anew from the files of the case: status, report, TREE and PLAN. The search is that of
-packed.py; SIDE must find the same, and compare.py must let a search write its tree. The nodes of a large ship would
+packed.py; SIDE must find the same, and judges.py must let a search write its tree. The nodes of a large ship would
 take too long there, so that one is left to SIDE. What none of them knows is the plan that is found before the search:
 its end is the outcome's line `given`, its text the outcome's PLAN, and both are judged by the files (a plan that holds,
 goes one way, can't be made tighter, ends then, and with `--from` is the planner's own where that ends no later). Where

@@ -359,7 +359,7 @@ def changes_meanwhile():
         ran = room.run(["tasks", "pipe", "m"])
         thread.join()
         expect(f"the ship file is a pipe that gives {len(part)} of {len(SHIP)} bytes, 7 at a time", ran, status)
-    right, begun = 0, 0
+    right, begun, killed = 0, 0, 0
     for turn in range(20):
         room = Room.__new__(Room)
         room.path = tempfile.mkdtemp(prefix="qc-trial-")
@@ -367,11 +367,12 @@ def changes_meanwhile():
         process = subprocess.Popen([PROGRAM, "free"] + PLANNED[1:] + ["--nodes", "100000"], cwd=room.path, stdout=subprocess.DEVNULL)
         time.sleep(0.05 + 0.01 * turn)
         process.kill()
-        process.wait()
-        right += room.read("t") is None and room.read("p") is None
+        is_killed = process.wait() == -signal.SIGKILL  # on a busy machine it may be through
+        killed += is_killed
+        right += not is_killed or room.read("t") is None and room.read("p") is None
         begun += room.parts() == ["t.part"]
-    told("free is killed while it searches, 20 times", right == 20 and begun > 0,
-         f"{right} times neither file is there, {begun} times a part of the tree is left behind")
+    told(f"free is killed while it searches, {killed} of 20 times", right == 20 and begun > 0,
+         f"{right - 20 + killed} times neither file is there, {begun} times a part of the tree is left behind")
 
 
 def main():
