@@ -396,6 +396,8 @@ def random_part(node, lines, rng):
 
 def random_chain(node, rng):
     """A chain of the node's arcs from any task on."""
+    if not node.crane:
+        return "P"
     chain = [rng.randrange(len(node.crane))]
     while (more := [k for i, k, _ in node.arcs if i == chain[-1]]) and rng.random() < 0.9:
         chain.append(rng.choice(more))
