@@ -23,6 +23,12 @@ sys.path.append(str(ROOT / "bench"))
 from bench import made
 
 LIMIT = 8_388_608  # bytes of a file but for trees
+# Runs a command and notes what it took; from a process of its own, whose memory is small, since that of the process that
+# begins another is counted with it.
+MEASURE = """import os, sys
+pid = os.posix_spawn(sys.argv[2], sys.argv[2:], os.environ)
+_, status, used = os.wait4(pid, 0)
+open(sys.argv[1], "w").write(f"{os.waitstatus_to_exitcode(status)} {used.ru_utime + used.ru_stime} {used.ru_maxrss}")"""
 SHIP = (ROOT / "examples/first/ship.toml").read_bytes()
 STOW = (ROOT / "examples/first/stow.csv").read_bytes()
 
@@ -36,11 +42,12 @@ class Room:
 
     def run(self, words):
         """Status, the lines of the report, processor seconds and the most memory in MB."""
+        call = [sys.executable, "-I", "-S", "-c", MEASURE, "used", self.program, "-q", *words]
         with open(self.folder / "report", "wb") as report:
-            process = subprocess.Popen([self.program, "-q", *words], cwd=self.folder, stdout=report)
-            _, status, used = os.wait4(process.pid, 0)
+            subprocess.run(call, cwd=self.folder, stdout=report, check=True)
+        status, seconds, most = (self.folder / "used").read_text().split()
         lines = (self.folder / "report").read_text("latin-1").splitlines()
-        return os.waitstatus_to_exitcode(status), lines, used.ru_utime + used.ru_stime, used.ru_maxrss / 1024
+        return int(status), lines, float(seconds), int(most) / 1024
 
     def expect(self, what, words, status, first):
         """Runs it; `first`: one of the first lines that are wanted, or None for any."""
@@ -48,7 +55,7 @@ class Room:
         right = seen == status and most < 512 and (first is None or lines[:1] and lines[0] in first)
         self.wrong += not right
         told = lines[0][:70] if lines else ""
-        print(f"{'ok   ' if right else 'WRONG'} {what}: {words[0]} {seen} {told}; {seconds:.1f} s, {most:.0f} MB", flush=True)
+        print(f"{'ok   ' if right else 'WRONG'} {what}: {words[0]} {seen} {told}; {seconds:.2f} s, {most:.0f} MB", flush=True)
         return lines
 
 
