@@ -1,23 +1,30 @@
 #!/usr/bin/env python3
 """Runs the built program on files that were spoilt, and reports what must not come.
 
-    fuzz/fuzz.py PROGRAM [--count 200000] [--seed 1] [--workers 2] [--only N] [--keep FOLDER] [--megabytes 512]
+    fuzz/fuzz.py PROGRAM [--count 200000] [--seed 1] [--workers 2] [--only N] [--keep FOLDER] [--megabytes 512] [--plain]
 
-Trial N takes an input (the examples, and every case of crates/qc_rows/data whose words are a command with
-plain names), spoils one of its files or two by bytes, slices, lines, numbers, repeats, cuts and pieces of other files, and
-runs `plan` with few branchings, `check`, `tasks` or `show` on it. What a trial does depends on the seed and N
-alone: `--only N` runs it again and prints its files. Reported are
+Trial N takes an input (the examples, and every case of crates/qc_rows/data whose words are a command with plain names,
+with the plans, trees and logs that the program makes of them), spoils one of its files or two by bytes, slices, lines,
+numbers, repeats, cuts and pieces of other files, and runs a command on it: `plan` and `free` with few branchings and often
+from a spoilt plan of one's own, the ten others as they are. What a trial does depends on the seed and N alone: `--only N`
+runs it again and prints its files. Reported are
 
 - a run that ends by a signal, writes a line on standard error that doesn't begin with `qc: `, or takes more than ten seconds;
 - a status that the command hasn't, or a report whose first line isn't one of that status;
 - a file changed or made where the status doesn't allow it;
-- `plan` whose files `check` doesn't judge alike (Optimal, Weaker with the same numbers, Infeasible, Bound).
+- `plan` and `free` whose files `check` and `freecheck` don't judge alike (Optimal, Weaker with the same numbers, Infeasible, Bound);
+- a report that isn't, line for line, what trials/answers.py works out (of `plan` and `free` a refusal); with --plain that
+  isn't asked.
 
-The spoilt input and the output of each are kept in FOLDER. It ends with 1 where anything was reported. Memory is
-limited to so many megabytes of addresses, 0 for no limit (a program built with a sanitizer needs that).
+Where both say of a spoilt ship file something else, and one of them that it is no TOML, that is counted apart and printed:
+Python's reader of TOML isn't the program's. The spoilt input of each that is reported is kept in FOLDER. It ends with 1
+where anything was reported. Memory is limited to so many megabytes of addresses, 0 for no limit (a program built with a
+sanitizer needs that).
 """
 import argparse
 import collections
+import csv
+import io
 import multiprocessing
 import os
 import random
@@ -28,23 +35,36 @@ import subprocess
 import sys
 import tempfile
 
+sys.dont_write_bytecode = True  # no folder of compiled files beside the scripts
+
 HERE = os.path.dirname(os.path.abspath(__file__))
 ROOT = os.path.dirname(HERE)
-ROLES = {
-    "plan": ["ship", "stow", "plan", "tree"],
-    "check": ["ship", "stow", "plan", "tree"],
-    "tasks": ["ship", "stow"],
-    "show": ["ship", "stow", "plan"],
-}
+sys.path.append(f"{ROOT}/trials")
+
+from answers import ROLES, SEARCHES, answer, read_by, split_words
+from reference import read_ship
+
 # The statuses that a command may come to here: files are there, the disk has room, memory too.
+SHOWN = {0, 5, 6, 8, 13, 15}
 STATUSES = {
-    "plan": {0, 5, 6, 10, 11, 12, 15},
+    "plan": {0, 5, 6, 8, 10, 11, 12, 13, 15},
+    "free": {0, 5, 6, 8, 10, 11, 12, 13, 15},
     "check": {0, 5, 6, 7, 8, 10, 13, 14, 15},
+    "freecheck": {0, 5, 6, 7, 8, 10, 13, 14, 15},
     "tasks": {0, 5, 6, 15},
-    "show": {0, 5, 6, 8, 13, 15},
+    "show": SHOWN, "sheet": SHOWN, "picture": SHOWN, "report": SHOWN,
+    "dispatch": SHOWN | {17},
+    "watch": {0, 5, 15, 17, 18},
+    "make": {0, 2},
+}
+DONE = {
+    "plan": rb"Optimal", "free": rb"Optimal", "check": rb"Optimal|Bound \d+", "freecheck": rb"Optimal|Bound \d+",
+    "tasks": rb"task [0-9A-Z-]+ \d+ \d+|total \d+", "show": rb"direction (up|down)", "sheet": rb"sheet [0-9A-Za-z_-]+",
+    "picture": rb"<svg .*>", "report": rb"crane,tasks,moves,.*", "dispatch": rb"start \S+ \S+ \d+|now \d+",
+    "watch": rb"Safe \d+", "make": rb"make \d+ \d+ \d",
 }
 FIRST_LINE = {
-    0: rb"(Optimal|Bound \d+|task [0-9A-Z-]+ \d+ \d+|total \d+|direction (up|down))",
+    2: rb".+",
     5: rb"BadShip (NotToml|(Missing|WrongKind|Range|HatchOrder|Apart|NameTwice|CraneOrder) [a-z_]+ \d+)",
     6: rb"BadStow [A-Za-z]+ \d+",
     7: rb"BadTree [A-Za-z]+ \d+",
@@ -54,8 +74,13 @@ FIRST_LINE = {
     12: rb"Budget",
     13: rb"Broken (Reach|Ready|Travel|Before|Apart|Margin|Berth|OneWay)( [0-9A-Z-]+){1,2}",
     14: rb"Weaker",
-    15: rb"TooLarge (ship|stow|plan)",
+    15: rb"TooLarge (ship|stow|plan|own|log)",
+    17: rb"BadLog (TooMany|Line|UnknownCrane|TimeBack|UnknownTask|NotRunning) \d+",
+    18: rb"Breach \d+ \S+ \S+",
 }
+# How often each command is taken: those that came later more often than the first ones.
+TAKEN = ["plan", "plan", "check", "check", "free", "free", "freecheck", "freecheck", "freecheck", "sheet", "dispatch",
+         "dispatch", "dispatch", "watch", "watch", "watch", "picture", "report", "show", "tasks", "make"]
 NUMBERS = [b"0", b"1", b"2", b"-1", b"9", b"10", b"21", b"60", b"61", b"240", b"241", b"998", b"999", b"1200", b"2001",
            b"6000", b"6001", b"10000", b"10001", b"65535", b"65536", b"1000000", b"1000001", b"2147483647",
            b"4294967295", b"4294967296", b"9223372036854775807", b"9223372036854775808", b"18446744073709551616",
@@ -110,46 +135,107 @@ def case_input(path):
     return words, files, others
 
 
+def is_long(path):
+    """Whether a case repeats a line so often that its files are too long for us."""
+    with open(path, encoding="utf-8", newline="") as file:
+        return any(int(count) > 2000 for count in re.findall(r"^\*(\d+) ", file.read(), re.MULTILINE))
+
+
 def read_case(path):
     """The files of a case by their roles, or None where they are none for us."""
+    if is_long(path):
+        return None
     words, files, others = case_input(path)
     if not words or words[0] not in ROLES or others & {"word", "fail"}:
         return None
-    roles = ROLES[words[0]]
-    names = [word for word in words[1:] if not word.startswith("--")][:len(roles)]
-    found = {role: files[n] for role, n in zip(roles, names) if n in files and len(files[n]) <= 20000}
-    return found if "ship" in found and "stow" in found else None
+    parsed = split_words(words)
+    if parsed is None:
+        return None
+    found = {role: files[name] for role, name in parsed[0].items() if name in files and len(files[name]) <= 20000}
+    return found if "ship" in found and ("stow" in found or words[0] == "watch") else None
+
+
+def events_of(plan):
+    """A log in which each task ends when the plan says."""
+    lines, now = [], 0
+    for end, task in sorted((int(end), task) for task, _, _, end in list(csv.reader(io.StringIO(plan.decode())))[1:]):
+        if end > now:
+            lines.append(f"tick {end - now}\n")
+        lines.append(f"done {task}\n")
+        now = end
+    return "".join(lines).encode()
+
+
+def places_of(ship, lines):
+    """A log of the places in the crane lines of a report, rounded down."""
+    travel, found = read_ship(ship).travel, []
+    for line in lines:
+        _, name, *points = line.split(" ")
+        for at, place in (point.split(":") for point in points):
+            found.append((int(float(at)), name, int(float(place) // travel)))
+    return "".join(f"{at} {name} {place}\n" for at, name, place in sorted(found)).encode()
+
+
+def made_files(program, files, folder=None):
+    """Files by their roles: what the program makes of a ship file and a list, with logs that follow the plan; the same
+    with the plan of `free` where that is another; and the further files of an example."""
+    made, plans = dict(files), []
+    if folder is None and len(files["stow"]) > 8000:
+        yield made
+        return
+    with tempfile.TemporaryDirectory() as room:
+        for role in ("ship", "stow"):
+            with open(f"{room}/{role}", "wb") as file:
+                file.write(files[role])
+        for command in SEARCHES:
+            role = ROLES[command][-1]
+            words = [program, "-q", command, "ship", "stow", f"{command}.csv", role, "--nodes", "20"]
+            ran = subprocess.run(words, cwd=room, capture_output=True, timeout=100)
+            if os.path.exists(f"{room}/{role}"):
+                made[role] = read_file(f"{room}/{role}")
+            if os.path.exists(f"{room}/{command}.csv"):
+                cranes = [line for line in ran.stdout.decode().splitlines() if line.startswith("crane ")]
+                plans.append((read_file(f"{room}/{command}.csv"), cranes))
+    for plan, cranes in plans[:1] + [one for one in plans[1:] if one[0] != plans[0][0]]:
+        yield {"plan": plan, "own": plan, "events": events_of(plan), "places": places_of(files["ship"], cranes), **made}
+    if not plans:
+        yield made
+    for role, name in (("own", "own.csv"), ("events", "happened.txt"), ("places", "log.txt"), ("places", "late.txt"),
+                       ("plan", "there-and-back.csv"), ("own", "there-and-back.csv")):
+        if folder and os.path.exists(f"{folder}/{name}"):
+            some = {"plan": plans[0][0], "own": plans[0][0]} if plans else {}
+            yield {**some, **made, role: read_file(f"{folder}/{name}")}
+
+
+def read_file(path):
+    with open(path, "rb") as file:
+        return file.read()
 
 
 def read_inputs(program):
-    """All inputs in a fixed order: dicts from a file's role to its bytes. Where no plan is given, `plan` makes one."""
-    inputs = []
+    """All inputs in a fixed order: dicts from a file's role to its bytes."""
+    inputs, found = [], []
     for name in sorted(os.listdir(f"{ROOT}/examples")):
         folder = f"{ROOT}/examples/{name}"
-        if not os.path.isdir(folder):
-            continue
-        inputs.append({role: open(f"{folder}/{file}", "rb").read()
-                       for role, file in (("ship", "ship.toml"), ("stow", "stow.csv"))})
+        if os.path.isdir(folder):
+            files = {"ship": read_file(f"{folder}/ship.toml"), "stow": read_file(f"{folder}/stow.csv")}
+            inputs += made_files(program, files, folder)
     data = f"{ROOT}/crates/qc_rows/data"
     for command in sorted(ROLES):
         for name in sorted(os.listdir(f"{data}/{command}")):
-            found = read_case(f"{data}/{command}/{name}")
-            if found and found not in inputs:
-                inputs.append(found)
-    with tempfile.TemporaryDirectory() as folder:
-        for files in inputs:
-            for role in ("ship", "stow"):
-                with open(f"{folder}/{role}", "wb") as file:
-                    file.write(files[role])
-            words = [program, "plan", "ship", "stow", "plan", "tree", "--nodes", "20"]
-            for role in ("plan", "tree"):
-                if os.path.exists(f"{folder}/{role}"):
-                    os.remove(f"{folder}/{role}")
-            subprocess.run(words, cwd=folder, stdout=subprocess.DEVNULL, stderr=subprocess.DEVNULL, timeout=100)
-            for role in ("plan", "tree"):
-                if role not in files and os.path.exists(f"{folder}/{role}"):
-                    with open(f"{folder}/{role}", "rb") as file:
-                        files[role] = file.read()
+            files = read_case(f"{data}/{command}/{name}")
+            if files and files not in found:
+                found.append(files)
+    made = {}
+    for files in found:
+        if "stow" not in files:
+            inputs.append(files)
+            continue
+        pair = files["ship"], files["stow"]
+        if pair not in made:
+            made[pair] = list(made_files(program, dict(zip(("ship", "stow"), pair))))
+            inputs += made[pair]
+        inputs.append({**made[pair][0], **files})
     return inputs
 
 
@@ -207,60 +293,84 @@ def spoil(rand, data, others):
     return data
 
 
+class Trial:
+    """A command, the words behind its names, files, which of them are spoilt, and whether `-` stands for the plan."""
+
+    def __init__(self, command, more=(), files=(), spoilt=(), minus=False):
+        self.command, self.more, self.files, self.spoilt, self.minus = command, list(more), dict(files), spoilt, minus
+
+    @property
+    def words(self):
+        names = ["-" if role == "plan" and self.minus else role for role in ROLES.get(self.command, ())]
+        return [self.command, *names, *self.more]
+
+
 class Trials:
-    def __init__(self, program, inputs, seed, folder):
-        self.program, self.inputs, self.seed, self.folder = program, inputs, seed, folder
-        self.pools = {role: [files[role] for files in inputs if role in files] for role in ROLES["plan"]}
+    def __init__(self, program, inputs, seed, folder, plain):
+        self.program, self.seed, self.folder, self.plain = program, seed, folder, plain
+        roles = sorted({role for files in inputs for role in files})
+        self.inputs = {command: [files for files in inputs if "stow" in files or command == "watch"] for command in ROLES}
+        self.pools = {role: [files[role] for files in inputs if role in files] for role in roles}
 
     def make(self, number):
-        """Command, words behind the names, files, and which of them are spoilt."""
         rand = random.Random(f"{self.seed} {number}")
-        files = dict(rand.choice(self.inputs))
-        command = rand.choice(["plan", "check", "check", "tasks", "show"])
-        for role in ROLES[command][2:]:
-            if role not in files:
-                files[role] = rand.choice(self.pools[role])
-        more, roles = [], list(ROLES[command])
-        if command == "plan":
+        command = rand.choice(TAKEN)
+        if command == "make":
+            some = [str(rand.randint(0, 9)), str(rand.randint(1, 12)), str(rand.randint(1, 8))]
+            some[rand.randrange(3)] = rand.choice(NUMBERS).decode()
+            return Trial("make", some, spoilt=["words"])
+        files, more, minus = dict(rand.choice(self.inputs[command])), [], False
+        if command in SEARCHES:
             more = ["--nodes", str(rand.choice([0, 1, 3, 10, 40]))]
-            roles = roles[:2]
+            if rand.randrange(2):
+                more += ["--from", "own"]
+                if "own" not in files or not rand.randrange(4):
+                    files["own"] = rand.choice(self.pools[rand.choice(["own", "plan"])])
             if rand.randrange(3):
-                files.pop("plan", None), files.pop("tree", None)
-        if command == "check" and rand.randrange(3) == 0:
-            del files["plan"]
-            roles = ["ship", "stow", "tree", "tree"]
-        files = {role: data for role, data in files.items() if role in ROLES[command]}
-        spoilt = sorted({rand.choice(roles) for _ in range(rand.choice([1, 1, 1, 2]))})
+                files.pop("plan", None), files.pop(ROLES[command][-1], None)
+        else:
+            for role in ROLES[command]:
+                if role not in files or role != "ship" and not rand.randrange(20):
+                    files[role] = rand.choice(self.pools[role])
+            if command in ("check", "freecheck") and rand.randrange(3) == 0:
+                minus = True
+        roles = [role for role in read_by(command, more) if not (minus and role == "plan")]
+        weighted = roles + roles[2:] if command in ("plan", "free", "check", "freecheck", "dispatch") else roles + roles[1:]
+        files = {role: data for role, data in files.items() if role in roles or role in ROLES[command]}
+        if minus:
+            files.pop("plan", None)
+        spoilt = sorted({rand.choice(weighted) for _ in range(rand.choice([1, 1, 1, 2]))})
         for role in spoilt:
             files[role] = spoil(rand, files[role], self.pools[role])
-        return command, more, files, spoilt
+        return Trial(command, more, files, spoilt, minus)
 
-    def run(self, command, names, more):
-        words = [self.program, command] + names + more
-        return subprocess.run(words, cwd=self.folder, capture_output=True, stdin=subprocess.DEVNULL, timeout=10)
+    def run(self, words):
+        return subprocess.run([self.program, *words], cwd=self.folder, capture_output=True, stdin=subprocess.DEVNULL,
+                              timeout=10)
 
     def clear(self):
         for name in os.listdir(self.folder):
             os.remove(f"{self.folder}/{name}")
 
     def held(self):
-        return {name: open(f"{self.folder}/{name}", "rb").read() for name in os.listdir(self.folder)}
+        return {name: read_file(f"{self.folder}/{name}") for name in os.listdir(self.folder)}
 
-    def judge_plan(self, ran, files, held):
-        """What is wrong with the files that `plan` left."""
-        status = ran.returncode
-        if status in (5, 6, 15):
+    def judge_search(self, trial, ran, held):
+        """What is wrong with the files that `plan` or `free` left."""
+        status, role, files = ran.returncode, ROLES[trial.command][-1], trial.files
+        if status in (5, 6, 8, 13, 15):
             return None if held == files else "a refusal changed files"
-        if {r: d for r, d in held.items() if r in ("ship", "stow")} != {r: files[r] for r in ("ship", "stow")}:
-            return "ship file or list changed"
-        if "tree" not in held or set(held) - set(ROLES["plan"]):
+        if any(held.get(one) != files[one] for one in read_by(trial.command, trial.more)):
+            return "a file that was read changed"
+        if role not in held or set(held) - set(ROLES[trial.command]) - {"own"}:
             return "no tree, or a further file"
-        if status in (10, 12) and held.get("plan") != files.get("plan"):
-            return "no plan was met, and the plan's file changed"
         with_plan = status in (0, 11)
+        if not with_plan and held.get("plan") != files.get("plan"):
+            return "no plan was met, and the plan's file changed"
         if with_plan and "plan" not in held:
             return "no plan"
-        again = self.run("check", ["ship", "stow", "plan" if with_plan else "-", "tree"], [])
+        judge = {"plan": "check", "free": "freecheck"}[trial.command]
+        again = self.run([judge, "ship", "stow", "plan" if with_plan else "-", role])
         numbers = dict(line.split(b" ", 1) for line in ran.stdout.splitlines() if b" " in line)
         wanted = {0: (0, b"Optimal\nend %b\nbound %b\n"), 11: (14, b"Weaker\nend %b\nbound %b\n"),
                   10: (10, b"Infeasible\n"), 12: (0, b"Bound %b\n")}[status]
@@ -270,38 +380,65 @@ class Trials:
         elif status == 12:
             text = text % numbers[b"bound"]
         if (again.returncode, again.stdout) != (wanted[0], text):
-            return f"check says {again.returncode} {again.stdout!r}"
+            return f"{judge} says {again.returncode} {again.stdout!r}"
         return None
 
+    def judge(self, trial, ran):
+        """What is wrong with a run."""
+        command, status = trial.command, ran.returncode
+        if status < 0:
+            return f"ended by signal {-status}"
+        if any(not line.startswith(b"qc: ") for line in ran.stderr.splitlines()):
+            return f"standard error: {ran.stderr[:300]!r}"
+        if status not in STATUSES[command]:
+            return f"status {status}"
+        if not re.fullmatch(FIRST_LINE[status] if status else DONE[command], ran.stdout.split(b"\n", 1)[0]):
+            return f"report {ran.stdout[:200]!r} at status {status}"
+        if not ran.stdout.endswith(b"\n"):
+            return "a report without a line feed at its end"
+        if command == "make":
+            ranges = (2147483647, 60, 8)
+            plain = all(re.fullmatch("0|[1-9][0-9]{0,9}", word) and least <= int(word) <= most
+                        for word, least, most in zip(trial.more, (0, 1, 1), ranges))
+            return None if (status == 0) == plain else f"status {status} of {trial.more}"
+        if command in SEARCHES:
+            wrong = self.judge_search(trial, ran, self.held())
+        else:
+            wrong = None if self.held() == trial.files else "files changed"
+        return wrong or (None if self.plain else self.judge_second(trial, ran))
+
+    def judge_second(self, trial, ran):
+        """What the second opinion says otherwise."""
+        if ran.returncode == 15:
+            return None
+        due = answer(trial.command, trial.files, trial.more, trial.minus)
+        if due is None:
+            refused = ran.returncode in (5, 6, 8, 13)
+            return f"the second opinion refuses nothing, status {ran.returncode}" if refused else None
+        seen = ran.returncode, ran.stdout.decode("latin-1").split("\n")[:-1]
+        if seen == due:
+            return None
+        if "ship" in trial.spoilt and ["BadShip NotToml"] in (seen[1], due[1]):
+            return f"TOML: {seen[1][:1]}, second opinion {due[1][:1]}"
+        return f"{seen[0]} {seen[1][:3]}, second opinion {due[0]} {due[1][:3]}"
+
     def trial(self, number):
-        """The command, the status or None, how many files were spoilt, and what is wrong."""
-        command, more, files, spoilt = self.make(number)
+        """The trial, the status or None, and what is wrong."""
+        trial = self.make(number)
         self.clear()
-        for role, data in files.items():
+        for role, data in trial.files.items():
             with open(f"{self.folder}/{role}", "wb") as file:
                 file.write(data)
-        names = ["-" if command == "check" and role == "plan" and role not in files else role
-                 for role in ROLES[command]]
         try:
-            ran = self.run(command, names, more)
-            status, wrong = ran.returncode, None
-            if status < 0:
-                wrong = f"ended by signal {-status}"
-            elif any(not line.startswith(b"qc: ") for line in ran.stderr.splitlines()):
-                wrong = f"standard error: {ran.stderr[:300]!r}"
-            elif status not in STATUSES[command]:
-                wrong = f"status {status}"
-            elif not re.fullmatch(FIRST_LINE[status], ran.stdout.split(b"\n", 1)[0]):
-                wrong = f"report {ran.stdout[:200]!r} at status {status}"
-            elif not ran.stdout.endswith(b"\n"):
-                wrong = "a report without a line feed at its end"
-            elif command == "plan":
-                wrong = self.judge_plan(ran, files, self.held())
-            elif self.held() != files:
-                wrong = "files changed"
+            ran = self.run(trial.words)
         except subprocess.TimeoutExpired:
-            status, wrong = None, "more than ten seconds"
-        return command, status, spoilt, wrong
+            return trial, None, "more than ten seconds"
+        try:
+            return trial, ran.returncode, self.judge(trial, ran)
+        except subprocess.TimeoutExpired:
+            return trial, ran.returncode, "more than ten seconds to judge it"
+        except Exception as error:  # the second opinion stopped
+            return trial, ran.returncode, f"the second opinion stopped: {error!r}"
 
 
 def work(args, inputs, first, queue):
@@ -310,22 +447,22 @@ def work(args, inputs, first, queue):
     resource.setrlimit(resource.RLIMIT_CORE, (0, 0))
     base = "/dev/shm" if os.path.isdir("/dev/shm") else None
     folder = tempfile.mkdtemp(prefix="qc-fuzz-", dir=base)
-    trials = Trials(args.program, inputs, args.seed, folder)
+    trials = Trials(args.program, inputs, args.seed, folder, args.plain)
     counts = collections.Counter()
     for number in range(first, args.count, args.workers):
-        command, status, spoilt, wrong = trials.trial(number)
-        counts["runs", command, status] += 1
-        for role in spoilt:
+        trial, status, wrong = trials.trial(number)
+        counts["runs", trial.command, status] += 1
+        for role in trial.spoilt:
             counts["files", role, ""] += 1
         if wrong:
-            counts["wrong", "", ""] += 1
+            counts["toml" if wrong.startswith("TOML") else "wrong", "", ""] += 1
             kept = f"{args.keep}/{number}"
             shutil.rmtree(kept, ignore_errors=True)
             os.makedirs(kept)
-            for role, data in trials.make(number)[2].items():
+            for role, data in trial.files.items():
                 with open(f"{kept}/{role}", "wb") as file:
                     file.write(data)
-            print(f"trial {number}: {command}: {wrong}", flush=True)
+            print(f"trial {number}: {' '.join(trial.words)}: {wrong}", flush=True)
         if sum(n for key, n in counts.items() if key[0] == "runs") % 500 == 0:
             queue.put((first, dict(counts)))
     queue.put((first, dict(counts)))
@@ -336,10 +473,10 @@ def work(args, inputs, first, queue):
 def print_counts(counts):
     files = {key[1]: n for key, n in counts.items() if key[0] == "files"}
     print("spoilt files " + str(sum(files.values())) + ": " + ", ".join(f"{n} {role}" for role, n in sorted(files.items())))
-    for command in sorted(ROLES):
+    for command in sorted(STATUSES):
         of_it = sorted((key[2], n) for key, n in counts.items() if key[:2] == ("runs", command) and key[2] is not None)
-        print(f"{command}: " + ", ".join(f"status {status}: {n}" for status, n in of_it))
-    print(f"reported: {counts['wrong', '', '']}", flush=True)
+        print(f"{command}: " + ", ".join(f"{status}: {n}" for status, n in of_it))
+    print(f"told otherwise whether a ship file is TOML: {counts['toml', '', '']}; reported: {counts['wrong', '', '']}", flush=True)
 
 
 def main():
@@ -351,16 +488,17 @@ def main():
     parser.add_argument("--only", type=int)
     parser.add_argument("--keep", default="fuzz-reported")
     parser.add_argument("--megabytes", type=int, default=512)
+    parser.add_argument("--plain", action="store_true")
     args = parser.parse_args()
     args.program = os.path.abspath(args.program)
     inputs = read_inputs(args.program)
     if args.only is not None:
         with tempfile.TemporaryDirectory() as folder:
-            trials = Trials(args.program, inputs, args.seed, folder)
-            command, more, files, spoilt = trials.make(args.only)
-            for role, data in files.items():
-                print(f"--- {role}{' (spoilt)' if role in spoilt else ''}\n{data.decode('utf-8', 'backslashreplace')}")
-            print("---", command, *more, trials.trial(args.only)[1:])
+            trials = Trials(args.program, inputs, args.seed, folder, args.plain)
+            trial, status, wrong = trials.trial(args.only)
+            for role, data in trial.files.items():
+                print(f"--- {role}{' (spoilt)' if role in trial.spoilt else ''}\n{data.decode('utf-8', 'backslashreplace')}")
+            print("---", *trial.words, status, wrong)
         return 0
     print(f"{len(inputs)} inputs, seed {args.seed}, {args.count} trials", flush=True)
     queue, latest, left = multiprocessing.Queue(), {}, args.workers

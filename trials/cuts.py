@@ -1,19 +1,21 @@
 #!/usr/bin/env python3
 """Cuts each file of the cases and of the examples at every byte, and compares what the built program then says.
 
-    trials/cuts.py PROGRAM [--workers N] [--most BYTES] [--keep FOLDER]
+    trials/cuts.py PROGRAM [--workers N] [--minutes M] [--most BYTES] [--only COMMANDS] [--keep FOLDER]
     trials/cuts.py --write
 
-Each case of crates/qc_rows/data whose words are a plain command, and each example with its plan and its tree, is run
-once for each file that its command reads and each length below that file's own, with the file cut to it. What must
-come is worked out by reference.py and faults.py alone, without the program: the first fault of the first faulty file,
-or, where the cut leaves good files, their answer: of `tasks`, `show` and `check` the whole report; of `plan` a tree
-of the instance, the plan's end and the bound as the two files give them, and the status that goes with these. All
-other files must be as before. Inputs that are the same as earlier ones are run once. It ends with 1 where anything
-differs; the input and both answers are kept in FOLDER.
+Each case of crates/qc_rows/data whose words are a plain command on files, and each example under every command with the
+files that the program makes of it, is run once for each file that its command reads and each length below that file's
+own, with the file cut to it. What must come is worked out by answers.py alone, without the program: the first fault of
+the first faulty file, or, where the cut leaves good files, their answer: of `plan` and `free` a tree of the instance, the
+plan's end and the bound as the two files give them, and the status that goes with these; of the others the whole report.
+All other files must be as before. A file that a command read before behind the same files is not cut again; ship files and
+lists of more than 3,000 bytes are cut under `tasks` alone. It ends with 1 where anything differs; the input and both
+answers are kept in FOLDER. COMMANDS are those that are tried, with commas between them; after M minutes what is
+left is left out.
 
 `--write` makes the cut cases of the worked examples (the list `WORKED`) in crates/qc_rows/data anew, with the
-outcomes that reference.py and faults.py give.
+outcomes that answers.py gives.
 """
 import argparse
 import collections
@@ -22,6 +24,7 @@ import os
 import subprocess
 import sys
 import tempfile
+import time
 from pathlib import Path
 
 sys.dont_write_bytecode = True  # no folder of compiled files beside the scripts
@@ -30,12 +33,8 @@ ROOT = Path(__file__).resolve().parent.parent
 DATA = ROOT / "crates/qc_rows/data"
 sys.path.append(str(ROOT / "fuzz"))
 
-from faults import list_fault, ship_or_fault
-from free import freecheck_report
-from fuzz import ROLES as FUZZED, case_input
-from reference import NEVER, TreeFault, TreeReader, check_report, end_of, instance_of, refusal, show_report, tasks_report
-
-ROLES = {**FUZZED, "freecheck": FUZZED["check"]}
+from answers import ROLES, SEARCHES, answer, read_by, search_fault, split_words
+from fuzz import case_input, is_long, made_files
 
 # The cases of crates/qc_rows/data of which `--write` makes cut cases: the files of the worked examples, a file that
 # several of them share once. The command is that of the new case.
@@ -56,7 +55,7 @@ WORKED = {
         check/work-0 check/line-too-long check/end-branchings check/task-leading-zero check/not-forced check/work-short
         check/unknown-task check/end-value check/empty-line-after-end check/berths check/berths-first-version
         check/plan-berths check/plan-berths-first-version check/plan-berths-bad-tree check/no-tasks check/packed""",
-    "freecheck tree": """freecheck/to-and-fro freecheck/to-and-fro-tree-alone freecheck/both-cranes-packed freecheck/infeasible
+    "freecheck freetree": """freecheck/to-and-fro freecheck/to-and-fro-tree-alone freecheck/both-cranes-packed freecheck/infeasible
         freecheck/ring freecheck/byte-after-end freecheck/not-conflict-turned""",
     "freecheck plan": "freecheck/to-and-fro freecheck/to-and-fro-too-soon",
 }
@@ -73,20 +72,24 @@ class Case:
     @property
     def reads(self):
         """The roles of the files that the command reads, in its order."""
-        roles = ROLES[self.command][:2] if self.command == "plan" else ROLES[self.command]
-        return [role for role in roles if not (role == "plan" and self.minus)]
+        return [role for role in read_by(self.command, self.more) if not (role == "plan" and self.minus)]
 
     @property
     def words(self):
         names = ["-" if role == "plan" and self.minus else role for role in ROLES[self.command]]
         return [self.command, *names, *self.more]
 
-    def key(self):
-        return self.command, self.minus, tuple(self.more), tuple(sorted(self.files.items()))
+    def key(self, role):
+        """What the command is given up to that file."""
+        front = self.reads[:self.reads.index(role) + 1]
+        return self.command, self.minus, tuple(self.more), tuple(self.files.get(one) for one in front)
 
     def cut(self, role, length):
         files = {**self.files, role: self.files[role][:length]}
         return Case(self.name, self.command, self.more, files, self.minus)
+
+    def answer(self):
+        return answer(self.command, self.files, self.more, self.minus)
 
 
 def read_case(path):
@@ -94,113 +97,28 @@ def read_case(path):
     words, files, others = case_input(path)
     if not words or words[0] not in ROLES or others & {"word", "fail", "cut"}:
         return None, None
-    roles = ROLES[words[0]]
-    names, more = words[1:len(roles) + 1], words[len(roles) + 1:]
-    minus = words[0] in ("check", "freecheck") and names[2:3] == ["-"]
-    is_plain = len(names) == len(roles) == len(set(names)) and not any(
-        word.startswith("-") and not (minus and word == "-") for word in names)
-    takes_more = words[0] == "plan" and len(more) == 2 and more[0] == "--nodes" and more[1].isdigit() and (
-        more[1] == "0" or more[1][0] != "0") and int(more[1]) <= 100_000
-    if not is_plain or more and not takes_more:
+    parsed = split_words(words)
+    if parsed is None:
         return None, None
-    found = {role: files[name] for role, name in zip(roles, names) if name in files}
-    return Case(str(path.relative_to(DATA))[:-5], words[0], more, found, minus), dict(zip(roles, names))
-
-
-def made_by(program, files, nodes, role):
-    """The plan or the tree that the program makes of a ship file and a list, where it makes one."""
-    with tempfile.TemporaryDirectory() as room:
-        for name, data in files.items():
-            Path(room, name).write_bytes(data)
-        words = [program, "plan", "ship", "stow", "plan", "tree", "--nodes", nodes]
-        subprocess.run(words, cwd=room, stdout=subprocess.DEVNULL, check=False)
-        return {role: Path(room, role).read_bytes()} if Path(room, role).exists() else {}
+    names, more = parsed
+    minus = words[0] in ("check", "freecheck") and names.get("plan") == "-"
+    found = {role: files[name] for role, name in names.items() if name in files}
+    return Case(str(path.relative_to(DATA))[:-5], words[0], more, found, minus), names
 
 
 def read_examples(program):
-    """Each example under `tasks`, and under `show` and `check` with the plan and the tree that the program makes."""
+    """Each example under every command, with the files that the program makes of it."""
     for folder in sorted(path for path in (ROOT / "examples").iterdir() if path.is_dir()):
         files = {"ship": (folder / "ship.toml").read_bytes(), "stow": (folder / "stow.csv").read_bytes()}
-        yield Case(f"examples/{folder.name}", "tasks", [], files, False)
-        made = made_by(program, files, "20", "tree") | made_by(program, files, "100", "plan")
-        minus = "plan" not in made
-        yield Case(f"examples/{folder.name}", "check", [], {**files, **made}, minus)
-        if not minus:
-            yield Case(f"examples/{folder.name}", "show", [], {**files, "plan": made["plan"]}, False)
-
-
-# ---------------------------------------------------------------- what must come
-
-def first_fault(case):
-    """The instance and None, or None and the status and report of the first file that isn't there or is faulty."""
-    files = case.files
-    if "ship" not in files:
-        return None, (3, ["ReadFault ship"])
-    ship, fault = ship_or_fault(files["ship"])
-    if fault:
-        return None, (5, [fault])
-    if "stow" not in files:
-        return None, (3, ["ReadFault stow"])
-    fault = list_fault(ship, files["stow"])
-    if fault:
-        return None, (6, [fault])
-    return instance_of(ship, files["stow"]), None
-
-
-def answer(case):
-    """Status and report of `tasks`, `show`, `check` or `freecheck`, or of a refusal of `plan`; None where `plan` goes on."""
-    inst, refused = first_fault(case)
-    if refused or case.command == "plan":
-        return refused
-    if case.command == "tasks":
-        return tasks_report(inst)
-    plan = case.files.get("plan")
-    if plan is None and not case.minus:
-        return 3, ["ReadFault plan"]
-    if case.command == "show":
-        return show_report(inst, plan)
-    if case.command == "freecheck":
-        return free_answer(inst, plan, case.files.get("tree"))
-    if "tree" not in case.files:
-        return refusal(inst, plan)[2] if plan is not None and refusal(inst, plan)[2] else (3, ["ReadFault tree"])
-    return check_report(inst, None if case.minus else plan, case.files["tree"])
-
-
-def free_answer(inst, plan, tree):
-    """Status and report of `freecheck`; a tree that isn't there is missed only where the plan holds."""
-    if tree is not None:
-        return freecheck_report(inst, plan, tree)
-    refused = freecheck_report(inst, plan, b"") if plan is not None else (7, [])
-    return (3, ["ReadFault tree"]) if refused[0] == 7 else refused
-
-
-def judge_plan(case, seen, left):
-    """What is wrong with the answer of `plan` on good files, or None."""
-    status, lines = seen
-    inst = instance_of(ship_or_fault(case.files["ship"])[0], case.files["stow"])
-    if {role: left.get(role) for role in ("ship", "stow")} != {role: case.files[role] for role in ("ship", "stow")}:
-        return "the ship file or the list changed"
-    try:
-        tree = TreeReader(inst, left.get("tree", b"")).read()
-    except TreeFault as fault:
-        return f"the tree has the fault {fault.kind} {fault.line}"
-    value = "never" if tree.value == NEVER else str(tree.value)
-    told = dict(line.split(" ", 1) for line in lines if line.split(" ")[0] in ("end", "bound", "branched"))
-    if told.get("branched") != str(tree.branched) or status != 10 and told.get("bound") != value:
-        return "the report and the tree differ"
-    has_plan = status in (0, 11)
-    if not has_plan:
-        kept = left.get("plan") == case.files.get("plan")
-        word = {10: "Infeasible", 12: "Budget"}.get(status)
-        return None if kept and lines[:1] == [word] and (value == "never") == (status == 10) else "no plan, wrongly"
-    plan, _, refused = refusal(inst, left.get("plan", b""))
-    if refused:
-        return f"the plan is refused: {refused[1]}"
-    end = end_of(inst, plan)
-    is_best = tree.value >= end
-    if told.get("end") != str(end) or is_best != (status == 0) or lines[0] != ("Optimal" if is_best else "Budget"):
-        return "the report and the plan differ"
-    return None
+        for plans in made_files(program, files, folder):
+            for command, roles in ROLES.items():
+                some = {role: plans[role] for role in ["ship", "stow", *roles] if role in plans}
+                if command in SEARCHES:
+                    some = {**files, **{role: plans[role] for role in ("own",) if role in plans}}
+                more = ["--nodes", "100", "--from", "own"] if command in SEARCHES else []
+                minus = command in ("check", "freecheck") and "plan" not in plans
+                if set(read_by(command, more)) - set(some) <= ({"plan"} if minus else set()):
+                    yield Case(f"examples/{folder.name}", command, more, some, minus)
 
 
 # ---------------------------------------------------------------- running
@@ -234,9 +152,9 @@ class Runner:
 
     def judge(self, case, label):
         seen, left, wrong = self.run(case)
-        due = answer(case)
+        due = case.answer()
         if wrong is None and due is None:
-            wrong = judge_plan(case, seen, left)
+            wrong = search_fault(case.command, case.files, case.more, seen, left)
         elif wrong is None and seen != due:
             wrong = "another answer"
         elif wrong is None and left != case.files:
@@ -252,12 +170,15 @@ class Runner:
             print(f"{label}: {wrong}", flush=True)
 
 
-def work(program, keep, jobs, counts):
-    """Takes cases from the queue until there are no more."""
+def work(program, keep, last, jobs, counts):
+    """Takes cases from the queue until there are no more; those that come too late are counted alone."""
     runner = Runner(program, keep)
     for case, role, lengths in iter(jobs.get, None):
         for length in lengths:
-            runner.judge(case.cut(role, length), f"{case.name}-{role}-{length}")
+            if time.monotonic() > last:
+                runner.counts["too late", 0] += 1
+                continue
+            runner.judge(case.cut(role, length), f"{case.name}-{case.command}-{role}-{length}")
     counts.put(runner.counts)
 
 
@@ -268,14 +189,15 @@ def fresh_jobs(cases, most, totals):
         for role in case.reads:
             if role not in case.files:
                 continue
-            if max(map(len, case.files.values())) > most:
+            is_long = role in ("ship", "stow") and len(case.files[role]) > 3000 and case.command != "tasks"
+            if is_long or max(map(len, case.files.values())) > most:
                 totals["left out"] += 1
                 continue
             totals["files"] += 1
             totals["bytes"] += len(case.files[role])
             lengths = []
             for length in range(len(case.files[role])):
-                key = hash(case.cut(role, length).key())
+                key = hash(case.cut(role, length).key(role))
                 if key not in met:
                     met.add(key)
                     lengths.append(length)
@@ -285,10 +207,12 @@ def fresh_jobs(cases, most, totals):
 
 def run_all(args):
     program = os.path.abspath(args.program)
-    cases = [read_case(path)[0] for path in sorted(DATA.glob("*/*.case"))]
+    cases = [read_case(path)[0] for path in sorted(DATA.glob("*/*.case")) if not is_long(path)]
     cases = [case for case in cases if case] + list(read_examples(program))
+    cases = [case for case in cases if not args.only or case.command in args.only.split(",")]
     jobs, done, totals = multiprocessing.Queue(100), multiprocessing.Queue(), collections.Counter()
-    workers = [multiprocessing.Process(target=work, args=(program, args.keep, jobs, done)) for _ in range(args.workers)]
+    last = time.monotonic() + 60 * args.minutes
+    workers = [multiprocessing.Process(target=work, args=(program, args.keep, last, jobs, done)) for _ in range(args.workers)]
     for worker in workers:
         worker.start()
     for job in fresh_jobs(cases, args.most, totals):
@@ -296,9 +220,9 @@ def run_all(args):
     for _ in workers:
         jobs.put(None)
     counts = sum((done.get() for _ in workers), collections.Counter())
-    differences = counts.pop(("differences", 0), 0)
+    differences, late = counts.pop(("differences", 0), 0), counts.pop(("too late", 0), 0)
     print(f"{len(cases)} cases; {totals['files']} files of {totals['bytes']} bytes cut at every byte, {totals['left out']} "
-          f"left out, where one of the case is longer than {args.most}; {sum(counts.values())} runs on different inputs")
+          f"left out for their length; {sum(counts.values())} runs on different inputs" + f", and {late} too late" * (late > 0))
     for command in sorted(ROLES):
         of_it = sorted((status, count) for (name, status), count in counts.items() if name == command)
         print(f"{command}: " + ", ".join(f"{status}: {count}" for status, count in of_it))
@@ -327,12 +251,12 @@ def write_case(command, role, name):
     case, names = read_case(DATA / f"{name}.case")
     case = Case(name, command, [], case.files, case.minus)
     texts, outcomes = file_lines(DATA / f"{name}.case"), []
-    letters = {"ship": "s", "stow": "m", "plan": "p", "tree": "t"}
+    letters = {"ship": "s", "stow": "m", "plan": "p", "tree": "t", "freetree": "t"}
     for length in range(len(case.files[role])):
-        due = answer(case.cut(role, length))
+        due = case.cut(role, length).answer()
         if due not in outcomes:
             outcomes.append(due)
-    what = {"ship": "ship file", "stow": "list", "plan": "plan's file", "tree": "tree"}[role]
+    what = {"ship": "ship file", "stow": "list", "plan": "plan's file"}.get(role, "tree")
     lines = [f"# The {what} of {name}, cut at every byte.",
              " ".join(["words", command] + ["-" if word == "-" else letters[word] for word in case.words[1:]])]
     for one in ROLES[command]:
@@ -341,8 +265,9 @@ def write_case(command, role, name):
     lines.append(f"cut {letters[role]}")
     for status, report in outcomes:
         lines += ["", f"status {status}", "report"] + [f"|{line}" for line in report]
-    short = name.split("/")[1].removeprefix(f"{'list' if role == 'stow' else role}-")
-    target = DATA / command / f"{'list' if role == 'stow' else role}-cut-anywhere-{short}.case"
+    kind = {"stow": "list", "freetree": "tree"}.get(role, role)
+    short = name.split("/")[1].removeprefix(f"{kind}-")
+    target = DATA / command / f"{kind}-cut-anywhere-{short}.case"
     target.write_text("\n".join(lines) + "\n", encoding="utf-8")
     return target
 
@@ -359,7 +284,9 @@ def main():
     parser.add_argument("program", nargs="?")
     parser.add_argument("--write", action="store_true")
     parser.add_argument("--workers", type=int, default=2)
+    parser.add_argument("--minutes", type=float, default=1e9)
     parser.add_argument("--most", type=int, default=20_000)
+    parser.add_argument("--only", default="")
     parser.add_argument("--keep", default="cuts-reported")
     args = parser.parse_args()
     if args.write == (args.program is not None):

@@ -14,6 +14,7 @@ some pairs which is done first; two tasks conflict where they may not run side b
 """
 import itertools
 import sys
+from functools import cache
 
 sys.dont_write_bytecode = True
 
@@ -226,9 +227,28 @@ class FreeMotion(Motion):
 
     def waypoints(self, crane):
         """Pairs of half ticks and of places in halves of a tick's travel."""
-        places = [self.place(crane, m, 2) for m in range(2 * self.ends + 1)]
-        turns = [m for m in range(1, 2 * self.ends) if places[m + 1] - places[m] != places[m] - places[m - 1]]
-        return [(m, places[m]) for m in [0] + turns + ([2 * self.ends] if self.ends else [])]
+        place = cache(lambda m: self.place(crane, m, 2))
+        turns = [m for m in self.halves(crane) if place(m + 1) - place(m) != place(m) - place(m - 1)]
+        return [(m, place(m)) for m in [0] + turns + ([2 * self.ends] if self.ends else [])]
+
+    def halves(self, crane):
+        """The half ticks at which the crane may turn: all, or where ends are late those at which two of the straight
+        lines meet that its place is made of."""
+        last = 2 * self.ends
+        if last <= 400:
+            return range(1, last)
+        inst = self.inst
+        stays = [(2 * inst.travel * (bay + inst.gap * (crane - v)), 2 * start, 2 * end)
+                 for v, bay, start, end in self.jobs if v <= crane]
+        stays += [(2 * inst.travel * (data.bay + inst.gap * (crane - v)), 0, 2 * data.ready)
+                  for v, data in enumerate(inst.cranes) if v <= crane]
+        flat = [place for place, _, _ in stays] + [2 * inst.travel * self.floor(crane)]
+        rising = [place - start for place, start, _ in stays]
+        falling = [place + end for place, _, end in stays]
+        near = {moment for _, start, end in stays for moment in (start, end)}
+        near |= {place - line for place in flat for line in rising} | {line - place for place in flat for line in falling}
+        near |= {(down - up) // 2 for up in rising for down in falling}
+        return sorted(moment for moment in {moment + step for moment in near for step in (-1, 0, 1, 2)} if 0 < moment < last)
 
     def unsafe(self, parts):
         """What isn't safe at some moment `m / parts`, or None."""

@@ -1,18 +1,16 @@
 #!/usr/bin/env python3
-"""Tries the second opinion of plans that go to and fro (free.py), and beside it a search in C++ and the program.
+"""Tries the second opinion of plans that go to and fro (free.py), and beside it a search in C++.
 
     freely.py rows
     freely.py bounds [--first SEED] [--count SHIPS] [--short]
     freely.py side SIDE [--first SEED] [--count SHIPS] [--wide]
-    freely.py program PROGRAM [--first SEED] [--count SHIPS]
 
 `rows`: plans, trees, faults and tracks that were worked out by hand. `bounds`: on random ships of at most five tasks
 and four cranes the search in any direction comes to the least end of all feasible plans, by trying every choice and
 every order; what it writes is what such a search may write; no tree says more than the least end, and no node is closed
 at more than that of all plans with its cranes; the motion is safe at each third of a tick. `side`: the search of
-`bench/side.cpp` finds what the one here finds, by the same nodes. `program`: what `plan`, `free` and `freecheck` of a
-built qc answer on random ships is the least end of all plans, one way and any way, with a plan, a tree and crane lines
-that hold; `free` is never later than `plan` with the same words. Status 1 where anything differs.
+`bench/side.cpp` finds what the one here finds, by the same nodes. Status 1 where anything differs.
+The program itself is tried by compare.py.
 """
 import argparse
 import itertools
@@ -25,14 +23,15 @@ from pathlib import Path
 
 sys.dont_write_bytecode = True
 
-from closed import Ends, closed_ends, made, ship, tiny
-from compare import Maker, SearchJudge, text_of
+from closed import Ends, closed_ends, made, tiny
 from free import (FreeMotion, FreeNode, FreeReader, FreeSearch, first_break, free_crane_lines, free_lists, free_report,
                   freecheck_report, numbers_of, tight_free)
+from judges import SearchJudge
 from packed import Search, bare, least_feasible_end, random_instance, random_node, ring_of
-from reference import (NEVER, PHASES, Crane, Instance, Task, TreeFault, TreeReader, are_short, bound_text, counts_of,
-                       crane_lines, dump, end_of,
+from reference import (NEVER, PHASES, Crane, Instance, Task, TreeFault, are_short, bound_text, counts_of, dump, end_of,
                        instance_of, least_end, plan_text, read_plan, read_ship)
+from ships import text_of
+
 
 # ---------------------------------------------------------------- rows by hand
 
@@ -397,6 +396,8 @@ def random_part(node, lines, rng):
 
 def random_chain(node, rng):
     """A chain of the node's arcs from any task on."""
+    if not node.crane:
+        return "P"
     chain = [rng.randrange(len(node.crane))]
     while (more := [k for i, k, _ in node.arcs if i == chain[-1]]) and rng.random() < 0.9:
         chain.append(rng.choice(more))
@@ -542,114 +543,9 @@ def try_run(side, inst, given, nodes, step, numbers, written, counts):
     return None if bare(search.lines) == bare(written.read_text().splitlines()) else "other lines"
 
 
-# ---------------------------------------------------------------- the program
-
-def dense_files(rng):
-    """A ship file and a list with work in several phases, late cranes and many ordered restows."""
-    hatches = [2, 6, 10, 14][:rng.randint(2, 4)]
-    ship = (f"hatches = {hatches}\nmargin = {rng.choice((1, 1, 2))}\ntravel = {rng.choice((1, 2, 3, 5))}\n"
-            f'deck_move = {rng.randint(1, 10)}\nhold_move = {rng.randint(1, 10)}\nrestows = "ordered"\n')
-    bay = rng.choice((1, 1, 2))
-    for name in ("C1", "C2", "C3")[:rng.choice((1, 2, 2, 2, 3))]:
-        late = f"ready = {rng.randint(1, 25)}\n" if rng.random() < 0.4 else ""
-        ship += f'\n[[crane]]\nname = "{name}"\nbay = {bay}\n{late}'
-        bay += rng.randint(3, 4)
-    doing = rng.sample([(hatch, phase) for hatch in hatches for phase in ("DD", "DH", "LH", "LD")], rng.randint(2, 5))
-    rows, off = ["id,move,cell,length"], []
-    for hatch, phase in sorted(doing, key=lambda one: one[1][0] == "L"):
-        for i in range(rng.randint(1, 3)):
-            back = off and phase[0] == "L" and rng.random() < 0.5
-            name = off.pop(rng.randrange(len(off))) if back else f"{hatch}-{phase}-{i}"
-            if phase[0] == "D":
-                off.append(name)
-            rows.append(f"{name},{phase[0]},{hatch:02}00{(82 if phase[1] == 'D' else 2) + 2 * i:02},40")
-    return ship, "\n".join(rows) + "\n"
-
-
-def some_files(rng):
-    if rng.random() < 0.6:
-        return dense_files(rng)
-    maker = Maker(rng, False)
-    maker.tasks = min(maker.tasks, 4)
-    return maker.ship(), maker.stowage()
-
-
-def try_answer(inst, folder, words, least, free, run):
-    """What is wrong with an answer of `plan` or `free`, if anything is; and its end, if it has one."""
-    for name in ("plan", "tree"):
-        Path(folder, name).unlink(missing_ok=True)
-    status, lines = run(*words)
-    told = dict(line.split(" ", 1) for line in lines[1:] if not line.startswith("crane "))
-    if lines[0] not in ("Optimal", "Infeasible", "Budget"):
-        return None, f"{words[0]}: {status} {lines}"
-    tree = Path(folder, "tree").read_bytes()
-    reader = (FreeReader if free else TreeReader)(inst, tree).read()
-    if lines[0] == "Infeasible":
-        return None, None if (least, reader.value, status) == (NEVER, NEVER, 10) else f"{lines}, least end {least}"
-    bound = int(told["bound"])
-    if bound > least or (reader.value, reader.branched) != (bound, int(told["branched"])):
-        return None, f"{words[0]}: bound {bound}, a tree that says {reader.value}, least end {least}"
-    if "end" not in told:
-        return None, None if (lines[0], status) == ("Budget", 12) else f"{words[0]}: {status} {lines}"
-    plan, fault = read_plan(inst, Path(folder, "plan").read_bytes())
-    end, cranes = int(told["end"]), [line for line in lines if line.startswith("crane ")]
-    due = free_crane_lines(inst, plan) if free else crane_lines(inst, plan, told["direction"])
-    if fault or first_break(inst, plan) or end != end_of(inst, plan) or end < least or cranes != due:
-        return end, f"{words[0]}: {fault}, {plan} breaks {first_break(inst, plan)}, {lines}, due {due}"
-    if (status, lines[0]) != ((0, "Optimal") if end == bound else (11, "Budget")) or free and tight_free(inst, plan) != plan:
-        return end, f"{words[0]}: {status} {lines}, {plan}"
-    return end, None
-
-
-def try_program(program, first, number):
-    counts, wrong = Counter(), 0
-    with tempfile.TemporaryDirectory(prefix="freely-") as folder:
-        def run(*words):
-            done = subprocess.run([program, "-q", *words], cwd=folder, capture_output=True, text=True, timeout=100, check=False)
-            return done.returncode, done.stdout.splitlines()
-        for seed in range(first, first + number):
-            rng = random.Random(seed)
-            ship, stow = some_files(rng)
-            Path(folder, "ship").write_text(ship)
-            Path(folder, "stow").write_text(stow)
-            inst = instance_of(read_ship(ship.encode()), stow.encode())
-            if not inst.tasks:
-                continue
-            upward, least = least_end(inst), least_feasible_end(inst, [None] * len(inst.tasks))
-            counts["ships"] += 1
-            counts["ships that only plans to and fro can do"] += least < upward == NEVER
-            counts["ships on which to and fro ends earlier"] += least < upward < NEVER
-            for more in ([], ["--nodes", "0"], ["--nodes", str(rng.randint(1, 20))]):
-                ends = []
-                for word in ("plan", "free"):
-                    end, trouble = try_answer(inst, folder, [word, "ship", "stow", "plan", "tree", *more],
-                                              least if word == "free" else upward, word == "free", run)
-                    if trouble is None and not more and end != (None if (least if word == "free" else upward) == NEVER
-                                                                else least if word == "free" else upward):
-                        trouble = f"{word} ends at {end}, least ends {upward} and {least}"
-                    ends.append(NEVER if end is None else end)
-                    if trouble:
-                        wrong += 1
-                        print(f"seed {seed} {more}: {trouble}", flush=True)
-                if ends[1] > ends[0]:
-                    wrong += 1
-                    print(f"seed {seed} {more}: free ends at {ends[1]}, plan at {ends[0]}", flush=True)
-                if ends[1] < NEVER:
-                    status, lines = run("freecheck", "ship", "stow", "plan", "tree")
-                    due = freecheck_report(inst, Path(folder, "plan").read_bytes(), Path(folder, "tree").read_bytes())
-                    counts[f"freecheck: {lines[0]}"] += 1
-                    if (status, lines) != due:
-                        wrong += 1
-                        print(f"seed {seed} {more}: freecheck {status} {lines}, due {due}", flush=True)
-    for what, much in sorted(counts.items()):
-        print(f"{much:9} {what}")
-    print(f"{number} ships from {first}, {wrong} differences")
-    return wrong
-
-
 def main():
     parser = argparse.ArgumentParser(description="plans to and fro by hand, by brute force, and beside a search in C++")
-    parser.add_argument("what", nargs="?", choices=("rows", "bounds", "side", "program"), default="rows")
+    parser.add_argument("what", nargs="?", choices=("rows", "bounds", "side"), default="rows")
     parser.add_argument("side", nargs="?")
     parser.add_argument("--first", type=int, default=1)
     parser.add_argument("--count", type=int, default=100)
@@ -660,8 +556,6 @@ def main():
         wrong = try_rows()
     elif words.what == "bounds":
         wrong = try_bounds(words.first, words.count, try_ends if words.short else try_all)
-    elif words.what == "program":
-        wrong = try_program(words.side, words.first, words.count)
     else:
         wrong = try_side(words.side, words.first, words.count, words.wide)
     sys.exit(1 if wrong else 0)

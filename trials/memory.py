@@ -1,7 +1,7 @@
 #!/usr/bin/env python3
 """Refuses memory to the built program: one allocation after the other, and all from one on.
 
-    trials/memory.py PROGRAM [--nodes N] [--voice] [--only WORD]
+    trials/memory.py PROGRAM [--nodes N] [--voice] [--only WORD] [--workers N]
 
 For each command below it first counts the allocations of a run, then runs it twice for each number n: once with the
 nth refused, once with the nth and all after it. Each run must come to one of
@@ -21,6 +21,7 @@ that. Only Python's standard library and gcc are needed. It ends with 1 where a 
 """
 import argparse
 import collections
+import multiprocessing
 import os
 import subprocess
 import sys
@@ -34,6 +35,8 @@ MOVES = b"id,move,cell,length\nA1,D,020082,40\nA2,D,020084,40\nB1,D,060082,40\nB
 PLAN = b"task,crane,start,end\n2-DD,C1,0,20\n6-DD,C1,21,41\n"
 TREE = b"QCTREE 2\nup\nP 2\ndown\nP 2\nend 0 21\n"
 FREE_TREE = b"QCFREE 1\nQ 1 2\nend 0 41\n"
+HAPPENED = b"tick 25\ndone 2-DD\ntick 3\n"
+PLACES = b"0 C1 1\n0 C2 3\n20 C1 1\n21 C2 3\n41 C2 3\n"
 
 
 def read(*path):
@@ -41,14 +44,28 @@ def read(*path):
         return file.read()
 
 
-def planned(program, files):
+def planned(program, files, command="plan"):
     """The files with the plan and the tree that the program makes of them with a hundred branchings."""
     with tempfile.TemporaryDirectory() as folder:
         for name, data in files.items():
             with open(f"{folder}/{name}", "wb") as file:
                 file.write(data)
-        subprocess.run([program, "plan", "s", "m", "p", "t", "--nodes", "100"], cwd=folder, stdout=subprocess.DEVNULL)
+        subprocess.run([program, command, "s", "m", "p", "t", "--nodes", "100"], cwd=folder, stdout=subprocess.DEVNULL)
         return {name: read(folder, name) for name in "smpt"}
+
+
+def happened(plan):
+    """A log in which each task ends when the plan says."""
+    lines, now = [], 0
+    for end, task in sorted((int(line.split(",")[3]), line.split(",")[0]) for line in plan.decode().splitlines()[1:]):
+        lines += [f"tick {end - now}\n"] * (end > now) + [f"done {task}\n"]
+        now = end
+    return "".join(lines).encode()
+
+
+def places():
+    """A log of 3,000 places of the vessel's cranes, which keep their margin."""
+    return "".join(f"{at} STS-{k + 1} {1 + 4 * k}\n" for at in range(1000) for k in range(3)).encode()
 
 
 def inputs(program, nodes):
@@ -59,6 +76,8 @@ def inputs(program, nodes):
     fro = {"s": read("examples/to-and-fro/ship.toml"), "m": read("examples/to-and-fro/stow.csv")}
     judged = dict(four, p=PLAN, t=TREE)
     vessel_judged = planned(program, vessel)
+    vessel_free = planned(program, vessel, "free")
+    vessel_logs = {"l": happened(vessel_judged["p"]), "w": places()}
     unreached = dict(four, s=FOUR.replace(b"bay = 3\n", b"bay = 3\nto = 1\n").replace(b"bay = 1\n", b"bay = 1\nto = 1\n"))
     return [
         ("plan, first example", ["plan", "s", "m", "p", "t"], first),
@@ -66,6 +85,7 @@ def inputs(program, nodes):
         ("plan, Infeasible", ["plan", "s", "m", "p", "t"], unreached),
         ("plan, no branching", ["plan", "s", "m", "p", "t", "--nodes", "0"], four),
         ("plan over old files", ["plan", "s", "m", "p", "t"], judged),
+        ("plan from one's own", ["plan", "s", "m", "q", "t", "--from", "p"], judged),
         ("free, four moves", ["free", "s", "m", "p", "t"], four),
         ("free, to and fro", ["free", "s", "m", "p", "t"], fro),
         ("free over old files, from one's own", ["free", "s", "m", "q", "t", "--from", "p"], dict(judged, t=FREE_TREE)),
@@ -76,6 +96,10 @@ def inputs(program, nodes):
         ("tasks", ["tasks", "s", "m"], four),
         ("show", ["show", "s", "m", "p"], judged),
         ("sheet", ["sheet", "s", "m", "p"], judged),
+        ("dispatch", ["dispatch", "s", "m", "p", "l"], dict(judged, l=HAPPENED)),
+        ("watch", ["watch", "s", "w"], dict(four, w=PLACES)),
+        ("picture", ["picture", "s", "m", "p"], judged),
+        ("report", ["report", "s", "m", "p"], judged),
         ("make, one hatch", ["make", "0", "1", "1"], {}),
         ("make, three hatches", ["make", "7", "3", "2"], {}),
         ("unknown word", ["work", "s"], {}),
@@ -85,6 +109,13 @@ def inputs(program, nodes):
         ("check of a tree alone, vessel", ["check", "s", "m", "-", "t"], vessel_judged),
         ("show, vessel", ["show", "s", "m", "p"], vessel_judged),
         ("sheet, vessel", ["sheet", "s", "m", "p"], vessel_judged),
+        ("plan from one's own, vessel", ["plan", "s", "m", "q", "t", "--nodes", nodes, "--from", "p"], vessel_judged),
+        ("free, vessel", ["free", "s", "m", "p", "t", "--nodes", nodes], vessel),
+        ("freecheck, vessel", ["freecheck", "s", "m", "p", "t"], vessel_free),
+        ("dispatch, vessel", ["dispatch", "s", "m", "p", "l"], {**vessel_judged, **vessel_logs}),
+        ("watch, vessel", ["watch", "s", "w"], {**vessel, **vessel_logs}),
+        ("picture, vessel", ["picture", "s", "m", "p"], vessel_judged),
+        ("report, vessel", ["report", "s", "m", "p"], vessel_judged),
     ]
 
 
@@ -135,32 +166,40 @@ def verdict(ran, whole, files, voice):
     return f"WRONG: status {status}, report {report[:80]!r}, files {sorted(left)}"
 
 
+def refuse_all(job):
+    """What a command comes to where each of its allocations is refused: its line, how often each thing came."""
+    program, library, voice, (name, words, files) = job
+    with tempfile.TemporaryDirectory() as folder:
+        runs, seen = Runs(program, library, folder, voice), collections.Counter()
+        whole, (calls, before_first, before_last) = runs.count(words, files)
+        for number in range(1, calls + 1):
+            for how in ("REFUSE_AT", "REFUSE_FROM"):
+                seen[verdict(runs.run(words, files, **{how: number}), whole, files, voice)] += 1
+    made = f", {before_first} before the first file was begun, {before_last - before_first} from then to the last, " \
+           f"{calls - before_last} after it" if before_first >= 0 else ""
+    return f"{name}: status {whole[0]}, {calls} allocations{made}", seen
+
+
 def main():
     parser = argparse.ArgumentParser()
     parser.add_argument("program")
     parser.add_argument("--nodes", default="30")
     parser.add_argument("--voice", action="store_true")
     parser.add_argument("--only", default="", help="only what has this in its name")
+    parser.add_argument("--workers", type=int, default=2)
     args = parser.parse_args()
     program, wrong, total = os.path.abspath(args.program), 0, collections.Counter()
     with tempfile.TemporaryDirectory() as folder:
         library = os.path.join(folder, "refuse.so")
         subprocess.run(["gcc", "-O1", "-shared", "-fPIC", "-o", library, f"{HERE}/refuse.c", "-ldl"], check=True)
-        runs = Runs(program, library, folder, args.voice)
-        for name, words, files in (one for one in inputs(program, args.nodes) if args.only in one[0]):
-            whole, (calls, before_first, before_last) = runs.count(words, files)
-            seen = collections.Counter()
-            for number in range(1, calls + 1):
-                for how in ("REFUSE_AT", "REFUSE_FROM"):
-                    what = verdict(runs.run(words, files, **{how: number}), whole, files, args.voice)
-                    seen[what] += 1
-                    wrong += what.startswith("WRONG") or what.startswith("standard error")
-            made = f", {before_first} before the first file was begun, {before_last - before_first} from then to the last, " \
-                   f"{calls - before_last} after it" if before_first >= 0 else ""
-            print(f"{name}: status {whole[0]}, {calls} allocations{made}", flush=True)
-            for what, times in sorted(seen.items()):
-                print(f"    {times:6} {what}", flush=True)
-            total.update(seen)
+        jobs = [(program, library, args.voice, one) for one in inputs(program, args.nodes) if args.only in one[0]]
+        with multiprocessing.Pool(args.workers) as pool:
+            for line, seen in pool.imap(refuse_all, jobs):
+                print(line, flush=True)
+                for what, times in sorted(seen.items()):
+                    print(f"    {times:6} {what}", flush=True)
+                    wrong += times * what.startswith(("WRONG", "standard error"))
+                total.update(seen)
     print(f"{sum(total.values())} runs, {wrong} wrong")
     return 1 if wrong else 0
 

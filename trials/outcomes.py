@@ -6,7 +6,7 @@
 
 SIDE is `bench/side.cpp`, built. Each outcome of a case in crates/qc_rows/data/plan and data/make that says what a
 search answered is worked out anew from the files of the case: status, report, TREE and PLAN. The search is that of
-packed.py; SIDE must find the same, and compare.py must let a search write its tree. The nodes of a large ship would
+packed.py; SIDE must find the same, and judges.py must let a search write its tree. The nodes of a large ship would
 take too long there, so that one is left to SIDE. What none of them knows is the plan that is found before the search:
 its end is the outcome's line `given`, its text the outcome's PLAN, and both are judged by the files (a plan that holds,
 goes one way, can't be made tighter, ends then, and with `--from` is the planner's own where that ends no later). Where
@@ -32,12 +32,13 @@ ROOT = Path(__file__).resolve().parent.parent
 DATA = ROOT / "crates/qc_rows/data"
 sys.path.append(str(ROOT / "fuzz"))
 
-from compare import SearchJudge, is_tight, text_of, tight_form
 from faults import list_fault, ship_or_fault
 from fuzz import case_input, content
+from judges import SearchJudge, is_tight, tight_form
 from packed import Search, bare, lists_of
 from reference import (NEVER, TreeReader, bound_text, crane_lines, direction_of, dump, end_of, instance_of, plan_text,
                        read_plan)
+from ships import text_of
 
 LARGE = 30     # tasks of a ship whose search is left to SIDE
 USUAL = 20_000

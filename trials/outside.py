@@ -25,6 +25,8 @@ STOW = open(f"{ROOT}/examples/first/stow.csv", "rb").read()
 VESSEL = open(f"{ROOT}/examples/vessel/ship.toml", "rb").read()
 VESSEL_STOW = open(f"{ROOT}/examples/vessel/stow.csv", "rb").read()
 PLANNED = ["plan", "s", "m", "p", "t"]
+FREED = ["free", "s", "m", "p", "f"]
+OWNED = ["plan", "s", "m", "p", "t", "--from", "o"]
 IS_ROOT = os.getuid() == 0
 FAULT = b"WriteFault\n"
 wrong = 0
@@ -50,6 +52,14 @@ class Room:
         for name in ("t", "p"):
             if self.read(name) is not None:
                 os.remove(self.at(name))
+
+    def fill(self):
+        """Writes the plan, both trees, a plan of one's own and both logs."""
+        self.run(FREED)
+        self.write("p", self.plan), self.write("t", self.tree), self.write("o", self.plan)
+        self.write("l", open(f"{ROOT}/examples/first/happened.txt", "rb").read())
+        self.write("w", b"0 C1 1\n20 C1 1\n21 C1 2\n")
+        return self
 
     def at(self, name):
         return os.path.join(self.path, name)
@@ -134,9 +144,17 @@ def full_disks():
         ran = room.run(["plan", "s", "m", "disk/p", "t"])
         expect("the disk of the plan has no room at all", ran, 4, FAULT, no_plan=read(f"{disk}/p") is None,
                tree_is_whole=room.read("t") == room.tree, no_part_left=not room.parts("disk") + room.parts())
-        with open(room.at("disk/out"), "wb") as out:
-            ran = room.run(["tasks", "s", "m"], stdout=out)
-        expect("the disk of the report has no room at all", ran, 4)
+        for words in (["free", "s", "m", "p", "disk/f"], ["plan", "s", "m", "p", "disk/t", "--from", "o"]):
+            os.path.exists(room.at("p")) and os.remove(room.at("p"))
+            room.write("o", room.plan)
+            ran = room.run(words)
+            expect(f"the disk of the tree has no room at all, {' '.join(words)}", ran, 4, FAULT, no_plan=room.read("p") is None,
+                   own_plan_kept=room.read("o") == room.plan, no_part_left=not room.parts("disk") + room.parts())
+        for name, words in judged():
+            room.fill()
+            with open(room.at("disk/out"), "wb") as out:
+                ran = room.run(words, stdout=out)
+            expect(f"the disk of the report of {name} has no room at all", ran, 4)
     room = Room()
     with Disk(room, "1m", inodes=1) as disk:
         ran = room.run(["plan", "s", "m", "p", "disk/t"])
@@ -184,26 +202,22 @@ def no_rights():
     ran = nobody(room, PLANNED)
     expect("an older plan that can't be written, as nobody", ran, 4, FAULT, older_tree_kept=room.read("t") == b"an older tree\n",
            older_plan_kept=room.read("p") == b"an older plan\n", no_part_left=not room.parts())
-    for name, word, words in (("s", "ship", ["tasks", "s", "m"]), ("m", "stow", ["tasks", "s", "m"]),
-                              ("p", "plan", ["check", "s", "m", "p", "t"]), ("t", "tree", ["check", "s", "m", "p", "t"])):
-        room = Room()
-        room.write("p", room.plan), room.write("t", room.tree)
+    for name, word, words in read_ones():
+        room = Room().fill()
         os.chmod(room.at(name), 0)
-        expect(f"a {word} file that can't be read, as nobody", nobody(room, words), 3, f"ReadFault {word}\n".encode())
+        expect(f"{words[0]}: a {word} file that can't be read, as nobody", nobody(room, words), 3, f"ReadFault {word}\n".encode())
 
 
 def kinds_of_files():
-    for name, word, words in (("s", "ship", ["tasks", "s", "m"]), ("m", "stow", ["tasks", "s", "m"]),
-                              ("p", "plan", ["show", "s", "m", "p"]), ("t", "tree", ["check", "s", "m", "-", "t"])):
+    for name, word, words in read_ones():
         for how in ("a folder in place of the", "no", "a link to nothing in place of the", "a link to itself in place of the"):
-            room = Room()
-            room.write("p", room.plan), room.write("t", room.tree)
+            room = Room().fill()
             os.remove(room.at(name))
             if how.startswith("a folder"):
                 os.mkdir(room.at(name))
             elif how.startswith("a link"):
                 os.symlink("nothing" if "nothing" in how else name, room.at(name))
-            expect(f"{how} {word} file", room.run(words), 3, f"ReadFault {word}\n".encode())
+            expect(f"{words[0]}: {how} {word} file", room.run(words), 3, f"ReadFault {word}\n".encode())
     room = Room()
     os.mkdir(room.at("t"))
     expect("a folder in place of the tree that is to be written", room.run(PLANNED), 4, FAULT, no_plan=room.read("p") is None)
@@ -216,7 +230,19 @@ def kinds_of_files():
     for what, status, report in (("/dev/zero", 15, b"TooLarge ship\n"), ("/dev/urandom", 15, b"TooLarge ship\n"),
                                  ("/dev/null", 5, b"BadShip Missing hatches 0\n"), ("/proc/self/mem", 3, b"ReadFault ship\n")):
         expect(f"{what} as ship file", room.run(["tasks", what, "m"]), status, report)
-    expect("/dev/zero as tree", room.run(["check", "s", "m", "-", "/dev/zero"]), 7, b"BadTree LineTooLong 1\n")
+    for command in ("check", "freecheck"):
+        expect(f"/dev/zero as tree of {command}", room.run([command, "s", "m", "-", "/dev/zero"]), 7, b"BadTree LineTooLong 1\n")
+    room.fill()
+    for command, words in (("dispatch", ["s", "m", "p"]), ("watch", ["s"])):
+        expect(f"/dev/zero as log of {command}", room.run([command, *words, "/dev/zero"]), 15, b"TooLarge log\n")
+        expect(f"/dev/null as log of {command}", room.run([command, *words, "/dev/null"]), 0,
+               b"Safe 0\n" if command == "watch" else b"start 2-DD C1 0\nnow 0\nleft 1\nrunning 1\n")
+    for command in ("plan", "free"):
+        expect(f"/dev/zero as own plan of {command}", room.run([command, "s", "m", "p", "t", "--from", "/dev/zero"]), 15,
+               b"TooLarge own\n", tree_as_before=room.read("t") == room.tree)
+        expect(f"/dev/null as own plan of {command}", room.run([command, "s", "m", "p", "t", "--from", "/dev/null"]), 8,
+               b"BadPlan Header 1\n", tree_as_before=room.read("t") == room.tree)
+    room = Room()
     expect("/dev/full as tree to be written", room.run(["plan", "s", "m", "p", "/dev/full"]), 4, FAULT, no_plan=room.read("p") is None)
     expect("/dev/full as plan to be written", room.run(["plan", "s", "m", "/dev/full", "t"]), 4, FAULT,
            tree_is_whole=room.read("t") == room.tree)
@@ -237,6 +263,13 @@ def same_files():
     older(room), os.link(room.at("t"), room.at("p"))
     expect("the plan is a second name of the older tree, which is replaced", room.run(PLANNED), 0, None,
            tree_is_whole=room.read("t") == room.tree, plan_is_whole=room.read("p") == room.plan)
+    for command in ("plan", "free"):
+        for what, words in (("plan", ["./o", "t"]), ("tree", ["p", "./o"])):
+            room = Room()
+            room.write("o", room.plan)
+            expect(f"{command}: the {what} is the own plan by another path", room.run([command, "s", "m", *words, "--from", "o"]), 4, FAULT,
+                   it_is_kept=room.read("o") == room.plan, the_other_file_isnt_there=room.read("t" if what == "plan" else "p") is None,
+                   no_part_left=not room.parts())
     for role, name in (("the ship file", "s"), ("the list", "m")):
         room = Room()
         before = room.read(name)
@@ -249,14 +282,31 @@ def same_files():
     expect("the plan is the tree by the same name", room.run(["plan", "s", "m", "t", "t"]), 2, None, no_file=room.read("t") is None)
 
 
+def judged():
+    """Each command with its words, and words that are none."""
+    plain = [[command, "s", "m", "p"] for command in ("show", "sheet", "picture", "report")]
+    some = [PLANNED, FREED, OWNED, ["check", "s", "m", "p", "t"], ["freecheck", "s", "m", "p", "f"], ["tasks", "s", "m"], *plain,
+            ["dispatch", "s", "m", "p", "l"], ["watch", "s", "w"], ["make", "0", "1", "1"]]
+    return [(words[0] + " --from" * ("--from" in words), words) for words in some] + [("usage", [])]
+
+
+def read_ones():
+    """Each file that a command reads by its name and word, with the words of the command."""
+    words = {"s": "ship", "m": "stow", "p": "plan", "t": "tree", "f": "tree", "o": "own", "l": "log", "w": "log"}
+    for command in (["tasks", "s", "m"], ["check", "s", "m", "p", "t"], ["freecheck", "s", "m", "p", "f"], ["show", "s", "m", "p"],
+                    ["sheet", "s", "m", "p"], ["picture", "s", "m", "p"], ["report", "s", "m", "p"],
+                    ["dispatch", "s", "m", "p", "l"], ["watch", "s", "w"]):
+        yield from ((name, words[name], command) for name in command[1:])
+    for command in ("plan", "free"):
+        more = [command, "s", "m", "q", "x", "--from", "o"]
+        yield from ((name, words[name], more) for name in "smo")
+
+
 def output():
-    judged = [("plan", PLANNED), ("check", ["check", "s", "m", "p", "t"]), ("tasks", ["tasks", "s", "m"]), ("show", ["show", "s", "m", "p"]),
-              ("sheet", ["sheet", "s", "m", "p"]), ("usage", [])]
-    for name, words in judged:
+    for name, words in judged():
         for how in ("/dev/full", "a pipe that nobody reads", "closed"):
-            room = Room()
-            room.write("p", room.plan), room.write("t", room.tree)
-            older = {file: room.read(file) for file in "smpt"}
+            room = Room().fill()
+            older = {file: room.read(file) for file in "smptfolw"}
             if how == "/dev/full":
                 with open("/dev/full", "wb") as out:
                     ran = room.run(words, stdout=out)
@@ -268,7 +318,7 @@ def output():
                 ran = room.run(words, stdout=writer)
                 os.close(writer)
             expect(f"{name}, standard output is {how}", ran, 4, None,
-                   all_files_whole={file: room.read(file) for file in "smpt"} == older)
+                   all_files_whole={file: room.read(file) for file in older} == older, no_part_left=not room.parts())
     room = Room()
     ran = room.run(PLANNED, before=lambda: (os.close(0), os.close(1), os.close(2)), stdout=None)
     expect("plan, input, output and error closed", ran, 4, None, tree_is_whole=room.read("t") == room.tree,
@@ -309,7 +359,7 @@ def changes_meanwhile():
         ran = room.run(["tasks", "pipe", "m"])
         thread.join()
         expect(f"the ship file is a pipe that gives {len(part)} of {len(SHIP)} bytes, 7 at a time", ran, status)
-    right, begun = 0, 0
+    right, begun, killed = 0, 0, 0
     for turn in range(20):
         room = Room.__new__(Room)
         room.path = tempfile.mkdtemp(prefix="qc-trial-")
@@ -317,11 +367,12 @@ def changes_meanwhile():
         process = subprocess.Popen([PROGRAM, "free"] + PLANNED[1:] + ["--nodes", "100000"], cwd=room.path, stdout=subprocess.DEVNULL)
         time.sleep(0.05 + 0.01 * turn)
         process.kill()
-        process.wait()
-        right += room.read("t") is None and room.read("p") is None
+        is_killed = process.wait() == -signal.SIGKILL  # on a busy machine it may be through
+        killed += is_killed
+        right += not is_killed or room.read("t") is None and room.read("p") is None
         begun += room.parts() == ["t.part"]
-    told("free is killed while it searches, 20 times", right == 20 and begun > 0,
-         f"{right} times neither file is there, {begun} times a part of the tree is left behind")
+    told(f"free is killed while it searches, {killed} of 20 times", right == 20 and begun > 0,
+         f"{right - 20 + killed} times neither file is there, {begun} times a part of the tree is left behind")
 
 
 def main():

@@ -24,9 +24,10 @@ from pathlib import Path
 
 sys.dont_write_bytecode = True
 
-from compare import Maker, SearchJudge, mended, random_part, text_of
+from judges import SearchJudge
 from reference import (NEVER, Node, TreeFault, TreeReader, bound_text, breaks_up, check_report, dump, instance_of,
                        least_end, least_starts, read_ship)
+from ships import Maker, mended, random_part, text_of
 
 
 # ---------------------------------------------------------------- rows by hand
@@ -130,9 +131,9 @@ def random_instance(rng, most, wide=False):
             return inst
 
 
-def least_feasible_end(inst, given):
-    """The least end of all schedules, one way or not, in which each task has the crane that is given, if one is."""
-    best = NEVER
+def least_feasible_end(inst, given, best=NEVER):
+    """The least end of all schedules, one way or not, in which each task has the crane that is given, if one is; `best`
+    where none ends before that."""
     choices = [[crane] if crane is not None else range(len(inst.cranes)) for crane in given]
     for cranes in itertools.product(*choices):
         if all(inst.reaches(crane, j) for j, crane in enumerate(cranes)):
@@ -160,7 +161,7 @@ def least_order(inst, cranes, heads, arcs, rest, best):
             return best
     broken = next(breaks_up(inst, list(zip(cranes, starts))), ("OneWay",))
     assert broken[0] == "OneWay", broken
-    return max(start + task.ticks for start, task in zip(starts, inst.tasks))
+    return max((start + task.ticks for start, task in zip(starts, inst.tasks)), default=0)
 
 
 def random_node(inst, rng):
@@ -215,7 +216,7 @@ def try_random_tree(inst, rng, seed, counts):
     lines.append("down")
     random_part(Node(inst.mirror), lines, rng)
     try:
-        reader = TreeReader(inst, mended(inst, text_of(lines + ["end 0 0"]), 3)).read()
+        reader = TreeReader(inst, mended(inst, text_of(lines + ["end 0 0"]))).read()
     except TreeFault as fault:
         counts[f"random trees with the fault {fault.kind}"] += 1
         return 0

@@ -2,26 +2,28 @@
 """A second opinion of `picture` and `report`, and a look at every example's drawing.
 
     trials/picture.py [--png FOLDER] [PROGRAM]
-    trials/picture.py --draw SHIP STOW PLAN SHOWN
-    trials/picture.py --rows SHIP STOW PLAN SHOWN
+    trials/picture.py --draw SHIP STOW PLAN
+    trials/picture.py --rows SHIP STOW PLAN
 
-The first form plans each example by the program, and takes its plan to and fro where it has one, draws the plans and reports them, and tells of each drawing whether it is
-well-formed XML with as many boxes as there are tasks, whether it and the figures are those of this page, and whether
-`rsvg-convert` (Debian's librsvg2-bin) renders it, into FOLDER where one is named. It ends with 1 where one isn't so.
+The first form plans each example by the program, takes its plan to and fro too where it has one, draws the plans and
+reports them, and tells of each drawing whether it is well-formed XML with as many boxes as there are tasks, whether it
+and the figures are those of this page, and whether `rsvg-convert` (Debian's librsvg2-bin) renders it, into FOLDER where
+one is named. It ends with 1 where one isn't so. On random ships and plans compare.py asks the same of both texts.
 
-The others print what this page draws and reports of a plan: from the ship file, the stowage list, the plan's file and the
-report of `show`, whose crane lines it takes. Where `show` says `Broken OneWay` the plan goes to and fro, and where its
-cranes stand is worked out here from the definition, half tick by half tick.
+The others print what this page draws and reports of a feasible plan. Where its cranes stand is worked out by
+reference.py, and by free.py where it goes to and fro, in half ticks.
 """
-
-import csv
 import pathlib
 import shutil
 import subprocess
 import sys
 import tempfile
-import tomllib
 import xml.etree.ElementTree as tree
+
+sys.dont_write_bytecode = True  # no folder of compiled files beside the scripts
+
+from free import FreeMotion, first_break
+from reference import (PHASES, direction_of, end_of, instance_of, motion_of, read_plan, read_ship, records_of)
 
 INKS = ["#1f3a93", "#b3261e", "#1b7837", "#762a83", "#8c510a", "#01665e", "#c51b7d", "#333333"]
 TINTS = ["#c6d2f2", "#f4c7c9", "#c9e8cf", "#e3cfe8", "#ecd9bd", "#c3e6e2", "#f6cfe4", "#d9d9d9"]
@@ -30,59 +32,29 @@ HEADS = ["tasks", "moves", "not ready", "work", "moving", "waiting", "idle", "en
 
 
 class Plan:
-    """What is drawn, from the files and the crane lines of `show`; of a plan to and fro without them."""
+    """What is drawn of a feasible plan. Tracks are pairs of a moment and a place, in ticks and in places times travel, or
+    both in halves of these where it goes to and fro."""
 
-    def __init__(self, ship, stow, plan, shown):
-        ship = tomllib.loads(ship)
-        self.hatches = ship["hatches"]
-        self.places = ship.get("places", list(range(1, len(self.hatches) + 1)))
-        self.travel = ship["travel"]
-        self.gap = ship["clear"] if "places" in ship else ship["margin"] + 1
-        self.cranes = ship["crane"]
-        names = [c["name"] for c in self.cranes]
-        self.tasks = []
-        for task, crane, start, end in list(csv.reader(plan.splitlines()))[1:]:
-            hatch, phase = task.split("-")
-            self.tasks.append((int(hatch), "DD DH LH LD".split().index(phase), names.index(crane), int(start), int(end)))
-        self.tasks.sort()
-        lines = shown.splitlines()
-        self.parts = 2 if lines[0].startswith("Broken OneWay ") else 1
-        if self.parts == 1:
-            self.way = lines[0]
-            self.end = int(lines[1].split()[1])
-            self.tracks = [[tuple(map(int, p.split(":"))) for p in line.split()[2:]]
-                           for line in lines if line.startswith("crane ")]
-        else:
-            self.way = None
-            self.end = max(t[4] for t in self.tasks)
-            self.tracks = [self.free_track(k) for k in range(len(names))]
+    def __init__(self, ship, stow, inst, plan):
+        self.hatches, self.places, self.travel, self.gap = ship.hatches, ship.places, ship.travel, ship.gap
+        self.cranes = inst.cranes
+        self.tasks = [(task.hatch, PHASES.index(task.phase), crane, start, start + task.ticks)
+                      for task, (crane, start) in zip(inst.tasks, plan)]
+        self.end = end_of(inst, plan)
+        way, _ = direction_of(inst, plan)
+        self.way, self.parts = way and f"direction {way}", 1 if way else 2
+        self.tracks = tracks_of(inst, plan, way)
         self.moves = {}
-        for _, kind, cell, _ in list(csv.reader(stow.splitlines()))[1:]:
-            bay, tier = int(cell[-6:-4]) if len(cell) == 6 else int(cell[:3]), int(cell[-2:])
-            hatch = next(h for h in self.hatches if h == bay or h % 2 == 0 and abs(h - bay) == 1)
-            phase = "DD DH LH LD".split().index(kind + ("D" if tier >= 70 else "H"))
+        for _, kind, cell, _ in records_of(stow)[1:]:
+            phase = PHASES.index(kind + ("D" if int(cell[-2:]) >= 70 else "H"))
+            hatch = ship.hatch_of(int(cell[:-4]))
             self.moves[hatch, phase] = self.moves.get((hatch, phase), 0) + 1
-
-    def free_track(self, k):
-        """The half ticks at which a crane starts, stops or turns, with its places there in halves of a bay times travel."""
-        twice = 2 * self.travel
-        bay = dict(zip(self.hatches, self.places))
-        visits = [(twice * (bay[t[0]] + self.gap * (k - t[2])), 2 * t[3], 2 * t[4]) for t in self.tasks if t[2] <= k]
-        berths = [(twice * (c["bay"] + self.gap * (k - v)), 0, 2 * c.get("ready", 0))
-                  for v, c in enumerate(self.cranes) if v <= k]
-        rooms = [bay[t[0]] - self.gap * (t[2] - k) for t in self.tasks if t[2] >= k]
-        rooms += [c["bay"] - self.gap * (w - k) for w, c in enumerate(self.cranes) if w >= k]
-        floor = twice * min(rooms)
-        at = lambda m: max(floor, *(x - max(start - m, m - end, 0) for x, start, end in visits + berths))
-        last = 2 * self.end
-        return [(m, at(m)) for m in range(last + 1)
-                if m in (0, last) or at(m + 1) - at(m) != at(m) - at(m - 1)]
 
     def figures(self, k):
         mine = [t for t in self.tasks if t[2] == k]
         work = sum(t[4] - t[3] for t in mine)
         last = max((t[4] for t in mine), default=0)
-        ready = min(self.cranes[k].get("ready", 0), self.end)
+        ready = min(self.cranes[k].ready, self.end)
         done = max(last, ready)
         d = self.parts
         parts = sum(max(0, min(v[0], d * done) - max(u[0], d * ready))
@@ -98,7 +70,7 @@ class Plan:
     def rows(self):
         yield "crane,tasks,moves,not_ready,work,moving,waiting,idle,end,share"
         for k, crane in enumerate(self.cranes):
-            yield ",".join([crane["name"]] + [str(n) for n in self.figures(k)])
+            yield ",".join([crane.name] + [str(n) for n in self.figures(k)])
 
     def draw(self):
         """The lines of the drawing."""
@@ -167,7 +139,7 @@ class Plan:
         for hatch, phase, k, start, stop in self.tasks:
             left, right = column(place[hatch])
             inset = min(20, (right - left) // 4)
-            told = f'{hatch}-{phases[phase]} {self.cranes[k]["name"]} {start} to {stop}'
+            told = f'{hatch}-{phases[phase]} {self.cranes[k].name} {start} to {stop}'
             yield rect(left + inset, down(start), right - left - 2 * inset, down(stop) - down(start),
                        f'fill="{COLOURS[phases[phase]]}" stroke="{INKS[k % 8]}" stroke-width="16">'
                        f"<title>{told}</title></rect>")
@@ -175,7 +147,7 @@ class Plan:
             points = "".join(f" {across(fine * p)},{point(m)}" for m, p in track)
             for ink, width in [("#ffffff", 44), (INKS[k % 8], 24)]:
                 yield f'<polyline fill="none" stroke="{ink}" stroke-width="{width}" points="{points}"/>'
-            x, ready = across(fine * track[0][1]), min(self.cranes[k].get("ready", 0), self.end)
+            x, ready = across(fine * track[0][1]), min(self.cranes[k].ready, self.end)
             yield line(x, 1500, x, down(ready), 'stroke="#ffffff" stroke-width="24" stroke-dasharray="70 70"')
         for hatch, phase, k, start, stop in self.tasks:
             left, right = column(place[hatch])
@@ -186,17 +158,42 @@ class Plan:
                            'stroke="#ffffff" stroke-width="30" paint-order="stroke"', words)
         for k, track in enumerate(self.tracks):
             style = f'font-size="170" font-weight="bold" text-anchor="middle" fill="{INKS[k % 8]}"'
-            yield text(across(fine * track[0][1]), 1440, style, self.cranes[k]["name"])
-            yield text(across(fine * track[-1][1]), 11290, style, self.cranes[k]["name"])
+            yield text(across(fine * track[0][1]), 1440, style, self.cranes[k].name)
+            yield text(across(fine * track[-1][1]), 11290, style, self.cranes[k].name)
         yield line(900, down(self.end), 15300, down(self.end), 'stroke="#000000" stroke-width="20"')
         yield text(900, 12190, 'fill="#666666"', "crane")
         for i, head in enumerate(HEADS):
             yield text(3300 + 1500 * i, 12190, 'text-anchor="end" fill="#666666"', head)
         for k, crane in enumerate(self.cranes):
-            yield text(900, 12390 + 200 * k, f'font-weight="bold" fill="{INKS[k % 8]}"', crane["name"])
+            yield text(900, 12390 + 200 * k, f'font-weight="bold" fill="{INKS[k % 8]}"', crane.name)
             for i, figure in enumerate(self.figures(k)):
                 yield text(3300 + 1500 * i, 12390 + 200 * k, 'text-anchor="end"', figure)
         yield "</svg>"
+
+
+def tracks_of(inst, plan, way):
+    """The waypoints of each crane, in the order of the cranes."""
+    if way is None:
+        motion = FreeMotion(inst, plan)
+        return [motion.waypoints(k) for k in range(len(inst.cranes))]
+    motion = motion_of(inst, plan, way)
+    tracks = [motion.waypoints(k) for k in range(len(inst.cranes))]
+    if way == "up":
+        return tracks
+    wall = inst.travel * (inst.bays + 1)
+    return [[(at, wall - place) for at, place in track] for track in reversed(tracks)]
+
+
+def answer(stow, ship, inst, data, drawn):
+    """Status and lines of `picture`, or of `report`, on a plan's file."""
+    plan, fault = read_plan(inst, data)
+    if fault:
+        return 8, [f"BadPlan {fault[0]} {fault[1]}"]
+    broken = first_break(inst, plan)
+    if broken:
+        return 13, [" ".join(["Broken", broken[0]] + [inst.tasks[j].name for j in broken[1:]])]
+    plan = Plan(ship, stow, inst, plan)
+    return 0, list(plan.draw() if drawn else plan.rows())
 
 
 def plans_of(program, folder, work):
@@ -212,18 +209,15 @@ def look(program, folder, name, plan, work, png):
     ship, stow = folder / "ship.toml", folder / "stow.csv"
     call = lambda *words: subprocess.run([program, *map(str, words)], capture_output=True, text=True)
     drawn, told = call("picture", ship, stow, plan), call("report", ship, stow, plan)
-    second = Plan(ship.read_text(), stow.read_text(), plan.read_text(), call("show", ship, stow, plan).stdout)
+    files = ship.read_bytes(), stow.read_bytes()
+    inst = instance_of(read_ship(files[0]), files[1])
     wrong = []
-    if drawn.returncode or told.returncode:
-        wrong.append(f"status {drawn.returncode}, {told.returncode}")
-    boxes = len(tree.fromstring(drawn.stdout).findall(".//{*}rect/{*}title"))
-    tasks = sum(line.startswith("task ") for line in call("tasks", ship, stow).stdout.splitlines())
-    if boxes != tasks:
-        wrong.append(f"{boxes} boxes for {tasks} tasks")
-    if drawn.stdout.splitlines() != list(second.draw()):
-        wrong.append("the drawing isn't that of this page")
-    if told.stdout.splitlines() != list(second.rows()):
-        wrong.append("the figures aren't those of this page")
+    if len(tree.fromstring(drawn.stdout).findall(".//{*}rect/{*}title")) != len(inst.tasks):
+        wrong.append(f"not a box for each of {len(inst.tasks)} tasks")
+    for ran, is_drawn, what in ((drawn, True, "drawing"), (told, False, "figures")):
+        due = answer(files[1], read_ship(files[0]), inst, plan.read_bytes(), is_drawn)
+        if (ran.returncode, ran.stdout.splitlines()) != due:
+            wrong.append(f"other {what} than here, status {ran.returncode}")
     if shutil.which("rsvg-convert"):
         target = png / f"{name}.png" if png else work / "png"
         if subprocess.run(["rsvg-convert", "-w", "1620", "-o", target], input=drawn.stdout, text=True).returncode:
@@ -233,9 +227,10 @@ def look(program, folder, name, plan, work, png):
 
 def main(words):
     if words[:1] in (["--draw"], ["--rows"]):
-        plan = Plan(*(pathlib.Path(name).read_text() for name in words[1:5]))
-        print("\n".join(plan.draw() if words[0] == "--draw" else plan.rows()))
-        return 0
+        ship, stow, plan = (pathlib.Path(name).read_bytes() for name in words[1:4])
+        status, lines = answer(stow, read_ship(ship), instance_of(read_ship(ship), stow), plan, words[0] == "--draw")
+        print("\n".join(lines))
+        return status
     png = None
     if words[:1] == ["--png"]:
         png = pathlib.Path(words[1])
@@ -253,4 +248,5 @@ def main(words):
     return 1 if failed else 0
 
 
-sys.exit(main(sys.argv[1:]))
+if __name__ == "__main__":
+    sys.exit(main(sys.argv[1:]))

@@ -25,6 +25,7 @@ import math
 import re
 import sys
 import tomllib
+from bisect import bisect_left
 from dataclasses import dataclass
 from fractions import Fraction
 from functools import cache, cached_property
@@ -650,12 +651,11 @@ class TreeFault(Exception):
 
 
 class TreeReader:
-    """Reads a bound tree. `visit`, where it is given, gets each node with its line's kind and value. `newest` is the
-    newest version that is known: a program that writes trees of version 2 has never heard of a `Q`. `step`: how much
+    """Reads a bound tree. `visit`, where it is given, gets each node with its line's kind and value. `step`: how much
     the counts of its nodes know."""
 
-    def __init__(self, inst, data, visit=None, newest=3, step=3):
-        self.inst, self.data, self.visit, self.newest, self.step = inst, data, visit, newest, step
+    def __init__(self, inst, data, visit=None, step=3):
+        self.inst, self.data, self.visit, self.step = inst, data, visit, step
         self.number, self.place = 0, 0
         self.value, self.branched, self.version = NEVER, 0, None
 
@@ -685,7 +685,7 @@ class TreeReader:
             raise TreeFault("LineTooLong" if too_long else "Cut", self.number)
         parsed = self.parse(self.data[self.place:feed])
         self.place = feed + 1
-        if parsed is None or self.newest < 3 and (parsed[0] == "Q" or parsed == ("title", "3")):
+        if parsed is None:
             raise TreeFault("Spelling", self.number)
         if parsed[0] not in kinds:
             raise TreeFault("Place", self.number)
@@ -944,14 +944,14 @@ def sheet_report(ship, stow, inst, data):
     return 0, lines
 
 
-def check_report(inst, data, tree, newest=3, step=3):
+def check_report(inst, data, tree):
     """The report on a plan's file, or None for `-`, with a tree."""
     if data is not None:
         plan, _, refused = refusal(inst, data)
         if refused:
             return refused
     try:
-        value = TreeReader(inst, tree, newest=newest, step=step).read().value
+        value = TreeReader(inst, tree).read().value
     except TreeFault as fault:
         return 7, [f"BadTree {fault.kind} {fault.line}"]
     if data is None:
@@ -979,7 +979,7 @@ def read_log(ship, data):
         time, name, place = int(parts[1]), parts[2], int(parts[3])
         if name not in lists:
             return None, ("UnknownCrane", number)
-        if any(earlier >= time for earlier, _ in lists[name]):
+        if lists[name] and lists[name][-1][0] >= time:  # the times of a list rise
             return None, ("TimeBack", number)
         lists[name].append((time, place))
     return list(lists.values()), None
@@ -987,12 +987,13 @@ def read_log(ship, data):
 
 def place_at(reports, moment):
     """Where a crane is at a moment, whole or not; None where it isn't known."""
-    before = [report for report in reports if report[0] <= moment]
-    after = [report for report in reports if report[0] >= moment]
-    if not before or not after:
+    at = bisect_left(reports, moment, key=lambda report: report[0])
+    if at < len(reports) and reports[at][0] == moment:
+        return Fraction(reports[at][1])
+    if at in (0, len(reports)):
         return None
-    (a, x), (b, y) = max(before), min(after)
-    return Fraction(x) if a == b else x + Fraction((y - x) * (moment - a), b - a)
+    (a, x), (b, y) = reports[at - 1:at + 1]
+    return x + Fraction((y - x) * (moment - a), b - a)
 
 
 def too_near(ship, lists, moment):
@@ -1016,11 +1017,14 @@ def watch_report(ship, data):
 
 
 class Course:
-    """The course of a plan whose tasks take as long as they do, tick by tick."""
+    """The course of a plan whose tasks take as long as they do."""
 
     def __init__(self, inst, plan):
         self.inst, self.plan, self.now, self.told = inst, plan, 0, []
         self.start, self.end = [None] * len(plan), [None] * len(plan)
+        tasks = range(len(plan))
+        self.free = [inst.free_from(j, crane) for j, (crane, _) in enumerate(plan)]
+        self.leaders = [[(i, self.gap(i, j)) for i in tasks if self.leads(i, j)] for j in tasks]
         self.settle()
 
     def leads(self, i, j):
@@ -1036,9 +1040,8 @@ class Course:
         return self.inst.distance(i, v, j, w)
 
     def may_start(self, j):
-        return self.start[j] is None and self.now >= self.inst.free_from(j, self.plan[j][0]) and all(
-            self.end[i] is not None and self.end[i] + self.gap(i, j) <= self.now
-            for i in range(len(self.plan)) if self.leads(i, j))
+        return self.start[j] is None and self.now >= self.free[j] and all(
+            self.end[i] is not None and self.end[i] + gap <= self.now for i, gap in self.leaders[j])
 
     def settle(self):
         while any(self.may_start(j) for j in range(len(self.plan))):
@@ -1047,9 +1050,17 @@ class Course:
             self.told.append(f"start {self.inst.tasks[j].name} {self.inst.cranes[self.plan[j][0]].name} {self.now}")
 
     def tick(self, count):
-        for _ in range(count):
-            self.now += 1
+        """Goes on by so many ticks; nothing starts but at one of the moments below."""
+        last = self.now + count
+        for moment in sorted(m for m in self.moments() if self.now < m < last) + [last]:
+            self.now = moment
             self.settle()
+
+    def moments(self):
+        """When a task may come to start: where the berths let it, and where the way after an earlier one is over."""
+        for j, free in enumerate(self.free):
+            if self.start[j] is None:
+                yield from [free] + [self.end[i] + gap for i, gap in self.leaders[j] if self.end[i] is not None]
 
     def done(self, j):
         if self.start[j] is None or self.end[j] is not None:

@@ -5,9 +5,12 @@
 
 prints a line for each kind of trial: `ok` or `WRONG`, what was tried, and what was seen. The kinds are
 
-- `plan` is killed at each call of the system by which it opens, writes, stores, renames or removes a file, without
-  older files and over older ones: TREE is as before or whole, and PLAN is as before, or TREE is whole and PLAN too;
-- two runs with different ships write the same TREE and PLAN at once, N times (300): each file is one of both, whole;
+- `plan`, also from one's own plan, and `free` are killed at each call of the system by which they open, read, write, store,
+  rename or remove a file, without older files and over older ones, and each of these calls fails: TREE is as before or
+  whole, and PLAN is as before, or TREE is whole and PLAN too;
+- the commands that read alone are killed at each of these calls, and each fails: all files are as before;
+- two runs with different ships write the same TREE and PLAN at once, N times (300), `plan` or `free` each: each file is
+  one of both, whole;
 - TREE or PLAN is a link to a file, to another link, to no file yet or to a device, `/dev/full`, `/dev/stdout`,
   `/dev/fd/1`, a pipe, a `>(..)` of bash, a file below `/proc/self/cwd`, an empty name;
 - rights and owner of the files that are replaced, parts that were left behind, long names.
@@ -27,8 +30,9 @@ import threading
 import time
 
 ROOT = os.path.dirname(os.path.dirname(os.path.abspath(__file__)))
-CALLS = ["openat", "write", "fsync", "rename", "unlink", "close", "statx", "chown", "fchmod"]
+CALLS = ["openat", "read", "write", "fsync", "rename", "unlink", "close", "statx", "chown", "fchmod"]
 PLANNED = ["plan", "s", "m", "p", "t"]
+FREED = ["free", "s", "m", "p", "t"]
 OLDER = {"t": b"an older tree\n", "p": b"an older plan\n"}
 FAULT = b"WriteFault\n"
 KINDS = {"t": "tree", "p": "plan"}
@@ -50,12 +54,12 @@ def example(name):
 class Room:
     """A folder with the files of an example."""
 
-    def __init__(self, program, inputs, older=()):
+    def __init__(self, program, inputs, older=(), others=()):
         base = "/dev/shm" if os.path.isdir("/dev/shm") else None
         self.program, self.path = program, tempfile.mkdtemp(prefix="qc-whole-", dir=base)
         self.write("s", inputs[0]), self.write("m", inputs[1])
-        for name in older:
-            self.write(name, OLDER[name])
+        for name, data in [(name, OLDER[name]) for name in older] + list(dict(others).items()):
+            self.write(name, data)
 
     def __enter__(self):
         return self
@@ -88,65 +92,111 @@ def told(name, is_right, what):
     print(f"{'ok   ' if is_right else 'WRONG'} {name}: {what}", flush=True)
 
 
-def planned(program, inputs, more=()):
+def planned(program, inputs, words=PLANNED, others=()):
     """The files that a run makes which nothing stops."""
-    with Room(program, inputs) as room:
-        room.run([*PLANNED, *more])
+    with Room(program, inputs, (), others) as room:
+        room.run(words)
         return room.left()
 
 
-# ---------------------------------------------------------------- kills
+# ---------------------------------------------------------------- kills and failing calls
 
-def calls_of(program, inputs, older, more):
+def calls_of(program, inputs, older, words, others):
     """How often a run makes each call."""
-    with Room(program, inputs, older) as room:
-        room.run([*PLANNED, *more], ["strace", "-o", "log", "-e", "trace=" + ",".join(CALLS)])
+    with Room(program, inputs, older, others) as room:
+        room.run(words, ["strace", "-o", "log", "-e", "trace=" + ",".join(CALLS)])
         return collections.Counter(re.findall(r"^(\w+)\(", room.read("log").decode(errors="replace"), re.MULTILINE))
 
 
-def judge(left, older, whole):
+def judge(left, older, whole, others):
     """What a stopped run left, or None where it may not be left."""
     before = {name: OLDER[name] for name in older}
     tree, plan = left.get("t"), left.get("p")
-    others = [name for name in left if name not in ("t", "p")]
-    if any(not re.fullmatch(r"[tp]\.part[1-9]?", name) for name in others):
+    if any(left.get(name) != data for name, data in others.items()):
+        return None
+    if any(not re.fullmatch(r"[tp]\.part[1-9]?", name) for name in left.keys() - others.keys() - {"t", "p"}):
         return None
     tree_is = "as before" if tree == before.get("t") else "whole" if tree == whole["t"] else None
     plan_is = "as before" if plan == before.get("p") else "whole" if plan == whole["p"] and tree_is == "whole" else None
     return None if tree_is is None or plan_is is None else f"tree {tree_is}, plan {plan_is}"
 
 
-def kills(program, name, inputs, more):
-    whole = planned(program, inputs, more)
+def injected(program, inputs, words, others, older, what):
+    """Runs so often as there are calls, each time with one of them killed or failing; the call, its number, what the run
+    came to and what it left."""
+    for call, count in sorted(calls_of(program, inputs, older, words, others).items()):
+        for number in range(1, count + 1):
+            with Room(program, inputs, older, others) as room:
+                how = ["strace", "-o", "log", "-e", f"trace={call}", "-e", f"inject={call}:{what}:when={number}"]
+                ran = room.run(words, how)
+                yield call, number, ran, room.left()
+
+
+def kills(program, name, inputs, words, others):
+    whole = planned(program, inputs, words, others)
     for older in ((), ("p",), ("t", "p")):
         seen, bad, kept = collections.Counter(), [], 0
-        for call, count in sorted(calls_of(program, inputs, older, more).items()):
-            for number in range(1, count + 1):
-                with Room(program, inputs, older) as room:
-                    inject = f"{call}:signal=KILL:when={number}"
-                    room.run([*PLANNED, *more], ["strace", "-o", "log", "-e", f"trace={call}", "-e", f"inject={inject}"])
-                    left = room.left()
-                    what = judge(left, older, whole)
-                    kept += any(".part" in one for one in left)
-                    seen[what] += 1
-                    if what is None:
-                        bad.append(f"{call} {number}: {sorted(left)}")
-        told(f"plan of the {name}, killed at each of {sum(seen.values())} calls, over {'and '.join(older) or 'no older files'}",
-             not bad, ", ".join(f"{count} times {what}" for what, count in sorted(seen.items(), key=str))
+        for call, number, _, left in injected(program, inputs, words, others, older, "signal=KILL"):
+            what = judge(left, older, whole, others)
+            kept += any(".part" in one for one in left)
+            seen[what] += 1
+            if what is None:
+                bad.append(f"{call} {number}: {sorted(left)}")
+        told(f"{name}, killed at each of {sum(seen.values())} calls, over {'and '.join(older) or 'no older files'}", not bad,
+             ", ".join(f"{count} times {what}" for what, count in sorted(seen.items(), key=str))
              + f"; {kept} times a part was left behind" + (f"; {bad[:3]}" if bad else ""))
+
+
+def failures(program, name, inputs, words, others):
+    """Each call fails: the run comes to ReadFault or WriteFault, or to its answer with both files whole; or, where the
+    program couldn't be loaded, to an end by the system's loader."""
+    whole = planned(program, inputs, words, others)
+    for older in ((), ("t", "p")):
+        seen, bad = collections.Counter(), []
+        for call, number, ran, left in injected(program, inputs, words, others, older, "error=EIO"):
+            what = judge(left, older, whole, others)
+            first = (ran.stdout or b"").split(b"\n")[0].split(b" ")[0].decode(errors="replace")
+            kinds = {0: ("Optimal",), 3: ("ReadFault",), 4: ("WriteFault", "", "Optimal"), 11: ("Budget",), 127: ("",)}
+            right = what and first in kinds.get(ran.returncode, ()) and (
+                ran.returncode not in (0, 11) or what == "tree whole, plan whole") and (
+                ran.returncode not in (3, 127) or what == "tree as before, plan as before")
+            seen[f"{ran.returncode} {first}".strip() + f", {what}"] += 1
+            if not right or any(".part" in one for one in left) and call not in ("unlink", "close"):
+                bad.append(f"{call} {number}: {ran.returncode} {first} {sorted(left)}")
+        told(f"{name}, each of {sum(seen.values())} calls fails, over {'and '.join(older) or 'no older files'}", not bad,
+             ", ".join(f"{count} times {what}" for what, count in sorted(seen.items())) + (f"; {bad[:6]}" if bad else ""))
+
+
+def readers(program, inputs, whole):
+    """The commands that write no file: killed at each call, and each call fails."""
+    others = {"p": whole["p"], "t": whole["t"], "f": planned(program, inputs, FREED)["t"], "w": b"0 C1 1\n21 C1 2\n",
+              "l": read(f"{ROOT}/examples/first/happened.txt")}
+    shown = [[command, "s", "m", "p"] for command in ("show", "sheet", "picture", "report")]
+    for words in (["check", "s", "m", "p", "t"], ["freecheck", "s", "m", "p", "f"], ["tasks", "s", "m"], *shown,
+                  ["dispatch", "s", "m", "p", "l"], ["watch", "s", "w"]):
+        seen, bad = collections.Counter(), []
+        for what in ("signal=KILL", "error=EIO"):
+            for call, number, ran, left in injected(program, inputs, words, others, (), what):
+                report = (ran.stdout or b"").split(b"\n")[0].split(b" ")[0].decode(errors="replace")
+                seen["killed" if "KILL" in what else ran.returncode] += 1
+                right = ran.returncode in ((-9, 137, 0) if "KILL" in what else (0, 3, 4, 127))
+                if left != others or not right or ran.returncode == 3 and report != "ReadFault":
+                    bad.append(f"{what} {call} {number}: {ran.returncode} {report} {sorted(left)}")
+        told(f"{words[0]}, killed at each call, and each fails", not bad, "all files as before; status "
+             + ", ".join(f"{status} {count} times" for status, count in sorted(seen.items(), key=str)) + (f"; {bad[:4]}" if bad else ""))
 
 
 # ---------------------------------------------------------------- two at once
 
-def pairs(program, count):
+def pairs(program, count, commands):
     one, two = example("first"), example("restows")
-    wholes = [planned(program, one), planned(program, two)]
+    words = [[command, s, m, "p", "t"] for command, s, m in zip(commands, ("s", "s2"), ("m", "m2"))]
+    wholes = [planned(program, inputs, [command, "s", "m", "p", "t"]) for command, inputs in zip(commands, (one, two))]
     seen, bad = collections.Counter(), []
     for _ in range(count):
         with Room(program, one) as room:
             room.write("s2", two[0]), room.write("m2", two[1])
-            runs = [subprocess.Popen([program, "plan", s, m, "p", "t"], cwd=room.path, stdout=subprocess.DEVNULL)
-                    for s, m in (("s", "m"), ("s2", "m2"))]
+            runs = [subprocess.Popen([program, *some], cwd=room.path, stdout=subprocess.DEVNULL) for some in words]
             statuses = sorted(run.wait(100) for run in runs)
             left = room.left()
             which = [[index for index, whole in enumerate(wholes) if left.get(name) == whole[name]] for name in ("t", "p")]
@@ -154,7 +204,7 @@ def pairs(program, count):
                 bad.append((statuses, which, sorted(left)))
             else:
                 seen[f"tree of run {which[0][0] + 1}, plan of run {which[1][0] + 1}"] += 1
-    told(f"two runs at once on the same files, {count} times", not bad,
+    told(f"{' and '.join(commands)} at once on the same files, {count} times", not bad,
          ", ".join(f"{times} times {what}" for what, times in sorted(seen.items())) + (f"; {bad[:3]}" if bad else ""))
 
 
@@ -297,9 +347,19 @@ def main():
     names_of_the_system(program, inputs, whole)
     rights(program, inputs, whole)
     parts(program, inputs, whole)
-    kills(program, "first example", inputs, [])
-    kills(program, "vessel, 30 branchings", example("vessel"), ["--nodes", "30"])
-    pairs(program, args.pairs)
+    own = {"o": whole["p"]}
+    for name, files, words, others in (
+            ("plan of the first example", inputs, PLANNED, {}),
+            ("plan of the first example from one's own", inputs, [*PLANNED, "--from", "o"], own),
+            ("free of the first example", inputs, FREED, {}),
+            ("free of the first example from one's own", inputs, [*FREED, "--from", "o"], own),
+            ("free of what goes to and fro", example("to-and-fro"), FREED, {}),
+            ("plan of the vessel, 30 branchings", example("vessel"), [*PLANNED, "--nodes", "30"], {})):
+        kills(program, name, files, words, others)
+        failures(program, name, files, words, others)
+    readers(program, inputs, whole)
+    for commands in (("plan", "plan"), ("free", "plan"), ("free", "free")):
+        pairs(program, args.pairs, commands)
     print(f"{wrong} wrong")
     return 1 if wrong else 0
 
