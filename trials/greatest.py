@@ -10,6 +10,7 @@ said. It ends with 1 where another status or first line came than was wanted, or
 """
 import argparse
 import os
+import runpy
 import subprocess
 import sys
 import tempfile
@@ -18,9 +19,7 @@ from pathlib import Path
 sys.dont_write_bytecode = True  # no folder of compiled files beside the scripts
 
 ROOT = Path(__file__).resolve().parent.parent
-sys.path.append(str(ROOT / "bench"))
-
-from bench import made
+made = runpy.run_path(str(ROOT / "bench" / "ships.py"))["made"]
 
 LIMIT = 8_388_608  # bytes of a file but for trees
 # Runs a command and notes what it took; from a process of its own, whose memory is small, since that of the process that
@@ -62,7 +61,7 @@ class Room:
 def logs(room):
     """Logs of the most lines, and of one more, on a plan of 227 tasks and 8 cranes."""
     ship, rows = made(2, 60, 8)
-    room.write("s", ship.encode()), room.write("m", ("\n".join(rows) + "\n").encode())
+    room.write("s", ("\n".join(ship) + "\n").encode()), room.write("m", ("\n".join(rows) + "\n").encode())
     room.expect("a plan of 60 hatches and 8 cranes", ["plan", "s", "m", "p", "t", "--nodes", "0"], 11, ["Budget"])
     ends = sorted((int(line.split(",")[3]), line.split(",")[0]) for line in (room.folder / "p").read_text().splitlines()[1:])
     lines, now = [], 0
@@ -89,7 +88,7 @@ def logs(room):
 def trees(room, nodes):
     """Trees of so many branchings at 60 hatches."""
     ship, rows = made(2, 60, 8)
-    room.write("s", ship.encode()), room.write("m", ("\n".join(rows) + "\n").encode())
+    room.write("s", ("\n".join(ship) + "\n").encode()), room.write("m", ("\n".join(rows) + "\n").encode())
     for command, judge in (("plan", "check"), ("free", "freecheck")):
         words = [command, "s", "m", "p", "t", "--nodes", str(nodes)]
         lines = room.expect(f"60 hatches, 8 cranes, {nodes} branchings", words, 11, ["Budget"])
