@@ -34,53 +34,69 @@ fn push_forced(decisions: &Decisions, from: u16, to: u16, arena: &mut ArcArena)
     }
 }
 
-/// Whether two tasks ask for nothing from the first to the second where their cranes go one way: the second lies no
-/// further along for the one crane, or its crane is the higher, or they are clear of each other.
-fn are_free(inst: &Instance, i: u16, v: u16, j: u16, w: u16) -> bool
+/// Whether two tasks on different cranes, which go one way, are clear of each other: the higher crane then asks nothing
+/// of the lower one, and the lower one never does.
+#[inline(always)]
+fn are_clear(inst: &Instance, i: u16, v: u16, j: u16, w: u16) -> bool
     requires first_task { i < length inst.now.tasks }
     requires first_crane { v < length inst.now.cranes }
     requires second_task { j < length inst.now.tasks }
     requires second_crane { w < length inst.now.cranes }
-    ensures { IsTrue result → upward_ticks inst.now i v j w ≡ None }
+    ensures there { IsTrue result → upward_ticks inst.now i v j w ≡ None }
+    ensures back { IsTrue result → upward_ticks inst.now j w i v ≡ None }
 {
-    if v == w {
-        return inst.task(j).bay <= inst.task(i).bay;
+    if w < v {
+        distance(inst, i, v, j, w) == 0
+    } else if v < w {
+        distance(inst, j, w, i, v) == 0
+    } else {
+        false
     }
-    v < w || distance(inst, i, v, j, w) == 0
 }
 
-/// Whether the cranes of two tasks ask for nothing from the first to the second, as can be told at once.
+/// Whether the cranes of two tasks ask for nothing either way, as can be told at once.
+#[inline(always)]
 fn ask_nothing(decisions: &Decisions, i: u16, v: u16, j: u16, w: u16) -> bool
     requires first_task { i < length decisions.now.inst.tasks }
     requires first_crane { v < length decisions.now.inst.cranes }
     requires second_task { j < length decisions.now.inst.tasks }
     requires second_crane { w < length decisions.now.inst.cranes }
-    ensures { IsTrue result → (decisions.now.inst.turn ≡ OneWay) × (upward_ticks decisions.now.inst i v j w ≡ None) }
+    ensures one_way { IsTrue result → decisions.now.inst.turn ≡ OneWay }
+    ensures there { IsTrue result → upward_ticks decisions.now.inst i v j w ≡ None }
+    ensures back { IsTrue result → upward_ticks decisions.now.inst j w i v ≡ None }
 {
     match decisions.instance().turn() {
-        Turn::OneWay => are_free(decisions.instance(), i, v, j, w),
+        Turn::OneWay => are_clear(decisions.instance(), i, v, j, w),
         Turn::Free => false,
     }
 }
 
-/// What the cranes of two tasks add to what is forced from one to the other.
-fn added(decisions: &Decisions, i: u16, v: u16, j: u16, w: u16) -> Option<Tick>
-    requires first { i < length decisions.now.inst.tasks }
-    requires second { j < length decisions.now.inst.tasks }
-    requires first_crane { v < length decisions.now.inst.cranes }
-    requires second_crane { w < length decisions.now.inst.cranes }
-    requires of_first { assigned decisions.now.decisions i ≡ Some v }
-    requires of_second { assigned decisions.now.decisions j ≡ Some w }
-    ensures ticks { result ≡ added decisions.now.inst decisions.now.decisions i j }
-    ensures bound { IfSome result (λ ticks. ticks ≤ MOST_WORK + MOST_DISTANCE) }
+/// Adds an arc for what the cranes of two tasks ask for, one way or the other.
+fn push_asked(decisions: &Decisions, one: u16, other: u16, arena: &mut ArcArena)
+    requires one { one < length decisions.now.inst.tasks }
+    requires other { other < length decisions.now.inst.tasks }
+    requires nodes { arena.old.nodes ≡ length decisions.now.inst.tasks }
+    requires room { length (with_added one other
+        (added decisions.now.inst decisions.now.decisions one other)
+        (added decisions.now.inst decisions.now.decisions other one)
+        (reverse arena.old.arcs)) ≤ arena.old.cap }
+    ensures arcs { reverse arena.new.arcs ≡ with_added one other
+        (added decisions.now.inst decisions.now.decisions one other)
+        (added decisions.now.inst decisions.now.decisions other one)
+        (reverse arena.old.arcs) }
+    ensures low { AreLow (reverse arena.old.arcs) → AreLow (reverse arena.new.arcs) }
+    ensures nodes { arena.new.nodes ≡ arena.old.nodes }
+    ensures cap { arena.new.cap ≡ arena.old.cap }
 {
-    if ask_nothing(decisions, i, v, j, w) {
-        return None;
+    if let Some(len) = decisions.forced_by_cranes(one, other) {
+        arena.push(one, other, len);
+    } else if let Some(len) = decisions.forced_by_cranes(other, one) {
+        arena.push(other, one, len);
     }
-    decisions.forced_by_cranes(i, j)
 }
 
 /// Adds an arc for what the cranes of two tasks ask for, one way or the other, where the second has one.
+#[inline(always)]
 fn push_between(decisions: &Decisions, one: u16, crane: u16, other: u16, arena: &mut ArcArena)
     requires crane { assigned decisions.now.decisions one ≡ Some crane }
     requires range { crane < length decisions.now.inst.cranes }
@@ -102,11 +118,10 @@ fn push_between(decisions: &Decisions, one: u16, crane: u16, other: u16, arena: 
     let Some(others) = decisions.crane_of(other) else {
         return;
     };
-    if let Some(len) = added(decisions, one, crane, other, others) {
-        arena.push(one, other, len);
-    } else if let Some(len) = added(decisions, other, others, one, crane) {
-        arena.push(other, one, len);
+    if ask_nothing(decisions, one, crane, other, others) {
+        return;
     }
+    push_asked(decisions, one, other, arena);
 }
 
 /// Puts a task on a crane, and adds the arcs of this.
