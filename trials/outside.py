@@ -359,13 +359,18 @@ def changes_meanwhile():
         ran = room.run(["tasks", "pipe", "m"])
         thread.join()
         expect(f"the ship file is a pipe that gives {len(part)} of {len(SHIP)} bytes, 7 at a time", ran, status)
-    right, begun, killed = 0, 0, 0
-    for turn in range(20):
+    right, begun, killed, took = 0, 0, 0, None
+    for turn in range(21):  # the first one isn't killed, and tells how long one takes
         room = Room.__new__(Room)
         room.path = tempfile.mkdtemp(prefix="qc-trial-")
         room.write("s", VESSEL), room.write("m", VESSEL_STOW)
+        since = time.monotonic()
         process = subprocess.Popen([PROGRAM, "free"] + PLANNED[1:] + ["--nodes", "100000"], cwd=room.path, stdout=subprocess.DEVNULL)
-        time.sleep(0.05 + 0.01 * turn)
+        if took is None:
+            process.wait()
+            took = time.monotonic() - since
+            continue
+        time.sleep(took * turn / 22)
         process.kill()
         is_killed = process.wait() == -signal.SIGKILL  # on a busy machine it may be through
         killed += is_killed

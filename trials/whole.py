@@ -148,17 +148,17 @@ def kills(program, name, inputs, words, others):
 
 
 def failures(program, name, inputs, words, others):
-    """Each call fails: the run comes to ReadFault or WriteFault, or to its answer with both files whole; or, where the
-    program couldn't be loaded, to an end by the system's loader."""
+    """Each call fails: the run comes to ReadFault or WriteFault, or to its answer with both files whole, with 4 where the
+    report is cut; or, where the program couldn't be loaded, to an end by the system's loader."""
     whole = planned(program, inputs, words, others)
     for older in ((), ("t", "p")):
         seen, bad = collections.Counter(), []
         for call, number, ran, left in injected(program, inputs, words, others, older, "error=EIO"):
             what = judge(left, older, whole, others)
             first = (ran.stdout or b"").split(b"\n")[0].split(b" ")[0].decode(errors="replace")
-            kinds = {0: ("Optimal",), 3: ("ReadFault",), 4: ("WriteFault", "", "Optimal"), 11: ("Budget",), 127: ("",)}
+            kinds = {0: ("Optimal",), 3: ("ReadFault",), 4: ("WriteFault", "", "Optimal", "Budget"), 11: ("Budget",), 127: ("",)}
             right = what and first in kinds.get(ran.returncode, ()) and (
-                ran.returncode not in (0, 11) or what == "tree whole, plan whole") and (
+                first not in ("Optimal", "Budget") or what == "tree whole, plan whole") and (
                 ran.returncode not in (3, 127) or what == "tree as before, plan as before")
             seen[f"{ran.returncode} {first}".strip() + f", {what}"] += 1
             if not right or any(".part" in one for one in left) and call not in ("unlink", "close"):
