@@ -1,8 +1,6 @@
 -- The greatest number of which all ticks of an instance are multiples.
-use Rattle.std.proofs.Common.{◌≡◌, ℕ, zero, suc, ◌+◌, ◌*◌, ◌/◌, ◌%◌, ◌<◌, ◌≤◌, ◌⊎◌, inl, inr, true, ◌&&◌, eqb, List, [], ◌∷◌, length, get_or, filter, refl, subst, arith}
+use Rattle.std.proofs.Common.{◌≡◌, ℕ, zero, suc, ◌+◌, ◌*◌, ◌/◌, ◌%◌, ◌<◌, ◌≤◌, inl, inr, true, ◌&&◌, eqb, List, [], ◌∷◌, length, get_or, filter, refl, subst, arith}
 use Prim.Native.Nat.{◌∣◌}
-use mathlib.Core.Logic.{∥∥₁_elim}
-use denote.Struct.Props.{props}
 use Rattle.std.proofs.Math.Nat.{le-div_iff_mul-le, mod-one, mul-div_cancel', mul-le-mul_left, mul_comm, pos_of_dvd_of_pos}
 use Rattle.std.proofs.lemmas.Bool.{and_from, and_parts, cases_lt, eq-eqb, eqb-true}
 use Rattle.std.proofs.lemmas.Nat.Gcd.{dvd_of_mod-eq-zero, dvd_refl, dvd_trans, le_of_dvd, mod-eq-zero_of_dvd}
@@ -11,18 +9,11 @@ use Rattle.std.specs.List.{list_all, range_with_len}
 use Rattle.qc_model.specs.declared.crane.Crane.{Crane}
 use Rattle.qc_model.specs.declared.task.Task.{Task}
 use Rattle.qc_model.specs.Closed.{are_multiples, grain}
-use Rattle.qc_model.specs.Instance.{HasBayLimits, HasPlaceLimits, InstanceView, Valid, crane, no_crane, no_task, task, ticks_of}
+use Rattle.qc_model.specs.Instance.{InstanceView, Valid, crane, no_crane, no_task, task, ticks_of}
 use Rattle.qc_model.specs.Nodes.{greatest}
+use Rattle.qc_model.proofs.LimitsOf.{travel_of}
 use Rattle.qc_close.specs.Grains.{IsGrainOf}
 use Rattle.qc_close.proofs.Members.{Among, all_at, all_from, among_filter, among_range, filter_among, range_among}
-
-some_travel : (inst : InstanceView) → HasBayLimits inst ⊎ HasPlaceLimits inst → (1 ≤ inst.travel) × (inst.travel ≤ 10000)
-some_travel inst (inl h) = h.travel
-some_travel inst (inr h) = (h.travel.0, omega (arith, h.travel.1))
-
--- a bay takes some ticks, and not too many
-pub travel_range : (inst : InstanceView) → Valid inst → (1 ≤ inst.travel) × (inst.travel ≤ 10000)
-travel_range inst valid = ∥∥₁_elim valid.limits (hlevel props) (some_travel inst)
 
 -- ---- members and their places
 
@@ -169,6 +160,6 @@ pub grain_read : (inst : InstanceView) → Valid inst → (travel one g : ℕ) (
 grain_read inst valid travel one g tasks cranes is_travel is_tasks is_cranes of_tasks of_cranes =
     let P : List Task → Type 0 = λ ts. IsGrainOf travel (λ j. (get_or ts j no_task).ticks) (length ts) one in
     let Q : List Crane → Type 0 = λ ks. IsGrainOf one (λ k. (get_or ks k no_crane).ready) (length ks) g in
-    grain_found inst one g (travel_range inst valid).0
+    grain_found inst one g (travel_of inst valid).0
     (subst (λ (t : ℕ). IsGrainOf t (ticks_of inst) (length inst.tasks) one) is_travel (subst P is_tasks of_tasks))
     (subst Q is_cranes of_cranes)

@@ -23,7 +23,7 @@ use Rattle.qc_model.specs.Instance.{InstanceView, IsOnRail, Valid, bay_of, crane
 use Rattle.qc_model.specs.Work.{crane_numbers, highest, lowest, task_numbers, ticks_over}
 use Rattle.qc_model.specs.declared.limits.TheConstants.{MOST_START}
 use Rattle.qc_model.proofs.Bays.{bays}
-use Rattle.qc_model.proofs.LimitsOf.{limits_of}
+use Rattle.qc_model.proofs.LimitsOf.{limits_of, travel_of}
 use Rattle.qc_model.proofs.OnRail.{ticks_bounded}
 use Rattle.qc_close.specs.Counts.{AreNear, IsNear}
 use Rattle.qc_model.specs.Ways.{longest_way, own_bays, way_frame}
@@ -35,7 +35,7 @@ use Rattle.qc_close.specs.Lasts.{IsLatest}
 use Rattle.qc_close.proofs.ClosedLemmas.{InOrder, among_lists, beyond_after, beyond_at, falling, from_reverse, rising, to_rises}
 use Rattle.qc_close.proofs.CountLemmas.{most_cons, sum_filter, sum_le, sums_within}
 use Rattle.qc_close.proofs.CrewLemmas.{at, sum_few, term, work_is}
-use Rattle.qc_close.proofs.GrainLemmas.{grain_is, travel_range}
+use Rattle.qc_close.proofs.GrainLemmas.{grain_is}
 use Rattle.qc_close.proofs.KeptLemmas.{closed_falls}
 use Rattle.qc_close.proofs.BarredLemmas.{among_done, greatest_among}
 use Rattle.qc_close.proofs.Members.{Among, among_filter, any_at, any_from, filter_among, map_among, range_among}
@@ -259,7 +259,7 @@ module _ (inst : InstanceView) (valid : Valid inst) where
 
   travel_few : (n m : ℕ) → n ≤ m → inst.travel * n ≤ 10000 * m
   travel_few n m le =
-      omega (arith, mul-le-mul_left inst.travel le, mul-le-mul_left m (travel_range inst valid).1, mul_comm m inst.travel, mul_comm m 10000)
+      omega (arith, mul-le-mul_left inst.travel le, mul-le-mul_left m (travel_of inst valid).1, mul_comm m inst.travel, mul_comm m 10000)
 
   module _ (turn : Turn) (w : ℕ) (low : w < length inst.cranes) where
     berth : IsOnRail (crane inst w).bay
@@ -423,7 +423,7 @@ module _ (inst : InstanceView) (valid : Valid inst) where
 
     pub late_tick : (end : ℕ) → MOST_START < end → 900000000000 ≤ last_before (grain inst) end
     late_tick end late =
-        let travel = travel_range inst valid in
+        let travel = travel_of inst valid in
         let g = grain_is inst travel.0 in
         let few : grain inst ≤ 10000 = omega (arith, le_of_dvd travel.0 g.travel, travel.1) in
         let some = g.some in

@@ -1,15 +1,13 @@
 -- Steps of the loops over tasks.
-use Rattle.std.proofs.Common.{◌≡◌, ◌⊎◌, ◌≤ℤ◌, Option, is_some, nat_lt, to_z, of_z, w32, inl, inr, ℕ, ◌+◌, ◌*◌, ◌<◌, ◌≤◌, Bool, true, false, ◌||◌, ◌&&◌, eqb, not, List, [], ◌∷◌, length, drop, get_or, refl, ap, sym, ◌∙◌, arith, add-one, drop-cons, ℤ, pos, ◌-ℤ◌}
+use Rattle.std.proofs.Common.{◌≡◌, ◌≤ℤ◌, Option, is_some, nat_lt, to_z, of_z, w32, inl, inr, ℕ, ◌+◌, ◌*◌, ◌<◌, ◌≤◌, Bool, true, false, ◌||◌, ◌&&◌, eqb, not, List, [], ◌∷◌, length, drop, get_or, refl, ap, sym, ◌∙◌, arith, add-one, drop-cons, ℤ, pos, ◌-ℤ◌}
 use Rattle.std.specs.List.{list_all, list_any}
 use Rattle.std.proofs.lemmas.Bool.{and_from, and_left, eqb-false, eqb-true, eq-eqb, lt-ltb, ne_eqb, not_from_false, not_from_true, or_cases, or_parts}
 use Rattle.std.proofs.lemmas.Int.{ints}
-use mathlib.Core.Logic.{∥∥₁_elim}
-use denote.Struct.Props.{props}
 use Rattle.qc_model.specs.declared.task.Task.{Task}
 use Rattle.qc_model.specs.Work.{crane_numbers}
 use Rattle.qc_model.specs.Nodes.{reaches}
-use Rattle.qc_model.specs.Instance.{task, HasBayLimits, HasPlaceLimits, InstanceView, Valid}
-use Rattle.qc_model.proofs.LimitsOf.{limits_of}
+use Rattle.qc_model.specs.Instance.{task, InstanceView, Valid}
+use Rattle.qc_model.proofs.LimitsOf.{limits_of, travel_of}
 use Rattle.qc_model.specs.Assignments.{crane_in, cranes_for, place}
 use Rattle.qc_close.specs.Bands.{IsPlace}
 use Rattle.qc_close.proofs.SpanLemmas.{doable_is}
@@ -54,12 +52,8 @@ differ_fails xs i low t =
 
 -- ---- places
 
-some_travel : (inst : InstanceView) → HasBayLimits inst ⊎ HasPlaceLimits inst → 1 ≤ inst.travel
-some_travel inst (inl h) = h.travel.0
-some_travel inst (inr h) = h.travel.0
-
 pub least_steps : (inst : InstanceView) → Valid inst → (1 ≤ inst.travel) × (1 ≤ inst.gap)
-least_steps inst v = (∥∥₁_elim v.limits (hlevel props) (some_travel inst), (limits_of inst v).gap.0)
+least_steps inst v = ((travel_of inst v).0, (limits_of inst v).gap.0)
 
 -- a task lies within the range of places
 pub near_place : (inst : InstanceView) → Valid inst → (j v : ℕ) → j < length inst.tasks → inst.gap * v ≤ 16000

@@ -1,10 +1,9 @@
 -- inner: when tasks can start at the least, as it is kept for an instance.
-use Rattle.std.specs.Prelude.{◌≡◌, ℕ, pos, ◌+◌, ◌-◌, ◌*◌, ◌<◌, ◌≤◌, List, [], length, slice_index, slice_index_or}
-use Rattle.qc_model.specs.declared.limits.TheConstants.{MOST_CRANES, MOST_DISTANCE, MOST_READY}
+use Rattle.std.specs.Prelude.{◌≡◌, ℕ, ◌+◌, ◌<◌, ◌≤◌, List, [], length, slice_index, slice_index_or}
+use Rattle.qc_model.specs.declared.limits.TheConstants.{MOST_DISTANCE, MOST_READY}
 use Rattle.qc_dist.specs.declared.heads.Berths.{Berths}
 use Rattle.qc_dist.specs.declared.heads.Berths.TheVariants.{Counted, Ignored}
 use Rattle.qc_dist.specs.declared.heads.Heads.{Heads}
-use Rattle.qc_model.specs.Bays.{bays_up}
 use Rattle.qc_model.specs.Instance.{InstanceView, bay_of}
 use Rattle.qc_model.specs.Nodes.{free, head, head1}
 use Rattle.qc_model.specs.Ticks.{arrival}
@@ -20,23 +19,11 @@ pub record IsFreeRow (inst : InstanceView) (j : ℕ) (row : List ℕ) : Type 0 w
   pub values : (k : ℕ) → k < length inst.cranes
       → (slice_index row k ≡ free inst j k) × (slice_index row k ≤ MOST_READY + MOST_DISTANCE)
 
--- how far along the rail task j lies for crane w, which counts its bays from a place lower by a gap than that of the
--- crane above it
-abbrev pub along : InstanceView → ℕ → ℕ → ℕ
-along inst j w = inst.travel * (bays_up (pos 0) (bay_of inst j) + inst.gap * (MOST_CRANES - w))
-
--- how far task j lies for each crane
-pub record IsAlongRow (inst : InstanceView) (j : ℕ) (row : List ℕ) : Type 0 where
-  pub count : length inst.cranes ≤ length row
-  pub values : (k : ℕ) → k < length inst.cranes
-      → (slice_index row k ≡ along inst j k) × (slice_index row k ≤ MOST_DISTANCE)
-
--- when task j can start at the least: with each crane, and while it has none; and how far it lies
+-- when task j can start at the least: with each crane, and while it has none
 pub record IsHeads (inst : InstanceView) (j : ℕ) (heads : Heads) : Type 0 where
   pub free : IsFreeRow inst j heads.free
   pub least : heads.least ≡ head inst [] j
   pub least_alone : heads.least_alone ≡ head1 inst [] j
-  pub along : IsAlongRow inst j heads.along
   pub bound : heads.least ≤ MOST_READY + MOST_DISTANCE
   pub bound_alone : heads.least_alone ≤ MOST_READY + MOST_DISTANCE
 

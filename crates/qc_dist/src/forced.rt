@@ -2,11 +2,11 @@
 
 ghost use Rattle.std.specs.Prelude.{◌≡◌, ◌+◌, ◌<◌, ◌≤◌, ◌↔◌, Some, IfSome, IsTrue, length};
 ghost use Rattle.qc_model.specs.declared.limits.TheConstants.{MOST_DISTANCE, MOST_READY, MOST_WORK};
-ghost use Rattle.qc_model.specs.Nodes.{IsSettled, assigned, clear_ticks, crane_ticks, forced, greater, head, head1, is_sooner, pair_ticks, sooner_ticks, upward_ticks};
+ghost use Rattle.qc_model.specs.Nodes.{IsSettled, assigned, clear_ticks, crane_ticks, forced, greater, head, head1, is_sooner, pair_ticks, sooner_ticks};
 ghost use Rattle.qc_dist.specs.Added.{excess};
 
 use crate::Decisions;
-use crate::travel::{arrival, separation};
+use crate::travel::{arrival, separation, upward_ticks};
 use qc_model::Turn;
 use qc_num::Tick;
 
@@ -47,28 +47,6 @@ impl Decisions {
         greater(self.sooner_ticks(i, j), self.crane_ticks(i, j))
     }
 
-    /// What cranes ask for that go one way: one crane goes up from the one task to the other, or the lower
-    /// of two cranes gives way.
-    #[inline(always)]
-    fn upward_ticks(&self, i: u16, v: u16, j: u16, w: u16) -> Option<Tick>
-        requires first_task { i < length self.now.inst.tasks }
-        requires first_crane { v < length self.now.inst.cranes }
-        requires second_task { j < length self.now.inst.tasks }
-        requires second_crane { w < length self.now.inst.cranes }
-        ensures ticks { result ≡ upward_ticks self.now.inst i v j w }
-        ensures bound { IfSome result (λ ticks. ticks ≤ MOST_WORK + MOST_DISTANCE) }
-    {
-        if v < w {
-            return None;
-        }
-        let from = self.heads_of(i).along[v as usize];
-        let to = self.heads_of(j).along[w as usize];
-        if to <= from {
-            return None;
-        }
-        Some(self.instance().task(i).ticks + (to - from))
-    }
-
     /// What cranes ask for that go as they like: where the one task is sooner, time to be clear of it.
     fn clear_ticks(&self, i: u16, v: u16, j: u16, w: u16) -> Option<Tick>
         requires first_task { i < length self.now.inst.tasks }
@@ -99,7 +77,7 @@ impl Decisions {
         ensures bound { IfSome result (λ ticks. ticks ≤ MOST_WORK + MOST_DISTANCE) }
     {
         match self.instance().turn() {
-            Turn::OneWay => self.upward_ticks(i, v, j, w),
+            Turn::OneWay => upward_ticks(self.instance(), i, v, j, w),
             Turn::Free => self.clear_ticks(i, v, j, w),
         }
     }

@@ -4,9 +4,9 @@ ghost use Rattle.std.specs.Prelude.{◌≡◌, ◌+◌, ◌<◌, ◌≤◌, None
 ghost use Rattle.std.specs.Option.{option_map_or};
 ghost use Rattle.qc_model.specs.declared.limits.TheConstants.{MOST_DISTANCE, MOST_READY};
 ghost use Rattle.qc_model.specs.Nodes.{free, head_by};
-ghost use Rattle.qc_dist.specs.Heads.{IsAlongRow, IsFreeRow, IsHeads, IsHeadTable, there};
+ghost use Rattle.qc_dist.specs.Heads.{IsFreeRow, IsHeads, IsHeadTable, there};
 
-use crate::travel::{along, arrival, head, in_reach};
+use crate::travel::{arrival, head, in_reach};
 use qc_model::{Instance, MOST_CRANES};
 use qc_num::{OutOfMemory, Tick};
 use std::alloc::Global;
@@ -18,7 +18,7 @@ pub(crate) enum Berths {
     Ignored,
 }
 
-/// When a task can start at the least, and how far along the rail it lies.
+/// When a task can start at the least.
 #[derive(Clone, Copy)]
 pub(crate) struct Heads {
     /// With each crane.
@@ -27,8 +27,6 @@ pub(crate) struct Heads {
     pub(crate) least: Tick,
     /// The same where the start bays of other cranes don't count.
     pub(crate) least_alone: Tick,
-    /// How far along the rail it lies for each crane.
-    pub(crate) along: [Tick; MOST_CRANES as usize],
 }
 
 /// When crane `k` can first be at task `j`.
@@ -79,19 +77,7 @@ fn free_row(inst: &Instance, j: u16) -> [Tick; MOST_CRANES as usize]
     row
 }
 
-/// How far along the rail task `j` lies for each crane.
-fn along_row(inst: &Instance, j: u16) -> [Tick; MOST_CRANES as usize]
-    requires { j < length inst.now.tasks }
-    ensures { IsAlongRow inst.now j result }
-{
-    let mut row = [0; MOST_CRANES as usize];
-    for k in 0..inst.crane_count() {
-        row[k as usize] = along(inst, j, k);
-    }
-    row
-}
-
-/// When task `j` can start at the least, and how far it lies.
+/// When task `j` can start at the least.
 fn heads_of(inst: &Instance, j: u16) -> Heads
     requires { j < length inst.now.tasks }
     ensures { IsHeads inst.now j result }
@@ -100,7 +86,6 @@ fn heads_of(inst: &Instance, j: u16) -> Heads
         free: free_row(inst, j),
         least: least_head(inst, Berths::Counted, j),
         least_alone: least_head(inst, Berths::Ignored, j),
-        along: along_row(inst, j),
     }
 }
 

@@ -16,4 +16,4 @@ mod work;
 pub use children::next_child;
 pub use decisions::Decisions;
 pub use qc_model::Decision;
-pub use travel::{distance, head, in_reach, separation, span};
+pub use travel::{distance, head, in_reach, separation, span, upward_ticks};

@@ -1,13 +1,12 @@
 //! Distances, travel and reach of cranes over an instance.
 
-ghost use Rattle.std.specs.Prelude.{◌≡◌, ◌+◌, ◌<◌, ◌≤◌, length};
+ghost use Rattle.std.specs.Prelude.{◌≡◌, ◌+◌, ◌<◌, ◌≤◌, if◌then◌else◌, IfSome, None, Some, int_lt, length};
 ghost use Rattle.qc_model.specs.declared.limits.TheConstants.{MOST_DISTANCE, MOST_READY, MOST_WORK};
 ghost use Rattle.qc_model.specs.Instance.{bay_of, ticks_of};
-ghost use Rattle.qc_model.specs.Nodes.{berth_wait, free, reaches, separation};
-ghost use Rattle.qc_model.specs.Ticks.{arrival, task_distance, travel_between};
-ghost use Rattle.qc_dist.specs.Heads.{along};
+ghost use Rattle.qc_model.specs.Nodes.{berth_wait, free, reaches, separation, upward_ticks};
+ghost use Rattle.qc_model.specs.Ticks.{arrival, climb, task_distance, travel_between};
 
-use qc_model::{Instance, MOST_CRANES, bays_between, bays_up, travel_over};
+use qc_model::{Instance, bays_between, bays_up, travel_over};
 use qc_num::Tick;
 
 /// The ticks by which task `i` on crane `v` and task `j` on crane `w` keep clear of each other
@@ -40,17 +39,48 @@ pub fn separation(inst: &Instance, i: u16, v: u16, j: u16, w: u16) -> Tick
     }
 }
 
-/// The position of task `j` in crane `w`'s own coordinates, in ticks of travel: bay times travel,
-/// shifted by one gap for each crane above `w`. In these coordinates the time lag between two tasks is
-/// a difference, whichever cranes do them.
-pub(crate) fn along(inst: &Instance, j: u16, w: u16) -> Tick
-    requires task { j < length inst.now.tasks }
-    requires crane { w < length inst.now.cranes }
-    ensures ticks { result ≡ along inst.now j w }
-    ensures bound { result ≤ MOST_DISTANCE }
+/// The ticks from the start of task `i` to that of task `j`, which lies higher, on one crane that goes up; `None`
+/// where it doesn't lie higher.
+#[inline(always)]
+fn climb(inst: &Instance, i: u16, j: u16) -> Option<Tick>
+    requires first { i < length inst.now.tasks }
+    requires second { j < length inst.now.tasks }
+    ensures ticks { result ≡ (if int_lt (bay_of inst.now i) (bay_of inst.now j)
+        then Some (climb inst.now i j) else None) }
+    ensures bound { IfSome result (λ ticks. ticks ≤ MOST_WORK + MOST_DISTANCE) }
+    ensures longer { IfSome result (λ ticks. ticks_of inst.now i < ticks) }
 {
-    let gaps = bays_up(0, inst.gap()) * Tick::from(MOST_CRANES - w);
-    travel_over(inst, bays_up(0, inst.task(j).bay) + gaps)
+    let (first, second) = (inst.task(i), inst.task(j));
+    if first.bay < second.bay {
+        Some(first.ticks + travel_over(inst, bays_up(first.bay, second.bay)))
+    } else {
+        None
+    }
+}
+
+/// What cranes ask for that go one way: by how many ticks task `j` on crane `w` must start after the start of
+/// task `i` on crane `v`. One crane goes up from the one task to the other, and the lower of two cranes gives way.
+/// `None` where they ask for nothing; and never as little as the ticks of task `i` alone.
+#[inline(always)]
+pub fn upward_ticks(inst: &Instance, i: u16, v: u16, j: u16, w: u16) -> Option<Tick>
+    requires first_task { i < length inst.now.tasks }
+    requires first_crane { v < length inst.now.cranes }
+    requires second_task { j < length inst.now.tasks }
+    requires second_crane { w < length inst.now.cranes }
+    ensures ticks { result ≡ upward_ticks inst.now i v j w }
+    ensures bound { IfSome result (λ ticks. ticks ≤ MOST_WORK + MOST_DISTANCE) }
+    ensures longer { IfSome result (λ ticks. ticks_of inst.now i < ticks) }
+{
+    if v == w {
+        return climb(inst, i, j);
+    }
+    if v < w {
+        return None;
+    }
+    match distance(inst, i, v, j, w) {
+        0 => None,
+        clear => Some(inst.task(i).ticks + clear),
+    }
 }
 
 /// When crane `k` can first be at task `j`, whatever stands between.

@@ -1,26 +1,16 @@
 -- The rules of a feasible schedule on one scale. Levels of bays are those of upward schedules: cranes at their
 -- least distance stand at one level. Each rule says that no task and no berth has a crane above where another
 -- has it.
-use Rattle.std.proofs.Common.{◌≡◌, ◌≢◌, ℕ, zero, suc, ◌+◌, ◌-◌, ◌*◌, ◌<◌, ◌≤◌, ℤ, pos, ◌+ℤ◌, ◌-ℤ◌, ◌≤ℤ◌, inl, inr, List, length, refl, ap, sym, subst, ◌∙◌, arith, mul-le-mul_left}
-use Rattle.std.proofs.lemmas.Bool.{cases_lt, cases_order, le-ltb, lt-ltb}
+use Rattle.std.proofs.Common.{◌≡◌, ◌≢◌, ℕ, ◌-◌, ◌*◌, ◌<◌, ◌≤◌, ℤ, pos, ◌-ℤ◌, ◌≤ℤ◌, inl, inr, List, length, refl, sym, subst, arith}
+use Rattle.std.proofs.lemmas.Bool.{cases_lt, cases_order}
 use Rattle.std.proofs.lemmas.Int.{ints}
 use Rattle.qc_model.specs.declared.schedule.Slot.{Slot}
-use Rattle.qc_model.specs.Bays.{bays_between, bays_up}
+use Rattle.qc_model.specs.Bays.{bays_up}
 use Rattle.qc_model.specs.Instance.{InstanceView, Valid, bay_of, crane}
 use Rattle.qc_model.specs.Rules.{Feasible, IsClear, crane_of, end_of, start_of}
-use Rattle.qc_model.specs.Ticks.{arrival, distance}
-use Rattle.qc_model.proofs.Bays.{bays}
-use Rattle.qc_model.proofs.GoesLemmas.{distance_swapped}
-use Rattle.qc_model.proofs.Levels.{berth_at, berth_level, lowered, task_level}
+use Rattle.qc_model.proofs.Levels.{bay_on, berth_at, berth_level, berth_of, berths_rise, distance-lowered, leaves_by, one_way, same_way, task_level, waits_by}
 use Rattle.qc_model.proofs.Scaled.{scaled_late, scaled_le}
 use Rattle.qc_freemove.specs.FreeMotion.{parts_off}
-
--- the lowered bays of a task and of a berth
-abbrev bay_on : InstanceView → List Slot → ℕ → ℤ
-bay_on inst sched i = lowered inst (crane_of sched i) (bay_of inst i)
-
-abbrev berth_on : InstanceView → ℕ → ℤ
-berth_on inst v = lowered inst v (crane inst v).bay
 
 -- where task i has its crane at a moment
 abbrev pub visit_at : InstanceView → List Slot → ℕ → ℕ → ℕ → ℤ
@@ -39,47 +29,6 @@ pub record HasFreeLevels (inst : InstanceView) (sched : List Slot) (d : ℕ) : T
       → m ≤ d * (crane inst v).ready → visit_at inst sched d i m ≤ℤ berth_level inst d v
   -- berths rise
   pub order : (v w : ℕ) → v ≤ w → w < length inst.cranes → berth_level inst d v ≤ℤ berth_level inst d w
-
--- ---- on bays
-
-apart_bays : (g v w u : ℕ) (x y : ℤ) → v ≡ w + u
-    → bays_up x (y +ℤ pos (g * u)) ≡ bays_up (x -ℤ pos (g * v)) (y -ℤ pos (g * w))
-apart_bays g v w u x y e = let parts = ap (λ m. g * m) e in omega (arith, bays)
-
-distance-lowered : (inst : InstanceView) (v : ℕ) (x : ℤ) (w : ℕ) (y : ℤ) → w < v
-    → distance inst v x w y ≡ inst.travel * bays_up (lowered inst v x) (lowered inst w y)
-distance-lowered inst v x w y h =
-    let p : w ≤ v = omega arith in
-    let e : v ≡ w + (v - w) = omega arith in
-    rw (le-ltb v w p, lt-ltb w v h) (ap (λ b. inst.travel * b) (apart_bays inst.gap v w (v - w) x y e))
-
-same_lowered : (g v w : ℕ) (x y : ℤ) → v ≡ w → bays_up (x -ℤ pos (g * v)) (y -ℤ pos (g * w)) ≡ bays_up x y
-same_lowered g v w x y e = let parts = ap (λ m. g * m) e in omega (arith, bays)
-
-one_way : (t : ℕ) (x y : ℤ) → t * bays_up x y ≤ t * bays_between x y
-one_way t x y = mul-le-mul_left t (omega arith)
-
-other_way : (t : ℕ) (x y : ℤ) → t * bays_up y x ≤ t * bays_between x y
-other_way t x y = mul-le-mul_left t (omega arith)
-
-next_berth : (g k : ℕ) (x y : ℤ) → (x +ℤ pos g) ≤ℤ y → (x -ℤ pos (g * k)) ≤ℤ (y -ℤ pos (g * suc k))
-next_berth g k x y h = omega (arith, ints)
-
-same_berth : (inst : InstanceView) (v w : ℕ) → v ≡ w → berth_on inst v ≤ℤ berth_on inst w
-same_berth inst v w e = subst (λ (u : ℕ). berth_on inst v ≤ℤ berth_on inst u) e (omega (arith, ints))
-
-berths_rise : (inst : InstanceView) → Valid inst → (v w : ℕ) → v ≤ w → w < length inst.cranes
-    → berth_on inst v ≤ℤ berth_on inst w
-berths_rise inst valid v zero order high = same_berth inst v zero (omega arith)
-berths_rise inst valid v (suc w) order high =
-    let e : w + 1 ≡ suc w = omega arith in
-    let apart = valid.cranes.order w (omega arith) in
-    let step = subst (λ (u : ℕ). ((crane inst w).bay +ℤ pos inst.gap) ≤ℤ (crane inst u).bay) e apart in
-    let next = next_berth inst.gap w (crane inst w).bay (crane inst (suc w)).bay step in
-    elim (cases_lt w v) [
-      | inl l ↦ same_berth inst v (suc w) (omega arith)
-      | inr l ↦ let before = berths_rise inst valid v w l (omega arith) in omega (arith, ints, before, next)
-    ]
 
 -- ---- on ticks
 
@@ -100,10 +49,6 @@ behind_y : (a : ℤ) (s n m off : ℕ) (low : ℤ) → (a -ℤ pos (n - s)) ≤�
 behind_y a s n m off low h late far = omega (arith, ints)
 
 module _ (inst : InstanceView) (sched : List Slot) (g : Feasible inst sched) where
-  same_way : (v w : ℕ) (x y : ℤ) → v ≡ w
-      → inst.travel * bays_up (lowered inst v x) (lowered inst w y) ≡ inst.travel * bays_up x y
-  same_way v w x y same = ap (λ b. inst.travel * b) (same_lowered inst.gap v w x y same)
-
   -- the ticks from task j up to task i, where the cranes of both stand as near as they may
   abbrev way_up : ℕ → ℕ → ℕ
   way_up j i = inst.travel * bays_up (bay_on inst sched j) (bay_on inst sched i)
@@ -112,7 +57,7 @@ module _ (inst : InstanceView) (sched : List Slot) (g : Feasible inst sched) whe
       → 0 < way_up j i → IsClear inst sched (way_up j i) j i
   clear i j low high differ order near = elim (cases_order (crane_of sched j) (crane_of sched i)) [
     | inl same ↦
-        let bays_same = same_way (crane_of sched j) (crane_of sched i) (bay_of inst j) (bay_of inst i) same in
+        let bays_same = same_way inst (crane_of sched j) (crane_of sched i) (bay_of inst j) (bay_of inst i) same in
         let part = one_way inst.travel (bay_of inst j) (bay_of inst i) in
         clear_by inst sched _ _ j i (omega (arith, bays_same, part))
         (g.travel j i high low (λ e. differ (sym e)) same)
@@ -122,45 +67,6 @@ module _ (inst : InstanceView) (sched : List Slot) (g : Feasible inst sched) whe
           let far = distance-lowered inst _ (bay_of inst j) _ (bay_of inst i) down in
           clear_by inst sched _ _ j i (omega (arith, far))
           (g.margin j i high low (λ e. absurd (omega arith)) (omega (arith, far)))
-    ]
-  ]
-
-  arrives : (j v : ℕ) → j < length inst.tasks → v ≡ crane_of sched j
-      → (crane inst v).ready + inst.travel * bays_between (crane inst v).bay (bay_of inst j) ≤ start_of sched j
-  arrives j v low same =
-      subst (λ (w : ℕ). arrival inst w (bay_of inst j) ≤ start_of sched j) (sym same) (g.ready j low)
-
-  leaves_by : (j v : ℕ) → j < length inst.tasks → v ≤ crane_of sched j
-      → 0 < inst.travel * bays_up (bay_on inst sched j) (berth_on inst v)
-      → (crane inst v).ready + inst.travel * bays_up (bay_on inst sched j) (berth_on inst v) ≤ start_of sched j
-  leaves_by j v low order near = elim (cases_order v (crane_of sched j)) [
-    | inl same ↦
-        let bays_same = same_way (crane_of sched j) v (bay_of inst j) (crane inst v).bay (sym same) in
-        omega (arith, arrives j v low same, bays_same, other_way inst.travel (crane inst v).bay (bay_of inst j))
-    | inr u ↦ elim u [
-      | inl up ↦
-          let turned = distance_swapped inst v (crane inst v).bay (crane_of sched j) (bay_of inst j) in
-          let far = turned ∙ distance-lowered inst (crane_of sched j) (bay_of inst j) v (crane inst v).bay up in
-          let there = g.crane_range j low in
-          let rule = g.berth j v low (omega arith) (λ e. absurd (omega arith)) (omega (arith, far)) in
-          omega (arith, far, rule)
-      | inr down ↦ absurd (omega arith)
-    ]
-  ]
-
-  waits_by : (j v : ℕ) → j < length inst.tasks → v < length inst.cranes → crane_of sched j ≤ v
-      → 0 < inst.travel * bays_up (berth_on inst v) (bay_on inst sched j)
-      → (crane inst v).ready + inst.travel * bays_up (berth_on inst v) (bay_on inst sched j) ≤ start_of sched j
-  waits_by j v low high order near = elim (cases_order v (crane_of sched j)) [
-    | inl same ↦
-        let bays_same = same_way v (crane_of sched j) (crane inst v).bay (bay_of inst j) same in
-        omega (arith, arrives j v low same, bays_same, one_way inst.travel (crane inst v).bay (bay_of inst j))
-    | inr u ↦ elim u [
-      | inl up ↦ absurd (omega arith)
-      | inr down ↦
-          let far = distance-lowered inst v (crane inst v).bay (crane_of sched j) (bay_of inst j) down in
-          let rule = g.berth j v low high (λ e. absurd (omega arith)) (omega (arith, far)) in
-          omega (arith, far, rule)
     ]
   ]
 
@@ -208,16 +114,16 @@ module _ (inst : InstanceView) (sched : List Slot) (g : Feasible inst sched) whe
         → berth_at inst d v m ≤ℤ task_level inst sched d j
     unfolding task_level berth_level
     leaves j v m low order begun =
-        let far = scaled_late d inst.travel (bay_on inst sched j) (berth_on inst v) _ _
-        (leaves_by j v low order) in
+        let far = scaled_late d inst.travel (bay_on inst sched j) (berth_of inst v) _ _
+        (leaves_by inst sched g j v low order) in
         behind_y _ (d * (crane inst v).ready) (d * start_of sched j) m _ _ far begun (omega arith)
 
     waits : (i v m : ℕ) → i < length inst.tasks → v < length inst.cranes → crane_of sched i ≤ v
         → m ≤ d * (crane inst v).ready → visit_at inst sched d i m ≤ℤ berth_level inst d v
     unfolding task_level berth_level
     waits i v m low high order early =
-        let far = scaled_late d inst.travel (berth_on inst v) (bay_on inst sched i) _ _
-        (waits_by i v low high order) in
+        let far = scaled_late d inst.travel (berth_of inst v) (bay_on inst sched i) _ _
+        (waits_by inst sched g i v low high order) in
         before_y _ (d * start_of sched i) (d * (crane inst v).ready) m _ _ far early (omega arith)
 
     pub free_levels : Valid inst → HasFreeLevels inst sched d

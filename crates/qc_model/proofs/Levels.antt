@@ -9,7 +9,7 @@ use Rattle.qc_model.specs.Bays.{bays_between, bays_up}
 use Rattle.qc_model.specs.Instance.{InstanceView, Valid, bay_of, crane}
 use Rattle.qc_model.specs.Motion.{scaled}
 use Rattle.qc_model.specs.OneWay.{GoesUp}
-use Rattle.qc_model.specs.Rules.{crane_of, end_of, start_of}
+use Rattle.qc_model.specs.Rules.{Feasible, crane_of, end_of, start_of}
 use Rattle.qc_model.specs.Ticks.{arrival, distance}
 use Rattle.qc_model.proofs.Bays.{bays}
 use Rattle.qc_model.proofs.GoesLemmas.{distance_swapped}
@@ -20,10 +20,10 @@ abbrev pub lowered : InstanceView → ℕ → ℤ → ℤ
 lowered inst v x = x -ℤ pos (inst.gap * v)
 
 -- the lowered bays of a task and of a berth
-abbrev bay_on : InstanceView → List Slot → ℕ → ℤ
+abbrev pub bay_on : InstanceView → List Slot → ℕ → ℤ
 bay_on inst sched i = lowered inst (crane_of sched i) (bay_of inst i)
 
-abbrev berth_of : InstanceView → ℕ → ℤ
+abbrev pub berth_of : InstanceView → ℕ → ℤ
 berth_of inst v = lowered inst v (crane inst v).bay
 
 unfoldable pub task_level : InstanceView → List Slot → ℕ → ℕ → ℤ
@@ -58,7 +58,7 @@ apart_bays : (g v w u : ℕ) (x y : ℤ) → v ≡ w + u
     → bays_up x (y +ℤ pos (g * u)) ≡ bays_up (x -ℤ pos (g * v)) (y -ℤ pos (g * w))
 apart_bays g v w u x y e = let parts = ap (λ m. g * m) e in omega (arith, bays)
 
-distance-lowered : (inst : InstanceView) (v : ℕ) (x : ℤ) (w : ℕ) (y : ℤ) → w < v
+pub distance-lowered : (inst : InstanceView) (v : ℕ) (x : ℤ) (w : ℕ) (y : ℤ) → w < v
     → distance inst v x w y ≡ inst.travel * bays_up (lowered inst v x) (lowered inst w y)
 distance-lowered inst v x w y h =
     let p : w ≤ v = omega arith in
@@ -74,10 +74,10 @@ above_of t x y h = by_lt_z x y (λ up. up) (λ down.
     absurd (omega (arith, ap (λ b. t * b) none)))
 
 -- a way up is part of the way between
-one_way : (t : ℕ) (x y : ℤ) → t * bays_up x y ≤ t * bays_between x y
+pub one_way : (t : ℕ) (x y : ℤ) → t * bays_up x y ≤ t * bays_between x y
 one_way t x y = mul-le-mul_left t (omega arith)
 
-other_way : (t : ℕ) (x y : ℤ) → t * bays_up y x ≤ t * bays_between x y
+pub other_way : (t : ℕ) (x y : ℤ) → t * bays_up y x ≤ t * bays_between x y
 other_way t x y = mul-le-mul_left t (omega arith)
 
 next_berth : (g k : ℕ) (x y : ℤ) → (x +ℤ pos g) ≤ℤ y → (x -ℤ pos (g * k)) ≤ℤ (y -ℤ pos (g * suc k))
@@ -86,7 +86,7 @@ next_berth g k x y h = omega (arith, ints)
 same_berth : (inst : InstanceView) (v w : ℕ) → v ≡ w → berth_of inst v ≤ℤ berth_of inst w
 same_berth inst v w e = subst (λ (u : ℕ). berth_of inst v ≤ℤ berth_of inst u) e (omega (arith, ints))
 
-berths_rise : (inst : InstanceView) → Valid inst → (v w : ℕ) → v ≤ w → w < length inst.cranes
+pub berths_rise : (inst : InstanceView) → Valid inst → (v w : ℕ) → v ≤ w → w < length inst.cranes
     → berth_of inst v ≤ℤ berth_of inst w
 berths_rise inst valid v zero order high = same_berth inst v zero (omega arith)
 berths_rise inst valid v (suc w) order high =
@@ -99,18 +99,59 @@ berths_rise inst valid v (suc w) order high =
       | inr l ↦ let before = berths_rise inst valid v w l (omega arith) in omega (arith, ints, before, next)
     ]
 
-module _ (inst : InstanceView) (sched : List Slot) (g : GoesUp inst sched) where
-  same_way : (v w : ℕ) (x y : ℤ) → v ≡ w
-      → inst.travel * bays_up (lowered inst v x) (lowered inst w y) ≡ inst.travel * bays_up x y
-  same_way v w x y same = ap (λ b. inst.travel * b) (same_lowered inst.gap v w x y same)
+pub same_way : (inst : InstanceView) (v w : ℕ) (x y : ℤ) → v ≡ w
+    → inst.travel * bays_up (lowered inst v x) (lowered inst w y) ≡ inst.travel * bays_up x y
+same_way inst v w x y same = ap (λ b. inst.travel * b) (same_lowered inst.gap v w x y same)
 
+-- what the rules of a feasible schedule say of a task and of a berth
+module _ (inst : InstanceView) (sched : List Slot) (g : Feasible inst sched) where
+  arrives : (j v : ℕ) → j < length inst.tasks → v ≡ crane_of sched j
+      → (crane inst v).ready + inst.travel * bays_between (crane inst v).bay (bay_of inst j) ≤ start_of sched j
+  arrives j v low same =
+      subst (λ (w : ℕ). arrival inst w (bay_of inst j) ≤ start_of sched j) (sym same) (g.ready j low)
+
+  pub leaves_by : (j v : ℕ) → j < length inst.tasks → v ≤ crane_of sched j
+      → 0 < inst.travel * bays_up (bay_on inst sched j) (berth_of inst v)
+      → (crane inst v).ready + inst.travel * bays_up (bay_on inst sched j) (berth_of inst v) ≤ start_of sched j
+  leaves_by j v low order near = elim (cases_order v (crane_of sched j)) [
+    | inl same ↦
+        let bays_same = same_way inst (crane_of sched j) v (bay_of inst j) (crane inst v).bay (sym same) in
+        omega (arith, arrives j v low same, bays_same, other_way inst.travel (crane inst v).bay (bay_of inst j))
+    | inr u ↦ elim u [
+      | inl up ↦
+          let turned = distance_swapped inst v (crane inst v).bay (crane_of sched j) (bay_of inst j) in
+          let far = turned ∙ distance-lowered inst (crane_of sched j) (bay_of inst j) v (crane inst v).bay up in
+          let there = g.crane_range j low in
+          let rule = g.berth j v low (omega arith) (λ e. absurd (omega arith)) (omega (arith, far)) in
+          omega (arith, far, rule)
+      | inr down ↦ absurd (omega arith)
+    ]
+  ]
+
+  pub waits_by : (j v : ℕ) → j < length inst.tasks → v < length inst.cranes → crane_of sched j ≤ v
+      → 0 < inst.travel * bays_up (berth_of inst v) (bay_on inst sched j)
+      → (crane inst v).ready + inst.travel * bays_up (berth_of inst v) (bay_on inst sched j) ≤ start_of sched j
+  waits_by j v low high order near = elim (cases_order v (crane_of sched j)) [
+    | inl same ↦
+        let bays_same = same_way inst v (crane_of sched j) (crane inst v).bay (bay_of inst j) same in
+        omega (arith, arrives j v low same, bays_same, one_way inst.travel (crane inst v).bay (bay_of inst j))
+    | inr u ↦ elim u [
+      | inl up ↦ absurd (omega arith)
+      | inr down ↦
+          let far = distance-lowered inst v (crane inst v).bay (crane_of sched j) (bay_of inst j) down in
+          let rule = g.berth j v low high (λ e. absurd (omega arith)) (omega (arith, far)) in
+          omega (arith, far, rule)
+    ]
+  ]
+
+module _ (inst : InstanceView) (sched : List Slot) (g : GoesUp inst sched) where
   climbs_by : (i j : ℕ) → i < length inst.tasks → j < length inst.tasks → crane_of sched j ≤ crane_of sched i
       → 0 < inst.travel * bays_up (bay_on inst sched i) (bay_on inst sched j)
       → end_of inst sched i + inst.travel * bays_up (bay_on inst sched i) (bay_on inst sched j)
       ≤ start_of sched j
   climbs_by i j low high order near = elim (cases_order (crane_of sched i) (crane_of sched j)) [
     | inl same ↦
-        let bays_same = same_way (crane_of sched i) (crane_of sched j) (bay_of inst i) (bay_of inst j) same in
+        let bays_same = same_way inst (crane_of sched i) (crane_of sched j) (bay_of inst i) (bay_of inst j) same in
         let up = above_of inst.travel (bay_of inst i) (bay_of inst j) (omega arith) in
         omega (arith, g.upward.one_crane i j low high same up)
     | inr u ↦ elim u [
@@ -121,53 +162,14 @@ module _ (inst : InstanceView) (sched : List Slot) (g : GoesUp inst sched) where
     ]
   ]
 
-  arrives : (j v : ℕ) → j < length inst.tasks → v ≡ crane_of sched j
-      → (crane inst v).ready + inst.travel * bays_between (crane inst v).bay (bay_of inst j) ≤ start_of sched j
-  arrives j v low same =
-      subst (λ (w : ℕ). arrival inst w (bay_of inst j) ≤ start_of sched j) (sym same) (g.feasible.ready j low)
-
-  leaves_by : (j v : ℕ) → j < length inst.tasks → v ≤ crane_of sched j
-      → 0 < inst.travel * bays_up (bay_on inst sched j) (berth_of inst v)
-      → (crane inst v).ready + inst.travel * bays_up (bay_on inst sched j) (berth_of inst v) ≤ start_of sched j
-  leaves_by j v low order near = elim (cases_order v (crane_of sched j)) [
-    | inl same ↦
-        let bays_same = same_way (crane_of sched j) v (bay_of inst j) (crane inst v).bay (sym same) in
-        omega (arith, arrives j v low same, bays_same, other_way inst.travel (crane inst v).bay (bay_of inst j))
-    | inr u ↦ elim u [
-      | inl up ↦
-          let turned = distance_swapped inst v (crane inst v).bay (crane_of sched j) (bay_of inst j) in
-          let far = turned ∙ distance-lowered inst (crane_of sched j) (bay_of inst j) v (crane inst v).bay up in
-          let there = g.feasible.crane_range j low in
-          let rule = g.feasible.berth j v low (omega arith) (λ e. absurd (omega arith)) (omega (arith, far)) in
-          omega (arith, far, rule)
-      | inr down ↦ absurd (omega arith)
-    ]
-  ]
-
-  waits_by : (j v : ℕ) → j < length inst.tasks → v < length inst.cranes → crane_of sched j ≤ v
-      → 0 < inst.travel * bays_up (berth_of inst v) (bay_on inst sched j)
-      → (crane inst v).ready + inst.travel * bays_up (berth_of inst v) (bay_on inst sched j) ≤ start_of sched j
-  waits_by j v low high order near = elim (cases_order v (crane_of sched j)) [
-    | inl same ↦
-        let bays_same = same_way v (crane_of sched j) (crane inst v).bay (bay_of inst j) same in
-        omega (arith, arrives j v low same, bays_same, one_way inst.travel (crane inst v).bay (bay_of inst j))
-    | inr u ↦ elim u [
-      | inl up ↦ absurd (omega arith)
-      | inr down ↦
-          let far = distance-lowered inst v (crane inst v).bay (crane_of sched j) (bay_of inst j) down in
-          let rule = g.feasible.berth j v low high (λ e. absurd (omega arith)) (omega (arith, far)) in
-          omega (arith, far, rule)
-    ]
-  ]
-
   pub levels_of : Valid inst → (d : ℕ) → HasLevels inst sched d
   unfolding task_level berth_level
   levels_of valid d = record {
     climbs = λ i j low high order.
         scaled_late d inst.travel (bay_on inst sched i) (bay_on inst sched j) _ _ (climbs_by i j low high order);
     leaves = λ j v low order.
-        scaled_late d inst.travel (bay_on inst sched j) (berth_of inst v) _ _ (leaves_by j v low order);
+        scaled_late d inst.travel (bay_on inst sched j) (berth_of inst v) _ _ (leaves_by inst sched g.feasible j v low order);
     waits = λ j v low high order.
-        scaled_late d inst.travel (berth_of inst v) (bay_on inst sched j) _ _ (waits_by j v low high order);
+        scaled_late d inst.travel (berth_of inst v) (bay_on inst sched j) _ _ (waits_by inst sched g.feasible j v low high order);
     order = λ v w order high. scaled_le (d * inst.travel) _ _ (berths_rise inst valid v w order high);
   }

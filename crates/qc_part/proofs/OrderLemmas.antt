@@ -1,6 +1,6 @@
 -- Hatches lie one behind the other along the ship, and events, of which each pair of a hatch and a crane has one at most,
 -- follow one another along the rail.
-use Rattle.std.proofs.Common.{◌≡◌, ◌≢◌, ℕ, zero, suc, ◌+◌, ◌-◌, ◌*◌, ◌<◌, ◌≤◌, ◌<ℤ◌, ◌≤ℤ◌, ◌⊎◌, inl, inr, Bool, ℤ, pos, negsuc, false, cond, eqb, Less, Equal, Greater, int_cmp, int_lt, is_lt, List, [], ◌∷◌, ◌++◌, length, get_or, map, ap, sym, subst, ◌∙◌, arith}
+use Rattle.std.proofs.Common.{◌≡◌, ◌≢◌, ℕ, zero, suc, ◌+◌, ◌-◌, ◌*◌, ◌<◌, ◌≤◌, ◌<ℤ◌, ◌≤ℤ◌, inl, inr, Bool, ℤ, pos, negsuc, false, cond, eqb, Less, Equal, Greater, int_cmp, int_lt, is_lt, List, [], ◌∷◌, ◌++◌, length, get_or, map, ap, sym, subst, ◌∙◌, arith}
 use Rattle.std.proofs.Math.Nat.{mul-add, mul-le-mul_left}
 use Rattle.std.proofs.lemmas.Bool.{cases_Bool, cases_eq, cases_lt, eq-eqb, ne_eqb, true≢false}
 use Rattle.std.proofs.lemmas.Int.{ints}
@@ -13,10 +13,9 @@ use Rattle.std.specs.Cmp.{nat_eq_equiv}
 use Rattle.std.specs.List.{All, IsDistinct}
 use Rattle.std.specs.List.Sorted.{IsPermutation}
 use Rattle.qc_model.specs.Bays.{bays_up}
-use mathlib.Core.Logic.{∥∥₁_elim}
-use denote.Struct.Props.{props}
-use Rattle.qc_model.specs.Instance.{HasBayLimits, HasPlaceLimits, InstanceView, Valid, bay_of, task}
+use Rattle.qc_model.specs.Instance.{InstanceView, Valid, bay_of, task}
 use Rattle.qc_model.proofs.Bays.{bays}
+use Rattle.qc_model.proofs.LimitsOf.{travel_of}
 use Rattle.qc_part.specs.declared.event.Event.{Event}
 use Rattle.qc_part.specs.declared.hatch.Hatch.{Hatch}
 use Rattle.qc_part.specs.Hatches.{AreDifferent, AreRising, IsBlock, IsEventOf, IsPlaced, first_of, pair_number}
@@ -128,10 +127,6 @@ less_factor t a b some le other = elim (cases_lt a b) [
       absurd (other (same_factor t a b some e))
 ]
 
-some_travel : (inst : InstanceView) → HasBayLimits inst ⊎ HasPlaceLimits inst → 1 ≤ inst.travel
-some_travel inst (inl h) = h.travel.0
-some_travel inst (inr h) = h.travel.0
-
 -- hatches before they are sorted: at different bays, and all with their first tasks before this one
 pub record AreApart (inst : InstanceView) (hatches : List Hatch) (n : ℕ) : Type 0 where
   pub distinct : IsDistinct same (map (λ (hatch : Hatch). bays_up (pos 0) (bay_of inst hatch.block.first)) hatches)
@@ -148,9 +143,6 @@ not_below x y h = elim (cases_Bool (int_lt x y)) [
 ]
 
 module _ (inst : InstanceView) (valid : Valid inst) where
-  travel_some : 1 ≤ inst.travel
-  travel_some = ∥∥₁_elim valid.limits (hlevel props) (some_travel inst)
-
   -- tasks of different hatches lie at different bays
   bays_differ : (i j : ℕ) → i < length inst.tasks → j < length inst.tasks
       → (task inst i).hatch ≢ (task inst j).hatch
@@ -189,7 +181,7 @@ module _ (inst : InstanceView) (valid : Valid inst) where
       let one = placed h d near in
       let other = placed (h + 1) d low in
       let products : inst.travel * key x ≤ inst.travel * key y = omega (arith, ints, one, other, sorted h low) in
-      let less = less_factor inst.travel (key x) (key y) travel_some products (neighbours_differ key xs ys d moved apart.distinct h low) in
+      let less = less_factor inst.travel (key x) (key y) (travel_of inst valid).0 products (neighbours_differ key xs ys d moved apart.distinct h low) in
       let b = blocks h d near in
       let on_ship = (valid.tasks.bays x.block.first (omega (arith, b.inside, b.some))).0 in
       subst (λ (j : ℕ). bay_of inst j <ℤ bay_of inst (first_of ys (h + 1))) (first_is ys h d near)
@@ -242,7 +234,7 @@ module _ (inst : InstanceView) (valid : Valid inst) where
         let shifts = ap (λ (k : ℕ). inst.travel * (at y.hatch + shift inst k)) crane in
         let products : inst.travel * (at x.hatch + shift inst x.crane) ≡ inst.travel * (at y.hatch + shift inst x.crane) =
         sym from ∙ sym one.along ∙ level ∙ other.along ∙ to ∙ sym shifts in
-        let sums = same_factor inst.travel (at x.hatch + shift inst x.crane) (at y.hatch + shift inst x.crane) travel_some products in
+        let sums = same_factor inst.travel (at x.hatch + shift inst x.crane) (at y.hatch + shift inst x.crane) (travel_of inst valid).0 products in
         one_hatch_at x.hatch y.hatch one.hatch other.hatch (omega (arith, sums))
 
     -- neighbours of sorted events

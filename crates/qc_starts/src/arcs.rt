@@ -1,17 +1,16 @@
 //! The arcs that a decision adds: one for each number that it makes greater or new.
 
-ghost use Rattle.std.specs.Prelude.{◌≡◌, ◌+◌, ◌-◌, ◌*◌, ◌<◌, ◌≤◌, ◌∷◌, [], IfOk, IfSome, IsTrue, None, Some, length, reverse};
+ghost use Rattle.std.specs.Prelude.{◌≡◌, ◌+◌, ◌*◌, ◌<◌, ◌≤◌, ◌∷◌, [], IfOk, IfSome, None, Some, length, reverse};
 ghost use Rattle.qc_dist.specs.Node.{IsOpen};
 ghost use Rattle.qc_model.specs.declared.decision.Decision.TheVariants.{Assign, Order};
-ghost use Rattle.qc_model.specs.declared.turn.Turn.TheVariants.{OneWay};
 ghost use Rattle.qc_model.specs.declared.limits.TheConstants.{MOST_DISTANCE, MOST_TASKS, MOST_WORK};
 ghost use Rattle.qc_model.specs.Instance.{Valid};
-ghost use Rattle.qc_model.specs.Nodes.{Fits, assigned, forced, upward_ticks};
+ghost use Rattle.qc_model.specs.Nodes.{Fits, assigned, forced};
 ghost use Rattle.qc_starts.specs.Arcs.{AreArcs, AreLow, AreOpening, IsOver, IsRoomy, added, with_added};
 
 use qc_arena::ArcArena;
-use qc_dist::{Decisions, distance};
-use qc_model::{Decision, Instance, Turn};
+use qc_dist::{Decisions, upward_ticks};
+use qc_model::{Decision, Turn};
 use qc_num::{OutOfMemory, Tick};
 use std::alloc::Global;
 
@@ -34,64 +33,22 @@ fn push_forced(decisions: &Decisions, from: u16, to: u16, arena: &mut ArcArena)
     }
 }
 
-/// Whether two tasks on different cranes, which go one way, are clear of each other: the higher crane then asks nothing
-/// of the lower one, and the lower one never does.
+/// The ticks that the cranes of two tasks add from the first to the second, beyond what their order asks for. Cranes
+/// that go one way ask for nothing or for more than that.
 #[inline(always)]
-fn are_clear(inst: &Instance, i: u16, v: u16, j: u16, w: u16) -> bool
-    requires first_task { i < length inst.now.tasks }
-    requires first_crane { v < length inst.now.cranes }
-    requires second_task { j < length inst.now.tasks }
-    requires second_crane { w < length inst.now.cranes }
-    ensures there { IsTrue result → upward_ticks inst.now i v j w ≡ None }
-    ensures back { IsTrue result → upward_ticks inst.now j w i v ≡ None }
-{
-    if w < v {
-        distance(inst, i, v, j, w) == 0
-    } else if v < w {
-        distance(inst, j, w, i, v) == 0
-    } else {
-        false
-    }
-}
-
-/// Whether the cranes of two tasks ask for nothing either way, as can be told at once.
-#[inline(always)]
-fn ask_nothing(decisions: &Decisions, i: u16, v: u16, j: u16, w: u16) -> bool
+fn added(decisions: &Decisions, i: u16, v: u16, j: u16, w: u16) -> Option<Tick>
     requires first_task { i < length decisions.now.inst.tasks }
     requires first_crane { v < length decisions.now.inst.cranes }
+    requires of_first { assigned decisions.now.decisions i ≡ Some v }
     requires second_task { j < length decisions.now.inst.tasks }
     requires second_crane { w < length decisions.now.inst.cranes }
-    ensures one_way { IsTrue result → decisions.now.inst.turn ≡ OneWay }
-    ensures there { IsTrue result → upward_ticks decisions.now.inst i v j w ≡ None }
-    ensures back { IsTrue result → upward_ticks decisions.now.inst j w i v ≡ None }
+    requires of_second { assigned decisions.now.decisions j ≡ Some w }
+    ensures ticks { result ≡ added decisions.now.inst decisions.now.decisions i j }
+    ensures bound { IfSome result (λ ticks. ticks ≤ MOST_WORK + MOST_DISTANCE) }
 {
     match decisions.instance().turn() {
-        Turn::OneWay => are_clear(decisions.instance(), i, v, j, w),
-        Turn::Free => false,
-    }
-}
-
-/// Adds an arc for what the cranes of two tasks ask for, one way or the other.
-fn push_asked(decisions: &Decisions, one: u16, other: u16, arena: &mut ArcArena)
-    requires one { one < length decisions.now.inst.tasks }
-    requires other { other < length decisions.now.inst.tasks }
-    requires nodes { arena.old.nodes ≡ length decisions.now.inst.tasks }
-    requires room { length (with_added one other
-        (added decisions.now.inst decisions.now.decisions one other)
-        (added decisions.now.inst decisions.now.decisions other one)
-        (reverse arena.old.arcs)) ≤ arena.old.cap }
-    ensures arcs { reverse arena.new.arcs ≡ with_added one other
-        (added decisions.now.inst decisions.now.decisions one other)
-        (added decisions.now.inst decisions.now.decisions other one)
-        (reverse arena.old.arcs) }
-    ensures low { AreLow (reverse arena.old.arcs) → AreLow (reverse arena.new.arcs) }
-    ensures nodes { arena.new.nodes ≡ arena.old.nodes }
-    ensures cap { arena.new.cap ≡ arena.old.cap }
-{
-    if let Some(len) = decisions.forced_by_cranes(one, other) {
-        arena.push(one, other, len);
-    } else if let Some(len) = decisions.forced_by_cranes(other, one) {
-        arena.push(other, one, len);
+        Turn::OneWay => upward_ticks(decisions.instance(), i, v, j, w),
+        Turn::Free => decisions.forced_by_cranes(i, j),
     }
 }
 
@@ -118,10 +75,11 @@ fn push_between(decisions: &Decisions, one: u16, crane: u16, other: u16, arena: 
     let Some(others) = decisions.crane_of(other) else {
         return;
     };
-    if ask_nothing(decisions, one, crane, other, others) {
-        return;
+    if let Some(len) = added(decisions, one, crane, other, others) {
+        arena.push(one, other, len);
+    } else if let Some(len) = added(decisions, other, others, one, crane) {
+        arena.push(other, one, len);
     }
-    push_asked(decisions, one, other, arena);
 }
 
 /// Puts a task on a crane, and adds the arcs of this.

@@ -1,11 +1,11 @@
 use Rattle.std.proofs.Common.{ℕ, Bool, ◌∙◌, subst, arith}
 use Rattle.std.proofs.Math.Path.{fun_ext}
-use Rattle.qc_model.proofs.LimitsOf.{limits_of}
+use Rattle.qc_model.proofs.LimitsOf.{limits_of, travel_of}
 use Rattle.qc_model.specs.Barred.{barred_frame}
 use Rattle.qc_close.specs.Lasts.{IsLast}
 use Rattle.qc_close.proofs.CrewLemmas.{short_same, work_within}
 use Rattle.qc_close.proofs.LeftLemmas.{own_left}
-use Rattle.qc_close.proofs.GrainLemmas.{grain_is, travel_range}
+use Rattle.qc_close.proofs.GrainLemmas.{grain_is}
 use Rattle.qc_close.proofs.closed.last_short_end.Goals as goal
 
 pub rest_of-rest-requires-clause-bays : goal.rest_of-rest-requires-clause-bays
@@ -25,11 +25,11 @@ frames-frames-requires-clause-left c =
 
 pub last_short-requires-clause-travel : goal.last_short-requires-clause-travel
 last_short-requires-clause-travel c =
-    omega (arith, c.travel.ensures.travel, (travel_range c.args.inst.now c.travel.ensures.valid).1)
+    omega (arith, c.travel.ensures.travel, (travel_of c.args.inst.now c.travel.ensures.valid).1)
 
 pub last_short-requires-clause-step : goal.last_short-requires-clause-step
 last_short-requires-clause-step c =
-    let some = (grain_is c.args.inst.now (travel_range c.args.inst.now c.travel.ensures.valid).0).some in
+    let some = (grain_is c.args.inst.now (travel_of c.args.inst.now c.travel.ensures.valid).0).some in
     omega (arith, some, c.requires.step)
 
 pub last_short-requires-clause-bays : goal.last_short-requires-clause-bays
