@@ -9,7 +9,7 @@ use Rattle.qc_gantt.specs.declared.fault.PlanFault.{PlanFault}
 use Rattle.qc_model.specs.Instance.{InstanceView}
 use Rattle.qc_model.specs.Rules.{ends}
 use Rattle.qc_replay.specs.declared.fault.Replayed.{Replayed}
-use Rattle.qc_replay.specs.declared.fault.TreeFault.{TreeFault}
+use Rattle.qc_tree.specs.declared.fault.TreeFault.{TreeFault}
 use Rattle.qc_replay.specs.Walk.{tree_in}
 use Rattle.qc_run.specs.declared.broken.Broken.{Broken}
 use Rattle.qc_run.specs.declared.inputs.Input.TheVariants as input
@@ -22,10 +22,9 @@ use Rattle.qc_run.specs.declared.status.Status.{Status}
 use Rattle.qc_run.specs.declared.status.Status.TheVariants as status
 use Rattle.qc_run.specs.Account.{IsReaderRun}
 use Rattle.qc_run.specs.Broken.{TellsBreakBy, broken_text}
-use Rattle.qc_run.specs.Due.{Contents, contents_in, job_due, tree_due}
+use Rattle.qc_run.specs.Due.{Contents, contents_in, job_due}
 use Rattle.qc_run.specs.Inputs.{Names}
 use Rattle.qc_run.specs.Reports.{Prints}
-use Rattle.qc_run.specs.Shown.{IsTreeShown}
 use Rattle.qc_run.specs.Steps.{ComesTo}
 use Rattle.qc_run.specs.Texts.{refusal_status, refusal_text, stop_status}
 use Rattle.qc_run.specs.Told.{EndsBy, NoneFailed}
@@ -33,6 +32,7 @@ use Rattle.qc_run.proofs.AccountLemmas.{answer_found, ends_as, ends_due, fault_o
 use Rattle.qc_run.proofs.DueLemmas.{comes_due, instance_turn, stop_is}
 use Rattle.qc_run.proofs.StatusLemmas.{IsAnswer}
 use Rattle.qc_run.proofs.ToldLemmas.{stop_due}
+use Rattle.qc_judge_commands.specs.TreeFile.{IsTreeShown, tree_due}
 use Rattle.qc_judge_commands.specs.declared.answer.Compared.{Compared}
 use Rattle.qc_judge_commands.specs.declared.answer.Judged.{Judged}
 use Rattle.qc_judge_commands.specs.declared.answer.Judged.TheVariants as judged

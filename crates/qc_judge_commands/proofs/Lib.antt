@@ -1,3 +1,4 @@
+pub mod TreeFileLemmas
 pub mod ReadLemmas
 pub mod TasksLemmas
 pub mod JudgedLemmas

@@ -5,18 +5,18 @@ use Rattle.qc_num.specs.Reading.{◌>>=◌}
 use Rattle.qc_num.proofs.ReadingLemmas.{bind_ok, same_ok}
 use Rattle.qc_io.specs.Outside.{Files, View}
 use Rattle.qc_replay.specs.declared.fault.Replayed.{Replayed}
-use Rattle.qc_replay.specs.declared.fault.TreeFault.{TreeFault}
+use Rattle.qc_tree.specs.declared.fault.TreeFault.{TreeFault}
 use Rattle.qc_run.specs.declared.reading.Job.{Job}
 use Rattle.qc_run.specs.declared.inputs.Input.TheVariants as input
 use Rattle.qc_run.specs.declared.refusal.Refusal.TheVariants as refusal
 use Rattle.qc_run.specs.declared.refusal.Stop.{Stop}
 use Rattle.qc_run.specs.declared.refusal.Stop.TheVariants as stop
-use Rattle.qc_run.specs.Due.{Contents, contents_in, instance_due, job_due, schedule_due, shown_due, tree_due}
+use Rattle.qc_run.specs.Due.{Contents, contents_in, instance_due, job_due, schedule_due}
 use Rattle.qc_run.specs.Inputs.{Names}
-use Rattle.qc_run.specs.Shown.{IsNoTree, IsTreeShown}
 use Rattle.qc_run.specs.Steps.{ComesTo, IsStep, Stops}
 use Rattle.qc_run.proofs.AccountLemmas.{reads_found, reads_stopped}
 use Rattle.qc_run.proofs.DueLemmas.{instance_turn, stops_from}
+use Rattle.qc_judge_commands.specs.TreeFile.{IsNoTree, IsTreeShown, shown_due, tree_due}
 use Rattle.qc_judge_commands.specs.declared.answer.Judged.{Judged}
 use Rattle.qc_judge_commands.specs.Account.{IsJudged, IsJudging, IsStoppedAtTree, IsTreeChecked, ShowsNone, StopsPlan}
 use Rattle.qc_judge_commands.specs.Shown.{IsBoundShown, IsNoneShown}

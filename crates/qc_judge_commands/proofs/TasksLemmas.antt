@@ -10,7 +10,6 @@ use Rattle.qc_run.specs.declared.refusal.Stop.TheVariants as stop
 use Rattle.qc_run.specs.declared.status.Status.{Status}
 use Rattle.qc_run.specs.declared.status.Status.TheVariants as status
 use Rattle.qc_run.specs.Account.{IsReaderRun}
-use Rattle.qc_run.specs.Due.{shown_due}
 use Rattle.qc_run.specs.Inputs.{Names}
 use Rattle.qc_run.specs.Reports.{Prints}
 use Rattle.qc_run.specs.Texts.{refusal_status}
@@ -19,6 +18,7 @@ use Rattle.qc_run.proofs.AccountLemmas.{answer_found, ends_as, ends_due, is_told
 use Rattle.qc_run.proofs.DueLemmas.{comes_due}
 use Rattle.qc_run.proofs.StatusLemmas.{IsAnswer}
 use Rattle.qc_run.proofs.ToldLemmas.{stop_due}
+use Rattle.qc_judge_commands.specs.TreeFile.{shown_due}
 use Rattle.qc_judge_commands.specs.Account.{IsTreeFound, IsTreeRun, ShowsNone, StopsTree, tasks_reader, tree_report}
 use Rattle.qc_judge_commands.specs.Promises.{IsEndTold, IsNoneTold, TasksPromises, TreePromises}
 use Rattle.qc_judge_commands.specs.Shown.{IsBoundShown, IsNoneShown}

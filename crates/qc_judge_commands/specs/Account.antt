@@ -5,7 +5,7 @@ use Rattle.qc_num.specs.declared.bound.Bound.TheVariants.{Least}
 use Rattle.qc_model.specs.Instance.{InstanceView}
 use Rattle.qc_model.specs.OneWay.{IsAllowed}
 use Rattle.qc_replay.specs.declared.fault.Replayed.{Replayed}
-use Rattle.qc_replay.specs.declared.fault.TreeFault.{TreeFault}
+use Rattle.qc_tree.specs.declared.fault.TreeFault.{TreeFault}
 use Rattle.qc_tasks.specs.TasksText.{tasks_text}
 use Rattle.qc_tree.specs.Trees.{NoneEarlier}
 use Rattle.qc_run.specs.declared.reading.Job.{Job}
@@ -16,9 +16,10 @@ use Rattle.qc_run.specs.declared.status.Status.{Status}
 use Rattle.qc_run.specs.declared.status.Status.TheVariants as status
 use Rattle.qc_run.specs.Account.{IsFound, IsReading, IsRunWith, Reader, Reporting, texts}
 use Rattle.qc_run.specs.Broken.{TellsBreak, TellsBreakBy}
-use Rattle.qc_run.specs.Due.{instance_due, job_due, shown_due, tree_due}
+use Rattle.qc_run.specs.Due.{instance_due, job_due}
 use Rattle.qc_run.specs.Inputs.{Names}
 use Rattle.qc_run.specs.Steps.{ComesTo, Stops}
+use Rattle.qc_judge_commands.specs.TreeFile.{shown_due, tree_due}
 use Rattle.qc_judge_commands.specs.declared.answer.Compared.{Compared}
 use Rattle.qc_judge_commands.specs.declared.answer.Judged.{Judged}
 use Rattle.qc_judge_commands.specs.declared.answer.Judged.TheVariants as judged

@@ -14,11 +14,11 @@ use Rattle.qc_run.specs.declared.refusal.Refusal.TheVariants as refusal
 use Rattle.qc_run.specs.declared.status.Status.{Status}
 use Rattle.qc_run.specs.declared.status.Status.TheVariants as status
 use Rattle.qc_run.specs.Broken.{TellsBreak, TellsBreakBy, broken_text}
-use Rattle.qc_run.specs.Due.{contents_in, instance_due, job_due, shown_due, tree_due}
+use Rattle.qc_run.specs.Due.{contents_in, instance_due, job_due}
 use Rattle.qc_run.specs.Inputs.{Names}
 use Rattle.qc_run.specs.Reports.{Prints}
-use Rattle.qc_run.specs.Shown.{IsTreeShown}
 use Rattle.qc_run.specs.Told.{EndsAsDue, EndsBy, IsBest, IsFaultTold, IsTold, ReadPromises, ReaderPromises}
+use Rattle.qc_judge_commands.specs.TreeFile.{IsTreeShown, shown_due, tree_due}
 use Rattle.qc_judge_commands.specs.declared.answer.Compared.{Compared}
 use Rattle.qc_judge_commands.specs.Account.{IsJudging, IsTreeChecked, judged_report, show_reader, tasks_reader, tree_report}
 use Rattle.qc_judge_commands.specs.Held.{TellsShown}

@@ -5,7 +5,7 @@ use Rattle.qc_num.specs.declared.bound.Bound.{Bound}
 use Rattle.qc_model.specs.Instance.{InstanceView}
 use Rattle.qc_run.specs.Due.{contents_in, instance_due}
 use Rattle.qc_run.specs.Inputs.{Names}
-use Rattle.qc_run.specs.Shown.{IsNoTree, IsTreeShown}
+use Rattle.qc_judge_commands.specs.TreeFile.{IsNoTree, IsTreeShown}
 
 -- the tree's file is the text of a tree of the instance of the two files with the turn that is asked about, with this value
 pub record IsBoundShown (names : Names) (held : Files) (bound : Bound) : Type 0 where

@@ -1,9 +1,8 @@
 //! The command that checks a tree.
 ghost use Rattle.std.specs.Prelude.{◌≡◌, ◌≤◌, Err, IfOk, IfSome, IsSome};
-ghost use Rattle.qc_replay.specs.declared.fault.TreeFault.{TreeFault};
+ghost use Rattle.qc_tree.specs.declared.fault.TreeFault.{TreeFault};
 ghost use Rattle.qc_run.specs.declared.refusal.Refusal.TheVariants as refusal;
 ghost use Rattle.qc_run.specs.declared.refusal.Stop.TheVariants as stop;
-ghost use Rattle.qc_run.specs.Due.{shown_due};
 ghost use Rattle.qc_run.specs.Inputs.{names_of};
 ghost use Rattle.qc_run.specs.Reports.{Prints, PrintsPart, Reports};
 ghost use Rattle.qc_run.specs.Steps.{IsStep};
@@ -11,11 +10,13 @@ ghost use Rattle.qc_judge_commands.specs.Account.{IsTreeRun};
 ghost use Rattle.qc_judge_commands.specs.Promises.{TreePromises};
 ghost use Rattle.qc_judge_commands.specs.Shown.{IsBoundShown, IsNoneShown};
 ghost use Rattle.qc_judge_commands.specs.Texts.{bound_status, bound_text};
+ghost use Rattle.qc_judge_commands.specs.TreeFile.{shown_due};
 
+use crate::reading::read_tree;
 use qc_io::{Shelf, Sink};
 use qc_num::{Bound, Text};
 use qc_replay::Replayed;
-use qc_run::{Inputs, Status, Stop, read_instance, read_tree, report_stop, report_text};
+use qc_run::{Inputs, Status, Stop, read_instance, report_stop, report_text};
 use std::alloc::Global;
 
 /// What the tree shows for the instance of the ship file and the stowage list.

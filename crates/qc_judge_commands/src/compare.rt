@@ -13,10 +13,11 @@ ghost use Rattle.qc_judge_commands.specs.Held.{TellsHeld};
 
 use crate::answer::{Compared, Judged};
 use crate::judged::report;
+use crate::reading::read_tree;
 use qc_io::{Shelf, Sink};
 use qc_model::{Instance, Schedule, ends};
 use qc_num::Bound;
-use qc_run::{Inputs, Job, Status, Stop, broken_by, broken_of, read_job, read_tree, report_stop};
+use qc_run::{Inputs, Job, Status, Stop, broken_by, broken_of, read_job, report_stop};
 use std::alloc::Global;
 
 /// What is told of a schedule that cranes may follow, beside what a tree shows.

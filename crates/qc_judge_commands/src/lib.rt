@@ -6,6 +6,7 @@ mod check;
 mod compare;
 mod judged;
 mod motion;
+mod reading;
 mod shown;
 mod tasks;
 

@@ -15,9 +15,9 @@ use Rattle.qc_lines.specs.Left.{IsCut, IsTooLong, NoFeed, Takes}
 use Rattle.qc_tree.specs.LineIn.{Listed, line_in}
 use Rattle.qc_replay.specs.declared.fault.ReplayError.{ReplayError}
 use Rattle.qc_replay.specs.declared.fault.ReplayError.TheVariants.{ReadFault, Tree}
-use Rattle.qc_replay.specs.declared.fault.TreeFault.{TreeFault}
-use Rattle.qc_replay.specs.declared.fault.TreeKind.{TreeKind}
-use Rattle.qc_replay.specs.declared.fault.TreeKind.TheVariants as kind
+use Rattle.qc_tree.specs.declared.fault.TreeFault.{TreeFault}
+use Rattle.qc_tree.specs.declared.fault.TreeKind.{TreeKind}
+use Rattle.qc_tree.specs.declared.fault.TreeKind.TheVariants as kind
 use Rattle.qc_replay.specs.File.{IsFaulty, texts}
 use Rattle.qc_replay.specs.Walk.{Coming, Reading, at, at_rest, at_text, most_bytes, next_of, numbered, replayed, texts_from}
 

@@ -17,7 +17,7 @@ use Rattle.qc_tree.specs.declared.line.Line.{Line}
 use Rattle.qc_tree.specs.declared.line.Line.TheVariants as line
 use Rattle.qc_tree.specs.LineIn.{Listed}
 use Rattle.qc_tree.specs.Trees.{Sign, branches, children, leaf, on_pair, on_task}
-use Rattle.qc_replay.specs.declared.fault.TreeKind.TheVariants as kind
+use Rattle.qc_tree.specs.declared.fault.TreeKind.TheVariants as kind
 use Rattle.qc_replay.specs.Read.{with_line}
 use Rattle.qc_replay.specs.Stages.{lines_left}
 use Rattle.qc_replay.specs.Walk.{Coming, Reading, at_due, down, end, node, title, up}

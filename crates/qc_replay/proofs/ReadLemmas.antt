@@ -24,7 +24,7 @@ use Rattle.qc_tree.specs.Trees.{IsSecond, IsTree, Leads, Node, NoneEarlier, Sign
 use Rattle.qc_tree.specs.Trees as trees
 use Rattle.qc_tree.proofs.NodeLemmas.{branchings_then}
 use Rattle.qc_tree.proofs.TreeBound.{tree_bound}
-use Rattle.qc_replay.specs.declared.fault.TreeKind.TheVariants as kind
+use Rattle.qc_tree.specs.declared.fault.TreeKind.TheVariants as kind
 use Rattle.qc_replay.specs.Walk.{Coming, Reading, at, at_due, down, end, first_lines, is_known, node, replayed, start, title, up}
 use Rattle.qc_replay.specs.Read.{IsReached, lines_text, with_line, with_lines}
 use Rattle.qc_replay.specs.Shown.{IsShown}

@@ -32,8 +32,8 @@ use Rattle.qc_tree.specs.Lines.{AreTasks, IsLine, IsTask, IsValue, fields, line_
 use Rattle.qc_tree.specs.Trees.{Holds, MayOrder, Sign, branches, children, in_file, leaf, sign_text, sign_value, whole_line}
 use Rattle.qc_tree.specs.Trees as trees
 use Rattle.qc_tree.proofs.OrderLemmas.{may_conflict}
-use Rattle.qc_replay.specs.declared.fault.TreeKind.{TreeKind}
-use Rattle.qc_replay.specs.declared.fault.TreeKind.TheVariants as kind
+use Rattle.qc_tree.specs.declared.fault.TreeKind.{TreeKind}
+use Rattle.qc_tree.specs.declared.fault.TreeKind.TheVariants as kind
 use Rattle.qc_replay.specs.Walk.{Coming, Reading, at_node, branched_to, came, ended_by, from_file, is_number, is_settled, may_order, most_bytes, no_order, node, on_pair, on_task}
 use Rattle.qc_replay.proofs.LeafBounds.{leaf_few}
 use Rattle.qc_replay.proofs.NodeFacts.{unsettled_false}

@@ -10,8 +10,8 @@ use Rattle.qc_tree.specs.LineIn.{Listed}
 use Rattle.qc_tree.specs.Lines.{line_text}
 use Rattle.qc_tree.specs.Trees.{whole_line}
 use Rattle.qc_tree.proofs.LineInLemmas.{line_in_of, split_line}
-use Rattle.qc_replay.specs.declared.fault.TreeFault.{TreeFault}
-use Rattle.qc_replay.specs.declared.fault.TreeKind.{TreeKind}
+use Rattle.qc_tree.specs.declared.fault.TreeFault.{TreeFault}
+use Rattle.qc_tree.specs.declared.fault.TreeKind.{TreeKind}
 use Rattle.qc_replay.specs.File.{Fails, IsFaulty, IsNext, Leads, texts}
 use Rattle.qc_replay.specs.Read.{lines_text, with_line, with_lines}
 use Rattle.qc_replay.specs.Stages.{is_over, none_due}

@@ -3,8 +3,8 @@ use Rattle.std.proofs.Common.{◌≡◌, ℕ, List, [], ◌++◌, Option, None, 
 use Rattle.qc_model.specs.Instance.{InstanceView, Valid}
 use Rattle.qc_tree.specs.Trees.{IsTree, NoneEarlier, Tree, tree_branchings, tree_text, tree_value}
 use Rattle.qc_replay.specs.declared.fault.Replayed.{Replayed}
-use Rattle.qc_replay.specs.declared.fault.TreeFault.{TreeFault}
-use Rattle.qc_replay.specs.declared.fault.TreeKind.TheVariants as kind
+use Rattle.qc_tree.specs.declared.fault.TreeFault.{TreeFault}
+use Rattle.qc_tree.specs.declared.fault.TreeKind.TheVariants as kind
 use Rattle.qc_replay.specs.File.{Fails, IsReadThrough, texts}
 use Rattle.qc_replay.specs.Read.{IsReached, lines_text}
 use Rattle.qc_replay.specs.Shown.{IsShown}

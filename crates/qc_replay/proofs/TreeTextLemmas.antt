@@ -31,7 +31,7 @@ use Rattle.qc_tree.specs.Trees.{Holds, IsPart, IsSecond, IsTree, Leads, Node, Si
 use Rattle.qc_tree.specs.Trees as trees
 use Rattle.qc_tree.proofs.LineInLemmas.{line_in_of, split_line}
 use Rattle.qc_tree.proofs.OrderLemmas.{may_conflict}
-use Rattle.qc_replay.specs.declared.fault.TreeKind.TheVariants as kind
+use Rattle.qc_tree.specs.declared.fault.TreeKind.TheVariants as kind
 use Rattle.qc_replay.specs.declared.fault.Replayed.{Replayed}
 use Rattle.qc_replay.specs.Walk.{Coming, Reading, at_due, at_text, down, end, first_lines, is_known, most_bytes, next_of, node, numbered, start, texts_from, tree_in, up}
 use Rattle.qc_replay.specs.Walk as walk

@@ -6,8 +6,8 @@ use Rattle.qc_model.specs.declared.direction.Direction.TheVariants as way
 use Rattle.qc_model.specs.Instance.{InstanceView}
 use Rattle.qc_tree.specs.declared.line.Line.{Line}
 use Rattle.qc_tree.specs.LineIn.{Listed}
-use Rattle.qc_replay.specs.declared.fault.TreeKind.{TreeKind}
-use Rattle.qc_replay.specs.declared.fault.TreeKind.TheVariants as kind
+use Rattle.qc_tree.specs.declared.fault.TreeKind.{TreeKind}
+use Rattle.qc_tree.specs.declared.fault.TreeKind.TheVariants as kind
 use Rattle.qc_replay.specs.declared.leaf.TreeVersion.{TreeVersion}
 use Rattle.qc_replay.specs.declared.node.Tally.{Tally}
 use Rattle.qc_replay.specs.declared.walk.Stage.{Stage}

@@ -7,8 +7,8 @@ use Rattle.qc_tree.specs.Lines.{IsTextOf, line_text}
 use Rattle.qc_tree.specs.Trees.{whole_line}
 use Rattle.qc_tree.specs.declared.line.Line.{Line}
 use Rattle.qc_replay.specs.declared.fault.Replayed.{Replayed}
-use Rattle.qc_replay.specs.declared.fault.TreeFault.{TreeFault}
-use Rattle.qc_replay.specs.declared.fault.TreeKind.{TreeKind}
+use Rattle.qc_tree.specs.declared.fault.TreeFault.{TreeFault}
+use Rattle.qc_tree.specs.declared.fault.TreeKind.{TreeKind}
 use Rattle.qc_replay.specs.Read.{lines_text, with_lines}
 use Rattle.qc_replay.specs.Walk.{Coming, Reading, most_bytes, replayed, start, texts_from}
 

@@ -1,4 +1,3 @@
-pub mod Faults
 pub mod Walk
 pub mod Shown
 pub mod Read

@@ -12,8 +12,8 @@ use Rattle.qc_model.specs.Leaves.{Version, without_berths, with_berths, with_pac
 use Rattle.qc_tree.specs.declared.line.Line.{Line}
 use Rattle.qc_tree.specs.declared.line.Line.TheVariants as line
 use Rattle.qc_replay.specs.declared.descent.Descent.TheInside.{Inside}
-use Rattle.qc_replay.specs.declared.fault.TreeKind.{TreeKind}
-use Rattle.qc_replay.specs.declared.fault.TreeKind.TheVariants as kind
+use Rattle.qc_tree.specs.declared.fault.TreeKind.{TreeKind}
+use Rattle.qc_tree.specs.declared.fault.TreeKind.TheVariants as kind
 use Rattle.qc_replay.specs.declared.leaf.TreeVersion.{TreeVersion}
 use Rattle.qc_replay.specs.declared.leaf.TreeVersion.TheVariants.{WithoutBerths, WithBerths, WithPacked}
 use Rattle.qc_replay.specs.declared.node.Tally.{Tally}

@@ -5,7 +5,7 @@ use Rattle.qc_num.specs.Reading.{◌>>=◌}
 use Rattle.qc_model.specs.Instance.{InstanceView}
 use Rattle.qc_tree.specs.LineIn.{Listed}
 use Rattle.qc_tree.specs.Trees.{whole_line}
-use Rattle.qc_replay.specs.declared.fault.TreeKind.{TreeKind}
+use Rattle.qc_tree.specs.declared.fault.TreeKind.{TreeKind}
 use Rattle.qc_replay.specs.Walk.{Reading, at, at_due, next_of, start}
 
 -- one line more

@@ -12,5 +12,6 @@ mod node;
 mod tree_file;
 mod walk;
 
-pub use fault::{ReplayError, Replayed, TreeFault, TreeKind};
+pub use fault::{ReplayError, Replayed};
+pub use qc_tree::{TreeFault, TreeKind};
 pub use tree_file::replay;

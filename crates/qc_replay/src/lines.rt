@@ -6,14 +6,14 @@ ghost use Rattle.qc_num.specs.Paths.{HasRoom};
 ghost use Rattle.qc_io.specs.Reads.{Reads, ReadsOn};
 ghost use Rattle.qc_tree.specs.Lines.{IsLine};
 ghost use Rattle.qc_replay.specs.File.{IsFaulty, IsNext};
-ghost use Rattle.qc_replay.specs.declared.fault.TreeFault.{TreeFault};
-ghost use Rattle.qc_replay.specs.declared.fault.TreeKind.TheVariants.{After};
+ghost use Rattle.qc_tree.specs.declared.fault.TreeFault.{TreeFault};
+ghost use Rattle.qc_tree.specs.declared.fault.TreeKind.TheVariants.{After};
 
-use crate::fault::{ReplayError, TreeFault, TreeKind};
+use crate::fault::ReplayError;
 use qc_io::Shelf;
 use qc_model::MOST_TASKS;
 use qc_num::Path;
-use qc_tree::{Line, LineFault, LineOpen, LineReader, read_line};
+use qc_tree::{Line, LineFault, LineOpen, LineReader, TreeFault, TreeKind, read_line};
 use std::alloc::Global;
 
 /// The lines of a file, one after the other.

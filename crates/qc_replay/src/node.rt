@@ -14,13 +14,12 @@ ghost use Rattle.qc_tree.specs.Lines.{IsLine};
 
 use crate::descent::Descent;
 use crate::earliest::EarlyStarts;
-use crate::fault::TreeKind;
 use crate::leaf::{TreeVersion, chain_end, is_ring, is_work_over, packed_end};
 use qc_close::Crew;
 use qc_dist::{Decisions, in_reach};
 use qc_model::{Decision, Turn};
 use qc_num::{Bound, Tick};
-use qc_tree::{Line, MOST_BRANCHINGS};
+use qc_tree::{Line, MOST_BRANCHINGS, TreeKind};
 
 /// What the lines so far come to: how many branchings there are, and the least value of the leaves.
 #[derive(Clone, Copy)]

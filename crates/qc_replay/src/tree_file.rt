@@ -12,7 +12,7 @@ ghost use Rattle.qc_replay.specs.Read.{with_line};
 ghost use Rattle.qc_replay.specs.Shown.{IsShown};
 ghost use Rattle.qc_replay.specs.Stages.{is_over};
 ghost use Rattle.qc_replay.specs.Walk.{start, tree_in};
-ghost use Rattle.qc_replay.specs.declared.fault.TreeFault.{TreeFault};
+ghost use Rattle.qc_tree.specs.declared.fault.TreeFault.{TreeFault};
 
 use crate::fault::{ReplayError, Replayed};
 use crate::lines::TreeLines;

@@ -9,12 +9,12 @@ ghost use Rattle.qc_replay.specs.Stages.{behind_title, is_over, leading, second_
 ghost use Rattle.qc_replay.specs.Walk.{Reading, at_due, came, end, is_known, start, title, replayed};
 
 use crate::descent::Descent;
-use crate::fault::{Replayed, TreeKind};
+use crate::fault::Replayed;
 use crate::leaf::TreeVersion;
 use crate::node::{Tally, on_line};
 use qc_model::{Direction, Instance, Turn, copy, mirror};
 use qc_num::{Bound, OutOfMemory};
-use qc_tree::Line;
+use qc_tree::{Line, TreeKind};
 use std::alloc::Global;
 use std::marker::Model;
 

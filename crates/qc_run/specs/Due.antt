@@ -1,13 +1,11 @@
 -- public: what the files that a command reads come to, with the order of refusals.
-use Rattle.std.specs.Prelude.{ℕ, List, length, nat_le, if◌then◌else◌, Option, Some, None, option_and_then, ok_or, Result, Ok, Err}
+use Rattle.std.specs.Prelude.{ℕ, List, length, nat_le, if◌then◌else◌, Option, Some, None, option_and_then, Result, Ok, Err}
 use Rattle.std.specs.FinMap.{get}
 use Rattle.qc_num.specs.Reading.{◌>>=◌, with_fault}
 use Rattle.qc_io.specs.Outside.{Files}
 use Rattle.qc_gantt.specs.Plan.{plan_in}
 use Rattle.qc_model.specs.declared.schedule.Slot.{Slot}
 use Rattle.qc_model.specs.Instance.{InstanceView, with_turn}
-use Rattle.qc_replay.specs.declared.fault.Replayed.{Replayed}
-use Rattle.qc_replay.specs.Walk.{tree_in}
 use Rattle.qc_ship.specs.Ship.{ShipView}
 use Rattle.qc_ship.specs.ShipFile.{ship_file}
 use Rattle.qc_stow.specs.declared.row.Row.{Row}
@@ -109,18 +107,6 @@ own_job_due name contents = do
   inst ← instance_due contents
   own ← own_due name inst contents
   Ok (record { inst = inst; own = own })
-
--- what the tree of the tree's file shows for the instance, or the first refusal of that file
-abbrev pub tree_due : InstanceView → Contents → Result Replayed Refusal
-tree_due inst contents = do
-  bytes ← ok_or contents.tree (refusal.ReadFault input.Tree)
-  with_fault refusal.BadTree (tree_in inst bytes)
-
--- what that tree shows for the instance of the files, or the first refusal: the tree's file comes last
-abbrev pub shown_due : Contents → Result Replayed Refusal
-shown_due contents = do
-  inst ← instance_due contents
-  tree_due inst contents
 
 -- the reports of the log for a ship, or the first refusal of that file
 abbrev pub reports_due : ShipView → Contents → Result (List (List Report)) Refusal

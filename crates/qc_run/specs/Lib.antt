@@ -5,6 +5,5 @@ pub mod Texts
 pub mod Reports
 pub mod Account
 pub mod Told
-pub mod Shown
 pub mod Broken
 pub mod Moved

@@ -4,8 +4,8 @@ use Rattle.qc_gantt.specs.Faults.{kind_text as plan_kind_text}
 use Rattle.qc_gantt.specs.declared.fault.PlanFault.{PlanFault}
 use Rattle.qc_model.specs.declared.direction.Direction.{Direction}
 use Rattle.qc_model.specs.declared.direction.Direction.TheVariants.{Up, Down}
-use Rattle.qc_replay.specs.Faults.{kind_text as tree_text}
-use Rattle.qc_replay.specs.declared.fault.TreeFault.{TreeFault}
+use Rattle.qc_tree.specs.Faults.{kind_text as tree_text}
+use Rattle.qc_tree.specs.declared.fault.TreeFault.{TreeFault}
 use Rattle.qc_ship.specs.declared.fault.ShipKind.{ShipKind}
 use Rattle.qc_ship.specs.declared.fault.ShipKind.TheVariants as ship
 use Rattle.qc_ship.specs.declared.fault.ShipFault.{ShipFault}

@@ -5,9 +5,9 @@ ghost use Rattle.qc_run.specs.Texts.{bad_log_text, bad_ship_text, fault_text, pl
 use crate::refusal::LogFault;
 use qc_gantt::PlanFault;
 use qc_num::Text;
-use qc_replay::TreeFault;
 use qc_ship::{ShipFault, ShipKind};
 use qc_stow::StowFault;
+use qc_tree::TreeFault;
 
 /// The line of a fault of the ship file with its place: the key and the number of its element.
 fn place_line(fault: ShipFault) -> Text<512>

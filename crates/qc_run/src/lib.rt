@@ -16,7 +16,7 @@ pub use broken::{Broken, broken_of, report_broken};
 pub use inputs::{Input, Inputs};
 pub use reading::{
     Job, OwnJob, read_input, read_instance, read_job, read_moves, read_own_job, read_schedule,
-    read_ship_file, read_tree,
+    read_ship_file,
 };
 pub use refusal::{LogFault, Refusal, Stop};
 pub use report::{direction_text, report_stop, report_text};

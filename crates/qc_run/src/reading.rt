@@ -1,15 +1,10 @@
 //! The files that a command reads.
-ghost use Rattle.std.specs.Prelude.{◌≡◌, ◌⊎◌, Err, IfOk, IfSome, Some, All, IsSome};
+ghost use Rattle.std.specs.Prelude.{◌≡◌, ◌⊎◌, IfOk, IfSome, All, IsSome};
 ghost use Rattle.qc_model.specs.Judge.{IsJudgeable};
 ghost use Rattle.qc_ship.specs.Ship.{place_of_bay};
-ghost use Rattle.qc_tree.specs.Trees.{NoneEarlier};
-ghost use Rattle.qc_replay.specs.declared.fault.TreeFault.{TreeFault};
-ghost use Rattle.qc_run.specs.declared.refusal.Refusal.TheVariants as refusal;
-ghost use Rattle.qc_run.specs.declared.refusal.Stop.TheVariants as stop;
 ghost use Rattle.qc_run.specs.Inputs.{IsWhole, name_of, names_of};
-ghost use Rattle.qc_run.specs.Due.{input_due, ship_due, moves_due, instance_due, schedule_due, job_due, own_due, own_job_due, tree_due, contents_in};
+ghost use Rattle.qc_run.specs.Due.{input_due, ship_due, moves_due, instance_due, schedule_due, job_due, own_due, own_job_due};
 ghost use Rattle.qc_run.specs.Steps.{IsStep};
-ghost use Rattle.qc_run.specs.Shown.{IsTreeShown, IsNoTree};
 
 use crate::inputs::{Input, Inputs};
 use crate::refusal::{Refusal, Stop};
@@ -17,7 +12,6 @@ use qc_gantt::{PlanError, read_plan};
 use qc_io::{ReadAll, Shelf, read_all};
 use qc_model::{Instance, Schedule};
 use qc_num::{Bytes, OutOfMemory};
-use qc_replay::{ReplayError, Replayed, replay};
 use qc_ship::{Ship, ShipError, read_ship};
 use qc_stow::{Moves, StowError, read_stow};
 use qc_tasks::tasks_of;
@@ -186,32 +180,4 @@ pub fn read_own_job<S: Shelf>(
     let inst = read_instance(alloc, inputs, shelf)?;
     let own = read_own(alloc, inputs, &inst, shelf)?;
     Ok(OwnJob { inst, own })
-}
-
-/// What the tree of the tree's file shows for the instance.
-pub fn read_tree<S: Shelf>(
-    alloc: Global,
-    inputs: &Inputs<'_>,
-    inst: &Instance,
-    shelf: &mut S,
-) -> Result<Replayed, Stop>
-    requires { IsSome (names_of inputs.now).tree }
-    ensures step { IsStep (tree_due inst.now) (names_of inputs.now)
-        (S.Sink.view shelf.old) (S.Sink.view shelf.new) result }
-    ensures shown { IfOk result (λ read. IfSome (S.Sink.view shelf.old).files (λ held.
-        IsTreeShown inst.now (contents_in held (names_of inputs.now)).tree read.bound)) }
-    ensures none_earlier { IfOk result (λ read. NoneEarlier inst.now read.bound) }
-    ensures none { (fault : TreeFault) → result ≡ Err (stop.Refused (refusal.BadTree fault))
-        → IfSome (S.Sink.view shelf.old).files (λ held.
-        IsNoTree inst.now (contents_in held (names_of inputs.now)).tree) }
-{
-    let Some(name) = inputs.name_of(Input::Tree) else {
-        unreachable!()
-    };
-    match replay(alloc, inst, shelf, name) {
-        Ok(read) => Ok(read),
-        Err(ReplayError::ReadFault) => Err(Stop::Refused(Refusal::ReadFault(Input::Tree))),
-        Err(ReplayError::Tree(fault)) => Err(Stop::Refused(Refusal::BadTree(fault))),
-        Err(ReplayError::OutOfMemory) => Err(Stop::OutOfMemory),
-    }
 }

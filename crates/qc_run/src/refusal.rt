@@ -10,9 +10,9 @@ use crate::status::Status;
 use qc_dispatch::DispatchFault;
 use qc_gantt::PlanFault;
 use qc_num::{OutOfMemory, Text};
-use qc_replay::TreeFault;
 use qc_ship::ShipFault;
 use qc_stow::StowFault;
+use qc_tree::TreeFault;
 use qc_watch::WatchFault;
 
 /// The first fault of a log, by the command that reads it.

@@ -4,8 +4,8 @@ use Rattle.qc_num.specs.declared.bound.Bound.{Bound}
 use Rattle.qc_num.specs.declared.bound.Bound.TheVariants.{Least}
 use Rattle.qc_run.specs.Due.{contents_in}
 use Rattle.qc_run.specs.Inputs.{names_of}
-use Rattle.qc_run.specs.Shown.{IsTreeShown}
 use Rattle.qc_run.proofs.AccountLemmas.{reads_found, reads_stopped}
+use Rattle.qc_judge_commands.specs.TreeFile.{IsTreeShown}
 use Rattle.qc_judge_commands.proofs.ReadLemmas.{shown_bound, shown_none}
 use Rattle.qc_judge_commands.proofs.compare.compare.Goals as goal
 

@@ -1,6 +1,6 @@
 use Rattle.std.proofs.Common.{◌≡◌, ◌+◌, ◌∙◌, ap, Err, subst, sym}
 use Rattle.std.specs.Io.KnownBytes.{prepend_known}
-use Rattle.qc_replay.specs.declared.fault.TreeFault.{TreeFault}
+use Rattle.qc_tree.specs.declared.fault.TreeFault.{TreeFault}
 use Rattle.qc_replay.specs.File.{Leads}
 use Rattle.qc_replay.specs.Read.{with_line}
 use Rattle.qc_replay.specs.Stages.{leading}

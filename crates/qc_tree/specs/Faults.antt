@@ -1,7 +1,7 @@
 -- public: the faults of a tree's file, as reports print them.
 use Rattle.std.specs.Prelude.{ℕ, List, codes}
-use Rattle.qc_replay.specs.declared.fault.TreeKind.{TreeKind}
-use Rattle.qc_replay.specs.declared.fault.TreeKind.TheVariants as kind
+use Rattle.qc_tree.specs.declared.fault.TreeKind.{TreeKind}
+use Rattle.qc_tree.specs.declared.fault.TreeKind.TheVariants as kind
 
 abbrev pub kind_text : TreeKind → List ℕ
 kind_text kind.LineTooLong = codes "LineTooLong"

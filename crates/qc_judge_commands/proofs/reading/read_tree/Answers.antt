@@ -1,7 +1,7 @@
 use Rattle.std.proofs.Common.{Err, ap, sym}
 use Rattle.qc_run.specs.Inputs.{names_of}
-use Rattle.qc_run.proofs.StepLemmas.{no_tree, tree_fault}
-use Rattle.qc_run.proofs.reading.read_tree.Goals as goal
+use Rattle.qc_judge_commands.proofs.TreeFileLemmas.{no_tree, tree_fault}
+use Rattle.qc_judge_commands.proofs.reading.read_tree.Goals as goal
 
 pub returns-in-Err-Tree-clause-step : goal.returns-in-Err-Tree-clause-step
 returns-in-Err-Tree-clause-step g c =
