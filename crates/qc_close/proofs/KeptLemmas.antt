@@ -15,7 +15,7 @@ use Rattle.qc_model.specs.Instance.{InstanceView, Valid, bay_of, task, ticks_of}
 use Rattle.qc_model.specs.Nodes.{free}
 use Rattle.qc_model.specs.Ways.{way_frame}
 use Rattle.qc_model.specs.Work.{crane_numbers}
-use Rattle.qc_model.proofs.LimitsOf.{limits_of}
+use Rattle.qc_model.proofs.LimitsOf.{limits_of, travel_of}
 use Rattle.qc_close.specs.declared.closed.TheConstants.{LAST_CLOSED}
 use Rattle.qc_close.specs.declared.crew.Crew.TheInside.{Inside}
 use Rattle.qc_close.specs.CrewFields.{IsKept, view_of}
@@ -27,7 +27,7 @@ use Rattle.qc_close.specs.Spots.{AreSoonest, AreSpots}
 use Rattle.qc_close.specs.Trips.{AreTrips}
 use Rattle.qc_close.proofs.ClosedLemmas.{closed_end_le}
 use Rattle.qc_close.proofs.CrewLemmas.{at, bay_index, cranes_else, cranes_there, last_test, left_put, left_take, none_there, put_room, work_within}
-use Rattle.qc_close.proofs.GrainLemmas.{grain_is, travel_range}
+use Rattle.qc_close.proofs.GrainLemmas.{grain_is}
 use Rattle.qc_close.proofs.ShortLemmas.{last_rises, short_sooner}
 
 -- ---- one task
@@ -191,14 +191,14 @@ falls : (inst : InstanceView) → Valid inst → (turn : Turn) (cranes : List (O
 falls inst valid turn cranes n m le =
     short_sooner inst.travel (map (barred_frame inst turn cranes) (crane_numbers inst)) (left_bays inst cranes) (work_at inst cranes)
     (last_before (grain inst) n) (last_before (grain inst) m)
-    (last_rises (grain inst) n m (grain_is inst (travel_range inst valid).0).some le)
+    (last_rises (grain inst) n m (grain_is inst (travel_of inst valid).0).some le)
 
 falls_along : (inst : InstanceView) → Valid inst → (turn : Turn) (cranes : List (Option ℕ)) (n m : ℕ) → n ≤ m
     → is_short_along inst turn cranes m ≡ true → is_short_along inst turn cranes n ≡ true
 falls_along inst valid turn cranes n m le =
     short_sooner inst.travel (map (way_frame inst turn cranes) (crane_numbers inst)) (left_bays inst cranes) (work_at inst cranes)
     (last_before (grain inst) n) (last_before (grain inst) m)
-    (last_rises (grain inst) n m (grain_is inst (travel_range inst valid).0).some le)
+    (last_rises (grain inst) n m (grain_is inst (travel_of inst valid).0).some le)
 
 -- an assignment that is closed at an end is so at each earlier one
 pub closed_falls : (inst : InstanceView) (turn : Turn) (cranes : List (Option ℕ)) (n m : ℕ) → Valid inst → n ≤ m

@@ -1,16 +1,16 @@
 use Rattle.std.proofs.Common.{◌∙◌, arith}
-use Rattle.qc_model.proofs.LimitsOf.{limits_of}
+use Rattle.qc_model.proofs.LimitsOf.{limits_of, travel_of}
 use Rattle.qc_close.proofs.CrewLemmas.{short_same, work_within}
-use Rattle.qc_close.proofs.GrainLemmas.{grain_is, travel_range}
+use Rattle.qc_close.proofs.GrainLemmas.{grain_is}
 use Rattle.qc_close.proofs.closed.is_short_with.Goals as goal
 
 pub is_short_at-requires-clause-travel : goal.is_short_at-requires-clause-travel
 is_short_at-requires-clause-travel c =
-    omega (arith, c.travel.ensures.travel, (travel_range c.args.inst.now c.travel.ensures.valid).1)
+    omega (arith, c.travel.ensures.travel, (travel_of c.args.inst.now c.travel.ensures.valid).1)
 
 pub is_short_at-requires-clause-step : goal.is_short_at-requires-clause-step
 is_short_at-requires-clause-step c =
-    let some = (grain_is c.args.inst.now (travel_range c.args.inst.now c.travel.ensures.valid).0).some in
+    let some = (grain_is c.args.inst.now (travel_of c.args.inst.now c.travel.ensures.valid).0).some in
     omega (arith, some, c.requires.step)
 
 pub is_short_at-requires-clause-bays : goal.is_short_at-requires-clause-bays
