@@ -1,5 +1,5 @@
 -- A log that comes piece by piece, one piece more.
-use Rattle.std.proofs.Common.{◌≡◌, ◌≢◌, ℕ, ◌+◌, ◌<◌, ◌≤◌, ◌⊎◌, inl, inr, List, [], ◌∷◌, ◌++◌, length, take, drop, get_or, All, Bool, true, false, not, ◌&&◌, ◌||◌, nat_lt, cond, Option, None, Some, Result, Ok, Err, refl, sym, ap, subst, ◌∙◌, append_assoc, append-nil, arith, codes, position, suc}
+use Rattle.std.proofs.Common.{◌≡◌, ◌≢◌, ℕ, ◌+◌, ◌<◌, ◌≤◌, inl, inr, List, [], ◌∷◌, ◌++◌, length, take, drop, get_or, All, Bool, true, false, not, ◌&&◌, nat_lt, cond, None, Err, refl, sym, ap, subst, ◌∙◌, append_assoc, arith, codes, position, suc}
 use Rattle.std.proofs.lemmas.Bool.{cases_Bool}
 use Rattle.std.proofs.lemmas.Bool.Decides.{nat_tests}
 use Rattle.std.proofs.lemmas.List.{drop-append-le, length-append, length-drop, length-take, take-append-le, take_all}
@@ -11,7 +11,6 @@ use Rattle.std.specs.Str.{bytes_eq}
 use Rattle.qc_dispatch.specs.declared.fault.DispatchFault.{DispatchFault}
 use Rattle.qc_dispatch.specs.declared.fault.DispatchKind.{DispatchKind}
 use Rattle.qc_dispatch.specs.declared.fault.DispatchKind.TheVariants as kind
-use Rattle.qc_dispatch.specs.declared.report.Report.{Report}
 use Rattle.qc_dispatch.specs.Journal.{HasFault, HasFirstFault, IsFaulty, IsFollowed, Journal, TakesAll, TakesLine, WentOn, blank}
 use Rattle.qc_dispatch.specs.Log.{done_in, passed_in, report_in, report_of, task_named}
 use Rattle.qc_dispatch.specs.Pieces.{IsAhead, IsInside, IsLong, grown, long_kind}

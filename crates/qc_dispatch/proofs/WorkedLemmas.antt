@@ -1,20 +1,19 @@
 -- Once all tasks have ended, the work was a feasible schedule.
-use Rattle.std.proofs.Common.{◌≡◌, ◌≢◌, ℕ, ◌+◌, ◌*◌, ◌<◌, ◌≤◌, ◌≤ℤ◌, ℤ, ◌⊎◌, inl, inr, List, length, Option, None, Some, IfSome, IsSome, Bool, true, false, refl, sym, ap, subst, ◌∙◌, arith}
-use Rattle.std.specs.Prelude.{IsSomeAnd, slice_index_or, ◌==◌}
+use Rattle.std.proofs.Common.{◌≡◌, ◌≢◌, ℕ, ◌+◌, ◌*◌, ◌<◌, ◌≤◌, ℤ, inl, inr, List, length, Option, Some, IfSome, IsSome, true, false, refl, sym, ap, subst, ◌∙◌, arith}
+use Rattle.std.specs.Prelude.{IsSomeAnd, ◌==◌}
 use Rattle.std.proofs.lemmas.Bool.{cases_Bool, cond-false}
 use Rattle.std.proofs.lemmas.Bool.Decides.{nat_tests}
 use Rattle.qc_dispatch.specs.Calls.{Call, Reaches, opening}
 use Rattle.qc_dispatch.specs.Course.{Course, IsOver, end_at, start_at}
-use Rattle.qc_dispatch.specs.Kept.{IsCourse}
 use Rattle.qc_dispatch.specs.Order.{AreTied, gap}
-use Rattle.qc_dispatch.specs.Promises.{IsAhead, Keeps}
+use Rattle.qc_dispatch.specs.Promises.{Keeps}
 use Rattle.qc_dispatch.specs.Worked.{IsWorked, with_tasks}
 use Rattle.qc_dispatch.proofs.CallLemmas.{reaches}
 use Rattle.qc_dispatch.proofs.CourseLemmas.{opens}
 use Rattle.qc_model.specs.declared.schedule.Slot.{Slot}
 use Rattle.qc_model.specs.declared.task.Task.{Task}
 use Rattle.qc_model.specs.Bays.{bays_between}
-use Rattle.qc_model.specs.Instance.{InstanceView, Valid, IsApart, IsBefore, bay_of, no_task}
+use Rattle.qc_model.specs.Instance.{InstanceView, Valid, IsApart, IsBefore, bay_of}
 use Rattle.qc_model.specs.Nodes.{berth_wait}
 use Rattle.qc_model.specs.Rules.{Feasible, IsClear, KeepsBerth, crane_of, end_of, slot_distance, start_of}
 use Rattle.qc_model.specs.Ticks.{arrival, berth_clear, berth_distance, distance, travel_between}

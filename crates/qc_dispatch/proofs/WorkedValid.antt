@@ -1,12 +1,11 @@
 -- The instance with the lengths that tasks took, where each took some and all together not too many.
-use Rattle.std.proofs.Common.{◌≡◌, ◌≢◌, ℕ, ◌+◌, ◌*◌, ◌<◌, ◌≤◌, ◌⊎◌, inl, inr, List, length, sum_by, sym, ap, subst, ◌∙◌, arith}
+use Rattle.std.proofs.Common.{◌≡◌, ℕ, ◌<◌, ◌≤◌, ◌⊎◌, inl, inr, List, length, sum_by, sym, ap, subst, ◌∙◌, arith}
 use Rattle.std.proofs.Math.Logic.{∥∥₁_map}
-use Rattle.std.specs.Prelude.{◌↔◌, slice_index_or}
 use Rattle.qc_dispatch.specs.Course.{Course}
 use Rattle.qc_dispatch.specs.Worked.{IsWorked, with_tasks}
 use Rattle.qc_model.specs.declared.schedule.Slot.{Slot}
 use Rattle.qc_model.specs.declared.task.Task.{Task}
-use Rattle.qc_model.specs.Instance.{InstanceView, HasBayLimits, HasPlaceLimits, HasValidApart, HasValidBefore, HasValidCranes, HasValidTasks, Valid, IsBefore, IsFrom, bay_of, task, ticks_of}
+use Rattle.qc_model.specs.Instance.{InstanceView, HasBayLimits, HasPlaceLimits, Valid, bay_of, task, ticks_of}
 use Rattle.qc_model.specs.Numbers.{most_tasks, most_work}
 use Rattle.qc_model.specs.Tasks.{task_rank}
 

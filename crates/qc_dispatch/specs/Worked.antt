@@ -2,7 +2,7 @@
 use Rattle.std.specs.Prelude.{◌≡◌, ℕ, ◌<◌, List, length, slice_index_or, Some}
 use Rattle.qc_model.specs.declared.schedule.Slot.{Slot}
 use Rattle.qc_model.specs.declared.task.Task.{Task}
-use Rattle.qc_model.specs.Instance.{InstanceView, no_task, task, ticks_of}
+use Rattle.qc_model.specs.Instance.{InstanceView, no_task, task}
 use Rattle.qc_model.specs.Rules.{crane_of, end_of, start_of}
 use Rattle.qc_dispatch.specs.Course.{Course, end_at, start_at}
 

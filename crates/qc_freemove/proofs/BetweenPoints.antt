@@ -1,5 +1,5 @@
 -- From each of its points to the next a crane goes evenly, fractions of a tick included.
-use Rattle.std.proofs.Common.{◌≡◌, ◌≢◌, ℕ, zero, suc, ◌+◌, ◌-◌, ◌*◌, ◌/◌, ◌%◌, ◌<◌, ◌≤◌, ℤ, pos, ◌+ℤ◌, ◌-ℤ◌, ◌*ℤ◌, inl, inr, List, length, map, refl, sym, ap, ap₂, ◌∙◌, Contains, mul-le-mul_left, arith}
+use Rattle.std.proofs.Common.{◌≡◌, ◌≢◌, ℕ, zero, suc, ◌+◌, ◌-◌, ◌*◌, ◌<◌, ◌≤◌, ℤ, pos, ◌-ℤ◌, ◌*ℤ◌, inl, inr, List, length, map, refl, sym, ap, ap₂, ◌∙◌, Contains, arith}
 use Rattle.std.proofs.lemmas.Bool.{cases_lt}
 use Rattle.std.proofs.lemmas.Int.{by_lt_z, ints}
 use Rattle.std.proofs.lemmas.List.{get_or-map, length-map}
@@ -9,7 +9,6 @@ use Rattle.qc_model.specs.declared.schedule.Slot.{Slot}
 use Rattle.qc_model.specs.Instance.{InstanceView, Valid}
 use Rattle.qc_model.specs.Rules.{ends}
 use Rattle.qc_model.proofs.Places.{floor_exists}
-use Rattle.qc_model.proofs.Scaled.{scaled_sum}
 use Rattle.qc_freemove.specs.declared.track.HalfPoint.{HalfPoint}
 use Rattle.qc_freemove.specs.FreeSweep.{FreeSwept, IsBend, IsFreeSound, floor_place, hold_count, hold_of, place_at}
 use Rattle.qc_freemove.specs.HalfLines.{MovesBetween, no_point, point}

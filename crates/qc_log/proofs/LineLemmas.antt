@@ -1,5 +1,5 @@
 -- The first place at which a test passes, and what stands before and behind it; the first line of a text.
-use Rattle.std.proofs.Common.{◌≡◌, ◌≢◌, ◌<◌, ◌≤◌, ◌+◌, ◌-◌, ◌∷◌, ◌++◌, ◌==◌, ℕ, suc, List, [], length, take, drop, get_or, All, Bool, true, false, Option, None, Some, nat_lt, refl, sym, ap, ◌∙◌, inl, inr, arith, position}
+use Rattle.std.proofs.Common.{◌≡◌, ◌≢◌, ◌<◌, ◌≤◌, ◌+◌, ◌-◌, ◌∷◌, ◌++◌, ℕ, suc, List, [], length, take, drop, All, Bool, true, false, Option, None, Some, nat_lt, refl, sym, ap, ◌∙◌, inl, inr, arith, position}
 use Rattle.std.proofs.lemmas.Bool.{cases_Bool, ltb-true, ltb-false}
 use Rattle.std.proofs.lemmas.Bool.Decides.{nat_tests}
 use Rattle.std.proofs.lemmas.List.{drop_all, length-append, take_all, take_rest}

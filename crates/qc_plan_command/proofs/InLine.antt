@@ -7,7 +7,7 @@ use Rattle.std.proofs.lemmas.Bool.{cases_lt}
 use Rattle.std.proofs.lemmas.List.FromFn.{get_or-map-range_with_len, length-map-range_with_len}
 use Rattle.qc_model.specs.declared.schedule.Slot.{Slot}
 use Rattle.qc_model.specs.Instance.{InstanceView, IsApart, IsBefore, bay_of, crane, ticks_of}
-use Rattle.qc_model.specs.Rules.{Feasible, IsClear, crane_of, end_of, no_slot, slot_distance, start_of}
+use Rattle.qc_model.specs.Rules.{Feasible, IsClear, crane_of, no_slot, slot_distance, start_of}
 use Rattle.qc_model.specs.Ticks.{arrival, berth_clear, task_distance, travel_between}
 
 -- the greatest of the first values

@@ -1,14 +1,13 @@
 -- What goes out of a plan's report, from what the calls say that write it.
 use Rattle.std.proofs.Common.{◌≡◌, arith, List, [], ℕ, Result, Ok, Err, refl, length, OnOk, ◌++◌, IsErr, slice_index_or}
 use Rattle.std.specs.Prelude.{⊤}
-use Rattle.qc_freemove.specs.FreeTracksText.{WritesFreeTracks, free_lines}
+use Rattle.qc_freemove.specs.FreeTracksText.{free_lines}
 use Rattle.qc_freemove.proofs.BetweenPoints.{points_move_between}
-use Rattle.qc_gantt.specs.TracksText.{WritesTracks, tracks_text}
+use Rattle.qc_gantt.specs.TracksText.{tracks_text}
 use Rattle.qc_io.specs.declared.writing.WriteFault.{WriteFault}
 use Rattle.qc_io.specs.Outside.{View}
 use Rattle.qc_io.specs.Writes.{Writes}
 use Rattle.qc_io.proofs.WritesLemmas.{writes_cut, writes_then}
-use Rattle.qc_model.specs.declared.direction.Direction.{Direction}
 use Rattle.qc_model.specs.declared.schedule.Slot.{Slot}
 use Rattle.qc_model.specs.Instance.{InstanceView, Valid}
 use Rattle.qc_plan_command.specs.declared.answer.Motion.{Motion}

@@ -1,6 +1,6 @@
 -- Tasks of which none is before itself have ranks that rise along what is before what.
-use Rattle.std.proofs.Common.{◌≡◌, ◌⊎◌, ◌<◌, ◌≤◌, ◌+◌, ℕ, zero, suc, Bool, true, false, not, ◌&&◌, ◌||◌, cond, [], length, inl, inr, ap, arith, refl, sym, ◌∙◌, subst}
-use Rattle.std.proofs.lemmas.Bool.{and_parts, cases_Bool, cases_lt, or_cases, or_left, or_right}
+use Rattle.std.proofs.Common.{◌≡◌, ◌⊎◌, ◌<◌, ◌≤◌, ◌+◌, ℕ, zero, suc, Bool, true, false, not, ◌&&◌, ◌||◌, cond, [], length, inl, inr, ap, arith, refl, sym, ◌∙◌}
+use Rattle.std.proofs.lemmas.Bool.{and_parts, cases_Bool, cases_lt, or_cases}
 use Rattle.qc_model.specs.Instance.{InstanceView, IsBefore}
 use Rattle.qc_model.specs.Nodes.{is_sooner}
 use Rattle.qc_model.proofs.NodeLemmas.{before_found, sooner_before}

@@ -1,5 +1,5 @@
 -- inner: what the calls say that write a plan's report.
-use Rattle.std.specs.Prelude.{◌≡◌, ℕ, ◌≤◌, List, length, Result, OnOk, OnErr, ⊤}
+use Rattle.std.specs.Prelude.{◌≡◌, ◌≤◌, List, Result, OnOk, OnErr, ⊤}
 use Rattle.qc_freemove.specs.FreeTracksText.{WritesFreeTracks}
 use Rattle.qc_gantt.specs.TracksText.{WritesTracks}
 use Rattle.qc_io.specs.declared.writing.WriteFault.{WriteFault}

@@ -17,7 +17,7 @@ use qc_stow::{Moves, StowError, read_stow};
 use qc_tasks::tasks_of;
 use std::alloc::Global;
 
-/// The greatest length of a ship file, of a stowage list and of a plan's file, in bytes.
+/// The greatest length of a ship file, of a stowage list, of a plan's file and of a log, in bytes.
 const FILE_LIMIT: usize = 8_388_608;
 
 /// The bytes of a file that the command reads.

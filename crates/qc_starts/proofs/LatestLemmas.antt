@@ -1,5 +1,5 @@
 -- The task that ends last of the first ones, with one task more.
-use Rattle.std.proofs.Common.{◌≡◌, ℕ, ◌+◌, ◌<◌, ◌≤◌, inl, inr, List, Option, None, Some, cond, nat_lt, refl, sym, subst, arith}
+use Rattle.std.proofs.Common.{ℕ, ◌+◌, ◌<◌, ◌≤◌, inl, inr, List, Option, None, Some, cond, nat_lt, refl, sym, subst, arith}
 use Rattle.std.proofs.lemmas.Bool.{cases_eq, cond_both, ltb-false, ltb-true}
 use Rattle.qc_model.specs.Instance.{InstanceView}
 use Rattle.qc_starts.specs.Found.{HasEnd, IsLatest, end_by, end_in}

@@ -2,9 +2,8 @@
 use Rattle.std.proofs.Common.{◌≡◌, ◌≢◌, ℕ, ◌+◌, ◌-◌, ◌<◌, inl, inr, refl, Bool, true, false, eqb, List, [], ◌∷◌, ◌++◌, length, length-append, sym, ap, ◌∙◌, arith, get_or, slice_index_or, slice_set, swap_remove}
 use Rattle.std.proofs.lemmas.Bool.{cases_Bool, cases_eq, cases_lt, eq-eqb, eqb-true, false_from_ne_true, false≢true}
 use Rattle.std.proofs.lemmas.List.{get_or-set_other, get_or-set_same, get_or_default, length-take}
-use Rattle.std.proofs.lemmas.List.Sums.{sum_by-set, sum_by-swap_remove, sum_by_push}
+use Rattle.std.proofs.lemmas.List.Sums.{sum_by-swap_remove, sum_by_push}
 use Rattle.std.proofs.Math.ListN.{get_or-eq_default, length-set}
-use Rattle.qc_starts.specs.Noting.{marks}
 use Rattle.qc_starts.specs.Queue.{AreListed, times}
 use Rattle.qc_starts.specs.Spread.{is_pending, one_of}
 use Rattle.qc_starts.proofs.NotingLemmas.{all_clear, marks_less, marks_more, marks_none}

@@ -1,9 +1,8 @@
 -- By how many ticks two tasks are clear of each other at the most.
-use Rattle.std.proofs.Common.{◌≡◌, ℕ, ◌+◌, ◌-◌, ◌*◌, ◌<◌, ◌≤◌, eqb, inl, inr, List, length, ℤ, pos, ◌+ℤ◌, arith, mul-le-mul_left, nat_lt, slice_index}
+use Rattle.std.proofs.Common.{ℕ, ◌+◌, ◌-◌, ◌*◌, ◌<◌, ◌≤◌, eqb, inl, inr, List, length, ℤ, pos, ◌+ℤ◌, arith, mul-le-mul_left, nat_lt, slice_index}
 use Rattle.std.proofs.lemmas.Bool.{cond_both}
 use Rattle.qc_model.specs.Bays.{bays_between, bays_up}
 use Rattle.qc_model.specs.Instance.{InstanceView, IsFrom, Valid, bay_of, ticks_of}
-use Rattle.qc_model.specs.Nodes.{separation}
 use Rattle.qc_model.proofs.Bays.{bays}
 use Rattle.qc_starts.specs.Overlapping.{AreFar, IsWide}
 

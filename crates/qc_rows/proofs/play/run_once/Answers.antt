@@ -1,4 +1,4 @@
-use Rattle.std.proofs.Common.{List, Option, ap, subst, ℕ, ◌∙◌}
+use Rattle.std.proofs.Common.{List, ap, subst, ℕ, ◌∙◌}
 use Rattle.qc_io.specs.Memory.{Held, Taken, held_view}
 use Rattle.qc_top.specs.Account.{IsRun}
 use Rattle.qc_words.specs.Words.{texts}

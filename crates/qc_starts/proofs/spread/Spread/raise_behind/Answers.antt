@@ -1,4 +1,4 @@
-use Rattle.std.proofs.Common.{◌≡◌, ℕ, [], ◌<◌, false, Bool, List, length, ap, ap₂, sym, subst, subst₂, ◌∙◌, arith, slice_set}
+use Rattle.std.proofs.Common.{◌≡◌, ℕ, [], ◌<◌, false, Bool, List, length, ap, ap₂, sym, subst, subst₂, ◌∙◌, arith}
 use Rattle.std.proofs.Math.ListN.{length-set}
 use Rattle.qc_starts.specs.declared.noted.Noted.{Noted}
 use Rattle.qc_starts.specs.Noting.{Wrote}

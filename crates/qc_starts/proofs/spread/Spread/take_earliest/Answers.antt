@@ -1,4 +1,4 @@
-use Rattle.std.proofs.Common.{◌≡◌, ℕ, Bool, List, [], None, Option, false, ap, refl, subst, sym, arith, slice_set, swap_remove}
+use Rattle.std.proofs.Common.{◌≡◌, ℕ, Bool, List, [], None, Option, false, refl, subst, sym, arith, slice_set}
 use Rattle.std.proofs.Math.ListN.{length-set}
 use Rattle.qc_starts.specs.Queue.{AreListed, IsTaken}
 use Rattle.qc_starts.proofs.QueueLemmas.{listed_less, low_at, none_listed, pending_at}
