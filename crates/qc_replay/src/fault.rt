@@ -1,4 +1,5 @@
 //! What a tree shows, and why none was read.
+ghost use Rattle.std.specs.Prelude.{◌≡◌};
 
 use qc_num::{Bound, OutOfMemory};
 use qc_tree::TreeFault;
