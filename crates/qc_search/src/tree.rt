@@ -22,11 +22,10 @@ use qc_tree::{Line, write_line};
 fn put_way<K: Sink>(way: Direction, progress: &Progress, sink: &mut K) -> Result<(), WriteFault>
     ensures { Writes (K.view sink.old) (K.view sink.new) (whole_line (part_line way) []) result }
 {
-    let line = match way {
-        Direction::Up => Line::Up,
-        Direction::Down => Line::Down,
-    };
-    write_line(&line, &progress.path, sink)
+    match way {
+        Direction::Up => write_line(&Line::Up, &progress.path, sink),
+        Direction::Down => write_line(&Line::Down, &progress.path, sink),
+    }
 }
 
 /// Writes the line of a part, and searches it from its root on.
