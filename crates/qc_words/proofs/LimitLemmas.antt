@@ -11,7 +11,7 @@ use Rattle.qc_model.specs.declared.turn.Turn.TheVariants.{OneWay, Free}
 use Rattle.qc_num.specs.Digits.{number_in}
 use Rattle.qc_words.specs.declared.commands.CommandName.{CommandName}
 use Rattle.qc_words.specs.declared.commands.CommandName.TheVariants as name
-use Rattle.qc_words.specs.Asked.{Asked, KeepsLimits, are_different, help, is_own, most_number, plan, usage}
+use Rattle.qc_words.specs.Asked.{Asked, KeepsLimits, are_different, help, is_own, most_number, plan, usage, version}
 use Rattle.qc_words.specs.Commands.{command_name, command_of, named, read_by}
 use Rattle.qc_words.specs.Words.{about, asked_by, asked_in, asked_of, is_help, make_of, nodes_in, number_between, plan_in, plan_of, value_of}
 
