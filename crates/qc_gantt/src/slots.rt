@@ -89,6 +89,26 @@ fn give_all(
     Ok(())
 }
 
+/// The slot of each task, where the records give one, by maps that find tasks and cranes by their names.
+fn slots_by(
+    alloc: Global,
+    records: &[ByteRecord],
+    inst: &Instance,
+    tasks: &IndexMap<&[u8], u16>,
+    cranes: &IndexMap<&[u8], u16>,
+) -> Result<Vec<Option<Slot>>, PlanError>
+    requires tasks { Finds tasks.now (task_names inst.now) }
+    requires cranes { Finds cranes.now (crane_names inst.now) }
+    requires most { length inst.now.tasks ≤ MOST_TASKS }
+    ensures slots { IsReading (λ v. v.items) (slots_of inst.now (map fields_of records.now)) result }
+    ensures few { IsOk result → length records.now ≤ length inst.now.tasks }
+    ensures all { IfOk result (λ v. length v.items ≡ length inst.now.tasks) }
+{
+    let mut slots = vec![in alloc; None; inst.tasks().len()]?;
+    give_all(records, inst, tasks, cranes, slots.as_mut_slice())?;
+    Ok(slots)
+}
+
 /// The slot of each task, where the records behind the header give one.
 pub(crate) fn read_slots(
     alloc: Global,
@@ -103,7 +123,5 @@ pub(crate) fn read_slots(
     let texts = task_texts(alloc, inst.tasks())?;
     let tasks = numbers_of(alloc, texts.as_slice())?;
     let cranes = numbers_of(alloc, inst.cranes())?;
-    let mut slots = vec![in alloc; None; inst.tasks().len()]?;
-    give_all(records, inst, &tasks, &cranes, slots.as_mut_slice())?;
-    Ok(slots)
+    slots_by(alloc, records, inst, &tasks, &cranes)
 }
