@@ -1,4 +1,5 @@
 pub mod CraneLaws
+pub mod EachLemmas
 pub mod HatchLaws
 pub mod Items
 pub mod ShipLaws

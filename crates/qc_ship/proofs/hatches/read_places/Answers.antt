@@ -1,0 +1,19 @@
+use Rattle.std.proofs.Common.{◌∙◌, ◌+◌, ℕ, Global, Vec, ap}
+use Rattle.toml.specs.View.{view}
+use Rattle.qc_ship.specs.ShipFile.{place_in}
+use Rattle.qc_ship.proofs.EachLemmas.{each_more, each_stops}
+use Rattle.qc_ship.proofs.hatches.read_places.Goals as goal
+
+pub returns-in_err-place : goal.returns-in_err-place
+returns-in_err-place c =
+    each_stops place_in view c.args.values.now c.loop-value.value-index c.value-item.result c.loop-value-test.true c.value-item.is
+    _ c.loop-value.places.items c.loop-value.invariant.rest (λ (v : Vec ℕ Global). v.items)
+    c.in_err-place.field-0.0 c.from_residual.result c.from_residual.ensures.1 (rw c.as_slice.ensures.value at c.in_err-place.ensures)
+
+pub loop-value-preserved : goal.loop-value-preserved
+loop-value-preserved c = record {
+  count = c.in_ok-push.ensures.len ∙ ap (λ n. n + 1) c.loop-value.invariant.count;
+  rest = rw c.in_ok-push.ensures.items
+      (each_more place_in view c.args.values.now c.loop-value.value-index c.value-item.result c.loop-value-test.true c.value-item.is
+      _ c.loop-value.places.items c.loop-value.invariant.rest c.in_ok-place.place (rw c.as_slice.ensures.value at c.in_ok-place.ensures));
+}
