@@ -40,7 +40,10 @@ fn instance_in(alloc: Global, ship: &Ship, text: &Text) -> Result<Option<Instanc
         return Ok(None);
     };
     match read_stow(alloc, bytes, ship) {
-        Ok(moves) => Ok(Some(tasks_of(alloc, ship, &moves)?)),
+        Ok(moves) => {
+            let inst = tasks_of(alloc, ship, &moves)?;
+            Ok(Some(inst))
+        }
         Err(StowError::Fault(_)) => Ok(None),
         Err(StowError::OutOfMemory) => Err(OutOfMemory),
     }

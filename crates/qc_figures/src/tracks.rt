@@ -97,7 +97,8 @@ fn one_way_tracks(
     let mut paths = Vec::new(alloc);
     for crane in 0..inst.crane_count() {
         waypoints(inst, sched, way, crane, &mut track);
-        paths.push(Path::of(alloc, track.points())?)?;
+        let path = Path::of(alloc, track.points())?;
+        paths.push(path)?;
     }
     Ok(Tracks { paths })
 }
@@ -113,7 +114,8 @@ fn free_tracks(alloc: Global, inst: &Instance, sched: &Schedule) -> Result<Track
     let mut paths = Vec::new(alloc);
     for crane in 0..inst.crane_count() {
         free_waypoints(inst, sched, crane, &mut track);
-        paths.push(Path::of_halves(alloc, track.points())?)?;
+        let path = Path::of_halves(alloc, track.points())?;
+        paths.push(path)?;
     }
     Ok(Tracks { paths })
 }

@@ -59,8 +59,14 @@ pub(crate) fn ahead_of(alloc: Global, inst: &Instance, nodes: u32) -> Result<Ahe
     ensures { IfOk result (IsAhead inst.now) }
 {
     match inst.turn() {
-        Turn::OneWay => Ok(Ahead::Swept(first_plan(alloc, inst, EFFORT)?)),
-        Turn::Free => Ok(Ahead::OneWay(one_way_search(alloc, inst, nodes)?)),
+        Turn::OneWay => {
+            let swept = first_plan(alloc, inst, EFFORT)?;
+            Ok(Ahead::Swept(swept))
+        }
+        Turn::Free => {
+            let search = one_way_search(alloc, inst, nodes)?;
+            Ok(Ahead::OneWay(search))
+        }
     }
 }
 

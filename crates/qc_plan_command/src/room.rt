@@ -26,8 +26,14 @@ fn room_of(alloc: Global, turn: Turn, tasks: u16) -> Result<Room, OutOfMemory>
     ensures { IfOk result (IsRoom turn tasks) }
 {
     match turn {
-        Turn::OneWay => Ok(Room::OneWay(Track::new(alloc, tasks)?)),
-        Turn::Free => Ok(Room::Free(FreeTrack::new(alloc, tasks)?)),
+        Turn::OneWay => {
+            let track = Track::new(alloc, tasks)?;
+            Ok(Room::OneWay(track))
+        }
+        Turn::Free => {
+            let track = FreeTrack::new(alloc, tasks)?;
+            Ok(Room::Free(track))
+        }
     }
 }
 

@@ -137,7 +137,10 @@ pub(crate) fn early_first(
 {
     match inst.turn() {
         Turn::OneWay => Ok(None),
-        Turn::Free => Ok(Some(EarlyStarts::open(alloc, inst)?)),
+        Turn::Free => {
+            let starts = EarlyStarts::open(alloc, inst)?;
+            Ok(Some(starts))
+        }
     }
 }
 

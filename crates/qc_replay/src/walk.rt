@@ -60,7 +60,8 @@ fn second_root(alloc: Global, inst: &Instance) -> Result<Option<Descent>, OutOfM
     match inst.turn() {
         Turn::OneWay => {
             let mirrored = mirror(alloc, inst)?;
-            Ok(Some(Descent::new(alloc, &mirrored)?))
+            let down = Descent::new(alloc, &mirrored)?;
+            Ok(Some(down))
         }
         Turn::Free => Ok(None),
     }

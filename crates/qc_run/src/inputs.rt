@@ -31,7 +31,7 @@ pub struct Inputs<'a> {
 
 impl<'a> Inputs<'a> {
     /// The name of the file that is for this; none where the command reads no such file.
-    pub(crate) fn name_of(&self, file: Input) -> Option<&'a str>
+    pub fn name_of(&self, file: Input) -> Option<&'a str>
         ensures { option_map (λ name. name.now) result ≡ name_of file (names_of self.now) }
     {
         match file {

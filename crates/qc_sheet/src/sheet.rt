@@ -106,7 +106,8 @@ impl Sheet {
         let rows = moves.rows();
         let mut orders = Vec::new(alloc);
         for task in inst.tasks() {
-            orders.push(order_of(alloc, rows, task)?)?;
+            let order = order_of(alloc, rows, task)?;
+            orders.push(order)?;
         }
         Ok(Sheet { orders })
     }

@@ -106,7 +106,8 @@ pub fn read_stow(alloc: Global, text: &[u8], ship: &Ship) -> Result<Moves, StowE
     if !is_header(header) {
         return Err(no_header());
     }
-    Ok(Moves::of(read_rows(alloc, records, ship)?))
+    let rows = read_rows(alloc, records, ship)?;
+    Ok(Moves::of(rows))
 }
 
 /// The fault of a list that doesn't begin with its header.

@@ -152,7 +152,8 @@ pub(crate) fn schedule_of(
     if !assign_all(&mut starts, cranes) || !order_all(&mut starts, turned) || starts.stuck() {
         return Ok(None);
     }
-    Ok(judged(inst, written(alloc, inst, way, &starts)?))
+    let sched = written(alloc, inst, way, &starts)?;
+    Ok(judged(inst, sched))
 }
 
 /// Of two schedules, where there are any, the one that ends first, and the first of both where they

@@ -104,7 +104,8 @@ impl Log {
     {
         let mut lists = Vec::new(alloc);
         for crane in 0..cranes {
-            lists.push(told_of(alloc, self.entries.as_slice(), crane)?)?;
+            let told = told_of(alloc, self.entries.as_slice(), crane)?;
+            lists.push(told)?;
         }
         Ok(lists)
     }
