@@ -15,5 +15,6 @@ pub mod LatestLemmas
 pub mod RaisedLemmas
 pub mod KeptLemmas
 pub mod DecideLemmas
+pub mod BackLemmas
 pub mod OverlapLemmas
 pub mod WideLemmas
