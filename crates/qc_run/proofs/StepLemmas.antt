@@ -1,11 +1,13 @@
 -- Steps that read, one after the other: what is due of both.
-use Rattle.std.proofs.Common.{◌≡◌, ℕ, List, Option, None, Some, Result, Ok, Err, ap, subst, ◌∙◌, IfErr, IfSome, length, nat_le}
+use Rattle.std.proofs.Common.{◌≡◌, ◌⊎◌, ℕ, List, Option, None, Some, Result, Ok, Err, refl, inl, inr, ap, subst, ◌∙◌, IfErr, IfSome, IsErrAnd, length, nat_le, arith}
 use Rattle.std.proofs.lemmas.Bool.{cond_both}
 use Rattle.qc_num.specs.Reading.{◌>>=◌, with_fault}
 use Rattle.qc_io.specs.Outside.{Files, View}
 use Rattle.qc_gantt.specs.Plan.{plan_in}
+use Rattle.qc_model.specs.declared.turn.Turn.{Turn}
 use Rattle.qc_model.specs.Instance.{with_turn}
 use Rattle.qc_tree.specs.declared.fault.TreeFault.{TreeFault}
+use Rattle.qc_ship.specs.Ship.{ShipView}
 use Rattle.qc_ship.specs.ShipFile.{ship_file}
 use Rattle.qc_stow.specs.Stow.{moves_in}
 use Rattle.qc_tasks.specs.InstanceOf.{instance_of}
@@ -16,8 +18,13 @@ use Rattle.qc_run.specs.declared.refusal.Refusal.TheVariants as refusal
 use Rattle.qc_run.specs.declared.refusal.Stop.{Stop}
 use Rattle.qc_run.specs.declared.refusal.Stop.TheVariants as stop
 use Rattle.qc_run.specs.Inputs.{Names}
-use Rattle.qc_run.specs.Due.{Contents, file_limit, input_due, instance_due, job_due, moves_due, contents_in, schedule_due, ship_due, within_limit}
+use Rattle.qc_run.specs.Due.{Contents, without, file_limit, input_due, instance_due, job_due, moves_due, contents_in, schedule_due, ship_due, within_limit}
 use Rattle.qc_run.specs.Steps.{ComesTo, IsStep, Stops}
+use Rattle.qc_run.proofs.DueLemmas.{stops_from}
+
+-- without a file that it reads a step finds it unread, and without another it comes to the same
+abbrev pub Steady : {A : Type 0} → (Contents → Result A Refusal) → Type 0
+Steady step = (file : Input) (contents : Contents) → (step (without file contents) ≡ step contents) ⊎ (step (without file contents) ≡ Err (refusal.ReadFault file))
 
 module _ {A B : Type 0} (step : Contents → Result A Refusal) (next : A → Contents → Result B Refusal) (names : Names) where
   -- the second step comes to what both do, where the first came through
@@ -25,9 +32,85 @@ module _ {A B : Type 0} (step : Contents → Result A Refusal) (next : A → Con
   comes_then None x r first second = tt
   comes_then (Some held) x r first second = ap (λ (s : Result A Refusal). s >>= λ a. next a (contents_in held names)) first ∙ second
 
+  -- what the first step stopped for is what both stop for
+  comes_stopped : (files : Option Files) (why : Refusal) → ComesTo step names files (Err why) → ComesTo (λ contents. step contents >>= λ a. next a contents) names files (Err why)
+  comes_stopped None why h = tt
+  comes_stopped (Some held) why h = ap (λ (s : Result A Refusal). s >>= λ a. next a (contents_in held names)) h
+
+  unread_stopped : (files : Option Files) (file : Input) → IfSome files (λ held. step (without file (contents_in held names)) ≡ Err (refusal.ReadFault file))
+      → IfSome files (λ held. (step (without file (contents_in held names)) >>= λ a. next a (without file (contents_in held names))) ≡ Err (refusal.ReadFault file))
+  unread_stopped None file h = tt
+  unread_stopped (Some held) file h = ap (λ (s : Result A Refusal). s >>= λ a. next a (without file (contents_in held names))) h
+
+  stopped : (before after : View) (why : Stop) → Stops step names before after why → Stops (λ contents. step contents >>= λ a. next a contents) names before after why
+  stopped before after stop.OutOfMemory h = h
+  stopped before after (stop.Refused refusal.Usage) h = h
+  stopped before after (stop.Refused (refusal.ReadFault file)) h = record { cause = h.cause; turn = unread_stopped before.files file h.turn }
+  stopped before after (stop.Refused why) h = (h.0, comes_stopped before.files why h.1)
+
+  -- a first step that stopped
+  pub step_stops : {before after : View} {why : Stop} {out : Result B Stop} → IsStep step names before after (Err why) → IsErrAnd out (λ e. e ≡ why) → IsStep (λ contents. step contents >>= λ a. next a contents) names before after out
+  step_stops {out = Ok y} first handed = absurd handed
+  step_stops {before = before} {after = after} {why = why} {out = Err e} first handed = rw handed (record {
+    ok = tt;
+    err = stopped before after why first.err;
+    may = first.may;
+    files = first.files;
+    made = first.made;
+    faults = first.faults;
+    read_faults = first.read_faults;
+  })
+
+  -- what the second step stopped for, where the first came through
+  unread_then : Steady step → (files : Option Files) (x : A) (file : Input) → ComesTo step names files (Ok x)
+      → IfSome files (λ held. next x (without file (contents_in held names)) ≡ Err (refusal.ReadFault file))
+      → IfSome files (λ held. (step (without file (contents_in held names)) >>= λ a. next a (without file (contents_in held names))) ≡ Err (refusal.ReadFault file))
+  unread_then steady None x file first second = tt
+  unread_then steady (Some held) x file first second =
+      let less = without file (contents_in held names) in
+      elim (steady file (contents_in held names)) [
+        | inl same ↦ ap (λ (s : Result A Refusal). s >>= λ a. next a less) (same ∙ first) ∙ second
+        | inr unread ↦ ap (λ (s : Result A Refusal). s >>= λ a. next a less) unread
+      ]
+
+  then_stopped : Steady step → (before after : View) (x : A) (why : Stop) → ComesTo step names before.files (Ok x)
+      → Stops (next x) names before after why → Stops (λ contents. step contents >>= λ a. next a contents) names before after why
+  then_stopped steady before after x stop.OutOfMemory first h = h
+  then_stopped steady before after x (stop.Refused refusal.Usage) first h = h
+  then_stopped steady before after x (stop.Refused (refusal.ReadFault file)) first h =
+      record { cause = h.cause; turn = unread_then steady before.files x file first h.turn }
+  then_stopped steady before after x (stop.Refused why) first h = (h.0, comes_then before.files x (Err why) first h.1)
+
+  -- a step that came through, and then a second that came through or stopped
+  pub step_then : {before mid after : View} {x : A} {out : Result B Stop} → Steady step → IsStep step names before mid (Ok x)
+      → IsStep (next x) names mid after out → IsStep (λ contents. step contents >>= λ a. next a contents) names before after out
+  step_then {before = before} {mid = mid} {after = after} {x = x} {out = Ok y} steady first second = record {
+    ok = (
+      second.ok.0 ∙ first.ok.0,
+      comes_then before.files x (Ok y) first.ok.1
+          (subst (λ (f : Option Files). ComesTo (next x) names f (Ok y)) first.files second.ok.1),
+    );
+    err = tt;
+    may = tt;
+    files = second.files ∙ first.files;
+    made = second.made ∙ first.made;
+    faults = second.faults ∙ first.faults;
+    read_faults = omega (arith, first.read_faults, second.read_faults);
+  }
+  step_then {before = before} {mid = mid} {after = after} {x = x} {out = Err why} steady first second = record {
+    ok = tt;
+    err = then_stopped steady before after x why first.ok.1 (stops_from (next x) names before mid after first.files first.ok.0 why second.err);
+    may = second.may;
+    files = second.files ∙ first.files;
+    made = second.made ∙ first.made;
+    faults = second.faults ∙ first.faults;
+    read_faults = omega (arith, first.read_faults, second.read_faults);
+  }
+
   -- a step that came through, and then what it leads to without a further file
-  pub step_same : (before after : View) (x : A) (y : B) → IsStep step names before after (Ok x) → ((contents : Contents) → next x contents ≡ Ok y) → IsStep (λ contents. step contents >>= λ a. next a contents) names before after (Ok y)
-  step_same before after x y first same = record {
+  pub step_same : {before after : View} {x : A} {y : B} → IsStep step names before after (Ok x) → ((held : Files) → next x (contents_in held names) ≡ Ok y)
+      → IsStep (λ contents. step contents >>= λ a. next a contents) names before after (Ok y)
+  step_same {before = before} {x = x} {y = y} first same = record {
     ok = (first.ok.0, comes_then before.files x (Ok y) first.ok.1 (everywhere before.files));
     err = tt;
     may = tt;
@@ -38,7 +121,66 @@ module _ {A B : Type 0} (step : Contents → Result A Refusal) (next : A → Con
   } where
     everywhere : (files : Option Files) → ComesTo (next x) names files (Ok y)
     everywhere None = tt
-    everywhere (Some held) = same (contents_in held names)
+    everywhere (Some held) = same held
+
+  -- a step that came through, and then want of memory
+  pub step_starved : {before after : View} {x : A} {out : Result B Stop} → IsStep step names before after (Ok x) → IsErrAnd out (λ e. e ≡ stop.OutOfMemory)
+      → IsStep (λ contents. step contents >>= λ a. next a contents) names before after out
+  step_starved {out = Ok y} first starved = absurd starved
+  step_starved {out = Err e} first starved = rw starved (record {
+    ok = tt;
+    err = first.ok.0;
+    may = tt;
+    files = first.files;
+    made = first.made;
+    faults = first.faults;
+    read_faults = first.read_faults;
+  })
+
+-- ---- each step is steady
+
+input_steady : (read : Input) → Steady (input_due read)
+input_steady input.Ship input.Ship contents = inr refl
+input_steady input.Stow input.Stow contents = inr refl
+input_steady input.Plan input.Plan contents = inr refl
+input_steady input.Tree input.Tree contents = inr refl
+input_steady input.Own input.Own contents = inr refl
+input_steady input.Log input.Log contents = inr refl
+input_steady read file contents = inl refl
+
+then_steady : {A B : Type 0} (step : Contents → Result A Refusal) (next : A → Contents → Result B Refusal) → Steady step → ((a : A) → Steady (next a))
+    → Steady (λ contents. step contents >>= λ a. next a contents)
+then_steady {A = A} step next first second file contents =
+    let less = without file contents in
+    elim (first file contents) [
+      | inl same ↦ rw same (onward (step contents))
+      | inr unread ↦ inr (ap (λ (s : Result A Refusal). s >>= λ a. next a less) unread)
+    ]
+  where
+    onward : (r : Result A Refusal) → ((r >>= λ a. next a (without file contents)) ≡ (r >>= λ a. next a contents))
+        ⊎ ((r >>= λ a. next a (without file contents)) ≡ Err (refusal.ReadFault file))
+    onward (Ok a) = second a file contents
+    onward (Err e) = inl refl
+
+same_turn : (file : Input) (contents : Contents) → (without file contents).turn ≡ contents.turn
+same_turn input.Ship contents = refl
+same_turn input.Stow contents = refl
+same_turn input.Plan contents = refl
+same_turn input.Tree contents = refl
+same_turn input.Own contents = refl
+same_turn input.Log contents = refl
+
+pub ship_steady : Steady ship_due
+ship_steady = then_steady (input_due input.Ship) (λ bytes _. with_fault refusal.BadShip (ship_file bytes)) (input_steady input.Ship) (λ bytes file contents. inl refl)
+
+moves_steady : (ship : ShipView) → Steady (moves_due ship)
+moves_steady ship = then_steady (input_due input.Stow) (λ bytes _. with_fault refusal.BadStow (moves_in ship bytes)) (input_steady input.Stow) (λ bytes file contents. inl refl)
+
+pub instance_steady : Steady instance_due
+instance_steady =
+    then_steady ship_due (λ ship contents. moves_due ship contents >>= λ rows. Ok (with_turn (instance_of ship rows) contents.turn)) ship_steady
+    (λ ship. then_steady (moves_due ship) (λ rows contents. Ok (with_turn (instance_of ship rows) contents.turn)) (moves_steady ship)
+    (λ rows file contents. inl (ap (λ (turn : Turn). Ok (with_turn (instance_of ship rows) turn)) (same_turn file contents))))
 
 -- ---- no fault of a tree or of a log comes of the other files
 

@@ -2,13 +2,10 @@ use Rattle.std.proofs.Common.{ap, sym, ◌∙◌}
 use Rattle.qc_num.specs.Reading.{with_fault}
 use Rattle.qc_stow.specs.Stow.{moves_in}
 use Rattle.qc_run.specs.declared.refusal.Refusal.TheVariants as refusal
-use Rattle.qc_run.specs.declared.inputs.Input.TheVariants as input
-use Rattle.qc_run.specs.Due.{input_due}
 use Rattle.qc_run.proofs.StepLemmas.{step_same}
 use Rattle.qc_run.proofs.reading.read_moves.Goals as goal
 
 pub returns-in-Ok-clause-step : goal.returns-in-Ok-clause-step
 returns-in-Ok-clause-step g c =
-    step_same (input_due input.Stow) (λ bytes contents. with_fault refusal.BadStow (moves_in c.args.ship.now bytes)) _ _ _ c.in_ok-bytes.bytes c.in-Ok.moves
-    c.in_ok-bytes.ensures
-    (λ contents. ap (with_fault refusal.BadStow) (ap (moves_in c.args.ship.now) (sym c.as_slice.ensures) ∙ c.in-Ok.ensures.moves))
+    step_same _ _ _ c.in_ok-bytes.ensures
+    (λ held. ap (with_fault refusal.BadStow) (ap (moves_in c.args.ship.now) (sym c.as_slice.ensures) ∙ c.in-Ok.ensures.moves))
