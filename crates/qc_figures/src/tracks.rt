@@ -97,8 +97,7 @@ fn one_way_tracks(
     let mut paths = Vec::new(alloc);
     for crane in 0..inst.crane_count() {
         waypoints(inst, sched, way, crane, &mut track);
-        let path = Path::of(alloc, track.points())?;
-        paths.push(path)?;
+        paths.push(Path::of(alloc, track.points())?)?;
     }
     Ok(Tracks { paths })
 }
@@ -114,8 +113,7 @@ fn free_tracks(alloc: Global, inst: &Instance, sched: &Schedule) -> Result<Track
     let mut paths = Vec::new(alloc);
     for crane in 0..inst.crane_count() {
         free_waypoints(inst, sched, crane, &mut track);
-        let path = Path::of_halves(alloc, track.points())?;
-        paths.push(path)?;
+        paths.push(Path::of_halves(alloc, track.points())?)?;
     }
     Ok(Tracks { paths })
 }

@@ -106,8 +106,7 @@ impl Sheet {
         let rows = moves.rows();
         let mut orders = Vec::new(alloc);
         for task in inst.tasks() {
-            let order = order_of(alloc, rows, task)?;
-            orders.push(order)?;
+            orders.push(order_of(alloc, rows, task)?)?;
         }
         Ok(Sheet { orders })
     }

@@ -106,8 +106,7 @@ pub fn read_stow(alloc: Global, text: &[u8], ship: &Ship) -> Result<Moves, StowE
     if !is_header(header) {
         return Err(no_header());
     }
-    let rows = read_rows(alloc, records, ship)?;
-    Ok(Moves::of(rows))
+    Ok(Moves::of(read_rows(alloc, records, ship)?))
 }
 
 /// The fault of a list that doesn't begin with its header.

@@ -104,8 +104,7 @@ impl Log {
     {
         let mut lists = Vec::new(alloc);
         for crane in 0..cranes {
-            let told = told_of(alloc, self.entries.as_slice(), crane)?;
-            lists.push(told)?;
+            lists.push(told_of(alloc, self.entries.as_slice(), crane)?)?;
         }
         Ok(lists)
     }
