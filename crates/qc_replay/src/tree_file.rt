@@ -60,8 +60,36 @@ pub fn replay<S: Shelf>(
         (¬ (result ≡ Err ReplayError.ReadFault)) }
 {
     let mut walk = Walk::new(alloc, inst)?;
+    let read = read_file(alloc, &mut walk, shelf, name);
+    drop(walk);
+    read
+}
+
+/// Opens the file of a tree, and reads it to its end.
+fn read_file<S: Shelf>(
+    alloc: Global,
+    walk: &mut Walk,
+    shelf: &mut S,
+    name: &str,
+) -> Result<Replayed, ReplayError>
+    requires start { walk.old.reading ≡ start walk.old.inst }
+    requires valid { Valid walk.old.inst }
+    ensures read { IfOk result (IsReadThrough walk.old.inst
+        (file_at (S.Sink.view shelf.old).files name.now)) }
+    ensures fault { (fault : TreeFault) → result ≡ Err (ReplayError.Tree fault)
+        → Fails walk.old.inst 1 (start walk.old.inst)
+        (file_at (S.Sink.view shelf.old).files name.now) fault }
+    ensures last { (fault : TreeFault) → result ≡ Err (ReplayError.Tree fault)
+        → fault.line ≤ 800007 }
+    ensures missing { IsMissing (S.Sink.view shelf.old).files name.now
+        → ¬ (result ≡ Err ReplayError.OutOfMemory) → result ≡ Err ReplayError.ReadFault }
+    ensures read_fault { result ≡ Err ReplayError.ReadFault
+        → ReadCause (S.Sink.view shelf.old) (S.Sink.view shelf.new) name.now }
+    ensures reads { Reads (S.Sink.view shelf.old) (S.Sink.view shelf.new)
+        (¬ (result ≡ Err ReplayError.ReadFault)) }
+{
     let mut lines = TreeLines::open(alloc, shelf, name)?;
-    read_lines(&mut walk, &mut lines, shelf)
+    read_lines(walk, &mut lines, shelf)
 }
 
 /// Reads all lines of a tree, from its title to the end of its file.
