@@ -126,11 +126,24 @@ fn serve<S: Shelf>(alloc: Global, asked: &PlanAsked<'_>, shelf: &mut S) -> Resul
 {
     let job = read_own_job(alloc, &asked.inputs(), shelf)?;
     if let Some(broken) = break_of(&job) {
+        drop(job);
         return Ok(PlanAnswer::Broken(broken));
     }
-    let room = room_for(alloc, &job.inst)?;
-    let ahead = ahead_of(alloc, &job.inst, asked.nodes)?;
-    let search = Search::open(alloc, &job.inst, asked.nodes)?;
+    let Ok(room) = room_for(alloc, &job.inst) else {
+        drop(job);
+        return Err(Stop::OutOfMemory);
+    };
+    let Ok(ahead) = ahead_of(alloc, &job.inst, asked.nodes) else {
+        drop(room);
+        drop(job);
+        return Err(Stop::OutOfMemory);
+    };
+    let Ok(search) = Search::open(alloc, &job.inst, asked.nodes) else {
+        drop(ahead);
+        drop(room);
+        drop(job);
+        return Err(Stop::OutOfMemory);
+    };
     let bound = root_bound(alloc, &job.inst).ok();
     Ok(plan_instance(asked, job, ahead, search, bound, room, shelf))
 }

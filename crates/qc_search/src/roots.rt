@@ -107,8 +107,17 @@ impl Roots {
     {
         let Roots { mut up, down } = self;
         match down {
-            Some(mut down) => write_both(&mut up, &mut down, progress, sink),
-            None => write_one(&mut up, progress, sink),
+            Some(mut down) => {
+                let written = write_both(&mut up, &mut down, progress, sink);
+                drop(down);
+                drop(up);
+                written
+            }
+            None => {
+                let written = write_one(&mut up, progress, sink);
+                drop(up);
+                written
+            }
         }
     }
 }
