@@ -1,24 +1,12 @@
-//! The program: its words, the files of the system and standard output.
+//! The program: a run over the files of the system and standard output.
 #![tactic(auto)]
 
-mod files;
-mod held;
-mod lines;
-mod making;
-mod once;
-mod output;
-mod part;
-mod same;
-mod target;
 mod voice;
-mod words;
 
-use files::FileShelf;
-use lines::Lines;
-use output::Output;
 use qc_io::WriteFault;
 use qc_num::OutOfMemory;
 use qc_progress::Progress;
+use qc_system::{FileShelf, Lines, Output, words_of};
 use qc_top::{Status, run};
 use std::io::IsTerminal;
 use std::os::fd::AsFd;
@@ -26,7 +14,6 @@ use std::process::ExitCode;
 use std::rt::{Env, Files};
 use std::{fs, io};
 use voice::say_after;
-use words::words_of;
 
 /// The root folder, opened for reading as often as there are standard descriptors. Those that are
 /// closed are taken by it, so that no file that is opened later is standard output.

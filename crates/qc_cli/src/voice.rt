@@ -2,9 +2,9 @@
 ghost use Rattle.std.specs.Prelude.{None};
 ghost use Rattle.qc_io.specs.Outside.{sink_view};
 
-use crate::files::FileShelf;
 use qc_explain::explain;
 use qc_io::{Failed, Sink, fault, put_all};
+use qc_system::FileShelf;
 use qc_top::Status;
 use std::fmt::Display;
 use std::io::{self, ErrorKind};

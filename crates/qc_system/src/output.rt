@@ -1,6 +1,6 @@
 //! A writer of the system as a sink.
 ghost use Rattle.qc_io.specs.Writes.{Counts};
-ghost use Rattle.qc_cli.specs.Once.{WritesOnce};
+ghost use Rattle.qc_system.specs.Once.{WritesOnce};
 ghost use Rattle.std.specs.Prelude.{None};
 ghost use Rattle.qc_io.specs.Outside.{sink_view};
 

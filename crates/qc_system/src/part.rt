@@ -11,7 +11,7 @@ use std::rt::Files;
 const MOST_PARTS: u32 = 10;
 
 /// A new file. It is removed where it is let go before it is put in its place.
-pub struct Part<'a, R: Files> {
+pub(crate) struct Part<'a, R: Files> {
     rt: &'a R,
     path: String,
 }
@@ -25,7 +25,7 @@ impl<R: Files> Drop for Part<'_, R> {
 
 impl<R: Files> Part<'_, R> {
     /// Puts the file in its place, over the one that is there. After an error it is removed.
-    pub fn put(self, place: &str) -> io::Result<()> {
+    pub(crate) fn put(self, place: &str) -> io::Result<()> {
         fs::rename(self.rt, self.path.as_str(), place)?;
         let Part { rt: _, path: _ } = self;
         Ok(())
@@ -34,7 +34,7 @@ impl<R: Files> Part<'_, R> {
 
 /// A new file beside the place, open for writing, with rights and owner of the file that it is to
 /// replace: `PLACE.part`, or the first of `PLACE.part1` to `PLACE.part9` that isn't there.
-pub fn begin_part<'a, R: Files + AllocGlobal>(
+pub(crate) fn begin_part<'a, R: Files + AllocGlobal>(
     rt: &'a R,
     place: &str,
     found: &Option<Found>,

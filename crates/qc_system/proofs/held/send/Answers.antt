@@ -1,8 +1,8 @@
 use Rattle.std.proofs.Common.{List, ℕ, take, subst, ◌∙◌, arith}
 use Rattle.std.proofs.lemmas.List.{length-drop, take_rest}
 use Rattle.std.specs.Io.KnownBytes.{Appends}
-use Rattle.qc_cli.proofs.HeldLemmas.{appends_more}
-use Rattle.qc_cli.proofs.held.send.Goals as goal
+use Rattle.qc_system.proofs.HeldLemmas.{appends_more}
+use Rattle.qc_system.proofs.held.send.Goals as goal
 
 pub loop-done-preserved : goal.loop-done-preserved
 loop-done-preserved g c = record {

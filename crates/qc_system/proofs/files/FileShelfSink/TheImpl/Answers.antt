@@ -1,7 +1,7 @@
 use Rattle.std.proofs.Common.{refl}
 use Rattle.qc_io.proofs.Pieces.{on_err}
-use Rattle.qc_cli.proofs.Untold.{at_ok}
-use Rattle.qc_cli.proofs.files.FileShelfSink.TheImpl.Goals as goal
+use Rattle.qc_system.proofs.Untold.{at_ok}
+use Rattle.qc_system.proofs.files.FileShelfSink.TheImpl.Goals as goal
 
 pub write-tells : goal.write-tells
 write-tells g c = record {

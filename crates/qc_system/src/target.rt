@@ -13,24 +13,24 @@ const MOST_LINKS: u32 = 40;
 
 /// A file that is there.
 #[derive(Drop)]
-pub struct Found {
-    pub identity: Identity,
-    pub metadata: Metadata,
+pub(crate) struct Found {
+    pub(crate) identity: Identity,
+    pub(crate) metadata: Metadata,
     /// Whether it is written as it stands, as a device or a pipe is, and not replaced.
-    pub in_place: bool,
+    pub(crate) in_place: bool,
 }
 
 /// The file that a name stands for, with its links followed.
 #[derive(Drop)]
-pub struct Target {
-    pub path: String,
+pub(crate) struct Target {
+    pub(crate) path: String,
     /// None where the file isn't there yet.
-    pub found: Option<Found>,
+    pub(crate) found: Option<Found>,
 }
 
 /// The file that a name stands for. It fails where the name is empty, and where the system doesn't tell, or
 /// doesn't let it be written.
-pub fn target_of<R: Files + AllocGlobal>(rt: &R, name: &str) -> io::Result<Target>
+pub(crate) fn target_of<R: Files + AllocGlobal>(rt: &R, name: &str) -> io::Result<Target>
     ensures { name.now ≡ [] → IsErr result }
 {
     if name.is_empty() {

@@ -3,8 +3,8 @@ ghost use Rattle.std.specs.Prelude.{◌≡◌, ◌≤◌, ◌<◌, [], None, IsE
 ghost use Rattle.std.specs.Io.KnownBytes.{Appends, append_known};
 ghost use Rattle.std.specs.String.{string_bytes};
 ghost use Rattle.qc_io.specs.Writes.{Counts};
-ghost use Rattle.qc_cli.specs.Once.{ReadsOnce, WritesOnce};
-ghost use Rattle.qc_cli.specs.Used.{NotesOne};
+ghost use Rattle.qc_system.specs.Once.{ReadsOnce, WritesOnce};
+ghost use Rattle.qc_system.specs.Used.{NotesOne};
 
 use crate::making::{Making, begun};
 use crate::once::read_once;

@@ -2,8 +2,8 @@
 ghost use Rattle.std.specs.Prelude.{◌≡◌, ◌↔◌, ◌≤◌, ◌<◌, length, take, None, Some, IsTrue, IsErr, IfOk, IfSome, Contains, string_bytes};
 ghost use Rattle.std.specs.Io.KnownBytes.{Appends, append_known};
 ghost use Rattle.qc_io.specs.Writes.{Counts};
-ghost use Rattle.qc_cli.specs.Once.{WritesOnce};
-ghost use Rattle.qc_cli.specs.Used.{NotesOne};
+ghost use Rattle.qc_system.specs.Once.{WritesOnce};
+ghost use Rattle.qc_system.specs.Used.{NotesOne};
 
 use crate::held::Held;
 use crate::once::write_once;
@@ -18,17 +18,17 @@ use std::rt::Files;
 
 /// A file that is being made, by the name that was asked for.
 #[derive(Drop)]
-pub struct Making<'a, R: Files> {
+pub(crate) struct Making<'a, R: Files> {
     rt: &'a R,
-    pub name: String,
+    pub(crate) name: String,
     /// The path that the links of the name lead to.
     path: String,
     /// The new file that takes the place of this path; None where the file is written as it stands.
     part: Option<Part<'a, R>>,
     /// What the bytes go into. A file that is written as it stands is opened at its first byte.
-    pub file: Option<R::File>,
+    pub(crate) file: Option<R::File>,
     /// The bytes that are to go into a new file with those that follow; None where a file is written as it stands.
-    pub held: Option<Held>,
+    pub(crate) held: Option<Held>,
 }
 
 /// Whether the file is there and in use.
@@ -42,7 +42,7 @@ fn is_in_use(found: &Option<Found>, used: &[Identity]) -> bool
 }
 
 /// Begins a file. It fails where it is in use, or can't be made.
-pub fn begun<'a, R: Files + AllocGlobal>(
+pub(crate) fn begun<'a, R: Files + AllocGlobal>(
     rt: &'a R,
     name: &str,
     target: Target,
@@ -90,7 +90,7 @@ impl<R: Files> Making<'_, R> {
     }
 
     /// Takes the front of a piece: it goes into a file that is written as it stands, and waits where a new one is made.
-    pub fn write(
+    pub(crate) fn write(
         &mut self,
         faults: &mut u64,
         why: &mut Option<io::Error>,
@@ -118,7 +118,7 @@ impl<R: Files> Making<'_, R> {
     }
 
     /// Puts the file in its place, with all its bytes stored, and notes that it is used.
-    pub fn finish(mut self, used: &mut Vec<Identity>) -> io::Result<()>
+    pub(crate) fn finish(mut self, used: &mut Vec<Identity>) -> io::Result<()>
         ensures { IfOk result (λ _. NotesOne used.old.items used.new.items) }
     {
         self.open()?;

@@ -7,14 +7,14 @@ use std::os::unix::fs::MetadataExt;
 
 /// A file of the system, whatever its names are: its device and its number there.
 #[derive(Clone, Copy, Debug, PartialEq, Eq)]
-pub struct Identity {
+pub(crate) struct Identity {
     device: u64,
     number: u64,
 }
 
 impl Identity {
     /// The file that this tells of.
-    pub fn of(metadata: &Metadata) -> Identity {
+    pub(crate) fn of(metadata: &Metadata) -> Identity {
         Identity {
             device: metadata.dev(),
             number: metadata.ino(),
@@ -23,12 +23,12 @@ impl Identity {
 }
 
 /// Which file this is. It fails where the system doesn't tell.
-pub fn identity_of<F: OpenFile>(file: &F) -> io::Result<Identity> {
+pub(crate) fn identity_of<F: OpenFile>(file: &F) -> io::Result<Identity> {
     Ok(Identity::of(&file.metadata()?))
 }
 
 /// Adds a file to the files. Nothing is added where it can't be kept.
-pub fn note(file: Identity, files: &mut Vec<Identity>) -> io::Result<()>
+pub(crate) fn note(file: Identity, files: &mut Vec<Identity>) -> io::Result<()>
     ensures added { OnOk result (files.new.items ≡ files.old.items ++ file ∷ []) }
     ensures none { OnErr result (files.new.items ≡ files.old.items) }
 {
@@ -39,7 +39,7 @@ pub fn note(file: Identity, files: &mut Vec<Identity>) -> io::Result<()>
 }
 
 /// Whether the file is one of the files.
-pub fn is_among(file: Identity, files: &[Identity]) -> bool
+pub(crate) fn is_among(file: Identity, files: &[Identity]) -> bool
     ensures { IsTrue result ↔ Contains files.now file }
 {
     files.contains(&file)

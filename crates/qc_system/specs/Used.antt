@@ -1,6 +1,6 @@
 -- inner: the files that are in use.
 use Rattle.std.specs.Prelude.{◌≡◌, ◌++◌, ◌∷◌, [], List}
-use Rattle.qc_cli.specs.declared.same.Identity.{Identity}
+use Rattle.qc_system.specs.declared.same.Identity.{Identity}
 
 -- one more file is in use
 pub record NotesOne (before after : List Identity) : Type 0 where

@@ -2,7 +2,7 @@
 ghost use Rattle.std.specs.Prelude.{◌≡◌, ◌↔◌, ◌<◌, ◌≤◌, ◌+◌, [], IsTrue, Ok, length, take, vec_len, vec_capacity, OnOk, OnErr, IfOk};
 ghost use Rattle.std.specs.Io.KnownBytes.{append_known};
 ghost use Rattle.qc_io.specs.Writes.{Counts, Writes};
-ghost use Rattle.qc_cli.specs.Lines.{EndsLine};
+ghost use Rattle.qc_system.specs.Lines.{EndsLine};
 
 use qc_io::{Failed, Sink, WriteFault, put_all};
 use std::alloc::{AllocError, Global};

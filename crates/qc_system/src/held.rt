@@ -13,7 +13,7 @@ const ROOM: usize = 65536;
 
 /// Bytes that are held back.
 #[derive(Drop)]
-pub struct Held {
+pub(crate) struct Held {
     bytes: Vec<u8>,
     ghost room: { 65536 ≤ vec_capacity bytes },
     ghost fits: { vec_len bytes ≤ 65536 },
@@ -38,7 +38,7 @@ fn send<W: Write>(
 
 impl Held {
     /// None are held.
-    pub fn new(alloc: Global) -> Result<Held, AllocError>
+    pub(crate) fn new(alloc: Global) -> Result<Held, AllocError>
         ensures { IfOk result (λ held. held.bytes.items ≡ []) }
     {
         let bytes = Vec::with_capacity(alloc, ROOM)?;
@@ -46,7 +46,7 @@ impl Held {
     }
 
     /// Writes what is held. Nothing is held then, also after a fault.
-    pub fn flush<W: Write>(
+    pub(crate) fn flush<W: Write>(
         &mut self,
         to: &mut W,
         faults: &mut u64,
@@ -62,7 +62,7 @@ impl Held {
     }
 
     /// Writes what is held, at the end.
-    pub fn end<W: Write>(mut self, to: &mut W) -> io::Result<()>
+    pub(crate) fn end<W: Write>(mut self, to: &mut W) -> io::Result<()>
         ensures { OnOk result (Appends (W.contents to.old) (W.contents to.new) self.bytes.items) }
     {
         let (mut faults, mut why) = (0, None);
@@ -74,7 +74,7 @@ impl Held {
 
     /// Takes the front of a piece, as much as can be held, and answers how many bytes that were. What is held goes
     /// out first where there is no room beside it.
-    pub fn take<W: Write>(
+    pub(crate) fn take<W: Write>(
         &mut self,
         to: &mut W,
         faults: &mut u64,

@@ -1,14 +1,14 @@
 //! One call of a writer or a reader of the system.
 ghost use Rattle.std.specs.Prelude.{◌≡◌, length};
 ghost use Rattle.qc_io.specs.Writes.{Counts};
-ghost use Rattle.qc_cli.specs.Once.{ReadsOnce, WritesOnce};
+ghost use Rattle.qc_system.specs.Once.{ReadsOnce, WritesOnce};
 
 use qc_io::{Failed, fault};
 use std::io::{self, Read, Write};
 
 /// Writes once. An empty piece makes no call. An error is a fault, and so is a write that takes nothing. What the
 /// system said is left in `why`.
-pub fn write_once<W: Write>(
+pub(crate) fn write_once<W: Write>(
     to: &mut W,
     faults: &mut u64,
     why: &mut Option<io::Error>,
@@ -30,7 +30,7 @@ pub fn write_once<W: Write>(
 }
 
 /// Reads once. An error is a fault. What the system said is left in `why`.
-pub fn read_once<R: Read>(
+pub(crate) fn read_once<R: Read>(
     from: &mut R,
     faults: &mut u64,
     why: &mut Option<io::Error>,
