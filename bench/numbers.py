@@ -409,12 +409,14 @@ def machine():
 
 def commit(program):
     """The commit of the checkout in which the program was built, and what differs from it."""
-    top = pathlib.Path(program).resolve().parents[3]
+    above = pathlib.Path(program).resolve().parents
+    top = above[min(3, len(above) - 1)]
     git = lambda *words: subprocess.run(["git", "-C", top, *words], capture_output=True, text=True, check=False).stdout
     name = git("log", "-1", "--format=%h", "--abbrev=8", "--", "crates", "crates.txt").strip() or "unknown"
     version = ", ".join(Run(program, "--version").lines)
     changed = bool(git("status", "--porcelain", "crates", "crates.txt"))
-    is_built = subprocess.run([top / "package/is-built"], check=False).returncode == 0
+    test = top / "package/is-built"
+    is_built = test.exists() and subprocess.run([test], check=False).returncode == 0
     return f"{version}, sources of {name}" + (" with changes" if changed else "" if is_built else ", built before them")
 
 
