@@ -167,7 +167,7 @@ def measure_side(words):
         compiler = next(filter(None, map(shutil.which, ("g++", "clang++", "c++"))))
         subprocess.run([compiler, "-O2", "-std=c++20", "-o", side, ROOT / "bench/side.cpp"], check=True)
         for kind, numbers in BESIDE[:2] if words.few else BESIDE:
-            yield beside(words.program, side, kind, numbers, 1 if words.few else 5)
+            yield beside(words.program, side, kind, numbers, (1, 1) if words.few else (7, 40))
 
 
 def beside(program, side, kind, numbers, runs):
@@ -178,7 +178,9 @@ def beside(program, side, kind, numbers, runs):
         (folder / "numbers").write_bytes(subprocess.run(dump, capture_output=True, check=True).stdout)
         calls = {"first": ("plan", *names, "--nodes", "0"), "plan": ("plan", *names), "free": ("free", *names)}
         took, told, plain = {name: [] for name in calls}, {}, {"plan": [], "free": []}
-        for _ in range(runs):
+        fewest, most = runs
+        ends = time.monotonic() + 4  # short runs are taken more often, since theirs are of a few milliseconds
+        while len(took["first"]) < fewest or len(took["first"]) < most and time.monotonic() < ends:
             for name, words in calls.items():
                 run = Run(program, *words)
                 told[name] = [run.lines[0]] + [run.told[word] for word in ("end", "bound", "branched", "given")]
