@@ -7,56 +7,13 @@ use Rattle.qc_dispatch.specs.declared.follow.Followed.{Followed}
 use Rattle.qc_dispatch.specs.declared.follower.Follower.{Follower}
 use Rattle.qc_dispatch.specs.Pieces.{IsEndedBy, IsReady, Stands, so_far}
 use Rattle.qc_io.specs.declared.reading.ReadAll.{ReadAll}
-use Rattle.qc_io.specs.declared.reading.ReadAll.TheVariants.{ReadFault}
-use Rattle.qc_io.specs.Outside.{View, Rose, Files, IsFile, IsMissing, file_at}
-use Rattle.qc_io.specs.Reads.{Reads, ReadsOn}
+use Rattle.qc_io.specs.Outside.{Files, IsFile, IsMissing, file_at}
 use Rattle.qc_io.proofs.Pieces.{prepend_known-append}
 use Rattle.qc_model.specs.declared.schedule.Slot.{Slot}
 use Rattle.qc_model.specs.Instance.{InstanceView}
 use Rattle.qc_run.specs.Due.{file_limit}
 use Rattle.qc_dispatch_command.specs.declared.pieces.Step.{Step}
 use Rattle.qc_dispatch_command.specs.Pieces.{IsAllTold, IsLogTold, IsOutcome, IsStep}
-
--- ---- calls that read, one after the other
-
-never_failed : {A : Type 0} (a : A) → ◌≡◌ {A = Result A ReadAll} (Ok a) (Err ReadFault) → ⊥
-never_failed a e = cc
-
-reads_then : {P Q : Type 0} (before mid after : View) → Reads before mid P → P → Reads mid after Q → Reads before after Q
-reads_then before mid after first through second = record {
-  written = second.written ∙ first.written;
-  faults = second.faults ∙ first.faults;
-  files = second.files ∙ first.files;
-  made = second.made ∙ first.made;
-  never_falls = omega (arith, first.never_falls, second.never_falls);
-  unfailed = λ q. second.unfailed q ∙ first.unfailed through;
-}
-
-pub reads_on : {A B : Type 0} (x : A) (before mid after : View) (result : Result B ReadAll)
-    → ReadsOn {A = A} {E = ReadAll} before mid ReadFault (Ok x) → ReadsOn mid after ReadFault result → ReadsOn before after ReadFault result
-reads_on x before mid after result first second =
-    let same = first.reads.unfailed (never_failed x) in
-    record {
-      reads = reads_then before mid after first.reads (never_failed x) second.reads;
-      reading = second.reading;
-      rose = λ e. subst (λ (n : ℕ). Rose n after.read_faults) same (second.rose e);
-    }
-
--- whatever a call that came through answers
-pub reads_through : {A B : Type 0} (a : A) (b : B) (before after : View) → ReadsOn {A = A} {E = ReadAll} before after ReadFault (Ok a)
-    → ReadsOn {A = B} {E = ReadAll} before after ReadFault (Ok b)
-reads_through a b before after r = record {
-  reads = record {
-    written = r.reads.written;
-    faults = r.reads.faults;
-    files = r.reads.files;
-    made = r.reads.made;
-    never_falls = r.reads.never_falls;
-    unfailed = λ _. r.reads.unfailed (never_failed a);
-  };
-  reading = r.reading;
-  rose = λ e. absurd (never_failed b e);
-}
 
 -- ---- pieces
 

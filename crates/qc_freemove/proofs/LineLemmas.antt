@@ -9,24 +9,13 @@ use Rattle.std.specs.List.{flat_map, zip}
 use Rattle.qc_io.specs.declared.writing.WriteFault.{WriteFault}
 use Rattle.qc_io.specs.Outside.{View}
 use Rattle.qc_io.specs.Writes.{Writes}
-use Rattle.qc_io.proofs.WritesLemmas.{writes_then}
+use Rattle.qc_io.proofs.WritesLemmas.{writes_then, zip-push}
 use Rattle.qc_model.specs.declared.crane.Crane.{Crane}
 use Rattle.qc_model.specs.declared.schedule.Slot.{Slot}
 use Rattle.qc_model.specs.Instance.{InstanceView, crane, no_crane}
 use Rattle.qc_freemove.specs.declared.track.HalfPoint.{HalfPoint}
 use Rattle.qc_freemove.specs.HalfPoints.{AreHalfPoints}
 use Rattle.qc_freemove.specs.FreeTracksText.{AreFreeTracks, WritesFreeTracks, free_line, free_lines}
-
--- one more of the second list beside the first
-zip-push : {X Y : Type 0} (xs : List X) (ys : List Y) (d : X) (y : Y) → length ys < length xs
-    → zip xs (ys ++ y ∷ []) ≡ zip xs ys ++ (get_or xs (length ys) d, y) ∷ []
-zip-push [] ys d y low = absurd (omega arith)
-zip-push {X} {Y} (x ∷ xs) [] d y low = zip-one xs
-  where
-    zip-one : (xs : List X) → ◌≡◌ {A = List (X × Y)} ((x, y) ∷ zip xs []) ((x, y) ∷ [])
-    zip-one [] = refl
-    zip-one (x ∷ xs) = refl
-zip-push {X} {Y} (x ∷ xs) (z ∷ ys) d y low = ap (λ (l : List (X × Y)). (x, z) ∷ l) (zip-push xs ys d y (omega arith))
 
 lines_push : (cranes : List Crane) (tracks : List (List HalfPoint)) (points : List HalfPoint)
     → length tracks < length cranes

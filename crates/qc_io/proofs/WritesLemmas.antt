@@ -1,7 +1,7 @@
 -- Texts written one behind another.
-use Rattle.std.proofs.Common.{◌≡◌, ℕ, ◌+◌, ◌<◌, ◌++◌, List, [], length, take, drop, get_or, Result, Ok, Err, sym, ap, ◌∙◌, subst, arith, IsErr}
+use Rattle.std.proofs.Common.{◌≡◌, ℕ, ◌+◌, ◌<◌, ◌++◌, List, [], length, take, drop, get_or, Result, Ok, Err, sym, ap, ◌∙◌, subst, arith, IsErr, ◌∷◌, refl}
 use Rattle.std.specs.Prelude.{⊤}
-use Rattle.std.specs.List.{flat_map}
+use Rattle.std.specs.List.{flat_map, zip}
 use Rattle.std.proofs.lemmas.List.{take-append-drop, take_more, drop_more, flat_map_more}
 use Rattle.std.proofs.lemmas.List.Concat.{flat_map-append}
 use Rattle.qc_io.specs.declared.writing.WriteFault.{WriteFault}
@@ -78,3 +78,14 @@ module _ {X : Type 0} (text : X → List ℕ) (items : List X) (i : ℕ) (item :
       subst (λ t. Writes before after t result) (sym parts)
       (writes_then before now after (flat_map text (take i items)) _ result so_far
       (writes_cut now after piece _ fault result err cut))
+
+-- one more of the second list beside the first
+pub zip-push : {X Y : Type 0} (xs : List X) (ys : List Y) (d : X) (y : Y) → length ys < length xs
+    → zip xs (ys ++ y ∷ []) ≡ zip xs ys ++ (get_or xs (length ys) d, y) ∷ []
+zip-push [] ys d y low = absurd (omega arith)
+zip-push {X} {Y} (x ∷ xs) [] d y low = zip-one xs
+  where
+    zip-one : (xs : List X) → ◌≡◌ {A = List (X × Y)} ((x, y) ∷ zip xs []) ((x, y) ∷ [])
+    zip-one [] = refl
+    zip-one (x ∷ xs) = refl
+zip-push {X} {Y} (x ∷ xs) (z ∷ ys) d y low = ap (λ (l : List (X × Y)). (x, z) ∷ l) (zip-push xs ys d y (omega arith))

@@ -12,6 +12,11 @@ use crate::sink::{Failed, Sink};
 /// and `finish` puts it in the place of the one of its name. Before the first `create`, and after `finish`,
 /// a write goes nowhere.
 pub trait Shelf: Sink {
+    /// Is told what is known before a search. It changes nothing that contracts see.
+    fn tell(&mut self, _outlook: Outlook)
+        ensures { Self.view self.new ≡ Self.view self.old }
+    {}
+
     /// Opens the file for reading, from its first byte. After `Failed` no file is open.
     fn open(&mut self, name: &str) -> Result<(), Failed>
         ensures ok_reading { OnOk result ((Self.view self.new).reading ≡ true) }
@@ -63,11 +68,6 @@ pub trait Shelf: Sink {
         ensures rest_stays { (Self.view self.new).rest ≡ (Self.view self.old).rest }
         ensures reading_stays { (Self.view self.new).reading ≡ (Self.view self.old).reading }
         ensures read_faults_stay { (Self.view self.new).read_faults ≡ (Self.view self.old).read_faults };
-
-    /// Is told what is known before a search. It changes nothing that contracts see.
-    fn tell(&mut self, _outlook: Outlook)
-        ensures { Self.view self.new ≡ Self.view self.old }
-    {}
 
     // What is left of the file being read is told where the files are.
     ghost rest_told: { (shelf : Self) → is_some (Self.view shelf).rest ≡ is_some (Self.view shelf).files };

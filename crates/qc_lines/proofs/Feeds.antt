@@ -10,21 +10,8 @@ use Rattle.std.proofs.lemmas.Slice.{take-put_mid}
 use borrow.Rule.Slice.PartMut.{put_mid}
 use Rattle.std.specs.Io.KnownBytes.{prepend_known}
 use Rattle.std.specs.List.{position_or_len}
-use Rattle.qc_io.specs.Outside.{View}
-use Rattle.qc_io.specs.Reads.{Reads}
 use Rattle.qc_io.proofs.Pieces.{prepend_known-append}
 use Rattle.qc_lines.specs.Left.{HoldsLine, HoldsPiece, IsCut, IsTooLong, NoFeed, Takes, TakesPiece}
-
--- where a call came through, no read failed, whatever else it answers
-pub reads_through : {P Q : Type 0} (before after : View) → Reads before after P → P → Reads before after Q
-reads_through before after r p = record {
-  written = r.written;
-  faults = r.faults;
-  files = r.files;
-  made = r.made;
-  never_falls = r.never_falls;
-  unfailed = λ _. r.unfailed p;
-}
 
 abbrev is_feed : ℕ → Bool
 is_feed b = b == 10

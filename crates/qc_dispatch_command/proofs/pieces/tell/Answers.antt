@@ -1,6 +1,8 @@
 use Rattle.std.proofs.Common.{arith}
 use Rattle.std.specs.Io.KnownBytes.{prepend_known}
-use Rattle.qc_dispatch_command.proofs.PieceLemmas.{closes, piece_more, reads_on, reads_through, told_large}
+use Rattle.qc_io.specs.declared.reading.ReadAll.TheVariants.{ReadFault}
+use Rattle.qc_io.proofs.ReadsLemmas.{reads_on, reads_through}
+use Rattle.qc_dispatch_command.proofs.PieceLemmas.{closes, piece_more, told_large}
 use Rattle.qc_dispatch_command.proofs.pieces.tell.Goals as goal
 
 pub returns-then-step-clause-told : goal.returns-then-step-clause-told
@@ -20,9 +22,9 @@ loop-count-preserved g c = record {
       c.tell_next.new.follower (prepend_known c.tell_next.new.reader (g.S.Sink.view c.tell_next.new.shelf).rest) c.in_ok-step.ensures.step
       c.if-step.false);
   reads =
-      reads_on tt (g.S.Sink.view c.args.shelf.now) (g.S.Sink.view c.loop-count.shelf) (g.S.Sink.view c.tell_next.new.shelf) _
+      reads_on ReadFault tt (g.S.Sink.view c.args.shelf.now) (g.S.Sink.view c.loop-count.shelf) (g.S.Sink.view c.tell_next.new.shelf) _
       c.loop-count.invariant.reads
-      (reads_through c.in_ok-step.step tt (g.S.Sink.view c.loop-count.shelf) (g.S.Sink.view c.tell_next.new.shelf) c.in_ok-step.ensures.reads);
+      (reads_through ReadFault c.in_ok-step.step tt (g.S.Sink.view c.loop-count.shelf) (g.S.Sink.view c.tell_next.new.shelf) c.in_ok-step.ensures.reads);
 }
 
 pub returns-clause-large : goal.returns-clause-large

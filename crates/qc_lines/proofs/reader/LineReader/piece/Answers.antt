@@ -2,7 +2,8 @@ use Rattle.std.proofs.Common.{◌≡◌, ◌+◌, ◌≤◌, ◌-◌, take, drop
 use Rattle.std.proofs.lemmas.List.{length-take}
 use Rattle.std.specs.Io.KnownBytes.{prepend_known}
 use Rattle.qc_lines.specs.Left.{TakesPiece}
-use Rattle.qc_lines.proofs.Feeds.{reads_through, takes_piece, window_after, window_front}
+use Rattle.qc_io.proofs.ReadsLemmas.{reads_when}
+use Rattle.qc_lines.proofs.Feeds.{takes_piece, window_after, window_front}
 use Rattle.qc_lines.proofs.reader.LineReader.piece.Goals as goal
 
 pub returns : goal.returns
@@ -31,6 +32,6 @@ returns g c =
         left = tt;
         rose = tt;
         reading_stays = found.reading_stays;
-        reads = reads_through (g.S.Sink.view c.args.shelf.now) (g.S.Sink.view c.find_piece.new.shelf) found.reads refl;
+        reads = reads_when (g.S.Sink.view c.args.shelf.now) (g.S.Sink.view c.find_piece.new.shelf) found.reads (λ _. refl);
       },
     )
