@@ -1,10 +1,8 @@
 -- Packed tasks: from when the first of them can start, and the leaf that they are.
-use Rattle.std.proofs.Common.{◌≡◌, ℕ, ◌+◌, ◌<◌, min, List, [], ◌∷◌, ◌++◌, length, map, take, get_or, Option, None, Some, IsSome, option_map, option_and_then, slice_index, refl, ap, ap₂, sym, subst, ◌∙◌, arith}
+use Rattle.std.proofs.Common.{◌≡◌, ℕ, ◌+◌, List, map, Option, None, Some, IsSome, option_map, option_and_then, slice_index, refl, ap, ap₂, sym, subst, ◌∙◌}
 use Rattle.std.specs.Option.{option_map_or}
-use Rattle.std.proofs.lemmas.List.{map-append, take_more}
 use Rattle.qc_num.specs.declared.bound.Bound.TheVariants.{Least}
 use Rattle.qc_close.specs.Crews.{CrewView, IsCrewOf}
-use Rattle.qc_dist.proofs.Ranges.{least_option}
 use Rattle.qc_model.specs.declared.decision.Decision.{Decision}
 use Rattle.qc_model.specs.declared.turn.Turn.TheVariants.{OneWay, Free}
 use Rattle.qc_model.specs.Assignments.{cranes_of}
@@ -18,28 +16,6 @@ use Rattle.qc_model.proofs.LeastStarts.{early_one_way, early_some, found_of}
 use Rattle.qc_starts.specs.Seen.{IsNodeStart}
 use Rattle.qc_bounds.specs.Closed.{IsClashLeaf}
 use Rattle.qc_bounds.specs.Packed.{IsPackedShown, early_at}
-
-least-append : (y : ℕ) (ys : List ℕ) (x : ℕ) → least ((y ∷ ys) ++ x ∷ []) ≡ min (least (y ∷ ys)) x
-least-append y [] x = refl
-least-append y (z ∷ zs) x = omega (arith, least-append z zs x)
-
-least_option-append : (xs : List ℕ) (x : ℕ)
-    → least_option (xs ++ x ∷ []) ≡ Some (option_map_or (λ n. min n x) (least_option xs) x)
-least_option-append [] x = refl
-least_option-append (y ∷ ys) x = ap Some (least-append y ys x)
-
--- the least of some numbers, with one more
-pub least_more : (f : ℕ → ℕ) (tasks : List ℕ) (i : ℕ) (o : Option ℕ) (r : ℕ) → i < length tasks
-    → o ≡ least_option (map f (take i tasks))
-    → r ≡ option_map_or (λ m. min m (f (get_or tasks i 0))) o (f (get_or tasks i 0))
-    → Some r ≡ least_option (map f (take (i + 1) tasks))
-least_more f tasks i o r low e is =
-    let x = get_or tasks i 0 in
-    let xs = take i tasks in
-    ap Some (is ∙ ap (λ q. option_map_or (λ m. min m (f x)) q (f x)) e)
-    ∙ sym (least_option-append (map f xs) (f x))
-    ∙ ap least_option (sym (map-append f xs (x ∷ [])))
-    ∙ ap (λ ys. least_option (map f ys)) (sym (take_more tasks i 0 low))
 
 -- ---- from when tasks can start
 

@@ -1,7 +1,7 @@
 -- Where neighbours bar its way, a crane has still had the time, when a schedule ends, for what its frame says.
-use Rattle.std.proofs.Common.{◌≡◌, ℕ, ◌+◌, ◌*◌, ◌<◌, ◌≤◌, max, ◌⊎◌, inl, inr, Bool, true, false, ◌&&◌, ◌||◌, eqb, cond, List, [], ◌∷◌, length, map, Option, None, Some, is_none, is_some, ℤ, pos, ◌+ℤ◌, ◌-ℤ◌, ◌≤ℤ◌, ◌<ℤ◌, refl, ap, sym, subst, ◌∙◌, arith, filter, int_le, int_lt, mul-zero, pos_of_ne-zero, sum_by}
+use Rattle.std.proofs.Common.{◌≡◌, ℕ, ◌+◌, ◌*◌, ◌<◌, ◌≤◌, max, ◌⊎◌, inl, inr, Bool, true, false, ◌&&◌, ◌||◌, eqb, cond, List, [], ◌∷◌, length, map, Option, None, Some, is_none, is_some, ℤ, pos, ◌+ℤ◌, ◌-ℤ◌, ◌≤ℤ◌, ◌<ℤ◌, refl, ap, sym, subst, ◌∙◌, arith, filter, int_le, int_lt, pos_of_ne-zero, sum_by}
 use Rattle.std.proofs.Math.Nat.{mul-add, mul-le-mul_left}
-use Rattle.std.proofs.lemmas.Bool.{and_from, and_parts, cases_lt, cond_both, eqb-false, eqb-true, false≢true, le-ltb, ne_eqb, or_cases, or_left, or_right}
+use Rattle.std.proofs.lemmas.Bool.{and_from, and_parts, cases_lt, cond_both, eqb-false, eqb-true, false≢true, ne_eqb, or_cases, or_left, or_right}
 use Rattle.std.proofs.lemmas.Int.{by_lt_z, int_max_is, int_min_is, ints}
 use Rattle.std.proofs.lemmas.List.Sums.{sum_by-cons}
 use Rattle.std.proofs.lemmas.Nat.{mul-le}
@@ -20,11 +20,11 @@ use Rattle.qc_model.specs.Instance.{InstanceView, Valid, bay_of, crane, ticks_of
 use Rattle.qc_model.specs.Nodes.{berth_wait, free, greatest, least}
 use Rattle.qc_model.specs.OneWay.{GoesUp}
 use Rattle.qc_model.specs.Rules.{Feasible, crane_of, ends, start_of}
-use Rattle.qc_model.specs.Ticks.{berth_distance, distance, task_distance}
+use Rattle.qc_model.specs.Ticks.{berth_distance, task_distance}
 use Rattle.qc_model.specs.Work.{highest, lowest, task_numbers, ticks_over}
 use Rattle.qc_model.proofs.Bays.{bays}
 use Rattle.qc_model.proofs.Extremes.{greatest_le}
-use Rattle.qc_model.proofs.NodeLemmas.{true_T}
+use Rattle.qc_model.proofs.NodeLemmas.{one_crane_apart, true_T}
 use Rattle.qc_close.proofs.CountLemmas.{sum_filter, sums_within}
 use Rattle.qc_close.proofs.FrameLemmas.{HasTime, arrives, at_bay, beside, beyond, does_open, feasible_by, has_time, highest_to, lowest_from, parts}
 use Rattle.qc_close.proofs.LoopLemmas.{least_steps}
@@ -105,12 +105,6 @@ module _ (inst : InstanceView) (turn : Turn) (w : ℕ) where
       (lowest_from inst (lowest inst o os) i is (λ k a. lowest_at inst o os k (within k a)))
 
 -- ---- starts of a feasible schedule
-
-one_crane_apart : (inst : InstanceView) (v w : ℕ) (x y : ℤ) → v ≡ w → distance inst v x w y ≡ 0
-one_crane_apart inst v w x y e =
-    let p : w ≤ v = omega arith in
-    let q : v ≤ w = omega arith in
-    rw (le-ltb v w p, le-ltb w v q) (mul-zero inst.travel)
 
 -- a task starts no earlier than its crane can be there
 free_start : (inst : InstanceView) (sched : List Slot) → Feasible inst sched → (j : ℕ) → j < length inst.tasks

@@ -1,5 +1,5 @@
 -- The greatest and the least of numbers, one more at a time.
-use Rattle.std.proofs.Common.{◌≡◌, ℕ, ◌+◌, ◌<◌, ◌||◌, max, min, Bool, true, false, cond, List, [], ◌∷◌, ◌++◌, map, refl, sym, ap, ◌∙◌, arith, Option, None, Some}
+use Rattle.std.proofs.Common.{◌≡◌, ℕ, ◌+◌, ◌<◌, ◌||◌, max, min, Bool, true, false, cond, List, [], ◌∷◌, ◌++◌, map, refl, sym, ap, ◌∙◌, arith, Option, Some}
 use Rattle.std.specs.Option.{option_map_or}
 use Rattle.std.specs.List.{filter, list_any, range_with_len, sum_by}
 use Rattle.std.proofs.lemmas.List.{append-nil, map-append, map-id}
@@ -7,7 +7,8 @@ use Rattle.std.proofs.lemmas.List.Elements.{filter-append}
 use Rattle.std.proofs.lemmas.List.Folds.{list_any-append, list_any-from_Any}
 use Rattle.std.proofs.lemmas.List.FromFn.{get_or-range_with_len, length-range_with_len, map-range_with_len_more}
 use Rattle.std.proofs.lemmas.List.Sums.{sum_by_push}
-use Rattle.qc_model.specs.Nodes.{greatest, least}
+use Rattle.qc_model.specs.Nodes.{greatest}
+use Rattle.qc_model.proofs.Extremes.{least_option, least_option-append}
 
 greatest-append : (xs : List ℕ) (x : ℕ) → greatest (xs ++ x ∷ []) ≡ max (greatest xs) x
 greatest-append [] x = omega arith
@@ -17,20 +18,6 @@ pub greatest_more : (f : ℕ → ℕ) (n : ℕ)
     → greatest (map f (range_with_len 0 (n + 1))) ≡ max (greatest (map f (range_with_len 0 n))) (f n)
 greatest_more f n =
     ap greatest (map-range_with_len_more f 0 n n (omega arith)) ∙ greatest-append (map f (range_with_len 0 n)) (f n)
-
--- the least of these numbers, if there is one
-abbrev pub least_option : List ℕ → Option ℕ
-least_option [] = None
-least_option (n ∷ ns) = Some (least (n ∷ ns))
-
-least-append : (y : ℕ) (ys : List ℕ) (x : ℕ) → least ((y ∷ ys) ++ x ∷ []) ≡ min (least (y ∷ ys)) x
-least-append y [] x = refl
-least-append y (z ∷ zs) x = omega (arith, least-append z zs x)
-
-least_option-append : (xs : List ℕ) (x : ℕ)
-    → least_option (xs ++ x ∷ []) ≡ Some (option_map_or (λ n. min n x) (least_option xs) x)
-least_option-append [] x = refl
-least_option-append (y ∷ ys) x = ap Some (least-append y ys x)
 
 pub range_more : (n : ℕ) → range_with_len 0 (n + 1) ≡ range_with_len 0 n ++ n ∷ []
 range_more n =

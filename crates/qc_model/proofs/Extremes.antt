@@ -1,6 +1,8 @@
 -- The greatest and the least of numbers that a function gives.
-use Rattle.std.proofs.Common.{◌≡◌, ℕ, zero, suc, ◌+◌, ◌<◌, ◌≤◌, Bool, true, inl, inr, List, [], ◌∷◌, length, map, ap, sym, ◌∙◌, arith, filter}
+use Rattle.std.proofs.Common.{◌≡◌, ℕ, zero, suc, ◌+◌, ◌<◌, ◌≤◌, min, Bool, true, inl, inr, List, [], ◌∷◌, ◌++◌, length, map, take, get_or, Option, None, Some, refl, ap, sym, ◌∙◌, arith, filter}
+use Rattle.std.specs.Option.{option_map_or}
 use Rattle.std.proofs.lemmas.Bool.{cond_both, cases_lt, false≢true}
+use Rattle.std.proofs.lemmas.List.{map-append, take_more}
 use Rattle.std.specs.List.{range_with_len}
 use Rattle.qc_model.specs.Nodes.{greatest, least}
 
@@ -56,3 +58,29 @@ module _ (f : ℕ → ℕ) (p : ℕ → Bool) where
   pub least_le : (k a n : ℕ) → a ≤ k → k < a + n → p k ≡ true
       → least (map f (filter p (range_with_len a n))) ≤ f k
   least_le k a n low high t = (reached k a n low high t).1
+
+-- ---- the least of some numbers, one more at a time
+
+-- the least of these numbers, if there is one
+abbrev pub least_option : List ℕ → Option ℕ
+least_option [] = None
+least_option (n ∷ ns) = Some (least (n ∷ ns))
+
+least-append : (y : ℕ) (ys : List ℕ) (x : ℕ) → least ((y ∷ ys) ++ x ∷ []) ≡ min (least (y ∷ ys)) x
+least-append y [] x = refl
+least-append y (z ∷ zs) x = omega (arith, least-append z zs x)
+
+pub least_option-append : (xs : List ℕ) (x : ℕ)
+    → least_option (xs ++ x ∷ []) ≡ Some (option_map_or (λ n. min n x) (least_option xs) x)
+least_option-append [] x = refl
+least_option-append (y ∷ ys) x = ap Some (least-append y ys x)
+
+pub least_more : (f : ℕ → ℕ) (js : List ℕ) (i : ℕ) (o : Option ℕ) (r : ℕ) → i < length js
+    → o ≡ least_option (map f (take i js)) → r ≡ option_map_or (λ n. min n (f (get_or js i 0))) o (f (get_or js i 0))
+    → Some r ≡ least_option (map f (take (i + 1) js))
+least_more f js i o r low e is =
+    let x = f (get_or js i 0) in
+    ap Some (is ∙ ap (λ q. option_map_or (λ n. min n x) q x) e)
+    ∙ sym (least_option-append (map f (take i js)) x)
+    ∙ ap least_option (sym (map-append f (take i js) (get_or js i 0 ∷ [])))
+    ∙ ap (λ ks. least_option (map f ks)) (sym (take_more js i 0 low))

@@ -161,7 +161,7 @@ within_reach : (inst : InstanceView) (sched : List Slot) (j : ℕ) → KeepsReac
     → reaches inst j (crane_of sched j) ≡ true
 within_reach inst sched j r = and_from _ _ (T_true r.0.le) (T_true r.1.le)
 
-one_crane_apart : (inst : InstanceView) (v w : ℕ) (x y : ℤ) → v ≡ w → distance inst v x w y ≡ 0
+pub one_crane_apart : (inst : InstanceView) (v w : ℕ) (x y : ℤ) → v ≡ w → distance inst v x w y ≡ 0
 one_crane_apart inst v w x y e =
     let p : w ≤ v = omega arith in
     let q : v ≤ w = omega arith in

@@ -14,7 +14,7 @@ use Rattle.qc_starts.specs.Seen.{IsNodeStart, IsReached}
 use Rattle.qc_replay.specs.declared.earliest.EarlyStarts.{EarlyStarts}
 use Rattle.qc_replay.specs.Crewed.{WereOpen}
 use Rattle.qc_replay.specs.Earliest.{AreEarly, HaveNone, IsEnded, IsFirstStart, start_in}
-use Rattle.qc_replay.proofs.LeafFacts.{least_option}
+use Rattle.qc_model.proofs.Extremes.{least_option}
 
 -- decisions that were open fit
 pub fits_of : (inst : InstanceView) (ds : List Decision) → WereOpen inst ds → Fits inst ds

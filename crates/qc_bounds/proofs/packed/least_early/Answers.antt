@@ -1,7 +1,7 @@
 use Rattle.std.proofs.Common.{ℕ, ◌<◌, length, min, ap, ◌∙◌, arith}
 use Rattle.std.specs.Option.{option_map_or}
 use Rattle.qc_bounds.specs.Packed.{early_at}
-use Rattle.qc_bounds.proofs.PackedLemmas.{least_more}
+use Rattle.qc_model.proofs.Extremes.{least_more}
 use Rattle.qc_bounds.proofs.packed.least_early.Goals as goal
 
 pub loop-task-preserved : goal.loop-task-preserved

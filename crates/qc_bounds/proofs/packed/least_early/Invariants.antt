@@ -1,5 +1,5 @@
 use Rattle.std.proofs.Common.{◌≡◌, map, take, IfSome}
-use Rattle.qc_dist.proofs.Ranges.{least_option}
+use Rattle.qc_model.proofs.Extremes.{least_option}
 use Rattle.qc_bounds.specs.Packed.{IsSoon, early_at}
 use Rattle.qc_bounds.proofs.packed.least_early.Given as goal
 

@@ -3,7 +3,7 @@ use Rattle.std.specs.List.{filter, range_with_len}
 use Rattle.qc_model.specs.declared.limits.TheConstants.{MOST_DISTANCE, MOST_READY}
 use Rattle.qc_model.specs.Nodes.{reaches}
 use Rattle.qc_dist.specs.Heads.{there}
-use Rattle.qc_dist.proofs.Ranges.{least_option}
+use Rattle.qc_model.proofs.Extremes.{least_option}
 use Rattle.qc_dist.proofs.heads.least_head.Given as goal
 
 abbrev pub invariant-loop-k : goal.invariant-loop-k

@@ -1,7 +1,7 @@
 use Rattle.std.proofs.Common.{min, ap, arith, ◌∙◌}
 use Rattle.std.specs.Option.{option_map_or}
 use Rattle.qc_model.specs.Nodes.{head}
-use Rattle.qc_replay.proofs.LeafFacts.{least_more}
+use Rattle.qc_model.proofs.Extremes.{least_more}
 use Rattle.qc_replay.proofs.earliest.least_lead.Goals as goal
 
 pub loop-task-preserved : goal.loop-task-preserved

@@ -3,7 +3,7 @@ use Rattle.std.proofs.lemmas.List.{take_all}
 use Rattle.std.specs.Option.{option_map_or}
 use Rattle.qc_replay.specs.Earliest.{start_in}
 use Rattle.qc_replay.proofs.EarlyFacts.{least_of_all, node_start_is}
-use Rattle.qc_replay.proofs.LeafFacts.{least_more, least_option}
+use Rattle.qc_model.proofs.Extremes.{least_more, least_option}
 use Rattle.qc_replay.proofs.earliest.EarlyStarts.first_start.Goals as goal
 
 pub loop-task-preserved : goal.loop-task-preserved

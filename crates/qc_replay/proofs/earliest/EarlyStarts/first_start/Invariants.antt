@@ -3,7 +3,7 @@ use Rattle.qc_model.specs.Nodes.{AreLeast}
 use Rattle.qc_model.specs.Numbers.{most_start}
 use Rattle.qc_replay.specs.Earliest.{start_in}
 use Rattle.qc_replay.proofs.EarlyFacts.{HasLeast}
-use Rattle.qc_replay.proofs.LeafFacts.{least_option}
+use Rattle.qc_model.proofs.Extremes.{least_option}
 use Rattle.qc_replay.proofs.earliest.EarlyStarts.first_start.Given as goal
 
 abbrev pub invariant-loop-task : goal.invariant-loop-task
