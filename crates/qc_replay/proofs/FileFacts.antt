@@ -7,8 +7,6 @@ use Rattle.std.proofs.lemmas.List.{length-append, length-take, take-append-drop}
 use Rattle.std.proofs.lemmas.List.Elements.{All-head, All-tail}
 use Rattle.std.proofs.lemmas.List.Splits.{join_with_byte-slice_split, slice_split-cons_no, slice_split_at, slice_split_none}
 use Rattle.qc_num.specs.Reading.{◌>>=◌, require}
-use Rattle.qc_io.specs.Outside.{Rose, View}
-use Rattle.qc_io.specs.Reads.{Reads, ReadsOn}
 use Rattle.qc_model.specs.Instance.{InstanceView}
 use Rattle.qc_tree.specs.declared.line.Line.{Line}
 use Rattle.qc_lines.specs.Left.{IsCut, IsTooLong, NoFeed, Takes}
@@ -170,34 +168,7 @@ misspelt_faulty (Some bytes) text (Some rest) takes unread = λ inst n r c more 
     same_some : {a b : List ℕ} → Some a ≡ Some b → a ≡ b
     same_some e = cc
 
--- ---- a shelf that is only read
-
--- what came through is no fault
-pub never_failed : {A E : Type 0} (a : A) (fault : E) → ◌≡◌ {A = Result A E} (Ok a) (Err fault) → ⊥
-never_failed a fault e = cc
-
--- one call after another that came through
-pub reads_then : {P Q : Type 0} (before mid after : View) → Reads before mid P → P → Reads mid after Q → Reads before after Q
-reads_then before mid after first through second = record {
-  written = second.written ∙ first.written;
-  faults = second.faults ∙ first.faults;
-  files = second.files ∙ first.files;
-  made = second.made ∙ first.made;
-  never_falls = omega (arith, first.never_falls, second.never_falls);
-  unfailed = λ q. second.unfailed q ∙ first.unfailed through;
-}
-
--- one read after another; the first came through
-pub reads_on : {A B : Type 0} (x : A) (before mid after : View) (result : Result B ReplayError)
-    → ReadsOn {A = A} {E = ReplayError} before mid ReadFault (Ok x) → ReadsOn mid after ReadFault result
-    → ReadsOn before after ReadFault result
-reads_on x before mid after result first second =
-    let same = first.reads.unfailed (never_failed x ReadFault) in
-    record {
-      reads = reads_then before mid after first.reads (never_failed x ReadFault) second.reads;
-      reading = second.reading;
-      rose = λ e. subst (λ n. Rose n after.read_faults) same (second.rose e);
-    }
+-- ---- errors that are handed on
 
 -- an error that is handed on
 pub handed : {A E : Type 0} (r : Result A E) (x : E) → IsErrAnd r (λ e. e ≡ x) → r ≡ Err x
@@ -208,13 +179,3 @@ handed (Err e) x h = ap Err h
 pub error_through : {A B E : Type 0} (r : Result A E) (s : Result B E) (x fault : E) → r ≡ Err x → s ≡ Err x
     → r ≡ Err fault → s ≡ Err fault
 error_through r s x fault e h is = cc
-
-pub reads_when : {P Q : Type 0} (before after : View) → Reads before after P → (Q → P) → Reads before after Q
-reads_when before after r through = record {
-  written = r.written;
-  faults = r.faults;
-  files = r.files;
-  made = r.made;
-  never_falls = r.never_falls;
-  unfailed = λ q. r.unfailed (through q);
-}

@@ -1,11 +1,15 @@
 -- inner: the file of a tree as it is read: lines taken off the front of what is left.
-use Rattle.std.specs.Prelude.{◌≡◌, ℕ, ◌==◌, ◌<◌, List, [], ◌∷◌, ◌++◌, length, Option, IfSome, IsSomeAnd, Ok, Err}
+use Rattle.std.specs.Prelude.{◌≡◌, ℕ, ◌==◌, ◌<◌, ◌≤◌, List, [], ◌∷◌, ◌++◌, length, Option, IfSome, IsSomeAnd, Result, Ok, Err}
 use Rattle.std.specs.List.{slice_split}
+use Rattle.qc_io.specs.Outside.{IsMissing, ReadCause, View}
+use Rattle.qc_io.specs.Reads.{Reads}
 use Rattle.qc_model.specs.Instance.{InstanceView}
 use Rattle.qc_tree.specs.LineIn.{Listed}
 use Rattle.qc_tree.specs.Lines.{IsTextOf, line_text}
 use Rattle.qc_tree.specs.Trees.{whole_line}
 use Rattle.qc_tree.specs.declared.line.Line.{Line}
+use Rattle.qc_replay.specs.declared.fault.ReplayError.{ReplayError}
+use Rattle.qc_replay.specs.declared.fault.ReplayError.TheVariants as error
 use Rattle.qc_replay.specs.declared.fault.Replayed.{Replayed}
 use Rattle.qc_tree.specs.declared.fault.TreeFault.{TreeFault}
 use Rattle.qc_tree.specs.declared.fault.TreeKind.{TreeKind}
@@ -38,6 +42,15 @@ pub record IsReadThrough (inst : InstanceView) (left : Option (List ℕ)) (read 
   pub over : last.coming ≡ []
   pub same : read ≡ replayed last
   pub all : IfSome rest (λ bytes. bytes ≡ [])
+
+-- what a call says of the shelf, and of its faults, that reads the tree of this name: a name that is missing is a
+-- read that failed unless memory gave out first; no file changes; and no line that it faults is past the last one that
+-- a tree may have
+pub record ReadsTree (before after : View) (name : List ℕ) (result : Result Replayed ReplayError) : Type 0 where
+  pub missing : IsMissing before.files name → ¬ (result ≡ Err error.OutOfMemory) → result ≡ Err error.ReadFault
+  pub read_fault : result ≡ Err error.ReadFault → ReadCause before after name
+  pub reads : Reads before after (¬ (result ≡ Err error.ReadFault))
+  pub last : (fault : TreeFault) → result ≡ Err (error.Tree fault) → fault.line ≤ 800007
 
 -- what is left begins with this line and its list
 pub record IsNext (before : Option (List ℕ)) (line : Line) (list : List ℕ) (after : Option (List ℕ)) : Type 0 where

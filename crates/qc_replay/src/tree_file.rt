@@ -1,13 +1,13 @@
 //! The replay of a file.
 ghost use Rattle.std.specs.Prelude.{◌≡◌, ◌+◌, ◌<◌, ◌≤◌, ◌^◌, Ok, Err, Some, IfOk, IfSome, OnOk, true, false};
 ghost use Rattle.std.specs.Io.KnownBytes.{prepend_known};
-ghost use Rattle.qc_io.specs.Outside.{IsMissing, ReadCause, file_at};
-ghost use Rattle.qc_io.specs.Reads.{Reads, ReadsOn};
+ghost use Rattle.qc_io.specs.Outside.{file_at};
+ghost use Rattle.qc_io.specs.Reads.{ReadsOn};
 ghost use Rattle.qc_num.specs.Paths.{HasRoom};
 ghost use Rattle.qc_model.specs.Instance.{Valid};
 ghost use Rattle.qc_tree.specs.LineIn.{Listed};
 ghost use Rattle.qc_tree.specs.Trees.{IsTree, NoneEarlier, Tree, tree_branchings, tree_text, tree_value};
-ghost use Rattle.qc_replay.specs.File.{Fails, IsReadThrough, Leads};
+ghost use Rattle.qc_replay.specs.File.{Fails, IsReadThrough, Leads, ReadsTree};
 ghost use Rattle.qc_replay.specs.Read.{with_line};
 ghost use Rattle.qc_replay.specs.Shown.{IsShown};
 ghost use Rattle.qc_replay.specs.Stages.{is_over};
@@ -34,8 +34,6 @@ pub fn replay<S: Shelf>(
     ensures fault { (fault : TreeFault) → result ≡ Err (ReplayError.Tree fault)
         → IfSome (file_at (S.Sink.view shelf.old).files name.now)
         (λ bytes. tree_in inst.now bytes ≡ Err fault) }
-    ensures last { (fault : TreeFault) → result ≡ Err (ReplayError.Tree fault)
-        → fault.line ≤ 800007 }
 
     // What whoever gets the file may believe.
     ensures shown { IfOk result
@@ -52,12 +50,7 @@ pub fn replay<S: Shelf>(
         → file_at (S.Sink.view shelf.old).files name.now ≡ Some (tree_text inst.now other)
         → one ≡ other) }
 
-    ensures missing { IsMissing (S.Sink.view shelf.old).files name.now
-        → ¬ (result ≡ Err ReplayError.OutOfMemory) → result ≡ Err ReplayError.ReadFault }
-    ensures read_fault { result ≡ Err ReplayError.ReadFault
-        → ReadCause (S.Sink.view shelf.old) (S.Sink.view shelf.new) name.now }
-    ensures reads { Reads (S.Sink.view shelf.old) (S.Sink.view shelf.new)
-        (¬ (result ≡ Err ReplayError.ReadFault)) }
+    ensures file { ReadsTree (S.Sink.view shelf.old) (S.Sink.view shelf.new) name.now result }
 {
     let mut walk = Walk::new(alloc, inst)?;
     let read = read_file(alloc, &mut walk, shelf, name);
@@ -79,14 +72,7 @@ fn read_file<S: Shelf>(
     ensures fault { (fault : TreeFault) → result ≡ Err (ReplayError.Tree fault)
         → Fails walk.old.inst 1 (start walk.old.inst)
         (file_at (S.Sink.view shelf.old).files name.now) fault }
-    ensures last { (fault : TreeFault) → result ≡ Err (ReplayError.Tree fault)
-        → fault.line ≤ 800007 }
-    ensures missing { IsMissing (S.Sink.view shelf.old).files name.now
-        → ¬ (result ≡ Err ReplayError.OutOfMemory) → result ≡ Err ReplayError.ReadFault }
-    ensures read_fault { result ≡ Err ReplayError.ReadFault
-        → ReadCause (S.Sink.view shelf.old) (S.Sink.view shelf.new) name.now }
-    ensures reads { Reads (S.Sink.view shelf.old) (S.Sink.view shelf.new)
-        (¬ (result ≡ Err ReplayError.ReadFault)) }
+    ensures file { ReadsTree (S.Sink.view shelf.old) (S.Sink.view shelf.new) name.now result }
 {
     let mut lines = TreeLines::open(alloc, shelf, name)?;
     read_lines(walk, &mut lines, shelf)

@@ -10,21 +10,21 @@ returns-in-Err-Tree-clause-step g c =
     record {
       ok = tt;
       err = (
-        c.in-Err-Tree.ensures.reads.unfailed (λ e. cc),
+        c.in-Err-Tree.ensures.file.reads.unfailed (λ e. cc),
         tree_fault c.args.inst.now (names_of c.args.inputs.now) c.in-Some.name.now (sym c.in-Some.ensures) files fault
-            (λ missing. absurd (cc (c.in-Err-Tree.ensures.missing missing (λ e. cc))))
+            (λ missing. absurd (cc (c.in-Err-Tree.ensures.file.missing missing (λ e. cc))))
             (c.in-Err-Tree.ensures.fault fault (ap Err c.in-Err-Tree.field-0-is)),
       );
       may = c.requires;
-      files = c.replay.ensures.reads.files;
-      made = c.replay.ensures.reads.made;
-      faults = c.replay.ensures.reads.faults;
-      read_faults = c.replay.ensures.reads.never_falls;
+      files = c.replay.ensures.file.reads.files;
+      made = c.replay.ensures.file.reads.made;
+      faults = c.replay.ensures.file.reads.faults;
+      read_faults = c.replay.ensures.file.reads.never_falls;
     }
 
 pub returns-in-Err-Tree-clause-none : goal.returns-in-Err-Tree-clause-none
 returns-in-Err-Tree-clause-none g c = λ fault is.
     let files = (g.S.Sink.view c.args.shelf.now).files in
     no_tree c.args.inst.now (names_of c.args.inputs.now) c.in-Some.name.now (sym c.in-Some.ensures) files
-    (λ missing. absurd (cc (c.in-Err-Tree.ensures.missing missing (λ e. cc))))
+    (λ missing. absurd (cc (c.in-Err-Tree.ensures.file.missing missing (λ e. cc))))
     (λ tree is_tree same. c.in-Err-Tree.ensures.every_tree tree c.in-Err-Tree.fault is_tree same (ap Err c.in-Err-Tree.field-0-is))

@@ -2,9 +2,10 @@ use Rattle.std.proofs.Common.{◌∙◌, ◌≤◌, ap, arith, Err, length, rule
 use Rattle.std.specs.Io.KnownBytes.{prepend_known}
 use Rattle.qc_model.specs.Instance.{InstanceView}
 use Rattle.qc_model.specs.Numbers.{most_cranes}
+use Rattle.qc_replay.specs.declared.fault.ReplayError.TheVariants.{ReadFault}
 use Rattle.qc_replay.specs.File.{Fails, Leads}
 use Rattle.qc_replay.specs.Walk.{Reading}
-use Rattle.qc_replay.proofs.FileFacts.{reads_on}
+use Rattle.qc_io.proofs.ReadsLemmas.{reads_on}
 use Rattle.qc_replay.proofs.LinesLeft.{fewer_left}
 use Rattle.qc_replay.proofs.StepFacts.{fails_after, leads_after, over_now}
 use Rattle.qc_replay.proofs.TreeFacts.{behind_fails}
@@ -50,7 +51,7 @@ loop-walk-preserved g c =
           c.loop-walk.invariant.read c.read_line.new.lines.number c.read_line.new.walk.reading after
           (subst (λ (i : InstanceView). Leads i c.loop-walk.lines.number c.loop-walk.walk.reading here c.read_line.new.lines.number c.read_line.new.walk.reading after)
           c.loop-walk.invariant.inst c.in_ok-read_line.ensures.read);
-      reads = reads_on tt _ _ _ _ c.loop-walk.invariant.reads c.in_ok-read_line.ensures.reads;
+      reads = reads_on ReadFault tt _ _ _ _ c.loop-walk.invariant.reads c.in_ok-read_line.ensures.reads;
     }
 
 pub returns-in_err-end-clause-fault : goal.returns-in_err-end-clause-fault
