@@ -1,28 +1,28 @@
 -- What a command reads from words that it takes.
-use Rattle.std.proofs.Common.{◌≡◌, ℕ, ◌<◌, ◌+◌, ◌∙◌, ap, sym, cond, length, map, take, get_or, List, [], ◌∷◌, None, Some}
-use Rattle.std.proofs.lemmas.List.{map-append, take_more}
+use Rattle.std.proofs.Common.{◌≡◌, ℕ, ◌<◌, ◌+◌, ◌∙◌, ap, sym, cond, length, map, take, get_or, List, [], ◌∷◌, ◌++◌, None, Some}
+use Rattle.std.proofs.lemmas.List.{append_assoc, map-append, take_more}
 use Rattle.std.specs.Borrow.{Bor}
 use Rattle.std.specs.Option.{option_map_or}
-use Rattle.clap.specs.Simple.{new_shape}
 use Rattle.clap.specs.Walk.{is_empty}
-use Rattle.clap.specs.Words.{App, Kinds, Row, Rule, Text, fault_of, matches_of, new_app, with_rule}
+use Rattle.clap.specs.Words.{App, Kinds, Row, Rule, Text, fault_of, matches_of, with_rule}
 use Rattle.qc_words.specs.Asked.{Asked, usage}
-use Rattle.qc_words.specs.Commands.{command_with, operand, read_by}
+use Rattle.qc_words.specs.Commands.{read_by, with_rules}
 
 pub read_some : (a : App) (words : List Text) (rows : List Row) → fault_of a words ≡ [] → rows ≡ matches_of a words → Some rows ≡ read_by a words
 read_some a words rows none is =
     ap Some is ∙ ap (λ (kinds : Kinds). cond (is_empty kinds) (Some (matches_of a words)) None) (sym none)
 
--- one operand more, told to `clap` after the others
-pub operand_more : (name : Text) (names : List (Bor Text)) (i : ℕ) (d : Bor Text) → i < length names
-    → with_rule (command_with name (map (λ o. o.now) (take i names))) (operand (get_or names i d).now)
-    ≡ command_with name (map (λ o. o.now) (take (i + 1) names))
-operand_more name names i d lt =
+-- one rule more, told to `clap` after the others: the next of some names
+pub rule_more : (name : Text) (front : List Rule) (rule : Text → Rule) (names : List (Bor Text)) (i : ℕ) (d : Bor Text) → i < length names
+    → with_rule (with_rules name (front ++ map rule (map (λ o. o.now) (take i names)))) (rule (get_or names i d).now)
+    ≡ with_rules name (front ++ map rule (map (λ o. o.now) (take (i + 1) names)))
+rule_more name front rule names i d lt =
     let now : Bor Text → Text = λ o. o.now in
     let more = ap (map now) (take_more names i d lt) ∙ map-append now (take i names) (get_or names i d ∷ []) in
-    ap (λ (rules : List Rule). record (new_app name) { top = record (new_shape name) { rules = rules } })
-    (sym (map-append operand (map now (take i names)) ((get_or names i d).now ∷ [])))
-    ∙ ap (command_with name) (sym more)
+    ap (with_rules name)
+    (append_assoc front (map rule (map now (take i names))) (rule (get_or names i d).now ∷ [])
+    ∙ ap (λ (rules : List Rule). front ++ rules)
+    (sym (map-append rule (map now (take i names)) ((get_or names i d).now ∷ [])) ∙ ap (map rule) (sym more)))
 
 -- what a command asks for follows from what it reads
 pub asks_what_is_read : (f : List Row → Asked) (a b : App) (words : List Text) (rows : List Row) (asked : Asked)

@@ -1,9 +1,9 @@
 -- public: the commands as `clap` is told them, and what it reads by one of them.
-use Rattle.std.specs.Prelude.{ℕ, true, List, [], ◌∷◌, map, Option, None, Some, codes, if◌then◌else◌, option_and_then, slice_get}
+use Rattle.std.specs.Prelude.{ℕ, true, List, [], ◌∷◌, ◌++◌, map, Option, None, Some, codes, if◌then◌else◌, option_and_then, slice_get}
 use Rattle.std.specs.Str.{bytes_eq}
 use Rattle.clap.specs.Simple.{new_shape}
 use Rattle.clap.specs.Walk.{is_empty}
-use Rattle.clap.specs.Words.{App, Row, Rule, fault_of, matches_of, new_app, new_rule, with_rule}
+use Rattle.clap.specs.Words.{App, Row, Rule, fault_of, matches_of, new_app, new_rule}
 use Rattle.qc_words.specs.declared.commands.CommandName.{CommandName}
 use Rattle.qc_words.specs.declared.commands.CommandName.TheVariants as name
 
@@ -32,18 +32,26 @@ named words = option_and_then command_name (slice_get words 0)
 abbrev pub operand : List ℕ → Rule
 operand name = record (new_rule name) { required = true }
 
+-- an option that has a value
+abbrev pub option : List ℕ → Rule
+option name = record (new_rule name) { long = Some name }
+
+-- a command with these rules of words in order
+abbrev pub with_rules : List ℕ → List Rule → App
+with_rules name rules = record (new_app name) { top = record (new_shape name) { rules = rules } }
+
+-- a command with these operands in order, and with options of these names
+abbrev pub command_by : List ℕ → List (List ℕ) → List (List ℕ) → App
+command_by name operands options = with_rules name (map operand operands ++ map option options)
+
 -- a command with these operands in order
 abbrev pub command_with : List ℕ → List (List ℕ) → App
-command_with name operands =
-    record (new_app name) { top = record (new_shape name) { rules = map operand operands } }
+command_with name operands = with_rules name (map operand operands)
 
 -- a command that plans: its operands, and the options `--nodes` and `--from`
 abbrev pub search_command : List ℕ → App
-search_command name = with_rule
-    (with_rule
-    (command_with name (codes "ship" ∷ codes "stow" ∷ codes "plan" ∷ codes "tree" ∷ []))
-    (record (new_rule (codes "nodes")) { long = Some (codes "nodes") }))
-    (record (new_rule (codes "from")) { long = Some (codes "from") })
+search_command name =
+    command_by name (codes "ship" ∷ codes "stow" ∷ codes "plan" ∷ codes "tree" ∷ []) (codes "nodes" ∷ codes "from" ∷ [])
 
 -- each command, with its operands
 abbrev pub command_of : CommandName → App

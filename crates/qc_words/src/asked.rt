@@ -7,7 +7,7 @@ use qc_model::Turn;
 pub const MOST_NUMBER: u32 = 2_147_483_647;
 
 /// What the words ask for, with the names of the files.
-#[derive(Clone, Copy, Debug, PartialEq, Eq)]
+#[derive(Clone, Copy)]
 pub enum Request<'a> {
     /// A plan and its tree, with at most so many branchings, that ends no later than the planner's own plan where
     /// one is named: by the schedules that go one way, or by all that are feasible.

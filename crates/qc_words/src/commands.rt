@@ -3,7 +3,7 @@
 ghost use Rattle.std.specs.Prelude.{◌≡◌, IfOk, map};
 ghost use Rattle.qc_words.specs.Words.{texts};
 ghost use Rattle.clap.specs.Words.{app_of};
-ghost use Rattle.qc_words.specs.Commands.{command_name, named, command_with, command_of, search_command};
+ghost use Rattle.qc_words.specs.Commands.{command_name, named, command_by, command_with, command_of, search_command};
 
 use clap::{Arg, Command};
 use std::alloc::{AllocError, Global};
@@ -53,6 +53,26 @@ pub fn named(words: &[String]) -> Option<CommandName>
     command_name(words.first()?.as_str())
 }
 
+/// A command with these operands in order, and with options of these names, each with a value.
+fn command_by<'a>(
+    alloc: Global,
+    name: &'a str,
+    operands: &[&'a str],
+    options: &[&'a str],
+) -> Result<Command<'a>, AllocError>
+    ensures { IfOk result (λ command. app_of command ≡ command_by name.entry.now
+        (map (λ operand. operand.now) operands.now) (map (λ option. option.now) options.now)) }
+{
+    let mut command = Command::new(alloc, name);
+    for operand in operands {
+        command = command.arg(Arg::new(alloc, *operand).required(true))?;
+    }
+    for option in options {
+        command = command.arg(Arg::new(alloc, *option).long(*option))?;
+    }
+    Ok(command)
+}
+
 /// A command with these operands in order.
 fn command_with<'a>(
     alloc: Global,
@@ -62,22 +82,19 @@ fn command_with<'a>(
     ensures { IfOk result (λ command. app_of command
         ≡ command_with name.entry.now (map (λ operand. operand.now) operands.now)) }
 {
-    let mut command = Command::new(alloc, name);
-    for operand in operands {
-        command = command.arg(Arg::new(alloc, *operand).required(true))?;
-    }
-    Ok(command)
+    command_by(alloc, name, operands, &[])
 }
 
 /// A command that plans, with its operands and the options `--nodes` and `--from`.
 fn search_command<'a>(alloc: Global, name: &'a str) -> Result<Command<'a>, AllocError>
     ensures { IfOk result (λ command. app_of command ≡ search_command name.entry.now) }
 {
-    let nodes = Arg::new(alloc, "nodes").long("nodes");
-    let from = Arg::new(alloc, "from").long("from");
-    command_with(alloc, name, &["ship", "stow", "plan", "tree"])?
-        .arg(nodes)?
-        .arg(from)
+    command_by(
+        alloc,
+        name,
+        &["ship", "stow", "plan", "tree"],
+        &["nodes", "from"],
+    )
 }
 
 /// The command as `clap` is told it.

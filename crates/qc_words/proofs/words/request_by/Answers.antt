@@ -1,8 +1,10 @@
-use Rattle.std.proofs.Common.{◌∙◌, ap, IsTrue, refl}
-use Rattle.clap.specs.Words.{app_of, found_of, rows_of, is_simple_and_free}
+use Rattle.std.proofs.Common.{◌∙◌, ap, IsTrue, List, Option, refl}
+use Rattle.std.specs.Option.{option_map_or}
+use Rattle.clap.specs.Words.{App, Row, app_of, found_of, rows_of, is_simple_and_free}
 use Rattle.qc_words.specs.declared.commands.CommandName.{CommandName}
 use Rattle.qc_words.specs.declared.commands.CommandName.TheVariants as name
-use Rattle.qc_words.specs.Commands.{command_of}
+use Rattle.qc_words.specs.Asked.{usage}
+use Rattle.qc_words.specs.Commands.{command_of, read_by}
 use Rattle.qc_words.specs.Words.{asked_in, texts}
 use Rattle.qc_words.proofs.ReadLemmas.{asks_what_is_read}
 use Rattle.qc_words.proofs.words.request_by.Goals as goal
@@ -29,3 +31,8 @@ returns-in-Some c =
     asks_what_is_read (asked_in c.args.name) (app_of c.in_ok-command_of.field-0) (command_of c.args.name)
     (texts c.args.words.now) (rows_of (found_of c.in-Some.matches)) _ c.asked_in.ensures
     (rw c.in-Some.is at c.in_ok-matches.ensures) c.in_ok-command_of.ensures
+
+pub returns-in-None : goal.returns-in-None
+returns-in-None c =
+    ap (λ (rows : Option (List Row)). option_map_or (asked_in c.args.name) rows usage)
+    ((rw c.in-None.is at c.in_ok-matches.ensures) ∙ ap (λ (a : App). read_by a (texts c.args.words.now)) c.in_ok-command_of.ensures)
