@@ -1,19 +1,17 @@
 //! The program: a run over the files of the system and standard output.
 #![tactic(auto)]
 
-mod voice;
-
 use qc_io::WriteFault;
 use qc_num::OutOfMemory;
 use qc_progress::Progress;
 use qc_system::{FileShelf, Lines, Output, words_of};
 use qc_top::{Status, run};
+use qc_voice::say_after;
 use std::io::IsTerminal;
 use std::os::fd::AsFd;
 use std::process::ExitCode;
 use std::rt::{Env, Files};
 use std::{fs, io};
-use voice::say_after;
 
 /// The root folder, opened for reading as often as there are standard descriptors. Those that are
 /// closed are taken by it, so that no file that is opened later is standard output.

@@ -1,11 +1,13 @@
-//! What is said on standard error after a run.
+//! What is said on standard error after a run: what is to be mended, what is worth a note, and what the system said.
+#![tactic(auto)]
+
 ghost use Rattle.std.specs.Prelude.{None};
 ghost use Rattle.qc_io.specs.Outside.{sink_view};
 
 use qc_explain::explain;
 use qc_io::{Failed, Sink, fault, put_all};
+use qc_run::Status;
 use qc_system::FileShelf;
-use qc_top::Status;
 use std::fmt::Display;
 use std::io::{self, ErrorKind};
 use std::os::fd::AsFd;
