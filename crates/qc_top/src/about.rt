@@ -46,7 +46,7 @@ Ends with 0 Optimal: no plan that goes one way ends earlier; 10 Infeasible: none
 11 Budget: the branchings are spent, the plan is the best that is known, and none that goes one
 way ends before the bound; 12 Budget: the same, and no plan is known; 13 Broken: OWN breaks a rule.
 Of plans in which cranes go to and fro it says nothing: free does.
-Faults end with 2 to 9, 15 and 17, and are told by their kind and place: man 5 qc.
+Faults end with 2 to 6, 8, 9 and 15, and are told by their kind and place: man 5 qc.
 ";
 
 const CHECK: &[u8] = b"qc check SHIP STOW PLAN TREE
@@ -54,21 +54,21 @@ const CHECK: &[u8] = b"qc check SHIP STOW PLAN TREE
 Judges a plan of any origin, and tells by the tree whether one that goes one way can end earlier.
 With - for PLAN it tells the bound of the tree alone. It searches nothing.
 Ends with 0 Optimal or Bound, 10 Infeasible, 13 Broken, 14 Weaker.
-Faults end with 2 to 9, 15 and 17, and are told by their kind and place: man 5 qc.
+Faults end with 2 to 9 and 15, and are told by their kind and place: man 5 qc.
 ";
 
 const TASKS: &[u8] = b"qc tasks SHIP STOW
 
 Prints the tasks with their bays and lengths, which is before which, and which are apart.
 Ends with 0.
-Faults end with 2 to 9, 15 and 17, and are told by their kind and place: man 5 qc.
+Faults end with 2 to 6, 9 and 15, and are told by their kind and place: man 5 qc.
 ";
 
 const SHOW: &[u8] = b"qc show SHIP STOW PLAN
 
 Prints the direction and the end of a plan, where each crane stands, and a drawing in letters.
 Ends with 0, or 13 Broken.
-Faults end with 2 to 9, 15 and 17, and are told by their kind and place: man 5 qc.
+Faults end with 2 to 6, 8, 9 and 15, and are told by their kind and place: man 5 qc.
 ";
 
 const MAKE: &[u8] = b"qc make NUMBER HATCHES CRANES
@@ -76,7 +76,7 @@ const MAKE: &[u8] = b"qc make NUMBER HATCHES CRANES
 Makes a ship and a list from a number, plans them with 500 branchings, checks the plan, and
 prints a summary. NUMBER is 0 to 2147483647, HATCHES 1 to 60, CRANES 1 to 8. No file is touched.
 Ends with 0.
-Faults end with 2 to 9, 15 and 17, and are told by their kind and place: man 5 qc.
+Faults end with 2, 4 and 9, and are told by their kind and place: man 5 qc.
 ";
 
 const FREE: &[u8] = b"qc free SHIP STOW PLAN TREE [--nodes N] [--from OWN]
@@ -89,7 +89,7 @@ one; its tree is one of all feasible plans.
 Ends with 0 Optimal: no feasible plan ends earlier; 10 Infeasible: there is none; 11 Budget: the
 branchings are spent, the plan is the best that is known, and none ends before the bound;
 12 Budget: the same, and no plan is known; 13 Broken: OWN breaks a rule.
-Faults end with 2 to 9, 15 and 17, and are told by their kind and place: man 5 qc.
+Faults end with 2 to 6, 8, 9 and 15, and are told by their kind and place: man 5 qc.
 ";
 
 const FREE_CHECK: &[u8] = b"qc freecheck SHIP STOW PLAN TREE
@@ -98,7 +98,7 @@ Judges a plan of any origin, whichever way its cranes go, and tells by a tree of
 whether any of them can end earlier. With - for PLAN it tells the bound of the tree alone. It
 searches nothing.
 Ends with 0 Optimal or Bound, 10 Infeasible, 13 Broken, 14 Weaker.
-Faults end with 2 to 9, 15 and 17, and are told by their kind and place: man 5 qc.
+Faults end with 2 to 9 and 15, and are told by their kind and place: man 5 qc.
 ";
 
 const SHEET: &[u8] = b"qc sheet SHIP STOW PLAN
@@ -106,7 +106,7 @@ const SHEET: &[u8] = b"qc sheet SHIP STOW PLAN
 Prints for each crane its tasks, and for each task its containers in the order in which they are
 lifted or set down, each with the tick at which its move begins.
 Ends with 0, or 13 Broken.
-Faults end with 2 to 9, 15 and 17, and are told by their kind and place: man 5 qc.
+Faults end with 2 to 6, 8, 9 and 15, and are told by their kind and place: man 5 qc.
 ";
 
 const DISPATCH: &[u8] = b"qc dispatch SHIP STOW PLAN LOG
@@ -114,14 +114,14 @@ const DISPATCH: &[u8] = b"qc dispatch SHIP STOW PLAN LOG
 Follows the order of a plan with the lengths that tasks really take. LOG has lines tick N, when N
 ticks go by, and done TASK; each start is told at the first moment at which the rules allow it.
 Ends with 0, or 13 Broken.
-Faults end with 2 to 9, 15 and 17, and are told by their kind and place: man 5 qc.
+Faults end with 2 to 6, 8, 9, 15 and 17, and are told by their kind and place: man 5 qc.
 ";
 
 const WATCH: &[u8] = b"qc watch SHIP LOG
 
 Reads a log of lines TIME NAME PLACE, and tells whether two cranes came nearer than their margin.
 Ends with 0 Safe, or 18 Breach.
-Faults end with 2 to 9, 15 and 17, and are told by their kind and place: man 5 qc.
+Faults end with 2 to 5, 9, 15 and 17, and are told by their kind and place: man 5 qc.
 ";
 
 const PICTURE: &[u8] = b"qc picture SHIP STOW PLAN
@@ -129,7 +129,7 @@ const PICTURE: &[u8] = b"qc picture SHIP STOW PLAN
 Prints a drawing of a plan, whichever way its cranes go, as an SVG: ticks downwards, places across,
 a box for each task, a line and a band for each crane. Open it with any browser.
 Ends with 0, or 13 Broken.
-Faults end with 2 to 9, 15 and 17, and are told by their kind and place: man 5 qc.
+Faults end with 2 to 6, 8, 9 and 15, and are told by their kind and place: man 5 qc.
 ";
 
 const REPORT: &[u8] = b"qc report SHIP STOW PLAN
@@ -138,7 +138,7 @@ Prints a CSV with a row for each crane of a plan, whichever way its cranes go: i
 its ticks until it is ready, of work, of moving, of waiting and idle, its last end, its share of all
 work.
 Ends with 0, or 13 Broken.
-Faults end with 2 to 9, 15 and 17, and are told by their kind and place: man 5 qc.
+Faults end with 2 to 6, 8, 9 and 15, and are told by their kind and place: man 5 qc.
 ";
 
 const VERSION: &[u8] = b"qc 0.3.0
