@@ -17,7 +17,7 @@ use qc_records::field;
 const DIGITS: usize = 12;
 
 // A task, counted from 0, and the slot that a record gives it.
-#[derive(Clone, Copy, Debug, PartialEq, Eq)]
+#[derive(Clone, Copy, PartialEq, Eq)]
 pub(crate) struct Entry {
     pub(crate) task: u16,
     pub(crate) slot: Slot,

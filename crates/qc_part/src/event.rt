@@ -5,7 +5,7 @@ use qc_num::Tick;
 
 /// A hatch and a crane that reaches it. Events are in order of how far along the rail the hatch lies
 /// for the crane, and then of the cranes, the lower first.
-#[derive(Clone, Copy, Debug, PartialEq, Eq, PartialOrd, Ord)]
+#[derive(Clone, Copy, PartialEq, Eq, PartialOrd, Ord)]
 pub struct Event {
     /// How far along the rail, in ticks of travel.
     pub along: Tick,
@@ -18,7 +18,7 @@ pub struct Event {
 }
 
 /// What a state becomes at an event where so many tasks of the hatch are done behind it.
-#[derive(Clone, Copy, Debug, PartialEq, Eq)]
+#[derive(Clone, Copy, PartialEq, Eq)]
 pub struct Child {
     pub state: State,
     /// When the last of the tasks that are done at the event ends; `None` where none is.

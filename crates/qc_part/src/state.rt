@@ -7,7 +7,7 @@ use qc_model::{MOST_CRANES, MOST_HATCHES};
 
 /// What a pass over the events remembers before an event: how much is done, and how soon each crane
 /// can go on. States are in order of the counts, then of the fronts.
-#[derive(Clone, Copy, Debug, PartialEq, Eq, PartialOrd, Ord)]
+#[derive(Clone, Copy, PartialEq, Eq, PartialOrd, Ord)]
 pub struct State {
     /// Of each hatch, along the ship, how many of its tasks are done, in the order of phases; 0 behind
     /// the last hatch.

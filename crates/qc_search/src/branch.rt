@@ -5,7 +5,7 @@ ghost use Rattle.qc_search.specs.Walk.{first_of};
 use qc_model::Decision;
 
 /// A branching.
-#[derive(Clone, Copy, Debug, PartialEq, Eq)]
+#[derive(Clone, Copy, PartialEq, Eq)]
 pub(crate) enum Branch {
     /// On the crane of a task.
     Task(u16),

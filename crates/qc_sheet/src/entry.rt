@@ -14,7 +14,7 @@ use std::alloc::Global;
 /// Lanes are worked one after the other. Within a lane the 40-foot containers, which stand over both
 /// stacks of 20 feet, part those of 20 feet into layers: none of a layer can be made before the
 /// 40-foot move that parts it from the layer before, and that one not before all of its own layer.
-#[derive(Clone, Copy, Debug, PartialEq, Eq, PartialOrd, Ord)]
+#[derive(Clone, Copy, PartialEq, Eq, PartialOrd, Ord)]
 pub(crate) struct Entry {
     /// From port to starboard.
     pub(crate) lane: u8,

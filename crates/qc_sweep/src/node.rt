@@ -4,7 +4,7 @@ use qc_num::Tick;
 use qc_part::State;
 
 /// How a state was come to.
-#[derive(Clone, Copy, Debug, PartialEq, Eq, PartialOrd, Ord)]
+#[derive(Clone, Copy, PartialEq, Eq, PartialOrd, Ord)]
 pub(crate) struct Step {
     /// The number of the state before, in its layer.
     pub(crate) parent: u32,
@@ -15,7 +15,7 @@ pub(crate) struct Step {
 }
 
 /// A state that a sweep met. Nodes are in order of their states, then of the latest end.
-#[derive(Clone, Copy, Debug, PartialEq, Eq, PartialOrd, Ord)]
+#[derive(Clone, Copy, PartialEq, Eq, PartialOrd, Ord)]
 pub(crate) struct Node {
     pub(crate) state: State,
     /// When the last task so far ends.

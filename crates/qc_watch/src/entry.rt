@@ -19,7 +19,7 @@ const TIME_DIGITS: usize = 12;
 const PLACE_DIGITS: usize = 6;
 
 /// A report and its crane, counted from 0.
-#[derive(Clone, Copy, Debug, PartialEq, Eq)]
+#[derive(Clone, Copy, PartialEq, Eq)]
 pub(crate) struct Entry {
     pub(crate) crane: u16,
     pub(crate) report: Report,

@@ -11,7 +11,7 @@ use crate::report::Report;
 use qc_num::Tick;
 
 /// A place on the rail as a fraction of bays: `above / below`.
-#[derive(Clone, Copy, Debug)]
+#[derive(Clone, Copy)]
 pub(crate) struct Place {
     pub(crate) above: i64,
     pub(crate) below: u64,

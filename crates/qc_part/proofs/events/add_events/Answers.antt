@@ -10,6 +10,11 @@ use Rattle.qc_part.proofs.events.add_events.Goals.{Joined-in_reach, then-in_reac
 abbrev no_hatch : Hatch
 no_hatch = record { block = record { first = 0; count = 0 }; place = pos 0; work = []; free = [] }
 
+pub add_event-requires-clause-reached : goal.add_event-requires-clause-reached
+add_event-requires-clause-reached c =
+    sym (c.if-in_reach.ensures ∙ ap (λ (j : ℕ). reaches c.args.inst.now j c.loop-crane.crane)
+    (first_is c.args.hatches.now c.args.number no_hatch c.requires.hatch))
+
 pub loop-crane-preserved : goal.loop-crane-preserved
 loop-crane-preserved c =
     let inst = c.args.inst.now in
