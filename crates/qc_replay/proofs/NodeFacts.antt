@@ -215,6 +215,15 @@ module _ (version : TreeVersion) (before after : Standing) (live : before.live �
     pair_line way more =
         ap (λ b. require b kind.UnknownTask >>= λ _. on_pair before.inst way before.decisions (here way more) (i - 1) (j - 1)) numbers
 
+    -- a branching on a pair that may not be ordered
+    pub pair_barred : may_order before.inst.turn before.inst before.decisions (i - 1) (j - 1) ≡ false
+        → IsJudged version before tally (line.Order i j) list after (Err (no_order before.inst.turn))
+    pair_barred barred way more =
+        pair_line way more
+        ∙ ap (λ b. require b (no_order before.inst.turn) >>= λ _. (require (not (is_settled before.inst before.decisions (i - 1) (j - 1))) kind.Decided
+        >>= λ _. branched_to (here way more)
+        (node way (decide.Order (i - 1) (j - 1) ∷ before.decisions) ∷ node way (decide.Order (j - 1) (i - 1) ∷ before.decisions) ∷ []))) barred
+
     module _ (may : may_order before.inst.turn before.inst before.decisions (i - 1) (j - 1) ≡ true) where
       abbrev orders : List (List Decision)
       orders =

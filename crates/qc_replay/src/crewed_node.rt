@@ -36,11 +36,17 @@ impl CrewedNode {
     pub(crate) fn new(alloc: Global, inst: &Instance) -> Result<CrewedNode, OutOfMemory>
         ensures { IfOk result (λ new. new ≡ record { inst = inst.now; decisions = [] }) }
     {
-        Ok(CrewedNode {
-            node: Decisions::new(alloc, inst)?,
-            crew: Crew::open(alloc, inst, inst.turn())?,
-            begun: early_first(alloc, inst)?,
-        })
+        let node = Decisions::new(alloc, inst)?;
+        let Ok(crew) = Crew::open(alloc, inst, inst.turn()) else {
+            drop(node);
+            return Err(OutOfMemory);
+        };
+        let Ok(begun) = early_first(alloc, inst) else {
+            drop(crew);
+            drop(node);
+            return Err(OutOfMemory);
+        };
+        Ok(CrewedNode { node, crew, begun })
     }
 
     /// The instance.

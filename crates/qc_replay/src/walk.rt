@@ -86,17 +86,27 @@ impl Walk {
         ensures start { IfOk result (λ new. new ≡ record { inst = inst.now; reading = start inst.now }) }
         ensures valid { IfOk result (λ new. Valid inst.now) }
     {
+        let kept = copy(alloc, inst)?;
+        let Ok(part) = Descent::new(alloc, inst) else {
+            drop(kept);
+            return Err(OutOfMemory);
+        };
+        let Ok(second) = second_root(alloc, inst) else {
+            drop(part);
+            drop(kept);
+            return Err(OutOfMemory);
+        };
         Ok(Walk {
-            inst: copy(alloc, inst)?,
+            inst: kept,
             stage: Stage::Title,
             version: TreeVersion::WithPacked,
             tally: Tally {
                 branched: 0,
                 bound: Bound::Never,
             },
-            part: Descent::new(alloc, inst)?,
+            part,
             way: Direction::Up,
-            second: second_root(alloc, inst)?,
+            second,
         })
     }
 

@@ -6,6 +6,7 @@ ghost use Rattle.qc_model.specs.declared.turn.Turn.TheVariants.{OneWay};
 ghost use Rattle.qc_model.specs.Frames.{GoesBy};
 ghost use Rattle.qc_model.specs.Instance.{InstanceView, Valid};
 ghost use Rattle.qc_model.specs.Numbers.{most_branchings, most_start, most_tasks};
+ghost use Rattle.qc_model.specs.OneWay.{mirror};
 ghost use Rattle.qc_model.specs.Rules.{start_of};
 ghost use Rattle.qc_model.specs.Seen.{seen};
 ghost use Rattle.qc_num.specs.Paths.{HasRoom};
@@ -50,13 +51,31 @@ fn open_down(alloc: Global, inst: &Instance) -> Result<Option<Node>, OutOfMemory
     }
 }
 
+/// Makes the starts of a schedule the earliest as the root of the second part sees it, and answers when it then ends.
+fn tighten_down(down: &mut Option<Node>, sched: &mut Schedule) -> Tick
+    requires { (inst : InstanceView) × IsTurned inst down.old × (inst.turn ≡ OneWay)
+        × GoesBy (mirror inst).turn (mirror inst) sched.old
+        × ((j : ℕ) → j < length (mirror inst).tasks → start_of sched.old j ≤ most_start) }
+    ensures stays { (inst : InstanceView) → IsTurned inst down.old → IsTurned inst down.new }
+    ensures tightened { (inst : InstanceView) → IsTurned inst down.old → (inst.turn ≡ OneWay)
+        → IsTightened (mirror inst) sched.old sched.new result }
+{
+    match down {
+        Some(down) => down.tighten(sched),
+        None => unreachable!(),
+    }
+}
+
 impl Roots {
     /// The roots for an instance. All memory is taken here.
     pub(crate) fn open(alloc: Global, inst: &Instance) -> Result<Roots, OutOfMemory>
         ensures { IfOk result (λ roots. roots ≡ inst.now) }
     {
         let up = Node::open(alloc, inst)?;
-        let down = open_down(alloc, inst)?;
+        let Ok(down) = open_down(alloc, inst) else {
+            drop(up);
+            return Err(OutOfMemory);
+        };
         Ok(Roots { up, down })
     }
 
@@ -79,14 +98,7 @@ impl Roots {
     {
         match way {
             Direction::Up => self.up.tighten(sched),
-            Direction::Down => {
-                let Some(mut down) = self.down.take() else {
-                    unreachable!()
-                };
-                let end = down.tighten(sched);
-                self.down = Some(down);
-                end
-            }
+            Direction::Down => tighten_down(&mut self.down, sched),
         }
     }
 

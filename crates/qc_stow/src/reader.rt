@@ -86,10 +86,21 @@ fn read_rows(alloc: Global, records: &[ByteRecord], ship: &Ship) -> Result<Vec<R
     let mut taken = Taken::new(alloc);
     for fields in records {
         match next_row(rows.as_slice(), fields, ship, &mut taken) {
-            Ok(row) => rows.push(row)?,
-            Err(error) => return Err(error),
+            Ok(row) => {
+                if rows.push(row).is_err() {
+                    drop(taken);
+                    drop(rows);
+                    return Err(StowError::OutOfMemory);
+                }
+            }
+            Err(error) => {
+                drop(taken);
+                drop(rows);
+                return Err(error);
+            }
         }
     }
+    drop(taken);
     Ok(rows)
 }
 

@@ -149,10 +149,27 @@ pub(crate) fn schedule_of(
     ensures { IfOk result (λ found. IfSome found (IsFirstPlan inst.now)) }
 {
     let mut starts = Starts::open(alloc, turned)?;
-    if !assign_all(&mut starts, cranes) || !order_all(&mut starts, turned) || starts.stuck() {
+    decided(alloc, inst, way, &mut starts, turned, cranes)
+}
+
+/// The same from starts at which nothing is decided yet.
+fn decided(
+    alloc: Global,
+    inst: &Instance,
+    way: Direction,
+    starts: &mut Starts,
+    turned: &Instance,
+    cranes: &[Option<u16>],
+) -> Result<Option<Schedule>, OutOfMemory>
+    requires turned { turned.now ≡ seen inst.now way }
+    requires starts { starts.old.inst ≡ turned.now }
+    requires none { (j : ℕ) → assigned starts.old.decisions j ≡ None }
+    ensures { IfOk result (λ found. IfSome found (IsFirstPlan inst.now)) }
+{
+    if !assign_all(starts, cranes) || !order_all(starts, turned) || starts.stuck() {
         return Ok(None);
     }
-    let sched = written(alloc, inst, way, &starts)?;
+    let sched = written(alloc, inst, way, starts)?;
     Ok(judged(inst, sched))
 }
 

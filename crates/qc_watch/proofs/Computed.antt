@@ -1,7 +1,8 @@
 -- What the code computes of places, by what stands for it.
-use Rattle.std.proofs.Common.{◌≡◌, ℕ, ◌*◌, ◌≤◌, ℤ, pos, negsuc, ◌+ℤ◌, ◌-ℤ◌, ◌*ℤ◌, ◌<ℤ◌, ◌≤ℤ◌, MatchBool, FitsSigned, to_z, of_z, w32, w64, inl, inr, refl, ◌∙◌, arith, unsigned_abs}
+use Rattle.std.proofs.Common.{◌≡◌, ℕ, ◌*◌, ◌≤◌, ◌<◌, lit<, ℤ, pos, negsuc, ◌+ℤ◌, ◌-ℤ◌, ◌*ℤ◌, ◌<ℤ◌, ◌≤ℤ◌, MatchBool, FitsSigned, to_z, of_z, w32, w64, inl, inr, refl, ◌∙◌, arith, unsigned_abs}
 use Rattle.std.proofs.lemmas.Bool.{cases_Bool}
-use Rattle.std.proofs.lemmas.Int.{ints}
+use Rattle.std.proofs.lemmas.Int.{ints, unsigned_abs-mul, fits_signed_mul}
+use Rattle.std.proofs.lemmas.Nat.{mul-le}
 use borrow.Author.Differences.{up, down}
 use lib.Signed.{lt_z}
 use mir.Syntax.{w128}
@@ -71,3 +72,21 @@ short_is r a reached across n room h k l e f g =
 
 pub passed_on : (z : ℤ) → unsigned_abs z ≤ 4000000000000000000 → to_z w64 (of_z w64 z) ≡ z
 passed_on z h = let p = parts z 4000000000000000000 h in omega (arith, ints, p.0, p.1)
+
+-- ---- the one number of a fraction times the other of another
+pub across_is : (r s z : ℤ) (n : ℕ) → r ≡ to_z w64 (of_z w64 z) → s ≡ pos n → unsigned_abs z ≤ 4000000000000000000 → n < 1000000000000
+    → (to_z w128 (of_z w128 r) *ℤ to_z w128 (of_z w128 s)) ≡ (z *ℤ pos n)
+across_is r s z n e f h k =
+    rw (e, f, passed_on z h, near_all z (omega (arith, h)), near_all (pos n) (omega (arith, k))) refl
+
+pub across_small : (z : ℤ) (n : ℕ) → unsigned_abs z ≤ 4000000000000000000 → n < 1000000000000
+    → unsigned_abs (z *ℤ pos n) ≤ 4000000000000000000000000000000
+across_small z n h k =
+    omega (arith, unsigned_abs-mul z (pos n), mul-le (unsigned_abs z) n 4000000000000000000 1000000000000 h (omega (arith, k)))
+
+pub across_fits : (z : ℤ) (n : ℕ) → unsigned_abs z ≤ 4000000000000000000 → n < 1000000000000 → FitsSigned w128 (z *ℤ pos n)
+across_fits z n h k = fits_signed_mul w128 z (pos n) 4000000000000000000 1000000000000 h (omega (arith, k)) (lit< tt)
+
+pub across_whole : (z : ℤ) (n : ℕ) → unsigned_abs z ≤ 4000000000000000000 → n < 1000000000000
+    → to_z w128 (of_z w128 (z *ℤ pos n)) ≡ (z *ℤ pos n)
+across_whole z n h k = near_all (z *ℤ pos n) (across_small z n h k)

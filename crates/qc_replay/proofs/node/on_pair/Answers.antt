@@ -1,9 +1,13 @@
-use Rattle.std.proofs.Common.{◌≡◌, ◌∙◌, ◌-◌, ◌&&◌, subst, sym, true}
+use Rattle.std.proofs.Common.{◌≡◌, ◌∙◌, ◌-◌, ◌&&◌, Err, ap, subst, sym, true, false}
 use Rattle.std.proofs.lemmas.Bool.{true≢false}
 use Rattle.qc_dist.specs.Node.{Node}
+use Rattle.qc_model.specs.Instance.{InstanceView}
 use Rattle.qc_model.specs.Nodes.{IsSettled}
-use Rattle.qc_replay.specs.Walk.{is_number, may_order}
-use Rattle.qc_replay.proofs.NodeFacts.{pair_judged}
+use Rattle.qc_tree.specs.declared.fault.TreeKind.{TreeKind}
+use Rattle.qc_tree.specs.declared.line.Line.TheVariants.{Order}
+use Rattle.qc_replay.specs.Part.{IsJudged}
+use Rattle.qc_replay.specs.Walk.{is_number, may_order, no_order}
+use Rattle.qc_replay.proofs.NodeFacts.{pair_barred, pair_judged}
 use Rattle.qc_replay.proofs.OrderFacts.{order_at}
 use Rattle.qc_replay.proofs.node.on_pair.Goals as goal
 
@@ -20,6 +24,21 @@ on_pair-requires-clause-conflict c =
     (order_at c.node-node.result.now before.inst before.decisions c.node-node.ensures.node c.are_both_numbers.ensures.valid
     c.args.one c.args.other (sym c.are_both_numbers.ensures.numbers ∙ c.if-not-are_both_numbers.false)
     (sym c.may_order.ensures ∙ c.if-not-may_order.false)).1
+
+pub returns-then-not-may_order-clause-judged : goal.returns-then-not-may_order-clause-judged
+returns-then-not-may_order-clause-judged c = λ numbers.
+    let one = c.args.one in
+    let other = c.args.other in
+    let before = c.args.descent.now in
+    let node = c.node-node.ensures.node in
+    subst (λ (fault : TreeKind). IsJudged c.args.version before c.args.tally (Order one other) numbers before (Err fault))
+    (sym (c.no_order.ensures ∙ ap no_order (c.turn.ensures ∙ ap (λ (i : InstanceView). i.turn) c.instance.ensures.same
+    ∙ ap (λ (n : Node). n.inst.turn) node)))
+    (pair_barred c.args.version before before c.requires.live c.args.tally one other numbers
+    (subst (λ (n : Node). (is_number n.inst one && is_number n.inst other) ≡ true) node
+    (sym c.are_both_numbers.ensures.numbers ∙ c.if-not-are_both_numbers.false))
+    (subst (λ (n : Node). may_order n.inst.turn n.inst n.decisions (one - 1) (other - 1) ≡ false) node
+    (sym c.may_order.ensures ∙ c.if-not-may_order.true)))
 
 pub returns-clause-judged : goal.returns-clause-judged
 returns-clause-judged c = λ numbers.

@@ -44,3 +44,9 @@ pub returns-clause-goes : goal.returns-clause-goes
 returns-clause-goes g c =
     from_path c.args.progress.now c.spent-leaf.new.path
     (λ room. omega (arith, room, c.close.ensures.room, c.spent-leaf.ensures.room)) c.in_ok-put_spent.ensures.goes
+
+pub returns-in-Some-clause-fewer : goal.returns-in-Some-clause-fewer
+returns-in-Some-clause-fewer g c = omega arith
+
+pub returns-clause-fewer : goal.returns-clause-fewer
+returns-clause-fewer g c = omega arith

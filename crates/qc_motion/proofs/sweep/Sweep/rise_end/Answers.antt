@@ -22,3 +22,10 @@ loop-task-preserved c =
           rw w.end-is (last_kept P (start_of it.sched) n c.args.at _ c.loop-task.invariant
           (λ p. w.if-hold-at.false (omega (arith, ints, h.1, h.2, p.1, hold.near, hold.bounded))))
     ]
+
+pub loop-task-preserved-in_default : goal.loop-task-preserved-in_default
+loop-task-preserved-in_default c =
+    let it = c.args.self.now in
+    let P : ℕ → Type 0 = IsOnRise it c.args.at (to_z w64 (of_z w64 c.args.place)) in
+    last_kept P (start_of it.sched) c.loop-task.task c.args.at _ c.loop-task.invariant
+    (λ p. absurd (omega (arith, p.0.1, c.in_default.ensures)))

@@ -9,10 +9,10 @@ use Rattle.qc_replay.proofs.crewed_node.CrewedNode.new.Goals as goal
 
 pub invariant_of-result : goal.invariant_of-result
 invariant_of-result c = record {
-  were_open = subst (λ (n : Node). WereOpen n.inst n.decisions) (sym c.in_ok-new.ensures) tt;
+  were_open = subst (λ (n : Node). WereOpen n.inst n.decisions) (sym c.in_ok-node.ensures) tt;
   begun =
-      subst (λ (n : Node). HasEarly n.inst.turn n.inst n.decisions c.in_ok-early_first.field-0) (sym c.in_ok-new.ensures)
-      c.in_ok-early_first.ensures;
-  crew = crew_none c.args.inst.now c.in_ok-open.field-0 c.in_ok-new.field-0 c.in_ok-new.ensures
-      (c.in_ok-open.ensures ∙ ap (λ (t : Turn). record { inst = c.args.inst.now; turn = t; cranes = no_cranes c.args.inst.now }) c.turn.ensures);
+      subst (λ (n : Node). HasEarly n.inst.turn n.inst n.decisions c.in-Ok-early_first.begun) (sym c.in_ok-node.ensures)
+      c.in-Ok-early_first.ensures;
+  crew = crew_none c.args.inst.now c.in-Ok.crew c.in_ok-node.node c.in_ok-node.ensures
+      (c.in-Ok.ensures ∙ ap (λ (t : Turn). record { inst = c.args.inst.now; turn = t; cranes = no_cranes c.args.inst.now }) c.turn.ensures);
 }
