@@ -95,13 +95,14 @@ impl Starts {
         ensures decisions { IfOk result (λ node. node.decisions ≡ []) }
         ensures noted { IfOk result (λ node. node.noted ≡ []) }
     {
+        let room = inst.task_count() as usize + inst.order_pairs() as usize;
+        let marks = Vec::with_capacity(alloc, room)?;
         let network = Network::open(alloc, inst)?;
         let spread = open_spread::<Brand>(alloc, &network, Blank::new(1))?;
-        let room = inst.task_count() as usize + inst.order_pairs() as usize;
         Ok(Starts {
             network,
             spread,
-            marks: Vec::with_capacity(alloc, room)?,
+            marks,
             step: Step::Raised,
             root: 0,
         })

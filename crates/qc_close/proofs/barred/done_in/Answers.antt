@@ -17,6 +17,26 @@ returns-then-not-lie_in c = λ cranes k own.
     done_outside c.args.inst.now cranes s c.args.table.now c.args.place k c.args.low c.args.high c.requires.low within c.args.turn
     _ _ (omega (arith, ints, one, near.0, near.1)) (omega (arith, ints, two, far.0, far.1)) c.lie_in.result c.lie_in.ensures c.if-not-lie_in.true
 
+pub index-above-requires : goal.index-above-requires
+index-above-requires c =
+    let k = c.requires.known.1 in
+    let within = c.requires.high in
+    let at = get_or_read c.args.spots.now.near_to.items c.args.low c.index-3.result.now
+    (omega (arith, c.requires.low, within, k.spots.near_to.many)) c.index-3.ensures 0 in
+    let low = upper_low c.args.inst.now c.requires.known.0 c.args.spots.now c.args.table.now c.args.place k c.args.low c.args.high
+    c.requires.low within c.index-3.result.now at in
+    omega (arith, low, c.args.table.now.before.ok.0)
+
+pub index-below-requires : goal.index-below-requires
+index-below-requires c =
+    let k = c.requires.known.1 in
+    let within = c.requires.high in
+    let at = get_or_read c.args.spots.now.near_from.items c.args.high c.index-4.result.now
+    (omega (arith, within, k.spots.near_from.many)) c.index-4.ensures 0 in
+    let low = lower_low c.args.inst.now c.requires.known.0 c.args.spots.now c.args.table.now c.args.place k c.args.low c.args.high
+    c.requires.low within c.index-4.result.now at in
+    omega (arith, low, c.args.table.now.from.ok.0)
+
 pub joined-requires-clause-one : goal.joined-requires-clause-one
 joined-requires-clause-one c =
     let s = c.args.spots.now in

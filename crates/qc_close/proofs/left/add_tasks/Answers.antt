@@ -1,6 +1,15 @@
-use Rattle.std.proofs.Common.{ap, arith, length}
-use Rattle.qc_close.proofs.CrewLemmas.{added_all, added_at}
+use Rattle.std.proofs.Common.{ap, arith, length, ◌+◌, ◌∙◌}
+use Rattle.std.proofs.lemmas.Grind.{common_steps}
+use Rattle.std.proofs.lemmas.List.{length-replicate}
+use Rattle.qc_close.proofs.CrewLemmas.{added_all, added_at, none_added}
 use Rattle.qc_close.proofs.left.add_tasks.Goals as goal
+
+pub loop-task-init : goal.loop-task-init
+loop-task-init c =
+    none_added c.args.inst.now _ (ap length c.requires ∙ length-replicate (c.args.inst.now.bays + 1) 0) c.requires
+
+pub overflow_add-left : goal.overflow_add-left
+overflow_add-left c = grind (arith, common_steps)
 
 pub loop-task-preserved : goal.loop-task-preserved
 loop-task-preserved c =

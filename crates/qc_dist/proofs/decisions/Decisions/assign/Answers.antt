@@ -1,4 +1,5 @@
 use Rattle.std.proofs.Common.{reverse, ◌∙◌, ap, arith}
+use Rattle.std.proofs.lemmas.Grind.{common_steps}
 use Rattle.qc_model.specs.declared.task.Task.{Task}
 use Rattle.qc_model.specs.declared.decision.Decision.TheVariants.{Assign}
 use Rattle.qc_dist.specs.Fields.{beside}
@@ -42,3 +43,9 @@ invariant_of-self c =
     (after_assign f.inst f.made.items c.push_reserved.new.self.items _ (beside f) c.args.task c.args.crane
     c.index-load.result.now c.task-job.result c.self.invariant can c.index-load.ensures c.task-job.ensures.task
     c.push_reserved.ensures.items c.push_reserved.ensures.capacity)
+
+pub returns-clause-added : goal.returns-clause-added
+returns-clause-added c = grind (arith, common_steps)
+
+pub returns-clause-fits : goal.returns-clause-fits
+returns-clause-fits c = grind (arith, common_steps)

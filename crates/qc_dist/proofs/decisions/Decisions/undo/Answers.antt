@@ -1,4 +1,5 @@
 use Rattle.std.proofs.Common.{reverse, arith}
+use Rattle.std.proofs.lemmas.Grind.{common_steps}
 use Rattle.qc_dist.specs.Fields.{beside}
 use Rattle.qc_dist.specs.Kept.{decisions_of}
 use Rattle.qc_dist.proofs.Bounds.{open_bounded}
@@ -18,6 +19,12 @@ invariant_of-self-in-Assign c =
     after_unassign f.inst f.made.items c.pop.new.self.items c.in_ok-made.made _ (beside f) c.in-Assign.task c.in-Assign.crane
     c.task.result c.self.invariant c.in_ok-made.ensures.items c.in-Assign.is c.task.ensures.task
     c.in_ok-made.ensures.capacity
+
+pub returns-in-Assign-clause-undone : goal.returns-in-Assign-clause-undone
+returns-in-Assign-clause-undone c = grind (arith, common_steps)
+
+pub returns-in-Assign-clause-fits : goal.returns-in-Assign-clause-fits
+returns-in-Assign-clause-fits c = grind (arith, common_steps)
 
 pub cell-requires-clause-first : goal.cell-requires-clause-first
 cell-requires-clause-first c =
