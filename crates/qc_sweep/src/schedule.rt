@@ -149,11 +149,11 @@ pub(crate) fn schedule_of(
     ensures { IfOk result (λ found. IfSome found (IsFirstPlan inst.now)) }
 {
     let mut starts = Starts::open(alloc, turned)?;
-    decided(alloc, inst, way, &mut starts, turned, cranes)
+    schedule_from_undecided(alloc, inst, way, &mut starts, turned, cranes)
 }
 
-/// The same from starts at which nothing is decided yet.
-fn decided(
+/// The same, with the starts at which nothing is decided yet.
+fn schedule_from_undecided(
     alloc: Global,
     inst: &Instance,
     way: Direction,

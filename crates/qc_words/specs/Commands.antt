@@ -41,8 +41,8 @@ abbrev pub with_rules : List ℕ → List Rule → App
 with_rules name rules = record (new_app name) { top = record (new_shape name) { rules = rules } }
 
 -- a command with these operands in order, and with options of these names
-abbrev pub command_by : List ℕ → List (List ℕ) → List (List ℕ) → App
-command_by name operands options = with_rules name (map operand operands ++ map option options)
+abbrev pub command_with_options : List ℕ → List (List ℕ) → List (List ℕ) → App
+command_with_options name operands options = with_rules name (map operand operands ++ map option options)
 
 -- a command with these operands in order
 abbrev pub command_with : List ℕ → List (List ℕ) → App
@@ -51,7 +51,7 @@ command_with name operands = with_rules name (map operand operands)
 -- a command that plans: its operands, and the options `--nodes` and `--from`
 abbrev pub search_command : List ℕ → App
 search_command name =
-    command_by name (codes "ship" ∷ codes "stow" ∷ codes "plan" ∷ codes "tree" ∷ []) (codes "nodes" ∷ codes "from" ∷ [])
+    command_with_options name (codes "ship" ∷ codes "stow" ∷ codes "plan" ∷ codes "tree" ∷ []) (codes "nodes" ∷ codes "from" ∷ [])
 
 -- each command, with its operands
 abbrev pub command_of : CommandName → App

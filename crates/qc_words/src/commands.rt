@@ -3,7 +3,7 @@
 ghost use Rattle.std.specs.Prelude.{◌≡◌, IfOk, map};
 ghost use Rattle.qc_words.specs.Words.{texts};
 ghost use Rattle.clap.specs.Words.{app_of};
-ghost use Rattle.qc_words.specs.Commands.{command_name, named, command_by, command_with, command_of, search_command};
+ghost use Rattle.qc_words.specs.Commands.{command_name, named, command_with_options, command_with, command_of, search_command};
 
 use clap::{Arg, Command};
 use std::alloc::{AllocError, Global};
@@ -54,13 +54,13 @@ pub fn named(words: &[String]) -> Option<CommandName>
 }
 
 /// A command with these operands in order, and with options of these names, each with a value.
-fn command_by<'a>(
+fn command_with_options<'a>(
     alloc: Global,
     name: &'a str,
     operands: &[&'a str],
     options: &[&'a str],
 ) -> Result<Command<'a>, AllocError>
-    ensures { IfOk result (λ command. app_of command ≡ command_by name.entry.now
+    ensures { IfOk result (λ command. app_of command ≡ command_with_options name.entry.now
         (map (λ operand. operand.now) operands.now) (map (λ option. option.now) options.now)) }
 {
     let mut command = Command::new(alloc, name);
@@ -82,14 +82,14 @@ fn command_with<'a>(
     ensures { IfOk result (λ command. app_of command
         ≡ command_with name.entry.now (map (λ operand. operand.now) operands.now)) }
 {
-    command_by(alloc, name, operands, &[])
+    command_with_options(alloc, name, operands, &[])
 }
 
 /// A command that plans, with its operands and the options `--nodes` and `--from`.
 fn search_command<'a>(alloc: Global, name: &'a str) -> Result<Command<'a>, AllocError>
     ensures { IfOk result (λ command. app_of command ≡ search_command name.entry.now) }
 {
-    command_by(
+    command_with_options(
         alloc,
         name,
         &["ship", "stow", "plan", "tree"],

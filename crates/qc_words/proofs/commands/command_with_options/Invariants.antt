@@ -1,7 +1,7 @@
 use Rattle.std.proofs.Common.{◌≡◌, ◌++◌, map, take}
 use Rattle.clap.specs.Words.{app_of}
 use Rattle.qc_words.specs.Commands.{operand, option, with_rules}
-use Rattle.qc_words.proofs.commands.command_by.Given as goal
+use Rattle.qc_words.proofs.commands.command_with_options.Given as goal
 
 abbrev pub invariant-loop-operand : goal.invariant-loop-operand
 invariant-loop-operand l =

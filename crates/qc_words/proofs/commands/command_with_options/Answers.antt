@@ -2,7 +2,7 @@ use Rattle.std.proofs.Common.{◌≡◌, ◌∙◌, ap₂, map, rules, get_or, [
 use Rattle.clap.specs.Words.{rule_of, with_rule}
 use Rattle.qc_words.specs.Commands.{operand, option}
 use Rattle.qc_words.proofs.ReadLemmas.{rule_more}
-use Rattle.qc_words.proofs.commands.command_by.Goals as goal
+use Rattle.qc_words.proofs.commands.command_with_options.Goals as goal
 
 pub loop-operand-preserved : goal.loop-operand-preserved
 loop-operand-preserved c =
