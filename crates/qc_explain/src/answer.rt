@@ -1,10 +1,10 @@
 //! What is said beside an answer without a plan.
 
 use crate::broken::is_reached;
-use crate::doing::TaskName;
-use qc_hints::Page;
 use qc_model::{Instance, Task, Turn};
 use qc_num::OutOfMemory;
+use qc_page::Part::Text;
+use qc_page::{Page, text_of};
 
 /// The first task that lies where no crane comes.
 fn out_of_reach(inst: &Instance) -> Option<Task> {
@@ -16,27 +16,27 @@ fn out_of_reach(inst: &Instance) -> Option<Task> {
     None
 }
 
-/// Says why there is no plan, or where one may be found.
-pub(crate) fn say_infeasible(page: &mut Page, inst: &Instance) -> Result<(), OutOfMemory> {
+/// Says why an instance has no plan, or where one may be found.
+pub fn say_infeasible(page: &mut Page, inst: &Instance) -> Result<(), OutOfMemory> {
     if let Some(task) = out_of_reach(inst) {
-        let name = TaskName(task);
-        return page.say(format_args!(
-            "note: {name} lies where no crane comes, by from and to of the ship file"
-        ));
+        let name = task.text();
+        return page.say(&[
+            Text("note: "),
+            Text(text_of(name.as_bytes())),
+            Text(" lies where no crane comes, by from and to of the ship file"),
+        ]);
     }
     match inst.turn() {
-        Turn::OneWay => {
-            page.say(
-                "note: no plan goes one way; qc free looks for one in which cranes go to and fro",
-            )
-        }
+        Turn::OneWay => page.say(&[Text(
+            "note: no plan goes one way; qc free looks for one in which cranes go to and fro",
+        )]),
         Turn::Free => Ok(()),
     }
 }
 
 /// Says what may find a plan where none was found with the branchings that were allowed.
-pub(crate) fn say_spent(page: &mut Page) -> Result<(), OutOfMemory> {
-    page.say(
+pub fn say_spent(page: &mut Page) -> Result<(), OutOfMemory> {
+    page.say(&[Text(
         "note: no plan was found yet: --nodes N allows up to 100000 branchings, and --from OWN begins with a plan of yours",
-    )
+    )])
 }

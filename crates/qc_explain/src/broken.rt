@@ -2,19 +2,19 @@
 
 use crate::doing::{Doing, bays_needed, bays_short, done_by, travel};
 use qc_gantt::read_plan;
-use qc_hints::{Bays, Page, Ticks, Word, table_of, text_of};
 use qc_model::{Break, Crane, Direction, Instance, Rule, Schedule, first_break};
 use qc_num::{Bay, OutOfMemory, Tick};
+use qc_page::Part::{At, Count, Number, Text, Ticks, Word};
+use qc_page::{Page, Part, table_of, text_of};
 use std::alloc::Global;
-use std::fmt;
 
 /// The tasks at which a plan breaks a rule.
 #[derive(Clone, Copy)]
 struct Story<'a> {
     inst: &'a Instance,
     in_decimetres: bool,
-    one: Doing<'a>,
-    other: Doing<'a>,
+    one: &'a Doing<'a>,
+    other: &'a Doing<'a>,
 }
 
 /// The first rule that a plan breaks on the way up; none where it breaks none, or can't be read.
@@ -26,12 +26,13 @@ fn broken_by(alloc: Global, bytes: &[u8], inst: &Instance) -> Option<(Break, Sch
     Some((broken, sched))
 }
 
-/// Says which rule a plan breaks, and when the task may start.
-pub(crate) fn say_broken(
+/// Says which rule a plan of an instance breaks, and when the task may start. Says nothing where it breaks none, or
+/// can't be read.
+pub fn say_broken<'a>(
     page: &mut Page,
-    file: &str,
-    bytes: &[u8],
-    inst: &Instance,
+    file: &'a str,
+    bytes: &'a [u8],
+    inst: &'a Instance,
     in_decimetres: bool,
 ) -> Result<(), OutOfMemory> {
     let Some((broken, sched)) = broken_by(page.alloc(), bytes, inst) else {
@@ -51,8 +52,8 @@ pub(crate) fn say_broken(
         Story {
             inst,
             in_decimetres,
-            one,
-            other,
+            one: &one,
+            other: &other,
         },
     )
 }
@@ -73,7 +74,7 @@ fn say_rule(page: &mut Page, rule: Rule, story: Story<'_>) -> Result<(), OutOfMe
 
 impl<'a> Story<'a> {
     /// The task that starts first, and the other.
-    fn in_order(&self) -> (Doing<'a>, Doing<'a>) {
+    fn in_order(&self) -> (&'a Doing<'a>, &'a Doing<'a>) {
         if self.other.start < self.one.start {
             (self.other, self.one)
         } else {
@@ -82,74 +83,17 @@ impl<'a> Story<'a> {
     }
 
     /// How many bays are meant.
-    fn bays(&self, count: Tick) -> Bays {
-        Bays {
-            count,
-            in_decimetres: self.in_decimetres,
-        }
+    fn bays(&self, count: Tick) -> Part<'a> {
+        Part::of_rail(count, self.in_decimetres)
     }
 
-    /// The way over so many bays.
-    fn way(&self, bays: Tick) -> Way {
-        Way {
-            bays: self.bays(bays),
-            ticks: Ticks(travel(self.inst, bays)),
-        }
-    }
-
-    /// A place on the rail.
-    fn spot(&self, bay: Bay) -> Spot {
-        Spot {
-            bay,
-            in_decimetres: self.in_decimetres,
-        }
-    }
-}
-
-/// A way of a crane.
-#[derive(Clone, Copy)]
-struct Way {
-    bays: Bays,
-    ticks: Ticks,
-}
-
-impl fmt::Display for Way {
-    fn fmt<W: fmt::Write>(&self, f: &mut fmt::Formatter<W>) -> fmt::Result {
-        let (bays, ticks) = (self.bays, self.ticks);
-        write!(f, "{bays} in {ticks}")
-    }
-}
-
-/// A place on the rail.
-#[derive(Clone, Copy)]
-struct Spot {
-    bay: Bay,
-    in_decimetres: bool,
-}
-
-impl fmt::Display for Spot {
-    fn fmt<W: fmt::Write>(&self, f: &mut fmt::Formatter<W>) -> fmt::Result {
-        let bay = self.bay;
-        if self.in_decimetres {
-            write!(f, "decimetre {bay}")
+    /// What is counted along the rail.
+    fn unit(&self) -> Part<'a> {
+        Text(if self.in_decimetres {
+            "decimetre "
         } else {
-            write!(f, "crane bay {bay}")
-        }
-    }
-}
-
-/// What a crane reaches.
-#[derive(Clone, Copy)]
-struct Reach<'a>(&'a Crane);
-
-impl fmt::Display for Reach<'_> {
-    fn fmt<W: fmt::Write>(&self, f: &mut fmt::Formatter<W>) -> fmt::Result {
-        let (name, from, to) = (
-            Word(text_of(self.0.name.as_bytes())),
-            self.0.from,
-            self.0.to,
-        );
-        write!(f, "{name} reaches {from} to {to}")
+            "crane bay "
+        })
     }
 }
 
@@ -158,25 +102,16 @@ fn reaches(crane: &Crane, bay: Bay) -> bool {
     crane.from <= bay && bay <= crane.to
 }
 
-/// The names of the cranes that reach a bay.
-#[derive(Clone, Copy)]
-struct Reaching<'a> {
-    inst: &'a Instance,
-    bay: Bay,
-}
-
-impl fmt::Display for Reaching<'_> {
-    fn fmt<W: fmt::Write>(&self, f: &mut fmt::Formatter<W>) -> fmt::Result {
-        let mut between = "";
-        for crane in self.inst.cranes() {
-            if reaches(crane, self.bay) {
-                let name = Word(text_of(crane.name.as_bytes()));
-                write!(f, "{between}{name}")?;
-                between = " or ";
-            }
+/// Goes on with the names of the cranes that reach a bay.
+fn add_reaching(page: &mut Page, inst: &Instance, bay: Bay) -> Result<(), OutOfMemory> {
+    let mut between = "";
+    for crane in inst.cranes() {
+        if reaches(crane, bay) {
+            page.add(&[Text(between), Word(text_of(crane.name.as_bytes()))])?;
+            between = " or ";
         }
-        Ok(())
     }
+    Ok(())
 }
 
 /// Whether any crane reaches a bay.
@@ -191,18 +126,27 @@ pub(crate) fn is_reached(inst: &Instance, bay: Bay) -> bool {
 
 /// Says that a crane doesn't reach a task.
 fn say_reach(page: &mut Page, story: Story<'_>) -> Result<(), OutOfMemory> {
-    let (task, inst) = (story.one, story.inst);
-    let (place, name, bay) = (task.place, task.name(), task.bay());
-    let (spot, reach) = (story.spot(bay), Reach(task.crane));
-    if is_reached(inst, bay) {
-        let list = Reaching { inst, bay };
-        page.say(format_args!(
-            "{place}: {name} stands at {spot}, and {reach}: give the task to {list}"
-        ))
+    let (task, bay) = (story.one, story.one.bay());
+    page.begin(&[
+        At(task.place),
+        Text(": "),
+        task.name(),
+        Text(" stands at "),
+        story.unit(),
+        Number(i64::from(bay)),
+        Text(", and "),
+        task.crane_name(),
+        Text(" reaches "),
+        Number(i64::from(task.crane.from)),
+        Text(" to "),
+        Number(i64::from(task.crane.to)),
+    ])?;
+    if is_reached(story.inst, bay) {
+        page.add(&[Text(": give the task to ")])?;
+        add_reaching(page, story.inst, bay)?;
+        page.end(&[])
     } else {
-        page.say(format_args!(
-            "{place}: {name} stands at {spot}, and {reach}; no crane reaches it, by from and to of the ship file"
-        ))
+        page.end(&[Text("; no crane reaches it, by from and to of the ship file")])
     }
 }
 
@@ -210,25 +154,49 @@ fn say_reach(page: &mut Page, story: Story<'_>) -> Result<(), OutOfMemory> {
 fn say_ready(page: &mut Page, story: Story<'_>) -> Result<(), OutOfMemory> {
     let (task, ready) = (story.one, story.one.crane.ready);
     let bays = Tick::from(task.crane.bay.abs_diff(task.bay()));
-    let least = ready.saturating_add(travel(story.inst, bays));
-    let (place, name, start) = (task.place, task.name(), task.start);
-    let (crane, way, remedy) = (task.crane_name(), story.way(bays), task.may_start(least));
-    page.say(format_args!(
-        "{place}: {name} starts at {start}; {crane} is ready at {ready} and goes {way}: {remedy}"
-    ))
+    let way = travel(story.inst, bays);
+    page.begin(&[
+        At(task.place),
+        Text(": "),
+        task.name(),
+        Text(" starts at "),
+        Count(task.start),
+        Text("; "),
+        task.crane_name(),
+        Text(" is ready at "),
+        Count(ready),
+        Text(" and goes "),
+        story.bays(bays),
+        Text(" in "),
+        Ticks(way),
+    ])?;
+    task.end_with_start(page, ready.saturating_add(way))
 }
 
 /// Says when a crane can be at its next task.
 fn say_travel(page: &mut Page, story: Story<'_>) -> Result<(), OutOfMemory> {
     let (early, late) = story.in_order();
     let bays = Tick::from(early.bay().abs_diff(late.bay()));
-    let least = early.end().saturating_add(travel(story.inst, bays));
-    let (place, crane, way) = (late.place, late.crane_name(), story.way(bays));
-    let (first, end) = (early.name(), early.end());
-    let (second, start, remedy) = (late.name(), late.start, late.may_start(least));
-    page.say(format_args!(
-        "{place}: {crane} does {first} to {end} and {second} from {start}, and goes {way} between: {remedy}"
-    ))
+    let way = travel(story.inst, bays);
+    page.begin(&[
+        At(late.place),
+        Text(": "),
+        late.crane_name(),
+        Text(" does "),
+        early.name(),
+        Text(" to "),
+        Count(early.end()),
+        Text(" and "),
+        late.name(),
+        Text(" from "),
+        Count(late.start),
+        Text(", and goes "),
+        story.bays(bays),
+        Text(" in "),
+        Ticks(way),
+        Text(" between"),
+    ])?;
+    late.end_with_start(page, early.end().saturating_add(way))
 }
 
 /// Says when a task may start that comes behind another.
@@ -238,23 +206,36 @@ fn say_before(page: &mut Page, story: Story<'_>) -> Result<(), OutOfMemory> {
     } else {
         (story.one, story.other)
     };
-    let (place, name, before) = (second.place, second.name(), first.name());
-    let (start, least) = (second.start, first.end());
-    let remedy = second.may_start(least);
-    page.say(format_args!(
-        "{place}: {name} starts at {start}, and {before} is before it and ends at {least}: {remedy}"
-    ))
+    page.begin(&[
+        At(second.place),
+        Text(": "),
+        second.name(),
+        Text(" starts at "),
+        Count(second.start),
+        Text(", and "),
+        first.name(),
+        Text(" is before it and ends at "),
+        Count(first.end()),
+    ])?;
+    second.end_with_start(page, first.end())
 }
 
 /// Says when a task may start that is never done at the same time as another.
 fn say_apart(page: &mut Page, story: Story<'_>) -> Result<(), OutOfMemory> {
     let (early, late) = story.in_order();
-    let (place, first, second) = (late.place, early.name(), late.name());
-    let (start, least) = (late.start, early.end());
-    let remedy = late.may_start(least);
-    page.say(format_args!(
-        "{place}: {second} starts at {start}, and {first} goes on to {least}; their hatches are apart, so they are never worked at the same time: {remedy}"
-    ))
+    page.begin(&[
+        At(late.place),
+        Text(": "),
+        late.name(),
+        Text(" starts at "),
+        Count(late.start),
+        Text(", and "),
+        early.name(),
+        Text(" goes on to "),
+        Count(early.end()),
+        Text("; their hatches are apart, so they are never worked at the same time"),
+    ])?;
+    late.end_with_start(page, early.end())
 }
 
 /// Whether two cranes, of these numbers, would have to stand in the wrong order.
@@ -269,19 +250,19 @@ fn say_margin(page: &mut Page, story: Story<'_>) -> Result<(), OutOfMemory> {
     let (v, w) = (early.crane_number, late.crane_number);
     let short = bays_short(story.inst, v, early.bay(), w, late.bay());
     let least = early.end().saturating_add(travel(story.inst, short));
-    let bays = story.bays(Tick::from(early.bay().abs_diff(late.bay())));
-    let needed = bays_needed(story.inst, v, w);
-    let (place, second, first) = (late.place, late.from_start(), early.to_end());
-    let remedy = late.may_start(least);
-    if are_crossed(&early, &late) {
-        page.say(format_args!(
-            "{place}: {second} and {first} stand {bays} apart in the wrong order, and cranes can't pass each other: {remedy}"
-        ))
+    let bays = Tick::from(early.bay().abs_diff(late.bay()));
+    page.begin(&[At(late.place), Text(": ")])?;
+    late.add_from_start(page)?;
+    page.add(&[Text(" and ")])?;
+    early.add_to_end(page)?;
+    page.add(&[Text(" stand "), story.bays(bays), Text(" apart")])?;
+    if are_crossed(early, late) {
+        page.add(&[Text(" in the wrong order, and cranes can't pass each other")])?;
     } else {
-        page.say(format_args!(
-            "{place}: {second} and {first} stand {bays} apart, {needed} are needed: {remedy}"
-        ))
+        let needed = bays_needed(story.inst, v, w);
+        page.add(&[Text(", "), Count(needed), Text(" are needed")])?;
     }
+    late.end_with_start(page, least)
 }
 
 /// The crane that keeps a task longest from its place, since it can't leave its own first one, and when the task may
@@ -306,26 +287,32 @@ fn say_berth(page: &mut Page, story: Story<'_>) -> Result<(), OutOfMemory> {
     let Some((crane, least)) = crane_in_way(story) else {
         return Ok(());
     };
-    let (place, task, remedy) = (
-        story.one.place,
-        story.one.from_start(),
-        story.one.may_start(least),
-    );
-    let (other, spot, ready) = (
+    let task = story.one;
+    page.begin(&[At(task.place), Text(": ")])?;
+    task.add_from_start(page)?;
+    page.add(&[
+        Text(" is too near to "),
         Word(text_of(crane.name.as_bytes())),
-        story.spot(crane.bay),
-        crane.ready,
-    );
-    page.say(format_args!(
-        "{place}: {task} is too near to {other}, which stands at {spot} and can't leave it before {ready}: {remedy}"
-    ))
+        Text(", which stands at "),
+        story.unit(),
+        Number(i64::from(crane.bay)),
+        Text(" and can't leave it before "),
+        Count(crane.ready),
+    ])?;
+    task.end_with_start(page, least)
 }
 
 /// Says which task turns the way of the cranes round.
 fn say_one_way(page: &mut Page, story: Story<'_>) -> Result<(), OutOfMemory> {
     let (early, late) = story.in_order();
-    let (place, first, second) = (late.place, early.name(), late.name());
-    page.say(format_args!(
-        "{place}: the plan can be worked, but its cranes go to and fro: from {first} to {second} the way is down, and other tasks go up; only a tree of all feasible plans speaks of such a plan, and qc freecheck judges it; qc sheet, qc dispatch, qc picture and qc report take it"
-    ))
+    page.say(&[
+        At(late.place),
+        Text(": the plan can be worked, but its cranes go to and fro: from "),
+        early.name(),
+        Text(" to "),
+        late.name(),
+        Text(
+            " the way is down, and other tasks go up; only a tree of all feasible plans speaks of such a plan, and qc freecheck judges it; qc sheet, qc dispatch, qc picture and qc report take it",
+        ),
+    ])
 }

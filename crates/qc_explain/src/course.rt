@@ -3,9 +3,10 @@
 use crate::log::{is_open, word};
 use qc_dispatch::{DispatchError, DispatchFault, DispatchKind, follow_log};
 use qc_gantt::{PlanError, read_plan};
-use qc_hints::{Page, Place, Shown, line_of, raw_line};
 use qc_model::Instance;
 use qc_num::OutOfMemory;
+use qc_page::Part::{At, Shown, Text};
+use qc_page::{Page, Place, line_of, raw_line};
 use qc_run::broken_rule;
 use std::alloc::Global;
 
@@ -31,11 +32,12 @@ fn fault_of(
     }
 }
 
-/// Says what is wrong with a log by which a plan is followed.
-pub(crate) fn say_course(
+/// Says what is wrong with a log of ticks and of tasks that are done, by which a plan of an instance is followed. Says
+/// nothing where the log is in order, or the plan has a fault.
+pub fn say_course<'a>(
     page: &mut Page,
-    file: &str,
-    bytes: &[u8],
+    file: &'a str,
+    bytes: &'a [u8],
     inst: &Instance,
     plan: &[u8],
 ) -> Result<(), OutOfMemory> {
@@ -43,21 +45,28 @@ pub(crate) fn say_course(
         return Ok(());
     };
     let number = fault.line as usize;
-    let place = Place::at_line(file, number);
-    let name = Shown(word(line_of(bytes, number), 1));
+    let (place, name) = (
+        Place::at_line(file, number),
+        word(line_of(bytes, number), 1),
+    );
     match fault.kind {
-        DispatchKind::TooMany => {
-            page.say(format_args!(
-                "{place}: this is a line behind the 100000th, and a log has no more"
-            ))
-        }
+        DispatchKind::TooMany => page.say(&[
+            At(place),
+            Text(": this is a line behind the 100000th, and a log has no more"),
+        ]),
         DispatchKind::Line => say_line(page, place, bytes),
-        DispatchKind::UnknownTask => page.say(format_args!(
-            "{place}: {name} is no task of this ship and list; qc tasks tells their names"
-        )),
-        DispatchKind::NotRunning => page.say(format_args!(
-            "{place}: {name} doesn't run then: a task is done once, and after its start was told"
-        )),
+        DispatchKind::UnknownTask => page.say(&[
+            At(place),
+            Text(": "),
+            Shown(name),
+            Text(" is no task of this ship and list; qc tasks tells their names"),
+        ]),
+        DispatchKind::NotRunning => page.say(&[
+            At(place),
+            Text(": "),
+            Shown(name),
+            Text(" doesn't run then: a task is done once, and after its start was told"),
+        ]),
     }
 }
 
@@ -78,13 +87,19 @@ fn why_no_line(line: &[u8]) -> &'static str {
 }
 
 /// Says what is wrong with a line.
-fn say_line(page: &mut Page, place: Place<'_>, bytes: &[u8]) -> Result<(), OutOfMemory> {
+fn say_line<'a>(page: &mut Page, place: Place<'a>, bytes: &'a [u8]) -> Result<(), OutOfMemory> {
     let raw = raw_line(bytes, place.line);
-    let shown = Shown(line_of(bytes, place.line));
     let why = if is_open(bytes, place.line) {
         "no line feed ends it: the log was cut off, or its last line has none"
     } else {
         why_no_line(raw)
     };
-    page.say(format_args!("{place}: {shown}: {why}; a line is tick N or done TASK, as done 2-DD"))
+    page.say(&[
+        At(place),
+        Text(": "),
+        Shown(line_of(bytes, place.line)),
+        Text(": "),
+        Text(why),
+        Text("; a line is tick N or done TASK, as done 2-DD"),
+    ])
 }

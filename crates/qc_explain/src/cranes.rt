@@ -1,15 +1,16 @@
 //! Names of cranes.
 
-use qc_hints::{Page, Place, Shown, nearest, text_of};
 use qc_model::Crane;
 use qc_num::OutOfMemory;
+use qc_page::Part::{At, Shown, Text};
+use qc_page::{Page, Place, nearest, text_of};
 
 /// Says that a name is that of no crane.
-pub(crate) fn say_no_crane(
+pub(crate) fn say_no_crane<'a>(
     page: &mut Page,
-    place: Place<'_>,
-    name: &[u8],
-    cranes: &[Crane],
+    place: Place<'a>,
+    name: &'a [u8],
+    cranes: &'a [Crane],
 ) -> Result<(), OutOfMemory> {
     let alloc = page.alloc();
     let mut names = Vec::new(alloc);
@@ -22,11 +23,9 @@ pub(crate) fn say_no_crane(
         list.push_str(name)?;
         names.push(name)?;
     }
-    let shown = Shown(name);
+    page.begin(&[At(place), Text(": no crane is named "), Shown(name)])?;
     match nearest(alloc, text_of(name).trim(), names.as_slice())? {
-        Some(near) => page.say(format_args!(
-            "{place}: no crane is named {shown}; the nearest is {near}"
-        )),
-        None => page.say(format_args!("{place}: no crane is named {shown}; the cranes are {list}")),
+        Some(near) => page.end(&[Text("; the nearest is "), Text(near)]),
+        None => page.end(&[Text("; the cranes are "), Text(list.as_str())]),
     }
 }

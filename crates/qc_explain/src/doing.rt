@@ -1,25 +1,15 @@
 //! A task as a plan has it done.
 
-use qc_hints::{Place, Table, Word, text_of};
-use qc_model::{Crane, Instance, Schedule, Task};
-use qc_num::{Bay, Tick};
-use std::fmt;
-
-/// A task by its name.
-#[derive(Clone, Copy)]
-pub(crate) struct TaskName(pub(crate) Task);
-
-impl fmt::Display for TaskName {
-    fn fmt<W: fmt::Write>(&self, f: &mut fmt::Formatter<W>) -> fmt::Result {
-        let text = self.0.text();
-        f.write_str(text_of(text.as_bytes()))
-    }
-}
+use qc_model::{Crane, Instance, Schedule, Task, TaskText};
+use qc_num::{Bay, OutOfMemory, Tick};
+use qc_page::Part::{Count, Text, Word};
+use qc_page::{Page, Part, Place, Table, text_of};
 
 /// A task as a plan has it done.
-#[derive(Clone, Copy)]
+#[derive(Drop)]
 pub(crate) struct Doing<'a> {
     task: Task,
+    name: TaskText,
     pub(crate) number: u16,
     pub(crate) crane: &'a Crane,
     pub(crate) crane_number: u16,
@@ -39,6 +29,7 @@ pub(crate) fn done_by<'a>(
     let slot = sched.slots().get(number as usize)?;
     Some(Doing {
         task,
+        name: task.text(),
         number,
         crane: inst.cranes().get(slot.crane as usize)?,
         crane_number: slot.crane,
@@ -57,8 +48,8 @@ fn place_of<'a>(table: &Table<'a>, task: Task) -> Place<'a> {
 
 impl<'a> Doing<'a> {
     /// The task's name.
-    pub(crate) fn name(&self) -> TaskName {
-        TaskName(self.task)
+    pub(crate) fn name(&self) -> Part<'_> {
+        Text(text_of(self.name.as_bytes()))
     }
 
     /// The bay of the task.
@@ -72,68 +63,45 @@ impl<'a> Doing<'a> {
     }
 
     /// The name of the crane that does it.
-    pub(crate) fn crane_name(&self) -> Word<'a> {
+    pub(crate) fn crane_name(&self) -> Part<'a> {
         Word(text_of(self.crane.name.as_bytes()))
     }
 
-    /// The task with its crane and its start.
-    pub(crate) fn from_start(&self) -> Worked<'a> {
-        Worked {
-            name: self.name(),
-            crane: self.crane_name(),
-            word: "from",
-            tick: self.start,
-        }
+    /// Goes on with the task, its crane and its start.
+    pub(crate) fn add_from_start(&self, page: &mut Page) -> Result<(), OutOfMemory> {
+        page.add(&[
+            self.name(),
+            Text(" ("),
+            self.crane_name(),
+            Text(", from "),
+            Count(self.start),
+            Text(")"),
+        ])
     }
 
-    /// The task with its crane and its end.
-    pub(crate) fn to_end(&self) -> Worked<'a> {
-        Worked {
-            name: self.name(),
-            crane: self.crane_name(),
-            word: "to",
-            tick: self.end(),
-        }
+    /// Goes on with the task, its crane and its end.
+    pub(crate) fn add_to_end(&self, page: &mut Page) -> Result<(), OutOfMemory> {
+        page.add(&[
+            self.name(),
+            Text(" ("),
+            self.crane_name(),
+            Text(", to "),
+            Count(self.end()),
+            Text(")"),
+        ])
     }
 
-    /// That the task may start at a tick.
-    pub(crate) fn may_start(&self, start: Tick) -> MayStart {
-        MayStart {
-            name: self.name(),
-            start,
-            end: start.saturating_add(self.task.ticks),
-        }
-    }
-}
-
-/// A task with its crane and the tick from which or to which it is worked.
-#[derive(Clone, Copy)]
-pub(crate) struct Worked<'a> {
-    name: TaskName,
-    crane: Word<'a>,
-    word: &'static str,
-    tick: Tick,
-}
-
-impl fmt::Display for Worked<'_> {
-    fn fmt<W: fmt::Write>(&self, f: &mut fmt::Formatter<W>) -> fmt::Result {
-        let (name, crane, word, tick) = (self.name, self.crane, self.word, self.tick);
-        write!(f, "{name} ({crane}, {word} {tick})")
-    }
-}
-
-/// When a task may start, and when it ends then.
-#[derive(Clone, Copy)]
-pub(crate) struct MayStart {
-    name: TaskName,
-    start: Tick,
-    end: Tick,
-}
-
-impl fmt::Display for MayStart {
-    fn fmt<W: fmt::Write>(&self, f: &mut fmt::Formatter<W>) -> fmt::Result {
-        let (name, start, end) = (self.name, self.start, self.end);
-        write!(f, "{name} may start at {start}, and ends at {end} then")
+    /// Ends the line: the task may start at this tick.
+    pub(crate) fn end_with_start(&self, page: &mut Page, start: Tick) -> Result<(), OutOfMemory> {
+        page.end(&[
+            Text(": "),
+            self.name(),
+            Text(" may start at "),
+            Count(start),
+            Text(", and ends at "),
+            Count(start.saturating_add(self.task.ticks)),
+            Text(" then"),
+        ])
     }
 }
 

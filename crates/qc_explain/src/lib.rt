@@ -1,5 +1,4 @@
-//! The second voice: after a run, what is to be mended in its words and files, and what is worth a note, for
-//! people.
+//! Faults of plans, logs and trees, told for people; and what is worth a note beside an answer without a plan.
 #![tactic(auto)]
 
 mod answer;
@@ -9,8 +8,11 @@ mod cranes;
 mod doing;
 mod log;
 mod plan;
-mod texts;
 mod tree;
-mod voice;
 
-pub use voice::explain;
+pub use answer::{say_infeasible, say_spent};
+pub use broken::say_broken;
+pub use course::say_course;
+pub use log::say_log;
+pub use plan::say_plan;
+pub use tree::say_tree;

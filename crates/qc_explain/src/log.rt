@@ -1,8 +1,9 @@
 //! Faults of a log of places.
 
 use crate::cranes::say_no_crane;
-use qc_hints::{Page, Place, Shown, are_digits, line_of, piece_at, raw_line};
 use qc_num::OutOfMemory;
+use qc_page::Part::{At, Count, Shown, Text};
+use qc_page::{Page, Place, are_digits, line_of, piece_at, raw_line};
 use qc_ship::Ship;
 use qc_watch::{WatchError, WatchFault, WatchKind, read_reports};
 use std::alloc::Global;
@@ -16,12 +17,12 @@ fn fault_of(alloc: Global, bytes: &[u8], ship: &Ship) -> Result<Option<WatchFaul
     }
 }
 
-/// Says what is wrong with a log of a ship's cranes.
-pub(crate) fn say_log(
+/// Says what is wrong with a log of the places of a ship's cranes. Says nothing where it is in order.
+pub fn say_log<'a>(
     page: &mut Page,
-    file: &str,
-    bytes: &[u8],
-    ship: &Ship,
+    file: &'a str,
+    bytes: &'a [u8],
+    ship: &'a Ship,
 ) -> Result<(), OutOfMemory> {
     let Some(fault) = fault_of(page.alloc(), bytes, ship)? else {
         return Ok(());
@@ -29,11 +30,10 @@ pub(crate) fn say_log(
     let number = fault.line as usize;
     let place = Place::at_line(file, number);
     match fault.kind {
-        WatchKind::TooMany => {
-            page.say(format_args!(
-                "{place}: this is a line behind the 200000th, and a log has no more"
-            ))
-        }
+        WatchKind::TooMany => page.say(&[
+            At(place),
+            Text(": this is a line behind the 200000th, and a log has no more"),
+        ]),
         WatchKind::Line => say_line(page, place, bytes),
         WatchKind::UnknownCrane => {
             let name = word(line_of(bytes, number), 1);
@@ -80,15 +80,21 @@ fn why_no_line(line: &[u8]) -> &'static str {
 }
 
 /// Says what is wrong with a line.
-fn say_line(page: &mut Page, place: Place<'_>, bytes: &[u8]) -> Result<(), OutOfMemory> {
+fn say_line<'a>(page: &mut Page, place: Place<'a>, bytes: &'a [u8]) -> Result<(), OutOfMemory> {
     let raw = raw_line(bytes, place.line);
-    let shown = Shown(line_of(bytes, place.line));
     let why = if is_open(bytes, place.line) {
         "no line feed ends it: the log was cut off, or its last line has none"
     } else {
         why_no_line(raw)
     };
-    page.say(format_args!("{place}: {shown}: {why}; a line is TIME NAME PLACE, as 10 C1 5"))
+    page.say(&[
+        At(place),
+        Text(": "),
+        Shown(line_of(bytes, place.line)),
+        Text(": "),
+        Text(why),
+        Text("; a line is TIME NAME PLACE, as 10 C1 5"),
+    ])
 }
 
 /// The last line ahead of this one that has the name as its second word; 0 where there is none.
@@ -107,12 +113,21 @@ fn last_before(bytes: &[u8], number: usize, name: &[u8]) -> usize {
 }
 
 /// Says which earlier line of the crane has a time that isn't lower.
-fn say_time(page: &mut Page, place: Place<'_>, bytes: &[u8]) -> Result<(), OutOfMemory> {
+fn say_time<'a>(page: &mut Page, place: Place<'a>, bytes: &'a [u8]) -> Result<(), OutOfMemory> {
     let line = line_of(bytes, place.line);
-    let earlier = last_before(bytes, place.line, word(line, 1));
-    let before = Shown(word(line_of(bytes, earlier), 0));
-    let (time, name) = (Shown(word(line, 0)), Shown(word(line, 1)));
-    page.say(format_args!(
-        "{place}: the time of {name} is {time}, and in line {earlier} it was {before} already; the lines of each crane stand in order of time"
-    ))
+    let (time, name) = (word(line, 0), word(line, 1));
+    let earlier = last_before(bytes, place.line, name);
+    let before = word(line_of(bytes, earlier), 0);
+    page.say(&[
+        At(place),
+        Text(": the time of "),
+        Shown(name),
+        Text(" is "),
+        Shown(time),
+        Text(", and in line "),
+        Count(earlier as u64),
+        Text(" it was "),
+        Shown(before),
+        Text(" already; the lines of each crane stand in order of time"),
+    ])
 }

@@ -1,15 +1,12 @@
 //! Faults of a plan's file.
 
 use crate::cranes::say_no_crane;
-use crate::doing::TaskName;
 use qc_gantt::{PlanError, PlanFault, PlanKind, read_plan};
-use qc_hints::{
-    Page, Shown, Sort, Table, Ticks, Word, is_blank, say_fields, say_header, table_of, text_of,
-};
 use qc_model::{Instance, Task};
 use qc_num::{OutOfMemory, plain_number};
+use qc_page::Part::{At, Count, Shown, Text, Ticks, Word};
+use qc_page::{Page, Sort, Table, is_blank, say_fields, say_header, table_of, text_of};
 use std::alloc::Global;
-use std::fmt;
 
 const HEADER: &str = "task,crane,start,end";
 
@@ -29,12 +26,12 @@ fn fault_of(
     }
 }
 
-/// Says what is wrong with a plan of an instance.
-pub(crate) fn say_plan(
+/// Says what is wrong with the table of a plan of an instance. Says nothing where it is in order.
+pub fn say_plan<'a>(
     page: &mut Page,
-    file: &str,
-    bytes: &[u8],
-    inst: &Instance,
+    file: &'a str,
+    bytes: &'a [u8],
+    inst: &'a Instance,
 ) -> Result<(), OutOfMemory> {
     let Some(fault) = fault_of(page.alloc(), bytes, inst)? else {
         return Ok(());
@@ -72,25 +69,35 @@ fn task_like<'a>(inst: &'a Instance, field: &[u8]) -> Option<&'a Task> {
 }
 
 /// Says that a plan has a task that the list hasn't.
-fn say_task(
+fn say_task<'a>(
     page: &mut Page,
-    table: &Table<'_>,
+    table: &'a Table<'a>,
     number: u32,
     inst: &Instance,
 ) -> Result<(), OutOfMemory> {
     let (place, field) = (table.place(number), table.field(number, 0));
     if is_blank(table, number) {
-        return page.say(format_args!("{place}: the record is empty: delete the line"));
+        return page.say(&[At(place), Text(": the record is empty: delete the line")]);
     }
-    let shown = Shown(field);
     match task_like(inst, field) {
         Some(task) => {
-            let name = TaskName(*task);
-            page.say(format_args!("{place}: the task {shown} is written {name}"))
+            let name = task.text();
+            page.say(&[
+                At(place),
+                Text(": the task "),
+                Shown(field),
+                Text(" is written "),
+                Text(text_of(name.as_bytes())),
+            ])
         }
-        None => page.say(format_args!(
-            "{place}: the ship file and the list have no task {shown}; a task is a hatch and DD, DH, LH or LD, as 2-DD, and qc tasks SHIP STOW prints all of them"
-        )),
+        None => page.say(&[
+            At(place),
+            Text(": the ship file and the list have no task "),
+            Shown(field),
+            Text(
+                "; a task is a hatch and DD, DH, LH or LD, as 2-DD, and qc tasks SHIP STOW prints all of them",
+            ),
+        ]),
     }
 }
 
@@ -116,107 +123,112 @@ fn why_no_number(field: &[u8]) -> &'static str {
 }
 
 /// Says which time of a record is none.
-fn say_number(page: &mut Page, table: &Table<'_>, number: u32) -> Result<(), OutOfMemory> {
-    let (place, start, end) = (
-        table.place(number),
-        table.field(number, 2),
-        table.field(number, 3),
-    );
+fn say_number<'a>(page: &mut Page, table: &'a Table<'a>, number: u32) -> Result<(), OutOfMemory> {
+    let (start, end) = (table.field(number, 2), table.field(number, 3));
     let (name, field) = if plain_number(start, DIGITS).is_none() {
         ("start", start)
     } else {
         ("end", end)
     };
-    let (shown, why) = (Shown(field), why_no_number(field));
-    page.say(format_args!(
-        "{place}: the {name} is {shown}: {why}; it is a tick in 1 to 12 digits, without a leading 0"
-    ))
+    page.say(&[
+        At(table.place(number)),
+        Text(": the "),
+        Text(name),
+        Text(" is "),
+        Shown(field),
+        Text(": "),
+        Text(why_no_number(field)),
+        Text("; it is a tick in 1 to 12 digits, without a leading 0"),
+    ])
 }
 
 /// Says which end a task has.
-fn say_end(
+fn say_end<'a>(
     page: &mut Page,
-    table: &Table<'_>,
+    table: &'a Table<'a>,
     number: u32,
     inst: &Instance,
 ) -> Result<(), OutOfMemory> {
-    let place = table.place(number);
     let (Some(task), Some(start)) = (
         task_like(inst, table.field(number, 0)),
         plain_number(table.field(number, 2), DIGITS),
     ) else {
         return Ok(());
     };
-    let (end, ticks) = (Word(text_of(table.field(number, 3))), Ticks(task.ticks));
-    let wanted = start.saturating_add(task.ticks);
-    page.say(format_args!(
-        "{place}: the task takes {ticks}, so from {start} on it ends at {wanted}, and not at {end}"
-    ))
+    page.say(&[
+        At(table.place(number)),
+        Text(": the task takes "),
+        Ticks(task.ticks),
+        Text(", so from "),
+        Count(start),
+        Text(" on it ends at "),
+        Count(start.saturating_add(task.ticks)),
+        Text(", and not at "),
+        Word(text_of(table.field(number, 3))),
+    ])
 }
 
 /// Says where a task stands already.
-fn say_twice(page: &mut Page, table: &Table<'_>, number: u32) -> Result<(), OutOfMemory> {
-    let (place, name) = (table.place(number), table.field(number, 0));
+fn say_twice<'a>(page: &mut Page, table: &'a Table<'a>, number: u32) -> Result<(), OutOfMemory> {
+    let name = table.field(number, 0);
     let Some(other) = table.record_of(name) else {
         return Ok(());
     };
-    let (line, shown) = (table.place(other).line, Shown(name));
-    page.say(format_args!(
-        "{place}: the task {shown} stands in line {line} already; each task has one record"
-    ))
+    page.say(&[
+        At(table.place(number)),
+        Text(": the task "),
+        Shown(name),
+        Text(" stands in line "),
+        Count(table.place(other).line as u64),
+        Text(" already; each task has one record"),
+    ])
 }
 
 /// How many tasks that have no record are named.
 const MOST_NAMED: usize = 5;
 
-/// The tasks of an instance that have no record.
-#[derive(Clone, Copy)]
-struct Missing<'a> {
-    inst: &'a Instance,
-    table: &'a Table<'a>,
+/// How many tasks of an instance have no record.
+fn count_missing(table: &Table<'_>, inst: &Instance) -> usize {
+    let mut count = 0usize;
+    for task in inst.tasks() {
+        if table.record_of(task.text().as_bytes()).is_none() {
+            count = count.saturating_add(1);
+        }
+    }
+    count
 }
 
-impl Missing<'_> {
-    /// How many they are.
-    fn count(&self) -> usize {
-        let mut count = 0usize;
-        for task in self.inst.tasks() {
-            if self.table.record_of(task.text().as_bytes()).is_none() {
-                count = count.saturating_add(1);
-            }
+/// Goes on with the names of tasks of an instance that have no record.
+fn add_missing(page: &mut Page, table: &Table<'_>, inst: &Instance) -> Result<(), OutOfMemory> {
+    let mut left = MOST_NAMED;
+    for task in inst.tasks() {
+        let name = task.text();
+        if table.record_of(name.as_bytes()).is_some() {
+            continue;
         }
-        count
-    }
-}
-
-impl fmt::Display for Missing<'_> {
-    fn fmt<W: fmt::Write>(&self, f: &mut fmt::Formatter<W>) -> fmt::Result {
-        let mut left = MOST_NAMED;
-        for task in self.inst.tasks() {
-            if self.table.record_of(task.text().as_bytes()).is_some() {
-                continue;
-            }
-            if left == 0 {
-                return f.write_str(" ..");
-            }
-            left = left.saturating_sub(1);
-            let name = TaskName(*task);
-            write!(f, " {name}")?;
+        if left == 0 {
+            return page.add(&[Text(" ..")]);
         }
-        Ok(())
+        left = left.saturating_sub(1);
+        page.add(&[Text(" "), Text(text_of(name.as_bytes()))])?;
     }
+    Ok(())
 }
 
 /// Says which tasks have no record.
-fn say_missing<'a>(
-    page: &mut Page,
-    table: &'a Table<'a>,
-    inst: &'a Instance,
-) -> Result<(), OutOfMemory> {
-    let missing = Missing { inst, table };
-    let (file, count) = (Word(table.file), missing.count());
-    let have = if count == 1 { "task has" } else { "tasks have" };
-    page.say(format_args!(
-        "{file}: {count} {have} no record:{missing}; a plan has one for each task that qc tasks SHIP STOW prints"
-    ))
+fn say_missing(page: &mut Page, table: &Table<'_>, inst: &Instance) -> Result<(), OutOfMemory> {
+    let count = count_missing(table, inst);
+    page.begin(&[
+        Word(table.file),
+        Text(": "),
+        Count(count as u64),
+        Text(if count == 1 {
+            " task has"
+        } else {
+            " tasks have"
+        }),
+        Text(" no record:"),
+    ])?;
+    add_missing(page, table, inst)?;
+    page.end(&[Text("; a plan has one for each task that qc tasks SHIP STOW prints")])
 }

@@ -1,9 +1,10 @@
 //! Faults of a bound tree's file.
 
-use qc_hints::{Page, Place, Shown, Sort, line_of, raw_line, say_form};
 use qc_model::Turn;
 use qc_num::OutOfMemory;
-use qc_replay::{TreeFault, TreeKind};
+use qc_page::Part::{At, Shown, Text};
+use qc_page::{Page, Place, Sort, line_of, raw_line, say_form};
+use qc_tree::{TreeFault, TreeKind};
 
 /// What is wrong with a line of a tree, and what to do.
 fn why(kind: TreeKind) -> &'static str {
@@ -60,11 +61,12 @@ fn other_kind(title: &[u8], turn: Turn) -> Option<&'static str> {
     }
 }
 
-/// Says what is wrong with a tree for schedules of this turn. The bytes are those of a front part of its file.
-pub(crate) fn say_tree(
+/// Says what is wrong with a tree for schedules of this turn, whose first fault is this one. The bytes are those of a
+/// front part of its file.
+pub fn say_tree<'a>(
     page: &mut Page,
-    file: &str,
-    bytes: &[u8],
+    file: &'a str,
+    bytes: &'a [u8],
     turn: Turn,
     fault: TreeFault,
 ) -> Result<(), OutOfMemory> {
@@ -73,20 +75,28 @@ pub(crate) fn say_tree(
     }
     let number = fault.line as usize;
     let (place, line) = (Place::at_line(file, number), line_of(bytes, number));
-    let (shown, why) = (Shown(line), why(fault.kind));
     if raw_line(bytes, number).ends_with(b"\r") {
-        return page.say(format_args!(
-            "{place}: the lines end with a carriage return, as on Windows: a tree's end with a line feed alone; plan again"
-        ));
+        return page.say(&[
+            At(place),
+            Text(
+                ": the lines end with a carriage return, as on Windows: a tree's end with a line feed alone; plan again",
+            ),
+        ]);
     }
     if let Some(what) = other_kind(line_of(bytes, 1), turn) {
-        return page.say(format_args!("{place}: {what}"));
+        return page.say(&[At(place), Text(": "), Text(what)]);
     }
-    page.say(format_args!("{place}: {shown}: {why}"))?;
+    page.say(&[
+        At(place),
+        Text(": "),
+        Shown(line),
+        Text(": "),
+        Text(why(fault.kind)),
+    ])?;
     if is_of_others(fault.kind) {
-        page.say(
+        page.say(&[Text(
             "a tree belongs to its ship file and its list: where one of them changed, plan again",
-        )?;
+        )])?;
     }
     Ok(())
 }

@@ -1,8 +1,8 @@
 //! A ship file's keys: their values, and where they stand.
 
-use crate::place::Place;
 use crate::toml_lines::{KeyLine, find_key, key_lines};
 use qc_num::OutOfMemory;
+use qc_page::Place;
 use std::alloc::Global;
 use toml::{Table, Value, table_from_str};
 

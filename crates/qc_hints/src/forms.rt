@@ -1,7 +1,7 @@
 //! The commands with their words.
 
-use crate::near::is_near;
 use qc_num::OutOfMemory;
+use qc_page::is_near;
 use std::alloc::Global;
 
 /// The commands, each with its operands and with its options in brackets.

@@ -1,20 +1,24 @@
 //! Ship files that are no text in TOML.
 
-use crate::bytes::{are_digits_or, has, has_letter, piece_at};
-use crate::page::Page;
-use crate::place::{Place, line_at, line_of};
-use crate::shown::Shown;
 use qc_num::OutOfMemory;
+use qc_page::Part::{At, Shown, Text};
+use qc_page::{Page, Place, are_digits_or, has, has_letter, line_at, line_of, piece_at};
 use toml::table_from_str;
 
 /// Says in which line a text isn't UTF-8.
-fn say_no_utf8(page: &mut Page, file: &str, bytes: &[u8], front: usize) -> Result<(), OutOfMemory> {
+fn say_no_utf8<'a>(
+    page: &mut Page,
+    file: &'a str,
+    bytes: &'a [u8],
+    front: usize,
+) -> Result<(), OutOfMemory> {
     let line = line_at(bytes, front);
-    let place = Place::at_line(file, line);
-    let text = Shown(line_of(bytes, line));
-    page.say(format_args!(
-        "{place}: {text} isn't UTF-8, as in a text saved as Latin-1 or Windows-1252: save the file as UTF-8"
-    ))
+    page.say(&[
+        At(Place::at_line(file, line)),
+        Text(": "),
+        Shown(line_of(bytes, line)),
+        Text(" isn't UTF-8, as in a text saved as Latin-1 or Windows-1252: save the file as UTF-8"),
+    ])
 }
 
 /// The line without its comment.
@@ -91,7 +95,11 @@ fn hint_on(line: &[u8], message: &str) -> Option<&'static str> {
 }
 
 /// Says in which line a text isn't TOML, and why.
-pub(crate) fn say_not_toml(page: &mut Page, file: &str, bytes: &[u8]) -> Result<(), OutOfMemory> {
+pub(crate) fn say_not_toml<'a>(
+    page: &mut Page,
+    file: &'a str,
+    bytes: &'a [u8],
+) -> Result<(), OutOfMemory> {
     let text = match std::str::from_utf8(bytes) {
         Ok(text) => text,
         Err(error) => return say_no_utf8(page, file, bytes, error.valid_up_to()),
@@ -104,12 +112,23 @@ pub(crate) fn say_not_toml(page: &mut Page, file: &str, bytes: &[u8]) -> Result<
     };
     let number = line_at(bytes, span.start);
     let line = line_of(bytes, number);
-    let (place, shown) = (Place::at_line(file, number), Shown(line));
-    match hint_on(line, error.message()) {
-        Some(hint) => page.say(format_args!("{place}: {shown} isn't TOML: {hint}")),
-        None => {
-            let message = error.message();
-            page.say(format_args!("{place}: {shown} isn't TOML: {message}"))
-        }
-    }
+    let message = error.message();
+    let why = hint_on(line, message).unwrap_or(message);
+    say_line(page, Place::at_line(file, number), line, why)
+}
+
+/// Says why a line isn't TOML.
+fn say_line<'a>(
+    page: &mut Page,
+    place: Place<'a>,
+    line: &'a [u8],
+    why: &'a str,
+) -> Result<(), OutOfMemory> {
+    page.say(&[
+        At(place),
+        Text(": "),
+        Shown(line),
+        Text(" isn't TOML: "),
+        Text(why),
+    ])
 }

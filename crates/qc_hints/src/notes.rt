@@ -2,12 +2,11 @@
 
 use crate::facts::{Facts, facts_of};
 use crate::keys::{CRANE_KEYS, SHIP_KEYS};
-use crate::near::nearest;
-use crate::page::Page;
-use crate::shown::{Bays, Shown, ordinal};
+use crate::ordinals::ordinal;
 use qc_num::OutOfMemory;
+use qc_page::Part::{At, Bays, Number, Shown, Text};
+use qc_page::{Page, Place, nearest};
 use std::alloc::Global;
-use std::fmt;
 use toml::{Table, Value};
 
 /// How many keys that aren't read are told.
@@ -39,10 +38,10 @@ fn say_ship_keys(page: &mut Page, facts: &Facts<'_>) -> Result<(), OutOfMemory> 
             continue;
         }
         if left == 0 {
-            return page.say("note: further keys of the ship file aren't read");
+            return page.say(&[Text("note: further keys of the ship file aren't read")]);
         }
         left = left.saturating_sub(1);
-        say_ship_key(page, facts, key)?;
+        say_ship_key(page, facts.place(0, key), key)?;
     }
     Ok(())
 }
@@ -58,14 +57,13 @@ enum Meant<'a> {
     Near(&'a str),
 }
 
-impl fmt::Display for Meant<'_> {
-    fn fmt<W: fmt::Write>(&self, f: &mut fmt::Formatter<W>) -> fmt::Result {
-        match *self {
-            Meant::Nothing => Ok(()),
-            Meant::OfShip => f.write_str("; keys of the ship stand above the first [[crane]]"),
-            Meant::OfCrane => f.write_str("; keys of a crane stand below its line [[crane]]"),
-            Meant::Near(key) => write!(f, "; the nearest is {key}"),
-        }
+/// Ends a line with what may be meant.
+fn end_meant(page: &mut Page, meant: Meant<'_>) -> Result<(), OutOfMemory> {
+    match meant {
+        Meant::Nothing => page.end(&[]),
+        Meant::OfShip => page.end(&[Text("; keys of the ship stand above the first [[crane]]")]),
+        Meant::OfCrane => page.end(&[Text("; keys of a crane stand below its line [[crane]]")]),
+        Meant::Near(key) => page.end(&[Text("; the nearest is "), Text(key)]),
     }
 }
 
@@ -77,17 +75,33 @@ fn near_key<'a>(alloc: Global, key: &str, keys: &[&'a str]) -> Result<Meant<'a>,
     }
 }
 
+/// What may be meant by a key above the first crane.
+fn meant_above(alloc: Global, key: &str) -> Result<Meant<'static>, OutOfMemory> {
+    if CRANE_KEYS.contains(&key) {
+        return Ok(Meant::OfCrane);
+    }
+    near_key(alloc, key, &SHIP_KEYS)
+}
+
+/// What may be meant by a key below a crane.
+fn meant_below(alloc: Global, key: &str) -> Result<Meant<'static>, OutOfMemory> {
+    if SHIP_KEYS.contains(&key) {
+        return Ok(Meant::OfShip);
+    }
+    near_key(alloc, key, &CRANE_KEYS)
+}
+
 /// Says that a key of the ship isn't read.
-fn say_ship_key(page: &mut Page, facts: &Facts<'_>, key: &str) -> Result<(), OutOfMemory> {
-    let meant = if CRANE_KEYS.contains(&key) {
-        Meant::OfCrane
-    } else {
-        near_key(page.alloc(), key, &SHIP_KEYS)?
-    };
-    let (place, shown) = (facts.place(0, key), Shown(key.as_bytes()));
-    page.say(format_args!(
-        "note: {place}: the key {shown} is no key of the ship and isn't read{meant}"
-    ))
+fn say_ship_key<'a>(page: &mut Page, place: Place<'a>, key: &'a str) -> Result<(), OutOfMemory> {
+    let meant = meant_above(page.alloc(), key)?;
+    page.begin(&[
+        Text("note: "),
+        At(place),
+        Text(": the key "),
+        Shown(key.as_bytes()),
+        Text(" is no key of the ship and isn't read"),
+    ])?;
+    end_meant(page, meant)
 }
 
 /// Says what of the cranes isn't read, and which stand far off.
@@ -117,31 +131,32 @@ fn say_crane_keys(
             continue;
         }
         if left == 0 {
-            return page.say("note: further keys of the crane aren't read");
+            return page.say(&[Text("note: further keys of the crane aren't read")]);
         }
         left = left.saturating_sub(1);
-        say_crane_key(page, facts, crane, key)?;
+        say_crane_key(page, facts.place(crane, key), crane, key)?;
     }
     Ok(())
 }
 
 /// Says that a key of a crane isn't read.
-fn say_crane_key(
+fn say_crane_key<'a>(
     page: &mut Page,
-    facts: &Facts<'_>,
+    place: Place<'a>,
     crane: u32,
-    key: &str,
+    key: &'a str,
 ) -> Result<(), OutOfMemory> {
-    let meant = if SHIP_KEYS.contains(&key) {
-        Meant::OfShip
-    } else {
-        near_key(page.alloc(), key, &CRANE_KEYS)?
-    };
-    let (place, which) = (facts.place(crane, key), ordinal(crane));
-    let shown = Shown(key.as_bytes());
-    page.say(format_args!(
-        "note: {place}: the key {shown} in the {which} [[crane]] is no key of a crane and isn't read{meant}"
-    ))
+    let meant = meant_below(page.alloc(), key)?;
+    page.begin(&[
+        Text("note: "),
+        At(place),
+        Text(": the key "),
+        Shown(key.as_bytes()),
+        Text(" in the "),
+        Text(ordinal(crane)),
+        Text(" [[crane]] is no key of a crane and isn't read"),
+    ])?;
+    end_meant(page, meant)
 }
 
 /// Says that a crane stands far from any hatch, where places are counted as hatches.
@@ -158,29 +173,36 @@ fn say_far(page: &mut Page, facts: &Facts<'_>, crane: u32) -> Result<(), OutOfMe
     if off <= FAR {
         return Ok(());
     }
-    let (place, which) = (facts.place(crane, "bay"), ordinal(crane));
-    let off = Bays {
-        count: off.unsigned_abs(),
-        in_decimetres: false,
-    };
-    page.say(format_args!(
-        "note: {place}: the {which} [[crane]] stands at crane bay {bay}, {off} from any hatch; bay counts the hatches of the list, 1 to {last}, and not the bays of the ship"
-    ))
+    page.say(&[
+        Text("note: "),
+        At(facts.place(crane, "bay")),
+        Text(": the "),
+        Text(ordinal(crane)),
+        Text(" [[crane]] stands at crane bay "),
+        Number(bay),
+        Text(", "),
+        Bays(off.unsigned_abs()),
+        Text(" from any hatch; bay counts the hatches of the list, 1 to "),
+        Number(last),
+        Text(", and not the bays of the ship"),
+    ])
 }
 
 /// Says which of two keys isn't read beside the other.
 fn say_unread(page: &mut Page, facts: &Facts<'_>) -> Result<(), OutOfMemory> {
     if facts.in_decimetres() && facts.table.contains_key("margin") {
-        let place = facts.place(0, "margin");
-        page.say(format_args!(
-            "note: {place}: margin isn't read beside places; clear takes its place"
-        ))?;
+        page.say(&[
+            Text("note: "),
+            At(facts.place(0, "margin")),
+            Text(": margin isn't read beside places; clear takes its place"),
+        ])?;
     }
     if !facts.in_decimetres() && facts.table.contains_key("clear") {
-        let place = facts.place(0, "clear");
-        page.say(format_args!(
-            "note: {place}: clear isn't read without places; margin takes its place"
-        ))?;
+        page.say(&[
+            Text("note: "),
+            At(facts.place(0, "clear")),
+            Text(": clear isn't read without places; margin takes its place"),
+        ])?;
     }
     Ok(())
 }
@@ -193,9 +215,16 @@ fn say_clear(page: &mut Page, facts: &Facts<'_>) -> Result<(), OutOfMemory> {
     if clear >= LEAST_CLEAR {
         return Ok(());
     }
-    let place = facts.place(0, "clear");
-    let tenfold = clear.saturating_mul(10);
-    page.say(format_args!(
-        "note: {place}: clear = {clear} lets cranes come as near as {clear} decimetres; {clear} metres are clear = {tenfold}"
-    ))
+    page.say(&[
+        Text("note: "),
+        At(facts.place(0, "clear")),
+        Text(": clear = "),
+        Number(clear),
+        Text(" lets cranes come as near as "),
+        Number(clear),
+        Text(" decimetres; "),
+        Number(clear),
+        Text(" metres are clear = "),
+        Number(clear.saturating_mul(10)),
+    ])
 }

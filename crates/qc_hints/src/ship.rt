@@ -1,20 +1,16 @@
 //! Faults of a ship file.
 
-use crate::bytes::has_digit;
 use crate::facts::{Facts, facts_of};
-use crate::form::{Sort, say_form};
 use crate::keys::{CRANE_KEYS, SHIP_KEYS, is_of_crane};
-use crate::near::is_near;
 use crate::not_toml::say_not_toml;
-use crate::page::Page;
-use crate::place::Place;
-use crate::shown::{Bays, Shown, Word, ordinal};
+use crate::ordinals::ordinal;
 use crate::toml_lines::KeyLine;
 use crate::wanted::wanted_at;
 use qc_num::OutOfMemory;
+use qc_page::Part::{At, Count, Number, Shown, Text, Word};
+use qc_page::{Page, Part, Place, Sort, has_digit, is_near, say_form};
 use qc_ship::{Key, ShipError, ShipFault, ShipKind, read_ship};
 use std::alloc::Global;
-use std::fmt;
 use toml::Value;
 
 /// The first fault of a ship file.
@@ -97,11 +93,13 @@ fn crane_with(facts: &Facts<'_>, key: &str) -> Option<u32> {
 fn say_missing(page: &mut Page, facts: &Facts<'_>, fault: ShipFault) -> Result<(), OutOfMemory> {
     let (key, crane) = (fault.key.text(), crane_of(fault));
     if let Some(near) = near_line(page.alloc(), facts, crane, key)? {
-        let (place, written) = (
-            Place::at_line(facts.file, near.line),
+        return page.say(&[
+            At(Place::at_line(facts.file, near.line)),
+            Text(": the key "),
             Shown(near.key.as_bytes()),
-        );
-        return page.say(format_args!("{place}: the key {written} is written {key}"));
+            Text(" is written "),
+            Text(key),
+        ]);
     }
     if crane > 0 {
         return say_missing_in_crane(page, facts, fault.key, crane);
@@ -119,34 +117,50 @@ fn say_missing_in_crane(
     key: Key,
     crane: u32,
 ) -> Result<(), OutOfMemory> {
-    let wanted = wanted_at(key, facts.in_decimetres());
-    let key = key.text();
-    let (place, which) = (facts.place(crane, key), ordinal(crane));
-    page.say(format_args!("{place}: the {which} [[crane]] has no key {key}; it may be {wanted}"))
+    let name = key.text();
+    page.say(&[
+        At(facts.place(crane, name)),
+        Text(": the "),
+        Text(ordinal(crane)),
+        Text(" [[crane]] has no key "),
+        Text(name),
+        Text("; it may be "),
+        Text(wanted_at(key, facts.in_decimetres())),
+    ])
 }
 
 /// Says that a key of the ship stands below a crane.
-fn say_misplaced(
+fn say_misplaced<'a>(
     page: &mut Page,
-    facts: &Facts<'_>,
-    key: &str,
+    facts: &Facts<'a>,
+    key: &'a str,
     crane: u32,
 ) -> Result<(), OutOfMemory> {
-    let (place, which) = (facts.place(crane, key), ordinal(crane));
-    page.say(format_args!(
-        "{place}: the key {key} stands below the {which} [[crane]]; keys of the ship stand above the first [[crane]]"
-    ))
+    page.say(&[
+        At(facts.place(crane, key)),
+        Text(": the key "),
+        Text(key),
+        Text(" stands below the "),
+        Text(ordinal(crane)),
+        Text(" [[crane]]; keys of the ship stand above the first [[crane]]"),
+    ])
 }
 
 /// Says which key the ship hasn't.
 fn say_missing_in_ship(page: &mut Page, facts: &Facts<'_>, key: Key) -> Result<(), OutOfMemory> {
-    let (place, name) = (Place::whole(facts.file), key.text());
-    let wanted = wanted_at(key, facts.in_decimetres());
-    page.say(format_args!("{place}: the key {name} is missing; it may be {wanted}"))?;
+    page.say(&[
+        At(Place::whole(facts.file)),
+        Text(": the key "),
+        Text(key.text()),
+        Text(" is missing; it may be "),
+        Text(wanted_at(key, facts.in_decimetres())),
+    ])?;
     if key == Key::Clear {
-        page.say("with places the key clear takes the place of margin")
+        page.say(&[Text("with places the key clear takes the place of margin")])
     } else if key == Key::Margin && facts.table.contains_key("clear") {
-        page.say("clear is read only with places; without them margin says how many bays stay free")
+        page.say(&[Text(
+            "clear is read only with places; without them margin says how many bays stay free",
+        )])
     } else {
         Ok(())
     }
@@ -155,15 +169,25 @@ fn say_missing_in_ship(page: &mut Page, facts: &Facts<'_>, key: Key) -> Result<(
 /// How many elements a key must have, and has.
 fn say_length(page: &mut Page, facts: &Facts<'_>, key: Key) -> Result<(), OutOfMemory> {
     let name = key.text();
-    let (place, count) = (facts.place(0, name), facts.elements(name).len());
+    page.begin(&[
+        At(facts.place(0, name)),
+        Text(": "),
+        Text(name),
+        Text(" has "),
+        Count(facts.elements(name).len() as u64),
+        Text(" elements"),
+    ])?;
     if key == Key::Places {
-        let hatches = facts.elements("hatches").len();
-        page.say(format_args!(
-            "{place}: places has {count} elements and hatches has {hatches}; there is one place for each hatch"
-        ))
+        page.end(&[
+            Text(" and hatches has "),
+            Count(facts.elements("hatches").len() as u64),
+            Text("; there is one place for each hatch"),
+        ])
     } else {
-        let wanted = wanted_at(key, facts.in_decimetres());
-        page.say(format_args!("{place}: {name} has {count} elements, and may be {wanted}"))
+        page.end(&[
+            Text(", and may be "),
+            Text(wanted_at(key, facts.in_decimetres())),
+        ])
     }
 }
 
@@ -200,17 +224,29 @@ fn hint_on_number(facts: &Facts<'_>, key: Key, value: &[u8]) -> &'static str {
 /// Says that an element of an array can't stand there.
 fn say_element(page: &mut Page, facts: &Facts<'_>, fault: ShipFault) -> Result<(), OutOfMemory> {
     let (key, number) = (fault.key.text(), fault.number);
-    let (place, wanted) = (
-        facts.place(0, key),
-        wanted_at(fault.key, facts.in_decimetres()),
-    );
+    page.begin(&[
+        At(facts.place(0, key)),
+        Text(": element "),
+        Count(u64::from(number)),
+        Text(" of "),
+        Text(key),
+    ])?;
+    let wanted = wanted_at(fault.key, facts.in_decimetres());
     match facts.whole_element(key, number) {
-        Some(value) => page.say(format_args!(
-            "{place}: element {number} of {key} is {value}; {key} may be {wanted}"
-        )),
-        None => page.say(format_args!(
-            "{place}: element {number} of {key} can't stand there; {key} may be {wanted}"
-        )),
+        Some(value) => page.end(&[
+            Text(" is "),
+            Number(value),
+            Text("; "),
+            Text(key),
+            Text(" may be "),
+            Text(wanted),
+        ]),
+        None => page.end(&[
+            Text(" can't stand there; "),
+            Text(key),
+            Text(" may be "),
+            Text(wanted),
+        ]),
     }
 }
 
@@ -238,14 +274,20 @@ fn say_one_value(
     crane: u32,
 ) -> Result<(), OutOfMemory> {
     let name = key.text();
-    let (place, value) = (facts.place(crane, name), facts.value(crane, name));
+    let value = facts.value(crane, name);
+    page.begin(&[At(facts.place(crane, name)), Text(": "), Text(name)])?;
     let wanted = wanted_at(key, facts.in_decimetres());
     let hint = hint_on(facts, key, value);
     if value.is_empty() {
-        page.say(format_args!("{place}: {name} may be {wanted}{hint}"))
+        page.end(&[Text(" may be "), Text(wanted), Text(hint)])
     } else {
-        let value = Word(value);
-        page.say(format_args!("{place}: {name} is {value}, and may be {wanted}{hint}"))
+        page.end(&[
+            Text(" is "),
+            Word(value),
+            Text(", and may be "),
+            Text(wanted),
+            Text(hint),
+        ])
     }
 }
 
@@ -272,23 +314,24 @@ fn say_counted(
         return Ok(());
     };
     match number_of(facts, value) {
-        Some(number) => page.say(format_args!(
-            "hatch {value} is number {number} of the list, so write {key} = {number}"
-        )),
+        Some(number) => page.say(&[
+            Text("hatch "),
+            Number(value),
+            Text(" is number "),
+            Count(number as u64),
+            Text(" of the list, so write "),
+            Text(key),
+            Text(" = "),
+            Count(number as u64),
+        ]),
         None => Ok(()),
     }
 }
 
 /// The bays of a hatch, the lowest and the highest.
-#[derive(Clone, Copy)]
-struct BaysOf(i64);
-
-impl fmt::Display for BaysOf {
-    fn fmt<W: fmt::Write>(&self, f: &mut fmt::Formatter<W>) -> fmt::Result {
-        let reach = if self.0 & 1 == 0 { 1 } else { 0 };
-        let (low, high) = (self.0.saturating_sub(reach), self.0.saturating_add(reach));
-        write!(f, "{low} to {high}")
-    }
+fn bays_of(hatch: i64) -> (i64, i64) {
+    let reach = if hatch & 1 == 0 { 1 } else { 0 };
+    (hatch.saturating_sub(reach), hatch.saturating_add(reach))
 }
 
 /// Says which hatch or place isn't behind the one before it.
@@ -307,19 +350,39 @@ fn say_hatch_order(
         return Ok(());
     };
     if fault.key == Key::Places {
-        return page.say(format_args!(
-            "{place}: place {other} stands behind {one} in the list; places rise strictly from the first hatch to the last"
-        ));
+        return page.say(&[
+            At(place),
+            Text(": place "),
+            Number(other),
+            Text(" stands behind "),
+            Number(one),
+            Text(" in the list; places rise strictly from the first hatch to the last"),
+        ]);
     }
     say_overlap(page, place, one, other)
 }
 
 /// Says that a hatch isn't wholly behind the one before it.
 fn say_overlap(page: &mut Page, place: Place<'_>, one: i64, other: i64) -> Result<(), OutOfMemory> {
-    let (bays, those) = (BaysOf(other), BaysOf(one));
-    page.say(format_args!(
-        "{place}: hatch {other} stands behind hatch {one} in the list, and its bays {bays} don't lie wholly behind bays {those}; hatches stand from bow to stern, and an even hatch takes the bays on both sides too"
-    ))
+    let ((first, last), (low, high)) = (bays_of(other), bays_of(one));
+    page.say(&[
+        At(place),
+        Text(": hatch "),
+        Number(other),
+        Text(" stands behind hatch "),
+        Number(one),
+        Text(" in the list, and its bays "),
+        Number(first),
+        Text(" to "),
+        Number(last),
+        Text(" don't lie wholly behind bays "),
+        Number(low),
+        Text(" to "),
+        Number(high),
+        Text(
+            "; hatches stand from bow to stern, and an even hatch takes the bays on both sides too",
+        ),
+    ])
 }
 
 /// The least distance of two cranes, as the ship file says it.
@@ -338,36 +401,50 @@ fn say_crane_order(page: &mut Page, facts: &Facts<'_>, crane: u32) -> Result<(),
     let (Some(gap), Some(before), Some(bay)) = (gap_of(facts), before, bay) else {
         return Ok(());
     };
-    let (place, which) = (facts.place(crane, "bay"), ordinal(crane));
-    let apart = Bays {
-        count: gap.unsigned_abs(),
-        in_decimetres: facts.in_decimetres(),
-    };
-    let least = before.saturating_add(gap);
-    page.say(format_args!(
-        "{place}: the {which} [[crane]] stands at {bay} and the one before it at {before}; cranes stand along the rail with rising bays and at least {apart} apart, so it may stand at {least} or above"
-    ))
+    page.say(&[
+        At(facts.place(crane, "bay")),
+        Text(": the "),
+        Text(ordinal(crane)),
+        Text(" [[crane]] stands at "),
+        Number(bay),
+        Text(" and the one before it at "),
+        Number(before),
+        Text("; cranes stand along the rail with rising bays and at least "),
+        Part::of_rail(gap.unsigned_abs(), facts.in_decimetres()),
+        Text(" apart, so it may stand at "),
+        Number(before.saturating_add(gap)),
+        Text(" or above"),
+    ])
 }
 
 /// Says which name stands twice.
 fn say_name_twice(page: &mut Page, facts: &Facts<'_>, crane: u32) -> Result<(), OutOfMemory> {
-    let (place, which) = (facts.place(crane, "name"), ordinal(crane));
-    let name = Word(facts.value(crane, "name"));
-    page.say(format_args!(
-        "{place}: the name {name} of the {which} [[crane]] is that of an earlier one; each crane has a name of its own"
-    ))
+    page.say(&[
+        At(facts.place(crane, "name")),
+        Text(": the name "),
+        Word(facts.value(crane, "name")),
+        Text(" of the "),
+        Text(ordinal(crane)),
+        Text(" [[crane]] is that of an earlier one; each crane has a name of its own"),
+    ])
 }
 
 /// Says which hatch of a pair the ship hasn't.
 fn say_apart(page: &mut Page, facts: &Facts<'_>, number: u32) -> Result<(), OutOfMemory> {
-    let place = facts.place(0, "apart");
+    page.begin(&[
+        At(facts.place(0, "apart")),
+        Text(": pair "),
+        Count(u64::from(number)),
+        Text(" of apart names "),
+    ])?;
     match strange_hatch(facts, number) {
-        Some(hatch) => page.say(format_args!(
-            "{place}: pair {number} of apart names {hatch}, which is no hatch of hatches; pairs name hatches by their bays, as hatches does"
-        )),
-        None => page.say(format_args!(
-            "{place}: pair {number} of apart names one hatch twice; two different hatches are wanted"
-        )),
+        Some(hatch) => page.end(&[
+            Number(hatch),
+            Text(
+                ", which is no hatch of hatches; pairs name hatches by their bays, as hatches does",
+            ),
+        ]),
+        None => page.end(&[Text("one hatch twice; two different hatches are wanted")]),
     }
 }
 

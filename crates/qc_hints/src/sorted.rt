@@ -3,7 +3,7 @@
 use qc_num::OutOfMemory;
 use std::alloc::Global;
 
-/// The options of `plan`, the only command that has any.
+/// The options of `plan` and `free`, the only commands that have any.
 pub(crate) const OPTIONS: [&str; 2] = ["--nodes", "--from"];
 
 /// The words behind a command's name, told apart.
@@ -41,16 +41,13 @@ impl<'a> Sorted<'a> {
     /// Takes the value of an option.
     fn take_value(&mut self, option: &'a str, value: &'a str) {
         self.open = None;
-        if option == "--nodes" {
-            if self.nodes.is_some() {
-                self.twice = Some(option);
-            }
-            self.nodes = Some(value);
+        let earlier = if option == "--nodes" {
+            self.nodes.replace(value)
         } else {
-            if self.from.is_some() {
-                self.twice = Some(option);
-            }
-            self.from = Some(value);
+            self.from.replace(value)
+        };
+        if earlier.is_some() {
+            self.twice = Some(option);
         }
     }
 

@@ -1,17 +1,12 @@
 //! Faults of a stowage list.
 
-use crate::bytes::are_digits;
-use crate::form::Sort;
-use crate::page::Page;
-use crate::place::Place;
-use crate::shown::Shown;
-use crate::table::{Table, is_blank, say_fields, say_header, table_of};
 use qc_cell::{Cell, CellFault};
 use qc_num::OutOfMemory;
+use qc_page::Part::{At, Count, Shown, Text};
+use qc_page::{Page, Sort, Table, are_digits, is_blank, say_fields, say_header, table_of};
 use qc_ship::Ship;
 use qc_stow::{StowError, StowFault, StowKind, read_stow};
 use std::alloc::Global;
-use std::fmt;
 
 const HEADER: &str = "id,move,cell,length";
 
@@ -30,47 +25,65 @@ pub fn say_stow(page: &mut Page, file: &str, bytes: &[u8], ship: &Ship) -> Resul
         return Ok(());
     };
     let table = table_of(page.alloc(), file, bytes, fault.number)?;
+    say_fault(page, &table, fault, ship)
+}
+
+/// Says what is wrong with a record.
+fn say_fault(
+    page: &mut Page,
+    table: &Table<'_>,
+    fault: StowFault,
+    ship: &Ship,
+) -> Result<(), OutOfMemory> {
     let number = fault.number;
     match fault.kind {
-        StowKind::Header => say_header(page, &table, HEADER, Sort::Stow),
-        StowKind::TooMany => {
-            let place = table.place(number);
-            page.say(format_args!(
-                "{place}: this is a move behind the 50000th, and a list has no more"
-            ))
-        }
-        StowKind::Fields => say_fields(page, &table, number, HEADER),
-        StowKind::Id => say_id(page, &table, number),
-        StowKind::MoveKind => say_move(page, &table, number),
-        StowKind::Cell(fault) => say_cell(page, &table, number, fault),
-        StowKind::LengthMismatch => say_length(page, &table, number),
-        StowKind::NoHatch => say_no_hatch(page, &table, number, ship),
-        StowKind::IdTwice => say_twice(page, &table, number, false),
-        StowKind::CellTaken => say_twice(page, &table, number, true),
+        StowKind::Header => say_header(page, table, HEADER, Sort::Stow),
+        StowKind::TooMany => page.say(&[
+            At(table.place(number)),
+            Text(": this is a move behind the 50000th, and a list has no more"),
+        ]),
+        StowKind::Fields => say_fields(page, table, number, HEADER),
+        StowKind::Id => say_id(page, table, number),
+        StowKind::MoveKind => say_move(page, table, number),
+        StowKind::Cell(fault) => say_cell(page, table, number, fault),
+        StowKind::LengthMismatch => say_length(page, table, number),
+        StowKind::NoHatch => say_no_hatch(page, table, number, ship),
+        StowKind::IdTwice => say_id_twice(page, table, number),
+        StowKind::CellTaken => say_cell_taken(page, table, number),
+    }
+}
+
+/// Why a text is no id.
+fn why_no_id(field: &[u8]) -> &'static str {
+    if field.is_empty() {
+        "it is missing"
+    } else if field.len() > 20 {
+        "it is too long"
+    } else if field.contains(&b' ') {
+        "it has a space"
+    } else if field.contains(&b',') || field.contains(&b'"') {
+        "it has a comma or a double quote"
+    } else {
+        "it has a letter or a sign that isn't ASCII, or one that can't be seen"
     }
 }
 
 /// Says what is wrong with an id.
-fn say_id(page: &mut Page, table: &Table<'_>, number: u32) -> Result<(), OutOfMemory> {
-    let (place, id) = (table.place(number), table.field(number, 0));
+fn say_id<'a>(page: &mut Page, table: &'a Table<'a>, number: u32) -> Result<(), OutOfMemory> {
+    let (place, field) = (table.place(number), table.field(number, 0));
     if is_blank(table, number) {
-        return page.say(format_args!("{place}: the record is empty: delete the line"));
+        return page.say(&[At(place), Text(": the record is empty: delete the line")]);
     }
-    let (shown, count) = (Shown(id), id.len());
-    let why = if id.is_empty() {
-        "it is missing"
-    } else if count > 20 {
-        "it is too long"
-    } else if id.contains(&b' ') {
-        "it has a space"
-    } else if id.contains(&b',') || id.contains(&b'"') {
-        "it has a comma or a double quote"
-    } else {
-        "it has a letter or a sign that isn't ASCII, or one that can't be seen"
-    };
-    page.say(format_args!(
-        "{place}: the id is {shown}: {why}; an id is 1 to 20 letters, digits and signs of ASCII without spaces, commas and double quotes"
-    ))
+    page.say(&[
+        At(place),
+        Text(": the id is "),
+        Shown(field),
+        Text(": "),
+        Text(why_no_id(field)),
+        Text(
+            "; an id is 1 to 20 letters, digits and signs of ASCII without spaces, commas and double quotes",
+        ),
+    ])
 }
 
 /// The move that is meant, where a word or a small letter says it.
@@ -83,14 +96,16 @@ fn meant_move(field: &[u8]) -> Option<&'static str> {
 }
 
 /// Says what is wrong with a kind of move.
-fn say_move(page: &mut Page, table: &Table<'_>, number: u32) -> Result<(), OutOfMemory> {
-    let (place, field) = (table.place(number), table.field(number, 1));
-    let shown = Shown(field);
+fn say_move<'a>(page: &mut Page, table: &'a Table<'a>, number: u32) -> Result<(), OutOfMemory> {
+    let field = table.field(number, 1);
+    page.begin(&[
+        At(table.place(number)),
+        Text(": the move is "),
+        Shown(field),
+    ])?;
     match meant_move(field) {
-        Some(meant) => page.say(format_args!("{place}: the move is {shown}; write {meant}")),
-        None => page.say(format_args!(
-            "{place}: the move is {shown}; it is D for discharge or L for load"
-        )),
+        Some(meant) => page.end(&[Text("; write "), Text(meant)]),
+        None => page.end(&[Text("; it is D for discharge or L for load")]),
     }
 }
 
@@ -111,16 +126,9 @@ fn why_no_cell(field: &[u8]) -> &'static str {
     }
 }
 
-/// Says what is wrong with a cell.
-fn say_cell(
-    page: &mut Page,
-    table: &Table<'_>,
-    number: u32,
-    fault: CellFault,
-) -> Result<(), OutOfMemory> {
-    let (place, field) = (table.place(number), table.field(number, 2));
-    let shown = Shown(field);
-    let why = match fault {
+/// What is wrong with the text of a cell.
+fn why_wrong_cell(field: &[u8], fault: CellFault) -> &'static str {
+    match fault {
         CellFault::Length => why_no_cell(field),
         CellFault::Digit => match why_no_cell(field) {
             "it has another length" => "it has a letter or a sign, and is digits alone",
@@ -129,27 +137,47 @@ fn say_cell(
         CellFault::BayZero => "its bay is 0, and bays count from 1",
         CellFault::TierOdd => "its tier, the last two digits, is odd, and tiers are even",
         CellFault::TierZero => "its tier, the last two digits, is 00, and tiers begin at 02",
-    };
-    page.say(format_args!(
-        "{place}: the cell is {shown}: {why}; a cell is bay, row and tier in six or seven digits, as 010482"
-    ))
+    }
+}
+
+/// Says what is wrong with a cell.
+fn say_cell<'a>(
+    page: &mut Page,
+    table: &'a Table<'a>,
+    number: u32,
+    fault: CellFault,
+) -> Result<(), OutOfMemory> {
+    let field = table.field(number, 2);
+    page.say(&[
+        At(table.place(number)),
+        Text(": the cell is "),
+        Shown(field),
+        Text(": "),
+        Text(why_wrong_cell(field, fault)),
+        Text("; a cell is bay, row and tier in six or seven digits, as 010482"),
+    ])
 }
 
 /// Says what is wrong with a length.
-fn say_length(page: &mut Page, table: &Table<'_>, number: u32) -> Result<(), OutOfMemory> {
-    let (place, field) = (table.place(number), table.field(number, 3));
+fn say_length<'a>(page: &mut Page, table: &'a Table<'a>, number: u32) -> Result<(), OutOfMemory> {
     let Ok(cell) = Cell::read(table.field(number, 2)) else {
         return Ok(());
     };
-    let (shown, bay) = (Shown(field), cell.bay);
-    let (sort, feet) = if cell.is_forty() {
-        ("even", 40)
-    } else {
-        ("odd", 20)
-    };
-    page.say(format_args!(
-        "{place}: the length is {shown}, and bay {bay} is {sort}: write {feet}, or the bay where the container stands; odd bays are of 20 feet and even ones of 40, and 45 feet are written 40"
-    ))
+    page.say(&[
+        At(table.place(number)),
+        Text(": the length is "),
+        Shown(table.field(number, 3)),
+        Text(", and bay "),
+        Count(u64::from(cell.bay)),
+        Text(if cell.is_forty() {
+            " is even: write 40"
+        } else {
+            " is odd: write 20"
+        }),
+        Text(
+            ", or the bay where the container stands; odd bays are of 20 feet and even ones of 40, and 45 feet are written 40",
+        ),
+    ])
 }
 
 /// Says which hatches are nearest to a bay that none takes.
@@ -159,15 +187,16 @@ fn say_no_hatch(
     number: u32,
     ship: &Ship,
 ) -> Result<(), OutOfMemory> {
-    let place = table.place(number);
     let Ok(cell) = Cell::read(table.field(number, 2)) else {
         return Ok(());
     };
-    let bay = cell.bay;
-    page.say(format_args!(
-        "{place}: no hatch of the ship file takes bay {bay}; an even hatch takes its own bay and those on both sides, an odd one its own alone"
-    ))?;
-    say_nearest(page, ship, bay)
+    page.say(&[
+        At(table.place(number)),
+        Text(": no hatch of the ship file takes bay "),
+        Count(u64::from(cell.bay)),
+        Text("; an even hatch takes its own bay and those on both sides, an odd one its own alone"),
+    ])?;
+    say_nearest(page, ship, cell.bay)
 }
 
 /// Says which hatches are nearest to a bay.
@@ -181,11 +210,14 @@ fn say_nearest(page: &mut Page, ship: &Ship, bay: u16) -> Result<(), OutOfMemory
         }
     }
     match (below, above) {
-        (Some(below), Some(above)) => {
-            page.say(format_args!("the nearest hatches are {below} and {above}"))
-        }
-        (Some(only), None) => page.say(format_args!("the last hatch is {only}")),
-        (None, Some(only)) => page.say(format_args!("the first hatch is {only}")),
+        (Some(below), Some(above)) => page.say(&[
+            Text("the nearest hatches are "),
+            Count(u64::from(below)),
+            Text(" and "),
+            Count(u64::from(above)),
+        ]),
+        (Some(only), None) => page.say(&[Text("the last hatch is "), Count(u64::from(only))]),
+        (None, Some(only)) => page.say(&[Text("the first hatch is "), Count(u64::from(only))]),
         (None, None) => Ok(()),
     }
 }
@@ -214,52 +246,57 @@ fn earlier(table: &Table<'_>, number: u32, by_cell: bool) -> Option<u32> {
     None
 }
 
-/// A record by its id and its cell.
-#[derive(Clone, Copy)]
-struct AtCell<'a> {
-    table: &'a Table<'a>,
-    number: u32,
-}
-
-impl fmt::Display for AtCell<'_> {
-    fn fmt<W: fmt::Write>(&self, f: &mut fmt::Formatter<W>) -> fmt::Result {
-        let id = Shown(self.table.field(self.number, 0));
-        let cell = Shown(self.table.field(self.number, 2));
-        write!(f, "{id} at {cell}")
-    }
-}
-
-/// Says which earlier record has the id or the cell.
-fn say_twice(
-    page: &mut Page,
-    table: &Table<'_>,
-    number: u32,
-    by_cell: bool,
-) -> Result<(), OutOfMemory> {
-    let Some(other) = earlier(table, number, by_cell) else {
-        return Ok(());
-    };
-    let place: Place<'_> = table.place(number);
-    let line = table.place(other).line;
-    let sort = match table.field(number, 1) {
+/// What a move of the kind of a record is called.
+fn sort_of(table: &Table<'_>, number: u32) -> &'static str {
+    match table.field(number, 1) {
         b"D" => "discharged",
         _ => "loaded",
-    };
-    if by_cell {
-        let (this, that) = (
-            AtCell { table, number },
-            AtCell {
-                table,
-                number: other,
-            },
-        );
-        page.say(format_args!(
-            "{place}: {this} overlaps {that} of line {line}; each place is {sort} once"
-        ))
-    } else {
-        let id = Shown(table.field(number, 0));
-        page.say(format_args!(
-            "{place}: {id} is {sort} in line {line} already; each container is {sort} once"
-        ))
     }
+}
+
+/// Says which earlier record has the id.
+fn say_id_twice<'a>(page: &mut Page, table: &'a Table<'a>, number: u32) -> Result<(), OutOfMemory> {
+    let Some(other) = earlier(table, number, false) else {
+        return Ok(());
+    };
+    let sort = sort_of(table, number);
+    page.say(&[
+        At(table.place(number)),
+        Text(": "),
+        Shown(table.field(number, 0)),
+        Text(" is "),
+        Text(sort),
+        Text(" in line "),
+        Count(table.place(other).line as u64),
+        Text(" already; each container is "),
+        Text(sort),
+        Text(" once"),
+    ])
+}
+
+/// Says which earlier record has a cell that overlaps.
+fn say_cell_taken<'a>(
+    page: &mut Page,
+    table: &'a Table<'a>,
+    number: u32,
+) -> Result<(), OutOfMemory> {
+    let Some(other) = earlier(table, number, true) else {
+        return Ok(());
+    };
+    page.say(&[
+        At(table.place(number)),
+        Text(": "),
+        Shown(table.field(number, 0)),
+        Text(" at "),
+        Shown(table.field(number, 2)),
+        Text(" overlaps "),
+        Shown(table.field(other, 0)),
+        Text(" at "),
+        Shown(table.field(other, 2)),
+        Text(" of line "),
+        Count(table.place(other).line as u64),
+        Text("; each place is "),
+        Text(sort_of(table, number)),
+        Text(" once"),
+    ])
 }

@@ -1,11 +1,10 @@
 //! Words that are no command.
 
 use crate::forms::{Form, form_of, near_command};
-use crate::near::nearest;
-use crate::page::Page;
-use crate::shown::Word;
 use crate::sorted::{OPTIONS, Sorted, told_apart};
 use qc_num::{OutOfMemory, plain_number};
+use qc_page::Part::{Count, Text, Word};
+use qc_page::{Page, nearest};
 
 /// Whether a value is a number that may stand there, in plain decimal.
 fn is_between(value: &str, least: u32, most: u32) -> bool {
@@ -16,41 +15,61 @@ fn is_between(value: &str, least: u32, most: u32) -> bool {
 }
 
 /// Says that a word isn't a number that may stand there, and answers whether it is none.
-fn say_number(
+fn say_number<'a>(
     page: &mut Page,
-    name: &str,
-    value: &str,
+    name: &'a str,
+    value: &'a str,
     least: u32,
     most: u32,
 ) -> Result<bool, OutOfMemory> {
     if is_between(value, least, most) {
         return Ok(false);
     }
-    let value = Word(value);
-    page.say(format_args!(
-        "{name} can't be \"{value}\": it is a whole number from {least} to {most}, in digits alone and without a leading 0"
-    ))?;
+    page.say(&[
+        Text(name),
+        Text(" can't be \""),
+        Word(value),
+        Text("\": it is a whole number from "),
+        Count(u64::from(least)),
+        Text(" to "),
+        Count(u64::from(most)),
+        Text(", in digits alone and without a leading 0"),
+    ])?;
     Ok(true)
 }
 
 /// Says which two of the names of a command that plans are one.
 fn say_equal(page: &mut Page, form: &Form, sorted: &Sorted<'_>) -> Result<(), OutOfMemory> {
     for (at, name) in sorted.operands.iter().enumerate() {
-        let word = Word(name);
         let this = form.operand(at).unwrap_or("");
         if sorted.from == Some(*name) {
-            return page.say(format_args!(
-                "{this} and OWN behind --from are the same file \"{word}\": OWN is only read, so name another file for {this}"
-            ));
+            return say_from(page, this, name);
         }
         if let Some(later) = equal_behind(sorted, at, name) {
-            let (that, command) = (form.operand(later).unwrap_or(""), form.name);
-            return page.say(format_args!(
-                "{this} and {that} are the same file \"{word}\": {command} needs four different names"
-            ));
+            return page.say(&[
+                Text(this),
+                Text(" and "),
+                Text(form.operand(later).unwrap_or("")),
+                Text(" are the same file \""),
+                Word(name),
+                Text("\": "),
+                Text(form.name),
+                Text(" needs four different names"),
+            ]);
         }
     }
     Ok(())
+}
+
+/// Says that an operand is the name behind `--from`.
+fn say_from<'a>(page: &mut Page, operand: &'a str, name: &'a str) -> Result<(), OutOfMemory> {
+    page.say(&[
+        Text(operand),
+        Text(" and OWN behind --from are the same file \""),
+        Word(name),
+        Text("\": OWN is only read, so name another file for "),
+        Text(operand),
+    ])
 }
 
 /// The operand behind this one that is the same word.
@@ -90,36 +109,55 @@ fn is_version(word: &str) -> bool {
 
 /// Says that a command hasn't this option.
 fn say_strange(page: &mut Page, form: &Form, word: &str) -> Result<(), OutOfMemory> {
-    let (name, shown) = (form.name, Word(word));
     if is_help(word) {
-        page.say(format_args!(
-            "{shown} stands directly behind the command, without other words: qc {name} {shown}"
-        ))
+        page.say(&[
+            Word(word),
+            Text(" stands directly behind the command, without other words: qc "),
+            Text(form.name),
+            Text(" "),
+            Word(word),
+        ])
     } else if is_version(word) {
-        page.say(format_args!("{shown} stands without other words: qc {shown}"))
+        say_version(page, word)
     } else if word == "-q" {
-        page.say(format_args!("-q stands ahead of the command: qc -q {name}"))
-    } else if !form.has_options() {
-        page.say(format_args!(
-            "{name} has no option \"{shown}\"; a file of that name is written ./{shown}"
-        ))
+        page.say(&[
+            Text("-q stands ahead of the command: qc -q "),
+            Text(form.name),
+        ])
     } else {
-        say_no_option(page, name, word)
+        say_no_option(page, form, word)
     }
 }
 
-/// Says that a command that has options hasn't this one.
-fn say_no_option(page: &mut Page, name: &str, word: &str) -> Result<(), OutOfMemory> {
-    let near = nearest(page.alloc(), word, &OPTIONS)?;
-    let shown = Word(word);
-    match near {
-        Some(near) => page.say(format_args!(
-            "{name} has no option \"{shown}\"; the nearest is {near}"
-        )),
-        None => page.say(format_args!(
-            "{name} has no option \"{shown}\"; it has --nodes N and --from OWN, and a file of that name is written ./{shown}"
-        )),
+/// Says that no word stands beside one that asks which program this is.
+fn say_version(page: &mut Page, word: &str) -> Result<(), OutOfMemory> {
+    page.say(&[
+        Word(word),
+        Text(" stands without other words: qc "),
+        Word(word),
+    ])
+}
+
+/// Says that a command hasn't this option, and which it has.
+fn say_no_option(page: &mut Page, form: &Form, word: &str) -> Result<(), OutOfMemory> {
+    let near = if form.has_options() {
+        nearest(page.alloc(), word, &OPTIONS)?
+    } else {
+        None
+    };
+    page.begin(&[
+        Text(form.name),
+        Text(" has no option \""),
+        Word(word),
+        Text("\"; "),
+    ])?;
+    if let Some(near) = near {
+        return page.end(&[Text("the nearest is "), Text(near)]);
     }
+    if form.has_options() {
+        page.add(&[Text("it has --nodes N and --from OWN, and ")])?;
+    }
+    page.end(&[Text("a file of that name is written ./"), Word(word)])
 }
 
 /// Says which word of a command's options is wrong, and answers whether one is.
@@ -127,9 +165,9 @@ fn say_options(page: &mut Page, form: &Form, sorted: &Sorted<'_>) -> Result<bool
     if let Some(word) = sorted.strange {
         say_strange(page, form, word)?;
     } else if let Some(option) = sorted.open {
-        page.say(format_args!("behind {option} its value is missing"))?;
+        page.say(&[Text("behind "), Text(option), Text(" its value is missing")])?;
     } else if let Some(option) = sorted.twice {
-        page.say(format_args!("{option} stands twice"))?;
+        page.say(&[Text(option), Text(" stands twice")])?;
     } else {
         return Ok(false);
     }
@@ -138,16 +176,25 @@ fn say_options(page: &mut Page, form: &Form, sorted: &Sorted<'_>) -> Result<bool
 
 /// Says how many operands are missing or too many, and answers whether any are.
 fn say_count(page: &mut Page, form: &Form, sorted: &Sorted<'_>) -> Result<bool, OutOfMemory> {
-    let (name, line) = (form.name, form.line);
     if let Some(missing) = form.operand(sorted.operands.len()) {
-        page.say(format_args!("{name} needs {missing} too; the words are"))?;
+        page.begin(&[
+            Text(form.name),
+            Text(" needs "),
+            Text(missing),
+            Text(" too"),
+        ])?;
     } else if let Some(word) = sorted.operands.get(form.count()) {
-        let word = Word(word);
-        page.say(format_args!("\"{word}\" is one word too many for {name}; the words are"))?;
+        page.begin(&[
+            Text("\""),
+            Word(word),
+            Text("\" is one word too many for "),
+            Text(form.name),
+        ])?;
     } else {
         return Ok(false);
     }
-    page.say(format_args!("    qc {line}"))?;
+    page.end(&[Text("; the words are")])?;
+    page.say(&[Text("    qc "), Text(form.line)])?;
     Ok(true)
 }
 
@@ -178,39 +225,39 @@ fn say_values(page: &mut Page, form: &Form, sorted: &Sorted<'_>) -> Result<(), O
 
 /// Says that no word stands behind one that asks about the program.
 fn say_about(page: &mut Page, word: &str, next: Option<&String>) -> Result<(), OutOfMemory> {
-    let shown = Word(word);
     if is_version(word) {
-        return page.say(format_args!("{shown} stands without other words: qc {shown}"));
+        return say_version(page, word);
     }
+    page.begin(&[Word(word), Text(" stands without other words; qc ")])?;
     if let Some(next) = next
         && let Some(form) = form_of(next.as_str())
     {
-        let name = form.name;
-        return page.say(format_args!(
-            "{shown} stands without other words; qc {name} --help tells what {name} does"
-        ));
+        return page.end(&[
+            Text(form.name),
+            Text(" --help tells what "),
+            Text(form.name),
+            Text(" does"),
+        ]);
     }
-    page.say(format_args!(
-        "{shown} stands without other words; qc COMMAND --help tells what one command does"
-    ))
+    page.end(&[Text("COMMAND --help tells what one command does")])
 }
 
 /// Says that a word is no command.
 fn say_no_command(page: &mut Page, word: &str) -> Result<(), OutOfMemory> {
     let near = near_command(page.alloc(), word)?;
-    let word = Word(word);
+    page.begin(&[Text("\""), Word(word), Text("\" is no command; ")])?;
     match near {
-        Some(near) => page.say(format_args!("\"{word}\" is no command; the nearest is {near}")),
-        None => page.say(format_args!("\"{word}\" is no command; qc --help says what they are")),
+        Some(near) => page.end(&[Text("the nearest is "), Text(near)]),
+        None => page.end(&[Text("qc --help says what they are")]),
     }
 }
 
 /// Says which of the words is wrong.
 pub fn say_usage(page: &mut Page, words: &[String]) -> Result<(), OutOfMemory> {
     let Some((first, rest)) = words.split_first() else {
-        return page.say(
+        return page.say(&[Text(
             "no word was given, or one that isn't text in UTF-8; a command stands first, and qc --help says what they are",
-        );
+        )]);
     };
     let first = first.as_str();
     if let Some(form) = form_of(first) {

@@ -3,8 +3,8 @@
 use crate::bytes::{count_pieces, has_piece};
 use crate::form::{Sort, behind_mark, say_form};
 use crate::page::Page;
+use crate::part::Part::{At, Count, Shown, Text};
 use crate::place::{Place, line_at, line_of};
-use crate::shown::Shown;
 use csv::ByteRecord;
 use qc_num::OutOfMemory;
 use qc_records::first_records;
@@ -158,10 +158,10 @@ fn why_no_header(alloc: Global, line: &[u8], header: &str) -> Result<&'static st
 }
 
 /// Says what is wrong with the header of a table.
-pub fn say_header(
+pub fn say_header<'a>(
     page: &mut Page,
-    table: &Table<'_>,
-    header: &str,
+    table: &Table<'a>,
+    header: &'a str,
     wanted: Sort,
 ) -> Result<(), OutOfMemory> {
     if say_form(page, table.file, table.text, wanted)? {
@@ -169,8 +169,15 @@ pub fn say_header(
     }
     let line = table.first_line();
     let why = why_no_header(page.alloc(), line, header)?;
-    let (place, shown) = (table.place(1), Shown(line));
-    page.say(format_args!("{place}: {shown} isn't the header {header}: {why}"))
+    page.say(&[
+        At(table.place(1)),
+        Text(": "),
+        Shown(line),
+        Text(" isn't the header "),
+        Text(header),
+        Text(": "),
+        Text(why),
+    ])
 }
 
 /// Whether each field behind the fourth is empty.
@@ -199,20 +206,26 @@ fn why_not_four(fields: &ByteRecord) -> &'static str {
 }
 
 /// Says what is wrong with the fields of a record that hasn't four.
-pub fn say_fields(
+pub fn say_fields<'a>(
     page: &mut Page,
-    table: &Table<'_>,
+    table: &Table<'a>,
     number: u32,
-    header: &str,
+    header: &'a str,
 ) -> Result<(), OutOfMemory> {
     let Some(fields) = table.record(number) else {
         return Ok(());
     };
-    let (place, count, why) = (table.place(number), fields.len(), why_not_four(fields));
-    let fields = if count == 1 { "field" } else { "fields" };
-    page.say(format_args!(
-        "{place}: the record has {count} {fields}, and needs four, {header}: {why}"
-    ))
+    let (count, why) = (fields.len(), why_not_four(fields));
+    page.say(&[
+        At(table.place(number)),
+        Text(": the record has "),
+        Count(count as u64),
+        Text(if count == 1 { " field" } else { " fields" }),
+        Text(", and needs four, "),
+        Text(header),
+        Text(": "),
+        Text(why),
+    ])
 }
 
 /// Whether a record has no more than empty fields.

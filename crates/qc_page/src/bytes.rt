@@ -21,7 +21,7 @@ pub(crate) fn has_piece(text: &[u8], sign: u8, piece: &[u8]) -> bool {
 }
 
 /// Whether these bytes stand in a text.
-pub(crate) fn has(text: &[u8], piece: &[u8]) -> bool {
+pub fn has(text: &[u8], piece: &[u8]) -> bool {
     if piece.is_empty() {
         return true;
     }
@@ -34,7 +34,7 @@ pub(crate) fn has(text: &[u8], piece: &[u8]) -> bool {
 }
 
 /// Whether each byte is a digit or this sign.
-pub(crate) fn are_digits_or(bytes: &[u8], sign: u8) -> bool {
+pub fn are_digits_or(bytes: &[u8], sign: u8) -> bool {
     for byte in bytes {
         if !byte.is_ascii_digit() && *byte != sign {
             return false;
@@ -49,7 +49,7 @@ pub fn are_digits(bytes: &[u8]) -> bool {
 }
 
 /// Whether a byte is a digit.
-pub(crate) fn has_digit(bytes: &[u8]) -> bool {
+pub fn has_digit(bytes: &[u8]) -> bool {
     for byte in bytes {
         if byte.is_ascii_digit() {
             return true;
@@ -59,7 +59,7 @@ pub(crate) fn has_digit(bytes: &[u8]) -> bool {
 }
 
 /// Whether a byte is a letter of ASCII.
-pub(crate) fn has_letter(bytes: &[u8]) -> bool {
+pub fn has_letter(bytes: &[u8]) -> bool {
     for byte in bytes {
         if byte.is_ascii_alphabetic() {
             return true;

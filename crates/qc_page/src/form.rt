@@ -2,11 +2,12 @@
 
 use crate::bytes::has;
 use crate::page::Page;
+use crate::part::Part::{At, Text};
 use crate::place::Place;
 use qc_num::OutOfMemory;
 
 /// What a text is, as far as its first line tells.
-#[derive(Clone, Copy, Debug, PartialEq, Eq)]
+#[derive(Clone, Copy, PartialEq, Eq)]
 pub enum Sort {
     Ship,
     Stow,
@@ -83,7 +84,14 @@ pub fn say_form(
 ) -> Result<bool, OutOfMemory> {
     if let Some(what) = no_text(bytes) {
         let (place, wanted) = (Place::whole(file), wanted.text());
-        page.say(format_args!("{place}: {what}; {wanted} is wanted"))?;
+        page.say(&[
+            At(place),
+            Text(": "),
+            Text(what),
+            Text("; "),
+            Text(wanted),
+            Text(" is wanted"),
+        ])?;
         return Ok(true);
     }
     match sort_of(bytes) {
@@ -96,8 +104,16 @@ pub fn say_form(
 fn say_sort(page: &mut Page, file: &str, sort: Sort, wanted: Sort) -> Result<bool, OutOfMemory> {
     let (place, is) = (Place::whole(file), sort.text());
     let (should, word) = (wanted.text(), wanted.word());
-    page.say(format_args!(
-        "{place}: this is {is}, and {should} is wanted here: SHIP, STOW, PLAN and TREE stand in this order, and this file was named as {word}"
-    ))?;
+    page.say(&[
+        At(place),
+        Text(": this is "),
+        Text(is),
+        Text(", and "),
+        Text(should),
+        Text(
+            " is wanted here: SHIP, STOW, PLAN and TREE stand in this order, and this file was named as ",
+        ),
+        Text(word),
+    ])?;
     Ok(true)
 }

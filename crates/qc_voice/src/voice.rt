@@ -1,24 +1,21 @@
 //! What is said after a run.
 ghost use Rattle.std.specs.Prelude.{◌≡◌};
 ghost use Rattle.qc_io.specs.Outside.{beside};
-ghost use Rattle.qc_explain.specs.Frame.{LeavesFiles};
+ghost use Rattle.qc_voice.specs.Frame.{LeavesFiles};
 
-use crate::answer::{say_infeasible, say_spent};
-use crate::broken::say_broken;
-use crate::course::say_course;
-use crate::log::say_log;
-use crate::plan::say_plan;
 use crate::texts::{Names, Text, Texts, names_of, read_text, read_texts};
-use crate::tree::say_tree;
-use qc_hints::{Page, Word, counts_decimetres, say_notes, say_ship, say_stow, say_usage};
+use qc_explain::{say_broken, say_course, say_infeasible, say_log, say_plan, say_spent, say_tree};
+use qc_hints::{counts_decimetres, say_notes, say_ship, say_stow, say_usage};
 use qc_io::{Shelf, Sink, put_all};
 use qc_model::{Instance, Turn};
 use qc_num::OutOfMemory;
-use qc_replay::{ReplayError, TreeFault, replay};
+use qc_page::{Page, Part};
+use qc_replay::{ReplayError, replay};
 use qc_run::Status;
 use qc_ship::{Ship, ShipError, read_ship};
 use qc_stow::{StowError, read_stow};
 use qc_tasks::tasks_of;
+use qc_tree::TreeFault;
 use qc_words::{Request, request_of};
 use std::alloc::Global;
 
@@ -106,14 +103,16 @@ fn say_unread(page: &mut Page, names: &Names<'_>, texts: &Texts) -> Result<(), O
     let Some(unread) = first_unread(names, texts) else {
         return Ok(());
     };
-    let (name, word) = (Word(unread.name), unread.word);
-    if unread.is_large {
-        page.say(format_args!(
-            "{name}: this file, {word}, has more than 8388608 bytes, and may have no more"
-        ))
-    } else {
-        page.say(format_args!("{name}: this file, {word}, isn't there or can't be read"))
-    }
+    page.say(&[
+        Part::Word(unread.name),
+        Part::Text(": this file, "),
+        Part::Text(unread.word),
+        Part::Text(if unread.is_large {
+            ", has more than 8388608 bytes, and may have no more"
+        } else {
+            ", isn't there or can't be read"
+        }),
+    ])
 }
 
 /// Says what is wrong with the list.
@@ -224,7 +223,9 @@ fn say_texts(
             say_bad_plan(page, names, texts, ended)?;
             say_ship_notes(page, names, texts)
         }
-        Status::OutOfMemory => page.say("the system gave no more memory; no file was changed"),
+        Status::OutOfMemory => page.say(&[Part::Text(
+            "the system gave no more memory; no file was changed",
+        )]),
         Status::Usage | Status::WriteFault | Status::BadTree => Ok(()),
         Status::Infeasible | Status::BudgetNone => {
             say_ship_notes(page, names, texts)?;
@@ -273,8 +274,11 @@ fn say_stale<S: Shelf>(page: &mut Page, shelf: &mut S, name: &str) -> Result<(),
     if shelf.open(name).is_err() {
         return Ok(());
     }
-    let name = Word(name);
-    page.say(format_args!("note: {name}: this plan was there before and isn't of this run"))
+    page.say(&[
+        Part::Text("note: "),
+        Part::Word(name),
+        Part::Text(": this plan was there before and isn't of this run"),
+    ])
 }
 
 /// Says what there is to say of the files that are read otherwise: a tree's, and a plan that wasn't written.

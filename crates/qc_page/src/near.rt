@@ -11,7 +11,7 @@ const MOST_EDITS: usize = 2;
 const SHORT: usize = 6;
 
 /// Whether a word is another one, but for the case of letters, signs between words and a few letters.
-pub(crate) fn is_near(alloc: Global, word: &str, other: &str) -> Result<bool, OutOfMemory> {
+pub fn is_near(alloc: Global, word: &str, other: &str) -> Result<bool, OutOfMemory> {
     if word.len() > 40 || word.len().abs_diff(other.len()) > MOST_EDITS {
         return Ok(false);
     }

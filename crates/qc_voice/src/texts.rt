@@ -1,5 +1,5 @@
 //! The files that a command was given, read again.
-ghost use Rattle.qc_explain.specs.Frame.{LeavesFiles};
+ghost use Rattle.qc_voice.specs.Frame.{LeavesFiles};
 
 use qc_io::{ReadAll, Shelf, read_all};
 use qc_model::Turn;

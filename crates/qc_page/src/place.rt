@@ -1,8 +1,6 @@
 //! Where something stands in a file.
 
 use crate::bytes::piece_at;
-use crate::shown::Word;
-use std::fmt;
 
 /// Where something stands: the file's name as it was typed, the line from 1, and the record of a table from 1. A
 /// number that isn't known is 0 and isn't told.
@@ -33,22 +31,8 @@ impl<'a> Place<'a> {
     }
 }
 
-impl fmt::Display for Place<'_> {
-    fn fmt<W: fmt::Write>(&self, f: &mut fmt::Formatter<W>) -> fmt::Result {
-        let (file, line, record) = (Word(self.file), self.line, self.record);
-        write!(f, "{file}")?;
-        if line > 0 {
-            write!(f, ", line {line}")?;
-        }
-        if record > 0 {
-            write!(f, ", record {record}")?;
-        }
-        Ok(())
-    }
-}
-
 /// The line of a text, from 1, in which the byte at an offset stands.
-pub(crate) fn line_at(text: &[u8], offset: usize) -> usize {
+pub fn line_at(text: &[u8], offset: usize) -> usize {
     let front = text.get(..offset).unwrap_or(text);
     let mut line = 1usize;
     for byte in front {
