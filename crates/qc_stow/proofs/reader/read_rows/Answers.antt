@@ -26,7 +26,7 @@ loop-fields-preserved c =
     let few = rw c.as_slice.ensures.value at c.in-Ok.ensures.few in
     record {
       rows = rw pushed (each_more (next_row c.args.ship.now) fields_of c.args.records.now c.loop-fields.fields-index c.fields-item.result c.loop-fields-test.true c.fields-item.is
-        _ earlier c.loop-fields.invariant.rows c.in-Ok.row (sym said));
+          _ earlier c.loop-fields.invariant.rows c.in-Ok.row (sym said));
       few = rw pushed (omega (arith, length-append earlier (c.in-Ok.row ∷ []), few));
       ids = rw pushed (rw c.as_slice.ensures.value at c.in-Ok.ensures.ids);
       slots = rw pushed (rw c.as_slice.ensures.value at c.in-Ok.ensures.slots);
