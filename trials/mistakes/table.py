@@ -57,6 +57,7 @@ CRANE = "1 to 8 cranes, each below a line [[crane]] of its own"
 NAME = '1 to 12 letters from A to Z or a to z, digits, - and _ between double quotes, as "STS-1"'
 READY = "a whole number from 0 to 1000000, the tick from which the crane may leave its place"
 BAY = "a whole number from -200 to 300, the crane bay where the crane stands at first; that of the first hatch is 1"
+BAY_BY_PLACES = "a whole number from -10000 to 16000, the decimetre where the crane stands at first"
 FROM = "the number of the crane's first hatch, counted from 1 in hatches"
 TO = "the number of the crane's last hatch, counted from 1 in hatches and not below from"
 HEADER = "id,move,cell,length"
@@ -677,4 +678,36 @@ MISTAKES = [
     ("the plan over the list", "first", "plan ship.toml stow.csv ./stow.csv newtree.txt", {}, 4, "WriteFault",
      ["qc: ./stow.csv: this file couldn't be made or written",
       "qc: it is a file that this call has read or made, and no such file is written over"]),
+    # ---- sentences that no mistake above comes to
+    ("Reach, where another crane reaches it", "restows", SHOW, {"ship.toml": [("bay = 1\n", "bay = 1\nto = 2\n")]}, 13,
+     "Broken Reach 10-LD",
+     ["qc: plan.csv, line 3, record 3: 10-LD stands at crane bay 3, and C1 reaches 1 to 2: give the task to C2"]),
+    plan("no task at all", PLAN_HEADER + "\n", "BadPlan TaskMissing 2",
+         ["qc: plan.csv: 2 tasks have no record: 2-DD 6-DD; a plan has one for each task that qc tasks SHIP STOW prints"]),
+    plan("a start of 13 digits", [("6-DD,C1,21,31", "6-DD,C1,1234567890123,31")], "BadPlan Number 3",
+         ['qc: plan.csv, line 3, record 3: the start is "1234567890123": it has more than 12 digits; ' + TICK]),
+    plan("a start with a sign ahead", [("6-DD,C1,21,31", "6-DD,C1,+21,31")], "BadPlan Number 3",
+         ['qc: plan.csv, line 3, record 3: the start is "+21": it isn\'t digits alone; ' + TICK]),
+    stow("an id with a comma", [("A2,D,020084,40", '"A,2",D,020084,40')], "BadStow Id 3",
+         ['qc: stow.csv, line 3, record 3: the id is "A,2": it has a comma or a double quote; ' + ID], base="first"),
+    stow("a byte that is no text", (HEADER + "\nA1,D,0200").encode() + b"\xff2,40\n", "BadStow Digit 2",
+         ['qc: stow.csv, line 2, record 2: the cell is "0200\\xFF2": it has a letter or a sign, and is digits alone; ' + CELL],
+         base="first"),
+    stow("a cell of four digits", [("A2,D,020084,40", "A2,D,0284,40")], "BadStow Length 3",
+         ['qc: stow.csv, line 3, record 3: the cell is "0284": it has another length; ' + CELL], base="first"),
+    stow("a container loaded twice", [("A3,D,060082,40\n", "A3,D,060082,40\nB1,L,020082,40\nB1,L,020084,40\n")],
+         "BadStow IdTwice 6",
+         ['qc: stow.csv, line 6, record 6: "B1" is loaded in line 5 already; each container is loaded once'], base="first"),
+    stow("bytes of 0", b"id,move\0", "BadStow Header 1",
+         ["qc: stow.csv: the file has bytes of 0 and is no text: save it as UTF-8; a stowage list is wanted"], base="first"),
+    ("a list of a byte too many", "first", TASKS, {"stow.csv": b"x" * 8388609}, 15, "TooLarge stow",
+     ["qc: stow.csv: this file, STOW, has more than 8388608 bytes, and may have no more"]),
+    ship("many keys that aren't read", [("margin = 1\n", "margin = 1\n" + "".join(f"zz{n:02} = 1\n" for n in range(21)))],
+         "task 2-DD 1 20",
+         [f'qc: note: ship.toml, line {4 + n}: the key "zz{n:02}" is no key of the ship and isn\'t read' for n in range(20)]
+         + ["qc: note: further keys of the ship file aren't read"], base="first", status=0),
+    ship("a bay beyond the rail, in decimetres", [('name = "C2"\nbay = 900\n', 'name = "C2"\nbay = 20000\n')],
+         "BadShip Range bay 2", ["qc: ship.toml, line 18: bay is 20000, and may be " + BAY_BY_PLACES], base="places"),
+    log("a place that is no number", [("4000 C1 400", "4000 C1 x")], "BadLog Line 2",
+        ['qc: log.txt, line 2: "4000 C1 x": it isn\'t a time, a crane\'s name and a place; ' + LINE]),
 ]
