@@ -1,6 +1,6 @@
 //! Faults of a log of ticks and of tasks that are done.
 
-use crate::log::{is_open, word};
+use crate::log::{say_no_line, word};
 use qc_dispatch::{DispatchError, DispatchFault, DispatchKind, follow_log};
 use qc_gantt::{PlanError, read_plan};
 use qc_model::Instance;
@@ -54,7 +54,10 @@ pub fn say_course<'a>(
             At(place),
             Text(": this is a line behind the 100000th, and a log has no more"),
         ]),
-        DispatchKind::Line => say_line(page, place, bytes),
+        DispatchKind::Line => {
+            let why = why_no_line(raw_line(bytes, number));
+            say_no_line(page, place, bytes, why, "tick N or done TASK, as done 2-DD")
+        }
         DispatchKind::UnknownTask => page.say(&[
             At(place),
             Text(": "),
@@ -84,22 +87,4 @@ fn why_no_line(line: &[u8]) -> &'static str {
     } else {
         "the first word is tick or done"
     }
-}
-
-/// Says what is wrong with a line.
-fn say_line<'a>(page: &mut Page, place: Place<'a>, bytes: &'a [u8]) -> Result<(), OutOfMemory> {
-    let raw = raw_line(bytes, place.line);
-    let why = if is_open(bytes, place.line) {
-        "no line feed ends it: the log was cut off, or its last line has none"
-    } else {
-        why_no_line(raw)
-    };
-    page.say(&[
-        At(place),
-        Text(": "),
-        Shown(line_of(bytes, place.line)),
-        Text(": "),
-        Text(why),
-        Text("; a line is tick N or done TASK, as done 2-DD"),
-    ])
 }

@@ -34,7 +34,10 @@ pub fn say_log<'a>(
             At(place),
             Text(": this is a line behind the 200000th, and a log has no more"),
         ]),
-        WatchKind::Line => say_line(page, place, bytes),
+        WatchKind::Line => {
+            let why = why_no_line(raw_line(bytes, number));
+            say_no_line(page, place, bytes, why, "TIME NAME PLACE, as 10 C1 5")
+        }
         WatchKind::UnknownCrane => {
             let name = word(line_of(bytes, number), 1);
             say_no_crane(page, place, name, ship.cranes())
@@ -49,7 +52,7 @@ pub(crate) fn word(line: &[u8], at: usize) -> &[u8] {
 }
 
 /// Whether the line with a number is the last one, and no line feed ends it.
-pub(crate) fn is_open(bytes: &[u8], number: usize) -> bool {
+fn is_open(bytes: &[u8], number: usize) -> bool {
     bytes.last() != Some(&b'\n') && piece_at(bytes, b'\n', number).is_none()
 }
 
@@ -79,21 +82,26 @@ fn why_no_line(line: &[u8]) -> &'static str {
     }
 }
 
-/// Says what is wrong with a line.
-fn say_line<'a>(page: &mut Page, place: Place<'a>, bytes: &'a [u8]) -> Result<(), OutOfMemory> {
-    let raw = raw_line(bytes, place.line);
-    let why = if is_open(bytes, place.line) {
-        "no line feed ends it: the log was cut off, or its last line has none"
-    } else {
-        why_no_line(raw)
-    };
+/// Says why a line is none of a log, or that the log was cut off in it, and what a line is.
+pub(crate) fn say_no_line<'a>(
+    page: &mut Page,
+    place: Place<'a>,
+    bytes: &'a [u8],
+    why: &'a str,
+    form: &'a str,
+) -> Result<(), OutOfMemory> {
     page.say(&[
         At(place),
         Text(": "),
         Shown(line_of(bytes, place.line)),
         Text(": "),
-        Text(why),
-        Text("; a line is TIME NAME PLACE, as 10 C1 5"),
+        Text(if is_open(bytes, place.line) {
+            "no line feed ends it: the log was cut off, or its last line has none"
+        } else {
+            why
+        }),
+        Text("; a line is "),
+        Text(form),
     ])
 }
 
