@@ -14,8 +14,7 @@ use Rattle.qc_model.specs.Work.{task_numbers, ticks_over}
 use Rattle.qc_model.proofs.Bays.{bays}
 use Rattle.qc_model.proofs.Scaled.{scaled_sum}
 use Rattle.qc_freemove.specs.FreeMotion.{IsFreePlace, IsFreeSafeBy}
-use Rattle.qc_freemove.proofs.FreeSafe.{free_safe}
-use Rattle.qc_freemove.proofs.FreeTerms.{free_place_exists}
+use Rattle.qc_freemove.proofs.FreeSafe.{free_place_exists, free_safe}
 use Rattle.qc_close.proofs.Members.{Among, filter_among, range_among}
 use Rattle.qc_close.proofs.PackLemmas.{ends_in}
 use Rattle.qc_close.proofs.Rows.{AllClear, AreClear, Row, clear_from, row_of}

@@ -6,29 +6,15 @@ use Rattle.std.proofs.lemmas.Bool.{cases_lt, cases_order}
 use Rattle.std.proofs.lemmas.Int.{ints}
 use Rattle.qc_model.specs.declared.schedule.Slot.{Slot}
 use Rattle.qc_model.specs.Bays.{bays_up}
-use Rattle.qc_model.specs.Instance.{InstanceView, Valid, bay_of, crane}
+use Rattle.qc_model.specs.Instance.{InstanceView, bay_of}
 use Rattle.qc_model.specs.Rules.{Feasible, IsClear, crane_of, end_of, start_of}
-use Rattle.qc_model.proofs.Levels.{bay_on, berth_at, berth_level, berth_of, berths_rise, distance-lowered, leaves_by, one_way, same_way, task_level, waits_by}
-use Rattle.qc_model.proofs.Scaled.{scaled_late, scaled_le}
+use Rattle.qc_model.proofs.Levels.{HasVisits, bay_on, distance-lowered, one_way, same_way, task_level}
+use Rattle.qc_model.proofs.Scaled.{scaled_late}
 use Rattle.qc_freemove.specs.FreeMotion.{parts_off}
 
 -- where task i has its crane at a moment
 abbrev pub visit_at : InstanceView → List Slot → ℕ → ℕ → ℕ → ℤ
 visit_at inst sched d i m = task_level inst sched d i -ℤ pos (parts_off inst sched i m d)
-
-pub record HasFreeLevels (inst : InstanceView) (sched : List Slot) (d : ℕ) : Type 0 where
-  -- while task j is done no task of the same or a lower crane has it higher
-  pub visits : (i j m : ℕ) → i < length inst.tasks → j < length inst.tasks → crane_of sched i ≤ crane_of sched j
-      → d * start_of sched j ≤ m → m ≤ d * end_of inst sched j
-      → visit_at inst sched d i m ≤ℤ task_level inst sched d j
-  -- from the start of task j on no berth of the same or a lower crane has it higher
-  pub leaves : (j v m : ℕ) → j < length inst.tasks → v ≤ crane_of sched j → d * start_of sched j ≤ m
-      → berth_at inst d v m ≤ℤ task_level inst sched d j
-  -- until crane v is ready no task of the same or a lower crane has it higher
-  pub waits : (i v m : ℕ) → i < length inst.tasks → v < length inst.cranes → crane_of sched i ≤ v
-      → m ≤ d * (crane inst v).ready → visit_at inst sched d i m ≤ℤ berth_level inst d v
-  -- berths rise
-  pub order : (v w : ℕ) → v ≤ w → w < length inst.cranes → berth_level inst d v ≤ℤ berth_level inst d w
 
 -- ---- on ticks
 
@@ -110,27 +96,10 @@ module _ (inst : InstanceView) (sched : List Slot) (g : Feasible inst sched) whe
       ]
     ]
 
-    leaves : (j v m : ℕ) → j < length inst.tasks → v ≤ crane_of sched j → d * start_of sched j ≤ m
-        → berth_at inst d v m ≤ℤ task_level inst sched d j
-    unfolding task_level berth_level
-    leaves j v m low order begun =
-        let far = scaled_late d inst.travel (bay_on inst sched j) (berth_of inst v) _ _
-        (leaves_by inst sched g j v low order) in
-        behind_y _ (d * (crane inst v).ready) (d * start_of sched j) m _ _ far begun (omega arith)
-
-    waits : (i v m : ℕ) → i < length inst.tasks → v < length inst.cranes → crane_of sched i ≤ v
-        → m ≤ d * (crane inst v).ready → visit_at inst sched d i m ≤ℤ berth_level inst d v
-    unfolding task_level berth_level
-    waits i v m low high order early =
-        let far = scaled_late d inst.travel (berth_of inst v) (bay_on inst sched i) _ _
-        (waits_by inst sched g i v low high order) in
-        before_y _ (d * start_of sched i) (d * (crane inst v).ready) m _ _ far early (omega arith)
-
-    pub free_levels : Valid inst → HasFreeLevels inst sched d
-    unfolding berth_level
-    free_levels valid = record {
+    pub free_visits : HasVisits inst sched d (λ i m. parts_off inst sched i m d)
+    free_visits = record {
       visits = visits;
-      leaves = leaves;
-      waits = waits;
-      order = λ v w order high. scaled_le (d * inst.travel) _ _ (berths_rise inst valid v w order high);
+      coming = λ i m. omega arith;
+      done = λ i m begun going. omega arith;
+      near = λ i m. (omega arith, omega arith);
     }

@@ -1,6 +1,4 @@
 pub mod FreeLevels
-pub mod Highest
-pub mod FreeTerms
 pub mod FreeSafe
 pub mod Tops
 pub mod Ways

@@ -32,6 +32,10 @@ task_level inst sched d i = scaled inst d (bay_on inst sched i)
 unfoldable pub berth_level : InstanceView → ℕ → ℕ → ℤ
 berth_level inst d v = scaled inst d (berth_of inst v)
 
+-- by how many parts of a tick a moment lies before the start of task i
+abbrev pub before : List Slot → ℕ → ℕ → ℕ → ℕ
+before sched d i m = d * start_of sched i - m
+
 -- where task i has its crane at a moment, and where its berth has crane v
 abbrev pub task_at : InstanceView → List Slot → ℕ → ℕ → ℕ → ℤ
 task_at inst sched d i m = task_level inst sched d i -ℤ pos (d * start_of sched i - m)
@@ -39,18 +43,45 @@ task_at inst sched d i m = task_level inst sched d i -ℤ pos (d * start_of sche
 abbrev pub berth_at : InstanceView → ℕ → ℕ → ℕ → ℤ
 berth_at inst d v m = berth_level inst d v -ℤ pos (m - d * (crane inst v).ready)
 
+-- the rules of berths, whichever way cranes go
+pub record HasBerths (inst : InstanceView) (sched : List Slot) (d : ℕ) : Type 0 where
+  -- from the start of task j on no berth of the same or a lower crane has it higher
+  pub leaves : (j v m : ℕ) → j < length inst.tasks → v ≤ crane_of sched j → d * start_of sched j ≤ m
+      → berth_at inst d v m ≤ℤ task_level inst sched d j
+  -- until crane v is ready no coming task of the same or a lower crane has it higher
+  pub waits : (i v m : ℕ) → i < length inst.tasks → v < length inst.cranes → crane_of sched i ≤ v
+      → m ≤ d * (crane inst v).ready → task_at inst sched d i m ≤ℤ berth_level inst d v
+  -- berths rise
+  pub order : (v w : ℕ) → v ≤ w → w < length inst.cranes → berth_level inst d v ≤ℤ berth_level inst d w
+
+-- those of tasks, task i being off i m parts of a tick away at moment m
+pub record HasVisits (inst : InstanceView) (sched : List Slot) (d : ℕ) (off : ℕ → ℕ → ℕ) : Type 0 where
+  -- while task j is done no task of the same or a lower crane has it higher
+  pub visits : (i j m : ℕ) → i < length inst.tasks → j < length inst.tasks → crane_of sched i ≤ crane_of sched j
+      → d * start_of sched j ≤ m → m ≤ d * end_of inst sched j
+      → (task_level inst sched d i -ℤ pos (off i m)) ≤ℤ task_level inst sched d j
+  -- a task to come is away by what is left to its start at least, one that is done isn't
+  pub coming : (i m : ℕ) → before sched d i m ≤ off i m
+  pub done : (i m : ℕ) → d * start_of sched i ≤ m → m ≤ d * end_of inst sched i → off i m ≡ 0
+  -- none comes or goes by more than one part a part
+  pub near : (i m : ℕ) → (off i m ≤ off i (m + 1) + 1) × (off i (m + 1) ≤ off i m + 1)
+
+-- those of an upward schedule
 pub record HasLevels (inst : InstanceView) (sched : List Slot) (d : ℕ) : Type 0 where
   -- at the end of task i a task of the same or a lower crane has it no higher
   pub climbs : (i j : ℕ) → i < length inst.tasks → j < length inst.tasks → crane_of sched j ≤ crane_of sched i
       → task_at inst sched d j (d * end_of inst sched i) ≤ℤ task_level inst sched d i
-  -- at the start of task j the berth of the same or a lower crane has it no higher
-  pub leaves : (j v : ℕ) → j < length inst.tasks → v ≤ crane_of sched j
-      → berth_at inst d v (d * start_of sched j) ≤ℤ task_level inst sched d j
-  -- when crane v is ready, a task of the same or a lower crane has it no higher than its berth
-  pub waits : (j v : ℕ) → j < length inst.tasks → v < length inst.cranes → crane_of sched j ≤ v
-      → task_at inst sched d j (d * (crane inst v).ready) ≤ℤ berth_level inst d v
-  -- berths rise
-  pub order : (v w : ℕ) → v ≤ w → w < length inst.cranes → berth_level inst d v ≤ℤ berth_level inst d w
+  pub berths : HasBerths inst sched d
+
+pub visits_of : (inst : InstanceView) (sched : List Slot) (d : ℕ) → HasLevels inst sched d
+    → HasVisits inst sched d (before sched d)
+visits_of inst sched d h = record {
+  visits = λ i j m low high below begun going.
+      let rule = h.climbs j i high low below in omega (arith, ints, rule);
+  coming = λ i m. omega arith;
+  done = λ i m begun going. omega arith;
+  near = λ i m. (omega arith, omega arith);
+}
 
 -- ---- on bays
 
@@ -77,7 +108,7 @@ above_of t x y h = by_lt_z x y (λ up. up) (λ down.
 pub one_way : (t : ℕ) (x y : ℤ) → t * bays_up x y ≤ t * bays_between x y
 one_way t x y = mul-le-mul_left t (omega arith)
 
-pub other_way : (t : ℕ) (x y : ℤ) → t * bays_up y x ≤ t * bays_between x y
+other_way : (t : ℕ) (x y : ℤ) → t * bays_up y x ≤ t * bays_between x y
 other_way t x y = mul-le-mul_left t (omega arith)
 
 next_berth : (g k : ℕ) (x y : ℤ) → (x +ℤ pos g) ≤ℤ y → (x -ℤ pos (g * k)) ≤ℤ (y -ℤ pos (g * suc k))
@@ -86,7 +117,7 @@ next_berth g k x y h = omega (arith, ints)
 same_berth : (inst : InstanceView) (v w : ℕ) → v ≡ w → berth_of inst v ≤ℤ berth_of inst w
 same_berth inst v w e = subst (λ (u : ℕ). berth_of inst v ≤ℤ berth_of inst u) e (omega (arith, ints))
 
-pub berths_rise : (inst : InstanceView) → Valid inst → (v w : ℕ) → v ≤ w → w < length inst.cranes
+berths_rise : (inst : InstanceView) → Valid inst → (v w : ℕ) → v ≤ w → w < length inst.cranes
     → berth_of inst v ≤ℤ berth_of inst w
 berths_rise inst valid v zero order high = same_berth inst v zero (omega arith)
 berths_rise inst valid v (suc w) order high =
@@ -110,7 +141,7 @@ module _ (inst : InstanceView) (sched : List Slot) (g : Feasible inst sched) whe
   arrives j v low same =
       subst (λ (w : ℕ). arrival inst w (bay_of inst j) ≤ start_of sched j) (sym same) (g.ready j low)
 
-  pub leaves_by : (j v : ℕ) → j < length inst.tasks → v ≤ crane_of sched j
+  leaves_by : (j v : ℕ) → j < length inst.tasks → v ≤ crane_of sched j
       → 0 < inst.travel * bays_up (bay_on inst sched j) (berth_of inst v)
       → (crane inst v).ready + inst.travel * bays_up (bay_on inst sched j) (berth_of inst v) ≤ start_of sched j
   leaves_by j v low order near = elim (cases_order v (crane_of sched j)) [
@@ -128,7 +159,7 @@ module _ (inst : InstanceView) (sched : List Slot) (g : Feasible inst sched) whe
     ]
   ]
 
-  pub waits_by : (j v : ℕ) → j < length inst.tasks → v < length inst.cranes → crane_of sched j ≤ v
+  waits_by : (j v : ℕ) → j < length inst.tasks → v < length inst.cranes → crane_of sched j ≤ v
       → 0 < inst.travel * bays_up (berth_of inst v) (bay_on inst sched j)
       → (crane inst v).ready + inst.travel * bays_up (berth_of inst v) (bay_on inst sched j) ≤ start_of sched j
   waits_by j v low high order near = elim (cases_order v (crane_of sched j)) [
@@ -143,6 +174,18 @@ module _ (inst : InstanceView) (sched : List Slot) (g : Feasible inst sched) whe
           omega (arith, far, rule)
     ]
   ]
+
+  pub berths_of : Valid inst → (d : ℕ) → HasBerths inst sched d
+  unfolding task_level berth_level
+  berths_of valid d = record {
+    leaves = λ j v m low order begun.
+        let far = scaled_late d inst.travel (bay_on inst sched j) (berth_of inst v) _ _
+        (leaves_by j v low order) in omega (arith, ints, far);
+    waits = λ i v m low high order early.
+        let far = scaled_late d inst.travel (berth_of inst v) (bay_on inst sched i) _ _
+        (waits_by i v low high order) in omega (arith, ints, far);
+    order = λ v w order high. scaled_le (d * inst.travel) _ _ (berths_rise inst valid v w order high);
+  }
 
 module _ (inst : InstanceView) (sched : List Slot) (g : GoesUp inst sched) where
   climbs_by : (i j : ℕ) → i < length inst.tasks → j < length inst.tasks → crane_of sched j ≤ crane_of sched i
@@ -163,13 +206,9 @@ module _ (inst : InstanceView) (sched : List Slot) (g : GoesUp inst sched) where
   ]
 
   pub levels_of : Valid inst → (d : ℕ) → HasLevels inst sched d
-  unfolding task_level berth_level
+  unfolding task_level
   levels_of valid d = record {
     climbs = λ i j low high order.
         scaled_late d inst.travel (bay_on inst sched i) (bay_on inst sched j) _ _ (climbs_by i j low high order);
-    leaves = λ j v low order.
-        scaled_late d inst.travel (bay_on inst sched j) (berth_of inst v) _ _ (leaves_by inst sched g.feasible j v low order);
-    waits = λ j v low high order.
-        scaled_late d inst.travel (berth_of inst v) (bay_on inst sched j) _ _ (waits_by inst sched g.feasible j v low high order);
-    order = λ v w order high. scaled_le (d * inst.travel) _ _ (berths_rise inst valid v w order high);
+    berths = berths_of inst sched g.feasible valid d;
   }

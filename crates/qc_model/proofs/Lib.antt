@@ -19,6 +19,7 @@ pub mod Scaled
 pub mod Levels
 pub mod Places
 pub mod PlaceTerms
+pub mod Standing
 pub mod Moves
 pub mod WholeTicks
 pub mod SafeLemmas

@@ -3,13 +3,13 @@ use Rattle.std.proofs.Common.{◌≡◌, ℕ, ◌+◌, ◌-◌, ◌*◌, ◌<◌
 use Rattle.std.proofs.lemmas.Int.{ints}
 use Rattle.qc_model.specs.declared.schedule.Slot.{Slot}
 use Rattle.qc_model.specs.Instance.{InstanceView, bay_of, crane}
-use Rattle.qc_model.specs.Motion.{FloorBay, IsFloor, IsGreatest, LowPlace, bay_ahead, bay_behind, berth_place, scaled, task_place}
+use Rattle.qc_model.specs.Motion.{FloorBay, IsFloor, IsGreatest, bay_ahead, bay_behind, berth_place, scaled}
 use Rattle.qc_model.specs.Motion.FloorBay.{of_berth as floor_berth, of_task as floor_task}
-use Rattle.qc_model.specs.Motion.LowPlace.{of_berth, of_floor, of_task}
-use Rattle.qc_model.specs.Rules.{crane_of, start_of}
+use Rattle.qc_model.specs.Rules.{crane_of}
 use Rattle.qc_model.proofs.Scaled.{scaled_le, scaled_sum}
-use Rattle.qc_model.proofs.Levels.{berth_at, berth_level, lowered, task_at, task_level}
-use Rattle.qc_model.proofs.Places.{floor_unique}
+use Rattle.qc_model.proofs.Levels.{berth_at, berth_level, lowered, task_level}
+use Rattle.qc_model.proofs.Places.{AreLow, Term, term_place}
+use Rattle.qc_model.proofs.Places.Term.{berth, floor, task}
 
 -- what lies between the level of a bay for crane k and its place
 unfoldable pub lift : InstanceView → ℕ → ℕ → ℤ
@@ -76,12 +76,13 @@ module _ (inst : InstanceView) (sched : List Slot) (d : ℕ) where
   unfolding berth_level
   berth-lifted k = itself_is inst d k (crane inst k).bay
 
-  pub task_place-lifted : (i k m : ℕ) → crane_of sched i ≤ k
-      → task_place inst sched i k m d ≡ (task_at inst sched d i m +ℤ lift inst d k)
+  pub task_place-lifted : (i k n : ℕ) → crane_of sched i ≤ k
+      → (scaled inst d (bay_ahead inst (crane_of sched i) (bay_of inst i) k) -ℤ pos n)
+      ≡ ((task_level inst sched d i -ℤ pos n) +ℤ lift inst d k)
   unfolding task_level
-  task_place-lifted i k m low =
+  task_place-lifted i k n low =
       let whole = ahead_is inst d (crane_of sched i) k (bay_of inst i) low in
-      less _ (task_level inst sched d i) (lift inst d k) (pos (d * start_of sched i - m)) whole
+      less _ (task_level inst sched d i) (lift inst d k) (pos n) whole
 
   pub berth_place-lifted : (v k m : ℕ) → v ≤ k
       → berth_place inst v k m d ≡ (berth_at inst d v m +ℤ lift inst d k)
@@ -139,49 +140,39 @@ module _ (inst : InstanceView) (sched : List Slot) (d : ℕ) where
 
 -- ---- the terms
 
--- of which crane k's place is the greatest
-pub data Term (inst : InstanceView) (sched : List Slot) (k : ℕ) : Type 0 where
-  task : (i : ℕ) → i < length inst.tasks → crane_of sched i ≤ k → Term inst sched k
-  berth : (v : ℕ) → v ≤ k → Term inst sched k
-  floor : Term inst sched k
-
-module _ (inst : InstanceView) (sched : List Slot) (k : ℕ) (x : ℤ) (d : ℕ) where
-  -- the level of a term, x being the crane's floor
+module _ (inst : InstanceView) (sched : List Slot) (k : ℕ) (x : ℤ) (d : ℕ) (off : ℕ → ℕ → ℕ) where
+  -- the level of a term, x being the crane's floor and the work of task i off i m parts of a tick away
   abbrev pub level_at : Term inst sched k → ℕ → ℤ
-  level_at (task i low below) m = task_at inst sched d i m
+  level_at (task i low below) m = task_level inst sched d i -ℤ pos (off i m)
   level_at (berth v below) m = berth_at inst d v m
   level_at floor m = floor_level inst d k x
 
-  -- p is the greatest of them
+  -- p is the greatest of their places
   pub record IsTop (m : ℕ) (p : ℤ) : Type 0 where
     pub from : Term inst sched k
     pub is : p ≡ (level_at from m +ℤ lift inst d k)
     pub most : (t : Term inst sched k) → (level_at t m +ℤ lift inst d k) ≤ℤ p
 
-  module _ (f : IsFloor inst sched k x) (m : ℕ) where
-    term_of : (y : ℤ) → LowPlace inst sched k m d y
-        → (t : Term inst sched k) × (y ≡ (level_at t m +ℤ lift inst d k))
-    term_of _ (of_task i low below) = (task i low below, task_place-lifted inst sched d i k m below)
-    term_of _ (of_berth v below) = (berth v below, berth_place-lifted inst sched d v k m below)
-    term_of _ (of_floor y g) =
-        (floor, ap (scaled inst d) (floor_unique inst sched k y x g f) ∙ floor-lifted inst sched d k x)
+  lifted : (m : ℕ) (t : Term inst sched k)
+      → term_place inst sched k x d off m t ≡ (level_at t m +ℤ lift inst d k)
+  lifted m (task i low below) = task_place-lifted inst sched d i k (off i m) below
+  lifted m (berth v below) = berth_place-lifted inst sched d v k m below
+  lifted m floor = floor-lifted inst sched d k x
 
-    place_of : (t : Term inst sched k) → LowPlace inst sched k m d (level_at t m +ℤ lift inst d k)
-    place_of (task i low below) =
-        subst (LowPlace inst sched k m d) (task_place-lifted inst sched d i k m below) (of_task i low below)
-    place_of (berth v below) =
-        subst (LowPlace inst sched k m d) (berth_place-lifted inst sched d v k m below) (of_berth v below)
-    place_of floor = subst (LowPlace inst sched k m d) (floor-lifted inst sched d k x) (of_floor x f)
+  module _ (m : ℕ) (P : ℤ → Type 0) (are : AreLow inst sched k x d off m P) (p : ℤ) where
+    pub top_of : IsGreatest P p → IsTop m p
+    top_of g =
+        let term = are.term_of p g.is in
+        record {
+          from = term.0;
+          is = term.1 ∙ lifted m term.0;
+          most = λ t. subst (λ (z : ℤ). z ≤ℤ p) (lifted m t) (g.most _ (are.place_of t));
+        }
 
-    pub top_of : (p : ℤ) → IsGreatest (LowPlace inst sched k m d) p → IsTop m p
-    top_of p g = record {
-      from = (term_of p g.is).0;
-      is = (term_of p g.is).1;
-      most = λ t. g.most _ (place_of t);
-    }
-
-    pub greatest_of : (p : ℤ) → IsTop m p → IsGreatest (LowPlace inst sched k m d) p
-    greatest_of p t = record {
-      is = subst (LowPlace inst sched k m d) (sym t.is) (place_of t.from);
-      most = λ y low. subst (λ (z : ℤ). z ≤ℤ p) (sym (term_of y low).1) (t.most (term_of y low).0);
+    pub greatest_of : IsTop m p → IsGreatest P p
+    greatest_of top = record {
+      is = subst P (lifted m top.from ∙ sym top.is) (are.place_of top.from);
+      most = λ y low.
+          let term = are.term_of y low in
+          subst (λ (z : ℤ). z ≤ℤ p) (sym (term.1 ∙ lifted m term.0)) (top.most term.0);
     }

@@ -1,17 +1,18 @@
 -- Each crane has a floor and one place at each moment.
-use Rattle.std.proofs.Common.{◌≡◌, ℕ, zero, suc, ◌+◌, ◌-◌, ◌<◌, ◌≤◌, ℤ, pos, ◌-ℤ◌, ◌≤ℤ◌, ◌⊎◌, inl, inr, List, length, subst, sym, arith}
+use Rattle.std.proofs.Common.{◌≡◌, ℕ, zero, suc, ◌+◌, ◌-◌, ◌<◌, ◌≤◌, ℤ, pos, ◌-ℤ◌, ◌≤ℤ◌, ◌⊎◌, inl, inr, List, length, subst, sym, refl, ap, arith}
 use Rattle.std.proofs.lemmas.Bool.{cases_lt}
 use Rattle.std.proofs.lemmas.Int.{by_lt_z, ints}
 use Rattle.qc_model.specs.declared.direction.Direction.{Direction}
 use Rattle.qc_model.specs.declared.direction.Direction.TheVariants.{Up, Down}
 use Rattle.qc_model.specs.declared.schedule.Slot.{Slot}
 use Rattle.qc_model.specs.Instance.{InstanceView, bay_of, crane}
-use Rattle.qc_model.specs.Motion.{FloorBay, IsFloor, IsGreatest, IsPlace, LowPlace, bay_behind, berth_place, scaled, task_place}
+use Rattle.qc_model.specs.Motion.{FloorBay, IsFloor, IsGreatest, IsPlace, LowPlace, bay_ahead, bay_behind, berth_place, scaled}
 use Rattle.qc_model.specs.Motion.LowPlace.{of_berth, of_floor, of_task}
 use Rattle.qc_model.specs.OneWay.{mirror, mirror_schedule}
 use Rattle.qc_model.proofs.SeenLemmas.{seen-crane_count}
 use Rattle.qc_model.specs.Motion.FloorBay.{of_berth as floor_berth, of_task as floor_task}
 use Rattle.qc_model.specs.Rules.{crane_of}
+use Rattle.qc_model.proofs.Levels.{before}
 
 -- ---- the best of the numbers that a function gives
 
@@ -122,31 +123,74 @@ floor_unique inst sched k x y f g = omega (arith, ints, f.least y g.is, g.least 
 
 -- ---- places
 
+-- who has crane k at a place
+pub data Term (inst : InstanceView) (sched : List Slot) (k : ℕ) : Type 0 where
+  task : (i : ℕ) → i < length inst.tasks → crane_of sched i ≤ k → Term inst sched k
+  berth : (v : ℕ) → v ≤ k → Term inst sched k
+  floor : Term inst sched k
+
+module _ (inst : InstanceView) (sched : List Slot) (k : ℕ) (x : ℤ) (d : ℕ) (off : ℕ → ℕ → ℕ) (m : ℕ) where
+  -- the place of a term, x being the crane's floor and the work of task i off i m parts of a tick away
+  abbrev pub term_place : Term inst sched k → ℤ
+  term_place (task i low below) =
+      scaled inst d (bay_ahead inst (crane_of sched i) (bay_of inst i) k) -ℤ pos (off i m)
+  term_place (berth v below) = berth_place inst v k m d
+  term_place floor = scaled inst d x
+
+  -- places are of a kind where they are those of the terms
+  pub record AreLow (P : ℤ → Type 0) : Type 0 where
+    pub place_of : (t : Term inst sched k) → P (term_place t)
+    pub term_of : (y : ℤ) → P y → (t : Term inst sched k) × (y ≡ term_place t)
+
+  pub greatest_exists : (P : ℤ → Type 0) → AreLow P → (p : ℤ) × IsGreatest P p
+  greatest_exists P are = (found.0, record { is = found.1.is; most = most })
+    where
+      by_task : ℕ → ℤ
+      by_task i = scaled inst d (bay_ahead inst (crane_of sched i) (bay_of inst i) k) -ℤ pos (off i m)
+
+      by_berth : ℕ → ℤ
+      by_berth v = berth_place inst v k m d
+
+      found : (p : ℤ) × IsPast ◌≤ℤ◌ P by_task by_berth
+          (λ i. crane_of sched i ≤ k) (λ v. v ≤ k) (length inst.tasks) (suc k) (scaled inst d x) p
+      found = best_of_both ◌≤ℤ◌ up_trans up_total P by_task by_berth _ _
+          (λ i. at_most (crane_of sched i) k) (λ v. at_most v k) (scaled inst d x) (are.place_of floor)
+          (length inst.tasks) (λ i low below. are.place_of (task i low below))
+          (suc k) (λ v _ below. are.place_of (berth v below))
+
+      under : (t : Term inst sched k) → term_place t ≤ℤ found.0
+      under (task i low below) = found.1.first i low below
+      under (berth v below) = found.1.second v (omega arith) below
+      under floor = found.1.start
+
+      most : (y : ℤ) → P y → y ≤ℤ found.0
+      most y low =
+          let term = are.term_of y low in subst (λ (z : ℤ). z ≤ℤ found.0) (sym term.1) (under term.0)
+
+-- those of an upward schedule
+pub up_low : (inst : InstanceView) (sched : List Slot) (k m d : ℕ) (x : ℤ) → IsFloor inst sched k x
+    → AreLow inst sched k x d (before sched d) m (LowPlace inst sched k m d)
+up_low inst sched k m d x f = record { place_of = place_of; term_of = term_of }
+  where
+    place : Term inst sched k → ℤ
+    place = term_place inst sched k x d (before sched d) m
+
+    place_of : (t : Term inst sched k) → LowPlace inst sched k m d (place t)
+    place_of (task i low below) = of_task i low below
+    place_of (berth v below) = of_berth v below
+    place_of floor = of_floor x f
+
+    term_of : (y : ℤ) → LowPlace inst sched k m d y → (t : Term inst sched k) × (y ≡ place t)
+    term_of _ (of_task i low below) = (task i low below, refl)
+    term_of _ (of_berth v below) = (berth v below, refl)
+    term_of _ (of_floor y g) = (floor, ap (scaled inst d) (floor_unique inst sched k y x g f))
+
 up_exists : (inst : InstanceView) (sched : List Slot) (k m d : ℕ) → k < length inst.cranes
     → (p : ℤ) × IsGreatest (LowPlace inst sched k m d) p
-up_exists inst sched k m d low = (found.0, record { is = found.1.is; most = most })
-  where
-    floor : (x : ℤ) × IsFloor inst sched k x
-    floor = floor_exists inst sched k low
-
-    by_task : ℕ → ℤ
-    by_task i = task_place inst sched i k m d
-
-    by_berth : ℕ → ℤ
-    by_berth v = berth_place inst v k m d
-
-    found : (x : ℤ) × IsPast ◌≤ℤ◌ (LowPlace inst sched k m d) by_task by_berth
-        (λ i. crane_of sched i ≤ k) (λ v. v ≤ k) (length inst.tasks) (suc k) (scaled inst d floor.0) x
-    found = best_of_both ◌≤ℤ◌ up_trans up_total (LowPlace inst sched k m d) by_task by_berth _ _
-        (λ i. at_most (crane_of sched i) k) (λ v. at_most v k) (scaled inst d floor.0) (of_floor floor.0 floor.1)
-        (length inst.tasks) (λ i. of_task i) (suc k) (λ v _. of_berth v)
-
-    most : (y : ℤ) → LowPlace inst sched k m d y → y ≤ℤ found.0
-    most _ (of_task i low below) = found.1.first i low below
-    most _ (of_berth v below) = found.1.second v (omega arith) below
-    most _ (of_floor x f) =
-        let same = floor_unique inst sched k floor.0 x floor.1 f in
-        subst (λ (z : ℤ). scaled inst d z ≤ℤ found.0) same found.1.start
+up_exists inst sched k m d low =
+    let bottom = floor_exists inst sched k low in
+    greatest_exists inst sched k bottom.0 d (before sched d) m (LowPlace inst sched k m d)
+    (up_low inst sched k m d bottom.0 bottom.1)
 
 -- what stands for p seen from the other end, and back again
 abbrev turned : ℤ → ℤ → ℤ

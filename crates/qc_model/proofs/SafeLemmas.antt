@@ -1,11 +1,11 @@
 -- Every one-way schedule moves safely.
-use Rattle.std.proofs.Common.{◌≡◌, ℕ, ◌+◌, ◌-◌, ◌*◌, ◌<◌, ◌≤◌, ℤ, pos, ◌+ℤ◌, ◌-ℤ◌, ◌≤ℤ◌, List, length, subst, sym, refl, ap, ◌∙◌, arith}
+use Rattle.std.proofs.Common.{◌≡◌, ℕ, ◌+◌, ◌-◌, ◌*◌, ◌<◌, ◌≤◌, ℤ, pos, ◌+ℤ◌, ◌-ℤ◌, List, length, subst, sym, refl, ap, ◌∙◌, arith}
 use Rattle.std.proofs.lemmas.Int.{ints}
 use Rattle.qc_model.specs.declared.direction.Direction.{Direction}
 use Rattle.qc_model.specs.declared.direction.Direction.TheVariants.{Up, Down}
 use Rattle.qc_model.specs.declared.schedule.Slot.{Slot}
 use Rattle.qc_model.specs.Instance.{InstanceView, Valid, bay_of, crane, mirror_bay}
-use Rattle.qc_model.specs.Motion.{IsPlace, IsSafe, IsSafeBy, scaled}
+use Rattle.qc_model.specs.Motion.{IsPlace, IsSafe, IsSafeBy, LowPlace, scaled}
 use Rattle.qc_model.specs.Judge.{Goes}
 use Rattle.qc_model.specs.OneWay.{GoesDown, GoesUp, mirror, mirror_crane, mirror_schedule, mirror_slot}
 use Rattle.qc_model.specs.Rules.{crane_of, ends, start_of}
@@ -13,78 +13,35 @@ use Rattle.qc_model.proofs.MirrorLemmas.{mirror_valid}
 use Rattle.qc_model.proofs.SeenLemmas.{seen-bay_of, seen-crane, seen-crane_count, seen-crane_of, seen-ends, seen-start_of, seen-task_count, seen-ticks_of}
 use Rattle.qc_model.proofs.Scaled.{scaled_sum}
 use Rattle.std.proofs.lemmas.List.{length-map}
-use Rattle.qc_model.proofs.Levels.{HasLevels, levels_of}
-use Rattle.qc_model.proofs.Moves.{berth_most, onward, step, task_most}
-use Rattle.qc_model.proofs.Places.{floor_exists, place_exists}
-use Rattle.qc_model.proofs.PlaceTerms.{FloorOf, HasFloor, IsTop, Term, berth-lifted, floor_level, has_floor, level_at, lift, lift_further, task-lifted, top_of}
-use Rattle.qc_model.proofs.PlaceTerms.FloorOf.{at_berth, at_task}
-use Rattle.qc_model.proofs.PlaceTerms.Term.{berth, floor, task}
+use Rattle.qc_model.proofs.Levels.{HasLevels, before, levels_of, visits_of}
+use Rattle.qc_model.proofs.Moves.{onward}
+use Rattle.qc_model.proofs.Places.{floor_exists, place_exists, up_low}
+use Rattle.qc_model.proofs.PlaceTerms.{has_floor, top_of}
+use Rattle.qc_model.proofs.Standing.{StandSafely, stand_safely}
 
 module _ (inst : InstanceView) (sched : List Slot) (valid : Valid inst) (goes : GoesUp inst sched) (d : ℕ) where
   levels : HasLevels inst sched d
   levels = levels_of inst sched goes valid d
 
-  -- the floor of a crane
-  abbrev bottom : (k : ℕ) → k < length inst.cranes → ℤ
-  bottom k low = (floor_exists inst sched k low).0
-
-  floored : (k : ℕ) (low : k < length inst.cranes)
-      → HasFloor inst sched d k (floor_level inst d k (bottom k low))
-  floored k low = has_floor inst sched d k (bottom k low) (floor_exists inst sched k low).1
-
-  top : (k m : ℕ) (p : ℤ) (low : k < length inst.cranes) → IsPlace inst sched Up k m d p
-      → IsTop inst sched k (bottom k low) d m p
-  top k m p low g = top_of inst sched k (bottom k low) d (floor_exists inst sched k low).1 m p g
-
-  -- each term of a lower crane is one of a higher crane, or is below its floor
-  carried : (v w m : ℕ) (q : ℤ) (lower : v < w) (low : v < length inst.cranes) (high : w < length inst.cranes)
-      → IsTop inst sched w (bottom w high) d m q
-      → (t : Term inst sched v) → (level_at inst sched v (bottom v low) d t m +ℤ lift inst d w) ≤ℤ q
-  carried v w m q lower low high top (task i there below) = top.most (task i there (omega arith))
-  carried v w m q lower low high top (berth u below) = top.most (berth u (omega arith))
-  carried v w m q lower low high top floor = under (floored w high).from
-    where
-      under : FloorOf inst sched d w (floor_level inst d w (bottom w high))
-          → (floor_level inst d v (bottom v low) +ℤ lift inst d w) ≤ℤ q
-      under (at_task j there above is) =
-          let lies = (floored v low).tasks j there (omega arith) in
-          let most = top.most floor in omega (arith, ints, lies, is, most)
-      under (at_berth u there above is) =
-          let lies = (floored v low).berths u there (omega arith) in
-          let most = top.most floor in omega (arith, ints, lies, is, most)
+  stand : StandSafely inst sched d (before sched d) (visits_of inst sched d levels) (λ k m. LowPlace inst sched k m d)
+  stand = stand_safely inst sched d (before sched d) (visits_of inst sched d levels) goes.feasible levels.berths
+      (λ k m. LowPlace inst sched k m d) (λ k m. up_low inst sched k m d)
 
   up_safe : IsSafeBy inst sched Up d
   up_safe = record {
-    somewhere = λ k m low _. place_exists inst sched Up k m d low;
-    margin = λ v w m p q lower high _ g h.
-        let low : v < length inst.cranes = omega arith in
-        let one = top v m p low g in
-        let other = carried v w m q lower low high (top w m q high h) one.from in
-        omega (arith, ints, one.is, other, lift_further inst d v w lower);
-    at_task = λ j m p low begun going g.
-        let high = goes.feasible.crane_range j low in
-        let one = top (crane_of sched j) m p high g in
-        let own = one.most (task j low (omega arith)) in
-        let most = task_most inst sched d levels _ _ (floored _ high) j m low refl begun going one.from in
-        omega (arith, ints, one.is, own, most, task-lifted inst sched d j);
-    at_berth = λ k m p low _ early g.
-        let one = top k m p low g in
-        let own = one.most (berth k (omega arith)) in
-        let most = berth_most inst sched d levels _ _ (floored k low) m low early one.from in
-        omega (arith, ints, one.is, own, most, berth-lifted inst sched d k);
-    speed = λ k m p q low _ g h.
-        let one = top k m p low g in
-        let other = top k (m + 1) q low h in
-        let rise = one.most other.from in
-        let fall = other.most one.from in
-        let up = step inst sched d levels _ _ (floored k low) m other.from in
-        let down = step inst sched d levels _ _ (floored k low) m one.from in
-        (omega (arith, ints, one.is, fall, down), omega (arith, ints, other.is, rise, up));
+    somewhere = λ k m low _. stand.somewhere k m low;
+    margin = λ v w m p q lower high _. stand.margin v w m p q lower high;
+    at_task = stand.at_task;
+    at_berth = λ k m p low _. stand.at_berth k m p low;
+    speed = λ k m p q low _. stand.speed k m p q low;
     one_way = λ j m p q low begun _ g h.
-        let high = goes.feasible.crane_range j low in
-        let one = top (crane_of sched j) m p high g in
-        let other = top (crane_of sched j) (m + 1) q high h in
-        let on = onward inst sched d levels _ _ (floored _ high) j m q low refl begun other one.from in
+        let k = crane_of sched j in
+        let bottom = floor_exists inst sched k (goes.feasible.crane_range j low) in
+        let one = top_of inst sched k bottom.0 d (before sched d) m _ (up_low inst sched k m d bottom.0 bottom.1) p g in
+        let other = top_of inst sched k bottom.0 d (before sched d) (m + 1) _
+        (up_low inst sched k (m + 1) d bottom.0 bottom.1) q h in
+        let floored = has_floor inst sched d k bottom.0 bottom.1 in
+        let on = onward inst sched d levels k bottom.0 floored j m q low refl begun other one.from in
         omega (arith, ints, one.is, on);
   }
 

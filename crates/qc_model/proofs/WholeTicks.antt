@@ -14,11 +14,12 @@ use Rattle.qc_model.specs.Rules.{crane_of, start_of}
 use Rattle.qc_model.proofs.MirrorLemmas.{mirror_valid}
 use Rattle.qc_model.proofs.SeenLemmas.{seen-crane_count}
 use Rattle.qc_model.proofs.Scaled.{scaled_le, scaled_sum}
-use Rattle.qc_model.proofs.Levels.{HasLevels, berth_at, berth_level, levels_of, task_at, task_level}
-use Rattle.qc_model.proofs.Moves.{floor_moment, step}
-use Rattle.qc_model.proofs.Places.{floor_exists}
-use Rattle.qc_model.proofs.PlaceTerms.{HasFloor, IsTop, Term, floor_level, greatest_of, has_floor, level_at, lift, top_of}
-use Rattle.qc_model.proofs.PlaceTerms.Term.{berth, floor, task}
+use Rattle.qc_model.proofs.Levels.{HasLevels, before, berth_at, berth_level, levels_of, task_at, task_level, visits_of}
+use Rattle.qc_model.proofs.Moves.{floor_moment}
+use Rattle.qc_model.proofs.Places.{Term, floor_exists, up_low}
+use Rattle.qc_model.proofs.Places.Term.{berth, floor, task}
+use Rattle.qc_model.proofs.PlaceTerms.{HasFloor, IsTop, floor_level, greatest_of, has_floor, level_at, lift, top_of}
+use Rattle.qc_model.proofs.Standing.{step}
 
 -- ---- numbers
 
@@ -127,11 +128,11 @@ times d t x =
 module _ (inst : InstanceView) (sched : List Slot) (k : ℕ) (x : ℤ) where
   -- the place that a term gives
   abbrev height : ℕ → Term inst sched k → ℕ → ℤ
-  height d t m = level_at inst sched k x d t m +ℤ lift inst d k
+  height d t m = level_at inst sched k x d (before sched d) t m +ℤ lift inst d k
 
   module _ (d r a : ℕ) (part : r ≤ d) where
-    level_part : (t : Term inst sched k) → level_at inst sched k x d t (d * a + r)
-        ≡ mixed d r (level_at inst sched k x 1 t a) (level_at inst sched k x 1 t (a + 1))
+    level_part : (t : Term inst sched k) → level_at inst sched k x d (before sched d) t (d * a + r)
+        ≡ mixed d r (level_at inst sched k x 1 (before sched 1) t a) (level_at inst sched k x 1 (before sched 1) t (a + 1))
     unfolding task_level berth_level floor_level
     level_part (task i low below) =
         coming (task_level inst sched 1 i) (task_level inst sched d i) d r a (times d inst.travel _) part
@@ -147,43 +148,53 @@ module _ (inst : InstanceView) (sched : List Slot) (k : ℕ) (x : ℤ) where
         → height d t (d * a + r) ≡ mixed d r (height 1 t a) (height 1 t (a + 1))
     unfolding lift
     height_part t =
-        let one = level_at inst sched k x 1 t in
+        let one = level_at inst sched k x 1 (before sched 1) t in
         ap₂ (λ p q. p +ℤ q) (level_part t) (times d inst.travel (pos (inst.gap * k)))
         ∙ sym (mixed_lift d r (one a) (one (a + 1)) (lift inst 1 k))
 
   -- one term gives the place at both ends of a tick
-  record IsCommon (a : ℕ) (p q : ℤ) : Type 0 where
+  record IsCommon (m n : ℕ) (p q : ℤ) : Type 0 where
     term : Term inst sched k
-    now : p ≡ height 1 term a
-    next : q ≡ height 1 term (a + 1)
+    now : p ≡ height 1 term m
+    next : q ≡ height 1 term n
 
-  linear_by : (d r a : ℕ) (p q : ℤ) → r ≤ d → IsFloor inst sched k x → IsCommon a p q
-      → IsTop inst sched k x 1 a p → IsTop inst sched k x 1 (a + 1) q
+  linear_by : (d r a : ℕ) (p q : ℤ) → r ≤ d → IsFloor inst sched k x → IsCommon a (a + 1) p q
+      → IsTop inst sched k x 1 (before sched 1) a p → IsTop inst sched k x 1 (before sched 1) (a + 1) q
       → IsGreatest (LowPlace inst sched k (d * a + r) d) (mixed d r p q)
   linear_by d r a p q part f common here there =
-      greatest_of inst sched k x d f (d * a + r) (mixed d r p q) (record {
+      greatest_of inst sched k x d (before sched d) (d * a + r) _ (up_low inst sched k (d * a + r) d x f)
+      (mixed d r p q) (record {
         from = common.term;
         is = ap₂ (mixed d r) common.now common.next ∙ sym (height_part d r a part common.term);
         most = λ t. subst (λ (z : ℤ). z ≤ℤ mixed d r p q) (sym (height_part d r a part t))
             (mixed_le d r _ _ p q part (here.most t) (there.most t));
       })
 
-  -- a term that gives the place p at a tick, and doesn't fall from there on
-  record IsRising (a : ℕ) (p : ℤ) : Type 0 where
+  -- a term that gives the place p at one end, and none below it at the other
+  record IsLasting (m n : ℕ) (p : ℤ) : Type 0 where
     term : Term inst sched k
-    now : p ≡ height 1 term a
-    on : height 1 term a ≤ℤ height 1 term (a + 1)
+    now : p ≡ height 1 term m
+    on : height 1 term m ≤ℤ height 1 term n
 
-  -- one that gives the place q a tick later, and doesn't rise until then
-  record IsSinking (a : ℕ) (q : ℤ) : Type 0 where
-    term : Term inst sched k
-    next : q ≡ height 1 term (a + 1)
-    on : height 1 term (a + 1) ≤ℤ height 1 term a
+  -- with one, some term gives both places: it, or the one that gives the other
+  common_of : (m n : ℕ) (p q : ℤ) → IsTop inst sched k x 1 (before sched 1) m p
+      → IsTop inst sched k x 1 (before sched 1) n q
+      → ((t : Term inst sched k) → height 1 t n ≤ℤ (height 1 t m +ℤ pos 1)) → IsLasting m n p → IsCommon m n p q
+  common_of m n p q here there near one =
+      let most = there.most one.term in
+      by_lt_z (height 1 one.term n) q
+      (λ lower.
+      let by_one = near there.from in
+      let other = here.most there.from in
+      let same : p ≡ height 1 there.from m = omega (arith, ints, one.now, one.on, there.is, by_one, other) in
+      record { term = there.from; now = same; next = there.is })
+      (λ higher. record { term = one.term; now = one.now; next = omega (arith, ints, most) })
 
   module _ (h : HasLevels inst sched 1) (f : HasFloor inst sched 1 k (floor_level inst 1 k x)) (a : ℕ) (p q : ℤ)
-      (here : IsTop inst sched k x 1 a p) (there : IsTop inst sched k x 1 (a + 1) q) where
+      (here : IsTop inst sched k x 1 (before sched 1) a p)
+      (there : IsTop inst sched k x 1 (before sched 1) (a + 1) q) where
     rising : ((v : ℕ) → v ≤ k → berth_at inst 1 v a ≤ℤ floor_level inst 1 k x)
-        → (t : Term inst sched k) → p ≡ height 1 t a → IsRising a p
+        → (t : Term inst sched k) → p ≡ height 1 t a → IsLasting a (a + 1) p
     rising low (task i is below) e = record { term = task i is below; now = e; on = omega (arith, ints) }
     rising low (berth v below) e =
         let most = here.most floor in
@@ -193,40 +204,30 @@ module _ (inst : InstanceView) (sched : List Slot) (k : ℕ) (x : ℤ) where
 
     sinking : ((i : ℕ) → i < length inst.tasks → crane_of sched i ≤ k
         → task_at inst sched 1 i (a + 1) ≤ℤ floor_level inst 1 k x)
-        → (t : Term inst sched k) → q ≡ height 1 t (a + 1) → IsSinking a q
+        → (t : Term inst sched k) → q ≡ height 1 t (a + 1) → IsLasting (a + 1) a q
     sinking low (task i is below) e =
         let most = there.most floor in
         let under = low i is below in
-        record { term = floor; next = omega (arith, ints, most, under, e); on = omega (arith, ints) }
-    sinking low (berth v below) e = record { term = berth v below; next = e; on = omega (arith, ints) }
-    sinking low floor e = record { term = floor; next = e; on = omega (arith, ints) }
+        record { term = floor; now = omega (arith, ints, most, under, e); on = omega (arith, ints) }
+    sinking low (berth v below) e = record { term = berth v below; now = e; on = omega (arith, ints) }
+    sinking low floor e = record { term = floor; now = e; on = omega (arith, ints) }
 
-    common : IsCommon a p q
+    near : (t : Term inst sched k) → (height 1 t a ≤ℤ (height 1 t (a + 1) +ℤ pos 1))
+        × (height 1 t (a + 1) ≤ℤ (height 1 t a +ℤ pos 1))
+    near t =
+        let by_one = step inst sched 1 (before sched 1) (visits_of inst sched 1 h) k x a t in
+        (omega (arith, ints, by_one.0), omega (arith, ints, by_one.1))
+
+    common : IsCommon a (a + 1) p q
     common =
         let moment = floor_moment inst sched 1 h k x f f.from in
         elim (cases_lt a moment.0) [
-          | inl before ↦
-              let s = sinking (moment.1.tasks (a + 1) (omega arith)) there.from there.is in
-              let most = here.most s.term in
-              by_lt_z (height 1 s.term a) p
-              (λ lower.
-              let by_one = step inst sched 1 h k x f a here.from in
-              let other = there.most here.from in
-              let same : q ≡ height 1 here.from (a + 1) =
-              omega (arith, ints, s.next, s.on, here.is, by_one, other) in
-              record { term = here.from; now = here.is; next = same })
-              (λ higher. record { term = s.term; now = omega (arith, ints, most); next = s.next })
-          | inr after ↦
-              let r = rising (moment.1.berths a (omega arith)) here.from here.is in
-              let most = there.most r.term in
-              by_lt_z (height 1 r.term (a + 1)) q
-              (λ lower.
-              let by_one = step inst sched 1 h k x f a there.from in
-              let other = here.most there.from in
-              let same : p ≡ height 1 there.from a =
-              omega (arith, ints, r.now, r.on, there.is, by_one, other) in
-              record { term = there.from; now = same; next = there.is })
-              (λ higher. record { term = r.term; now = r.now; next = omega (arith, ints, most) })
+          | inl early ↦
+              let one = common_of (a + 1) a q p there here (λ t. (near t).0)
+              (sinking (moment.1.tasks (a + 1) (omega arith)) there.from there.is) in
+              record { term = one.term; now = one.next; next = one.now }
+          | inr late ↦ common_of a (a + 1) p q here there (λ t. (near t).1)
+              (rising (moment.1.berths a (omega arith)) here.from here.is)
         ]
 
 -- ---- between two whole ticks a place is linear
@@ -237,8 +238,9 @@ linear_up : (inst : InstanceView) (sched : List Slot) → Valid inst → GoesUp 
     → IsPlace inst sched Up k (d * a + r) d (mixed d r p q)
 linear_up inst sched valid goes k a d r p q low part g h =
     let bottom = floor_exists inst sched k low in
-    let here = top_of inst sched k bottom.0 1 bottom.1 a p g in
-    let there = top_of inst sched k bottom.0 1 bottom.1 (a + 1) q h in
+    let here = top_of inst sched k bottom.0 1 (before sched 1) a _ (up_low inst sched k a 1 bottom.0 bottom.1) p g in
+    let there = top_of inst sched k bottom.0 1 (before sched 1) (a + 1) _
+    (up_low inst sched k (a + 1) 1 bottom.0 bottom.1) q h in
     let f = has_floor inst sched 1 k bottom.0 bottom.1 in
     let one = common inst sched k bottom.0 (levels_of inst sched goes valid 1) f a p q here there in
     linear_by inst sched k bottom.0 d r a p q part bottom.1 one here there

@@ -1,7 +1,7 @@
 -- Tasks raise a crane above its floor after one moment alone, and berths hold it above until that moment.
 use Rattle.std.proofs.Common.{◌≡◌, ℕ, ◌≤◌, ℤ, ◌+ℤ◌, ◌≤ℤ◌, arith}
 use Rattle.std.proofs.lemmas.Int.{ints}
-use Rattle.qc_model.proofs.Levels.{levels_of}
+use Rattle.qc_model.proofs.Levels.{before, levels_of}
 use Rattle.qc_model.proofs.Moves.{HasMoment, floor_moment}
 use Rattle.qc_model.proofs.PlaceTerms.{HasFloor, berth_place-lifted, floor-lifted, floor_level, has_floor, lift, task_place-lifted}
 use Rattle.qc_motion.specs.Sweep.{IsFelt, IsSound, Swept, floor_place}
@@ -19,7 +19,7 @@ moment_of it s = (
   tick.0,
   record {
     tasks = λ m i low felt.
-        raised _ _ (lift it.inst 1 it.crane) _ _ (task_place-lifted it.inst it.sched 1 i it.crane m felt.1) lowest
+        raised _ _ (lift it.inst 1 it.crane) _ _ (task_place-lifted it.inst it.sched 1 i it.crane (before it.sched 1 i m) felt.1) lowest
         (tick.1.tasks m (omega arith) i felt.0 felt.1);
     berths = λ m v high order.
         raised _ _ (lift it.inst 1 it.crane) _ _ (berth_place-lifted it.inst it.sched 1 v it.crane m order) lowest
