@@ -1,13 +1,14 @@
 -- The rules of a feasible schedule on one scale. Levels of bays are those of upward schedules: cranes at their
 -- least distance stand at one level. Each rule says that no task and no berth has a crane above where another
 -- has it.
-use Rattle.std.proofs.Common.{◌≡◌, ◌≢◌, ℕ, ◌-◌, ◌*◌, ◌<◌, ◌≤◌, ℤ, pos, ◌-ℤ◌, ◌≤ℤ◌, inl, inr, List, length, refl, sym, subst, arith}
+use Rattle.std.proofs.Common.{◌≡◌, ◌≢◌, ℕ, ◌-◌, ◌*◌, ◌<◌, ◌≤◌, ℤ, pos, ◌-ℤ◌, ◌≤ℤ◌, inl, inr, List, length, refl, ap, arith}
 use Rattle.std.proofs.lemmas.Bool.{cases_lt, cases_order}
 use Rattle.std.proofs.lemmas.Int.{ints}
 use Rattle.qc_model.specs.declared.schedule.Slot.{Slot}
 use Rattle.qc_model.specs.Bays.{bays_up}
 use Rattle.qc_model.specs.Instance.{InstanceView, bay_of}
 use Rattle.qc_model.specs.Rules.{Feasible, IsClear, crane_of, end_of, start_of}
+use Rattle.qc_model.proofs.Bays.{bays}
 use Rattle.qc_model.proofs.Levels.{HasVisits, bay_on, distance-lowered, one_way, same_way, task_level}
 use Rattle.qc_model.proofs.Scaled.{scaled_late}
 use Rattle.qc_freemove.specs.FreeMotion.{parts_off}
@@ -39,14 +40,19 @@ module _ (inst : InstanceView) (sched : List Slot) (g : Feasible inst sched) whe
   abbrev way_up : ℕ → ℕ → ℕ
   way_up j i = inst.travel * bays_up (bay_on inst sched j) (bay_on inst sched i)
 
-  clear : (i j : ℕ) → i < length inst.tasks → j < length inst.tasks → i ≢ j → crane_of sched i ≤ crane_of sched j
+  differ : (i j : ℕ) → 0 < way_up j i → j ≢ i
+  differ i j near e =
+      let level : bays_up (bay_on inst sched j) (bay_on inst sched j) ≡ 0 = omega (arith, bays) in
+      absurd (omega (arith, near, ap (way_up j) e, ap (λ n. inst.travel * n) level))
+
+  clear : (i j : ℕ) → i < length inst.tasks → j < length inst.tasks → crane_of sched i ≤ crane_of sched j
       → 0 < way_up j i → IsClear inst sched (way_up j i) j i
-  clear i j low high differ order near = elim (cases_order (crane_of sched j) (crane_of sched i)) [
+  clear i j low high order near = elim (cases_order (crane_of sched j) (crane_of sched i)) [
     | inl same ↦
         let bays_same = same_way inst (crane_of sched j) (crane_of sched i) (bay_of inst j) (bay_of inst i) same in
         let part = one_way inst.travel (bay_of inst j) (bay_of inst i) in
         clear_by inst sched _ _ j i (omega (arith, bays_same, part))
-        (g.travel j i high low (λ e. differ (sym e)) same)
+        (g.travel j i high low (differ i j near) same)
     | inr u ↦ elim u [
       | inl up ↦ absurd (omega arith)
       | inr down ↦
@@ -79,21 +85,12 @@ module _ (inst : InstanceView) (sched : List Slot) (g : Feasible inst sched) whe
         (λ l. absurd (none l)) in
         before_y _ (d * 0) (d * 0) 0 _ _ low (omega arith) (omega arith)
 
-    itself : (i j m : ℕ) → i ≡ j → visit_at inst sched d i m ≤ℤ task_level inst sched d j
-    itself i j m e =
-        subst (λ (n : ℕ). visit_at inst sched d i m ≤ℤ task_level inst sched d n) e (omega (arith, ints))
-
     visits : (i j m : ℕ) → i < length inst.tasks → j < length inst.tasks → crane_of sched i ≤ crane_of sched j
         → d * start_of sched j ≤ m → m ≤ d * end_of inst sched j
         → visit_at inst sched d i m ≤ℤ task_level inst sched d j
-    visits i j m low high order begun going = elim (cases_order i j) [
-      | inl same ↦ itself i j m same
-      | inr u ↦ elim (cases_lt 0 (way_up j i)) [
-        | inl near ↦ beside i j m begun going (way_up j i) refl
-            (clear i j low high (λ e. elim u [ inl l ↦ absurd (omega arith) | inr l ↦ absurd (omega arith) ])
-            order near)
-        | inr none ↦ level i j m (λ l. absurd (omega arith))
-      ]
+    visits i j m low high order begun going = elim (cases_lt 0 (way_up j i)) [
+      | inl near ↦ beside i j m begun going (way_up j i) refl (clear i j low high order near)
+      | inr none ↦ level i j m (λ l. absurd (omega arith))
     ]
 
     pub free_visits : HasVisits inst sched d (λ i m. parts_off inst sched i m d)

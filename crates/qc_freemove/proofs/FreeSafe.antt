@@ -7,7 +7,7 @@ use Rattle.qc_model.specs.Rules.{Feasible}
 use Rattle.qc_model.proofs.Levels.{berths_of}
 use Rattle.qc_model.proofs.Places.{AreLow, Term, floor_exists, floor_unique, greatest_exists, term_place}
 use Rattle.qc_model.proofs.Places.Term.{berth, floor, task}
-use Rattle.qc_model.proofs.Standing.{StandSafely, stand_safely}
+use Rattle.qc_model.proofs.Standing.{stand_safely}
 use Rattle.qc_freemove.specs.FreeMotion.{FreeLowPlace, IsFreePlace, IsFreeSafe, IsFreeSafeBy, parts_off}
 use Rattle.qc_freemove.specs.FreeMotion.FreeLowPlace.{of_berth, of_floor, of_task}
 use Rattle.qc_freemove.proofs.FreeLevels.{free_visits}
@@ -33,17 +33,16 @@ module _ (inst : InstanceView) (sched : List Slot) (d : ℕ) where
       term_of _ (of_floor y g) = (floor, ap (scaled inst d) (floor_unique inst sched k y x g f))
 
   safe_by : Valid inst → Feasible inst sched → IsFreeSafeBy inst sched d
-  safe_by valid feasible = record {
-    somewhere = λ k m low _. stand.somewhere k m low;
-    margin = λ v w m p q lower high _. stand.margin v w m p q lower high;
-    at_task = stand.at_task;
-    at_berth = λ k m p low _. stand.at_berth k m p low;
-    speed = λ k m p q low _. stand.speed k m p q low;
-  }
-    where
-      stand : StandSafely inst sched d off (free_visits inst sched feasible d) (λ k m. FreeLowPlace inst sched k m d)
-      stand = stand_safely inst sched d off (free_visits inst sched feasible d) feasible
-          (berths_of inst sched feasible valid d) (λ k m. FreeLowPlace inst sched k m d) low
+  safe_by valid feasible =
+      let stand = stand_safely inst sched d off (free_visits inst sched feasible d) feasible
+      (berths_of inst sched feasible valid d) (λ k m. FreeLowPlace inst sched k m d) low in
+      record {
+        somewhere = λ k m low _. stand.somewhere k m low;
+        margin = λ v w m p q lower high _. stand.margin v w m p q lower high;
+        at_task = stand.at_task;
+        at_berth = λ k m p low _. stand.at_berth k m p low;
+        speed = λ k m p q low _. stand.speed k m p q low;
+      }
 
 -- each crane has a place
 pub free_place_exists : (inst : InstanceView) (sched : List Slot) (k m d : ℕ) → k < length inst.cranes

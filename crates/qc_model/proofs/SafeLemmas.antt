@@ -23,25 +23,23 @@ module _ (inst : InstanceView) (sched : List Slot) (valid : Valid inst) (goes : 
   levels : HasLevels inst sched d
   levels = levels_of inst sched goes valid d
 
-  stand : StandSafely inst sched d (before sched d) (visits_of inst sched d levels) (λ k m. LowPlace inst sched k m d)
-  stand = stand_safely inst sched d (before sched d) (visits_of inst sched d levels) goes.feasible levels.berths
+  pub up_stand : StandSafely inst sched d (λ k m. LowPlace inst sched k m d)
+  up_stand = stand_safely inst sched d (before sched d) (visits_of inst sched d levels) goes.feasible levels.berths
       (λ k m. LowPlace inst sched k m d) (λ k m. up_low inst sched k m d)
 
   up_safe : IsSafeBy inst sched Up d
   up_safe = record {
-    somewhere = λ k m low _. stand.somewhere k m low;
-    margin = λ v w m p q lower high _. stand.margin v w m p q lower high;
-    at_task = stand.at_task;
-    at_berth = λ k m p low _. stand.at_berth k m p low;
-    speed = λ k m p q low _. stand.speed k m p q low;
+    somewhere = λ k m low _. up_stand.somewhere k m low;
+    margin = λ v w m p q lower high _. up_stand.margin v w m p q lower high;
+    at_task = up_stand.at_task;
+    at_berth = λ k m p low _. up_stand.at_berth k m p low;
+    speed = λ k m p q low _. up_stand.speed k m p q low;
     one_way = λ j m p q low begun _ g h.
         let k = crane_of sched j in
-        let bottom = floor_exists inst sched k (goes.feasible.crane_range j low) in
-        let one = top_of inst sched k bottom.0 d (before sched d) m _ (up_low inst sched k m d bottom.0 bottom.1) p g in
-        let other = top_of inst sched k bottom.0 d (before sched d) (m + 1) _
-        (up_low inst sched k (m + 1) d bottom.0 bottom.1) q h in
-        let floored = has_floor inst sched d k bottom.0 bottom.1 in
-        let on = onward inst sched d levels k bottom.0 floored j m q low refl begun other one.from in
+        let (x, f) = floor_exists inst sched k (goes.feasible.crane_range j low) in
+        let one = top_of inst sched k x d (before sched d) m _ (up_low inst sched k m d x f) p g in
+        let next = top_of inst sched k x d (before sched d) (m + 1) _ (up_low inst sched k (m + 1) d x f) q h in
+        let on = onward inst sched d levels k x (has_floor inst sched d k x f) j m q low refl begun next one.from in
         omega (arith, ints, one.is, on);
   }
 

@@ -11,7 +11,22 @@ use Rattle.qc_model.proofs.Places.Term.{berth, floor, task}
 use Rattle.qc_model.proofs.PlaceTerms.{FloorOf, HasFloor, IsTop, berth-lifted, floor_level, has_floor, level_at, lift, lift_further, task-lifted, top_of}
 use Rattle.qc_model.proofs.PlaceTerms.FloorOf.{at_berth, at_task}
 
-module _ (inst : InstanceView) (sched : List Slot) (d : ℕ) (off : ℕ → ℕ → ℕ) (h : HasVisits inst sched d off) where
+module _ (inst : InstanceView) (sched : List Slot) (d : ℕ) where
+  -- what makes motion safe where the places are the greatest of a kind
+  pub record StandSafely (P : ℕ → ℕ → ℤ → Type 0) : Type 0 where
+    pub somewhere : (k m : ℕ) → k < length inst.cranes → (p : ℤ) × IsGreatest (P k m) p
+    pub margin : (v w m : ℕ) (p q : ℤ) → v < w → w < length inst.cranes → IsGreatest (P v m) p
+        → IsGreatest (P w m) q → (p +ℤ scaled inst d (pos (inst.gap * (w - v)))) ≤ℤ q
+    pub at_task : (j m : ℕ) (p : ℤ) → j < length inst.tasks
+        → d * start_of sched j ≤ m → m ≤ d * end_of inst sched j
+        → IsGreatest (P (crane_of sched j) m) p → p ≡ scaled inst d (bay_of inst j)
+    pub at_berth : (k m : ℕ) (p : ℤ) → k < length inst.cranes → m ≤ d * (crane inst k).ready
+        → IsGreatest (P k m) p → p ≡ scaled inst d (crane inst k).bay
+    pub speed : (k m : ℕ) (p q : ℤ) → k < length inst.cranes → IsGreatest (P k m) p
+        → IsGreatest (P k (m + 1)) q → ((p -ℤ pos 1) ≤ℤ q) × (q ≤ℤ (p +ℤ pos 1))
+
+module _ (inst : InstanceView) (sched : List Slot) (d : ℕ) (off : ℕ → ℕ → ℕ)
+    (h : HasVisits inst sched d off) where
   module _ (k : ℕ) (x : ℤ) where
     -- the level of a term
     abbrev at : Term inst sched k → ℕ → ℤ
@@ -69,21 +84,6 @@ module _ (inst : InstanceView) (sched : List Slot) (d : ℕ) (off : ℕ → ℕ 
           let lies = (floored v low).berths u there (omega arith) in
           let most = top.most floor in omega (arith, ints, lies, is, most)
 
-  -- ---- the places, the greatest of a kind
-
-  -- what makes motion safe, but for the end of the schedule
-  pub record StandSafely (P : ℕ → ℕ → ℤ → Type 0) : Type 0 where
-    pub somewhere : (k m : ℕ) → k < length inst.cranes → (p : ℤ) × IsGreatest (P k m) p
-    pub margin : (v w m : ℕ) (p q : ℤ) → v < w → w < length inst.cranes → IsGreatest (P v m) p
-        → IsGreatest (P w m) q → (p +ℤ scaled inst d (pos (inst.gap * (w - v)))) ≤ℤ q
-    pub at_task : (j m : ℕ) (p : ℤ) → j < length inst.tasks
-        → d * start_of sched j ≤ m → m ≤ d * end_of inst sched j
-        → IsGreatest (P (crane_of sched j) m) p → p ≡ scaled inst d (bay_of inst j)
-    pub at_berth : (k m : ℕ) (p : ℤ) → k < length inst.cranes → m ≤ d * (crane inst k).ready
-        → IsGreatest (P k m) p → p ≡ scaled inst d (crane inst k).bay
-    pub speed : (k m : ℕ) (p q : ℤ) → k < length inst.cranes → IsGreatest (P k m) p
-        → IsGreatest (P k (m + 1)) q → ((p -ℤ pos 1) ≤ℤ q) × (q ≤ℤ (p +ℤ pos 1))
-
   module _ (feasible : Feasible inst sched) (b : HasBerths inst sched d) (P : ℕ → ℕ → ℤ → Type 0)
       (are : (k m : ℕ) (x : ℤ) → IsFloor inst sched k x → AreLow inst sched k x d off m (P k m)) where
     low_of : (k m : ℕ) (low : k < length inst.cranes) → AreLow inst sched k (bottom k low) d off m (P k m)
@@ -93,7 +93,7 @@ module _ (inst : InstanceView) (sched : List Slot) (d : ℕ) (off : ℕ → ℕ 
         → IsTop inst sched k (bottom k low) d off m p
     top k m p low g = top_of inst sched k (bottom k low) d off m (P k m) (low_of k m low) p g
 
-    pub stand_safely : StandSafely P
+    pub stand_safely : StandSafely inst sched d P
     stand_safely = record {
       somewhere = λ k m low. greatest_exists inst sched k (bottom k low) d off m (P k m) (low_of k m low);
       margin = λ v w m p q lower high g h.

@@ -126,13 +126,19 @@ times d t x =
     omega (arith, ints, ups, downs)
 
 module _ (inst : InstanceView) (sched : List Slot) (k : ℕ) (x : ℤ) where
-  -- the place that a term gives
+  -- the level and the place that a term gives
+  abbrev level : ℕ → Term inst sched k → ℕ → ℤ
+  level d t m = level_at inst sched k x d (before sched d) t m
+
   abbrev height : ℕ → Term inst sched k → ℕ → ℤ
-  height d t m = level_at inst sched k x d (before sched d) t m +ℤ lift inst d k
+  height d t m = level d t m +ℤ lift inst d k
+
+  -- p is the greatest of them at a tick
+  abbrev IsOnTop : ℕ → ℤ → Type 0
+  IsOnTop m p = IsTop inst sched k x 1 (before sched 1) m p
 
   module _ (d r a : ℕ) (part : r ≤ d) where
-    level_part : (t : Term inst sched k) → level_at inst sched k x d (before sched d) t (d * a + r)
-        ≡ mixed d r (level_at inst sched k x 1 (before sched 1) t a) (level_at inst sched k x 1 (before sched 1) t (a + 1))
+    level_part : (t : Term inst sched k) → level d t (d * a + r) ≡ mixed d r (level 1 t a) (level 1 t (a + 1))
     unfolding task_level berth_level floor_level
     level_part (task i low below) =
         coming (task_level inst sched 1 i) (task_level inst sched d i) d r a (times d inst.travel _) part
@@ -148,9 +154,8 @@ module _ (inst : InstanceView) (sched : List Slot) (k : ℕ) (x : ℤ) where
         → height d t (d * a + r) ≡ mixed d r (height 1 t a) (height 1 t (a + 1))
     unfolding lift
     height_part t =
-        let one = level_at inst sched k x 1 (before sched 1) t in
         ap₂ (λ p q. p +ℤ q) (level_part t) (times d inst.travel (pos (inst.gap * k)))
-        ∙ sym (mixed_lift d r (one a) (one (a + 1)) (lift inst 1 k))
+        ∙ sym (mixed_lift d r (level 1 t a) (level 1 t (a + 1)) (lift inst 1 k))
 
   -- one term gives the place at both ends of a tick
   record IsCommon (m n : ℕ) (p q : ℤ) : Type 0 where
@@ -159,7 +164,7 @@ module _ (inst : InstanceView) (sched : List Slot) (k : ℕ) (x : ℤ) where
     next : q ≡ height 1 term n
 
   linear_by : (d r a : ℕ) (p q : ℤ) → r ≤ d → IsFloor inst sched k x → IsCommon a (a + 1) p q
-      → IsTop inst sched k x 1 (before sched 1) a p → IsTop inst sched k x 1 (before sched 1) (a + 1) q
+      → IsOnTop a p → IsOnTop (a + 1) q
       → IsGreatest (LowPlace inst sched k (d * a + r) d) (mixed d r p q)
   linear_by d r a p q part f common here there =
       greatest_of inst sched k x d (before sched d) (d * a + r) _ (up_low inst sched k (d * a + r) d x f)
@@ -177,8 +182,7 @@ module _ (inst : InstanceView) (sched : List Slot) (k : ℕ) (x : ℤ) where
     on : height 1 term m ≤ℤ height 1 term n
 
   -- with one, some term gives both places: it, or the one that gives the other
-  common_of : (m n : ℕ) (p q : ℤ) → IsTop inst sched k x 1 (before sched 1) m p
-      → IsTop inst sched k x 1 (before sched 1) n q
+  common_of : (m n : ℕ) (p q : ℤ) → IsOnTop m p → IsOnTop n q
       → ((t : Term inst sched k) → height 1 t n ≤ℤ (height 1 t m +ℤ pos 1)) → IsLasting m n p → IsCommon m n p q
   common_of m n p q here there near one =
       let most = there.most one.term in
@@ -191,8 +195,7 @@ module _ (inst : InstanceView) (sched : List Slot) (k : ℕ) (x : ℤ) where
       (λ higher. record { term = one.term; now = one.now; next = omega (arith, ints, most) })
 
   module _ (h : HasLevels inst sched 1) (f : HasFloor inst sched 1 k (floor_level inst 1 k x)) (a : ℕ) (p q : ℤ)
-      (here : IsTop inst sched k x 1 (before sched 1) a p)
-      (there : IsTop inst sched k x 1 (before sched 1) (a + 1) q) where
+      (here : IsOnTop a p) (there : IsOnTop (a + 1) q) where
     rising : ((v : ℕ) → v ≤ k → berth_at inst 1 v a ≤ℤ floor_level inst 1 k x)
         → (t : Term inst sched k) → p ≡ height 1 t a → IsLasting a (a + 1) p
     rising low (task i is below) e = record { term = task i is below; now = e; on = omega (arith, ints) }
@@ -237,13 +240,12 @@ linear_up : (inst : InstanceView) (sched : List Slot) → Valid inst → GoesUp 
     → IsPlace inst sched Up k a 1 p → IsPlace inst sched Up k (a + 1) 1 q
     → IsPlace inst sched Up k (d * a + r) d (mixed d r p q)
 linear_up inst sched valid goes k a d r p q low part g h =
-    let bottom = floor_exists inst sched k low in
-    let here = top_of inst sched k bottom.0 1 (before sched 1) a _ (up_low inst sched k a 1 bottom.0 bottom.1) p g in
-    let there = top_of inst sched k bottom.0 1 (before sched 1) (a + 1) _
-    (up_low inst sched k (a + 1) 1 bottom.0 bottom.1) q h in
-    let f = has_floor inst sched 1 k bottom.0 bottom.1 in
-    let one = common inst sched k bottom.0 (levels_of inst sched goes valid 1) f a p q here there in
-    linear_by inst sched k bottom.0 d r a p q part bottom.1 one here there
+    let (x, f) = floor_exists inst sched k low in
+    let here = top_of inst sched k x 1 (before sched 1) a _ (up_low inst sched k a 1 x f) p g in
+    let there = top_of inst sched k x 1 (before sched 1) (a + 1) _ (up_low inst sched k (a + 1) 1 x f) q h in
+    let floored = has_floor inst sched 1 k x f in
+    let one = common inst sched k x (levels_of inst sched goes valid 1) floored a p q here there in
+    linear_by inst sched k x d r a p q part f one here there
 
 turned : (d r : ℕ) (p q c b : ℤ) → b ≡ (pos d *ℤ c) → mixed d r (c -ℤ p) (c -ℤ q) ≡ (b -ℤ mixed d r p q)
 turned d r p q c b e =

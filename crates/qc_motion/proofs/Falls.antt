@@ -6,7 +6,7 @@ use Rattle.std.specs.declared.cmp.Ordering.TheVariants.{Less}
 use Rattle.qc_model.proofs.Bays.{bays}
 use Rattle.qc_motion.specs.Sweep.{IsAt, IsBelow, IsFelt, IsFirst, IsRun, IsSound, Swept, berth_hold, descent, floor_place, ready_of, stopping}
 use Rattle.qc_motion.proofs.Moments.{moment_of}
-use Rattle.qc_motion.proofs.Rises.{no_faster_down}
+use Rattle.qc_motion.proofs.Rises.{no_faster}
 use Rattle.qc_motion.proofs.Terms.{Given, at_of, berth_at, berth_le, floor_le, given_of, task_at, task_le}
 use Rattle.qc_motion.proofs.Terms.Given.{by_berth, by_floor, by_task}
 
@@ -30,7 +30,7 @@ module _ (it : Swept) (s : IsSound it) (m : ℕ) (p q : ℤ) (a : IsAt it m p) (
       go (by_floor g) = absurd (omega (arith, ints, g, floor_le it s (m + 1) q b, down))
 
   by_one : q ≡ (p -ℤ pos 1)
-  by_one = let h = no_faster_down it s m p a q b in omega (arith, ints)
+  by_one = let h = (no_faster it s m p a q b).0 in omega (arith, ints)
 
   -- a berth that still stands when the crane comes to its hold stands now, and holds it lower
   stands : (v : ℕ) → IsBelow it m p v → (m < ready_of it v) × (berth_hold it v <ℤ p)

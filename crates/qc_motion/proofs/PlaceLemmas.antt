@@ -4,11 +4,12 @@ use Rattle.std.proofs.lemmas.Bool.{cases_lt}
 use Rattle.std.proofs.lemmas.Int.{ints}
 use Rattle.std.specs.Int.{int_max}
 use Rattle.qc_model.specs.Limits.{IsPlaceNear}
-use Rattle.qc_model.specs.Motion.{LowPlace, berth_place, scaled, task_place}
+use Rattle.qc_model.specs.Motion.{LowPlace, berth_place, task_place}
 use Rattle.qc_model.specs.Motion.LowPlace.{of_berth, of_floor, of_task}
 use Rattle.qc_model.specs.Rules.{crane_of}
 use Rattle.qc_motion.specs.Sweep.{IsAt, IsFelt, IsHighest, IsSound, Swept, floor_place}
-use Rattle.qc_motion.proofs.Extrema.{least_unique, of_max}
+use Rattle.qc_motion.proofs.Extrema.{of_max}
+use Rattle.qc_motion.proofs.Terms.{at_of, given_of}
 
 module _ (it : Swept) (m : ℕ) where
   pub highest_of_floor : (x : ℤ) → IsSound it → x ≡ floor_place it → IsPlaceNear x → IsHighest it m 0 0 x
@@ -68,11 +69,6 @@ module _ (it : Swept) (m : ℕ) where
   pub at_of_highest : (n v : ℕ) (x : ℤ) → IsHighest it m n v x → IsSound it → length it.inst.tasks ≤ n
       → it.crane < v
       → IsAt it m x
-  at_of_highest n v x h s tasks berths = record { is = h.is; most = below }
-    where
-      below : (y : ℤ) → LowPlace it.inst it.sched it.crane m 1 y → y ≤ℤ x
-      below _ (of_task i low order) = h.tasks i (omega arith) (low, order)
-      below _ (of_berth w order) = h.berths w (omega arith)
-      below _ (of_floor z lowest) =
-          let same : z ≡ it.floor = least_unique _ z it.floor lowest s.floor in
-          subst (λ (u : ℤ). scaled it.inst 1 u ≤ℤ x) (sym same) h.floor
+  at_of_highest n v x h s tasks berths =
+      at_of it s m x (given_of it s m x h.is) (λ i felt. h.tasks i (omega arith) felt)
+      (λ w order. h.berths w (omega arith)) h.floor

@@ -4,27 +4,15 @@ use Rattle.std.proofs.lemmas.Bool.{cases_lt}
 use Rattle.std.proofs.lemmas.Int.{ints}
 use Rattle.std.specs.declared.cmp.Ordering.TheVariants.{Greater}
 use Rattle.qc_model.specs.Rules.{start_of}
+use Rattle.qc_model.proofs.SafeLemmas.{up_stand}
 use Rattle.qc_motion.specs.Sweep.{IsAt, IsFelt, IsLast, IsOnRise, IsRun, IsSound, Swept, task_hold}
 use Rattle.qc_motion.proofs.Terms.{Given, at_of, berth_le, floor_le, given_of, task_le}
 use Rattle.qc_motion.proofs.Terms.Given.{by_berth, by_floor, by_task}
 
 module _ (it : Swept) (s : IsSound it) (m : ℕ) (p : ℤ) (a : IsAt it m p) where
   -- no crane is faster than a place a tick
-  pub no_faster_up : (q : ℤ) → IsAt it (m + 1) q → q ≤ℤ (p +ℤ pos 1)
-  no_faster_up q b = go (given_of it s (m + 1) q b.is)
-    where
-      go : Given it (m + 1) q → q ≤ℤ (p +ℤ pos 1)
-      go (by_task i felt e) = omega (arith, ints, e, task_le it s m p a i felt)
-      go (by_berth v order e) = omega (arith, ints, e, berth_le it s m p a v order)
-      go (by_floor e) = omega (arith, ints, e, floor_le it s m p a)
-
-  pub no_faster_down : (q : ℤ) → IsAt it (m + 1) q → (p -ℤ pos 1) ≤ℤ q
-  no_faster_down q b = go (given_of it s m p a.is)
-    where
-      go : Given it m p → (p -ℤ pos 1) ≤ℤ q
-      go (by_task i felt e) = omega (arith, ints, e, task_le it s (m + 1) q b i felt)
-      go (by_berth v order e) = omega (arith, ints, e, berth_le it s (m + 1) q b v order)
-      go (by_floor e) = omega (arith, ints, e, floor_le it s (m + 1) q b)
+  pub no_faster : (q : ℤ) → IsAt it (m + 1) q → ((p -ℤ pos 1) ≤ℤ q) × (q ≤ℤ (p +ℤ pos 1))
+  no_faster q b = (up_stand it.inst it.sched s.valid s.goes 1).speed it.crane m p q s.range a b
 
   -- ---- a rise
 
@@ -43,7 +31,7 @@ module _ (it : Swept) (s : IsSound it) (m : ℕ) (p : ℤ) (a : IsAt it m p) whe
         go : Given it (m + 1) q → m < e
         go (by_task i felt g) =
             let h = task_le it s m p a i felt in
-            let t = no_faster_up q b in
+            let t = (no_faster q b).1 in
             let on : IsOnRise it m p i = (felt, omega (arith, ints, g, h, t, up)) in
             let l = last.rest i felt.0 on in
             omega (arith, ints, g, h, l, up)

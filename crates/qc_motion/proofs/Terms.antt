@@ -3,8 +3,8 @@ use Rattle.std.proofs.Common.{◌≡◌, ℕ, ◌≤◌, ℤ, ◌≤ℤ◌, refl
 use Rattle.std.proofs.lemmas.Int.{ints}
 use Rattle.qc_model.specs.Motion.{LowPlace, berth_place, scaled, task_place}
 use Rattle.qc_model.specs.Motion.LowPlace.{of_berth, of_floor, of_task}
+use Rattle.qc_model.proofs.Places.{floor_unique}
 use Rattle.qc_motion.specs.Sweep.{IsAt, IsFelt, IsSound, Swept, floor_place}
-use Rattle.qc_motion.proofs.Extrema.{least_unique}
 
 -- where a task has the crane at a tick
 abbrev pub task_at : Swept → ℕ → ℕ → ℤ
@@ -24,7 +24,7 @@ module _ (it : Swept) (s : IsSound it) where
   pub given_of : (m : ℕ) (y : ℤ) → LowPlace it.inst it.sched it.crane m 1 y → Given it m y
   given_of m _ (of_task i low order) = by_task i (low, order) refl
   given_of m _ (of_berth v order) = by_berth v order refl
-  given_of m _ (of_floor x lowest) = by_floor (ap (scaled it.inst 1) (least_unique _ x it.floor lowest s.floor))
+  given_of m _ (of_floor x lowest) = by_floor (ap (scaled it.inst 1) (floor_unique it.inst it.sched it.crane x it.floor lowest s.floor))
 
   -- a place that is given and at least all others is the crane's
   pub at_of : (m : ℕ) (p : ℤ) → Given it m p

@@ -20,7 +20,7 @@ use Rattle.qc_motion.proofs.Extrema.{greatest_unique}
 use Rattle.qc_motion.proofs.Later.{later, later_falls, later_le, later_less}
 use Rattle.qc_motion.proofs.Legs.{IsLeg, Sees, at_of_place, place_of_at, place_once, seen_moved, seen_twice, seen_way}
 use Rattle.qc_motion.proofs.Named.{IsWhole}
-use Rattle.qc_motion.proofs.Rises.{no_faster_down}
+use Rattle.qc_motion.proofs.Rises.{no_faster}
 use Rattle.qc_motion.proofs.Terms.{berth_at, berth_le}
 
 abbrev pub spot : ℕ → ℤ → Waypoint
@@ -168,7 +168,7 @@ module _ (inst : InstanceView) (sched : List Slot) (way : Direction) (k end : �
               let g = berth_le it s (m - 1) x before v order in
               let one : (m - 1) + 1 ≡ m = omega arith in
               let here = subst (λ (i : ℕ). IsAt it i p) (sym one) h.there in
-              let f = no_faster_down it s (m - 1) x before p here in
+              let f = (no_faster it s (m - 1) x before p here).0 in
               let even : ((p -ℤ pos 1) -ℤ p) ≡ (p -ℤ x) = omega (arith, ints, g, f, has, l) in
               let on = seen_straight inst way (p -ℤ pos 1) p x even in
               let there_is =
