@@ -19,7 +19,8 @@ moment_of it s = (
   tick.0,
   record {
     tasks = λ m i low felt.
-        raised _ _ (lift it.inst 1 it.crane) _ _ (task_place-lifted it.inst it.sched 1 i it.crane (before it.sched 1 i m) felt.1) lowest
+        raised _ _ (lift it.inst 1 it.crane) _ _
+        (task_place-lifted it.inst it.sched 1 i it.crane (before it.sched 1 i m) felt.1) lowest
         (tick.1.tasks m (omega arith) i felt.0 felt.1);
     berths = λ m v high order.
         raised _ _ (lift it.inst 1 it.crane) _ _ (berth_place-lifted it.inst it.sched 1 v it.crane m order) lowest

@@ -24,7 +24,9 @@ module _ (it : Swept) (s : IsSound it) where
   pub given_of : (m : ℕ) (y : ℤ) → LowPlace it.inst it.sched it.crane m 1 y → Given it m y
   given_of m _ (of_task i low order) = by_task i (low, order) refl
   given_of m _ (of_berth v order) = by_berth v order refl
-  given_of m _ (of_floor x lowest) = by_floor (ap (scaled it.inst 1) (floor_unique it.inst it.sched it.crane x it.floor lowest s.floor))
+  given_of m _ (of_floor x lowest) =
+      let same = floor_unique it.inst it.sched it.crane x it.floor lowest s.floor in
+      by_floor (ap (scaled it.inst 1) same)
 
   -- a place that is given and at least all others is the crane's
   pub at_of : (m : ℕ) (p : ℤ) → Given it m p
