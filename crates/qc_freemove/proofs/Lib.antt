@@ -6,7 +6,6 @@ pub mod Even
 pub mod SweptHolds
 pub mod Left
 pub mod Traced
-pub mod LineLemmas
 pub mod SweepLemmas
 pub mod SteadyLemmas
 pub mod HalfTicks

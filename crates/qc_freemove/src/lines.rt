@@ -1,16 +1,15 @@
 //! Writing the crane lines of a schedule.
 
-ghost use Rattle.std.specs.Prelude.{◌≡◌, ◌≤◌, ◌++◌, codes, length};
-ghost use Rattle.std.specs.List.{flat_map};
-ghost use Rattle.qc_io.specs.Writes.{Writes};
+ghost use Rattle.std.specs.Prelude.{◌≡◌, ◌≤◌, length};
 ghost use Rattle.qc_model.specs.Judge.{IsJudgeable};
 ghost use Rattle.qc_model.specs.Rules.{Feasible};
-ghost use Rattle.qc_freemove.specs.FreeTracksText.{WritesFreeTracks, free_line, half_text, halved_text};
+ghost use Rattle.qc_freemove.specs.FreeTracksText.{WritesFreeTracks, half_text, halved_text};
 ghost use Rattle.qc_freemove.specs.FreeTracksText.{point_text, sign_text};
 
 use crate::{FreeTrack, HalfPoint, free_waypoints};
-use qc_io::{Sink, WriteFault, put_all};
-use qc_model::{Instance, Name, Schedule};
+use qc_io::{Sink, WriteFault};
+use qc_model::{Instance, Schedule};
+use qc_motion::{Point, put_crane};
 use qc_num::Text;
 
 fn half_text(number: u64) -> &'static [u8]
@@ -35,51 +34,17 @@ fn sign_text(number: i64) -> &'static [u8]
     if number < 0 { b"-" } else { b"" }
 }
 
-fn point_text(point: &HalfPoint) -> Text<64>
-    ensures { result ≡ point_text point.now }
-{
-    let mut text: Text<64> = Text::of(b" ");
-    text.push(halved_text(point.at).as_bytes());
-    text.push(b":");
-    text.push(sign_text(point.place));
-    text.push(halved_text(point.place.unsigned_abs()).as_bytes());
-    text
-}
+impl Point for HalfPoint {
+    ghost text_of = { λ point. point_text point };
 
-#[tactic(auto, using(qc_io::proofs::WritesLemmas::items_more))]
-fn put_points<K: Sink>(points: &[HalfPoint], sink: &mut K) -> Result<(), WriteFault>
-    ensures { Writes (K.view sink.old) (K.view sink.new) (flat_map point_text points.now) result }
-{
-    for point in points {
-        put_all(sink, point_text(point).as_bytes())?;
+    fn text(&self) -> Text<64> {
+        let mut text: Text<64> = Text::of(b" ");
+        text.push(halved_text(self.at).as_bytes());
+        text.push(b":");
+        text.push(sign_text(self.place));
+        text.push(halved_text(self.place.unsigned_abs()).as_bytes());
+        text
     }
-    Ok(())
-}
-
-fn put_head<K: Sink>(name: &Name, sink: &mut K) -> Result<(), WriteFault>
-    ensures { Writes (K.view sink.old) (K.view sink.new) (codes "crane " ++ name.now) result }
-{
-    let mut head: Text<24> = Text::of(b"crane ");
-    head.push(name.as_bytes());
-    put_all(sink, head.as_bytes())
-}
-
-#[tactic(auto, using(qc_io::proofs::WritesLemmas::writes_then, qc_io::proofs::WritesLemmas::writes_cut))]
-fn put_tail<K: Sink>(points: &[HalfPoint], sink: &mut K) -> Result<(), WriteFault>
-    ensures { Writes (K.view sink.old) (K.view sink.new)
-        (flat_map point_text points.now ++ codes "\n") result }
-{
-    put_points(points, sink)?;
-    put_all(sink, b"\n")
-}
-
-/// Writes the line of a crane.
-#[tactic(auto, using(qc_io::proofs::WritesLemmas::writes_then, qc_io::proofs::WritesLemmas::writes_cut))]
-fn put_line<K: Sink>(name: &Name, points: &[HalfPoint], sink: &mut K) -> Result<(), WriteFault>
-    ensures { Writes (K.view sink.old) (K.view sink.new) (free_line name.now points.now) result }
-{
-    put_head(name, sink)?;
-    put_tail(points, sink)
 }
 
 /// Writes for each crane in order the line `crane NAME` with its points, each as a space, the tick, `:` and the
@@ -100,7 +65,7 @@ pub fn write_free_tracks<K: Sink>(
 {
     for (number, crane) in inst.cranes().iter().enumerate() {
         free_waypoints(inst, sched, number as u16, track);
-        put_line(&crane.name, track.points(), sink)?;
+        put_crane(&crane.name, track.points(), sink)?;
     }
     Ok(())
 }

@@ -2,5 +2,4 @@ pub mod EntryLemmas
 pub mod GanttLemmas
 pub mod NameLemmas
 pub mod PlanLemmas
-pub mod TrackLemmas
 pub mod RereadLemmas

@@ -1,62 +1,11 @@
 // Writing the crane lines of a schedule.
-ghost use Rattle.std.specs.Prelude.{◌≡◌, ◌≤◌, ◌++◌, codes, length};
-ghost use Rattle.std.specs.List.{flat_map};
-ghost use Rattle.qc_io.specs.Writes.{Writes};
+ghost use Rattle.std.specs.Prelude.{◌≡◌, ◌≤◌, length};
 ghost use Rattle.qc_model.specs.Judge.{Goes, IsJudgeable};
-ghost use Rattle.qc_gantt.specs.TracksText.{WritesTracks, track_line, waypoint_text};
+ghost use Rattle.qc_gantt.specs.TracksText.{WritesTracks};
 
-use qc_io::{Sink, WriteFault, put_all};
-use qc_model::{Direction, Instance, Name, Schedule};
-use qc_motion::{Track, Waypoint, waypoints};
-use qc_num::Text;
-
-fn waypoint_text(point: &Waypoint) -> Text<48>
-    ensures { result ≡ waypoint_text point.now }
-{
-    let mut text: Text<48> = Text::of(b" ");
-    text.push_number(point.at);
-    text.push(b":");
-    text.push_signed(point.place);
-    text
-}
-
-#[tactic(auto, using(qc_io::proofs::WritesLemmas::items_more))]
-fn put_points<K: Sink>(points: &[Waypoint], sink: &mut K) -> Result<(), WriteFault>
-    ensures { Writes (K.view sink.old) (K.view sink.new)
-        (flat_map waypoint_text points.now) result }
-{
-    for point in points {
-        put_all(sink, waypoint_text(point).as_bytes())?;
-    }
-    Ok(())
-}
-
-fn put_head<K: Sink>(name: &Name, sink: &mut K) -> Result<(), WriteFault>
-    ensures { Writes (K.view sink.old) (K.view sink.new) (codes "crane " ++ name.now) result }
-{
-    let mut head: Text<24> = Text::of(b"crane ");
-    head.push(name.as_bytes());
-    put_all(sink, head.as_bytes())
-}
-
-#[tactic(auto, using(qc_io::proofs::WritesLemmas::writes_then, qc_io::proofs::WritesLemmas::writes_cut))]
-fn put_tail<K: Sink>(points: &[Waypoint], sink: &mut K) -> Result<(), WriteFault>
-    ensures { Writes (K.view sink.old) (K.view sink.new)
-        (flat_map waypoint_text points.now ++ codes "\n") result }
-{
-    put_points(points, sink)?;
-    put_all(sink, b"\n")
-}
-
-/// Writes the line of a crane.
-#[tactic(auto, using(qc_io::proofs::WritesLemmas::writes_then, qc_io::proofs::WritesLemmas::writes_cut))]
-fn put_track<K: Sink>(name: &Name, points: &[Waypoint], sink: &mut K) -> Result<(), WriteFault>
-    ensures { Writes (K.view sink.old) (K.view sink.new)
-        (track_line name.now points.now) result }
-{
-    put_head(name, sink)?;
-    put_tail(points, sink)
-}
+use qc_io::{Sink, WriteFault};
+use qc_model::{Direction, Instance, Schedule};
+use qc_motion::{Track, put_crane, waypoints};
 
 /// Writes for each crane in order the line `crane NAME` with its waypoints, each as a space, the tick,
 /// `:` and the place in bays times `travel`: where it stands at tick 0, at the end of the schedule, and
@@ -78,7 +27,7 @@ pub fn write_tracks<K: Sink>(
 {
     for (number, crane) in inst.cranes().iter().enumerate() {
         waypoints(inst, sched, way, number as u16, track);
-        put_track(&crane.name, track.points(), sink)?;
+        put_crane(&crane.name, track.points(), sink)?;
     }
     Ok(())
 }

@@ -13,3 +13,4 @@ pub mod Legs
 pub mod Traced
 pub mod Linear
 pub mod Named
+pub mod LineLemmas

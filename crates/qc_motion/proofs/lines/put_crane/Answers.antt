@@ -1,17 +1,16 @@
 use Rattle.std.proofs.Common.{◌++◌, codes}
 use Rattle.std.specs.List.{flat_map}
 use Rattle.qc_io.proofs.WritesLemmas.{writes_cut, writes_then}
-use Rattle.qc_gantt.specs.TracksText.{waypoint_text}
-use Rattle.qc_gantt.proofs.tracks.put_track.Goals as goal
+use Rattle.qc_motion.proofs.lines.put_crane.Goals as goal
 
 pub returns : goal.returns
 returns g c =
     writes_then (g.K.Sink.view c.args.sink.now) (g.K.Sink.view c.put_head.new.sink) (g.K.Sink.view c.put_tail.new.sink)
-    (codes "crane " ++ c.args.name.now) (flat_map waypoint_text c.args.points.now ++ codes "\n") c.put_tail.result
+    (codes "crane " ++ c.args.name.now) (flat_map g.P.Point.text_of c.args.points.now ++ codes "\n") c.put_tail.result
     c.in_ok-put_head.ensures c.put_tail.ensures
 
 pub returns-in_err-put_head : goal.returns-in_err-put_head
 returns-in_err-put_head g c =
     writes_cut (g.K.Sink.view c.args.sink.now) (g.K.Sink.view c.put_head.new.sink)
-    (codes "crane " ++ c.args.name.now) (flat_map waypoint_text c.args.points.now ++ codes "\n") _ c.from_residual.result
+    (codes "crane " ++ c.args.name.now) (flat_map g.P.Point.text_of c.args.points.now ++ codes "\n") _ c.from_residual.result
     c.from_residual.ensures.0 c.in_err-put_head.ensures
