@@ -29,7 +29,8 @@ each_more Is tracks points each is k below =
         subst (Is k) (sym (get_or_append_left tracks (points ∷ []) [] k before)) (each k before)
 
 module _ {P : Type 0} (text : P → List ℕ) where
-  lines_push : (cranes : List Crane) (tracks : List (List P)) (points : List P) → length tracks < length cranes
+  lines_push : (cranes : List Crane) (tracks : List (List P)) (points : List P)
+      → length tracks < length cranes
       → crane_lines text cranes (tracks ++ points ∷ [])
       ≡ crane_lines text cranes tracks ++ crane_line text (get_or cranes (length tracks) no_crane).name points
   lines_push cranes tracks points low =
@@ -44,68 +45,64 @@ module _ {P : Type 0} (text : P → List ℕ) where
   no_lines (c ∷ cs) = refl
 
 module _ {P : Type 0} (text : P → List ℕ) (Is : ℕ → List P → Type 0) (cranes : List Crane) (before : View) where
-  -- the lines of the first k cranes were written
-  pub record SoFar (now : View) (k : ℕ) : Type 0 where
+  -- the lines of the first k cranes were written, or the last of them was cut
+  pub record WritesFirst (now : View) (k : ℕ) (result : Result ⊤ WriteFault) : Type 0 where
     pub tracks : List (List P)
     pub are : AreOfFirst Is cranes tracks
     pub count : length tracks ≡ k
-    pub writes : Writes before now (crane_lines text cranes tracks) (Ok tt)
+    pub writes : Writes before now (crane_lines text cranes tracks) result
 
-  -- that of crane k, which was read from these cranes, with its points as they were read
-  module _ (now after : View) (k : ℕ) (so_far : SoFar now k) (listed : List Crane) (same : listed ≡ cranes)
-      (low : k < length listed) (here : Crane) (is_here : here ≡ slice_index_or listed k here)
+  -- and that of crane k, which was read from these cranes, with its points as they were read
+  module _ (now after : View) (k : ℕ) (first : WritesFirst now k (Ok tt))
+      (listed : List Crane) (same : listed ≡ cranes) (low : k < length listed)
+      (here : Crane) (is_here : here ≡ slice_index_or listed k here)
       (points shown : List P) (are_shown : shown ≡ points) (is : Is k points) where
-    fewer : length so_far.tracks < length cranes
-    fewer = omega (arith, low, so_far.count, ap length same)
+    fewer : length first.tracks < length cranes
+    fewer = omega (arith, low, first.count, ap length same)
 
-    name : here ≡ get_or cranes (length so_far.tracks) no_crane
-    name = get_or_read listed k here low is_here no_crane ∙ ap (λ (cs : List Crane). slice_index_or cs k no_crane) same
-        ∙ ap (λ (n : ℕ). get_or cranes n no_crane) (sym so_far.count)
+    its_own : here ≡ get_or cranes (length first.tracks) no_crane
+    its_own = get_or_read listed k here low is_here no_crane
+        ∙ ap (λ (cs : List Crane). slice_index_or cs k no_crane) same
+        ∙ ap (λ (n : ℕ). get_or cranes n no_crane) (sym first.count)
 
-    more : AreOfFirst Is cranes (so_far.tracks ++ points ∷ [])
-    more = record {
-      few = omega (arith, fewer, length-append so_far.tracks (points ∷ []));
-      each = each_more Is so_far.tracks points so_far.are.each (subst (λ (n : ℕ). Is n points) (sym so_far.count) is);
-    }
+    text_more : crane_lines text cranes first.tracks ++ crane_line text here.name shown
+        ≡ crane_lines text cranes (first.tracks ++ points ∷ [])
+    text_more =
+        ap (λ (ps : List P). crane_lines text cranes first.tracks ++ crane_line text here.name ps) are_shown
+        ∙ ap (λ (c : Crane). crane_lines text cranes first.tracks ++ crane_line text c.name points) its_own
+        ∙ sym (lines_push text cranes first.tracks points fewer)
 
-    then : (result : Result ⊤ WriteFault) → Writes now after (crane_line text here.name shown) result
-        → Writes before after (crane_lines text cranes (so_far.tracks ++ points ∷ [])) result
-    then result writes =
-        subst (λ (t : List ℕ). Writes before after t result)
-        (ap (λ (ps : List P). crane_lines text cranes so_far.tracks ++ crane_line text here.name ps) are_shown
-        ∙ ap (λ (c : Crane). crane_lines text cranes so_far.tracks ++ crane_line text c.name points) name
-        ∙ sym (lines_push text cranes so_far.tracks points fewer))
-        (writes_then before now after _ _ result so_far.writes writes)
-
-    pub crane_more : Writes now after (crane_line text here.name shown) (Ok tt) → SoFar after (k + 1)
-    crane_more writes = record {
-      tracks = so_far.tracks ++ points ∷ [];
-      are = more;
-      count = omega (arith, so_far.count, length-append so_far.tracks (points ∷ []));
-      writes = then (Ok tt) writes;
+    pub crane_next : (result : Result ⊤ WriteFault) → Writes now after (crane_line text here.name shown) result
+        → WritesFirst after (k + 1) result
+    crane_next result writes = record {
+      tracks = first.tracks ++ points ∷ [];
+      are = record {
+        few = omega (arith, fewer, length-append first.tracks (points ∷ []));
+        each = each_more Is first.tracks points first.are.each (subst (λ (n : ℕ). Is n points) (sym first.count) is);
+      };
+      count = omega (arith, first.count, length-append first.tracks (points ∷ []));
+      writes = subst (λ (t : List ℕ). Writes before after t result) text_more
+          (writes_then before now after _ _ result first.writes writes);
     }
 
     pub crane_cut : (result : Result ⊤ WriteFault) → IsErr result
         → (fault : WriteFault) → Writes now after (crane_line text here.name shown) (Err fault)
         → WritesCranes text Is cranes before after result
     crane_cut (Ok u) err fault writes = absurd (cc err)
-    crane_cut (Err other) err fault writes = record {
-      tracks = so_far.tracks ++ points ∷ [];
-      are = more;
-      all = tt;
-      writes = then (Err other) writes;
-    }
+    crane_cut (Err other) err fault writes =
+        let next = crane_next (Err other) writes in
+        record { tracks = next.tracks; are = next.are; all = tt; writes = next.writes }
 
-  pub all_written : (now : View) (k : ℕ) → length cranes ≤ k → SoFar now k
+  pub all_written : (now : View) (k : ℕ) → length cranes ≤ k → WritesFirst now k (Ok tt)
       → WritesCranes text Is cranes before now (Ok tt)
-  all_written now k high so_far = record {
-    tracks = so_far.tracks;
-    are = so_far.are;
-    all = omega (arith, high, so_far.count, so_far.are.few);
-    writes = so_far.writes;
+  all_written now k high first = record {
+    tracks = first.tracks;
+    are = first.are;
+    all = omega (arith, high, first.count, first.are.few);
+    writes = first.writes;
   }
 
-  pub none_written : Writes before before [] (Ok tt) → SoFar before 0
+  pub none_written : Writes before before [] (Ok tt) → WritesFirst before 0 (Ok tt)
   none_written writes = record {
     tracks = [];
     are = record { few = omega arith; each = λ k below. absurd (omega (arith, below)) };

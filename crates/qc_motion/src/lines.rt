@@ -50,18 +50,8 @@ fn put_head<K: Sink>(name: &Name, sink: &mut K) -> Result<(), WriteFault>
     put_all(sink, head.as_bytes())
 }
 
-#[tactic(auto, using(qc_io::proofs::WritesLemmas::writes_then, qc_io::proofs::WritesLemmas::writes_cut))]
-fn put_tail<P: Point, K: Sink>(points: &[P], sink: &mut K) -> Result<(), WriteFault>
-    ensures { Writes (K.view sink.old) (K.view sink.new)
-        (flat_map P.text_of points.now ++ codes "\n") result }
-{
-    put_points(points, sink)?;
-    put_all(sink, b"\n")
-}
-
 /// Writes the line of a crane: `crane NAME` and its points. It takes no memory. After `WriteFault` a part of
 /// the line was written, from its front.
-#[tactic(auto, using(qc_io::proofs::WritesLemmas::writes_then, qc_io::proofs::WritesLemmas::writes_cut))]
 pub fn put_crane<P: Point, K: Sink>(
     name: &Name,
     points: &[P],
@@ -71,5 +61,6 @@ pub fn put_crane<P: Point, K: Sink>(
         (crane_line P.text_of name.now points.now) result }
 {
     put_head(name, sink)?;
-    put_tail(points, sink)
+    put_points(points, sink)?;
+    put_all(sink, b"\n")
 }

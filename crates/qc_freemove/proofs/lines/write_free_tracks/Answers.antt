@@ -1,5 +1,5 @@
-use Rattle.std.proofs.Common.{ap, length, ◌∙◌, refl, rules, arith}
-use Rattle.qc_motion.proofs.LineLemmas.{all_written, crane_cut, crane_more, none_written}
+use Rattle.std.proofs.Common.{Ok, ap, length, ◌∙◌, refl, rules, arith}
+use Rattle.qc_motion.proofs.LineLemmas.{all_written, crane_cut, crane_next, none_written}
 use Rattle.qc_freemove.specs.FreeTracksText.{point_text}
 use Rattle.qc_freemove.specs.HalfPoints.{AreHalfPoints}
 use Rattle.qc_freemove.proofs.lines.write_free_tracks.Goals as goal
@@ -13,13 +13,13 @@ loop-number-init g c = record {
 
 pub loop-number-preserved : goal.loop-number-preserved
 loop-number-preserved g c = record {
-  lines = crane_more point_text (AreHalfPoints c.args.inst.now c.args.sched.now) c.args.inst.now.cranes
+  lines = crane_next point_text (AreHalfPoints c.args.inst.now c.args.sched.now) c.args.inst.now.cranes
       (g.K.Sink.view c.args.sink.now) (g.K.Sink.view c.loop-number.sink) (g.K.Sink.view c.put_crane.new.sink)
       c.loop-number.number c.loop-number.invariant.lines
       c.cranes-crane-items.result.now c.cranes-crane-items.ensures.cranes c.loop-number-test.true
       c.crane-item.result c.crane-item.is
       c.free_waypoints.new.track.points c.points.result.now c.points.ensures c.free_waypoints.ensures.points
-      c.in_ok-put_crane.ensures;
+      (Ok tt) c.in_ok-put_crane.ensures;
   room = c.free_waypoints.ensures.room ∙ c.loop-number.invariant.room;
 }
 
@@ -37,4 +37,5 @@ pub returns-clause-writes : goal.returns-clause-writes
 returns-clause-writes g c =
     all_written point_text (AreHalfPoints c.args.inst.now c.args.sched.now) c.args.inst.now.cranes
     (g.K.Sink.view c.args.sink.now) (g.K.Sink.view c.loop-number.sink) c.loop-number.number
-    (omega (arith, c.loop-number-test.false, ap length c.cranes-crane-items.ensures.cranes)) c.loop-number.invariant.lines
+    (omega (arith, c.loop-number-test.false, ap length c.cranes-crane-items.ensures.cranes))
+    c.loop-number.invariant.lines
