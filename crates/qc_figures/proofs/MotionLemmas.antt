@@ -1,9 +1,7 @@
 -- What holds of the motion of the cranes of a feasible schedule, whether it goes one way or to and fro.
-use Rattle.std.proofs.Common.{◌≡◌, ℕ, ◌+◌, ◌-◌, ◌*◌, ◌<◌, ◌≤◌, ℤ, pos, ◌+ℤ◌, ◌-ℤ◌, ◌*ℤ◌, ◌≤ℤ◌, ◌⊎◌, inl, inr, Option, None, Some, List, [], ◌∷◌, ◌++◌, length, map, slice_index_or, refl, ap, ap₂, sym, subst, ◌∙◌, arith}
-use Rattle.std.proofs.Math.Nat.{eq-or-lt_of_le}
-use Rattle.std.proofs.Math.Seq.{get_or-append_seam}
+use Rattle.std.proofs.Common.{◌≡◌, ℕ, ◌+◌, ◌-◌, ◌*◌, ◌<◌, ◌≤◌, ℤ, pos, ◌+ℤ◌, ◌-ℤ◌, ◌*ℤ◌, ◌≤ℤ◌, ◌⊎◌, inl, inr, Option, None, Some, List, length, map, refl, ap, ap₂, sym, subst, ◌∙◌, arith}
 use Rattle.std.proofs.lemmas.Int.{ints}
-use Rattle.std.proofs.lemmas.List.{get_or-map, get_or_append_left, length-append, length-map}
+use Rattle.std.proofs.lemmas.List.{get_or-map, length-map}
 use Rattle.qc_freemove.specs.declared.track.HalfPoint.{HalfPoint}
 use Rattle.qc_freemove.specs.HalfLines.{no_point, point}
 use Rattle.qc_freemove.specs.HalfLines as half
@@ -122,17 +120,3 @@ evenly_of inst sched None k points is = record {
         let v = here (i + 1) low in
         half_line (waypoint points i) (waypoint points (i + 1)) (point is.halves i) (point is.halves (i + 1)) m x u v
         (is.between i m 2 x (omega (arith, low, count)) (omega arith) (omega (arith, after, ap (λ (w : Waypoint). w.at) u)) (omega (arith, before, ap (λ (w : Waypoint). w.at) v)) place)
-
--- what holds of each track holds of each with one more
-pub each_more : (P : ℕ → List Waypoint → Type 0) (tracks : List (List Waypoint)) (points : List Waypoint)
-    → ((k : ℕ) → k < length tracks → P k (slice_index_or tracks k [])) → P (length tracks) points
-    → (k : ℕ) → k < length (tracks ++ points ∷ []) → P k (slice_index_or (tracks ++ points ∷ []) k [])
-each_more P tracks points each is k below =
-    by_place (eq-or-lt_of_le (omega (arith, below, length-append tracks (points ∷ []))))
-  where
-    by_place : (k ≡ length tracks) ⊎ (k < length tracks) → P k (slice_index_or (tracks ++ points ∷ []) k [])
-    by_place (inl e) =
-        subst (λ (n : ℕ). P n (slice_index_or (tracks ++ points ∷ []) n [])) (sym e)
-        (subst (P (length tracks)) (sym (get_or-append_seam tracks points [] [])) is)
-    by_place (inr before) =
-        subst (P k) (sym (get_or_append_left tracks (points ∷ []) [] k before)) (each k before)

@@ -4,7 +4,7 @@ use Rattle.qc_freemove.specs.declared.track.HalfPoint.{HalfPoint}
 use Rattle.qc_freemove.specs.FreeTracks.{FreeTrackView}
 use Rattle.qc_motion.specs.declared.track.Waypoint.{Waypoint}
 use Rattle.qc_figures.specs.Motions.{ArePaths, IsFreeTrack, of_half}
-use Rattle.qc_figures.proofs.MotionLemmas.{each_more}
+use Rattle.qc_motion.proofs.LineLemmas.{each_more}
 use Rattle.qc_figures.proofs.tracks.free_tracks.Goals as goal
 
 pub loop-crane-init : goal.loop-crane-init
@@ -29,7 +29,7 @@ loop-crane-preserved c =
     c.in_ok-push.ensures.items ∙ ap (λ (p : List Waypoint). paths ++ p ∷ []) path in
     record {
       are = subst (ArePaths inst sched None) (sym items)
-          (each_more (λ (k : ℕ) (ps : List Waypoint). IsFreeTrack inst sched k ps) paths points c.loop-crane.invariant.are is);
+          (each_more (IsFreeTrack inst sched) paths points c.loop-crane.invariant.are is);
       count = ap (λ (ps : List (List Waypoint)). length ps) items ∙ length_push paths points
           ∙ ap (λ (n : ℕ). n + 1) c.loop-crane.invariant.count;
       room = c.free_waypoints.ensures.room ∙ c.loop-crane.invariant.room;

@@ -4,7 +4,8 @@ use Rattle.qc_gantt.specs.TracksText.{IsTrack}
 use Rattle.qc_motion.specs.declared.track.Waypoint.{Waypoint}
 use Rattle.qc_motion.specs.Tracks.{TrackView}
 use Rattle.qc_figures.specs.Motions.{ArePaths}
-use Rattle.qc_figures.proofs.MotionLemmas.{each_more, goes_of}
+use Rattle.qc_figures.proofs.MotionLemmas.{goes_of}
+use Rattle.qc_motion.proofs.LineLemmas.{each_more}
 use Rattle.qc_figures.proofs.tracks.one_way_tracks.Goals as goal
 
 pub loop-crane-init : goal.loop-crane-init
@@ -29,7 +30,7 @@ loop-crane-preserved c =
     c.in_ok-push.ensures.items ∙ ap (λ (p : List Waypoint). paths ++ p ∷ []) path in
     record {
       are = subst (ArePaths inst c.args.sched.now (Some c.args.way)) (sym items)
-          (each_more (λ (k : ℕ) (points : List Waypoint). IsTrack inst c.args.sched.now c.args.way k points) paths c.waypoints.new.track.points c.loop-crane.invariant.are is);
+          (each_more (IsTrack inst c.args.sched.now c.args.way) paths c.waypoints.new.track.points c.loop-crane.invariant.are is);
       count = ap (λ (ps : List (List Waypoint)). length ps) items ∙ length_push paths c.waypoints.new.track.points
           ∙ ap (λ (n : ℕ). n + 1) c.loop-crane.invariant.count;
       room = c.waypoints.ensures.room ∙ c.loop-crane.invariant.room;
