@@ -44,65 +44,68 @@ module _ {P : Type 0} (text : P → List ℕ) where
   no_lines [] = refl
   no_lines (c ∷ cs) = refl
 
-module _ {P : Type 0} (text : P → List ℕ) (Is : ℕ → List P → Type 0) (cranes : List Crane) (before : View) where
-  -- the lines of the first k cranes were written, or the last of them was cut
-  pub record WritesFirst (now : View) (k : ℕ) (result : Result ⊤ WriteFault) : Type 0 where
-    pub tracks : List (List P)
-    pub are : AreOfFirst Is cranes tracks
-    pub count : length tracks ≡ k
-    pub writes : Writes before now (crane_lines text cranes tracks) result
+-- the lines of the first k cranes were written, or the last of them was cut
+pub record WritesFirst {P : Type 0} (text : P → List ℕ) (Is : ℕ → List P → Type 0) (cranes : List Crane)
+    (before now : View) (k : ℕ) (result : Result ⊤ WriteFault) : Type 0 where
+  pub tracks : List (List P)
+  pub are : AreOfFirst Is cranes tracks
+  pub count : length tracks ≡ k
+  pub writes : Writes before now (crane_lines text cranes tracks) result
 
-  -- and that of crane k, which was read from these cranes, with its points as they were read
-  module _ (now after : View) (k : ℕ) (first : WritesFirst now k (Ok tt))
-      (listed : List Crane) (same : listed ≡ cranes) (low : k < length listed)
-      (here : Crane) (is_here : here ≡ slice_index_or listed k here)
-      (points shown : List P) (are_shown : shown ≡ points) (is : Is k points) where
-    fewer : length first.tracks < length cranes
-    fewer = omega (arith, low, first.count, ap length same)
+-- and that of crane k, which was read from these cranes, with its points as they were read
+module _ {P : Type 0} {text : P → List ℕ} {Is : ℕ → List P → Type 0} {cranes : List Crane} {before now : View} {k : ℕ}
+    (first : WritesFirst text Is cranes before now k (Ok tt))
+    {listed : List Crane} (same : listed ≡ cranes) (low : k < length listed)
+    {here : Crane} (is_here : here ≡ slice_index_or listed k here)
+    {points shown : List P} (are_shown : shown ≡ points) (is : Is k points) where
+  fewer : length first.tracks < length cranes
+  fewer = omega (arith, low, first.count, ap length same)
 
-    its_own : here ≡ get_or cranes (length first.tracks) no_crane
-    its_own = get_or_read listed k here low is_here no_crane
-        ∙ ap (λ (cs : List Crane). slice_index_or cs k no_crane) same
-        ∙ ap (λ (n : ℕ). get_or cranes n no_crane) (sym first.count)
+  its_own : here ≡ get_or cranes (length first.tracks) no_crane
+  its_own = get_or_read listed k here low is_here no_crane
+      ∙ ap (λ (cs : List Crane). slice_index_or cs k no_crane) same
+      ∙ ap (λ (n : ℕ). get_or cranes n no_crane) (sym first.count)
 
-    text_more : crane_lines text cranes first.tracks ++ crane_line text here.name shown
-        ≡ crane_lines text cranes (first.tracks ++ points ∷ [])
-    text_more =
-        ap (λ (ps : List P). crane_lines text cranes first.tracks ++ crane_line text here.name ps) are_shown
-        ∙ ap (λ (c : Crane). crane_lines text cranes first.tracks ++ crane_line text c.name points) its_own
-        ∙ sym (lines_push text cranes first.tracks points fewer)
+  text_more : crane_lines text cranes first.tracks ++ crane_line text here.name shown
+      ≡ crane_lines text cranes (first.tracks ++ points ∷ [])
+  text_more =
+      ap (λ (ps : List P). crane_lines text cranes first.tracks ++ crane_line text here.name ps) are_shown
+      ∙ ap (λ (c : Crane). crane_lines text cranes first.tracks ++ crane_line text c.name points) its_own
+      ∙ sym (lines_push text cranes first.tracks points fewer)
 
-    pub crane_next : (result : Result ⊤ WriteFault) → Writes now after (crane_line text here.name shown) result
-        → WritesFirst after (k + 1) result
-    crane_next result writes = record {
-      tracks = first.tracks ++ points ∷ [];
-      are = record {
-        few = omega (arith, fewer, length-append first.tracks (points ∷ []));
-        each = each_more Is first.tracks points first.are.each (subst (λ (n : ℕ). Is n points) (sym first.count) is);
-      };
-      count = omega (arith, first.count, length-append first.tracks (points ∷ []));
-      writes = subst (λ (t : List ℕ). Writes before after t result) text_more
-          (writes_then before now after _ _ result first.writes writes);
-    }
+  pub crane_next : {after : View} (result : Result ⊤ WriteFault)
+      → Writes now after (crane_line text here.name shown) result
+      → WritesFirst text Is cranes before after (k + 1) result
+  crane_next {after} result writes = record {
+    tracks = first.tracks ++ points ∷ [];
+    are = record {
+      few = omega (arith, fewer, length-append first.tracks (points ∷ []));
+      each = each_more Is first.tracks points first.are.each (subst (λ (n : ℕ). Is n points) (sym first.count) is);
+    };
+    count = omega (arith, first.count, length-append first.tracks (points ∷ []));
+    writes = subst (λ (t : List ℕ). Writes before after t result) text_more
+        (writes_then before now after _ _ result first.writes writes);
+  }
 
-    pub crane_cut : (result : Result ⊤ WriteFault) → IsErr result
-        → (fault : WriteFault) → Writes now after (crane_line text here.name shown) (Err fault)
-        → WritesCranes text Is cranes before after result
-    crane_cut (Ok u) err fault writes = absurd (cc err)
-    crane_cut (Err other) err fault writes =
-        let next = crane_next (Err other) writes in
-        record { tracks = next.tracks; are = next.are; all = tt; writes = next.writes }
+  pub crane_cut : {after : View} (result : Result ⊤ WriteFault) → IsErr result
+      → {fault : WriteFault} → Writes now after (crane_line text here.name shown) (Err fault)
+      → WritesCranes text Is cranes before after result
+  crane_cut (Ok u) err writes = absurd (cc err)
+  crane_cut (Err other) err writes =
+      let next = crane_next (Err other) writes in
+      record { tracks = next.tracks; are = next.are; all = tt; writes = next.writes }
 
-  pub all_written : (now : View) (k : ℕ) → length cranes ≤ k → WritesFirst now k (Ok tt)
+module _ {P : Type 0} {text : P → List ℕ} {Is : ℕ → List P → Type 0} {cranes : List Crane} {before : View} where
+  pub all_written : {now : View} {k : ℕ} → WritesFirst text Is cranes before now k (Ok tt) → length cranes ≤ k
       → WritesCranes text Is cranes before now (Ok tt)
-  all_written now k high first = record {
+  all_written first high = record {
     tracks = first.tracks;
     are = first.are;
     all = omega (arith, high, first.count, first.are.few);
     writes = first.writes;
   }
 
-  pub none_written : Writes before before [] (Ok tt) → WritesFirst before 0 (Ok tt)
+  pub none_written : Writes before before [] (Ok tt) → WritesFirst text Is cranes before before 0 (Ok tt)
   none_written writes = record {
     tracks = [];
     are = record { few = omega arith; each = λ k below. absurd (omega (arith, below)) };

@@ -1,24 +1,14 @@
 use Rattle.std.proofs.Common.{Ok, ap, length, ◌∙◌, refl, rules, arith}
 use Rattle.qc_motion.proofs.LineLemmas.{all_written, crane_cut, crane_next, none_written}
-use Rattle.qc_gantt.specs.TracksText.{IsTrack}
-use Rattle.qc_motion.specs.CraneLines.{waypoint_text}
 use Rattle.qc_gantt.proofs.tracks.write_tracks.Goals as goal
 
 pub loop-number-init : goal.loop-number-init
-loop-number-init g c = record {
-  lines = none_written waypoint_text (IsTrack c.args.inst.now c.args.sched.now c.args.way) c.args.inst.now.cranes
-      (g.K.Sink.view c.args.sink.now) (search rules);
-  room = refl;
-}
+loop-number-init g c = record { lines = none_written (search rules); room = refl }
 
 pub loop-number-preserved : goal.loop-number-preserved
 loop-number-preserved g c = record {
-  lines = crane_next waypoint_text (IsTrack c.args.inst.now c.args.sched.now c.args.way) c.args.inst.now.cranes
-      (g.K.Sink.view c.args.sink.now) (g.K.Sink.view c.loop-number.sink) (g.K.Sink.view c.put_crane.new.sink)
-      c.loop-number.number c.loop-number.invariant.lines
-      c.cranes-crane-items.result.now c.cranes-crane-items.ensures.cranes c.loop-number-test.true
-      c.crane-item.result c.crane-item.is
-      c.waypoints.new.track.points c.points.result.now c.points.ensures
+  lines = crane_next c.loop-number.invariant.lines c.cranes-crane-items.ensures.cranes c.loop-number-test.true
+      c.crane-item.is c.points.ensures
       (record { waypoints = c.waypoints.ensures.waypoints; between = c.waypoints.ensures.between })
       (Ok tt) c.in_ok-put_crane.ensures;
   room = c.waypoints.ensures.room ∙ c.loop-number.invariant.room;
@@ -26,18 +16,12 @@ loop-number-preserved g c = record {
 
 pub returns-in_err-put_crane-clause-writes : goal.returns-in_err-put_crane-clause-writes
 returns-in_err-put_crane-clause-writes g c =
-    crane_cut waypoint_text (IsTrack c.args.inst.now c.args.sched.now c.args.way) c.args.inst.now.cranes
-    (g.K.Sink.view c.args.sink.now) (g.K.Sink.view c.loop-number.sink) (g.K.Sink.view c.put_crane.new.sink)
-    c.loop-number.number c.loop-number.invariant.lines
-    c.cranes-crane-items.result.now c.cranes-crane-items.ensures.cranes c.loop-number-test.true
-    c.crane-item.result c.crane-item.is
-    c.waypoints.new.track.points c.points.result.now c.points.ensures
+    crane_cut c.loop-number.invariant.lines c.cranes-crane-items.ensures.cranes c.loop-number-test.true
+    c.crane-item.is c.points.ensures
     (record { waypoints = c.waypoints.ensures.waypoints; between = c.waypoints.ensures.between })
-    c.from_residual.result c.from_residual.ensures.0 _ c.in_err-put_crane.ensures
+    c.from_residual.result c.from_residual.ensures.0 c.in_err-put_crane.ensures
 
 pub returns-clause-writes : goal.returns-clause-writes
 returns-clause-writes g c =
-    all_written waypoint_text (IsTrack c.args.inst.now c.args.sched.now c.args.way) c.args.inst.now.cranes
-    (g.K.Sink.view c.args.sink.now) (g.K.Sink.view c.loop-number.sink) c.loop-number.number
+    all_written c.loop-number.invariant.lines
     (omega (arith, c.loop-number-test.false, ap length c.cranes-crane-items.ensures.cranes))
-    c.loop-number.invariant.lines
