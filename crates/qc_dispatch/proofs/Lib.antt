@@ -3,6 +3,7 @@ pub mod OrderLemmas
 pub mod CourseLemmas
 pub mod WaitLemmas
 pub mod NextLemmas
+pub mod LeaderLemmas
 pub mod CallLemmas
 pub mod TableLemmas
 pub mod KeptLemmas

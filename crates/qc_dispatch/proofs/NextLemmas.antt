@@ -6,7 +6,7 @@ use Rattle.qc_dispatch.specs.declared.next.Next.{Next}
 use Rattle.qc_dispatch.specs.declared.stage.Stage.{Stage}
 use Rattle.qc_dispatch.specs.declared.stage.Stage.TheVariants.{Waiting, Running, Ended}
 use Rattle.qc_dispatch.specs.declared.waits.Wait.{Wait}
-use Rattle.qc_dispatch.specs.Course.{Course, MayStart, is_waiting, stage_of}
+use Rattle.qc_dispatch.specs.Course.{Course, MayFrom, MayStart, is_waiting, stage_of}
 use Rattle.qc_dispatch.specs.Kept.{AreKept, ComesBy, IsSoonest}
 use Rattle.qc_dispatch.specs.Waits.{IsFirst, IsNext, moment_of, sooner, wait_of, within}
 use Rattle.qc_dispatch.proofs.WaitLemmas.{due_by, may_from, none_open}
@@ -100,6 +100,20 @@ module _ (c : Course) (marks : List Bool) (waits : List Wait) (kept : AreKept c 
         is = cond-true _ _ _ (and_from (is_waiting (stage_of c j)) (wait.leaders == 0)
             (ap is_waiting may.waits) (eq-eqb wait.leaders 0 (none_open c marks waits kept m j may)));
         low = omega (arith, due_by c marks waits kept m j may);
+      }
+
+  -- when this task may start
+  pub may_start : (j : ℕ) → j < length c.inst.tasks → (o : Option ℕ) → moment j ≡ o → MayFrom c j o
+  may_start j inside None none = λ m from may. let some = may_moment m j from may in absurd (cc (none, some.is))
+  may_start j inside (Some at) is =
+      let then = moment_may at j inside is in
+      record {
+        from = then.later;
+        may = then.may;
+        soonest = λ m from may.
+            let some = may_moment m j from may in
+            let same : at ≡ some.moment = cc (is, some.is) in
+            omega (arith, some.low, same);
       }
 
   next_none : IsNext moment (length c.inst.tasks) None → (to : ℕ) → ComesBy c to None

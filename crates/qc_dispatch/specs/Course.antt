@@ -7,7 +7,7 @@ use Rattle.qc_dispatch.specs.declared.grant.NotRunning.{NotRunning}
 use Rattle.qc_dispatch.specs.Order.{Leads, free_of, gap}
 use Rattle.qc_model.specs.declared.schedule.Slot.{Slot}
 use Rattle.qc_model.specs.Instance.{InstanceView}
-use Rattle.qc_model.specs.Rules.{crane_of}
+use Rattle.qc_model.specs.Rules.{crane_of, start_of}
 
 -- the plan, the moment that it is, and how far each task is
 pub record Course : Type 0 where
@@ -71,6 +71,33 @@ pub record MayStart (c : Course) (moment j : ℕ) : Type 0 where
 -- no task may start now
 abbrev pub IsQuiet : Course → Type 0
 IsQuiet c = (j : ℕ) → ¬ MayStart c c.clock j
+
+-- the first moment from now on at which task j may start
+pub record IsEarliest (c : Course) (j moment : ℕ) : Type 0 where
+  pub from : c.clock ≤ moment
+  pub may : MayStart c moment j
+  pub soonest : (m : ℕ) → c.clock ≤ m → MayStart c m j → moment ≤ m
+
+-- when task j may start if nothing is reported before; none where it may at no moment from now on
+abbrev pub MayFrom : Course → ℕ → Option ℕ → Type 0
+MayFrom c j None = (m : ℕ) → c.clock ≤ m → ¬ MayStart c m j
+MayFrom c j (Some moment) = IsEarliest c j moment
+
+-- task i leads task j and has no end
+pub record KeepsOff (c : Course) (j i : ℕ) : Type 0 where
+  pub leads : Leads c.inst c.plan i j
+  pub no_end : end_at c i ≡ None
+
+-- of the tasks that keep task j off this is the first by the plan, and the lowest of those with one start there
+pub record IsAwaited (c : Course) (j i : ℕ) : Type 0 where
+  pub is : KeepsOff c j i
+  pub soonest : (k : ℕ) → KeepsOff c j k → start_of c.plan i ≤ start_of c.plan k
+  pub lowest : (k : ℕ) → k < i → KeepsOff c j k → start_of c.plan i < start_of c.plan k
+
+-- the task whose end task j waits for; none where no task keeps it off
+abbrev pub WaitsFor : Course → ℕ → Option ℕ → Type 0
+WaitsFor c j None = (i : ℕ) → ¬ KeepsOff c j i
+WaitsFor c j (Some i) = IsAwaited c j i
 
 -- the course as it goes on once this task starts at this moment
 abbrev pub started : Course → (moment task : ℕ) → Course

@@ -9,6 +9,7 @@ use Rattle.qc_dispatch.specs.Order.{Leads, free_of, gap}
 use Rattle.qc_model.specs.declared.limits.TheConstants.{MOST_TASKS}
 use Rattle.qc_model.specs.declared.schedule.Slot.{Slot}
 use Rattle.qc_model.specs.Instance.{InstanceView}
+use Rattle.qc_model.specs.Rules.{start_of}
 
 -- what a table of pairs of tasks holds for a pair
 abbrev pub mark : List Bool → ℕ → ℕ → Bool
@@ -27,6 +28,10 @@ is_open marks ends j i = mark marks i j && is_none (ends i)
 -- how many of the first n tasks do
 abbrev pub open_below : ℕ → List Bool → (ℕ → Option ℕ) → ℕ → ℕ
 open_below n marks ends j = count_by (is_open marks ends j) (range_with_len 0 n)
+
+-- when the plan starts task i, if that leads task j and has no end
+abbrev pub open_start : List Bool → (ℕ → Option ℕ) → List Slot → ℕ → ℕ → Option ℕ
+open_start marks ends plan j i = if is_open marks ends j i then Some (start_of plan i) else None
 
 -- by this moment the crane can be there, and those that lead task j and have an end ended long enough before
 pub record IsDueBy (inst : InstanceView) (plan : List Slot) (ends : ℕ → Option ℕ) (j moment : ℕ) : Type 0 where

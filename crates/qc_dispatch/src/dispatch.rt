@@ -4,12 +4,13 @@ ghost use Rattle.std.specs.Prelude.{◌≡◌, ◌<◌, ◌≤◌, IfNone, IfOk,
 ghost use Rattle.qc_model.specs.Rules.{Feasible};
 ghost use Rattle.qc_dispatch.specs.declared.stage.Stage.TheVariants.{Waiting};
 ghost use Rattle.qc_dispatch.specs.Calls.{Call, Reaches, opening};
-ghost use Rattle.qc_dispatch.specs.Course.{Course, IsAdvanced, IsQuiet, IsReported, end_at, left, past_moments, running, start_at};
+ghost use Rattle.qc_dispatch.specs.Course.{Course, IsAdvanced, IsQuiet, IsReported, MayFrom, WaitsFor, end_at, left, past_moments, running, start_at};
 ghost use Rattle.qc_dispatch.specs.Promises.{GoesOn, Keeps};
 ghost use Rattle.qc_dispatch.specs.Kept.{ComesBy};
 
 use crate::grant::{Grant, NotRunning};
-use crate::next::{Next, next_start, within};
+use crate::leader::first_open;
+use crate::next::{Next, moment_of, next_start, within};
 use crate::order::lead_marks;
 use crate::stage::Stage;
 use crate::waits::Waits;
@@ -185,5 +186,31 @@ impl Dispatch {
         ensures { result ≡ end_at self.now task }
     {
         self.stages[task as usize].end()
+    }
+
+    /// When a task may start if nothing is reported before; `None` exactly where it has a start or waits for another.
+    pub fn may_start(&self, task: u16) -> Option<Tick>
+        requires { task < length self.now.inst.tasks }
+        ensures { MayFrom self.now task result }
+    {
+        let wait = self.waits.items[task as usize];
+        moment_of(self.clock, self.stages[task as usize], wait)
+    }
+
+    /// The task whose end a task waits for: the first by the plan; `None` exactly where it waits for no task.
+    pub fn waits_for(&self, task: u16) -> Option<u16>
+        requires { task < length self.now.inst.tasks }
+        ensures { WaitsFor self.now task result }
+    {
+        let first = first_open(
+            self.stages.as_slice(),
+            self.slots.as_slice(),
+            self.marks.as_slice(),
+            task,
+        );
+        match first {
+            Some(next) => Some(next.task),
+            None => None,
+        }
     }
 }

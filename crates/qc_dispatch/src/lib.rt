@@ -8,6 +8,7 @@ mod follow;
 mod follower;
 mod grant;
 mod laws;
+mod leader;
 mod next;
 mod order;
 mod report;

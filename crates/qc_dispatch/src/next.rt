@@ -17,7 +17,7 @@ pub(crate) struct Next {
 }
 
 /// When a task may start from now on; `None` where it has a start or must wait for a leader's end.
-fn moment_of(now: Tick, stage: Stage, wait: Wait) -> Option<Tick>
+pub(crate) fn moment_of(now: Tick, stage: Stage, wait: Wait) -> Option<Tick>
     ensures { result ≡ moment_of now stage wait }
 {
     if stage.is_waiting() && wait.leaders == 0 {
@@ -28,7 +28,7 @@ fn moment_of(now: Tick, stage: Stage, wait: Wait) -> Option<Tick>
 }
 
 /// The earlier of two starts, and the first of them where they are at one moment.
-fn sooner(best: Option<Next>, task: u16, moment: Option<Tick>) -> Option<Next>
+pub(crate) fn sooner(best: Option<Next>, task: u16, moment: Option<Tick>) -> Option<Next>
     ensures { result ≡ sooner best task moment }
 {
     match (best, moment) {
