@@ -1,14 +1,36 @@
 //! Faults of a log of ticks and of tasks that are done.
 
+ghost use Rattle.std.specs.Prelude.{IfOk, IfSome};
+ghost use Rattle.qc_model.specs.Rules.{Feasible};
+
 use crate::log::{say_no_line, word};
 use qc_dispatch::{DispatchError, DispatchFault, DispatchKind, follow_log};
 use qc_gantt::{PlanError, read_plan};
-use qc_model::Instance;
+use qc_model::{Instance, Schedule};
 use qc_num::OutOfMemory;
 use qc_page::Part::{At, Shown, Text};
 use qc_page::{Page, Place, line_of, raw_line};
 use qc_run::broken_rule;
 use std::alloc::Global;
+
+/// The plan of a table; none where the table has a fault, or the plan breaks a rule.
+pub(crate) fn feasible_plan(
+    alloc: Global,
+    bytes: &[u8],
+    inst: &Instance,
+) -> Result<Option<Schedule>, OutOfMemory>
+    ensures { IfOk result (λ plan. IfSome plan (λ sched. Feasible inst.now sched)) }
+{
+    let sched = match read_plan(alloc, bytes, inst) {
+        Ok(sched) => sched,
+        Err(PlanError::Fault(_)) => return Ok(None),
+        Err(PlanError::OutOfMemory) => return Err(OutOfMemory),
+    };
+    if broken_rule(inst, &sched).is_some() {
+        return Ok(None);
+    }
+    Ok(Some(sched))
+}
 
 /// The first fault of a log by which a plan is followed.
 fn fault_of(
@@ -17,14 +39,9 @@ fn fault_of(
     inst: &Instance,
     plan: &[u8],
 ) -> Result<Option<DispatchFault>, OutOfMemory> {
-    let sched = match read_plan(alloc, plan, inst) {
-        Ok(sched) => sched,
-        Err(PlanError::Fault(_)) => return Ok(None),
-        Err(PlanError::OutOfMemory) => return Err(OutOfMemory),
-    };
-    if broken_rule(inst, &sched).is_some() {
+    let Some(sched) = feasible_plan(alloc, plan, inst)? else {
         return Ok(None);
-    }
+    };
     match follow_log(alloc, inst, &sched, bytes) {
         Ok(_) => Ok(None),
         Err(DispatchError::Fault(fault)) => Ok(Some(fault)),

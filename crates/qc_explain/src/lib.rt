@@ -9,6 +9,7 @@ mod doing;
 mod log;
 mod plan;
 mod tree;
+mod waits;
 
 pub use answer::{say_infeasible, say_spent};
 pub use broken::say_broken;
@@ -16,3 +17,4 @@ pub use course::say_course;
 pub use log::say_log;
 pub use plan::say_plan;
 pub use tree::say_tree;
+pub use waits::say_waits;

@@ -4,7 +4,9 @@ ghost use Rattle.qc_io.specs.Outside.{beside};
 ghost use Rattle.qc_voice.specs.Frame.{LeavesFiles};
 
 use crate::texts::{Names, Text, Texts, names_of, read_text, read_texts};
-use qc_explain::{say_broken, say_course, say_infeasible, say_log, say_plan, say_spent, say_tree};
+use qc_explain::{
+    say_broken, say_course, say_infeasible, say_log, say_plan, say_spent, say_tree, say_waits,
+};
 use qc_hints::{counts_decimetres, say_notes, say_ship, say_stow, say_usage};
 use qc_io::{Shelf, Sink, put_all};
 use qc_model::{Instance, Turn};
@@ -143,6 +145,17 @@ fn say_bad_log(page: &mut Page, names: &Names<'_>, texts: &Texts) -> Result<(), 
     }
 }
 
+/// Says what cranes wait for, where a plan was followed by a log.
+fn say_what_waits(page: &mut Page, texts: &Texts) -> Result<(), OutOfMemory> {
+    let (Some(plan), Some(log)) = (texts.plan.bytes(), texts.log.bytes()) else {
+        return Ok(());
+    };
+    match instance_of(page.alloc(), texts)? {
+        Some(inst) => say_waits(page, log, &inst, plan),
+        None => Ok(()),
+    }
+}
+
 /// Says what is wrong with the plan, as a table or, where that is in order, as a plan that is worked.
 fn say_bad_plan(
     page: &mut Page,
@@ -231,8 +244,13 @@ fn say_texts(
             say_ship_notes(page, names, texts)?;
             say_planless(page, names, texts, ended)
         }
-        Status::Optimal | Status::Done | Status::BudgetPlan | Status::Weaker | Status::Breach =>
-            say_ship_notes(page, names, texts),
+        Status::Done => {
+            say_ship_notes(page, names, texts)?;
+            say_what_waits(page, texts)
+        }
+        Status::Optimal | Status::BudgetPlan | Status::Weaker | Status::Breach => {
+            say_ship_notes(page, names, texts)
+        }
     }
 }
 
