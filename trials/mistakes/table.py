@@ -622,6 +622,17 @@ MISTAKES = [
            ['qc: happened.txt, line 2: "2-LH" is no task of this ship and list; qc tasks tells their names']),
     course("a task that is done twice", [("tick 2\n", "done 2-DD\n")], "BadLog NotRunning 3",
            ['qc: happened.txt, line 3: "2-DD" doesn\'t run then: a task is done once, and after its start was told']),
+    # ---- what cranes wait for by the log; of restows 2-DD and 14-DD are apart, and 10-LD is too near to 14-DD
+    course("a crane that may begin soon", "tick 20\ndone 2-DD\n", "start 2-DD C1 0",
+           ["qc: note: C1 may begin 6-DD at tick 21"], status=0),
+    course("a crane that waits for a task that runs", "tick 5\n", "start 2-DD C1 0",
+           ["qc: note: C2 waits with 14-DD until C1 is through with 2-DD, which runs"], base="restows", status=0),
+    course("a crane that waits for one that waits itself", "tick 20\ndone 2-DD\n", "start 2-DD C1 0",
+           ["qc: note: C1 may begin 10-LD at tick 22",
+            "qc: note: C2 waits with 14-DD until C1 is through with 10-LD, which has no start either"], base="restows",
+           status=0),
+    course("the last crane at work", "tick 20\ndone 2-DD\ntick 2\ndone 10-LD\ntick 1\n", "start 2-DD C1 0", [],
+           base="restows", status=0),
     # ---- the words
     usage("no LOG", "dispatch ship.toml stow.csv plan.csv",
           ["qc: dispatch needs LOG too; the words are", "qc:     qc dispatch SHIP STOW PLAN LOG"]),
