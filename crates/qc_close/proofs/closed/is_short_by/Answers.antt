@@ -89,7 +89,7 @@ returns-then-are_same c =
     short_alike inst (way_frame inst c.args.turn cranes) (barred_frame inst c.args.turn cranes) c.crane_count-count.result
     c.way_frames-ways.result c.frames-frames.result c.first_frames.result.now c.first_frames-usual.result.now
     c.crane_count-count.ensures.count c.first_frames.ensures c.first_frames-usual.ensures ways c.frames-frames.ensures.frames
-    (c.are_same.ensures c.if-are_same.true) cranes (last_before (grain inst) c.args.end) in
+    (c.are_same.ensures.0 c.if-are_same.true) cranes (last_before (grain inst) c.args.end) in
     sym (ap (λ b. b || is_short_along inst c.args.turn cranes c.args.end) open_at ∙ along ∙ open_at)
 
 pub returns : goal.returns
