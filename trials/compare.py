@@ -32,8 +32,8 @@ from freely import random_part as random_free_part
 from judges import SearchJudge, first_unsafe, given_told, is_tight, tight_form
 from packed import bare, least_feasible_end
 from picture import answer as drawing, tracks_of
-from reference import (NEVER, TreeFault, TreeReader, bound_text, check_report, crane_lines, direction_of, dispatch_report,
-                       end_of, instance_of, least_end, motion_of, plan_text, read_log, read_plan, read_ship, refusal,
+from reference import (NEVER, TreeFault, TreeReader, bound_text, check_report, crane_lines, direction_of, dispatch_notes,
+                       dispatch_report, end_of, instance_of, least_end, motion_of, plan_text, read_log, read_plan, read_ship, refusal,
                        sheet_report, show_report, tasks_report, too_near, watch_report)
 from ships import (Maker, changed_plans, changed_trees, dense_files, happenings, reported, reported_along, slowed,
                    spoilt_happenings, spoilt_places, text_of)
@@ -127,7 +127,7 @@ class Case:
 
     def run(self, *words):
         done = subprocess.run([self.program, *words], cwd=self.folder, capture_output=True, timeout=300)
-        lines = done.stdout.decode().splitlines()
+        lines, self.said = done.stdout.decode().splitlines(), done.stderr.decode().splitlines()
         first = lines[0].split() if lines else [""]
         kind = " ".join(first[:2] if first[0] in ("Broken", "BadPlan", "BadTree", "BadLog", "direction") else first[:1])
         kind = kind if words[0] not in ("tasks", "sheet", "dispatch", "picture", "report") or done.returncode else ""
@@ -297,6 +297,9 @@ class Case:
             log = b"".join(line + b"\n" for line in lines)
         self.write("log", log)
         self.expect("dispatch", self.run("dispatch", "ship", "stow", "plan.csv", "log"), dispatch_report(self.inst, plan, log))
+        notes = [line.removeprefix("qc: note: ") for line in self.said if " waits with " in line or " may begin " in line]
+        self.counts["notes of what cranes wait for"] += len(notes)
+        self.expect("what cranes wait for", notes, dispatch_notes(self.inst, plan, log))
 
     # ------------------------------------------------ plans to and fro
 

@@ -1070,31 +1070,60 @@ class Course:
         self.settle()
         return True
 
+    def notes(self):
+        """What each crane waits for that does no task and has some left."""
+        for number, crane in enumerate(self.inst.cranes):
+            own = [j for j, (v, _) in enumerate(self.plan) if v == number]
+            left = [j for j in own if self.start[j] is None]
+            if not left or any(self.start[j] is not None and self.end[j] is None for j in own):
+                continue
+            task = min(left, key=lambda j: self.plan[j][1])
+            name = self.inst.tasks[task].name
+            ahead = [i for i, _ in self.leaders[task] if self.end[i] is None]
+            if ahead:
+                first = min(ahead, key=lambda i: (self.plan[i][1], i))
+                how = "runs" if self.start[first] is not None else "has no start either"
+                yield (f"{crane.name} waits with {name} until {self.inst.cranes[self.plan[first][0]].name}"
+                       f" is through with {self.inst.tasks[first].name}, which {how}")
+            else:
+                at = max([self.now, self.free[task]] + [self.end[i] + gap for i, gap in self.leaders[task]])
+                yield f"{crane.name} may begin {name} at tick {at}"
+
 
 def dispatch_report(inst, data, log):
+    return follow(inst, data, log)[:2]
+
+
+def dispatch_notes(inst, data, log):
+    course = follow(inst, data, log)[2]
+    return list(course.notes()) if course else []
+
+
+def follow(inst, data, log):
+    """The status and the report, and the course where the log has no fault."""
     plan, fault = read_plan(inst, data)
     if fault:
-        return 8, [f"BadPlan {fault[0]} {fault[1]}"]
+        return 8, [f"BadPlan {fault[0]} {fault[1]}"], None
     broken = next(breaks_up(inst, plan), ("OneWay",))
     if broken[0] != "OneWay":
-        return 13, [" ".join(["Broken", broken[0]] + [inst.tasks[j].name for j in broken[1:]])]
+        return 13, [" ".join(["Broken", broken[0]] + [inst.tasks[j].name for j in broken[1:]])], None
     course, names = Course(inst, plan), {task.name.encode(): j for j, task in enumerate(inst.tasks)}
     *lines, cut = log.split(b"\n")
     for number, line in enumerate(lines + [cut] * (cut != b""), 1):
         ticks = re.fullmatch(b"tick ([1-9][0-9]{0,8})", line)
         done = re.fullmatch(b"done ([^ ]+)", line, re.DOTALL)
         if number > 100_000:
-            return 17, [f"BadLog TooMany {number}"]
+            return 17, [f"BadLog TooMany {number}"], None
         if number > len(lines) or not (ticks or done):
-            return 17, [f"BadLog Line {number}"]
+            return 17, [f"BadLog Line {number}"], None
         if ticks:
             course.tick(int(ticks[1]))
         elif done[1] not in names:
-            return 17, [f"BadLog UnknownTask {number}"]
+            return 17, [f"BadLog UnknownTask {number}"], None
         elif not course.done(names[done[1]]):
-            return 17, [f"BadLog NotRunning {number}"]
+            return 17, [f"BadLog NotRunning {number}"], None
     running = sum(s is not None and e is None for s, e in zip(course.start, course.end))
-    return 0, course.told + [f"now {course.now}", f"left {course.start.count(None)}", f"running {running}"]
+    return 0, course.told + [f"now {course.now}", f"left {course.start.count(None)}", f"running {running}"], course
 
 
 def dump(inst):
