@@ -8,7 +8,7 @@ use qc_num::{Bay, Bound, Tick};
 use qc_starts::Step;
 
 /// Calls on an instance and on decisions for it, one after the other.
-#[derive(Clone, Copy, Debug)]
+#[derive(Clone, Copy)]
 pub struct CallRow {
     /// What the row shows.
     pub name: &'static str,
@@ -21,7 +21,7 @@ pub struct CallRow {
 }
 
 /// A call, with what it must answer as the last part. Tasks and cranes are counted from 0.
-#[derive(Clone, Copy, Debug)]
+#[derive(Clone, Copy)]
 pub enum Call {
     /// Makes the decision.
     Add(Decision),
@@ -51,7 +51,7 @@ pub enum Call {
 }
 
 /// Calls on the least starts of nodes, one after the other.
-#[derive(Clone, Copy, Debug)]
+#[derive(Clone, Copy)]
 pub struct StartsRow {
     /// What the row shows.
     pub name: &'static str,
@@ -66,7 +66,7 @@ pub struct StartsRow {
 }
 
 /// A call of the least starts, with what it must answer as the last part.
-#[derive(Clone, Copy, Debug)]
+#[derive(Clone, Copy)]
 pub enum StartsCall {
     /// Makes the decision.
     Decide(Decision, Step),
@@ -96,7 +96,7 @@ pub enum StartsCall {
 }
 
 /// Calls of a dispatcher, one after the other.
-#[derive(Clone, Copy, Debug)]
+#[derive(Clone, Copy)]
 pub struct DispatchRow {
     /// What the row shows.
     pub name: &'static str,
@@ -111,7 +111,7 @@ pub struct DispatchRow {
 }
 
 /// A call of a dispatcher, with what it must answer as the last part.
-#[derive(Clone, Copy, Debug)]
+#[derive(Clone, Copy)]
 pub enum DispatchCall {
     /// Goes on to the next start, until this tick at the most.
     Advance(Tick, Option<Grant>),

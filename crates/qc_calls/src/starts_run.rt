@@ -17,6 +17,27 @@ use std::alloc::Global;
 use std::marker::Brand;
 use std::sync::ledger::{Blank, Ledger};
 
+// Makes the calls, one after the other.
+fn run_on<L: Ledger>(
+    alloc: Global,
+    starts: &mut Starts,
+    calls: &[StartsCall],
+    steps: &mut Steps<L>,
+) -> Result<Verdict, OutOfMemory>
+    ensures { IfOk result
+        (λ verdict. IsHeld verdict → AreStartsAnswered starts.old.inst starts.old.decisions calls.now) }
+{
+    for (number, call) in calls.iter().enumerate() {
+        if !can_be_made(starts, *call) {
+            return failed_at(alloc, number, "can't be made");
+        }
+        if !answers(alloc, starts, *call, steps)? {
+            return failed_at(alloc, number, "answers otherwise");
+        }
+    }
+    Ok(Verdict::Held)
+}
+
 fn run<L: Ledger>(
     alloc: Global,
     inst: &Instance,
@@ -30,15 +51,9 @@ fn run<L: Ledger>(
 {
     let mut steps = Steps::<L>::new(blank);
     let mut starts = Starts::open(alloc, inst)?;
-    for (number, call) in calls.iter().enumerate() {
-        if !can_be_made(&starts, *call) {
-            return failed_at(alloc, number, "can't be made");
-        }
-        if !answers(alloc, &mut starts, *call, &mut steps)? {
-            return failed_at(alloc, number, "answers otherwise");
-        }
-    }
-    Ok(Verdict::Held)
+    let verdict = run_on(alloc, &mut starts, calls, &mut steps);
+    drop(starts);
+    verdict
 }
 
 fn run_counted(alloc: Global, inst: &Instance, calls: &[StartsCall]) -> Result<Verdict, OutOfMemory>
