@@ -8,7 +8,7 @@
         with the answer that it has, or with `search rules`. A goal that takes seconds so, and that search doesn't close,
         is often closed at once by `grind (arith, common_steps)`.
 
-The crates below must be built as they are now: `package/build-program CRATE`, or `rt lib` in the crate. Nothing in the
+The crates below must be built as they are now, by `package/build-program CRATE`. Nothing in the
 checkout is changed. The toolchain writes a file for each module as it ends with it, so the times of these files tell what
 each took, with what it was the first to load: some seconds for the first of a run, and for the first that uses a tactic.
 """
@@ -48,7 +48,7 @@ def below(crate, uses):
 def rattle(crate, folder, words):
     """Checks a crate whose sources stand in a folder, over the libraries as they are built, and gives what is printed."""
     uses = crates()
-    built = {it: ROOT / f"crates/{it}/out/rlib/{it}.rlib" for it in below(crate, uses)}
+    built = {it: ROOT / f"out/libraries/{it}.rlib" for it in below(crate, uses)}
     missing = [it for it, at in built.items() if not (at / "format").exists()]
     if missing:
         sys.exit(f"dear.py: build these first: {' '.join(missing)}")
