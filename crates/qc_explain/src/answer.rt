@@ -2,8 +2,6 @@
 
 use crate::broken::is_reached;
 use qc_model::{Instance, Task, Turn};
-use qc_num::OutOfMemory;
-use qc_page::Part::Text;
 use qc_page::{Page, text_of};
 
 /// The first task that lies where no crane comes.
@@ -17,26 +15,30 @@ fn out_of_reach(inst: &Instance) -> Option<Task> {
 }
 
 /// Says why an instance has no plan, or where one may be found.
-pub fn say_infeasible(page: &mut Page, inst: &Instance) -> Result<(), OutOfMemory> {
+pub fn say_infeasible(page: &mut Page, inst: &Instance) {
     if let Some(task) = out_of_reach(inst) {
         let name = task.text();
-        return page.say(&[
-            Text("note: "),
-            Text(text_of(name.as_bytes())),
-            Text(" lies where no crane comes, by from and to of the ship file"),
-        ]);
+        return page
+            .line()
+            .text("note: ")
+            .text(text_of(name.as_bytes()))
+            .text(" lies where no crane comes, by from and to of the ship file")
+            .end();
     }
     match inst.turn() {
-        Turn::OneWay => page.say(&[Text(
-            "note: no plan goes one way; qc free looks for one in which cranes go to and fro",
-        )]),
-        Turn::Free => Ok(()),
+        Turn::OneWay => page
+            .line()
+            .text("note: no plan goes one way; qc free looks for one in which cranes go to and fro")
+            .end(),
+        Turn::Free => {}
     }
 }
 
 /// Says what may find a plan where none was found with the branchings that were allowed.
-pub fn say_spent(page: &mut Page) -> Result<(), OutOfMemory> {
-    page.say(&[Text(
-        "note: no plan was found yet: --nodes N allows up to 100000 branchings, and --from OWN begins with a plan of yours",
-    )])
+pub fn say_spent(page: &mut Page) {
+    page.line()
+        .text(
+            "note: no plan was found yet: --nodes N allows up to 100000 branchings, and --from OWN begins with a plan of yours",
+        )
+        .end()
 }

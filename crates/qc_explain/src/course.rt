@@ -8,7 +8,6 @@ use qc_dispatch::{DispatchError, DispatchFault, DispatchKind, follow_log};
 use qc_gantt::{PlanError, read_plan};
 use qc_model::{Instance, Schedule};
 use qc_num::OutOfMemory;
-use qc_page::Part::{At, Shown, Text};
 use qc_page::{Page, Place, line_of, raw_line};
 use qc_run::broken_rule;
 use std::alloc::Global;
@@ -51,15 +50,9 @@ fn fault_of(
 
 /// Says what is wrong with a log of ticks and of tasks that are done, by which a plan of an instance is followed. Says
 /// nothing where the log is in order, or the plan has a fault.
-pub fn say_course<'a>(
-    page: &mut Page,
-    file: &'a str,
-    bytes: &'a [u8],
-    inst: &Instance,
-    plan: &[u8],
-) -> Result<(), OutOfMemory> {
-    let Some(fault) = fault_of(page.alloc(), bytes, inst, plan)? else {
-        return Ok(());
+pub fn say_course(page: &mut Page, file: &str, bytes: &[u8], inst: &Instance, plan: &[u8]) {
+    let Some(Some(fault)) = page.unless_short(fault_of(page.alloc(), bytes, inst, plan)) else {
+        return;
     };
     let number = fault.line as usize;
     let (place, name) = (
@@ -67,26 +60,29 @@ pub fn say_course<'a>(
         word(line_of(bytes, number), 1),
     );
     match fault.kind {
-        DispatchKind::TooMany => page.say(&[
-            At(place),
-            Text(": this is a line behind the 100000th, and a log has no more"),
-        ]),
+        DispatchKind::TooMany => page
+            .line()
+            .at(place)
+            .text(": this is a line behind the 100000th, and a log has no more")
+            .end(),
         DispatchKind::Line => {
             let why = why_no_line(raw_line(bytes, number));
             say_no_line(page, place, bytes, why, "tick N or done TASK, as done 2-DD")
         }
-        DispatchKind::UnknownTask => page.say(&[
-            At(place),
-            Text(": "),
-            Shown(name),
-            Text(" is no task of this ship and list; qc tasks tells their names"),
-        ]),
-        DispatchKind::NotRunning => page.say(&[
-            At(place),
-            Text(": "),
-            Shown(name),
-            Text(" doesn't run then: a task is done once, and after its start was told"),
-        ]),
+        DispatchKind::UnknownTask => page
+            .line()
+            .at(place)
+            .text(": ")
+            .shown(name)
+            .text(" is no task of this ship and list; qc tasks tells their names")
+            .end(),
+        DispatchKind::NotRunning => page
+            .line()
+            .at(place)
+            .text(": ")
+            .shown(name)
+            .text(" doesn't run then: a task is done once, and after its start was told")
+            .end(),
     }
 }
 

@@ -2,30 +2,44 @@
 
 use qc_model::Crane;
 use qc_num::OutOfMemory;
-use qc_page::Part::{At, Shown, Text};
 use qc_page::{Page, Place, nearest, text_of};
+use std::alloc::Global;
+
+/// The name of a crane.
+fn name_of(crane: &Crane) -> &str {
+    text_of(crane.name.as_bytes())
+}
+
+/// The nearest name of a crane.
+fn nearest_crane<'a>(
+    alloc: Global,
+    name: &str,
+    cranes: &'a [Crane],
+) -> Result<Option<&'a str>, OutOfMemory> {
+    let mut names = Vec::new(alloc);
+    for crane in cranes {
+        names.push(name_of(crane))?;
+    }
+    nearest(alloc, name, names.as_slice())
+}
 
 /// Says that a name is that of no crane.
-pub(crate) fn say_no_crane<'a>(
-    page: &mut Page,
-    place: Place<'a>,
-    name: &'a [u8],
-    cranes: &'a [Crane],
-) -> Result<(), OutOfMemory> {
-    let alloc = page.alloc();
-    let mut names = Vec::new(alloc);
-    let mut list = String::new(alloc);
+pub(crate) fn say_no_crane(page: &mut Page, place: Place<'_>, name: &[u8], cranes: &[Crane]) {
+    let near = nearest_crane(page.alloc(), text_of(name).trim(), cranes);
+    let Some(near) = page.unless_short(near) else {
+        return;
+    };
+    page.line()
+        .at(place)
+        .text(": no crane is named ")
+        .shown(name);
+    if let Some(near) = near {
+        return page.text("; the nearest is ").text(near).end();
+    }
+    let mut between = "; the cranes are ";
     for crane in cranes {
-        let name = text_of(crane.name.as_bytes());
-        if !list.is_empty() {
-            list.push_str(", ")?;
-        }
-        list.push_str(name)?;
-        names.push(name)?;
+        page.text(between).text(name_of(crane));
+        between = ", ";
     }
-    page.begin(&[At(place), Text(": no crane is named "), Shown(name)])?;
-    match nearest(alloc, text_of(name).trim(), names.as_slice())? {
-        Some(near) => page.end(&[Text("; the nearest is "), Text(near)]),
-        None => page.end(&[Text("; the cranes are "), Text(list.as_str())]),
-    }
+    page.end()
 }

@@ -1,9 +1,8 @@
 //! A task as a plan has it done.
 
 use qc_model::{Crane, Instance, Schedule, Task, TaskText};
-use qc_num::{Bay, OutOfMemory, Tick};
-use qc_page::Part::{Count, Text, Word};
-use qc_page::{Page, Part, Place, Table, text_of};
+use qc_num::{Bay, Tick};
+use qc_page::{Page, Place, Table, text_of};
 
 /// A task as a plan has it done.
 #[derive(Drop)]
@@ -48,8 +47,8 @@ fn place_of<'a>(table: &Table<'a>, task: Task) -> Place<'a> {
 
 impl<'a> Doing<'a> {
     /// The task's name.
-    pub(crate) fn name(&self) -> Part<'_> {
-        Text(text_of(self.name.as_bytes()))
+    pub(crate) fn name(&self) -> &str {
+        text_of(self.name.as_bytes())
     }
 
     /// The bay of the task.
@@ -63,45 +62,40 @@ impl<'a> Doing<'a> {
     }
 
     /// The name of the crane that does it.
-    pub(crate) fn crane_name(&self) -> Part<'a> {
-        Word(text_of(self.crane.name.as_bytes()))
+    pub(crate) fn crane_name(&self) -> &'a str {
+        text_of(self.crane.name.as_bytes())
     }
 
     /// Goes on with the task, its crane and its start.
-    pub(crate) fn add_from_start(&self, page: &mut Page) -> Result<(), OutOfMemory> {
-        page.add(&[
-            self.name(),
-            Text(" ("),
-            self.crane_name(),
-            Text(", from "),
-            Count(self.start),
-            Text(")"),
-        ])
+    pub(crate) fn add_from_start(&self, page: &mut Page) {
+        page.text(self.name())
+            .text(" (")
+            .word(self.crane_name())
+            .text(", from ")
+            .count(self.start)
+            .text(")");
     }
 
     /// Goes on with the task, its crane and its end.
-    pub(crate) fn add_to_end(&self, page: &mut Page) -> Result<(), OutOfMemory> {
-        page.add(&[
-            self.name(),
-            Text(" ("),
-            self.crane_name(),
-            Text(", to "),
-            Count(self.end()),
-            Text(")"),
-        ])
+    pub(crate) fn add_to_end(&self, page: &mut Page) {
+        page.text(self.name())
+            .text(" (")
+            .word(self.crane_name())
+            .text(", to ")
+            .count(self.end())
+            .text(")");
     }
 
     /// Ends the line: the task may start at this tick.
-    pub(crate) fn end_with_start(&self, page: &mut Page, start: Tick) -> Result<(), OutOfMemory> {
-        page.end(&[
-            Text(": "),
-            self.name(),
-            Text(" may start at "),
-            Count(start),
-            Text(", and ends at "),
-            Count(start.saturating_add(self.task.ticks)),
-            Text(" then"),
-        ])
+    pub(crate) fn end_with_start(&self, page: &mut Page, start: Tick) {
+        page.text(": ")
+            .text(self.name())
+            .text(" may start at ")
+            .count(start)
+            .text(", and ends at ")
+            .count(start.saturating_add(self.task.ticks))
+            .text(" then")
+            .end()
     }
 }
 

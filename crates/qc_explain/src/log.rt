@@ -2,7 +2,6 @@
 
 use crate::cranes::say_no_crane;
 use qc_num::OutOfMemory;
-use qc_page::Part::{At, Count, Shown, Text};
 use qc_page::{Page, Place, are_digits, line_of, piece_at, raw_line};
 use qc_ship::Ship;
 use qc_watch::{WatchError, WatchFault, WatchKind, read_reports};
@@ -18,22 +17,18 @@ fn fault_of(alloc: Global, bytes: &[u8], ship: &Ship) -> Result<Option<WatchFaul
 }
 
 /// Says what is wrong with a log of the places of a ship's cranes. Says nothing where it is in order.
-pub fn say_log<'a>(
-    page: &mut Page,
-    file: &'a str,
-    bytes: &'a [u8],
-    ship: &'a Ship,
-) -> Result<(), OutOfMemory> {
-    let Some(fault) = fault_of(page.alloc(), bytes, ship)? else {
-        return Ok(());
+pub fn say_log(page: &mut Page, file: &str, bytes: &[u8], ship: &Ship) {
+    let Some(Some(fault)) = page.unless_short(fault_of(page.alloc(), bytes, ship)) else {
+        return;
     };
     let number = fault.line as usize;
     let place = Place::at_line(file, number);
     match fault.kind {
-        WatchKind::TooMany => page.say(&[
-            At(place),
-            Text(": this is a line behind the 200000th, and a log has no more"),
-        ]),
+        WatchKind::TooMany => page
+            .line()
+            .at(place)
+            .text(": this is a line behind the 200000th, and a log has no more")
+            .end(),
         WatchKind::Line => {
             let why = why_no_line(raw_line(bytes, number));
             say_no_line(page, place, bytes, why, "TIME NAME PLACE, as 10 C1 5")
@@ -83,26 +78,20 @@ fn why_no_line(line: &[u8]) -> &'static str {
 }
 
 /// Says why a line is none of a log, or that the log was cut off in it, and what a line is.
-pub(crate) fn say_no_line<'a>(
-    page: &mut Page,
-    place: Place<'a>,
-    bytes: &'a [u8],
-    why: &'a str,
-    form: &'a str,
-) -> Result<(), OutOfMemory> {
-    page.say(&[
-        At(place),
-        Text(": "),
-        Shown(line_of(bytes, place.line)),
-        Text(": "),
-        Text(if is_open(bytes, place.line) {
+pub(crate) fn say_no_line(page: &mut Page, place: Place<'_>, bytes: &[u8], why: &str, form: &str) {
+    page.line()
+        .at(place)
+        .text(": ")
+        .shown(line_of(bytes, place.line))
+        .text(": ")
+        .text(if is_open(bytes, place.line) {
             "no line feed ends it: the log was cut off, or its last line has none"
         } else {
             why
-        }),
-        Text("; a line is "),
-        Text(form),
-    ])
+        })
+        .text("; a line is ")
+        .text(form)
+        .end()
 }
 
 /// The last line ahead of this one that has the name as its second word; 0 where there is none.
@@ -121,21 +110,21 @@ fn last_before(bytes: &[u8], number: usize, name: &[u8]) -> usize {
 }
 
 /// Says which earlier line of the crane has a time that isn't lower.
-fn say_time<'a>(page: &mut Page, place: Place<'a>, bytes: &'a [u8]) -> Result<(), OutOfMemory> {
+fn say_time(page: &mut Page, place: Place<'_>, bytes: &[u8]) {
     let line = line_of(bytes, place.line);
     let (time, name) = (word(line, 0), word(line, 1));
     let earlier = last_before(bytes, place.line, name);
     let before = word(line_of(bytes, earlier), 0);
-    page.say(&[
-        At(place),
-        Text(": the time of "),
-        Shown(name),
-        Text(" is "),
-        Shown(time),
-        Text(", and in line "),
-        Count(earlier as u64),
-        Text(" it was "),
-        Shown(before),
-        Text(" already; the lines of each crane stand in order of time"),
-    ])
+    page.line()
+        .at(place)
+        .text(": the time of ")
+        .shown(name)
+        .text(" is ")
+        .shown(time)
+        .text(", and in line ")
+        .count(earlier as u64)
+        .text(" it was ")
+        .shown(before)
+        .text(" already; the lines of each crane stand in order of time")
+        .end()
 }

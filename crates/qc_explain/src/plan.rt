@@ -4,7 +4,6 @@ use crate::cranes::say_no_crane;
 use qc_gantt::{PlanError, PlanFault, PlanKind, read_plan};
 use qc_model::{Instance, Task};
 use qc_num::{OutOfMemory, plain_number};
-use qc_page::Part::{At, Count, Shown, Text, Ticks, Word};
 use qc_page::{Page, Sort, Table, is_blank, say_fields, say_header, table_of, text_of};
 use std::alloc::Global;
 
@@ -27,16 +26,14 @@ fn fault_of(
 }
 
 /// Says what is wrong with the table of a plan of an instance. Says nothing where it is in order.
-pub fn say_plan<'a>(
-    page: &mut Page,
-    file: &'a str,
-    bytes: &'a [u8],
-    inst: &'a Instance,
-) -> Result<(), OutOfMemory> {
-    let Some(fault) = fault_of(page.alloc(), bytes, inst)? else {
-        return Ok(());
+pub fn say_plan(page: &mut Page, file: &str, bytes: &[u8], inst: &Instance) {
+    let Some(Some(fault)) = page.unless_short(fault_of(page.alloc(), bytes, inst)) else {
+        return;
     };
-    let table = table_of(page.alloc(), file, bytes, fault.number)?;
+    let table = table_of(page.alloc(), file, bytes, fault.number);
+    let Some(table) = page.unless_short(table) else {
+        return;
+    };
     let number = fault.number;
     match fault.kind {
         PlanKind::Header => say_header(page, &table, HEADER, Sort::Plan),
@@ -69,35 +66,35 @@ fn task_like<'a>(inst: &'a Instance, field: &[u8]) -> Option<&'a Task> {
 }
 
 /// Says that a plan has a task that the list hasn't.
-fn say_task<'a>(
-    page: &mut Page,
-    table: &'a Table<'a>,
-    number: u32,
-    inst: &Instance,
-) -> Result<(), OutOfMemory> {
+fn say_task(page: &mut Page, table: &Table<'_>, number: u32, inst: &Instance) {
     let (place, field) = (table.place(number), table.field(number, 0));
     if is_blank(table, number) {
-        return page.say(&[At(place), Text(": the record is empty: delete the line")]);
+        return page
+            .line()
+            .at(place)
+            .text(": the record is empty: delete the line")
+            .end();
     }
     match task_like(inst, field) {
         Some(task) => {
             let name = task.text();
-            page.say(&[
-                At(place),
-                Text(": the task "),
-                Shown(field),
-                Text(" is written "),
-                Text(text_of(name.as_bytes())),
-            ])
+            page.line()
+                .at(place)
+                .text(": the task ")
+                .shown(field)
+                .text(" is written ")
+                .text(text_of(name.as_bytes()))
+                .end()
         }
-        None => page.say(&[
-            At(place),
-            Text(": the ship file and the list have no task "),
-            Shown(field),
-            Text(
+        None => page
+            .line()
+            .at(place)
+            .text(": the ship file and the list have no task ")
+            .shown(field)
+            .text(
                 "; a task is a hatch and DD, DH, LH or LD, as 2-DD, and qc tasks SHIP STOW prints all of them",
-            ),
-        ]),
+            )
+            .end(),
     }
 }
 
@@ -123,65 +120,60 @@ fn why_no_number(field: &[u8]) -> &'static str {
 }
 
 /// Says which time of a record is none.
-fn say_number<'a>(page: &mut Page, table: &'a Table<'a>, number: u32) -> Result<(), OutOfMemory> {
+fn say_number(page: &mut Page, table: &Table<'_>, number: u32) {
     let (start, end) = (table.field(number, 2), table.field(number, 3));
     let (name, field) = if plain_number(start, DIGITS).is_none() {
         ("start", start)
     } else {
         ("end", end)
     };
-    page.say(&[
-        At(table.place(number)),
-        Text(": the "),
-        Text(name),
-        Text(" is "),
-        Shown(field),
-        Text(": "),
-        Text(why_no_number(field)),
-        Text("; it is a tick in 1 to 12 digits, without a leading 0"),
-    ])
+    page.line()
+        .at(table.place(number))
+        .text(": the ")
+        .text(name)
+        .text(" is ")
+        .shown(field)
+        .text(": ")
+        .text(why_no_number(field))
+        .text("; it is a tick in 1 to 12 digits, without a leading 0")
+        .end()
 }
 
 /// Says which end a task has.
-fn say_end<'a>(
-    page: &mut Page,
-    table: &'a Table<'a>,
-    number: u32,
-    inst: &Instance,
-) -> Result<(), OutOfMemory> {
+fn say_end(page: &mut Page, table: &Table<'_>, number: u32, inst: &Instance) {
     let (Some(task), Some(start)) = (
         task_like(inst, table.field(number, 0)),
         plain_number(table.field(number, 2), DIGITS),
     ) else {
-        return Ok(());
+        return;
     };
-    page.say(&[
-        At(table.place(number)),
-        Text(": the task takes "),
-        Ticks(task.ticks),
-        Text(", so from "),
-        Count(start),
-        Text(" on it ends at "),
-        Count(start.saturating_add(task.ticks)),
-        Text(", and not at "),
-        Word(text_of(table.field(number, 3))),
-    ])
+    page.line()
+        .at(table.place(number))
+        .text(": the task takes ")
+        .ticks(task.ticks)
+        .text(", so from ")
+        .count(start)
+        .text(" on it ends at ")
+        .count(start.saturating_add(task.ticks))
+        .text(", and not at ")
+        .word(text_of(table.field(number, 3)))
+        .end()
 }
 
 /// Says where a task stands already.
-fn say_twice<'a>(page: &mut Page, table: &'a Table<'a>, number: u32) -> Result<(), OutOfMemory> {
+fn say_twice(page: &mut Page, table: &Table<'_>, number: u32) {
     let name = table.field(number, 0);
     let Some(other) = table.record_of(name) else {
-        return Ok(());
+        return;
     };
-    page.say(&[
-        At(table.place(number)),
-        Text(": the task "),
-        Shown(name),
-        Text(" stands in line "),
-        Count(table.place(other).line as u64),
-        Text(" already; each task has one record"),
-    ])
+    page.line()
+        .at(table.place(number))
+        .text(": the task ")
+        .shown(name)
+        .text(" stands in line ")
+        .count(table.place(other).line as u64)
+        .text(" already; each task has one record")
+        .end()
 }
 
 /// How many tasks that have no record are named.
@@ -199,7 +191,7 @@ fn count_missing(table: &Table<'_>, inst: &Instance) -> usize {
 }
 
 /// Goes on with the names of tasks of an instance that have no record.
-fn add_missing(page: &mut Page, table: &Table<'_>, inst: &Instance) -> Result<(), OutOfMemory> {
+fn add_missing(page: &mut Page, table: &Table<'_>, inst: &Instance) {
     let mut left = MOST_NAMED;
     for task in inst.tasks() {
         let name = task.text();
@@ -207,28 +199,28 @@ fn add_missing(page: &mut Page, table: &Table<'_>, inst: &Instance) -> Result<()
             continue;
         }
         if left == 0 {
-            return page.add(&[Text(" ..")]);
+            page.text(" ..");
+            return;
         }
         left = left.saturating_sub(1);
-        page.add(&[Text(" "), Text(text_of(name.as_bytes()))])?;
+        page.text(" ").text(text_of(name.as_bytes()));
     }
-    Ok(())
 }
 
 /// Says which tasks have no record.
-fn say_missing(page: &mut Page, table: &Table<'_>, inst: &Instance) -> Result<(), OutOfMemory> {
+fn say_missing(page: &mut Page, table: &Table<'_>, inst: &Instance) {
     let count = count_missing(table, inst);
-    page.begin(&[
-        Word(table.file),
-        Text(": "),
-        Count(count as u64),
-        Text(if count == 1 {
+    page.line()
+        .word(table.file)
+        .text(": ")
+        .count(count as u64)
+        .text(if count == 1 {
             " task has"
         } else {
             " tasks have"
-        }),
-        Text(" no record:"),
-    ])?;
-    add_missing(page, table, inst)?;
-    page.end(&[Text("; a plan has one for each task that qc tasks SHIP STOW prints")])
+        })
+        .text(" no record:");
+    add_missing(page, table, inst);
+    page.text("; a plan has one for each task that qc tasks SHIP STOW prints")
+        .end()
 }

@@ -1,8 +1,6 @@
 //! Faults of a bound tree's file.
 
 use qc_model::Turn;
-use qc_num::OutOfMemory;
-use qc_page::Part::{At, Shown, Text};
 use qc_page::{Page, Place, Sort, line_of, raw_line, say_form};
 use qc_tree::{TreeFault, TreeKind};
 
@@ -63,40 +61,36 @@ fn other_kind(title: &[u8], turn: Turn) -> Option<&'static str> {
 
 /// Says what is wrong with a tree for schedules of this turn, whose first fault is this one. The bytes are those of a
 /// front part of its file.
-pub fn say_tree<'a>(
-    page: &mut Page,
-    file: &'a str,
-    bytes: &'a [u8],
-    turn: Turn,
-    fault: TreeFault,
-) -> Result<(), OutOfMemory> {
-    if say_form(page, file, bytes, Sort::Tree)? {
-        return Ok(());
+pub fn say_tree(page: &mut Page, file: &str, bytes: &[u8], turn: Turn, fault: TreeFault) {
+    if say_form(page, file, bytes, Sort::Tree) {
+        return;
     }
     let number = fault.line as usize;
     let (place, line) = (Place::at_line(file, number), line_of(bytes, number));
     if raw_line(bytes, number).ends_with(b"\r") {
-        return page.say(&[
-            At(place),
-            Text(
+        return page
+            .line()
+            .at(place)
+            .text(
                 ": the lines end with a carriage return, as on Windows: a tree's end with a line feed alone; plan again",
-            ),
-        ]);
+            )
+            .end();
     }
     if let Some(what) = other_kind(line_of(bytes, 1), turn) {
-        return page.say(&[At(place), Text(": "), Text(what)]);
+        return page.line().at(place).text(": ").text(what).end();
     }
-    page.say(&[
-        At(place),
-        Text(": "),
-        Shown(line),
-        Text(": "),
-        Text(why(fault.kind)),
-    ])?;
+    page.line()
+        .at(place)
+        .text(": ")
+        .shown(line)
+        .text(": ")
+        .text(why(fault.kind))
+        .end();
     if is_of_others(fault.kind) {
-        page.say(&[Text(
-            "a tree belongs to its ship file and its list: where one of them changed, plan again",
-        )])?;
+        page.line()
+            .text(
+                "a tree belongs to its ship file and its list: where one of them changed, plan again",
+            )
+            .end();
     }
-    Ok(())
 }

@@ -4,7 +4,6 @@ use crate::course::feasible_plan;
 use qc_dispatch::{Dispatch, DispatchError, follow_log};
 use qc_model::{Crane, Instance, Slot};
 use qc_num::{OutOfMemory, Tick};
-use qc_page::Part::{Count, Text, Word};
 use qc_page::{Page, text_of};
 
 /// Whether a task has a start and no end.
@@ -58,7 +57,13 @@ fn next_of(dispatch: &Dispatch, slots: &[Slot], crane: u16) -> Option<u16> {
 
 /// Says for each crane that stands idle and has tasks left which one is next, and what it waits for: another task's end,
 /// or ticks alone. Says nothing where the plan or the log has a fault.
-pub fn say_waits(
+pub fn say_waits(page: &mut Page, bytes: &[u8], inst: &Instance, plan: &[u8]) {
+    let said = say_cranes(page, bytes, inst, plan);
+    page.unless_short(said);
+}
+
+/// Says so, where there is memory to follow the plan.
+fn say_cranes(
     page: &mut Page,
     bytes: &[u8],
     inst: &Instance,
@@ -76,76 +81,63 @@ pub fn say_waits(
     let slots = sched.slots();
     for number in 0..inst.crane_count() {
         let crane = inst.crane(number);
-        say_crane(page, &followed.dispatch, slots, number, crane)?;
+        say_crane(page, &followed.dispatch, slots, number, crane);
     }
     Ok(())
 }
 
 /// Says what a crane waits for, where it stands idle and has tasks left.
-fn say_crane(
-    page: &mut Page,
-    dispatch: &Dispatch,
-    slots: &[Slot],
-    number: u16,
-    crane: &Crane,
-) -> Result<(), OutOfMemory> {
+fn say_crane(page: &mut Page, dispatch: &Dispatch, slots: &[Slot], number: u16, crane: &Crane) {
     if is_at_work(dispatch, slots, number) {
-        return Ok(());
+        return;
     }
     let Some(task) = next_of(dispatch, slots, number) else {
-        return Ok(());
+        return;
     };
-    page.begin(&[Text("note: "), Word(text_of(crane.name.as_bytes()))])?;
+    page.line()
+        .text("note: ")
+        .word(text_of(crane.name.as_bytes()));
     end_with_next(page, dispatch, slots, task)
 }
 
 /// Ends the line with the next task of its crane, and what it waits for.
-fn end_with_next(
-    page: &mut Page,
-    dispatch: &Dispatch,
-    slots: &[Slot],
-    task: u16,
-) -> Result<(), OutOfMemory> {
+fn end_with_next(page: &mut Page, dispatch: &Dispatch, slots: &[Slot], task: u16) {
     let inst = dispatch.instance();
     if task >= inst.task_count() {
-        return page.end(&[]);
+        return page.end();
     }
     let name = inst.task(task).text();
     if let Some(at) = dispatch.may_start(task) {
-        return page.end(&[
-            Text(" may begin "),
-            Text(text_of(name.as_bytes())),
-            Text(" at tick "),
-            Count(at),
-        ]);
+        return page
+            .text(" may begin ")
+            .text(text_of(name.as_bytes()))
+            .text(" at tick ")
+            .count(at)
+            .end();
     }
-    page.add(&[Text(" waits with "), Text(text_of(name.as_bytes()))])?;
+    page.text(" waits with ").text(text_of(name.as_bytes()));
     match dispatch.waits_for(task) {
         Some(other) => end_with_other(page, dispatch, slots, other),
-        None => page.end(&[]),
+        None => page.end(),
     }
 }
 
 /// Ends the line with the task that must be over first.
-fn end_with_other(
-    page: &mut Page,
-    dispatch: &Dispatch,
-    slots: &[Slot],
-    other: u16,
-) -> Result<(), OutOfMemory> {
+fn end_with_other(page: &mut Page, dispatch: &Dispatch, slots: &[Slot], other: u16) {
     let inst = dispatch.instance();
     if let Some(slot) = slots.get(other as usize) {
         if let Some(crane) = inst.cranes().get(slot.crane as usize) {
-            page.add(&[Text(" until "), Word(text_of(crane.name.as_bytes()))])?;
+            page.text(" until ").word(text_of(crane.name.as_bytes()));
         }
     }
     if let Some(task) = inst.tasks().get(other as usize) {
         let name = task.text();
-        page.add(&[Text(" is through with "), Text(text_of(name.as_bytes()))])?;
+        page.text(" is through with ")
+            .text(text_of(name.as_bytes()));
     }
     if is_left(dispatch, other) {
-        page.end(&[Text(", which has no start either")])
+        page.text(", which has no start either").end()
     } else {
-        page.end(&[Text(", which runs")])
+        page.text(", which runs").end()
     }
 }

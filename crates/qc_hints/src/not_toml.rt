@@ -1,24 +1,18 @@
 //! Ship files that are no text in TOML.
 
 use qc_num::OutOfMemory;
-use qc_page::Part::{At, Shown, Text};
 use qc_page::{Page, Place, are_digits_or, has, has_letter, line_at, line_of, piece_at};
 use toml::table_from_str;
 
 /// Says in which line a text isn't UTF-8.
-fn say_no_utf8<'a>(
-    page: &mut Page,
-    file: &'a str,
-    bytes: &'a [u8],
-    front: usize,
-) -> Result<(), OutOfMemory> {
+fn say_no_utf8(page: &mut Page, file: &str, bytes: &[u8], front: usize) {
     let line = line_at(bytes, front);
-    page.say(&[
-        At(Place::at_line(file, line)),
-        Text(": "),
-        Shown(line_of(bytes, line)),
-        Text(" isn't UTF-8, as in a text saved as Latin-1 or Windows-1252: save the file as UTF-8"),
-    ])
+    page.line()
+        .at(Place::at_line(file, line))
+        .text(": ")
+        .shown(line_of(bytes, line))
+        .text(" isn't UTF-8, as in a text saved as Latin-1 or Windows-1252: save the file as UTF-8")
+        .end()
 }
 
 /// The line without its comment.
@@ -95,20 +89,16 @@ fn hint_on(line: &[u8], message: &str) -> Option<&'static str> {
 }
 
 /// Says in which line a text isn't TOML, and why.
-pub(crate) fn say_not_toml<'a>(
-    page: &mut Page,
-    file: &'a str,
-    bytes: &'a [u8],
-) -> Result<(), OutOfMemory> {
+pub(crate) fn say_not_toml(page: &mut Page, file: &str, bytes: &[u8]) {
     let text = match std::str::from_utf8(bytes) {
         Ok(text) => text,
         Err(error) => return say_no_utf8(page, file, bytes, error.valid_up_to()),
     };
     let Err(error) = table_from_str(page.alloc(), text) else {
-        return Ok(());
+        return;
     };
-    let Some(span) = error.span() else {
-        return Err(OutOfMemory);
+    let Some(span) = page.unless_short(error.span().ok_or(OutOfMemory)) else {
+        return;
     };
     let number = line_at(bytes, span.start);
     let line = line_of(bytes, number);
@@ -118,17 +108,12 @@ pub(crate) fn say_not_toml<'a>(
 }
 
 /// Says why a line isn't TOML.
-fn say_line<'a>(
-    page: &mut Page,
-    place: Place<'a>,
-    line: &'a [u8],
-    why: &'a str,
-) -> Result<(), OutOfMemory> {
-    page.say(&[
-        At(place),
-        Text(": "),
-        Shown(line),
-        Text(" isn't TOML: "),
-        Text(why),
-    ])
+fn say_line(page: &mut Page, place: Place<'_>, line: &[u8], why: &str) {
+    page.line()
+        .at(place)
+        .text(": ")
+        .shown(line)
+        .text(" isn't TOML: ")
+        .text(why)
+        .end()
 }

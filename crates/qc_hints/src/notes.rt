@@ -4,7 +4,6 @@ use crate::facts::{Facts, facts_of};
 use crate::keys::{CRANE_KEYS, SHIP_KEYS};
 use crate::ordinals::ordinal;
 use qc_num::OutOfMemory;
-use qc_page::Part::{At, Bays, Number, Shown, Text};
 use qc_page::{Page, Place, nearest};
 use std::alloc::Global;
 use toml::{Table, Value};
@@ -19,18 +18,18 @@ const FAR: i64 = 10;
 const LEAST_CLEAR: i64 = 100;
 
 /// Says what of a ship file isn't read, and what in it is unusual.
-pub fn say_notes(page: &mut Page, file: &str, bytes: &[u8]) -> Result<(), OutOfMemory> {
-    let Some(facts) = facts_of(page.alloc(), file, bytes)? else {
-        return Ok(());
+pub fn say_notes(page: &mut Page, file: &str, bytes: &[u8]) {
+    let Some(Some(facts)) = page.unless_short(facts_of(page.alloc(), file, bytes)) else {
+        return;
     };
-    say_ship_keys(page, &facts)?;
-    say_cranes(page, &facts)?;
-    say_unread(page, &facts)?;
+    say_ship_keys(page, &facts);
+    say_cranes(page, &facts);
+    say_unread(page, &facts);
     say_clear(page, &facts)
 }
 
 /// Says which keys of the ship aren't read.
-fn say_ship_keys(page: &mut Page, facts: &Facts<'_>) -> Result<(), OutOfMemory> {
+fn say_ship_keys(page: &mut Page, facts: &Facts<'_>) {
     let mut left = MOST_KEYS;
     for (key, _) in &facts.table {
         let key = key.as_str();
@@ -38,12 +37,14 @@ fn say_ship_keys(page: &mut Page, facts: &Facts<'_>) -> Result<(), OutOfMemory> 
             continue;
         }
         if left == 0 {
-            return page.say(&[Text("note: further keys of the ship file aren't read")]);
+            return page
+                .line()
+                .text("note: further keys of the ship file aren't read")
+                .end();
         }
         left = left.saturating_sub(1);
-        say_ship_key(page, facts.place(0, key), key)?;
+        say_ship_key(page, facts.place(0, key), key);
     }
-    Ok(())
 }
 
 /// What may be meant by a key that isn't read.
@@ -58,12 +59,16 @@ enum Meant<'a> {
 }
 
 /// Ends a line with what may be meant.
-fn end_meant(page: &mut Page, meant: Meant<'_>) -> Result<(), OutOfMemory> {
+fn end_meant(page: &mut Page, meant: Meant<'_>) {
     match meant {
-        Meant::Nothing => page.end(&[]),
-        Meant::OfShip => page.end(&[Text("; keys of the ship stand above the first [[crane]]")]),
-        Meant::OfCrane => page.end(&[Text("; keys of a crane stand below its line [[crane]]")]),
-        Meant::Near(key) => page.end(&[Text("; the nearest is "), Text(key)]),
+        Meant::Nothing => page.end(),
+        Meant::OfShip => page
+            .text("; keys of the ship stand above the first [[crane]]")
+            .end(),
+        Meant::OfCrane => page
+            .text("; keys of a crane stand below its line [[crane]]")
+            .end(),
+        Meant::Near(key) => page.text("; the nearest is ").text(key).end(),
     }
 }
 
@@ -92,38 +97,33 @@ fn meant_below(alloc: Global, key: &str) -> Result<Meant<'static>, OutOfMemory> 
 }
 
 /// Says that a key of the ship isn't read.
-fn say_ship_key<'a>(page: &mut Page, place: Place<'a>, key: &'a str) -> Result<(), OutOfMemory> {
-    let meant = meant_above(page.alloc(), key)?;
-    page.begin(&[
-        Text("note: "),
-        At(place),
-        Text(": the key "),
-        Shown(key.as_bytes()),
-        Text(" is no key of the ship and isn't read"),
-    ])?;
+fn say_ship_key(page: &mut Page, place: Place<'_>, key: &str) {
+    let Some(meant) = page.unless_short(meant_above(page.alloc(), key)) else {
+        return;
+    };
+    page.line()
+        .text("note: ")
+        .at(place)
+        .text(": the key ")
+        .shown(key.as_bytes())
+        .text(" is no key of the ship and isn't read");
     end_meant(page, meant)
 }
 
 /// Says what of the cranes isn't read, and which stand far off.
-fn say_cranes(page: &mut Page, facts: &Facts<'_>) -> Result<(), OutOfMemory> {
+fn say_cranes(page: &mut Page, facts: &Facts<'_>) {
     let mut number = 0u32;
     for crane in facts.elements("crane") {
         number = number.saturating_add(1);
         if let Value::Table(table) = crane {
-            say_crane_keys(page, facts, number, table)?;
-            say_far(page, facts, number)?;
+            say_crane_keys(page, facts, number, table);
+            say_far(page, facts, number);
         }
     }
-    Ok(())
 }
 
 /// Says which keys of a crane aren't read.
-fn say_crane_keys(
-    page: &mut Page,
-    facts: &Facts<'_>,
-    crane: u32,
-    table: &Table,
-) -> Result<(), OutOfMemory> {
+fn say_crane_keys(page: &mut Page, facts: &Facts<'_>, crane: u32, table: &Table) {
     let mut left = MOST_KEYS;
     for (key, _) in table {
         let key = key.as_str();
@@ -131,38 +131,36 @@ fn say_crane_keys(
             continue;
         }
         if left == 0 {
-            return page.say(&[Text("note: further keys of the crane aren't read")]);
+            return page
+                .line()
+                .text("note: further keys of the crane aren't read")
+                .end();
         }
         left = left.saturating_sub(1);
-        say_crane_key(page, facts.place(crane, key), crane, key)?;
+        say_crane_key(page, facts.place(crane, key), crane, key);
     }
-    Ok(())
 }
 
 /// Says that a key of a crane isn't read.
-fn say_crane_key<'a>(
-    page: &mut Page,
-    place: Place<'a>,
-    crane: u32,
-    key: &'a str,
-) -> Result<(), OutOfMemory> {
-    let meant = meant_below(page.alloc(), key)?;
-    page.begin(&[
-        Text("note: "),
-        At(place),
-        Text(": the key "),
-        Shown(key.as_bytes()),
-        Text(" in the "),
-        Text(ordinal(crane)),
-        Text(" [[crane]] is no key of a crane and isn't read"),
-    ])?;
+fn say_crane_key(page: &mut Page, place: Place<'_>, crane: u32, key: &str) {
+    let Some(meant) = page.unless_short(meant_below(page.alloc(), key)) else {
+        return;
+    };
+    page.line()
+        .text("note: ")
+        .at(place)
+        .text(": the key ")
+        .shown(key.as_bytes())
+        .text(" in the ")
+        .text(ordinal(crane))
+        .text(" [[crane]] is no key of a crane and isn't read");
     end_meant(page, meant)
 }
 
 /// Says that a crane stands far from any hatch, where places are counted as hatches.
-fn say_far(page: &mut Page, facts: &Facts<'_>, crane: u32) -> Result<(), OutOfMemory> {
+fn say_far(page: &mut Page, facts: &Facts<'_>, crane: u32) {
     let (Some(bay), false) = (facts.crane_number(crane, "bay"), facts.in_decimetres()) else {
-        return Ok(());
+        return;
     };
     let last = i64::try_from(facts.elements("hatches").len()).unwrap_or(0);
     let off = if bay > last {
@@ -171,60 +169,59 @@ fn say_far(page: &mut Page, facts: &Facts<'_>, crane: u32) -> Result<(), OutOfMe
         1i64.saturating_sub(bay)
     };
     if off <= FAR {
-        return Ok(());
+        return;
     }
-    page.say(&[
-        Text("note: "),
-        At(facts.place(crane, "bay")),
-        Text(": the "),
-        Text(ordinal(crane)),
-        Text(" [[crane]] stands at crane bay "),
-        Number(bay),
-        Text(", "),
-        Bays(off.unsigned_abs()),
-        Text(" from any hatch; bay counts the hatches of the list, 1 to "),
-        Number(last),
-        Text(", and not the bays of the ship"),
-    ])
+    page.line()
+        .text("note: ")
+        .at(facts.place(crane, "bay"))
+        .text(": the ")
+        .text(ordinal(crane))
+        .text(" [[crane]] stands at crane bay ")
+        .number(bay)
+        .text(", ")
+        .rail(off.unsigned_abs(), false)
+        .text(" from any hatch; bay counts the hatches of the list, 1 to ")
+        .number(last)
+        .text(", and not the bays of the ship")
+        .end()
 }
 
 /// Says which of two keys isn't read beside the other.
-fn say_unread(page: &mut Page, facts: &Facts<'_>) -> Result<(), OutOfMemory> {
+fn say_unread(page: &mut Page, facts: &Facts<'_>) {
     if facts.in_decimetres() && facts.table.contains_key("margin") {
-        page.say(&[
-            Text("note: "),
-            At(facts.place(0, "margin")),
-            Text(": margin isn't read beside places; clear takes its place"),
-        ])?;
+        page.line()
+            .text("note: ")
+            .at(facts.place(0, "margin"))
+            .text(": margin isn't read beside places; clear takes its place")
+            .end();
     }
     if !facts.in_decimetres() && facts.table.contains_key("clear") {
-        page.say(&[
-            Text("note: "),
-            At(facts.place(0, "clear")),
-            Text(": clear isn't read without places; margin takes its place"),
-        ])?;
+        page.line()
+            .text("note: ")
+            .at(facts.place(0, "clear"))
+            .text(": clear isn't read without places; margin takes its place")
+            .end();
     }
-    Ok(())
 }
 
 /// Says that cranes may come very near to each other.
-fn say_clear(page: &mut Page, facts: &Facts<'_>) -> Result<(), OutOfMemory> {
+fn say_clear(page: &mut Page, facts: &Facts<'_>) {
     let (Some(clear), true) = (facts.number("clear"), facts.in_decimetres()) else {
-        return Ok(());
+        return;
     };
     if clear >= LEAST_CLEAR {
-        return Ok(());
+        return;
     }
-    page.say(&[
-        Text("note: "),
-        At(facts.place(0, "clear")),
-        Text(": clear = "),
-        Number(clear),
-        Text(" lets cranes come as near as "),
-        Number(clear),
-        Text(" decimetres; "),
-        Number(clear),
-        Text(" metres are clear = "),
-        Number(clear.saturating_mul(10)),
-    ])
+    page.line()
+        .text("note: ")
+        .at(facts.place(0, "clear"))
+        .text(": clear = ")
+        .number(clear)
+        .text(" lets cranes come as near as ")
+        .number(clear)
+        .text(" decimetres; ")
+        .number(clear)
+        .text(" metres are clear = ")
+        .number(clear.saturating_mul(10))
+        .end()
 }

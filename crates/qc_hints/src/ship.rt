@@ -7,8 +7,7 @@ use crate::ordinals::ordinal;
 use crate::toml_lines::KeyLine;
 use crate::wanted::wanted_at;
 use qc_num::OutOfMemory;
-use qc_page::Part::{At, Count, Number, Shown, Text, Word};
-use qc_page::{Page, Part, Place, Sort, has_digit, is_near, say_form};
+use qc_page::{Page, Place, Sort, has_digit, is_near, say_form};
 use qc_ship::{Key, ShipError, ShipFault, ShipKind, read_ship};
 use std::alloc::Global;
 use toml::Value;
@@ -23,23 +22,24 @@ fn fault_of(alloc: Global, bytes: &[u8]) -> Result<Option<ShipFault>, OutOfMemor
 }
 
 /// Says what is wrong with a ship file.
-pub fn say_ship(page: &mut Page, file: &str, bytes: &[u8]) -> Result<(), OutOfMemory> {
-    let Some(fault) = fault_of(page.alloc(), bytes)? else {
-        return Ok(());
+pub fn say_ship(page: &mut Page, file: &str, bytes: &[u8]) {
+    let Some(Some(fault)) = page.unless_short(fault_of(page.alloc(), bytes)) else {
+        return;
     };
-    if say_form(page, file, bytes, Sort::Ship)? {
-        return Ok(());
+    if say_form(page, file, bytes, Sort::Ship) {
+        return;
     }
-    match facts_of(page.alloc(), file, bytes)? {
-        Some(facts) => say_fault(page, &facts, fault),
-        None => say_not_toml(page, file, bytes),
+    match page.unless_short(facts_of(page.alloc(), file, bytes)) {
+        Some(Some(facts)) => say_fault(page, &facts, fault),
+        Some(None) => say_not_toml(page, file, bytes),
+        None => {}
     }
 }
 
 /// Says what is wrong with a key.
-fn say_fault(page: &mut Page, facts: &Facts<'_>, fault: ShipFault) -> Result<(), OutOfMemory> {
+fn say_fault(page: &mut Page, facts: &Facts<'_>, fault: ShipFault) {
     match fault.kind {
-        ShipKind::NotToml => Ok(()),
+        ShipKind::NotToml => {}
         ShipKind::Missing => say_missing(page, facts, fault),
         ShipKind::WrongKind => say_value(page, facts, fault),
         ShipKind::Range => say_value(page, facts, fault),
@@ -90,16 +90,20 @@ fn crane_with(facts: &Facts<'_>, key: &str) -> Option<u32> {
 }
 
 /// Says which key is missing.
-fn say_missing(page: &mut Page, facts: &Facts<'_>, fault: ShipFault) -> Result<(), OutOfMemory> {
+fn say_missing(page: &mut Page, facts: &Facts<'_>, fault: ShipFault) {
     let (key, crane) = (fault.key.text(), crane_of(fault));
-    if let Some(near) = near_line(page.alloc(), facts, crane, key)? {
-        return page.say(&[
-            At(Place::at_line(facts.file, near.line)),
-            Text(": the key "),
-            Shown(near.key.as_bytes()),
-            Text(" is written "),
-            Text(key),
-        ]);
+    let Some(near) = page.unless_short(near_line(page.alloc(), facts, crane, key)) else {
+        return;
+    };
+    if let Some(near) = near {
+        return page
+            .line()
+            .at(Place::at_line(facts.file, near.line))
+            .text(": the key ")
+            .shown(near.key.as_bytes())
+            .text(" is written ")
+            .text(key)
+            .end();
     }
     if crane > 0 {
         return say_missing_in_crane(page, facts, fault.key, crane);
@@ -111,83 +115,72 @@ fn say_missing(page: &mut Page, facts: &Facts<'_>, fault: ShipFault) -> Result<(
 }
 
 /// Says which key a crane hasn't.
-fn say_missing_in_crane(
-    page: &mut Page,
-    facts: &Facts<'_>,
-    key: Key,
-    crane: u32,
-) -> Result<(), OutOfMemory> {
+fn say_missing_in_crane(page: &mut Page, facts: &Facts<'_>, key: Key, crane: u32) {
     let name = key.text();
-    page.say(&[
-        At(facts.place(crane, name)),
-        Text(": the "),
-        Text(ordinal(crane)),
-        Text(" [[crane]] has no key "),
-        Text(name),
-        Text("; it may be "),
-        Text(wanted_at(key, facts.in_decimetres())),
-    ])
+    page.line()
+        .at(facts.place(crane, name))
+        .text(": the ")
+        .text(ordinal(crane))
+        .text(" [[crane]] has no key ")
+        .text(name)
+        .text("; it may be ")
+        .text(wanted_at(key, facts.in_decimetres()))
+        .end()
 }
 
 /// Says that a key of the ship stands below a crane.
-fn say_misplaced<'a>(
-    page: &mut Page,
-    facts: &Facts<'a>,
-    key: &'a str,
-    crane: u32,
-) -> Result<(), OutOfMemory> {
-    page.say(&[
-        At(facts.place(crane, key)),
-        Text(": the key "),
-        Text(key),
-        Text(" stands below the "),
-        Text(ordinal(crane)),
-        Text(" [[crane]]; keys of the ship stand above the first [[crane]]"),
-    ])
+fn say_misplaced(page: &mut Page, facts: &Facts<'_>, key: &str, crane: u32) {
+    page.line()
+        .at(facts.place(crane, key))
+        .text(": the key ")
+        .text(key)
+        .text(" stands below the ")
+        .text(ordinal(crane))
+        .text(" [[crane]]; keys of the ship stand above the first [[crane]]")
+        .end()
 }
 
 /// Says which key the ship hasn't.
-fn say_missing_in_ship(page: &mut Page, facts: &Facts<'_>, key: Key) -> Result<(), OutOfMemory> {
-    page.say(&[
-        At(Place::whole(facts.file)),
-        Text(": the key "),
-        Text(key.text()),
-        Text(" is missing; it may be "),
-        Text(wanted_at(key, facts.in_decimetres())),
-    ])?;
+fn say_missing_in_ship(page: &mut Page, facts: &Facts<'_>, key: Key) {
+    page.line()
+        .at(Place::whole(facts.file))
+        .text(": the key ")
+        .text(key.text())
+        .text(" is missing; it may be ")
+        .text(wanted_at(key, facts.in_decimetres()))
+        .end();
     if key == Key::Clear {
-        page.say(&[Text("with places the key clear takes the place of margin")])
+        page.line()
+            .text("with places the key clear takes the place of margin")
+            .end()
     } else if key == Key::Margin && facts.table.contains_key("clear") {
-        page.say(&[Text(
-            "clear is read only with places; without them margin says how many bays stay free",
-        )])
-    } else {
-        Ok(())
+        page.line()
+            .text(
+                "clear is read only with places; without them margin says how many bays stay free",
+            )
+            .end()
     }
 }
 
 /// How many elements a key must have, and has.
-fn say_length(page: &mut Page, facts: &Facts<'_>, key: Key) -> Result<(), OutOfMemory> {
+fn say_length(page: &mut Page, facts: &Facts<'_>, key: Key) {
     let name = key.text();
-    page.begin(&[
-        At(facts.place(0, name)),
-        Text(": "),
-        Text(name),
-        Text(" has "),
-        Count(facts.elements(name).len() as u64),
-        Text(" elements"),
-    ])?;
+    page.line()
+        .at(facts.place(0, name))
+        .text(": ")
+        .text(name)
+        .text(" has ")
+        .count(facts.elements(name).len() as u64)
+        .text(" elements");
     if key == Key::Places {
-        page.end(&[
-            Text(" and hatches has "),
-            Count(facts.elements("hatches").len() as u64),
-            Text("; there is one place for each hatch"),
-        ])
+        page.text(" and hatches has ")
+            .count(facts.elements("hatches").len() as u64)
+            .text("; there is one place for each hatch")
+            .end()
     } else {
-        page.end(&[
-            Text(", and may be "),
-            Text(wanted_at(key, facts.in_decimetres())),
-        ])
+        page.text(", and may be ")
+            .text(wanted_at(key, facts.in_decimetres()))
+            .end()
     }
 }
 
@@ -222,36 +215,35 @@ fn hint_on_number(facts: &Facts<'_>, key: Key, value: &[u8]) -> &'static str {
 }
 
 /// Says that an element of an array can't stand there.
-fn say_element(page: &mut Page, facts: &Facts<'_>, fault: ShipFault) -> Result<(), OutOfMemory> {
+fn say_element(page: &mut Page, facts: &Facts<'_>, fault: ShipFault) {
     let (key, number) = (fault.key.text(), fault.number);
-    page.begin(&[
-        At(facts.place(0, key)),
-        Text(": element "),
-        Count(u64::from(number)),
-        Text(" of "),
-        Text(key),
-    ])?;
+    page.line()
+        .at(facts.place(0, key))
+        .text(": element ")
+        .count(u64::from(number))
+        .text(" of ")
+        .text(key);
     let wanted = wanted_at(fault.key, facts.in_decimetres());
     match facts.whole_element(key, number) {
-        Some(value) => page.end(&[
-            Text(" is "),
-            Number(value),
-            Text("; "),
-            Text(key),
-            Text(" may be "),
-            Text(wanted),
-        ]),
-        None => page.end(&[
-            Text(" can't stand there; "),
-            Text(key),
-            Text(" may be "),
-            Text(wanted),
-        ]),
+        Some(value) => page
+            .text(" is ")
+            .number(value)
+            .text("; ")
+            .text(key)
+            .text(" may be ")
+            .text(wanted)
+            .end(),
+        None => page
+            .text(" can't stand there; ")
+            .text(key)
+            .text(" may be ")
+            .text(wanted)
+            .end(),
     }
 }
 
 /// Says that the value of a key can't stand there.
-fn say_value(page: &mut Page, facts: &Facts<'_>, fault: ShipFault) -> Result<(), OutOfMemory> {
+fn say_value(page: &mut Page, facts: &Facts<'_>, fault: ShipFault) {
     let (key, crane) = (fault.key.text(), crane_of(fault));
     if crane == 0 && fault.number > 0 {
         return say_element(page, facts, fault);
@@ -259,35 +251,31 @@ fn say_value(page: &mut Page, facts: &Facts<'_>, fault: ShipFault) -> Result<(),
     if crane == 0 && fault.kind == ShipKind::Range && !facts.elements(key).is_empty() {
         return say_length(page, facts, fault.key);
     }
-    say_one_value(page, facts, fault.key, crane)?;
+    say_one_value(page, facts, fault.key, crane);
     if fault.key == Key::From || fault.key == Key::To {
         return say_counted(page, facts, key, crane);
     }
-    Ok(())
 }
 
 /// Says that the value of a key can't stand there, of a crane or, with 0, of the ship.
-fn say_one_value(
-    page: &mut Page,
-    facts: &Facts<'_>,
-    key: Key,
-    crane: u32,
-) -> Result<(), OutOfMemory> {
+fn say_one_value(page: &mut Page, facts: &Facts<'_>, key: Key, crane: u32) {
     let name = key.text();
     let value = facts.value(crane, name);
-    page.begin(&[At(facts.place(crane, name)), Text(": "), Text(name)])?;
+    page.line()
+        .at(facts.place(crane, name))
+        .text(": ")
+        .text(name);
     let wanted = wanted_at(key, facts.in_decimetres());
     let hint = hint_on(facts, key, value);
     if value.is_empty() {
-        page.end(&[Text(" may be "), Text(wanted), Text(hint)])
+        page.text(" may be ").text(wanted).text(hint).end()
     } else {
-        page.end(&[
-            Text(" is "),
-            Word(value),
-            Text(", and may be "),
-            Text(wanted),
-            Text(hint),
-        ])
+        page.text(" is ")
+            .word(value)
+            .text(", and may be ")
+            .text(wanted)
+            .text(hint)
+            .end()
     }
 }
 
@@ -304,27 +292,23 @@ fn number_of(facts: &Facts<'_>, hatch: i64) -> Option<usize> {
 }
 
 /// Says which number a hatch has in the list, where a crane's reach names it by the number of its bay.
-fn say_counted(
-    page: &mut Page,
-    facts: &Facts<'_>,
-    key: &str,
-    crane: u32,
-) -> Result<(), OutOfMemory> {
+fn say_counted(page: &mut Page, facts: &Facts<'_>, key: &str, crane: u32) {
     let Some(value) = facts.crane_number(crane, key) else {
-        return Ok(());
+        return;
     };
     match number_of(facts, value) {
-        Some(number) => page.say(&[
-            Text("hatch "),
-            Number(value),
-            Text(" is number "),
-            Count(number as u64),
-            Text(" of the list, so write "),
-            Text(key),
-            Text(" = "),
-            Count(number as u64),
-        ]),
-        None => Ok(()),
+        Some(number) => page
+            .line()
+            .text("hatch ")
+            .number(value)
+            .text(" is number ")
+            .count(number as u64)
+            .text(" of the list, so write ")
+            .text(key)
+            .text(" = ")
+            .count(number as u64)
+            .end(),
+        None => {}
     }
 }
 
@@ -335,11 +319,7 @@ fn bays_of(hatch: i64) -> (i64, i64) {
 }
 
 /// Says which hatch or place isn't behind the one before it.
-fn say_hatch_order(
-    page: &mut Page,
-    facts: &Facts<'_>,
-    fault: ShipFault,
-) -> Result<(), OutOfMemory> {
+fn say_hatch_order(page: &mut Page, facts: &Facts<'_>, fault: ShipFault) {
     let key = fault.key.text();
     let place = facts.place(0, key);
     let number = fault.number;
@@ -347,42 +327,43 @@ fn say_hatch_order(
         facts.whole_element(key, number.saturating_sub(1)),
         facts.whole_element(key, number),
     ) else {
-        return Ok(());
+        return;
     };
     if fault.key == Key::Places {
-        return page.say(&[
-            At(place),
-            Text(": place "),
-            Number(other),
-            Text(" stands behind "),
-            Number(one),
-            Text(" in the list; places rise strictly from the first hatch to the last"),
-        ]);
+        return page
+            .line()
+            .at(place)
+            .text(": place ")
+            .number(other)
+            .text(" stands behind ")
+            .number(one)
+            .text(" in the list; places rise strictly from the first hatch to the last")
+            .end();
     }
     say_overlap(page, place, one, other)
 }
 
 /// Says that a hatch isn't wholly behind the one before it.
-fn say_overlap(page: &mut Page, place: Place<'_>, one: i64, other: i64) -> Result<(), OutOfMemory> {
+fn say_overlap(page: &mut Page, place: Place<'_>, one: i64, other: i64) {
     let ((first, last), (low, high)) = (bays_of(other), bays_of(one));
-    page.say(&[
-        At(place),
-        Text(": hatch "),
-        Number(other),
-        Text(" stands behind hatch "),
-        Number(one),
-        Text(" in the list, and its bays "),
-        Number(first),
-        Text(" to "),
-        Number(last),
-        Text(" don't lie wholly behind bays "),
-        Number(low),
-        Text(" to "),
-        Number(high),
-        Text(
+    page.line()
+        .at(place)
+        .text(": hatch ")
+        .number(other)
+        .text(" stands behind hatch ")
+        .number(one)
+        .text(" in the list, and its bays ")
+        .number(first)
+        .text(" to ")
+        .number(last)
+        .text(" don't lie wholly behind bays ")
+        .number(low)
+        .text(" to ")
+        .number(high)
+        .text(
             "; hatches stand from bow to stern, and an even hatch takes the bays on both sides too",
-        ),
-    ])
+        )
+        .end()
 }
 
 /// The least distance of two cranes, as the ship file says it.
@@ -395,56 +376,57 @@ fn gap_of(facts: &Facts<'_>) -> Option<i64> {
 }
 
 /// Says where a crane may stand.
-fn say_crane_order(page: &mut Page, facts: &Facts<'_>, crane: u32) -> Result<(), OutOfMemory> {
+fn say_crane_order(page: &mut Page, facts: &Facts<'_>, crane: u32) {
     let before = facts.crane_number(crane.saturating_sub(1), "bay");
     let bay = facts.crane_number(crane, "bay");
     let (Some(gap), Some(before), Some(bay)) = (gap_of(facts), before, bay) else {
-        return Ok(());
+        return;
     };
-    page.say(&[
-        At(facts.place(crane, "bay")),
-        Text(": the "),
-        Text(ordinal(crane)),
-        Text(" [[crane]] stands at "),
-        Number(bay),
-        Text(" and the one before it at "),
-        Number(before),
-        Text("; cranes stand along the rail with rising bays and at least "),
-        Part::of_rail(gap.unsigned_abs(), facts.in_decimetres()),
-        Text(" apart, so it may stand at "),
-        Number(before.saturating_add(gap)),
-        Text(" or above"),
-    ])
+    page.line()
+        .at(facts.place(crane, "bay"))
+        .text(": the ")
+        .text(ordinal(crane))
+        .text(" [[crane]] stands at ")
+        .number(bay)
+        .text(" and the one before it at ")
+        .number(before)
+        .text("; cranes stand along the rail with rising bays and at least ")
+        .rail(gap.unsigned_abs(), facts.in_decimetres())
+        .text(" apart, so it may stand at ")
+        .number(before.saturating_add(gap))
+        .text(" or above")
+        .end()
 }
 
 /// Says which name stands twice.
-fn say_name_twice(page: &mut Page, facts: &Facts<'_>, crane: u32) -> Result<(), OutOfMemory> {
-    page.say(&[
-        At(facts.place(crane, "name")),
-        Text(": the name "),
-        Word(facts.value(crane, "name")),
-        Text(" of the "),
-        Text(ordinal(crane)),
-        Text(" [[crane]] is that of an earlier one; each crane has a name of its own"),
-    ])
+fn say_name_twice(page: &mut Page, facts: &Facts<'_>, crane: u32) {
+    page.line()
+        .at(facts.place(crane, "name"))
+        .text(": the name ")
+        .word(facts.value(crane, "name"))
+        .text(" of the ")
+        .text(ordinal(crane))
+        .text(" [[crane]] is that of an earlier one; each crane has a name of its own")
+        .end()
 }
 
 /// Says which hatch of a pair the ship hasn't.
-fn say_apart(page: &mut Page, facts: &Facts<'_>, number: u32) -> Result<(), OutOfMemory> {
-    page.begin(&[
-        At(facts.place(0, "apart")),
-        Text(": pair "),
-        Count(u64::from(number)),
-        Text(" of apart names "),
-    ])?;
+fn say_apart(page: &mut Page, facts: &Facts<'_>, number: u32) {
+    page.line()
+        .at(facts.place(0, "apart"))
+        .text(": pair ")
+        .count(u64::from(number))
+        .text(" of apart names ");
     match strange_hatch(facts, number) {
-        Some(hatch) => page.end(&[
-            Number(hatch),
-            Text(
+        Some(hatch) => page
+            .number(hatch)
+            .text(
                 ", which is no hatch of hatches; pairs name hatches by their bays, as hatches does",
-            ),
-        ]),
-        None => page.end(&[Text("one hatch twice; two different hatches are wanted")]),
+            )
+            .end(),
+        None => page
+            .text("one hatch twice; two different hatches are wanted")
+            .end(),
     }
 }
 

@@ -2,7 +2,6 @@
 
 use qc_cell::{Cell, CellFault};
 use qc_num::OutOfMemory;
-use qc_page::Part::{At, Count, Shown, Text};
 use qc_page::{Page, Sort, Table, are_digits, is_blank, say_fields, say_header, table_of};
 use qc_ship::Ship;
 use qc_stow::{StowError, StowFault, StowKind, read_stow};
@@ -20,28 +19,27 @@ fn fault_of(alloc: Global, bytes: &[u8], ship: &Ship) -> Result<Option<StowFault
 }
 
 /// Says what is wrong with a stowage list of a ship.
-pub fn say_stow(page: &mut Page, file: &str, bytes: &[u8], ship: &Ship) -> Result<(), OutOfMemory> {
-    let Some(fault) = fault_of(page.alloc(), bytes, ship)? else {
-        return Ok(());
+pub fn say_stow(page: &mut Page, file: &str, bytes: &[u8], ship: &Ship) {
+    let Some(Some(fault)) = page.unless_short(fault_of(page.alloc(), bytes, ship)) else {
+        return;
     };
-    let table = table_of(page.alloc(), file, bytes, fault.number)?;
+    let table = table_of(page.alloc(), file, bytes, fault.number);
+    let Some(table) = page.unless_short(table) else {
+        return;
+    };
     say_fault(page, &table, fault, ship)
 }
 
 /// Says what is wrong with a record.
-fn say_fault(
-    page: &mut Page,
-    table: &Table<'_>,
-    fault: StowFault,
-    ship: &Ship,
-) -> Result<(), OutOfMemory> {
+fn say_fault(page: &mut Page, table: &Table<'_>, fault: StowFault, ship: &Ship) {
     let number = fault.number;
     match fault.kind {
         StowKind::Header => say_header(page, table, HEADER, Sort::Stow),
-        StowKind::TooMany => page.say(&[
-            At(table.place(number)),
-            Text(": this is a move behind the 50000th, and a list has no more"),
-        ]),
+        StowKind::TooMany => page
+            .line()
+            .at(table.place(number))
+            .text(": this is a move behind the 50000th, and a list has no more")
+            .end(),
         StowKind::Fields => say_fields(page, table, number, HEADER),
         StowKind::Id => say_id(page, table, number),
         StowKind::MoveKind => say_move(page, table, number),
@@ -69,21 +67,25 @@ fn why_no_id(field: &[u8]) -> &'static str {
 }
 
 /// Says what is wrong with an id.
-fn say_id<'a>(page: &mut Page, table: &'a Table<'a>, number: u32) -> Result<(), OutOfMemory> {
+fn say_id(page: &mut Page, table: &Table<'_>, number: u32) {
     let (place, field) = (table.place(number), table.field(number, 0));
     if is_blank(table, number) {
-        return page.say(&[At(place), Text(": the record is empty: delete the line")]);
+        return page
+            .line()
+            .at(place)
+            .text(": the record is empty: delete the line")
+            .end();
     }
-    page.say(&[
-        At(place),
-        Text(": the id is "),
-        Shown(field),
-        Text(": "),
-        Text(why_no_id(field)),
-        Text(
+    page.line()
+        .at(place)
+        .text(": the id is ")
+        .shown(field)
+        .text(": ")
+        .text(why_no_id(field))
+        .text(
             "; an id is 1 to 20 letters, digits and signs of ASCII without spaces, commas and double quotes",
-        ),
-    ])
+        )
+        .end()
 }
 
 /// The move that is meant, where a word or a small letter says it.
@@ -96,16 +98,15 @@ fn meant_move(field: &[u8]) -> Option<&'static str> {
 }
 
 /// Says what is wrong with a kind of move.
-fn say_move<'a>(page: &mut Page, table: &'a Table<'a>, number: u32) -> Result<(), OutOfMemory> {
+fn say_move(page: &mut Page, table: &Table<'_>, number: u32) {
     let field = table.field(number, 1);
-    page.begin(&[
-        At(table.place(number)),
-        Text(": the move is "),
-        Shown(field),
-    ])?;
+    page.line()
+        .at(table.place(number))
+        .text(": the move is ")
+        .shown(field);
     match meant_move(field) {
-        Some(meant) => page.end(&[Text("; write "), Text(meant)]),
-        None => page.end(&[Text("; it is D for discharge or L for load")]),
+        Some(meant) => page.text("; write ").text(meant).end(),
+        None => page.text("; it is D for discharge or L for load").end(),
     }
 }
 
@@ -141,66 +142,56 @@ fn why_wrong_cell(field: &[u8], fault: CellFault) -> &'static str {
 }
 
 /// Says what is wrong with a cell.
-fn say_cell<'a>(
-    page: &mut Page,
-    table: &'a Table<'a>,
-    number: u32,
-    fault: CellFault,
-) -> Result<(), OutOfMemory> {
+fn say_cell(page: &mut Page, table: &Table<'_>, number: u32, fault: CellFault) {
     let field = table.field(number, 2);
-    page.say(&[
-        At(table.place(number)),
-        Text(": the cell is "),
-        Shown(field),
-        Text(": "),
-        Text(why_wrong_cell(field, fault)),
-        Text("; a cell is bay, row and tier in six or seven digits, as 010482"),
-    ])
+    page.line()
+        .at(table.place(number))
+        .text(": the cell is ")
+        .shown(field)
+        .text(": ")
+        .text(why_wrong_cell(field, fault))
+        .text("; a cell is bay, row and tier in six or seven digits, as 010482")
+        .end()
 }
 
 /// Says what is wrong with a length.
-fn say_length<'a>(page: &mut Page, table: &'a Table<'a>, number: u32) -> Result<(), OutOfMemory> {
+fn say_length(page: &mut Page, table: &Table<'_>, number: u32) {
     let Ok(cell) = Cell::read(table.field(number, 2)) else {
-        return Ok(());
+        return;
     };
-    page.say(&[
-        At(table.place(number)),
-        Text(": the length is "),
-        Shown(table.field(number, 3)),
-        Text(", and bay "),
-        Count(u64::from(cell.bay)),
-        Text(if cell.is_forty() {
+    page.line()
+        .at(table.place(number))
+        .text(": the length is ")
+        .shown(table.field(number, 3))
+        .text(", and bay ")
+        .count(u64::from(cell.bay))
+        .text(if cell.is_forty() {
             " is even: write 40"
         } else {
             " is odd: write 20"
-        }),
-        Text(
+        })
+        .text(
             ", or the bay where the container stands; odd bays are of 20 feet and even ones of 40, and 45 feet are written 40",
-        ),
-    ])
+        )
+        .end()
 }
 
 /// Says which hatches are nearest to a bay that none takes.
-fn say_no_hatch(
-    page: &mut Page,
-    table: &Table<'_>,
-    number: u32,
-    ship: &Ship,
-) -> Result<(), OutOfMemory> {
+fn say_no_hatch(page: &mut Page, table: &Table<'_>, number: u32, ship: &Ship) {
     let Ok(cell) = Cell::read(table.field(number, 2)) else {
-        return Ok(());
+        return;
     };
-    page.say(&[
-        At(table.place(number)),
-        Text(": no hatch of the ship file takes bay "),
-        Count(u64::from(cell.bay)),
-        Text("; an even hatch takes its own bay and those on both sides, an odd one its own alone"),
-    ])?;
+    page.line()
+        .at(table.place(number))
+        .text(": no hatch of the ship file takes bay ")
+        .count(u64::from(cell.bay))
+        .text("; an even hatch takes its own bay and those on both sides, an odd one its own alone")
+        .end();
     say_nearest(page, ship, cell.bay)
 }
 
 /// Says which hatches are nearest to a bay.
-fn say_nearest(page: &mut Page, ship: &Ship, bay: u16) -> Result<(), OutOfMemory> {
+fn say_nearest(page: &mut Page, ship: &Ship, bay: u16) {
     let (mut below, mut above) = (None, None);
     for hatch in ship.hatches() {
         if *hatch < bay {
@@ -210,15 +201,24 @@ fn say_nearest(page: &mut Page, ship: &Ship, bay: u16) -> Result<(), OutOfMemory
         }
     }
     match (below, above) {
-        (Some(below), Some(above)) => page.say(&[
-            Text("the nearest hatches are "),
-            Count(u64::from(below)),
-            Text(" and "),
-            Count(u64::from(above)),
-        ]),
-        (Some(only), None) => page.say(&[Text("the last hatch is "), Count(u64::from(only))]),
-        (None, Some(only)) => page.say(&[Text("the first hatch is "), Count(u64::from(only))]),
-        (None, None) => Ok(()),
+        (Some(below), Some(above)) => page
+            .line()
+            .text("the nearest hatches are ")
+            .count(u64::from(below))
+            .text(" and ")
+            .count(u64::from(above))
+            .end(),
+        (Some(only), None) => page
+            .line()
+            .text("the last hatch is ")
+            .count(u64::from(only))
+            .end(),
+        (None, Some(only)) => page
+            .line()
+            .text("the first hatch is ")
+            .count(u64::from(only))
+            .end(),
+        (None, None) => {}
     }
 }
 
@@ -255,48 +255,44 @@ fn sort_of(table: &Table<'_>, number: u32) -> &'static str {
 }
 
 /// Says which earlier record has the id.
-fn say_id_twice<'a>(page: &mut Page, table: &'a Table<'a>, number: u32) -> Result<(), OutOfMemory> {
+fn say_id_twice(page: &mut Page, table: &Table<'_>, number: u32) {
     let Some(other) = earlier(table, number, false) else {
-        return Ok(());
+        return;
     };
     let sort = sort_of(table, number);
-    page.say(&[
-        At(table.place(number)),
-        Text(": "),
-        Shown(table.field(number, 0)),
-        Text(" is "),
-        Text(sort),
-        Text(" in line "),
-        Count(table.place(other).line as u64),
-        Text(" already; each container is "),
-        Text(sort),
-        Text(" once"),
-    ])
+    page.line()
+        .at(table.place(number))
+        .text(": ")
+        .shown(table.field(number, 0))
+        .text(" is ")
+        .text(sort)
+        .text(" in line ")
+        .count(table.place(other).line as u64)
+        .text(" already; each container is ")
+        .text(sort)
+        .text(" once")
+        .end()
 }
 
 /// Says which earlier record has a cell that overlaps.
-fn say_cell_taken<'a>(
-    page: &mut Page,
-    table: &'a Table<'a>,
-    number: u32,
-) -> Result<(), OutOfMemory> {
+fn say_cell_taken(page: &mut Page, table: &Table<'_>, number: u32) {
     let Some(other) = earlier(table, number, true) else {
-        return Ok(());
+        return;
     };
-    page.say(&[
-        At(table.place(number)),
-        Text(": "),
-        Shown(table.field(number, 0)),
-        Text(" at "),
-        Shown(table.field(number, 2)),
-        Text(" overlaps "),
-        Shown(table.field(other, 0)),
-        Text(" at "),
-        Shown(table.field(other, 2)),
-        Text(" of line "),
-        Count(table.place(other).line as u64),
-        Text("; each place is "),
-        Text(sort_of(table, number)),
-        Text(" once"),
-    ])
+    page.line()
+        .at(table.place(number))
+        .text(": ")
+        .shown(table.field(number, 0))
+        .text(" at ")
+        .shown(table.field(number, 2))
+        .text(" overlaps ")
+        .shown(table.field(other, 0))
+        .text(" at ")
+        .shown(table.field(other, 2))
+        .text(" of line ")
+        .count(table.place(other).line as u64)
+        .text("; each place is ")
+        .text(sort_of(table, number))
+        .text(" once")
+        .end()
 }

@@ -67,3 +67,8 @@ pub fn has_letter(bytes: &[u8]) -> bool {
     }
     false
 }
+
+/// A text of bytes; empty where they are none.
+pub fn text_of(bytes: &[u8]) -> &str {
+    std::str::from_utf8(bytes).unwrap_or("")
+}

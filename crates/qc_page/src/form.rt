@@ -2,9 +2,7 @@
 
 use crate::bytes::has;
 use crate::page::Page;
-use crate::part::Part::{At, Text};
 use crate::place::Place;
-use qc_num::OutOfMemory;
 
 /// What a text is, as far as its first line tells.
 #[derive(Clone, Copy, PartialEq, Eq)]
@@ -76,44 +74,39 @@ fn sort_of(bytes: &[u8]) -> Option<Sort> {
 }
 
 /// Says what is wrong with a file as a whole, and answers whether something was.
-pub fn say_form(
-    page: &mut Page,
-    file: &str,
-    bytes: &[u8],
-    wanted: Sort,
-) -> Result<bool, OutOfMemory> {
+pub fn say_form(page: &mut Page, file: &str, bytes: &[u8], wanted: Sort) -> bool {
     if let Some(what) = no_text(bytes) {
         let (place, wanted) = (Place::whole(file), wanted.text());
-        page.say(&[
-            At(place),
-            Text(": "),
-            Text(what),
-            Text("; "),
-            Text(wanted),
-            Text(" is wanted"),
-        ])?;
-        return Ok(true);
+        page.line()
+            .at(place)
+            .text(": ")
+            .text(what)
+            .text("; ")
+            .text(wanted)
+            .text(" is wanted")
+            .end();
+        return true;
     }
     match sort_of(bytes) {
         Some(sort) if sort != wanted => say_sort(page, file, sort, wanted),
-        _ => Ok(false),
+        _ => false,
     }
 }
 
 /// Says that a file is of another kind, and answers that something was wrong.
-fn say_sort(page: &mut Page, file: &str, sort: Sort, wanted: Sort) -> Result<bool, OutOfMemory> {
+fn say_sort(page: &mut Page, file: &str, sort: Sort, wanted: Sort) -> bool {
     let (place, is) = (Place::whole(file), sort.text());
     let (should, word) = (wanted.text(), wanted.word());
-    page.say(&[
-        At(place),
-        Text(": this is "),
-        Text(is),
-        Text(", and "),
-        Text(should),
-        Text(
+    page.line()
+        .at(place)
+        .text(": this is ")
+        .text(is)
+        .text(", and ")
+        .text(should)
+        .text(
             " is wanted here: SHIP, STOW, PLAN and TREE stand in this order, and this file was named as ",
-        ),
-        Text(word),
-    ])?;
-    Ok(true)
+        )
+        .text(word)
+        .end();
+    true
 }

@@ -6,14 +6,12 @@ mod bytes;
 mod form;
 mod near;
 mod page;
-mod part;
 mod place;
 mod table;
 
-pub use bytes::{are_digits, are_digits_or, has, has_digit, has_letter, piece_at};
+pub use bytes::{are_digits, are_digits_or, has, has_digit, has_letter, piece_at, text_of};
 pub use form::{Sort, say_form};
 pub use near::{is_near, nearest};
 pub use page::Page;
-pub use part::{Part, text_of};
 pub use place::{Place, line_at, line_of, raw_line};
 pub use table::{Table, is_blank, say_fields, say_header, table_of};

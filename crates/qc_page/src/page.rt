@@ -1,18 +1,19 @@
 //! The lines that are said.
 
-use crate::part::Part;
 use crate::place::Place;
 use qc_num::OutOfMemory;
-use std::alloc::Global;
+use std::alloc::{AllocError, Global};
 
 /// How many bytes of others are shown at most.
 const MOST_SHOWN: usize = 60;
 
-/// The lines that are said, each with the program's name ahead.
+/// The lines that are said, each with the program's name ahead. Where memory is wanting for one of them, or for what it
+/// needs, none is told.
 #[derive(Drop)]
 pub struct Page {
     alloc: Global,
-    text: String,
+    said: String,
+    is_short: bool,
 }
 
 impl Page {
@@ -20,7 +21,8 @@ impl Page {
     pub fn new(alloc: Global) -> Page {
         Page {
             alloc,
-            text: String::new(alloc),
+            said: String::new(alloc),
+            is_short: false,
         }
     }
 
@@ -29,128 +31,137 @@ impl Page {
         self.alloc
     }
 
-    /// Says a line.
-    pub fn say(&mut self, parts: &[Part<'_>]) -> Result<(), OutOfMemory> {
-        self.begin(parts)?;
-        self.end(&[])
+    /// What was made for a line, where there was memory for it.
+    pub fn unless_short<T: Drop>(&mut self, made: Result<T, OutOfMemory>) -> Option<T> {
+        match made {
+            Ok(made) => Some(made),
+            Err(OutOfMemory) => {
+                self.is_short = true;
+                None
+            }
+        }
+    }
+
+    /// The lines; none where memory was wanting for them.
+    pub fn lines(&self) -> Option<&[u8]> {
+        if self.is_short {
+            None
+        } else {
+            Some(self.said.as_bytes())
+        }
     }
 
     /// Begins a line.
-    pub fn begin(&mut self, parts: &[Part<'_>]) -> Result<(), OutOfMemory> {
-        self.text.push_str("qc: ")?;
-        self.add(parts)
-    }
-
-    /// Goes on with the line that was begun.
-    pub fn add(&mut self, parts: &[Part<'_>]) -> Result<(), OutOfMemory> {
-        for part in parts {
-            self.put(*part)?;
-        }
-        Ok(())
+    pub fn line(&mut self) -> &mut Page {
+        self.text("qc: ")
     }
 
     /// Ends the line that was begun.
-    pub fn end(&mut self, parts: &[Part<'_>]) -> Result<(), OutOfMemory> {
-        self.add(parts)?;
-        self.text.push('\n')?;
-        Ok(())
+    pub fn end(&mut self) {
+        self.text("\n");
     }
 
-    /// The lines so far.
-    pub fn as_bytes(&self) -> &[u8] {
-        self.text.as_bytes()
-    }
-
-    /// Puts a part behind what was said.
-    fn put(&mut self, part: Part<'_>) -> Result<(), OutOfMemory> {
-        match part {
-            Part::Text(text) => self.put_text(text),
-            Part::Word(word) => self.put_word(word),
-            Part::Shown(bytes) => self.put_shown(bytes),
-            Part::Number(number) => self.put_number(number),
-            Part::Count(count) => self.put_count(count, ""),
-            Part::Ticks(count) => self.put_count(
-                count,
-                if count == 1 { " tick" } else { " ticks" },
-            ),
-            Part::Bays(count) => self.put_count(count, if count == 1 { " bay" } else { " bays" }),
-            Part::Decimetres(count) => self.put_count(
-                count,
-                if count == 1 {
-                    " decimetre"
-                } else {
-                    " decimetres"
-                },
-            ),
-            Part::At(place) => self.put_place(place),
+    /// A text of ours, as it is.
+    pub fn text(&mut self, text: &str) -> &mut Page {
+        if !self.is_short && self.said.push_str(text).is_err() {
+            self.is_short = true;
         }
+        self
     }
 
-    fn put_text(&mut self, text: &str) -> Result<(), OutOfMemory> {
-        self.text.push_str(text)?;
-        Ok(())
-    }
-
-    fn put_number(&mut self, number: i64) -> Result<(), OutOfMemory> {
-        let digits = format!(in self.alloc; "{number}")?;
-        self.put_text(digits.as_str())
-    }
-
-    fn put_count(&mut self, count: u64, unit: &str) -> Result<(), OutOfMemory> {
-        let digits = format!(in self.alloc; "{count}")?;
-        self.put_text(digits.as_str())?;
-        self.put_text(unit)
-    }
-
-    /// Puts a character, and a question mark for one that steers a terminal.
-    fn put_char(&mut self, c: char) -> Result<(), OutOfMemory> {
-        if c == '\t' {
-            self.put_text("\\t")
-        } else {
-            self.text.push(if c.is_control() { '?' } else { c })?;
-            Ok(())
-        }
-    }
-
-    fn put_word(&mut self, word: &str) -> Result<(), OutOfMemory> {
+    /// A word of others as it is, but for what steers a terminal.
+    pub fn word(&mut self, word: &str) -> &mut Page {
         for c in word.chars() {
-            self.put_char(c)?;
+            self.letter(c);
         }
-        Ok(())
+        self
     }
 
-    fn put_shown(&mut self, bytes: &[u8]) -> Result<(), OutOfMemory> {
+    /// Bytes of a file between double quotes: text as it is, and all else by its bytes. A long one is cut.
+    pub fn shown(&mut self, bytes: &[u8]) -> &mut Page {
         let front = bytes.get(..MOST_SHOWN).unwrap_or(bytes);
-        self.put_text("\"")?;
+        self.text("\"");
         for chunk in front.utf8_chunks() {
-            self.put_word(chunk.valid())?;
+            self.word(chunk.valid());
             for byte in chunk.invalid() {
-                self.put_byte(*byte)?;
+                self.byte(*byte);
             }
         }
-        self.put_text(if front.len() < bytes.len() {
+        self.text(if front.len() < bytes.len() {
             "\".."
         } else {
             "\""
         })
     }
 
-    /// Puts a byte that is no text, by its number.
-    fn put_byte(&mut self, byte: u8) -> Result<(), OutOfMemory> {
-        let code = format!(in self.alloc; "\\x{byte:02X}")?;
-        self.put_text(code.as_str())
+    /// A number.
+    pub fn number(&mut self, number: i64) -> &mut Page {
+        let digits = format!(in self.alloc; "{number}");
+        self.digits(digits)
     }
 
-    fn put_place(&mut self, place: Place<'_>) -> Result<(), OutOfMemory> {
-        self.put_word(place.file)?;
+    /// How many there are.
+    pub fn count(&mut self, count: u64) -> &mut Page {
+        let digits = format!(in self.alloc; "{count}");
+        self.digits(digits)
+    }
+
+    /// So many ticks, with their unit.
+    pub fn ticks(&mut self, count: u64) -> &mut Page {
+        self.count(count)
+            .text(if count == 1 { " tick" } else { " ticks" })
+    }
+
+    /// So many bays, or decimetres, with their unit.
+    pub fn rail(&mut self, count: u64, in_decimetres: bool) -> &mut Page {
+        self.count(count).text(match (in_decimetres, count) {
+            (true, 1) => " decimetre",
+            (true, _) => " decimetres",
+            (false, 1) => " bay",
+            (false, _) => " bays",
+        })
+    }
+
+    /// Where something stands.
+    pub fn at(&mut self, place: Place<'_>) -> &mut Page {
+        self.word(place.file);
         if place.line > 0 {
-            self.put_text(", line ")?;
-            self.put_count(place.line as u64, "")?;
+            self.text(", line ").count(place.line as u64);
         }
         if place.record > 0 {
-            self.put_text(", record ")?;
-            self.put_count(u64::from(place.record), "")?;
+            self.text(", record ").count(u64::from(place.record));
         }
-        Ok(())
+        self
+    }
+
+    /// What a number is written as, where there was memory for it.
+    fn digits(&mut self, digits: Result<String, AllocError>) -> &mut Page {
+        match digits {
+            Ok(digits) => self.text(digits.as_str()),
+            Err(_) => {
+                self.is_short = true;
+                self
+            }
+        }
+    }
+
+    /// A character, and a question mark for one that steers a terminal.
+    fn letter(&mut self, c: char) {
+        if c == '\t' {
+            self.text("\\t");
+        } else if !self.is_short
+            && self
+                .said
+                .push(if c.is_control() { '?' } else { c })
+                .is_err()
+        {
+            self.is_short = true;
+        }
+    }
+
+    /// A byte that is no text, by its number.
+    fn byte(&mut self, byte: u8) {
+        let code = format!(in self.alloc; "\\x{byte:02X}");
+        self.digits(code);
     }
 }

@@ -3,7 +3,6 @@
 use crate::bytes::{count_pieces, has_piece};
 use crate::form::{Sort, behind_mark, say_form};
 use crate::page::Page;
-use crate::part::Part::{At, Count, Shown, Text};
 use crate::place::{Place, line_at, line_of};
 use csv::ByteRecord;
 use qc_num::OutOfMemory;
@@ -158,26 +157,23 @@ fn why_no_header(alloc: Global, line: &[u8], header: &str) -> Result<&'static st
 }
 
 /// Says what is wrong with the header of a table.
-pub fn say_header<'a>(
-    page: &mut Page,
-    table: &Table<'a>,
-    header: &'a str,
-    wanted: Sort,
-) -> Result<(), OutOfMemory> {
-    if say_form(page, table.file, table.text, wanted)? {
-        return Ok(());
+pub fn say_header(page: &mut Page, table: &Table<'_>, header: &str, wanted: Sort) {
+    if say_form(page, table.file, table.text, wanted) {
+        return;
     }
     let line = table.first_line();
-    let why = why_no_header(page.alloc(), line, header)?;
-    page.say(&[
-        At(table.place(1)),
-        Text(": "),
-        Shown(line),
-        Text(" isn't the header "),
-        Text(header),
-        Text(": "),
-        Text(why),
-    ])
+    let Some(why) = page.unless_short(why_no_header(page.alloc(), line, header)) else {
+        return;
+    };
+    page.line()
+        .at(table.place(1))
+        .text(": ")
+        .shown(line)
+        .text(" isn't the header ")
+        .text(header)
+        .text(": ")
+        .text(why)
+        .end()
 }
 
 /// Whether each field behind the fourth is empty.
@@ -206,26 +202,21 @@ fn why_not_four(fields: &ByteRecord) -> &'static str {
 }
 
 /// Says what is wrong with the fields of a record that hasn't four.
-pub fn say_fields<'a>(
-    page: &mut Page,
-    table: &Table<'a>,
-    number: u32,
-    header: &'a str,
-) -> Result<(), OutOfMemory> {
+pub fn say_fields(page: &mut Page, table: &Table<'_>, number: u32, header: &str) {
     let Some(fields) = table.record(number) else {
-        return Ok(());
+        return;
     };
     let (count, why) = (fields.len(), why_not_four(fields));
-    page.say(&[
-        At(table.place(number)),
-        Text(": the record has "),
-        Count(count as u64),
-        Text(if count == 1 { " field" } else { " fields" }),
-        Text(", and needs four, "),
-        Text(header),
-        Text(": "),
-        Text(why),
-    ])
+    page.line()
+        .at(table.place(number))
+        .text(": the record has ")
+        .count(count as u64)
+        .text(if count == 1 { " field" } else { " fields" })
+        .text(", and needs four, ")
+        .text(header)
+        .text(": ")
+        .text(why)
+        .end()
 }
 
 /// Whether a record has no more than empty fields.

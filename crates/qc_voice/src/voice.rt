@@ -11,7 +11,7 @@ use qc_hints::{counts_decimetres, say_notes, say_ship, say_stow, say_usage};
 use qc_io::{Shelf, Sink, put_all};
 use qc_model::{Instance, Turn};
 use qc_num::OutOfMemory;
-use qc_page::{Page, Part};
+use qc_page::Page;
 use qc_replay::{ReplayError, replay};
 use qc_run::Status;
 use qc_ship::{Ship, ShipError, read_ship};
@@ -101,79 +101,73 @@ fn first_unread<'a>(names: &Names<'a>, texts: &Texts) -> Option<Unread<'a>> {
 }
 
 /// Says which file couldn't be read, or is too large.
-fn say_unread(page: &mut Page, names: &Names<'_>, texts: &Texts) -> Result<(), OutOfMemory> {
+fn say_unread(page: &mut Page, names: &Names<'_>, texts: &Texts) {
     let Some(unread) = first_unread(names, texts) else {
-        return Ok(());
+        return;
     };
-    page.say(&[
-        Part::Word(unread.name),
-        Part::Text(": this file, "),
-        Part::Text(unread.word),
-        Part::Text(if unread.is_large {
+    page.line()
+        .word(unread.name)
+        .text(": this file, ")
+        .text(unread.word)
+        .text(if unread.is_large {
             ", has more than 8388608 bytes, and may have no more"
         } else {
             ", isn't there or can't be read"
-        }),
-    ])
+        })
+        .end()
 }
 
 /// Says what is wrong with the list.
-fn say_bad_stow(page: &mut Page, names: &Names<'_>, texts: &Texts) -> Result<(), OutOfMemory> {
+fn say_bad_stow(page: &mut Page, names: &Names<'_>, texts: &Texts) {
     let (Some(name), Some(bytes)) = (names.stow, texts.stow.bytes()) else {
-        return Ok(());
+        return;
     };
-    match ship_in(page.alloc(), &texts.ship)? {
-        Some(ship) => say_stow(page, name, bytes, &ship),
-        None => Ok(()),
+    if let Some(Some(ship)) = page.unless_short(ship_in(page.alloc(), &texts.ship)) {
+        say_stow(page, name, bytes, &ship)
     }
 }
 
 /// Says what is wrong with the log.
-fn say_bad_log(page: &mut Page, names: &Names<'_>, texts: &Texts) -> Result<(), OutOfMemory> {
+fn say_bad_log(page: &mut Page, names: &Names<'_>, texts: &Texts) {
     let (Some(name), Some(bytes)) = (names.log, texts.log.bytes()) else {
-        return Ok(());
+        return;
     };
     if let Some(plan) = texts.plan.bytes() {
-        return match instance_of(page.alloc(), texts)? {
-            Some(inst) => say_course(page, name, bytes, &inst, plan),
-            None => Ok(()),
-        };
+        if let Some(Some(inst)) = page.unless_short(instance_of(page.alloc(), texts)) {
+            say_course(page, name, bytes, &inst, plan)
+        }
+        return;
     }
-    match ship_in(page.alloc(), &texts.ship)? {
-        Some(ship) => say_log(page, name, bytes, &ship),
-        None => Ok(()),
+    if let Some(Some(ship)) = page.unless_short(ship_in(page.alloc(), &texts.ship)) {
+        say_log(page, name, bytes, &ship)
     }
 }
 
 /// Says what cranes wait for, where a plan was followed by a log.
-fn say_what_waits(page: &mut Page, texts: &Texts) -> Result<(), OutOfMemory> {
+fn say_what_waits(page: &mut Page, texts: &Texts) {
     let (Some(plan), Some(log)) = (texts.plan.bytes(), texts.log.bytes()) else {
-        return Ok(());
+        return;
     };
-    match instance_of(page.alloc(), texts)? {
-        Some(inst) => say_waits(page, log, &inst, plan),
-        None => Ok(()),
+    if let Some(Some(inst)) = page.unless_short(instance_of(page.alloc(), texts)) {
+        say_waits(page, log, &inst, plan)
     }
 }
 
 /// Says what is wrong with the plan, as a table or, where that is in order, as a plan that is worked.
-fn say_bad_plan(
-    page: &mut Page,
-    names: &Names<'_>,
-    texts: &Texts,
-    ended: Status,
-) -> Result<(), OutOfMemory> {
+fn say_bad_plan(page: &mut Page, names: &Names<'_>, texts: &Texts, ended: Status) {
     let (Some(name), Some(bytes)) = (names.plan.or(names.own), texts.plan.bytes()) else {
-        return Ok(());
+        return;
     };
-    let Some(inst) = instance_of(page.alloc(), texts)? else {
-        return Ok(());
+    let Some(Some(inst)) = page.unless_short(instance_of(page.alloc(), texts)) else {
+        return;
     };
     if ended == Status::BadPlan {
         return say_plan(page, name, bytes, &inst);
     }
-    let in_decimetres = is_in_decimetres(page.alloc(), &texts.ship)?;
-    say_broken(page, name, bytes, &inst, in_decimetres)
+    let in_decimetres = is_in_decimetres(page.alloc(), &texts.ship);
+    if let Some(in_decimetres) = page.unless_short(in_decimetres) {
+        say_broken(page, name, bytes, &inst, in_decimetres)
+    }
 }
 
 /// Whether a ship file counts places in decimetres.
@@ -185,47 +179,37 @@ fn is_in_decimetres(alloc: Global, text: &Text) -> Result<bool, OutOfMemory> {
 }
 
 /// Says what is wrong with the ship file.
-fn say_bad_ship(page: &mut Page, names: &Names<'_>, texts: &Texts) -> Result<(), OutOfMemory> {
+fn say_bad_ship(page: &mut Page, names: &Names<'_>, texts: &Texts) {
     match (names.ship, texts.ship.bytes()) {
         (Some(name), Some(bytes)) => say_ship(page, name, bytes),
-        _ => Ok(()),
+        _ => {}
     }
 }
 
 /// Says the notes on the ship file.
-fn say_ship_notes(page: &mut Page, names: &Names<'_>, texts: &Texts) -> Result<(), OutOfMemory> {
+fn say_ship_notes(page: &mut Page, names: &Names<'_>, texts: &Texts) {
     match (names.ship, texts.ship.bytes()) {
         (Some(name), Some(bytes)) => say_notes(page, name, bytes),
-        _ => Ok(()),
+        _ => {}
     }
 }
 
 /// Says what may help on where a search came to no plan.
-fn say_planless(
-    page: &mut Page,
-    names: &Names<'_>,
-    texts: &Texts,
-    ended: Status,
-) -> Result<(), OutOfMemory> {
+fn say_planless(page: &mut Page, names: &Names<'_>, texts: &Texts, ended: Status) {
     if names.written.is_none() {
-        return Ok(());
+        return;
     }
     if ended == Status::BudgetNone {
         return say_spent(page);
     }
-    match turned_instance(page.alloc(), texts, names.turn)? {
-        Some(inst) => say_infeasible(page, &inst),
-        None => Ok(()),
+    let inst = turned_instance(page.alloc(), texts, names.turn);
+    if let Some(Some(inst)) = page.unless_short(inst) {
+        say_infeasible(page, &inst)
     }
 }
 
 /// Says what there is to say of the files that are read whole.
-fn say_texts(
-    page: &mut Page,
-    names: &Names<'_>,
-    texts: &Texts,
-    ended: Status,
-) -> Result<(), OutOfMemory> {
+fn say_texts(page: &mut Page, names: &Names<'_>, texts: &Texts, ended: Status) {
     match ended {
         Status::ReadFault | Status::TooLarge => say_unread(page, names, texts),
         Status::BadShip => say_bad_ship(page, names, texts),
@@ -233,19 +217,20 @@ fn say_texts(
         Status::BadPlan => say_bad_plan(page, names, texts, ended),
         Status::BadLog => say_bad_log(page, names, texts),
         Status::Broken => {
-            say_bad_plan(page, names, texts, ended)?;
+            say_bad_plan(page, names, texts, ended);
             say_ship_notes(page, names, texts)
         }
-        Status::OutOfMemory => page.say(&[Part::Text(
-            "the system gave no more memory; no file was changed",
-        )]),
-        Status::Usage | Status::WriteFault | Status::BadTree => Ok(()),
+        Status::OutOfMemory => page
+            .line()
+            .text("the system gave no more memory; no file was changed")
+            .end(),
+        Status::Usage | Status::WriteFault | Status::BadTree => {}
         Status::Infeasible | Status::BudgetNone => {
-            say_ship_notes(page, names, texts)?;
+            say_ship_notes(page, names, texts);
             say_planless(page, names, texts, ended)
         }
         Status::Done => {
-            say_ship_notes(page, names, texts)?;
+            say_ship_notes(page, names, texts);
             say_what_waits(page, texts)
         }
         Status::Optimal | Status::BudgetPlan | Status::Weaker | Status::Breach => {
@@ -270,33 +255,31 @@ fn tree_fault<S: Shelf>(
 }
 
 /// Says what is wrong with a tree's file.
-fn say_bad_tree<S: Shelf>(
-    page: &mut Page,
-    shelf: &mut S,
-    name: &str,
-    inst: &Instance,
-) -> Result<(), OutOfMemory>
+fn say_bad_tree<S: Shelf>(page: &mut Page, shelf: &mut S, name: &str, inst: &Instance)
     ensures { LeavesFiles (S.Sink.view shelf.old) (S.Sink.view shelf.new) }
 {
     let Some(fault) = tree_fault(page.alloc(), inst, shelf, name) else {
-        return Ok(());
+        return;
     };
-    let text = read_text(page.alloc(), shelf, Some(name))?;
+    let text = read_text(page.alloc(), shelf, Some(name));
+    let Some(text) = page.unless_short(text) else {
+        return;
+    };
     say_tree(page, name, text.bytes().unwrap_or(&[]), inst.turn(), fault)
 }
 
 /// Says that a plan isn't of this run, where there is one.
-fn say_stale<S: Shelf>(page: &mut Page, shelf: &mut S, name: &str) -> Result<(), OutOfMemory>
+fn say_stale<S: Shelf>(page: &mut Page, shelf: &mut S, name: &str)
     ensures { LeavesFiles (S.Sink.view shelf.old) (S.Sink.view shelf.new) }
 {
     if shelf.open(name).is_err() {
-        return Ok(());
+        return;
     }
-    page.say(&[
-        Part::Text("note: "),
-        Part::Word(name),
-        Part::Text(": this plan was there before and isn't of this run"),
-    ])
+    page.line()
+        .text("note: ")
+        .word(name)
+        .text(": this plan was there before and isn't of this run")
+        .end()
 }
 
 /// Says what there is to say of the files that are read otherwise: a tree's, and a plan that wasn't written.
@@ -306,48 +289,46 @@ fn say_others<S: Shelf>(
     names: &Names<'_>,
     inst: Option<Instance>,
     ended: Status,
-) -> Result<(), OutOfMemory>
+)
     ensures { LeavesFiles (S.Sink.view shelf.old) (S.Sink.view shelf.new) }
 {
     match (ended, names.tree, names.written, &inst) {
         (Status::BadTree, Some(name), _, Some(inst)) => say_bad_tree(page, shelf, name, inst),
         (Status::Infeasible | Status::BudgetNone, _, Some(name), _) => say_stale(page, shelf, name),
-        _ => Ok(()),
+        _ => {}
     }
 }
 
 /// Says what there is to say of a run with these files.
-fn say_files<S: Shelf>(
-    page: &mut Page,
-    shelf: &mut S,
-    names: &Names<'_>,
-    ended: Status,
-) -> Result<(), OutOfMemory>
+fn say_files<S: Shelf>(page: &mut Page, shelf: &mut S, names: &Names<'_>, ended: Status)
     ensures { LeavesFiles (S.Sink.view shelf.old) (S.Sink.view shelf.new) }
 {
-    let texts = read_texts(page.alloc(), shelf, names)?;
-    say_texts(page, names, &texts, ended)?;
-    let inst = if ended == Status::BadTree {
-        turned_instance(page.alloc(), &texts, names.turn)?
-    } else {
-        None
+    let texts = read_texts(page.alloc(), shelf, names);
+    let Some(texts) = page.unless_short(texts) else {
+        return;
     };
-    say_others(page, shelf, names, inst, ended)
+    say_texts(page, names, &texts, ended);
+    let inst = if ended == Status::BadTree {
+        turned_instance(page.alloc(), &texts, names.turn)
+    } else {
+        Ok(None)
+    };
+    if let Some(inst) = page.unless_short(inst) {
+        say_others(page, shelf, names, inst, ended)
+    }
 }
 
 /// Says what there is to say of a run with these words.
-fn say_all<S: Shelf>(
-    page: &mut Page,
-    words: &[String],
-    ended: Status,
-    shelf: &mut S,
-) -> Result<(), OutOfMemory>
+fn say_all<S: Shelf>(page: &mut Page, words: &[String], ended: Status, shelf: &mut S)
     ensures { LeavesFiles (S.Sink.view shelf.old) (S.Sink.view shelf.new) }
 {
     if ended == Status::Usage {
         return say_usage(page, words);
     }
-    let request: Request<'_> = request_of(page.alloc(), words)?;
+    let request = request_of(page.alloc(), words);
+    let Some(request) = page.unless_short(request) else {
+        return;
+    };
     let names = names_of(&request);
     say_files(page, shelf, &names, ended)
 }
@@ -366,7 +347,8 @@ pub fn explain<S: Shelf, K: Sink>(
     ensures beside { beside (K.Sink.view err.new) ≡ beside (K.Sink.view err.old) }
 {
     let mut page = Page::new(alloc);
-    if say_all(&mut page, words, ended, shelf).is_ok() {
-        let _ = put_all(err, page.as_bytes());
+    say_all(&mut page, words, ended, shelf);
+    if let Some(lines) = page.lines() {
+        let _ = put_all(err, lines);
     }
 }
