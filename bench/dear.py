@@ -48,7 +48,7 @@ def below(crate, uses):
 def rattle(crate, folder, words):
     """Checks a crate whose sources stand in a folder, over the libraries as they are built, and gives what is printed."""
     uses = crates()
-    built = {it: ROOT / f"out/libraries/{it}.rlib" for it in below(crate, uses)}
+    built = {it: ROOT / f"crates/qc_cli/out/rlib/{it}.rlib" for it in below(crate, uses)}
     missing = [it for it, at in built.items() if not (at / "format").exists()]
     if missing:
         sys.exit(f"dear.py: build these first: {' '.join(missing)}")
