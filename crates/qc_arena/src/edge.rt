@@ -1,7 +1,7 @@
 use qc_num::Tick;
 
 /// An arc from one node to another. Nodes are numbered from 0.
-#[derive(Clone, Copy, Debug, PartialEq, Eq)]
+#[derive(Clone, Copy, PartialEq, Eq)]
 pub struct Edge {
     /// The node that it leaves.
     pub from: u16,

@@ -18,7 +18,7 @@ use qc_starts::Starts;
 
 /// The leaf that a node gets in a bound tree. The tasks of a chain, a ring or a
 /// clash stand in a path.
-#[derive(Clone, Copy, Debug, PartialEq, Eq)]
+#[derive(Clone, Copy, PartialEq, Eq)]
 pub enum LeafKind {
     /// Tasks, each forced after the one before it, that end when the node does: a critical chain.
     Chain,

@@ -15,7 +15,7 @@ pub type CellText = Text<7>;
 /// An odd bay is 20 feet long, and an even one is the 40-foot bay over the odd ones beside it. Row
 /// 00 is on the centre line, odd rows lie to starboard and even ones to port. Every tier is even;
 /// those from 70 on are on deck, and those below in the hold.
-#[derive(Clone, Copy, Debug, PartialEq, Eq, Hash)]
+#[derive(Clone, Copy, PartialEq, Eq)]
 pub struct Cell {
     /// 1 to 999, from the bow.
     pub bay: u16,

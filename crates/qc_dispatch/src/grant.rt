@@ -3,7 +3,7 @@
 use qc_num::Tick;
 
 /// Leave for a crane to start a task.
-#[derive(Clone, Copy, Debug, PartialEq, Eq)]
+#[derive(Clone, Copy, PartialEq, Eq)]
 pub struct Grant {
     /// The task's number, from 0.
     pub task: u16,

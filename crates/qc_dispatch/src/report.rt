@@ -22,7 +22,7 @@ const TICK_DIGITS: usize = 9;
 pub const MOST_LINE: usize = 64;
 
 /// What a line reports.
-#[derive(Clone, Copy, Debug, PartialEq, Eq)]
+#[derive(Clone, Copy, PartialEq, Eq)]
 pub enum Report {
     /// So many ticks passed.
     Passed(Tick),

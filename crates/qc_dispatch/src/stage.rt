@@ -6,7 +6,7 @@ ghost use Rattle.qc_dispatch.specs.Course.{end_in, is_running, is_waiting, start
 use qc_num::Tick;
 
 /// How far a task is.
-#[derive(Clone, Copy, Debug, PartialEq, Eq)]
+#[derive(Clone, Copy, PartialEq, Eq)]
 pub enum Stage {
     /// It has no start.
     Waiting,

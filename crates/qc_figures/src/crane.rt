@@ -7,7 +7,7 @@ use qc_num::Tick;
 
 /// What a crane does with the ticks of a plan. `not_ready`, `work`, `moving`, `waiting` and `idle` make up
 /// all ticks from 0 to the end of the plan.
-#[derive(Clone, Copy, Debug, PartialEq, Eq)]
+#[derive(Clone, Copy, PartialEq, Eq)]
 pub struct Figures {
     pub tasks: u16,
     /// Container moves.

@@ -6,7 +6,7 @@ use std::alloc::{AllocError, Global};
 use std::marker::Model;
 
 /// Counts the calls on a store, from 1, and knows which of them are set to fail.
-#[derive(Debug, Drop)]
+#[derive(Drop)]
 pub struct Calls {
     count: u64,
     failing: Vec<u64>,

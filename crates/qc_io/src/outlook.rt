@@ -3,7 +3,7 @@
 use qc_num::Tick;
 
 /// What is known of a search before its first branching.
-#[derive(Clone, Copy, Debug)]
+#[derive(Clone, Copy)]
 pub struct Outlook {
     /// How many branchings it may make.
     pub limit: u32,

@@ -13,7 +13,7 @@ use std::alloc::{AllocError, Global};
 const BLOCK: usize = 65536;
 
 /// Why a file wasn't read.
-#[derive(Clone, Copy, Debug, PartialEq, Eq, Hash)]
+#[derive(Clone, Copy, Debug, PartialEq, Eq)]
 pub enum ReadAll {
     /// The shelf doesn't hold the file, or a call on the shelf failed.
     ReadFault,

@@ -4,7 +4,7 @@ ghost use Rattle.std.specs.Prelude.{◌≡◌, min, take, drop, length, ℕ, ◌
 use std::marker::Model;
 
 /// What is left of a file that is being read.
-#[derive(Debug, Drop)]
+#[derive(Drop)]
 pub struct Rest {
     bytes: Vec<u8>,
     taken: usize,

@@ -5,7 +5,7 @@ ghost use Rattle.qc_io.specs.Outside.{View, beside, next_count};
 ghost use Rattle.qc_io.specs.Writes.{Counts};
 
 /// A call on the outside failed.
-#[derive(Clone, Copy, Debug, PartialEq, Eq, Hash)]
+#[derive(Clone, Copy, Debug, PartialEq, Eq)]
 pub struct Failed;
 
 /// Counts a fault.

@@ -5,7 +5,7 @@ ghost use Rattle.qc_io.specs.Writes.{Writes};
 use crate::sink::{Failed, Sink};
 
 /// A call on the sink failed, so a piece wasn't written whole.
-#[derive(Clone, Copy, Debug, PartialEq, Eq, Hash)]
+#[derive(Clone, Copy, Debug, PartialEq, Eq)]
 pub struct WriteFault;
 
 impl From<Failed> for WriteFault {

@@ -6,7 +6,7 @@ use qc_num::Tick;
 use qc_run::Broken;
 
 /// What is told of a plan that holds.
-#[derive(Clone, Copy, Debug, PartialEq, Eq)]
+#[derive(Clone, Copy, PartialEq, Eq)]
 pub struct Compared {
     /// When the plan's last task ends, in ticks.
     pub end: Tick,

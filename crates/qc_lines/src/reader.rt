@@ -16,7 +16,7 @@ use std::marker::Model;
 const BLOCK: usize = 65536;
 
 /// Why a file wasn't opened to be read line by line.
-#[derive(Clone, Copy, Debug, PartialEq, Eq, Hash)]
+#[derive(Clone, Copy, Debug, PartialEq, Eq)]
 pub enum LineOpen {
     /// The shelf doesn't hold the file, or a call on the shelf failed.
     ReadFault,
@@ -46,7 +46,7 @@ impl From<AllocError> for LineOpen {
 }
 
 /// Why no line came.
-#[derive(Clone, Copy, Debug, PartialEq, Eq, Hash)]
+#[derive(Clone, Copy, Debug, PartialEq, Eq)]
 pub enum LineFault {
     /// A call on the shelf failed.
     ReadFault,

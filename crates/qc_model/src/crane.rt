@@ -4,7 +4,7 @@ use crate::Name;
 use qc_num::{Bay, Tick};
 
 /// A quay crane. Cranes are numbered along the rail with rising bays, from 0.
-#[derive(Clone, Debug, Drop)]
+#[derive(Clone, Drop)]
 pub struct Crane {
     pub name: Name,
     /// The tick from which it may leave its start bay, 0 to 1,000,000.

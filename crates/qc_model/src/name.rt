@@ -8,7 +8,7 @@ use qc_num::Text;
 use std::marker::Model;
 
 /// The name of a crane: 1 to 12 ASCII letters, digits, `-` and `_`.
-#[derive(Clone, Debug, Drop)]
+#[derive(Clone, Drop)]
 pub struct Name {
     text: Text<12>,
 }

@@ -1,7 +1,7 @@
 //! Pairs of tasks.
 
 /// Two tasks by their numbers, from 0. Pairs are in order of the first task, then of the second.
-#[derive(Clone, Copy, Debug, PartialEq, Eq, PartialOrd, Ord)]
+#[derive(Clone, Copy, PartialEq, Eq, PartialOrd, Ord)]
 pub struct Pair {
     pub first: u16,
     pub second: u16,

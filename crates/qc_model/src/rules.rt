@@ -14,7 +14,7 @@ use crate::{Direction, Instance, Pair, Schedule};
 /// The rules of a schedule, in the order in which they are judged: those of a feasible
 /// schedule after Kim and Park (2004), and that of a one-way schedule after Bierwirth and
 /// Meisel (2009).
-#[derive(Clone, Copy, Debug, PartialEq, Eq)]
+#[derive(Clone, Copy, PartialEq, Eq)]
 pub enum Rule {
     /// A task lies within the reach of its crane.
     Reach,
@@ -35,7 +35,7 @@ pub enum Rule {
 }
 
 /// A rule that a schedule breaks, and where.
-#[derive(Clone, Copy, Debug, PartialEq, Eq)]
+#[derive(Clone, Copy, PartialEq, Eq)]
 pub struct Break {
     pub rule: Rule,
     /// The task, or the lower of the two.

@@ -7,7 +7,7 @@ use itoa::Buffer;
 use qc_num::{Bay, Text, Tick};
 
 /// A phase of the work at one hatch. The phases of a hatch are worked in this order.
-#[derive(Clone, Copy, Debug, PartialEq, Eq)]
+#[derive(Clone, Copy, PartialEq, Eq)]
 pub enum Phase {
     /// Discharge on deck, printed `DD`.
     DeckOut,
@@ -46,7 +46,7 @@ impl Phase {
 }
 
 /// All moves of one hatch and one phase, done once and without interruption by one crane.
-#[derive(Clone, Copy, Debug, PartialEq, Eq)]
+#[derive(Clone, Copy, PartialEq, Eq)]
 pub struct Task {
     /// The hatch's number in the ship file.
     pub hatch: u16,

@@ -1,7 +1,7 @@
 //! How cranes may move.
 
 /// Whether cranes go up along the ship, each from its first task on, or to and fro.
-#[derive(Clone, Copy, Debug, PartialEq, Eq)]
+#[derive(Clone, Copy, PartialEq, Eq)]
 pub enum Turn {
     /// Each goes up from its first task on.
     OneWay,

@@ -6,7 +6,7 @@ use crate::Tick;
 
 /// A lower bound of the ends of all schedules, in ticks; `Never`, above every number, where there
 /// is no schedule.
-#[derive(Clone, Copy, Debug, PartialEq, Eq)]
+#[derive(Clone, Copy, PartialEq, Eq)]
 pub enum Bound {
     /// Nothing ends before this tick.
     Least(Tick),

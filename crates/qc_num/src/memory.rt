@@ -7,7 +7,7 @@ use std::error::Error;
 use std::fmt;
 
 /// Memory was asked for and refused. No contract says when that comes.
-#[derive(Clone, Copy, Debug, PartialEq, Eq, Hash)]
+#[derive(Clone, Copy, Debug, PartialEq, Eq)]
 pub struct OutOfMemory;
 
 impl fmt::Display for OutOfMemory {

@@ -7,7 +7,7 @@ use itoa::Buffer;
 use std::marker::Model;
 
 /// A short text that is held in place: at most `N` bytes, and no memory is taken.
-#[derive(Clone, Debug, Drop)]
+#[derive(Clone, Drop)]
 pub struct Text<const N: usize> {
     bytes: [u8; N],
     len: usize,

@@ -8,7 +8,7 @@ ghost use Rattle.qc_picture.specs.Views.{IsFar, IsFarSpan};
 use qc_num::Tick;
 
 /// The least and the greatest place that is drawn, in halves of a bay times travel.
-#[derive(Clone, Copy, Debug, PartialEq, Eq)]
+#[derive(Clone, Copy, PartialEq, Eq)]
 pub struct Span {
     pub low: i128,
     pub high: i128,

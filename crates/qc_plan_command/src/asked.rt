@@ -8,7 +8,7 @@ use qc_model::Turn;
 use qc_run::Inputs;
 
 /// Which plans are asked about, the names of a plan's files, and its limit of branchings.
-#[derive(Clone, Copy, Debug)]
+#[derive(Clone, Copy)]
 pub struct PlanAsked<'a> {
     /// Whether those that go one way are asked about, or all that are feasible.
     pub turn: Turn,

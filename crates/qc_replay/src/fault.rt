@@ -7,7 +7,7 @@ use std::alloc::AllocError;
 use thiserror::Error;
 
 /// What a tree shows.
-#[derive(Clone, Copy, Debug, PartialEq, Eq)]
+#[derive(Clone, Copy, PartialEq, Eq)]
 pub struct Replayed {
     /// No schedule that cranes of this turn may follow ends before this tick; `Never`: there is none.
     pub bound: Bound,

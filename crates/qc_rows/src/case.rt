@@ -11,14 +11,14 @@ pub struct Named {
 }
 
 /// What a run is given a sink or a shelf for.
-#[derive(Clone, Copy, Debug, PartialEq, Eq)]
+#[derive(Clone, Copy, PartialEq, Eq)]
 pub enum Store {
     Shelf,
     Sink,
 }
 
 /// The call of a store that is to fail, counted from 1.
-#[derive(Clone, Copy, Debug, PartialEq, Eq)]
+#[derive(Clone, Copy, PartialEq, Eq)]
 pub struct Failure {
     pub store: Store,
     pub call: u64,

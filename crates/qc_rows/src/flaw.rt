@@ -5,7 +5,7 @@ use std::alloc::{AllocError, AllocFailed};
 use std::fmt;
 
 /// What is wrong with a line of a case file.
-#[derive(Clone, Copy, Debug, PartialEq, Eq)]
+#[derive(Clone, Copy, PartialEq, Eq)]
 pub enum Flaw {
     /// A byte below 32, as a carriage return or a tab.
     Control,
@@ -71,7 +71,7 @@ impl From<OutOfMemory> for Flaw {
 }
 
 /// A flaw and the number of its line, counted from 1.
-#[derive(Clone, Copy, Debug, PartialEq, Eq)]
+#[derive(Clone, Copy, PartialEq, Eq)]
 pub struct Fault {
     pub line: usize,
     pub flaw: Flaw,

@@ -5,7 +5,7 @@ ghost use Rattle.qc_run.specs.Inputs.{name_of, names_of};
 use qc_model::Turn;
 
 /// A file that a command reads, by what it is for. `Own` is a plan that the planner has already.
-#[derive(Clone, Copy, Debug, PartialEq, Eq)]
+#[derive(Clone, Copy, PartialEq, Eq)]
 pub enum Input {
     Ship,
     Stow,
@@ -18,7 +18,7 @@ pub enum Input {
 /// The names of the files that a command reads, of which every one reads a ship file: the others where it reads
 /// them. `own` is a plan that the planner has already. `turn` says which schedules are asked about: those that go
 /// one way, or all that are feasible.
-#[derive(Clone, Copy, Debug)]
+#[derive(Clone, Copy)]
 pub struct Inputs<'a> {
     pub ship: &'a str,
     pub stow: Option<&'a str>,

@@ -23,7 +23,7 @@ pub enum LogFault {
 }
 
 /// Why a command isn't served.
-#[derive(Clone, Copy, Debug)]
+#[derive(Clone, Copy)]
 pub enum Refusal {
     /// The words are no command.
     Usage,
@@ -39,7 +39,7 @@ pub enum Refusal {
 }
 
 /// Why a command was given up before anything was written.
-#[derive(Clone, Copy, Debug)]
+#[derive(Clone, Copy)]
 pub enum Stop {
     Refused(Refusal),
     OutOfMemory,

@@ -8,7 +8,7 @@ use qc_num::{Bound, Tick};
 use std::marker::Model;
 
 /// How a search came out.
-#[derive(Clone, Copy, Debug, PartialEq, Eq)]
+#[derive(Clone, Copy, PartialEq, Eq)]
 pub enum Kind {
     /// No schedule of the instance's turn ends before the incumbent.
     Optimal,

@@ -10,7 +10,7 @@ use qc_num::{Bay, Tick};
 use std::marker::Model;
 
 /// Two hatches that aren't worked at the same time, by their numbers on board.
-#[derive(Clone, Copy, Debug, PartialEq, Eq)]
+#[derive(Clone, Copy, PartialEq, Eq)]
 pub struct HatchPair {
     pub a: u16,
     pub b: u16,

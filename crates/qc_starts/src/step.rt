@@ -1,7 +1,7 @@
 //! What a decision leads to.
 
 /// What a decision leads to.
-#[derive(Clone, Copy, Debug, PartialEq, Eq)]
+#[derive(Clone, Copy, PartialEq, Eq)]
 pub enum Step {
     /// Starts meet the node.
     Raised,

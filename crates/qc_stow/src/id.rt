@@ -8,7 +8,7 @@ use qc_num::Text;
 use std::marker::Model;
 
 /// The id of a container: 1 to 20 visible ASCII characters without comma and double quote.
-#[derive(Clone, Debug, Drop)]
+#[derive(Clone, Drop)]
 pub struct Id {
     text: Text<20>,
 }

@@ -11,7 +11,7 @@ pub const MOST_MOVES: usize = 50_000;
 
 /// The moves of a stowage list: at most 50,000, of which no two of one kind have one id or
 /// overlapping cells.
-#[derive(Debug, Drop)]
+#[derive(Drop)]
 pub struct Moves {
     rows: Vec<Row>,
 }

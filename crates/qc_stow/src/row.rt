@@ -15,7 +15,7 @@ use qc_cell::Cell;
 use qc_records::field;
 
 /// Which way a container goes.
-#[derive(Clone, Copy, Debug, PartialEq, Eq, Hash)]
+#[derive(Clone, Copy, PartialEq, Eq, Hash)]
 pub enum Move {
     /// Off the ship.
     Discharge,
@@ -40,7 +40,7 @@ impl Move {
 }
 
 /// The move of one container.
-#[derive(Debug, Drop)]
+#[derive(Drop)]
 pub struct Row {
     pub id: Id,
     pub kind: Move,

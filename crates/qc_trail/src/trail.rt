@@ -9,7 +9,7 @@ use std::marker::Model;
 use std::sync::ledger::Ledger;
 
 /// What a cell held before it was written.
-#[derive(Clone, Copy, Debug, PartialEq, Eq)]
+#[derive(Clone, Copy, PartialEq, Eq)]
 pub struct Note {
     /// The cell's number, from 0.
     pub place: u32,

@@ -4,7 +4,7 @@ ghost use Rattle.qc_tree.specs.Faults.{kind_text};
 
 /// Why a line of a tree's file is refused. For one line the first that applies counts, in this order,
 /// but that `After` comes before all others.
-#[derive(Clone, Copy, Debug, PartialEq, Eq, Hash)]
+#[derive(Clone, Copy, Debug, PartialEq, Eq)]
 pub enum TreeKind {
     /// It is longer than 1,200 bytes with its line feed.
     LineTooLong,

@@ -15,7 +15,7 @@ pub const MOST_BRANCHINGS: u32 = 100_000;
 
 /// A line of a tree's text. Tasks are numbered from 1, as in the text. The tasks of a chain, a
 /// ring or a clash stand in a path beside it.
-#[derive(Clone, Copy, Debug, PartialEq, Eq)]
+#[derive(Clone, Copy, PartialEq, Eq)]
 pub enum Line {
     /// The title of a tree of version 1: heads don't count the start berths of other cranes.
     Title,
@@ -50,7 +50,7 @@ pub enum Line {
 }
 
 /// The text is no line of a tree.
-#[derive(Clone, Copy, Debug, PartialEq, Eq, Hash)]
+#[derive(Clone, Copy, Debug, PartialEq, Eq)]
 pub struct BadLine;
 
 /// The limit is the number of the definitions. Nobody calls it; a wrong limit fails its proof.

@@ -4,7 +4,7 @@ use qc_num::Tick;
 use qc_search::Kind;
 
 /// What a check says of a plan and a tree, or of a tree alone.
-#[derive(Clone, Copy, Debug, PartialEq, Eq)]
+#[derive(Clone, Copy, PartialEq, Eq)]
 pub enum Verdict {
     /// The plan holds, and the tree shows that none ends earlier.
     Optimal,
@@ -15,7 +15,7 @@ pub enum Verdict {
 }
 
 /// What is told of a ship and a list that were made, planned and checked.
-#[derive(Clone, Copy, Debug)]
+#[derive(Clone, Copy)]
 pub struct Made {
     /// The number that both were made from.
     pub number: u32,

@@ -10,7 +10,7 @@ use qc_num::Tick;
 use qc_ship::Ship;
 
 /// Two cranes that are too near at the time of a report.
-#[derive(Clone, Copy, Debug, PartialEq, Eq)]
+#[derive(Clone, Copy, PartialEq, Eq)]
 pub struct Breach {
     pub at: Tick,
     /// The lower crane, counted from 0.

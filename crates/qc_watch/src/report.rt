@@ -3,7 +3,7 @@
 use qc_num::{Bay, Tick};
 
 /// Where a crane was at a time, as it was reported.
-#[derive(Clone, Copy, Debug, PartialEq, Eq)]
+#[derive(Clone, Copy, PartialEq, Eq)]
 pub struct Report {
     /// At most twelve digits.
     pub at: Tick,

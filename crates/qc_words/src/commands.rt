@@ -9,7 +9,7 @@ use clap::{Arg, Command};
 use std::alloc::{AllocError, Global};
 
 /// The command that words begin with.
-#[derive(Clone, Copy, Debug, PartialEq, Eq)]
+#[derive(Clone, Copy, PartialEq, Eq)]
 pub enum CommandName {
     Plan,
     Check,
