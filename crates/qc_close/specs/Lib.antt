@@ -10,4 +10,5 @@ pub mod Spots
 pub mod Bars
 pub mod Rests
 pub mod Trips
+pub mod Lists
 pub mod Moves

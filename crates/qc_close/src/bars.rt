@@ -81,6 +81,15 @@ fn nothings(alloc: Global, count: usize) -> Result<Vec<Bars>, OutOfMemory>
     Ok(vec![in alloc; NOTHING; count]?)
 }
 
+/// A table without rows.
+pub(crate) fn no_table(alloc: Global) -> Table {
+    Table {
+        grid: Vec::new(alloc),
+        before: Vec::new(alloc),
+        from: Vec::new(alloc),
+    }
+}
+
 /// The table of an instance of which no task has a crane.
 pub(crate) fn table_of(alloc: Global, inst: &Instance, spots: &Spots) -> Result<Table, OutOfMemory>
     requires { AreSpots inst.now spots.now }

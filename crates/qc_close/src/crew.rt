@@ -1,19 +1,20 @@
 //! Which crane has which task.
 
-ghost use Rattle.std.specs.Prelude.{◌≡◌, ◌||◌, ◌<◌, ◌≤◌, None, Some, IfOk, IsSome, IsTrue, length, replicate, slice_set, true};
+ghost use Rattle.std.specs.Prelude.{◌≡◌, ◌||◌, ◌<◌, ◌≤◌, None, Some, IfOk, IsSome, OnOk, IsTrue, length, replicate, slice_set, true};
 ghost use Rattle.qc_model.specs.Instance.{Valid};
 ghost use Rattle.qc_model.specs.Assignments.{AreInRange, crane_in, no_cranes};
 ghost use Rattle.qc_model.specs.Closed.{IsClosedBound, is_closed, is_short_along, is_short_before};
 ghost use Rattle.qc_close.specs.Crews.{CrewView};
 ghost use Rattle.qc_close.specs.CrewFields.{view_of, IsKept};
 ghost use Rattle.qc_close.specs.Lasts.{IsLast};
+ghost use Rattle.qc_close.specs.Lists.{AreLists};
 ghost use Rattle.qc_close.specs.declared.closed.TheConstants.{LAST_CLOSED};
 
-use crate::bars::{Table, keep_table, table_of};
+use crate::bars::{Table, keep_table, no_table, table_of};
 use crate::closed::{LAST_CLOSED, is_short_by, last_short_end};
 use crate::grain::grain;
 use crate::left::work_left;
-use crate::spots::{Spots, spots_of};
+use crate::spots::{Spots, no_spots, spots_of};
 use crate::trip::{Trips, keep_trips, trips_of};
 use qc_dist::head;
 use qc_model::{Instance, Turn, copy};
@@ -23,7 +24,6 @@ use std::marker::Model;
 
 /// The cranes of an instance, and which tasks each has. It keeps a copy of the instance. All memory is
 /// taken by `open`.
-#[derive(Drop)]
 pub struct Crew {
     inst: Instance,
     turn: Turn,
@@ -54,6 +54,24 @@ impl Model for Crew {
     ghost invariant = { IsKept };
 }
 
+// By hand, so that it is let go by one call wherever it is held.
+impl Drop for Crew {
+    fn drop(self) {
+        let Crew {
+            inst: _,
+            turn: _,
+            cranes: _,
+            spots: _,
+            soonest: _,
+            table: _,
+            trips: _,
+            left: _,
+            step: _,
+            bare: _,
+        } = self;
+    }
+}
+
 /// A list in which none of so many tasks has a crane.
 fn no_cranes(alloc: Global, tasks: usize) -> Result<Vec<Option<u16>>, OutOfMemory>
     requires { tasks ≤ 240 }
@@ -70,6 +88,84 @@ fn no_starts(alloc: Global, tasks: usize) -> Result<Vec<Tick>, OutOfMemory>
     Ok(vec![in alloc; 0; tasks]?)
 }
 
+/// What a crew keeps beside its instance.
+#[derive(Drop)]
+struct Lists {
+    cranes: Vec<Option<u16>>,
+    spots: Spots,
+    soonest: Vec<Tick>,
+    table: Table,
+    trips: Trips,
+    left: Vec<Tick>,
+}
+
+/// Nothing is found yet.
+fn no_lists(alloc: Global) -> Lists {
+    Lists {
+        cranes: Vec::new(alloc),
+        spots: no_spots(alloc),
+        soonest: Vec::new(alloc),
+        table: no_table(alloc),
+        trips: Trips {
+            cells: Vec::new(alloc),
+        },
+        left: Vec::new(alloc),
+    }
+}
+
+/// Finds them for an instance of which no task has a crane.
+fn find_lists(alloc: Global, inst: &Instance, lists: &mut Lists) -> Result<(), OutOfMemory>
+    ensures { OnOk result (AreLists inst.now lists.new) }
+{
+    let tasks = inst.task_count() as usize;
+    lists.cranes = no_cranes(alloc, tasks)?;
+    lists.left = work_left(alloc, inst)?;
+    lists.spots = spots_of(alloc, inst, lists.left.as_slice())?;
+    lists.soonest = no_starts(alloc, tasks)?;
+    lists.table = table_of(alloc, inst, &lists.spots)?;
+    lists.trips = trips_of(alloc, inst)?;
+    Ok(())
+}
+
+/// The crew of an instance of which no task has a crane.
+fn crew_of(inst: Instance, turn: Turn, lists: Lists) -> Crew
+    requires { AreLists inst lists }
+    ensures { result ≡ record { inst = inst; turn = turn; cranes = no_cranes inst } }
+{
+    let _tasks = inst.task_count();
+    let step = grain(&inst);
+    let bare = last_short_end(
+        &inst,
+        turn,
+        lists.cranes.as_slice(),
+        &lists.spots,
+        &lists.table,
+        lists.left.as_slice(),
+        step,
+        LAST_CLOSED,
+    );
+    let Lists {
+        cranes,
+        spots,
+        soonest,
+        table,
+        trips,
+        left,
+    } = lists;
+    Crew {
+        inst,
+        turn,
+        cranes,
+        spots,
+        soonest,
+        table,
+        trips,
+        left,
+        step,
+        bare,
+    }
+}
+
 impl Crew {
     /// The cranes of an instance; no task has one.
     pub fn open(alloc: Global, inst: &Instance, turn: Turn) -> Result<Crew, OutOfMemory>
@@ -79,36 +175,16 @@ impl Crew {
           cranes = no_cranes inst.now;
         }) }
     {
-        let tasks = inst.task_count();
-        let cranes = no_cranes(alloc, tasks as usize)?;
-        let left = work_left(alloc, inst)?;
-        let spots = spots_of(alloc, inst, left.as_slice())?;
-        let soonest = no_starts(alloc, tasks as usize)?;
-        let table = table_of(alloc, inst, &spots)?;
-        let trips = trips_of(alloc, inst)?;
-        let step = grain(inst);
-        let bare = last_short_end(
-            inst,
-            turn,
-            cranes.as_slice(),
-            &spots,
-            &table,
-            left.as_slice(),
-            step,
-            LAST_CLOSED,
-        );
-        Ok(Crew {
-            inst: copy(alloc, inst)?,
-            turn,
-            cranes,
-            spots,
-            soonest,
-            table,
-            trips,
-            left,
-            step,
-            bare,
-        })
+        let kept = copy(alloc, inst)?;
+        let mut lists = no_lists(alloc);
+        match find_lists(alloc, &kept, &mut lists) {
+            Ok(()) => Ok(crew_of(kept, turn, lists)),
+            Err(OutOfMemory) => {
+                drop(lists);
+                drop(kept);
+                Err(OutOfMemory)
+            }
+        }
     }
 
     /// The instance.

@@ -22,7 +22,6 @@ use std::marker::Model;
 /// Follows the order of a feasible plan while tasks take as long as they do: it grants each start at the
 /// first moment at which the rules allow it. It keeps copies of the instance and of the plan, and takes
 /// memory in `open` alone.
-#[derive(Drop)]
 pub struct Dispatch {
     inst: Instance,
     slots: Vec<Slot>,
@@ -43,6 +42,20 @@ impl Model for Dispatch {
     ghost view = { course_of };
 
     ghost invariant = { IsKept };
+}
+
+// By hand, so that it is let go by one call wherever it is held.
+impl Drop for Dispatch {
+    fn drop(self) {
+        let Dispatch {
+            inst: _,
+            slots: _,
+            marks: _,
+            waits: _,
+            stages: _,
+            clock: _,
+        } = self;
+    }
 }
 
 /// So many tasks that have no start.

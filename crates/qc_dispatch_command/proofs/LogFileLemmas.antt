@@ -1,11 +1,13 @@
 -- What the log's file comes to, by what reading it answers.
-use Rattle.std.proofs.Common.{◌≡◌, ℕ, ◌<◌, ◌≤◌, List, length, true, false, nat_le, Option, None, Some, Result, Ok, Err, IfSome, IsSome, refl, inl, inr, arith}
+use Rattle.std.proofs.Common.{◌≡◌, ℕ, ◌<◌, ◌≤◌, List, length, true, false, nat_le, Option, None, Some, Result, Ok, Err, IfSome, IsSome, refl, sym, ◌∙◌, inl, inr, arith}
 use Rattle.std.proofs.lemmas.Bool.Decides.{nat_tests}
 use Rattle.std.specs.FinMap.{get}
 use Rattle.qc_dispatch.specs.declared.fault.DispatchFault.{DispatchFault}
 use Rattle.qc_dispatch.specs.declared.follow.Followed.{Followed}
 use Rattle.qc_io.specs.Outside.{Files, IsFile, IsMissing, ReadCause, View, file_at}
 use Rattle.qc_io.specs.Reads.{Reads}
+use Rattle.qc_io.specs.declared.reading.ReadAll.{ReadAll}
+use Rattle.qc_io.specs.declared.reading.ReadAll.TheVariants as read
 use Rattle.qc_run.specs.declared.inputs.Input.TheVariants as input
 use Rattle.qc_run.specs.declared.reading.Job.{Job}
 use Rattle.qc_run.specs.declared.refusal.LogFault.TheVariants as log
@@ -18,6 +20,13 @@ use Rattle.qc_run.specs.Inputs.{Names}
 use Rattle.qc_run.specs.Steps.{ComesTo, MayStop}
 use Rattle.qc_dispatch_command.specs.Account.{IsLogFollowed, StopsLog}
 use Rattle.qc_dispatch_command.specs.Pieces.{IsLogTold}
+
+-- a log that is too long was read, and so was one for which memory was wanting
+pub not_large : {A : Type 0} {r : Result A ReadAll} → r ≡ Err read.TooLarge → ¬ (r ≡ Err read.ReadFault)
+not_large is e = absurd (cc (sym is ∙ e))
+
+pub not_starved : {A : Type 0} {r : Result A ReadAll} → r ≡ Err read.OutOfMemory → ¬ (r ≡ Err read.ReadFault)
+not_starved is e = absurd (cc (sym is ∙ e))
 
 module _ (job : Job) (names : Names) (before after : View) (name : List ℕ) (named : names.log ≡ Some name) where
   abbrev Reading : Result Followed Stop → Type 0

@@ -2,12 +2,13 @@
 
 ghost use Rattle.std.specs.Prelude.{◌≡◌, ◌↔◌, ◌⊎◌, ◌<◌, IsTrue, length};
 ghost use Rattle.qc_model.specs.declared.turn.Turn.TheVariants.{Free};
+ghost use Rattle.qc_model.specs.Instance.{IsApart};
 ghost use Rattle.qc_model.specs.Nodes.{Clash, Conflicts};
 ghost use Rattle.qc_model.specs.Ticks.{task_distance};
 
 use crate::Decisions;
 use crate::travel::distance;
-use qc_model::Turn;
+use qc_model::{Instance, Turn};
 
 /// Whether cranes may go as they like.
 fn is_free(turn: Turn) -> bool
@@ -17,6 +18,13 @@ fn is_free(turn: Turn) -> bool
         Turn::OneWay => false,
         Turn::Free => true,
     }
+}
+
+/// Whether two tasks are apart.
+fn are_apart(inst: &Instance, i: u16, j: u16) -> bool
+    ensures { IsTrue result ↔ (IsApart inst.now i j ⊎ IsApart inst.now j i) }
+{
+    inst.is_apart(i, j) || inst.is_apart(j, i)
 }
 
 impl Decisions {
@@ -52,7 +60,6 @@ impl Decisions {
         requires second { j < length self.now.inst.tasks }
         ensures { IsTrue result ↔ Conflicts self.now.inst self.now.decisions i j }
     {
-        let inst = self.instance();
-        inst.is_apart(i, j) || inst.is_apart(j, i) || self.clash(i, j)
+        are_apart(self.instance(), i, j) || self.clash(i, j)
     }
 }

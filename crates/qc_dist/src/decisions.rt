@@ -23,7 +23,6 @@ use std::marker::Model;
 /// The decisions of a search for one instance, of which it keeps a copy. Beside them stand tables
 /// and totals, so that what they ask for is answered without going through them. All memory is
 /// taken by `new`.
-#[derive(Drop)]
 pub struct Decisions {
     inst: Instance,
     /// Oldest first.
@@ -48,6 +47,22 @@ impl Model for Decisions {
     ghost view = { node_of };
 
     ghost invariant = { IsKept };
+}
+
+// By hand, so that it is let go by one call wherever it is held.
+impl Drop for Decisions {
+    fn drop(self) {
+        let Decisions {
+            inst: _,
+            made: _,
+            cranes: _,
+            before: _,
+            ordered: _,
+            heads: _,
+            loads: _,
+            open_ticks: _,
+        } = self;
+    }
 }
 
 /// The ticks of all tasks, none of which has a crane yet.

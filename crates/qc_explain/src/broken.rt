@@ -116,9 +116,7 @@ pub(crate) fn is_reached(inst: &Instance, bay: Bay) -> bool {
 /// Says that a crane doesn't reach a task.
 fn say_reach(page: &mut Page, story: Story<'_>) {
     let (task, bay) = (story.one, story.one.bay());
-    page.line()
-        .at(task.place)
-        .text(": ")
+    page.on(task.place)
         .text(task.name())
         .text(" stands at ")
         .text(story.unit())
@@ -144,9 +142,7 @@ fn say_ready(page: &mut Page, story: Story<'_>) {
     let (task, ready) = (story.one, story.one.crane.ready);
     let bays = Tick::from(task.crane.bay.abs_diff(task.bay()));
     let way = travel(story.inst, bays);
-    page.line()
-        .at(task.place)
-        .text(": ")
+    page.on(task.place)
         .text(task.name())
         .text(" starts at ")
         .count(task.start)
@@ -166,9 +162,7 @@ fn say_travel(page: &mut Page, story: Story<'_>) {
     let (early, late) = story.in_order();
     let bays = Tick::from(early.bay().abs_diff(late.bay()));
     let way = travel(story.inst, bays);
-    page.line()
-        .at(late.place)
-        .text(": ")
+    page.on(late.place)
         .word(late.crane_name())
         .text(" does ")
         .text(early.name())
@@ -193,9 +187,7 @@ fn say_before(page: &mut Page, story: Story<'_>) {
     } else {
         (story.one, story.other)
     };
-    page.line()
-        .at(second.place)
-        .text(": ")
+    page.on(second.place)
         .text(second.name())
         .text(" starts at ")
         .count(second.start)
@@ -209,9 +201,7 @@ fn say_before(page: &mut Page, story: Story<'_>) {
 /// Says when a task may start that is never done at the same time as another.
 fn say_apart(page: &mut Page, story: Story<'_>) {
     let (early, late) = story.in_order();
-    page.line()
-        .at(late.place)
-        .text(": ")
+    page.on(late.place)
         .text(late.name())
         .text(" starts at ")
         .count(late.start)
@@ -236,7 +226,7 @@ fn say_margin(page: &mut Page, story: Story<'_>) {
     let short = bays_short(story.inst, v, early.bay(), w, late.bay());
     let least = early.end().saturating_add(travel(story.inst, short));
     let bays = Tick::from(early.bay().abs_diff(late.bay()));
-    page.line().at(late.place).text(": ");
+    page.on(late.place);
     late.add_from_start(page);
     page.text(" and ");
     early.add_to_end(page);
@@ -275,7 +265,7 @@ fn say_berth(page: &mut Page, story: Story<'_>) {
         return;
     };
     let task = story.one;
-    page.line().at(task.place).text(": ");
+    page.on(task.place);
     task.add_from_start(page);
     page.text(" is too near to ")
         .word(text_of(crane.name.as_bytes()))
@@ -290,9 +280,8 @@ fn say_berth(page: &mut Page, story: Story<'_>) {
 /// Says which task turns the way of the cranes round.
 fn say_one_way(page: &mut Page, story: Story<'_>) {
     let (early, late) = story.in_order();
-    page.line()
-        .at(late.place)
-        .text(": the plan can be worked, but its cranes go to and fro: from ")
+    page.on(late.place)
+        .text("the plan can be worked, but its cranes go to and fro: from ")
         .text(early.name())
         .text(" to ")
         .text(late.name())

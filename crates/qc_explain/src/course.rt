@@ -61,25 +61,20 @@ pub fn say_course(page: &mut Page, file: &str, bytes: &[u8], inst: &Instance, pl
     );
     match fault.kind {
         DispatchKind::TooMany => page
-            .line()
-            .at(place)
-            .text(": this is a line behind the 100000th, and a log has no more")
+            .on(place)
+            .text("this is a line behind the 100000th, and a log has no more")
             .end(),
         DispatchKind::Line => {
             let why = why_no_line(raw_line(bytes, number));
             say_no_line(page, place, bytes, why, "tick N or done TASK, as done 2-DD")
         }
         DispatchKind::UnknownTask => page
-            .line()
-            .at(place)
-            .text(": ")
+            .on(place)
             .shown(name)
             .text(" is no task of this ship and list; qc tasks tells their names")
             .end(),
         DispatchKind::NotRunning => page
-            .line()
-            .at(place)
-            .text(": ")
+            .on(place)
             .shown(name)
             .text(" doesn't run then: a task is done once, and after its start was told")
             .end(),

@@ -29,10 +29,7 @@ pub(crate) fn say_no_crane(page: &mut Page, place: Place<'_>, name: &[u8], crane
     let Some(near) = page.unless_short(near) else {
         return;
     };
-    page.line()
-        .at(place)
-        .text(": no crane is named ")
-        .shown(name);
+    page.on(place).text("no crane is named ").shown(name);
     if let Some(near) = near {
         return page.text("; the nearest is ").text(near).end();
     }

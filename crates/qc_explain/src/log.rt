@@ -25,9 +25,8 @@ pub fn say_log(page: &mut Page, file: &str, bytes: &[u8], ship: &Ship) {
     let place = Place::at_line(file, number);
     match fault.kind {
         WatchKind::TooMany => page
-            .line()
-            .at(place)
-            .text(": this is a line behind the 200000th, and a log has no more")
+            .on(place)
+            .text("this is a line behind the 200000th, and a log has no more")
             .end(),
         WatchKind::Line => {
             let why = why_no_line(raw_line(bytes, number));
@@ -79,9 +78,7 @@ fn why_no_line(line: &[u8]) -> &'static str {
 
 /// Says why a line is none of a log, or that the log was cut off in it, and what a line is.
 pub(crate) fn say_no_line(page: &mut Page, place: Place<'_>, bytes: &[u8], why: &str, form: &str) {
-    page.line()
-        .at(place)
-        .text(": ")
+    page.on(place)
         .shown(line_of(bytes, place.line))
         .text(": ")
         .text(if is_open(bytes, place.line) {
@@ -115,9 +112,8 @@ fn say_time(page: &mut Page, place: Place<'_>, bytes: &[u8]) {
     let (time, name) = (word(line, 0), word(line, 1));
     let earlier = last_before(bytes, place.line, name);
     let before = word(line_of(bytes, earlier), 0);
-    page.line()
-        .at(place)
-        .text(": the time of ")
+    page.on(place)
+        .text("the time of ")
         .shown(name)
         .text(" is ")
         .shown(time)

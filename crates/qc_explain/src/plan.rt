@@ -70,26 +70,23 @@ fn say_task(page: &mut Page, table: &Table<'_>, number: u32, inst: &Instance) {
     let (place, field) = (table.place(number), table.field(number, 0));
     if is_blank(table, number) {
         return page
-            .line()
-            .at(place)
-            .text(": the record is empty: delete the line")
+            .on(place)
+            .text("the record is empty: delete the line")
             .end();
     }
     match task_like(inst, field) {
         Some(task) => {
             let name = task.text();
-            page.line()
-                .at(place)
-                .text(": the task ")
+            page.on(place)
+                .text("the task ")
                 .shown(field)
                 .text(" is written ")
                 .text(text_of(name.as_bytes()))
                 .end()
         }
         None => page
-            .line()
-            .at(place)
-            .text(": the ship file and the list have no task ")
+            .on(place)
+            .text("the ship file and the list have no task ")
             .shown(field)
             .text(
                 "; a task is a hatch and DD, DH, LH or LD, as 2-DD, and qc tasks SHIP STOW prints all of them",
@@ -127,9 +124,8 @@ fn say_number(page: &mut Page, table: &Table<'_>, number: u32) {
     } else {
         ("end", end)
     };
-    page.line()
-        .at(table.place(number))
-        .text(": the ")
+    page.on(table.place(number))
+        .text("the ")
         .text(name)
         .text(" is ")
         .shown(field)
@@ -147,9 +143,8 @@ fn say_end(page: &mut Page, table: &Table<'_>, number: u32, inst: &Instance) {
     ) else {
         return;
     };
-    page.line()
-        .at(table.place(number))
-        .text(": the task takes ")
+    page.on(table.place(number))
+        .text("the task takes ")
         .ticks(task.ticks)
         .text(", so from ")
         .count(start)
@@ -166,9 +161,8 @@ fn say_twice(page: &mut Page, table: &Table<'_>, number: u32) {
     let Some(other) = table.record_of(name) else {
         return;
     };
-    page.line()
-        .at(table.place(number))
-        .text(": the task ")
+    page.on(table.place(number))
+        .text("the task ")
         .shown(name)
         .text(" stands in line ")
         .count(table.place(other).line as u64)

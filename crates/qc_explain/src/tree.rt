@@ -69,19 +69,16 @@ pub fn say_tree(page: &mut Page, file: &str, bytes: &[u8], turn: Turn, fault: Tr
     let (place, line) = (Place::at_line(file, number), line_of(bytes, number));
     if raw_line(bytes, number).ends_with(b"\r") {
         return page
-            .line()
-            .at(place)
+            .on(place)
             .text(
-                ": the lines end with a carriage return, as on Windows: a tree's end with a line feed alone; plan again",
+                "the lines end with a carriage return, as on Windows: a tree's end with a line feed alone; plan again",
             )
             .end();
     }
     if let Some(what) = other_kind(line_of(bytes, 1), turn) {
-        return page.line().at(place).text(": ").text(what).end();
+        return page.on(place).text(what).end();
     }
-    page.line()
-        .at(place)
-        .text(": ")
+    page.on(place)
         .shown(line)
         .text(": ")
         .text(why(fault.kind))

@@ -1,6 +1,7 @@
 // Tasks and cranes by their names.
 
-ghost use Rattle.std.specs.Prelude.{◌≡◌, ◌<◌, ◌^◌, List, ℕ, length, map, IfOk, IfSome};
+ghost use Rattle.std.specs.Prelude.{◌≡◌, ◌<◌, ◌^◌, List, ℕ, length, map, IfOk, IfSome, OnOk};
+ghost use Rattle.indexmap.specs.IndexMap.{IsEmpty};
 ghost use Rattle.qc_model.specs.Tasks.{task_text};
 ghost use Rattle.qc_gantt.specs.Names.{Finds, crane_names, number_of, task_names};
 
@@ -44,6 +45,24 @@ pub(crate) fn task_texts(alloc: Global, tasks: &[Task]) -> Result<Vec<TaskText>,
     Ok(texts)
 }
 
+// Gives each name its number, counted from 0, in a map that is empty. Of equal names the first one counts.
+fn number_all<'a, N: Named>(
+    numbers: &mut IndexMap<&'a [u8], u16>,
+    items: &'a [N],
+) -> Result<(), OutOfMemory>
+    requires empty { IsEmpty numbers.old }
+    requires few { length items.now < 2 ^ 16 }
+    ensures { OnOk result (Finds numbers.new (map N.name_of items.now)) }
+{
+    for (number, item) in items.iter().enumerate() {
+        let name = item.name();
+        if !numbers.contains_key(&name) {
+            numbers.insert(name, number as u16)?;
+        }
+    }
+    Ok(())
+}
+
 // The number of each name, counted from 0. Of equal names the first one counts.
 pub(crate) fn numbers_of<'a, N: Named>(
     alloc: Global,
@@ -53,13 +72,13 @@ pub(crate) fn numbers_of<'a, N: Named>(
     ensures { IfOk result (λ numbers. Finds numbers (map N.name_of items.now)) }
 {
     let mut numbers = IndexMap::new(alloc);
-    for (number, item) in items.iter().enumerate() {
-        let name = item.name();
-        if !numbers.contains_key(&name) {
-            numbers.insert(name, number as u16)?;
+    match number_all(&mut numbers, items) {
+        Ok(()) => Ok(numbers),
+        Err(error) => {
+            drop(numbers);
+            Err(error)
         }
     }
-    Ok(numbers)
 }
 
 // The number of the task of this name.

@@ -2,6 +2,7 @@
 
 ghost use Rattle.std.specs.Prelude.{◌≡◌, ◌<◌, ◌≤◌, ◌+◌, None, Some, length, map, not, is_some, IfOk, IsOk, IsTrue, MatchResult, Ok, Err, replicate, slice_index_or, slice_set};
 ghost use Rattle.csv.specs.Records.{fields_of};
+ghost use Rattle.qc_model.specs.Tasks.{task_text};
 ghost use Rattle.qc_gantt.specs.Entries.{entry_beside};
 ghost use Rattle.qc_gantt.specs.Names.{Finds, crane_names, task_names};
 ghost use Rattle.qc_gantt.specs.Plan.{slots_of};
@@ -12,7 +13,8 @@ use crate::fault::{PlanError, PlanFault, PlanKind};
 use crate::names::{numbers_of, task_texts};
 use csv::ByteRecord;
 use indexmap::IndexMap;
-use qc_model::{Instance, MOST_TASKS, Slot};
+use qc_model::{Instance, MOST_TASKS, Slot, TaskText};
+use qc_num::OutOfMemory;
 use std::alloc::Global;
 
 /// The fault of a record, by its place among those behind the header from 0.
@@ -109,6 +111,30 @@ fn slots_by(
     Ok(slots)
 }
 
+/// The slot of each task, where the records give one, by the texts that name the tasks.
+fn slots_by_texts(
+    alloc: Global,
+    records: &[ByteRecord],
+    inst: &Instance,
+    texts: &[TaskText],
+) -> Result<Vec<Option<Slot>>, PlanError>
+    requires texts { texts.now ≡ map task_text inst.now.tasks }
+    requires most { length inst.now.tasks ≤ MOST_TASKS }
+    ensures slots { IsReading (λ v. v.items) (slots_of inst.now (map fields_of records.now)) result }
+    ensures few { IsOk result → length records.now ≤ length inst.now.tasks }
+    ensures all { IfOk result (λ v. length v.items ≡ length inst.now.tasks) }
+{
+    let tasks = numbers_of(alloc, texts)?;
+    let Ok(cranes) = numbers_of(alloc, inst.cranes()) else {
+        drop(tasks);
+        return Err(OutOfMemory.into());
+    };
+    let slots = slots_by(alloc, records, inst, &tasks, &cranes);
+    drop(cranes);
+    drop(tasks);
+    slots
+}
+
 /// The slot of each task, where the records behind the header give one.
 pub(crate) fn read_slots(
     alloc: Global,
@@ -121,7 +147,7 @@ pub(crate) fn read_slots(
     ensures most { length inst.now.tasks ≤ MOST_TASKS }
 {
     let texts = task_texts(alloc, inst.tasks())?;
-    let tasks = numbers_of(alloc, texts.as_slice())?;
-    let cranes = numbers_of(alloc, inst.cranes())?;
-    slots_by(alloc, records, inst, &tasks, &cranes)
+    let slots = slots_by_texts(alloc, records, inst, texts.as_slice());
+    drop(texts);
+    slots
 }

@@ -1,17 +1,29 @@
 //! A ship file's keys: their values, and where they stand.
 
 use crate::toml_lines::{KeyLine, find_key, key_lines};
+use crate::wanted::wanted_at;
 use qc_num::OutOfMemory;
 use qc_page::Place;
+use qc_ship::Key;
 use std::alloc::Global;
 use toml::{Table, Value, table_from_str};
 
 /// The keys of a ship file that is a text in TOML.
-#[derive(Drop)]
 pub(crate) struct Facts<'a> {
     pub(crate) file: &'a str,
     pub(crate) lines: Vec<KeyLine<'a>>,
     pub(crate) table: Table,
+}
+
+// By name and not derived: to let them go is one call then, in place of the pieces of all fields.
+impl Drop for Facts<'_> {
+    fn drop(self) {
+        let Facts {
+            file: _,
+            lines: _,
+            table: _,
+        } = self;
+    }
 }
 
 /// The keys of a ship file; none where it is no text in TOML.
@@ -51,6 +63,11 @@ impl<'a> Facts<'a> {
     /// Whether places are in decimetres.
     pub(crate) fn in_decimetres(&self) -> bool {
         self.table.contains_key("places")
+    }
+
+    /// What may stand at a key.
+    pub(crate) fn wanted(&self, key: Key) -> &'static str {
+        wanted_at(key, self.in_decimetres())
     }
 
     /// The elements of an array of the ship; none where the key has no array.

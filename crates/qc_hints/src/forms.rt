@@ -43,7 +43,7 @@ fn form_in(line: &'static str) -> Form {
 
 /// The command of this name.
 pub(crate) fn form_of(name: &str) -> Option<Form> {
-    for line in LINES {
+    for line in &LINES {
         let form = form_in(line);
         if form.name == name {
             return Some(form);
@@ -54,7 +54,7 @@ pub(crate) fn form_of(name: &str) -> Option<Form> {
 
 /// The name of the first command that is near.
 pub(crate) fn near_command(alloc: Global, word: &str) -> Result<Option<&'static str>, OutOfMemory> {
-    for line in LINES {
+    for line in &LINES {
         let form = form_in(line);
         if is_near(alloc, word, form.name)? {
             return Ok(Some(form.name));

@@ -24,3 +24,12 @@ pub(crate) const CRANE_KEYS: [&str; 5] = ["name", "ready", "bay", "from", "to"];
 pub(crate) fn is_of_crane(key: Key) -> bool {
     CRANE_KEYS.contains(&key.text())
 }
+
+/// Whether a name is a key of a crane or, with 0, of the ship.
+pub(crate) fn is_known(crane: u32, name: &str) -> bool {
+    if crane == 0 {
+        SHIP_KEYS.contains(&name)
+    } else {
+        CRANE_KEYS.contains(&name)
+    }
+}

@@ -7,9 +7,7 @@ use toml::table_from_str;
 /// Says in which line a text isn't UTF-8.
 fn say_no_utf8(page: &mut Page, file: &str, bytes: &[u8], front: usize) {
     let line = line_at(bytes, front);
-    page.line()
-        .at(Place::at_line(file, line))
-        .text(": ")
+    page.on(Place::at_line(file, line))
         .shown(line_of(bytes, line))
         .text(" isn't UTF-8, as in a text saved as Latin-1 or Windows-1252: save the file as UTF-8")
         .end()
@@ -60,10 +58,15 @@ fn hint_on_value(value: &[u8]) -> Option<&'static str> {
     }
 }
 
+/// Whether a curly double quote stands in a line.
+fn has_curly(line: &[u8]) -> bool {
+    has(line, b"\xE2\x80\x9C") || has(line, b"\xE2\x80\x9D") || has(line, b"\xE2\x80\x9E")
+}
+
 /// Why a line is none of TOML, in the commonest cases. The message is that of the reader.
 fn hint_on(line: &[u8], message: &str) -> Option<&'static str> {
     let line = without_comment(line);
-    if has(line, b"\xE2\x80\x9C") || has(line, b"\xE2\x80\x9D") || has(line, b"\xE2\x80\x9E") {
+    if has_curly(line) {
         return Some("the quotes are curly ones: write straight ones");
     }
     if line.starts_with(b"//") || line.starts_with(b"--") || line.starts_with(b";") {
@@ -109,9 +112,7 @@ pub(crate) fn say_not_toml(page: &mut Page, file: &str, bytes: &[u8]) {
 
 /// Says why a line isn't TOML.
 fn say_line(page: &mut Page, place: Place<'_>, line: &[u8], why: &str) {
-    page.line()
-        .at(place)
-        .text(": ")
+    page.on(place)
         .shown(line)
         .text(" isn't TOML: ")
         .text(why)

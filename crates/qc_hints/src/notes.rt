@@ -1,7 +1,7 @@
 //! Notes: what was taken as it stands and likely isn't meant so.
 
 use crate::facts::{Facts, facts_of};
-use crate::keys::{CRANE_KEYS, SHIP_KEYS};
+use crate::keys::{CRANE_KEYS, SHIP_KEYS, is_known};
 use crate::ordinals::ordinal;
 use qc_num::OutOfMemory;
 use qc_page::{Page, Place, nearest};
@@ -22,29 +22,37 @@ pub fn say_notes(page: &mut Page, file: &str, bytes: &[u8]) {
     let Some(Some(facts)) = page.unless_short(facts_of(page.alloc(), file, bytes)) else {
         return;
     };
-    say_ship_keys(page, &facts);
+    say_keys(page, &facts, 0, &facts.table);
     say_cranes(page, &facts);
     say_unread(page, &facts);
     say_clear(page, &facts)
 }
 
-/// Says which keys of the ship aren't read.
-fn say_ship_keys(page: &mut Page, facts: &Facts<'_>) {
+/// Says which keys of a crane or, with 0, of the ship aren't read.
+fn say_keys(page: &mut Page, facts: &Facts<'_>, crane: u32, table: &Table) {
     let mut left = MOST_KEYS;
-    for (key, _) in &facts.table {
+    for (key, _) in table {
         let key = key.as_str();
-        if SHIP_KEYS.contains(&key) {
+        if is_known(crane, key) {
             continue;
         }
         if left == 0 {
-            return page
-                .line()
-                .text("note: further keys of the ship file aren't read")
-                .end();
+            return say_further(page, crane);
         }
         left = left.saturating_sub(1);
-        say_ship_key(page, facts.place(0, key), key);
+        say_key(page, facts.place(crane, key), crane, key);
     }
+}
+
+/// Says that further keys of a crane or, with 0, of the ship aren't read.
+fn say_further(page: &mut Page, crane: u32) {
+    page.line()
+        .text(if crane == 0 {
+            "note: further keys of the ship file aren't read"
+        } else {
+            "note: further keys of the crane aren't read"
+        })
+        .end()
 }
 
 /// What may be meant by a key that isn't read.
@@ -80,33 +88,32 @@ fn near_key<'a>(alloc: Global, key: &str, keys: &[&'a str]) -> Result<Meant<'a>,
     }
 }
 
-/// What may be meant by a key above the first crane.
-fn meant_above(alloc: Global, key: &str) -> Result<Meant<'static>, OutOfMemory> {
-    if CRANE_KEYS.contains(&key) {
-        return Ok(Meant::OfCrane);
+/// What may be meant by a key of a crane or, with 0, of the ship.
+fn meant_by(alloc: Global, crane: u32, key: &str) -> Result<Meant<'static>, OutOfMemory> {
+    if crane == 0 && CRANE_KEYS.contains(&key) {
+        Ok(Meant::OfCrane)
+    } else if crane > 0 && SHIP_KEYS.contains(&key) {
+        Ok(Meant::OfShip)
+    } else if crane == 0 {
+        near_key(alloc, key, &SHIP_KEYS)
+    } else {
+        near_key(alloc, key, &CRANE_KEYS)
     }
-    near_key(alloc, key, &SHIP_KEYS)
 }
 
-/// What may be meant by a key below a crane.
-fn meant_below(alloc: Global, key: &str) -> Result<Meant<'static>, OutOfMemory> {
-    if SHIP_KEYS.contains(&key) {
-        return Ok(Meant::OfShip);
-    }
-    near_key(alloc, key, &CRANE_KEYS)
-}
-
-/// Says that a key of the ship isn't read.
-fn say_ship_key(page: &mut Page, place: Place<'_>, key: &str) {
-    let Some(meant) = page.unless_short(meant_above(page.alloc(), key)) else {
+/// Says that a key of a crane or, with 0, of the ship isn't read.
+fn say_key(page: &mut Page, place: Place<'_>, crane: u32, key: &str) {
+    let Some(meant) = page.unless_short(meant_by(page.alloc(), crane, key)) else {
         return;
     };
-    page.line()
-        .text("note: ")
-        .at(place)
-        .text(": the key ")
-        .shown(key.as_bytes())
-        .text(" is no key of the ship and isn't read");
+    page.note(place).text("the key ").shown(key.as_bytes());
+    if crane == 0 {
+        page.text(" is no key of the ship and isn't read");
+    } else {
+        page.text(" in the ")
+            .text(ordinal(crane))
+            .text(" [[crane]] is no key of a crane and isn't read");
+    }
     end_meant(page, meant)
 }
 
@@ -116,45 +123,10 @@ fn say_cranes(page: &mut Page, facts: &Facts<'_>) {
     for crane in facts.elements("crane") {
         number = number.saturating_add(1);
         if let Value::Table(table) = crane {
-            say_crane_keys(page, facts, number, table);
+            say_keys(page, facts, number, table);
             say_far(page, facts, number);
         }
     }
-}
-
-/// Says which keys of a crane aren't read.
-fn say_crane_keys(page: &mut Page, facts: &Facts<'_>, crane: u32, table: &Table) {
-    let mut left = MOST_KEYS;
-    for (key, _) in table {
-        let key = key.as_str();
-        if CRANE_KEYS.contains(&key) {
-            continue;
-        }
-        if left == 0 {
-            return page
-                .line()
-                .text("note: further keys of the crane aren't read")
-                .end();
-        }
-        left = left.saturating_sub(1);
-        say_crane_key(page, facts.place(crane, key), crane, key);
-    }
-}
-
-/// Says that a key of a crane isn't read.
-fn say_crane_key(page: &mut Page, place: Place<'_>, crane: u32, key: &str) {
-    let Some(meant) = page.unless_short(meant_below(page.alloc(), key)) else {
-        return;
-    };
-    page.line()
-        .text("note: ")
-        .at(place)
-        .text(": the key ")
-        .shown(key.as_bytes())
-        .text(" in the ")
-        .text(ordinal(crane))
-        .text(" [[crane]] is no key of a crane and isn't read");
-    end_meant(page, meant)
 }
 
 /// Says that a crane stands far from any hatch, where places are counted as hatches.
@@ -168,13 +140,15 @@ fn say_far(page: &mut Page, facts: &Facts<'_>, crane: u32) {
     } else {
         1i64.saturating_sub(bay)
     };
-    if off <= FAR {
-        return;
+    if off > FAR {
+        say_off(page, facts, crane, bay, last, off)
     }
-    page.line()
-        .text("note: ")
-        .at(facts.place(crane, "bay"))
-        .text(": the ")
+}
+
+/// Says that a crane stands at a bay that is so far from any hatch, of which the last has this number.
+fn say_off(page: &mut Page, facts: &Facts<'_>, crane: u32, bay: i64, last: i64, off: i64) {
+    page.note(facts.place(crane, "bay"))
+        .text("the ")
         .text(ordinal(crane))
         .text(" [[crane]] stands at crane bay ")
         .number(bay)
@@ -189,17 +163,13 @@ fn say_far(page: &mut Page, facts: &Facts<'_>, crane: u32) {
 /// Says which of two keys isn't read beside the other.
 fn say_unread(page: &mut Page, facts: &Facts<'_>) {
     if facts.in_decimetres() && facts.table.contains_key("margin") {
-        page.line()
-            .text("note: ")
-            .at(facts.place(0, "margin"))
-            .text(": margin isn't read beside places; clear takes its place")
+        page.note(facts.place(0, "margin"))
+            .text("margin isn't read beside places; clear takes its place")
             .end();
     }
     if !facts.in_decimetres() && facts.table.contains_key("clear") {
-        page.line()
-            .text("note: ")
-            .at(facts.place(0, "clear"))
-            .text(": clear isn't read without places; margin takes its place")
+        page.note(facts.place(0, "clear"))
+            .text("clear isn't read without places; margin takes its place")
             .end();
     }
 }
@@ -212,10 +182,8 @@ fn say_clear(page: &mut Page, facts: &Facts<'_>) {
     if clear >= LEAST_CLEAR {
         return;
     }
-    page.line()
-        .text("note: ")
-        .at(facts.place(0, "clear"))
-        .text(": clear = ")
+    page.note(facts.place(0, "clear"))
+        .text("clear = ")
         .number(clear)
         .text(" lets cranes come as near as ")
         .number(clear)

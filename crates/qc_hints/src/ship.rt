@@ -1,11 +1,10 @@
 //! Faults of a ship file.
 
 use crate::facts::{Facts, facts_of};
-use crate::keys::{CRANE_KEYS, SHIP_KEYS, is_of_crane};
+use crate::keys::{is_known, is_of_crane};
 use crate::not_toml::say_not_toml;
 use crate::ordinals::ordinal;
 use crate::toml_lines::KeyLine;
-use crate::wanted::wanted_at;
 use qc_num::OutOfMemory;
 use qc_page::{Page, Place, Sort, has_digit, is_near, say_form};
 use qc_ship::{Key, ShipError, ShipFault, ShipKind, read_ship};
@@ -67,12 +66,7 @@ fn near_line<'a>(
     key: &str,
 ) -> Result<Option<KeyLine<'a>>, OutOfMemory> {
     for line in &facts.lines {
-        let known = if crane == 0 {
-            SHIP_KEYS.contains(&line.key)
-        } else {
-            CRANE_KEYS.contains(&line.key)
-        };
-        if line.crane == crane && !known && is_near(alloc, line.key, key)? {
+        if line.crane == crane && !is_known(crane, line.key) && is_near(alloc, line.key, key)? {
             return Ok(Some(*line));
         }
     }
@@ -81,8 +75,11 @@ fn near_line<'a>(
 
 /// The number of the first crane below which a key of the ship stands.
 fn crane_with(facts: &Facts<'_>, key: &str) -> Option<u32> {
+    if key == "crane" {
+        return None;
+    }
     for line in &facts.lines {
-        if line.crane > 0 && line.key == key && key != "crane" {
+        if line.crane > 0 && line.key == key {
             return Some(line.crane);
         }
     }
@@ -95,44 +92,40 @@ fn say_missing(page: &mut Page, facts: &Facts<'_>, fault: ShipFault) {
     let Some(near) = page.unless_short(near_line(page.alloc(), facts, crane, key)) else {
         return;
     };
-    if let Some(near) = near {
-        return page
-            .line()
-            .at(Place::at_line(facts.file, near.line))
-            .text(": the key ")
-            .shown(near.key.as_bytes())
-            .text(" is written ")
-            .text(key)
-            .end();
-    }
-    if crane > 0 {
-        return say_missing_in_crane(page, facts, fault.key, crane);
-    }
-    match crane_with(facts, key) {
-        Some(crane) => say_misplaced(page, facts, key, crane),
+    match near {
+        Some(near) => say_written(page, Place::at_line(facts.file, near.line), near.key, key),
+        None if crane > 0 => say_missing_in_crane(page, facts, fault.key, crane),
         None => say_missing_in_ship(page, facts, fault.key),
     }
+}
+
+/// Says how a key is written.
+fn say_written(page: &mut Page, place: Place<'_>, found: &str, key: &str) {
+    page.on(place)
+        .text("the key ")
+        .shown(found.as_bytes())
+        .text(" is written ")
+        .text(key)
+        .end()
 }
 
 /// Says which key a crane hasn't.
 fn say_missing_in_crane(page: &mut Page, facts: &Facts<'_>, key: Key, crane: u32) {
     let name = key.text();
-    page.line()
-        .at(facts.place(crane, name))
-        .text(": the ")
+    page.on(facts.place(crane, name))
+        .text("the ")
         .text(ordinal(crane))
         .text(" [[crane]] has no key ")
         .text(name)
         .text("; it may be ")
-        .text(wanted_at(key, facts.in_decimetres()))
+        .text(facts.wanted(key))
         .end()
 }
 
 /// Says that a key of the ship stands below a crane.
 fn say_misplaced(page: &mut Page, facts: &Facts<'_>, key: &str, crane: u32) {
-    page.line()
-        .at(facts.place(crane, key))
-        .text(": the key ")
+    page.on(facts.place(crane, key))
+        .text("the key ")
         .text(key)
         .text(" stands below the ")
         .text(ordinal(crane))
@@ -140,34 +133,38 @@ fn say_misplaced(page: &mut Page, facts: &Facts<'_>, key: &str, crane: u32) {
         .end()
 }
 
-/// Says which key the ship hasn't.
+/// Says which key the ship hasn't, or where it stands.
 fn say_missing_in_ship(page: &mut Page, facts: &Facts<'_>, key: Key) {
-    page.line()
-        .at(Place::whole(facts.file))
-        .text(": the key ")
-        .text(key.text())
+    let name = key.text();
+    if let Some(crane) = crane_with(facts, name) {
+        return say_misplaced(page, facts, name, crane);
+    }
+    page.on(Place::whole(facts.file))
+        .text("the key ")
+        .text(name)
         .text(" is missing; it may be ")
-        .text(wanted_at(key, facts.in_decimetres()))
+        .text(facts.wanted(key))
         .end();
+    if let Some(hint) = hint_on_missing(facts, key) {
+        page.line().text(hint).end()
+    }
+}
+
+/// What else helps where the ship hasn't a key.
+fn hint_on_missing(facts: &Facts<'_>, key: Key) -> Option<&'static str> {
     if key == Key::Clear {
-        page.line()
-            .text("with places the key clear takes the place of margin")
-            .end()
+        Some("with places the key clear takes the place of margin")
     } else if key == Key::Margin && facts.table.contains_key("clear") {
-        page.line()
-            .text(
-                "clear is read only with places; without them margin says how many bays stay free",
-            )
-            .end()
+        Some("clear is read only with places; without them margin says how many bays stay free")
+    } else {
+        None
     }
 }
 
 /// How many elements a key must have, and has.
 fn say_length(page: &mut Page, facts: &Facts<'_>, key: Key) {
     let name = key.text();
-    page.line()
-        .at(facts.place(0, name))
-        .text(": ")
+    page.on(facts.place(0, name))
         .text(name)
         .text(" has ")
         .count(facts.elements(name).len() as u64)
@@ -178,9 +175,7 @@ fn say_length(page: &mut Page, facts: &Facts<'_>, key: Key) {
             .text("; there is one place for each hatch")
             .end()
     } else {
-        page.text(", and may be ")
-            .text(wanted_at(key, facts.in_decimetres()))
-            .end()
+        page.text(", and may be ").text(facts.wanted(key)).end()
     }
 }
 
@@ -217,29 +212,20 @@ fn hint_on_number(facts: &Facts<'_>, key: Key, value: &[u8]) -> &'static str {
 /// Says that an element of an array can't stand there.
 fn say_element(page: &mut Page, facts: &Facts<'_>, fault: ShipFault) {
     let (key, number) = (fault.key.text(), fault.number);
-    page.line()
-        .at(facts.place(0, key))
-        .text(": element ")
+    page.on(facts.place(0, key))
+        .text("element ")
         .count(u64::from(number))
         .text(" of ")
         .text(key);
-    let wanted = wanted_at(fault.key, facts.in_decimetres());
     match facts.whole_element(key, number) {
-        Some(value) => page
-            .text(" is ")
-            .number(value)
-            .text("; ")
-            .text(key)
-            .text(" may be ")
-            .text(wanted)
-            .end(),
-        None => page
-            .text(" can't stand there; ")
-            .text(key)
-            .text(" may be ")
-            .text(wanted)
-            .end(),
-    }
+        Some(value) => page.text(" is ").number(value),
+        None => page.text(" can't stand there"),
+    };
+    page.text("; ")
+        .text(key)
+        .text(" may be ")
+        .text(facts.wanted(fault.key))
+        .end()
 }
 
 /// Says that the value of a key can't stand there.
@@ -261,22 +247,14 @@ fn say_value(page: &mut Page, facts: &Facts<'_>, fault: ShipFault) {
 fn say_one_value(page: &mut Page, facts: &Facts<'_>, key: Key, crane: u32) {
     let name = key.text();
     let value = facts.value(crane, name);
-    page.line()
-        .at(facts.place(crane, name))
-        .text(": ")
-        .text(name);
-    let wanted = wanted_at(key, facts.in_decimetres());
-    let hint = hint_on(facts, key, value);
-    if value.is_empty() {
-        page.text(" may be ").text(wanted).text(hint).end()
-    } else {
-        page.text(" is ")
-            .word(value)
-            .text(", and may be ")
-            .text(wanted)
-            .text(hint)
-            .end()
+    page.on(facts.place(crane, name)).text(name);
+    if !value.is_empty() {
+        page.text(" is ").word(value).text(", and");
     }
+    page.text(" may be ")
+        .text(facts.wanted(key))
+        .text(hint_on(facts, key, value))
+        .end()
 }
 
 /// The number of a hatch in the list, from 1.
@@ -330,25 +308,28 @@ fn say_hatch_order(page: &mut Page, facts: &Facts<'_>, fault: ShipFault) {
         return;
     };
     if fault.key == Key::Places {
-        return page
-            .line()
-            .at(place)
-            .text(": place ")
-            .number(other)
-            .text(" stands behind ")
-            .number(one)
-            .text(" in the list; places rise strictly from the first hatch to the last")
-            .end();
+        say_place_order(page, place, one, other)
+    } else {
+        say_overlap(page, place, one, other)
     }
-    say_overlap(page, place, one, other)
+}
+
+/// Says that a place doesn't lie behind the one before it.
+fn say_place_order(page: &mut Page, place: Place<'_>, one: i64, other: i64) {
+    page.on(place)
+        .text("place ")
+        .number(other)
+        .text(" stands behind ")
+        .number(one)
+        .text(" in the list; places rise strictly from the first hatch to the last")
+        .end()
 }
 
 /// Says that a hatch isn't wholly behind the one before it.
 fn say_overlap(page: &mut Page, place: Place<'_>, one: i64, other: i64) {
     let ((first, last), (low, high)) = (bays_of(other), bays_of(one));
-    page.line()
-        .at(place)
-        .text(": hatch ")
+    page.on(place)
+        .text("hatch ")
         .number(other)
         .text(" stands behind hatch ")
         .number(one)
@@ -379,12 +360,15 @@ fn gap_of(facts: &Facts<'_>) -> Option<i64> {
 fn say_crane_order(page: &mut Page, facts: &Facts<'_>, crane: u32) {
     let before = facts.crane_number(crane.saturating_sub(1), "bay");
     let bay = facts.crane_number(crane, "bay");
-    let (Some(gap), Some(before), Some(bay)) = (gap_of(facts), before, bay) else {
-        return;
-    };
-    page.line()
-        .at(facts.place(crane, "bay"))
-        .text(": the ")
+    if let (Some(gap), Some(before), Some(bay)) = (gap_of(facts), before, bay) {
+        say_too_near(page, facts, crane, bay, before, gap)
+    }
+}
+
+/// Says where a crane may stand that stands at this bay, so far behind the one before it at the least.
+fn say_too_near(page: &mut Page, facts: &Facts<'_>, crane: u32, bay: i64, before: i64, gap: i64) {
+    page.on(facts.place(crane, "bay"))
+        .text("the ")
         .text(ordinal(crane))
         .text(" [[crane]] stands at ")
         .number(bay)
@@ -400,9 +384,8 @@ fn say_crane_order(page: &mut Page, facts: &Facts<'_>, crane: u32) {
 
 /// Says which name stands twice.
 fn say_name_twice(page: &mut Page, facts: &Facts<'_>, crane: u32) {
-    page.line()
-        .at(facts.place(crane, "name"))
-        .text(": the name ")
+    page.on(facts.place(crane, "name"))
+        .text("the name ")
         .word(facts.value(crane, "name"))
         .text(" of the ")
         .text(ordinal(crane))
@@ -412,9 +395,8 @@ fn say_name_twice(page: &mut Page, facts: &Facts<'_>, crane: u32) {
 
 /// Says which hatch of a pair the ship hasn't.
 fn say_apart(page: &mut Page, facts: &Facts<'_>, number: u32) {
-    page.line()
-        .at(facts.place(0, "apart"))
-        .text(": pair ")
+    page.on(facts.place(0, "apart"))
+        .text("pair ")
         .count(u64::from(number))
         .text(" of apart names ");
     match strange_hatch(facts, number) {
@@ -432,10 +414,15 @@ fn say_apart(page: &mut Page, facts: &Facts<'_>, number: u32) {
 
 /// The first hatch of a pair that the ship hasn't.
 fn strange_hatch(facts: &Facts<'_>, number: u32) -> Option<i64> {
-    let Some(Value::Array(pair)) = facts.element("apart", number) else {
-        return None;
-    };
-    for hatch in pair {
+    match facts.element("apart", number) {
+        Some(Value::Array(pair)) => first_strange(facts, pair.as_slice()),
+        _ => None,
+    }
+}
+
+/// The first of some hatches that the ship hasn't.
+fn first_strange(facts: &Facts<'_>, hatches: &[Value]) -> Option<i64> {
+    for hatch in hatches {
         let hatch = hatch.as_integer()?;
         if number_of(facts, hatch).is_none() {
             return Some(hatch);

@@ -23,6 +23,11 @@ pub(crate) struct Sorted<'a> {
     pub(crate) from: Option<&'a str>,
 }
 
+/// Whether a word is an operand ahead of `--` too: it begins with no dash, or is one alone.
+fn is_operand(word: &str) -> bool {
+    !word.starts_with('-') || word == "-"
+}
+
 impl<'a> Sorted<'a> {
     /// No word yet.
     fn new(alloc: Global, has_options: bool) -> Sorted<'a> {
@@ -71,7 +76,7 @@ impl<'a> Sorted<'a> {
     fn take(&mut self, word: &'a str) -> Result<(), OutOfMemory> {
         if let Some(option) = self.open {
             self.take_value(option, word);
-        } else if self.is_behind_dashes || !word.starts_with('-') || word == "-" {
+        } else if self.is_behind_dashes || is_operand(word) {
             self.operands.push(word)?;
         } else if word == "--" {
             self.is_behind_dashes = true;

@@ -36,9 +36,8 @@ fn say_fault(page: &mut Page, table: &Table<'_>, fault: StowFault, ship: &Ship) 
     match fault.kind {
         StowKind::Header => say_header(page, table, HEADER, Sort::Stow),
         StowKind::TooMany => page
-            .line()
-            .at(table.place(number))
-            .text(": this is a move behind the 50000th, and a list has no more")
+            .on(table.place(number))
+            .text("this is a move behind the 50000th, and a list has no more")
             .end(),
         StowKind::Fields => say_fields(page, table, number, HEADER),
         StowKind::Id => say_id(page, table, number),
@@ -71,14 +70,12 @@ fn say_id(page: &mut Page, table: &Table<'_>, number: u32) {
     let (place, field) = (table.place(number), table.field(number, 0));
     if is_blank(table, number) {
         return page
-            .line()
-            .at(place)
-            .text(": the record is empty: delete the line")
+            .on(place)
+            .text("the record is empty: delete the line")
             .end();
     }
-    page.line()
-        .at(place)
-        .text(": the id is ")
+    page.on(place)
+        .text("the id is ")
         .shown(field)
         .text(": ")
         .text(why_no_id(field))
@@ -100,9 +97,8 @@ fn meant_move(field: &[u8]) -> Option<&'static str> {
 /// Says what is wrong with a kind of move.
 fn say_move(page: &mut Page, table: &Table<'_>, number: u32) {
     let field = table.field(number, 1);
-    page.line()
-        .at(table.place(number))
-        .text(": the move is ")
+    page.on(table.place(number))
+        .text("the move is ")
         .shown(field);
     match meant_move(field) {
         Some(meant) => page.text("; write ").text(meant).end(),
@@ -144,9 +140,8 @@ fn why_wrong_cell(field: &[u8], fault: CellFault) -> &'static str {
 /// Says what is wrong with a cell.
 fn say_cell(page: &mut Page, table: &Table<'_>, number: u32, fault: CellFault) {
     let field = table.field(number, 2);
-    page.line()
-        .at(table.place(number))
-        .text(": the cell is ")
+    page.on(table.place(number))
+        .text("the cell is ")
         .shown(field)
         .text(": ")
         .text(why_wrong_cell(field, fault))
@@ -154,22 +149,26 @@ fn say_cell(page: &mut Page, table: &Table<'_>, number: u32, fault: CellFault) {
         .end()
 }
 
+/// Which length a bay says.
+fn due_length(cell: Cell) -> &'static str {
+    if cell.is_forty() {
+        " is even: write 40"
+    } else {
+        " is odd: write 20"
+    }
+}
+
 /// Says what is wrong with a length.
 fn say_length(page: &mut Page, table: &Table<'_>, number: u32) {
     let Ok(cell) = Cell::read(table.field(number, 2)) else {
         return;
     };
-    page.line()
-        .at(table.place(number))
-        .text(": the length is ")
+    page.on(table.place(number))
+        .text("the length is ")
         .shown(table.field(number, 3))
         .text(", and bay ")
         .count(u64::from(cell.bay))
-        .text(if cell.is_forty() {
-            " is even: write 40"
-        } else {
-            " is odd: write 20"
-        })
+        .text(due_length(cell))
         .text(
             ", or the bay where the container stands; odd bays are of 20 feet and even ones of 40, and 45 feet are written 40",
         )
@@ -181,9 +180,8 @@ fn say_no_hatch(page: &mut Page, table: &Table<'_>, number: u32, ship: &Ship) {
     let Ok(cell) = Cell::read(table.field(number, 2)) else {
         return;
     };
-    page.line()
-        .at(table.place(number))
-        .text(": no hatch of the ship file takes bay ")
+    page.on(table.place(number))
+        .text("no hatch of the ship file takes bay ")
         .count(u64::from(cell.bay))
         .text("; an even hatch takes its own bay and those on both sides, an odd one its own alone")
         .end();
@@ -260,9 +258,7 @@ fn say_id_twice(page: &mut Page, table: &Table<'_>, number: u32) {
         return;
     };
     let sort = sort_of(table, number);
-    page.line()
-        .at(table.place(number))
-        .text(": ")
+    page.on(table.place(number))
         .shown(table.field(number, 0))
         .text(" is ")
         .text(sort)
@@ -279,9 +275,7 @@ fn say_cell_taken(page: &mut Page, table: &Table<'_>, number: u32) {
     let Some(other) = earlier(table, number, true) else {
         return;
     };
-    page.line()
-        .at(table.place(number))
-        .text(": ")
+    page.on(table.place(number))
         .shown(table.field(number, 0))
         .text(" at ")
         .shown(table.field(number, 2))

@@ -48,11 +48,30 @@ fn told_by(line: &str) -> Option<(&str, &str)> {
 /// The key and the value of a line.
 fn pair_of(line: &str) -> Option<(&str, &str)> {
     let (key, value) = line.split_once('=')?;
-    let (value, _) = value.split_once('#').unwrap_or((value, ""));
-    let key = key.trim();
+    let value = value.split('#').next().unwrap_or(value);
+    Some((without_quotes(key.trim()), value.trim()))
+}
+
+/// A key without the quotes around it.
+fn without_quotes(key: &str) -> &str {
     let key = key.strip_prefix('"').unwrap_or(key);
-    let key = key.strip_suffix('"').unwrap_or(key);
-    Some((key, value.trim()))
+    key.strip_suffix('"').unwrap_or(key)
+}
+
+/// What a line with this number says, behind so many lines `[[crane]]`; none where it gives no key a value.
+fn key_line(text: &str, line: usize, crane: u32) -> Option<KeyLine<'_>> {
+    let (key, value) = told_by(text.trim())?;
+    let crane = if key == "crane" && value.is_empty() {
+        crane.saturating_add(1)
+    } else {
+        crane
+    };
+    Some(KeyLine {
+        line,
+        crane,
+        key,
+        value,
+    })
 }
 
 /// The lines of a ship file that give a key its value. A table whose name isn't `crane` counts as no crane of its
@@ -63,18 +82,10 @@ pub(crate) fn key_lines(alloc: Global, text: &str) -> Result<Vec<KeyLine<'_>>, O
     let mut crane = 0u32;
     for line in text.split('\n') {
         number = number.saturating_add(1);
-        let Some((key, value)) = told_by(line.trim()) else {
-            continue;
-        };
-        if key == "crane" && value.is_empty() {
-            crane = crane.saturating_add(1);
+        if let Some(line) = key_line(line, number, crane) {
+            crane = line.crane;
+            lines.push(line)?;
         }
-        lines.push(KeyLine {
-            line: number,
-            crane,
-            key,
-            value,
-        })?;
     }
     Ok(lines)
 }

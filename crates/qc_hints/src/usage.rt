@@ -2,8 +2,9 @@
 
 use crate::forms::{Form, form_of, near_command};
 use crate::sorted::{OPTIONS, Sorted, told_apart};
-use qc_num::plain_number;
+use qc_num::{OutOfMemory, plain_number};
 use qc_page::{Page, nearest};
+use std::alloc::Global;
 
 /// Whether a value is a number that may stand there, in plain decimal.
 fn is_between(value: &str, least: u32, most: u32) -> bool {
@@ -39,19 +40,23 @@ fn say_equal(page: &mut Page, form: &Form, sorted: &Sorted<'_>) {
             return say_from(page, this, name);
         }
         if let Some(later) = equal_behind(sorted, at, name) {
-            return page
-                .line()
-                .text(this)
-                .text(" and ")
-                .text(form.operand(later).unwrap_or(""))
-                .text(" are the same file \"")
-                .word(name)
-                .text("\": ")
-                .text(form.name)
-                .text(" needs four different names")
-                .end();
+            return say_same(page, form, this, form.operand(later).unwrap_or(""), name);
         }
     }
+}
+
+/// Says that two operands are the same name.
+fn say_same(page: &mut Page, form: &Form, this: &str, other: &str, name: &str) {
+    page.line()
+        .text(this)
+        .text(" and ")
+        .text(other)
+        .text(" are the same file \"")
+        .word(name)
+        .text("\": ")
+        .text(form.name)
+        .text(" needs four different names")
+        .end()
 }
 
 /// Says that an operand is the name behind `--from`.
@@ -75,15 +80,20 @@ fn equal_behind(sorted: &Sorted<'_>, at: usize, name: &str) -> Option<usize> {
     None
 }
 
+/// The name of a number of `make` by its place, from 0, and the least and the most that it may be.
+fn limits_of(at: usize) -> (&'static str, u32, u32) {
+    match at {
+        0 => ("NUMBER", 0, 2_147_483_647),
+        1 => ("HATCHES", 1, 60),
+        _ => ("CRANES", 1, 8),
+    }
+}
+
 /// Says which number of `make` is out of range.
 fn say_made(page: &mut Page, sorted: &Sorted<'_>) {
-    let limits = [
-        ("NUMBER", 0, 2_147_483_647),
-        ("HATCHES", 1, 60),
-        ("CRANES", 1, 8),
-    ];
-    for (word, (name, least, most)) in sorted.operands.iter().zip(limits.iter()) {
-        if say_number(page, name, word, *least, *most) {
+    for (at, word) in sorted.operands.iter().enumerate() {
+        let (name, least, most) = limits_of(at);
+        if say_number(page, name, word, least, most) {
             return;
         }
     }
@@ -130,14 +140,22 @@ fn say_version(page: &mut Page, word: &str) {
         .end()
 }
 
-/// Says that a command hasn't this option, and which it has.
-fn say_no_option(page: &mut Page, form: &Form, word: &str) {
-    let near = if form.has_options() {
-        nearest(page.alloc(), word, &OPTIONS)
+/// The option of a command that is near to a word.
+fn near_option(
+    alloc: Global,
+    form: &Form,
+    word: &str,
+) -> Result<Option<&'static str>, OutOfMemory> {
+    if form.has_options() {
+        nearest(alloc, word, &OPTIONS)
     } else {
         Ok(None)
-    };
-    let Some(near) = page.unless_short(near) else {
+    }
+}
+
+/// Says that a command hasn't this option, and which it has.
+fn say_no_option(page: &mut Page, form: &Form, word: &str) {
+    let Some(near) = page.unless_short(near_option(page.alloc(), form, word)) else {
         return;
     };
     page.line()
@@ -177,23 +195,39 @@ fn say_options(page: &mut Page, form: &Form, sorted: &Sorted<'_>) -> bool {
 /// Says how many operands are missing or too many, and answers whether any are.
 fn say_count(page: &mut Page, form: &Form, sorted: &Sorted<'_>) -> bool {
     if let Some(missing) = form.operand(sorted.operands.len()) {
-        page.line()
-            .text(form.name)
-            .text(" needs ")
-            .text(missing)
-            .text(" too");
+        say_few(page, form, missing);
     } else if let Some(word) = sorted.operands.get(form.count()) {
-        page.line()
-            .text("\"")
-            .word(word)
-            .text("\" is one word too many for ")
-            .text(form.name);
+        say_many(page, form, word);
     } else {
         return false;
     }
-    page.text("; the words are").end();
-    page.line().text("    qc ").text(form.line).end();
     true
+}
+
+/// Says which operand is missing.
+fn say_few(page: &mut Page, form: &Form, missing: &str) {
+    page.line()
+        .text(form.name)
+        .text(" needs ")
+        .text(missing)
+        .text(" too");
+    end_with_words(page, form)
+}
+
+/// Says which word is one too many.
+fn say_many(page: &mut Page, form: &Form, word: &str) {
+    page.line()
+        .text("\"")
+        .word(word)
+        .text("\" is one word too many for ")
+        .text(form.name);
+    end_with_words(page, form)
+}
+
+/// Ends the line with the words of a command, on a line of their own.
+fn end_with_words(page: &mut Page, form: &Form) {
+    page.text("; the words are").end();
+    page.line().text("    qc ").text(form.line).end()
 }
 
 /// Says what is wrong with the words behind a command's name.

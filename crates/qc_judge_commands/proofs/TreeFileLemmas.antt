@@ -1,5 +1,5 @@
 -- A tree's file that is held and has a fault.
-use Rattle.std.proofs.Common.{◌≡◌, ℕ, List, Option, None, Some, Err, refl, sym, ap, subst, IfSome, ok_or, option_and_then}
+use Rattle.std.proofs.Common.{◌≡◌, ℕ, List, Option, None, Some, Result, Err, refl, sym, ap, subst, ◌∙◌, IfSome, ok_or, option_and_then}
 use Rattle.std.specs.FinMap.{get}
 use Rattle.qc_num.specs.Reading.{◌>>=◌, with_fault}
 use Rattle.qc_io.specs.Outside.{Files, IsMissing, file_at}
@@ -7,12 +7,22 @@ use Rattle.qc_model.specs.Instance.{InstanceView}
 use Rattle.qc_tree.specs.declared.fault.TreeFault.{TreeFault}
 use Rattle.qc_tree.specs.Trees.{Tree, IsTree, tree_text}
 use Rattle.qc_replay.specs.Walk.{tree_in}
+use Rattle.qc_replay.specs.declared.fault.Replayed.{Replayed}
+use Rattle.qc_replay.specs.declared.fault.ReplayError.{ReplayError}
+use Rattle.qc_replay.specs.declared.fault.ReplayError.TheVariants as error
 use Rattle.qc_run.specs.declared.inputs.Input.TheVariants as input
 use Rattle.qc_run.specs.declared.refusal.Refusal.TheVariants as refusal
 use Rattle.qc_run.specs.Inputs.{Names, name_of}
 use Rattle.qc_run.specs.Due.{contents_in}
 use Rattle.qc_run.specs.Steps.{ComesTo}
 use Rattle.qc_judge_commands.specs.TreeFile.{IsNoTree, tree_due}
+
+-- a tree with a fault was read, and memory was there
+pub not_unread : {r : Result Replayed ReplayError} {fault : TreeFault} → r ≡ Err (error.Tree fault) → ¬ (r ≡ Err error.ReadFault)
+not_unread is e = absurd (cc (sym is ∙ e))
+
+pub not_starved : {r : Result Replayed ReplayError} {fault : TreeFault} → r ≡ Err (error.Tree fault) → ¬ (r ≡ Err error.OutOfMemory)
+not_starved is e = absurd (cc (sym is ∙ e))
 
 -- the fault of a file that is held is due of its tree
 tree_fault_in :

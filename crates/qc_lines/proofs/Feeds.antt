@@ -1,5 +1,5 @@
 -- The first line feed of the bytes that are held.
-use Rattle.std.proofs.Common.{◌≡◌, ◌==◌, ℕ, ◌+◌, ◌-◌, ◌≤◌, ◌<◌, Bool, false, List, [], ◌∷◌, ◌++◌, length, take, drop, get_or, Option, None, Some, position, refl, sym, ap, subst, ◌∙◌, arith, suc, inl, inr, ◌⊎◌, IfSome, nat_lt}
+use Rattle.std.proofs.Common.{◌≡◌, ◌==◌, ℕ, ◌+◌, ◌-◌, ◌≤◌, ◌<◌, Bool, false, List, [], ◌∷◌, ◌++◌, length, take, drop, get_or, Option, None, Some, Result, Ok, Err, position, refl, sym, ap, subst, ◌∙◌, arith, suc, inl, inr, ◌⊎◌, IfSome, nat_lt}
 use Rattle.std.proofs.Math.Seq.{drop-cons, take-add, take-append-add}
 use Rattle.std.proofs.lemmas.Bool.{cases_Bool}
 use Rattle.std.proofs.lemmas.Bool.Decides.{nat_tests}
@@ -22,6 +22,10 @@ none_before held n none = λ k d lt feed.
     let here : k < n = omega (arith, lt, length-take n held) in
     let same : get_or held k d ≡ 10 = sym (get_or-take n held k d here) ∙ feed in
     absurd (cc (sym (ap is_feed same) ∙ none k d here))
+
+-- what came through is no fault
+pub no_err : {A E : Type 0} {x : A} {e : E} → ¬ (◌≡◌ {A = Result A E} (Ok x) (Err e))
+no_err is = absurd (cc is)
 
 -- a line feed that is found ends a line, or one that is too long
 pub found_line : (most : ℕ) (held : List ℕ) (len : ℕ) → position (λ b. b == 10) held ≡ Some len → len < most

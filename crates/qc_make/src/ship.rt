@@ -1,5 +1,5 @@
 //! The ship file that is made.
-ghost use Rattle.std.specs.Prelude.{◌≡◌, ◌<◌, ◌≤◌, List, map, IfOk, OnOk, Ok, Some};
+ghost use Rattle.std.specs.Prelude.{◌≡◌, ◌<◌, ◌≤◌, List, codes, map, IfOk, OnOk, Ok, Some};
 ghost use Rattle.toml.specs.Parse.{parse_document};
 ghost use Rattle.toml.specs.View.{table_view, view};
 ghost use Rattle.qc_ship.specs.ShipFile.{ship_file};
@@ -37,6 +37,21 @@ fn put_number(alloc: Global, table: &mut Table, key: &str, number: u16) -> Resul
         ≡ with_member key.now (number_value number) (table_view table.old)) }
 {
     put(alloc, table, key, number_value(number))
+}
+
+/// Puts the margin and the ticks at their keys.
+fn put_numbers(alloc: Global, table: &mut Table) -> Result<(), OutOfMemory>
+    ensures { OnOk result (table_view table.new ≡ with_member (codes "cover") (number_value 240)
+        (with_member (codes "hold_move") (number_value 110)
+        (with_member (codes "deck_move") (number_value 120)
+        (with_member (codes "travel") (number_value 60)
+        (with_member (codes "margin") (number_value 1) (table_view table.old)))))) }
+{
+    put_number(alloc, table, "margin", 1)?;
+    put_number(alloc, table, "travel", 60)?;
+    put_number(alloc, table, "deck_move", 120)?;
+    put_number(alloc, table, "hold_move", 110)?;
+    put_number(alloc, table, "cover", 240)
 }
 
 /// The numbers of so many hatches, as values.
@@ -90,11 +105,7 @@ fn ship_table(alloc: Global, hatches: u16, cranes: u16) -> Result<Table, OutOfMe
     let cranes = Value::Array(crane_values(alloc, cranes)?);
     let mut table = Table::new(alloc);
     put(alloc, &mut table, "hatches", hatches)?;
-    put_number(alloc, &mut table, "margin", 1)?;
-    put_number(alloc, &mut table, "travel", 60)?;
-    put_number(alloc, &mut table, "deck_move", 120)?;
-    put_number(alloc, &mut table, "hold_move", 110)?;
-    put_number(alloc, &mut table, "cover", 240)?;
+    put_numbers(alloc, &mut table)?;
     put(alloc, &mut table, "crane", cranes)?;
     Ok(table)
 }

@@ -77,9 +77,7 @@ fn sort_of(bytes: &[u8]) -> Option<Sort> {
 pub fn say_form(page: &mut Page, file: &str, bytes: &[u8], wanted: Sort) -> bool {
     if let Some(what) = no_text(bytes) {
         let (place, wanted) = (Place::whole(file), wanted.text());
-        page.line()
-            .at(place)
-            .text(": ")
+        page.on(place)
             .text(what)
             .text("; ")
             .text(wanted)
@@ -97,9 +95,8 @@ pub fn say_form(page: &mut Page, file: &str, bytes: &[u8], wanted: Sort) -> bool
 fn say_sort(page: &mut Page, file: &str, sort: Sort, wanted: Sort) -> bool {
     let (place, is) = (Place::whole(file), sort.text());
     let (should, word) = (wanted.text(), wanted.word());
-    page.line()
-        .at(place)
-        .text(": this is ")
+    page.on(place)
+        .text("this is ")
         .text(is)
         .text(", and ")
         .text(should)

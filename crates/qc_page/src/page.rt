@@ -56,6 +56,16 @@ impl Page {
         self.text("qc: ")
     }
 
+    /// Begins a line on what stands at a place.
+    pub fn on(&mut self, place: Place<'_>) -> &mut Page {
+        self.line().at(place).text(": ")
+    }
+
+    /// Begins a note on what stands at a place.
+    pub fn note(&mut self, place: Place<'_>) -> &mut Page {
+        self.line().text("note: ").at(place).text(": ")
+    }
+
     /// Ends the line that was begun.
     pub fn end(&mut self) {
         self.text("\n");
@@ -83,9 +93,7 @@ impl Page {
         self.text("\"");
         for chunk in front.utf8_chunks() {
             self.word(chunk.valid());
-            for byte in chunk.invalid() {
-                self.byte(*byte);
-            }
+            self.bytes(chunk.invalid());
         }
         self.text(if front.len() < bytes.len() {
             "\".."
@@ -156,6 +164,13 @@ impl Page {
                 .is_err()
         {
             self.is_short = true;
+        }
+    }
+
+    /// Bytes that are no text, by their numbers.
+    fn bytes(&mut self, bytes: &[u8]) {
+        for byte in bytes {
+            self.byte(*byte);
         }
     }
 

@@ -98,13 +98,20 @@ impl<'a> Table<'a> {
 fn plain_line(alloc: Global, line: &[u8]) -> Result<Vec<u8>, OutOfMemory> {
     let mut plain = Vec::new(alloc);
     for byte in line {
-        match *byte {
-            b';' | b'\t' => plain.push(b',')?,
-            b' ' | b'"' => {}
-            other => plain.push(other.to_ascii_lowercase())?,
+        if let Some(byte) = plain_byte(*byte) {
+            plain.push(byte)?;
         }
     }
     Ok(plain)
+}
+
+/// What a byte is in such a line; none where it is left out.
+fn plain_byte(byte: u8) -> Option<u8> {
+    match byte {
+        b';' | b'\t' => Some(b','),
+        b' ' | b'"' => None,
+        other => Some(other.to_ascii_lowercase()),
+    }
 }
 
 /// Which signs stand between columns in place of commas.
@@ -132,20 +139,23 @@ fn has_names(plain: &[u8], header: &str) -> usize {
 /// Why a line isn't the header.
 fn why_no_header(alloc: Global, line: &[u8], header: &str) -> Result<&'static str, OutOfMemory> {
     let plain = plain_line(alloc, line)?;
-    let plain = plain.as_slice();
+    Ok(why_other_line(plain.as_slice(), line, header))
+}
+
+/// Why a line, which is also given plain, isn't the header.
+fn why_other_line(plain: &[u8], line: &[u8], header: &str) -> &'static str {
     let named = has_names(plain, header);
     if plain.starts_with(b"sep=") {
-        return Ok("this line is the spreadsheet's own: delete it");
+        return "this line is the spreadsheet's own: delete it";
     }
     if named == 4
         && let Some(signs) = other_signs(line)
     {
-        return Ok(signs);
+        return signs;
     }
-    let columns = count_pieces(plain, b',');
-    Ok(if plain == header.as_bytes() {
+    if plain == header.as_bytes() {
         "it has small letters alone, and no spaces"
-    } else if named == 4 && columns > 4 {
+    } else if named == 4 && count_pieces(plain, b',') > 4 {
         "it has these four columns alone: delete the others"
     } else if named == 4 {
         "the columns stand in this order"
@@ -153,7 +163,7 @@ fn why_no_header(alloc: Global, line: &[u8], header: &str) -> Result<&'static st
         "a column is missing or has another name"
     } else {
         "the header is missing"
-    })
+    }
 }
 
 /// Says what is wrong with the header of a table.
@@ -165,9 +175,7 @@ pub fn say_header(page: &mut Page, table: &Table<'_>, header: &str, wanted: Sort
     let Some(why) = page.unless_short(why_no_header(page.alloc(), line, header)) else {
         return;
     };
-    page.line()
-        .at(table.place(1))
-        .text(": ")
+    page.on(table.place(1))
         .shown(line)
         .text(" isn't the header ")
         .text(header)
@@ -207,9 +215,8 @@ pub fn say_fields(page: &mut Page, table: &Table<'_>, number: u32, header: &str)
         return;
     };
     let (count, why) = (fields.len(), why_not_four(fields));
-    page.line()
-        .at(table.place(number))
-        .text(": the record has ")
+    page.on(table.place(number))
+        .text("the record has ")
         .count(count as u64)
         .text(if count == 1 { " field" } else { " fields" })
         .text(", and needs four, ")

@@ -25,7 +25,6 @@ use std::marker::Model;
 
 /// A ship read upward: its hatches along the ship, and the events in the order in which tasks wait
 /// for each other. It keeps a copy of the instance.
-#[derive(Drop)]
 pub struct Part {
     inst: Instance,
     hatches: Vec<Hatch>,
@@ -44,6 +43,18 @@ impl Model for Part {
     ghost view = { view_of };
 
     ghost invariant = { IsKept };
+}
+
+// By hand, so that it is let go by one call wherever it is held.
+impl Drop for Part {
+    fn drop(self) {
+        let Part {
+            inst: _,
+            hatches: _,
+            events: _,
+            numbers: _,
+        } = self;
+    }
 }
 
 impl Part {

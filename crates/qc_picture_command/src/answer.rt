@@ -7,11 +7,21 @@ use qc_run::Broken;
 use qc_sheet_command::Load;
 
 /// A feasible plan, with the way in which it goes where it goes one, and the waypoints of its cranes.
-#[derive(Drop)]
 pub struct Planned {
     pub load: Load,
     pub way: Option<Direction>,
     pub tracks: Tracks,
+}
+
+/// By hand, so that a plan is let go by one call wherever it is held, and not piece by piece.
+impl Drop for Planned {
+    fn drop(self) {
+        let Planned {
+            load: _,
+            way: _,
+            tracks: _,
+        } = self;
+    }
 }
 
 /// What a plan that is judged comes to.

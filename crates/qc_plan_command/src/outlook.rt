@@ -22,6 +22,7 @@ fn seen_bound(alloc: Global, inst: &Instance) -> Result<Tick, OutOfMemory>
         → bound ≤ ends inst.now sched) }
 {
     let crew = Crew::open(alloc, inst, inst.turn())?;
+    let _inst = crew.instance();
     Ok(work_bound(&crew))
 }
 

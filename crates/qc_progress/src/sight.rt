@@ -108,12 +108,10 @@ impl fmt::Display for Grouped {
         digits.push_number(self.0);
         let digits = digits.as_bytes();
         for (at, digit) in digits.iter().enumerate() {
-            let digit = char::from(*digit);
             if 0 < at && digits.len().saturating_sub(at) % 3 == 0 {
-                write!(f, ",{digit}")?;
-            } else {
-                write!(f, "{digit}")?;
+                f.write_char(',')?;
             }
+            f.write_char(char::from(*digit))?;
         }
         Ok(())
     }

@@ -34,18 +34,22 @@ pub fn first_records(
         .flexible(true)
         .from_reader(alloc, text);
     let mut records = Vec::new(alloc);
-    for record in reader.into_byte_records() {
-        if records.len() == limit {
-            return Ok(records);
-        }
-        let record = match record {
-            Ok(record) => record,
-            Err(error) => return Err(stopped(error)),
+    let mut items = reader.into_byte_records();
+    while records.len() < limit {
+        let record = match items.next() {
+            Some(Ok(record)) => record,
+            Some(Err(error)) => {
+                drop(items);
+                return Err(stopped(error));
+            }
+            None => break,
         };
         if records.push(record).is_err() {
+            drop(items);
             return Err(OutOfMemory);
         }
     }
+    drop(items);
     Ok(records)
 }
 

@@ -24,7 +24,6 @@ use std::marker::Model;
 /// Where the reading of a part stands: the decisions of the next node, as long as one must come. The
 /// branchings on the way to it are these decisions, so no other list is kept. All memory is taken by
 /// `new`.
-#[derive(Drop)]
 pub(crate) struct Descent {
     node: CrewedNode,
     live: bool,
@@ -34,6 +33,13 @@ impl Model for Descent {
     ghost Value = { Standing };
 
     ghost view = { standing_of };
+}
+
+// By hand, so that it is let go by one call wherever it is held.
+impl Drop for Descent {
+    fn drop(self) {
+        let Descent { node: _, live: _ } = self;
+    }
 }
 
 impl Descent {

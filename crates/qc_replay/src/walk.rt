@@ -32,7 +32,6 @@ pub(crate) enum Stage {
 }
 
 /// How far a tree is read, and what its lines come to. All memory is taken by `new`.
-#[derive(Drop)]
 pub(crate) struct Walk {
     inst: Instance,
     stage: Stage,
@@ -51,6 +50,21 @@ impl Model for Walk {
     ghost view = { walk_of };
 
     ghost invariant = { IsKeptWalk };
+}
+
+// By hand, so that it is let go by one call wherever it is held.
+impl Drop for Walk {
+    fn drop(self) {
+        let Walk {
+            inst: _,
+            stage: _,
+            version: _,
+            tally: _,
+            part: _,
+            way: _,
+            second: _,
+        } = self;
+    }
 }
 
 /// The part for the mirror, which a tree has where cranes go one way.

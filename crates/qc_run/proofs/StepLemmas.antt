@@ -148,7 +148,7 @@ input_steady input.Own input.Own contents = inr refl
 input_steady input.Log input.Log contents = inr refl
 input_steady read file contents = inl refl
 
-then_steady : {A B : Type 0} (step : Contents → Result A Refusal) (next : A → Contents → Result B Refusal) → Steady step → ((a : A) → Steady (next a))
+pub then_steady : {A B : Type 0} (step : Contents → Result A Refusal) (next : A → Contents → Result B Refusal) → Steady step → ((a : A) → Steady (next a))
     → Steady (λ contents. step contents >>= λ a. next a contents)
 then_steady {A = A} step next first second file contents =
     let less = without file contents in
@@ -173,7 +173,7 @@ same_turn input.Log contents = refl
 pub ship_steady : Steady ship_due
 ship_steady = then_steady (input_due input.Ship) (λ bytes _. with_fault refusal.BadShip (ship_file bytes)) (input_steady input.Ship) (λ bytes file contents. inl refl)
 
-moves_steady : (ship : ShipView) → Steady (moves_due ship)
+pub moves_steady : (ship : ShipView) → Steady (moves_due ship)
 moves_steady ship = then_steady (input_due input.Stow) (λ bytes _. with_fault refusal.BadStow (moves_in ship bytes)) (input_steady input.Stow) (λ bytes file contents. inl refl)
 
 pub instance_steady : Steady instance_due

@@ -24,7 +24,6 @@ use std::marker::Model;
 
 /// A search that isn't run yet. It keeps its own copies of the instance and, where cranes go one way, of its mirror,
 /// and all memory that the run needs.
-#[derive(Drop)]
 pub struct Search {
     roots: Roots,
     incumbent: Schedule,
@@ -39,6 +38,18 @@ impl Model for Search {
     ghost view = { search_of };
 
     ghost invariant = { AreOpened };
+}
+
+// By hand, so that it is let go by one call wherever it is held.
+impl Drop for Search {
+    fn drop(self) {
+        let Search {
+            roots: _,
+            incumbent: _,
+            path: _,
+            limit: _,
+        } = self;
+    }
 }
 
 /// What a search came to that began with this end, for an instance with so many cranes.

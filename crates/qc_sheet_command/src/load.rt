@@ -22,10 +22,16 @@ pub struct Cargo {
 }
 
 /// All that a work sheet needs of the files.
-#[derive(Drop)]
 pub struct Load {
     pub cargo: Cargo,
     pub sched: Schedule,
+}
+
+/// By hand, so that a load is let go by one call wherever it is held, and not piece by piece.
+impl Drop for Load {
+    fn drop(self) {
+        let Load { cargo: _, sched: _ } = self;
+    }
 }
 
 /// The ship of the ship file, the moves of the stowage list, and their instance.

@@ -69,10 +69,10 @@ impl Spread {
         ensures { IfOk result (λ spread. IsOpened spread count decisions) }
     {
         Ok(Spread {
-            values: Noted::open(alloc, 2 * count as u32, decisions)?,
             olds: vec![in alloc; 0u64; count as usize]?,
             pending: vec![in alloc; true; count as usize]?,
             queue: Vec::with_capacity(alloc, count as usize)?,
+            values: Noted::open(alloc, 2 * count as u32, decisions)?,
         })
     }
 

@@ -45,7 +45,6 @@ fn root_of(decision: Decision) -> u16
 /// The earliest start times of a search node: of a list of decisions, and of the instance that they are
 /// made for. Where no starts meet the node it is stuck, until decisions are taken back. A decision
 /// costs what it changes, and so does taking it back. All memory is taken by `open`.
-#[derive(Drop)]
 pub struct Starts {
     network: Network,
     spread: Spread,
@@ -63,6 +62,19 @@ impl Model for Starts {
     ghost view = { node_of };
 
     ghost invariant = { IsKept };
+}
+
+// By hand, so that it is let go by one call wherever it is held.
+impl Drop for Starts {
+    fn drop(self) {
+        let Starts {
+            network: _,
+            spread: _,
+            marks: _,
+            step: _,
+            root: _,
+        } = self;
+    }
 }
 
 /// The starts before any decision.

@@ -1,5 +1,6 @@
 -- What a search leaves in its tree's file, from what the shelf's calls say.
-use Rattle.std.proofs.Common.{◌≡◌, ℕ, List, Option, None, Some, ◌⊎◌, ap, ◌∙◌, inl, inr, refl, IfSome}
+use Rattle.std.proofs.Common.{◌≡◌, ℕ, List, Option, None, Some, ◌⊎◌, ap, ◌∙◌, inl, inr, refl, IfSome, IsErrAnd, OnOk, Result, Ok, Err}
+use Rattle.std.specs.FinMap.{insert}
 use Rattle.std.specs.Io.KnownBytes.{append_known}
 use Rattle.qc_io.specs.Outside.{Beside, Files, View, begun, beside, finished, with_file}
 use Rattle.qc_model.specs.declared.schedule.Slot.{Slot}
@@ -7,6 +8,11 @@ use Rattle.qc_search.specs.Run.{DoneView, IsSound, SearchView}
 use Rattle.qc_search.specs.Run.{IsSearched as Searched}
 use Rattle.qc_tree.specs.Trees.{tree_text}
 use Rattle.qc_store.specs.Stored.{IsTreeLeft, IsTreeStored}
+
+-- what stopped didn't come through
+pub not_through : {T E : Type 0} (P : Type 0) (Q : E → Type 0) (r : Result T E) → IsErrAnd r Q → OnOk r P
+not_through P Q (Ok x) stopped = absurd stopped
+not_through P Q (Err e) stopped = tt
 
 -- ---- a file that is made
 
@@ -39,6 +45,17 @@ left_file before created wrote after name text same made fresh whole stays (inl 
     inl (kept ∙ ap (λ (b : Beside). b.files) stays ∙ same)
 left_file before created wrote after name text same made fresh whole stays (inr put) =
     inr (put ∙ made_file before created wrote name text same made fresh whole stays)
+
+-- the same where what is held is named
+pub held_file : (before after : Option Files) (name text : List ℕ) → after ≡ with_file before name text
+    → IfSome before (λ held. after ≡ Some (insert held name text))
+held_file None after name text e = tt
+held_file (Some held) after name text e = e
+
+pub held_left : (before after : Option Files) (name text : List ℕ) → (after ≡ before) ⊎ (after ≡ with_file before name text)
+    → IfSome before (λ held. (after ≡ Some held) ⊎ (after ≡ Some (insert held name text)))
+held_left None after name text e = tt
+held_left (Some held) after name text e = e
 
 -- ---- the tree's file
 

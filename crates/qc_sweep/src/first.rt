@@ -170,6 +170,26 @@ fn is_open(hunt: &Hunt) -> bool {
     }
 }
 
+/// What `first_plan` answers where each task is in the reach of a crane, with both parts.
+fn plan_of(
+    alloc: Global,
+    inst: &Instance,
+    parts: &Parts,
+    effort: usize,
+) -> Result<Option<Schedule>, OutOfMemory>
+    requires { AreParts inst.now parts.now }
+    ensures { IfOk result (λ found. IfSome found (IsFirstPlan inst.now)) }
+{
+    let mut hunt = begin(alloc, inst, parts, effort)?;
+    let grain = grain(inst);
+    for width in WIDTHS {
+        if is_open(&hunt) {
+            round(alloc, inst, parts, &mut hunt, grain, width)?;
+        }
+    }
+    Ok(hunt.best)
+}
+
 /// A schedule for a search to begin with, found with at most so much effort: of so many states of the
 /// sweeps the children are made. It goes one way. `None` says nothing.
 pub fn first_plan(
@@ -186,12 +206,5 @@ pub fn first_plan(
     let Some(parts) = parts_of(alloc, inst)? else {
         return Ok(None);
     };
-    let mut hunt = begin(alloc, inst, &parts, effort as usize)?;
-    let grain = grain(inst);
-    for width in WIDTHS {
-        if is_open(&hunt) {
-            round(alloc, inst, &parts, &mut hunt, grain, width)?;
-        }
-    }
-    Ok(hunt.best)
+    plan_of(alloc, inst, &parts, effort as usize)
 }

@@ -1,6 +1,6 @@
 //! One sweep over the events of a part.
 
-ghost use Rattle.std.specs.Prelude.{◌≤◌, ◌^◌, All, IfOk};
+ghost use Rattle.std.specs.Prelude.{◌<◌, ◌≤◌, ◌^◌, All, IfOk, length};
 ghost use Rattle.qc_sweep.specs.Nodes.{IsNodeOf};
 
 use crate::chosen::cranes_of;
@@ -63,6 +63,32 @@ fn first_layer(alloc: Global, part: &Part, end: Tick) -> Result<Vec<Node>, OutOf
     Ok(layer)
 }
 
+/// Makes the children of a layer at an event and, where another event comes, chooses the next layer of them. Whether
+/// states were left out.
+fn advance(
+    part: &Part,
+    e: u32,
+    end: Tick,
+    width: usize,
+    layer: &mut Vec<Node>,
+    children: &mut Vec<Node>,
+    trail: &mut Trail,
+) -> Result<bool, OutOfMemory>
+    requires event { e < length part.now.events }
+    requires end { end ≤ 2 ^ 50 }
+    requires nodes { All (IsNodeOf part.now) layer.old.items }
+    ensures { All (IsNodeOf part.now) layer.new.items }
+{
+    let events = part.events();
+    expand(part, layer.as_slice(), e, end, children)?;
+    if e + 1 >= events {
+        return Ok(false);
+    }
+    let cut = choose(part, children, width, layer)?;
+    trail.add(layer.as_slice())?;
+    Ok(cut)
+}
+
 /// Looks for a crane for each task so that all end before the tick, with at most so many states a
 /// layer.
 pub(crate) fn sweep(
@@ -80,12 +106,8 @@ pub(crate) fn sweep(
     let mut effort: usize = 0;
     for e in 0..part.events() {
         effort = effort.saturating_add(layer.len());
-        expand(part, layer.as_slice(), e, end, &mut children)?;
-        if e + 1 < part.events() {
-            let more = choose(part, &mut children, width, &mut layer)?;
-            cut = cut || more;
-            trail.add(layer.as_slice())?;
-        }
+        let more = advance(part, e, end, width, &mut layer, &mut children, &mut trail)?;
+        cut = cut || more;
     }
     let found = match earliest(children.as_slice()) {
         None => None,

@@ -1,11 +1,10 @@
 //! Which tasks end before others start.
-ghost use Rattle.std.specs.Prelude.{◌≡◌, ◌≤◌, ◌<◌, ◌++◌, ◌&&◌, ℕ, List, length, position, bytes_eq, IfOk, OnOk};
-ghost use Rattle.std.specs.List.{list_any};
+ghost use Rattle.std.specs.Prelude.{◌≡◌, ◌≤◌, ◌<◌, ◌++◌, ◌&&◌, ℕ, [], length, position, bytes_eq, IfOk, OnOk};
 ghost use Rattle.indexmap.specs.IndexMap.{get_by};
 ghost use Rattle.qc_stow.specs.Moves.{AreMoves, is_load};
 ghost use Rattle.qc_model.specs.Numbers.{most_tasks};
-ghost use Rattle.qc_tasks.specs.InstanceOf.{before_of, discharges, is_before, is_earlier_phase, is_move_of, is_restow, pairs_from, pairs_with, task_at};
-ghost use Rattle.qc_tasks.specs.Restows.{ShareNoMove, is_in, is_number, is_pair};
+ghost use Rattle.qc_tasks.specs.InstanceOf.{before_of, is_before, is_earlier_phase, is_move_of, is_restow, pairs_from, pairs_with, task_at};
+ghost use Rattle.qc_tasks.specs.Restows.{NumbersDischarges, ShareNoMove, is_in, is_number, is_pair};
 
 use crate::moves::is_move_of;
 use indexmap::{IndexMap, IndexSet};
@@ -21,6 +20,27 @@ fn task_with(tasks: &[Task], row: &Row) -> Option<usize>
     tasks.iter().position(|task| is_move_of(task, row))
 }
 
+/// Adds the task of each discharge, by the container's id, to a map that is empty.
+fn number_discharges<'a>(
+    numbers: &mut IndexMap<&'a [u8], usize>,
+    tasks: &[Task],
+    rows: &'a [Row],
+) -> Result<(), OutOfMemory>
+    requires empty { numbers.old.entries ≡ [] }
+    requires tasks { ShareNoMove tasks.now }
+    requires moves { AreMoves rows.now }
+    ensures { OnOk result (NumbersDischarges numbers.new tasks.now rows.now) }
+{
+    for row in rows {
+        if row.kind.is_discharge() {
+            if let Some(number) = task_with(tasks, row) {
+                numbers.insert(row.id.as_bytes(), number)?;
+            }
+        }
+    }
+    Ok(())
+}
+
 /// The task of each discharge, by the container's id.
 fn discharges<'a>(
     alloc: Global,
@@ -29,19 +49,16 @@ fn discharges<'a>(
 ) -> Result<IndexMap<&'a [u8], usize>, OutOfMemory>
     requires tasks { ShareNoMove tasks.now }
     requires moves { AreMoves rows.now }
-    ensures { IfOk result (λ numbers. (id : List ℕ) (i : ℕ) → i < length tasks.now
-        → is_number i (get_by (λ key. bytes_eq id key.now) numbers)
-        ≡ list_any (discharges (task_at tasks.now i) id) rows.now) }
+    ensures { IfOk result (λ numbers. NumbersDischarges numbers tasks.now rows.now) }
 {
     let mut numbers = IndexMap::new(alloc);
-    for row in rows {
-        if row.kind.is_discharge() {
-            if let Some(number) = task_with(tasks, row) {
-                numbers.insert(row.id.as_bytes(), number)?;
-            }
+    match number_discharges(&mut numbers, tasks, rows) {
+        Ok(()) => Ok(numbers),
+        Err(error) => {
+            drop(numbers);
+            Err(error)
         }
     }
-    Ok(numbers)
 }
 
 /// The tasks of the discharge and of the load of a container, where the move is its load.
@@ -60,6 +77,27 @@ fn restow_of(tasks: &[Task], numbers: &IndexMap<&[u8], usize>, row: &Row) -> Opt
     Some((first, second))
 }
 
+/// Adds the tasks of all containers that are discharged and loaded to a set that is empty.
+fn add_restows(
+    pairs: &mut IndexSet<(usize, usize)>,
+    tasks: &[Task],
+    rows: &[Row],
+    numbers: &IndexMap<&[u8], usize>,
+) -> Result<(), OutOfMemory>
+    requires empty { pairs.old.keys ≡ [] }
+    requires tasks { ShareNoMove tasks.now }
+    requires numbers { NumbersDischarges numbers.now tasks.now rows.now }
+    ensures { OnOk result ((i j : ℕ) → i < length tasks.now → j < length tasks.now
+        → is_in pairs.new i j ≡ is_restow tasks.now rows.now i j) }
+{
+    for row in rows {
+        if let Some(pair) = restow_of(tasks, numbers, row) {
+            pairs.insert(pair)?;
+        }
+    }
+    Ok(())
+}
+
 /// The tasks of all containers that are discharged and loaded.
 fn restows(
     alloc: Global,
@@ -73,12 +111,15 @@ fn restows(
 {
     let numbers = discharges(alloc, tasks, rows)?;
     let mut pairs = IndexSet::new(alloc);
-    for row in rows {
-        if let Some(pair) = restow_of(tasks, &numbers, row) {
-            pairs.insert(pair)?;
+    let added = add_restows(&mut pairs, tasks, rows, &numbers);
+    drop(numbers);
+    match added {
+        Ok(()) => Ok(pairs),
+        Err(error) => {
+            drop(pairs);
+            Err(error)
         }
     }
-    Ok(pairs)
 }
 
 /// Whether the tasks are of one hatch, and the first of a lower phase.
@@ -156,7 +197,9 @@ pub(crate) fn before_of(
 {
     if ordered {
         let restows = restows(alloc, tasks, rows)?;
-        pairs_before(alloc, tasks, &restows)
+        let pairs = pairs_before(alloc, tasks, &restows);
+        drop(restows);
+        pairs
     } else {
         pairs_before(alloc, tasks, &IndexSet::new(alloc))
     }

@@ -79,7 +79,6 @@ fn put_pairs<K: Sink>(
 }
 
 /// Writes the lines of the rules between tasks, and that of their length.
-#[tactic(auto, using(qc_io::proofs::WritesLemmas::writes_cut))]
 fn put_rules<K: Sink>(inst: &Instance, sink: &mut K) -> Result<(), WriteFault>
     ensures { Writes (K.view sink.old) (K.view sink.new)
         (flat_map (pair_line inst.now (codes "before ")) inst.now.before
@@ -95,7 +94,6 @@ fn put_rules<K: Sink>(inst: &Instance, sink: &mut K) -> Result<(), WriteFault>
 /// of which the first task ends before the second starts, each pair that may not run at the same time,
 /// and the length of all tasks together. It takes no memory. After `WriteFault` a part of the report
 /// was written, from its front, that isn't the whole report.
-#[tactic(auto, using(qc_io::proofs::WritesLemmas::writes_cut))]
 pub fn write_tasks<K: Sink>(inst: &Instance, sink: &mut K) -> Result<(), WriteFault>
     ensures { Writes (K.view sink.old) (K.view sink.new) (tasks_text inst.now) result }
 {

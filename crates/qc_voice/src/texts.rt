@@ -112,7 +112,6 @@ pub(crate) fn names_of<'a>(request: &Request<'a>) -> Names<'a> {
 }
 
 /// A file read again.
-#[derive(Drop)]
 pub(crate) enum Text {
     /// The command reads no such file.
     Unnamed,
@@ -120,6 +119,15 @@ pub(crate) enum Text {
     Unread,
     TooLarge,
     Read(Bytes),
+}
+
+// By name and not derived: then a function that lets several go has one call for each, in place of all cases of each.
+impl Drop for Text {
+    fn drop(self) {
+        match self {
+            Text::Unnamed | Text::Unread | Text::TooLarge | Text::Read(_) => {}
+        }
+    }
 }
 
 impl Text {
@@ -152,13 +160,24 @@ pub(crate) fn read_text<S: Shelf>(
 }
 
 /// The files of a command, but for a tree's.
-#[derive(Drop)]
 pub(crate) struct Texts {
     pub(crate) ship: Text,
     pub(crate) stow: Text,
     /// The plan, or the one that the planner has already.
     pub(crate) plan: Text,
     pub(crate) log: Text,
+}
+
+// By name too, for the same reason.
+impl Drop for Texts {
+    fn drop(self) {
+        let Texts {
+            ship: _,
+            stow: _,
+            plan: _,
+            log: _,
+        } = self;
+    }
 }
 
 /// Reads the files of a command again, but for a tree's.

@@ -1,12 +1,15 @@
-use Rattle.std.proofs.Common.{◌≡◌, ◌<◌, ◌≤◌, ℕ, List, Some, map, true, vec_len}
+use Rattle.std.proofs.Common.{◌≡◌, ◌<◌, ◌≤◌, ◌-◌, ℕ, List, Some, map, true, vec_len}
 use Rattle.csv.specs.Reading.{Reached, Ready, default_config, source_of, strip_bom}
 use Rattle.csv.specs.Records.{fields_of}
 use Rattle.csv.specs.declared.parser.State.TheVariants as st
 use Rattle.csv.specs.declared.reader.Trim.TheVariants as trim
 use Rattle.qc_records.proofs.first_records.Given as goal
 
-abbrev pub invariant-loop-record : goal.invariant-loop-record
-invariant-loop-record l = (l.record-iterator.rdr.trim ≡ trim.None) × Ready l.record-iterator.rdr × (0 < l.record-iterator.left) × (l.record-iterator.rdr.config ≡ default_config)
-    × (y : List ℕ) × (source_of (λ s. Some s.now) l.record-iterator.rdr ≡ Some y)
-    × Reached default_config st.StartRecord (strip_bom l.fn.text) (map fields_of l.records.items) l.record-iterator.rdr.state y
-    × (vec_len l.records ≤ l.limit) × (l.record-iterator.rdr.flexible ≡ true)
+abbrev pub invariant-loop-items : goal.invariant-loop-items
+invariant-loop-items l = (l.items.rdr.trim ≡ trim.None) × Ready l.items.rdr × (0 < l.items.left) × (l.items.rdr.config ≡ default_config)
+    × (y : List ℕ) × (source_of (λ s. Some s.now) l.items.rdr ≡ Some y)
+    × Reached default_config st.StartRecord (strip_bom l.fn.text) (map fields_of l.records.items) l.items.rdr.state y
+    × (vec_len l.records ≤ l.limit) × (l.items.rdr.flexible ≡ true)
+
+abbrev pub decreases-loop-items : goal.decreases-loop-items
+decreases-loop-items l = l.limit - vec_len l.records

@@ -1,4 +1,5 @@
-use Rattle.std.proofs.Common.{◌∙◌, ◌+◌, ℕ, Global, Vec, ap}
+use Rattle.std.proofs.Common.{◌∙◌, ◌+◌, ℕ, Global, Vec, ap, arith}
+use Rattle.std.proofs.lemmas.Grind.{common_steps}
 use Rattle.toml.specs.View.{view}
 use Rattle.qc_ship.specs.ShipFile.{place_in}
 use Rattle.qc_ship.proofs.EachLemmas.{each_more, each_stops}
@@ -17,3 +18,6 @@ loop-value-preserved c = record {
       (each_more place_in view c.args.values.now c.loop-value.value-index c.value-item.result c.loop-value-test.true c.value-item.is
       _ c.loop-value.places.items c.loop-value.invariant.rest c.in_ok-place.place (rw c.as_slice.ensures.value at c.in_ok-place.ensures));
 }
+
+pub returns : goal.returns
+returns c = grind (arith, common_steps)

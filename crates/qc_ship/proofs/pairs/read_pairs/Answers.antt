@@ -1,4 +1,5 @@
-use Rattle.std.proofs.Common.{◌∙◌, ◌+◌, Global, Vec, ap}
+use Rattle.std.proofs.Common.{◌∙◌, ◌+◌, Global, Vec, ap, arith}
+use Rattle.std.proofs.lemmas.Grind.{common_steps}
 use Rattle.toml.specs.View.{view}
 use Rattle.qc_ship.specs.ShipFile.{pair_in}
 use Rattle.qc_ship.specs.declared.ship.HatchPair.{HatchPair}
@@ -18,3 +19,6 @@ loop-value-preserved c = record {
       (each_more (pair_in c.args.hatches.now) view c.args.values.now c.loop-value.value-index c.value-item.result c.loop-value-test.true c.value-item.is
       _ c.loop-value.pairs.items c.loop-value.invariant.rest c.in_ok-pair.pair (rw c.as_slice.ensures.value at c.in_ok-pair.ensures));
 }
+
+pub returns : goal.returns
+returns c = grind (arith, common_steps)

@@ -13,6 +13,11 @@ put_pairs-requires-2-clause-tasks g c = λ i j listed.
     let range = c.apart.ensures.valid.apart.range i j (subst (λ (pairs : List Pair). Contains pairs (pair_of i j)) c.apart.ensures.apart listed) in
     (omega (arith, range.0, range.1), range.1)
 
+pub returns-in_err-put_pairs : goal.returns-in_err-put_pairs
+returns-in_err-put_pairs g c =
+    writes_cut (g.K.Sink.view c.args.sink.now) (g.K.Sink.view c.put_pairs.new.sink) _ _ _ c.from_residual.result (search rules)
+    (rw c.before-2.ensures.before at c.in_err-put_pairs.ensures)
+
 pub returns-in_err-put_pairs-2 : goal.returns-in_err-put_pairs-2
 returns-in_err-put_pairs-2 g c =
     writes_then (g.K.Sink.view c.args.sink.now) (g.K.Sink.view c.put_pairs.new.sink) (g.K.Sink.view c.put_pairs-2.new.sink) _ _ c.from_residual-in_err-put_pairs-2.result

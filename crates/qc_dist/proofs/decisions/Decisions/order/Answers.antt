@@ -1,4 +1,5 @@
 use Rattle.std.proofs.Common.{None, [], ◌∷◌, arith}
+use Rattle.std.proofs.lemmas.Grind.{common_steps}
 use Rattle.std.proofs.lemmas.List.{reverse-append}
 use Rattle.qc_model.specs.declared.decision.Decision.TheVariants.{Order}
 use Rattle.qc_dist.specs.declared.made.Made.{Made}
@@ -39,6 +40,9 @@ invariant_of-self c =
     let can = can_order f c.self.invariant _ c.args.first c.args.second c.self.view_is c.requires.conflict c.requires.unsettled in
     after_order f.inst f.made.items c.push_reserved.new.self.items _ (beside f) c.args.first c.args.second c.cell.result
     c.self.invariant can c.cell.ensures c.push_reserved.ensures.items c.push_reserved.ensures.capacity
+
+pub returns-clause-added : goal.returns-clause-added
+returns-clause-added c = grind (arith, common_steps)
 
 pub returns-clause-fits : goal.returns-clause-fits
 returns-clause-fits c =

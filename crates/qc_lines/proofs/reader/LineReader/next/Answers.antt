@@ -3,7 +3,7 @@ use Rattle.std.proofs.lemmas.List.{length-take}
 use Rattle.std.specs.Io.KnownBytes.{prepend_known}
 use Rattle.qc_lines.specs.Left.{HoldsLine, Takes}
 use Rattle.qc_io.proofs.ReadsLemmas.{reads_when}
-use Rattle.qc_lines.proofs.Feeds.{takes, window_front, window_rest}
+use Rattle.qc_lines.proofs.Feeds.{no_err, takes, window_front, window_rest}
 use Rattle.qc_lines.proofs.reader.LineReader.next.Goals as goal
 
 pub returns : goal.returns
@@ -32,8 +32,8 @@ returns g c =
       record {
         left = tt;
         ended = tt;
-        too_long = λ e. absurd (cc e);
-        cut = λ e. absurd (cc e);
-        reads = record { reads = reads_when (g.S.Sink.view c.args.shelf.now) (g.S.Sink.view c.find.new.shelf) found.reads.reads (λ _ e. absurd (cc e)); reading = found.reads.reading; rose = λ e. absurd (cc e) };
+        too_long = λ e. absurd (no_err e);
+        cut = λ e. absurd (no_err e);
+        reads = record { reads = reads_when (g.S.Sink.view c.args.shelf.now) (g.S.Sink.view c.find.new.shelf) found.reads.reads (λ _. no_err); reading = found.reads.reading; rose = λ e. absurd (no_err e) };
       },
     )

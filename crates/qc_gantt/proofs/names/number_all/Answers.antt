@@ -1,7 +1,7 @@
 use Rattle.std.proofs.Common.{◌∙◌, map, sym}
 use Rattle.qc_gantt.proofs.NameLemmas.{knows_more, knows_skip, named_at, none_there}
-use Rattle.qc_gantt.proofs.names.numbers_of.Goals as goal
-use Rattle.qc_gantt.proofs.names.numbers_of.Goals.{then-not-contains_key+in_ok-insert, else-not-contains_key}
+use Rattle.qc_gantt.proofs.names.number_all.Goals as goal
+use Rattle.qc_gantt.proofs.names.number_all.Goals.{then-not-contains_key+in_ok-insert, else-not-contains_key}
 
 pub loop-number-preserved : goal.loop-number-preserved
 loop-number-preserved g c =

@@ -4,8 +4,8 @@ use Rattle.qc_stow.specs.Moves.{is_discharge}
 use Rattle.qc_tasks.specs.InstanceOf.{is_move_of, task_at}
 use Rattle.qc_tasks.specs.Restows.{is_number}
 use Rattle.qc_tasks.proofs.Restows.{knows_more, knows_skip, task_is}
-use Rattle.qc_tasks.proofs.before.discharges.Goals as goal
-use Rattle.qc_tasks.proofs.before.discharges.Goals.{then-is_discharge+in-Some+in_ok-insert, then-is_discharge+in_default, else-is_discharge}
+use Rattle.qc_tasks.proofs.before.number_discharges.Goals as goal
+use Rattle.qc_tasks.proofs.before.number_discharges.Goals.{then-is_discharge+in-Some+in_ok-insert, then-is_discharge+in_default, else-is_discharge}
 
 pub loop-row-preserved : goal.loop-row-preserved
 loop-row-preserved c =
