@@ -10,7 +10,7 @@ if ! "$here/package/is-built"; then
         echo 'qc: the program must be built, and the command rt of the Rattle toolchain is not on PATH' >&2
         exit 1
     fi
-    echo 'qc: proving and building the program, which takes twenty minutes to an hour at first' >&2
+    echo 'qc: proving and building the program, which takes some 25 minutes at first on four processors' >&2
     trap 'kill "$!" 2>/dev/null; wait "$!"; exit 1' HUP INT TERM
     "$here/package/build-program" &
     if ! wait "$!"; then
