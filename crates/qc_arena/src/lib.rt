@@ -38,18 +38,14 @@ mod tests {
                 arena.push(0, 2, 7);
                 arena.push(1, 2, 9);
                 let mut out = arena.out(0);
-                assert_eq!(rt;
-                    (out.next(), out.next(), out.next()),
-                    (Some(two), Some(one), None)
-                );
+                let held = (out.next(), out.next(), out.next());
+                assert!(rt; held == (Some(two), Some(one), None));
                 let mut into = arena.into_of(2);
-                assert_eq!(rt;
-                    (into.next(), into.next(), into.next()),
-                    (Some(three), Some(two), None)
-                );
-                assert_eq!(rt; arena.pop(), Some(three));
+                let held = (into.next(), into.next(), into.next());
+                assert!(rt; held == (Some(three), Some(two), None));
+                assert!(rt; arena.pop() == Some(three));
                 let mut left = arena.into_of(2);
-                assert_eq!(rt; (left.next(), left.next()), (Some(two), None));
+                assert!(rt; (left.next(), left.next()) == (Some(two), None));
                 assert_eq!(rt; arena.len(), 2);
             }
             Err(refused) => assert!(rt; false, "{refused}"),
