@@ -1,7 +1,7 @@
 //! The program: a run over the files of the system and standard output.
 #![tactic(auto)]
 
-use qc_io::WriteFault;
+use qc_io::{Shelf, Sink, WriteFault};
 use qc_num::OutOfMemory;
 use qc_progress::Progress;
 use qc_system::{FileShelf, Lines, Output, words_of};
@@ -36,6 +36,19 @@ fn behind_quiet(words: &[String]) -> (bool, &[String]) {
     }
 }
 
+/// The status of a run over a shelf, and the shelf. Where it is to be shown, it is said how far the search has come.
+fn run_over<S: Shelf, K: Sink, R: Eprint + AllocGlobal>(
+    rt: &R,
+    words: &[String],
+    shelf: S,
+    is_shown: bool,
+    out: &mut K,
+) -> (Status, S) {
+    let mut told = Progress::new(shelf, rt, is_shown);
+    let ended = run(rt.alloc(), words, &mut told, out);
+    (ended, told.into_shelf())
+}
+
 /// The status of a run with these words over the files of the system and standard output. What is to be mended is said
 /// on standard error, unless `-q` stands first, and where that is a terminal, how far the search has come.
 fn status_of<R: Files + Print + Eprint + AllocGlobal>(
@@ -48,9 +61,8 @@ where
 {
     let (is_quiet, words) = behind_quiet(words);
     let mut out = Lines::new(rt.alloc(), Output::new(io::writer(rt)))?;
-    let mut told = Progress::new(FileShelf::new(rt), rt, is_terminal && !is_quiet);
-    let ended = run(rt.alloc(), words, &mut told, &mut out);
-    let mut shelf = told.into_shelf();
+    let is_shown = is_terminal && !is_quiet;
+    let (ended, mut shelf) = run_over(rt, words, FileShelf::new(rt), is_shown, &mut out);
     let status = match out.flush() {
         Ok(()) => ended,
         Err(WriteFault) => Status::WriteFault,
@@ -58,6 +70,8 @@ where
     if !is_quiet {
         say_after(rt, words, status, &mut shelf, out.to().why());
     }
+    drop(shelf);
+    drop(out);
     Ok(status)
 }
 

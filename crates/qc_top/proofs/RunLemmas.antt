@@ -50,7 +50,7 @@ use Rattle.qc_words.proofs.PlainWords.{canonical_asked}
 use Rattle.qc_words.specs.Asked.{Asked, KeepsLimits, are_different, check, dispatch, is_own, make, picture, plan, report, sheet, show, tasks, usage, watch, help, version}
 use Rattle.qc_words.specs.Words.{Asks}
 use Rattle.qc_top.specs.Account.{IsRun, IsRunOf, IsStopped, IsUsage, check_names, dispatch_names, show_names, tasks_names, watch_names, IsSaid}
-use Rattle.qc_top.specs.About.{help_text, version_text}
+use Rattle.qc_words.specs.Help.{help_text, version_text}
 use Rattle.qc_top.specs.Promises.{IsPlan, Promises}
 
 -- ---- want of memory for the words, as an answer of each command

@@ -22,7 +22,7 @@ use Rattle.qc_watch_command.specs.Account.{watch_reader}
 use Rattle.qc_words.specs.Asked.{Asked, plan, check, tasks, show, make, sheet, watch, dispatch, picture, report, usage, help, version}
 use Rattle.qc_words.specs.Commands.{named}
 use Rattle.qc_words.specs.Words.{Asks, about}
-use Rattle.qc_top.specs.About.{help_text, version_text}
+use Rattle.qc_words.specs.Help.{help_text, version_text}
 
 -- the files that a check, the tasks, a plan that is shown, drawn, reported or put on a sheet, a log that is judged, and
 -- a plan that is followed by one read; of a check with the turn of the schedules that are asked about

@@ -23,7 +23,7 @@ use Rattle.qc_words.specs.Commands.{named}
 use Rattle.qc_words.specs.Words.{Asks, Canonical, about}
 use Rattle.qc_top.specs.Account.{IsStopped, IsUsage, check_names, dispatch_names, show_names, tasks_names, watch_names, IsSaid}
 use Rattle.qc_words.specs.declared.commands.CommandName.{CommandName}
-use Rattle.qc_top.specs.About.{help_text, version_text}
+use Rattle.qc_words.specs.Help.{help_text, version_text}
 
 -- a plan is asked for
 abbrev pub IsPlan : Asked → Type 0

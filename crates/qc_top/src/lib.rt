@@ -1,7 +1,6 @@
 //! A run of the program: the words ask for a command, which serves and reports.
 #![tactic(auto)]
 
-mod about;
 mod program;
 
 pub use program::run;

@@ -8,7 +8,6 @@ ghost use Rattle.qc_words.specs.Words.{texts};
 ghost use Rattle.qc_top.specs.Account.{IsRun, IsRunOf, OnlyReads, check_names};
 ghost use Rattle.qc_top.specs.Promises.{Promises};
 
-use crate::about::{help_text, version_text};
 use qc_dispatch_command::dispatch;
 use qc_io::{Shelf, Sink};
 use qc_judge_commands::{check_plan, check_tree, list_tasks, show};
@@ -20,7 +19,7 @@ use qc_run::{Inputs, Refusal, Status, Stop, report_stop, report_text};
 use qc_sheet_command::print_sheet;
 use qc_trial::make;
 use qc_watch_command::watch;
-use qc_words::{Request, request_of};
+use qc_words::{Request, help_text, request_of, version_text};
 use std::alloc::Global;
 
 /// The names of the files that a command reads: a plan's where it reads one.

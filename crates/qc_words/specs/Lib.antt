@@ -1,3 +1,4 @@
 pub mod Asked
 pub mod Commands
+pub mod Help
 pub mod Words

@@ -1,8 +1,8 @@
 //! What is said to whoever asks about the program.
 ghost use Rattle.std.specs.Prelude.{◌≡◌};
-ghost use Rattle.qc_top.specs.About.{command_help, help_text, version_text};
+ghost use Rattle.qc_words.specs.Help.{command_help, help_text, version_text};
 
-use qc_words::CommandName;
+use crate::commands::CommandName;
 
 const HELP: &[u8] = b"qc plans the quay cranes that work one container ship from one rail.
 
@@ -166,7 +166,7 @@ fn command_help(of: CommandName) -> &'static [u8]
 }
 
 /// What the program does and its commands, or one command.
-pub(crate) fn help_text(of: Option<CommandName>) -> &'static [u8]
+pub fn help_text(of: Option<CommandName>) -> &'static [u8]
     ensures { result.now ≡ help_text of }
 {
     match of {
@@ -176,7 +176,7 @@ pub(crate) fn help_text(of: Option<CommandName>) -> &'static [u8]
 }
 
 /// Which program this is, and what it was proved with.
-pub(crate) fn version_text() -> &'static [u8]
+pub fn version_text() -> &'static [u8]
     ensures { result.now ≡ version_text }
 {
     VERSION
