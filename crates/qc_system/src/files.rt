@@ -8,7 +8,7 @@ ghost use Rattle.qc_system.specs.Used.{NotesOne};
 
 use crate::making::{Making, begun};
 use crate::once::read_once;
-use crate::same::{Identity, identity_of, note};
+use crate::same::{Identity, note};
 use crate::target::target_of;
 use qc_io::{Failed, Shelf, Sink, fault};
 use std::fs;
@@ -59,7 +59,7 @@ impl<'a, R: Files + AllocGlobal> FileShelf<'a, R> {
 
     /// The name of the file whose call failed last, and what the system said.
     pub fn trouble(&mut self) -> Option<(String, io::Error)> {
-        Some((self.named.take()?, self.why?))
+        self.named.take().zip(self.why)
     }
 }
 
@@ -178,7 +178,7 @@ fn opened<R: Files>(
         return Err(io::Error::from(ErrorKind::Unsupported));
     }
     let file = fs::open(rt, name)?;
-    note(identity_of(&file)?, used)?;
+    note(&file, used)?;
     Ok(file)
 }
 

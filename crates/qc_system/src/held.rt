@@ -62,8 +62,8 @@ impl Held {
     }
 
     /// Writes what is held, at the end.
-    pub(crate) fn end<W: Write>(mut self, to: &mut W) -> io::Result<()>
-        ensures { OnOk result (Appends (W.contents to.old) (W.contents to.new) self.bytes.items) }
+    pub(crate) fn end<W: Write>(&mut self, to: &mut W) -> io::Result<()>
+        ensures { OnOk result (Appends (W.contents to.old) (W.contents to.new) self.old.bytes.items) }
     {
         let (mut faults, mut why) = (0, None);
         match self.flush(to, &mut faults, &mut why) {

@@ -8,7 +8,7 @@ ghost use Rattle.qc_system.specs.Used.{NotesOne};
 use crate::held::Held;
 use crate::once::write_once;
 use crate::part::{Part, begin_part};
-use crate::same::{Identity, identity_of, is_among, note};
+use crate::same::{Identity, is_among, note};
 use crate::target::{Found, Target};
 use qc_io::{Failed, fault};
 use std::fs::{self, OpenFile};
@@ -17,7 +17,6 @@ use std::os::fd::AsFd;
 use std::rt::Files;
 
 /// A file that is being made, by the name that was asked for.
-#[derive(Drop)]
 pub(crate) struct Making<'a, R: Files> {
     rt: &'a R,
     pub(crate) name: String,
@@ -29,6 +28,20 @@ pub(crate) struct Making<'a, R: Files> {
     pub(crate) file: Option<R::File>,
     /// The bytes that are to go into a new file with those that follow; None where a file is written as it stands.
     pub(crate) held: Option<Held>,
+}
+
+// By hand, so that it is let go by one call wherever it is held. A new file is removed ahead of its closing.
+impl<R: Files> Drop for Making<'_, R> {
+    fn drop(self) {
+        let Making {
+            rt: _,
+            name: _,
+            path: _,
+            part: _,
+            file: _,
+            held: _,
+        } = self;
+    }
 }
 
 /// Whether the file is there and in use.
@@ -57,23 +70,49 @@ where
     if is_in_use(&found, used) {
         return Err(io::Error::from(ErrorKind::ResourceBusy));
     }
+    unused(rt, name, path, &found)
+}
+
+/// Begins a file that isn't in use.
+fn unused<'a, R: Files + AllocGlobal>(
+    rt: &'a R,
+    name: &str,
+    path: String,
+    found: &Option<Found>,
+) -> io::Result<Making<'a, R>>
+where
+    R::File: AsFd,
+    ensures { IfOk result (λ making. string_bytes making.name ≡ name.now) }
+{
     let name = String::from_str(rt.alloc(), name)?;
-    let (part, file, held) = match &found {
-        Some(found) if found.in_place => (None, None, None),
-        _ => {
-            let held = Held::new(rt.alloc())?;
-            let (part, file) = begin_part(rt, path.as_str(), &found)?;
-            (Some(part), Some(file), Some(held))
-        }
-    };
+    if is_in_place(found) {
+        return Ok(Making {
+            rt,
+            name,
+            path,
+            part: None,
+            file: None,
+            held: None,
+        });
+    }
+    let held = Held::new(rt.alloc())?;
+    let (part, file) = begin_part(rt, path.as_str(), found)?;
     Ok(Making {
         rt,
         name,
         path,
-        part,
-        file,
-        held,
+        part: Some(part),
+        file: Some(file),
+        held: Some(held),
     })
+}
+
+/// Whether the file is there and written as it stands.
+fn is_in_place(found: &Option<Found>) -> bool {
+    match found {
+        Some(found) => found.in_place,
+        None => false,
+    }
 }
 
 impl<R: Files> Making<'_, R> {
@@ -117,30 +156,42 @@ impl<R: Files> Making<'_, R> {
         }
     }
 
+    /// Gives the file all its bytes, and notes that it is used.
+    fn fill(&mut self, used: &mut Vec<Identity>) -> io::Result<()>
+        ensures { IfOk result (λ _. NotesOne used.old.items used.new.items) }
+    {
+        self.open()?;
+        let Some(file) = &mut self.file else {
+            return Err(io::Error::from(ErrorKind::NotFound));
+        };
+        if let Some(held) = &mut self.held {
+            held.end(file)?;
+        }
+        note(file, used)
+    }
+
+    /// Puts a new file in its place, with all its bytes stored.
+    fn put(&mut self) -> io::Result<()> {
+        let Some(part) = self.part.take() else {
+            return Ok(());
+        };
+        if let Some(file) = &self.file {
+            file.sync_all()?;
+        }
+        part.put(self.path.as_str())
+    }
+
     /// Puts the file in its place, with all its bytes stored, and notes that it is used.
     pub(crate) fn finish(mut self, used: &mut Vec<Identity>) -> io::Result<()>
         ensures { IfOk result (λ _. NotesOne used.old.items used.new.items) }
     {
-        self.open()?;
-        let Making {
-            rt: _,
-            name: _,
-            path,
-            part,
-            file,
-            held,
-        } = self;
-        let Some(mut file) = file else {
-            return Err(io::Error::from(ErrorKind::NotFound));
-        };
-        if let Some(held) = held {
-            held.end(&mut file)?;
+        match self.fill(used) {
+            Ok(()) => self.put(),
+            Err(error) => {
+                // A new file that isn't filled is closed ahead of its removal.
+                self.file = None;
+                Err(error)
+            }
         }
-        note(identity_of(&file)?, used)?;
-        let Some(part) = part else {
-            return Ok(());
-        };
-        file.sync_all()?;
-        part.put(path.as_str())
     }
 }

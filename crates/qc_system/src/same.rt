@@ -1,5 +1,6 @@
 //! Which file of the system an open file or a name is.
-ghost use Rattle.std.specs.Prelude.{◌≡◌, ◌↔◌, ◌++◌, ◌∷◌, [], OnOk, OnErr, IsTrue, Contains};
+ghost use Rattle.std.specs.Prelude.{◌≡◌, ◌↔◌, OnOk, OnErr, IsTrue, Contains};
+ghost use Rattle.qc_system.specs.Used.{NotesOne};
 
 use std::fs::{Metadata, OpenFile};
 use std::io::{self, ErrorKind};
@@ -22,16 +23,13 @@ impl Identity {
     }
 }
 
-/// Which file this is. It fails where the system doesn't tell.
-pub(crate) fn identity_of<F: OpenFile>(file: &F) -> io::Result<Identity> {
-    Ok(Identity::of(&file.metadata()?))
-}
-
-/// Adds a file to the files. Nothing is added where it can't be kept.
-pub(crate) fn note(file: Identity, files: &mut Vec<Identity>) -> io::Result<()>
-    ensures added { OnOk result (files.new.items ≡ files.old.items ++ file ∷ []) }
+/// Adds an open file to the files. It fails, and nothing is added, where the system doesn't tell which file
+/// it is, or where it can't be kept.
+pub(crate) fn note<F: OpenFile>(opened: &F, files: &mut Vec<Identity>) -> io::Result<()>
+    ensures added { OnOk result (NotesOne files.old.items files.new.items) }
     ensures none { OnErr result (files.new.items ≡ files.old.items) }
 {
+    let file = Identity::of(&opened.metadata()?);
     match files.push(file) {
         Ok(()) => Ok(()),
         Err(_) => Err(io::Error::from(ErrorKind::OutOfMemory)),
