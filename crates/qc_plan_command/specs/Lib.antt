@@ -1,9 +1,11 @@
 pub mod Asked
 pub mod Rooms
 pub mod Ahead
+pub mod Opened
 pub mod Found
 pub mod Chosen
 pub mod Reports
 pub mod Lines
 pub mod Account
+pub mod Stored
 pub mod Promises

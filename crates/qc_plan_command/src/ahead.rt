@@ -44,8 +44,15 @@ fn one_way_search(alloc: Global, inst: &Instance, nodes: u32) -> Result<OneWaySe
     ensures is { IfOk result IsOneWaySearch }
 {
     let inst = copy(alloc, inst)?.with_turn(Turn::OneWay);
-    let swept = first_plan(alloc, &inst, EFFORT)?;
-    let search = Search::open(alloc, &inst, nodes)?;
+    let Ok(swept) = first_plan(alloc, &inst, EFFORT) else {
+        drop(inst);
+        return Err(OutOfMemory);
+    };
+    let Ok(search) = Search::open(alloc, &inst, nodes) else {
+        drop(swept);
+        drop(inst);
+        return Err(OutOfMemory);
+    };
     Ok(OneWaySearch {
         inst,
         swept,
@@ -100,10 +107,13 @@ impl OneWaySearch {
         } = self;
         let own = one_way_of(&inst, own);
         let given = earlier(&mut search, &inst, own, swept.as_ref());
-        match search.run(given, &mut Nowhere) {
+        let best = match search.run(given, &mut Nowhere) {
             Ok(done) => done.into_best(),
             Err(WriteFault) => None,
-        }
+        };
+        drop(swept);
+        drop(inst);
+        best
     }
 }
 

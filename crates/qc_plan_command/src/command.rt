@@ -1,6 +1,7 @@
 //! The command that plans.
-ghost use Rattle.std.specs.Prelude.{◌≡◌, ◌≤◌, IfOk, IfSome, IsSomeAnd, None, Ok, length, option_map};
+ghost use Rattle.std.specs.Prelude.{◌≡◌, ◌≤◌, IfOk, IfSome, IsSomeAnd, None, Ok, OnErr, option_map};
 ghost use Rattle.qc_io.specs.Writes.{Counts};
+ghost use Rattle.qc_model.specs.Instance.{Valid};
 ghost use Rattle.qc_model.specs.Judge.{IsJudgeable};
 ghost use Rattle.qc_model.specs.Numbers.{most_branchings};
 ghost use Rattle.qc_model.specs.OneWay.{IsAllowed};
@@ -11,18 +12,19 @@ ghost use Rattle.qc_plan_command.specs.Account.{IsPlanRun, IsPlanning};
 ghost use Rattle.qc_plan_command.specs.Ahead.{IsAhead};
 ghost use Rattle.qc_plan_command.specs.Asked.{planning};
 ghost use Rattle.qc_plan_command.specs.Chosen.{IsChosenSearch};
+ghost use Rattle.qc_plan_command.specs.Opened.{IsOpened};
 ghost use Rattle.qc_plan_command.specs.Promises.{PlanPromises};
 ghost use Rattle.qc_plan_command.specs.Reports.{CanBeTold};
-ghost use Rattle.qc_plan_command.specs.Rooms.{IsRoom};
+ghost use Rattle.qc_plan_command.specs.Stored.{IsCut, IsStored};
 
-use crate::ahead::{Ahead, ahead_of};
+use crate::ahead::Ahead;
 use crate::answer::PlanAnswer;
 use crate::asked::PlanAsked;
 use crate::found::answer_of;
 use crate::given::earlier;
-use crate::outlook::{root_bound, tell};
+use crate::opened::{Opened, open_for};
+use crate::outlook::tell;
 use crate::report::report;
-use crate::room::{Room, room_for};
 use qc_io::{Shelf, Sink, WriteFault};
 use qc_model::{Instance, Schedule};
 use qc_num::Tick;
@@ -60,42 +62,84 @@ fn run_search<S: Shelf>(
     store_tree(search, given, asked.tree, shelf)
 }
 
-/// Runs the search, writes its tree and the plan of the best schedule that it knows, and answers what is told of
-/// it. The plan's file is begun first, so that one that can't be made is told before any search is run; the bound is
-/// only told to whoever waits.
-fn plan_instance<S: Shelf>(
+/// Runs the search, and writes its tree and the plan of the best schedule that it knows. The plan's file is begun first,
+/// so that one that can't be made is told before any search is run; the bound is only told to whoever waits.
+fn store_search<S: Shelf>(
     asked: &PlanAsked<'_>,
-    job: OwnJob,
+    job: &OwnJob,
     ahead: Ahead,
     search: Search,
     bound: Option<Tick>,
-    room: Room,
+    shelf: &mut S,
+) -> Result<Done, WriteFault>
+    requires valid { Valid job.now.inst }
+    requires search { search ≡ record { inst = job.now.inst; nodes = asked.now.nodes } }
+    requires due { ComesTo (own_job_due (planning asked.now).inputs.own) (planning asked.now).inputs
+        (S.Sink.view shelf.old).files (Ok job.now) }
+    requires judgeable { IfSome job.now.own (IsJudgeable job.now.inst) }
+    requires allowed { IfSome job.now.own (IsAllowed job.now.inst) }
+    requires ahead { IsAhead job.now.inst ahead }
+    ensures stored { IfOk result
+        (IsStored (planning asked.now) (S.Sink.view shelf.old) (S.Sink.view shelf.new) job.now.inst) }
+    ensures cut { OnErr result
+        (IsCut (planning asked.now) (S.Sink.view shelf.old) (S.Sink.view shelf.new)) }
+    ensures never_falls { (S.Sink.view shelf.old).faults ≤ (S.Sink.view shelf.new).faults }
+{
+    if shelf.create(asked.plan).is_err() {
+        drop(ahead);
+        drop(search);
+        return Err(WriteFault);
+    }
+    let Ok(done) = run_search(
+        asked,
+        &job.inst,
+        job.own.as_ref(),
+        ahead,
+        search,
+        bound,
+        shelf,
+    ) else {
+        return Err(WriteFault);
+    };
+    match store_best(&job.inst, &done, asked.plan, shelf) {
+        Ok(()) => Ok(done),
+        Err(WriteFault) => {
+            drop(done);
+            Err(WriteFault)
+        }
+    }
+}
+
+/// Runs the search, writes what it came to, and answers what is told of it.
+fn plan_job<S: Shelf>(
+    asked: &PlanAsked<'_>,
+    job: OwnJob,
+    opened: Opened,
     shelf: &mut S,
 ) -> PlanAnswer
-    requires search { search ≡ record { inst = job.inst; nodes = asked.now.nodes } }
-    requires room { IsRoom job.inst.turn (length job.inst.tasks) room }
+    requires opened { IsOpened job.inst asked.now.nodes opened }
     requires due { ComesTo (own_job_due (planning asked.now).inputs.own) (planning asked.now).inputs
         (S.Sink.view shelf.old).files (Ok job) }
     requires judgeable { IfSome job.own (IsJudgeable job.inst) }
     requires allowed { IfSome job.own (IsAllowed job.inst) }
-    requires ahead { IsAhead job.inst ahead }
     ensures serves { IsPlanning (planning asked.now) (S.Sink.view shelf.old) (S.Sink.view shelf.new) (Ok result) }
     ensures ready { CanBeTold result }
     ensures never_falls { (S.Sink.view shelf.old).faults ≤ (S.Sink.view shelf.new).faults }
 {
-    let OwnJob { inst, own } = job;
-    if shelf.create(asked.plan).is_err() {
-        drop(ahead);
-        drop(search);
-        return PlanAnswer::WriteFault;
-    }
-    let Ok(done) = run_search(asked, &inst, own.as_ref(), ahead, search, bound, shelf) else {
+    let Opened {
+        room,
+        ahead,
+        search,
+        bound,
+    } = opened;
+    let Ok(done) = store_search(asked, &job, ahead, search, bound, shelf) else {
+        drop(room);
+        drop(job);
         return PlanAnswer::WriteFault;
     };
-    match store_best(&inst, &done, asked.plan, shelf) {
-        Ok(()) => answer_of(inst, done, room),
-        Err(WriteFault) => PlanAnswer::WriteFault,
-    }
+    let OwnJob { inst, own } = job;
+    drop(own);
+    answer_of(inst, done, room)
 }
 
 /// What is told of the planner's own schedule where it breaks a rule; none where cranes may follow it or there is none.
@@ -129,23 +173,11 @@ fn serve<S: Shelf>(alloc: Global, asked: &PlanAsked<'_>, shelf: &mut S) -> Resul
         drop(job);
         return Ok(PlanAnswer::Broken(broken));
     }
-    let Ok(room) = room_for(alloc, &job.inst) else {
+    let Ok(opened) = open_for(alloc, &job.inst, asked.nodes) else {
         drop(job);
         return Err(Stop::OutOfMemory);
     };
-    let Ok(ahead) = ahead_of(alloc, &job.inst, asked.nodes) else {
-        drop(room);
-        drop(job);
-        return Err(Stop::OutOfMemory);
-    };
-    let Ok(search) = Search::open(alloc, &job.inst, asked.nodes) else {
-        drop(ahead);
-        drop(room);
-        drop(job);
-        return Err(Stop::OutOfMemory);
-    };
-    let bound = root_bound(alloc, &job.inst).ok();
-    Ok(plan_instance(asked, job, ahead, search, bound, room, shelf))
+    Ok(plan_job(asked, job, opened, shelf))
 }
 
 /// Plans, and reports to `out`: by schedules that go one way, or by all that are feasible, as is asked.

@@ -27,10 +27,15 @@ pub(crate) fn answer_of(inst: Instance, done: Done, room: Room) -> PlanAnswer
     let kind = done.kind();
     let branched = u64::from(done.branched());
     let Bound::Least(bound) = done.bound() else {
+        drop(done);
+        drop(room);
+        drop(inst);
         return PlanAnswer::Infeasible { branched };
     };
     let given = done.given();
     let Some(sched) = done.into_best() else {
+        drop(room);
+        drop(inst);
         return PlanAnswer::Unplanned { bound, branched };
     };
     let motion = motion_of(&inst, &sched, room);

@@ -11,6 +11,7 @@ mod command;
 mod found;
 mod given;
 mod nowhere;
+mod opened;
 mod outlook;
 mod report;
 mod room;

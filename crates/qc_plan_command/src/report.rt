@@ -111,7 +111,10 @@ fn put_moved<K: Sink>(told: Planned, out: &mut K) -> Result<(), WriteFault>
     requires { IsReady told }
     ensures { WritesPlan told (K.view out.old) (K.view out.new) result }
 {
-    put_all(out, planned_text(&told).as_bytes())?;
+    let Ok(()) = put_all(out, planned_text(&told).as_bytes()) else {
+        drop(told);
+        return Err(WriteFault);
+    };
     let Planned {
         inst,
         sched,

@@ -14,8 +14,8 @@ returns-in-Some-clause-serves g c =
     (view c.read_own_job.new.shelf) c.in_ok-job.job c.in-Some.broken c.inputs.ensures c.in_ok-job.ensures.step
     c.in_ok-job.ensures.turn c.in-Some.ensures.some
 
-pub plan_instance-requires-clause-due : goal.plan_instance-requires-clause-due
-plan_instance-requires-clause-due g c =
+pub plan_job-requires-clause-due : goal.plan_job-requires-clause-due
+plan_job-requires-clause-due g c =
     let view = g.S.Sink.view in
     let step = subst (λ (n : Names). IsStep (own_job_due n.own) n (view c.args.shelf.now) (view c.read_own_job.new.shelf)
     (Ok c.in_ok-job.job)) c.inputs.ensures c.in_ok-job.ensures.step in
@@ -27,5 +27,5 @@ returns-clause-serves g c =
     let view = g.S.Sink.view in
     let step = c.in_ok-job.ensures.step in
     over_read (planning c.args.asked.now) (view c.args.shelf.now) (view c.read_own_job.new.shelf)
-    (view c.plan_instance.new.shelf) step.files step.made step.faults step.ok.0 c.plan_instance.result
-    c.plan_instance.ensures.serves
+    (view c.plan_job.new.shelf) step.files step.made step.faults step.ok.0 c.plan_job.result
+    c.plan_job.ensures.serves
