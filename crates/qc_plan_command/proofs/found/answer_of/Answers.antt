@@ -1,5 +1,6 @@
 use Rattle.std.proofs.Common.{◌≡◌, ◌∙◌, sym, rules}
 use Rattle.qc_num.specs.declared.bound.Bound.TheVariants.{Never}
+use Rattle.qc_store.proofs.OutcomeLemmas.{of_some, tight_allowed}
 use Rattle.qc_plan_command.proofs.FoundLemmas.{none_best}
 use Rattle.qc_plan_command.proofs.found.answer_of.Goals as goal
 
@@ -7,3 +8,7 @@ pub returns-in_default-clause-tells : goal.returns-in_default-clause-tells
 returns-in_default-clause-tells c =
     let never : c.args.done.bound ≡ Never = sym c.bound.ensures ∙ c.in_default.is in
     (none_best c.args.inst c.args.done.bound c.args.done.best never c.requires.none_earlier c.requires.tight, never, search rules)
+
+pub motion_of-motion-requires-clause-allowed : goal.motion_of-motion-requires-clause-allowed
+motion_of-motion-requires-clause-allowed c =
+    tight_allowed c.args.inst c.in-Some.sched (of_some _ _ c.in-Some.sched (sym c.in-Some.ensures) c.requires.tight)
