@@ -26,6 +26,7 @@ mod ComeLemmas
 mod OwnLemmas
 mod CrewLemmas
 mod SpotLemmas
+mod SpotLists
 mod BarLemmas
 mod TableLemmas
 mod TripLemmas
