@@ -1,3 +1,4 @@
+use Rattle.std.proofs.lemmas.Grind.{common_steps}
 use Rattle.std.proofs.Common.{List, ℕ, ◌+◌, ◌∙◌, ap, arith, filter, refl}
 use Rattle.std.proofs.lemmas.List.{get_or_read}
 use Rattle.qc_model.specs.Work.{task_numbers}
@@ -51,3 +52,6 @@ returns c = λ olds was changes.
     (c.bars_at-bars.ensures.bars
     ∙ ap (λ (xs : List ℕ). bars_of inst cranes (filter (row_at cranes xs (c.args.crane + 1) c.index.result.now) (task_numbers inst))) same)
     c.put_bars.ensures.grid c.put_bars.ensures.small c.put_bars.ensures.before c.put_bars.ensures.from
+
+pub bars_at-bars-requires-clause-within : goal.bars_at-bars-requires-clause-within
+bars_at-bars-requires-clause-within c = grind (arith, common_steps)

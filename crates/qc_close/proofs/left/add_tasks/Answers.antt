@@ -21,3 +21,6 @@ returns c =
     added_all c.args.inst.now c.loop-task.task-index c.loop-task.left
     (omega (arith, c.loop-task-test.false, c.loop-task.auto.task-index-end, ap length c.tasks-task-items.ensures.tasks))
     c.loop-task.invariant
+
+pub overflow_cast-left : goal.overflow_cast-left
+overflow_cast-left c = grind (arith, common_steps)

@@ -1,3 +1,4 @@
+use Rattle.std.proofs.lemmas.Grind.{common_steps}
 use Rattle.std.proofs.Common.{◌<◌, ◌+◌, ◌∙◌, ap, arith, eqb, filter, get_or, length, nat_lt, refl, sym, subst}
 use Rattle.std.proofs.lemmas.Bool.{and_parts, ltb-true, ne_eqb}
 use Rattle.qc_model.specs.declared.task.Task.{Task}
@@ -68,3 +69,9 @@ returns c =
     none_behind spots c.requires.together c.args.first c.going.task spot k.behind k.spot
     (sym c.lies_at.ensures ∙ c.going-test.false) j behind (omega (arith, low, c.requires.spots))))
     ∙ k.goes
+
+pub going-smaller : goal.going-smaller
+going-smaller c = grind (arith, common_steps)
+
+pub bounds-cranes-task : goal.bounds-cranes-task
+bounds-cranes-task c = grind (arith, common_steps)

@@ -1,3 +1,4 @@
+use Rattle.std.proofs.lemmas.Grind.{common_steps}
 use Rattle.std.proofs.Common.{◌≡◌, ◌≤ℤ◌, ◌+◌, ◌-◌, refl, sym, ◌∙◌, arith, of_z, to_z, w32}
 use Rattle.std.proofs.lemmas.Int.{ints}
 use Rattle.qc_close.proofs.BandLemmas.{below_at, nearest_at, nearest_hit}
@@ -19,3 +20,6 @@ returns-then-low-place c =
     (nearest_hit inst cranes (least_steps inst c.instance-inst.ensures.valid).1 low c.args.task crane c.place-place.result
     (omega (arith, c.requires.cranes)) under (sym c.may.ensures ∙ c.if-may.true) c.place-place.ensures.place above near)
     (omega (arith, ints, low_near.0, low_near.1)) place_is
+
+pub loop-above-preserved : goal.loop-above-preserved
+loop-above-preserved c = grind (arith, common_steps)

@@ -1,3 +1,4 @@
+use Rattle.std.proofs.lemmas.Grind.{common_steps}
 use Rattle.std.proofs.Common.{◌≡◌, ◌+◌, ◌*◌, Some, ap, sym, ◌∙◌, arith}
 use Rattle.qc_model.specs.Instance.{InstanceView}
 use Rattle.qc_model.specs.Work.{ticks_over}
@@ -40,3 +41,9 @@ returns-in-Some-clause-ticks c = answered c
 pub returns-in-Some-clause-bound : goal.returns-in-Some-clause-bound
 returns-in-Some-clause-bound c =
     pack_end_le c.args.self.now.inst c.args.self.now.cranes c.args.tasks.now (c.ticks.result + c.travel_over.result) (sym (answered c))
+
+pub ticks-requires-clause-tasks : goal.ticks-requires-clause-tasks
+ticks-requires-clause-tasks c = grind (arith, common_steps)
+
+pub span-requires-clause-tasks : goal.span-requires-clause-tasks
+span-requires-clause-tasks c = grind (arith, common_steps)

@@ -1,3 +1,4 @@
+use Rattle.std.proofs.lemmas.Grind.{common_steps}
 use Rattle.std.proofs.Common.{length, ap, arith}
 use Rattle.qc_model.specs.Instance.{InstanceView}
 use Rattle.qc_close.proofs.LoopLemmas.{near_of, on_ship}
@@ -10,3 +11,6 @@ returns-clause-near c =
     on_ship c.instance.result.now c.task-bay.ensures.valid c.args.task (omega (arith, same, c.requires.task)) c.task-bay.result
     c.task-bay.ensures.task in
     near_of c.task-bay.result.bay c.gaps.result here.0 here.1 c.gaps.ensures.bound
+
+pub returns-clause-place : goal.returns-clause-place
+returns-clause-place c = grind (arith, common_steps)

@@ -1,6 +1,8 @@
-use Rattle.std.proofs.Common.{◌≡◌, ◌∙◌, sym, ap, arith, of_z, to_z, w32}
+use Rattle.std.proofs.lemmas.Grind.{common_steps}
+use Rattle.std.proofs.Common.{◌≡◌, ◌∙◌, ℕ, ℤ, sym, ap, subst, arith, of_z, to_z, w32}
 use Rattle.std.specs.Int.{int_max}
 use Rattle.std.proofs.lemmas.Int.{int_max_is, ints}
+use Rattle.qc_close.specs.Bands.{IsReach}
 use Rattle.qc_close.proofs.BandLemmas.{found_far, reach_at}
 use Rattle.qc_close.proofs.crew.Crew.reach.Goals as goal
 
@@ -24,3 +26,18 @@ loop-task-preserved c =
     reach_at c.args.self.now.inst c.args.self.now.cranes c.args.tasks.now c.loop-task.task-index (to_z w32 (of_z w32 c.args.low))
     high c.in-Some.place _ (to_z w32 (of_z w32 c.max-high.result)) c.loop-task.invariant c.in-Some.ensures
     (omega (arith, ints, low.0, low.1)) (back ∙ most_is)
+
+pub returns-in-None : goal.returns-in-None
+returns-in-None c = grind (arith, common_steps)
+
+pub returns : goal.returns
+returns c =
+    let inst = c.args.self.now.inst in
+    let cranes = c.args.self.now.cranes in
+    let tasks = c.args.tasks.now in
+    let high = to_z w32 c.loop-task.high-bits in
+    let near = c.requires.near in
+    subst (λ (n : ℕ). IsReach inst cranes tasks n c.args.low high)
+    (omega (arith, c.loop-task-test.false, c.loop-task.auto.task-index-end))
+    (subst (λ (x : ℤ). IsReach inst cranes tasks c.loop-task.task-index x high) (omega (arith, ints, near.0, near.1))
+    c.loop-task.invariant)
