@@ -211,6 +211,11 @@ nested_less inst (d ∷ ds) mark marks notes cells are = (
   },
 )
 
+pub mark_low : (inst : InstanceView) (ds : List Decision) (mark : ℕ) (marks : List ℕ) (notes : List Note)
+    (cells : List ℕ) → AreNested inst ds (mark ∷ marks) notes cells → mark ≤ length notes
+mark_low inst [] mark marks notes cells are = absurd are
+mark_low inst (d ∷ ds) mark marks notes cells are = are.0
+
 pub sum_counts : (inst : InstanceView) (ds : List Decision) (marks : List ℕ) (notes : List Note) (cells : List ℕ)
     → AreNested inst ds marks notes cells → sum (counts_of marks (length notes)) ≡ length notes
 sum_counts inst [] [] notes cells are = sym are
@@ -381,6 +386,21 @@ module _ (f : Inside) (node : StartsNode) (is : IsKept f) (view : node_of f ≡ 
   backed_kept k same =
       why_moves AreBacked (backed_of f.network.inst f.network.decisions f.spread.values.cells is.sound.valid
       (state_reasons f.network f.spread.values.cells f.root f.step is.state)) k same
+
+  -- without tasks no chain is needed
+  pub no_why_kept : HasStarts node.inst node.decisions → (o : Option ℕ) → o ≡ None
+      → IsLatest f.network.inst f.spread.values.cells count o → (path : List ℕ) → path ≡ []
+      → IsWhy node.inst node.decisions path
+  no_why_kept starts o none latest path empty =
+      let net = f.network in
+      let cells = f.spread.values.cells in
+      let no = subst (IsLatest net.inst cells count) none latest in
+      let why : IsWhy net.inst net.decisions [] = record {
+        end = 0;
+        ends = end_of net.inst net.decisions cells (home_rest starts) None 0 no refl;
+        chain = refl;
+      } in
+      seen_on (λ i ds. IsWhy i ds path) (subst (IsWhy net.inst net.decisions) (sym empty) why)
 
   pub why_kept : HasStarts node.inst node.decisions → (last : ℕ) → (k : ℕ) → k ≡ count
       → IsLatest f.network.inst f.spread.values.cells count (Some last) → (path : List ℕ)

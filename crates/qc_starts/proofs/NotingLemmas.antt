@@ -1,6 +1,6 @@
 -- A note of a cell that isn't marked, and a write of one that is.
 use Rattle.std.proofs.Common.{◌≡◌, ◌≢◌, ℕ, suc, ◌+◌, ◌<◌, Bool, true, false, inl, inr, List, [], ◌∷◌, ◌++◌, length, refl, sym, ap, ◌∙◌, append_assoc, ext_get_or, length-append, arith, slice_index, slice_index_or, slice_set}
-use Rattle.std.proofs.lemmas.Bool.{cases_eq, cases_lt}
+use Rattle.std.proofs.lemmas.Bool.{cases_eq, cases_lt, false≢true}
 use Rattle.std.proofs.lemmas.List.{append-nil, get_or_default, get_or-set_same, get_or-set_other}
 use Rattle.std.proofs.lemmas.List.Sums.{count_by-le-length, sum_by-cons, sum_by-set}
 use Rattle.std.proofs.Math.ListN.{get_or-eq_default, length-set}
@@ -82,6 +82,24 @@ note_keeps before olds v w p low size free cells notes noted is = record {
           sym (get_or-set_other v.noted.items p q true true other)
           ∙ sym (ap (λ (xs : List Bool). slice_index_or xs q true) noted) ∙ still
     ]
+
+-- a marked cell may be written without a note
+pub set_keeps : (before : List Note) (olds : List ℕ) (v : Noted) (cells : List ℕ) (p x : ℕ)
+    → slice_index_or v.noted.items p true ≡ true → cells ≡ slice_set v.cells p x
+    → IsNoting before olds v → IsNoting before olds (record v { cells = cells })
+set_keeps before olds v cells p x marked are is = record {
+  since = is.since;
+  notes = is.notes;
+  count = is.count;
+  size = ap (length {A = ℕ}) are ∙ length-set v.cells p x ∙ is.size;
+  same = λ q under still. elim (cases_eq q p) [
+    | inl same ↦
+        absurd (false≢true (sym still ∙ ap (λ (k : ℕ). slice_index_or v.noted.items k true) same ∙ marked))
+    | inr other ↦
+        ap (λ (xs : List ℕ). slice_index xs q) are ∙ get_or-set_other v.cells p q x 0 other ∙ is.same q under still
+  ];
+  back = is.back;
+}
 
 pub wrote_then : (a b c : Noted) (x y z : ℕ) → Wrote a b x y → Wrote b c y z → Wrote a c x z
 wrote_then a b c x y z one two = record {

@@ -1,7 +1,12 @@
 use Rattle.std.proofs.Common.{inl, inr, subst, arith}
 use Rattle.std.proofs.lemmas.Bool.{cases_eq}
-use Rattle.qc_starts.specs.Overlapping.{OverlapsLater}
+use Rattle.qc_model.specs.Instance.{InstanceView}
+use Rattle.qc_starts.specs.Overlapping.{IsWide, OverlapsLater}
 use Rattle.qc_starts.proofs.overlap.first_overlap.Goals as goal
+
+pub first_later-first-requires-clause-wide : goal.first_later-first-requires-clause-wide
+first_later-first-requires-clause-wide c =
+    subst (λ (i : InstanceView). IsWide i c.widest-wide.result) c.instance.ensures.same c.widest-wide.ensures.wide
 
 pub loop-i-preserved : goal.loop-i-preserved
 loop-i-preserved c = record {

@@ -1,12 +1,12 @@
-use Rattle.std.proofs.Common.{◌<◌, length, reverse, refl, sym, ap, subst, ◌∙◌, arith}
+use Rattle.std.proofs.Common.{◌<◌, ℕ, List, length, reverse, refl, sym, ap, subst, ◌∙◌, arith}
 use Rattle.std.proofs.lemmas.Bool.{false≢true}
 use Rattle.std.proofs.lemmas.List.{length-reverse}
 use Rattle.qc_starts.specs.declared.starts.Starts.TheInside.{Inside}
 use Rattle.qc_starts.specs.declared.step.Step.TheVariants.{Raised}
-use Rattle.qc_starts.specs.Fields.{IsKept, node_of}
+use Rattle.qc_starts.specs.Fields.{AreNested, IsKept, node_of}
 use Rattle.qc_starts.specs.Seen.{StartsNode}
 use Rattle.qc_starts.proofs.BackLemmas.{IsTakenBack, back_taken}
-use Rattle.qc_starts.proofs.KeptLemmas.{nested_count}
+use Rattle.qc_starts.proofs.KeptLemmas.{mark_low, nested_count}
 use Rattle.qc_starts.proofs.LevelLemmas.{reverse_push}
 use Rattle.qc_starts.proofs.starts.Starts.take_back.Goals as goal
 use Rattle.qc_starts.proofs.starts.Starts.take_back.Goals.{After-back}
@@ -18,6 +18,14 @@ unreachable-requires g c =
     let some = subst (λ (n : StartsNode). 0 < length n.decisions) (sym c.self.view_is) c.requires in
     let size = length-reverse f.marks.items in
     absurd (false≢true (c.in_default.ensures.variant.1 (omega (arith, count, some, size))))
+
+pub back-requires-clause-mark : goal.back-requires-clause-mark
+back-requires-clause-mark g c =
+    let f = c.self.inside in
+    let marks = ap reverse c.in-Some.ensures.items ∙ reverse_push c.pop.new.self.items c.in-Some.mark in
+    mark_low f.network.inst f.network.decisions c.in-Some.mark (reverse c.pop.new.self.items) f.spread.values.trail.notes
+    f.spread.values.cells (subst (λ (ms : List ℕ). AreNested f.network.inst f.network.decisions ms f.spread.values.trail.notes
+    f.spread.values.cells) marks c.self.invariant.nested)
 
 abbrev after : (g : _) (c : After-back g) → Inside
 after g c = record c.self.inside {

@@ -1,4 +1,4 @@
-use Rattle.qc_starts.proofs.KeptLemmas.{backed_kept, rises_kept, soon_kept, why_kept}
+use Rattle.qc_starts.proofs.KeptLemmas.{backed_kept, no_why_kept, rises_kept, soon_kept, why_kept}
 use Rattle.qc_starts.proofs.starts.Starts.why_path.Goals as goal
 
 pub latest-requires-clause-soon : goal.latest-requires-clause-soon
@@ -9,6 +9,11 @@ chain_to-requires-clause-backed c = backed_kept c.self.inside _ c.self.invariant
 
 pub chain_to-requires-clause-rising : goal.chain_to-requires-clause-rising
 chain_to-requires-clause-rising c = rises_kept c.self.inside _ c.self.invariant c.self.view_is c.requires.starts c.task_count.result c.task_count.ensures.count
+
+pub returns-in-None-clause-why : goal.returns-in-None-clause-why
+returns-in-None-clause-why c =
+    no_why_kept c.self.inside _ c.self.invariant c.self.view_is c.requires.starts c.latest.result c.in-None.is c.latest.ensures
+    c.clear.new.self.items c.clear.ensures.items
 
 pub returns-in-Some-clause-why : goal.returns-in-Some-clause-why
 returns-in-Some-clause-why c =
