@@ -6,7 +6,7 @@ ghost use Rattle.qc_model.specs.Rules.{end_of, start_of};
 ghost use Rattle.qc_picture.specs.PictureText.{bay_at, box_high, box_style, box_text, box_top, box_words, inset, tasks, told_text, words_text};
 ghost use Rattle.qc_picture.specs.Views.{HasPaper, paper_view};
 
-use crate::elements::{colour, ink, label, rect};
+use crate::elements::{colour, ink, label, put_text, rect};
 use crate::paper::Paper;
 use qc_figures::Page;
 use qc_model::bays_up;
@@ -123,7 +123,7 @@ impl Paper<'_> {
             ++ flat_map (box_text (paper_view self.now)) (range_with_len 0 (tasks (paper_view self.now)))) }
     {
         for task in 0..self.drawn.plan.inst.task_count() {
-            page.put(self.task_box(task).as_bytes())?;
+            put_text(self.task_box(task), page)?;
         }
         Ok(())
     }
@@ -171,7 +171,7 @@ impl Paper<'_> {
             ++ flat_map (words_text (paper_view self.now)) (range_with_len 0 (tasks (paper_view self.now)))) }
     {
         for task in 0..self.drawn.plan.inst.task_count() {
-            page.put(self.words(task).as_bytes())?;
+            put_text(self.words(task), page)?;
         }
         Ok(())
     }

@@ -7,7 +7,7 @@ ghost use Rattle.qc_motion.specs.Waypoints.{waypoint};
 ghost use Rattle.qc_picture.specs.PictureText.{band_head, band_text, bow_text, cranes, dashes_text, end_text, here_text, line_head, line_of, name_label, name_style, names_text, stern_text, stroke_text};
 ghost use Rattle.qc_picture.specs.Views.{HasPaper, paper_view};
 
-use crate::elements::{ink, label, line, tint};
+use crate::elements::{ink, label, line, put_text, tint};
 use crate::paper::Paper;
 use qc_figures::Page;
 use qc_motion::Waypoint;
@@ -29,7 +29,7 @@ impl Paper<'_> {
             ++ flat_map (λ i. bow_text (paper_view self.now) (waypoint points.now i)) (range_with_len 0 (length points.now))) }
     {
         for number in 0..points.len() {
-            page.put(self.bow_side(&points[number]).as_bytes())?;
+            put_text(self.bow_side(&points[number]), page)?;
         }
         Ok(())
     }
@@ -42,10 +42,7 @@ impl Paper<'_> {
             (range_with_len 0 (length points.now))) }
     {
         for number in 0..points.len() {
-            page.put(
-                self.stern_side(&points[points.len() - 1 - number])
-                    .as_bytes(),
-            )?;
+            put_text(self.stern_side(&points[points.len() - 1 - number]), page)?;
         }
         Ok(())
     }
@@ -82,7 +79,7 @@ impl Paper<'_> {
             ++ flat_map (λ i. here_text (paper_view self.now) (waypoint points.now i)) (range_with_len 0 (length points.now))) }
     {
         for number in 0..points.len() {
-            page.put(self.here(&points[number]).as_bytes())?;
+            put_text(self.here(&points[number]), page)?;
         }
         Ok(())
     }
@@ -101,7 +98,7 @@ impl Paper<'_> {
         requires width { length width.now ≤ 10 }
         ensures { OnOk result (page.new ≡ page.old ++ stroke_text (paper_view self.now) colour.now width.now crane) }
     {
-        page.put(line_head(colour, width).as_bytes())?;
+        put_text(line_head(colour, width), page)?;
         self.put_path(self.points(crane), page)?;
         page.put(b"\"/>\n")
     }
@@ -126,7 +123,7 @@ impl Paper<'_> {
     {
         self.put_line(crane, b"#ffffff", b"44", page)?;
         self.put_line(crane, ink(crane), b"24", page)?;
-        page.put(self.dashes(crane).as_bytes())
+        put_text(self.dashes(crane), page)
     }
 
     /// Puts the lines of all cranes behind the page.
@@ -178,7 +175,7 @@ impl Paper<'_> {
             ++ flat_map (names_text (paper_view self.now)) (range_with_len 0 (cranes (paper_view self.now)))) }
     {
         for crane in 0..self.drawn.plan.inst.crane_count() {
-            page.put(self.names(crane).as_bytes())?;
+            put_text(self.names(crane), page)?;
         }
         Ok(())
     }

@@ -1,10 +1,18 @@
 //! The elements of a drawing.
 
-ghost use Rattle.std.specs.Prelude.{◌≡◌, ◌≤◌, ◌+◌, ◌<◌, length};
+ghost use Rattle.std.specs.Prelude.{◌≡◌, ◌≤◌, ◌+◌, ◌<◌, ◌++◌, length, OnOk};
 ghost use Rattle.qc_picture.specs.Elements.{colour, colour_of, inks, label_text, line_text, point_text, rect_text, tints};
 
+use qc_figures::Page;
 use qc_model::Phase;
-use qc_num::Text;
+use qc_num::{OutOfMemory, Text};
+
+/// Puts a text behind the page. It is let go here, so that no caller holds it where memory is wanting.
+pub(crate) fn put_text<const N: usize>(text: Text<N>, page: &mut Page) -> Result<(), OutOfMemory>
+    ensures { OnOk result (page.new ≡ page.old ++ text.entry) }
+{
+    page.put(text.as_bytes())
+}
 
 /// A rectangle.
 pub(crate) fn rect(x: u64, y: u64, width: u64, height: u64, style: &[u8]) -> Text<512>

@@ -6,7 +6,7 @@ ghost use Rattle.qc_picture.specs.Elements.{legend_text};
 ghost use Rattle.qc_picture.specs.PictureText.{bay_label, bay_style, column_ground, column_text, front_text, ground_text, hatch_label, hatch_style, head_text, height, shade, tick_text, ticks_text, title_text, way_text};
 ghost use Rattle.qc_picture.specs.Views.{HasPaper, paper_view};
 
-use crate::elements::{label, line, rect};
+use crate::elements::{label, line, put_text, rect};
 use crate::paper::Paper;
 use qc_figures::Page;
 use qc_model::Direction;
@@ -95,10 +95,10 @@ impl Paper<'_> {
     pub(crate) fn put_head(&self, page: &mut Page) -> Result<(), OutOfMemory>
         ensures { OnOk result (page.new ≡ page.old ++ front_text (paper_view self.now)) }
     {
-        page.put(self.head().as_bytes())?;
-        page.put(self.ground().as_bytes())?;
-        page.put(self.title().as_bytes())?;
-        page.put(way_text(self.drawn.plan.way).as_bytes())?;
+        put_text(self.head(), page)?;
+        put_text(self.ground(), page)?;
+        put_text(self.title(), page)?;
+        put_text(way_text(self.drawn.plan.way), page)?;
         page.put(legend())
     }
 
@@ -157,7 +157,7 @@ impl Paper<'_> {
             (range_with_len 0 (length (paper_view self.now).drawn.hatches))) }
     {
         for hatch in 0..self.drawn.hatches.len() as u16 {
-            page.put(self.column(hatch).as_bytes())?;
+            put_text(self.column(hatch), page)?;
         }
         Ok(())
     }
@@ -191,7 +191,7 @@ impl Paper<'_> {
         ensures { OnOk result (page.new ≡ page.old ++ ticks_text (paper_view self.now)) }
     {
         for number in 0..self.end / self.step + 1 {
-            page.put(self.tick(number).as_bytes())?;
+            put_text(self.tick(number), page)?;
         }
         Ok(())
     }

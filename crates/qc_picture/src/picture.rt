@@ -6,6 +6,7 @@ ghost use Rattle.qc_picture.specs.PictureText.{over_text, page_text, picture_tex
 ghost use Rattle.qc_picture.specs.Views.{HasPaper, IsDrawable, drawn_of, paper_view};
 
 use crate::drawn::Drawn;
+use crate::elements::put_text;
 use crate::paper::Paper;
 use crate::table::table_head;
 use qc_figures::Page;
@@ -33,7 +34,7 @@ impl Paper<'_> {
         self.put_cranes(page)?;
         self.put_words(page)?;
         self.put_names(page)?;
-        page.put(self.end_line().as_bytes())?;
+        put_text(self.end_line(), page)?;
         page.put(table_head())?;
         self.put_rows(page)?;
         page.put(b"</svg>\n")

@@ -7,7 +7,7 @@ ghost use Rattle.qc_picture.specs.Elements.{table_head};
 ghost use Rattle.qc_picture.specs.PictureText.{cell_text, cells_text, cranes, row_name, row_text};
 ghost use Rattle.qc_picture.specs.Views.{HasPaper, paper_view};
 
-use crate::elements::{ink, label};
+use crate::elements::{ink, label, put_text};
 use crate::paper::Paper;
 use qc_figures::{Page, figures_of};
 use qc_num::{OutOfMemory, Text, Tick};
@@ -51,7 +51,7 @@ fn put_cells(row: u64, figures: &[Tick; 9], page: &mut Page) -> Result<(), OutOf
     ensures { OnOk result (page.new ≡ page.old ++ cells_text row figures.now) }
 {
     for column in 0..9u64 {
-        page.put(cell(row, column, figures[column as usize]).as_bytes())?;
+        put_text(cell(row, column, figures[column as usize]), page)?;
     }
     Ok(())
 }
@@ -81,7 +81,7 @@ impl Paper<'_> {
         ensures { OnOk result (page.new ≡ page.old ++ row_text (paper_view self.now) crane) }
     {
         let figures = figures_of(&self.drawn.plan, crane);
-        page.put(self.row_name(crane).as_bytes())?;
+        put_text(self.row_name(crane), page)?;
         put_cells(u64::from(crane) + 1, &figures.list(), page)
     }
 

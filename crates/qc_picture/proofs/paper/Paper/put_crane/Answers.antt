@@ -9,9 +9,8 @@ pub returns : goal.returns
 returns c =
     let p = paper_view c.args.self.now in
     let k = c.args.crane in
-    let dashes = c.as_bytes.ensures.bytes ∙ c.dashes.ensures in
-    three c.put.result c.args.page.now c.put_line.new.page c.put_line-2.new.page c.put.new.self
+    three c.put_text.result c.args.page.now c.put_line.new.page c.put_line-2.new.page c.put_text.new.page
     (stroke_text p (codes "#ffffff") (codes "44") k) (stroke_text p (ink k) (codes "24") k) (dashes_text p k)
     c.in_ok-put_line.ensures
     (c.in_ok-put_line-2.ensures ∙ ap (λ (colour : List ℕ). c.put_line.new.page ++ stroke_text p colour (codes "24") k) c.ink.ensures.colour)
-    (rw dashes at c.put.ensures)
+    (rw c.dashes.ensures at c.put_text.ensures)

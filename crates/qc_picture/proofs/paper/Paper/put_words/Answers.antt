@@ -1,4 +1,4 @@
-use Rattle.std.proofs.Common.{◌+◌, refl, ◌∙◌}
+use Rattle.std.proofs.Common.{◌+◌, refl}
 use Rattle.qc_figures.proofs.PageLemmas.{page_more}
 use Rattle.qc_picture.specs.PictureText.{words_text}
 use Rattle.qc_picture.specs.Views.{paper_view}
@@ -6,5 +6,5 @@ use Rattle.qc_picture.proofs.paper.Paper.put_words.Goals as goal
 
 pub loop-task-preserved : goal.loop-task-preserved
 loop-task-preserved c =
-    page_more (words_text (paper_view c.args.self.now)) c.loop-task.task (c.loop-task.task + 1) c.args.page.now c.loop-task.page c.put.new.self c.as_bytes.result.now
-    refl c.loop-task.invariant c.in_ok-put.ensures (c.as_bytes.ensures.bytes ∙ c.words.ensures)
+    page_more (words_text (paper_view c.args.self.now)) c.loop-task.task (c.loop-task.task + 1) c.args.page.now c.loop-task.page c.put_text.new.page c.words.result
+    refl c.loop-task.invariant c.in_ok-put_text.ensures c.words.ensures
