@@ -1,6 +1,7 @@
 -- Arcs that are those of a node: what a push keeps, and that there are few.
-use Rattle.std.proofs.Common.{◌≡◌, ◌≢◌, ℕ, zero, suc, ◌+◌, ◌-◌, ◌*◌, ◌<◌, ◌≤◌, Bool, true, false, ◌||◌, cond, eqb, inl, inr, ◌⊎◌, List, [], ◌∷◌, ◌++◌, length, Option, None, Some, IfSome, refl, sym, ap, ap₂, subst, subst₂, ◌∙◌, append_assoc, arith, count_by}
+use Rattle.std.proofs.Common.{◌≡◌, ◌≢◌, ℕ, zero, suc, ◌+◌, ◌-◌, ◌*◌, ◌<◌, ◌≤◌, Bool, true, false, ◌||◌, cond, eqb, inl, inr, ◌⊎◌, List, [], ◌∷◌, ◌++◌, length, Option, None, Some, IfSome, refl, sym, ap, ap₂, subst, subst₂, ◌∙◌, append_assoc, length-append, reverse, ◌^◌, arith, count_by}
 use Rattle.std.proofs.lemmas.Bool.{and_parts, cases_Bool, cases_eq, cases_lt, cases_order, cond-false, cond-true, cond_both, eqb-true, or_left, or_right}
+use Rattle.std.proofs.lemmas.List.{length-reverse}
 use Rattle.std.proofs.lemmas.Option.{none-some, same_Some}
 use Rattle.std.specs.List.{AllByRecursion}
 use Rattle.qc_arena.specs.declared.edge.Edge.{Edge}
@@ -12,7 +13,8 @@ use Rattle.qc_model.specs.Instance.{InstanceView, Valid, ticks_of}
 use Rattle.qc_model.specs.Nodes.{Fits, assigned, crane_ticks, forced, greater, is_before, is_sooner, sooner_ticks}
 use Rattle.qc_model.proofs.CompleteNodes.{forced_ticks}
 use Rattle.qc_model.proofs.NodeLemmas.{before_found}
-use Rattle.qc_starts.specs.Arcs.{AreArcs, AreOpening, IsArc, IsOver, added, arc_between, joins, leads, most_arcs, newest_length, with_added}
+use Rattle.qc_starts.specs.Arcs.{AreArcs, AreLow, AreOpening, IsArc, IsOver, added, arc_between, joins, leads, most_arcs, newest_length, with_added}
+use Rattle.qc_starts.proofs.LevelLemmas.{reverse_push}
 use Rattle.qc_starts.proofs.Counts.{IsBetween, arcs_few, count_cons}
 use Rattle.qc_starts.specs.Spread.{IsIn, one_of}
 use Rattle.qc_starts.proofs.Growth.{assigned_same, both_ask, excess_by, forced_grows, greater_more, greater_same, open_from, open_to, ordered_here_is, ordered_same, unsettled_from, unsettled_to}
@@ -528,6 +530,28 @@ module _ (inst : InstanceView) (valid : Valid inst) where
       ]
 
 -- ---- arcs that are added, as the code adds them
+
+-- an arc that was asked for is on top
+pub added_is : (i j len : ℕ) (a b : Option ℕ) (arcs : List Edge) → a ≡ Some len
+    → with_added i j a b (reverse arcs) ≡ reverse (arcs ++ arc_between i j len ∷ [])
+added_is i j len a b arcs is =
+    ap (λ (o : Option ℕ). with_added i j o b (reverse arcs)) is ∙ sym (reverse_push arcs (arc_between i j len))
+
+pub added_fits : (i j len cap : ℕ) (a b : Option ℕ) (arcs : List Edge) → a ≡ Some len
+    → length (with_added i j a b (reverse arcs)) ≤ cap → length arcs < cap
+added_fits i j len cap a b arcs is room =
+    let more = ap (length {A = Edge}) (added_is i j len a b arcs is) in
+    omega (
+      arith,
+      more,
+      length-reverse (arcs ++ arc_between i j len ∷ []),
+      length-append arcs (arc_between i j len ∷ []),
+      room,
+    )
+
+pub added_low : (arcs : List Edge) (i j len : ℕ) → len ≤ 2 ^ 31 → AreLow (reverse arcs)
+    → AreLow (reverse (arcs ++ arc_between i j len ∷ []))
+added_low arcs i j len few low = subst AreLow (sym (reverse_push arcs (arc_between i j len))) (few, low)
 
 pub over_added : (i j : ℕ) (a b : Option ℕ) (arcs : List Edge) → IsOver arcs (with_added i j a b arcs)
 over_added i j (Some len) b arcs = (arc_between i j len ∷ [], refl)

@@ -1,7 +1,8 @@
 -- A note of a cell that isn't marked, and a write of one that is.
-use Rattle.std.proofs.Common.{◌≡◌, ◌≢◌, ℕ, suc, ◌+◌, ◌<◌, Bool, true, false, inl, inr, List, [], ◌∷◌, ◌++◌, length, refl, sym, ap, ◌∙◌, append_assoc, ext_get_or, length-append, arith, slice_index, slice_index_or, slice_set}
+use Rattle.std.proofs.Common.{◌≡◌, ◌≢◌, ℕ, suc, ◌+◌, ◌<◌, Bool, true, false, inl, inr, List, [], ◌∷◌, ◌++◌, length, refl, sym, ap, ◌∙◌, append_assoc, ext_get_or, length-append, arith, slice_index, slice_index_or, slice_set, subst₂, All}
 use Rattle.std.proofs.lemmas.Bool.{cases_eq, cases_lt, false≢true}
 use Rattle.std.proofs.lemmas.List.{append-nil, get_or_default, get_or-set_same, get_or-set_other}
+use Rattle.std.proofs.lemmas.List.Elements.{All-push}
 use Rattle.std.proofs.lemmas.List.Sums.{count_by-le-length, sum_by-cons, sum_by-set}
 use Rattle.std.proofs.Math.ListN.{get_or-eq_default, length-set}
 use Rattle.qc_trail.specs.declared.trail.Note.{Note}
@@ -82,6 +83,32 @@ note_keeps before olds v w p low size free cells notes noted is = record {
           sym (get_or-set_other v.noted.items p q true true other)
           ∙ sym (ap (λ (xs : List Bool). slice_index_or xs q true) noted) ∙ still
     ]
+
+-- a note more, of a cell that isn't marked
+pub note_fits : (v w : Noted) (p x : ℕ) → HasNotes v → p < length v.cells → slice_index_or v.noted.items p true ≡ false
+    → w.cells ≡ v.cells → w.trail.cap ≡ v.trail.cap
+    → w.trail.notes ≡ v.trail.notes ++ record { place = p; old = x } ∷ []
+    → w.noted.items ≡ slice_set v.noted.items p true → HasNotes w
+note_fits v w p x is low free cells cap notes noted =
+    let note : Note = record { place = p; old = x } in
+    let size = ap (length {A = Bool}) noted ∙ length-set v.noted.items p true in
+    let wide = ap (length {A = ℕ}) cells in
+    record {
+      size = omega (arith, size, wide, is.size);
+      room = omega (
+        arith,
+        size,
+        cap,
+        ap (length {A = Note}) notes,
+        length-append v.trail.notes (note ∷ []),
+        ap marks noted,
+        marks_more v.noted.items p (omega (arith, low, is.size)) free,
+        is.room,
+      );
+      places =
+          subst₂ (λ (ns : List Note) (n : ℕ). All (λ note. note.place < n) ns) (sym notes) (sym wide)
+          (All-push (λ note. note.place < length v.cells) v.trail.notes note is.places low);
+    }
 
 -- a marked cell may be written without a note
 pub set_keeps : (before : List Note) (olds : List ℕ) (v : Noted) (cells : List ℕ) (p x : ℕ)

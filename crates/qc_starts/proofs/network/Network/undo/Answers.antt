@@ -1,4 +1,4 @@
-use Rattle.std.proofs.Common.{◌<◌, length, reverse, refl, sym, ap, subst, ◌∙◌}
+use Rattle.std.proofs.Common.{◌<◌, length, reverse, sym, ap, subst, ◌∙◌}
 use Rattle.qc_starts.specs.declared.network.Network.TheInside.{Inside}
 use Rattle.qc_starts.specs.Network.{IsKept}
 use Rattle.qc_starts.specs.NodeArcs.{NodeArcs}

@@ -1,7 +1,7 @@
-use Rattle.std.proofs.Common.{◌≡◌, ◌∷◌, ℕ, List, length, refl, ap, sym, subst, ◌∙◌, arith}
+use Rattle.std.proofs.Common.{◌≡◌, ◌∷◌, ℕ, List, length, refl, ap, sym, subst, ◌∙◌, arith, false}
 use Rattle.qc_arena.specs.declared.edge.Edge.{Edge}
 use Rattle.qc_starts.specs.Noting.{Wrote}
-use Rattle.qc_starts.specs.Spread.{IsBackAtRoot, from_task, is_late, left}
+use Rattle.qc_starts.specs.Spread.{IsBackAtRoot, IsLooked, IsSpreading, from_task, is_late, left}
 use Rattle.qc_starts.proofs.NotingLemmas.{wrote_none, wrote_then}
 use Rattle.qc_starts.proofs.SpreadLemmas.{IsLooking, set_size, looking_asks, looking_begins, looking_fits, looking_home, looking_step}
 use Rattle.qc_starts.proofs.spread.Spread.raise_from.Goals as goal
@@ -107,3 +107,15 @@ loop-arc-preserved g c =
       queued = c.raise_by.ensures.queued;
       wrote = are.2;
     }
+
+pub returns-clause-looked : goal.returns-clause-looked
+returns-clause-looked g c =
+    let net = c.args.network.now in
+    let root = c.args.root in
+    let olds = c.args.self.now.olds.items in
+    let self = c.loop-arc.self in
+    let is = c.loop-arc.invariant.looking in
+    let all = subst (IsSpreading net root olds self.values.cells self.pending.items) c.in-None.ensures.steps.0 is.spreading in
+    subst (λ (xs : List ℕ). IsLooked net root xs self.values.cells self.pending.items
+    (left (length net.inst.tasks) root olds c.args.self.now.values.cells c.args.self.now.pending.items) false)
+    (sym c.loop-arc.invariant.olds) (all, is.less)
