@@ -70,11 +70,11 @@ where
     if is_in_use(&found, used) {
         return Err(io::Error::from(ErrorKind::ResourceBusy));
     }
-    unused(rt, name, path, &found)
+    begin_unused(rt, name, path, &found)
 }
 
 /// Begins a file that isn't in use.
-fn unused<'a, R: Files + AllocGlobal>(
+fn begin_unused<'a, R: Files + AllocGlobal>(
     rt: &'a R,
     name: &str,
     path: String,
