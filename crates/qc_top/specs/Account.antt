@@ -43,6 +43,18 @@ abbrev pub dispatch_names : (ship stow name log : List ℕ) → Names
 dispatch_names ship stow name log =
     record no_names { ship = Some ship; stow = Some stow; plan = Some name; log = Some log }
 
+-- what a command that only reads is asked for names its files
+abbrev pub files_asked : Asked → Names
+files_asked (check turn s w p t) = check_names turn s w p t
+files_asked (tasks s w) = tasks_names s w
+files_asked (show s w p) = show_names s w p
+files_asked (sheet s w p) = show_names s w p
+files_asked (watch s l) = watch_names s l
+files_asked (dispatch s w p l) = dispatch_names s w p l
+files_asked (picture s w p) = show_names s w p
+files_asked (report s w p) = show_names s w p
+files_asked _ = no_names
+
 -- no command is served: nothing is read or written, and this is reported
 pub record IsSaid (text : List ℕ) (status_of : Status) (before after out_before out_after : View) (ended : Status)
     : Type 0 where

@@ -5,7 +5,7 @@ ghost use Rattle.qc_run.specs.Inputs.{names_of, no_names};
 ghost use Rattle.qc_plan_command.specs.Asked.{plan_of, planning};
 ghost use Rattle.qc_words.specs.Asked.{KeepsLimits, asked_for};
 ghost use Rattle.qc_words.specs.Words.{texts};
-ghost use Rattle.qc_top.specs.Account.{IsRun, IsRunOf, OnlyReads, check_names};
+ghost use Rattle.qc_top.specs.Account.{IsRun, IsRunOf, OnlyReads, check_names, files_asked};
 ghost use Rattle.qc_top.specs.Promises.{Promises};
 
 use qc_dispatch_command::dispatch;
@@ -98,6 +98,35 @@ fn dispatch_of<'a>(ship: &'a str, stow: &'a str, plan: &'a str, log: &'a str) ->
     }
 }
 
+/// The names of the files that a command which only reads is asked for with.
+fn files_of<'a>(request: &Request<'a>) -> Inputs<'a>
+    requires { OnlyReads (asked_for request.now) }
+    ensures { names_of result ≡ files_asked (asked_for request.now) }
+{
+    match *request {
+        Request::Check {
+            turn,
+            ship,
+            stow,
+            plan,
+            tree,
+        } => check_of(turn, ship, stow, plan, tree),
+        Request::Tasks { ship, stow } => inputs_of(ship, stow, None),
+        Request::Show { ship, stow, plan }
+        | Request::Sheet { ship, stow, plan }
+        | Request::Picture { ship, stow, plan }
+        | Request::Report { ship, stow, plan } => inputs_of(ship, stow, Some(plan)),
+        Request::Watch { ship, log } => log_of(ship, log),
+        Request::Dispatch {
+            ship,
+            stow,
+            plan,
+            log,
+        } => dispatch_of(ship, stow, plan, log),
+        _ => unreachable!(),
+    }
+}
+
 /// What a plan is asked for with.
 fn asked_of<'a>(
     turn: Turn,
@@ -136,42 +165,19 @@ fn read<S: Shelf, K: Sink>(
     ensures faults_never_fall { (S.Sink.view shelf.old).faults ≤ (S.Sink.view shelf.new).faults }
     ensures reads_never_fall { (S.Sink.view shelf.old).read_faults ≤ (S.Sink.view shelf.new).read_faults }
 {
+    let inputs = files_of(request);
     match *request {
-        Request::Check {
-            turn,
-            ship,
-            stow,
-            plan,
-            tree,
-        } => {
-            let inputs = check_of(turn, ship, stow, plan, tree);
-            match plan {
-                Some(_) => check_plan(alloc, &inputs, shelf, out),
-                None => check_tree(alloc, &inputs, shelf, out),
-            }
-        }
-        Request::Tasks { ship, stow } => {
-            list_tasks(alloc, &inputs_of(ship, stow, None), shelf, out)
-        }
-        Request::Show { ship, stow, plan } => {
-            show(alloc, &inputs_of(ship, stow, Some(plan)), shelf, out)
-        }
-        Request::Sheet { ship, stow, plan } => {
-            print_sheet(alloc, &inputs_of(ship, stow, Some(plan)), shelf, out)
-        }
-        Request::Watch { ship, log } => watch(alloc, &log_of(ship, log), shelf, out),
-        Request::Dispatch {
-            ship,
-            stow,
-            plan,
-            log,
-        } => dispatch(alloc, &dispatch_of(ship, stow, plan, log), shelf, out),
-        Request::Picture { ship, stow, plan } => {
-            draw_picture(alloc, &inputs_of(ship, stow, Some(plan)), shelf, out)
-        }
-        Request::Report { ship, stow, plan } => {
-            report_figures(alloc, &inputs_of(ship, stow, Some(plan)), shelf, out)
-        }
+        Request::Check { plan, .. } => match plan {
+            Some(_) => check_plan(alloc, &inputs, shelf, out),
+            None => check_tree(alloc, &inputs, shelf, out),
+        },
+        Request::Tasks { .. } => list_tasks(alloc, &inputs, shelf, out),
+        Request::Show { .. } => show(alloc, &inputs, shelf, out),
+        Request::Sheet { .. } => print_sheet(alloc, &inputs, shelf, out),
+        Request::Watch { .. } => watch(alloc, &inputs, shelf, out),
+        Request::Dispatch { .. } => dispatch(alloc, &inputs, shelf, out),
+        Request::Picture { .. } => draw_picture(alloc, &inputs, shelf, out),
+        Request::Report { .. } => report_figures(alloc, &inputs, shelf, out),
         _ => unreachable!(),
     }
 }
