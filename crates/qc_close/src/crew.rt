@@ -6,7 +6,6 @@ ghost use Rattle.qc_model.specs.Assignments.{AreInRange, crane_in, no_cranes};
 ghost use Rattle.qc_model.specs.Closed.{IsClosedBound, is_closed, is_short_along, is_short_before};
 ghost use Rattle.qc_close.specs.Crews.{CrewView};
 ghost use Rattle.qc_close.specs.CrewFields.{view_of, IsKept};
-ghost use Rattle.qc_close.specs.Lasts.{IsLast};
 ghost use Rattle.qc_close.specs.Lists.{AreLists};
 ghost use Rattle.qc_close.specs.declared.closed.TheConstants.{LAST_CLOSED};
 

@@ -1,8 +1,8 @@
 //! How cranes go for the tasks at a bay that cranes have.
 
-ghost use Rattle.std.specs.Prelude.{◌≡◌, ◌≢◌, ◌&&◌, ◌==◌, ◌+◌, ◌-◌, ◌*◌, ◌<◌, ◌≤◌, ◌^◌, ℕ, pos, ◌+ℤ◌, ◌-ℤ◌, List, Option, IfOk, filter, length, nat_lt, replicate, slice_index};
+ghost use Rattle.std.specs.Prelude.{◌≡◌, ◌≢◌, ◌&&◌, ◌==◌, ◌+◌, ◌-◌, ◌*◌, ◌<◌, ◌≤◌, ◌^◌, ℕ, pos, ◌+ℤ◌, ◌-ℤ◌, List, Option, IfOk, length, nat_lt, replicate, slice_index};
 ghost use Rattle.std.specs.Int.{int_max, int_min};
-ghost use Rattle.qc_model.specs.Assignments.{AreInRange, crane_in, no_cranes};
+ghost use Rattle.qc_model.specs.Assignments.{AreInRange, no_cranes};
 ghost use Rattle.qc_model.specs.Instance.{IsOnRail};
 ghost use Rattle.qc_model.specs.Ways.{stand, trip_for, trip_from, trip_to};
 ghost use Rattle.qc_close.specs.Bars.{Changes};

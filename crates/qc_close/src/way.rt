@@ -1,6 +1,6 @@
 //! The longest way of each crane, and what the crane spends with it.
 
-ghost use Rattle.std.specs.Prelude.{◌≡◌, ◌||◌, ◌+◌, ◌*◌, ◌<◌, ◌≤◌, ◌^◌, ℕ, List, Option, IfSome, if◌then◌else◌, length, map, max, min, nat_lt, slice_index_or, take};
+ghost use Rattle.std.specs.Prelude.{◌≡◌, ◌||◌, ◌+◌, ◌*◌, ◌<◌, ◌≤◌, ◌^◌, ℕ, List, Option, IfSome, if◌then◌else◌, length, map, max, min, nat_lt, take};
 ghost use Rattle.std.specs.Int.{int_max, int_min};
 ghost use Rattle.qc_model.specs.declared.limits.TheConstants.{MOST_TASKS};
 ghost use Rattle.qc_model.specs.declared.turn.Turn.{Turn};
@@ -9,7 +9,6 @@ ghost use Rattle.qc_model.specs.Frames.{frame};
 ghost use Rattle.qc_model.specs.Bays.{bays_up};
 ghost use Rattle.qc_model.specs.Ways.{longest_way, own_way, way_frame, way_with};
 ghost use Rattle.qc_model.specs.Work.{crane_numbers};
-ghost use Rattle.qc_close.specs.Counts.{AreNear, IsNear};
 ghost use Rattle.qc_close.specs.Moves.{IsMoving};
 ghost use Rattle.qc_close.specs.Owns.{IsSmall, bays_by, spent_with, ticks_by};
 

@@ -1,5 +1,5 @@
 //! Reading a log piece by piece.
-ghost use Rattle.std.specs.Prelude.{◌≡◌, ℕ, ◌<◌, ◌≤◌, ◌⊎◌, ◌==◌, ◌&&◌, List, [], length, nat_lt, not, true, Err, IfErr, IfOk, IfSome, MatchBool, Option};
+ghost use Rattle.std.specs.Prelude.{◌≡◌, ℕ, ◌<◌, ◌≤◌, ◌⊎◌, ◌==◌, ◌&&◌, List, [], length, true, Err, IfErr, IfOk, IfSome, MatchBool, Option};
 ghost use Rattle.std.specs.Io.KnownBytes.{prepend_known};
 ghost use Rattle.qc_io.specs.Outside.{IsMissing, ReadCause, file_at};
 ghost use Rattle.qc_io.specs.Reads.{Reads, ReadsOn};
@@ -7,7 +7,7 @@ ghost use Rattle.qc_lines.specs.Left.{IsPart, IsWholeLine};
 ghost use Rattle.qc_model.specs.declared.schedule.Slot.{Slot};
 ghost use Rattle.qc_model.specs.Instance.{InstanceView};
 ghost use Rattle.qc_model.specs.Rules.{Feasible};
-ghost use Rattle.qc_dispatch.specs.Pieces.{IsEndedBy, IsReady, Stands, so_far};
+ghost use Rattle.qc_dispatch.specs.Pieces.{IsEndedBy, IsReady, so_far};
 ghost use Rattle.qc_run.specs.Due.{file_limit};
 ghost use Rattle.qc_dispatch_command.specs.Pieces.{IsAllTold, IsLast, IsLogTold, IsMore, IsOutcome, IsStep};
 

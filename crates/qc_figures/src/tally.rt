@@ -1,8 +1,8 @@
 //! What the tasks of a crane come to.
 
-ghost use Rattle.std.specs.Prelude.{◌≡◌, ◌+◌, ◌*◌, ◌<◌, ◌≤◌, max, length, count_by};
+ghost use Rattle.std.specs.Prelude.{◌≡◌, ◌+◌, ◌<◌, ◌≤◌, max, length};
 ghost use Rattle.qc_figures.specs.declared.figured.Figured.{Figured};
-ghost use Rattle.qc_figures.specs.Figures.{does, greatest, moves_in, of_crane};
+ghost use Rattle.qc_figures.specs.Figures.{does, moves_in};
 ghost use Rattle.qc_figures.specs.Tallies.{IsTally};
 ghost use Rattle.qc_figures.specs.Views.{IsReady, view_of};
 ghost use Rattle.qc_model.specs.declared.limits.TheConstants.{MOST_END, MOST_WORK};

@@ -1,6 +1,6 @@
 //! The waypoints of all cranes.
 
-ghost use Rattle.std.specs.Prelude.{◌≡◌, ◌<◌, ◌≤◌, [], length, map, slice_index_or, IfOk, None, Some};
+ghost use Rattle.std.specs.Prelude.{◌≡◌, ◌<◌, [], length, map, slice_index_or, IfOk, None, Some};
 ghost use Rattle.qc_figures.specs.Motions.{ArePaths, IsWay, of_half};
 ghost use Rattle.qc_model.specs.Judge.{IsDirection, IsJudgeable};
 ghost use Rattle.qc_model.specs.Rules.{Feasible};

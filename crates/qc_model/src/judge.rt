@@ -1,7 +1,7 @@
 //! How a schedule is judged: its tasks and cranes as the rules see them, and the first tasks at
 //! which a rule fails.
 
-ghost use Rattle.std.specs.Prelude.{◌≡◌, ◌≤◌, ◌<◌, ◌↔◌, IsTrue, length, pos, ◌≤ℤ◌, MatchOption};
+ghost use Rattle.std.specs.Prelude.{◌≡◌, ◌≤◌, ◌<◌, ◌↔◌, IsTrue, length, MatchOption};
 ghost use Rattle.qc_model.specs.Numbers.{most_distance, most_end, most_ready};
 ghost use Rattle.qc_model.specs.Instance.{bay_of, crane, IsApart, IsBefore, IsOnRail, Valid};
 ghost use Rattle.qc_model.specs.Motion.{bay_ahead, bay_behind, scaled};

@@ -1,6 +1,6 @@
 //! Whether a rule holds at one or two tasks.
 
-ghost use Rattle.std.specs.Prelude.{◌≡◌, ◌+◌, ◌<◌, ◌≤◌, ◌⊎◌, ◌↔◌, IsTrue, length};
+ghost use Rattle.std.specs.Prelude.{◌+◌, ◌<◌, ◌≤◌, ◌⊎◌, ◌↔◌, IsTrue, length};
 ghost use Rattle.qc_model.specs.Numbers.{most_distance};
 ghost use Rattle.qc_model.specs.declared.rules.Rule.TheVariants.{Berth, OneWay};
 ghost use Rattle.qc_model.specs.Judge.{Keeps};

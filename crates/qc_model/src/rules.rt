@@ -1,6 +1,6 @@
 //! Which rule a schedule breaks first, and its direction.
 
-ghost use Rattle.std.specs.Prelude.{◌≡◌, ◌<◌, ◌≤◌, ◌↔◌, length, IfErr, IfNone, IfOk, IfSome, IsNone, IsOk, IsTrue};
+ghost use Rattle.std.specs.Prelude.{◌≡◌, ◌<◌, ◌≤◌, ◌↔◌, length, IfErr, IfNone, IfOk, IfSome, IsNone, IsOk};
 ghost use Rattle.qc_model.specs.declared.rules.Rule.TheVariants.{OneWay};
 ghost use Rattle.qc_model.specs.Rules.{Feasible};
 ghost use Rattle.qc_model.specs.OneWay.{GoesOneWay};

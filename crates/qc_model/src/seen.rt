@@ -1,6 +1,6 @@
 //! Bays, places and cranes as they are seen from either end of the ship.
 
-ghost use Rattle.std.specs.Prelude.{◌≡◌, ◌<◌, length, pos};
+ghost use Rattle.std.specs.Prelude.{◌≡◌, ◌<◌, length};
 ghost use Rattle.qc_model.specs.Instance.{IsOnRail};
 ghost use Rattle.qc_model.specs.Limits.{IsPlaceNear};
 ghost use Rattle.qc_model.specs.Motion.{seen_place};

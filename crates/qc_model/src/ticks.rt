@@ -1,7 +1,7 @@
 //! Bays and ticks between places, and the distance of two cranes.
 
 ghost use Rattle.std.specs.Prelude.{◌≡◌, ◌*◌, ◌<◌, ◌≤◌, pos, ◌≤ℤ◌, length};
-ghost use Rattle.qc_model.specs.Numbers.{most_bays, most_cranes, most_distance};
+ghost use Rattle.qc_model.specs.Numbers.{most_bays, most_distance};
 ghost use Rattle.qc_model.specs.Bays.{bays_up, bays_between};
 ghost use Rattle.qc_model.specs.Instance.{IsOnRail};
 ghost use Rattle.qc_model.specs.Limits.{IsNearRail, IsPlaceNear};

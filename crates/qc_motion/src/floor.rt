@@ -1,10 +1,9 @@
 //! The bay below which a crane never goes.
 
-ghost use Rattle.std.specs.Prelude.{◌≡◌, ◌≤◌, ◌<◌, ◌≤ℤ◌, ℕ, length};
+ghost use Rattle.std.specs.Prelude.{◌≤◌, ◌<◌, ◌≤ℤ◌, ℕ, length};
 ghost use Rattle.qc_model.specs.Instance.{crane as crane_at};
 ghost use Rattle.qc_model.specs.Limits.{IsNearRail};
 ghost use Rattle.qc_model.specs.Motion.{IsFloor, FloorBay, bay_behind};
-ghost use Rattle.qc_model.specs.Rules.{crane_of};
 
 use qc_model::Judge;
 use qc_num::Bay;

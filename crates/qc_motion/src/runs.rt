@@ -1,4 +1,4 @@
-ghost use Rattle.std.specs.Prelude.{◌≡◌, ◌+◌, ◌≤◌, ◌<◌, ◌↔◌, length, IsTrue};
+ghost use Rattle.std.specs.Prelude.{◌+◌, ◌≤◌, ◌<◌, ◌↔◌, length, IsTrue};
 ghost use Rattle.qc_model.specs.declared.limits.TheConstants.{MOST_END};
 ghost use Rattle.qc_model.specs.Rules.{start_of};
 ghost use Rattle.qc_model.specs.Limits.{IsPlaceNear};

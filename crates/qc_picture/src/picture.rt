@@ -2,7 +2,7 @@
 
 ghost use Rattle.std.specs.Prelude.{◌≡◌, ◌++◌, IfOk, OnOk};
 ghost use Rattle.qc_model.specs.Instance.{Valid};
-ghost use Rattle.qc_picture.specs.PictureText.{over_text, page_text, picture_text, under_text};
+ghost use Rattle.qc_picture.specs.PictureText.{over_text, picture_text, under_text};
 ghost use Rattle.qc_picture.specs.Views.{HasPaper, IsDrawable, drawn_of, paper_view};
 
 use crate::drawn::Drawn;

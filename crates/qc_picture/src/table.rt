@@ -1,8 +1,7 @@
 //! The table of the figures of all cranes.
 
-ghost use Rattle.std.specs.Prelude.{◌≡◌, ◌≤◌, ◌<◌, ◌+◌, ◌++◌, length, OnOk};
+ghost use Rattle.std.specs.Prelude.{◌≡◌, ◌≤◌, ◌<◌, ◌+◌, ◌++◌, OnOk};
 ghost use Rattle.std.specs.List.{flat_map, range_with_len};
-ghost use Rattle.qc_figures.specs.Figures.{figure_list};
 ghost use Rattle.qc_picture.specs.Elements.{table_head};
 ghost use Rattle.qc_picture.specs.PictureText.{cell_text, cells_text, cranes, row_name, row_text};
 ghost use Rattle.qc_picture.specs.Views.{HasPaper, paper_view};

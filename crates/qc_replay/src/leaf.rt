@@ -1,11 +1,10 @@
 //! What leaves show at a node.
-ghost use Rattle.std.specs.Prelude.{◌≡◌, ◌+◌, ◌*◌, ◌<◌, ◌≤◌, ◌++◌, ◌^◌, ℕ, List, None, All, IfSome, IsTrue, MatchOption, drop, length, option_map, is_some, take};
+ghost use Rattle.std.specs.Prelude.{◌≡◌, ◌+◌, ◌*◌, ◌<◌, ◌≤◌, ◌++◌, ◌^◌, ℕ, List, None, All, IfSome, MatchOption, length, option_map, is_some, take};
 ghost use Rattle.qc_close.specs.Crews.{IsCrewOf};
 ghost use Rattle.qc_model.specs.Numbers.{most_distance, most_ready, most_tasks, most_work};
-ghost use Rattle.qc_model.specs.Instance.{ticks_of};
 ghost use Rattle.qc_model.specs.Assignments.{cranes_of};
 ghost use Rattle.qc_model.specs.Closed.{is_closed};
-ghost use Rattle.qc_model.specs.Leaves.{chain, chain_end, chain_ticks, has_packed, head_in, is_ring, leaf_value, packed_end, reach, ring, work, work_over};
+ghost use Rattle.qc_model.specs.Leaves.{chain, chain_end, chain_ticks, has_packed, head_in, is_ring, packed_end, work, work_over};
 ghost use Rattle.qc_replay.specs.Earliest.{HasEarly};
 ghost use Rattle.qc_replay.specs.Part.{IsNumber, version_of};
 ghost use Rattle.qc_replay.specs.Walk.{from_file};

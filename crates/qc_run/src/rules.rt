@@ -1,5 +1,5 @@
 //! Whether cranes may follow a plan.
-ghost use Rattle.std.specs.Prelude.{◌≤◌, ◌<◌, length, IfNone, IfSome};
+ghost use Rattle.std.specs.Prelude.{◌<◌, length, IfNone, IfSome};
 ghost use Rattle.qc_model.specs.declared.turn.Turn.TheVariants.{Free};
 ghost use Rattle.qc_model.specs.Judge.{IsJudgeable};
 ghost use Rattle.qc_model.specs.OneWay.{IsAllowedBy};

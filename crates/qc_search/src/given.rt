@@ -1,12 +1,11 @@
 //! What a search begins with: nothing, or the tight form of a given schedule. This has the same cranes and the same order
 //! of apart tasks, or of all tasks that conflict where cranes go as they like, and the earliest starts with these.
-ghost use Rattle.std.specs.Prelude.{◌≡◌, ◌+◌, ℕ, ◌<◌, ◌≤◌, [], ◌∷◌, None, IfSome, IsTrue, All, length, option_map, slice_index_or};
-ghost use Rattle.qc_dist.specs.Node.{IsOpen};
+ghost use Rattle.std.specs.Prelude.{◌≡◌, ◌+◌, ℕ, ◌<◌, ◌≤◌, [], ◌∷◌, None, IfSome, length, option_map, slice_index_or};
 ghost use Rattle.qc_model.specs.declared.decision.Decision.TheVariants.{Assign};
 ghost use Rattle.qc_model.specs.Frames.{GoesBy};
 ghost use Rattle.qc_model.specs.Instance.{IsApart, Valid, pair_of};
 ghost use Rattle.qc_model.specs.Judge.{IsDirection, IsJudgeable};
-ghost use Rattle.qc_model.specs.Nodes.{Agrees, Conflicts, HasStarts, IsSettled, assigned};
+ghost use Rattle.qc_model.specs.Nodes.{Agrees, Conflicts, IsSettled, assigned};
 ghost use Rattle.qc_model.specs.Numbers.{most_start, most_tasks};
 ghost use Rattle.qc_model.specs.OneWay.{GoesOneWay, IsAllowed};
 ghost use Rattle.qc_model.specs.Rules.{crane_of, start_of};

@@ -1,6 +1,6 @@
 //! The order of each task's moves.
 
-ghost use Rattle.std.specs.Prelude.{◌≡◌, ◌<◌, ◌≤◌, length, map, All, IfOk};
+ghost use Rattle.std.specs.Prelude.{◌≡◌, ◌<◌, length, map, All, IfOk};
 ghost use Rattle.qc_model.specs.Instance.{task};
 ghost use Rattle.qc_stow.specs.Moves.{AreMoves};
 ghost use Rattle.qc_tasks.specs.InstanceOf.{instance_of};

@@ -1,6 +1,6 @@
 //! Pairs of hatches that aren't worked at the same time.
 
-ghost use Rattle.std.specs.Prelude.{◌≡◌, ◌<◌, ◌≤◌, [], length, map, option_map};
+ghost use Rattle.std.specs.Prelude.{◌≡◌, ◌<◌, ◌≤◌, [], length, map};
 ghost use Rattle.toml.specs.View.{view};
 ghost use Rattle.qc_num.specs.Reading.{IsReading, each};
 ghost use Rattle.qc_ship.specs.ShipFile.{two_integers, hatch_of, pair_in};

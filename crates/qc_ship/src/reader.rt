@@ -1,6 +1,6 @@
 //! Reading a ship file.
 
-ghost use Rattle.std.specs.Prelude.{◌≡◌, ◌≤◌, IfOk, OnOk, length, map, option_map, ok_or, vec_len};
+ghost use Rattle.std.specs.Prelude.{◌≡◌, ◌≤◌, IfOk, length, ok_or};
 ghost use Rattle.std.specs.List.{range_with_len};
 ghost use Rattle.toml.specs.View.{view, table_view};
 ghost use Rattle.qc_num.specs.Reading.{IsReading};

@@ -1,6 +1,6 @@
 //! Whether all tasks have a crane, and all apart pairs an order.
 
-ghost use Rattle.std.specs.Prelude.{◌≡◌, ◌↔◌, IsTrue};
+ghost use Rattle.std.specs.Prelude.{◌↔◌, IsTrue};
 ghost use Rattle.qc_starts.specs.Seen.{AreAssigned, AreSettled};
 
 use qc_dist::Decisions;

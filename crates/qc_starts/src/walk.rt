@@ -2,7 +2,6 @@
 //! only its walk looks at each task for whether it was met before.
 
 ghost use Rattle.std.specs.Prelude.{◌≡◌, ◌*◌, ◌+◌, ◌<◌, ◌≤◌, ◌∷◌, length, reverse};
-ghost use Rattle.qc_num.specs.Paths.{HasRoom};
 ghost use Rattle.qc_model.specs.declared.limits.TheConstants.{MOST_TASKS};
 ghost use Rattle.qc_starts.specs.Found.{why_in};
 ghost use Rattle.qc_starts.specs.Ways.{AreBacked, IsBackTo, IsEndless, IsPlace, IsRing, IsRising, IsWalked};

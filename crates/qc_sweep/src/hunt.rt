@@ -1,6 +1,6 @@
 //! What the sweeps have come to so far.
 
-ghost use Rattle.std.specs.Prelude.{◌≡◌, ◌≤◌, ◌⊎◌, IfSome, min};
+ghost use Rattle.std.specs.Prelude.{◌≡◌, ◌≤◌, ◌⊎◌, min};
 ghost use Rattle.std.specs.Option.{option_map_or};
 ghost use Rattle.qc_model.specs.Seen.{seen};
 ghost use Rattle.qc_sweep.specs.Hunts.{AreParts, IsHunt, latest_end, low_of};

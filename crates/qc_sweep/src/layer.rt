@@ -1,6 +1,6 @@
 //! The states behind one event.
 
-ghost use Rattle.std.specs.Prelude.{◌<◌, ◌≤◌, ◌^◌, length, All, IfSome, OnOk};
+ghost use Rattle.std.specs.Prelude.{◌<◌, ◌≤◌, ◌^◌, length, All, IfSome};
 ghost use Rattle.qc_part.specs.Children.{IsCount};
 ghost use Rattle.qc_sweep.specs.Nodes.{IsNodeOf};
 

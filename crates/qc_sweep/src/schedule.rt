@@ -1,6 +1,6 @@
 //! A schedule from a crane for each task.
 
-ghost use Rattle.std.specs.Prelude.{◌≡◌, ◌≢◌, ◌<◌, ◌⊎◌, ℕ, None, length, IfOk, IfSome, IsTrue, MatchOption};
+ghost use Rattle.std.specs.Prelude.{◌≡◌, ◌≢◌, ◌<◌, ◌⊎◌, ℕ, None, length, IfOk, IfSome, MatchOption};
 ghost use Rattle.qc_model.specs.Instance.{IsApart};
 ghost use Rattle.qc_model.specs.Judge.{IsJudgeable};
 ghost use Rattle.qc_model.specs.Nodes.{HasStarts, IsSettled, assigned};

@@ -1,6 +1,6 @@
 //! Splits of whole hatches: each crane works a run of hatches alone.
 
-ghost use Rattle.std.specs.Prelude.{◌<◌, ◌≤◌, ◌+◌, length};
+ghost use Rattle.std.specs.Prelude.{◌<◌, ◌+◌, length};
 ghost use Rattle.qc_part.specs.Parts.{IsBlockOf};
 
 use qc_dist::{head, in_reach, span};

@@ -1,5 +1,5 @@
 //! A sink whose lines go out whole.
-ghost use Rattle.std.specs.Prelude.{◌≡◌, ◌↔◌, ◌<◌, ◌≤◌, ◌+◌, [], IsTrue, Ok, length, take, vec_len, vec_capacity, OnOk, OnErr, IfOk};
+ghost use Rattle.std.specs.Prelude.{◌≡◌, ◌↔◌, ◌<◌, ◌≤◌, ◌+◌, [], IsTrue, Ok, length, take, vec_len, vec_capacity, OnOk, IfOk};
 ghost use Rattle.std.specs.Io.KnownBytes.{append_known};
 ghost use Rattle.qc_io.specs.Writes.{Counts, Writes};
 ghost use Rattle.qc_system.specs.Lines.{EndsLine};

@@ -1,5 +1,5 @@
 //! The instance of a ship and its moves.
-ghost use Rattle.std.specs.Prelude.{◌≡◌, ◌≤◌, length, IfOk};
+ghost use Rattle.std.specs.Prelude.{◌≡◌, IfOk};
 ghost use Rattle.qc_tasks.specs.InstanceOf.{instance_of, tasks_of};
 
 use crate::apart::pairs_apart;

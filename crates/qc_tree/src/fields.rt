@@ -4,7 +4,6 @@ ghost use Rattle.std.specs.Prelude.{◌≡◌, ◌<◌, ◌≤◌, ◌++◌, [],
 ghost use Rattle.std.specs.Char.{is_ascii_digit};
 ghost use Rattle.std.specs.List.{list_all};
 ghost use Rattle.qc_tree.specs.Fields.{IsField, NoField, EndsDigits};
-ghost use Rattle.qc_tree.specs.Lines.{fields};
 
 use qc_num::plain_number;
 

@@ -1,5 +1,5 @@
 //! How a line of a tree is read.
-ghost use Rattle.std.specs.Prelude.{◌≡◌, ◌≤◌, ◌∷◌, [], List, ℕ, OnOk, IsErr, IfOk, MatchOption};
+ghost use Rattle.std.specs.Prelude.{◌≡◌, ◌∷◌, [], List, ℕ, OnOk, IsErr, IfOk, MatchOption};
 ghost use Rattle.qc_num.specs.Paths.{HasRoom};
 ghost use Rattle.qc_tree.specs.Fields.{IsNoTitle, IsNoWord};
 ghost use Rattle.qc_tree.specs.Lines.{AreTasks, IsTextOf, IsValue, Reads, bound_field, fields};

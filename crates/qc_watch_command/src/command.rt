@@ -1,7 +1,6 @@
 //! The command that judges a log of reported crane places.
 ghost use Rattle.std.specs.Prelude.{◌≡◌, ◌<◌, ◌≤◌, IsSome, length};
 ghost use Rattle.qc_run.specs.Inputs.{names_of};
-ghost use Rattle.qc_watch.specs.Breach.{IsFirstBreach};
 ghost use Rattle.qc_run.specs.Account.{Account, IsReaderRun};
 ghost use Rattle.qc_watch_command.specs.Account.{watch_reader};
 ghost use Rattle.qc_watch_command.specs.Held.{TellsNear, crane_name};

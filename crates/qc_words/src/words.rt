@@ -6,7 +6,7 @@ ghost use Rattle.clap.specs.Words.{app_of, found_of, rows_of, first_of, is_simpl
 ghost use Rattle.qc_words.specs.Asked.{Asked, asked_for, usage, KeepsLimits, are_different, is_own};
 ghost use Rattle.qc_words.specs.Commands.{command_of, named, read_by};
 ghost use Rattle.qc_words.specs.declared.commands.CommandName.TheVariants as name;
-ghost use Rattle.qc_words.specs.Words.{Asks, Canonical, about, asked_in, check_in, make_of, nodes_in, number_between, plan_in, plan_name, plan_of, texts, value_of};
+ghost use Rattle.qc_words.specs.Words.{Asks, Canonical, about, asked_in, check_in, nodes_in, number_between, plan_in, plan_name, plan_of, texts, value_of};
 
 use crate::about::about;
 use crate::asked::{MOST_NUMBER, Request};
