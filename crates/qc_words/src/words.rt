@@ -33,7 +33,9 @@ fn read<'a>(
     match command.try_get_matches_from(words) {
         Ok(matches) => Ok(Some(matches)),
         Err(error) => {
-            if error.kind() == ErrorKind::OutOfMemory {
+            let kind = error.kind();
+            drop(error);
+            if kind == ErrorKind::OutOfMemory {
                 Err(OutOfMemory)
             } else {
                 Ok(None)
@@ -225,10 +227,12 @@ fn request_by(
     ensures { IfOk result (λ request. asked_for request
         ≡ option_map_or (asked_in name) (read_by (command_of name) (texts words.now)) usage) }
 {
-    match read(command_of(alloc, name)?, words)? {
-        Some(matches) => Ok(asked_in(name, &matches)),
-        None => Ok(Request::Usage),
-    }
+    let Some(matches) = read(command_of(alloc, name)?, words)? else {
+        return Ok(Request::Usage);
+    };
+    let request = asked_in(name, &matches);
+    drop(matches);
+    Ok(request)
 }
 
 /// What the words of a command line, without the program's name, ask for: help or which program this

@@ -26,13 +26,13 @@ each_is_simple name.Report = refl
 pub read-requires : goal.read-requires
 read-requires c = ap is_simple_and_free c.in_ok-command_of.ensures ∙ each_is_simple c.args.name
 
-pub returns-in-Some : goal.returns-in-Some
-returns-in-Some c =
+pub returns : goal.returns
+returns c =
     asks_what_is_read (asked_in c.args.name) (app_of c.in_ok-command_of.field-0) (command_of c.args.name)
-    (texts c.args.words.now) (rows_of (found_of c.in-Some.matches)) _ c.asked_in.ensures
+    (texts c.args.words.now) (rows_of (found_of c.in-Some.matches)) _ c.asked_in-request.ensures
     (rw c.in-Some.is at c.in_ok-matches.ensures) c.in_ok-command_of.ensures
 
-pub returns-in-None : goal.returns-in-None
-returns-in-None c =
+pub returns-in_default : goal.returns-in_default
+returns-in_default c =
     ap (λ (rows : Option (List Row)). option_map_or (asked_in c.args.name) rows usage)
-    ((rw c.in-None.is at c.in_ok-matches.ensures) ∙ ap (λ (a : App). read_by a (texts c.args.words.now)) c.in_ok-command_of.ensures)
+    ((rw c.in_default.is at c.in_ok-matches.ensures) ∙ ap (λ (a : App). read_by a (texts c.args.words.now)) c.in_ok-command_of.ensures)
