@@ -204,20 +204,14 @@ module _ (inst : InstanceView) (cranes : List (Option ℕ)) where
   }
 
   -- a crane that may not do it, or has it below
-  pub next_below : (low : ℤ) (j n c : ℕ) → n ≡ c + 1 → AreBelow inst cranes j n low
-      → (may inst cranes j c ≡ true → place inst j c <ℤ low) → AreBelow inst cranes j c low
-  next_below low j n c e under here v low_v few t = elim (cases_lt c v) [
+  pub next_below : (low : ℤ) (j n c m : ℕ) → n ≡ c + 1 → m ≡ c → AreBelow inst cranes j n low
+      → (may inst cranes j c ≡ true → place inst j c <ℤ low) → AreBelow inst cranes j m low
+  next_below low j n c m e is under here v low_v few t = elim (cases_lt c v) [
     | inl higher ↦ under v (omega (arith, e, higher)) few t
     | inr not_higher ↦
-        let same : v ≡ c = omega (arith, low_v, not_higher) in
+        let same : v ≡ c = omega (arith, is, low_v, not_higher) in
         subst (λ (u : ℕ). place inst j u <ℤ low) (sym same) (here (sym (ap (may inst cranes j) same) ∙ t))
   ]
-
-  pub none_lies : (low : ℤ) (j : ℕ) → AreBelow inst cranes j 0 low → (high : ℤ) → ¬ Lies inst cranes low high j
-  none_lies low j under high l =
-      let less = under l.crane (omega arith) l.before l.may in
-      let from = l.from in
-      omega (arith, ints, less, from)
 
   wider : (low high more : ℤ) (j : ℕ) → high ≤ℤ more → Lies inst cranes low high j → Lies inst cranes low more j
   wider low high more j up l =
@@ -225,14 +219,6 @@ module _ (inst : InstanceView) (cranes : List (Option ℕ)) where
       record { crane = l.crane; before = l.before; may = l.may; from = l.from; to = omega (arith, ints, up, to) }
 
   module _ (tasks : List ℕ) where
-    pub reach_none : (low : ℤ) → IsPlace low → IsReach inst cranes tasks 0 low low
-    reach_none low near = record {
-      lie = λ i h. absurd (omega (arith, h));
-      least = λ other h _. h;
-      above = omega (arith, ints);
-      near = near;
-    }
-
     pub reach_more : (n : ℕ) (low high x : ℤ) → IsReach inst cranes tasks n low high
         → IsNearest inst cranes low (get_or tasks n 0) x
         → IsReach inst cranes tasks (n + 1) low (int_max high x)
@@ -252,10 +238,6 @@ module _ (inst : InstanceView) (cranes : List (Option ℕ)) where
     }
 
     -- ---- what is found
-
-    pub found_same : (o : Option ℕ) → IsFinding inst cranes tasks o o
-    found_same None = record { kept = λ n h. h; from = tt }
-    found_same (Some m) = record { kept = λ n h. h; from = inl refl }
 
     abbrev From : Option ℕ → Option ℕ → Type 0
     From before after = MatchOption after (Unit {0}) (λ n. (before ≡ Some n) ⊎ IsStretch inst cranes tasks n)
@@ -292,17 +274,6 @@ module _ (inst : InstanceView) (cranes : List (Option ℕ)) where
             | inr l ↦ let e : n ≡ min m n = omega arith in inr (subst (IsStretch inst cranes tasks) e s)
           ];
         }
-
-    pub found_from : (o : Option ℕ) (low high : ℤ) → IsReach inst cranes tasks (length tasks) low high
-        → IsFoundFrom inst cranes tasks (Some (lesser o (bays_up low high))) low
-    found_from o low high r other up lie =
-        let least = r.least other up lie in
-        let shorter : bays_up low high ≤ bays_up low other = omega (arith, bays, least) in
-        at_most o (bays_up low high) (bays_up low other) shorter
-      where
-        at_most : (o : Option ℕ) (n k : ℕ) → n ≤ k → lesser o n ≤ k
-        at_most None n k h = h
-        at_most (Some m) n k h = omega arith
 
     pub found_later : (a b : Option ℕ) (low : ℤ) → IsFinding inst cranes tasks a b → IsFoundFrom inst cranes tasks a low
         → IsFoundFrom inst cranes tasks b low

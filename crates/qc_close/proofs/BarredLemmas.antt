@@ -267,9 +267,6 @@ module _ (inst : InstanceView) (turn : Turn) (cranes : List (Option ℕ)) (sched
     travels : 1 ≤ inst.travel
     travels = (least_steps inst valid).0
 
-    some_gap : 1 ≤ inst.gap
-    some_gap = (least_steps inst valid).1
-
     under : (i j : ℕ) → crane_of sched i < crane_of sched j → lies_at j <ℤ lies_at i → Near i j
     under i j low_i less =
         let some : 1 ≤ bays_up (lies_at j) (lies_at i) = omega (arith, bays, less) in

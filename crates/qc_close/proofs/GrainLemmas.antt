@@ -3,7 +3,7 @@ use Rattle.std.proofs.Common.{◌≡◌, ℕ, zero, suc, ◌+◌, ◌*◌, ◌/�
 use Prim.Native.Nat.{◌∣◌}
 use Rattle.std.proofs.Math.Nat.{le-div_iff_mul-le, mod-one, mul-div_cancel', mul-le-mul_left, mul_comm, pos_of_dvd_of_pos}
 use Rattle.std.proofs.lemmas.Bool.{and_from, and_parts, cases_lt, eq-eqb, eqb-true}
-use Rattle.std.proofs.lemmas.Nat.Gcd.{dvd_of_mod-eq-zero, dvd_refl, dvd_trans, le_of_dvd, mod-eq-zero_of_dvd}
+use Rattle.std.proofs.lemmas.Nat.Gcd.{dvd_of_mod-eq-zero, dvd_trans, le_of_dvd, mod-eq-zero_of_dvd}
 use Rattle.std.specs.Int.{IsGcd}
 use Rattle.std.specs.List.{list_all, range_with_len}
 use Rattle.qc_model.specs.declared.crane.Crane.{Crane}
@@ -116,9 +116,6 @@ grain_is inst travel =
     multiples_of inst (grain inst) (omega (arith, (range_among (grain inst) 1 inst.travel is.0).0)) is.1
 
 -- ---- one number more
-
-pub grain_none : (a : ℕ) (f : ℕ → ℕ) → IsGrainOf a f 0 a
-grain_none a f = record { first = dvd_refl a; others = λ i low. absurd (omega arith); greatest = λ d first _. first }
 
 pub grain_more : (a : ℕ) (f : ℕ → ℕ) (n g h : ℕ) → IsGrainOf a f n g → IsGcd g (f n) h → IsGrainOf a f (n + 1) h
 grain_more a f n g h before gcd = record {

@@ -53,6 +53,15 @@ at_most : (z : ℤ) (n : ℕ) → z ≤ℤ pos n → at_least_zero z ≤ n
 at_most (pos m) n le = omega (arith, ints)
 at_most (negsuc m) n le = omega arith
 
+pub bay_inside : (inst : InstanceView) → Valid inst → (cranes : List (Option ℕ)) (left : List ℕ) → IsLeft inst cranes left
+    → (j : ℕ) → j < length inst.tasks → (t : Task) → t ≡ task inst j → nat_abs (to_z w32 (of_z w32 t.bay)) < length left
+bay_inside inst valid cranes left is j low t t_is =
+    let on_ship = valid.tasks.bays j low in
+    let most = (limits_of inst valid).bays.1 in
+    let same = ap (λ (u : Task). nat_abs (to_z w32 (of_z w32 u.bay))) t_is
+    ∙ bay_index (bay_of inst j) on_ship.0 (omega (arith, ints, on_ship.1, most)) in
+    omega (arith, same, at_most (bay_of inst j) inst.bays on_ship.1, is.count)
+
 module _ (inst : InstanceView) (valid : Valid inst) (cranes : List (Option ℕ)) (left : List ℕ) (is : IsLeft inst cranes left)
     (j : ℕ) (low : j < length inst.tasks) (many : length cranes ≡ length inst.tasks) (t : Task) (t_is : t ≡ task inst j)
     (v : ℕ) (v_is : v ≡ get_or left (nat_abs (to_z w32 (of_z w32 t.bay))) v) where

@@ -472,11 +472,6 @@ module _ (inst : InstanceView) (cranes : List (Option ℕ)) (s : Spots) (t : Tab
     both : together (own_of inst (own inst cranes w)) (own_of inst (left_of inst cranes)) ≡ Some all
     both = ap (λ p. together p (own_of inst (left_of inst cranes))) (sym a.own_is) ∙ ap (together o) (sym a.left_is) ∙ is
 
-    pub all_small : IsSmall MOST_TASKS all
-    all_small =
-        subst (λ (o : Option Own). IfSome o (IsSmall MOST_TASKS)) (own_left inst a.valid cranes s a.spots OneWay w ∙ both)
-        (own_low inst a.valid cranes s a.spots (λ j. option_map_or (λ k. eqb k w) (crane_in cranes j) true))
-
     module _ (mine : Own) (mine_is : o ≡ Some mine) (p : Place) (crane_is : p.crane ≡ w) (own_is : p.own ≡ mine) (left_is : p.left ≡ left) (from : IsCount s.bays.items all.low p.first)
         (to : IsCount s.bays.items all.high p.last) where
       pub known_of : IsKnown inst cranes s t p

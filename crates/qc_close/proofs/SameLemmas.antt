@@ -1,17 +1,10 @@
 -- Frames that are the same, and that the count says the same of them.
-use Rattle.std.proofs.Common.{◌≡◌, ℕ, List, Option, Bool, ℤ, length, map, take, ap, sym, ◌∙◌}
+use Rattle.std.proofs.Common.{◌≡◌, ℕ, List, Option, length, map, take, ap, sym, ◌∙◌}
 use Rattle.std.proofs.lemmas.List.{length-map}
 use Rattle.qc_model.specs.declared.frame.Frame.{Frame}
 use Rattle.qc_model.specs.Closed.{is_short, left_bays, try_with, work_at}
 use Rattle.qc_model.specs.Instance.{InstanceView}
 use Rattle.qc_model.specs.Work.{crane_numbers}
-
-pub frames_same : (f g : Frame) → f.works ≡ g.works → f.gone ≡ g.gone → f.low ≡ g.low → f.high ≡ g.high → f ≡ g
-frames_same f g works gone low high =
-    ap {B = Frame} (λ (b : Bool). record { works = b; gone = f.gone; low = f.low; high = f.high }) works
-    ∙ ap {B = Frame} (λ n. record { works = g.works; gone = n; low = f.low; high = f.high }) gone
-    ∙ ap {B = Frame} (λ (x : ℤ). record { works = g.works; gone = g.gone; low = x; high = f.high }) low
-    ∙ ap {B = Frame} (λ (x : ℤ). record { works = g.works; gone = g.gone; low = g.low; high = x }) high
 
 module _ (inst : InstanceView) (f g : ℕ → Frame) (n : ℕ) (ways frames ones others : List Frame) (count : n ≡ length inst.cranes)
     (one : ones ≡ take n ways) (other : others ≡ take n frames)

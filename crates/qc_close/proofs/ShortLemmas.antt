@@ -134,9 +134,6 @@ module _ (t : Try) (up down : Walk) (u : IsCounted t Up (along t Up) up) (d : Is
       let ways : legs t Up (along t Up) u.numbers + legs t Down (along t Down) d.numbers ≡ 0 = omega (arith, ups, downs) in
       sym (served_by ∙ le-leb (needed u.numbers d.numbers) rooms (omega (arith, work, ap (λ n. t.travel * n) ways, mul-zero t.travel)))
 
-  pub no_low : up.last ≡ None → true ≡ is_served t
-  no_low is = none_left (no_stop t.bays u.numbers (subst (λ (o : Option Stop). IsStop o (along t Up) u.numbers) is u.stop))
-
   pub no_high : down.last ≡ None → true ≡ is_served t
   no_high is =
       none_left (sym (length-reverse t.bays)

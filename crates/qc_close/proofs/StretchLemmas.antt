@@ -411,10 +411,6 @@ module _ (inst : InstanceView) (valid : Valid inst) (cranes : List (Option ℕ))
 
 -- the spots of the next stretch
 module _ (p : Place) (steps : ℕ) (low : steps < p.last - p.first + 1) (order : p.first ≤ p.last) where
-  pub next_in : (way : Direction) → next_spot way p steps ≤ p.last
-  next_in Up = omega (arith, low, order)
-  next_in Down = omega arith
-
   pub spots_order : (way : Direction) → low_spot way p steps ≤ high_spot way p steps
   spots_order Up = omega arith
   spots_order Down = omega arith
@@ -422,14 +418,6 @@ module _ (p : Place) (steps : ℕ) (low : steps < p.last - p.first + 1) (order :
   pub high_in : (way : Direction) → high_spot way p steps ≤ p.last
   high_in Up = omega (arith, low, order)
   high_in Down = omega arith
-
-  pub next_from_is : (way : Direction) → swept_from way p (steps + 1) ≡ low_spot way p steps
-  next_from_is Up = refl
-  next_from_is Down = omega (arith, low, order)
-
-  pub next_to_is : (way : Direction) → swept_to way p (steps + 1) ≡ high_spot way p steps + 1
-  next_to_is Up = omega arith
-  next_to_is Down = refl
 
   pub stretch_is : (way : Direction) (inst : InstanceView) (turn : Turn) (cranes : List (Option ℕ)) (s : Spots)
       → stretch inst turn cranes s p way (next_spot way p steps)

@@ -1,5 +1,5 @@
 -- The table of what each crane's tasks come to: of no tasks, and as one task gets its crane or loses it.
-use Rattle.std.proofs.Common.{◌≡◌, ◌≢◌, ℕ, zero, suc, ◌+◌, ◌-◌, ◌*◌, ◌<◌, ◌≤◌, ◌^◌, inl, inr, Bool, true, false, ◌&&◌, eqb, cond, List, [], ◌∷◌, length, get_or, set, filter, replicate, Option, None, Some, refl, ap, sym, subst, ◌∙◌, arith, add-one}
+use Rattle.std.proofs.Common.{◌≡◌, ◌≢◌, ℕ, zero, suc, ◌+◌, ◌-◌, ◌*◌, ◌<◌, ◌≤◌, inl, inr, Bool, true, false, ◌&&◌, eqb, cond, List, [], ◌∷◌, length, get_or, set, filter, replicate, Option, None, Some, refl, ap, sym, subst, ◌∙◌, arith, add-one}
 use Rattle.std.proofs.lemmas.Bool.{and_parts, cases_Bool, cases_eq, cases_lt, cond-false, cond-true, eqb-true, false_from_ne_true, false≢true}
 use Rattle.std.proofs.lemmas.List.{get_or_past, get_or-replicate, get_or-set_other, get_or-set_same, length-replicate, length-set}
 use Rattle.std.specs.List.{range_with_len}
@@ -178,19 +178,6 @@ module _ (grid : List Bars) (row spot : ℕ) (new : Bars) (low_row : row < 10) (
         ∙ from_same grid put r k (count - k) (λ i up less. other_cell r i (omega arith) (λ e f. omega (arith, known e, up, f)));
   }
 
-  pub small_put : AreSmall grid → new.ticks < 2 ^ 38 → length grid ≡ 2400 → AreSmall put
-  small_put small few_ticks many i = elim (cases_eq i (240 * row + spot)) [
-    | inl same ↦
-        omega (
-          arith,
-          ap (λ n. (get_or put n past_bars).ticks) same,
-          ap (λ (b : Bars). b.ticks) (get_or-set_same grid (240 * row + spot) new past_bars (omega (arith, many, few, inside, low_row))),
-          few_ticks,
-        )
-    | inr differ ↦
-        omega (arith, ap (λ (b : Bars). b.ticks) (get_or-set_other grid (240 * row + spot) i new past_bars differ), small i)
-  ]
-
 -- ---- one task with another crane
 
 bars_alike : (inst : InstanceView) (a b : List (Option ℕ)) (js : List ℕ)
@@ -257,14 +244,6 @@ module _ (inst : InstanceView) (olds cranes : List (Option ℕ)) (spots : List �
   module _ (s : Spots) (spots_is : spots ≡ s.of_task.items) (t new : Table) (was : IsTable inst olds s t) (low_w : w + 1 < 10)
       (few : length s.bays.items ≤ 240) (spot count : ℕ) (spot_is : spot ≡ here) (inside : spot < count)
       (count_is : count ≡ length s.bays.items) (bars : Bars) where
-    -- what the table was is known too of the code's own number of spots
-    pub was_before : AreSums Everywhere (sum_before t.grid.items) count t.before.items
-    was_before = subst (λ (n : ℕ). AreSums Everywhere (sum_before t.grid.items) n t.before.items) (sym count_is) was.befores
-
-    pub was_from : AreSums Everywhere (λ r k. sum_from t.grid.items r k (count - k)) count t.from.items
-    was_from =
-        subst (λ (n : ℕ). AreSums Everywhere (λ r k. sum_from t.grid.items r k (n - k)) n t.from.items) (sym count_is) was.froms
-
     pub table_kept : ((i : ℕ) → soonest inst cranes i ≤ NEVER)
         → bars ≡ bars_of inst cranes (filter (row_at cranes spots (w + 1) spot) (task_numbers inst))
         → new.grid.items ≡ set t.grid.items (240 * (w + 1) + spot) bars → AreSmall new.grid.items

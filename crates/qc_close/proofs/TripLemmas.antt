@@ -368,22 +368,6 @@ pub record AreFilled (inst : InstanceView) (cells : List Trip) (count : ℕ) : T
   pub many : length cells ≡ 1920
   pub done : (i : ℕ) → i < count → get_or cells i no_trip ≡ trip_from (crane inst (i / 240)).bay
 
-pub none_filled : (inst : InstanceView) (cells : List Trip) → length cells ≡ 1920 → AreFilled inst cells 0
-none_filled inst cells many = record { many = many; done = λ i low. absurd (omega arith) }
-
-pub one_filled : (inst : InstanceView) (cells : List Trip) (count : ℕ) (v : Trip) → AreFilled inst cells count → count < 1920
-    → v ≡ trip_from (crane inst (count / 240)).bay → AreFilled inst (set cells count v) (count + 1)
-one_filled inst cells count v before low is = record {
-  many = length-set cells count v ∙ before.many;
-  done = λ i less. elim (cases_lt i count) [
-    | inl old ↦ get_or-set_other cells count i v no_trip (λ e. omega (arith, e, old)) ∙ before.done i old
-    | inr new ↦
-        let e : count ≡ i = omega (arith, less, new) in
-        subst (λ (n : ℕ). get_or (set cells count v) n no_trip ≡ trip_from (crane inst (n / 240)).bay) e
-        (get_or-set_same cells count v no_trip (omega (arith, before.many, low)) ∙ is)
-  ];
-}
-
 pub all_filled : (inst : InstanceView) (trips : Trips) (count : ℕ) → AreFilled inst trips.cells.items count
     → 240 * length inst.cranes ≤ count → (spots : List ℕ) → AreTrips inst (no_cranes inst) spots trips
 all_filled inst trips count filled all spots = record {

@@ -1,12 +1,15 @@
 //! Which crane has which task.
 
-ghost use Rattle.std.specs.Prelude.{◌≡◌, ◌||◌, ◌<◌, ◌≤◌, None, Some, IfOk, IsSome, OnOk, IsTrue, length, replicate, slice_set, true};
+ghost use Rattle.std.specs.Prelude.{◌≡◌, ◌||◌, ◌<◌, ◌≤◌, ℕ, List, Option, None, Some, IfOk, IsSome, OnOk, IsTrue, length, replicate, slice_set, true};
 ghost use Rattle.qc_model.specs.Instance.{Valid};
 ghost use Rattle.qc_model.specs.Assignments.{AreInRange, crane_in, no_cranes};
 ghost use Rattle.qc_model.specs.Closed.{IsClosedBound, is_closed, is_short_along, is_short_before};
+ghost use Rattle.qc_close.specs.Bars.{Changes, IsTable};
 ghost use Rattle.qc_close.specs.Crews.{CrewView};
 ghost use Rattle.qc_close.specs.CrewFields.{view_of, IsKept};
 ghost use Rattle.qc_close.specs.Lists.{AreLists};
+ghost use Rattle.qc_close.specs.Spots.{AreSoonest, AreSpots};
+ghost use Rattle.qc_close.specs.Trips.{AreTrips};
 ghost use Rattle.qc_close.specs.declared.closed.TheConstants.{LAST_CLOSED};
 
 use crate::bars::{Table, keep_table, no_table, table_of};
@@ -165,6 +168,37 @@ fn crew_of(inst: Instance, turn: Turn, lists: Lists) -> Crew
     }
 }
 
+/// Keeps the table and the trips where a task has got this crane, or has lost it.
+fn keep_both(
+    table: &mut Table,
+    trips: &mut Trips,
+    inst: &Instance,
+    cranes: &Vec<Option<u16>>,
+    spots: &Spots,
+    soonest: &Vec<Tick>,
+    task: u16,
+    crane: u16,
+)
+    requires count { length cranes.now.items ≡ length inst.now.tasks }
+    requires range { AreInRange inst.now cranes.now.items }
+    requires spots { AreSpots inst.now spots.now }
+    requires soonest { AreSoonest inst.now cranes.now.items soonest.now.items }
+    requires task { task < length inst.now.tasks }
+    requires crane { crane < length inst.now.cranes }
+    requires was { (olds : List (Option ℕ)) × IsTable inst.now olds spots.now table.old
+        × AreTrips inst.now olds spots.now.of_task.items trips.old
+        × Changes olds cranes.now.items task crane }
+    ensures { (olds : List (Option ℕ)) → IsTable inst.now olds spots.now table.old
+        → AreTrips inst.now olds spots.now.of_task.items trips.old
+        → Changes olds cranes.now.items task crane
+        → IsTable inst.now cranes.now.items spots.now table.new
+        × AreTrips inst.now cranes.now.items spots.now.of_task.items trips.new }
+{
+    let list = cranes.as_slice();
+    keep_table(table, inst, list, spots, soonest.as_slice(), task, crane);
+    keep_trips(trips, inst, list, spots, task);
+}
+
 impl Crew {
     /// The cranes of an instance; no task has one.
     pub fn open(alloc: Global, inst: &Instance, turn: Turn) -> Result<Crew, OutOfMemory>
@@ -209,21 +243,15 @@ impl Crew {
         self.left[bay] = self.left[bay] - done.ticks;
         self.soonest[task as usize] = head(&self.inst, task, crane);
         self.cranes[task as usize] = Some(crane);
-        keep_table(
+        keep_both(
             &mut self.table,
-            &self.inst,
-            self.cranes.as_slice(),
-            &self.spots,
-            self.soonest.as_slice(),
-            task,
-            crane,
-        );
-        keep_trips(
             &mut self.trips,
             &self.inst,
-            self.cranes.as_slice(),
+            &self.cranes,
             &self.spots,
+            &self.soonest,
             task,
+            crane,
         );
     }
 
@@ -249,21 +277,15 @@ impl Crew {
         let bay = open.bay as usize;
         self.left[bay] = self.left[bay] + open.ticks;
         self.cranes[task as usize] = None;
-        keep_table(
+        keep_both(
             &mut self.table,
-            &self.inst,
-            self.cranes.as_slice(),
-            &self.spots,
-            self.soonest.as_slice(),
-            task,
-            crane,
-        );
-        keep_trips(
             &mut self.trips,
             &self.inst,
-            self.cranes.as_slice(),
+            &self.cranes,
             &self.spots,
+            &self.soonest,
             task,
+            crane,
         );
     }
 

@@ -1,4 +1,4 @@
-use Rattle.std.proofs.Common.{◌≡◌, ◌*◌, Option, Some, IfSome, eqb, of_z, to_z, w32, ap, sym, subst, ◌∙◌, arith}
+use Rattle.std.proofs.Common.{◌≡◌, ◌*◌, Option, Some, IfSome, eqb, of_z, to_z, w32, ap, sym, subst, ◌∙◌, arith, rules}
 use Rattle.std.proofs.lemmas.Bool.{cond-false, ne_eqb}
 use Rattle.std.proofs.lemmas.Int.{ints}
 use Rattle.qc_model.specs.declared.frame.Frame.{Frame}
@@ -27,3 +27,12 @@ returns-in-Some c =
     )
     ∙ sym (ap (λ (l : Option Own). done_by inst c.args.turn c.args.crane l bars) c.in-Some.is
     ∙ cond-false (eqb bars.ticks 0) 0 (done_with inst c.args.turn c.args.crane (Some o) bars) (ne_eqb bars.ticks 0 c.if-bars-eq0.false))
+
+pub travel_over-way-requires : goal.travel_over-way-requires
+travel_over-way-requires c = search rules
+
+pub returns-in-None : goal.returns-in-None
+returns-in-None c = search rules
+
+pub returns-then-bars-eq0 : goal.returns-then-bars-eq0
+returns-then-bars-eq0 c = search rules

@@ -1,5 +1,4 @@
-use Rattle.std.proofs.lemmas.Grind.{common_steps}
-use Rattle.std.proofs.Common.{List, ℕ, ◌+◌, ◌∙◌, ap, arith, filter, refl}
+use Rattle.std.proofs.Common.{◌≡◌, ◌<◌, List, ℕ, ◌+◌, ◌∙◌, ap, arith, filter, get_or, length, refl, sym}
 use Rattle.std.proofs.lemmas.List.{get_or_read}
 use Rattle.qc_model.specs.Work.{task_numbers}
 use Rattle.qc_close.specs.Bars.{bars_of, row_at}
@@ -54,4 +53,16 @@ returns c = λ olds was changes.
     c.put_bars.ensures.grid c.put_bars.ensures.small c.put_bars.ensures.before c.put_bars.ensures.from
 
 pub bars_at-bars-requires-clause-within : goal.bars_at-bars-requires-clause-within
-bars_at-bars-requires-clause-within c = grind (arith, common_steps)
+bars_at-bars-requires-clause-within c = λ j low lies.
+    let s = c.requires.spots in
+    let t = c.args.spots.now in
+    let of = t.of_task.items in
+    let same = c.as_slice.ensures.value in
+    let inside : j < length of = omega (arith, ap length same, low) in
+    let at : get_or of j 0 ≡ c.index.result.now = ap (λ (xs : List ℕ). get_or xs j 0) (sym same) ∙ lies in
+    let place = spot_at c.args.inst.now t.bays.items s.bays j _ (omega (arith, inside, s.of_task.many)) (s.of_task.each j (omega (arith, inside, s.of_task.many))) in
+    let first = get_or_read t.first_task.items c.index.result.now c.index-2.result.now (omega (arith, at, place.0, s.firsts)) c.index-2.ensures 0 in
+    let behind = get_or_read t.behind_task.items c.index.result.now c.index-3.result.now (omega (arith, at, place.0, s.behinds)) c.index-3.ensures 0 in (
+      omega (arith, first, ap (λ n. get_or t.first_task.items n 0) at, s.first_task j inside),
+      omega (arith, behind, ap (λ n. get_or t.behind_task.items n 0) at, s.behind_task j inside, c.min.ensures, c.task_count.ensures.count, s.of_task.many, inside),
+    )

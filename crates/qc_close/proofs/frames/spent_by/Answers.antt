@@ -1,4 +1,4 @@
-use Rattle.std.proofs.Common.{Option, IfSome, sym, subst}
+use Rattle.std.proofs.Common.{Option, IfSome, sym, subst, rules}
 use Rattle.qc_model.specs.declared.limits.TheConstants.{MOST_TASKS}
 use Rattle.qc_model.specs.Instance.{IsOnRail}
 use Rattle.qc_close.specs.declared.frames.Own.{Own}
@@ -17,3 +17,18 @@ returns-in-Some-clause-near c =
       high = rail_wide _ (rail_back c.turn_high.result
           (subst IsOnRail (sym c.turn_high.ensures) (rail_high c.args.turn _ _ berth (rail_back c.in-Some.own.high own.high))));
     }
+
+pub turn_bays-bays-requires-clause-low : goal.turn_bays-bays-requires-clause-low
+turn_bays-bays-requires-clause-low c = search rules
+
+pub turn_bays-bays-requires-clause-high : goal.turn_bays-bays-requires-clause-high
+turn_bays-bays-requires-clause-high c = search rules
+
+pub returns-in-None-clause-frame : goal.returns-in-None-clause-frame
+returns-in-None-clause-frame c = search rules
+
+pub returns-in-None-clause-near : goal.returns-in-None-clause-near
+returns-in-None-clause-near c = search rules
+
+pub returns-in-Some-clause-frame : goal.returns-in-Some-clause-frame
+returns-in-Some-clause-frame c = search rules

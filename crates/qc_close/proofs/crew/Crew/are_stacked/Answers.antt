@@ -1,4 +1,4 @@
-use Rattle.std.proofs.Common.{sym, ◌∙◌, arith}
+use Rattle.std.proofs.Common.{sym, ◌∙◌, arith, rules}
 use Rattle.std.proofs.lemmas.Int.{ints}
 use Rattle.qc_close.proofs.BandLemmas.{not_stacked_at, stand_skips, stand_takes}
 use Rattle.qc_close.proofs.crew.Crew.are_stacked.Goals.{in-Some+else-is_as_high, in_default}
@@ -30,3 +30,12 @@ loop-crane-preserved c =
           c.loop-crane.invariant.stacked c.match-band.floor w.floor-is w.in_default.ensures in
           record { floor = stand.floor; stacked = stand.stacked }
     ]
+
+pub loop-crane-init : goal.loop-crane-init
+loop-crane-init c = search rules
+
+pub band-requires-clause-tasks : goal.band-requires-clause-tasks
+band-requires-clause-tasks c = search rules
+
+pub returns : goal.returns
+returns c = search rules

@@ -1,5 +1,6 @@
-use Rattle.std.proofs.Common.{sym, ◌∙◌, arith}
+use Rattle.std.proofs.Common.{ℕ, sym, subst, ◌∙◌, arith}
 use Rattle.std.proofs.lemmas.Int.{ints}
+use Rattle.qc_close.specs.Bands.{IsBandOf}
 use Rattle.qc_close.proofs.BandLemmas.{band_skips, band_step}
 use Rattle.qc_close.proofs.crew.Crew.band.Goals.{then-may, else-may}
 use Rattle.qc_close.proofs.crew.Crew.band.Goals as goal
@@ -21,3 +22,8 @@ loop-task-preserved c =
           rw w.band-is
           (band_skips inst cranes tasks c.args.crane n c.loop-task.band c.loop-task.invariant (sym c.may.ensures ∙ w.if-may.false))
     ]
+
+pub returns : goal.returns
+returns c =
+    subst (λ (n : ℕ). IsBandOf c.args.self.now.inst c.args.self.now.cranes c.args.tasks.now c.args.crane n c.loop-task.band)
+    (omega (arith, c.loop-task-test.false, c.loop-task.auto.task-index-end)) c.loop-task.invariant

@@ -1,6 +1,7 @@
-use Rattle.std.proofs.Common.{get_or, sym, ◌∙◌, arith}
+use Rattle.std.proofs.Common.{ap, get_or, length, sym, ◌∙◌, arith}
 use Rattle.std.proofs.lemmas.Int.{ints}
-use Rattle.qc_close.proofs.BandLemmas.{closest_skips, closest_takes}
+use Rattle.qc_model.specs.Instance.{InstanceView}
+use Rattle.qc_close.proofs.BandLemmas.{below_place, closest_skips, closest_takes}
 use Rattle.qc_close.proofs.crew.Crew.closest.Goals.{then-may, else-may}
 use Rattle.qc_close.proofs.crew.Crew.closest.Goals as goal
 
@@ -24,3 +25,14 @@ loop-crane-preserved c =
           c.loop-crane.invariant.finding c.loop-crane.invariant.found (sym c.may.ensures ∙ w.if-may.false) in
           rw w.least-is (record { finding = same.finding; found = same.found })
     ]
+
+pub closer-least-requires-clause-below : goal.closer-least-requires-clause-below
+closer-least-requires-clause-below c =
+    let near = c.place.ensures.near in
+    below_place c.args.self.now.inst c.args.self.now.cranes c.args.tasks.now c.requires.stacked c.args.index c.loop-crane.crane _
+    c.requires.index (sym c.may.ensures ∙ c.if-may.true) (omega (arith, ints, near.0, near.1, c.place.ensures.place))
+
+pub returns-clause-found : goal.returns-clause-found
+returns-clause-found c = λ v few t.
+    let count = ap (λ (i : InstanceView). length i.cranes) c.instance.ensures.same in
+    c.loop-crane.invariant.found v (omega (arith, few, c.loop-crane-test.false, c.loop-crane.auto.crane-end, c.crane_count-crane-end.ensures.count, count)) t

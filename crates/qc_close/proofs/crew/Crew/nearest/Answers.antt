@@ -1,8 +1,9 @@
-use Rattle.std.proofs.lemmas.Grind.{common_steps}
 use Rattle.std.proofs.Common.{◌≡◌, ◌≤ℤ◌, ◌+◌, ◌-◌, refl, sym, ◌∙◌, arith, of_z, to_z, w32}
+use Rattle.std.proofs.lemmas.Bool.{false≢true}
 use Rattle.std.proofs.lemmas.Int.{ints}
-use Rattle.qc_close.proofs.BandLemmas.{below_at, nearest_at, nearest_hit}
+use Rattle.qc_close.proofs.BandLemmas.{below_at, nearest_at, nearest_hit, next_below}
 use Rattle.qc_close.proofs.LoopLemmas.{least_steps}
+use Rattle.qc_close.proofs.crew.Crew.nearest.Goals.{then-may+else-low-place, else-may}
 use Rattle.qc_close.proofs.crew.Crew.nearest.Goals as goal
 
 pub returns-then-low-place : goal.returns-then-low-place
@@ -22,4 +23,16 @@ returns-then-low-place c =
     (omega (arith, ints, low_near.0, low_near.1)) place_is
 
 pub loop-above-preserved : goal.loop-above-preserved
-loop-above-preserved c = grind (arith, common_steps)
+loop-above-preserved c =
+    let inst = c.args.self.now.inst in
+    let cranes = c.args.self.now.cranes in
+    let crane = c.args.cranes - 1 - c.loop-above.above in
+    let low_near = c.requires.near in
+    next_below inst cranes _ c.args.task (c.args.cranes - c.loop-above.above) crane _ (omega (arith, c.loop-above-test.true))
+    (omega (arith, c.loop-above-test.true)) c.loop-above.invariant
+    (λ t. elim c.if-may.branch [
+      | then-may+else-low-place w ↦
+          let near = w.place-place.ensures.near in
+          omega (arith, ints, w.if-low-place.false, w.place-place.ensures.place, near.0, near.1, low_near.0, low_near.1)
+      | else-may w ↦ absurd (false≢true (sym w.if-may.false ∙ c.may.ensures ∙ t))
+    ])
