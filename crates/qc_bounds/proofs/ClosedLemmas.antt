@@ -1,14 +1,15 @@
 -- Which leaf closes a node, and that nothing else does.
-use Rattle.std.proofs.Common.{◌≡◌, ℕ, ◌≤◌, true, not, ◌⊎◌, inl, inr, List, [], ◌∷◌, sym, ap, subst, ◌∙◌, arith}
-use Rattle.std.proofs.lemmas.Bool.{false≢true}
+use Rattle.std.proofs.Common.{◌≡◌, ℕ, ◌<◌, ◌≤◌, nat_le, ◌&&◌, true, not, ◌⊎◌, inl, inr, List, [], ◌∷◌, None, Some, sym, ap, subst, ◌∙◌, arith}
+use Rattle.std.proofs.lemmas.Bool.{and_from, cond-true, false≢true, le-leb}
 use Rattle.qc_num.specs.Bounds.{IsAtMost}
 use Rattle.qc_num.specs.declared.bound.Bound.{Bound}
 use Rattle.qc_num.specs.declared.bound.Bound.TheVariants.{Least, Never}
 use Rattle.qc_model.specs.declared.decision.Decision.{Decision}
 use Rattle.qc_model.specs.declared.decision.Decision.TheVariants.{Assign, Order}
+use Rattle.qc_model.specs.declared.limits.TheConstants.{MOST_START}
 use Rattle.qc_model.specs.Closing.{IsClosable, IsWorkBound, IsWorkLate, out_of_reach, no_starts, complete, ends_late, work_late}
 use Rattle.qc_model.specs.Instance.{InstanceView}
-use Rattle.qc_model.specs.Leaves.{is_out_of_reach}
+use Rattle.qc_model.specs.Leaves.{is_out_of_reach, with_packed, work_over}
 use Rattle.qc_model.specs.Nodes.{HasStarts, IsComplete, IsInReach, IsNodeEnd}
 use Rattle.qc_model.specs.Rules.{last_end}
 use Rattle.qc_model.proofs.Bounded.{last_end_le}
@@ -36,7 +37,7 @@ never_out_of_reach inst (Assign j k ∷ ds) reach out = false≢true (sym (ap no
 never_out_of_reach inst (Order i j ∷ ds) reach out = false≢true out
 
 -- what is late is late with a later end
-later : (u : Bound) (end more : ℕ) → end ≤ more → IsAtMost u (Least end) → IsAtMost u (Least more)
+pub later : (u : Bound) (end more : ℕ) → end ≤ more → IsAtMost u (Least end) → IsAtMost u (Least more)
 later (Least n) end more le late = omega arith
 later Never end more le late = late
 
@@ -70,3 +71,18 @@ module _ (inst : InstanceView) (ds : List Decision) where
   chain_spends tasks end bound why is shown (inl all) = (why, inl all)
   chain_spends tasks end bound why is shown (inr low) =
       (why, inr (bound, shown, omega (arith, one_end inst ds end why.end is why.ends)))
+
+  pub work_spends : (tasks : List ℕ) (end bound : ℕ) → HasStarts inst ds → (¬ IsComplete inst ds) → IsNodeEnd inst ds end
+      → IsWorkBound inst ds bound → bound ≤ MOST_START → end < bound → tasks ≡ [] → IsSpentBy inst ds (Work bound) tasks
+  work_spends tasks end bound starts more is shown soon late empty = (
+    record {
+      starts = starts;
+      undecided = more;
+      shows = cond-true (nat_le 1 bound && work_over with_packed inst ds bound) (Some (Least bound)) None
+          (and_from (nat_le 1 bound) (work_over with_packed inst ds bound) (le-leb 1 bound (omega (arith, late))) (shown.holds (omega (arith, late))));
+      soon = soon;
+      empty = empty;
+    },
+    shown,
+    (end, is, late),
+  )

@@ -313,9 +313,10 @@ impl Marks {
 fn marks_of(jobs: &[Job], sweep: &Sweep) -> Marks {
     let mut marks = Marks::none();
     let mut last = sweep.heaviest().last;
-    for (number, job) in jobs.iter().enumerate().rev() {
+    for done in 0..jobs.len() {
+        let number = jobs.len() - 1 - done;
         if last == Some(number) {
-            marks.put(job.task);
+            marks.put(jobs[number].task);
             last = sweep.links.before(number);
         }
     }

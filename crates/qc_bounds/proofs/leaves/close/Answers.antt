@@ -1,10 +1,10 @@
-use Rattle.std.proofs.Common.{◌⊎◌, inl, inr, sym, ◌∙◌}
+use Rattle.std.proofs.Common.{◌⊎◌, inl, inr, sym, ◌∙◌, arith}
 use Rattle.std.proofs.lemmas.Bool.{false≢true}
 use Rattle.qc_num.specs.Bounds.{IsAtMost}
 use Rattle.qc_num.specs.declared.bound.Bound.TheVariants.{Least}
 use Rattle.qc_model.specs.Nodes.{IsComplete}
-use Rattle.qc_bounds.proofs.ClosedLemmas.{chain_closes, never_closable, work_closes}
-use Rattle.qc_bounds.proofs.PackedLemmas.{early_known}
+use Rattle.qc_bounds.proofs.ClosedLemmas.{chain_closes, later, never_closable, work_closes}
+use Rattle.qc_bounds.proofs.PackedLemmas.{clash_leaf, early_known}
 use Rattle.qc_bounds.proofs.leaves.close.Goals as goal
 use Rattle.qc_bounds.proofs.leaves.close.Goals.{then-is_late-via-then-is_late, then-is_late-via-else-is_late+then-complete}
 
@@ -41,3 +41,15 @@ returns-clause-leaf c =
     work_closes inst ds c.args.best c.clear.new.self.items c.in_ok-end.end c.if-stuck.ensures.none
     (λ every. false≢true (sym c.if-complete.false ∙ c.complete.ensures.1 every)) c.clear.ensures.items
     (c.in_ok-end.ensures inst ds c.requires.crew)
+
+pub returns-in-Some-clause-leaf : goal.returns-in-Some-clause-leaf
+returns-in-Some-clause-leaf c =
+    let shows = c.in-Some.ensures.shows in (
+      clash_leaf c.args.node.now.inst c.args.node.now.decisions _ c.in-Some.end c.if-stuck.ensures.none
+          (λ every. false≢true (sym c.if-complete.false ∙ c.complete.ensures.1 every)) shows.0,
+      shows.1,
+    )
+
+pub late_work-requires : goal.late_work-requires
+late_work-requires c = λ at.
+    false≢true (sym c.if-is_late.false ∙ c.is_late.ensures.1 (later c.args.best 0 c.ends.result (omega arith) at))
