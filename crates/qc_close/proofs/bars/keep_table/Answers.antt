@@ -1,4 +1,4 @@
-use Rattle.std.proofs.Common.{◌≡◌, ◌<◌, List, ℕ, ◌+◌, ◌∙◌, ap, arith, filter, get_or, length, refl, sym}
+use Rattle.std.proofs.Common.{◌≡◌, ◌<◌, List, ℕ, ◌+◌, ◌∙◌, ap, arith, filter, get_or, length, refl, sym, rules}
 use Rattle.std.proofs.lemmas.List.{get_or_read}
 use Rattle.qc_model.specs.Work.{task_numbers}
 use Rattle.qc_close.specs.Bars.{bars_of, row_at}
@@ -66,3 +66,18 @@ bars_at-bars-requires-clause-within c = λ j low lies.
       omega (arith, first, ap (λ n. get_or t.first_task.items n 0) at, s.first_task j inside),
       omega (arith, behind, ap (λ n. get_or t.behind_task.items n 0) at, s.behind_task j inside, c.min.ensures, c.task_count.ensures.count, s.of_task.many, inside),
     )
+
+pub bars_at-bars-requires-clause-count : goal.bars_at-bars-requires-clause-count
+bars_at-bars-requires-clause-count c = search rules
+
+pub bars_at-bars-requires-clause-spots : goal.bars_at-bars-requires-clause-spots
+bars_at-bars-requires-clause-spots c = search rules
+
+pub bars_at-bars-requires-clause-soonest : goal.bars_at-bars-requires-clause-soonest
+bars_at-bars-requires-clause-soonest c = search rules
+
+pub put_bars-requires-clause-count : goal.put_bars-requires-clause-count
+put_bars-requires-clause-count c = search rules
+
+pub put_bars-requires-clause-small : goal.put_bars-requires-clause-small
+put_bars-requires-clause-small c = search rules

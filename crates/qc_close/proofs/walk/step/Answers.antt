@@ -1,4 +1,4 @@
-use Rattle.std.proofs.Common.{◌+◌, ◌*◌, refl, ap, arith}
+use Rattle.std.proofs.Common.{◌+◌, ◌*◌, refl, ap, arith, rules}
 use Rattle.qc_close.proofs.WalkLemmas.{found_more, none_more}
 use Rattle.qc_close.proofs.walk.step.Goals as goal
 
@@ -20,3 +20,9 @@ returns-clause-found c = λ left xs work walked.
     (omega (arith, c.in_ok-cranes.ensures.1, c.in_ok-cranes.ensures.0, c.most_rooms.ensures c.in_ok-cranes.cranes (omega (arith, c.in_ok-cranes.ensures.0))))
     (λ n low. omega (arith, c.in_ok-cranes.ensures.2 n low, c.most_rooms.ensures n (omega (arith, c.in_ok-cranes.ensures.0))))
     refl (omega (arith, work)) (omega (arith, c.leg_from.ensures.leg))
+
+pub overflow_mul-travel : goal.overflow_mul-travel
+overflow_mul-travel c = search rules
+
+pub overflow_add-work-2 : goal.overflow_add-work-2
+overflow_add-work-2 c = search rules

@@ -1,4 +1,4 @@
-use Rattle.std.proofs.Common.{◌≡◌, ◌-◌, ◌+◌, ◌∙◌, List, None, ℕ, length, refl, sym, subst, arith}
+use Rattle.std.proofs.Common.{◌≡◌, ◌-◌, ◌+◌, ◌∙◌, List, None, ℕ, length, refl, sym, subst, arith, rules}
 use Rattle.qc_close.specs.Counts.{IsWalked, last_bays, try_by}
 use Rattle.qc_close.proofs.RestLemmas.{counts_rise, none_after, none_before, rest_range}
 use Rattle.qc_close.proofs.WalkLemmas.{WalkedTo, last_all, none_all, none_walked, walked_no, walked_yes}
@@ -82,3 +82,15 @@ returns-clause-found c =
     (none_after left c.args.rest c.requires.rest bays many c.args.way end c.near_count-count-end.ensures.count c.near_count-count-end.ensures.bound
     ∙ last_all left c.args.travel c.args.tick c.args.frames.now c.args.way bays many)
     (subst (λ (n : ℕ). IsWalked t c.args.way (last_bays c.args.way left n) c.loop-count.walk) at c.loop-count.invariant.walked)
+
+pub bounds-left-bay : goal.bounds-left-bay
+bounds-left-bay c = search rules
+
+pub step-requires-clause-work : goal.step-requires-clause-work
+step-requires-clause-work c = search rules
+
+pub returns-clause-work : goal.returns-clause-work
+returns-clause-work c = search rules
+
+pub returns-clause-legs : goal.returns-clause-legs
+returns-clause-legs c = search rules

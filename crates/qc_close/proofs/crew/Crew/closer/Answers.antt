@@ -1,4 +1,4 @@
-use Rattle.std.proofs.Common.{◌≡◌, ℕ, ◌≤◌, min, ap, List, Option, None, Some, length, ℤ, arith, of_z, subst, to_z, w32}
+use Rattle.std.proofs.Common.{◌≡◌, ℕ, ◌≤◌, min, ap, List, Option, None, Some, length, ℤ, arith, of_z, subst, to_z, w32, rules}
 use Rattle.std.proofs.lemmas.Int.{ints}
 use Rattle.std.specs.Option.{option_map_or}
 use Rattle.qc_model.specs.Bays.{bays_up}
@@ -42,3 +42,9 @@ returns-in-Some-clause-found c =
     near_from c.args.self.now.inst c.args.self.now.cranes c.args.tasks.now c.args.before c.args.low (to_z w32 (of_z w32 c.args.low))
     c.in-Some.high (omega (arith, ints, low.0, low.1)) c.in-Some.ensures c.lesser.result c.bays_up.result _ c.lesser.ensures
     c.bays_up.ensures (omega (arith, ints, high.0, high.1))
+
+pub reach-requires-clause-below : goal.reach-requires-clause-below
+reach-requires-clause-below c = search rules
+
+pub returns-in-None-clause-finding : goal.returns-in-None-clause-finding
+returns-in-None-clause-finding c = search rules

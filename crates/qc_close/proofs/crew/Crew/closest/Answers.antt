@@ -1,4 +1,4 @@
-use Rattle.std.proofs.Common.{ap, get_or, length, sym, ◌∙◌, arith}
+use Rattle.std.proofs.Common.{ap, get_or, length, sym, ◌∙◌, arith, rules}
 use Rattle.std.proofs.lemmas.Int.{ints}
 use Rattle.qc_model.specs.Instance.{InstanceView}
 use Rattle.qc_close.proofs.BandLemmas.{below_place, closest_skips, closest_takes}
@@ -36,3 +36,21 @@ pub returns-clause-found : goal.returns-clause-found
 returns-clause-found c = λ v few t.
     let count = ap (λ (i : InstanceView). length i.cranes) c.instance.ensures.same in
     c.loop-crane.invariant.found v (omega (arith, few, c.loop-crane-test.false, c.loop-crane.auto.crane-end, c.crane_count-crane-end.ensures.count, count)) t
+
+pub loop-crane-init : goal.loop-crane-init
+loop-crane-init c = search rules
+
+pub place-requires-clause-task : goal.place-requires-clause-task
+place-requires-clause-task c = search rules
+
+pub place-requires-clause-crane : goal.place-requires-clause-crane
+place-requires-clause-crane c = search rules
+
+pub closer-least-requires-clause-tasks : goal.closer-least-requires-clause-tasks
+closer-least-requires-clause-tasks c = search rules
+
+pub closer-least-requires-clause-near : goal.closer-least-requires-clause-near
+closer-least-requires-clause-near c = search rules
+
+pub closer-least-requires-clause-cranes : goal.closer-least-requires-clause-cranes
+closer-least-requires-clause-cranes c = search rules

@@ -1,4 +1,4 @@
-use Rattle.std.proofs.Common.{◌≡◌, ◌≤ℤ◌, ◌+◌, ◌-◌, refl, sym, ◌∙◌, arith, of_z, to_z, w32}
+use Rattle.std.proofs.Common.{◌≡◌, ◌≤ℤ◌, ◌+◌, ◌-◌, refl, sym, ◌∙◌, arith, of_z, to_z, w32, rules}
 use Rattle.std.proofs.lemmas.Bool.{false≢true}
 use Rattle.std.proofs.lemmas.Int.{ints}
 use Rattle.qc_close.proofs.BandLemmas.{below_at, nearest_at, nearest_hit, next_below}
@@ -36,3 +36,9 @@ loop-above-preserved c =
           omega (arith, ints, w.if-low-place.false, w.place-place.ensures.place, near.0, near.1, low_near.0, low_near.1)
       | else-may w ↦ absurd (false≢true (sym w.if-may.false ∙ c.may.ensures ∙ t))
     ])
+
+pub loop-above-init : goal.loop-above-init
+loop-above-init c = search rules
+
+pub returns : goal.returns
+returns c = search rules

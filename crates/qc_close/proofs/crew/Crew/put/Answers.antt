@@ -1,4 +1,4 @@
-use Rattle.std.proofs.Common.{◌<◌, Some, length, ap, ◌∙◌, arith}
+use Rattle.std.proofs.Common.{◌<◌, Some, length, ap, ◌∙◌, arith, rules}
 use Rattle.std.proofs.lemmas.List.{length-set}
 use Rattle.qc_model.specs.Assignments.{crane_in}
 use Rattle.qc_close.specs.Crews.{CrewView}
@@ -115,3 +115,9 @@ invariant_of-self c =
       step = k.step;
       bare = k.bare;
     }
+
+pub overflow_cast-bay : goal.overflow_cast-bay
+overflow_cast-bay c = search rules
+
+pub returns : goal.returns
+returns c = search rules

@@ -1,5 +1,5 @@
 use Rattle.std.proofs.lemmas.Grind.{common_steps}
-use Rattle.std.proofs.Common.{◌≡◌, ◌∙◌, ℕ, ℤ, sym, ap, subst, arith, of_z, to_z, w32}
+use Rattle.std.proofs.Common.{◌≡◌, ◌∙◌, ℕ, ℤ, sym, ap, subst, arith, of_z, to_z, w32, rules}
 use Rattle.std.specs.Int.{int_max}
 use Rattle.std.proofs.lemmas.Int.{int_max_is, ints}
 use Rattle.qc_close.specs.Bands.{IsReach}
@@ -41,3 +41,9 @@ returns c =
     (omega (arith, c.loop-task-test.false, c.loop-task.auto.task-index-end))
     (subst (λ (x : ℤ). IsReach inst cranes tasks c.loop-task.task-index x high) (omega (arith, ints, near.0, near.1))
     c.loop-task.invariant)
+
+pub loop-task-init : goal.loop-task-init
+loop-task-init c = search rules
+
+pub nearest-requires-clause-below : goal.nearest-requires-clause-below
+nearest-requires-clause-below c = search rules

@@ -1,4 +1,4 @@
-use Rattle.std.proofs.Common.{◌<◌, None, length, is_none, ap, ◌∙◌, arith}
+use Rattle.std.proofs.Common.{◌<◌, None, length, is_none, ap, ◌∙◌, arith, rules}
 use Rattle.std.proofs.lemmas.List.{length-set}
 use Rattle.qc_model.specs.Assignments.{crane_in}
 use Rattle.qc_close.specs.Crews.{CrewView}
@@ -105,3 +105,9 @@ invariant_of-self c =
       step = k.step;
       bare = k.bare;
     }
+
+pub overflow_cast-bay : goal.overflow_cast-bay
+overflow_cast-bay c = search rules
+
+pub returns : goal.returns
+returns c = search rules
