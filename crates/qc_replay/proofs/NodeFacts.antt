@@ -3,7 +3,7 @@ use Rattle.std.proofs.Common.{◌≡◌, ℕ, ◌==◌, ◌+◌, ◌-◌, ◌≤
 use Rattle.std.proofs.lemmas.Simd.{map-map}
 use Rattle.std.specs.Prelude.{⊤}
 use Rattle.std.specs.List.{list_all}
-use Rattle.std.proofs.lemmas.Bool.{and_from, and_parts, eq-eqb, false_from_ne_true, le-leb, leb-true, lt-ltb, ltb-true, or_from, true≢false}
+use Rattle.std.proofs.lemmas.Bool.{and_from, and_parts, eq-eqb, false_from_ne_true, le-leb, leb-true, lt-ltb, ltb-true, or_from, or_left, or_right, true≢false}
 use Rattle.std.proofs.lemmas.List.Folds.{list_any_at}
 use Rattle.std.proofs.lemmas.List.{length-map, map-append}
 use Rattle.qc_num.specs.declared.bound.Bound.{Bound}
@@ -121,6 +121,14 @@ unsettled_false inst ds i j un =
     (false_from_ne_true (is_some (forced inst ds i j)) (λ e. un (inl e)))
     (false_from_ne_true (is_some (forced inst ds j i)) (λ e. un (inr e)))
 
+settled_true : (inst : InstanceView) (ds : List Decision) (i j : ℕ) → IsSettled inst ds i j → is_settled inst ds i j ≡ true
+settled_true inst ds i j (inl one) = or_left (is_some (forced inst ds i j)) (is_some (forced inst ds j i)) one
+settled_true inst ds i j (inr two) = or_right (is_some (forced inst ds i j)) (is_some (forced inst ds j i)) two
+
+some_not_none : (o : Option ℕ) → is_some o ≡ true → is_none o ≡ false
+some_not_none None some = absurd (true≢false (sym some))
+some_not_none (Some n) some = refl
+
 pub none_of : (o : Option ℕ) → is_some o ≡ false → o ≡ None
 none_of None none = refl
 none_of (Some n) none = absurd (true≢false none)
@@ -130,6 +138,17 @@ pub branching_made : (t now : Tally) → with_branching t ≡ Ok now
     → (nat_lt t.branched most_branchings ≡ true) × (record t { branched = t.branched + 1 } ≡ now)
 branching_made t now is =
     passed (nat_lt t.branched most_branchings) (record t { branched = t.branched + 1 }) now kind.Branchings is
+
+-- a branching more than a tree may have
+branching_refused : (t : Tally) (fault : TreeKind) → with_branching t ≡ Err fault
+    → (nat_lt t.branched most_branchings ≡ false) × (kind.Branchings ≡ fault)
+branching_refused t fault is =
+    refused (nat_lt t.branched most_branchings) (record t { branched = t.branched + 1 }) is
+  where
+    refused : (test : Bool) (now : Tally)
+        → (if test then Ok now else Err kind.Branchings) ≡ Err fault → (test ≡ false) × (kind.Branchings ≡ fault)
+    refused true now e = cc
+    refused false now e = (refl, cc)
 
 -- ---- a line of a part, judged
 
@@ -166,6 +185,15 @@ module _ (version : TreeVersion) (before after : Standing) (live : before.live �
         ap (λ b. require b kind.Branchings >>= λ _. Ok (record here { coming = map (node way) made ++ drop 1 here.coming; branched = tally.branched + 1 })) one.0
         ∙ ap (λ cs. Ok (record here { coming = cs; branched = tally.branched + 1 })) (with_nodes made is)
         ∙ ap (λ t. Ok (within way version after more t)) one.1
+
+    too_many : (made : List Coming) (fault : TreeKind) → with_branching tally ≡ Err fault
+        → (result : Result Tally TreeKind) → result ≡ Err fault
+        → branched_to here made ≡ (result >>= λ now. Ok (within way version after more now))
+    too_many made fault counted result is =
+        let one = branching_refused tally fault counted in
+        ap (λ b. require b kind.Branchings >>= λ _. Ok (record here { coming = made ++ drop 1 here.coming; branched = tally.branched + 1 })) one.0
+        ∙ ap Err one.1
+        ∙ sym (ap (λ (r : Result Tally TreeKind). r >>= λ now. Ok (within way version after more now)) is)
 
     -- a leaf in its place
     came_is : (now : Tally) → nodes after ≡ drop 1 (nodes before)
@@ -208,6 +236,26 @@ module _ (version : TreeVersion) (before after : Standing) (live : before.live �
         ∙ ap (branched_to (here way more)) (sym (map-map (node way) (λ k. decide.Assign (i - 1) k ∷ ds) (crane_numbers before.inst)))
         ∙ branched_on way more now _ counted is
 
+    -- a task that has its crane
+    pub task_decided : is_some (assigned before.decisions (i - 1)) ≡ true
+        → IsJudged version before tally (line.Assign i) list after (Err kind.Decided)
+    task_decided some way more =
+        let ds = before.decisions in
+        let children = map (λ k. node way (decide.Assign (i - 1) k ∷ ds)) (crane_numbers before.inst) in
+        task_line way more
+        ∙ ap (λ b. require b kind.Decided >>= λ _. branched_to (here way more) children)
+        (some_not_none (assigned ds (i - 1)) some)
+
+    pub task_too_many : (fault : TreeKind) → assigned before.decisions (i - 1) ≡ None → with_branching tally ≡ Err fault
+        → (result : Result Tally TreeKind) → result ≡ Err fault
+        → IsJudged version before tally (line.Assign i) list after result
+    task_too_many fault none counted result is way more =
+        let ds = before.decisions in
+        let children = map (λ k. node way (decide.Assign (i - 1) k ∷ ds)) (crane_numbers before.inst) in
+        task_line way more
+        ∙ ap (λ o. require (is_none o) kind.Decided >>= λ _. branched_to (here way more) children) none
+        ∙ too_many way more children fault counted result is
+
   module _ (i j : ℕ) (list : List ℕ) (numbers : (is_number before.inst i && is_number before.inst j) ≡ true) where
     pair_line : (way : Direction) (more : List Coming)
         → at_node before.inst way before.decisions (here way more) (line.Order i j) list
@@ -247,3 +295,20 @@ module _ (version : TreeVersion) (before after : Standing) (live : before.live �
           ∙ ap (λ b. require b kind.Decided >>= λ _. branched_to (here way more) (map (node way) orders))
           (ap not (unsettled_false before.inst before.decisions (i - 1) (j - 1) un))
           ∙ branched_on way more now orders counted is
+
+      -- a pair that is decided
+      pub pair_decided : IsSettled before.inst before.decisions (i - 1) (j - 1)
+          → IsJudged version before tally (line.Order i j) list after (Err kind.Decided)
+      pair_decided settled way more =
+          tested_pair way more
+          ∙ ap (λ b. require b kind.Decided >>= λ _. branched_to (here way more) (map (node way) orders))
+          (ap not (settled_true before.inst before.decisions (i - 1) (j - 1) settled))
+
+      pub pair_too_many : (fault : TreeKind) → (¬ IsSettled before.inst before.decisions (i - 1) (j - 1))
+          → with_branching tally ≡ Err fault → (result : Result Tally TreeKind) → result ≡ Err fault
+          → IsJudged version before tally (line.Order i j) list after result
+      pair_too_many fault un counted result is way more =
+          tested_pair way more
+          ∙ ap (λ b. require b kind.Decided >>= λ _. branched_to (here way more) (map (node way) orders))
+          (ap not (unsettled_false before.inst before.decisions (i - 1) (j - 1) un))
+          ∙ too_many way more (map (node way) orders) fault counted result is

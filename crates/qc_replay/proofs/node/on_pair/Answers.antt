@@ -7,7 +7,8 @@ use Rattle.qc_tree.specs.declared.fault.TreeKind.{TreeKind}
 use Rattle.qc_tree.specs.declared.line.Line.TheVariants.{Order}
 use Rattle.qc_replay.specs.Part.{IsJudged}
 use Rattle.qc_replay.specs.Walk.{is_number, may_order, no_order}
-use Rattle.qc_replay.proofs.NodeFacts.{pair_barred, pair_judged}
+use Rattle.qc_replay.proofs.NodeFacts.{pair_barred, pair_decided, pair_judged, pair_too_many}
+use Rattle.qc_replay.proofs.FileFacts.{handed}
 use Rattle.qc_replay.proofs.OrderFacts.{order_at}
 use Rattle.qc_replay.proofs.node.on_pair.Goals as goal
 
@@ -54,3 +55,33 @@ returns-clause-judged c = λ numbers.
     (subst (λ (n : Node). may_order n.inst.turn n.inst n.decisions (one - 1) (other - 1) ≡ true) node
     (sym c.may_order.ensures ∙ c.if-not-may_order.false)) c.in_ok-now.now open_pair
     (sym c.with_branching.ensures ∙ c.in_ok-now.was) c.on_pair.ensures.nodes
+
+pub returns-then-settled-clause-judged : goal.returns-then-settled-clause-judged
+returns-then-settled-clause-judged c = λ numbers.
+    let one = c.args.one in
+    let other = c.args.other in
+    let before = c.args.descent.now in
+    let node = c.node-node.ensures.node in
+    pair_decided c.args.version before before c.requires.live c.args.tally one other numbers
+    (subst (λ (n : Node). (is_number n.inst one && is_number n.inst other) ≡ true) node
+    (sym c.are_both_numbers.ensures.numbers ∙ c.if-not-are_both_numbers.false))
+    (subst (λ (n : Node). may_order n.inst.turn n.inst n.decisions (one - 1) (other - 1) ≡ true) node
+    (sym c.may_order.ensures ∙ c.if-not-may_order.false))
+    (subst (λ (n : Node). IsSettled n.inst n.decisions (one - 1) (other - 1)) node (c.settled.ensures.0 c.if-settled.true))
+
+pub returns-in_err-now-clause-judged : goal.returns-in_err-now-clause-judged
+returns-in_err-now-clause-judged c = λ numbers.
+    let one = c.args.one in
+    let other = c.args.other in
+    let before = c.args.descent.now in
+    let node = c.node-node.ensures.node in
+    let why = c.in_err-now.field-0.0 in
+    pair_too_many c.args.version before before c.requires.live c.args.tally one other numbers
+    (subst (λ (n : Node). (is_number n.inst one && is_number n.inst other) ≡ true) node
+    (sym c.are_both_numbers.ensures.numbers ∙ c.if-not-are_both_numbers.false))
+    (subst (λ (n : Node). may_order n.inst.turn n.inst n.decisions (one - 1) (other - 1) ≡ true) node
+    (sym c.may_order.ensures ∙ c.if-not-may_order.false)) why
+    (subst (λ (n : Node). ¬ (IsSettled n.inst n.decisions (one - 1) (other - 1))) node
+    (λ s. true≢false (sym (c.settled.ensures.1 s) ∙ c.if-settled.false)))
+    (sym c.with_branching.ensures ∙ c.in_err-now.was) c.from_residual.result
+    (handed c.from_residual.result why c.from_residual.ensures.1)
