@@ -1,5 +1,5 @@
 -- Nodes that are written one after another, and where their lines are cut.
-use Rattle.std.proofs.Common.{◌≡◌, ℕ, ◌≤◌, List, [], ◌∷◌, ◌++◌, map, Option, None, Some, Result, Ok, Err, refl, ap, sym, subst, ◌∙◌, append_assoc, arith, IsErr, OnOk}
+use Rattle.std.proofs.Common.{◌≡◌, ℕ, ◌≤◌, List, [], ◌∷◌, ◌++◌, map, Option, None, Some, Result, Ok, Err, refl, ap, sym, subst, ◌∙◌, append_assoc, arith, IsErr, IfOk, OnOk}
 use Rattle.std.proofs.lemmas.Bool.{false≢true}
 use Rattle.std.proofs.lemmas.List.{append-nil, map-append}
 use Rattle.std.proofs.lemmas.Grind.{flat_map-append}
@@ -24,6 +24,11 @@ use Rattle.qc_search.specs.Earned.{TreeNode, branchings_in, node_at, part_nodes}
 use Rattle.qc_search.specs.Run.{best_end}
 use Rattle.qc_search.specs.Progress.{AreEarned, Comes, IsAlong, IsKept, IsPartOf, IsProgress, IsStep, WritesNodes, emptied, left_by}
 use Rattle.qc_search.proofs.EarnedLemmas.{branched_in, branchings-append, earned_then}
+
+-- what is asked of a value is asked of no fault
+pub none_asked : {A E : Type 0} (P : A → Type 0) (result : Result A E) → IsErr result → IfOk result P
+none_asked P (Ok x) is = absurd (false≢true is)
+none_asked P (Err fault) is = tt
 
 -- ---- nodes one behind the other
 

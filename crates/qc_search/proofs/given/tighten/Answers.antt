@@ -1,4 +1,5 @@
-use Rattle.std.proofs.Common.{◌∙◌, arith}
+use Rattle.std.proofs.Common.{◌∙◌, ◌-◌, arith, length}
+use Rattle.std.proofs.lemmas.List.{drop_all}
 use Rattle.qc_search.proofs.OrderLemmas.{ordered_complete, unstuck}
 use Rattle.qc_search.proofs.given.tighten.Goals as goal
 
@@ -31,3 +32,8 @@ returns-clause-tightened c =
       ends = end.ends;
       soon = omega (arith, c.ends-end.ensures.bound);
     }
+
+pub returns-clause-root : goal.returns-clause-root
+returns-clause-root c =
+    let ds = c.order_all.new.starts.decisions in
+    c.go_back.ensures.decisions ∙ drop_all (length ds - 0) ds (omega arith)

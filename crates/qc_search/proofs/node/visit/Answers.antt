@@ -1,7 +1,7 @@
 use Rattle.std.proofs.Common.{arith}
 use Rattle.std.proofs.lemmas.Bool.{false≢true}
 use Rattle.qc_search.proofs.DescentLemmas.{has_starts, not_stuck}
-use Rattle.qc_search.proofs.NodesLemmas.{from_path, on_fault}
+use Rattle.qc_search.proofs.NodesLemmas.{from_path, none_asked, on_fault}
 use Rattle.qc_search.proofs.node.visit.Goals as goal
 
 pub returns-in_err-put_closed-clause-goes : goal.returns-in_err-put_closed-clause-goes
@@ -50,3 +50,35 @@ returns-in-Some-clause-fewer g c = omega arith
 
 pub returns-clause-fewer : goal.returns-clause-fewer
 returns-clause-fewer g c = omega arith
+
+pub returns-in_err-child-clause-child : goal.returns-in_err-child-clause-child
+returns-in_err-child-clause-child g c =
+    none_asked _ c.from_residual-in_err-child.result c.from_residual-in_err-child.ensures.0
+
+pub returns-in_err-child-clause-fewer : goal.returns-in_err-child-clause-fewer
+returns-in_err-child-clause-fewer g c =
+    none_asked _ c.from_residual-in_err-child.result c.from_residual-in_err-child.ensures.0
+
+pub returns-in_err-child-clause-few : goal.returns-in_err-child-clause-few
+returns-in_err-child-clause-few g c =
+    none_asked _ c.from_residual-in_err-child.result c.from_residual-in_err-child.ensures.0
+
+pub returns-in_err-put_spent-clause-child : goal.returns-in_err-put_spent-clause-child
+returns-in_err-put_spent-clause-child g c =
+    none_asked _ c.from_residual-in_err-put_spent.result c.from_residual-in_err-put_spent.ensures.0
+
+pub returns-in_err-put_spent-clause-fewer : goal.returns-in_err-put_spent-clause-fewer
+returns-in_err-put_spent-clause-fewer g c =
+    none_asked _ c.from_residual-in_err-put_spent.result c.from_residual-in_err-put_spent.ensures.0
+
+pub returns-in_err-put_spent-clause-few : goal.returns-in_err-put_spent-clause-few
+returns-in_err-put_spent-clause-few g c =
+    none_asked _ c.from_residual-in_err-put_spent.result c.from_residual-in_err-put_spent.ensures.0
+
+pub put_branching-requires-clause-open : goal.put_branching-requires-clause-open
+put_branching-requires-clause-open g c = λ closable.
+    false≢true (c.in_default.ensures.closed closable)
+
+pub put_spent-requires-clause-open : goal.put_spent-requires-clause-open
+put_spent-requires-clause-open g c = λ closable.
+    false≢true (c.in_default.ensures.closed closable)

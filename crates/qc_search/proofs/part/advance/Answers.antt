@@ -1,6 +1,6 @@
-use Rattle.std.proofs.Common.{◌≡◌, ◌≤◌, List, [], Ok, Err, IfSome, Option, length, true, refl, ap, sym, subst, ◌∙◌, arith}
+use Rattle.std.proofs.Common.{◌≡◌, ◌≤◌, List, [], ◌∷◌, None, Ok, Err, IfSome, Option, length, true, refl, ap, sym, subst, ◌∙◌, arith, rules}
 use Rattle.std.proofs.lemmas.Bool.{false≢true}
-use Rattle.qc_dist.specs.Children.{IsNextChild}
+use Rattle.qc_dist.specs.Children.{IsNextChild, behind}
 use Rattle.qc_model.specs.declared.decision.Decision.{Decision}
 use Rattle.qc_model.specs.Instance.{InstanceView}
 use Rattle.qc_starts.specs.Seen.{StartsNode}
@@ -60,4 +60,28 @@ loop-next-preserved-in-Some g c =
           l c.args.progress.now c.args.progress.now (Ok tt)) (next_due inst ds d next is child.0)
           (nodes_then (rw c.in-Some.is at c.loop-next.invariant.goes way)
           (reach_written inst way ds d c.args.progress.now (Ok tt) away c.in_ok-put_reach.ensures)));
+    }
+
+pub loop-next-preserved : goal.loop-next-preserved
+loop-next-preserved g c =
+    let inst = c.args.node.now.inst in
+    let ds = c.go_back.new.self.decisions in
+    let d = c.in-Some-go_back.newest in
+    let next = c.next_child-next-in-Some-go_back.result in
+    let same = c.go_back.ensures.inst ∙ c.loop-next.invariant.same in
+    let is = subst (λ (i : InstanceView). IsNextChild i d next) (c.instance-in-Some-go_back.ensures.same ∙ same)
+    c.next_child-next-in-Some-go_back.ensures in
+    let stands = subst (λ (o : Option Decision). IfSome o (λ newest. c.loop-next.node.decisions ≡ newest ∷ ds)) c.in-Some-go_back.is
+    c.go_back.ensures.some in
+    let made = subst (λ (ds : List Decision). WereMade inst ds) stands c.loop-next.invariant.made in
+    let none : c.loop-next.next ≡ None = search rules in
+    let due = ap (from_child inst c.loop-next.node.decisions) none ∙ ap (behind inst) stands ∙ next_due inst ds d next is made.0.0 in
+    record {
+      same = same;
+      made = made.2;
+      child = next_child_is inst ds d next is made.0;
+      fewer = omega (arith, ap (λ (l : List (List Decision)). length l) due, c.loop-next.invariant.fewer);
+      goes = λ way. subst (λ (l : List (List Decision)). WritesNodes [] (g.K.Sink.view c.args.sink.now)
+          (g.K.Sink.view c.loop-next.sink) inst way (from_child inst c.args.node.now.decisions c.args.child)
+          l c.args.progress.now c.args.progress.now (Ok tt)) due (c.loop-next.invariant.goes way);
     }
