@@ -18,8 +18,8 @@ use Rattle.qc_model.specs.Nodes.{least}
 use Rattle.qc_model.specs.Packs.{all_clash, all_differ, is_doable, is_packed, span}
 use Rattle.qc_close.proofs.SpanLemmas.{packed_few, packed_range}
 use Rattle.qc_tree.specs.Lines.{AreTasks, IsLine, IsTask}
-use Rattle.qc_tree.specs.Trees.{in_file}
-use Rattle.qc_search.specs.Lines.{AreNumbers, IsLeafBy, IsWritable, leaf_line}
+use Rattle.qc_tree.specs.Trees.{in_file, leaf_text, whole_line}
+use Rattle.qc_search.specs.Lines.{AreNumbers, IsLeafBy, IsWritable, leaf_line, leaf_of}
 
 -- tasks as they are numbered in a file
 named : (tasks : List ℕ) → AreNumbers tasks → AreTasks (in_file tasks)
@@ -102,3 +102,16 @@ pub written_in : (leaf : LeafKind) (old new : List ℕ) → new ≡ in_file old 
 written_in leaf old new is can =
     let count : length new ≡ length old = ap (λ (l : List ℕ). length l) is ∙ length-map old (λ j. j + 1) in
     subst (IsLine (leaf_line leaf)) (sym (refilled old new count ∙ is)) (written leaf old can)
+
+-- and its text
+pub leaf_written : (leaf : LeafKind) (old new : List ℕ) → new ≡ in_file old
+    → whole_line (leaf_line leaf) (refill (length old) old new) ≡ leaf_text (leaf_of leaf old)
+leaf_written leaf old new is =
+    let count : length new ≡ length old = ap (λ (l : List ℕ). length l) is ∙ length-map old (λ j. j + 1) in
+    ap (whole_line (leaf_line leaf)) (refilled old new count ∙ is) ∙ by_kind leaf
+  where
+    by_kind : (leaf : LeafKind) → whole_line (leaf_line leaf) (in_file old) ≡ leaf_text (leaf_of leaf old)
+    by_kind kind.Chain = refl
+    by_kind kind.Ring = refl
+    by_kind (kind.Work end) = refl
+    by_kind (kind.Clash end) = refl

@@ -1,6 +1,6 @@
 -- Decisions as a schedule has them: what they are open for, and what they settle.
-use Rattle.std.proofs.Common.{◌≡◌, ℕ, ◌+◌, ◌-◌, ◌<◌, inl, inr, Bool, true, false, List, [], ◌∷◌, length, get_or, Contains, ◌⊎◌, Option, None, Some, IfSome, IsSome, refl, ap, subst, ◌∙◌, arith, is_some, nat_le}
-use Rattle.std.proofs.lemmas.Bool.{and_from, cases_eq, cond_both, false≢true}
+use Rattle.std.proofs.Common.{◌≡◌, ℕ, ◌+◌, ◌-◌, ◌<◌, inl, inr, Bool, true, false, List, [], ◌∷◌, length, get_or, Contains, ◌⊎◌, Option, None, Some, IfSome, IsSome, refl, ap, subst, ◌∙◌, arith, is_some, nat_le, sym, ◌≤◌, if◌then◌else◌}
+use Rattle.std.proofs.lemmas.Bool.{and_from, cases_eq, cond_both, false_from_ne_true, false≢true, le-leb, leb-true}
 use Rattle.std.proofs.lemmas.List.{drop_all}
 use Rattle.qc_dist.specs.Node.{IsOpen}
 use Rattle.qc_dist.proofs.Assigned.{assigned_here, assigned_other}
@@ -62,6 +62,18 @@ still_given ds task crane j given low = elim (cases_eq task j) [
 ]
 
 -- ---- pairs that get their order
+
+pub order_then : (inst : InstanceView) (sched : List Slot) (p : Pair) → end_of inst sched p.first ≤ start_of sched p.second
+    → Order p.first p.second ≡ order_in inst sched p
+order_then inst sched p before =
+    sym (ap (λ b. if b then Order p.first p.second else Order p.second p.first) (le-leb _ _ before))
+
+pub order_else : (inst : InstanceView) (sched : List Slot) (p : Pair) → start_of sched p.second < end_of inst sched p.first
+    → Order p.second p.first ≡ order_in inst sched p
+order_else inst sched p after =
+    sym (ap (λ b. if b then Order p.first p.second else Order p.second p.first)
+    (false_from_ne_true (nat_le (end_of inst sched p.first) (start_of sched p.second))
+    (λ t. omega (arith, leb-true (end_of inst sched p.first) (start_of sched p.second) t, after))))
 
 grows : (a b : Option ℕ) → IsNoLess a b → IsSome a → IsSome b
 grows None b more some = absurd (false≢true some)

@@ -58,3 +58,7 @@ loop-other-preserved c =
           } in
           subst (AreBelow inst ds c.args.sched.now task (other + 1)) (sym w.starts-is) is
     ]
+
+pub returns-clause-settled : goal.returns-clause-settled
+returns-clause-settled c = λ i under conflict.
+    c.loop-other.invariant.settled i (omega (arith, under, c.loop-other-test.false)) conflict

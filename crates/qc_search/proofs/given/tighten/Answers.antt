@@ -1,6 +1,5 @@
-use Rattle.std.proofs.Common.{◌∙◌, ◌-◌, arith, length}
-use Rattle.std.proofs.lemmas.List.{drop_all}
-use Rattle.qc_search.proofs.OrderLemmas.{ordered_complete, unstuck}
+use Rattle.std.proofs.Common.{◌∙◌, arith}
+use Rattle.qc_search.proofs.OrderLemmas.{all_gone, ordered_complete, unstuck}
 use Rattle.qc_search.proofs.given.tighten.Goals as goal
 
 pub prove-unreachable-requires : goal.prove-unreachable-requires
@@ -34,6 +33,4 @@ returns-clause-tightened c =
     }
 
 pub returns-clause-root : goal.returns-clause-root
-returns-clause-root c =
-    let ds = c.order_all.new.starts.decisions in
-    c.go_back.ensures.decisions ∙ drop_all (length ds - 0) ds (omega arith)
+returns-clause-root c = c.go_back.ensures.decisions ∙ all_gone c.order_all.new.starts.decisions

@@ -1,5 +1,8 @@
-use Rattle.std.proofs.Common.{[], arith}
+use Rattle.std.proofs.Common.{◌∙◌, [], ap, arith, length, sym}
+use Rattle.std.proofs.lemmas.List.{length-map}
 use Rattle.qc_model.specs.declared.direction.Direction.TheVariants.{Up}
+use Rattle.qc_model.specs.Instance.{InstanceView}
+use Rattle.qc_model.specs.OneWay.{mirror_task}
 use Rattle.qc_search.specs.Earned.{part_nodes}
 use Rattle.qc_search.proofs.TreeLemmas.{by_fault, down_cut, down_part, end_written, title_cut, up_cut, up_part}
 use Rattle.qc_search.proofs.tree.write_both.Goals as goal
@@ -42,3 +45,9 @@ returns g c = λ first begun.
     end_written c.args.up.now.inst first _ c.args.progress.now c.put_part-2.new.progress begun c.requires.few c.requires.one_way
     c.in_ok-write_line.ensures.writes c.put_part.new.progress c.in_ok-put_part.ensures
     (rw c.requires.turned at c.in_ok-put_part-2.ensures) c.put_end.result c.put_end.ensures
+
+pub put_part-requires-2-clause-count : goal.put_part-requires-2-clause-count
+put_part-requires-2-clause-count g c =
+    let up = c.args.up.now.inst in
+    c.in_ok-put_part.ensures.comes.along.count c.requires.count
+    ∙ sym (ap (λ (inst : InstanceView). length inst.tasks) c.requires.turned ∙ length-map up.tasks (mirror_task up))

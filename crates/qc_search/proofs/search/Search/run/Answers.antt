@@ -2,6 +2,7 @@ use Rattle.std.proofs.Common.{◌≡◌, ◌<◌, ◌∙◌, ℕ, All, ap, sym, 
 use Rattle.qc_model.specs.declared.schedule.Slot.{Slot}
 use Rattle.qc_search.specs.Run.{IsCutOff, IsSearched, IsSound, SearchView}
 use Rattle.qc_io.proofs.Pieces.{on_err}
+use Rattle.qc_search.proofs.NodesLemmas.{none_asked}
 use Rattle.qc_search.proofs.RunLemmas.{not_ok, told_of, told_with, went_cranes, went_searched, went_sound}
 use Rattle.qc_search.proofs.search.Search.run.Goals as goal
 
@@ -82,3 +83,9 @@ returns-clause-beside_stays g c =
     let b = c.begin-progress.ensures.begins in
     let w = (rw c.begin-progress.ensures.stays at c.in_ok-write.ensures) b.first b.progress in
     w.writes.beside_stays
+
+pub returns-in_err-write-clause-searched : goal.returns-in_err-write-clause-searched
+returns-in_err-write-clause-searched g c = none_asked _ c.from_residual.result c.from_residual.ensures.0
+
+pub returns-in_err-write-clause-sound : goal.returns-in_err-write-clause-sound
+returns-in_err-write-clause-sound g c = none_asked _ c.from_residual.result c.from_residual.ensures.0
