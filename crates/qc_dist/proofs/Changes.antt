@@ -1,5 +1,5 @@
 -- What is kept in the fields, after a decision was added and after one was undone.
-use Rattle.std.proofs.Common.{◌≡◌, ℕ, ◌+◌, ◌-◌, ◌*◌, ◌<◌, ◌≤◌, ◌⊎◌, true, false, Option, None, Some, List, [], ◌∷◌, ◌++◌, length, reverse, slice_index_or, slice_set, sym, ap, ◌∙◌, subst, arith, IsFalse}
+use Rattle.std.proofs.Common.{◌≡◌, ℕ, ◌+◌, ◌-◌, ◌*◌, ◌<◌, ◌≤◌, true, false, Option, None, Some, List, [], ◌∷◌, ◌++◌, length, reverse, slice_index_or, slice_set, sym, ap, ◌∙◌, subst, arith, IsFalse}
 use Rattle.std.proofs.lemmas.List.{length-map, length-reverse, reverse-append}
 use Rattle.qc_dist.specs.declared.decisions.Decisions.TheInside.{Inside}
 use Rattle.qc_dist.specs.declared.loads.Load.{Load}
@@ -147,6 +147,15 @@ after_unassign inst made left m room b j k job all popped is found held =
       unassigned = omega (arith, kept.unassigned, ticks_after inst ds j k fits.0 fits.2);
     })
 
+-- a task that was assigned is one of the instance, and its crane too
+pub newest_assigned :
+    (inst : InstanceView) (made left : List Made) (m : Made) (b : Beside) (j k : ℕ)
+    → AreKept inst (reverse made) b → made ≡ left ++ m ∷ [] → m.decision ≡ Assign j k
+    → (j < length inst.tasks) × (k < length inst.cranes)
+newest_assigned inst made left m b j k all popped is =
+    let kept = subst (λ ms. AreKept inst ms b) (newest_is made left m (Assign j k) popped is) all in
+    (kept.fits.0, kept.fits.1)
+
 -- tasks of which the order was decided are tasks of the instance
 pub newest_range :
     (inst : InstanceView) (made left : List Made) (m : Made) (b : Beside) (i j : ℕ)
@@ -179,3 +188,21 @@ after_unorder inst made left m room b i j at all popped is found held =
       older = kept.older.1;
       unassigned = kept.unassigned;
     })
+
+-- the decisions were the newest one and those that are left
+pub undone : (f : Inside) (left : List Made) (m : Made) (node : Node) → node_of f ≡ node → f.made.items ≡ left ++ m ∷ []
+    → node ≡ record { inst = f.inst; decisions = m.decision ∷ decisions_of (reverse left) }
+undone f left m node view popped =
+    sym view
+    ∙ ap (λ (ms : List Made). record { inst = f.inst; decisions = decisions_of ms })
+    (ap reverse popped ∙ reverse-append left (m ∷ []))
+
+pub left_fits : (inst : InstanceView) (made left : List Made) (m : Made) (b : Beside)
+    → AreKept inst (reverse made) b → made ≡ left ++ m ∷ [] → Fits inst (decisions_of (reverse left))
+left_fits inst made left m b kept popped =
+    fits_before m.decision (subst (λ (ms : List Made). Fits inst (decisions_of ms))
+    (ap reverse popped ∙ reverse-append left (m ∷ [])) kept.fits)
+  where
+    fits_before : (d : Decision) → Fits inst (d ∷ decisions_of (reverse left)) → Fits inst (decisions_of (reverse left))
+    fits_before (Assign j k) fits = fits.3
+    fits_before (Order i j) fits = fits.3

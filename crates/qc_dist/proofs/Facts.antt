@@ -1,9 +1,11 @@
 -- What decisions that fit an instance keep.
-use Rattle.std.proofs.Common.{ℕ, ◌<◌, ◌⊎◌, inl, inr, Bool, true, false, cond, nat_eq, Option, Some, List, [], ◌∷◌, length, arith, IfSome}
+use Rattle.std.proofs.Common.{◌≡◌, ◌↔◌, ◌∙◌, IsTrue, sym, subst₂, ℕ, ◌<◌, ◌⊎◌, inl, inr, Bool, true, false, cond, nat_eq, Option, Some, List, [], ◌∷◌, length, arith, IfSome}
 use Rattle.qc_model.specs.declared.decision.Decision.{Decision}
 use Rattle.qc_model.specs.declared.decision.Decision.TheVariants.{Assign, Order}
 use Rattle.qc_model.specs.Instance.{InstanceView, IsApart, Valid}
-use Rattle.qc_model.specs.Nodes.{Fits, assigned}
+use Rattle.qc_model.specs.declared.turn.Turn.TheVariants.{Free}
+use Rattle.qc_model.specs.Nodes.{Clash, Fits, assigned}
+use Rattle.qc_model.specs.Ticks.{task_distance}
 
 either_below : (b : Bool) (k n : ℕ) (o : Option ℕ) → k < n → IfSome o (λ v. v < n)
     → IfSome (cond b (Some k) o) (λ v. v < n)
@@ -23,3 +25,26 @@ pub apart_inside : (inst : InstanceView) → Valid inst → (i j : ℕ) → IsAp
     → (i < length inst.tasks) × (j < length inst.tasks)
 apart_inside inst v i j (inl at) = let r = v.apart.range i j at in (omega (arith, r.0, r.1), r.1)
 apart_inside inst v i j (inr at) = let r = v.apart.range j i at in (r.1, omega (arith, r.0, r.1))
+
+-- tasks on these two cranes clash where the cranes are near
+pub clash_is : (inst : InstanceView) (ds : List Decision) (i j v w : ℕ) → inst.turn ≡ Free → i < length inst.tasks
+    → j < length inst.tasks → ¬ (i ≡ j) → assigned ds i ≡ Some v → assigned ds j ≡ Some w → (near : Bool)
+    → (IsTrue near ↔ ((v ≡ w) ⊎ (0 < task_distance inst i v j w))) → IsTrue near ↔ Clash inst ds i j
+clash_is inst ds i j v w free low high differ one other near is = (
+  λ t. record {
+    free = free;
+    first = low;
+    second = high;
+    differ = differ;
+    first_crane = v;
+    second_crane = w;
+    of_first = one;
+    of_second = other;
+    near = is.0 t;
+  },
+  λ c. is.1 (subst₂ (λ v w. (v ≡ w) ⊎ (0 < task_distance inst i v j w))
+      (same_some (sym c.of_first ∙ one)) (same_some (sym c.of_second ∙ other)) c.near),
+)
+  where
+    same_some : {a b : ℕ} → Some a ≡ Some b → a ≡ b
+    same_some e = cc

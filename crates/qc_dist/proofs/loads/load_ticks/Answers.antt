@@ -1,4 +1,4 @@
-use Rattle.std.proofs.Common.{◌≡◌, ◌*◌, ℕ, refl, ap, arith}
+use Rattle.std.proofs.Common.{◌≡◌, ◌*◌, ℕ, refl, ap, arith, rules}
 use Rattle.qc_model.specs.Bays.{bays_up, bays_between}
 use Rattle.qc_model.specs.Instance.{crane}
 use Rattle.qc_model.proofs.OnRail.{read_bay}
@@ -17,3 +17,24 @@ returns-in-Some-clause-ticks c =
     let up : c.bays_up.result ≡ bays_up load.lowest load.highest = cc in
     let product : ℕ → ℕ = λ bays. c.args.inst.now.travel * bays in
     rw c.in-Some.is (omega (arith, ap product between, ap product up))
+
+pub travel_over-way_there-requires : goal.travel_over-way_there-requires
+travel_over-way_there-requires c = search rules
+
+pub overflow_add-result : goal.overflow_add-result
+overflow_add-result c = search rules
+
+pub travel_over-requires : goal.travel_over-requires
+travel_over-requires c = search rules
+
+pub overflow_add-result-in-Some : goal.overflow_add-result-in-Some
+overflow_add-result-in-Some c = search rules
+
+pub returns-in-None-clause-ticks : goal.returns-in-None-clause-ticks
+returns-in-None-clause-ticks c = search rules
+
+pub returns-in-None-clause-bound : goal.returns-in-None-clause-bound
+returns-in-None-clause-bound c = search rules
+
+pub returns-in-Some-clause-bound : goal.returns-in-Some-clause-bound
+returns-in-Some-clause-bound c = search rules

@@ -1,9 +1,8 @@
 use Rattle.std.proofs.Common.{reverse, arith}
-use Rattle.std.proofs.lemmas.Grind.{common_steps}
 use Rattle.qc_dist.specs.Fields.{beside}
 use Rattle.qc_dist.specs.Kept.{decisions_of}
 use Rattle.qc_dist.proofs.Bounds.{open_bounded}
-use Rattle.qc_dist.proofs.Changes.{after_unassign, after_unorder, newest_range}
+use Rattle.qc_dist.proofs.Changes.{after_unassign, after_unorder, left_fits, newest_assigned, newest_range, undone}
 use Rattle.qc_dist.proofs.decisions.Decisions.undo.Goals as goal
 
 pub overflow_add-self : goal.overflow_add-self
@@ -21,10 +20,13 @@ invariant_of-self-in-Assign c =
     c.in_ok-made.ensures.capacity
 
 pub returns-in-Assign-clause-undone : goal.returns-in-Assign-clause-undone
-returns-in-Assign-clause-undone c = grind (arith, common_steps)
+returns-in-Assign-clause-undone c =
+    undone c.self.inside c.pop.new.self.items c.in_ok-made.made _ c.self.view_is c.in_ok-made.ensures.items
 
 pub returns-in-Assign-clause-fits : goal.returns-in-Assign-clause-fits
-returns-in-Assign-clause-fits c = grind (arith, common_steps)
+returns-in-Assign-clause-fits c =
+    left_fits c.self.inside.inst c.self.inside.made.items c.pop.new.self.items c.in_ok-made.made (beside c.self.inside)
+    c.self.invariant c.in_ok-made.ensures.items
 
 pub cell-requires-clause-first : goal.cell-requires-clause-first
 cell-requires-clause-first c =
@@ -52,3 +54,32 @@ invariant_of-self-in-Order c =
     let f = c.self.inside in
     after_unorder f.inst f.made.items c.pop.new.self.items c.in_ok-made.made _ (beside f) c.in-Order.first c.in-Order.second
     c.cell.result c.self.invariant c.in_ok-made.ensures.items c.in-Order.is c.cell.ensures c.in_ok-made.ensures.capacity
+
+pub returns-in-Order-clause-undone : goal.returns-in-Order-clause-undone
+returns-in-Order-clause-undone c =
+    undone c.self.inside c.pop.new.self.items c.in_ok-made.made _ c.self.view_is c.in_ok-made.ensures.items
+
+pub returns-in-Order-clause-fits : goal.returns-in-Order-clause-fits
+returns-in-Order-clause-fits c =
+    left_fits c.self.inside.inst c.self.inside.made.items c.pop.new.self.items c.in_ok-made.made (beside c.self.inside)
+    c.self.invariant c.in_ok-made.ensures.items
+
+pub index_mut-requires : goal.index_mut-requires
+index_mut-requires c =
+    let f = c.self.inside in
+    let range = newest_assigned f.inst f.made.items c.pop.new.self.items c.in_ok-made.made (beside f)
+    c.in-Assign.task c.in-Assign.crane c.self.invariant c.in_ok-made.ensures.items c.in-Assign.is in
+    omega (arith, c.self.invariant.cranes.count, range)
+
+pub index_mut-requires-in-Assign : goal.index_mut-requires-in-Assign
+index_mut-requires-in-Assign c =
+    let f = c.self.inside in
+    let range = newest_assigned f.inst f.made.items c.pop.new.self.items c.in_ok-made.made (beside f)
+    c.in-Assign.task c.in-Assign.crane c.self.invariant c.in_ok-made.ensures.items c.in-Assign.is in
+    omega (arith, c.self.invariant.loads.count, range)
+
+pub task-requires : goal.task-requires
+task-requires c =
+    let f = c.self.inside in
+    (newest_assigned f.inst f.made.items c.pop.new.self.items c.in_ok-made.made (beside f)
+    c.in-Assign.task c.in-Assign.crane c.self.invariant c.in_ok-made.ensures.items c.in-Assign.is).0
