@@ -36,11 +36,13 @@ pub(crate) fn facts_of<'a>(
         return Ok(None);
     };
     match table_from_str(alloc, text) {
-        Ok(table) => Ok(Some(Facts {
-            file,
-            lines: key_lines(alloc, text)?,
-            table,
-        })),
+        Ok(table) => match key_lines(alloc, text) {
+            Ok(lines) => Ok(Some(Facts { file, lines, table })),
+            Err(OutOfMemory) => {
+                drop(table);
+                Err(OutOfMemory)
+            }
+        },
         Err(error) => {
             if error.is_memory() {
                 Err(OutOfMemory)
@@ -56,6 +58,14 @@ pub fn counts_decimetres(alloc: Global, bytes: &[u8]) -> Result<bool, OutOfMemor
     match facts_of(alloc, "", bytes)? {
         Some(facts) => Ok(facts.in_decimetres()),
         None => Ok(false),
+    }
+}
+
+/// A whole number that is a value.
+pub(crate) fn whole(value: Option<&Value>) -> Option<i64> {
+    match value {
+        Some(Value::Integer(number)) => Some(*number),
+        _ => None,
     }
 }
 
@@ -80,29 +90,32 @@ impl<'a> Facts<'a> {
 
     /// An element of an array by its number, from 1.
     pub(crate) fn element(&self, key: &str, number: u32) -> Option<&Value> {
-        self.elements(key).get((number as usize).checked_sub(1)?)
+        match (number as usize).checked_sub(1) {
+            Some(at) => self.elements(key).get(at),
+            None => None,
+        }
     }
 
     /// An element of an array by its number, from 1, that is a whole number.
     pub(crate) fn whole_element(&self, key: &str, number: u32) -> Option<i64> {
-        self.element(key, number)?.as_integer()
+        whole(self.element(key, number))
     }
 
     /// A whole number at a key of the ship.
     pub(crate) fn number(&self, key: &str) -> Option<i64> {
-        self.table.get(key)?.as_integer()
+        whole(self.table.get(key))
     }
 
     /// A whole number at a key of a crane.
     pub(crate) fn crane_number(&self, crane: u32, key: &str) -> Option<i64> {
-        self.element("crane", crane)?
-            .as_table()?
-            .get(key)?
-            .as_integer()
+        match self.element("crane", crane) {
+            Some(Value::Table(table)) => whole(table.get(key)),
+            _ => None,
+        }
     }
 
     /// The line of a key, of a crane or, with 0, of the ship.
-    pub(crate) fn line(&self, crane: u32, key: &str) -> Option<KeyLine<'a>> {
+    fn line(&self, crane: u32, key: &str) -> Option<&KeyLine<'a>> {
         let lines = self.lines.as_slice();
         match find_key(lines, crane, key) {
             None if key == "crane" && crane == 0 => find_key(lines, 1, key),
@@ -112,14 +125,14 @@ impl<'a> Facts<'a> {
 
     /// Where a key stands, of a crane or, with 0, of the ship; else where its crane begins.
     pub(crate) fn place(&self, crane: u32, key: &str) -> Place<'a> {
-        let line = match self.line(crane, key) {
-            Some(found) => found.line,
-            None => match self.line(crane, "crane") {
-                Some(found) if crane > 0 => found.line,
-                _ => 0,
-            },
+        let found = match self.line(crane, key) {
+            None if crane > 0 => self.line(crane, "crane"),
+            found => found,
         };
-        Place::at_line(self.file, line)
+        match found {
+            Some(found) => Place::at_line(self.file, found.line),
+            None => Place::whole(self.file),
+        }
     }
 
     /// What is written at a key; empty where that isn't on one line.

@@ -1,8 +1,24 @@
 //! The commands with their words.
 
 use qc_num::OutOfMemory;
-use qc_page::is_near;
+use qc_page::nearest;
 use std::alloc::Global;
+
+/// The names of the commands.
+const NAMES: [&str; 12] = [
+    "plan",
+    "check",
+    "tasks",
+    "show",
+    "make",
+    "free",
+    "freecheck",
+    "sheet",
+    "dispatch",
+    "watch",
+    "picture",
+    "report",
+];
 
 /// The commands, each with its operands and with its options in brackets.
 const LINES: [&str; 12] = [
@@ -30,23 +46,25 @@ pub(crate) struct Form {
     pub(crate) line: &'static str,
 }
 
-/// The command of a line.
-fn form_in(line: &'static str) -> Form {
-    let (name, words) = line.split_once(' ').unwrap_or((line, ""));
-    let (operands, _) = words.split_once(" [").unwrap_or((words, ""));
-    Form {
-        name,
-        operands,
-        line,
+/// The operands in the words behind a command's name.
+fn operands_in(words: &'static str) -> &'static str {
+    match words.split_once(" [") {
+        Some((operands, _)) => operands,
+        None => words,
     }
 }
 
 /// The command of this name.
 pub(crate) fn form_of(name: &str) -> Option<Form> {
     for line in &LINES {
-        let form = form_in(line);
-        if form.name == name {
-            return Some(form);
+        if let Some((first, words)) = line.split_once(' ')
+            && first == name
+        {
+            return Some(Form {
+                name: first,
+                operands: operands_in(words),
+                line,
+            });
         }
     }
     None
@@ -54,13 +72,7 @@ pub(crate) fn form_of(name: &str) -> Option<Form> {
 
 /// The name of the first command that is near.
 pub(crate) fn near_command(alloc: Global, word: &str) -> Result<Option<&'static str>, OutOfMemory> {
-    for line in &LINES {
-        let form = form_in(line);
-        if is_near(alloc, word, form.name)? {
-            return Ok(Some(form.name));
-        }
-    }
-    Ok(None)
+    nearest(alloc, word, &NAMES)
 }
 
 impl Form {
@@ -74,8 +86,8 @@ impl Form {
         self.operands.split(' ').count()
     }
 
-    /// An operand by its number, from 0.
-    pub(crate) fn operand(&self, at: usize) -> Option<&'static str> {
-        self.operands.split(' ').nth(at)
+    /// An operand by its number, from 0; empty where there is none.
+    pub(crate) fn operand(&self, at: usize) -> &'static str {
+        self.operands.split(' ').nth(at).unwrap_or("")
     }
 }

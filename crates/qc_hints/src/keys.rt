@@ -25,11 +25,12 @@ pub(crate) fn is_of_crane(key: Key) -> bool {
     CRANE_KEYS.contains(&key.text())
 }
 
+/// The keys of a crane or, with 0, of the ship.
+pub(crate) fn keys_of(crane: u32) -> &'static [&'static str] {
+    if crane == 0 { &SHIP_KEYS } else { &CRANE_KEYS }
+}
+
 /// Whether a name is a key of a crane or, with 0, of the ship.
 pub(crate) fn is_known(crane: u32, name: &str) -> bool {
-    if crane == 0 {
-        SHIP_KEYS.contains(&name)
-    } else {
-        CRANE_KEYS.contains(&name)
-    }
+    keys_of(crane).contains(&name)
 }

@@ -1,7 +1,7 @@
 //! Notes: what was taken as it stands and likely isn't meant so.
 
 use crate::facts::{Facts, facts_of};
-use crate::keys::{CRANE_KEYS, SHIP_KEYS, is_known};
+use crate::keys::{is_known, keys_of};
 use crate::ordinals::ordinal;
 use qc_num::OutOfMemory;
 use qc_page::{Page, Place, nearest};
@@ -55,55 +55,33 @@ fn say_further(page: &mut Page, crane: u32) {
         .end()
 }
 
-/// What may be meant by a key that isn't read.
-#[derive(Clone, Copy)]
-enum Meant<'a> {
-    Nothing,
-    /// A key of the ship below a crane.
-    OfShip,
-    /// A key of a crane above the first.
-    OfCrane,
-    Near(&'a str),
-}
-
-/// Ends a line with what may be meant.
-fn end_meant(page: &mut Page, meant: Meant<'_>) {
-    match meant {
-        Meant::Nothing => page.end(),
-        Meant::OfShip => page
-            .text("; keys of the ship stand above the first [[crane]]")
-            .end(),
-        Meant::OfCrane => page
-            .text("; keys of a crane stand below its line [[crane]]")
-            .end(),
-        Meant::Near(key) => page.text("; the nearest is ").text(key).end(),
-    }
-}
-
-/// The nearest of some keys.
-fn near_key<'a>(alloc: Global, key: &str, keys: &[&'a str]) -> Result<Meant<'a>, OutOfMemory> {
-    match nearest(alloc, key, keys)? {
-        Some(near) => Ok(Meant::Near(near)),
-        None => Ok(Meant::Nothing),
-    }
-}
-
-/// What may be meant by a key of a crane or, with 0, of the ship.
-fn meant_by(alloc: Global, crane: u32, key: &str) -> Result<Meant<'static>, OutOfMemory> {
-    if crane == 0 && CRANE_KEYS.contains(&key) {
-        Ok(Meant::OfCrane)
-    } else if crane > 0 && SHIP_KEYS.contains(&key) {
-        Ok(Meant::OfShip)
-    } else if crane == 0 {
-        near_key(alloc, key, &SHIP_KEYS)
+/// The key of a crane or, with 0, of the ship that may be meant by one that isn't read: none where that one is a key of
+/// the other.
+fn near_key(alloc: Global, crane: u32, key: &str) -> Result<Option<&'static str>, OutOfMemory> {
+    if is_of_other(crane, key) {
+        Ok(None)
     } else {
-        near_key(alloc, key, &CRANE_KEYS)
+        nearest(alloc, key, keys_of(crane))
+    }
+}
+
+/// Whether a key of a crane or, with 0, of the ship is one of the other.
+fn is_of_other(crane: u32, key: &str) -> bool {
+    is_known(if crane == 0 { 1 } else { 0 }, key)
+}
+
+/// Where a key stands that is one of the ship below a crane or, with 0, one of a crane above the first.
+fn due_place(crane: u32) -> &'static str {
+    if crane == 0 {
+        "; keys of a crane stand below its line [[crane]]"
+    } else {
+        "; keys of the ship stand above the first [[crane]]"
     }
 }
 
 /// Says that a key of a crane or, with 0, of the ship isn't read.
 fn say_key(page: &mut Page, place: Place<'_>, crane: u32, key: &str) {
-    let Some(meant) = page.unless_short(meant_by(page.alloc(), crane, key)) else {
+    let Some(near) = page.unless_short(near_key(page.alloc(), crane, key)) else {
         return;
     };
     page.note(place).text("the key ").shown(key.as_bytes());
@@ -114,7 +92,12 @@ fn say_key(page: &mut Page, place: Place<'_>, crane: u32, key: &str) {
             .text(ordinal(crane))
             .text(" [[crane]] is no key of a crane and isn't read");
     }
-    end_meant(page, meant)
+    if let Some(near) = near {
+        page.text("; the nearest is ").text(near);
+    } else if is_of_other(crane, key) {
+        page.text(due_place(crane));
+    }
+    page.end()
 }
 
 /// Says what of the cranes isn't read, and which stand far off.
@@ -162,24 +145,28 @@ fn say_off(page: &mut Page, facts: &Facts<'_>, crane: u32, bay: i64, last: i64, 
 
 /// Says which of two keys isn't read beside the other.
 fn say_unread(page: &mut Page, facts: &Facts<'_>) {
-    if facts.in_decimetres() && facts.table.contains_key("margin") {
-        page.note(facts.place(0, "margin"))
-            .text("margin isn't read beside places; clear takes its place")
-            .end();
-    }
-    if !facts.in_decimetres() && facts.table.contains_key("clear") {
-        page.note(facts.place(0, "clear"))
-            .text("clear isn't read without places; margin takes its place")
-            .end();
+    let (key, why) = if facts.in_decimetres() {
+        (
+            "margin",
+            "margin isn't read beside places; clear takes its place",
+        )
+    } else {
+        (
+            "clear",
+            "clear isn't read without places; margin takes its place",
+        )
+    };
+    if facts.table.contains_key(key) {
+        page.note(facts.place(0, key)).text(why).end()
     }
 }
 
 /// Says that cranes may come very near to each other.
 fn say_clear(page: &mut Page, facts: &Facts<'_>) {
-    let (Some(clear), true) = (facts.number("clear"), facts.in_decimetres()) else {
+    let Some(clear) = facts.number("clear") else {
         return;
     };
-    if clear >= LEAST_CLEAR {
+    if clear >= LEAST_CLEAR || !facts.in_decimetres() {
         return;
     }
     page.note(facts.place(0, "clear"))

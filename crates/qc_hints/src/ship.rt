@@ -59,15 +59,15 @@ fn crane_of(fault: ShipFault) -> u32 {
 }
 
 /// A line of the ship or of a crane whose key is none but near to this one.
-fn near_line<'a>(
+fn near_line<'b, 'a>(
     alloc: Global,
-    facts: &Facts<'a>,
+    facts: &'b Facts<'a>,
     crane: u32,
     key: &str,
-) -> Result<Option<KeyLine<'a>>, OutOfMemory> {
+) -> Result<Option<&'b KeyLine<'a>>, OutOfMemory> {
     for line in &facts.lines {
         if line.crane == crane && !is_known(crane, line.key) && is_near(alloc, line.key, key)? {
-            return Ok(Some(*line));
+            return Ok(Some(line));
         }
     }
     Ok(None)

@@ -109,18 +109,21 @@ fn say_move(page: &mut Page, table: &Table<'_>, number: u32) {
 /// Why a text has no cell's length, and what to do.
 fn why_no_cell(field: &[u8]) -> &'static str {
     if field.is_empty() {
-        "it is missing"
-    } else if !field.trim_ascii().eq(field) {
-        "there are spaces around it"
-    } else if field.len() == 5 && are_digits(field) {
-        "its leading 0 is lost, as a spreadsheet does that reads cells as numbers: import the column as text"
-    } else if field.contains(&b'E') || field.contains(&b'e') || field.contains(&b'.') {
-        "a spreadsheet took it for a number: import the column as text"
-    } else if field.contains(&b'-') || field.contains(&b'/') || field.contains(&b' ') {
-        "bay, row and tier stand without signs between them"
-    } else {
-        "it has another length"
+        return "it is missing";
     }
+    if !field.trim_ascii().eq(field) {
+        return "there are spaces around it";
+    }
+    if field.len() == 5 && are_digits(field) {
+        return "its leading 0 is lost, as a spreadsheet does that reads cells as numbers: import the column as text";
+    }
+    if field.contains(&b'E') || field.contains(&b'e') || field.contains(&b'.') {
+        return "a spreadsheet took it for a number: import the column as text";
+    }
+    if field.contains(&b'-') || field.contains(&b'/') || field.contains(&b' ') {
+        return "bay, row and tier stand without signs between them";
+    }
+    "it has another length"
 }
 
 /// What is wrong with the text of a cell.
@@ -190,33 +193,31 @@ fn say_no_hatch(page: &mut Page, table: &Table<'_>, number: u32, ship: &Ship) {
 
 /// Says which hatches are nearest to a bay.
 fn say_nearest(page: &mut Page, ship: &Ship, bay: u16) {
-    let (mut below, mut above) = (None, None);
+    // 0 where there is none, which is no hatch.
+    let (mut below, mut above) = (0u16, 0u16);
     for hatch in ship.hatches() {
         if *hatch < bay {
-            below = Some(*hatch);
-        } else if above.is_none() {
-            above = Some(*hatch);
+            below = *hatch;
+        } else if above == 0 {
+            above = *hatch;
         }
     }
-    match (below, above) {
-        (Some(below), Some(above)) => page
+    if below > 0 && above > 0 {
+        return page
             .line()
             .text("the nearest hatches are ")
             .count(u64::from(below))
             .text(" and ")
             .count(u64::from(above))
-            .end(),
-        (Some(only), None) => page
-            .line()
-            .text("the last hatch is ")
-            .count(u64::from(only))
-            .end(),
-        (None, Some(only)) => page
-            .line()
-            .text("the first hatch is ")
-            .count(u64::from(only))
-            .end(),
-        (None, None) => {}
+            .end();
+    }
+    let (what, only) = if below > 0 {
+        ("the last hatch is ", below)
+    } else {
+        ("the first hatch is ", above)
+    };
+    if only > 0 {
+        page.line().text(what).count(u64::from(only)).end()
     }
 }
 

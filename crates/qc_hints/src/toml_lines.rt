@@ -17,8 +17,8 @@ pub(crate) struct KeyLine<'a> {
 
 /// Whether each letter of a name may stand in one without quotes.
 fn is_plain(name: &str) -> bool {
-    for byte in name.bytes() {
-        if !byte.is_ascii_alphabetic() && byte != b'_' && byte != b'-' {
+    for byte in name.as_bytes() {
+        if !byte.is_ascii_alphabetic() && *byte != b'_' && *byte != b'-' {
             return false;
         }
     }
@@ -27,29 +27,23 @@ fn is_plain(name: &str) -> bool {
 
 /// The name of a line that begins a table, in one bracket or two.
 fn header_of(line: &str) -> Option<&str> {
-    let inner = line.strip_prefix('[')?;
+    let Some(inner) = line.strip_prefix('[') else {
+        return None;
+    };
     let inner = inner.strip_prefix('[').unwrap_or(inner);
-    let (name, _) = inner.split_once(']')?;
+    let Some((name, _)) = inner.split_once(']') else {
+        return None;
+    };
     let name = name.trim();
     if is_plain(name) { Some(name) } else { None }
 }
 
-/// The key that a line names, and its value; that of a line which begins a table is empty.
-fn told_by(line: &str) -> Option<(&str, &str)> {
-    if line.starts_with('#') {
-        return None;
+/// What stands behind an equals sign, without a comment.
+fn without_comment(value: &str) -> &str {
+    match value.split_once('#') {
+        Some((value, _)) => value.trim(),
+        None => value.trim(),
     }
-    match header_of(line) {
-        Some(name) => Some((name, "")),
-        None => pair_of(line),
-    }
-}
-
-/// The key and the value of a line.
-fn pair_of(line: &str) -> Option<(&str, &str)> {
-    let (key, value) = line.split_once('=')?;
-    let value = value.split('#').next().unwrap_or(value);
-    Some((without_quotes(key.trim()), value.trim()))
 }
 
 /// A key without the quotes around it.
@@ -58,9 +52,20 @@ fn without_quotes(key: &str) -> &str {
     key.strip_suffix('"').unwrap_or(key)
 }
 
-/// What a line with this number says, behind so many lines `[[crane]]`; none where it gives no key a value.
+/// What a line with this number says, behind so many lines `[[crane]]`; none where it gives no key a value. The value
+/// of a line that begins a table is empty.
 fn key_line(text: &str, line: usize, crane: u32) -> Option<KeyLine<'_>> {
-    let (key, value) = told_by(text.trim())?;
+    let text = text.trim();
+    if text.starts_with('#') {
+        return None;
+    }
+    let (key, value) = match header_of(text) {
+        Some(name) => (name, ""),
+        None => match text.split_once('=') {
+            Some((key, value)) => (without_quotes(key.trim()), without_comment(value)),
+            None => return None,
+        },
+    };
     let crane = if key == "crane" && value.is_empty() {
         crane.saturating_add(1)
     } else {
@@ -80,21 +85,28 @@ pub(crate) fn key_lines(alloc: Global, text: &str) -> Result<Vec<KeyLine<'_>>, O
     let mut lines = Vec::new(alloc);
     let mut number = 0usize;
     let mut crane = 0u32;
-    for line in text.split('\n') {
+    for line in text.lines() {
         number = number.saturating_add(1);
         if let Some(line) = key_line(line, number, crane) {
             crane = line.crane;
-            lines.push(line)?;
+            if lines.push(line).is_err() {
+                drop(lines);
+                return Err(OutOfMemory);
+            }
         }
     }
     Ok(lines)
 }
 
 /// The line of a key, of the ship or of a crane.
-pub(crate) fn find_key<'a>(lines: &[KeyLine<'a>], crane: u32, key: &str) -> Option<KeyLine<'a>> {
+pub(crate) fn find_key<'b, 'a>(
+    lines: &'b [KeyLine<'a>],
+    crane: u32,
+    key: &str,
+) -> Option<&'b KeyLine<'a>> {
     for line in lines {
         if line.crane == crane && line.key == key {
-            return Some(*line);
+            return Some(line);
         }
     }
     None

@@ -35,12 +35,14 @@ fn say_number(page: &mut Page, name: &str, value: &str, least: u32, most: u32) -
 /// Says which two of the names of a command that plans are one.
 fn say_equal(page: &mut Page, form: &Form, sorted: &Sorted<'_>) {
     for (at, name) in sorted.operands.iter().enumerate() {
-        let this = form.operand(at).unwrap_or("");
-        if sorted.from == Some(*name) {
+        let this = form.operand(at);
+        if let Some(from) = sorted.from
+            && from == *name
+        {
             return say_from(page, this, name);
         }
         if let Some(later) = equal_behind(sorted, at, name) {
-            return say_same(page, form, this, form.operand(later).unwrap_or(""), name);
+            return say_same(page, form, this, form.operand(later), name);
         }
     }
 }
@@ -194,7 +196,8 @@ fn say_options(page: &mut Page, form: &Form, sorted: &Sorted<'_>) -> bool {
 
 /// Says how many operands are missing or too many, and answers whether any are.
 fn say_count(page: &mut Page, form: &Form, sorted: &Sorted<'_>) -> bool {
-    if let Some(missing) = form.operand(sorted.operands.len()) {
+    let missing = form.operand(sorted.operands.len());
+    if !missing.is_empty() {
         say_few(page, form, missing);
     } else if let Some(word) = sorted.operands.get(form.count()) {
         say_many(page, form, word);
@@ -247,14 +250,15 @@ fn say_values(page: &mut Page, form: &Form, sorted: &Sorted<'_>) {
     if form.name == "make" {
         return say_made(page, sorted);
     }
-    if let Some(nodes) = sorted.nodes {
-        if say_number(page, "N behind --nodes", nodes, 0, 100_000) {
-            return;
-        }
+    if !form.has_options() {
+        return;
     }
-    if form.name == "plan" || form.name == "free" {
-        return say_equal(page, form, sorted);
+    if let Some(nodes) = sorted.nodes
+        && say_number(page, "N behind --nodes", nodes, 0, 100_000)
+    {
+        return;
     }
+    say_equal(page, form, sorted)
 }
 
 /// Says that no word stands behind one that asks about the program.
@@ -262,20 +266,21 @@ fn say_about(page: &mut Page, word: &str, next: Option<&String>) {
     if is_version(word) {
         return say_version(page, word);
     }
+    let next = match next {
+        Some(next) => next.as_str(),
+        None => "",
+    };
+    let (name, what) = match form_of(next) {
+        Some(form) => (form.name, form.name),
+        None => ("COMMAND", "one command"),
+    };
     page.line()
         .word(word)
-        .text(" stands without other words; qc ");
-    if let Some(next) = next
-        && let Some(form) = form_of(next.as_str())
-    {
-        return page
-            .text(form.name)
-            .text(" --help tells what ")
-            .text(form.name)
-            .text(" does")
-            .end();
-    }
-    page.text("COMMAND --help tells what one command does")
+        .text(" stands without other words; qc ")
+        .text(name)
+        .text(" --help tells what ")
+        .text(what)
+        .text(" does")
         .end()
 }
 
