@@ -4,7 +4,7 @@ use crate::doing::{Doing, bays_needed, bays_short, done_by, travel};
 use qc_gantt::read_plan;
 use qc_model::{Break, Crane, Direction, Instance, Rule, Schedule, first_break};
 use qc_num::{Bay, Tick};
-use qc_page::{Page, table_of, text_of};
+use qc_page::{Page, Table, table_of, text_of};
 use std::alloc::Global;
 
 /// The tasks at which a plan breaks a rule.
@@ -28,17 +28,31 @@ fn broken_by(alloc: Global, bytes: &[u8], inst: &Instance) -> Option<(Break, Sch
 /// Says which rule a plan of an instance breaks, and when the task may start. Says nothing where it breaks none, or
 /// can't be read.
 pub fn say_broken(page: &mut Page, file: &str, bytes: &[u8], inst: &Instance, in_decimetres: bool) {
-    let Some((broken, sched)) = broken_by(page.alloc(), bytes, inst) else {
+    if let Some((broken, sched)) = broken_by(page.alloc(), bytes, inst) {
+        let most = u32::from(inst.task_count()).saturating_add(1);
+        let table = table_of(page.alloc(), file, bytes, most);
+        if let Some(table) = page.unless_short(table) {
+            say_break(page, &table, inst, in_decimetres, &sched, broken);
+            drop(table);
+        }
+        drop(sched)
+    }
+}
+
+/// Says how a schedule, whose plan is this table, breaks a rule.
+fn say_break(
+    page: &mut Page,
+    table: &Table<'_>,
+    inst: &Instance,
+    in_decimetres: bool,
+    sched: &Schedule,
+    broken: Break,
+) {
+    let Some(one) = done_by(inst, sched, table, broken.first) else {
         return;
     };
-    let most = u32::from(inst.task_count()).saturating_add(1);
-    let Some(table) = page.unless_short(table_of(page.alloc(), file, bytes, most)) else {
-        return;
-    };
-    let (Some(one), Some(other)) = (
-        done_by(inst, &sched, &table, broken.first),
-        done_by(inst, &sched, &table, broken.second),
-    ) else {
+    let Some(other) = done_by(inst, sched, table, broken.second) else {
+        drop(one);
         return;
     };
     say_rule(
@@ -50,20 +64,29 @@ pub fn say_broken(page: &mut Page, file: &str, bytes: &[u8], inst: &Instance, in
             one: &one,
             other: &other,
         },
-    )
+    );
+    drop(other);
+    drop(one)
 }
 
 /// Says how a rule is broken.
 fn say_rule(page: &mut Page, rule: Rule, story: Story<'_>) {
+    let (early, late) = story.in_order();
     match rule {
         Rule::Reach => say_reach(page, story),
         Rule::Ready => say_ready(page, story),
         Rule::Travel => say_travel(page, story),
         Rule::Before => say_before(page, story),
-        Rule::Apart => say_apart(page, story),
+        Rule::Apart => say_behind(
+            page,
+            early,
+            late,
+            " goes on to ",
+            "; their hatches are apart, so they are never worked at the same time",
+        ),
         Rule::Margin => say_margin(page, story),
         Rule::Berth => say_berth(page, story),
-        Rule::OneWay => say_one_way(page, story),
+        Rule::OneWay => say_one_way(page, early, late),
     }
 }
 
@@ -74,6 +97,40 @@ impl<'a> Story<'a> {
             (self.other, self.one)
         } else {
             (self.one, self.other)
+        }
+    }
+
+    /// Ends the line with the way of a task's crane, which is at a bay until a tick, and the start that it allows.
+    fn end_with_way(
+        &self,
+        page: &mut Page,
+        task: &Doing<'_>,
+        bay: Bay,
+        until: Tick,
+        goes: &str,
+        behind: &str,
+    ) {
+        let bays = Tick::from(bay.abs_diff(task.bay()));
+        let way = travel(self.inst, bays);
+        page.text(goes)
+            .rail(bays, self.in_decimetres)
+            .text(" in ")
+            .ticks(way)
+            .text(behind);
+        task.end_with_start(page, until.saturating_add(way))
+    }
+
+    /// Goes on with how far two tasks are apart, and how far they should be.
+    fn add_apart(&self, page: &mut Page, early: &Doing<'_>, late: &Doing<'_>) {
+        let bays = Tick::from(early.bay().abs_diff(late.bay()));
+        page.text(" stand ")
+            .rail(bays, self.in_decimetres)
+            .text(" apart");
+        if are_crossed(early, late) {
+            page.text(" in the wrong order, and cranes can't pass each other");
+        } else {
+            let needed = bays_needed(self.inst, early.crane_number, late.crane_number);
+            page.text(", ").count(needed).text(" are needed");
         }
     }
 
@@ -140,8 +197,6 @@ fn say_reach(page: &mut Page, story: Story<'_>) {
 /// Says when a crane can be at a task.
 fn say_ready(page: &mut Page, story: Story<'_>) {
     let (task, ready) = (story.one, story.one.crane.ready);
-    let bays = Tick::from(task.crane.bay.abs_diff(task.bay()));
-    let way = travel(story.inst, bays);
     page.on(task.place)
         .text(task.name())
         .text(" starts at ")
@@ -149,19 +204,13 @@ fn say_ready(page: &mut Page, story: Story<'_>) {
         .text("; ")
         .word(task.crane_name())
         .text(" is ready at ")
-        .count(ready)
-        .text(" and goes ")
-        .rail(bays, story.in_decimetres)
-        .text(" in ")
-        .ticks(way);
-    task.end_with_start(page, ready.saturating_add(way))
+        .count(ready);
+    story.end_with_way(page, task, task.crane.bay, ready, " and goes ", "")
 }
 
 /// Says when a crane can be at its next task.
 fn say_travel(page: &mut Page, story: Story<'_>) {
     let (early, late) = story.in_order();
-    let bays = Tick::from(early.bay().abs_diff(late.bay()));
-    let way = travel(story.inst, bays);
     page.on(late.place)
         .word(late.crane_name())
         .text(" does ")
@@ -171,13 +220,15 @@ fn say_travel(page: &mut Page, story: Story<'_>) {
         .text(" and ")
         .text(late.name())
         .text(" from ")
-        .count(late.start)
-        .text(", and goes ")
-        .rail(bays, story.in_decimetres)
-        .text(" in ")
-        .ticks(way)
-        .text(" between");
-    late.end_with_start(page, early.end().saturating_add(way))
+        .count(late.start);
+    story.end_with_way(
+        page,
+        late,
+        early.bay(),
+        early.end(),
+        ", and goes ",
+        " between",
+    )
 }
 
 /// Says when a task may start that comes behind another.
@@ -187,30 +238,21 @@ fn say_before(page: &mut Page, story: Story<'_>) {
     } else {
         (story.one, story.other)
     };
+    say_behind(page, first, second, " is before it and ends at ", "")
+}
+
+/// Says when a task may start that can't before another's end: words ahead of that end, and why.
+fn say_behind(page: &mut Page, first: &Doing<'_>, second: &Doing<'_>, until: &str, why: &str) {
     page.on(second.place)
         .text(second.name())
         .text(" starts at ")
         .count(second.start)
         .text(", and ")
         .text(first.name())
-        .text(" is before it and ends at ")
-        .count(first.end());
+        .text(until)
+        .count(first.end())
+        .text(why);
     second.end_with_start(page, first.end())
-}
-
-/// Says when a task may start that is never done at the same time as another.
-fn say_apart(page: &mut Page, story: Story<'_>) {
-    let (early, late) = story.in_order();
-    page.on(late.place)
-        .text(late.name())
-        .text(" starts at ")
-        .count(late.start)
-        .text(", and ")
-        .text(early.name())
-        .text(" goes on to ")
-        .count(early.end())
-        .text("; their hatches are apart, so they are never worked at the same time");
-    late.end_with_start(page, early.end())
 }
 
 /// Whether two cranes, of these numbers, would have to stand in the wrong order.
@@ -222,41 +264,35 @@ fn are_crossed(one: &Doing<'_>, other: &Doing<'_>) -> bool {
 /// Says when a task may start that is too near to another crane's.
 fn say_margin(page: &mut Page, story: Story<'_>) {
     let (early, late) = story.in_order();
+    page.on(late.place);
+    late.add_with(page, ", from ", late.start);
+    page.text(" and ");
+    early.add_with(page, ", to ", early.end());
+    story.add_apart(page, early, late);
     let (v, w) = (early.crane_number, late.crane_number);
     let short = bays_short(story.inst, v, early.bay(), w, late.bay());
     let least = early.end().saturating_add(travel(story.inst, short));
-    let bays = Tick::from(early.bay().abs_diff(late.bay()));
-    page.on(late.place);
-    late.add_from_start(page);
-    page.text(" and ");
-    early.add_to_end(page);
-    page.text(" stand ")
-        .rail(bays, story.in_decimetres)
-        .text(" apart");
-    if are_crossed(early, late) {
-        page.text(" in the wrong order, and cranes can't pass each other");
-    } else {
-        let needed = bays_needed(story.inst, v, w);
-        page.text(", ").count(needed).text(" are needed");
-    }
     late.end_with_start(page, least)
 }
 
 /// The crane that keeps a task longest from its place, since it can't leave its own first one, and when the task may
 /// start for it.
 fn crane_in_way<'a>(story: Story<'a>) -> Option<(&'a Crane, Tick)> {
-    let task = story.one;
+    let (inst, task) = (story.inst, story.one);
     let (mut found, mut most) = (None, task.start);
-    for (number, crane) in story.inst.cranes().iter().enumerate() {
-        let number = u16::try_from(number).unwrap_or(task.crane_number);
-        let short = bays_short(story.inst, number, crane.bay, task.crane_number, task.bay());
-        let least = crane.ready.saturating_add(travel(story.inst, short));
+    for number in 0..inst.crane_count() {
+        let crane = inst.crane(number);
+        let short = bays_short(inst, number, crane.bay, task.crane_number, task.bay());
+        let least = crane.ready.saturating_add(travel(inst, short));
         if number != task.crane_number && short > 0 && least > most {
             found = Some(crane);
             most = least;
         }
     }
-    Some((found?, most))
+    match found {
+        Some(crane) => Some((crane, most)),
+        None => None,
+    }
 }
 
 /// Says when a task may start that is too near to a crane that can't leave its first place yet.
@@ -266,7 +302,7 @@ fn say_berth(page: &mut Page, story: Story<'_>) {
     };
     let task = story.one;
     page.on(task.place);
-    task.add_from_start(page);
+    task.add_with(page, ", from ", task.start);
     page.text(" is too near to ")
         .word(text_of(crane.name.as_bytes()))
         .text(", which stands at ")
@@ -278,8 +314,7 @@ fn say_berth(page: &mut Page, story: Story<'_>) {
 }
 
 /// Says which task turns the way of the cranes round.
-fn say_one_way(page: &mut Page, story: Story<'_>) {
-    let (early, late) = story.in_order();
+fn say_one_way(page: &mut Page, early: &Doing<'_>, late: &Doing<'_>) {
     page.on(late.place)
         .text("the plan can be worked, but its cranes go to and fro: from ")
         .text(early.name())

@@ -2,7 +2,7 @@
 
 use qc_model::Crane;
 use qc_num::OutOfMemory;
-use qc_page::{Page, Place, nearest, text_of};
+use qc_page::{Page, Place, is_near, text_of};
 use std::alloc::Global;
 
 /// The name of a crane.
@@ -16,11 +16,13 @@ fn nearest_crane<'a>(
     name: &str,
     cranes: &'a [Crane],
 ) -> Result<Option<&'a str>, OutOfMemory> {
-    let mut names = Vec::new(alloc);
     for crane in cranes {
-        names.push(name_of(crane))?;
+        let other = name_of(crane);
+        if is_near(alloc, name, other)? {
+            return Ok(Some(other));
+        }
     }
-    nearest(alloc, name, names.as_slice())
+    Ok(None)
 }
 
 /// Says that a name is that of no crane.

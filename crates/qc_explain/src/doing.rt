@@ -24,22 +24,31 @@ pub(crate) fn done_by<'a>(
     table: &Table<'a>,
     number: u16,
 ) -> Option<Doing<'a>> {
-    let task = *inst.tasks().get(number as usize)?;
-    let slot = sched.slots().get(number as usize)?;
+    let Some(task) = inst.tasks().get(number as usize) else {
+        return None;
+    };
+    let Some(slot) = sched.slots().get(number as usize) else {
+        return None;
+    };
+    let Some(crane) = inst.cranes().get(slot.crane as usize) else {
+        return None;
+    };
+    let name = task.text();
+    let place = place_of(table, name.as_bytes());
     Some(Doing {
-        task,
-        name: task.text(),
+        task: *task,
+        name,
         number,
-        crane: inst.cranes().get(slot.crane as usize)?,
+        crane,
         crane_number: slot.crane,
         start: slot.start,
-        place: place_of(table, task),
+        place,
     })
 }
 
-/// Where the record of a task stands.
-fn place_of<'a>(table: &Table<'a>, task: Task) -> Place<'a> {
-    match table.record_of(task.text().as_bytes()) {
+/// Where the record of a task with this name stands.
+fn place_of<'a>(table: &Table<'a>, name: &[u8]) -> Place<'a> {
+    match table.record_of(name) {
         Some(number) => table.place(number),
         None => Place::whole(table.file),
     }
@@ -66,23 +75,13 @@ impl<'a> Doing<'a> {
         text_of(self.crane.name.as_bytes())
     }
 
-    /// Goes on with the task, its crane and its start.
-    pub(crate) fn add_from_start(&self, page: &mut Page) {
+    /// Goes on with the task, its crane and a tick, behind the words that lead to it.
+    pub(crate) fn add_with(&self, page: &mut Page, words: &str, tick: Tick) {
         page.text(self.name())
             .text(" (")
             .word(self.crane_name())
-            .text(", from ")
-            .count(self.start)
-            .text(")");
-    }
-
-    /// Goes on with the task, its crane and its end.
-    pub(crate) fn add_to_end(&self, page: &mut Page) {
-        page.text(self.name())
-            .text(" (")
-            .word(self.crane_name())
-            .text(", to ")
-            .count(self.end())
+            .text(words)
+            .count(tick)
             .text(")");
     }
 

@@ -52,7 +52,7 @@ fn is_open(bytes: &[u8], number: usize) -> bool {
 
 /// Why a line is none of a log.
 fn why_no_line(line: &[u8]) -> &'static str {
-    let places = word(line, 2);
+    let (time, places) = (word(line, 0), word(line, 2));
     if line.trim_ascii().is_empty() {
         "the line is empty: delete it"
     } else if line.ends_with(b"\r") {
@@ -65,11 +65,11 @@ fn why_no_line(line: &[u8]) -> &'static str {
         || places.is_empty()
     {
         "there is one space between the three and none besides"
-    } else if word(line, 0).contains(&b':') {
+    } else if time.contains(&b':') {
         "times are counted in ticks, and not by a clock"
-    } else if places.contains(&b'.') || word(line, 0).contains(&b'.') {
+    } else if places.contains(&b'.') || time.contains(&b'.') {
         "times and places are whole numbers"
-    } else if !are_digits(word(line, 0)) {
+    } else if !are_digits(time) {
         "the time stands first, then the crane and its place"
     } else {
         "it isn't a time, a crane's name and a place"

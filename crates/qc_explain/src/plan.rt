@@ -31,14 +31,19 @@ pub fn say_plan(page: &mut Page, file: &str, bytes: &[u8], inst: &Instance) {
         return;
     };
     let table = table_of(page.alloc(), file, bytes, fault.number);
-    let Some(table) = page.unless_short(table) else {
-        return;
-    };
+    if let Some(table) = page.unless_short(table) {
+        say_fault(page, &table, fault, inst);
+        drop(table)
+    }
+}
+
+/// Says what is wrong with a record.
+fn say_fault(page: &mut Page, table: &Table<'_>, fault: PlanFault, inst: &Instance) {
     let number = fault.number;
     match fault.kind {
-        PlanKind::Header => say_header(page, &table, HEADER, Sort::Plan),
-        PlanKind::Fields => say_fields(page, &table, number, HEADER),
-        PlanKind::UnknownTask => say_task(page, &table, number, inst),
+        PlanKind::Header => say_header(page, table, HEADER, Sort::Plan),
+        PlanKind::Fields => say_fields(page, table, number, HEADER),
+        PlanKind::UnknownTask => say_task(page, table, number, inst),
         PlanKind::UnknownCrane => {
             say_no_crane(
                 page,
@@ -47,10 +52,10 @@ pub fn say_plan(page: &mut Page, file: &str, bytes: &[u8], inst: &Instance) {
                 inst.cranes(),
             )
         }
-        PlanKind::Number => say_number(page, &table, number),
-        PlanKind::EndWrong => say_end(page, &table, number, inst),
-        PlanKind::TaskTwice => say_twice(page, &table, number),
-        PlanKind::TaskMissing => say_missing(page, &table, inst),
+        PlanKind::Number => say_number(page, table, number),
+        PlanKind::EndWrong => say_end(page, table, number, inst),
+        PlanKind::TaskTwice => say_twice(page, table, number),
+        PlanKind::TaskMissing => say_missing(page, table, inst),
     }
 }
 

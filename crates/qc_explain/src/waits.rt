@@ -21,14 +21,8 @@ fn is_left(dispatch: &Dispatch, task: u16) -> bool {
 /// When the plan starts a task, if it has this crane do it.
 fn start_by(slots: &[Slot], task: u16, crane: u16) -> Option<Tick> {
     match slots.get(task as usize) {
-        Some(slot) => {
-            if slot.crane == crane {
-                Some(slot.start)
-            } else {
-                None
-            }
-        }
-        None => None,
+        Some(slot) if slot.crane == crane => Some(slot.start),
+        _ => None,
     }
 }
 
