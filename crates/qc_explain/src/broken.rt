@@ -7,15 +7,6 @@ use qc_num::{Bay, Tick};
 use qc_page::{Page, Table, table_of, text_of};
 use std::alloc::Global;
 
-/// The tasks at which a plan breaks a rule.
-#[derive(Clone, Copy)]
-struct Story<'a> {
-    inst: &'a Instance,
-    in_decimetres: bool,
-    one: &'a Doing<'a>,
-    other: &'a Doing<'a>,
-}
-
 /// The first rule that a plan breaks on the way up; none where it breaks none, or can't be read.
 fn broken_by(alloc: Global, bytes: &[u8], inst: &Instance) -> Option<(Break, Schedule)> {
     let Ok(sched) = read_plan(alloc, bytes, inst) else {
@@ -55,28 +46,26 @@ fn say_break(
         drop(one);
         return;
     };
-    say_rule(
-        page,
-        broken.rule,
-        Story {
-            inst,
-            in_decimetres,
-            one: &one,
-            other: &other,
-        },
-    );
+    say_rule(page, broken.rule, inst, in_decimetres, &one, &other);
     drop(other);
     drop(one)
 }
 
-/// Says how a rule is broken.
-fn say_rule(page: &mut Page, rule: Rule, story: Story<'_>) {
-    let (early, late) = story.in_order();
+/// Says how a rule is broken at one task, or at two.
+fn say_rule(
+    page: &mut Page,
+    rule: Rule,
+    inst: &Instance,
+    in_decimetres: bool,
+    one: &Doing<'_>,
+    other: &Doing<'_>,
+) {
+    let (early, late) = in_order(one, other);
     match rule {
-        Rule::Reach => say_reach(page, story),
-        Rule::Ready => say_ready(page, story),
-        Rule::Travel => say_travel(page, story),
-        Rule::Before => say_before(page, story),
+        Rule::Reach => say_reach(page, inst, in_decimetres, one),
+        Rule::Ready => say_ready(page, inst, in_decimetres, one),
+        Rule::Travel => say_travel(page, inst, in_decimetres, early, late),
+        Rule::Before => say_before(page, inst, one, other),
         Rule::Apart => say_behind(
             page,
             early,
@@ -84,63 +73,66 @@ fn say_rule(page: &mut Page, rule: Rule, story: Story<'_>) {
             " goes on to ",
             "; their hatches are apart, so they are never worked at the same time",
         ),
-        Rule::Margin => say_margin(page, story),
-        Rule::Berth => say_berth(page, story),
+        Rule::Margin => say_margin(page, inst, in_decimetres, early, late),
+        Rule::Berth => say_berth(page, inst, in_decimetres, one),
         Rule::OneWay => say_one_way(page, early, late),
     }
 }
 
-impl<'a> Story<'a> {
-    /// The task that starts first, and the other.
-    fn in_order(&self) -> (&'a Doing<'a>, &'a Doing<'a>) {
-        if self.other.start < self.one.start {
-            (self.other, self.one)
-        } else {
-            (self.one, self.other)
-        }
+/// The task that starts first, and the other.
+fn in_order<'b, 'a>(one: &'b Doing<'a>, other: &'b Doing<'a>) -> (&'b Doing<'a>, &'b Doing<'a>) {
+    if other.start < one.start {
+        (other, one)
+    } else {
+        (one, other)
     }
+}
 
-    /// Ends the line with the way of a task's crane, which is at a bay until a tick, and the start that it allows.
-    fn end_with_way(
-        &self,
-        page: &mut Page,
-        task: &Doing<'_>,
-        bay: Bay,
-        until: Tick,
-        goes: &str,
-        behind: &str,
-    ) {
-        let bays = Tick::from(bay.abs_diff(task.bay()));
-        let way = travel(self.inst, bays);
-        page.text(goes)
-            .rail(bays, self.in_decimetres)
-            .text(" in ")
-            .ticks(way)
-            .text(behind);
-        task.end_with_start(page, until.saturating_add(way))
+/// What is counted along the rail.
+fn unit(in_decimetres: bool) -> &'static str {
+    if in_decimetres {
+        "decimetre "
+    } else {
+        "crane bay "
     }
+}
 
-    /// Goes on with how far two tasks are apart, and how far they should be.
-    fn add_apart(&self, page: &mut Page, early: &Doing<'_>, late: &Doing<'_>) {
-        let bays = Tick::from(early.bay().abs_diff(late.bay()));
-        page.text(" stand ")
-            .rail(bays, self.in_decimetres)
-            .text(" apart");
-        if are_crossed(early, late) {
-            page.text(" in the wrong order, and cranes can't pass each other");
-        } else {
-            let needed = bays_needed(self.inst, early.crane_number, late.crane_number);
-            page.text(", ").count(needed).text(" are needed");
-        }
-    }
+/// Ends the line with the way of a task's crane, which is at a bay until a tick, and the start that it allows.
+fn end_with_way(
+    page: &mut Page,
+    inst: &Instance,
+    in_decimetres: bool,
+    task: &Doing<'_>,
+    bay: Bay,
+    until: Tick,
+    behind: &str,
+) {
+    let bays = Tick::from(bay.abs_diff(task.bay()));
+    let way = travel(inst, bays);
+    page.rail(bays, in_decimetres)
+        .text(" in ")
+        .ticks(way)
+        .text(behind);
+    task.end_with_start(page, until.saturating_add(way))
+}
 
-    /// What is counted along the rail.
-    fn unit(&self) -> &'static str {
-        if self.in_decimetres {
-            "decimetre "
-        } else {
-            "crane bay "
-        }
+/// Goes on with how far two tasks are apart, and how far they should be.
+fn add_apart(
+    page: &mut Page,
+    inst: &Instance,
+    in_decimetres: bool,
+    early: &Doing<'_>,
+    late: &Doing<'_>,
+) {
+    let bays = Tick::from(early.bay().abs_diff(late.bay()));
+    page.text(" stand ")
+        .rail(bays, in_decimetres)
+        .text(" apart");
+    if are_crossed(early, late) {
+        page.text(" in the wrong order, and cranes can't pass each other");
+    } else {
+        let needed = bays_needed(inst, early.crane_number, late.crane_number);
+        page.text(", ").count(needed).text(" are needed");
     }
 }
 
@@ -171,12 +163,12 @@ pub(crate) fn is_reached(inst: &Instance, bay: Bay) -> bool {
 }
 
 /// Says that a crane doesn't reach a task.
-fn say_reach(page: &mut Page, story: Story<'_>) {
-    let (task, bay) = (story.one, story.one.bay());
+fn say_reach(page: &mut Page, inst: &Instance, in_decimetres: bool, task: &Doing<'_>) {
+    let bay = task.bay();
     page.on(task.place)
         .text(task.name())
         .text(" stands at ")
-        .text(story.unit())
+        .text(unit(in_decimetres))
         .number(i64::from(bay))
         .text(", and ")
         .word(task.crane_name())
@@ -184,9 +176,9 @@ fn say_reach(page: &mut Page, story: Story<'_>) {
         .number(i64::from(task.crane.from))
         .text(" to ")
         .number(i64::from(task.crane.to));
-    if is_reached(story.inst, bay) {
+    if is_reached(inst, bay) {
         page.text(": give the task to ");
-        add_reaching(page, story.inst, bay);
+        add_reaching(page, inst, bay);
         page.end()
     } else {
         page.text("; no crane reaches it, by from and to of the ship file")
@@ -195,8 +187,8 @@ fn say_reach(page: &mut Page, story: Story<'_>) {
 }
 
 /// Says when a crane can be at a task.
-fn say_ready(page: &mut Page, story: Story<'_>) {
-    let (task, ready) = (story.one, story.one.crane.ready);
+fn say_ready(page: &mut Page, inst: &Instance, in_decimetres: bool, task: &Doing<'_>) {
+    let ready = task.crane.ready;
     page.on(task.place)
         .text(task.name())
         .text(" starts at ")
@@ -204,13 +196,19 @@ fn say_ready(page: &mut Page, story: Story<'_>) {
         .text("; ")
         .word(task.crane_name())
         .text(" is ready at ")
-        .count(ready);
-    story.end_with_way(page, task, task.crane.bay, ready, " and goes ", "")
+        .count(ready)
+        .text(" and goes ");
+    end_with_way(page, inst, in_decimetres, task, task.crane.bay, ready, "")
 }
 
 /// Says when a crane can be at its next task.
-fn say_travel(page: &mut Page, story: Story<'_>) {
-    let (early, late) = story.in_order();
+fn say_travel(
+    page: &mut Page,
+    inst: &Instance,
+    in_decimetres: bool,
+    early: &Doing<'_>,
+    late: &Doing<'_>,
+) {
     page.on(late.place)
         .word(late.crane_name())
         .text(" does ")
@@ -220,23 +218,18 @@ fn say_travel(page: &mut Page, story: Story<'_>) {
         .text(" and ")
         .text(late.name())
         .text(" from ")
-        .count(late.start);
-    story.end_with_way(
-        page,
-        late,
-        early.bay(),
-        early.end(),
-        ", and goes ",
-        " between",
-    )
+        .count(late.start)
+        .text(", and goes ");
+    let (bay, end) = (early.bay(), early.end());
+    end_with_way(page, inst, in_decimetres, late, bay, end, " between")
 }
 
 /// Says when a task may start that comes behind another.
-fn say_before(page: &mut Page, story: Story<'_>) {
-    let (first, second) = if story.inst.is_before(story.other.number, story.one.number) {
-        (story.other, story.one)
+fn say_before(page: &mut Page, inst: &Instance, one: &Doing<'_>, other: &Doing<'_>) {
+    let (first, second) = if inst.is_before(other.number, one.number) {
+        (other, one)
     } else {
-        (story.one, story.other)
+        (one, other)
     };
     say_behind(page, first, second, " is before it and ends at ", "")
 }
@@ -262,23 +255,27 @@ fn are_crossed(one: &Doing<'_>, other: &Doing<'_>) -> bool {
 }
 
 /// Says when a task may start that is too near to another crane's.
-fn say_margin(page: &mut Page, story: Story<'_>) {
-    let (early, late) = story.in_order();
+fn say_margin(
+    page: &mut Page,
+    inst: &Instance,
+    in_decimetres: bool,
+    early: &Doing<'_>,
+    late: &Doing<'_>,
+) {
     page.on(late.place);
     late.add_with(page, ", from ", late.start);
     page.text(" and ");
     early.add_with(page, ", to ", early.end());
-    story.add_apart(page, early, late);
+    add_apart(page, inst, in_decimetres, early, late);
     let (v, w) = (early.crane_number, late.crane_number);
-    let short = bays_short(story.inst, v, early.bay(), w, late.bay());
-    let least = early.end().saturating_add(travel(story.inst, short));
+    let short = bays_short(inst, v, early.bay(), w, late.bay());
+    let least = early.end().saturating_add(travel(inst, short));
     late.end_with_start(page, least)
 }
 
 /// The crane that keeps a task longest from its place, since it can't leave its own first one, and when the task may
 /// start for it.
-fn crane_in_way<'a>(story: Story<'a>) -> Option<(&'a Crane, Tick)> {
-    let (inst, task) = (story.inst, story.one);
+fn crane_in_way<'a>(inst: &'a Instance, task: &Doing<'_>) -> Option<(&'a Crane, Tick)> {
     let (mut found, mut most) = (None, task.start);
     for number in 0..inst.crane_count() {
         let crane = inst.crane(number);
@@ -296,17 +293,16 @@ fn crane_in_way<'a>(story: Story<'a>) -> Option<(&'a Crane, Tick)> {
 }
 
 /// Says when a task may start that is too near to a crane that can't leave its first place yet.
-fn say_berth(page: &mut Page, story: Story<'_>) {
-    let Some((crane, least)) = crane_in_way(story) else {
+fn say_berth(page: &mut Page, inst: &Instance, in_decimetres: bool, task: &Doing<'_>) {
+    let Some((crane, least)) = crane_in_way(inst, task) else {
         return;
     };
-    let task = story.one;
     page.on(task.place);
     task.add_with(page, ", from ", task.start);
     page.text(" is too near to ")
         .word(text_of(crane.name.as_bytes()))
         .text(", which stands at ")
-        .text(story.unit())
+        .text(unit(in_decimetres))
         .number(i64::from(crane.bay))
         .text(" and can't leave it before ")
         .count(crane.ready);
