@@ -193,31 +193,33 @@ fn say_no_hatch(page: &mut Page, table: &Table<'_>, number: u32, ship: &Ship) {
 
 /// Says which hatches are nearest to a bay.
 fn say_nearest(page: &mut Page, ship: &Ship, bay: u16) {
-    // 0 where there is none, which is no hatch.
-    let (mut below, mut above) = (0u16, 0u16);
+    let (mut below, mut above) = (None, None);
     for hatch in ship.hatches() {
         if *hatch < bay {
-            below = *hatch;
-        } else if above == 0 {
-            above = *hatch;
+            below = Some(*hatch);
+        } else if above.is_none() {
+            above = Some(*hatch);
         }
     }
-    if below > 0 && above > 0 {
-        return page
+    match (below, above) {
+        (Some(below), Some(above)) => page
             .line()
             .text("the nearest hatches are ")
             .count(u64::from(below))
             .text(" and ")
             .count(u64::from(above))
-            .end();
-    }
-    let (what, only) = if below > 0 {
-        ("the last hatch is ", below)
-    } else {
-        ("the first hatch is ", above)
-    };
-    if only > 0 {
-        page.line().text(what).count(u64::from(only)).end()
+            .end(),
+        (Some(only), None) => page
+            .line()
+            .text("the last hatch is ")
+            .count(u64::from(only))
+            .end(),
+        (None, Some(only)) => page
+            .line()
+            .text("the first hatch is ")
+            .count(u64::from(only))
+            .end(),
+        (None, None) => {}
     }
 }
 
@@ -231,14 +233,17 @@ fn overlap(one: &[u8], other: &[u8]) -> bool {
 
 /// The first record whose move is of the same kind and has the id or, else, an overlapping cell.
 fn earlier(table: &Table<'_>, number: u32, by_cell: bool) -> Option<u32> {
+    let sort = table.field(number, 1);
+    let at = if by_cell { 2 } else { 0 };
+    let wanted = table.field(number, at);
     for other in 2..number {
-        let same_kind = table.field(other, 1) == table.field(number, 1);
-        let taken = if by_cell {
-            overlap(table.field(other, 2), table.field(number, 2))
+        let field = table.field(other, at);
+        let is_taken = if by_cell {
+            overlap(field, wanted)
         } else {
-            table.field(other, 0) == table.field(number, 0)
+            field == wanted
         };
-        if same_kind && taken {
+        if is_taken && table.field(other, 1) == sort {
             return Some(other);
         }
     }

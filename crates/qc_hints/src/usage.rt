@@ -35,16 +35,25 @@ fn say_number(page: &mut Page, name: &str, value: &str, least: u32, most: u32) -
 /// Says which two of the names of a command that plans are one.
 fn say_equal(page: &mut Page, form: &Form, sorted: &Sorted<'_>) {
     for (at, name) in sorted.operands.iter().enumerate() {
-        let this = form.operand(at);
-        if let Some(from) = sorted.from
-            && from == *name
-        {
-            return say_from(page, this, name);
-        }
-        if let Some(later) = equal_behind(sorted, at, name) {
-            return say_same(page, form, this, form.operand(later), name);
+        if say_if_equal(page, form, sorted, at, name) {
+            return;
         }
     }
+}
+
+/// Says which name is that of an operand too, and answers whether one is.
+fn say_if_equal(page: &mut Page, form: &Form, sorted: &Sorted<'_>, at: usize, name: &str) -> bool {
+    let this = form.operand(at);
+    if let Some(from) = sorted.from
+        && from == name
+    {
+        say_from(page, this, name);
+    } else if let Some(later) = equal_behind(sorted, at, name) {
+        say_same(page, form, this, form.operand(later), name);
+    } else {
+        return false;
+    }
+    true
 }
 
 /// Says that two operands are the same name.
@@ -239,10 +248,11 @@ fn say_behind(page: &mut Page, form: &Form, words: &[String]) {
     let Some(sorted) = page.unless_short(sorted) else {
         return;
     };
-    if say_options(page, form, &sorted) || say_count(page, form, &sorted) {
-        return;
+    let is_said = say_options(page, form, &sorted) || say_count(page, form, &sorted);
+    if !is_said {
+        say_values(page, form, &sorted);
     }
-    say_values(page, form, &sorted)
+    drop(sorted)
 }
 
 /// Says what is wrong with words that are as many as there should be.

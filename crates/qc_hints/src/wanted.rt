@@ -10,8 +10,7 @@ pub(crate) fn wanted_at(key: Key, in_decimetres: bool) -> &'static str {
             "1 to 60 whole numbers from 1 to 998 in brackets, bow to stern, as [2, 6, 10]",
         Key::Places =>
             "one whole number from 1 to 6000 for each hatch, in decimetres, as [400, 550, 900]",
-        Key::Margin =>
-            "a whole number from 0 to 20, the bays that stay free between two cranes",
+        Key::Margin => "a whole number from 0 to 20, the bays that stay free between two cranes",
         Key::Clear =>
             "a whole number from 1 to 2000, the least distance of two cranes in decimetres",
         Key::Travel if in_decimetres =>
