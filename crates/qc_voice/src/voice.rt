@@ -40,8 +40,9 @@ fn instance_in(alloc: Global, ship: &Ship, text: &Text) -> Result<Option<Instanc
     };
     match read_stow(alloc, bytes, ship) {
         Ok(moves) => {
-            let inst = tasks_of(alloc, ship, &moves)?;
-            Ok(Some(inst))
+            let inst = tasks_of(alloc, ship, &moves);
+            drop(moves);
+            Ok(Some(inst?))
         }
         Err(StowError::Fault(_)) => Ok(None),
         Err(StowError::OutOfMemory) => Err(OutOfMemory),
@@ -63,58 +64,43 @@ fn turned_instance(
 /// The instance of the ship file and the list; none where one of them has a fault.
 fn instance_of(alloc: Global, texts: &Texts) -> Result<Option<Instance>, OutOfMemory> {
     match ship_in(alloc, &texts.ship)? {
-        Some(ship) => instance_in(alloc, &ship, &texts.stow),
+        Some(ship) => {
+            let inst = instance_in(alloc, &ship, &texts.stow);
+            drop(ship);
+            inst
+        }
         None => Ok(None),
     }
 }
 
-/// A file that couldn't be read, or is too large: its word in the usage text, and its name.
-#[derive(Clone, Copy)]
-struct Unread<'a> {
-    word: &'static str,
-    name: &'a str,
-    is_large: bool,
-}
-
-/// The file, where it couldn't be read or is too large.
-fn if_unread<'a>(word: &'static str, name: Option<&'a str>, text: &Text) -> Option<Unread<'a>> {
-    let is_large = match text {
-        Text::Unread => false,
-        Text::TooLarge => true,
-        Text::Unnamed | Text::Read(_) => return None,
+/// Says that a file couldn't be read, or is too large, by its word in the usage text and its name; and answers whether
+/// it is so.
+fn say_if_unread(page: &mut Page, word: &str, name: Option<&str>, text: &Text) -> bool {
+    let why = match text {
+        Text::Unread => ", isn't there or can't be read",
+        Text::TooLarge => ", has more than 8388608 bytes, and may have no more",
+        Text::Unnamed | Text::Read(_) => return false,
     };
-    Some(Unread {
-        word,
-        name: name?,
-        is_large,
-    })
-}
-
-/// The first file that couldn't be read, or is too large: where the others can be read again, a tree's.
-fn first_unread<'a>(names: &Names<'a>, texts: &Texts) -> Option<Unread<'a>> {
-    if_unread("SHIP", names.ship, &texts.ship)
-        .or(if_unread("STOW", names.stow, &texts.stow))
-        .or(if_unread("PLAN", names.plan, &texts.plan))
-        .or(if_unread("OWN", names.own, &texts.plan))
-        .or(if_unread("LOG", names.log, &texts.log))
-        .or(if_unread("TREE", names.tree, &Text::Unread))
-}
-
-/// Says which file couldn't be read, or is too large.
-fn say_unread(page: &mut Page, names: &Names<'_>, texts: &Texts) {
-    let Some(unread) = first_unread(names, texts) else {
-        return;
+    let Some(name) = name else {
+        return false;
     };
     page.line()
-        .word(unread.name)
+        .word(name)
         .text(": this file, ")
-        .text(unread.word)
-        .text(if unread.is_large {
-            ", has more than 8388608 bytes, and may have no more"
-        } else {
-            ", isn't there or can't be read"
-        })
-        .end()
+        .text(word)
+        .text(why)
+        .end();
+    true
+}
+
+/// Says which file couldn't be read, or is too large: the first, and where the others can be read again a tree's.
+fn say_unread(page: &mut Page, names: &Names<'_>, texts: &Texts) {
+    let _is_said = say_if_unread(page, "SHIP", names.ship, &texts.ship)
+        || say_if_unread(page, "STOW", names.stow, &texts.stow)
+        || say_if_unread(page, "PLAN", names.plan, &texts.plan)
+        || say_if_unread(page, "OWN", names.own, &texts.plan)
+        || say_if_unread(page, "LOG", names.log, &texts.log)
+        || say_if_unread(page, "TREE", names.tree, &Text::Unread);
 }
 
 /// Says what is wrong with the list.
