@@ -45,8 +45,8 @@ impl<R: Files> Drop for Making<'_, R> {
 }
 
 /// Whether the file is there and in use.
-fn is_in_use(found: &Option<Found>, used: &[Identity]) -> bool
-    ensures { IfSome found.now (λ found. IsTrue result ↔ Contains used.now found.identity) }
+fn is_in_use(found: Option<Found>, used: &[Identity]) -> bool
+    ensures { IfSome found (λ found. IsTrue result ↔ Contains used.now found.identity) }
 {
     match found {
         Some(found) => is_among(found.identity, used),
@@ -67,10 +67,10 @@ where
     ensures unused { IfSome target.found (λ found. Contains used.now found.identity → IsErr result) }
 {
     let Target { path, found } = target;
-    if is_in_use(&found, used) {
+    if is_in_use(found, used) {
         return Err(io::Error::from(ErrorKind::ResourceBusy));
     }
-    begin_unused(rt, name, path, &found)
+    begin_unused(rt, name, path, found)
 }
 
 /// Begins a file that isn't in use.
@@ -78,7 +78,7 @@ fn begin_unused<'a, R: Files + AllocGlobal>(
     rt: &'a R,
     name: &str,
     path: String,
-    found: &Option<Found>,
+    found: Option<Found>,
 ) -> io::Result<Making<'a, R>>
 where
     R::File: AsFd,
@@ -108,7 +108,7 @@ where
 }
 
 /// Whether the file is there and written as it stands.
-fn is_in_place(found: &Option<Found>) -> bool {
+fn is_in_place(found: Option<Found>) -> bool {
     match found {
         Some(found) => found.in_place,
         None => false,

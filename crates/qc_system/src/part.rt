@@ -1,10 +1,10 @@
 //! A new file beside another, whose place it takes when it is whole.
 
 use crate::target::Found;
-use std::fs::{self, OpenFile, OpenOptions};
+use std::fs::{self, OpenFile, OpenOptions, Permissions};
 use std::io::{self, ErrorKind};
 use std::os::fd::AsFd;
-use std::os::unix::fs::{MetadataExt, OpenOptionsExt, fchown};
+use std::os::unix::fs::{OpenOptionsExt, PermissionsExt, fchown};
 use std::rt::Files;
 
 /// How many names are tried for a new file.
@@ -37,20 +37,15 @@ impl<R: Files> Part<'_, R> {
 pub(crate) fn begin_part<'a, R: Files + AllocGlobal>(
     rt: &'a R,
     place: &str,
-    found: &Option<Found>,
+    found: Option<Found>,
 ) -> io::Result<(Part<'a, R>, R::File)>
 where
     R::File: AsFd,
 {
     for turn in 0..MOST_PARTS {
         let path = part_path(rt, place, turn)?;
-        match new_file(found).open(rt, path.as_str()) {
-            Ok(file) => {
-                if let Some(found) = found {
-                    keep_rights(&file, found);
-                }
-                return Ok((Part { rt, path }, file));
-            }
+        match new_file(rt, path.as_str(), found) {
+            Ok(file) => return Ok((Part { rt, path }, file)),
             Err(error) if error.kind() == ErrorKind::AlreadyExists => {}
             Err(error) => return Err(error),
         }
@@ -60,28 +55,38 @@ where
 
 /// The path of the new file that is tried in this turn.
 fn part_path<R: AllocGlobal>(rt: &R, place: &str, turn: u32) -> io::Result<String> {
-    if turn == 0 {
-        return Ok(format!(in rt.alloc(); "{place}.part")?);
-    }
-    Ok(format!(in rt.alloc(); "{place}.part{turn}")?)
+    let path = if turn == 0 {
+        format!(in rt.alloc(); "{place}.part")
+    } else {
+        format!(in rt.alloc(); "{place}.part{turn}")
+    };
+    Ok(path?)
 }
 
-/// How a new file is opened. One that is to replace another is closed to all but its owner.
-fn new_file(found: &Option<Found>) -> OpenOptions {
+/// A new file at the path, open for writing. One that is to replace another is closed to all but its owner until it
+/// has the other's rights.
+fn new_file<R: Files>(rt: &R, path: &str, found: Option<Found>) -> io::Result<R::File>
+where
+    R::File: AsFd,
+{
     let mut options = OpenOptions::new();
     options.write(true);
     options.create_new(true);
     if found.is_some() {
         options.mode(0o600);
     }
-    options
+    let file = options.open(rt, path);
+    if let (Ok(file), Some(found)) = (&file, found) {
+        keep_rights(file, found);
+    }
+    file
 }
 
 /// Gives the new file owner, group and rights of the one that it is to replace, where the system allows it.
-fn keep_rights<F: OpenFile + AsFd>(file: &F, found: &Found) {
-    let (user, group) = (found.metadata.uid(), found.metadata.gid());
-    if fchown(file, Some(user), Some(group)).is_err() {
+fn keep_rights<F: OpenFile + AsFd>(file: &F, found: Found) {
+    let (owner, group) = (found.owner, found.group);
+    if fchown(file, Some(owner), Some(group)).is_err() {
         let _ = fchown(file, None, Some(group));
     }
-    let _ = file.set_permissions(found.metadata.permissions());
+    let _ = file.set_permissions(Permissions::from_mode(found.rights));
 }

@@ -12,12 +12,29 @@ use std::rt::Files;
 const MOST_LINKS: u32 = 40;
 
 /// A file that is there.
-#[derive(Drop)]
+#[derive(Clone, Copy)]
 pub(crate) struct Found {
     pub(crate) identity: Identity,
-    pub(crate) metadata: Metadata,
+    pub(crate) owner: u32,
+    pub(crate) group: u32,
+    pub(crate) rights: u32,
+    is_folder: bool,
     /// Whether it is written as it stands, as a device or a pipe is, and not replaced.
     pub(crate) in_place: bool,
+}
+
+impl Found {
+    /// The file that this tells of. A file of any kind but the plain one is written as it stands.
+    fn of(metadata: &Metadata) -> Found {
+        Found {
+            identity: Identity::of(metadata),
+            owner: metadata.uid(),
+            group: metadata.gid(),
+            rights: metadata.mode(),
+            is_folder: metadata.is_dir(),
+            in_place: !metadata.is_file(),
+        }
+    }
 }
 
 /// The file that a name stands for, with its links followed.
@@ -36,20 +53,20 @@ pub(crate) fn target_of<R: Files + AllocGlobal>(rt: &R, name: &str) -> io::Resul
     if name.is_empty() {
         return Err(io::Error::from(ErrorKind::InvalidInput));
     }
-    let metadata = metadata_at(rt, name)?;
-    let end = followed(rt, name, metadata.as_ref().map(Identity::of))?;
-    match (metadata, end) {
+    let found = found_at(rt, name)?;
+    let end = followed(rt, name, found)?;
+    match (found, end) {
         (None, Some(path)) => Ok(Target { path, found: None }),
         (None, None) => Err(io::Error::from(ErrorKind::NotFound)),
-        (Some(metadata), Some(path)) if metadata.is_file() => replaced(rt, path, metadata),
-        (Some(metadata), _) => in_place(rt, name, metadata),
+        (Some(found), Some(path)) if !found.in_place => replaced(rt, path, found),
+        (Some(found), _) => in_place(rt, name, found),
     }
 }
 
-/// What the system tells of the file that the name stands for; None where there is none.
-fn metadata_at<R: Files>(rt: &R, name: &str) -> io::Result<Option<Metadata>> {
+/// The file that the name stands for, as the system tells; None where there is none.
+fn found_at<R: Files>(rt: &R, name: &str) -> io::Result<Option<Found>> {
     match fs::metadata(rt, name) {
-        Ok(metadata) => Ok(Some(metadata)),
+        Ok(metadata) => Ok(Some(Found::of(&metadata))),
         Err(error) if error.kind() == ErrorKind::NotFound => Ok(None),
         Err(error) => Err(error),
     }
@@ -60,25 +77,25 @@ fn metadata_at<R: Files>(rt: &R, name: &str) -> io::Result<Option<Metadata>> {
 fn followed<R: Files + AllocGlobal>(
     rt: &R,
     name: &str,
-    file: Option<Identity>,
+    file: Option<Found>,
 ) -> io::Result<Option<String>> {
     let mut path = PathBuf::from_str(rt.alloc(), name)?;
     for _ in 0..MOST_LINKS {
-        let Some(link) = link_at(rt, path.as_path())? else {
+        let Some(device) = link_at(rt, path.as_path())? else {
             return Ok(Some(path.into_string()));
         };
         path = led_to(rt, path.as_path())?;
-        if is_of_system(rt, &link) || file_at(rt, path.as_path()) != file {
+        if is_of_system(rt, device) || !is_at(rt, path.as_path(), file) {
             return Ok(None);
         }
     }
     Err(io::Error::from(ErrorKind::InvalidInput))
 }
 
-/// The link at the path. None where something else is there, or nothing.
-fn link_at<R: Files>(rt: &R, path: Path<'_>) -> io::Result<Option<Metadata>> {
+/// The device on which the link at the path lies. None where something else is there, or nothing.
+fn link_at<R: Files>(rt: &R, path: Path<'_>) -> io::Result<Option<u64>> {
     match fs::symlink_metadata(rt, path) {
-        Ok(metadata) if metadata.is_symlink() => Ok(Some(metadata)),
+        Ok(metadata) if metadata.is_symlink() => Ok(Some(metadata.dev())),
         Ok(_) => Ok(None),
         Err(error) if error.kind() == ErrorKind::NotFound => Ok(None),
         Err(error) => Err(error),
@@ -92,44 +109,43 @@ fn led_to<R: Files + AllocGlobal>(rt: &R, link: Path<'_>) -> io::Result<PathBuf>
     Ok(folder.join(rt.alloc(), named)?)
 }
 
-/// Whether the link is one of the system's own, which lead to open files and not to paths: it lies where
-/// the system tells of processes.
-fn is_of_system<R: Files>(rt: &R, link: &Metadata) -> bool {
+/// Whether links on this device are the system's own, which lead to open files and not to paths: it is the one
+/// where the system tells of processes.
+fn is_of_system<R: Files>(rt: &R, device: u64) -> bool {
     match fs::metadata(rt, "/proc/self") {
-        Ok(system) => system.dev() == link.dev(),
+        Ok(system) => system.dev() == device,
         Err(_) => false,
     }
 }
 
-/// Which file is at the path, with its links followed. None where there is none or the system doesn't tell.
-fn file_at<R: Files>(rt: &R, path: Path<'_>) -> Option<Identity> {
-    Some(Identity::of(&fs::metadata(rt, path).ok()?))
+/// Whether this file is at the path, with its links followed; for None, whether none is there or the system
+/// doesn't tell.
+fn is_at<R: Files>(rt: &R, path: Path<'_>, file: Option<Found>) -> bool {
+    match (fs::metadata(rt, path), file) {
+        (Ok(metadata), Some(file)) => Identity::of(&metadata) == file.identity,
+        (Err(_), None) => true,
+        _ => false,
+    }
 }
 
 /// A file that is replaced, which can be written.
-fn replaced<R: Files>(rt: &R, path: String, metadata: Metadata) -> io::Result<Target> {
+fn replaced<R: Files>(rt: &R, path: String, found: Found) -> io::Result<Target> {
     OpenOptions::new().write(true).open(rt, path.as_str())?;
     Ok(Target {
         path,
-        found: Some(Found {
-            identity: Identity::of(&metadata),
-            metadata,
-            in_place: false,
-        }),
+        found: Some(found),
     })
 }
 
 /// A file that is written as it stands, which is no folder.
-fn in_place<R: AllocGlobal>(rt: &R, name: &str, metadata: Metadata) -> io::Result<Target> {
-    if metadata.is_dir() {
+fn in_place<R: AllocGlobal>(rt: &R, name: &str, found: Found) -> io::Result<Target> {
+    if found.is_folder {
         return Err(io::Error::from(ErrorKind::IsADirectory));
     }
+    let mut found = found;
+    found.in_place = true;
     Ok(Target {
         path: String::from_str(rt.alloc(), name)?,
-        found: Some(Found {
-            identity: Identity::of(&metadata),
-            metadata,
-            in_place: true,
-        }),
+        found: Some(found),
     })
 }
