@@ -6,7 +6,7 @@ use Rattle.qc_dispatch.specs.declared.stage.Stage.TheVariants.{Waiting, Running,
 use Rattle.qc_dispatch.specs.declared.waits.Wait.{Wait}
 use Rattle.qc_dispatch.specs.Calls.{Call, Reaches, opening}
 use Rattle.qc_dispatch.specs.Course.{Course, MayStart, end_at, end_in, left, past_moments, running, stage_of, started}
-use Rattle.qc_dispatch.specs.Kept.{AreKept}
+use Rattle.qc_dispatch.specs.Kept.{AreKept, IsCourse}
 use Rattle.qc_dispatch.specs.Promises.{GoesOn, Keeps}
 use Rattle.qc_dispatch.specs.Waits.{AreLetGo, AreMarks, AreWaits}
 use Rattle.qc_dispatch.proofs.CallLemmas.{reaches}
@@ -20,6 +20,21 @@ use Rattle.qc_model.specs.Rules.{Feasible, crane_of, no_slot}
 pub stage_read : (stages : List Stage) (task : ℕ) (read stage : Stage) → task < length stages
     → read ≡ slice_index_or stages task read → read ≡ stage → slice_index_or stages task Waiting ≡ stage
 stage_read stages task read stage inside is same = get_or_default stages task Waiting read inside ∙ sym is ∙ same
+
+-- a task of the course as it is seen is one of the course as it is kept
+pub inside_kept : (c seen : Course) (task : ℕ) → c ≡ seen → task < length seen.inst.tasks → task < length c.inst.tasks
+inside_kept c seen task is inside = subst (λ (x : Course). task < length x.inst.tasks) (sym is) inside
+
+-- a task runs, as its stage was read
+pub record Runs (c : Course) (task start : ℕ) : Type 0 where
+  pub inside : task < length c.inst.tasks
+  pub ran : stage_of c task ≡ Running start
+
+pub runs_read : (c seen : Course) (task start : ℕ) (read : Stage) → IsCourse c → c ≡ seen → task < length seen.inst.tasks
+    → read ≡ slice_index_or c.stages task read → read ≡ Running start → Runs c task start
+runs_read c seen task start read course is inside at same =
+    let low = inside_kept c seen task is inside in
+    record { inside = low; ran = stage_read c.stages task read (Running start) (omega (arith, low, course.stages)) at same }
 
 -- the crane that was read
 pub crane_read : (slots : List Slot) (task cranes : ℕ) (read : Slot) → task < length slots → read ≡ slice_index_or slots task read
