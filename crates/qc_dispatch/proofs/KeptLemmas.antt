@@ -5,7 +5,7 @@ use Rattle.qc_dispatch.specs.declared.stage.Stage.{Stage}
 use Rattle.qc_dispatch.specs.declared.stage.Stage.TheVariants.{Waiting, Running, Ended}
 use Rattle.qc_dispatch.specs.declared.waits.Wait.{Wait}
 use Rattle.qc_dispatch.specs.Calls.{Call, Reaches, opening}
-use Rattle.qc_dispatch.specs.Course.{Course, MayStart, end_at, end_in, left, past_moments, running, stage_of, started}
+use Rattle.qc_dispatch.specs.Course.{Course, IsEnded, IsNotRunning, MayStart, end_at, end_in, left, past_moments, running, stage_of, started}
 use Rattle.qc_dispatch.specs.Kept.{AreKept, IsCourse}
 use Rattle.qc_dispatch.specs.Promises.{GoesOn, Keeps}
 use Rattle.qc_dispatch.specs.Waits.{AreLetGo, AreMarks, AreWaits}
@@ -35,6 +35,21 @@ pub runs_read : (c seen : Course) (task start : ℕ) (read : Stage) → IsCourse
 runs_read c seen task start read course is inside at same =
     let low = inside_kept c seen task is inside in
     record { inside = low; ran = stage_read c.stages task read (Running start) (omega (arith, low, course.stages)) at same }
+
+-- then it ends now, as it is seen
+pub ended_seen : (c seen : Course) (task start : ℕ) → c ≡ seen → stage_of c task ≡ Running start
+    → IsEnded seen task (record c { stages = slice_set c.stages task (Ended start c.clock) })
+ended_seen c seen task start is ran =
+    subst (λ (x : Course). IsEnded x task (record c { stages = slice_set c.stages task (Ended start c.clock) })) is
+    (record { start = start; ran = ran; after = refl })
+
+-- a task doesn't run, as its stage was read: nothing changes
+pub idle_read : (c seen : Course) (task : ℕ) (read : Stage) → IsCourse c → c ≡ seen → task < length seen.inst.tasks
+    → read ≡ slice_index_or c.stages task read → ((start : ℕ) → read ≢ Running start) → IsNotRunning seen task seen
+idle_read c seen task read course is inside at none =
+    let low = inside_kept c seen task is inside in
+    let stage : stage_of c task ≡ read = get_or_default c.stages task Waiting read (omega (arith, low, course.stages)) ∙ sym at in
+    subst (λ (x : Course). IsNotRunning x task x) is (record { idle = λ start ran. none start (sym stage ∙ ran); after = refl })
 
 -- the crane that was read
 pub crane_read : (slots : List Slot) (task cranes : ℕ) (read : Slot) → task < length slots → read ≡ slice_index_or slots task read

@@ -1,12 +1,14 @@
 //! The dispatcher: it follows the order of a plan while tasks take as long as they do.
 
-ghost use Rattle.std.specs.Prelude.{◌≡◌, ◌<◌, ◌≤◌, IfNone, IfOk, IfSome, List, length, replicate};
+ghost use Rattle.std.specs.Prelude.{◌≡◌, ◌<◌, ◌≤◌, IfNone, IfOk, IfSome, List, None, length, replicate};
 ghost use Rattle.qc_model.specs.Rules.{Feasible};
 ghost use Rattle.qc_dispatch.specs.declared.stage.Stage.TheVariants.{Waiting};
 ghost use Rattle.qc_dispatch.specs.Calls.{Call, Reaches, opening};
 ghost use Rattle.qc_dispatch.specs.Course.{Course, IsAdvanced, IsQuiet, IsReported, MayFrom, WaitsFor, end_at, left, past_moments, running, start_at};
 ghost use Rattle.qc_dispatch.specs.Promises.{GoesOn, Keeps};
 ghost use Rattle.qc_dispatch.specs.Kept.{ComesBy};
+ghost use Rattle.qc_dispatch.specs.Waits.{AreMarks, AreWaits};
+ghost use Rattle.qc_model.specs.Instance.{Valid};
 
 use crate::grant::{Grant, NotRunning};
 use crate::leader::first_open;
@@ -66,6 +68,34 @@ fn none_started(alloc: Global, tasks: u16) -> Result<Vec<Stage>, OutOfMemory>
     Ok(stages)
 }
 
+/// The lists that a dispatcher keeps.
+#[derive(Drop)]
+struct Lists {
+    slots: Vec<Slot>,
+    marks: Vec<bool>,
+    waits: Waits,
+    stages: Vec<Stage>,
+}
+
+impl Lists {
+    /// Fills them in for a plan of which nothing is started. What is held is lent, so that nothing is let go where
+    /// memory is wanting.
+    fn fill(&mut self, alloc: Global, inst: &Instance, plan: &[Slot]) -> Result<(), OutOfMemory>
+        requires { Feasible inst.now plan.now }
+        ensures valid { IfOk result (λ _. Valid inst.now) }
+        ensures slots { IfOk result (λ _. self.new.slots.items ≡ plan.now) }
+        ensures marks { IfOk result (λ _. AreMarks inst.now plan.now self.new.marks.items) }
+        ensures waits { IfOk result (λ _. AreWaits inst.now plan.now self.new.marks.items (λ i. None) self.new.waits.items.items) }
+        ensures stages { IfOk result (λ _. self.new.stages.items ≡ replicate (length inst.now.tasks) Waiting) }
+    {
+        self.marks = lead_marks(alloc, inst, plan)?;
+        self.waits = Waits::new(alloc, inst, plan, self.marks.as_slice())?;
+        self.slots = Vec::from_slice(alloc, plan)?;
+        self.stages = none_started(alloc, inst.task_count())?;
+        Ok(())
+    }
+}
+
 impl Dispatch {
     /// Nothing is started, and it is tick 0. Whatever is then reported and whenever, all rules are kept.
     pub fn open(alloc: Global, inst: &Instance, plan: &Schedule) -> Result<Dispatch, OutOfMemory>
@@ -74,13 +104,28 @@ impl Dispatch {
         ensures kept { IfOk result (λ made. (calls : List Call) (after : Course)
             → Reaches made calls after → Keeps after) }
     {
-        let marks = lead_marks(alloc, inst, plan.slots())?;
+        let mut lists = Lists {
+            slots: Vec::new(alloc),
+            marks: Vec::new(alloc),
+            waits: Waits {
+                items: Vec::new(alloc),
+            },
+            stages: Vec::new(alloc),
+        };
+        let Ok(()) = lists.fill(alloc, inst, plan.slots()) else {
+            drop(lists);
+            return Err(OutOfMemory);
+        };
+        let Ok(kept) = copy(alloc, inst) else {
+            drop(lists);
+            return Err(OutOfMemory);
+        };
         Ok(Dispatch {
-            waits: Waits::new(alloc, inst, plan.slots(), marks.as_slice())?,
-            slots: Vec::from_slice(alloc, plan.slots())?,
-            stages: none_started(alloc, inst.task_count())?,
-            inst: copy(alloc, inst)?,
-            marks,
+            inst: kept,
+            slots: lists.slots,
+            marks: lists.marks,
+            waits: lists.waits,
+            stages: lists.stages,
             clock: 0,
         })
     }

@@ -36,7 +36,13 @@ fn are_tied(inst: &Instance, slots: &[Slot], i: u16, j: u16) -> bool
     requires second { j < length inst.now.tasks }
     ensures { IsTrue result ↔ AreTied inst.now slots.now i j }
 {
-    inst.is_before(i, j) || are_paired(inst, i, j) || are_near(inst, slots, i, j)
+    if inst.is_before(i, j) {
+        return true;
+    }
+    if are_paired(inst, i, j) {
+        return true;
+    }
+    are_near(inst, slots, i, j)
 }
 
 /// Whether a task leads another.

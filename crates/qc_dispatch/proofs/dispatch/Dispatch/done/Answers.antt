@@ -1,9 +1,10 @@
-use Rattle.std.proofs.Common.{Bool, List, sym, ap, ◌∙◌}
+use Rattle.std.proofs.Common.{Bool, List, sym, subst, ap, ◌∙◌}
 use Rattle.qc_dispatch.specs.Course.{end_at, end_in}
 use Rattle.qc_dispatch.specs.Fields.{course_of}
+use Rattle.qc_dispatch.specs.Promises.{Keeps}
 use Rattle.qc_dispatch.specs.Waits.{mark}
 use Rattle.qc_dispatch.proofs.CourseLemmas.{goes_ended}
-use Rattle.qc_dispatch.proofs.KeptLemmas.{kept_ended, runs_read}
+use Rattle.qc_dispatch.proofs.KeptLemmas.{ended_seen, idle_read, kept_ended, runs_read}
 use Rattle.qc_dispatch.proofs.WaitLemmas.{some_open}
 use Rattle.qc_dispatch.proofs.dispatch.Dispatch.done.Goals as goal
 
@@ -26,3 +27,19 @@ invariant_of-self c =
     let runs = runs_read (course_of f) _ c.args.task c.in-Running.start _ c.self.invariant.course c.self.view_is c.requires.inside c.index.ensures c.in-Running.is in
     kept_ended (course_of f) f.marks.items f.waits.items.items c.self.invariant c.args.task c.in-Running.start runs.inside runs.ran c.let_go.new.self.items.items
     (rw (c.as_slice.ensures.value, c.as_slice-2.ensures.value) at c.let_go.ensures)
+
+pub let_go-requires-clause-plan : goal.let_go-requires-clause-plan
+let_go-requires-clause-plan c = rw c.as_slice.ensures.value c.self.invariant.course.feasible
+
+pub returns-clause-reported : goal.returns-clause-reported
+returns-clause-reported c =
+    let f = c.self.inside in
+    let runs = runs_read (course_of f) _ c.args.task c.in-Running.start _ c.self.invariant.course c.self.view_is c.requires.inside c.index.ensures c.in-Running.is in
+    ended_seen (course_of f) c.args.self.now c.args.task c.in-Running.start c.self.view_is runs.ran
+
+pub returns-in_default : goal.returns-in_default
+returns-in_default c = record {
+  reported = idle_read (course_of c.self.inside) c.args.self.now c.args.task _ c.self.invariant.course c.self.view_is c.requires.inside
+      c.index.ensures c.in_default.not-Running;
+  keeps = subst Keeps c.self.view_is c.self.invariant.course.keeps;
+}

@@ -1,19 +1,19 @@
-use Rattle.std.proofs.Common.{◌∙◌, ℕ, replicate, ap}
-use Rattle.qc_dispatch.specs.declared.stage.Stage.TheVariants.{Waiting}
+use Rattle.std.proofs.Common.{◌∙◌}
 use Rattle.qc_dispatch.proofs.KeptLemmas.{kept_made, reaches_made}
 use Rattle.qc_dispatch.proofs.dispatch.Dispatch.open.Goals as goal
 
+pub fill-requires : goal.fill-requires
+fill-requires c = rw c.slots.ensures c.requires
+
 pub invariant_of-result : goal.invariant_of-result
 invariant_of-result c =
-    kept_made c.args.inst.now c.in_ok-copy.field-0 c.args.plan.now c.in_ok-from_slice.field-0.items c.in_ok-none_started.field-0.items c.in_ok-copy.ensures
-    (c.in_ok-from_slice.ensures.items ∙ c.slots-3.ensures)
-    (c.in_ok-none_started.ensures ∙ ap (λ (n : ℕ). replicate n Waiting) c.task_count.ensures.count)
-    c.task_count.ensures.valid c.requires c.in_ok-marks.marks.items (rw c.slots.ensures at c.in_ok-marks.ensures) c.in_ok-new.field-0.items.items
-    (rw (c.slots-2.ensures, c.as_slice.ensures.value) at c.in_ok-new.ensures)
+    let lists = c.in-Ok.ensures in
+    kept_made c.args.inst.now c.in-Ok-copy.kept c.args.plan.now c.fill.new.self.slots.items c.fill.new.self.stages.items c.in-Ok-copy.ensures
+    (lists.slots ∙ c.slots.ensures) lists.stages lists.valid c.requires c.fill.new.self.marks.items (rw c.slots.ensures at lists.marks)
+    c.fill.new.self.waits.items.items (rw c.slots.ensures at lists.waits)
 
 pub returns-clause-kept : goal.returns-clause-kept
 returns-clause-kept c =
-    reaches_made c.args.inst.now c.in_ok-copy.field-0 c.args.plan.now c.in_ok-from_slice.field-0.items c.in_ok-none_started.field-0.items c.in_ok-copy.ensures
-    (c.in_ok-from_slice.ensures.items ∙ c.slots-3.ensures)
-    (c.in_ok-none_started.ensures ∙ ap (λ (n : ℕ). replicate n Waiting) c.task_count.ensures.count)
-    c.task_count.ensures.valid c.requires
+    let lists = c.in-Ok.ensures in
+    reaches_made c.args.inst.now c.in-Ok-copy.kept c.args.plan.now c.fill.new.self.slots.items c.fill.new.self.stages.items c.in-Ok-copy.ensures
+    (lists.slots ∙ c.slots.ensures) lists.stages lists.valid c.requires
