@@ -1,2 +1,3 @@
 pub mod SpanLemmas
 pub mod OrderLemmas
+pub mod BoxLemmas

@@ -51,6 +51,12 @@ find_later p xs i d low f =
     ap (find p) (drop_more xs i d low)
     ∙ cond-false (p (get_or xs i d)) (Some (get_or xs i d)) (find p (drop (i + 1) xs)) f
 
+-- two pieces behind a text
+pub two : {E : Type 0} (r : Result ⊤ E) (before first after x y : List ℕ) → first ≡ before ++ x → OnOk r (after ≡ first ++ y)
+    → OnOk r (after ≡ before ++ (x ++ y))
+two (Ok _) before first after x y one last = last ∙ ap (λ (t : List ℕ). t ++ y) one ∙ append_assoc before x y
+two (Err _) before first after x y one last = tt
+
 -- three pieces behind a text
 pub three : {E : Type 0} (r : Result ⊤ E) (before first second after x y z : List ℕ)
     → first ≡ before ++ x → second ≡ first ++ y → OnOk r (after ≡ second ++ z) → OnOk r (after ≡ before ++ (x ++ y ++ z))
