@@ -47,7 +47,8 @@ fn time_of_all(lines: &[i64; MOST_CRANES as usize], until: i64) -> i64 {
 fn load_of(rests: &[Rest], cranes: &Cranes, last: i64) -> Option<i64> {
     let mut load: i64 = 0;
     let mut behind: Option<(i64, u16)> = None;
-    for rest in rests.iter().rev() {
+    for done in 0..rests.len() {
+        let rest = rests[rests.len() - 1 - done];
         if let Some((place, count)) = behind {
             let way = place.saturating_sub(rest.place);
             load = load.saturating_add(way.saturating_mul(i64::from(count)));
