@@ -12,3 +12,6 @@ loop-node-preserved c =
           (c.requires c.loop-node.node-index _ c.loop-node-test.true)))
       | else-not-is_covered w ↦ rw w.kept-is c.loop-node.invariant
     ]
+
+pub returns-in_err-push : goal.returns-in_err-push
+returns-in_err-push c = rw c.in_err-push.ensures.items c.loop-node.invariant
