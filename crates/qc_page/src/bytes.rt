@@ -7,7 +7,13 @@ pub fn piece_at(text: &[u8], sign: u8, number: usize) -> Option<&[u8]> {
 
 /// How many pieces a text has, where a sign stands between them.
 pub(crate) fn count_pieces(text: &[u8], sign: u8) -> usize {
-    text.split(|byte| *byte == sign).count()
+    let mut count = 1usize;
+    for byte in text {
+        if *byte == sign {
+            count = count.saturating_add(1);
+        }
+    }
+    count
 }
 
 /// Whether a piece of a text is this one, where a sign stands between pieces.
