@@ -1,7 +1,7 @@
 #!/usr/bin/env python3
 """Measures how good the program's plans are and what they take, and writes docs/PERFORMANCE.md and docs/gap.svg.
 
-    bench/numbers.py [TABLE ..] [--program PROGRAM] [--jobs N] [--try FOLDER]
+    bench/numbers.py [TABLE ..] [--program FILE] [--jobs N] [--try FOLDER]
     bench/numbers.py --draw
 
 TABLE is sizes, plan, free, split, side, files or solvers; all but solvers where none is named. What was measured is
@@ -10,8 +10,8 @@ that; the words around them are written by hand and stay. So a run that was stop
 it didn't come to, and `--draw` measures nothing. N processes share what is counted and not timed, 2 where it isn't given.
 With `--try` few ships are planned, each call is timed once, and all that is written goes to FOLDER.
 
-PROGRAM is the built qc, that of this checkout where it isn't given. Else Python's standard library is enough; side needs
-a C++ compiler, and solvers what bench/general.py tells.
+Which program FILE is, trials/tried.py says. Else Python's standard library is enough; side needs a C++ compiler, and
+solvers what bench/general.py tells.
 """
 import sys
 
@@ -41,6 +41,10 @@ import ships
 import split
 
 ROOT = pathlib.Path(__file__).resolve().parent.parent
+sys.path.append(str(ROOT / "trials"))
+
+from tried import add_program, program_of
+
 USUAL, MOST = 20_000, 100_000  # branchings where none are given, and at the most
 
 # Hatches and cranes of the made ships of the first table.
@@ -416,15 +420,17 @@ def machine():
 
 
 def commit(program):
-    """The commit of the checkout in which the program was built, and what differs from it."""
+    """The commit of the checkout in which the program was built, what differs from it, and whether it has checks."""
     above = pathlib.Path(program).resolve().parents
-    top = above[min(3, len(above) - 1)]
+    is_checked = above[0].name == "checked"
+    top = above[min(2 if is_checked else 3, len(above) - 1)]
     git = lambda *words: subprocess.run(["git", "-C", top, *words], capture_output=True, text=True, check=False).stdout
     name = git("log", "-1", "--format=%h", "--abbrev=8", "--", "crates", "crates.txt").strip() or "unknown"
-    version = ", ".join(Run(program, "--version").lines)
+    version = Run(program, "--version").lines  # the second one says 'proved with', whichever program it is
+    version = f"{version[0]}, compiled with checks and not proved" if is_checked else ", ".join(version)
     changed = bool(git("status", "--porcelain", "crates", "crates.txt"))
     test = top / "package/is-built"
-    is_built = test.exists() and subprocess.run([test], check=False).returncode == 0
+    is_built = test.exists() and subprocess.run([test, *["--checked"] * is_checked], check=False).returncode == 0
     return f"{version}, sources of {name}" + (" with changes" if changed else "" if is_built else ", built before them")
 
 
@@ -517,11 +523,13 @@ def write(kept, folder):
 def main():
     parser = argparse.ArgumentParser(description="how good, how fast, against what")
     parser.add_argument("tables", nargs="*", metavar="TABLE")
-    parser.add_argument("--program", default=str(ROOT / "crates/qc_cli/out/qc_cli"))
+    add_program(parser)
     parser.add_argument("--jobs", type=int, default=2)
     parser.add_argument("--try", dest="few", type=pathlib.Path, metavar="FOLDER")
     parser.add_argument("--draw", action="store_true")
     words = parser.parse_args()
+    if not words.draw:
+        words.program = program_of(words)
     take_orphans()
     folder = words.few or ROOT
     data = ROOT / "bench/numbers.json" if folder == ROOT else folder / "numbers.json"
