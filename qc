@@ -64,4 +64,7 @@ if ! "$here/package/is-built" --checked; then
             ;;
     esac
 fi
+case $* in
+    --version | -V) echo 'qc: of the sources; this program is compiled from them with checks and not proved on this machine' >&2 ;;
+esac
 exec "$checked" "$@"
