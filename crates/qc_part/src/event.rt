@@ -45,7 +45,7 @@ impl Event {
                 end: None,
             };
         }
-        let ticks = self.block.work_from(from).saturating_sub(self.block.work_from(count));
+        let ticks = self.block.work_between(from, count);
         let end = self.start(state).saturating_add(ticks);
         let mut worked = *state;
         worked.done[self.hatch as usize] = count;

@@ -26,6 +26,11 @@ impl Block {
     pub fn work_from(&self, done: u8) -> i64 {
         self.work.get(done as usize).copied().unwrap_or(0)
     }
+
+    /// The ticks of the tasks from one number of the hatch to before another.
+    pub(crate) fn work_between(&self, from: u8, to: u8) -> i64 {
+        self.work_from(from).saturating_sub(self.work_from(to))
+    }
 }
 
 /// A hatch with tasks. Where it stands and its times are in ticks.

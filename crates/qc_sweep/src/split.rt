@@ -21,14 +21,7 @@ type Cuts = [u8; FRONTS];
 const NEVER: i64 = i64::MAX;
 
 /// Tries for one crane more all runs of hatches that begin at this one.
-fn try_runs(
-    hatches: &[Hatch],
-    crane: u16,
-    first: u8,
-    before: i64,
-    ends: &mut Ends,
-    cuts: &mut Cuts,
-)
+fn try_runs(hatches: &[Hatch], crane: u16, first: u8, before: i64, ends: &mut Ends, cuts: &mut Cuts)
     requires few { length hatches.now ≤ most_hatches }
     requires crane { crane < 8 }
 {
