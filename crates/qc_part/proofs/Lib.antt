@@ -1,3 +1,0 @@
-pub mod FirstLemmas
-pub mod PartLemmas
-pub mod OrderLemmas

@@ -1,29 +1,48 @@
-//! Hatches, and what the estimates of a state read of each.
+//! Hatches with tasks.
 
-ghost use Rattle.std.specs.Prelude.{◌≡◌, ◌≢◌, ℕ, ◌+◌, ◌<◌, ◌≤◌, length, All, IfOk};
-ghost use Rattle.qc_model.specs.Instance.{Valid, task};
-ghost use Rattle.qc_part.specs.Hatches.{AreRising, IsBlock, IsInOne, IsPlaced};
-ghost use Rattle.qc_part.specs.Parts.{hatch_count};
+ghost use Rattle.std.specs.Prelude.{◌+◌, ◌<◌, ◌≤◌, length};
 
-use crate::block::Block;
-use qc_dist::head;
+use qc_dist::{head, in_reach};
 use qc_model::{Instance, MOST_CRANES, bays_up, travel_over};
 use qc_num::OutOfMemory;
 use std::alloc::Global;
 
 /// The most tasks of a hatch, one a phase.
-pub(crate) const MOST_PHASES: u16 = 4;
+const MOST_PHASES: u16 = 4;
+
+/// The tasks of a hatch, which follow one another in the order of phases.
+#[derive(Clone, Copy, PartialEq, Eq, PartialOrd, Ord)]
+pub struct Block {
+    /// The number of the first task, from 0.
+    pub first: u16,
+    /// How many tasks there are, 1 to 4.
+    pub count: u8,
+    /// The ticks of the tasks from each on, together.
+    pub work: [i64; MOST_PHASES as usize + 1],
+}
+
+impl Block {
+    /// The ticks that are left together where so many of the tasks are done.
+    pub fn work_from(&self, done: u8) -> i64 {
+        self.work.get(done as usize).copied().unwrap_or(0)
+    }
+
+    /// The ticks of the tasks from one number of the hatch to before another.
+    pub(crate) fn work_between(&self, from: u8, to: u8) -> i64 {
+        self.work_from(from).saturating_sub(self.work_from(to))
+    }
+}
 
 /// A hatch with tasks. Where it stands and its times are in ticks.
 #[derive(Clone, Copy)]
-pub(crate) struct Hatch {
-    pub(crate) block: Block,
+pub struct Hatch {
+    pub block: Block,
     /// Its bay times the ticks of travel per bay.
-    pub(crate) place: i64,
-    /// The length of its tasks from each on, together.
-    pub(crate) work: [i64; MOST_PHASES as usize + 1],
+    pub place: i64,
+    /// Which cranes reach it.
+    pub reached: [bool; MOST_CRANES as usize],
     /// When each crane can first be at its tasks.
-    pub(crate) free: [i64; MOST_CRANES as usize],
+    pub free: [i64; MOST_CRANES as usize],
 }
 
 /// How many tasks a hatch has, of which this is the first.
@@ -32,12 +51,6 @@ fn count_from(inst: &Instance, first: u16) -> u16
     ensures some { 1 ≤ result }
     ensures few { result ≤ 4 }
     ensures inside { first + result ≤ length inst.now.tasks }
-    ensures same { (i : ℕ) → i < result
-        → (task inst.now (first + i)).hatch ≡ (task inst.now first).hatch }
-    ensures ends { first + result < length inst.now.tasks
-        → (task inst.now (first + result)).hatch ≢ (task inst.now first).hatch }
-    ensures all { length inst.now.tasks ≤ 240 }
-    ensures valid { Valid inst.now }
 {
     let tasks = inst.tasks();
     let hatch = tasks[first as usize].hatch;
@@ -51,7 +64,7 @@ fn count_from(inst: &Instance, first: u16) -> u16
     count
 }
 
-/// The length of a hatch's tasks from each on, together.
+/// The ticks of a hatch's tasks from each on, together.
 fn work_of(inst: &Instance, first: u16, count: u16) -> [i64; MOST_PHASES as usize + 1]
     requires few { count ≤ 4 }
     requires inside { first + count ≤ length inst.now.tasks }
@@ -64,6 +77,17 @@ fn work_of(inst: &Instance, first: u16, count: u16) -> [i64; MOST_PHASES as usiz
         work[task as usize] = behind.saturating_add_unsigned(ticks);
     }
     work
+}
+
+/// Which cranes reach a task.
+fn reached_by(inst: &Instance, task: u16) -> [bool; MOST_CRANES as usize]
+    requires { task < length inst.now.tasks }
+{
+    let mut reached = [false; MOST_CRANES as usize];
+    for crane in 0..inst.crane_count() {
+        reached[crane as usize] = in_reach(inst, task, crane);
+    }
+    reached
 }
 
 /// When each crane can first be at a task.
@@ -80,38 +104,31 @@ fn free_of(inst: &Instance, task: u16) -> [i64; MOST_CRANES as usize]
 /// The hatch of which this task is the first.
 fn hatch_from(inst: &Instance, first: u16) -> Hatch
     requires { first < length inst.now.tasks }
-    ensures block { IsBlock inst.now result }
-    ensures first { result.block.first ≡ first }
-    ensures placed { IsPlaced inst.now result }
-    ensures ends { first + result.block.count < length inst.now.tasks
-        → (task inst.now (first + result.block.count)).hatch ≢ (task inst.now first).hatch }
-    ensures valid { Valid inst.now }
+    ensures some { 1 ≤ result.block.count }
+    ensures inside { first + result.block.count ≤ length inst.now.tasks }
 {
     let count = count_from(inst, first);
     let place = travel_over(inst, bays_up(0, inst.task(first).bay));
     Hatch {
-        block: Block { first, count },
+        block: Block {
+            first,
+            count: count as u8,
+            work: work_of(inst, first, count),
+        },
         place: place as i64,
-        work: work_of(inst, first, count),
+        reached: reached_by(inst, first),
         free: free_of(inst, first),
     }
 }
 
 /// The hatches along the ship.
-pub(crate) fn hatches_of(alloc: Global, inst: &Instance) -> Result<Vec<Hatch>, OutOfMemory>
-    ensures blocks { IfOk result (λ hatches. All (IsBlock inst.now) hatches.items) }
-    ensures rising { IfOk result (λ hatches. AreRising inst.now hatches.items) }
-    ensures covers { IfOk result (λ hatches. (j : ℕ) → j < length inst.now.tasks
-        → IsInOne hatches.items j) }
-    ensures count { IfOk result (λ hatches. length hatches.items ≡ hatch_count inst.now) }
-    ensures valid { IfOk result (λ _. Valid inst.now) }
-{
+pub(crate) fn hatches_of(alloc: Global, inst: &Instance) -> Result<Vec<Hatch>, OutOfMemory> {
     let mut hatches = Vec::new(alloc);
     let mut next = 0;
     while next < inst.task_count() {
         let hatch = hatch_from(inst, next);
         hatches.push(hatch)?;
-        next += hatch.block.count;
+        next += u16::from(hatch.block.count);
     }
     hatches.sort_unstable_by_key(|hatch| hatch.place);
     Ok(hatches)

@@ -56,9 +56,9 @@ impl Rests {
 /// `None` where there is no such crane. A line is when a crane could be at place 0.
 pub(crate) fn least_start(
     hatch: &Hatch,
-    events: &[u32; MOST_CRANES as usize],
+    events: &[usize; MOST_CRANES as usize],
     lines: &[i64; MOST_CRANES as usize],
-    now: u32,
+    now: usize,
 ) -> Option<i64> {
     let mut least: Option<i64> = None;
     for crane in 0..MOST_CRANES as usize {

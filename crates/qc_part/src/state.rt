@@ -1,8 +1,5 @@
 //! What one pass over the events remembers.
 
-ghost use Rattle.std.specs.Prelude.{◌↔◌, IsTrue};
-ghost use Rattle.qc_part.specs.States.{Covers, HasDone, IsAsSoon};
-
 use qc_model::{MOST_CRANES, MOST_HATCHES};
 
 /// What a pass over the events remembers before an event: how much is done, and how soon each crane
@@ -19,16 +16,12 @@ pub struct State {
 
 impl State {
     /// Whether all that is done in the other state is done in this one, and no crane is later.
-    pub fn covers(&self, other: &State) -> bool
-        ensures { IsTrue result ↔ Covers self.now other.now }
-    {
+    pub fn covers(&self, other: &State) -> bool {
         self.has_done(other) && self.is_as_soon(other)
     }
 
     /// Whether of each hatch as many tasks are done as in the other state.
-    fn has_done(&self, other: &State) -> bool
-        ensures { IsTrue result ↔ HasDone self.now other.now }
-    {
+    fn has_done(&self, other: &State) -> bool {
         for hatch in 0..MOST_HATCHES as usize {
             if self.done[hatch] < other.done[hatch] {
                 return false;
@@ -38,9 +31,7 @@ impl State {
     }
 
     /// Whether no crane's front is behind that in the other state.
-    fn is_as_soon(&self, other: &State) -> bool
-        ensures { IsTrue result ↔ IsAsSoon self.now other.now }
-    {
+    fn is_as_soon(&self, other: &State) -> bool {
         for crane in 0..MOST_CRANES as usize {
             if self.fronts[crane] > other.fronts[crane] {
                 return false;

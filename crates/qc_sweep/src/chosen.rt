@@ -7,9 +7,9 @@ use qc_part::{Event, Part};
 use std::alloc::Global;
 
 /// Gives the tasks that were done at an event its crane.
-fn give(cranes: &mut Vec<Option<u16>>, event: Event, step: Step) {
+fn give(cranes: &mut Vec<Option<u16>>, event: &Event, step: Step) {
     for number in step.from..step.to {
-        let task = event.first_task as usize + number as usize;
+        let task = event.block.first as usize + number as usize;
         if task < cranes.len() {
             cranes[task] = Some(event.crane);
         }
@@ -24,9 +24,10 @@ pub(crate) fn cranes_of(
     last: Step,
 ) -> Result<Vec<Option<u16>>, OutOfMemory> {
     let mut cranes = vec![in alloc; None; part.instance().task_count() as usize]?;
+    let events = part.events();
     let mut step = last;
-    for e in (0..part.events()).rev() {
-        give(&mut cranes, part.event(e), step);
+    for e in (0..events.len()).rev() {
+        give(&mut cranes, &events[e], step);
         if e == 0 {
             break;
         }

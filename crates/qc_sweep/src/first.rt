@@ -1,8 +1,8 @@
 //! A first plan.
 
-ghost use Rattle.std.specs.Prelude.{◌≡◌, ◌≤◌, ◌<◌, ◌^◌, length, IfOk, IfSome};
+ghost use Rattle.std.specs.Prelude.{◌≡◌, ◌≤◌, ◌<◌, length, IfOk, IfSome};
 ghost use Rattle.qc_model.specs.Seen.{seen};
-ghost use Rattle.qc_sweep.specs.Hunts.{AreParts, IsHunt, latest_end};
+ghost use Rattle.qc_sweep.specs.Hunts.{AreParts};
 ghost use Rattle.qc_sweep.specs.Plans.{IsFirstPlan};
 
 use crate::grain::{grain, up_to_grain};
@@ -47,9 +47,7 @@ fn is_reached(inst: &Instance, task: u16) -> bool
 }
 
 /// The greatest tick before which no slack is left at the beginning, found by halving.
-fn low_end(part: &Part) -> Tick
-    ensures { result ≤ latest_end }
-{
+fn low_end(part: &Part) -> Tick {
     let root = part.root();
     let mut low = 0;
     let mut high = MOST_LOW;
@@ -84,7 +82,7 @@ fn split_plan(
     part: &Part,
     way: Direction,
 ) -> Result<Option<Schedule>, OutOfMemory>
-    requires { part.now.inst ≡ seen inst.now way }
+    requires { part.now ≡ seen inst.now way }
     ensures { IfOk result (λ found. IfSome found (IsFirstPlan inst.now)) }
 {
     let cranes = split(alloc, part)?;
@@ -94,7 +92,7 @@ fn split_plan(
 /// What is known before any sweep.
 fn begin(alloc: Global, inst: &Instance, parts: &Parts, effort: usize) -> Result<Hunt, OutOfMemory>
     requires { AreParts inst.now parts.now }
-    ensures { IfOk result (IsHunt inst.now) }
+    ensures { IfOk result (λ hunt. IfSome hunt.best (IsFirstPlan inst.now)) }
 {
     let up = split_plan(alloc, inst, &parts.up, Direction::Up)?;
     let down = split_plan(alloc, inst, &parts.down, Direction::Down)?;
@@ -116,18 +114,18 @@ fn climb(
     width: usize,
 ) -> Result<(), OutOfMemory>
     requires parts { AreParts inst.now parts.now }
-    requires hunt { IsHunt inst.now hunt.old }
-    requires width { width ≤ 1024 }
-    ensures { IsHunt inst.now hunt.new }
+    requires best { IfSome hunt.old.best (IsFirstPlan inst.now) }
+    ensures { IfSome hunt.new.best (IsFirstPlan inst.now) }
 {
     let low = hunt.low();
     let mut more = (low / 512).max(1);
     for _ in 0..33 {
-        trial(alloc, inst, parts, hunt, (low + more).min(LATEST), width)?;
+        let end = low.saturating_add(more).min(LATEST);
+        trial(alloc, inst, parts, hunt, end, width)?;
         if hunt.cap.is_some() || more >= 1 << 32 {
             break;
         }
-        more *= 2;
+        more = more.saturating_mul(2);
     }
     Ok(())
 }
@@ -142,10 +140,8 @@ fn round(
     width: usize,
 ) -> Result<(), OutOfMemory>
     requires parts { AreParts inst.now parts.now }
-    requires hunt { IsHunt inst.now hunt.old }
-    requires width { width ≤ 1024 }
-    requires grain { grain ≤ 2 ^ 62 }
-    ensures { IsHunt inst.now hunt.new }
+    requires best { IfSome hunt.old.best (IsFirstPlan inst.now) }
+    ensures { IfSome hunt.new.best (IsFirstPlan inst.now) }
 {
     match hunt.cap {
         None => climb(alloc, inst, parts, hunt, width)?,
@@ -155,7 +151,7 @@ fn round(
         return Ok(());
     };
     let low = hunt.low();
-    let middle = up_to_grain((low + cap) / 2, grain);
+    let middle = up_to_grain(low.saturating_add(cap) / 2, grain);
     if low < cap && middle < cap {
         trial(alloc, inst, parts, hunt, middle, width)?;
     }

@@ -1,7 +1,5 @@
 //! The grain of time: all lengths, ready times and ways are multiples of it.
 
-ghost use Rattle.std.specs.Prelude.{◌≡◌, ◌+◌, ◌%◌, ◌<◌, ◌≤◌, ◌^◌};
-
 use qc_model::Instance;
 use qc_num::Tick;
 
@@ -16,9 +14,7 @@ fn common(one: Tick, other: Tick) -> Tick {
 
 /// The greatest number of ticks of which the travel of a bay, all tasks and all ready times are
 /// multiples.
-pub(crate) fn grain(inst: &Instance) -> Tick
-    ensures { result ≤ 2 ^ 62 }
-{
+pub(crate) fn grain(inst: &Instance) -> Tick {
     let mut ticks = inst.travel();
     for task in inst.tasks() {
         ticks = common(task.ticks, ticks);
@@ -26,18 +22,11 @@ pub(crate) fn grain(inst: &Instance) -> Tick
     for crane in inst.cranes() {
         ticks = common(crane.ready, ticks);
     }
-    ticks.min(1 << 62)
+    ticks
 }
 
 /// The least multiple of a grain that is at least this tick; the tick itself where the grain is 0.
-pub(crate) fn up_to_grain(tick: Tick, grain: Tick) -> Tick
-    requires tick { tick ≤ 2 ^ 62 }
-    requires grain { grain ≤ 2 ^ 62 }
-    ensures no_sooner { tick ≤ result }
-    ensures none { grain ≡ 0 → result ≡ tick }
-    ensures next { 0 < grain → result < tick + grain }
-    ensures multiple { 0 < grain → result % grain ≡ 0 }
-{
+pub(crate) fn up_to_grain(tick: Tick, grain: Tick) -> Tick {
     if grain == 0 {
         return tick;
     }
@@ -45,6 +34,6 @@ pub(crate) fn up_to_grain(tick: Tick, grain: Tick) -> Tick
     if over == 0 {
         tick
     } else {
-        tick + (grain - over)
+        tick.saturating_add(grain - over)
     }
 }

@@ -1,9 +1,9 @@
 //! What the sweeps have come to so far.
 
-ghost use Rattle.std.specs.Prelude.{◌≡◌, ◌≤◌, ◌⊎◌, min};
-ghost use Rattle.std.specs.Option.{option_map_or};
+ghost use Rattle.std.specs.Prelude.{◌≡◌, IfSome};
 ghost use Rattle.qc_model.specs.Seen.{seen};
-ghost use Rattle.qc_sweep.specs.Hunts.{AreParts, IsHunt, latest_end, low_of};
+ghost use Rattle.qc_sweep.specs.Hunts.{AreParts};
+ghost use Rattle.qc_sweep.specs.Plans.{IsFirstPlan};
 
 use crate::schedule::{better, schedule_of};
 use crate::sweep::sweep;
@@ -35,18 +35,12 @@ pub(crate) struct Hunt {
 
 impl Hunt {
     /// The lesser of both low ticks.
-    pub(crate) fn low(&self) -> Tick
-        ensures up { result ≤ self.now.low_up }
-        ensures down { result ≤ self.now.low_down }
-        ensures one { (result ≡ self.now.low_up) ⊎ (result ≡ self.now.low_down) }
-    {
+    pub(crate) fn low(&self) -> Tick {
         self.low_up.min(self.low_down)
     }
 
     /// The low tick of a way.
-    fn low_of(&self, way: Direction) -> Tick
-        ensures { result ≡ low_of self.now way }
-    {
+    fn low_of(&self, way: Direction) -> Tick {
         match way {
             Direction::Up => self.low_up,
             Direction::Down => self.low_down,
@@ -55,11 +49,7 @@ impl Hunt {
 
     /// Nothing ends before this tick that way.
     fn raise_low(&mut self, way: Direction, low: Tick)
-        requires { low ≤ latest_end }
-        ensures best { self.new.best ≡ self.old.best }
-        ensures cap { self.new.cap ≡ self.old.cap }
-        ensures low_up { self.old.low_up ≤ latest_end → self.new.low_up ≤ latest_end }
-        ensures low_down { self.old.low_down ≤ latest_end → self.new.low_down ≤ latest_end }
+        ensures { self.new.best ≡ self.old.best }
     {
         match way {
             Direction::Up => self.low_up = low,
@@ -68,10 +58,7 @@ impl Hunt {
     }
 
     /// The lesser of a tick and the least end that a sweep found.
-    fn capped(&self, tick: Tick) -> Tick
-        ensures lesser { result ≡ option_map_or (λ cap. min cap tick) self.now.cap tick }
-        ensures bound { result ≤ tick }
-    {
+    fn capped(&self, tick: Tick) -> Tick {
         match self.cap {
             Some(cap) => cap.min(tick),
             None => tick,
@@ -90,13 +77,11 @@ fn sweep_part(
     end: Tick,
     width: usize,
 ) -> Result<(), OutOfMemory>
-    requires seen { part.now.inst ≡ seen inst.now way }
-    requires hunt { IsHunt inst.now hunt.old }
-    requires end { end ≤ latest_end }
-    requires width { width ≤ 1024 }
-    ensures { IsHunt inst.now hunt.new }
+    requires seen { part.now ≡ seen inst.now way }
+    requires best { IfSome hunt.old.best (IsFirstPlan inst.now) }
+    ensures { IfSome hunt.new.best (IsFirstPlan inst.now) }
 {
-    let cost = width * part.events() as usize;
+    let cost = width.saturating_mul(part.events().len());
     if cost == 0 || cost > hunt.effort || hunt.low_of(way) >= end {
         return Ok(());
     }
@@ -129,10 +114,8 @@ pub(crate) fn trial(
     width: usize,
 ) -> Result<(), OutOfMemory>
     requires parts { AreParts inst.now parts.now }
-    requires hunt { IsHunt inst.now hunt.old }
-    requires end { end ≤ latest_end }
-    requires width { width ≤ 1024 }
-    ensures { IsHunt inst.now hunt.new }
+    requires best { IfSome hunt.old.best (IsFirstPlan inst.now) }
+    ensures { IfSome hunt.new.best (IsFirstPlan inst.now) }
 {
     sweep_part(alloc, inst, &parts.up, Direction::Up, hunt, end, width)?;
     let end = hunt.capped(end);

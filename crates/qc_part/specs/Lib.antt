@@ -1,6 +1,0 @@
-pub mod Places
-pub mod States
-pub mod Parts
-pub mod Children
-pub mod Hatches
-pub mod PartFields
