@@ -1,5 +1,5 @@
 -- What holds of the motion of the cranes of a feasible schedule, whether it goes one way or to and fro.
-use Rattle.std.proofs.Common.{◌≡◌, ℕ, ◌+◌, ◌-◌, ◌*◌, ◌<◌, ◌≤◌, ℤ, pos, ◌+ℤ◌, ◌-ℤ◌, ◌*ℤ◌, ◌≤ℤ◌, ◌⊎◌, inl, inr, Option, None, Some, List, length, map, refl, ap, ap₂, sym, subst, ◌∙◌, arith}
+use Rattle.std.proofs.Common.{◌≡◌, ℕ, ◌+◌, ◌-◌, ◌*◌, ◌<◌, ◌≤◌, ℤ, pos, ◌+ℤ◌, ◌-ℤ◌, ◌*ℤ◌, ◌⊎◌, inl, inr, Option, None, Some, List, length, map, refl, ap, ap₂, sym, subst, ◌∙◌, arith}
 use Rattle.std.proofs.lemmas.Int.{ints}
 use Rattle.std.proofs.lemmas.List.{get_or-map, length-map}
 use Rattle.qc_freemove.specs.declared.track.HalfPoint.{HalfPoint}
@@ -28,14 +28,10 @@ pub parts_are : (way : Option Direction) → (parts way ≡ 1) ⊎ (parts way �
 parts_are None = inr refl
 parts_are (Some way) = inl refl
 
--- at each part of a tick up to the end each crane stands somewhere, cranes keep their order and the margin, and a crane
--- stands at its task's bay
+-- at each part of a tick up to the end each crane stands somewhere, and at its task's bay while it does the task
 pub record IsMotion (inst : InstanceView) (sched : List Slot) (way : Option Direction) : Type 0 where
   pub somewhere : (k m : ℕ) → k < length inst.cranes → m ≤ parts way * ends inst sched
       → (x : ℤ) × HasPlace inst sched way k m (parts way) x
-  pub margin : (v w m : ℕ) (x y : ℤ) → v < w → w < length inst.cranes → m ≤ parts way * ends inst sched
-      → HasPlace inst sched way v m (parts way) x → HasPlace inst sched way w m (parts way) y
-      → (x +ℤ scaled inst (parts way) (pos (inst.gap * (w - v)))) ≤ℤ y
   pub at_task : (j m : ℕ) (x : ℤ) → j < length inst.tasks
       → parts way * start_of sched j ≤ m → m ≤ parts way * end_of inst sched j
       → HasPlace inst sched way (crane_of sched j) m (parts way) x → x ≡ scaled inst (parts way) (bay_of inst j)
@@ -44,10 +40,10 @@ pub motion_of : (inst : InstanceView) (sched : List Slot) (way : Option Directio
     → IsWay inst sched way → IsMotion inst sched way
 motion_of inst sched None valid feasible is =
     let safe = free_safe inst sched valid feasible 2 (omega arith) in
-    record { somewhere = safe.somewhere; margin = safe.margin; at_task = safe.at_task }
+    record { somewhere = safe.somewhere; at_task = safe.at_task }
 motion_of inst sched (Some way) valid feasible is =
     let safe = safe_of inst sched way valid (goes_of inst sched way is) 1 (omega arith) in
-    record { somewhere = safe.somewhere; margin = safe.margin; at_task = safe.at_task }
+    record { somewhere = safe.somewhere; at_task = safe.at_task }
 
 -- place x at moment m lies on the line from one waypoint to another, both moments told in the same parts
 abbrev pub IsBetween : Waypoint → Waypoint → ℕ → ℤ → Type 0

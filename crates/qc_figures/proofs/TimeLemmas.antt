@@ -146,7 +146,7 @@ stands q p r l a b e one two =
 
 -- ---- tasks of one crane
 
-pub apart_of : (inst : InstanceView) (sched : List Slot) → Feasible inst sched
+apart_of : (inst : InstanceView) (sched : List Slot) → Feasible inst sched
     → (i j : ℕ) → i < j → j < length inst.tasks → crane_of sched i ≡ crane_of sched j
     → (end_of inst sched i ≤ start_of sched j) ⊎ (end_of inst sched j ≤ start_of sched i)
 apart_of inst sched feasible i j order h same =

@@ -11,6 +11,5 @@ mod tracks;
 
 pub use crane::Figures;
 pub use figured::{Figured, figures_of, parts};
-pub use page::Page;
 pub use table::write_figures;
 pub use tracks::{Tracks, tracks_of};

@@ -8,7 +8,7 @@ use std::marker::Model;
 
 /// A text that is put together piece by piece.
 #[derive(Drop)]
-pub struct Page {
+pub(crate) struct Page {
     bytes: Vec<u8>,
 }
 
@@ -20,7 +20,7 @@ impl Model for Page {
 
 impl Page {
     /// The empty text.
-    pub fn new(alloc: Global) -> Page
+    pub(crate) fn new(alloc: Global) -> Page
         ensures { result ≡ [] }
     {
         Page {
@@ -29,7 +29,7 @@ impl Page {
     }
 
     /// Puts a piece behind the text.
-    pub fn put(&mut self, piece: &[u8]) -> Result<(), OutOfMemory>
+    pub(crate) fn put(&mut self, piece: &[u8]) -> Result<(), OutOfMemory>
         ensures { OnOk result (self.new ≡ self.old ++ piece.now) }
     {
         self.bytes.extend_from_slice(piece)?;
@@ -37,7 +37,7 @@ impl Page {
     }
 
     /// The bytes of the text.
-    pub fn bytes(self) -> Bytes
+    pub(crate) fn bytes(self) -> Bytes
         ensures { result ≡ self }
     {
         Bytes::of(self.bytes)

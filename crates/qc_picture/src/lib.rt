@@ -1,17 +1,17 @@
 //! The drawing of a plan: a time-space diagram with the hatches across and time down, each
-//! crane as a line in a band of half the gap to each side, and each task as a box.
+//! crane as a line in a band of half the gap to each side, and each task as a box. Nothing is promised of its
+//! text, which people look at.
 #![tactic(auto)]
 
 mod boxes;
 mod cranes;
-mod drawn;
 mod elements;
 mod hatches;
 mod paper;
 mod picture;
 mod span;
 mod table;
+mod ticks;
 
-pub use drawn::Drawn;
+pub use paper::Drawn;
 pub use picture::write_picture;
-pub use span::Span;

@@ -1,43 +1,36 @@
 //! The whole drawing.
 
-ghost use Rattle.std.specs.Prelude.{◌≡◌, ◌++◌, IfOk, OnOk};
-ghost use Rattle.qc_model.specs.Instance.{Valid};
-ghost use Rattle.qc_picture.specs.PictureText.{over_text, picture_text, under_text};
-ghost use Rattle.qc_picture.specs.Views.{HasPaper, IsDrawable, drawn_of, paper_view};
+ghost use Rattle.qc_figures.specs.Views.{IsReady, view_of};
 
-use crate::drawn::Drawn;
-use crate::elements::put_text;
-use crate::paper::Paper;
+use crate::elements::Page;
+use crate::paper::{Drawn, Paper};
 use crate::table::table_head;
-use qc_figures::Page;
 use qc_num::{Bytes, OutOfMemory};
 use std::alloc::Global;
 
 impl Paper<'_> {
-    /// Puts all up to the boxes behind the page.
-    fn put_under(&self, page: &mut Page) -> Result<(), OutOfMemory>
-        requires { HasPaper (paper_view self.now) }
-        ensures { OnOk result (page.new ≡ page.old ++ under_text (paper_view self.now)) }
+    /// Puts all up to the boxes behind the drawing.
+    fn put_under(&self, page: &mut Page)
+        requires { IsReady (view_of self.now.drawn.plan) }
     {
-        self.put_head(page)?;
-        self.put_columns(page)?;
-        self.put_ticks(page)?;
-        self.put_bands(page)?;
-        self.put_boxes(page)
+        self.put_head(page);
+        self.put_columns(page);
+        self.put_ticks(page);
+        self.put_bands(page);
+        self.put_boxes(page);
     }
 
-    /// Puts all from the lines of the cranes on behind the page.
-    fn put_over(&self, page: &mut Page) -> Result<(), OutOfMemory>
-        requires { HasPaper (paper_view self.now) }
-        ensures { OnOk result (page.new ≡ page.old ++ over_text (paper_view self.now)) }
+    /// Puts all from the lines of the cranes on behind the drawing.
+    fn put_over(&self, page: &mut Page)
+        requires { IsReady (view_of self.now.drawn.plan) }
     {
-        self.put_cranes(page)?;
-        self.put_words(page)?;
-        self.put_names(page)?;
-        put_text(self.end_line(), page)?;
-        page.put(table_head())?;
-        self.put_rows(page)?;
-        page.put(b"</svg>\n")
+        self.put_cranes(page);
+        self.put_words(page);
+        self.put_names(page);
+        self.put_end_line(page);
+        page.put(table_head());
+        self.put_rows(page);
+        page.put(b"</svg>\n");
     }
 }
 
@@ -45,13 +38,11 @@ impl Paper<'_> {
 /// each crane a line through its waypoints in a band of half the gap to each side, a box for each task, and
 /// a table of the figures of each crane.
 pub fn write_picture(alloc: Global, drawn: &Drawn<'_>) -> Result<Bytes, OutOfMemory>
-    requires { IsDrawable (drawn_of drawn.now) }
-    ensures text { IfOk result (λ text. text ≡ picture_text (drawn_of drawn.now)) }
-    ensures valid { Valid (drawn_of drawn.now).plan.inst }
+    requires { IsReady (view_of drawn.now.plan) }
 {
     let paper = drawn.paper();
     let mut page = Page::new(alloc);
-    paper.put_under(&mut page)?;
-    paper.put_over(&mut page)?;
-    Ok(page.bytes())
+    paper.put_under(&mut page);
+    paper.put_over(&mut page);
+    page.bytes()
 }

@@ -1,20 +1,14 @@
 //! The table of the figures of all cranes.
 
-ghost use Rattle.std.specs.Prelude.{◌≡◌, ◌≤◌, ◌<◌, ◌+◌, ◌++◌, OnOk};
-ghost use Rattle.std.specs.List.{flat_map, range_with_len};
-ghost use Rattle.qc_picture.specs.Elements.{table_head};
-ghost use Rattle.qc_picture.specs.PictureText.{cell_text, cells_text, cranes, row_name, row_text};
-ghost use Rattle.qc_picture.specs.Views.{HasPaper, paper_view};
+ghost use Rattle.std.specs.Prelude.{◌<◌, length};
+ghost use Rattle.qc_figures.specs.Views.{IsReady, view_of};
 
-use crate::elements::{ink, label, put_text};
+use crate::elements::Page;
 use crate::paper::Paper;
-use qc_figures::{Page, figures_of};
-use qc_num::{OutOfMemory, Text, Tick};
+use qc_figures::figures_of;
 
 /// The header of the table.
-pub(crate) fn table_head() -> &'static [u8]
-    ensures { result.now ≡ table_head }
-{
+pub(crate) fn table_head() -> &'static [u8] {
     br##"<text x="900" y="12190" fill="#666666">crane</text>
 <text x="3300" y="12190" text-anchor="end" fill="#666666">tasks</text>
 <text x="4800" y="12190" text-anchor="end" fill="#666666">moves</text>
@@ -28,71 +22,34 @@ pub(crate) fn table_head() -> &'static [u8]
 "##
 }
 
-/// A figure in its row and column.
-fn cell(row: u64, column: u64, figure: Tick) -> Text<256>
-    requires row { row ≤ 65536 }
-    requires column { column ≤ 8 }
-    ensures { result ≡ cell_text row column figure }
-{
-    let mut words: Text<24> = Text::new();
-    words.push_number(figure);
-    label(
-        3_300 + 1_500 * column,
-        12_190 + 200 * row,
-        b"text-anchor=\"end\"",
-        words.as_bytes(),
-    )
-}
-
-/// Puts the figures of a row behind the page.
-fn put_cells(row: u64, figures: &[Tick; 9], page: &mut Page) -> Result<(), OutOfMemory>
-    requires { row ≤ 65536 }
-    ensures { OnOk result (page.new ≡ page.old ++ cells_text row figures.now) }
-{
-    for column in 0..9u64 {
-        put_text(cell(row, column, figures[column as usize]), page)?;
-    }
-    Ok(())
-}
-
 impl Paper<'_> {
-    /// The name of a crane in its row.
-    fn row_name(&self, crane: u16) -> Text<256>
-        requires { crane < cranes (paper_view self.now) }
-        ensures { result ≡ row_name (paper_view self.now) crane }
-    {
-        let mut style: Text<64> = Text::of(b"font-weight=\"bold\" fill=\"");
-        style.push(ink(crane));
-        style.push(b"\"");
-        let name = &self.drawn.plan.inst.crane(crane).name;
-        label(
-            900,
-            12_190 + 200 * (u64::from(crane) + 1),
-            style.as_bytes(),
-            name.as_bytes(),
-        )
-    }
-
-    /// Puts the row of a crane behind the page.
-    fn put_row(&self, crane: u16, page: &mut Page) -> Result<(), OutOfMemory>
-        requires has { HasPaper (paper_view self.now) }
-        requires crane { crane < cranes (paper_view self.now) }
-        ensures { OnOk result (page.new ≡ page.old ++ row_text (paper_view self.now) crane) }
+    /// Puts the row of a crane behind the drawing.
+    fn put_row(&self, crane: u16, page: &mut Page)
+        requires ready { IsReady (view_of self.now.drawn.plan) }
+        requires crane { crane < length (view_of self.now.drawn.plan).inst.cranes }
     {
         let figures = figures_of(&self.drawn.plan, crane);
-        put_text(self.row_name(crane), page)?;
-        put_cells(u64::from(crane) + 1, &figures.list(), page)
+        let y = 12_390 + 200 * u64::from(crane);
+        page.put_name(
+            900,
+            y,
+            b"font-weight=\"bold\"",
+            crane,
+            &self.drawn.plan.inst.crane(crane).name,
+        );
+        let mut x: u64 = 3_300;
+        for figure in figures.list() {
+            page.put_figure(x, y, b"text-anchor=\"end\"", figure);
+            x = x.saturating_add(1_500);
+        }
     }
 
-    /// Puts the rows of all cranes behind the page.
-    pub(crate) fn put_rows(&self, page: &mut Page) -> Result<(), OutOfMemory>
-        requires { HasPaper (paper_view self.now) }
-        ensures { OnOk result (page.new ≡ page.old
-            ++ flat_map (row_text (paper_view self.now)) (range_with_len 0 (cranes (paper_view self.now)))) }
+    /// Puts the rows of all cranes behind the drawing.
+    pub(crate) fn put_rows(&self, page: &mut Page)
+        requires { IsReady (view_of self.now.drawn.plan) }
     {
         for crane in 0..self.drawn.plan.inst.crane_count() {
-            self.put_row(crane, page)?;
+            self.put_row(crane, page);
         }
-        Ok(())
     }
 }

@@ -12,9 +12,8 @@ use Rattle.qc_figures.specs.Figures.{PlanView}
 use Rattle.qc_figures.specs.FiguresText.{figures_text}
 use Rattle.qc_figures.specs.Motions.{ArePaths, IsWay}
 use Rattle.qc_figures.specs.Whole.{IsWhole}
-use Rattle.qc_picture.specs.Ordered.{IsOrdered}
-use Rattle.qc_picture.specs.Paper.{DrawnView, paper_of}
-use Rattle.qc_picture.specs.PictureText.{picture_text}
+use Rattle.qc_picture_command.specs.declared.answer.Print.{Print}
+use Rattle.qc_picture_command.specs.declared.answer.Print.TheVariants.{Figures, Picture}
 use Rattle.qc_picture_command.specs.declared.answer.Printed.{Printed}
 use Rattle.qc_picture_command.specs.declared.answer.Printed.TheVariants as printed
 
@@ -44,21 +43,14 @@ pub record TellsFigures (load : Load) (text : List ℕ) : Type 0 where
   pub text_is : text ≡ figures_text (plan_with load way tracks)
   pub whole : (k : ℕ) → k < length load.cargo.inst.cranes → IsWhole (plan_with load way tracks) k
 
--- what is drawn of a plan with these waypoints, with the hatches of its ship
-abbrev pub drawn_with : Load → Option Direction → List (List Waypoint) → DrawnView
-drawn_with load way tracks = record {
-  plan = plan_with load way tracks;
-  hatches = load.cargo.ship.hatches;
-  places = load.cargo.ship.places;
-}
+-- the plan is feasible; of the drawing's bytes nothing is said
+abbrev pub TellsPicture : Load → List ℕ → Type 0
+TellsPicture load text = Feasible load.cargo.inst load.sched
 
--- the text is the drawing of the plan, in which is ordered what is ordered on the rail
-pub record TellsPicture (load : Load) (text : List ℕ) : Type 0 where
-  pub way : Option Direction
-  pub tracks : List (List Waypoint)
-  pub planned : IsPlanned load way tracks
-  pub text_is : text ≡ picture_text (drawn_with load way tracks)
-  pub ordered : IsOrdered (paper_of (drawn_with load way tracks))
+-- the text is what is asked for of the plan
+abbrev pub Tells : Print → Load → List ℕ → Type 0
+Tells Figures = TellsFigures
+Tells Picture = TellsPicture
 
 -- what is printed, and the status
 abbrev pub printed_text : Printed → List ℕ

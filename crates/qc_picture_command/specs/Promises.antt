@@ -1,6 +1,6 @@
 -- public: what follows from the account of a plan's drawing and of its figures, said by itself for whoever reads one
 -- status.
-use Rattle.std.specs.Prelude.{◌≡◌, ℕ, List, IfSome}
+use Rattle.std.specs.Prelude.{◌≡◌, IfSome}
 use Rattle.qc_io.specs.Outside.{Files, View}
 use Rattle.qc_model.specs.Rules.{Feasible}
 use Rattle.qc_run.specs.Broken.{TellsRule, broken_text}
@@ -12,11 +12,13 @@ use Rattle.qc_run.specs.Reports.{Prints}
 use Rattle.qc_run.specs.Told.{EndsAsDue, EndsBy, IsFaultTold, IsTold, ReaderPromises}
 use Rattle.qc_sheet_command.specs.declared.load.Load.{Load}
 use Rattle.qc_sheet_command.specs.Due.{load_due}
+use Rattle.qc_picture_command.specs.declared.answer.Print.{Print}
 use Rattle.qc_picture_command.specs.Account.{printer}
+use Rattle.qc_picture_command.specs.Planned.{Tells}
 
 -- the plan is feasible, and a text that tells of it was printed
-abbrev pub IsTextTold : (Load → List ℕ → Type 0) → Names → (held : Files) → (before after : View) → Type 0
-IsTextTold tells = IsTold load_due tells (λ text. Prints text)
+abbrev pub IsTextTold : Print → Names → (held : Files) → (before after : View) → Type 0
+IsTextTold what = IsTold load_due (Tells what) (λ text. Prints text)
 
 -- the plan isn't feasible, and the first rule that it breaks was printed
 abbrev pub IsRuleTold : Names → (held : Files) → (before after : View) → Type 0
@@ -27,11 +29,11 @@ pub record EndsPrinted (load : Load) (ended : Status) : Type 0 where
   pub infeasible : ¬ Feasible load.cargo.inst load.sched → ended ≡ status.Broken
   pub feasible : Feasible load.cargo.inst load.sched → ended ≡ status.Done
 
-pub record PrintedPromises (tells : Load → List ℕ → Type 0) (names : Names) (before after out_before out_after : View)
-    (ended : Status) : Type 0 where
-  pub reads : ReaderPromises (printer tells) names before after out_before out_after ended
+pub record PrintedPromises (what : Print) (names : Names) (before after out_before out_after : View) (ended : Status)
+    : Type 0 where
+  pub reads : ReaderPromises (printer what) names before after out_before out_after ended
   -- Done, Broken and BadPlan
-  pub text_done : ended ≡ status.Done → IfSome before.files (λ held. IsTextTold tells names held out_before out_after)
+  pub text_done : ended ≡ status.Done → IfSome before.files (λ held. IsTextTold what names held out_before out_after)
   pub text_broken : ended ≡ status.Broken → IfSome before.files (λ held. IsRuleTold names held out_before out_after)
   pub text_bad_plan : ended ≡ status.BadPlan
       → IfSome before.files (λ held. IsFaultTold load_due refusal.BadPlan names held out_before out_after)

@@ -33,6 +33,15 @@ pub enum Motion {
     Planned(Planned),
 }
 
+/// What is asked for of a plan.
+#[derive(Clone, Copy, PartialEq, Eq)]
+pub enum Print {
+    /// What each crane does with the ticks from 0 to the end.
+    Figures,
+    /// A time-space diagram.
+    Picture,
+}
+
 /// What is printed of a plan.
 #[derive(Drop)]
 pub enum Printed {

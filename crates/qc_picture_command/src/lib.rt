@@ -7,5 +7,5 @@ mod command;
 mod motion;
 mod report;
 
-pub use answer::{Motion, Planned, Printed};
-pub use command::{draw_picture, report_figures};
+pub use answer::{Motion, Planned, Print, Printed};
+pub use command::print_plan;

@@ -3,9 +3,9 @@ ghost use Rattle.std.specs.Prelude.{◌≡◌, IfOk};
 ghost use Rattle.qc_figures.specs.Views.{view_of};
 ghost use Rattle.qc_run.specs.Reports.{Prints, PrintsPart, Reports};
 ghost use Rattle.qc_picture_command.specs.Motion.{IsPrintable};
-ghost use Rattle.qc_picture_command.specs.Planned.{TellsFigures, TellsPicture, plan_with, printed_status, printed_text};
+ghost use Rattle.qc_picture_command.specs.Planned.{Tells, TellsFigures, TellsPicture, plan_with, printed_status, printed_text};
 
-use crate::answer::{Planned, Printed};
+use crate::answer::{Planned, Print, Printed};
 use qc_figures::{Figured, write_figures};
 use qc_io::Sink;
 use qc_num::{Bytes, OutOfMemory};
@@ -28,7 +28,7 @@ fn figured(plan: &Planned) -> Figured<'_>
 }
 
 /// The figures of each crane of a plan.
-pub(crate) fn figures_of(alloc: Global, plan: &Planned) -> Result<Bytes, OutOfMemory>
+fn figures_of(alloc: Global, plan: &Planned) -> Result<Bytes, OutOfMemory>
     requires { IsPrintable plan.now }
     ensures { IfOk result (TellsFigures plan.now.load) }
 {
@@ -36,7 +36,7 @@ pub(crate) fn figures_of(alloc: Global, plan: &Planned) -> Result<Bytes, OutOfMe
 }
 
 /// The drawing of a plan.
-pub(crate) fn picture_of(alloc: Global, plan: &Planned) -> Result<Bytes, OutOfMemory>
+fn picture_of(alloc: Global, plan: &Planned) -> Result<Bytes, OutOfMemory>
     requires { IsPrintable plan.now }
     ensures { IfOk result (TellsPicture plan.now.load) }
 {
@@ -49,6 +49,17 @@ pub(crate) fn picture_of(alloc: Global, plan: &Planned) -> Result<Bytes, OutOfMe
             places: ship.places(),
         },
     )
+}
+
+/// What is asked for of a plan.
+pub(crate) fn text_of(alloc: Global, what: Print, plan: &Planned) -> Result<Bytes, OutOfMemory>
+    requires { IsPrintable plan.now }
+    ensures { IfOk result (Tells what plan.now.load) }
+{
+    match what {
+        Print::Figures => figures_of(alloc, plan),
+        Print::Picture => picture_of(alloc, plan),
+    }
 }
 
 /// Prints what a plan came to.

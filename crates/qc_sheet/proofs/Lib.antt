@@ -1,5 +1,5 @@
 pub mod OverLemmas
-pub mod TurnLemmas
+pub mod KeyLemmas
 pub mod SortLemmas
 pub mod CountLemmas
 pub mod OnceLemmas

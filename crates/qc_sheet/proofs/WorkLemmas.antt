@@ -1,11 +1,10 @@
 -- What the work sheet of a feasible plan keeps.
-use Rattle.std.proofs.Common.{◌≡◌, ℕ, zero, suc, ◌+◌, ◌-◌, ◌<◌, ◌≤◌, Bool, true, false, List, [], ◌∷◌, length, get_or, drop, refl, sym, ap, subst, inl, inr, ◌∙◌, arith, All, Contains, IsSome, nat_eq}
+use Rattle.std.proofs.Common.{◌≡◌, ℕ, ◌+◌, ◌-◌, ◌<◌, ◌≤◌, Bool, true, false, List, length, get_or, refl, sym, ap, subst, inl, inr, arith, All, Contains, IsSome, nat_eq}
 use Rattle.std.specs.List.{flat_map, zip, AllByRecursion as Each}
 use Rattle.std.proofs.Math.Nat.{mul-le-mul_right}
-use Rattle.std.proofs.lemmas.Bool.{cases_Bool, cases_lt, cases_order, le-leb, leb-true}
-use Rattle.std.proofs.lemmas.List.{get_or-drop, length-drop}
+use Rattle.std.proofs.lemmas.Bool.{cases_Bool, cases_order, le-leb, leb-true}
 use Rattle.std.proofs.lemmas.List.Elements.{All-from_recursion, Contains-get_or}
-use Rattle.qc_cell.specs.Cells.{CellView, is_on_deck}
+use Rattle.qc_cell.specs.Cells.{CellView, IsCell, is_on_deck}
 use Rattle.qc_model.specs.declared.schedule.Slot.{Slot}
 use Rattle.qc_model.specs.declared.task.Phase.{Phase}
 use Rattle.qc_model.specs.declared.task.Phase.TheVariants.{DeckOut, HoldOut, HoldIn, DeckIn}
@@ -22,30 +21,12 @@ use Rattle.qc_tasks.specs.InstanceOf.{instance_of, moves_at, phase_with, phases,
 use Rattle.qc_tasks.proofs.Lists.{each_flat_map, each_from}
 use Rattle.qc_tasks.proofs.ValidInstance.{valid_instance}
 use Rattle.qc_sheet.specs.Kept.{BeginBoth, Begins, IsDischarge, IsLoad, IsOver, IsWorkable}
-use Rattle.qc_sheet.specs.Order.{AreOrders, AreTurns, IsNext, cell_at, goes_first, holds_up, is_over, no_row, order_of, row_at}
+use Rattle.qc_sheet.specs.Order.{AreOrders, cell_at, is_over, no_row, order_of, row_at}
 use Rattle.qc_sheet.specs.SheetText.{WorkView, move_ticks, tick_at}
 use Rattle.qc_sheet.proofs.OnceLemmas.{told_once}
 use Rattle.qc_sheet.proofs.OrderLemmas.{in_order, order_long}
-use Rattle.qc_sheet.proofs.OverLemmas.{IsMove, over_gives, rank_of}
-
--- ---- turns
-
-turn_at : (rows : List Row) (order : List ℕ) → AreTurns rows order → (p : ℕ) → p < length order → IsNext rows (drop p order) (get_or order p 0)
-turn_at rows [] turns p low = absurd (omega arith)
-turn_at rows (n ∷ rest) turns zero low = turns.0
-turn_at rows (n ∷ rest) turns (suc p) low = turn_at rows rest turns.1 p (omega arith)
-
--- a move that holds up another has the earlier turn
-turn_first : (rows : List Row) (order : List ℕ) → AreTurns rows order → (p q : ℕ) → p < length order → q < length order
-    → holds_up rows (get_or order q 0) (get_or order p 0) ≡ true → q < p
-turn_first rows order turns p q low high holds = elim (cases_lt q p) [
-  | inl lt ↦ lt
-  | inr le ↦
-      let m = get_or order q 0 in
-      let there : Contains (drop p order) m = subst (λ n. Contains (drop p order) n) (get_or-drop p order (q - p) 0 ∙ ap (λ k. get_or order k 0) (omega arith))
-      (Contains-get_or (drop p order) (q - p) 0 (omega (arith, length-drop p order))) in
-      absurd (cc ((turn_at rows order turns p low).free m there, holds))
-]
+use Rattle.qc_sheet.proofs.OverLemmas.{First, IsMove, lifted_first, over_gives, rank_of, set_first}
+use Rattle.qc_sheet.proofs.SortLemmas.{cell_in, first_earlier}
 
 -- ---- ticks
 
@@ -123,15 +104,6 @@ not_over_deck a b deck hold over =
     let low = leb-true 70 b.tier deck in
     cc (hold, le-leb 70 a.tier (omega (arith, o.tier, low)))
 
-both_out : (k l : Move) → is_discharge k ≡ true → (c d : CellView) → is_over c d ≡ true → k ≡ l → goes_first l c d ≡ true
-both_out Discharge Discharge out c d over e = over
-both_out Discharge Load out c d over e = cc e
-both_out Load l out c d over e = cc out
-
-both_in : (k l : Move) → is_load k ≡ true → (c d : CellView) → is_over c d ≡ true → goes_first k d c ≡ true
-both_in Load l in' c d over = over
-both_in Discharge l in' c d over = cc in'
-
 -- ---- the work sheet of a ship and its moves
 
 module _ (ship : ShipView) (is : IsShip ship) (rows : List Row) (moves : AreMoves rows)
@@ -163,14 +135,18 @@ module _ (ship : ShipView) (is : IsShip ship) (rows : List Row) (moves : AreMove
       let before = feasible.before i j b.task_low c.task_low (valid.before.phases i j lt c.task_low hatch) in
       omega (arith, (within m i s b).1, (within n j t c).0, before, some_ticks ship is (task_of i).phase)
 
-  -- of two moves of one task the one that holds up the other begins earlier
-  earlier_turn : (m n i j s t : ℕ) → Begins w m i s → Begins w n j t → i ≡ j → holds_up rows m n ≡ true → s < t
-  earlier_turn m n i j s t b c same holds =
+  cell : (n j t : ℕ) → Begins w n j t → IsCell (cell_at rows n)
+  cell n j t b = subst (λ m. IsCell (cell_at rows m)) b.move_is (cell_in rows (task_of j) (order_of orders j) (are.each j b.task_low) b.place b.place_low)
+
+  -- of two moves of one task the one that must be made first begins earlier
+  earlier_move : (m n i j s t : ℕ) → Begins w m i s → Begins w n j t → i ≡ j
+      → First (row_at rows n).kind (cell_at rows m) (cell_at rows n) → s < t
+  earlier_move m n i j s t b c same first =
       let place : b.place < length (order_of orders j) = subst (λ k. b.place < length (order_of orders k)) same b.place_low in
       let move : get_or (order_of orders j) b.place 0 ≡ m = subst (λ k. get_or (order_of orders k) b.place 0 ≡ m) same b.move_is in
       let tick : s ≡ tick_at ship (task_of j).phase (start_of sched j) b.place = subst (λ k. s ≡ tick_at ship (task_of k).phase (start_of sched k) b.place) same b.tick_is in
-      let first = turn_first rows (order_of orders j) (are.each j c.task_low).turns c.place b.place c.place_low place (rw (move, c.move_is) holds) in
-      omega (arith, tick, c.tick_is, later_tick ship is (task_of j).phase (start_of sched j) b.place c.place first)
+      let earlier = first_earlier rows (task_of j) (order_of orders j) (are.each j c.task_low) c.place b.place c.place_low place (rw (move, c.move_is) first) in
+      omega (arith, tick, c.tick_is, later_tick ship is (task_of j).phase (start_of sched j) b.place c.place earlier)
 
   -- the later of two tasks of a hatch has the higher phase
   later_phase : (i j : ℕ) → i < j → j < length w.inst.tasks → (task_of i).hatch ≡ (task_of j).hatch → phase_rank (task_of i).phase < phase_rank (task_of j).phase
@@ -184,7 +160,8 @@ module _ (ship : ShipView) (is : IsShip ship) (rows : List Row) (moves : AreMove
 
   lifted : (m n s t : ℕ) → BeginBoth w m n s t → IsDischarge w m → IsDischarge w n → IsOver w m n → s < t
   lifted m n s t both out_m out_n over = elim (cases_order both.first_task both.second_task) [
-    | inl same ↦ earlier_turn m n _ _ s t both.first both.second same (both_out _ _ out_m (cell_at rows m) (cell_at rows n) over (kinds _ _ out_m out_n))
+    | inl same ↦ earlier_move m n _ _ s t both.first both.second same
+        (lifted_first (row_at rows n).kind out_n (cell_at rows m) (cell_at rows n) (cell m _ s both.first) (cell n _ t both.second) over)
     | inr other ↦ elim other [
       | inl below ↦ earlier_task m n _ _ s t both.first both.second both.one_hatch below
       | inr above ↦
@@ -194,15 +171,10 @@ module _ (ship : ShipView) (is : IsShip ship) (rows : List Row) (moves : AreMove
           absurd (not_over_deck (cell_at rows m) (cell_at rows n) places.0 places.1 over)
     ]
   ]
-    where
-      kinds : (k l : Move) → is_discharge k ≡ true → is_discharge l ≡ true → k ≡ l
-      kinds Discharge Discharge a b = refl
-      kinds Load l a b = cc a
-      kinds Discharge Load a b = cc b
 
   set_down : (m n s t : ℕ) → BeginBoth w m n s t → IsLoad w m → IsLoad w n → IsOver w m n → t < s
   set_down m n s t both in_m in_n over = elim (cases_order both.first_task both.second_task) [
-    | inl same ↦ earlier_turn n m _ _ t s both.second both.first (sym same) (both_in (row_at rows m).kind (row_at rows n).kind in_m (cell_at rows m) (cell_at rows n) over)
+    | inl same ↦ earlier_move n m _ _ t s both.second both.first (sym same) (set_first (row_at rows m).kind in_m (cell_at rows n) (cell_at rows m) over)
     | inr other ↦ elim other [
       | inl below ↦
           let higher = later_phase both.first_task both.second_task below both.second.task_low both.one_hatch in

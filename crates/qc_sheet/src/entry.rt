@@ -57,7 +57,8 @@ impl Entry {
     }
 }
 
-ghost use Rattle.qc_sheet.specs.Entries.{IsEntry, entry_cmp};
+ghost use Rattle.qc_sheet.specs.Entries.{IsEntry};
+ghost use Rattle.qc_sheet.specs.Order.{entry_cmp};
 ghost use Rattle.qc_sheet.specs.declared.forties.TheConstants.{SPOTS};
 
 /// The entries of moves, by the table of the 40-foot containers.

@@ -2,7 +2,8 @@
 
 ghost use Rattle.std.specs.Prelude.{◌≡◌, ◌<◌, ◌*◌, ◌+◌, ℕ, ◌&&◌, ◌||◌, ◌==◌, false, length, slice_index_or, All, IfOk};
 ghost use Rattle.qc_cell.specs.Cells.{IsCell, is_forty};
-ghost use Rattle.qc_sheet.specs.Entries.{IsNextMark, Marks, height_of, spot};
+ghost use Rattle.qc_sheet.specs.Entries.{IsNextMark, Marks, spot};
+ghost use Rattle.qc_sheet.specs.Order.{height_of};
 
 use crate::order::{height, row_at};
 use qc_num::OutOfMemory;

@@ -3,8 +3,7 @@
 ghost use Rattle.std.specs.Prelude.{◌≡◌, ◌<◌, ◌≤◌, length, IfOk};
 ghost use Rattle.qc_cell.specs.Cells.{IsCell};
 ghost use Rattle.qc_stow.specs.Moves.{most_moves};
-ghost use Rattle.qc_sheet.specs.Entries.{feet, height_of};
-ghost use Rattle.qc_sheet.specs.Order.{lane, moves_of, row_at};
+ghost use Rattle.qc_sheet.specs.Order.{feet, height_of, lane, moves_of, row_at};
 
 use qc_cell::Cell;
 use qc_model::Task;

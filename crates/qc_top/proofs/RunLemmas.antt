@@ -17,9 +17,9 @@ use Rattle.qc_model.specs.declared.schedule.Slot.{Slot}
 use Rattle.qc_model.specs.declared.turn.Turn.{Turn}
 use Rattle.qc_model.specs.Instance.{InstanceView}
 use Rattle.qc_picture_command.specs.Account.{picture_reader, report_reader}
-use Rattle.qc_picture_command.specs.Planned.{TellsFigures, TellsPicture}
+use Rattle.qc_picture_command.specs.declared.answer.Print.TheVariants.{Figures, Picture}
 use Rattle.qc_picture_command.specs.Promises.{PrintedPromises}
-use Rattle.qc_picture_command.proofs.PrintedLemmas.{figures_told, picture_told, printed_promises}
+use Rattle.qc_picture_command.proofs.PrintedLemmas.{printed_promises}
 use Rattle.qc_plan_command.specs.Account.{IsLeft, IsPlanRun, both_files, tree_files}
 use Rattle.qc_plan_command.specs.Asked.{Planning, plan_of}
 use Rattle.qc_plan_command.specs.Promises.{PlanPromises}
@@ -225,13 +225,13 @@ module _ (words : List (List ℕ)) (before after pb pa : View) (ended : Status) 
   sheets s w p asks =
       sheet_promises (show_names s w p) before after pb pa ended (read sheet_reader (show_names s w p) (serves (sheet s w p) asks))
 
-  draws : (s w p : List ℕ) → Asks words (picture s w p) → PrintedPromises TellsPicture (show_names s w p) before after pb pa ended
+  draws : (s w p : List ℕ) → Asks words (picture s w p) → PrintedPromises Picture (show_names s w p) before after pb pa ended
   draws s w p asks =
-      printed_promises TellsPicture picture_told (show_names s w p) before after pb pa ended (read picture_reader (show_names s w p) (serves (picture s w p) asks))
+      printed_promises Picture (show_names s w p) before after pb pa ended (read picture_reader (show_names s w p) (serves (picture s w p) asks))
 
-  reports : (s w p : List ℕ) → Asks words (report s w p) → PrintedPromises TellsFigures (show_names s w p) before after pb pa ended
+  reports : (s w p : List ℕ) → Asks words (report s w p) → PrintedPromises Figures (show_names s w p) before after pb pa ended
   reports s w p asks =
-      printed_promises TellsFigures figures_told (show_names s w p) before after pb pa ended (read report_reader (show_names s w p) (serves (report s w p) asks))
+      printed_promises Figures (show_names s w p) before after pb pa ended (read report_reader (show_names s w p) (serves (report s w p) asks))
 
   watches : (s l : List ℕ) → Asks words (watch s l) → WatchPromises (watch_names s l) before after pb pa ended
   watches s l asks =

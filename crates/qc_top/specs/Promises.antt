@@ -6,7 +6,7 @@ use Rattle.qc_io.specs.Outside.{View}
 use Rattle.qc_dispatch_command.specs.Promises.{DispatchPromises}
 use Rattle.qc_model.specs.declared.turn.Turn.{Turn}
 use Rattle.qc_judge_commands.specs.Promises.{PlanCheckPromises, ShowPromises, TasksPromises, TreePromises}
-use Rattle.qc_picture_command.specs.Planned.{TellsFigures, TellsPicture}
+use Rattle.qc_picture_command.specs.declared.answer.Print.TheVariants.{Figures, Picture}
 use Rattle.qc_picture_command.specs.Promises.{PrintedPromises}
 use Rattle.qc_plan_command.specs.Asked.{plan_of}
 use Rattle.qc_plan_command.specs.Promises.{PlanPromises}
@@ -54,9 +54,9 @@ pub record Promises (words : List (List ℕ)) (before after out_before out_after
   pub sheets : (s w p : List ℕ) → Asks words (sheet s w p)
       → SheetPromises (show_names s w p) before after out_before out_after ended
   pub draws : (s w p : List ℕ) → Asks words (picture s w p)
-      → PrintedPromises TellsPicture (show_names s w p) before after out_before out_after ended
+      → PrintedPromises Picture (show_names s w p) before after out_before out_after ended
   pub reports : (s w p : List ℕ) → Asks words (report s w p)
-      → PrintedPromises TellsFigures (show_names s w p) before after out_before out_after ended
+      → PrintedPromises Figures (show_names s w p) before after out_before out_after ended
   -- making leaves the shelf untouched, and all but a plan leave the files
   pub make_leaves : (n h c : ℕ) → Asks words (make n h c) → after ≡ before
   pub files_stay : (asked : Asked) → Asks words asked → ¬ IsPlan asked → after.files ≡ before.files

@@ -13,7 +13,7 @@ use qc_io::{Shelf, Sink};
 use qc_judge_commands::{check_plan, check_tree, list_tasks, show};
 use qc_model::Turn;
 use qc_num::OutOfMemory;
-use qc_picture_command::{draw_picture, report_figures};
+use qc_picture_command::{Print, print_plan};
 use qc_plan_command::{PlanAsked, plan};
 use qc_run::{Inputs, Refusal, Status, Stop, report_stop, report_text};
 use qc_sheet_command::print_sheet;
@@ -176,8 +176,8 @@ fn read<S: Shelf, K: Sink>(
         Request::Sheet { .. } => print_sheet(alloc, &inputs, shelf, out),
         Request::Watch { .. } => watch(alloc, &inputs, shelf, out),
         Request::Dispatch { .. } => dispatch(alloc, &inputs, shelf, out),
-        Request::Picture { .. } => draw_picture(alloc, &inputs, shelf, out),
-        Request::Report { .. } => report_figures(alloc, &inputs, shelf, out),
+        Request::Picture { .. } => print_plan(alloc, Print::Picture, &inputs, shelf, out),
+        Request::Report { .. } => print_plan(alloc, Print::Figures, &inputs, shelf, out),
         _ => unreachable!(),
     }
 }

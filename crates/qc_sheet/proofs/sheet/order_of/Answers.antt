@@ -28,7 +28,7 @@ returns c =
     let numbers : c.as_slice.result.now ≡ moves_of rows t = c.as_slice.ensures.value ∙ c.in_ok-numbers.ensures in
     let listed : c.as_slice-3.result.now ≡ moves_of rows t = c.as_slice-3.ensures.value ∙ c.in_ok-numbers.ensures in
     let table = c.in_ok-table.table.items in
-    let order = sorted_order rows c.requires t table (subst (λ (ns : List ℕ). Marks rows ns table) numbers c.in_ok-table.ensures.marks)
+    let order = sorted_order rows t table (subst (λ (ns : List ℕ). Marks rows ns table) numbers c.in_ok-table.ensures.marks)
     c.in_ok-entries.entries.items (c.in_ok-entries.ensures.numbers ∙ listed)
     (subst (λ (bs : List Bool). All (IsEntry rows bs) c.in_ok-entries.entries.items) c.as_slice-2.ensures.value c.in_ok-entries.ensures.entries)
     c.sort.new.entries.items c.in_ok-sort.ensures.permutation c.in_ok-sort.ensures.sorted in

@@ -21,10 +21,10 @@ pub returns-in-Watch-clause-account : goal.returns-in-Watch-clause-account
 returns-in-Watch-clause-account g c = rw c.in-Watch.is (reader_named {reader = watch_reader} (rw c.in-Watch.is at c.files_of-inputs.ensures) c.watch.ensures.account)
 
 pub returns-in-Picture-clause-account : goal.returns-in-Picture-clause-account
-returns-in-Picture-clause-account g c = rw c.in-Picture.is (reader_named {reader = picture_reader} (rw c.in-Picture.is at c.files_of-inputs.ensures) c.draw_picture.ensures.account)
+returns-in-Picture-clause-account g c = rw c.in-Picture.is (reader_named {reader = picture_reader} (rw c.in-Picture.is at c.files_of-inputs.ensures) c.print_plan.ensures.account)
 
 pub returns-in-Report-clause-account : goal.returns-in-Report-clause-account
-returns-in-Report-clause-account g c = rw c.in-Report.is (reader_named {reader = report_reader} (rw c.in-Report.is at c.files_of-inputs.ensures) c.report_figures.ensures.account)
+returns-in-Report-clause-account g c = rw c.in-Report.is (reader_named {reader = report_reader} (rw c.in-Report.is at c.files_of-inputs.ensures) c.print_plan-in-Report.ensures.account)
 
 pub returns-in-Some-clause-account : goal.returns-in-Some-clause-account
 returns-in-Some-clause-account g c =

@@ -1,7 +1,6 @@
 use Rattle.std.proofs.Common.{Err, Ok}
-use Rattle.qc_picture_command.specs.Planned.{TellsFigures}
-use Rattle.qc_picture_command.proofs.PrintedLemmas.{figures_told, printed_promises}
-use Rattle.qc_picture_command.proofs.command.report_figures.Goals as goal
+use Rattle.qc_picture_command.proofs.PrintedLemmas.{printed_promises}
+use Rattle.qc_picture_command.proofs.command.print_plan.Goals as goal
 
 pub returns-in-Ok-clause-account : goal.returns-in-Ok-clause-account
 returns-in-Ok-clause-account g c =
@@ -9,7 +8,7 @@ returns-in-Ok-clause-account g c =
 
 pub returns-in-Ok-clause-promises : goal.returns-in-Ok-clause-promises
 unfolding returns-in-Ok-clause-account
-returns-in-Ok-clause-promises g c = printed_promises TellsFigures figures_told _ _ _ _ _ _ (returns-in-Ok-clause-account g c)
+returns-in-Ok-clause-promises g c = printed_promises c.args.what _ _ _ _ _ _ (returns-in-Ok-clause-account g c)
 
 pub returns-in-Err-clause-account : goal.returns-in-Err-clause-account
 returns-in-Err-clause-account g c =
@@ -17,4 +16,4 @@ returns-in-Err-clause-account g c =
 
 pub returns-in-Err-clause-promises : goal.returns-in-Err-clause-promises
 unfolding returns-in-Err-clause-account
-returns-in-Err-clause-promises g c = printed_promises TellsFigures figures_told _ _ _ _ _ _ (returns-in-Err-clause-account g c)
+returns-in-Err-clause-promises g c = printed_promises c.args.what _ _ _ _ _ _ (returns-in-Err-clause-account g c)

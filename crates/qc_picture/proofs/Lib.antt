@@ -1,3 +1,0 @@
-pub mod SpanLemmas
-pub mod OrderLemmas
-pub mod BoxLemmas
