@@ -10,7 +10,7 @@ use Rattle.qc_stow.specs.declared.row.Row.{Row}
 use Rattle.qc_tasks.specs.InstanceOf.{phases}
 use Rattle.qc_tasks.proofs.Loops.{range_more}
 use Rattle.qc_make.specs.Draws.{drawn, next_state, state_after}
-use Rattle.qc_make.specs.MadeShip.{hatch_number}
+use Rattle.qc_make.specs.MadeTable.{hatch_number}
 use Rattle.qc_make.specs.MadeList.{hatch_rows, made_row, made_rows, phase_rows, row_line, row_lines}
 
 -- one row more

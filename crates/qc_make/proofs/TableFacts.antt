@@ -10,8 +10,7 @@ use Rattle.toml.specs.Data.{Data, table, items_depth, members_depth}
 use Rattle.toml.specs.View.{items_of, members_view, view}
 use Rattle.toml.specs.declared.value.Value.{Value}
 use Rattle.toml.proofs.Views.{Entry}
-use Rattle.qc_make.specs.MadeShip.{hatch_number}
-use Rattle.qc_make.specs.MadeTable.{crane_table, number_value, ship_table, with_member}
+use Rattle.qc_make.specs.MadeTable.{crane_table, hatch_number, number_value, ship_table, with_member}
 
 -- a value put at a key
 members_by : (o : Ordering) (a b c : List Entry) → members_view (match_ordering o a b c) ≡ match_ordering o (members_view a) (members_view b) (members_view c)

@@ -10,7 +10,7 @@ use Rattle.qc_stow.specs.declared.row.Move.TheVariants.{Discharge, Load}
 use Rattle.qc_stow.specs.declared.row.Row.{Row}
 use Rattle.qc_tasks.specs.InstanceOf.{phases}
 use Rattle.qc_make.specs.Draws.{drawn, state_after}
-use Rattle.qc_make.specs.MadeShip.{hatch_number}
+use Rattle.qc_make.specs.MadeTable.{hatch_number}
 
 -- which way the containers of a phase go
 abbrev pub move_of : Phase → Move

@@ -1,11 +1,14 @@
--- inner: the table that a made ship file is printed from.
+-- public: the table of the ship file that is made, by its numbers of hatches and cranes.
 use Rattle.std.specs.Prelude.{ℕ, ◌+◌, ◌*◌, pos, List, ◌∷◌, map, codes, decimal}
 use Rattle.std.specs.Cmp.Lexicographic.{slice_cmp}
 use Rattle.std.specs.List.{range_with_len}
 use Rattle.std.specs.Ordering.{match_ordering, nat_cmp}
 use Rattle.toml.specs.Data.{Data, integer, string, array, table, Members, no_members, member}
 use Rattle.toml.specs.View.{items_of}
-use Rattle.qc_make.specs.MadeShip.{hatch_number}
+
+-- hatch k, from 0: 2, 6, 10 and so on
+abbrev pub hatch_number : ℕ → ℕ
+hatch_number k = 4 * k + 2
 
 -- the members with a value put at a key, in the order of the keys
 abbrev pub with_member : List ℕ → Data → Members → Members
@@ -21,7 +24,7 @@ number_value n = integer (pos n)
 abbrev pub hatch_values : ℕ → List Data
 hatch_values hatches = map (λ k. number_value (hatch_number k)) (range_with_len 0 hatches)
 
--- the table of crane k, from 0, and the values of the cranes
+-- the table of crane k, from 0, C1, C2 and so on at bays 1, 3 and so on, and the values of the cranes
 abbrev pub crane_table : ℕ → Members
 crane_table k = member (codes "bay") (number_value (2 * k + 1))
     (member (codes "name") (string (67 ∷ decimal (k + 1))) no_members)
@@ -29,7 +32,8 @@ crane_table k = member (codes "bay") (number_value (2 * k + 1))
 abbrev pub crane_values : ℕ → List Data
 crane_values cranes = map (λ k. table (crane_table k)) (range_with_len 0 cranes)
 
--- the table of the ship; all other keys are left out
+-- the table of the ship: a margin of one bay, 60 ticks of travel, 120 and 110 of a move, 240 of a cover; all other keys
+-- are left out
 abbrev pub ship_table : ℕ → ℕ → Members
 ship_table hatches cranes =
     member (codes "cover") (number_value 240)

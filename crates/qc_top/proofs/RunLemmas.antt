@@ -1,5 +1,5 @@
 -- What follows from a run's account of itself.
-use Rattle.std.proofs.Common.{◌≡◌, ◌≢◌, ◌≤◌, ◌⊎◌, Bool, true, false, cond, not, bytes_eq, ◌||◌, IfSome, ℕ, List, Option, None, Some, Result, Err, arith, refl, sym, ap, ◌∙◌, subst, inl, inr, codes}
+use Rattle.std.proofs.Common.{◌≡◌, ◌≢◌, ◌≤◌, ◌⊎◌, Bool, true, false, cond, not, bytes_eq, ◌||◌, IfSome, ℕ, List, [], Option, None, Some, Result, Err, arith, refl, sym, ap, ◌∙◌, subst, inl, inr, codes}
 use Rattle.std.proofs.lemmas.Bool.{and_parts, false_from_ne_true, false≢true, or_left, or_right}
 use Rattle.std.proofs.lemmas.Map.Text.{is_eq-slice_cmp}
 use Rattle.std.specs.Cmp.Lexicographic.{nat_list_cmp_total}
@@ -46,11 +46,9 @@ use Rattle.qc_watch_command.specs.Account.{watch_reader}
 use Rattle.qc_watch_command.specs.Promises.{WatchPromises}
 use Rattle.qc_watch_command.proofs.WatchLemmas.{watch_promises}
 use Rattle.qc_words.proofs.LimitLemmas.{asked_kept}
-use Rattle.qc_words.proofs.PlainWords.{canonical_asked}
 use Rattle.qc_words.specs.Asked.{Asked, KeepsLimits, are_different, check, dispatch, is_own, make, picture, plan, report, sheet, show, tasks, usage, watch, help, version}
 use Rattle.qc_words.specs.Words.{Asks}
-use Rattle.qc_top.specs.Account.{IsRun, IsRunOf, IsStopped, IsUsage, check_names, dispatch_names, show_names, tasks_names, watch_names, IsSaid}
-use Rattle.qc_words.specs.Help.{help_text, version_text}
+use Rattle.qc_top.specs.Account.{IsAbout, IsRun, IsRunOf, IsSaid, IsStopped, IsUsage, check_names, dispatch_names, show_names, tasks_names, watch_names}
 use Rattle.qc_top.specs.Promises.{IsPlan, Promises}
 
 -- ---- want of memory for the words, as an answer of each command
@@ -112,6 +110,8 @@ pub out_kept : (asked : Asked) (before after pb pa : View) (ended : Status) → 
 out_kept (check turn s w None t) before after pb pa ended h = (h.reports.beside_stays, h.reports.never_falls)
 out_kept (check turn s w (Some p) t) before after pb pa ended h = (h.reports.beside_stays, h.reports.never_falls)
 out_kept (make n k c) before after pb pa ended h = (h.run.reports.beside_stays, h.run.reports.never_falls)
+out_kept (help of) before after pb pa ended h = (h.said.reports.beside_stays, h.said.reports.never_falls)
+out_kept version before after pb pa ended h = (h.said.reports.beside_stays, h.said.reports.never_falls)
 out_kept other before after pb pa ended h = (h.reports.beside_stays, h.reports.never_falls)
 
 -- ---- the planner's own plan
@@ -299,6 +299,11 @@ module _ (words : List (List ℕ)) (before after pb pa : View) (ended : Status) 
     ];
   }
 
+  by_about : (asked : Asked) → IsAbout before after pb pa ended ⊎ IsStopped stop.OutOfMemory before after pb pa ended
+      → Whatever asked
+  by_about asked (inl is) = by_said asked is.text status.Done (λ f. cc f) (λ f. absurd (cc f)) (inl is.said)
+  by_about asked (inr h) = by_said asked [] status.Done (λ f. cc f) (λ f. absurd (cc f)) (inr h)
+
   whatever : (asked : Asked) → Asks words asked → Whatever asked
   whatever (plan turn s w p t n o) asks =
       let p = plans turn s w p t n o asks in
@@ -318,10 +323,8 @@ module _ (words : List (List ℕ)) (before after pb pa : View) (ended : Status) 
     usage_words = λ e. absurd ((makes n k c asks).no_usage e);
     memory = (makes n k c asks).out_of_memory;
   }
-  whatever (help of) asks =
-      by_said (help of) (help_text of) status.Done (λ f. cc f) (λ f. absurd (cc f)) (serves (help of) asks)
-  whatever version asks =
-      by_said version version_text status.Done (λ f. cc f) (λ f. absurd (cc f)) (serves version asks)
+  whatever (help of) asks = by_about (help of) (serves (help of) asks)
+  whatever version asks = by_about version (serves version asks)
   whatever usage asks =
       by_said usage (stop_text (stop.Refused refusal.Usage)) status.Usage (λ f. cc f) (λ _. asks) (refuses asks)
 
@@ -341,7 +344,6 @@ module _ (words : List (List ℕ)) (before after pb pa : View) (ended : Status) 
     reports = reports;
     make_leaves = make_leaves;
     files_stay = λ asked asks. (whatever asked asks).stays;
-    plain_words = canonical_asked words;
     usage_words = (whatever run.asked run.asks).usage_words;
     refuses = refuses;
     no_command = λ other none. stop_ends (stop.Refused refusal.Usage) (run.unnamed other none);

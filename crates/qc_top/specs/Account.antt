@@ -1,5 +1,5 @@
 -- public: the account of a run, by what the words ask for.
-use Rattle.std.specs.Prelude.{◌≡◌, ◌⊎◌, ℕ, List, Option, None, Some}
+use Rattle.std.specs.Prelude.{◌≡◌, ◌⊎◌, ℕ, ◌<◌, List, length, Option, None, Some}
 use Rattle.qc_io.specs.Outside.{View}
 use Rattle.qc_model.specs.declared.turn.Turn.{Turn}
 use Rattle.qc_dispatch_command.specs.Account.{IsDispatchRun}
@@ -22,7 +22,6 @@ use Rattle.qc_watch_command.specs.Account.{watch_reader}
 use Rattle.qc_words.specs.Asked.{Asked, plan, check, tasks, show, make, sheet, watch, dispatch, picture, report, usage, help, version}
 use Rattle.qc_words.specs.Commands.{named}
 use Rattle.qc_words.specs.Words.{Asks, about}
-use Rattle.qc_words.specs.Help.{help_text, version_text}
 
 -- the files that a check, the tasks, a plan that is shown, drawn, reported or put on a sheet, a log that is judged, and
 -- a plan that is followed by one read; of a check with the turn of the schedules that are asked about
@@ -61,6 +60,12 @@ pub record IsSaid (text : List ℕ) (status_of : Status) (before after out_befor
   pub untouched : after ≡ before
   pub reports : Reports (Prints text) (PrintsPart text) status_of out_before out_after ended
 
+-- the program was asked about: nothing is read or written, and some text is printed
+pub record IsAbout (before after out_before out_after : View) (ended : Status) : Type 0 where
+  pub text : List ℕ
+  pub some : 0 < length text
+  pub said : IsSaid text status.Done before after out_before out_after ended
+
 -- the run stops before any command is served
 abbrev pub IsStopped : Stop → (before after out_before out_after : View) → Status → Type 0
 IsStopped why = IsSaid (stop_text why) (stop_status why)
@@ -96,8 +101,8 @@ IsRunOf (watch s l) = IsReaderRun watch_reader (watch_names s l)
 IsRunOf (dispatch s w p l) = IsDispatchRun (dispatch_names s w p l)
 IsRunOf (picture s w p) = IsReaderRun picture_reader (show_names s w p)
 IsRunOf (report s w p) = IsReaderRun report_reader (show_names s w p)
-IsRunOf (help of) = IsSaid (help_text of) status.Done
-IsRunOf version = IsSaid version_text status.Done
+IsRunOf (help of) = IsAbout
+IsRunOf version = IsAbout
 IsRunOf usage = IsUsage
 
 -- a run: the words ask for something, which is served, or memory is wanting for the words; where they ask about the

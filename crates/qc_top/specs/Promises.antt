@@ -20,10 +20,9 @@ use Rattle.qc_trial.specs.Account.{TrialPromises}
 use Rattle.qc_watch_command.specs.Promises.{WatchPromises}
 use Rattle.qc_words.specs.Asked.{Asked, plan, check, tasks, show, make, sheet, watch, dispatch, picture, report, usage, help, version}
 use Rattle.qc_words.specs.Commands.{named}
-use Rattle.qc_words.specs.Words.{Asks, Canonical, about}
-use Rattle.qc_top.specs.Account.{IsStopped, IsUsage, check_names, dispatch_names, show_names, tasks_names, watch_names, IsSaid}
+use Rattle.qc_words.specs.Words.{Asks, about}
+use Rattle.qc_top.specs.Account.{IsAbout, IsStopped, IsUsage, check_names, dispatch_names, show_names, tasks_names, watch_names}
 use Rattle.qc_words.specs.declared.commands.CommandName.{CommandName}
-use Rattle.qc_words.specs.Help.{help_text, version_text}
 
 -- a plan is asked for
 abbrev pub IsPlan : Asked → Type 0
@@ -60,18 +59,15 @@ pub record Promises (words : List (List ℕ)) (before after out_before out_after
   -- making leaves the shelf untouched, and all but a plan leave the files
   pub make_leaves : (n h c : ℕ) → Asks words (make n h c) → after ≡ before
   pub files_stay : (asked : Asked) → Asks words asked → ¬ IsPlan asked → after.files ≡ before.files
-  -- words in the plain form ask for what they spell, so they never are words of no command
-  pub plain_words : (asked : Asked) → Canonical words asked → Asks words asked
   -- Usage comes only on words that ask for nothing, and there always, but that memory may be wanting for them; where
   -- no command begins them it is not
   pub usage_words : ended ≡ status.Usage → Asks words usage
   pub refuses : Asks words usage → IsUsage before after out_before out_after ended
       ⊎ IsStopped stop.OutOfMemory before after out_before out_after ended
   pub no_command : about words ≡ None → named words ≡ None → EndsWith status.Usage out_before out_after ended
-  -- words that ask about the program are told it, and nothing is read or written
-  pub helps : (of : Option CommandName) → about words ≡ Some (help of)
-      → IsSaid (help_text of) status.Done before after out_before out_after ended
-  pub tells_version : about words ≡ Some version → IsSaid version_text status.Done before after out_before out_after ended
+  -- words that ask about the program are told some text, and nothing is read or written
+  pub helps : (of : Option CommandName) → about words ≡ Some (help of) → IsAbout before after out_before out_after ended
+  pub tells_version : about words ≡ Some version → IsAbout before after out_before out_after ended
   -- want of memory is told by its line alone
   pub out_of_memory :
       ended ≡ status.OutOfMemory → Prints (codes "OutOfMemory\n") out_before.written out_after.written

@@ -1,54 +1,67 @@
--- What a made ship and its list come to: the stored tree and plan, the check of both, and what is told.
-use Rattle.std.proofs.Common.{◌≡◌, ◌≤◌, ◌⊎◌, ℕ, Bool, true, false, List, Option, None, Some, Result, Ok, Err, refl, sym, subst, ap, ap₂, inl, inr, ◌∙◌, IfSome, IsSomeAnd, codes, nat_le, if◌then◌else◌}
+-- What a made ship and its list come to: the stored tree and plan, and what is told.
+use Rattle.std.proofs.Common.{◌≡◌, ◌≤◌, ◌⊎◌, ℕ, List, length, Option, None, Some, Result, Ok, Err, refl, sym, subst, ap, inl, inr, ◌∙◌, IfSome, IsSomeAnd, codes}
 use Rattle.std.specs.Cmp.Lexicographic.{nat_list_cmp_total}
 use Rattle.std.specs.FinMap.{get, get-insert, insert}
 use Rattle.std.proofs.lemmas.Option.{same_Some}
-use Rattle.qc_num.specs.Bounds.{IsAtMost}
-use Rattle.qc_num.specs.declared.bound.Bound.{Bound}
-use Rattle.qc_num.specs.declared.bound.Bound.TheVariants.{Least, Never}
+use Rattle.qc_num.specs.Reading.{◌>>=◌, with_fault}
 use Rattle.qc_gantt.specs.Plan.{HasShortEnds, plan_in}
 use Rattle.qc_gantt.specs.PlanText.{plan_text}
 use Rattle.qc_io.specs.Outside.{Files, View}
 use Rattle.qc_io.proofs.Named.{get-insert_same}
-use Rattle.qc_make.specs.MadeList.{made_rows}
-use Rattle.qc_make.specs.MadeShip.{made_ship}
+use Rattle.qc_make.specs.MadeList.{list_text}
+use Rattle.qc_make.specs.MadeTable.{ship_table}
 use Rattle.qc_model.specs.declared.limits.TheConstants.{MOST_START}
 use Rattle.qc_model.specs.declared.schedule.Slot.{Slot}
 use Rattle.qc_model.specs.Instance.{InstanceView}
 use Rattle.qc_model.specs.Judge.{IsJudgeable}
-use Rattle.qc_model.specs.OneWay.{IsAllowed}
 use Rattle.qc_model.specs.Rules.{ends}
-use Rattle.qc_search.specs.declared.done.Kind.TheVariants as kind
-use Rattle.qc_search.specs.Run.{DoneView, best_end, outcome}
-use Rattle.qc_starts.specs.Tight.{IsTight}
+use Rattle.qc_search.specs.Run.{DoneView}
+use Rattle.qc_ship.specs.declared.fault.ShipFault.{ShipFault}
 use Rattle.qc_ship.specs.Ship.{ShipView}
+use Rattle.qc_ship.specs.ShipFile.{ship_of}
+use Rattle.qc_stow.specs.declared.fault.StowFault.{StowFault}
+use Rattle.qc_stow.specs.declared.row.Row.{Row}
 use Rattle.qc_stow.specs.Stow.{moves_in}
+use Rattle.qc_tasks.specs.InstanceOf.{instance_of}
 use Rattle.qc_tree.specs.Trees.{Tree, tree_text}
 use Rattle.qc_store.specs.Stored.{with_plan}
 use Rattle.qc_store.specs.Stored.{IsTreeStored as IsSearchStored}
-use Rattle.qc_store.proofs.OutcomeLemmas.{of_some, short_ends, tight_allowed}
+use Rattle.qc_store.proofs.OutcomeLemmas.{short_ends}
+use Rattle.qc_run.specs.declared.refusal.Refusal.{Refusal}
+use Rattle.qc_run.specs.declared.refusal.Refusal.TheVariants as refusal
 use Rattle.qc_run.specs.declared.refusal.Stop.{Stop}
 use Rattle.qc_run.specs.declared.refusal.Stop.TheVariants as stop
 use Rattle.qc_run.specs.declared.status.Status.{Status}
 use Rattle.qc_run.specs.declared.status.Status.TheVariants as status
 use Rattle.qc_run.specs.Reports.{Printing, Prints, PrintsPart, answer_prints, answer_status}
-use Rattle.qc_run.specs.Told.{EndsWith}
-use Rattle.qc_run.proofs.ToldLemmas.{cut_told, memory_told, never_usage, of_status}
+use Rattle.qc_run.specs.Texts.{refusal_status}
+use Rattle.qc_run.specs.Told.{EndsWith, IsRefusal}
+use Rattle.qc_run.proofs.StatusLemmas.{stop_is_not}
+use Rattle.qc_run.proofs.ToldLemmas.{cut_told, memory_told, never_usage, of_status, refused_told}
 use Rattle.qc_trial.specs.declared.made.Made.{Made}
-use Rattle.qc_trial.specs.declared.made.Verdict.TheVariants as verdict
 use Rattle.qc_trial.specs.Account.{IsMaking, IsMakingTold, IsTrialRun, TrialPromises}
-use Rattle.qc_trial.specs.Made.{made_branchings, verdict_of}
-use Rattle.qc_trial.specs.Stored.{AreStored, IsPlanStored, verdict_at}
+use Rattle.qc_trial.specs.Made.{made_branchings, made_due}
+use Rattle.qc_trial.specs.Stored.{AreStored, IsPlanStored}
 use Rattle.qc_trial.specs.Texts.{made_text}
 
 -- ---- what is made
 
--- the list is read for the ship that is read
-pub moves_read : (number hatches cranes : ℕ) (ship : ShipView) (text bytes : List ℕ)
-    → ship ≡ made_ship hatches cranes
-    → bytes ≡ text → moves_in (made_ship hatches cranes) text ≡ Ok (made_rows number hatches)
-    → moves_in ship bytes ≡ Ok (made_rows number hatches)
-moves_read number hatches cranes ship text bytes is same law = ap₂ moves_in is same ∙ law
+-- no step refuses the words
+module _ {A : Type 0} (last : ShipView → List Row → A) where
+  list_made : (ship : ShipView) (rows : Result (List Row) StowFault)
+      → (with_fault refusal.BadStow rows >>= λ rows. Ok (last ship rows)) ≡ Err refusal.Usage → ⊥
+  list_made ship (Ok rows) e = cc e
+  list_made ship (Err fault) e = cc e
+
+  words_made : (ship : Result ShipView ShipFault) (moves : ShipView → Result (List Row) StowFault)
+      → (with_fault refusal.BadShip ship >>= λ s. with_fault refusal.BadStow (moves s) >>= λ rows. Ok (last s rows)) ≡ Err refusal.Usage → ⊥
+  words_made (Ok ship) moves e = list_made ship (moves ship) e
+  words_made (Err fault) moves e = cc e
+
+never_words : (n h c : ℕ) → made_due n h c ≡ Err refusal.Usage → ⊥
+never_words n h c e =
+    let last : ShipView → List Row → ℕ × InstanceView = λ ship rows. (length rows, instance_of ship rows) in
+    words_made last (ship_of (ship_table h c)) (λ ship. moves_in ship (list_text n h)) e
 
 -- ---- the files
 
@@ -102,40 +115,6 @@ are_stored inst given (Some held) (Some now) after done stored wrote reread =
           reread;
     })
 
--- the best schedule is read of its file, and cranes may follow it
-pub best_read : (inst : InstanceView) (files : Files) (done : DoneView) (met sched : List Slot)
-    → AreStored inst files done
-    → done.best ≡ Some met → (IsPlanStored inst files met → sched ≡ met)
-    → (done.best ≡ Some sched) × IsAllowed inst sched
-best_read inst files done met sched stored best read =
-    let plan = of_some (IsPlanStored inst files) done.best met best stored.plan_stored in
-    let is = best ∙ ap Some (sym (read plan)) in
-    (is, tight_allowed inst sched (of_some (IsTight inst) done.best sched is stored.found.came.sound.tight))
-
--- ---- the check
-
-verdict_by : (late : Bool) (sched : List Slot)
-    → (if late then verdict.Optimal else verdict.Weaker)
-    ≡ verdict_of (if late then kind.Optimal else kind.Budget) (Some sched)
-verdict_by true sched = refl
-verdict_by false sched = refl
-
-verdict_out : (bound : Bound) (end : ℕ) (sched : List Slot) → IsAtMost bound (Least end)
-    → verdict_at bound end ≡ verdict_of (outcome bound (Least end)) (Some sched)
-verdict_out (Least bound) end sched late = verdict_by (nat_le end bound) sched
-verdict_out Never end sched late = absurd late
-
--- the check of a best schedule finds what the search found
-pub verdict_is : (inst : InstanceView) (done : DoneView) (sched : List Slot) (bound : Bound)
-    → done.best ≡ Some sched
-    → done.kind ≡ outcome done.bound (best_end inst done.best) → done.bound ≡ bound
-    → IsAtMost bound (Least (ends inst sched))
-    → verdict_at bound (ends inst sched) ≡ verdict_of done.kind done.best
-verdict_is inst done sched bound best is same late =
-    verdict_out bound (ends inst sched) sched late
-    ∙ sym (ap₂ verdict_of (is ∙ ap₂
-    (λ (v : Bound) (o : Option (List Slot)). outcome v (best_end inst o)) same best) best)
-
 -- ---- what is told
 
 module _ (n h c : ℕ) (pb pa : View) (ended : Status) (run : IsTrialRun n h c pb pa ended) where
@@ -151,20 +130,26 @@ module _ (n h c : ℕ) (pb pa : View) (ended : Status) (run : IsTrialRun n h c p
   making_told : (r : Result Made Stop) → IsMaking n h c r → answer_status done r ≡ status.Done
       → answer_prints Prints whole r pb.written pa.written → IsMakingTold n h c pb pa
   making_told (Ok told) making e report = record { told = told; made = making; report = report }
-  making_told (Err stop.OutOfMemory) making e report = absurd (cc e)
-  making_told (Err (stop.Refused why)) making e report = absurd making
+  making_told (Err why) making e report = absurd (stop_is_not why status.Done e tt)
 
-  making_ends : (r : Result Made Stop) → IsMaking n h c r
-      → (answer_status done r ≡ status.Done) ⊎ (answer_status done r ≡ status.OutOfMemory)
-  making_ends (Ok told) making = inl refl
-  making_ends (Err stop.OutOfMemory) making = inr refl
-  making_ends (Err (stop.Refused why)) making = absurd making
+  refusal_is : (why : Refusal) → IsRefusal (refusal_status why)
+  refusal_is refusal.Usage = tt
+  refusal_is other = tt
 
-  make_complete : EndsWith status.Done pb pa ended ⊎ (ended ≡ status.OutOfMemory)
+  making_ends : (r : Result Made Stop)
+      → (answer_status done r ≡ status.Done) ⊎ ((answer_status done r ≡ status.OutOfMemory) ⊎ IsRefusal (answer_status done r))
+  making_ends (Ok told) = inl refl
+  making_ends (Err stop.OutOfMemory) = inr (inl refl)
+  making_ends (Err (stop.Refused why)) = inr (inr (refusal_is why))
+
+  make_complete : EndsWith status.Done pb pa ended ⊎ ((ended ≡ status.OutOfMemory) ⊎ IsRefusal ended)
   make_complete = elim run.reports.ending [
-    | inl told ↦ elim (making_ends run.answer run.serves) [
+    | inl told ↦ elim (making_ends run.answer) [
       | inl is ↦ inl (inl (told.status ∙ is))
-      | inr wanting ↦ inr (told.status ∙ wanting)
+      | inr other ↦ inr (elim other [
+        | inl wanting ↦ inl (told.status ∙ wanting)
+        | inr refused ↦ inr (subst IsRefusal (sym told.status) refused)
+      ])
     ]
     | inr cut ↦ inl (inr (cut.status, cut.rose))
   ]
@@ -174,7 +159,8 @@ module _ (n h c : ℕ) (pb pa : View) (ended : Status) (run : IsTrialRun n h c p
     make_done = λ e. of_status (IsMaking n h c) whole part done pb pa ended run status.Done e
         (λ f. cc f) making_told;
     make_complete = make_complete;
-    no_usage = never_usage (IsMaking n h c) whole part done pb pa ended run (λ told. tt) (λ making. making);
+    refused = refused_told (IsMaking n h c) whole part done pb pa ended run (λ told. tt);
+    no_usage = never_usage (IsMaking n h c) whole part done pb pa ended run (λ told. tt) (never_words n h c);
     out_of_memory = memory_told (IsMaking n h c) whole part done pb pa ended run (λ told. tt);
     write_fault = cut_told (IsMaking n h c) whole part done pb pa ended run (λ told e. cc e);
   }

@@ -2,20 +2,18 @@
 use Rattle.std.specs.Prelude.{◌≡◌, ◌⊎◌, ◌≢◌, ℕ, Result, Ok, Err, codes}
 use Rattle.qc_io.specs.Outside.{View}
 use Rattle.qc_run.specs.declared.refusal.Stop.{Stop}
-use Rattle.qc_run.specs.declared.refusal.Stop.TheVariants as stop
 use Rattle.qc_run.specs.declared.status.Status.{Status}
 use Rattle.qc_run.specs.declared.status.Status.TheVariants as status
 use Rattle.qc_run.specs.Reports.{IsRun, Prints, PrintsPart}
-use Rattle.qc_run.specs.Told.{EndsWith, IsCutTold}
+use Rattle.qc_run.specs.Told.{EndsWith, IsCutTold, IsRefusal, IsRefusalTold}
 use Rattle.qc_trial.specs.declared.made.Made.{Made}
-use Rattle.qc_trial.specs.Made.{IsMade}
+use Rattle.qc_trial.specs.Made.{IsDue, IsMade, made_due}
 use Rattle.qc_trial.specs.Texts.{made_text}
 
--- what comes of a ship and a list that are made: they are searched, or memory is wanting
+-- what comes of a ship and a list that are made: they are searched, or they have a fault, or memory is wanting
 abbrev pub IsMaking : (number hatches cranes : ℕ) → Result Made Stop → Type 0
 IsMaking n h c (Ok told) = IsMade n h c told
-IsMaking n h c (Err stop.OutOfMemory) = Unit {0}
-IsMaking n h c (Err (stop.Refused why)) = ⊥
+IsMaking n h c (Err why) = IsDue (made_due n h c) (Err why)
 
 -- a run of the command; it reads and writes no file
 abbrev pub IsTrialRun : (number hatches cranes : ℕ) → (out_before out_after : View) → Status → Type 0
@@ -31,8 +29,9 @@ pub record IsMakingTold (number hatches cranes : ℕ) (before after : View) : Ty
 
 pub record TrialPromises (number hatches cranes : ℕ) (out_before out_after : View) (ended : Status) : Type 0 where
   pub make_done : ended ≡ status.Done → IsMakingTold number hatches cranes out_before out_after
-  -- where the sink doesn't fail it comes, or want of memory does
-  pub make_complete : EndsWith status.Done out_before out_after ended ⊎ (ended ≡ status.OutOfMemory)
+  -- where the sink doesn't fail it comes, or want of memory does, or what is made has a fault, and that was printed
+  pub make_complete : EndsWith status.Done out_before out_after ended ⊎ ((ended ≡ status.OutOfMemory) ⊎ IsRefusal ended)
+  pub refused : IsRefusal ended → IsRefusalTold (IsMaking number hatches cranes) out_before out_after ended
   pub no_usage : ended ≢ status.Usage
   pub out_of_memory : ended ≡ status.OutOfMemory
       → Prints (codes "OutOfMemory\n") out_before.written out_after.written

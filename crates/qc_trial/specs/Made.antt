@@ -1,14 +1,22 @@
 -- public: what is made from numbers, what a search of it came to, and what is told of that.
-use Rattle.std.specs.Prelude.{◌≡◌, ℕ, List, length, sum_by, Option, None, Some, option_map}
-use Rattle.qc_num.specs.declared.bound.Bound.TheVariants.{Least}
-use Rattle.qc_make.specs.MadeList.{made_rows}
-use Rattle.qc_make.specs.MadeShip.{made_ship}
+use Rattle.std.specs.Prelude.{◌≡◌, ℕ, List, length, sum_by, Option, None, Some, Result, Ok, Err, option_map}
+use Rattle.qc_num.specs.Reading.{◌>>=◌, with_fault}
+use Rattle.qc_make.specs.MadeList.{list_text}
+use Rattle.qc_make.specs.MadeTable.{ship_table}
 use Rattle.qc_model.specs.declared.schedule.Slot.{Slot}
 use Rattle.qc_model.specs.Instance.{InstanceView}
 use Rattle.qc_model.specs.Rules.{ends}
+use Rattle.qc_run.specs.declared.refusal.Refusal.{Refusal}
+use Rattle.qc_run.specs.declared.refusal.Refusal.TheVariants as refusal
+use Rattle.qc_run.specs.declared.refusal.Stop.{Stop}
+use Rattle.qc_run.specs.declared.refusal.Stop.TheVariants as stop
 use Rattle.qc_search.specs.declared.done.Kind.{Kind}
 use Rattle.qc_search.specs.declared.done.Kind.TheVariants as kind
 use Rattle.qc_search.specs.Run.{DoneView}
+use Rattle.qc_ship.specs.Ship.{ShipView}
+use Rattle.qc_ship.specs.ShipFile.{ship_of}
+use Rattle.qc_stow.specs.declared.row.Row.{Row}
+use Rattle.qc_stow.specs.Stow.{moves_in}
 use Rattle.qc_tasks.specs.InstanceOf.{instance_of}
 use Rattle.qc_tree.specs.Trees.{Tree}
 use Rattle.qc_trial.specs.declared.made.Made.{Made}
@@ -16,9 +24,25 @@ use Rattle.qc_trial.specs.declared.made.Verdict.{Verdict}
 use Rattle.qc_trial.specs.declared.made.Verdict.TheVariants as verdict
 use Rattle.qc_store.specs.Outcome.{IsFound}
 
--- the instance of the made ship and the made list
-abbrev pub made_instance : (number hatches cranes : ℕ) → InstanceView
-made_instance number hatches cranes = instance_of (made_ship hatches cranes) (made_rows number hatches)
+-- the ship of the made ship file, and the moves of the made list for it, or the first fault
+abbrev pub ship_due : (hatches cranes : ℕ) → Result ShipView Refusal
+ship_due hatches cranes = with_fault refusal.BadShip (ship_of (ship_table hatches cranes))
+
+abbrev pub moves_due : (number hatches : ℕ) → ShipView → Result (List Row) Refusal
+moves_due number hatches ship = with_fault refusal.BadStow (moves_in ship (list_text number hatches))
+
+-- how many moves there are, and their instance, or the first fault of what is made: the ship file comes first
+abbrev pub made_due : (number hatches cranes : ℕ) → Result (ℕ × InstanceView) Refusal
+made_due number hatches cranes = do
+  ship ← ship_due hatches cranes
+  rows ← moves_due number hatches ship
+  Ok (length rows, instance_of ship rows)
+
+-- what is read is what is due, or memory was wanting
+abbrev pub IsDue : {A : Type 0} → Result A Refusal → Result A Stop → Type 0
+IsDue due (Ok read) = due ≡ Ok read
+IsDue due (Err (stop.Refused why)) = due ≡ Err why
+IsDue due (Err stop.OutOfMemory) = Unit {0}
 
 -- it is searched with at most so many branchings
 abbrev pub made_branchings : ℕ
@@ -26,27 +50,30 @@ made_branchings = 500
 
 -- what a check says of a search: of its best schedule and its tree, or of its tree alone where it knows no schedule
 abbrev pub verdict_of : Kind → Option (List Slot) → Verdict
+verdict_of kind.Infeasible None = verdict.Infeasible
 verdict_of k None = verdict.Bound
 verdict_of kind.Optimal (Some sched) = verdict.Optimal
 verdict_of k (Some sched) = verdict.Weaker
 
--- what is told of a search of the made instance: how much was made, how the search came out, the end of its best
--- schedule, its bound, and what a check of both says
-pub record TellsMade (number hatches cranes : ℕ) (done : DoneView) (told : Made) : Type 0 where
+-- what is told of a search of the instance that was read of what is made: how much was made, how the search came out,
+-- the end of its best schedule, its bound, and what a check of both says
+pub record TellsMade (number hatches cranes : ℕ) (read : ℕ × InstanceView) (done : DoneView) (told : Made) : Type 0 where
   pub number_told : told.number ≡ number
   pub hatches_told : told.hatches ≡ hatches
   pub cranes_told : told.cranes ≡ cranes
-  pub rows : told.rows ≡ length (made_rows number hatches)
-  pub tasks : told.tasks ≡ length (made_instance number hatches cranes).tasks
-  pub work : told.work ≡ sum_by (λ t. t.ticks) (made_instance number hatches cranes).tasks
+  pub rows : told.rows ≡ read.0
+  pub tasks : told.tasks ≡ length read.1.tasks
+  pub work : told.work ≡ sum_by (λ t. t.ticks) read.1.tasks
   pub kind : told.kind ≡ done.kind
-  pub end : told.end ≡ option_map (ends (made_instance number hatches cranes)) done.best
-  pub bound : done.bound ≡ Least told.bound
+  pub end : told.end ≡ option_map (ends read.1) done.best
+  pub bound : told.bound ≡ done.bound
   pub verdict : told.verdict ≡ verdict_of done.kind done.best
 
--- the made instance was searched, and what came of it is told
+-- the instance of what is made was searched, and what came of it is told
 pub record IsMade (number hatches cranes : ℕ) (told : Made) : Type 0 where
+  pub read : ℕ × InstanceView
+  pub due : made_due number hatches cranes ≡ Ok read
   pub tree : Tree
   pub done : DoneView
-  pub found : IsFound (made_instance number hatches cranes) made_branchings None tree done
-  pub tells : TellsMade number hatches cranes done told
+  pub found : IsFound read.1 made_branchings None tree done
+  pub tells : TellsMade number hatches cranes read done told

@@ -7,17 +7,12 @@ use Rattle.qc_num.specs.declared.bound.Bound.{Bound}
 use Rattle.qc_num.specs.declared.bound.Bound.TheVariants.{Least, Never}
 use Rattle.qc_model.specs.declared.schedule.Slot.{Slot}
 use Rattle.qc_model.specs.Instance.{InstanceView}
-use Rattle.qc_model.specs.OneWay.{IsAllowed}
 use Rattle.qc_search.specs.Run.{DoneView}
 use Rattle.qc_tree.specs.Trees.{IsTree, Tree, tree_text}
 use Rattle.qc_store.specs.Outcome.{IsFound, IsReread}
 use Rattle.qc_trial.specs.declared.made.Verdict.{Verdict}
 use Rattle.qc_trial.specs.declared.made.Verdict.TheVariants as verdict
 use Rattle.qc_trial.specs.Made.{made_branchings}
-
--- there is a schedule of the instance that cranes may follow
-abbrev pub HasSchedule : InstanceView → Type 0
-HasSchedule inst = (sched : List Slot) × IsAllowed inst sched
 
 -- the tree is one of the instance, and stands in its file
 pub record IsTreeStored (inst : InstanceView) (files : Files) (tree : Tree) : Type 0 where
@@ -35,6 +30,11 @@ pub record AreStored (inst : InstanceView) (files : Files) (done : DoneView) : T
   pub found : IsFound inst made_branchings None tree done
   pub tree_stored : IsTreeStored inst files tree
   pub plan_stored : IfSome done.best (IsPlanStored inst files)
+
+-- what a check says of a tree alone that shows this
+abbrev pub verdict_alone : Bound → Verdict
+verdict_alone (Least bound) = verdict.Bound
+verdict_alone Never = verdict.Infeasible
 
 -- what a check says of a plan that holds and ends then
 abbrev pub verdict_at : Bound → ℕ → Verdict

@@ -1,6 +1,6 @@
 //! What a trial comes to.
 
-use qc_num::Tick;
+use qc_num::{Bound, Tick};
 use qc_search::Kind;
 
 /// What a check says of a plan and a tree, or of a tree alone.
@@ -12,6 +12,10 @@ pub enum Verdict {
     Weaker,
     /// There is no plan; the tree shows an end that no schedule beats.
     Bound,
+    /// There is no plan, and the tree shows that there is none.
+    Infeasible,
+    /// The plan breaks a rule, or the file of the plan or of the tree holds none.
+    Broken,
 }
 
 /// What is told of a ship and a list that were made, planned and checked.
@@ -31,8 +35,8 @@ pub struct Made {
     pub kind: Kind,
     /// When the plan's last task ends, in ticks; none where no schedule was met.
     pub end: Option<Tick>,
-    /// No schedule that goes one way ends before this tick.
-    pub bound: Tick,
+    /// No schedule that goes one way ends earlier.
+    pub bound: Bound,
     /// What the check says of the plan and the tree.
     pub verdict: Verdict,
 }

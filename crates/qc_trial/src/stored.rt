@@ -1,20 +1,20 @@
 //! The search of a trial on a shelf in memory, and the check of what it stored there. A fault of that shelf is want
 //! of memory.
-ghost use Rattle.std.specs.Prelude.{◌≡◌, List, IfOk, IfSome, IsSome, IsSomeAnd, Some};
-ghost use Rattle.std.specs.FinMap.{get};
+ghost use Rattle.std.specs.Prelude.{◌≡◌, List, IfOk, IfSome, IsSomeAnd, Some};
 ghost use Rattle.qc_model.specs.declared.schedule.Slot.{Slot};
 ghost use Rattle.qc_model.specs.declared.turn.Turn.TheVariants.{OneWay};
 ghost use Rattle.qc_model.specs.Judge.{IsJudgeable};
+ghost use Rattle.qc_model.specs.OneWay.{IsAllowed};
 ghost use Rattle.qc_model.specs.Rules.{ends};
 ghost use Rattle.qc_tree.specs.Trees.{NoneEarlier, Tree, tree_value};
 ghost use Rattle.qc_trial.specs.Made.{verdict_of};
-ghost use Rattle.qc_trial.specs.Stored.{AreStored, HasSchedule, IsPlanStored, IsTreeStored, verdict_at};
+ghost use Rattle.qc_trial.specs.Stored.{AreStored, IsPlanStored, IsTreeStored, verdict_alone, verdict_at};
 
 use crate::made::Verdict;
 use qc_gantt::{PlanError, read_plan};
-use qc_io::{MemShelf, ReadAll, Shelf, WriteFault, read_all};
+use qc_io::{MemShelf, Shelf, WriteFault};
 use qc_model::{Instance, Schedule, direction_of, ends};
-use qc_num::{Bound, Bytes, OutOfMemory, Tick};
+use qc_num::{Bound, OutOfMemory, Tick};
 use qc_replay::{ReplayError, replay};
 use qc_search::{Done, Search};
 use qc_store::{EFFORT, store_best, store_tree};
@@ -50,66 +50,51 @@ pub(crate) fn store_search<S: Shelf>(
     }
 }
 
-/// A file of the shelf, however long it is.
-fn read_stored(alloc: Global, name: &str, shelf: &mut MemShelf) -> Result<Bytes, OutOfMemory>
-    requires { IsSome (get shelf.old.files name.now) }
-    ensures bytes { IfOk result (λ bytes. get shelf.old.files name.now ≡ Some bytes) }
-    ensures files { shelf.new.files ≡ shelf.old.files }
-{
-    let Some(bytes) = shelf.bytes(name) else {
-        unreachable!()
-    };
-    let limit = bytes.len();
-    match read_all(alloc, shelf, name, limit) {
-        Ok(bytes) => Ok(bytes),
-        Err(ReadAll::TooLarge) => unreachable!(),
-        Err(ReadAll::ReadFault | ReadAll::OutOfMemory) => Err(OutOfMemory),
-    }
-}
-
-/// The schedule of the stored plan.
+/// The schedule of the stored plan; none where it is no plan of the instance.
 fn stored_schedule(
     alloc: Global,
     inst: &Instance,
-    shelf: &mut MemShelf,
-) -> Result<Schedule, OutOfMemory>
-    requires { (sched : List Slot) × IsPlanStored inst.now shelf.old.files sched }
-    ensures sched { (sched : List Slot) → IsPlanStored inst.now shelf.old.files sched
-        → IfOk result (λ read. read ≡ sched) }
-    ensures judgeable { IfOk result (IsJudgeable inst.now) }
-    ensures files { shelf.new.files ≡ shelf.old.files }
+    shelf: &MemShelf,
+) -> Result<Option<Schedule>, OutOfMemory>
+    ensures sched { (sched : List Slot) → IsPlanStored inst.now shelf.now.files sched
+        → IfOk result (λ read. read ≡ Some sched) }
+    ensures judgeable { IfOk result (λ read. IfSome read (IsJudgeable inst.now)) }
 {
-    let bytes = read_stored(alloc, PLAN, shelf)?;
-    match read_plan(alloc, bytes.as_slice(), inst) {
-        Ok(sched) => Ok(sched),
-        Err(PlanError::Fault(_)) => unreachable!(),
+    let Some(bytes) = shelf.bytes(PLAN) else {
+        return Ok(None);
+    };
+    match read_plan(alloc, bytes, inst) {
+        Ok(sched) => Ok(Some(sched)),
+        Err(PlanError::Fault(_)) => Ok(None),
         Err(PlanError::OutOfMemory) => Err(OutOfMemory),
     }
 }
 
-/// What the stored tree shows.
-fn stored_bound(alloc: Global, inst: &Instance, shelf: &mut MemShelf) -> Result<Bound, OutOfMemory>
-    requires { (tree : Tree) × IsTreeStored inst.now shelf.old.files tree }
+/// What the stored tree shows; none where it is no tree of the instance.
+fn stored_bound(
+    alloc: Global,
+    inst: &Instance,
+    shelf: &mut MemShelf,
+) -> Result<Option<Bound>, OutOfMemory>
     ensures value { (tree : Tree) → IsTreeStored inst.now shelf.old.files tree
-        → IfOk result (λ bound. bound ≡ tree_value inst.now tree) }
-    ensures none_earlier { IfOk result (NoneEarlier inst.now) }
+        → IfOk result (λ bound. bound ≡ Some (tree_value inst.now tree)) }
+    ensures none_earlier { IfOk result (λ bound. IfSome bound (NoneEarlier inst.now)) }
+    ensures files { shelf.new.files ≡ shelf.old.files }
 {
     match replay(alloc, inst, shelf, TREE) {
-        Ok(read) => Ok(read.bound),
-        Err(ReplayError::Tree(_)) => unreachable!(),
+        Ok(read) => Ok(Some(read.bound)),
+        Err(ReplayError::Tree(_)) => Ok(None),
         Err(ReplayError::ReadFault | ReplayError::OutOfMemory) => Err(OutOfMemory),
     }
 }
 
-/// What a check says of the stored tree alone.
-fn check_tree(alloc: Global, inst: &Instance, shelf: &mut MemShelf) -> Result<Verdict, OutOfMemory>
-    requires stored { (tree : Tree) × IsTreeStored inst.now shelf.old.files tree }
-    requires some { HasSchedule inst.now }
-    ensures { IfOk result (λ verdict. verdict ≡ Verdict.Bound) }
+/// What a check says of a tree alone that shows this.
+fn verdict_alone(bound: Bound) -> Verdict
+    ensures { result ≡ verdict_alone bound }
 {
-    match stored_bound(alloc, inst, shelf)? {
-        Bound::Least(_) => Ok(Verdict::Bound),
-        Bound::Never => unreachable!(),
+    match bound {
+        Bound::Least(_) => Verdict::Bound,
+        Bound::Never => Verdict::Infeasible,
     }
 }
 
@@ -124,6 +109,26 @@ fn verdict_on(bound: Bound, end: Tick) -> Verdict
     }
 }
 
+/// What a check says of the stored plan, and of a tree that shows this.
+fn check_plan(
+    alloc: Global,
+    inst: &Instance,
+    bound: Bound,
+    shelf: &MemShelf,
+) -> Result<Verdict, OutOfMemory>
+    requires { inst.now.turn ≡ OneWay }
+    ensures { (sched : List Slot) → IsPlanStored inst.now shelf.now.files sched → IsAllowed inst.now sched
+        → IfOk result (λ verdict. verdict ≡ verdict_at bound (ends inst.now sched)) }
+{
+    let Some(sched) = stored_schedule(alloc, inst, shelf)? else {
+        return Ok(Verdict::Broken);
+    };
+    match direction_of(inst, &sched) {
+        Ok(_) => Ok(verdict_on(bound, ends(inst, &sched))),
+        Err(_) => Ok(Verdict::Broken),
+    }
+}
+
 /// What a check says of the stored plan and tree, or of the tree alone where no schedule was met.
 pub(crate) fn check_stored(
     alloc: Global,
@@ -133,16 +138,13 @@ pub(crate) fn check_stored(
 ) -> Result<Verdict, OutOfMemory>
     requires stored { AreStored inst.now shelf.old.files done.now }
     requires one_way { inst.now.turn ≡ OneWay }
-    requires some { HasSchedule inst.now }
     ensures { IfOk result (λ verdict. verdict ≡ verdict_of done.now.kind done.now.best) }
 {
-    let Some(_) = done.best() else {
-        return check_tree(alloc, inst, shelf);
+    let Some(bound) = stored_bound(alloc, inst, shelf)? else {
+        return Ok(Verdict::Broken);
     };
-    let sched = stored_schedule(alloc, inst, shelf)?;
-    let Ok(_) = direction_of(inst, &sched) else {
-        unreachable!()
-    };
-    let bound = stored_bound(alloc, inst, shelf)?;
-    Ok(verdict_on(bound, ends(inst, &sched)))
+    match done.best() {
+        Some(_) => check_plan(alloc, inst, bound, shelf),
+        None => Ok(verdict_alone(bound)),
+    }
 }

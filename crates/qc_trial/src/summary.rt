@@ -1,19 +1,21 @@
 //! The report of a ship and a list that were made, planned and checked.
 ghost use Rattle.std.specs.Prelude.{◌≡◌, ◌≤◌, length};
-ghost use Rattle.qc_trial.specs.Texts.{end_word, found_text, made_text, size_text, verdict_word};
+ghost use Rattle.qc_trial.specs.Texts.{bound_word, end_word, found_text, made_text, size_text, verdict_word};
 
 use crate::made::{Made, Verdict};
-use qc_num::{Text, Tick};
+use qc_num::{Bound, Text, Tick};
 use qc_store::kind_word;
 
 fn verdict_word(verdict: Verdict) -> &'static [u8]
     ensures text { result.now ≡ verdict_word verdict }
-    ensures short { length result.now ≤ 7 }
+    ensures short { length result.now ≤ 10 }
 {
     match verdict {
         Verdict::Optimal => b"Optimal",
         Verdict::Weaker => b"Weaker",
         Verdict::Bound => b"Bound",
+        Verdict::Infeasible => b"Infeasible",
+        Verdict::Broken => b"Broken",
     }
 }
 
@@ -28,6 +30,16 @@ fn end_word(end: Option<Tick>) -> Text<32>
             text
         }
         None => Text::of(b"none"),
+    }
+}
+
+fn bound_word(bound: Bound) -> Text<32>
+    ensures text { result ≡ bound_word bound }
+    ensures short { length result ≤ 20 }
+{
+    match bound {
+        Bound::Least(tick) => end_word(Some(tick)),
+        Bound::Never => end_word(None),
     }
 }
 
@@ -60,7 +72,7 @@ fn found_text(told: &Made) -> Text<96>
     text.push(b"\nend ");
     text.push(end_word(told.end).as_bytes());
     text.push(b"\nbound ");
-    text.push_number(told.bound);
+    text.push(bound_word(told.bound).as_bytes());
     text.push(b"\ncheck ");
     text.push(verdict_word(told.verdict));
     text.push(b"\n");

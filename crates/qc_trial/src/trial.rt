@@ -1,16 +1,11 @@
 //! The command that makes a ship and a stowage list from numbers, and plans and checks them.
-ghost use Rattle.std.specs.Prelude.{◌≡◌, ◌≤◌, List, length, OnOk, IfOk, IfSome, option_map};
-ghost use Rattle.qc_make.specs.MadeList.{made_rows};
-ghost use Rattle.qc_make.specs.MadeShip.{made_ship};
-ghost use Rattle.qc_make.specs.OneWayWork.{HasOneWay};
+ghost use Rattle.std.specs.Prelude.{◌≡◌, ◌≤◌, IfOk, IfSome, option_map};
 ghost use Rattle.qc_model.specs.declared.limits.TheConstants.{MOST_CRANES, MOST_HATCHES};
 ghost use Rattle.qc_model.specs.Judge.{IsJudgeable};
 ghost use Rattle.qc_model.specs.Rules.{ends};
-ghost use Rattle.qc_stow.specs.declared.row.Row.{Row};
-ghost use Rattle.qc_tasks.specs.InstanceOf.{instance_of};
-ghost use Rattle.qc_trial.specs.Account.{IsTrialRun, TrialPromises};
-ghost use Rattle.qc_trial.specs.Made.{IsMade, made_instance};
-ghost use Rattle.qc_trial.specs.Stored.{HasSchedule};
+ghost use Rattle.qc_model.specs.declared.turn.Turn.TheVariants.{OneWay};
+ghost use Rattle.qc_trial.specs.Account.{IsMaking, IsTrialRun, TrialPromises};
+ghost use Rattle.qc_trial.specs.Made.{IsDue, made_due, moves_due, ship_due};
 
 use crate::made::Made;
 use crate::stored::{check_stored, store_search};
@@ -18,27 +13,38 @@ use crate::summary::made_text;
 use qc_io::{MemShelf, Sink};
 use qc_make::{list_text, ship_text};
 use qc_model::{Instance, ends};
-use qc_num::{Bound, OutOfMemory, Tick};
-use qc_run::{Status, Stop, report_stop, report_text};
+use qc_num::Tick;
+use qc_run::{Refusal, Status, Stop, report_stop, report_text};
 use qc_search::Done;
 use qc_ship::{Ship, ShipError, read_ship};
-use qc_stow::{StowError, read_stow};
+use qc_stow::{Moves, StowError, read_stow};
 use qc_tasks::tasks_of;
 use std::alloc::Global;
 
-/// The ship that is made, as its file is read.
-fn made_ship(alloc: Global, hatches: u16, cranes: u16) -> Result<Ship, OutOfMemory>
+/// The ship of the made ship file.
+fn made_ship(alloc: Global, hatches: u16, cranes: u16) -> Result<Ship, Stop>
     requires hatches { (1 ≤ hatches) × (hatches ≤ MOST_HATCHES) }
     requires cranes { (1 ≤ cranes) × (cranes ≤ MOST_CRANES) }
-    ensures ship { IfOk result (λ ship. ship ≡ made_ship hatches cranes) }
-    ensures one_way { OnOk result ((rows : List Row)
-        → HasOneWay (instance_of (made_ship hatches cranes) rows)) }
+    ensures { IsDue (ship_due hatches cranes) result }
 {
     let text = ship_text(alloc, hatches, cranes)?;
     match read_ship(alloc, text.as_slice()) {
         Ok(ship) => Ok(ship),
-        Err(ShipError::Fault(_)) => unreachable!(),
-        Err(ShipError::OutOfMemory) => Err(OutOfMemory),
+        Err(ShipError::Fault(fault)) => Err(Stop::Refused(Refusal::BadShip(fault))),
+        Err(ShipError::OutOfMemory) => Err(Stop::OutOfMemory),
+    }
+}
+
+/// The moves of the made list.
+fn made_moves(alloc: Global, number: u32, hatches: u16, ship: &Ship) -> Result<Moves, Stop>
+    requires { hatches ≤ MOST_HATCHES }
+    ensures { IsDue (moves_due number hatches ship.now) result }
+{
+    let text = list_text(alloc, number, hatches)?;
+    match read_stow(alloc, text.as_slice(), ship) {
+        Ok(moves) => Ok(moves),
+        Err(StowError::Fault(fault)) => Err(Stop::Refused(Refusal::BadStow(fault))),
+        Err(StowError::OutOfMemory) => Err(Stop::OutOfMemory),
     }
 }
 
@@ -48,20 +54,14 @@ fn made_instance(
     number: u32,
     hatches: u16,
     cranes: u16,
-) -> Result<(u64, Instance), OutOfMemory>
+) -> Result<(u64, Instance), Stop>
     requires hatches { (1 ≤ hatches) × (hatches ≤ MOST_HATCHES) }
     requires cranes { (1 ≤ cranes) × (cranes ≤ MOST_CRANES) }
-    ensures rows { IfOk result (λ made. made.0 ≡ length (made_rows number hatches)) }
-    ensures inst { IfOk result (λ made. made.1 ≡ made_instance number hatches cranes) }
-    ensures some { IfOk result (λ made. HasSchedule made.1) }
+    ensures due { IsDue (made_due number hatches cranes) result }
+    ensures turn { IfOk result (λ made. made.1.turn ≡ OneWay) }
 {
     let ship = made_ship(alloc, hatches, cranes)?;
-    let text = list_text(alloc, number, hatches)?;
-    let moves = match read_stow(alloc, text.as_slice(), &ship) {
-        Ok(moves) => moves,
-        Err(StowError::Fault(_)) => unreachable!(),
-        Err(StowError::OutOfMemory) => return Err(OutOfMemory),
-    };
+    let moves = made_moves(alloc, number, hatches, &ship)?;
     let inst = tasks_of(alloc, &ship, &moves)?;
     Ok((moves.rows().len() as u64, inst))
 }
@@ -78,18 +78,15 @@ fn end_of(inst: &Instance, done: &Done) -> Option<Tick>
 }
 
 /// What is told of the ship and the list of these numbers.
-fn try_out(alloc: Global, number: u32, hatches: u16, cranes: u16) -> Result<Made, OutOfMemory>
+fn try_out(alloc: Global, number: u32, hatches: u16, cranes: u16) -> Result<Made, Stop>
     requires hatches { (1 ≤ hatches) × (hatches ≤ MOST_HATCHES) }
     requires cranes { (1 ≤ cranes) × (cranes ≤ MOST_CRANES) }
-    ensures { IfOk result (IsMade number hatches cranes) }
+    ensures { IsMaking number hatches cranes result }
 {
     let (rows, inst) = made_instance(alloc, number, hatches, cranes)?;
     let mut shelf = MemShelf::new(alloc)?;
     let done = store_search(alloc, &inst, &mut shelf)?;
     let verdict = check_stored(alloc, &inst, &done, &mut shelf)?;
-    let Bound::Least(bound) = done.bound() else {
-        unreachable!()
-    };
     Ok(Made {
         number,
         hatches,
@@ -99,7 +96,7 @@ fn try_out(alloc: Global, number: u32, hatches: u16, cranes: u16) -> Result<Made
         work: inst.work(),
         kind: done.kind(),
         end: end_of(&inst, &done),
-        bound,
+        bound: done.bound(),
         verdict,
     })
 }
@@ -113,6 +110,6 @@ pub fn make<K: Sink>(alloc: Global, number: u32, hatches: u16, cranes: u16, out:
 {
     match try_out(alloc, number, hatches, cranes) {
         Ok(told) => report_text(Status::Done, made_text(&told).as_bytes(), out),
-        Err(OutOfMemory) => report_stop(Stop::OutOfMemory, out),
+        Err(why) => report_stop(why, out),
     }
 }

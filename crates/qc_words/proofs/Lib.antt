@@ -1,4 +1,2 @@
 pub mod ReadLemmas
-pub mod WordWalk
-pub mod PlainWords
 pub mod LimitLemmas

@@ -1,4 +1,3 @@
 pub mod Asked
 pub mod Commands
-pub mod Help
 pub mod Words

@@ -1,7 +1,6 @@
 -- public: the words of a command line, and what they ask for.
-use Rattle.std.specs.Prelude.{◌≡◌, ◌⊎◌, ℕ, Bool, false, not, ◌&&◌, ◌||◌, ◌==◌, nat_le, if◌then◌else◌, IsTrue, IfSome, List, [], ◌∷◌, map, Option, None, Some, option_and_then, option_map, unwrap_or, codes, decimal, string_bytes, String}
+use Rattle.std.specs.Prelude.{◌≡◌, ℕ, Bool, ◌&&◌, ◌||◌, nat_le, if◌then◌else◌, List, [], ◌∷◌, map, Option, None, Some, option_and_then, option_map, unwrap_or, codes, string_bytes, String}
 use Rattle.std.specs.declared.alloc.Global.{Global}
-use Rattle.std.specs.List.{list_all}
 use Rattle.std.specs.Option.{option_map_or}
 use Rattle.std.specs.Str.{bytes_eq}
 use Rattle.clap.specs.Words.{Row, first_of}
@@ -9,7 +8,7 @@ use Rattle.qc_model.specs.Numbers.{most_branchings, most_cranes, most_hatches}
 use Rattle.qc_model.specs.declared.turn.Turn.{Turn}
 use Rattle.qc_model.specs.declared.turn.Turn.TheVariants.{OneWay, Free}
 use Rattle.qc_num.specs.Digits.{number_in}
-use Rattle.qc_words.specs.Asked.{Asked, plan, check, tasks, show, make, sheet, watch, dispatch, picture, report, usage, KeepsLimits, are_different, is_own, most_number, help, version}
+use Rattle.qc_words.specs.Asked.{Asked, plan, check, tasks, show, make, sheet, watch, dispatch, picture, report, usage, are_different, is_own, most_number, help, version}
 use Rattle.qc_words.specs.Commands.{command_of, named, read_by, command_name}
 use Rattle.qc_words.specs.declared.commands.CommandName.{CommandName}
 use Rattle.qc_words.specs.declared.commands.CommandName.TheVariants as name
@@ -40,75 +39,11 @@ about (word ∷ []) = word_about word
 about (name ∷ word ∷ []) = command_about name word
 about _ = None
 
--- ---- words in their plain form
-
--- a word that may name a file: it isn't empty and doesn't begin with '-'
-abbrev pub is_file_word : List ℕ → Bool
-is_file_word [] = false
-is_file_word (b ∷ bs) = not (b == 45)
-
--- a word of `check` and `freecheck`: it may name a file, or is `-`
-abbrev pub is_check_word : List ℕ → Bool
-is_check_word word = is_file_word word || bytes_eq word (codes "-")
-
--- each of the words may name a file
-abbrev pub AreFileWords : List (List ℕ) → Type 0
-AreFileWords names = IsTrue (list_all is_file_word names)
+-- ---- words of a command
 
 -- how many branchings a plan has at most where the words don't say it
 abbrev pub usual_branchings : ℕ
 usual_branchings = 20000
-
--- the words that name the planner's own plan, if there is one
-abbrev pub own_words : Option (List ℕ) → List (List ℕ)
-own_words None = []
-own_words (Some own) = codes "--from" ∷ own ∷ []
-
--- the name of the command that checks by schedules of this turn
-abbrev pub check_name : Turn → List ℕ
-check_name OneWay = codes "check"
-check_name Free = codes "freecheck"
-
--- the name of the command that plans by schedules of this turn
-abbrev pub search_name : Turn → List ℕ
-search_name OneWay = codes "plan"
-search_name Free = codes "free"
-
--- the words are a command's name and its operands in order, which say this; in `check` and `freecheck` a word may be
--- `-`, which as PLAN stands for no plan
-abbrev pub Spell : List (List ℕ) → Asked → Type 0
-Spell words (plan turn s w p t n own) = AreFileWords (s ∷ w ∷ p ∷ t ∷ []) × IfSome own (λ o. IsTrue (is_file_word o))
-    × (((words ≡ search_name turn ∷ s ∷ w ∷ p ∷ t ∷ own_words own) × (n ≡ usual_branchings))
-    ⊎ (words ≡ search_name turn ∷ s ∷ w ∷ p ∷ t ∷ codes "--nodes" ∷ decimal n ∷ own_words own))
-Spell words (check turn s w None t) =
-    IsTrue (list_all is_check_word (s ∷ w ∷ t ∷ []))
-    × (words ≡ check_name turn ∷ s ∷ w ∷ codes "-" ∷ t ∷ [])
-Spell words (check turn s w (Some p) t) =
-    IsTrue (is_file_word p && list_all is_check_word (s ∷ w ∷ t ∷ []))
-    × (words ≡ check_name turn ∷ s ∷ w ∷ p ∷ t ∷ [])
-Spell words (tasks s w) = AreFileWords (s ∷ w ∷ []) × (words ≡ codes "tasks" ∷ s ∷ w ∷ [])
-Spell words (show s w p) =
-    AreFileWords (s ∷ w ∷ p ∷ []) × (words ≡ codes "show" ∷ s ∷ w ∷ p ∷ [])
-Spell words (make number hatches cranes) =
-    words ≡ codes "make" ∷ decimal number ∷ decimal hatches ∷ decimal cranes ∷ []
-Spell words (sheet s w p) =
-    AreFileWords (s ∷ w ∷ p ∷ []) × (words ≡ codes "sheet" ∷ s ∷ w ∷ p ∷ [])
-Spell words (watch s l) = AreFileWords (s ∷ l ∷ []) × (words ≡ codes "watch" ∷ s ∷ l ∷ [])
-Spell words (dispatch s w p l) =
-    AreFileWords (s ∷ w ∷ p ∷ l ∷ []) × (words ≡ codes "dispatch" ∷ s ∷ w ∷ p ∷ l ∷ [])
-Spell words (picture s w p) =
-    AreFileWords (s ∷ w ∷ p ∷ []) × (words ≡ codes "picture" ∷ s ∷ w ∷ p ∷ [])
-Spell words (report s w p) =
-    AreFileWords (s ∷ w ∷ p ∷ []) × (words ≡ codes "report" ∷ s ∷ w ∷ p ∷ [])
-Spell words (help of) = about words ≡ Some (help of)
-Spell words version = about words ≡ Some version
-Spell words usage = ⊥
-
--- the words say this in the plain form, and it keeps the limits
-abbrev pub Canonical : List (List ℕ) → Asked → Type 0
-Canonical words asked = Spell words asked × KeepsLimits asked
-
--- ---- all words
 
 -- the number that the text is in plain decimal, where it is in range
 abbrev pub number_between : (least most : ℕ) → List ℕ → Option ℕ

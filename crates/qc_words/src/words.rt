@@ -3,10 +3,10 @@
 ghost use Rattle.std.specs.Prelude.{◌≡◌, IfOk, IfSome, IsOk, IsTrue, option_map};
 ghost use Rattle.std.specs.Option.{option_map_or};
 ghost use Rattle.clap.specs.Words.{app_of, found_of, rows_of, first_of, is_simple_and_free};
-ghost use Rattle.qc_words.specs.Asked.{Asked, asked_for, usage, KeepsLimits, are_different, is_own};
+ghost use Rattle.qc_words.specs.Asked.{asked_for, usage, KeepsLimits, are_different, is_own};
 ghost use Rattle.qc_words.specs.Commands.{command_of, named, read_by};
 ghost use Rattle.qc_words.specs.declared.commands.CommandName.TheVariants as name;
-ghost use Rattle.qc_words.specs.Words.{Asks, Canonical, about, asked_in, check_in, nodes_in, number_between, plan_in, plan_name, plan_of, texts, value_of};
+ghost use Rattle.qc_words.specs.Words.{Asks, about, asked_in, check_in, nodes_in, number_between, plan_in, plan_name, plan_of, texts, value_of};
 
 use crate::about::about;
 use crate::asked::{MOST_NUMBER, Request};
@@ -241,8 +241,6 @@ fn request_by(
 /// command's name.
 pub fn request_of(alloc: Global, words: &[String]) -> Result<Request<'_>, OutOfMemory>
     ensures asked { IfOk result (λ request. Asks (texts words.now) (asked_for request)) }
-    ensures canonical { (asked : Asked) → Canonical (texts words.now) asked
-        → IfOk result (λ request. asked_for request ≡ asked) }
     ensures limits { IfOk result (λ request. KeepsLimits (asked_for request)) }
     ensures about { IfSome (about (texts words.now)) (λ asked. IsOk result) }
     ensures no_command { about (texts words.now) ≡ None → named (texts words.now) ≡ None → result ≡ Ok Request.Usage }

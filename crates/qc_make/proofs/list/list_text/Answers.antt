@@ -1,7 +1,6 @@
 use Rattle.std.proofs.Common.{◌≡◌, ◌+◌, ◌*◌, ◌++◌, ℕ, List, arith, refl, ap, ◌∙◌, codes}
 use Rattle.qc_make.specs.Draws.{state_after}
-use Rattle.qc_make.specs.MadeList.{hatch_rows, list_text, row_lines}
-use Rattle.qc_make.proofs.ListBack.{list_back, list_short}
+use Rattle.qc_make.specs.MadeList.{hatch_rows, row_lines}
 use Rattle.qc_make.proofs.Lines.{hatch_more, state_then}
 use Rattle.qc_make.proofs.list.list_text.Goals as goal
 
@@ -20,15 +19,3 @@ loop-k-preserved c =
           ∙ hatch_more number k c.loop-k.state (4 * k + 2) (codes "id,move,cell,length\n") drew refl,
       c.in_ok-state.ensures.state ∙ ap (λ (s : ℕ). state_after s 4) drew ∙ state_then number (4 * k) 4 ∙ ap (state_after number) four,
     )
-
-pub returns-clause-moves : goal.returns-clause-moves
-returns-clause-moves c = λ cranes.
-    let all : c.loop-k.k ≡ c.args.hatches = omega arith in
-    let text : c.of.result ≡ list_text c.args.number c.args.hatches = c.of.ensures ∙ c.loop-k.invariant.0 ∙ ap (list_text c.args.number) all in
-    rw text (list_back c.args.number c.args.hatches c.requires cranes)
-
-pub returns-clause-short : goal.returns-clause-short
-returns-clause-short c =
-    let all : c.loop-k.k ≡ c.args.hatches = omega arith in
-    let text : c.of.result ≡ list_text c.args.number c.args.hatches = c.of.ensures ∙ c.loop-k.invariant.0 ∙ ap (list_text c.args.number) all in
-    rw text (list_short c.args.number c.args.hatches c.requires)

@@ -1,7 +1,6 @@
 use Rattle.std.proofs.Common.{ap, ◌∙◌, map}
 use Rattle.toml.specs.View.{view}
-use Rattle.qc_make.specs.MadeShip.{hatch_number}
-use Rattle.qc_make.specs.MadeTable.{number_value}
+use Rattle.qc_make.specs.MadeTable.{hatch_number, number_value}
 use Rattle.qc_make.proofs.TableFacts.{values_more}
 use Rattle.qc_make.proofs.ship.hatch_values.Goals as goal
 

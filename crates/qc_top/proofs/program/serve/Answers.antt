@@ -8,7 +8,15 @@ pub returns-in-Usage-clause-account : goal.returns-in-Usage-clause-account
 returns-in-Usage-clause-account g c = rw c.in-Usage.is (record { untouched = refl; reports = c.report_stop.ensures })
 
 pub returns-in-Help-clause-account : goal.returns-in-Help-clause-account
-returns-in-Help-clause-account g c = rw c.in-Help.is (record { untouched = refl; reports = rw c.help_text.ensures at c.report_text.ensures })
+returns-in-Help-clause-account g c = rw c.in-Help.is (record {
+  text = c.help_text.result.now;
+  some = c.help_text.ensures;
+  said = record { untouched = refl; reports = c.report_text.ensures };
+})
 
 pub returns-in-Version-clause-account : goal.returns-in-Version-clause-account
-returns-in-Version-clause-account g c = rw c.in-Version.is (record { untouched = refl; reports = rw c.version_text.ensures at c.report_text-in-Version.ensures })
+returns-in-Version-clause-account g c = rw c.in-Version.is (record {
+  text = c.version_text.result.now;
+  some = c.version_text.ensures;
+  said = record { untouched = refl; reports = c.report_text-in-Version.ensures };
+})

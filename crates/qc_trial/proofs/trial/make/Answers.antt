@@ -1,5 +1,4 @@
 use Rattle.std.proofs.Common.{◌≡◌, ◌∙◌, Err, Ok}
-use Rattle.qc_run.specs.declared.refusal.Stop.TheVariants as stop
 use Rattle.qc_trial.specs.Texts.{made_text}
 use Rattle.qc_trial.proofs.MadeLemmas.{trial_promises}
 use Rattle.qc_trial.proofs.trial.make.Goals as goal
@@ -15,7 +14,7 @@ returns-in-Ok-clause-promises g c = trial_promises _ _ _ _ _ _ (returns-in-Ok-cl
 
 pub returns-in-Err-clause-account : goal.returns-in-Err-clause-account
 returns-in-Err-clause-account g c =
-    record { answer = Err stop.OutOfMemory; serves = tt; reports = c.report_stop.ensures }
+    record { answer = Err c.in-Err.why; serves = c.in-Err.ensures; reports = c.report_stop.ensures }
 
 pub returns-in-Err-clause-promises : goal.returns-in-Err-clause-promises
 unfolding returns-in-Err-clause-account
