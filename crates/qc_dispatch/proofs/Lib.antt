@@ -9,6 +9,5 @@ pub mod TableLemmas
 pub mod KeptLemmas
 pub mod LogLemmas
 pub mod OneWayLemmas
-pub mod PieceLemmas
 pub mod WorkedLemmas
 pub mod WorkedValid

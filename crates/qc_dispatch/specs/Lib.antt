@@ -8,7 +8,6 @@ pub mod Events
 pub mod Log
 pub mod Journal
 pub mod Following
-pub mod Pieces
 pub mod Waits
 pub mod Kept
 pub mod Fields

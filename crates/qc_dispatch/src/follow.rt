@@ -21,7 +21,7 @@ use qc_num::{OutOfMemory, Tick};
 use std::alloc::Global;
 
 /// The most lines of a log.
-pub(crate) const MOST_LINES: usize = 100_000;
+const MOST_LINES: usize = 100_000;
 
 /// A dispatcher that was told a log, and what happened.
 #[derive(Drop)]
@@ -38,7 +38,7 @@ enum Refused {
 }
 
 /// The fault of a line, by how many lines are before it.
-pub(crate) fn fault(before: usize, kind: DispatchKind) -> DispatchFault
+fn fault(before: usize, kind: DispatchKind) -> DispatchFault
     requires { before ≤ most_lines }
     ensures { result ≡ record { line = before + 1; kind = kind } }
 {
@@ -119,7 +119,7 @@ impl Followed {
     }
 
     /// Takes a line behind so many others.
-    pub(crate) fn take(&mut self, before: usize, line: &[u8]) -> Result<(), DispatchError>
+    fn take(&mut self, before: usize, line: &[u8]) -> Result<(), DispatchError>
         requires quiet { IsQuiet self.old.dispatch }
         requires few { before ≤ most_lines }
         requires early { self.old.dispatch.clock ≤ most_passed * before }
@@ -163,11 +163,7 @@ impl Followed {
 }
 
 /// A dispatcher that was told nothing yet; what may start at once does.
-pub(crate) fn begin(
-    alloc: Global,
-    inst: &Instance,
-    plan: &Schedule,
-) -> Result<Followed, OutOfMemory>
+fn begin(alloc: Global, inst: &Instance, plan: &Schedule) -> Result<Followed, OutOfMemory>
     requires { Feasible inst.now plan.now }
     ensures begins { IfOk result (λ f. WentOn (blank inst.now plan.now) 0 (journal_of f)) }
     ensures quiet { IfOk result (λ f. IsQuiet f.dispatch) }

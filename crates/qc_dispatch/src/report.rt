@@ -1,14 +1,12 @@
 //! One line of a log.
 
-ghost use Rattle.std.specs.Prelude.{◌≡◌, ◌<◌, ◌≤◌, All, IfOk, IfSome, length};
+ghost use Rattle.std.specs.Prelude.{◌≡◌, ◌<◌, IfOk, IfSome, length};
 ghost use Rattle.std.specs.List.{list_any};
 ghost use Rattle.qc_model.specs.declared.limits.TheConstants.{MOST_TASKS};
 ghost use Rattle.qc_model.specs.Instance.{InstanceView};
-ghost use Rattle.qc_model.specs.Tasks.{task_text};
 ghost use Rattle.qc_log.specs.Lines.{is_space};
 ghost use Rattle.qc_dispatch.specs.Log.{done_in, passed_in, report_in, report_of, task_named};
 ghost use Rattle.qc_dispatch.specs.Following.{IsShort};
-ghost use Rattle.qc_dispatch.specs.Pieces.{long_kind};
 
 use crate::fault::DispatchKind;
 use qc_log::{line_text, next_word};
@@ -17,9 +15,6 @@ use qc_num::{Tick, plain_number};
 
 /// How many digits a number of ticks has at most.
 const TICK_DIGITS: usize = 9;
-
-/// A line that is followed has fewer bytes with its line feed: no name of a task and no number of ticks is so long.
-pub const MOST_LINE: usize = 64;
 
 /// What a line reports.
 #[derive(Clone, Copy, PartialEq, Eq)]
@@ -42,7 +37,7 @@ fn passed_in(number: &[u8]) -> Result<Report, DispatchKind>
 }
 
 /// Whether a space stands in a text.
-pub(crate) fn has_space(text: &[u8]) -> bool
+fn has_space(text: &[u8]) -> bool
     ensures { result ≡ list_any is_space text.now }
 {
     text.iter().any(|b| *b == b' ')
@@ -97,26 +92,4 @@ pub(crate) fn report_in(inst: &Instance, line: &[u8]) -> Result<Report, Dispatch
     };
     let (word, rest) = next_word(text);
     report_of(inst, word, rest)
-}
-
-/// What is wrong with a line that begins with so many bytes, should it end behind them.
-pub(crate) fn long_kind(part: &[u8]) -> DispatchKind
-    ensures { result ≡ long_kind part.now }
-{
-    let (word, rest) = next_word(part);
-    if word == b"done".as_slice() && !has_space(rest) {
-        DispatchKind::UnknownTask
-    } else {
-        DispatchKind::Line
-    }
-}
-
-/// The names of tasks are short.
-pub(crate) fn names_are_short(inst: &Instance)
-    ensures { All (λ task. length (task_text task) ≤ 8) inst.now.tasks }
-{
-    for task in inst.tasks() {
-        let name = task.text();
-        prove!(name.as_bytes().len() <= 8);
-    }
 }

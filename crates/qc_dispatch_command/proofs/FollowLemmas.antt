@@ -1,40 +1,89 @@
--- Where the command stops at the log, behind the steps that read the plan.
-use Rattle.std.proofs.Common.{◌≤◌, ℕ, Option, Ok, Err, subst, inl, inr, ◌∙◌}
-use Rattle.qc_dispatch.specs.declared.follow.Followed.{Followed}
+-- What the command comes to at the log, behind the steps that read the plan.
+use Rattle.std.proofs.Common.{◌≡◌, List, ℕ, Option, Result, Ok, Err, IfErr, IfOk, IsSome, refl, subst, inl, inr, ◌∙◌, arith}
+use Rattle.qc_dispatch.specs.declared.fault.DispatchFault.{DispatchFault}
+use Rattle.qc_dispatch.specs.Journal.{IsFaulty}
 use Rattle.qc_io.specs.Outside.{Files, View}
 use Rattle.qc_model.specs.Rules.{Feasible}
 use Rattle.qc_run.specs.declared.inputs.Input.TheVariants as input
 use Rattle.qc_run.specs.declared.reading.Job.{Job}
+use Rattle.qc_run.specs.declared.refusal.LogFault.TheVariants as log
+use Rattle.qc_run.specs.declared.refusal.Refusal.TheVariants as refusal
 use Rattle.qc_run.specs.declared.refusal.Stop.{Stop}
-use Rattle.qc_run.specs.Account.{IsReading}
+use Rattle.qc_run.specs.declared.refusal.Stop.TheVariants as stop
 use Rattle.qc_run.specs.Due.{input_due, job_due}
 use Rattle.qc_run.specs.Inputs.{Names}
-use Rattle.qc_run.specs.Steps.{IsStep}
+use Rattle.qc_run.specs.Steps.{ComesTo, IsStep, MayStop}
 use Rattle.qc_run.proofs.DueLemmas.{stops_from}
-use Rattle.qc_dispatch_command.specs.Account.{IsDispatchAccount, IsLogFaulty, IsLogFollowed, StopsLog}
+use Rattle.qc_dispatch_command.specs.declared.answer.Dispatched.{Dispatched}
+use Rattle.qc_dispatch_command.specs.declared.answer.Dispatching.{Dispatching}
+use Rattle.qc_dispatch_command.specs.declared.answer.Dispatching.TheVariants as dispatching
+use Rattle.qc_dispatch_command.specs.Account.{IsDispatchAccount, IsDispatching, StopsDispatch}
+use Rattle.qc_dispatch_command.specs.Told.{TellsCourse}
 
-module _ (names : Names) (before mid after : View) (job : Job) (first : IsStep job_due names before mid (Ok job))
+module _ {names : Names} {before mid after : View} {job : Job} (first : IsStep job_due names before mid (Ok job))
     (feasible : Feasible job.inst job.sched) where
-  from_mid : (why : Stop) → StopsLog job names mid after why → StopsLog job names before after why
-  from_mid why is = elim is [
-    | inl unread ↦ inl (stops_from (input_due input.Log) names before mid after first.files first.ok.0 why unread)
-    | inr refused ↦ inr (record {
-      fault = refused.fault;
-      refused = refused.refused;
-      reads = refused.reads ∙ first.ok.0;
-      faulty = subst (λ (f : Option Files). IsLogFaulty job names f refused.fault) first.files refused.faulty;
-    })
-  ]
-
-  pub then_stopped : (why : Stop)
-      → IsReading {A = Followed} (IsLogFollowed job names mid.files) (StopsLog job names mid after) names mid after (Err why)
-      → IsDispatchAccount names before after (Err why)
-  then_stopped why is = record {
+  -- the log couldn't be read
+  pub log_unread : {why : Stop} → IsStep {A = List ℕ} (input_due input.Log) names mid after (Err why) → IsDispatchAccount names before after (Err why)
+  log_unread {why = why} second = record {
     ok = tt;
-    err = inr (record { job = job; due = first.ok.1; feasible = feasible; log = from_mid why is.err });
-    may = is.may;
-    files = is.files ∙ first.files;
-    made = is.made ∙ first.made;
-    faults = is.faults ∙ first.faults;
-    read_faults = subst (λ (n : ℕ). n ≤ after.read_faults) first.ok.0 is.read_faults;
+    err = inr (record {
+      job = job;
+      due = first.ok.1;
+      feasible = feasible;
+      log = inl (stops_from (input_due input.Log) names before mid after first.files first.ok.0 why second.err);
+    });
+    may = second.may;
+    files = second.files ∙ first.files;
+    made = second.made ∙ first.made;
+    faults = second.faults ∙ first.faults;
+    read_faults = omega (arith, first.read_faults, second.read_faults);
   }
+
+  module _ {text : List ℕ} (second : IsStep (input_due input.Log) names mid after (Ok text)) where
+    read : ComesTo (input_due input.Log) names before.files (Ok text)
+    read = subst (λ (f : Option Files). ComesTo (input_due input.Log) names f (Ok text)) first.files second.ok.1
+
+    reads : after.read_faults ≡ before.read_faults
+    reads = second.ok.0 ∙ first.ok.0
+
+    through : (result : Result Dispatching Stop) → IfOk result (IsDispatching names before.files)
+        → IfErr result (StopsDispatch names before after) → IfErr result (MayStop names) → IsDispatchAccount names before after result
+    through (Ok answer) ok err may = record {
+      ok = (reads, ok);
+      err = tt;
+      may = tt;
+      files = second.files ∙ first.files;
+      made = second.made ∙ first.made;
+      faults = second.faults ∙ first.faults;
+      read_faults = omega (arith, first.read_faults, second.read_faults);
+    }
+    through (Err why) ok err may = record {
+      ok = tt;
+      err = err;
+      may = may;
+      files = second.files ∙ first.files;
+      made = second.made ∙ first.made;
+      faults = second.faults ∙ first.faults;
+      read_faults = omega (arith, first.read_faults, second.read_faults);
+    }
+
+    pub log_followed : (told : Dispatched) → told.job ≡ job → TellsCourse text told
+        → IsDispatchAccount names before after (Ok (dispatching.Dispatched told))
+    log_followed told same tells =
+        through (Ok (dispatching.Dispatched told))
+        (record { read = job; due = first.ok.1; tells = record { job_told = same; text = text; log = read; tells = tells } }) tt tt
+
+    pub log_refused : IsSome names.log → (fault : DispatchFault) → IsFaulty job.inst job.sched text fault
+        → IsDispatchAccount names before after (Err (stop.Refused (refusal.BadLog (log.Dispatch fault))))
+    log_refused named fault faulty =
+        through (Err (stop.Refused (refusal.BadLog (log.Dispatch fault)))) tt
+        (inr (record {
+          job = job;
+          due = first.ok.1;
+          feasible = feasible;
+          log = inr (record { text = text; due = read; fault = fault; faulty = faulty; refused = refl; reads = reads });
+        }))
+        named
+
+    pub log_unheld : IsDispatchAccount names before after (Err stop.OutOfMemory)
+    log_unheld = through (Err stop.OutOfMemory) tt (inl reads) tt

@@ -1,4 +1,1 @@
 pub mod FollowLemmas
-pub mod DispatchLemmas
-pub mod PieceLemmas
-pub mod LogFileLemmas

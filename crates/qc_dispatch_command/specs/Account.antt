@@ -1,10 +1,7 @@
 -- public: the account of the command that follows a plan by a log: what its answer tells of the files.
 use Rattle.std.specs.Prelude.{◌≡◌, ◌⊎◌, ℕ, List, Option, Result, Ok}
 use Rattle.qc_dispatch.specs.declared.fault.DispatchFault.{DispatchFault}
-use Rattle.qc_dispatch.specs.declared.follow.Followed.{Followed}
-use Rattle.qc_dispatch.specs.Following.{journal_of}
-use Rattle.qc_dispatch.specs.Journal.{IsFaulty, IsFollowed}
-use Rattle.qc_dispatch.specs.Promises.{Keeps}
+use Rattle.qc_dispatch.specs.Journal.{IsFaulty}
 use Rattle.qc_io.specs.Outside.{Files, View}
 use Rattle.qc_model.specs.Rules.{Feasible}
 use Rattle.qc_run.specs.declared.inputs.Input.TheVariants as input
@@ -24,36 +21,7 @@ use Rattle.qc_dispatch_command.specs.declared.answer.Dispatching.{Dispatching}
 use Rattle.qc_dispatch_command.specs.declared.answer.Dispatching.TheVariants as dispatching
 use Rattle.qc_dispatch_command.specs.Told.{TellsCourse, dispatching_status, dispatching_text}
 
--- ---- the log
-
--- the log was read and followed
-pub record IsLogFollowed (job : Job) (names : Names) (files : Option Files) (told : Followed) : Type 0 where
-  pub text : List ℕ
-  pub due : ComesTo (input_due input.Log) names files (Ok text)
-  pub followed : IsFollowed job.inst job.sched text (journal_of told)
-  pub keeps : Keeps told.dispatch
-
--- some line of the log is faulty
-pub record IsLogFaulty (job : Job) (names : Names) (files : Option Files) (fault : DispatchFault) : Type 0 where
-  pub text : List ℕ
-  pub due : ComesTo (input_due input.Log) names files (Ok text)
-  pub faulty : IsFaulty job.inst job.sched text fault
-
--- its first faulty line was refused
-pub record IsLogRefused (job : Job) (names : Names) (before after : View) (why : Stop) : Type 0 where
-  pub fault : DispatchFault
-  pub refused : why ≡ stop.Refused (refusal.BadLog (log.Dispatch fault))
-  pub reads : after.read_faults ≡ before.read_faults
-  pub faulty : IsLogFaulty job names before.files fault
-
--- the log couldn't be read, or a line of it is faulty
-abbrev pub StopsLog : Job → Names → View → View → Stop → Type 0
-StopsLog job names before after why =
-    Stops (input_due input.Log) names before after why ⊎ IsLogRefused job names before after why
-
--- ---- the command
-
--- the plan is feasible, and its order was followed by the log
+-- the plan is feasible, and its order was followed by the log, which was read whole
 pub record IsDispatched (names : Names) (files : Option Files) (job : Job) (told : Dispatched) : Type 0 where
   pub job_told : told.job ≡ job
   pub text : List ℕ
@@ -67,12 +35,21 @@ TellsDispatching names files job (dispatching.Dispatched told) = IsDispatched na
 abbrev pub IsDispatching : Names → Option Files → Dispatching → Type 0
 IsDispatching names files = IsFound job_due (TellsDispatching names files) names files
 
--- the plan is feasible, and it stopped at the log
+-- some line of the log is faulty, and the first fault was refused
+pub record IsLogRefused (job : Job) (names : Names) (before after : View) (why : Stop) : Type 0 where
+  pub text : List ℕ
+  pub due : ComesTo (input_due input.Log) names before.files (Ok text)
+  pub fault : DispatchFault
+  pub faulty : IsFaulty job.inst job.sched text fault
+  pub refused : why ≡ stop.Refused (refusal.BadLog (log.Dispatch fault))
+  pub reads : after.read_faults ≡ before.read_faults
+
+-- the plan is feasible, and the log couldn't be read, or a line of it is faulty
 pub record IsStoppedAtLog (names : Names) (before after : View) (why : Stop) : Type 0 where
   pub job : Job
   pub due : ComesTo job_due names before.files (Ok job)
   pub feasible : Feasible job.inst job.sched
-  pub log : StopsLog job names before after why
+  pub log : Stops (input_due input.Log) names before after why ⊎ IsLogRefused job names before after why
 
 -- a refusal comes before the plan is judged, or of the log where the plan is feasible
 abbrev pub StopsDispatch : Names → View → View → Stop → Type 0

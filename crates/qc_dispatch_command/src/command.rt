@@ -2,17 +2,19 @@
 ghost use Rattle.std.specs.Prelude.{◌≤◌, IsSome};
 ghost use Rattle.qc_run.specs.Inputs.{names_of};
 ghost use Rattle.qc_dispatch_command.specs.Account.{IsDispatchAccount, IsDispatchRun};
-ghost use Rattle.qc_dispatch_command.specs.Promises.{DispatchPromises};
 
 use crate::answer::{Dispatched, Dispatching};
-use crate::log::read_log;
 use crate::report::report;
+use qc_dispatch::{DispatchError, follow_log};
 use qc_io::{Shelf, Sink};
-use qc_run::{Inputs, Status, Stop, broken_of, broken_rule, read_job, report_stop};
+use qc_run::{
+    Input, Inputs, LogFault, Refusal, Status, Stop, broken_of, broken_rule, read_input, read_job,
+    report_stop,
+};
 use std::alloc::Global;
 
-/// Reads the ship file, the stowage list and the plan's file and judges the plan; where it is feasible the log
-/// is opened and followed.
+/// Reads the ship file, the stowage list and the plan's file and judges the plan; only where it is feasible the log
+/// is opened, read whole and followed.
 fn follow<S: Shelf>(alloc: Global, inputs: &Inputs<'_>, shelf: &mut S) -> Result<Dispatching, Stop>
     requires stow { IsSome (names_of inputs.now).stow }
     requires plan { IsSome (names_of inputs.now).plan }
@@ -27,9 +29,16 @@ fn follow<S: Shelf>(alloc: Global, inputs: &Inputs<'_>, shelf: &mut S) -> Result
     if let Some(broken) = broken_rule(&job.inst, &job.sched) {
         return Ok(Dispatching::Broken(broken_of(&job.inst, broken)));
     }
-    match read_log(alloc, inputs, &job, shelf) {
+    let log = match read_input(alloc, inputs, Input::Log, shelf) {
+        Ok(log) => log,
+        Err(stop) => return Err(stop),
+    };
+    match follow_log(alloc, &job.inst, &job.sched, log.as_slice()) {
         Ok(followed) => Ok(Dispatching::Dispatched(Dispatched { job, followed })),
-        Err(stop) => Err(stop),
+        Err(DispatchError::Fault(fault)) => {
+            Err(Stop::Refused(Refusal::BadLog(LogFault::Dispatch(fault))))
+        }
+        Err(DispatchError::OutOfMemory) => Err(Stop::OutOfMemory),
     }
 }
 
@@ -45,8 +54,6 @@ pub fn dispatch<S: Shelf, K: Sink>(
     requires plan { IsSome (names_of inputs.now).plan }
     requires log { IsSome (names_of inputs.now).log }
     ensures account { IsDispatchRun (names_of inputs.now) (S.Sink.view shelf.old) (S.Sink.view shelf.new)
-        (K.Sink.view out.old) (K.Sink.view out.new) result }
-    ensures promises { DispatchPromises (names_of inputs.now) (S.Sink.view shelf.old) (S.Sink.view shelf.new)
         (K.Sink.view out.old) (K.Sink.view out.new) result }
     ensures reads_never_fall { (S.Sink.view shelf.old).read_faults ≤ (S.Sink.view shelf.new).read_faults }
 {

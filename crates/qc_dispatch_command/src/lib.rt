@@ -3,8 +3,6 @@
 
 mod answer;
 mod command;
-mod log;
-mod pieces;
 mod report;
 
 pub use answer::{Dispatched, Dispatching};

@@ -1,4 +1,4 @@
--- What follows from the account of a check of a plan, and from that of a plan that is shown.
+-- What follows from the account of a check of a plan.
 use Rattle.std.proofs.Common.{◌≡◌, ◌≤◌, ◌⊎◌, ℕ, Bool, true, false, List, Option, None, Some, Result, Ok, Err, arith, refl, sym, ap, subst, inl, inr, ◌∙◌, IfErr, IfSome, codes, nat_le, ok_or, if◌then◌else◌}
 use Rattle.std.proofs.lemmas.Bool.{cond_both, leb-false, leb-true}
 use Rattle.qc_num.specs.declared.bound.Bound.TheVariants.{Least}
@@ -11,7 +11,6 @@ use Rattle.qc_model.specs.Rules.{ends}
 use Rattle.qc_replay.specs.declared.fault.Replayed.{Replayed}
 use Rattle.qc_tree.specs.declared.fault.TreeFault.{TreeFault}
 use Rattle.qc_replay.specs.Walk.{tree_in}
-use Rattle.qc_run.specs.declared.broken.Broken.{Broken}
 use Rattle.qc_run.specs.declared.inputs.Input.TheVariants as input
 use Rattle.qc_run.specs.declared.reading.Job.{Job}
 use Rattle.qc_run.specs.declared.refusal.Refusal.{Refusal}
@@ -20,7 +19,6 @@ use Rattle.qc_run.specs.declared.refusal.Stop.{Stop}
 use Rattle.qc_run.specs.declared.refusal.Stop.TheVariants as stop
 use Rattle.qc_run.specs.declared.status.Status.{Status}
 use Rattle.qc_run.specs.declared.status.Status.TheVariants as status
-use Rattle.qc_run.specs.Account.{IsReaderRun}
 use Rattle.qc_run.specs.Broken.{TellsBreakBy, broken_text}
 use Rattle.qc_run.specs.Due.{Contents, contents_in, job_due}
 use Rattle.qc_run.specs.Inputs.{Names}
@@ -28,7 +26,7 @@ use Rattle.qc_run.specs.Reports.{Prints}
 use Rattle.qc_run.specs.Steps.{ComesTo}
 use Rattle.qc_run.specs.Texts.{refusal_status, refusal_text, stop_status}
 use Rattle.qc_run.specs.Told.{EndsBy, NoneFailed}
-use Rattle.qc_run.proofs.AccountLemmas.{answer_found, ends_as, ends_due, fault_of, fault_told, is_bad_plan, is_told, reader_promises, reading_promises, refusal_found, told_of}
+use Rattle.qc_run.proofs.AccountLemmas.{answer_found, ends_as, fault_of, reading_promises, refusal_found, told_of}
 use Rattle.qc_run.proofs.DueLemmas.{comes_due, instance_turn, stop_is}
 use Rattle.qc_run.proofs.StatusLemmas.{IsAnswer}
 use Rattle.qc_run.proofs.ToldLemmas.{stop_due}
@@ -36,15 +34,11 @@ use Rattle.qc_judge_commands.specs.TreeFile.{IsTreeShown, tree_due}
 use Rattle.qc_judge_commands.specs.declared.answer.Compared.{Compared}
 use Rattle.qc_judge_commands.specs.declared.answer.Judged.{Judged}
 use Rattle.qc_judge_commands.specs.declared.answer.Judged.TheVariants as judged
-use Rattle.qc_judge_commands.specs.declared.answer.Showing.{Showing}
-use Rattle.qc_judge_commands.specs.declared.answer.Showing.TheVariants as showing
-use Rattle.qc_judge_commands.specs.declared.answer.Shown.{Shown}
-use Rattle.qc_judge_commands.specs.Account.{IsJudged, IsPlanCheckRun, IsStoppedAtTree, StopsPlan, TellsShowing, judged_report, show_reader}
-use Rattle.qc_judge_commands.specs.Promises.{EndsJudged, EndsShown, IsBadPlanTold, IsBestTold, IsBrokenTold, IsComparedTold, IsWeakerTold, PlanCheckPromises, ShowPromises}
-use Rattle.qc_judge_commands.specs.Reports.{showing_status}
+use Rattle.qc_judge_commands.specs.Account.{IsJudged, IsPlanCheckRun, IsStoppedAtTree, StopsPlan, judged_report}
+use Rattle.qc_judge_commands.specs.Promises.{EndsJudged, IsBadPlanTold, IsBestTold, IsBrokenTold, IsComparedTold, IsWeakerTold, PlanCheckPromises}
 use Rattle.qc_judge_commands.specs.Texts.{compared_status, compared_text, compared_word, judged_status, judged_text}
 use Rattle.qc_judge_commands.proofs.ReadLemmas.{job_inst}
-use Rattle.qc_judge_commands.proofs.TasksLemmas.{none_told}
+use Rattle.qc_judge_commands.proofs.TreeLemmas.{none_told}
 
 -- ---- statuses
 
@@ -211,32 +205,4 @@ module _ (names : Names) (before after pb pa : View) (ended : Status) (run : IsP
     check_plan_bad_tree = λ e. refusal_found found stops names judged_report judged_answers before after pb pa ended run status.BadTree tt e
         (λ why is same printed. none_told names before.files why is.1 same);
     check_complete = ends_as found stops names judged_report judged_answers before after pb pa ended run Ends judged_ends stops_end;
-  }
-
--- ---- the motion of a plan
-
-showing_answers : (a : Showing) → IsAnswer (showing_status a)
-showing_answers (showing.Broken told) = tt
-showing_answers (showing.Shown told) = tt
-
-is_broken : (a : Showing) → showing_status a ≡ status.Broken → (told : Broken) × (a ≡ showing.Broken told)
-is_broken (showing.Broken told) e = (told, refl)
-is_broken (showing.Shown told) e = absurd (cc e)
-
-is_shown : (a : Showing) → showing_status a ≡ status.Done → (told : Shown) × (a ≡ showing.Shown told)
-is_shown (showing.Shown told) e = (told, refl)
-is_shown (showing.Broken told) e = absurd (cc e)
-
-showing_ends : (job : Job) (a : Showing) → TellsShowing job a → EndsShown job (showing_status a)
-showing_ends job (showing.Broken told) is = record { neither = λ _. refl; one_way = λ goes. absurd (is.is.not_allowed goes) }
-showing_ends job (showing.Shown told) is = record { neither = λ neither. absurd (neither is.goes); one_way = λ _. refl }
-
-module _ (names : Names) (before after pb pa : View) (ended : Status) (run : IsReaderRun show_reader names before after pb pa ended) where
-  pub show_promises : ShowPromises names before after pb pa ended
-  show_promises = record {
-    reads = reader_promises show_reader showing_answers names before after pb pa ended run;
-    show_done = is_told show_reader showing_answers names before after pb pa ended run showing.Shown status.Done tt is_shown;
-    show_broken = is_told show_reader showing_answers names before after pb pa ended run showing.Broken status.Broken tt is_broken;
-    show_bad_plan = fault_told show_reader showing_answers names before after pb pa ended run refusal.BadPlan status.BadPlan tt is_bad_plan;
-    show_complete = ends_due show_reader showing_answers names before after pb pa ended run EndsShown showing_ends;
   }

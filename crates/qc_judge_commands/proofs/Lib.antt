@@ -1,5 +1,5 @@
 pub mod TreeFileLemmas
 pub mod ReadLemmas
-pub mod TasksLemmas
+pub mod TreeLemmas
 pub mod JudgedLemmas
 pub mod ReportLemmas

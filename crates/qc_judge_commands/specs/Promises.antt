@@ -3,41 +3,24 @@ use Rattle.std.specs.Prelude.{◌≡◌, ℕ, ◌≤◌, ◌<◌, List, ◌++◌
 use Rattle.qc_num.specs.declared.bound.Bound.{Bound}
 use Rattle.qc_num.specs.declared.bound.Bound.TheVariants.{Least, Never}
 use Rattle.qc_io.specs.Outside.{Files, View}
-use Rattle.qc_model.specs.Instance.{InstanceView}
-use Rattle.qc_model.specs.OneWay.{GoesOneWay, IsAllowed}
+use Rattle.qc_model.specs.OneWay.{IsAllowed}
 use Rattle.qc_model.specs.Rules.{ends}
 use Rattle.qc_replay.specs.declared.fault.Replayed.{Replayed}
-use Rattle.qc_tasks.specs.TasksText.{tasks_text}
 use Rattle.qc_run.specs.declared.reading.Job.{Job}
 use Rattle.qc_run.specs.declared.refusal.Refusal.{Refusal}
 use Rattle.qc_run.specs.declared.refusal.Refusal.TheVariants as refusal
 use Rattle.qc_run.specs.declared.status.Status.{Status}
 use Rattle.qc_run.specs.declared.status.Status.TheVariants as status
-use Rattle.qc_run.specs.Broken.{TellsBreak, TellsBreakBy, broken_text}
-use Rattle.qc_run.specs.Due.{contents_in, instance_due, job_due}
+use Rattle.qc_run.specs.Broken.{TellsBreakBy, broken_text}
+use Rattle.qc_run.specs.Due.{contents_in, job_due}
 use Rattle.qc_run.specs.Inputs.{Names}
 use Rattle.qc_run.specs.Reports.{Prints}
-use Rattle.qc_run.specs.Told.{EndsAsDue, EndsBy, IsBest, IsFaultTold, IsTold, ReadPromises, ReaderPromises}
+use Rattle.qc_run.specs.Told.{EndsAsDue, EndsBy, IsBest, IsFaultTold, IsTold, ReadPromises}
 use Rattle.qc_judge_commands.specs.TreeFile.{IsTreeShown, shown_due, tree_due}
 use Rattle.qc_judge_commands.specs.declared.answer.Compared.{Compared}
-use Rattle.qc_judge_commands.specs.Account.{IsJudging, IsTreeChecked, judged_report, show_reader, tasks_reader, tree_report}
-use Rattle.qc_judge_commands.specs.Held.{TellsShown}
-use Rattle.qc_judge_commands.specs.Reports.{IsShownPrinted}
+use Rattle.qc_judge_commands.specs.Account.{IsJudging, IsTreeChecked, judged_report, tree_report}
 use Rattle.qc_judge_commands.specs.Shown.{IsBoundShown, IsNoneShown}
 use Rattle.qc_judge_commands.specs.Texts.{bound_status, compared_status, compared_text, compared_word}
-
--- ---- the tasks
-
--- the tasks of the instance of the two files were printed
-abbrev pub AreTasksTold : Names → (held : Files) → (before after : View) → Type 0
-AreTasksTold = IsTold instance_due (λ (inst told : InstanceView). told ≡ inst) (λ told. Prints (tasks_text told))
-
-pub record TasksPromises (names : Names) (before after out_before out_after : View) (ended : Status) : Type 0 where
-  pub reads : ReaderPromises tasks_reader names before after out_before out_after ended
-  pub tasks_done : ended ≡ status.Done → IfSome before.files (λ held. AreTasksTold names held out_before out_after)
-  -- what is due of the files comes where no call failed, or want of memory does
-  pub complete : EndsAsDue (λ contents. EndsBy (λ inst end. end ≡ status.Done) (instance_due contents))
-      names before after out_before out_after ended
 
 -- ---- a tree alone
 
@@ -124,31 +107,3 @@ pub record PlanCheckPromises (names : Names) (before after out_before out_after 
   pub check_complete :
       EndsAsDue (λ contents. EndsBy (λ job. EndsJudged job (tree_due job.inst contents)) (job_due contents))
       names before after out_before out_after ended
-
--- ---- the motion of a plan
-
--- the plan goes one way, and its direction, its end, the motion of every crane, which is safe, and the Gantt text
--- were printed
-abbrev pub IsMotionTold : Names → (held : Files) → (before after : View) → Type 0
-IsMotionTold = IsTold job_due (λ job. TellsShown job.inst job.sched) IsShownPrinted
-
--- the plan goes neither way, and the first rule that it breaks was printed
-abbrev pub IsNeitherTold : Names → (held : Files) → (before after : View) → Type 0
-IsNeitherTold = IsTold job_due (λ job. TellsBreak job.inst job.sched) (λ told. Prints (broken_text told))
-
--- a plan that is shown ends so where nothing fails
-pub record EndsShown (job : Job) (ended : Status) : Type 0 where
-  pub neither : ¬ GoesOneWay job.inst job.sched → ended ≡ status.Broken
-  pub one_way : GoesOneWay job.inst job.sched → ended ≡ status.Done
-
-pub record ShowPromises (names : Names) (before after out_before out_after : View) (ended : Status) : Type 0 where
-  pub reads : ReaderPromises show_reader names before after out_before out_after ended
-  -- Done, Broken and BadPlan
-  pub show_done : ended ≡ status.Done → IfSome before.files (λ held. IsMotionTold names held out_before out_after)
-  pub show_broken : ended ≡ status.Broken
-      → IfSome before.files (λ held. IsNeitherTold names held out_before out_after)
-  pub show_bad_plan :
-      ended ≡ status.BadPlan → IfSome before.files (λ held. IsBadPlanTold names held out_before out_after)
-  -- where no call failed it is Broken exactly where the plan goes neither way
-  pub show_complete :
-      EndsAsDue (λ contents. EndsBy EndsShown (job_due contents)) names before after out_before out_after ended

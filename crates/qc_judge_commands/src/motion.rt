@@ -3,7 +3,6 @@ ghost use Rattle.std.specs.Prelude.{◌≤◌, IfOk, IsSome};
 ghost use Rattle.qc_run.specs.Inputs.{names_of};
 ghost use Rattle.qc_run.specs.Account.{Account, IsReaderRun};
 ghost use Rattle.qc_judge_commands.specs.Account.{show_reader};
-ghost use Rattle.qc_judge_commands.specs.Promises.{ShowPromises};
 ghost use Rattle.qc_judge_commands.specs.Reports.{CanBeShown};
 
 use crate::answer::{Showing, Shown};
@@ -54,8 +53,6 @@ pub fn show<S: Shelf, K: Sink>(
     requires plan { IsSome (names_of inputs.now).plan }
     ensures account { IsReaderRun show_reader (names_of inputs.now)
         (S.Sink.view shelf.old) (S.Sink.view shelf.new) (K.Sink.view out.old) (K.Sink.view out.new) result }
-    ensures promises { ShowPromises (names_of inputs.now) (S.Sink.view shelf.old) (S.Sink.view shelf.new)
-        (K.Sink.view out.old) (K.Sink.view out.new) result }
     ensures reads_never_fall { (S.Sink.view shelf.old).read_faults ≤ (S.Sink.view shelf.new).read_faults }
 {
     match judge(alloc, inputs, shelf) {

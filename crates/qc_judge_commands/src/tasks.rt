@@ -6,7 +6,6 @@ ghost use Rattle.qc_run.specs.Reports.{Prints, PrintsPart, Reports};
 ghost use Rattle.qc_run.specs.declared.status.Status.TheVariants as status;
 ghost use Rattle.qc_run.specs.Account.{IsReaderRun};
 ghost use Rattle.qc_judge_commands.specs.Account.{tasks_reader};
-ghost use Rattle.qc_judge_commands.specs.Promises.{TasksPromises};
 
 use qc_io::{Shelf, Sink, WriteFault};
 use qc_model::Instance;
@@ -35,8 +34,6 @@ pub fn list_tasks<S: Shelf, K: Sink>(
     requires { IsSome (names_of inputs.now).stow }
     ensures account { IsReaderRun tasks_reader (names_of inputs.now)
         (S.Sink.view shelf.old) (S.Sink.view shelf.new) (K.Sink.view out.old) (K.Sink.view out.new) result }
-    ensures promises { TasksPromises (names_of inputs.now) (S.Sink.view shelf.old) (S.Sink.view shelf.new)
-        (K.Sink.view out.old) (K.Sink.view out.new) result }
     ensures reads_never_fall { (S.Sink.view shelf.old).read_faults ≤ (S.Sink.view shelf.new).read_faults }
 {
     match read_instance(alloc, inputs, shelf) {

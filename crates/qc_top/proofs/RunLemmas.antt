@@ -6,13 +6,17 @@ use Rattle.std.specs.Cmp.Lexicographic.{nat_list_cmp_total}
 use Rattle.std.specs.FinMap.{get, get-insert, insert}
 use Rattle.qc_gantt.specs.PlanText.{plan_text}
 use Rattle.qc_io.specs.Outside.{Files, View, beside}
-use Rattle.qc_dispatch_command.specs.Account.{IsDispatching, IsDispatchRun, StopsDispatch}
-use Rattle.qc_dispatch_command.specs.Promises.{DispatchPromises}
-use Rattle.qc_dispatch_command.proofs.DispatchLemmas.{dispatch_promises}
+use Rattle.qc_dispatch_command.specs.declared.answer.Dispatching.{Dispatching}
+use Rattle.qc_dispatch_command.specs.declared.answer.Dispatching.TheVariants as dispatching
+use Rattle.qc_dispatch_command.specs.Account.{IsDispatching, IsDispatchRun, StopsDispatch, dispatch_report}
+use Rattle.qc_dispatch_command.specs.Told.{dispatching_status}
+use Rattle.qc_judge_commands.specs.declared.answer.Showing.{Showing}
+use Rattle.qc_judge_commands.specs.declared.answer.Showing.TheVariants as showing
 use Rattle.qc_judge_commands.specs.Account.{IsJudged, IsPlanCheckRun, IsTreeFound, IsTreeRun, StopsPlan, StopsTree, show_reader, tasks_reader}
-use Rattle.qc_judge_commands.specs.Promises.{PlanCheckPromises, ShowPromises, TasksPromises, TreePromises}
-use Rattle.qc_judge_commands.proofs.JudgedLemmas.{plan_check_promises, show_promises}
-use Rattle.qc_judge_commands.proofs.TasksLemmas.{tasks_promises, tree_promises}
+use Rattle.qc_judge_commands.specs.Promises.{PlanCheckPromises, TreePromises}
+use Rattle.qc_judge_commands.specs.Reports.{showing_status}
+use Rattle.qc_judge_commands.proofs.JudgedLemmas.{plan_check_promises}
+use Rattle.qc_judge_commands.proofs.TreeLemmas.{tree_promises}
 use Rattle.qc_model.specs.declared.schedule.Slot.{Slot}
 use Rattle.qc_model.specs.declared.turn.Turn.{Turn}
 use Rattle.qc_model.specs.Instance.{InstanceView}
@@ -36,15 +40,18 @@ use Rattle.qc_run.specs.Reports.{Printing, Prints, PrintsPart, Reports}
 use Rattle.qc_run.specs.Steps.{Stops}
 use Rattle.qc_run.specs.Texts.{stop_status, stop_text}
 use Rattle.qc_run.specs.Told.{EndsWith, ReadPromises}
+use Rattle.qc_run.proofs.AccountLemmas.{reader_promises, reading_promises}
+use Rattle.qc_run.proofs.StatusLemmas.{IsAnswer}
 use Rattle.qc_sheet_command.specs.Account.{sheet_reader}
 use Rattle.qc_sheet_command.specs.Promises.{SheetPromises}
 use Rattle.qc_sheet_command.proofs.SheetLemmas.{sheet_promises}
 use Rattle.qc_trial.specs.Account.{IsTrialRun, TrialPromises}
 use Rattle.qc_trial.proofs.MadeLemmas.{trial_promises}
 use Rattle.qc_tree.specs.Trees.{tree_text}
+use Rattle.qc_watch_command.specs.declared.answer.Watching.{Watching}
+use Rattle.qc_watch_command.specs.declared.answer.Watching.TheVariants as watching
 use Rattle.qc_watch_command.specs.Account.{watch_reader}
-use Rattle.qc_watch_command.specs.Promises.{WatchPromises}
-use Rattle.qc_watch_command.proofs.WatchLemmas.{watch_promises}
+use Rattle.qc_watch_command.specs.Texts.{watching_status}
 use Rattle.qc_words.proofs.LimitLemmas.{asked_kept}
 use Rattle.qc_words.specs.Asked.{Asked, KeepsLimits, are_different, check, dispatch, is_own, make, picture, plan, report, sheet, show, tasks, usage, watch, help, version}
 use Rattle.qc_words.specs.Words.{Asks}
@@ -94,6 +101,20 @@ module _ (v pb pa : View) (ended : Status)
 
   as_make : (n k c : ℕ) → IsTrialRun n k c pb pa ended
   as_make n k c = record { answer = Err stop.OutOfMemory; serves = tt; reports = reports }
+
+-- ---- no answer ends as a refusal does
+
+show_answers : (a : Showing) → IsAnswer (showing_status a)
+show_answers (showing.Broken told) = tt
+show_answers (showing.Shown told) = tt
+
+watch_answers : (a : Watching) → IsAnswer (watching_status a)
+watch_answers (watching.Safe count) = tt
+watch_answers (watching.Breach told) = tt
+
+dispatch_answers : (a : Dispatching) → IsAnswer (dispatching_status a)
+dispatch_answers (dispatching.Broken told) = tt
+dispatch_answers (dispatching.Dispatched told) = tt
 
 -- ---- the names of the files
 
@@ -213,14 +234,6 @@ module _ (words : List (List ℕ)) (before after pb pa : View) (ended : Status) 
       plan_check_promises names before after pb pa ended
       (served (λ v. IsPlanCheckRun names before v pb pa ended) (λ reports. as_check before pb pa ended reports names) (serves (check turn s w (Some p) t) asks))
 
-  lists_tasks : (s w : List ℕ) → Asks words (tasks s w) → TasksPromises (tasks_names s w) before after pb pa ended
-  lists_tasks s w asks =
-      tasks_promises (tasks_names s w) before after pb pa ended (read tasks_reader (tasks_names s w) (serves (tasks s w) asks))
-
-  shows : (s w p : List ℕ) → Asks words (show s w p) → ShowPromises (show_names s w p) before after pb pa ended
-  shows s w p asks =
-      show_promises (show_names s w p) before after pb pa ended (read show_reader (show_names s w p) (serves (show s w p) asks))
-
   sheets : (s w p : List ℕ) → Asks words (sheet s w p) → SheetPromises (show_names s w p) before after pb pa ended
   sheets s w p asks =
       sheet_promises (show_names s w p) before after pb pa ended (read sheet_reader (show_names s w p) (serves (sheet s w p) asks))
@@ -232,16 +245,6 @@ module _ (words : List (List ℕ)) (before after pb pa : View) (ended : Status) 
   reports : (s w p : List ℕ) → Asks words (report s w p) → PrintedPromises Figures (show_names s w p) before after pb pa ended
   reports s w p asks =
       printed_promises Figures (show_names s w p) before after pb pa ended (read report_reader (show_names s w p) (serves (report s w p) asks))
-
-  watches : (s l : List ℕ) → Asks words (watch s l) → WatchPromises (watch_names s l) before after pb pa ended
-  watches s l asks =
-      watch_promises (watch_names s l) before after pb pa ended (read watch_reader (watch_names s l) (serves (watch s l) asks))
-
-  dispatches : (s w p l : List ℕ) → Asks words (dispatch s w p l) → DispatchPromises (dispatch_names s w p l) before after pb pa ended
-  dispatches s w p l asks =
-      let names = dispatch_names s w p l in
-      dispatch_promises names before after pb pa ended
-      (served (λ v. IsDispatchRun names before v pb pa ended) (λ reports. as_dispatch before pb pa ended reports names) (serves (dispatch s w p l) asks))
 
   makes : (n k c : ℕ) → Asks words (make n k c) → TrialPromises n k c pb pa ended
   makes n k c asks = trial_promises n k c pb pa ended (elim (serves (make n k c) asks) [
@@ -272,6 +275,19 @@ module _ (words : List (List ℕ)) (before after pb pa : View) (ended : Status) 
       → ReadPromises account part before after pb pa ended → Whatever asked
   by_reads asked reads =
       record { stays = λ never. reads.files_stay; usage_words = λ e. absurd (reads.no_usage e); memory = reads.out_of_memory }
+
+  -- a command whose account is all that it says
+  by_reader : {X A : Type 0} (reader : Reader X A) → ((answer : A) → IsAnswer (reader.report.status answer)) → (names : Names) (asked : Asked)
+      → IsReaderRun reader names before after pb pa ended ⊎ IsStopped stop.OutOfMemory before after pb pa ended → Whatever asked
+  by_reader reader answers names asked serves =
+      by_reads asked (reader_promises reader answers names before after pb pa ended (read reader names serves))
+
+  by_dispatch : (names : Names) (asked : Asked)
+      → IsDispatchRun names before after pb pa ended ⊎ IsStopped stop.OutOfMemory before after pb pa ended → Whatever asked
+  by_dispatch names asked serves =
+      by_reads asked
+      (reading_promises (IsDispatching names before.files) (StopsDispatch names before after) names dispatch_report dispatch_answers before after pb pa ended
+      (served (λ v. IsDispatchRun names before v pb pa ended) (λ reports. as_dispatch before pb pa ended reports names) serves))
 
   -- something was said, or memory was wanting for the words
   by_said : (asked : Asked) (text : List ℕ) (wanted : Status) → wanted ≢ status.OutOfMemory → (wanted ≡ status.Usage → Asks words usage)
@@ -311,13 +327,13 @@ module _ (words : List (List ℕ)) (before after pb pa : View) (ended : Status) 
   whatever (check turn s w None t) asks = by_reads (check turn s w None t) (checks_tree turn s w t asks).reads
   whatever (check turn s w (Some p) t) asks =
       by_reads (check turn s w (Some p) t) (checks_plan turn s w p t asks).reads
-  whatever (tasks s w) asks = by_reads (tasks s w) (lists_tasks s w asks).reads
-  whatever (show s w p) asks = by_reads (show s w p) (shows s w p asks).reads
+  whatever (tasks s w) asks = by_reader tasks_reader (λ inst. tt) (tasks_names s w) (tasks s w) (serves (tasks s w) asks)
+  whatever (show s w p) asks = by_reader show_reader show_answers (show_names s w p) (show s w p) (serves (show s w p) asks)
   whatever (sheet s w p) asks = by_reads (sheet s w p) (sheets s w p asks).reads
   whatever (picture s w p) asks = by_reads (picture s w p) (draws s w p asks).reads
   whatever (report s w p) asks = by_reads (report s w p) (reports s w p asks).reads
-  whatever (watch s l) asks = by_reads (watch s l) (watches s l asks).reads
-  whatever (dispatch s w p l) asks = by_reads (dispatch s w p l) (dispatches s w p l asks).reads
+  whatever (watch s l) asks = by_reader watch_reader watch_answers (watch_names s l) (watch s l) (serves (watch s l) asks)
+  whatever (dispatch s w p l) asks = by_dispatch (dispatch_names s w p l) (dispatch s w p l) (serves (dispatch s w p l) asks)
   whatever (make n k c) asks = record {
     stays = λ never. ap (λ (v : View). v.files) (make_leaves n k c asks);
     usage_words = λ e. absurd ((makes n k c asks).no_usage e);
@@ -334,10 +350,6 @@ module _ (words : List (List ℕ)) (before after pb pa : View) (ended : Status) 
     own_stays = own_stays;
     checks_tree = checks_tree;
     checks_plan = checks_plan;
-    lists_tasks = lists_tasks;
-    shows = shows;
-    watches = watches;
-    dispatches = dispatches;
     makes = makes;
     sheets = sheets;
     draws = draws;

@@ -1,11 +1,10 @@
--- public: what follows from a run's account, said by itself for whoever reads one status: a record a command, and what
--- holds whatever is asked for.
+-- public: what follows from a run's account, said by itself for whoever reads one status: a record for each command whose
+-- account doesn't say it status by status, and what holds whatever is asked for.
 use Rattle.std.specs.Prelude.{◌≡◌, ◌⊎◌, ℕ, List, Option, None, Some, IfSome, codes}
 use Rattle.std.specs.FinMap.{get}
 use Rattle.qc_io.specs.Outside.{View}
-use Rattle.qc_dispatch_command.specs.Promises.{DispatchPromises}
 use Rattle.qc_model.specs.declared.turn.Turn.{Turn}
-use Rattle.qc_judge_commands.specs.Promises.{PlanCheckPromises, ShowPromises, TasksPromises, TreePromises}
+use Rattle.qc_judge_commands.specs.Promises.{PlanCheckPromises, TreePromises}
 use Rattle.qc_picture_command.specs.declared.answer.Print.TheVariants.{Figures, Picture}
 use Rattle.qc_picture_command.specs.Promises.{PrintedPromises}
 use Rattle.qc_plan_command.specs.Asked.{plan_of}
@@ -17,11 +16,10 @@ use Rattle.qc_run.specs.Reports.{Prints}
 use Rattle.qc_run.specs.Told.{EndsWith}
 use Rattle.qc_sheet_command.specs.Promises.{SheetPromises}
 use Rattle.qc_trial.specs.Account.{TrialPromises}
-use Rattle.qc_watch_command.specs.Promises.{WatchPromises}
-use Rattle.qc_words.specs.Asked.{Asked, plan, check, tasks, show, make, sheet, watch, dispatch, picture, report, usage, help, version}
+use Rattle.qc_words.specs.Asked.{Asked, plan, check, make, sheet, picture, report, usage, help, version}
 use Rattle.qc_words.specs.Commands.{named}
 use Rattle.qc_words.specs.Words.{Asks, about}
-use Rattle.qc_top.specs.Account.{IsAbout, IsStopped, IsUsage, check_names, dispatch_names, show_names, tasks_names, watch_names}
+use Rattle.qc_top.specs.Account.{IsAbout, IsStopped, IsUsage, check_names, show_names}
 use Rattle.qc_words.specs.declared.commands.CommandName.{CommandName}
 
 -- a plan is asked for
@@ -38,14 +36,6 @@ pub record Promises (words : List (List ℕ)) (before after out_before out_after
       → TreePromises (check_names turn s w None t) before after out_before out_after ended
   pub checks_plan : (turn : Turn) (s w p t : List ℕ) → Asks words (check turn s w (Some p) t)
       → PlanCheckPromises (check_names turn s w (Some p) t) before after out_before out_after ended
-  pub lists_tasks : (s w : List ℕ) → Asks words (tasks s w)
-      → TasksPromises (tasks_names s w) before after out_before out_after ended
-  pub shows : (s w p : List ℕ) → Asks words (show s w p)
-      → ShowPromises (show_names s w p) before after out_before out_after ended
-  pub watches : (s l : List ℕ) → Asks words (watch s l)
-      → WatchPromises (watch_names s l) before after out_before out_after ended
-  pub dispatches : (s w p l : List ℕ) → Asks words (dispatch s w p l)
-      → DispatchPromises (dispatch_names s w p l) before after out_before out_after ended
   pub makes : (n h c : ℕ) → Asks words (make n h c) → TrialPromises n h c out_before out_after ended
   -- a plan leaves the planner's own plan as it is
   pub own_stays : (turn : Turn) (s w p t : List ℕ) (n : ℕ) (o : List ℕ) → Asks words (plan turn s w p t n (Some o))

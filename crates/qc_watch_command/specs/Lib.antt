@@ -1,4 +1,3 @@
 pub mod Texts
 pub mod Held
 pub mod Account
-pub mod Promises

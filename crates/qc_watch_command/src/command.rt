@@ -4,7 +4,6 @@ ghost use Rattle.qc_run.specs.Inputs.{names_of};
 ghost use Rattle.qc_run.specs.Account.{Account, IsReaderRun};
 ghost use Rattle.qc_watch_command.specs.Account.{watch_reader};
 ghost use Rattle.qc_watch_command.specs.Held.{TellsNear, crane_name};
-ghost use Rattle.qc_watch_command.specs.Promises.{WatchPromises};
 
 use crate::answer::{Near, Watching};
 use crate::report::report;
@@ -63,8 +62,6 @@ pub fn watch<S: Shelf, K: Sink>(
     requires { IsSome (names_of inputs.now).log }
     ensures account { IsReaderRun watch_reader (names_of inputs.now)
         (S.Sink.view shelf.old) (S.Sink.view shelf.new) (K.Sink.view out.old) (K.Sink.view out.new) result }
-    ensures promises { WatchPromises (names_of inputs.now) (S.Sink.view shelf.old) (S.Sink.view shelf.new)
-        (K.Sink.view out.old) (K.Sink.view out.new) result }
     ensures reads_never_fall { (S.Sink.view shelf.old).read_faults ≤ (S.Sink.view shelf.new).read_faults }
 {
     match judge(alloc, inputs, shelf) {

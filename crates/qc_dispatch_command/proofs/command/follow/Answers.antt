@@ -1,8 +1,23 @@
-use Rattle.qc_run.specs.Inputs.{names_of}
-use Rattle.qc_dispatch_command.proofs.FollowLemmas.{then_stopped}
+use Rattle.std.proofs.Common.{refl}
+use Rattle.qc_dispatch_command.proofs.FollowLemmas.{log_followed, log_refused, log_unheld, log_unread}
 use Rattle.qc_dispatch_command.proofs.command.follow.Goals as goal
 
-pub returns-in-Err-read_log : goal.returns-in-Err-read_log
-returns-in-Err-read_log g c =
-    then_stopped (names_of c.args.inputs.now) (g.S.Sink.view c.args.shelf.now) (g.S.Sink.view c.read_job.new.shelf)
-    (g.S.Sink.view c.read_log.new.shelf) c.in-Ok.job c.in-Ok.ensures.step c.in_default.ensures.feasible c.in-Err-read_log.stop c.in-Err-read_log.ensures
+pub returns-in-Err-read_input : goal.returns-in-Err-read_input
+returns-in-Err-read_input g c = log_unread c.in-Ok.ensures.step c.in_default.ensures.feasible c.in-Err-read_input.ensures
+
+pub returns-in-Ok-follow_log : goal.returns-in-Ok-follow_log
+returns-in-Ok-follow_log g c =
+    log_followed c.in-Ok.ensures.step c.in_default.ensures.feasible c.in-Ok-read_input.ensures
+    (record { job = c.in-Ok.job; followed = c.in-Ok-follow_log.followed }) refl (record {
+      feasible = c.in_default.ensures.feasible;
+      followed = rw c.as_slice.ensures at c.in-Ok-follow_log.ensures.following;
+      keeps = c.in-Ok-follow_log.ensures.keeps;
+    })
+
+pub returns-in-Err-Fault : goal.returns-in-Err-Fault
+returns-in-Err-Fault g c =
+    log_refused c.in-Ok.ensures.step c.in_default.ensures.feasible c.in-Ok-read_input.ensures c.requires.log c.in-Err-Fault.fault
+    (rw (c.in-Err-Fault.field-0-is, c.as_slice.ensures) at c.in-Err-Fault.ensures.following)
+
+pub returns : goal.returns
+returns g c = log_unheld c.in-Ok.ensures.step c.in_default.ensures.feasible c.in-Ok-read_input.ensures

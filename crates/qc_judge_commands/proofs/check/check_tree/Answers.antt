@@ -1,6 +1,6 @@
 use Rattle.std.proofs.Common.{Err, Ok}
 use Rattle.qc_judge_commands.proofs.ReadLemmas.{tree_checked}
-use Rattle.qc_judge_commands.proofs.TasksLemmas.{tree_promises}
+use Rattle.qc_judge_commands.proofs.TreeLemmas.{tree_promises}
 use Rattle.qc_judge_commands.proofs.check.check_tree.Goals as goal
 
 pub returns-in-Ok-clause-account : goal.returns-in-Ok-clause-account

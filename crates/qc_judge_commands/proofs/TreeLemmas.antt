@@ -1,4 +1,4 @@
--- What follows from the account of the tasks, and from that of a tree's check.
+-- What follows from the account of a tree's check.
 use Rattle.std.proofs.Common.{◌≡◌, Option, None, Some, Ok, refl, IfSome}
 use Rattle.qc_num.specs.declared.bound.Bound.{Bound}
 use Rattle.qc_num.specs.declared.bound.Bound.TheVariants.{Least, Never}
@@ -9,32 +9,19 @@ use Rattle.qc_run.specs.declared.refusal.Refusal.TheVariants as refusal
 use Rattle.qc_run.specs.declared.refusal.Stop.TheVariants as stop
 use Rattle.qc_run.specs.declared.status.Status.{Status}
 use Rattle.qc_run.specs.declared.status.Status.TheVariants as status
-use Rattle.qc_run.specs.Account.{IsReaderRun}
 use Rattle.qc_run.specs.Inputs.{Names}
 use Rattle.qc_run.specs.Reports.{Prints}
 use Rattle.qc_run.specs.Texts.{refusal_status}
 use Rattle.qc_run.specs.Told.{EndsBy}
-use Rattle.qc_run.proofs.AccountLemmas.{answer_found, ends_as, ends_due, is_told, reader_promises, reading_promises, refusal_found}
+use Rattle.qc_run.proofs.AccountLemmas.{answer_found, ends_as, reading_promises, refusal_found}
 use Rattle.qc_run.proofs.DueLemmas.{comes_due}
 use Rattle.qc_run.proofs.StatusLemmas.{IsAnswer}
 use Rattle.qc_run.proofs.ToldLemmas.{stop_due}
 use Rattle.qc_judge_commands.specs.TreeFile.{shown_due}
-use Rattle.qc_judge_commands.specs.Account.{IsTreeFound, IsTreeRun, ShowsNone, StopsTree, tasks_reader, tree_report}
-use Rattle.qc_judge_commands.specs.Promises.{IsEndTold, IsNoneTold, TasksPromises, TreePromises}
+use Rattle.qc_judge_commands.specs.Account.{IsTreeFound, IsTreeRun, ShowsNone, StopsTree, tree_report}
+use Rattle.qc_judge_commands.specs.Promises.{IsEndTold, IsNoneTold, TreePromises}
 use Rattle.qc_judge_commands.specs.Shown.{IsBoundShown, IsNoneShown}
 use Rattle.qc_judge_commands.specs.Texts.{bound_status, bound_text}
-
--- ---- the tasks
-
-module _ (names : Names) (before after pb pa : View) (ended : Status) (run : IsReaderRun tasks_reader names before after pb pa ended) where
-  pub tasks_promises : TasksPromises names before after pb pa ended
-  tasks_promises = record {
-    reads = reader_promises tasks_reader (λ inst. tt) names before after pb pa ended run;
-    tasks_done = is_told tasks_reader (λ inst. tt) names before after pb pa ended run (λ inst. inst) status.Done tt (λ inst e. (inst, refl));
-    complete = ends_due tasks_reader (λ inst. tt) names before after pb pa ended run (λ inst end. end ≡ status.Done) (λ inst told is. refl);
-  }
-
--- ---- a tree alone
 
 answers : (read : Replayed) → IsAnswer (bound_status read.bound)
 answers read = by read.bound
