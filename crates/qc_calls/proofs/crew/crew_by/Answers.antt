@@ -8,8 +8,8 @@ use Rattle.qc_model.specs.Assignments.{crane_in}
 use Rattle.qc_model.specs.Instance.{InstanceView}
 use Rattle.qc_model.specs.Nodes.{assigned}
 use Rattle.qc_close.specs.Crews.{CrewView}
-use Rattle.qc_calls.proofs.starts_answers.crew_by.Goals as goal
-use Rattle.qc_calls.proofs.starts_answers.crew_by.Goals.{in-Some, in_default}
+use Rattle.qc_calls.proofs.crew.crew_by.Goals as goal
+use Rattle.qc_calls.proofs.crew.crew_by.Goals.{in-Some, in_default}
 
 -- the task that comes next has its crane too
 next_put : (cranes : List (Option ℕ)) (ds : List Decision) (t k : ℕ) → t < length cranes → assigned ds t ≡ Some k

@@ -1,5 +1,5 @@
 use Rattle.std.proofs.Common.{arith}
-use Rattle.qc_calls.proofs.course_answers.is_quiet.Goals as goal
+use Rattle.qc_calls.proofs.course.is_quiet.Goals as goal
 
 pub returns-in-None-clause-quiet : goal.returns-in-None-clause-quiet
 returns-in-None-clause-quiet c = λ _ j.

@@ -1,7 +1,7 @@
 use Rattle.std.proofs.Common.{◌≡◌, ◌<◌, ◌≤◌, ℕ, None, length}
 use Rattle.qc_model.specs.Assignments.{crane_in}
 use Rattle.qc_model.specs.Nodes.{assigned}
-use Rattle.qc_calls.proofs.starts_answers.crew_by.Given as goal
+use Rattle.qc_calls.proofs.crew.crew_by.Given as goal
 
 abbrev pub invariant-loop-task : goal.invariant-loop-task
 invariant-loop-task l = record {
