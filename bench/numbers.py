@@ -1,17 +1,17 @@
 #!/usr/bin/env python3
 """Measures how good the program's plans are and what they take, and writes docs/PERFORMANCE.md and docs/gap.svg.
 
-    bench/numbers.py [TABLE ..] [--program PROGRAM] [--jobs N] [--try FOLDER]
+    bench/numbers.py [TABLE ..] [--program FILE] [--jobs N] [--try FOLDER]
     bench/numbers.py --draw
 
 TABLE is sizes, plan, free, split, side, files or solvers; all but solvers where none is named. What was measured is
-kept in bench/numbers.json, table by table, and the tables of the page and the plot are made of that; the words around
-them are written by hand and stay. So a run that was stopped is taken up by naming the tables that it didn't come to,
-and `--draw` measures nothing. N processes share what is counted and not timed, 2 where it isn't given. With `--try`
-few ships are planned, each call is timed once, and all that is written goes to FOLDER.
+kept in bench/numbers.json, table by table, and the tables of the page, what it says in short and the plot are made of
+that; the words around them are written by hand and stay. So a run that was stopped is taken up by naming the tables that
+it didn't come to, and `--draw` measures nothing. N processes share what is counted and not timed, 2 where it isn't given.
+With `--try` few ships are planned, each call is timed once, and all that is written goes to FOLDER.
 
-PROGRAM is the built qc, that of this checkout where it isn't given. Else Python's standard library is enough; side needs
-a C++ compiler, and solvers what bench/general.py tells.
+Which program FILE is, trials/tried.py says. Else Python's standard library is enough; side needs a C++ compiler, and
+solvers what bench/general.py tells.
 """
 import sys
 
@@ -41,6 +41,10 @@ import ships
 import split
 
 ROOT = pathlib.Path(__file__).resolve().parent.parent
+sys.path.append(str(ROOT / "trials"))
+
+from tried import add_program, program_of
+
 USUAL, MOST = 20_000, 100_000  # branchings where none are given, and at the most
 
 # Hatches and cranes of the made ships of the first table.
@@ -281,31 +285,35 @@ def span(values):
     return f"{min(values):,}" if min(values) == max(values) else f"{min(values):,} to {max(values):,}"
 
 
-def table_sizes(rows):
-    """A row for each size: how many of its ships are Optimal, and the middle and the greatest of gap and seconds."""
+def cells_of(rows):
+    """How many ships are Optimal, and the middle and the greatest of gap and seconds."""
+    return [f"{sum(row['ended'] == 'Optimal' for row in rows)} of {len(rows)}",
+            middle_and_most([gap_of(row) for row in rows], gap_text),
+            middle_and_most([row["seconds"] for row in rows], seconds_text)]
+
+
+def table_groups(head, groups):
+    """A row for each group of ships: its name, and the rows of both commands."""
     lines = []
-    for hatches, cranes in SIZES:
-        of_size = [row for row in rows if row["ship"].endswith(f" {hatches} {cranes}")]
-        if not of_size:
-            continue
-        cells = [f"{hatches}, {cranes}"] + [span([row[name] for row in of_size]) for name in ("tasks", "moves")]
-        for command in ("plan", "free"):
-            own = [row for row in of_size if row["command"] == command]
-            cells += [f"{sum(row['ended'] == 'Optimal' for row in own)} of {len(own)}",
-                      middle_and_most([gap_of(row) for row in own], gap_text),
-                      middle_and_most([row["seconds"] for row in own], seconds_text),
-                      f"{max(row['memory'] for row in own):.1f}"]
-        lines.append(cells)
-    return table(["Hatches, cranes", "Tasks", "Moves", "`plan`: Optimal", "gap %", "s", "MB", "`free`: Optimal", "gap %",
-                  "s", "MB"], lines)
+    for name, rows in groups:
+        if rows:
+            lines.append([name] + [span([row[it] for row in rows]) for it in ("tasks", "moves")])
+            for command in ("plan", "free"):
+                lines[-1] += cells_of([row for row in rows if row["command"] == command])
+    return table([head, "Tasks", "Moves", "`plan`: Optimal", "gap %", "s", "`free`: Optimal", "gap %", "s"], lines)
 
 
-def table_ships(rows):
-    return table(["Ship", "Tasks", "Cranes", "Moves", "Allowed", "Ended", "Given", "End", "Bound", "Gap %", "Branched",
-                  "s", "MB"],
-                 [[f"`{row['ship']}`", *(text(row[name]) for name in ("tasks", "cranes", "moves", "nodes")), row["ended"],
-                   *(text(row[name]) for name in ("given", "end", "bound")), gap_text(gap_of(row)), text(row["branched"]),
-                   seconds_text(row["seconds"]), f"{row['memory']:.1f}"] for row in rows])
+def table_sizes(rows):
+    return table_groups("Hatches, cranes", [(f"{hatches}, {cranes}", [row for row in rows if row["ship"].endswith(
+        f" {hatches} {cranes}")]) for hatches, cranes in SIZES])
+
+
+def table_kinds(kept):
+    """The ships that are searched one by one, by kind, with the usual number of branchings."""
+    rows = [{**row, "command": name} for name in ("plan", "free") for row in kept.get(name, {}).get("rows", [])
+            if row["nodes"] == USUAL]
+    return table_groups("Kind", [(f"`{kind}`", [row for row in rows if row["ship"].startswith(f"{kind} ")])
+                                 for kind, _ in SHIPS if kind != "made"])
 
 
 def gains(rows):
@@ -340,17 +348,6 @@ def table_side(rows):
                  cells)
 
 
-def table_files(rows):
-    return table(["Command", "Of", "s", "MB"], [[f"`{row['command']}`", row["what"], seconds_text(row["seconds"]),
-                                                 f"{row['memory']:.1f}"] for row in rows])
-
-
-def table_solvers(rows):
-    return table(["Ship", "Tasks", "Cranes", "By", "End", "Bound", "Proved", "s"],
-                 [[f"`{row['ship']}`", text(row["tasks"]), text(row["cranes"]), row["by"], text(row["end"]),
-                   text(row["bound"]), row["proved"], seconds_text(row["seconds"])] for row in rows])
-
-
 # ---------------------------------------------------------------- in short, and what was taken when
 
 def short(kept):
@@ -373,6 +370,12 @@ def short(kept):
         yield (f"- A full ship of {row['tasks']} tasks and {row['moves']:,} moves on {row['cranes']} cranes: "
                f"`{row['ended']}`, gap {gap_text(gap_of(row))} %, {seconds_text(row['seconds'])} processor seconds, "
                f"{row['memory']:.1f} MB.")
+    usual = {row["ship"]: row for row in kept.get("plan", {}).get("rows", []) if row["nodes"] == USUAL}
+    most = [row for row in kept.get("plan", {}).get("rows", []) if row["nodes"] == MOST]
+    if most:
+        yield (f"- With {MOST:,} branchings {sum(row['ended'] == 'Optimal' for row in most)} of {len(most)} ships are "
+               f"`Optimal` that weren't with {USUAL:,}; earlier ends: "
+               f"{sum(row['end'] < usual[row['ship']]['end'] for row in most)}.")
     rows = kept.get("split", {}).get("rows", [])
     if rows:
         gained = gains(rows)
@@ -384,6 +387,13 @@ def short(kept):
         if times:
             yield (f"- A branching of `{command}` takes {min(times):.1f} to {max(times):.1f} times the processor time of "
                    f"plain C++.")
+    rows = kept.get("files", {}).get("rows", [])
+    if rows:
+        slow = max(rows, key=lambda row: row["seconds"])
+        rest = max((row for row in rows if not row["command"].endswith("check")), key=lambda row: row["seconds"])
+        yield (f"- Of the other commands on the greatest files (50,000 moves, logs and trees at their limits) "
+               f"`{slow['command']}` takes longest, {seconds_text(slow['seconds'])} s ({slow['what']}); all but the checks at most "
+               f"{seconds_text(rest['seconds'])} s; at most {max(row['memory'] for row in rows):.1f} MB.")
     yield from short_solvers(kept.get("solvers", {}).get("rows", []))
 
 
@@ -410,15 +420,17 @@ def machine():
 
 
 def commit(program):
-    """The commit of the checkout in which the program was built, and what differs from it."""
+    """The commit of the checkout in which the program was built, what differs from it, and whether it has checks."""
     above = pathlib.Path(program).resolve().parents
-    top = above[min(3, len(above) - 1)]
+    is_checked = above[0].name == "checked"
+    top = above[min(2 if is_checked else 3, len(above) - 1)]
     git = lambda *words: subprocess.run(["git", "-C", top, *words], capture_output=True, text=True, check=False).stdout
     name = git("log", "-1", "--format=%h", "--abbrev=8", "--", "crates", "crates.txt").strip() or "unknown"
-    version = ", ".join(Run(program, "--version").lines)
+    version = Run(program, "--version").lines  # the second one says 'proved with', whichever program it is
+    version = f"{version[0]}, compiled with checks and not proved" if is_checked else ", ".join(version)
     changed = bool(git("status", "--porcelain", "crates", "crates.txt"))
     test = top / "package/is-built"
-    is_built = test.exists() and subprocess.run([test], check=False).returncode == 0
+    is_built = test.exists() and subprocess.run([test, *["--checked"] * is_checked], check=False).returncode == 0
     return f"{version}, sources of {name}" + (" with changes" if changed else "" if is_built else ", built before them")
 
 
@@ -443,12 +455,12 @@ def taken_lines(kept):
 
 TABLES = {
     "sizes": ("by size", measure_sizes, table_sizes),
-    "plan": ("`plan` ship by ship", lambda words: measure_ships("plan", words), table_ships),
-    "free": ("`free` ship by ship", lambda words: measure_ships("free", words), table_ships),
+    "plan": ("`plan` ship by ship", lambda words: measure_ships("plan", words), None),
+    "free": ("`free` ship by ship", lambda words: measure_ships("free", words), None),
     "split": ("splits", measure_split, table_split),
     "side": ("C++", measure_side, table_side),
-    "files": ("the other commands", measure_files, table_files),
-    "solvers": ("solvers", measure_solvers, table_solvers),
+    "files": ("the other commands", measure_files, None),
+    "solvers": ("solvers", measure_solvers, None),
 }
 
 
@@ -484,8 +496,8 @@ def rounded(row):
 
 def filled(page, kept):
     """The page with what stands between the marks of each table made anew."""
-    blocks = {"taken": taken_lines(kept), "short": short(kept)}
-    blocks.update((name, TABLES[name][2](kept[name]["rows"])) for name in TABLES if name in kept)
+    blocks = {"taken": taken_lines(kept), "short": short(kept), "kinds": table_kinds(kept)}
+    blocks.update((name, told(kept[name]["rows"])) for name, (_, _, told) in TABLES.items() if told and name in kept)
     for name, lines in blocks.items():
         mark, end = f"<!-- {name}: by bench/numbers.py -->", f"<!-- end of {name} -->"
         pattern = re.compile(re.escape(mark) + ".*?" + re.escape(end), re.DOTALL)
@@ -511,11 +523,13 @@ def write(kept, folder):
 def main():
     parser = argparse.ArgumentParser(description="how good, how fast, against what")
     parser.add_argument("tables", nargs="*", metavar="TABLE")
-    parser.add_argument("--program", default=str(ROOT / "crates/qc_cli/out/qc_cli"))
+    add_program(parser)
     parser.add_argument("--jobs", type=int, default=2)
     parser.add_argument("--try", dest="few", type=pathlib.Path, metavar="FOLDER")
     parser.add_argument("--draw", action="store_true")
     words = parser.parse_args()
+    if not words.draw:
+        words.program = program_of(words)
     take_orphans()
     folder = words.few or ROOT
     data = ROOT / "bench/numbers.json" if folder == ROOT else folder / "numbers.json"

@@ -1,7 +1,8 @@
 #!/usr/bin/env python3
 """Runs the built program on files that were spoilt, and reports what must not come.
 
-    fuzz/fuzz.py PROGRAM [--count 200000] [--seed 1] [--workers 2] [--only N] [--keep FOLDER] [--megabytes 512] [--plain]
+    fuzz/fuzz.py [--program FILE] [--count 200000] [--seed 1] [--workers 2] [--only N] [--keep FOLDER]
+        [--megabytes 512] [--plain]
 
 Trial N takes an input (the examples, and every case of crates/qc_rows/data whose words are a command with plain names,
 with the plans, trees and logs that the program makes of them), spoils one of its files or two by bytes, slices, lines,
@@ -19,7 +20,7 @@ runs it again and prints its files. Reported are
 Where both say of a spoilt ship file something else, and one of them that it is no TOML, that is counted apart and printed:
 Python's reader of TOML isn't the program's. The spoilt input of each that is reported is kept in FOLDER. It ends with 1
 where anything was reported. Memory is limited to so many megabytes of addresses, 0 for no limit (a program built with a
-sanitizer needs that).
+sanitizer needs that). Which program FILE is, trials/tried.py says.
 """
 import argparse
 import collections
@@ -44,6 +45,7 @@ sys.path.append(f"{ROOT}/trials")
 from answers import ROLES, SEARCHES, answer, read_by, split_words
 from cases import DATA, Case, is_long
 from reference import read_ship
+from tried import add_program, program_of
 
 # The statuses that a command may come to here: files are there, the disk has room, memory too.
 SHOWN = {0, 5, 6, 8, 13, 15}
@@ -430,8 +432,8 @@ def print_counts(counts):
 
 
 def main():
-    parser = argparse.ArgumentParser()
-    parser.add_argument("program")
+    parser = argparse.ArgumentParser(description="qc on files that were spoilt")
+    add_program(parser)
     parser.add_argument("--count", type=int, default=200000)
     parser.add_argument("--seed", type=int, default=1)
     parser.add_argument("--workers", type=int, default=2)
@@ -440,7 +442,7 @@ def main():
     parser.add_argument("--megabytes", type=int, default=512)
     parser.add_argument("--plain", action="store_true")
     args = parser.parse_args()
-    args.program = os.path.abspath(args.program)
+    args.program = program_of(args)
     inputs = read_inputs(args.program)
     if args.only is not None:
         with tempfile.TemporaryDirectory() as folder:

@@ -1,7 +1,7 @@
 #!/usr/bin/env python3
 """Compares every command of the built program but `make` with the second opinion on random small ships.
 
-    compare.py PROGRAM KEPT [--first SEED] [--count SHIPS] [--workers N] [--minutes M] [--wide]
+    trials/compare.py KEPT [--program FILE] [--first SEED] [--count SHIPS] [--workers N] [--minutes M] [--wide]
 
 Each seed makes one ship and its list. `tasks`; `plan` and `free` with several numbers of branchings, from nothing, from
 one's own plan and from one that breaks a rule; `check` and `freecheck` on what they wrote, on changed plans, and on
@@ -10,7 +10,8 @@ slowed and broken; `watch` and `dispatch` on logs, a third of them spoilt. Every
 what reference.py, free.py and picture.py work out from the definitions. The search of `free` is made here once more,
 node by node, and where a ship is tiny its end is compared with the least one of all plans, by trying every choice and
 order. Of each difference the files and the two answers are kept in a folder under KEPT. Prints counts and the first
-differences; status 1 where there is any. With `--wide` the ships have 8 to 18 tasks, and least ends aren't known.
+differences; status 1 where there is any. With `--wide` the ships have 8 to 18 tasks, and least ends aren't known. Which
+program FILE is, tried.py says.
 """
 import argparse
 import multiprocessing
@@ -37,6 +38,7 @@ from reference import (NEVER, TreeFault, TreeReader, bound_text, check_report, c
                        sheet_report, show_report, tasks_report, too_near, watch_report)
 from ships import (Maker, changed_plans, changed_trees, dense_files, happenings, reported, reported_along, slowed,
                    spoilt_happenings, spoilt_places, text_of)
+from tried import add_program, program_of
 
 SEARCHED = 250  # branchings of a tree whose search is made here once more
 TINY = 700      # choices of cranes that are all tried
@@ -480,16 +482,16 @@ def try_seed(job):
 
 def main():
     parser = argparse.ArgumentParser(description="qc against the second opinion")
-    parser.add_argument("program", type=Path)
     parser.add_argument("kept", type=Path)
+    add_program(parser)
     parser.add_argument("--first", type=int, default=1)
     parser.add_argument("--count", type=int, default=100)
     parser.add_argument("--workers", type=int, default=2)
     parser.add_argument("--minutes", type=float, default=1e9)
     parser.add_argument("--wide", action="store_true")
     words = parser.parse_args()
+    program, last = program_of(words), time.monotonic() + 60 * words.minutes
     words.kept.mkdir(parents=True, exist_ok=True)
-    program, last = words.program.resolve(), time.monotonic() + 60 * words.minutes
     jobs = [(program, seed, words.kept, words.wide, last) for seed in range(words.first, words.first + words.count)]
     counts, differing = Counter(), []
     with multiprocessing.Pool(words.workers) as pool:

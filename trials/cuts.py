@@ -1,7 +1,7 @@
 #!/usr/bin/env python3
 """Cuts each file of the cases and of the examples at every byte, and compares what the built program then says.
 
-    trials/cuts.py PROGRAM [--workers N] [--minutes M] [--most BYTES] [--only COMMANDS] [--keep FOLDER]
+    trials/cuts.py [--program FILE] [--workers N] [--minutes M] [--most BYTES] [--only COMMANDS] [--keep FOLDER]
     trials/cuts.py --write
 
 Each case of crates/qc_rows/data whose words are a plain command on files, and each example under every command with the
@@ -12,10 +12,10 @@ plan's end and the bound as the two files give them, and the status that goes wi
 All other files must be as before. A file that a command read before behind the same files is not cut again; ship files and
 lists of more than 3,000 bytes are cut under `tasks` alone. It ends with 1 where anything differs; the input and both
 answers are kept in FOLDER. COMMANDS are those that are tried, with commas between them; after M minutes what is
-left is left out.
+left is left out. Which program FILE is, tried.py says.
 
 `--write` makes the cut cases of the worked examples (the list `WORKED`) in crates/qc_rows/data anew, with the
-outcomes that answers.py gives.
+outcomes that answers.py gives; it takes no program.
 """
 import argparse
 import collections
@@ -36,6 +36,7 @@ from cases import DATA, ROOT, is_long
 sys.path.append(str(ROOT / "fuzz"))
 
 from fuzz import made_files
+from tried import add_program, program_of
 
 # The cases of crates/qc_rows/data of which `--write` makes cut cases: the files of the worked examples, a file that
 # several of them share once. The command is that of the new case.
@@ -208,7 +209,7 @@ def fresh_jobs(cases, most, totals):
 
 
 def run_all(args):
-    program = os.path.abspath(args.program)
+    program = program_of(args)
     cases = [read_case(path)[0] for path in sorted(DATA.glob("*/*.case")) if not is_long(path)]
     cases = [case for case in cases if case] + list(read_examples(program))
     cases = [case for case in cases if not args.only or case.command in args.only.split(",")]
@@ -270,7 +271,7 @@ def write_all():
 
 def main():
     parser = argparse.ArgumentParser(description="qc on files that are cut")
-    parser.add_argument("program", nargs="?")
+    add_program(parser)
     parser.add_argument("--write", action="store_true")
     parser.add_argument("--workers", type=int, default=2)
     parser.add_argument("--minutes", type=float, default=1e9)
@@ -278,8 +279,8 @@ def main():
     parser.add_argument("--only", default="")
     parser.add_argument("--keep", default="cuts-reported")
     args = parser.parse_args()
-    if args.write == (args.program is not None):
-        parser.error("either a program or --write")
+    if args.write and args.program is not None:
+        parser.error("--write takes no program")
     return write_all() if args.write else run_all(args)
 
 

@@ -1,15 +1,15 @@
 #!/usr/bin/env python3
 """Gives the built program the longest logs, the largest trees and files at their limits, and prints what it took.
 
-    trials/greatest.py PROGRAM [--nodes 100000] [--only WORD]
+    trials/greatest.py [--program FILE] [--nodes 100000] [--only WORD]
 
 For each trial: `ok` or `WRONG`, what was tried, status and first line of the report, processor seconds, and the most
 memory in MB. Those of trees plan the made ship 2 of 60 hatches and 8 cranes with so many branchings, one way and to and
 fro, and judge both answers by `check` and `freecheck`, with the plan and without; what these say must be what the search
-said. It ends with 1 where another status or first line came than was wanted, or more than 512 MB were taken.
+said. It ends with 1 where another status or first line came than was wanted, or more than 512 MB were taken. Which
+program FILE is, tried.py says.
 """
 import argparse
-import os
 import runpy
 import subprocess
 import sys
@@ -17,6 +17,8 @@ import tempfile
 from pathlib import Path
 
 sys.dont_write_bytecode = True  # no folder of compiled files beside the scripts
+
+from tried import add_program, program_of
 
 ROOT = Path(__file__).resolve().parent.parent
 made = runpy.run_path(str(ROOT / "bench" / "ships.py"))["made"]
@@ -154,12 +156,13 @@ def limits(room):
 
 def main():
     parser = argparse.ArgumentParser(description="the longest logs, the largest trees, files at their limits")
-    parser.add_argument("program")
+    add_program(parser)
     parser.add_argument("--nodes", type=int, default=100_000)
     parser.add_argument("--only", default="", help="logs, trees or limits")
     words = parser.parse_args()
+    program = program_of(words)
     with tempfile.TemporaryDirectory(prefix="greatest-") as folder:
-        room = Room(os.path.abspath(words.program), folder)
+        room = Room(program, folder)
         for name, part in (("logs", logs), ("limits", limits), ("trees", lambda room: trees(room, words.nodes))):
             if words.only in name:
                 part(room)

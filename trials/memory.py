@@ -1,7 +1,7 @@
 #!/usr/bin/env python3
 """Refuses memory to the built program: one allocation after the other, and all from one on.
 
-    trials/memory.py PROGRAM [--nodes N] [--voice] [--only WORD] [--workers N]
+    trials/memory.py [--program FILE] [--nodes N] [--voice] [--only WORD] [--workers N]
 
 For each command below it first counts the allocations of a run, then runs it twice for each number n: once with the
 nth refused, once with the nth and all after it. Each run must come to one of
@@ -17,7 +17,8 @@ stand there that begin with `qc: `.
 With --only those commands are run whose name has the word.
 
 Printed is how often each came, how many allocations were made before the first file was begun, and how many after
-that. Only Python's standard library and gcc are needed. It ends with 1 where a run came to anything else.
+that. Only Python's standard library and gcc are needed. It ends with 1 where a run came to anything else. Which program
+FILE is, tried.py says.
 """
 import argparse
 import collections
@@ -26,6 +27,10 @@ import os
 import subprocess
 import sys
 import tempfile
+
+sys.dont_write_bytecode = True  # no folder of compiled files beside the scripts
+
+from tried import add_program, program_of
 
 HERE = os.path.dirname(os.path.abspath(__file__))
 ROOT = os.path.dirname(HERE)
@@ -181,14 +186,14 @@ def refuse_all(job):
 
 
 def main():
-    parser = argparse.ArgumentParser()
-    parser.add_argument("program")
+    parser = argparse.ArgumentParser(description="memory that is refused")
+    add_program(parser)
     parser.add_argument("--nodes", default="30")
     parser.add_argument("--voice", action="store_true")
     parser.add_argument("--only", default="", help="only what has this in its name")
     parser.add_argument("--workers", type=int, default=2)
     args = parser.parse_args()
-    program, wrong, total = os.path.abspath(args.program), 0, collections.Counter()
+    program, wrong, total = program_of(args), 0, collections.Counter()
     with tempfile.TemporaryDirectory() as folder:
         library = os.path.join(folder, "refuse.so")
         subprocess.run(["gcc", "-O1", "-shared", "-fPIC", "-o", library, f"{HERE}/refuse.c", "-ldl"], check=True)

@@ -1,14 +1,15 @@
 #!/usr/bin/env python3
 """Tries mistakes as planners make them, and compares what the program says on both outputs.
 
-    trials/mistakes.py PROGRAM [NAME..]
+    trials/mistakes.py [NAME ..] [--program FILE]
 
 The mistakes are those of trials/mistakes/table.py: the files of an example with one change each. Each is made and run in
 a folder of its own. The exit status, the first line of the report and all lines on standard error must be those of the
 table, and every file but those that `plan` writes as it was. Each is run again with -q as the first word: the report must
 be the same to the byte, and nothing may come on standard error. With NAME only the mistakes of those names are tried. It
-ends with 1 where anything differs.
+ends with 1 where anything differs. Which program FILE is, tried.py says.
 """
+import argparse
 import subprocess
 import sys
 import tempfile
@@ -20,6 +21,7 @@ ROOT = Path(__file__).resolve().parent.parent
 sys.path.append(str(ROOT / "trials/mistakes"))
 
 from table import BASES, MISTAKES
+from tried import add_program, program_of
 
 
 def begun(base):
@@ -93,8 +95,15 @@ def differences(program, mistake):
 
 
 def main():
-    program, names = str(Path(sys.argv[1]).resolve()), sys.argv[2:]
-    tried = [mistake for mistake in MISTAKES if not names or mistake[0] in names]
+    parser = argparse.ArgumentParser(description="mistakes as planners make them")
+    parser.add_argument("names", nargs="*", metavar="NAME")
+    add_program(parser)
+    words = parser.parse_args()
+    unknown = sorted(set(words.names) - {mistake[0] for mistake in MISTAKES})
+    if unknown:
+        parser.error(f"there is no mistake {', '.join(unknown)}")
+    program = program_of(words)
+    tried = [mistake for mistake in MISTAKES if not words.names or mistake[0] in words.names]
     failed = 0
     for mistake in tried:
         found = list(differences(program, mistake))

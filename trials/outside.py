@@ -1,13 +1,14 @@
 #!/usr/bin/env python3
 """Runs the built program where the outside fails: full disks, folders in place of files, closed output and more.
 
-    trials/outside.py PROGRAM
+    trials/outside.py [--program FILE]
 
 prints a line for each trial: `ok` or `WRONG`, what was tried, the status and what is left. Some trials mount a small
 tmpfs or become `nobody`, so it is run as root; without root they are skipped, and said so. It ends with 1 where
 anything else came than was wanted. The wanted answers are those of docs/FORMATS.md. That files are whole or as they
-were, whatever stops a run, is tried by whole.py.
+were, whatever stops a run, is tried by whole.py. Which program FILE is, tried.py says.
 """
+import argparse
 import os
 import resource
 import shutil
@@ -18,8 +19,11 @@ import tempfile
 import threading
 import time
 
+sys.dont_write_bytecode = True  # no folder of compiled files beside the scripts
+
+from tried import add_program, program_of
+
 ROOT = os.path.dirname(os.path.dirname(os.path.abspath(__file__)))
-PROGRAM = os.path.abspath(sys.argv[1])
 SHIP = open(f"{ROOT}/examples/first/ship.toml", "rb").read()
 STOW = open(f"{ROOT}/examples/first/stow.csv", "rb").read()
 VESSEL = open(f"{ROOT}/examples/vessel/ship.toml", "rb").read()
@@ -29,6 +33,7 @@ FREED = ["free", "s", "m", "p", "f"]
 OWNED = ["plan", "s", "m", "p", "t", "--from", "o"]
 IS_ROOT = os.getuid() == 0
 FAULT = b"WriteFault\n"
+program = None
 wrong = 0
 
 
@@ -77,7 +82,7 @@ class Room:
 
     def run(self, words, before=None, how=None, **more):
         more.setdefault("stdout", subprocess.PIPE)
-        return subprocess.run((how or []) + [PROGRAM, "-q"] + words, cwd=self.path, stderr=subprocess.PIPE,
+        return subprocess.run((how or []) + [program, "-q"] + words, cwd=self.path, stderr=subprocess.PIPE,
                               stdin=subprocess.DEVNULL, preexec_fn=before, timeout=100, **more)
 
 
@@ -365,7 +370,7 @@ def changes_meanwhile():
         room.path = tempfile.mkdtemp(prefix="qc-trial-")
         room.write("s", VESSEL), room.write("m", VESSEL_STOW)
         since = time.monotonic()
-        process = subprocess.Popen([PROGRAM, "free"] + PLANNED[1:] + ["--nodes", "100000"], cwd=room.path, stdout=subprocess.DEVNULL)
+        process = subprocess.Popen([program, "free"] + PLANNED[1:] + ["--nodes", "100000"], cwd=room.path, stdout=subprocess.DEVNULL)
         if took is None:
             process.wait()
             took = time.monotonic() - since
@@ -381,6 +386,10 @@ def changes_meanwhile():
 
 
 def main():
+    global program
+    parser = argparse.ArgumentParser(description="runs where the outside fails")
+    add_program(parser)
+    program = program_of(parser.parse_args())
     if IS_ROOT:
         full_disks()
         no_rights()

@@ -1,7 +1,7 @@
 #!/usr/bin/env python3
 """A second opinion of `picture` and `report`, and a look at every example's drawing.
 
-    trials/picture.py [--png FOLDER] [PROGRAM]
+    trials/picture.py [--program FILE] [--png FOLDER]
     trials/picture.py --draw SHIP STOW PLAN
     trials/picture.py --rows SHIP STOW PLAN
 
@@ -11,8 +11,10 @@ and the figures are those of this page, and whether `rsvg-convert` (Debian's lib
 one is named. It ends with 1 where one isn't so. On random ships and plans compare.py asks the same of both texts.
 
 The others print what this page draws and reports of a feasible plan. Where its cranes stand is worked out by
-reference.py, and by free.py where it goes to and fro, in half ticks.
+reference.py, and by free.py where it goes to and fro, in half ticks. They take no program. Which one FILE is, tried.py
+says.
 """
+import argparse
 import pathlib
 import shutil
 import subprocess
@@ -24,6 +26,7 @@ sys.dont_write_bytecode = True  # no folder of compiled files beside the scripts
 
 from free import FreeMotion, first_break
 from reference import (PHASES, direction_of, end_of, instance_of, motion_of, read_plan, read_ship, records_of)
+from tried import add_program, program_of
 
 INKS = ["#1f3a93", "#b3261e", "#1b7837", "#762a83", "#8c510a", "#01665e", "#c51b7d", "#333333"]
 TINTS = ["#c6d2f2", "#f4c7c9", "#c9e8cf", "#e3cfe8", "#ecd9bd", "#c3e6e2", "#f6cfe4", "#d9d9d9"]
@@ -225,19 +228,19 @@ def look(program, folder, name, plan, work, png):
     return wrong
 
 
-def main(words):
-    if words[:1] in (["--draw"], ["--rows"]):
-        ship, stow, plan = (pathlib.Path(name).read_bytes() for name in words[1:4])
-        status, lines = answer(stow, read_ship(ship), instance_of(read_ship(ship), stow), plan, words[0] == "--draw")
-        print("\n".join(lines))
-        return status
-    png = None
-    if words[:1] == ["--png"]:
-        png = pathlib.Path(words[1])
+def tell(paths, is_drawn):
+    """Prints what this page draws or reports of a plan, and gives the status."""
+    ship, stow, plan = (path.read_bytes() for path in paths)
+    status, lines = answer(stow, read_ship(ship), instance_of(read_ship(ship), stow), plan, is_drawn)
+    print("\n".join(lines))
+    return status
+
+
+def look_at_all(program, png):
+    """Looks at the drawings of all examples; 1 where one isn't as it must be."""
+    if png:
         png.mkdir(parents=True, exist_ok=True)
-        words = words[2:]
     here = pathlib.Path(__file__).resolve().parent.parent
-    program = words[0] if words else str(here / "qc")
     failed = 0
     with tempfile.TemporaryDirectory() as work:
         for folder in sorted(p for p in (here / "examples").iterdir() if (p / "ship.toml").exists()):
@@ -248,5 +251,17 @@ def main(words):
     return 1 if failed else 0
 
 
+def main():
+    parser = argparse.ArgumentParser(description="drawings and figures of plans")
+    add_program(parser)
+    parser.add_argument("--png", type=pathlib.Path, metavar="FOLDER")
+    parser.add_argument("--draw", nargs=3, type=pathlib.Path, metavar=("SHIP", "STOW", "PLAN"))
+    parser.add_argument("--rows", nargs=3, type=pathlib.Path, metavar=("SHIP", "STOW", "PLAN"))
+    words = parser.parse_args()
+    if words.draw or words.rows:
+        return tell(words.draw or words.rows, bool(words.draw))
+    return look_at_all(program_of(words), words.png)
+
+
 if __name__ == "__main__":
-    sys.exit(main(sys.argv[1:]))
+    sys.exit(main())

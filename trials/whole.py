@@ -1,7 +1,7 @@
 #!/usr/bin/env python3
 """Tries that each file which the built program writes is whole or as it was, whatever stops a run.
 
-    trials/whole.py PROGRAM [--pairs N]
+    trials/whole.py [--program FILE] [--pairs N]
 
 prints a line for each kind of trial: `ok` or `WRONG`, what was tried, and what was seen. The kinds are
 
@@ -15,7 +15,8 @@ prints a line for each kind of trial: `ok` or `WRONG`, what was tried, and what 
   `/dev/fd/1`, a pipe, a `>(..)` of bash, a file below `/proc/self/cwd`, an empty name;
 - rights and owner of the files that are replaced, parts that were left behind, long names.
 
-It needs Linux, bash, strace and, for the owner, root. It ends with 1 where anything else came than was wanted.
+It needs Linux, bash, strace and, for the owner, root. It ends with 1 where anything else came than was wanted. Which
+program FILE is, tried.py says.
 """
 import argparse
 import collections
@@ -28,6 +29,10 @@ import sys
 import tempfile
 import threading
 import time
+
+sys.dont_write_bytecode = True  # no folder of compiled files beside the scripts
+
+from tried import add_program, program_of
 
 ROOT = os.path.dirname(os.path.dirname(os.path.abspath(__file__)))
 CALLS = ["openat", "read", "write", "fsync", "rename", "unlink", "close", "statx", "chown", "fchmod"]
@@ -337,10 +342,10 @@ def parts(program, inputs, whole):
 
 def main():
     parser = argparse.ArgumentParser(description="files are whole or as they were")
-    parser.add_argument("program")
+    add_program(parser)
     parser.add_argument("--pairs", type=int, default=300)
     args = parser.parse_args()
-    program, inputs = os.path.abspath(args.program), example("first")
+    program, inputs = program_of(args), example("first")
     whole = planned(program, inputs)
     links(program, inputs, whole)
     devices(program, inputs, whole)
