@@ -43,6 +43,7 @@ ROOT = os.path.dirname(HERE)
 sys.path.append(f"{ROOT}/trials")
 
 from answers import ROLES, SEARCHES, answer, read_by, split_words
+from cases import DATA, Case, is_long
 from reference import read_ship
 from tried import add_program, program_of
 
@@ -92,63 +93,13 @@ BYTES = [b"\0", b"\n", b"\r", b'"', b"'", b",", b" ", b"\t", b"\xff", b"\xef\xbb
          b"9", b"A", b"O", b"P", b"C", b"X", b"W", b"\xc3\xa9", b"\\", b"{", b"}", b"_", b".", b"\r\n", b"\n\n"]
 
 
-def fill_holes(line, turn):
-    def number(hole):
-        divisor, modulus, factor, first, width = map(int, hole.group(1).split())
-        return str(turn // divisor % modulus * factor + first).zfill(width)
-    return re.sub(r"\{([0-9 ]+)\}", number, line)
-
-
-def content(line):
-    """The bytes of a content line of a case file."""
-    if line[0] == "*":
-        count, line = line[1:].split(" ", 1)
-        return b"".join(content(fill_holes(line, turn)) for turn in range(int(count)))
-    if line[0] == "=":
-        return bytes(int(pair, 16) for pair in line[1:].split())
-    if line[0] == "/":
-        return b"".join(text.encode() + b"\n" for text in line[1:].split("/"))
-    return line[1:].encode() + (b"\n" if line[0] == "|" else b"")
-
-
-def case_input(path):
-    """The words of a case, its files by their names, and its other headings, as far as its first outcome."""
-    words, files, others, name = None, {}, set(), None
-    with open(path, encoding="utf-8", newline="") as file:
-        lines = file.read().split("\n")
-    for line in lines:
-        if not line or line[0] == "#":
-            continue
-        if line[0] in "|/>=*":
-            if name is not None:
-                files[name] += content(line)
-            continue
-        keyword, _, value = line.partition(" ")
-        name = None
-        if keyword == "status":
-            break
-        if keyword == "words":
-            words = value.split()
-        elif keyword == "file":
-            name = value
-            files[name] = b""
-        else:
-            others.add(keyword)
-    return words, files, others
-
-
-def is_long(path):
-    """Whether a case repeats a line so often that its files are too long for us."""
-    with open(path, encoding="utf-8", newline="") as file:
-        return any(int(count) > 2000 for count in re.findall(r"^\*(\d+) ", file.read(), re.MULTILINE))
-
-
 def read_case(path):
     """The files of a case by their roles, or None where they are none for us."""
     if is_long(path):
         return None
-    words, files, others = case_input(path)
-    if not words or words[0] not in ROLES or others & {"word", "fail"}:
+    case = Case(path)
+    words, files = case.words, case.files
+    if not words or words[0] not in ROLES or case.others & {"word", "fail"}:
         return None
     parsed = split_words(words)
     if parsed is None:
@@ -222,10 +173,9 @@ def read_inputs(program):
         if os.path.isdir(folder):
             files = {"ship": read_file(f"{folder}/ship.toml"), "stow": read_file(f"{folder}/stow.csv")}
             inputs += made_files(program, files, folder)
-    data = f"{ROOT}/crates/qc_rows/data"
     for command in sorted(ROLES):
-        for name in sorted(os.listdir(f"{data}/{command}")):
-            files = read_case(f"{data}/{command}/{name}")
+        for path in sorted((DATA / command).iterdir()):
+            files = read_case(path)
             if files and files not in found:
                 found.append(files)
     made = {}

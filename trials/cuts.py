@@ -29,12 +29,13 @@ from pathlib import Path
 
 sys.dont_write_bytecode = True  # no folder of compiled files beside the scripts
 
-ROOT = Path(__file__).resolve().parent.parent
-DATA = ROOT / "crates/qc_rows/data"
+import cases
+from answers import ROLES, SEARCHES, answer, read_by, search_fault, split_words
+from cases import DATA, ROOT, is_long
+
 sys.path.append(str(ROOT / "fuzz"))
 
-from answers import ROLES, SEARCHES, answer, read_by, search_fault, split_words
-from fuzz import case_input, is_long, made_files
+from fuzz import made_files
 from tried import add_program, program_of
 
 # The cases of crates/qc_rows/data of which `--write` makes cut cases: the files of the worked examples, a file that
@@ -95,8 +96,9 @@ class Case:
 
 def read_case(path):
     """The case of a file, and the file names of its roles; None where it isn't a plain command on files."""
-    words, files, others = case_input(path)
-    if not words or words[0] not in ROLES or others & {"word", "fail", "cut"}:
+    told = cases.Case(path)
+    words, files = told.words, told.files
+    if not words or words[0] not in ROLES or told.others & {"word", "fail", "cut"}:
         return None, None
     parsed = split_words(words)
     if parsed is None:
@@ -104,7 +106,7 @@ def read_case(path):
     names, more = parsed
     minus = words[0] in ("check", "freecheck") and names.get("plan") == "-"
     found = {role: files[name] for role, name in names.items() if name in files}
-    return Case(str(path.relative_to(DATA))[:-5], words[0], more, found, minus), names
+    return Case(told.name, words[0], more, found, minus), names
 
 
 def read_examples(program):
@@ -233,43 +235,30 @@ def run_all(args):
 
 # ---------------------------------------------------------------- cases of the gate
 
-def file_lines(path):
-    """The lines of a case file before its first outcome, by the file that they tell."""
-    files, name = {}, None
-    for line in path.read_text(encoding="utf-8").split("\n"):
-        if line.startswith("status "):
-            return files
-        if line.startswith("file "):
-            name = line[5:]
-            files[name] = []
-        elif name is not None and line[:1] in tuple("|/>=*"):
-            files[name].append(line)
-    raise ValueError(f"{path} has no outcome")
-
-
 def write_case(command, role, name):
     """Makes the case in which that file of that case is cut under the command."""
     case, names = read_case(DATA / f"{name}.case")
     case = Case(name, command, [], case.files, case.minus)
-    texts, outcomes = file_lines(DATA / f"{name}.case"), []
+    texts, outcomes = cases.Case(DATA / f"{name}.case").given["file"], []
     letters = {"ship": "s", "stow": "m", "plan": "p", "tree": "t", "freetree": "t"}
     for length in range(len(case.files[role])):
         due = case.cut(role, length).answer()
         if due not in outcomes:
             outcomes.append(due)
     what = {"ship": "ship file", "stow": "list", "plan": "plan's file"}.get(role, "tree")
-    lines = [f"# The {what} of {name}, cut at every byte.",
-             " ".join(["words", command] + ["-" if word == "-" else letters[word] for word in case.words[1:]])]
-    for one in ROLES[command]:
-        if one in case.files and not (one == "plan" and case.minus):
-            lines += [f"file {letters[one]}"] + texts[names[one]]
-    lines.append(f"cut {letters[role]}")
-    for status, report in outcomes:
-        lines += ["", f"status {status}", "report"] + [f"|{line}" for line in report]
+    new = cases.Case()
+    new.notes = [[f"# The {what} of {name}, cut at every byte."]] + [[] for _ in outcomes]
+    new.given = {
+        "words": [command] + ["-" if word == "-" else letters[word] for word in case.words[1:]],
+        "file": {letters[one]: texts[names[one]] for one in ROLES[command]
+                 if one in case.files and not (one == "plan" and case.minus)},
+        "cut": letters[role],
+    }
+    new.outcomes = [{"status": status, "report": "".join(f"{line}\n" for line in report)} for status, report in outcomes]
     kind = {"stow": "list", "freetree": "tree"}.get(role, role)
     short = name.split("/")[1].removeprefix(f"{kind}-")
     target = DATA / command / f"{kind}-cut-anywhere-{short}.case"
-    target.write_text("\n".join(lines) + "\n", encoding="utf-8")
+    target.write_text(new.text(), encoding="utf-8")
     return target
 
 

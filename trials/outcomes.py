@@ -28,12 +28,8 @@ from pathlib import Path
 
 sys.dont_write_bytecode = True  # no folder of compiled files beside the scripts
 
-ROOT = Path(__file__).resolve().parent.parent
-DATA = ROOT / "crates/qc_rows/data"
-sys.path.append(str(ROOT / "fuzz"))
-
+from cases import DATA, Case, content
 from faults import list_fault, ship_or_fault
-from fuzz import case_input, content
 from judges import SearchJudge, is_tight, tight_form
 from packed import Search, bare, lists_of
 from reference import (NEVER, TreeReader, bound_text, crane_lines, direction_of, dump, end_of, instance_of, plan_text,
@@ -161,58 +157,27 @@ def made(number, hatches, cranes):
 
 # ---------------------------------------------------------------- case files
 
-class Outcome:
-    """The lines of an outcome: `parts` is a list of [heading, content lines, lines before it that say nothing]."""
-
-    def __init__(self, before, heading):
-        self.parts = [[heading, [], before]]
-
-    def part(self, *headings):
-        return next((part for part in self.parts if part[0] in headings), None)
-
-    @property
-    def status(self):
-        return int(self.parts[0][0].split()[1])
-
-    def text(self, part):
-        return b"".join(content(line) for line in part[1])
-
-    def key(self):
-        return [(heading, lines) for heading, lines, _ in self.parts]
+def report_of(outcome):
+    """The bytes of the report or of what a part of it is wanted, or None where it may be any."""
+    told = outcome["report"]
+    return None if told == "@any" else content(told["front"] if isinstance(told, dict) else told)
 
 
-class CaseFile:
-    """A case file as its lines before the first outcome and its outcomes."""
+def told_of(outcome, name):
+    """What the outcome says of a file, or None."""
+    return outcome.get("left", {}).get(name)
 
-    def __init__(self, path):
-        self.path, self.name = path, str(path.relative_to(DATA))[:-5]
-        self.words, self.files, self.others = case_input(path)
-        self.front, self.outcomes, waiting = [], [], []
-        self.cut = None
-        for line in path.read_text(encoding="utf-8").split("\n")[:-1]:
-            if line.startswith("cut "):
-                self.cut = line[4:]
-            if not line or line[0] == "#":
-                waiting.append(line)
-            elif line.startswith("status "):
-                self.outcomes.append(Outcome(waiting, line))
-                waiting = []
-            elif self.outcomes and line[0] in "|/>=*":
-                self.outcomes[-1].parts[-1][1].append(line)
-            elif self.outcomes:
-                self.outcomes[-1].parts.append([line, [], waiting])
-                waiting = []
-            else:
-                self.front += waiting + [line]
-                waiting = []
-        self.behind = waiting
 
-    def text(self):
-        lines = list(self.front)
-        for outcome in self.outcomes:
-            for heading, inside, before in outcome.parts:
-                lines += before + [heading] + inside
-        return "\n".join(lines + self.behind) + "\n"
+def left_of(outcome, name):
+    """The bytes that the file must hold, or None where the outcome says none."""
+    told = told_of(outcome, name)
+    return None if told in (None, "@any", "@absent") or isinstance(told, dict) else content(told)
+
+
+def text_with(lines, old):
+    """The text of these lines: as it stood, where that is the same."""
+    text = "".join(f"{line}\n" for line in lines)
+    return old if old != "@any" and content(old) == text.encode() else text
 
 
 class Words:
@@ -248,16 +213,16 @@ def read_instance(ship, stow):
 
 def given_of(outcome, inst, words, files):
     """The end with which the search began, by the outcome's report, and the outcome's plan."""
-    report, plan = outcome.part("report", "report-front"), outcome.part(f"left {words.names[2]}")
-    lines = outcome.text(report).decode().splitlines()
+    plan = left_of(outcome, words.names[2])
+    lines = report_of(outcome).decode().splitlines()
     given = next((line.split()[1] for line in lines if line.startswith("given ")), "none")
     given = NEVER if given == "none" else int(given)
     if plan is None:
         if given != NEVER:
             raise Trouble("a plan was given and none is left")
         return given, None
-    slots, fault = read_plan(inst, outcome.text(plan))
-    if fault or plan_text(inst, slots).encode() != outcome.text(plan):
+    slots, fault = read_plan(inst, plan)
+    if fault or plan_text(inst, slots).encode() != plan:
         raise Trouble(f"its plan is none: {fault}")
     if direction_of(inst, slots)[1] or not is_tight(inst, slots):
         raise Trouble("its plan breaks a rule or could be tighter")
@@ -272,7 +237,7 @@ def given_of(outcome, inst, words, files):
 
 
 def worked_out(side, outcome, inst, words, files):
-    """What the search answers, and the lines of the parts that the outcome must have, by their headings."""
+    """What the search answers, and the lines that the outcome must have: of the report under None, of files by their names."""
     given, slots = given_of(outcome, inst, words, files)
     answer = Answer(side, inst, given, words.nodes)
     if answer.differs:
@@ -287,13 +252,8 @@ def worked_out(side, outcome, inst, words, files):
     if plan is None and answer.best < NEVER:
         raise Trouble("the plan that is met isn't known")
     name, tree = words.names[2], words.names[3]
-    new = {"report": answer.report(inst, plan)}
-    new["report-front"] = new["report"]
-    new[f"left {name}"] = plan_text(inst, plan).splitlines() if plan is not None else None
-    new[f"left {tree}"] = answer.tree
-    if answer.is_sole:
-        new[f"left-any {tree}"] = answer.tree
-    return answer, new
+    lines = plan_text(inst, plan).splitlines() if plan is not None else None
+    return answer, {None: answer.report(inst, plan), name: lines, tree: answer.tree}
 
 
 def holds_anyhow(side, outcome, inst, words):
@@ -301,29 +261,34 @@ def holds_anyhow(side, outcome, inst, words):
     and, where one is told, the end of its plan."""
     least = Answer(side, inst, NEVER, USUAL)
     answers = [Answer(side, inst, given, words.nodes) for given in (least.best, NEVER)]
-    plan = outcome.part(f"left {words.names[2]}")
+    plan = left_of(outcome, words.names[2])
     ends = {answer.best for answer in answers}
     if plan:
-        ends.add(end_of(inst, read_plan(inst, outcome.text(plan))[0]))
-    return least.kind == "Optimal" and len(ends) == 1 and {answer.status for answer in answers} == {outcome.status}
+        ends.add(end_of(inst, read_plan(inst, plan)[0]))
+    return least.kind == "Optimal" and len(ends) == 1 and {answer.status for answer in answers} == {outcome["status"]}
 
 
-def renew(outcome, status, new):
-    """Puts what was worked out into the outcome."""
-    outcome.parts[0][0] = f"status {status}"
-    for part in outcome.parts:
-        if part[0] in new:
-            lines = new[part[0]]
-            if lines is None:
-                raise Trouble(f"{part[0]}, and no such file is made")
-            part[0] = part[0].replace("left-any ", "left ")
-            part[1] = [f"|{line}" for line in lines]
+def renew(outcome, status, new, whole=True, sole=()):
+    """Puts what was worked out into the outcome; the report where it is whole, and files that may be any where they are
+    of those that have one text alone."""
+    outcome["status"] = status
+    report = outcome["report"]
+    if isinstance(report, dict):
+        report["front"] = text_with(new[None], report["front"])
+    elif whole and report != "@any":
+        outcome["report"] = text_with(new[None], report)
+    for name, told in outcome.get("left", {}).items():
+        if name in new and (told != "@any" or name in sole) and told != "@absent" and not isinstance(told, dict):
+            if new[name] is None:
+                raise Trouble(f"{name} is left, and no such file is made")
+            outcome["left"][name] = text_with(new[name], told)
 
 
 def cuts_of(case, words):
     """For a case with a cut, each instance that its files come to, with the files."""
-    for length in range(len(case.files[case.cut])):
-        files = {**case.files, case.cut: case.files[case.cut][:length]}
+    whole, name = case.files, case.given["cut"]
+    for length in range(len(whole[name])):
+        files = {**whole, name: whole[name][:length]}
         inst = read_instance(files[words.names[0]], files[words.names[1]])
         if inst is not None and (words.own is None or read_plan(inst, files[words.own])[1] is None):
             yield inst, files
@@ -332,51 +297,56 @@ def cuts_of(case, words):
 def renew_plan(side, case):
     """Works out the outcomes of a case of `plan`; the notes on what could not be, or isn't the only tree."""
     words, notes, last = Words(case.words), [], None
-    if case.cut:
+    cut = "cut" in case.given
+    if cut:
         runs = list(cuts_of(case, words))
     else:
-        runs = [(read_instance(case.files[words.names[0]], case.files[words.names[1]]), case.files)]
+        files = case.files
+        runs = [(read_instance(files[words.names[0]], files[words.names[1]]), files)]
     for outcome in case.outcomes:
-        if outcome.status not in SEARCHED:
+        if outcome["status"] not in SEARCHED:
             continue
         try:
             last = renew_outcome(side, outcome, words, runs, notes)
         except Trouble as trouble:
             last = None
-            notes.append(f"status {outcome.status}: {trouble}")
+            notes.append(f"status {outcome['status']}: {trouble}")
     for outcome in case.outcomes:
-        if outcome.status == 4 and last and not case.cut:  # a run that fails on the way to the last outcome
-            renew(outcome, 4, {heading: lines for heading, lines in last.items() if heading != "report"})
-    if "fail" not in case.others and not case.cut:
-        keys = [outcome.key() for outcome in case.outcomes]
-        case.outcomes = [outcome for at, outcome in enumerate(case.outcomes) if keys.index(outcome.key()) == at]
+        if outcome["status"] == 4 and last and not cut:  # a run that fails on the way to the last outcome
+            renew(outcome, 4, last[0], whole=False, sole=last[1])
+    if "fail" not in case.others and not cut:
+        first = [at for at, outcome in enumerate(case.outcomes) if case.outcomes.index(outcome) == at]
+        case.notes = case.notes[:1] + [case.notes[at + 1] for at in first]
+        case.outcomes = [case.outcomes[at] for at in first]
     return notes
 
 
 def renew_outcome(side, outcome, words, runs, notes):
-    """Works out one outcome: the parts that it must have, or None where its report may be any."""
+    """Works out one outcome: the lines that it must have and the files with one text alone, or None where its report may
+    be any."""
     inst, files = fitting(outcome, runs, words)
-    if outcome.part("report-any"):
+    if outcome["report"] == "@any":
         if not holds_anyhow(side, outcome, inst, words):
             raise Trouble("its report may be any, and it hangs on the plan that is given")
         return None
     answer, new = worked_out(side, outcome, inst, words, files)
-    if outcome.part(f"absent {words.names[2]}") and new[f"left {words.names[2]}"] is not None:
+    name, tree = words.names[2], words.names[3]
+    if told_of(outcome, name) == "@absent" and new[name] is not None:
         raise Trouble("a plan is there now")
-    renew(outcome, answer.status, new)
-    tree = words.names[3]
-    if outcome.part(f"left {tree}") and not answer.is_sole:
+    sole = {tree} if answer.is_sole else set()
+    renew(outcome, answer.status, new, sole=sole)
+    if left_of(outcome, tree) and not answer.is_sole:
         notes.append("the tree isn't the only one")
-    if outcome.part(f"left-any {tree}"):
+    if told_of(outcome, tree) == "@any":
         notes.append("any tree")
-    return new
+    return new, sole
 
 
 def fitting(outcome, runs, words):
     """The run whose plan the outcome tells."""
-    plan = outcome.part(f"left {words.names[2]}")
+    plan = left_of(outcome, words.names[2])
     for inst, files in runs:
-        if len(runs) == 1 or plan and read_plan(inst, outcome.text(plan))[1] is None:
+        if len(runs) == 1 or plan and read_plan(inst, plan)[1] is None:
             return inst, files
     raise Trouble("no run fits it")
 
@@ -386,20 +356,20 @@ def renew_made(side, case):
     numbers = [word for word in case.words[1:] if word != "--"]
     notes = []
     for outcome in case.outcomes:
-        part = outcome.part("report", "report-front")
-        if outcome.status == 2 or part is None:
-            if outcome.status != 2:
+        report = report_of(outcome)
+        if outcome["status"] == 2 or report is None:
+            if outcome["status"] != 2:
                 notes.append("its report may be any")
             continue
         ship, stow = made(*map(int, numbers))
         inst = read_instance(ship, stow)
-        end = next(int(line.split()[1]) for line in outcome.text(part).decode().splitlines() if line.startswith("end "))
+        end = next(int(line.split()[1]) for line in report.decode().splitlines() if line.startswith("end "))
         first = " ".join(["make", *numbers])
         told = [Answer(side, inst, given, MADE).summary(first, inst, stow.count(b"\n") - 1)
                 for given in (end, end + 1000, NEVER)]
         if told[0] != told[1] or told[0] != told[2]:
             notes.append(f"it hangs on the plan that is given: {told[0][4:]}, {told[1][4:]} or {told[2][4:]}")
-        part[1] = [f"|{line}" for line in told[0]]
+        renew(outcome, outcome["status"], {None: told[0]})
     return notes
 
 
@@ -407,12 +377,12 @@ def renew_made(side, case):
 
 def try_case(side, path, writes):
     """The number of lines that differ, and the notes."""
-    case = CaseFile(path)
+    case = Case(path)
     old = path.read_text(encoding="utf-8")
     if case.text() != old:
         return 0, ["it isn't read whole"]
     if case.words[:1] == ["plan"]:
-        if all(outcome.status not in SEARCHED for outcome in case.outcomes):
+        if all(outcome["status"] not in SEARCHED for outcome in case.outcomes):
             return 0, []
         notes = renew_plan(side, case)
     elif case.words[:1] == ["make"]:

@@ -15,10 +15,6 @@ macro_rules! ship {
 
 pub const ONE: &str = ship!("margin = 1", "{name = 'C1', bay = 1}");
 
-pub const FROM_2: &str = ship!("margin = 1", "{name = 'C1', bay = 1, from = 2}");
-
-pub const TO_1: &str = ship!("margin = 1", "{name = 'C1', bay = 1, to = 1}");
-
 pub const TWO: &str = ship!(
     "margin = 1",
     "{name = 'C1', bay = 1}, {name = 'C2', bay = 3}"
@@ -40,11 +36,6 @@ pub const LATE: &str = ship!(
     "{name = 'C1', bay = 2, ready = 100}, {name = 'C2', bay = 4}"
 );
 
-pub const THREE: &str = ship!(
-    "margin = 1",
-    "{name = 'C1', bay = 1}, {name = 'C2', bay = 3}, {name = 'C3', bay = 5}"
-);
-
 pub const CLOSE: &str = ship!(
     "margin = 0",
     "{name = 'C1', bay = 1}, {name = 'C2', bay = 2}, {name = 'C3', bay = 3}, {name = 'C4', bay = 4}"
@@ -61,10 +52,6 @@ pub const AT_2_AND_6: &str = list!("A,D,020082" "B,D,020084" "C,D,060082" "D,D,0
 // The tasks 2-DD of 20 and 14-DD of 30 ticks.
 pub const AT_2_AND_14: &str =
     list!("A,D,020082" "B,D,020084" "C,D,140082" "D,D,140084" "E,D,140086");
-// The tasks 2-DD and 14-DD of 10 ticks.
-pub const ENDS: &str = list!("A,D,020082" "B,D,140082");
-// The task 10-DD of 10 ticks.
-pub const AT_10: &str = list!("A,D,100082");
 // The tasks 2-DD and 2-DH of 10 ticks.
 pub const DECK_HOLD: &str = list!("A,D,020082" "B,D,020002");
 // The tasks 2-DD, 2-DH and 14-DD of 10 ticks.

@@ -1,87 +1,282 @@
-//! Calls on least starts, and what they must answer. Tasks and cranes are counted from 0. What cranes
-//! keep between them is told in `calls.rt`.
+//! Makes calls on least starts, and compares what they answer.
 
-use crate::files::{APART, AT_2_AND_6, AT_2_AND_14, DECK_HOLD, DECK_HOLD_AND_14, ONE, TWO};
-use crate::row::StartsCall::{
-    Cell, Complete, Decide, Ends, HasCrane, Leaving, Mark, Retract, Ring, Settles, Start, Stuck,
+ghost use Rattle.std.specs.Prelude.{◌↔◌, ◌<◌, ◌≡◌, IsTrue, length};
+ghost use Rattle.qc_model.specs.Nodes.{Conflicts};
+
+use crate::crew::{crew_by, crew_of};
+use crate::instance::instance_in;
+use crate::text::{compare, number, plain, yes_or_no};
+use anyhow::Result;
+use qc_bounds::{LeafKind, close, spent, work_bound};
+use qc_dist::in_reach;
+use qc_model::{Instance, Turn};
+use qc_num::{Bound, Path, Steps, Tick};
+use qc_starts::{Starts, Step};
+use std::alloc::{AllocError, Global};
+use std::marker::Brand;
+use std::sync::ledger::{Blank, Ledger};
+
+/// Calls on the least starts of nodes, one after the other, each with its answer.
+#[derive(Clone, Copy)]
+pub struct Row {
+    /// What the row shows.
+    pub name: &'static str,
+    /// The ship file.
+    pub ship: &'static str,
+    /// The stowage list.
+    pub list: &'static str,
+    /// Which way cranes may go.
+    pub turn: Turn,
+    /// The first call finds no decision.
+    pub calls: &'static [(Call, &'static str)],
+}
+
+/// A call. What it can't be made on answers `none` or `no`.
+#[derive(Clone, Copy)]
+pub enum Call {
+    /// Gives a task a crane: `raised` or `cycle`.
+    Assign(u16, u16),
+    /// Puts one task before another: `raised` or `cycle`.
+    Order(u16, u16),
+    /// Takes all decisions back but so many: how many are left.
+    Retract(u32),
+    /// How many decisions there are.
+    Mark,
+    Stuck,
+    Complete,
+    Start(u16),
+    Ends,
+    CraneOf(u16),
+    Settled(u16, u16),
+    /// The arcs that leave the task, newest first: from, to and ticks.
+    Leaving(u16),
     WhyPath,
-};
-use crate::row::StartsRow;
-use qc_arena::Edge;
-use qc_model::Decision::{Assign, Order};
-use qc_model::Turn;
-use qc_starts::Step::{Cycle, Raised};
-
-// A name, the ship and the list, and the calls.
-macro_rules! row {
-    ($name:literal: $ship:ident, $list:ident; $($call:expr,)*) => {
-        StartsRow {
-            name: $name,
-            ship: $ship,
-            list: $list,
-            turn: Turn::OneWay,
-            calls: &[$($call),*],
-        }
-    };
+    /// The number of tasks in the ring.
+    Ring,
+    WorkBound,
+    /// The last end at which the assignment is closed, where cranes go to and fro.
+    FreeBound,
+    /// The leaf that closes the node at the bound, or `open`.
+    Close(Bound),
+    /// The leaf that stands for the node.
+    Spent,
 }
 
-// An arc from a task to another, and its ticks.
-macro_rules! arc {
-    ($from:literal, $to:literal, $len:literal) => {
-        Edge {
-            from: $from,
-            to: $to,
-            len: $len,
-        }
-    };
+fn is_task(starts: &Starts, task: u16) -> bool
+    ensures { IsTrue result ↔ (task < length starts.now.inst.tasks) }
+{
+    (task as usize) < starts.instance().tasks().len()
 }
 
-pub const STARTS: &[StartsRow] = &[
-    // Tasks of 20 ticks at bays 1 and 2. The first needs no way and either crane goes 1 bay to the
-    // second, so the second ends at 21. With a crane each the first waits for 20 and 1 ticks after the
-    // start of the second: from 1 + 21 to 42.
-    row! { "raised-by-the-other-crane": TWO, AT_2_AND_6;
-        Start(0, 0), Start(1, 1), Ends(21), WhyPath(&[1]), Complete(false),
-        Decide(Assign(0, 0), Raised), Decide(Assign(1, 1), Raised), Start(0, 22), Start(1, 1),
-        Ends(42), WhyPath(&[1, 0]), Leaving(1, &[arc!(1, 0, 21)]), Leaving(0, &[]), Cell(0, 22),
-        Complete(true), Mark(2), Retract(0), Mark(0), Leaving(1, &[]), Cell(0, 0), Start(0, 0),
-        Start(1, 1), Ends(21),
-    },
-    // One crane does the lower task first, goes 1 bay, and ends at 20 + 1 + 20.
-    row! { "one-crane-for-both": TWO, AT_2_AND_6;
-        Decide(Assign(0, 0), Raised), Settles(0, 1, false), Decide(Assign(1, 0), Raised),
-        Settles(0, 1, true), Start(0, 0), Start(1, 21), Ends(41), WhyPath(&[0, 1]), Retract(1),
-        HasCrane(0, Some(0)), HasCrane(1, None), Start(1, 1),
-    },
-    // Work on deck comes first and takes 10 ticks, whoever does it.
-    row! { "hold-waits-for-deck": ONE, DECK_HOLD;
-        Start(0, 0), Start(1, 10), Ends(20), WhyPath(&[0, 1]),
-    },
-    // The deck takes 10 ticks. With the deck on the higher crane, which comes 2 bays from its berth, the
-    // hold waits for these and for the 2 bays that the margin asks for at one bay: from 2 + 12 on. That
-    // arc stands before the older one of the pair, and goes with its decision.
-    row! { "newest-arc-first": TWO, DECK_HOLD;
-        Leaving(0, &[arc!(0, 1, 10)]), Leaving(1, &[]), Decide(Assign(0, 1), Raised),
-        Leaving(0, &[arc!(0, 1, 10)]), Decide(Assign(1, 0), Raised),
-        Leaving(0, &[arc!(0, 1, 12), arc!(0, 1, 10)]), Leaving(1, &[]), Cell(0, 2), Cell(1, 14),
-        Ends(24), Retract(1), Leaving(0, &[arc!(0, 1, 10)]),
-    },
-    // Upward the higher crane is first at one bay, and it has the hold, which waits for the deck.
-    row! { "ring-of-deck-and-hold": TWO, DECK_HOLD;
-        Decide(Assign(0, 0), Raised), Stuck(false), Decide(Assign(1, 1), Cycle), Stuck(true),
-        Ring(2), Mark(2), Complete(true), Retract(1), Stuck(false), Mark(1),
-    },
-    // The hold at bay 1 waits for the deck there, the task at bay 4 for the hold, since one crane does
-    // both, and the deck for the task at bay 4, as decided.
-    row! { "ring-of-three": APART, DECK_HOLD_AND_14;
-        Decide(Assign(1, 0), Raised), Decide(Assign(2, 0), Raised), Settles(0, 2, false),
-        Decide(Order(2, 0), Cycle), Stuck(true), Ring(3), Retract(2), Stuck(false), Start(0, 0),
-        Start(1, 10), Start(2, 23), Ends(33), WhyPath(&[0, 1, 2]),
-    },
-    // The task of 30 ticks at bay 4 is first: the second crane goes 1 bay, and the other task of 20
-    // ticks follows at 31.
-    row! { "order-of-an-apart-pair": APART, AT_2_AND_14;
-        Start(0, 0), Start(1, 1), Decide(Order(1, 0), Raised), Start(0, 31), Start(1, 1), Ends(51),
-        WhyPath(&[1, 0]), Complete(false),
-    },
-];
+fn is_crane(starts: &Starts, crane: u16) -> bool
+    ensures { IsTrue result ↔ (crane < length starts.now.inst.cranes) }
+{
+    (crane as usize) < starts.instance().cranes().len()
+}
+
+fn step_text(step: Step) -> &'static str {
+    match step {
+        Step::Raised => "raised",
+        Step::Cycle => "cycle",
+    }
+}
+
+fn assign<L: Ledger>(
+    starts: &mut Starts,
+    task: u16,
+    crane: u16,
+    steps: &mut Steps<L>,
+) -> &'static str {
+    if starts.stuck() || !is_task(starts, task) || !is_crane(starts, crane) {
+        return "none";
+    }
+    if starts.crane_of(task).is_some() || !in_reach(starts.instance(), task, crane) {
+        return "none";
+    }
+    step_text(starts.assign(task, crane, steps))
+}
+
+fn order<L: Ledger>(
+    starts: &mut Starts,
+    first: u16,
+    second: u16,
+    steps: &mut Steps<L>,
+) -> &'static str {
+    if starts.stuck() || !is_task(starts, first) || !is_task(starts, second) {
+        return "none";
+    }
+    if !starts.conflict(first, second) || starts.settled(first, second) {
+        return "none";
+    }
+    step_text(starts.order(first, second, steps))
+}
+
+fn retract<L: Ledger>(starts: &mut Starts, mark: u32, steps: &mut Steps<L>) -> u32 {
+    if mark <= starts.mark() {
+        starts.retract(mark, steps);
+    }
+    starts.mark()
+}
+
+fn start(starts: &Starts, task: u16) -> Option<Tick> {
+    if starts.stuck() || !is_task(starts, task) {
+        return None;
+    }
+    Some(starts.start(task))
+}
+
+fn ends(starts: &Starts) -> Option<Tick> {
+    if starts.stuck() {
+        return None;
+    }
+    Some(starts.ends())
+}
+
+fn crane_of(starts: &Starts, task: u16) -> Option<u64> {
+    if !is_task(starts, task) {
+        return None;
+    }
+    starts.crane_of(task).map(u64::from)
+}
+
+fn settled(starts: &Starts, first: u16, second: u16) -> bool {
+    is_task(starts, first) && is_task(starts, second) && starts.settled(first, second)
+}
+
+/// Puts a part behind the text, with a space between them.
+fn add(text: &mut String, part: &str) -> Result<()> {
+    if !text.is_empty() {
+        text.push(' ')?;
+    }
+    text.push_str(part)?;
+    Ok(())
+}
+
+fn leaving(alloc: Global, starts: &Starts, task: u16) -> Result<String> {
+    let mut text = String::new(alloc);
+    for arc in starts.arcs().out(task) {
+        let (from, to, len) = (arc.from, arc.to, arc.len);
+        add(&mut text, format!(in alloc; "{from}-{to}:{len}")?.as_str())?;
+    }
+    if text.is_empty() {
+        return plain(alloc, "none");
+    }
+    Ok(text)
+}
+
+/// Room for the tasks of a leaf.
+fn room(alloc: Global, starts: &Starts) -> Result<Path, AllocError> {
+    Path::with_capacity(alloc, starts.instance().task_count() as usize)
+}
+
+fn tasks_text(alloc: Global, tasks: &[u16]) -> Result<String> {
+    let mut text = String::new(alloc);
+    for task in tasks {
+        add(&mut text, format!(in alloc; "{task}")?.as_str())?;
+    }
+    Ok(text)
+}
+
+fn why_path(alloc: Global, starts: &Starts) -> Result<String> {
+    if starts.stuck() {
+        return plain(alloc, "none");
+    }
+    let mut path = room(alloc, starts)?;
+    starts.why_path(&mut path);
+    tasks_text(alloc, path.as_slice())
+}
+
+fn ring(alloc: Global, starts: &Starts) -> Result<Option<u64>> {
+    if !starts.stuck() {
+        return Ok(None);
+    }
+    let mut path = room(alloc, starts)?;
+    starts.cycle(&mut path);
+    Ok(Some(path.len() as u64))
+}
+
+fn leaf_text(alloc: Global, leaf: LeafKind) -> Result<String> {
+    match leaf {
+        LeafKind::Chain => plain(alloc, "chain"),
+        LeafKind::Ring => plain(alloc, "ring"),
+        LeafKind::Work(end) => Ok(format!(in alloc; "work {end}")?),
+        LeafKind::Clash(end) => Ok(format!(in alloc; "clash {end}")?),
+    }
+}
+
+fn close_text(alloc: Global, starts: &Starts, bound: Bound) -> Result<String> {
+    let mut path = room(alloc, starts)?;
+    let crew = crew_of(alloc, starts)?;
+    match close(starts, &crew, bound, &mut path) {
+        Some(leaf) => leaf_text(alloc, leaf),
+        None => plain(alloc, "open"),
+    }
+}
+
+fn spent_text(alloc: Global, starts: &Starts) -> Result<String> {
+    let mut path = room(alloc, starts)?;
+    let crew = crew_of(alloc, starts)?;
+    leaf_text(alloc, spent(starts, &crew, &mut path))
+}
+
+/// Makes a call on a node that stays: its answer.
+fn answer(alloc: Global, starts: &Starts, call: Call) -> Result<String> {
+    match call {
+        Call::Stuck => yes_or_no(alloc, starts.stuck()),
+        Call::Complete => yes_or_no(alloc, starts.complete()),
+        Call::Settled(first, second) => yes_or_no(alloc, settled(starts, first, second)),
+        Call::Start(task) => number(alloc, start(starts, task)),
+        Call::Ends => number(alloc, ends(starts)),
+        Call::CraneOf(task) => number(alloc, crane_of(starts, task)),
+        Call::Leaving(task) => leaving(alloc, starts, task),
+        Call::WhyPath => why_path(alloc, starts),
+        Call::Ring => number(alloc, ring(alloc, starts)?),
+        Call::WorkBound => number(alloc, Some(work_bound(&crew_of(alloc, starts)?))),
+        Call::FreeBound => {
+            number(
+                alloc,
+                Some(crew_by(alloc, starts, Turn::Free)?.latest_closed()),
+            )
+        }
+        Call::Close(bound) => close_text(alloc, starts, bound),
+        Call::Spent => spent_text(alloc, starts),
+        Call::Mark | Call::Assign(_, _) | Call::Order(_, _) | Call::Retract(_) => {
+            number(alloc, Some(u64::from(starts.mark())))
+        }
+    }
+}
+
+/// Makes a call: its answer.
+fn make<L: Ledger>(
+    alloc: Global,
+    starts: &mut Starts,
+    call: Call,
+    steps: &mut Steps<L>,
+) -> Result<String> {
+    match call {
+        Call::Assign(task, crane) => plain(alloc, assign(starts, task, crane, steps)),
+        Call::Order(first, second) => plain(alloc, order(starts, first, second, steps)),
+        Call::Retract(mark) => { number(alloc, Some(u64::from(retract(starts, mark, steps)))) }
+        _ => answer(alloc, starts, call),
+    }
+}
+
+fn run_on<L: Ledger>(alloc: Global, inst: &Instance, row: &Row, blank: Blank) -> Result<()>
+    requires name { blank.name ≡ L.name }
+    requires parts { blank.parts ≡ L.parts }
+    requires some { 0 < L.parts }
+{
+    let mut steps = Steps::<L>::new(blank);
+    let mut starts = Starts::open(alloc, inst)?;
+    for (number, (call, wanted)) in row.calls.iter().enumerate() {
+        let came = make(alloc, &mut starts, *call, &mut steps)?;
+        compare(number, came.as_str(), wanted)?;
+    }
+    Ok(())
+}
+
+/// Makes the calls of a row; an error where one answers otherwise.
+pub fn run(alloc: Global, row: &Row) -> Result<()> {
+    let inst = instance_in(alloc, row.ship, row.list)?.with_turn(row.turn);
+    run_on::<Brand>(alloc, &inst, row, Blank::new(1))
+}

@@ -1,7 +1,6 @@
-//! What a case tells: what its run is given, and what must come back.
+//! A case: what a run is given, and what must come back.
 
-use crate::wanted::Wanted;
-use std::alloc::Global;
+use serde::Deserialize;
 
 /// A file that is on the shelf before the run.
 #[derive(Drop)]
@@ -10,36 +9,32 @@ pub struct Named {
     pub bytes: Vec<u8>,
 }
 
-/// What a run is given a sink or a shelf for.
-#[derive(Clone, Copy, PartialEq, Eq)]
+/// What a run writes its report to, or where its files are.
+#[derive(Clone, Copy, PartialEq, Eq, Drop, Deserialize)]
+#[serde(rename_all = "lowercase")]
 pub enum Store {
     Shelf,
     Sink,
 }
 
-/// The call of a store that is to fail, counted from 1.
+/// How bytes must be: those of a file after a run, or those on the sink.
 #[derive(Clone, Copy, PartialEq, Eq)]
-pub struct Failure {
-    pub store: Store,
-    pub call: u64,
+pub enum Kind {
+    /// There is no such file.
+    Absent,
+    /// Any bytes.
+    Any,
+    /// Exactly these bytes.
+    Whole,
+    /// A part of these bytes from their front, and not all of them.
+    Front,
 }
 
-/// What a run is given.
+/// What bytes must be.
 #[derive(Drop)]
-pub struct Given {
-    /// The words of the command line, and none where the case doesn't say them yet.
-    pub words: Option<Vec<String>>,
-    pub files: Vec<Named>,
-    /// The calls of the shelf that are to fail.
-    pub shelf_failures: Vec<u64>,
-    /// The calls of the sink that are to fail.
-    pub sink_failures: Vec<u64>,
-    /// The store whose calls fail one after the other, each in a run of its own.
-    pub sweep: Option<Store>,
-    /// The file that is cut at every byte, each time in a run of its own.
-    pub cut: Option<String>,
-    /// The most bytes that a call of the shelf takes or gives; 0 stands for 1.
-    pub pieces: Option<usize>,
+pub struct Wanted {
+    pub kind: Kind,
+    pub bytes: Vec<u8>,
 }
 
 /// What a file must be after a run.
@@ -54,8 +49,7 @@ pub struct WantedFile {
 #[derive(Drop)]
 pub struct Outcome {
     pub status: u8,
-    /// The bytes on the sink, and none where the case doesn't say them yet.
-    pub report: Option<Wanted>,
+    pub report: Wanted,
     pub files: Vec<WantedFile>,
 }
 
@@ -64,24 +58,32 @@ pub struct Outcome {
 /// each run comes to one of the outcomes, and each outcome comes in some run.
 #[derive(Drop)]
 pub struct Case {
-    pub given: Given,
+    /// The words of the command line.
+    pub words: Vec<String>,
+    pub files: Vec<Named>,
+    /// The most bytes that a call of the shelf takes or gives.
+    pub pieces: Option<usize>,
+    /// The calls of the shelf that fail, counted from 1.
+    pub shelf_fails: Vec<u64>,
+    /// The calls of the sink that fail.
+    pub sink_fails: Vec<u64>,
+    /// The store whose calls fail one after the other, each in a run of its own.
+    pub sweep: Option<Store>,
+    /// The file that is cut at every byte, each time in a run of its own.
+    pub cut: Option<String>,
     pub outcomes: Vec<Outcome>,
 }
 
+impl Outcome {
+    /// Whether it says what becomes of the file.
+    pub fn speaks_of(&self, name: &str) -> bool {
+        self.files.iter().any(|file| file.name.as_str() == name)
+    }
+}
+
 impl Case {
-    /// A case that says nothing yet.
-    pub fn new(alloc: Global) -> Case {
-        Case {
-            given: Given {
-                words: None,
-                files: Vec::new(alloc),
-                shelf_failures: Vec::new(alloc),
-                sink_failures: Vec::new(alloc),
-                sweep: None,
-                cut: None,
-                pieces: None,
-            },
-            outcomes: Vec::new(alloc),
-        }
+    /// Whether the file is given.
+    pub fn gives(&self, name: &str) -> bool {
+        self.files.iter().any(|file| file.name.as_str() == name)
     }
 }

@@ -1,13 +1,13 @@
 //! What came back in place of what, as text.
 
-use crate::case::{Given, Named, Outcome};
-use crate::judge::{Ran, is_kept, is_no_file};
-use crate::wanted::{Wanted, is_met};
+use crate::case::{Case, Kind, Outcome};
+use crate::run::{Ran, Trial};
 use std::alloc::{AllocError, Global};
 
-/// How many bytes are shown at most, and how many stand before the first difference.
+/// How many bytes are shown at most.
 const SHOWN: usize = 120;
 
+/// How many of them stand before the first difference.
 const BEFORE: usize = 20;
 
 /// Puts a byte behind the text, as it is shown in quotes.
@@ -47,128 +47,134 @@ fn start(wanted: &[u8], got: &[u8]) -> usize {
     same.saturating_sub(BEFORE)
 }
 
-/// What was wanted and what came, `None` standing for no such file.
-fn compared(alloc: Global, wanted: &Wanted, got: Option<&[u8]>) -> Result<String, AllocError> {
-    let got = got.unwrap_or(&[]);
-    match wanted {
-        Wanted::Absent => {
-            let got = quoted(alloc, got, 0)?;
-            format!(in alloc; "{got} in place of no file")
-        }
-        Wanted::Any => format!(in alloc; "no file in place of any"),
-        Wanted::Whole(bytes) => {
-            let from = start(bytes.as_slice(), got);
-            let wanted = quoted(alloc, bytes.as_slice(), from)?;
-            let got = quoted(alloc, got, from)?;
-            format!(in alloc; "{got} in place of {wanted}")
-        }
-        Wanted::Front(bytes) => {
-            let from = start(bytes.as_slice(), got);
-            let wanted = quoted(alloc, bytes.as_slice(), from)?;
-            let got = quoted(alloc, got, from)?;
-            format!(in alloc; "{got} in place of a front of {wanted}")
-        }
+/// Whether the bytes are what is wanted; `None` stands for no such file.
+fn is_met(kind: Kind, bytes: &[u8], got: Option<&[u8]>) -> bool {
+    match (kind, got) {
+        (Kind::Absent, None) | (Kind::Any, Some(_)) => true,
+        (Kind::Whole, Some(got)) => got == bytes,
+        (Kind::Front, Some(got)) => got.len() < bytes.len() && bytes.starts_with(got),
+        _ => false,
     }
 }
 
-/// Puts a part behind the text, with a separator where it isn't the first.
-fn add_part(text: &mut String, part: &str) -> Result<(), AllocError> {
-    if !text.is_empty() {
-        text.push_str("; ")?;
-    }
-    text.push_str(part)
-}
-
-/// Puts behind the text what became of a file of which the outcome speaks, where that isn't wanted.
-fn add_file(
+/// The differences of a run from an outcome.
+#[derive(Drop)]
+struct Differences {
     alloc: Global,
-    name: &str,
-    wanted: &Wanted,
-    got: Option<&[u8]>,
-    text: &mut String,
-) -> Result<(), AllocError> {
-    if got.is_none() {
-        return add_part(text, format!(in alloc; "no file {name}")?.as_str());
-    }
-    let what = compared(alloc, wanted, got)?;
-    add_part(text, format!(in alloc; "file {name} {what}")?.as_str())
+    text: String,
 }
 
-/// A given file that isn't as it was.
-fn add_changed(
-    alloc: Global,
-    file: &Named,
-    got: Option<&[u8]>,
-    text: &mut String,
-) -> Result<(), AllocError> {
-    let wanted = Wanted::Whole(Vec::from_slice(alloc, file.bytes.as_slice())?);
-    add_file(alloc, file.name.as_str(), &wanted, got, text)
-}
-
-/// The files of which the outcome says nothing.
-fn add_others(
-    alloc: Global,
-    given: &Given,
-    outcome: &Outcome,
-    ran: &Ran,
-    text: &mut String,
-) -> Result<(), AllocError> {
-    let files = given.files.as_slice();
-    let named = outcome.files.as_slice();
-    for file in files {
-        if !is_kept(named, &ran.shelf, file) {
-            add_changed(alloc, file, ran.shelf.bytes(file.name.as_str()), text)?;
+impl Differences {
+    fn add(&mut self, part: &str) -> Result<(), AllocError> {
+        if !self.text.is_empty() {
+            self.text.push_str("; ")?;
         }
+        self.text.push_str(part)
     }
-    let Some(words) = &given.words else {
-        return Ok(());
-    };
-    for word in words {
-        let name = word.as_str();
-        if !is_no_file(files, named, &ran.shelf, name) {
-            add_file(alloc, name, &Wanted::Absent, ran.shelf.bytes(name), text)?;
+
+    /// Adds what bytes are in place of what is wanted of them.
+    fn compare(
+        &mut self,
+        what: &str,
+        kind: Kind,
+        bytes: &[u8],
+        got: Option<&[u8]>,
+    ) -> Result<(), AllocError> {
+        if is_met(kind, bytes, got) {
+            return Ok(());
         }
+        let alloc = self.alloc;
+        let from = start(bytes, got.unwrap_or(&[]));
+        let wanted = match kind {
+            Kind::Absent => String::from_str(alloc, "no file")?,
+            Kind::Any => String::from_str(alloc, "any")?,
+            Kind::Whole => quoted(alloc, bytes, from)?,
+            Kind::Front => {
+                let whole = quoted(alloc, bytes, from)?;
+                format!(in alloc; "a front of {whole}")?
+            }
+        };
+        let got = match got {
+            Some(got) => quoted(alloc, got, from)?,
+            None => String::from_str(alloc, "no file")?,
+        };
+        self.add(format!(in alloc; "{what} {got} in place of {wanted}")?.as_str())
     }
-    Ok(())
+
+    /// The same of a file.
+    fn compare_file(
+        &mut self,
+        name: &str,
+        kind: Kind,
+        bytes: &[u8],
+        ran: &Ran,
+    ) -> Result<(), AllocError> {
+        let what = format!(in self.alloc; "file {name}")?;
+        self.compare(what.as_str(), kind, bytes, ran.shelf.bytes(name))
+    }
+
+    /// The files of which the outcome speaks.
+    fn add_files(&mut self, outcome: &Outcome, ran: &Ran) -> Result<(), AllocError> {
+        for file in &outcome.files {
+            let bytes = file.wanted.bytes.as_slice();
+            self.compare_file(file.name.as_str(), file.wanted.kind, bytes, ran)?;
+        }
+        Ok(())
+    }
+
+    /// The given files of which it doesn't.
+    fn add_kept(
+        &mut self,
+        case: &Case,
+        trial: Trial<'_>,
+        outcome: &Outcome,
+        ran: &Ran,
+    ) -> Result<(), AllocError> {
+        for file in &case.files {
+            let name = file.name.as_str();
+            if !outcome.speaks_of(name) {
+                self.compare_file(name, Kind::Whole, trial.bytes_of(file), ran)?;
+            }
+        }
+        Ok(())
+    }
+
+    /// The words of the command line that are neither.
+    fn add_words(&mut self, case: &Case, outcome: &Outcome, ran: &Ran) -> Result<(), AllocError> {
+        for word in &case.words {
+            let name = word.as_str();
+            if !name.is_empty() && !case.gives(name) && !outcome.speaks_of(name) {
+                self.compare_file(name, Kind::Absent, &[], ran)?;
+            }
+        }
+        Ok(())
+    }
 }
 
-/// Puts behind the text what the report was, where that isn't wanted.
-fn add_report(
-    alloc: Global,
-    report: &Option<Wanted>,
-    got: &[u8],
-    text: &mut String,
-) -> Result<(), AllocError> {
-    match report {
-        Some(wanted) if !is_met(wanted, Some(got)) => {
-            let what = compared(alloc, wanted, Some(got))?;
-            add_part(text, format!(in alloc; "report {what}")?.as_str())
-        }
-        _ => Ok(()),
-    }
-}
-
-/// All in which the run differs from the outcome.
+/// All in which the run differs from the outcome; empty where it came to it.
 pub fn difference(
     alloc: Global,
-    given: &Given,
+    case: &Case,
+    trial: Trial<'_>,
     outcome: &Outcome,
     ran: &Ran,
 ) -> Result<String, AllocError> {
-    let mut text = String::new(alloc);
+    let text = String::new(alloc);
+    let mut found = Differences { alloc, text };
     let got = ran.status;
     let wanted = outcome.status;
     if got != wanted {
-        let part = format!(in alloc; "status {got} in place of {wanted}")?;
-        add_part(&mut text, part.as_str())?;
+        found.add(format!(in alloc; "status {got} in place of {wanted}")?.as_str())?;
     }
-    add_report(alloc, &outcome.report, ran.sink.bytes(), &mut text)?;
-    for file in &outcome.files {
-        let got = ran.shelf.bytes(file.name.as_str());
-        if !is_met(&file.wanted, got) {
-            add_file(alloc, file.name.as_str(), &file.wanted, got, &mut text)?;
-        }
-    }
-    add_others(alloc, given, outcome, ran, &mut text)?;
-    Ok(text)
+    let report = &outcome.report;
+    found.compare(
+        "report",
+        report.kind,
+        report.bytes.as_slice(),
+        Some(ran.sink.bytes()),
+    )?;
+    found.add_files(outcome, ran)?;
+    found.add_kept(case, trial, outcome, ran)?;
+    found.add_words(case, outcome, ran)?;
+    Ok(found.text)
 }

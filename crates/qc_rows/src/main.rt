@@ -1,35 +1,28 @@
 //! Runs cases of the program and prints one line for each: whether what came back is what was wanted.
 //!
-//! A case is a file `NAME.case` in a folder of its command. Its headings are first what the run is given:
-//! `words`, `word`, `file`, `pieces`, `fail` and `cut`, then for each outcome `status`, `report` and what
-//! becomes of files: `left`, `left-front`, `left-any`, `absent`. Content lines follow a heading: `|TEXT` is
-//! a line, `>TEXT` text without a line feed, `=0D 0A` bytes, and `*N LINE` repeats one of these.
-//! `docs/ROWS.md` has the whole format.
+//! A case is a file `NAME.case` in a folder of its command, in TOML: `words`, `file.NAME` and what fails are
+//! what the run is given, and each `[[outcome]]` has the status, the report and the files that must come
+//! back. `docs/ROWS.md` has the whole format.
 #![tactic(auto)]
 
-mod block;
 mod case;
-mod content;
-mod cut;
 mod difference;
-mod flaw;
-mod judge;
 mod play;
-mod reader;
-mod stores;
-mod sweep;
-mod verdict;
-mod wanted;
+mod run;
+mod text;
+mod told;
 
 use anyhow::Result;
+use case::Case;
 use play::play;
-use qc_num::OutOfMemory;
-use reader::read_case;
-use std::alloc::Global;
 use std::process::ExitCode;
 use std::rt::{Env, Files};
 use std::{env, fs};
-use verdict::{Verdict, is_held, line};
+use text::Texts;
+use told::read_case;
+
+/// The file of the folder with the texts that cases share.
+const TEXTS: &str = "texts.toml";
 
 /// The folder of the cases: the first word of the command line, or where the program runs.
 fn folder<R: Env + AllocGlobal>(rt: &R) -> Result<String> {
@@ -54,7 +47,7 @@ fn add_names<R: Files + AllocGlobal + Clone + Drop>(
     Ok(())
 }
 
-/// The names of all files of the folder and of the folders in it, sorted.
+/// The names of the case files of the folder and of the folders in it, sorted.
 fn file_names<R: Files + AllocGlobal + Clone + Drop>(rt: &R, folder: &str) -> Result<Vec<String>> {
     let mut entries = Vec::new(rt.alloc());
     add_names(rt, folder, "", &mut entries)?;
@@ -64,7 +57,7 @@ fn file_names<R: Files + AllocGlobal + Clone + Drop>(rt: &R, folder: &str) -> Re
         if fs::metadata(rt, path.as_str())?.is_dir() {
             let front = format!(in rt.alloc(); "{entry}/")?;
             add_names(rt, path.as_str(), front.as_str(), &mut names)?;
-        } else {
+        } else if entry.as_str() != TEXTS {
             names.push(entry)?;
         }
     }
@@ -72,48 +65,60 @@ fn file_names<R: Files + AllocGlobal + Clone + Drop>(rt: &R, folder: &str) -> Re
     Ok(names)
 }
 
-/// The verdict on a file that tells no case.
-fn malformed(alloc: Global, why: &str) -> Result<Verdict, OutOfMemory> {
-    Ok(Verdict::Malformed(String::from_str(alloc, why)?))
-}
-
-/// The verdict on the bytes of a case file.
-fn verdict_of(alloc: Global, bytes: &[u8]) -> Result<Verdict, OutOfMemory> {
-    let Ok(text) = std::str::from_utf8(bytes) else {
-        return malformed(alloc, "not UTF-8");
-    };
-    match read_case(alloc, text) {
-        Ok(case) => play(alloc, &case),
-        Err(fault) => Ok(Verdict::Malformed(format!(in alloc; "{fault}")?)),
-    }
-}
-
-/// The verdict on a file of the folder.
-fn verdict_on<R: Files + AllocGlobal>(
+/// The case of a file of the folder.
+fn case_in<R: Files + AllocGlobal>(
     rt: &R,
     folder: &str,
     file: &str,
-) -> Result<Verdict, OutOfMemory> {
-    if !file.ends_with(".case") {
-        return malformed(rt.alloc(), "not a case file");
-    }
+    shared: &Texts,
+) -> Result<Case> {
     let path = format!(in rt.alloc(); "{folder}/{file}")?;
-    match fs::read(rt, path.as_str()) {
-        Ok(bytes) => verdict_of(rt.alloc(), bytes.as_slice()),
-        Err(_) => malformed(rt.alloc(), "can't be read"),
+    let text = fs::read_to_string(rt, path.as_str())?;
+    read_case(rt.alloc(), text.as_str(), shared)
+}
+
+/// Prints the line of a file of the folder; whether its case held.
+fn show<R: Files + Print + AllocGlobal>(
+    rt: &R,
+    folder: &str,
+    file: &str,
+    shared: &Texts,
+) -> Result<bool> {
+    let name = file.strip_suffix(".case").unwrap_or(file);
+    let case = match case_in(rt, folder, file, shared) {
+        Ok(case) => case,
+        Err(why) => {
+            let why = format!(in rt.alloc(); "{why}")?;
+            let why = why.as_str().lines().next().unwrap_or("");
+            println!(rt; "MALFORMED {name}: {why}")?;
+            return Ok(false);
+        }
+    };
+    if let Some(what) = play(rt.alloc(), &case)? {
+        println!(rt; "FAILED {name}: {what}")?;
+        return Ok(false);
+    }
+    println!(rt; "ok {name}")?;
+    Ok(true)
+}
+
+/// The texts that the cases of the folder share; none where it has no such file.
+fn shared_texts<R: Files + AllocGlobal>(rt: &R, folder: &str) -> Result<Texts> {
+    let path = format!(in rt.alloc(); "{folder}/{TEXTS}")?;
+    match fs::read_to_string(rt, path.as_str()) {
+        Ok(text) => Ok(toml::from_str(rt.alloc(), text.as_str())?),
+        Err(_) => Ok(Texts::new(rt.alloc())),
     }
 }
 
 /// Prints a line for each case of the folder, and ends with 0 where all held.
 fn main(rt: HostRuntime) -> Result<ExitCode> {
     let folder = folder(&rt)?;
+    let shared = shared_texts(&rt, folder.as_str())?;
     let files = file_names(&rt, folder.as_str())?;
     let mut all_held = !files.is_empty();
     for file in &files {
-        let verdict = verdict_on(&rt, folder.as_str(), file.as_str())?;
-        let name = file.as_str().strip_suffix(".case").unwrap_or(file.as_str());
-        rt.println(line(rt.alloc(), name, &verdict)?)?;
-        all_held = all_held && is_held(&verdict);
+        all_held = show(&rt, folder.as_str(), file.as_str(), &shared)? && all_held;
     }
     Ok(if all_held {
         ExitCode::SUCCESS

@@ -1,0 +1,235 @@
+-- What the definitions of nodes give on examples that are worked out by hand. Tasks and cranes are counted from 0, and
+-- decisions are newest first. Hatches 2, 6, 10 and 14 are at bays 1 to 4; travel takes 1 tick a bay. With a margin of 1
+-- cranes k places apart keep 2 k bays between them; where bays are missing, one goes clear of the other by as many ticks.
+use Rattle.std.proofs.Common.{◌≡◌, ℕ, ◌+◌, pos, true, false, List, [], ◌∷◌, codes, None, Some, is_some, inl, inr, refl, sym, ap, ◌∙◌}
+use Rattle.std.proofs.lemmas.Bool.{false≢true}
+use Rattle.qc_model.specs.declared.decision.Decision.{Decision}
+use Rattle.qc_model.specs.declared.decision.Decision.TheVariants.{Assign, Order}
+use Rattle.qc_model.specs.declared.turn.Turn.TheVariants.{OneWay}
+use Rattle.qc_model.specs.declared.task.Phase.{Phase}
+use Rattle.qc_model.specs.declared.task.Phase.TheVariants.{DeckOut, HoldOut}
+use Rattle.qc_model.specs.declared.task.Task.{Task}
+use Rattle.qc_model.specs.declared.crane.Crane.{Crane}
+use Rattle.qc_model.specs.declared.pair.Pair.{Pair}
+use Rattle.qc_model.specs.Instance.{InstanceView, bay_of, ticks_of, crane, pair_of}
+use Rattle.qc_model.specs.Nodes.{IsSettled, assigned, forced, free, head, head1, reaches}
+use Rattle.qc_model.specs.OneWay.{mirror}
+use Rattle.qc_model.specs.Ticks.{task_distance, travel_between}
+use Rattle.qc_model.specs.Work.{work_holds}
+
+-- a crane that works from one bay to another
+abbrev reaching : List ℕ → ℕ → ℕ → ℕ → ℕ → Crane
+reaching name ready bay from to = record { name = name; ready = ready; bay = pos bay; from = pos from; to = pos to }
+
+-- one that is ready at once and works at all bays
+abbrev at : List ℕ → ℕ → Crane
+at name bay = reaching name 0 bay 1 4
+
+abbrev c1 : Crane
+c1 = at (codes "C1") 1
+
+abbrev c2 : Crane
+c2 = at (codes "C2") 3
+
+abbrev c3 : Crane
+c3 = at (codes "C3") 5
+
+abbrev work : ℕ → Phase → ℕ → ℕ → Task
+work hatch phase bay ticks = record { hatch = hatch; phase = phase; bay = pos bay; ticks = ticks }
+
+abbrev deck : ℕ → ℕ → ℕ → Task
+deck hatch bay ticks = work hatch DeckOut bay ticks
+
+-- what these cranes have to do, with pairs of which one task comes first and pairs that are apart
+abbrev with_pairs : List Crane → List Task → List Pair → List Pair → InstanceView
+with_pairs cranes tasks before apart = record {
+  bays = 4;
+  travel = 1;
+  gap = 2;
+  tasks = tasks;
+  cranes = cranes;
+  before = before;
+  apart = apart;
+  turn = OneWay;
+}
+
+abbrev plan : List Crane → List Task → InstanceView
+plan cranes tasks = with_pairs cranes tasks [] []
+
+-- tasks at bays 1 and 2 of 20 ticks, and cranes at 1 and 3
+abbrev near : InstanceView
+near = plan (c1 ∷ c2 ∷ []) (deck 2 1 20 ∷ deck 6 2 20 ∷ [])
+
+-- tasks at bays 1 and 4 of 20 and 30 ticks
+abbrev far_tasks : List Task
+far_tasks = deck 2 1 20 ∷ deck 14 4 30 ∷ []
+
+abbrev far : InstanceView
+far = plan (c1 ∷ c2 ∷ []) far_tasks
+
+-- the same apart
+abbrev split : InstanceView
+split = with_pairs (c1 ∷ c2 ∷ []) far_tasks [] (pair_of 0 1 ∷ [])
+
+-- tasks at bays 1 and 4 of 10 ticks, for two cranes and for three
+abbrev short_tasks : List Task
+short_tasks = deck 2 1 10 ∷ deck 14 4 10 ∷ []
+
+abbrev ends : InstanceView
+ends = plan (c1 ∷ c2 ∷ []) short_tasks
+
+abbrev outer : InstanceView
+outer = plan (c1 ∷ c2 ∷ c3 ∷ []) short_tasks
+
+-- a task on deck and one in the hold below, of 10 ticks, and one crane
+abbrev stack : InstanceView
+stack = with_pairs (c1 ∷ []) (deck 2 1 10 ∷ work 2 HoldOut 1 10 ∷ []) (pair_of 0 1 ∷ []) []
+
+-- a task at bay 3 of 10 ticks, and cranes at 2, which is ready at 100, and at 4
+abbrev late : InstanceView
+late = plan (reaching (codes "C1") 100 2 1 4 ∷ at (codes "C2") 4 ∷ []) (deck 10 3 10 ∷ [])
+
+-- the tasks at bays 1 and 2, and one crane, which works at bay 1 alone, or from bay 2 on
+abbrev to_1 : InstanceView
+to_1 = plan (reaching (codes "C1") 0 1 1 1 ∷ []) near.tasks
+
+abbrev from_2 : InstanceView
+from_2 = plan (reaching (codes "C1") 0 1 2 4 ∷ []) near.tasks
+
+-- both tasks have the crane of their number, or the other one
+abbrev straight : List Decision
+straight = Assign 1 1 ∷ Assign 0 0 ∷ []
+
+abbrev crossed : List Decision
+crossed = Assign 1 0 ∷ Assign 0 1 ∷ []
+
+-- both tasks have the first crane
+abbrev alone : List Decision
+alone = Assign 1 0 ∷ Assign 0 0 ∷ []
+
+-- where neither task is forced to start after the other, their order is open
+open_pair : (inst : InstanceView) (ds : List Decision) (i j : ℕ) → forced inst ds i j ≡ None → forced inst ds j i ≡ None
+    → ¬ IsSettled inst ds i j
+open_pair inst ds i j there back is = elim is [
+  | inl some ↦ false≢true (sym (ap is_some there) ∙ some)
+  | inr some ↦ false≢true (sym (ap is_some back) ∙ some)
+]
+
+-- The second crane at bay 2 misses 1 of 2 bays to the first at bay 1: 20 ticks of the task and 1. The berth at bay 1 is
+-- cleared by the same 1 tick, and the way from bay 3 to 2 is 1 too.
+forced-by-two-cranes : (forced near (Assign 0 0 ∷ []) 1 0 ≡ None) × (forced near straight 1 0 ≡ Some 21)
+    × (forced near straight 0 1 ≡ None) × IsSettled near straight 0 1 × IsSettled near straight 1 0
+    × (head near straight 0 ≡ 0) × (head near straight 1 ≡ 1)
+forced-by-two-cranes = (refl, refl, refl, inr refl, inl refl, refl, refl)
+
+-- The newest decision comes back first, and what it forced is gone.
+undone-in-turn : (assigned straight 1 ≡ Some 1) × (assigned (Assign 0 0 ∷ []) 1 ≡ None)
+    × (assigned (Assign 0 0 ∷ []) 0 ≡ Some 0) × (forced near (Assign 0 0 ∷ []) 1 0 ≡ None)
+    × ¬ IsSettled near (Assign 0 0 ∷ []) 0 1 × (assigned [] 0 ≡ None) × (forced near [] 1 0 ≡ None)
+undone-in-turn = (refl, refl, refl, refl, open_pair near (Assign 0 0 ∷ []) 0 1 refl refl, refl, refl)
+
+-- The first crane climbs from bay 1 to 2: 20 ticks of the task and 1 of travel.
+forced-by-one-crane : (forced near alone 0 1 ≡ Some 21) × (forced near alone 1 0 ≡ None) × IsSettled near alone 1 0
+forced-by-one-crane = (refl, refl, inr refl)
+
+-- The outer of three cranes keep 4 bays and have 3: 10 ticks of the task and 1.
+forced-by-outer-cranes : (task_distance outer 0 0 1 2 ≡ 1) × (forced outer (Assign 1 2 ∷ Assign 0 0 ∷ []) 1 0 ≡ Some 11)
+    × (forced outer (Assign 1 2 ∷ Assign 0 0 ∷ []) 0 1 ≡ None)
+forced-by-outer-cranes = (refl, refl, refl)
+
+-- With the cranes at bays 1 and 2 there is 1 bay of 2, so 1 is missing; crossed there are -1, so 3 are; at one bay there is
+-- none, so 2 are. One crane keeps none from itself.
+distances : (task_distance near 0 0 1 1 ≡ 1) × (task_distance near 1 1 0 0 ≡ 1) × (task_distance near 0 1 1 0 ≡ 3)
+    × (task_distance near 0 0 0 1 ≡ 2) × (task_distance near 0 1 1 1 ≡ 0)
+distances = (refl, refl, refl, refl, refl)
+
+abbrev span : InstanceView → ℕ → ℕ → ℕ
+span inst i j = ticks_of inst i + travel_between inst (bay_of inst i) (bay_of inst j)
+
+-- A task and the way of 1 bay; 20 and 30 ticks and the way of 3 bays.
+span-of-near-tasks : (span near 0 1 ≡ 21) × (span near 1 0 ≡ 21) × (span near 0 0 ≡ 20)
+span-of-near-tasks = (refl, refl, refl)
+
+span-of-far-tasks : (span far 0 1 ≡ 23) × (span far 1 0 ≡ 33)
+span-of-far-tasks = (refl, refl)
+
+-- Work on deck of 10 ticks ends before that in the hold starts, whoever does it.
+deck-first : (forced stack [] 0 1 ≡ Some 10) × (forced stack [] 1 0 ≡ None) × IsSettled stack [] 1 0
+deck-first = (refl, refl, inr refl)
+
+-- To bay 4 the first crane goes 3 bays, and the other at bay 3 misses 3 bays of 2 above it. The second goes 1 bay, and the
+-- first is 3 bays away. While the task has no crane, the lesser counts.
+earlier-of-two-cranes : (reaches ends 1 0 ≡ true) × (reaches ends 1 1 ≡ true) × (free ends 1 0 ≡ 3) × (free ends 1 1 ≡ 1)
+    × (head ends [] 1 ≡ 1) × (head ends (Assign 1 0 ∷ []) 1 ≡ 3) × (head ends (Assign 1 1 ∷ []) 1 ≡ 1)
+earlier-of-two-cranes = (refl, refl, refl, refl, refl, refl, refl)
+
+-- The first crane leaves bay 2 at 100 and misses 1 of 2 bays to bay 3: at 101 the second can be there, who else were there at
+-- 1. The first itself leaves at 100 and goes 1 bay.
+waits-for-a-berth : (free late 0 0 ≡ 101) × (free late 0 1 ≡ 101) × (head late [] 0 ≡ 101)
+    × (head late (Assign 0 1 ∷ []) 0 ≡ 101) × (head late (Assign 0 0 ∷ []) 0 ≡ 101)
+waits-for-a-berth = (refl, refl, refl, refl, refl)
+
+-- Trees of the first version count no berths.
+waits-for-no-berth : (head1 late [] 0 ≡ 1) × (head1 late (Assign 0 1 ∷ []) 0 ≡ 1) × (head1 late (Assign 0 0 ∷ []) 0 ≡ 101)
+    × (head1 to_1 [] 1 ≡ 0) × (head1 to_1 (Assign 1 0 ∷ []) 1 ≡ 1)
+waits-for-no-berth = (refl, refl, refl, refl, refl)
+
+-- The only crane works at bay 1 alone: for bay 2 no head counts until the task is given to it, and it goes 1 bay.
+above-every-reach : (reaches to_1 0 0 ≡ true) × (reaches to_1 1 0 ≡ false) × (head to_1 [] 1 ≡ 0) × (free to_1 1 0 ≡ 1)
+    × (head to_1 (Assign 1 0 ∷ []) 1 ≡ 1)
+above-every-reach = (refl, refl, refl, refl, refl)
+
+-- The only crane works from bay 2 on, and goes there 1 bay from where it stands.
+below-every-reach : (reaches from_2 0 0 ≡ false) × (reaches from_2 1 0 ≡ true) × (head from_2 [] 1 ≡ 1)
+below-every-reach = (refl, refl, refl)
+
+-- The task that is decided to be first takes 30 ticks, and 20 the other way round.
+order-forces-the-first-length : ¬ IsSettled split [] 0 1 × (forced split (Order 1 0 ∷ []) 1 0 ≡ Some 30)
+    × (forced split (Order 1 0 ∷ []) 0 1 ≡ None) × IsSettled split (Order 1 0 ∷ []) 0 1 × (forced split [] 1 0 ≡ None)
+    × (forced split (Order 0 1 ∷ []) 0 1 ≡ Some 20) × (forced split (Order 0 1 ∷ []) 1 0 ≡ None)
+order-forces-the-first-length = (open_pair split [] 0 1 refl refl, refl, refl, inr refl, refl, refl, refl)
+
+-- One crane for both climbs 3 bays after 20 ticks; the order alone asks for 20.
+the-greater-is-forced : (forced split (Assign 0 0 ∷ Order 0 1 ∷ []) 0 1 ≡ Some 20)
+    × (forced split (Assign 1 0 ∷ Assign 0 0 ∷ Order 0 1 ∷ []) 0 1 ≡ Some 23)
+the-greater-is-forced = (refl, refl)
+
+-- The pair is apart, and no order is decided: one crane climbs 3 bays after 20 ticks. Crossed cranes have -3 bays of 2, so 5
+-- are missing after 20 ticks.
+settled-by-its-cranes : ¬ IsSettled split (Assign 0 0 ∷ []) 0 1 × IsSettled split alone 0 1
+    × (forced split alone 0 1 ≡ Some 23) × (forced split crossed 0 1 ≡ Some 25) × IsSettled split crossed 1 0
+settled-by-its-cranes = (open_pair split (Assign 0 0 ∷ []) 0 1 refl refl, inl refl, refl, refl, inr refl)
+
+-- The higher crane has the higher task, 3 bays away, which are enough; the order asks for 30 ticks.
+left-open-by-its-cranes : ¬ IsSettled split straight 0 1 × (forced split (Order 1 0 ∷ straight) 1 0 ≡ Some 30)
+    × IsSettled split (Order 1 0 ∷ straight) 0 1
+left-open-by-its-cranes = (open_pair split straight 0 1 refl refl, refl, inr refl)
+
+-- 40 ticks for two cranes: by 19 they have 38, by 20 all 40. A stack of 20 ticks for one crane.
+work-of-all-cranes : (work_holds near [] 1 ≡ true) × (work_holds near [] 20 ≡ true) × (work_holds near [] 21 ≡ false)
+    × (work_holds stack [] 20 ≡ true) × (work_holds stack [] 21 ≡ false)
+work-of-all-cranes = (refl, refl, refl, refl, refl)
+
+-- The first crane has both tasks of 20 ticks and climbs 1 bay: it is done at 41.
+work-of-one-crane : (work_holds near alone 41 ≡ true) × (work_holds near alone 42 ≡ false)
+work-of-one-crane = (refl, refl)
+
+-- The second crane goes 2 bays to bay 1 and works 20: it is done at 22. The other task fits beside.
+work-with-the-way-there : (work_holds near (Assign 0 1 ∷ []) 22 ≡ true) × (work_holds near (Assign 0 1 ∷ []) 23 ≡ false)
+work-with-the-way-there = (refl, refl)
+
+-- Of 4 bays, bay x is 5 - x from the other end: tasks at 1 and 2, cranes at 1 and 3.
+mirror-of-two-cranes : (bay_of (mirror near) 0 ≡ pos 4) × (bay_of (mirror near) 1 ≡ pos 3)
+    × (crane (mirror near) 0 ≡ at (codes "C2") 2) × (crane (mirror near) 1 ≡ at (codes "C1") 4)
+    × (mirror (mirror near) ≡ near)
+mirror-of-two-cranes = (refl, refl, refl, refl, refl)
+
+-- Tasks at bays 1 and 4, cranes at 1, 3 and 5.
+mirror-of-three-cranes : (bay_of (mirror outer) 0 ≡ pos 4) × (bay_of (mirror outer) 1 ≡ pos 1)
+    × (crane (mirror outer) 0 ≡ at (codes "C3") 0) × (crane (mirror outer) 1 ≡ at (codes "C2") 2)
+    × (crane (mirror outer) 2 ≡ at (codes "C1") 4) × (mirror (mirror outer) ≡ outer)
+mirror-of-three-cranes = (refl, refl, refl, refl, refl, refl)
+
+-- A task at bay 4; the pair speaks of numbers, which stay.
+mirror-with-an-apart-pair : (bay_of (mirror split) 1 ≡ pos 1) × (mirror (mirror split) ≡ split)
+mirror-with-an-apart-pair = (refl, refl)

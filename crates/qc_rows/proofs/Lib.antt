@@ -1,2 +1,0 @@
-pub mod RunsLemmas
-pub mod SweepLemmas
