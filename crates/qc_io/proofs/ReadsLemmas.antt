@@ -39,12 +39,3 @@ reads_on fault a before mid after result first second =
       reading = second.reading;
       rose = λ e. subst (λ (n : ℕ). Rose n after.read_faults) same (second.rose e);
     }
-
--- a read from the open file that came through, whatever it answers
-pub reads_through : {A B E : Type 0} (fault : E) (a : A) (b : B) (before after : View)
-    → ReadsOn {A = A} {E = E} before after fault (Ok a) → ReadsOn {A = B} {E = E} before after fault (Ok b)
-reads_through fault a b before after r = record {
-  reads = reads_when before after r.reads (λ _. never_failed a fault);
-  reading = r.reading;
-  rose = λ e. absurd (never_failed b fault e);
-}

@@ -1,9 +1,9 @@
 -- The first line feed of the bytes that are held.
 use Rattle.std.proofs.Common.{◌≡◌, ◌==◌, ℕ, ◌+◌, ◌-◌, ◌≤◌, ◌<◌, Bool, false, List, [], ◌∷◌, ◌++◌, length, take, drop, get_or, Option, None, Some, Result, Ok, Err, position, refl, sym, ap, subst, ◌∙◌, arith, suc, inl, inr, ◌⊎◌, IfSome, nat_lt}
-use Rattle.std.proofs.Math.Seq.{drop-cons, take-add, take-append-add}
+use Rattle.std.proofs.Math.Seq.{drop-cons, take-append-add}
 use Rattle.std.proofs.lemmas.Bool.{cases_Bool}
 use Rattle.std.proofs.lemmas.Bool.Decides.{nat_tests}
-use Rattle.std.proofs.lemmas.List.{append-nil, append_assoc, drop-drop, drop-take, drop_all, get_or-take, length-drop, length-append, length-take, take-append-drop, take-append-le, take-take, take_all}
+use Rattle.std.proofs.lemmas.List.{append-nil, append_assoc, drop-drop, drop-take, get_or-take, length-drop, length-append, length-take, take-append-drop, take-append-le, take-take, take_all}
 use Rattle.std.proofs.lemmas.List.Quantifiers.{position-Some}
 use Rattle.std.proofs.lemmas.List.Sums.{fails_before_first}
 use Rattle.std.proofs.lemmas.Slice.{take-put_mid}
@@ -11,7 +11,7 @@ use borrow.Rule.Slice.PartMut.{put_mid}
 use Rattle.std.specs.Io.KnownBytes.{prepend_known}
 use Rattle.std.specs.List.{position_or_len}
 use Rattle.qc_io.proofs.Pieces.{prepend_known-append}
-use Rattle.qc_lines.specs.Left.{HoldsLine, HoldsPiece, IsCut, IsTooLong, NoFeed, Takes, TakesPiece}
+use Rattle.qc_lines.specs.Left.{HoldsLine, IsCut, IsTooLong, NoFeed, Takes}
 
 abbrev is_feed : ℕ → Bool
 is_feed b = b == 10
@@ -130,54 +130,3 @@ pub window_rest :
     (items : List ℕ) (start end len : ℕ) → start ≤ end → len < end - start
     → take (end - (start + (len + 1))) (drop (start + (len + 1)) items) ≡ drop (len + 1) (take (end - start) (drop start items))
 window_rest items start end len le lt = window_after items start end (len + 1) le (omega (arith, lt))
-
--- ---- pieces
-
--- a line feed that is found ends a piece
-pub found_piece : (most : ℕ) (held : List ℕ) (rest : Option (List ℕ)) (len : ℕ) → position (λ b. b == 10) held ≡ Some len
-    → HoldsPiece most held rest (len + 1)
-found_piece most held rest len e =
-    let found = position-Some is_feed held len 0 e in
-    let feed : get_or held len 0 ≡ 10 = grind (arith, nat_tests, found.1) in
-    record {
-      inside = omega (arith, found.0);
-      form = inl (record {
-        line = take len held;
-        whole =
-            take-add len 1 held ∙ ap (λ t. take len held ++ take 1 t) (drop-cons held len 0 found.0)
-            ∙ ap (λ b. take len held ++ b ∷ []) feed;
-        unbroken = none_before held len (λ k d lt. (position-Some is_feed held len d e).2 k lt);
-      });
-    }
-
--- where none is found, all bytes held are one
-pub rest_piece : (most : ℕ) (held : List ℕ) (rest : Option (List ℕ)) (len : ℕ) → position (λ b. b == 10) held ≡ None
-    → len ≡ length held → (most ≤ length held) ⊎ IfSome rest (λ left. left ≡ []) → HoldsPiece most held rest len
-rest_piece most held rest len none all long =
-    let front : take len held ≡ held = take_all len held (omega (arith, all)) in
-    let behind : drop len held ≡ [] = drop_all len held (omega (arith, all)) in
-    record {
-      inside = omega (arith, all);
-      form = inr (record {
-        unbroken = no_feed most held none len (omega (arith, all));
-        long = elim long [
-          | inl many ↦ inl (omega (arith, many, ap length front))
-          | inr ended ↦ inr (subst (λ (t : List ℕ). IfSome (prepend_known t rest) (λ left. left ≡ [])) (sym behind) (nothing rest ended))
-        ];
-      });
-    }
-  where
-    nothing : (rest : Option (List ℕ)) → IfSome rest (λ left. left ≡ []) → IfSome (prepend_known [] rest) (λ left. left ≡ [])
-    nothing None ended = tt
-    nothing (Some left) ended = ended
-
--- a piece that is held is taken
-pub takes_piece :
-    (most : ℕ) (held : List ℕ) (len : ℕ) (before rest : Option (List ℕ)) → HoldsPiece most held rest len
-    → before ≡ prepend_known held rest → TakesPiece most before (take len held) (prepend_known (drop len held) rest)
-takes_piece most held len before rest holds same = record {
-  taken =
-      same ∙ ap (λ t. prepend_known t rest) (sym (take-append-drop len held))
-      ∙ sym (prepend_known-append (take len held) (drop len held) rest);
-  form = holds.form;
-}

@@ -1,6 +1,5 @@
--- public: what is left of a text that is read line by line, or piece by piece; a line and its line feed have at most so
--- many bytes.
-use Rattle.std.specs.Prelude.{◌≡◌, ◌≢◌, ℕ, ◌<◌, ◌≤◌, ◌⊎◌, List, [], ◌∷◌, ◌++◌, ◌+◌, length, take, drop, All, Option, IfSome}
+-- public: what is left of a text that is read line by line; a line and its line feed have at most so many bytes.
+use Rattle.std.specs.Prelude.{◌≡◌, ◌≢◌, ℕ, ◌<◌, ◌≤◌, List, [], ◌∷◌, ◌++◌, ◌+◌, length, take, drop, All, Option}
 use Rattle.std.specs.Io.KnownBytes.{prepend_known}
 
 -- no byte is a line feed
@@ -27,26 +26,3 @@ pub record HoldsLine (most : ℕ) (held : List ℕ) (len : ℕ) : Type 0 where
   pub whole : held ≡ take len held ++ 10 ∷ drop (len + 1) held
   pub short : len < most
   pub unbroken : NoFeed (take len held)
-
--- ---- pieces
-
--- a line with its line feed
-pub record IsWholeLine (piece : List ℕ) : Type 0 where
-  pub line : List ℕ
-  pub whole : piece ≡ line ++ 10 ∷ []
-  pub unbroken : NoFeed line
-
--- bytes of a line, as many as a line can have at the least, or all that was left
-pub record IsPart (most : ℕ) (piece : List ℕ) (after : Option (List ℕ)) : Type 0 where
-  pub unbroken : NoFeed piece
-  pub long : (most ≤ length piece) ⊎ IfSome after (λ left. left ≡ [])
-
--- the piece was taken off the front of what was left
-pub record TakesPiece (most : ℕ) (before : Option (List ℕ)) (piece : List ℕ) (after : Option (List ℕ)) : Type 0 where
-  pub taken : before ≡ prepend_known piece after
-  pub form : IsWholeLine piece ⊎ IsPart most piece after
-
--- the bytes held, behind which these are left, begin with a piece of this length
-pub record HoldsPiece (most : ℕ) (held : List ℕ) (rest : Option (List ℕ)) (len : ℕ) : Type 0 where
-  pub inside : len ≤ length held
-  pub form : IsWholeLine (take len held) ⊎ IsPart most (take len held) (prepend_known (drop len held) rest)

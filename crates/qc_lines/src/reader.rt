@@ -6,7 +6,7 @@ ghost use Rattle.qc_io.specs.Reads.{Reads, ReadsOn};
 ghost use Rattle.std.specs.Borrow.{sem};
 ghost use Rattle.std.specs.Io.BufRead.{Rests};
 ghost use Rattle.qc_lines.specs.contracts.reader.LineReader.{the_row};
-ghost use Rattle.qc_lines.specs.Left.{HoldsLine, HoldsPiece, IsCut, IsTooLong, Takes, TakesPiece};
+ghost use Rattle.qc_lines.specs.Left.{HoldsLine, IsCut, IsTooLong, Takes};
 
 use qc_io::{Failed, Shelf};
 use std::alloc::{AllocError, Global};
@@ -139,43 +139,6 @@ impl<const MOST: usize> LineReader<MOST> {
         let start = self.start;
         self.start += len + 1;
         Ok(Some(&self.bytes.as_slice()[start..start + len]))
-    }
-
-    /// Takes the next piece: a line with its line feed, of whatever length; or, where no line feed is held, all
-    /// bytes held, which are `MOST` at least or all that is left. It is empty only where nothing is left.
-    pub fn piece<S: Shelf>(&mut self, shelf: &mut S) -> Result<&[u8], Failed>
-        requires open { (S.Sink.view shelf.old).reading ≡ true }
-        ensures* left { sem 𝓛 (Rests (the_row MOST.row) self.entry (λ new. IfOk result
-            (λ piece. TakesPiece MOST (prepend_known self.old (S.Sink.view shelf.old).rest) piece.now
-            (prepend_known new (S.Sink.view shelf.new).rest)))) }
-        ensures rose { OnErr result
-            (Rose (S.Sink.view shelf.old).read_faults (S.Sink.view shelf.new).read_faults) }
-        ensures reading_stays { (S.Sink.view shelf.new).reading ≡ true }
-        ensures reads { Reads (S.Sink.view shelf.old) (S.Sink.view shelf.new) (IsOk result) }
-    {
-        let len = self.find_piece(shelf)?;
-        let start = self.start;
-        self.start += len;
-        Ok(&self.bytes.as_slice()[start..start + len])
-    }
-
-    /// The length of the next piece, which is then held.
-    fn find_piece<S: Shelf>(&mut self, shelf: &mut S) -> Result<usize, Failed>
-        requires open { (S.Sink.view shelf.old).reading ≡ true }
-        ensures left { OnOk result (prepend_known self.new (S.Sink.view shelf.new).rest
-            ≡ prepend_known self.old (S.Sink.view shelf.old).rest) }
-        ensures piece { IfOk result (HoldsPiece MOST self.new (S.Sink.view shelf.new).rest) }
-        ensures rose { OnErr result
-            (Rose (S.Sink.view shelf.old).read_faults (S.Sink.view shelf.new).read_faults) }
-        ensures reading_stays { (S.Sink.view shelf.new).reading ≡ true }
-        ensures reads { Reads (S.Sink.view shelf.old) (S.Sink.view shelf.new) (IsOk result) }
-    {
-        let found = self.gather(shelf)?;
-        let held = self.end - self.start;
-        if let Some(len) = found {
-            return Ok(len + 1);
-        }
-        Ok(held)
     }
 
     /// The length of the next line, which is then held whole, with its line feed behind it.

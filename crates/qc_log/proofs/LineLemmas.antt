@@ -1,11 +1,9 @@
 -- The first place at which a test passes, and what stands before and behind it; the first line of a text.
-use Rattle.std.proofs.Common.{◌≡◌, ◌≢◌, ◌<◌, ◌≤◌, ◌+◌, ◌-◌, ◌∷◌, ◌++◌, ℕ, suc, List, [], length, take, drop, All, Bool, true, false, Option, None, Some, nat_lt, refl, sym, ap, ◌∙◌, inl, inr, arith, position}
+use Rattle.std.proofs.Common.{◌≡◌, ◌<◌, ◌≤◌, ◌+◌, ◌-◌, ◌∷◌, ℕ, suc, List, [], length, take, drop, Bool, Option, None, Some, nat_lt, refl, sym, ◌∙◌, inl, inr, arith, position}
 use Rattle.std.proofs.lemmas.Bool.{cases_Bool, ltb-true, ltb-false}
-use Rattle.std.proofs.lemmas.Bool.Decides.{nat_tests}
-use Rattle.std.proofs.lemmas.List.{drop_all, length-append, take_all, take_rest}
-use Rattle.std.proofs.Math.Seq.{take-append_seam}
+use Rattle.std.proofs.lemmas.List.{drop_all, take_all, take_rest}
 use Rattle.std.specs.List.{after_first, before_first, onto_first, position_or_len}
-use Rattle.qc_log.specs.Lines.{ended, is_feed, lines_of}
+use Rattle.qc_log.specs.Lines.{is_feed, lines_of}
 
 module _ {X : Type 0} (test : X → Bool) (xs : List X) where
   pub found : (i : ℕ) → Some i ≡ position test xs → (position_or_len test xs ≡ i) × (i < length xs)
@@ -70,52 +68,3 @@ one_line b (c ∷ bs) h = elim (cases_Bool (is_feed b)) [
 pub line_missing : (text : List ℕ) → 0 < length text → ◌≡◌ {A = Option ℕ} None (position is_feed text) → lines_of text ≡ text ∷ []
 line_missing [] some e = absurd (omega arith)
 line_missing (b ∷ bs) some e = one_line b bs (missing is_feed (b ∷ bs) e)
-
--- ---- lines by their bytes
-
--- the bytes of a text that holds no line feed
-abbrev NoneFeeds : List ℕ → Type 0
-NoneFeeds text = All (λ b. b ≢ 10) text
-
-head_other : (b : ℕ) (bs : List ℕ) → NoneFeeds (b ∷ bs) → is_feed b ≡ false
-head_other b bs none = elim (cases_Bool (is_feed b)) [
-  | inl feed ↦ let same : b ≡ 10 = grind (arith, nat_tests, feed) in absurd (none 0 0 (omega arith) same)
-  | inr other ↦ other
-]
-
-tail_none : (b : ℕ) (bs : List ℕ) → NoneFeeds (b ∷ bs) → NoneFeeds bs
-tail_none b bs none = λ k d lt. none (suc k) d (omega (arith, lt))
-
--- a whole line ahead of others
-pub line_ahead : (line more : List ℕ) → All (λ b. b ≢ 10) line → lines_of ((line ++ 10 ∷ []) ++ more) ≡ (line ++ 10 ∷ []) ∷ lines_of more
-line_ahead [] more none = refl
-line_ahead (b ∷ bs) more none =
-    rw (head_other b bs none)
-    (onto b (bs ++ 10 ∷ []) (lines_of more) (lines_of ((bs ++ 10 ∷ []) ++ more)) (line_ahead bs more (tail_none b bs none)))
-
--- a text that holds no line feed is one line
-pub line_alone : (line : List ℕ) → 0 < length line → All (λ b. b ≢ 10) line → lines_of line ≡ line ∷ []
-line_alone [] some none = absurd (omega (arith, some))
-line_alone (b ∷ []) some none = rw (head_other b [] none) refl
-line_alone (b ∷ c ∷ bs) some none =
-    rw (head_other b (c ∷ bs) none) (onto b (c ∷ bs) [] (lines_of (c ∷ bs)) (line_alone (c ∷ bs) (omega arith) (tail_none b (c ∷ bs) none)))
-
-feed_at : (line more : List ℕ) → NoneFeeds line → position_or_len is_feed (line ++ 10 ∷ more) ≡ length line
-feed_at [] more none = refl
-feed_at (b ∷ bs) more none = rw (head_other b bs none) (omega (arith, feed_at bs more (tail_none b bs none)))
-
-no_feed_at : (line : List ℕ) → NoneFeeds line → position_or_len is_feed line ≡ length line
-no_feed_at [] none = refl
-no_feed_at (b ∷ bs) none = rw (head_other b bs none) (omega (arith, no_feed_at bs (tail_none b bs none)))
-
--- what a whole line holds ahead of its line feed
-pub ended_line : (line : List ℕ) → All (λ b. b ≢ 10) line → ended (line ++ 10 ∷ []) ≡ Some line
-ended_line line none =
-    let here : nat_lt (length line) (length (line ++ 10 ∷ [])) ≡ true = grind (arith, nat_tests, length-append line (10 ∷ [])) in
-    rw (feed_at line [] none, here) (ap Some (take-append_seam line (10 ∷ [])))
-
--- a line that no line feed ends
-pub never_ended : (line : List ℕ) → All (λ b. b ≢ 10) line → ended line ≡ None
-never_ended line none =
-    let past : nat_lt (length line) (length line) ≡ false = grind (arith, nat_tests) in
-    rw (no_feed_at line none, past) refl
