@@ -1,15 +1,14 @@
 -- public: what calls answer, one after the other, by the definitions of nodes. Decisions are newest first.
-use Rattle.std.specs.Prelude.{◌≡◌, ◌↔◌, ◌+◌, ◌<◌, ◌≤◌, List, [], ◌∷◌, length, drop, Option, None, Some, IsTrue}
+use Rattle.std.specs.Prelude.{◌≡◌, ◌↔◌, ◌+◌, ◌<◌, List, [], ◌∷◌, length, drop, Option, None, Some, IsTrue}
 use Rattle.qc_model.specs.declared.decision.Decision.{Decision}
 use Rattle.qc_model.specs.Instance.{InstanceView, bay_of, ticks_of, crane}
-use Rattle.qc_model.specs.Work.{work_holds}
-use Rattle.qc_model.specs.Nodes.{IsSettled, assigned, forced, free, head, head1, reaches}
+use Rattle.qc_model.specs.Nodes.{IsSettled, assigned, forced, free, head, reaches}
 use Rattle.qc_model.specs.OneWay.{mirror}
 use Rattle.qc_model.specs.Ticks.{task_distance, travel_between}
 use Rattle.qc_dist.specs.Node.{IsOpen}
 use Rattle.qc_calls.specs.OfFiles.{OfFiles}
 use Rattle.qc_calls.specs.declared.row.Call.{Call}
-use Rattle.qc_calls.specs.declared.row.Call.TheVariants.{Add, Undo, CraneOf, Forced, Settled, Lead, Lead1, WorkHolds, Distance, Head, Span, InReach, MirrorBay, MirrorCrane, Same}
+use Rattle.qc_calls.specs.declared.row.Call.TheVariants.{Add, Undo, CraneOf, Forced, Settled, Lead, Distance, Head, Span, InReach, MirrorBay, MirrorCrane, Same}
 
 -- the tasks and cranes of the call are there, and what it decides is open
 abbrev pub CanBeMade : InstanceView → List Decision → Call → Type 0
@@ -18,8 +17,6 @@ CanBeMade inst ds (CraneOf j _) = j < length inst.tasks
 CanBeMade inst ds (Forced i j _) = (i < length inst.tasks) × (j < length inst.tasks)
 CanBeMade inst ds (Settled i j _) = (i < length inst.tasks) × (j < length inst.tasks)
 CanBeMade inst ds (Lead j _) = j < length inst.tasks
-CanBeMade inst ds (Lead1 j _) = j < length inst.tasks
-CanBeMade inst ds (WorkHolds v _) = 1 ≤ v
 CanBeMade inst ds (Distance i v j w _) =
     ((i < length inst.tasks) × (v < length inst.cranes))
     × ((j < length inst.tasks) × (w < length inst.cranes))
@@ -47,8 +44,6 @@ IsAnswered inst ds (CraneOf j k) = assigned ds j ≡ k
 IsAnswered inst ds (Forced i j ticks) = forced inst ds i j ≡ ticks
 IsAnswered inst ds (Settled i j is) = IsTrue is ↔ IsSettled inst ds i j
 IsAnswered inst ds (Lead j tick) = head inst ds j ≡ tick
-IsAnswered inst ds (Lead1 j tick) = head1 inst ds j ≡ tick
-IsAnswered inst ds (WorkHolds v holds) = work_holds inst ds v ≡ holds
 IsAnswered inst ds (Distance i v j w ticks) = task_distance inst i v j w ≡ ticks
 IsAnswered inst ds (Head j k tick) = free inst j k ≡ tick
 IsAnswered inst ds (Span i j ticks) =

@@ -69,10 +69,9 @@ pub fn can_be_made(decisions: &Decisions, call: Call) -> bool
     match call {
         Call::Add(decision) => is_open(decisions, decision),
         Call::CraneOf(j, _) => is_task(inst, j),
-        Call::Lead(j, _) | Call::Lead1(j, _) => is_task(inst, j),
+        Call::Lead(j, _) => is_task(inst, j),
         Call::Forced(i, j, _) | Call::Span(i, j, _) => are_tasks(inst, i, j),
         Call::Settled(i, j, _) => are_tasks(inst, i, j),
-        Call::WorkHolds(v, _) => 1 <= v,
         Call::Distance(i, v, j, w, _) => {
             is_task(inst, i) && is_crane(inst, v) && is_task(inst, j) && is_crane(inst, w)
         }
@@ -162,8 +161,6 @@ pub fn answers(alloc: Global, decisions: &mut Decisions, call: Call) -> Result<b
         Call::Forced(i, j, ticks) => Ok(decisions.forced(i, j) == ticks),
         Call::Settled(i, j, is) => Ok(decisions.settled(i, j) == is),
         Call::Lead(j, tick) => Ok(decisions.lead(j) == tick),
-        Call::Lead1(j, tick) => Ok(decisions.lead1(j) == tick),
-        Call::WorkHolds(v, holds) => Ok(decisions.work_holds(v) == holds),
         Call::Distance(i, v, j, w, ticks) => Ok(
             distance(decisions.instance(), i, v, j, w) == ticks,
         ),

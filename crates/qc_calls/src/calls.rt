@@ -6,8 +6,8 @@ use crate::files::{
     APART, AT_2_AND_6, AT_2_AND_14, AT_10, DECK_HOLD, ENDS, FROM_2, LATE, ONE, THREE, TO_1, TWO,
 };
 use crate::row::Call::{
-    Add, CraneOf, Distance, Forced, Head, InReach, Lead, Lead1, MirrorBay, MirrorCrane, Same,
-    Settled, Span, Undo, WorkHolds,
+    Add, CraneOf, Distance, Forced, Head, InReach, Lead, MirrorBay, MirrorCrane, Same, Settled, Span,
+    Undo,
 };
 use crate::row::CallRow;
 use qc_model::Decision::{Assign, Order};
@@ -63,8 +63,7 @@ pub const CALLS: &[CallRow] = &[
     },
     // Work on deck of 10 ticks ends before that in the hold starts, whoever does it.
     row! { "deck-first": ONE, DECK_HOLD;
-        Forced(0, 1, Some(10)), Forced(1, 0, None), Settled(1, 0, true), WorkHolds(20, true),
-        WorkHolds(21, false),
+        Forced(0, 1, Some(10)), Forced(1, 0, None), Settled(1, 0, true),
     },
     // To bay 4 the first crane goes 3 bays, and the other at bay 3 misses 3 bays of 2 above it. The
     // second goes 1 bay, and the first is 3 bays away. While the task has no crane, the lesser counts.
@@ -76,15 +75,14 @@ pub const CALLS: &[CallRow] = &[
     // The first crane leaves bay 2 at 100 and misses 1 of 2 bays to bay 3: at 101 the second can be
     // there, who else were there at 1. The first itself leaves at 100 and goes 1 bay.
     row! { "waits-for-a-berth": LATE, AT_10;
-        Head(0, 0, 101), Head(0, 1, 101), Lead(0, 101), Lead1(0, 1), Add(Assign(0, 1)),
-        Lead(0, 101), Lead1(0, 1), Undo(Some(Assign(0, 1))), Add(Assign(0, 0)), Lead(0, 101),
-        Lead1(0, 101),
+        Head(0, 0, 101), Head(0, 1, 101), Lead(0, 101), Add(Assign(0, 1)), Lead(0, 101),
+        Undo(Some(Assign(0, 1))), Add(Assign(0, 0)), Lead(0, 101),
     },
     // The only crane works at bay 1 alone: for bay 2 no head counts until the task is given to it, and
     // it goes 1 bay.
     row! { "above-every-reach": TO_1, AT_2_AND_6;
-        InReach(0, 0, true), InReach(1, 0, false), Lead(1, 0), Lead1(1, 0), Head(1, 0, 1),
-        Add(Assign(1, 0)), Lead(1, 1), Lead1(1, 1),
+        InReach(0, 0, true), InReach(1, 0, false), Lead(1, 0), Head(1, 0, 1), Add(Assign(1, 0)),
+        Lead(1, 1),
     },
     // The only crane works from bay 2 on, and goes there 1 bay from where it stands.
     row! { "below-every-reach": FROM_2, AT_2_AND_6;
@@ -112,19 +110,6 @@ pub const CALLS: &[CallRow] = &[
     row! { "left-open-by-its-cranes": APART, AT_2_AND_14;
         Add(Assign(0, 0)), Add(Assign(1, 1)), Settled(0, 1, false), Add(Order(1, 0)),
         Forced(1, 0, Some(30)), Settled(0, 1, true),
-    },
-    // 40 ticks for two cranes: by 19 they have 38, by 20 all 40.
-    row! { "work-of-all-cranes": TWO, AT_2_AND_6;
-        WorkHolds(1, true), WorkHolds(20, true), WorkHolds(21, false),
-    },
-    // The first crane has both tasks of 20 ticks and climbs 1 bay: it is done at 41.
-    row! { "work-of-one-crane": TWO, AT_2_AND_6;
-        Add(Assign(0, 0)), Add(Assign(1, 0)), WorkHolds(41, true), WorkHolds(42, false),
-    },
-    // The second crane goes 2 bays to bay 1 and works 20: it is done at 22. The other task fits beside.
-    row! { "work-with-the-way-there": TWO, AT_2_AND_6;
-        Add(Assign(0, 1)), WorkHolds(22, true), WorkHolds(23, false), Undo(Some(Assign(0, 1))),
-        WorkHolds(21, false),
     },
     // Of 4 bays, bay x is 5 - x from the other end: tasks at 1 and 2, cranes at 1 and 3.
     row! { "mirror": TWO, AT_2_AND_6;

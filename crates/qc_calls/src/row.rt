@@ -33,8 +33,6 @@ pub enum Call {
     Forced(u16, u16, Option<Tick>),
     Settled(u16, u16, bool),
     Lead(u16, Tick),
-    Lead1(u16, Tick),
-    WorkHolds(u64, bool),
     /// A task and its crane, and another task and its crane.
     Distance(u16, u16, u16, u16, Tick),
     /// The task and the crane.
