@@ -6,8 +6,8 @@ use crate::files::{
     APART, AT_2_AND_6, AT_2_AND_14, AT_10, DECK_HOLD, ENDS, FROM_2, LATE, ONE, THREE, TO_1, TWO,
 };
 use crate::row::Call::{
-    Add, CraneOf, Distance, Forced, Head, InReach, Lead, MirrorBay, MirrorCrane, Same, Settled, Span,
-    Undo,
+    Add, CraneOf, Distance, Forced, Head, InReach, Lead, MirrorBay, MirrorCrane, Same, Settled,
+    Span, Undo,
 };
 use crate::row::CallRow;
 use qc_model::Decision::{Assign, Order};

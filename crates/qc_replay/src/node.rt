@@ -127,11 +127,7 @@ fn reach_bound(node: &Decisions) -> Result<Bound, TreeKind>
 }
 
 /// The end before which the work doesn't fit.
-fn work_bound(
-    node: &Decisions,
-    crew: &Crew,
-    end: Tick,
-) -> Result<Bound, TreeKind>
+fn work_bound(node: &Decisions, crew: &Crew, end: Tick) -> Result<Bound, TreeKind>
     requires crew { IsCrewOf crew.now node.now.inst node.now.decisions }
     requires some { 1 ≤ end }
     requires digits { end < 10 ^ 15 }
@@ -186,11 +182,7 @@ impl Tally {
 }
 
 /// Branching on the crane of a task.
-fn on_task(
-    descent: &mut Descent,
-    tally: Tally,
-    number: u16,
-) -> Result<Tally, TreeKind>
+fn on_task(descent: &mut Descent, tally: Tally, number: u16) -> Result<Tally, TreeKind>
     requires live { descent.old.live ≡ true }
     ensures inst { descent.new.inst ≡ descent.old.inst }
     ensures judged { (numbers : List ℕ)
@@ -231,12 +223,7 @@ fn no_order(turn: Turn) -> TreeKind
 }
 
 /// Branching on the order of two tasks.
-fn on_pair(
-    descent: &mut Descent,
-    tally: Tally,
-    one: u16,
-    other: u16,
-) -> Result<Tally, TreeKind>
+fn on_pair(descent: &mut Descent, tally: Tally, one: u16, other: u16) -> Result<Tally, TreeKind>
     requires live { descent.old.live ≡ true }
     ensures inst { descent.new.inst ≡ descent.old.inst }
     ensures judged { (numbers : List ℕ)
