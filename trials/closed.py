@@ -1,5 +1,5 @@
 #!/usr/bin/env python3
-"""Tries leaf `W` of the second opinion's trees of version 3 by brute force.
+"""Tries leaf `W` of the second opinion's trees by brute force.
 
     closed.py [rows]
     closed.py bounds [--first SEED] [--count SHIPS]
@@ -9,7 +9,7 @@ place says; they are asserted before all else. `bounds`: on random ships of at m
 in which random tasks have a crane, no closed end is above the least end of all schedules that go upward with these
 cranes, or, counted as for plans of any direction, above that of all schedules that keep the rules; with an end each
 earlier one is closed too; where cranes make way no less is closed than where they only wait for their neighbours, there
-no less than where they don't, and there no less than by the work of the older versions; and the counts themselves say
+no less than where they don't, and there no less than by work alone; and the counts themselves say
 what they say when every choice of numbers of cranes is tried. Status 1 where anything differs.
 """
 import argparse
@@ -247,15 +247,13 @@ def tiny(rng):
 
 
 def takes_room(node, v, free):
-    """What work meant in the older versions, with the turn of any direction where it is free."""
-    if not free:
-        return node.lacks_room(v)
+    """Whether work alone takes until v: a crane its own tasks with its way to them, or all together what is left."""
     rooms, inst = [], node.inst
     for k, data in enumerate(inst.cranes):
         mine = [task for task, crane in zip(inst.tasks, node.crane) if crane == k]
         bays = [task.bay for task in mine] or [data.bay]
         low, high = min(bays), max(bays)
-        turn = high - low + min(abs(data.bay - low), abs(data.bay - high))
+        turn = high - low + min([abs(data.bay - low)] + [abs(data.bay - high)] * free)
         rooms.append(v - 1 - data.ready - sum(task.ticks for task in mine) - inst.travel * turn)
         if mine and rooms[-1] < 0:
             return True

@@ -67,7 +67,7 @@ def spoilt_tree(text, rng):
         lines[at] = rng.choice(("P", "X", "W 1", "W 50", "P 1", "P 1 2", "C 1 2", "Q 1", "Q 1 2", "Q 2 1", "A 1", "O 1 2",
                                 "O 2 1", "up", "down", "P 01", "Q 1 1", "P" + " 1" * rng.choice((240, 241, 599, 600))))
     elif way == "title":
-        lines[0] = rng.choice(("QCTREE 1", "QCTREE 3", "QCFREE 2", "QCFREE 1 ", "up"))
+        lines[0] = rng.choice(("QCTREE 2", "QCTREE 3", "QCFREE 2", "QCFREE 1 ", "up"))
     elif way == "turn" and words[2:]:
         lines[at] = " ".join(words[:1] + words[:0:-1])
     new = text_of(lines)
@@ -224,7 +224,6 @@ class Case:
             return
         self.counted("", judge)
         self.expect(f"{name}: nodes", judge.complaints, [])
-        self.expect(f"{name}: version", reader.version, 3)
         word = self.answered(name, seen, reader, judge, given, lambda plan: self.written(name, plan, judge))
         if word == "Budget":
             self.expect(f"{name}: branchings spent", reader.branched, nodes)

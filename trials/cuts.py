@@ -55,8 +55,8 @@ WORKED = {
     "check tree": """check/plan-optimal check/bound check/infeasible check/no-title check/title-9
         check/carriage-return check/down-too-early check/in-reach check/not-apart check/decided check/not-ring
         check/work-0 check/line-too-long check/end-branchings check/task-leading-zero check/not-forced check/work-short
-        check/unknown-task check/end-value check/empty-line-after-end check/berths check/berths-first-version
-        check/plan-berths check/plan-berths-first-version check/plan-berths-bad-tree check/no-tasks check/packed""",
+        check/unknown-task check/end-value check/empty-line-after-end check/berths check/plan-berths
+        check/plan-berths-bad-tree check/no-tasks check/packed""",
     "freecheck freetree": """freecheck/to-and-fro freecheck/to-and-fro-tree-alone freecheck/both-cranes-packed freecheck/infeasible
         freecheck/ring freecheck/byte-after-end freecheck/not-conflict-turned""",
     "freecheck plan": "freecheck/to-and-fro freecheck/to-and-fro-too-soon",

@@ -115,7 +115,6 @@ class FreeReader(TreeReader):
 
     def read(self):
         self.line("title")
-        self.version = 3  # its leaves are those of the third version
         self.part(FreeNode(self.inst, step=self.step))
         return self.finish()
 

@@ -34,11 +34,10 @@ class SearchJudge:
             self.expect(kind == "P" and value == node.end, node, f"complete, closed by {kind} of {value}")
             self.meet(node)
         elif closable:
-            self.expect(kind in ("PWQ" if node.version == 3 else "PW") and value >= self.met, node,
-                        f"closed by {kind} of {value}")
+            self.expect(kind in "PWQ" and value >= self.met, node, f"closed by {kind} of {value}")
         elif kind != "Q" or value < self.met:
             best = ("P", node.end) if node.end >= node.work_bound else ("W", node.work_bound)
-            holds = (kind, value) == best if node.version < 3 else kind in "PWQ" and value >= best[1]
+            holds = kind in "PWQ" and value >= best[1]
             self.expect(self.branched == self.nodes, node, "given up while branchings are left")
             self.expect(holds, node, f"given up with {kind} of {value}, not {best}")
 

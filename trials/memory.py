@@ -38,7 +38,7 @@ FOUR = (b"hatches = [2, 6, 10, 14]\nmargin = 1\ntravel = 1\ndeck_move = 10\nhold
         b"\n[[crane]]\nname = \"C1\"\nbay = 1\n\n[[crane]]\nname = \"C2\"\nbay = 3\n")
 MOVES = b"id,move,cell,length\nA1,D,020082,40\nA2,D,020084,40\nB1,D,060082,40\nB2,D,060084,40\n"
 PLAN = b"task,crane,start,end\n2-DD,C1,0,20\n6-DD,C1,21,41\n"
-TREE = b"QCTREE 2\nup\nP 2\ndown\nP 2\nend 0 21\n"
+TREE = b"QCTREE 3\nup\nP 2\ndown\nP 2\nend 0 21\n"
 FREE_TREE = b"QCFREE 1\nQ 1 2\nend 0 41\n"
 HAPPENED = b"tick 25\ndone 2-DD\ntick 3\n"
 PLACES = b"0 C1 1\n0 C2 3\n20 C1 1\n21 C2 3\n41 C2 3\n"

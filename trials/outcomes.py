@@ -108,9 +108,9 @@ class Answer:
             search = Teller(inst, given, nodes)
             judge = SearchJudge(inst, nodes, None if given == NEVER else given)
             reader = TreeReader(inst, text_of(search.lines), judge.visit).read()
-            told = reader.version, reader.value, reader.branched, judge.met, judge.complaints
+            told = reader.value, reader.branched, judge.met, judge.complaints
             self.differs = bare(search.lines) != bare(self.tree) or told != (
-                3, self.value, self.branched, self.best, []) or search.best != self.best
+                self.value, self.branched, self.best, []) or search.best != self.best
             self.tree, self.met, self.is_sole = search.lines, search.met, search.is_sole
 
     @property

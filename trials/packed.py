@@ -84,9 +84,8 @@ ROWS = [
     (SHIP, NEAR, tree("Q 01", "Q 1 2", end="0 41"), "BadTree Spelling 3"),
     (SHIP, NEAR, tree("Q" + " 1" * 241, "Q 1 2", end="0 41"), "BadTree Spelling 3"),
     (SHIP, NEAR, tree("Q" + " 1" * 240, "Q 1 2", end="0 41"), "BadTree NotClash 3"),
-    (SHIP, NEAR, tree("Q 1 2", end="0 41", title=1), "BadTree Place 3"),
-    (SHIP, NEAR, tree("Q 1 2", end="0 41", title=2), "BadTree Place 3"),
-    (SHIP, NEAR, tree("Q 3", end="0 41", title=2), "BadTree Place 3"),
+    (SHIP, NEAR, tree("Q 1 2", end="0 41", title=1), "BadTree Spelling 1"),
+    (SHIP, NEAR, tree("Q 1 2", end="0 41", title=2), "BadTree Spelling 1"),
     (SHIP, NEAR, tree("Q 1 2", end="0 41", title=4), "BadTree Spelling 1"),
     (SHIP, NEAR, "QCTREE 3\nQ 1 2\n", "BadTree Place 2"),
     (SHIP, NEAR, "QCTREE 3\nup\nQ 1 2\nQ 1 2\n", "BadTree Place 4"),
@@ -232,7 +231,7 @@ def try_random_tree(inst, rng, seed, counts):
 # ---------------------------------------------------------------- the search
 
 class Search:
-    """The search that writes trees of version 3, plain and slow. `step`: how much the counts of its nodes know."""
+    """The search that writes trees, plain and slow. `step`: how much the counts of its nodes know."""
 
     def __init__(self, inst, given, nodes, step=3):
         self.inst, self.nodes, self.best = inst, nodes, given
@@ -398,8 +397,8 @@ def try_side(side, first, count, wide):
                     done = subprocess.run(words, capture_output=True, text=True, timeout=60, check=False)
                     judge = SearchJudge(inst, nodes, given)
                     try:
-                        reader = TreeReader(inst, written.read_bytes(), judge.visit, step=step).read()
-                        told = [f"version {reader.version}"] * (reader.version != 3) + judge.complaints
+                        TreeReader(inst, written.read_bytes(), judge.visit, step=step).read()
+                        told = judge.complaints
                     except TreeFault as fault:
                         told = [f"{fault.kind} {fault.line}"]
                     counts[f"runs: {search.kind}"] += 1

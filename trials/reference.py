@@ -491,13 +491,13 @@ def are_short(inst, counts, v):
 # ---------------------------------------------------------------- nodes and bound trees
 
 class Node:
-    """A list of decisions ('A', task, crane) and ('O', first, second) of an instance that is read upward, in a tree of
-    that version. `step`: how much its counts know, where they count at all."""
+    """A list of decisions ('A', task, crane) and ('O', first, second) of an instance that is read upward. `step`: how
+    much its counts know."""
 
     is_free = False
 
-    def __init__(self, inst, decisions=(), version=3, step=3):
-        self.inst, self.decisions, self.version, self.step = inst, decisions, version, step
+    def __init__(self, inst, decisions=(), step=3):
+        self.inst, self.decisions, self.step = inst, decisions, step
         self.crane = [None] * len(inst.tasks)
         self.ordered = set(inst.before)
         for kind, first, second in decisions:
@@ -507,7 +507,7 @@ class Node:
                 self.ordered.add((first, second))
 
     def child(self, *decision):
-        return Node(self.inst, self.decisions + (decision,), self.version, self.step)
+        return Node(self.inst, self.decisions + (decision,), self.step)
 
     def forced(self, i, j):
         """By how many ticks j starts after i at the least, or None."""
@@ -530,7 +530,7 @@ class Node:
 
     def head(self, j):
         inst = self.inst
-        moments = inst.free_table[j] if self.version > 1 else [inst.arrival(j, k) for k in range(len(inst.cranes))]
+        moments = inst.free_table[j]
         if self.crane[j] is not None:
             return moments[self.crane[j]]
         return min((moment for k, moment in enumerate(moments) if inst.reaches(k, j)), default=0)
@@ -557,31 +557,13 @@ class Node:
         return max((start + task.ticks for start, task in zip(self.starts, self.inst.tasks)), default=0)
 
     def work_holds(self, v):
-        """Whether a leaf `W v` holds: the work doesn't fit before v."""
-        return self.is_closed(v) if self.version == 3 else self.lacks_room(v)
-
-    def is_closed(self, v):
-        """What `W v` asks in the third version: a count of the cranes' time shows that nothing ends before v, with the
-        cranes that the tasks have, or with none given."""
+        """Whether a leaf `W v` holds: a count of the cranes' time shows that nothing ends before v, with the cranes that
+        the tasks have, or with none given."""
         return are_short(self.inst, self.counts, v)
 
     @cached_property
     def counts(self):
         return counts_of(self.inst, self.crane, self.is_free, self.step)
-
-    def lacks_room(self, v):
-        """Whether a crane can't do its own tasks before v, or all of them together not the tasks without a crane."""
-        inst, last, room = self.inst, v - 1, 0
-        for k, crane in enumerate(inst.cranes):
-            mine = [task for j, task in enumerate(inst.tasks) if self.crane[j] == k]
-            used = 0
-            if mine:
-                low, high = min(task.bay for task in mine), max(task.bay for task in mine)
-                used = sum(task.ticks for task in mine) + inst.travel * (abs(crane.bay - low) + high - low)
-                if crane.ready + used > last:
-                    return True
-            room += max(0, last - crane.ready - used)
-        return sum(task.ticks for j, task in enumerate(inst.tasks) if self.crane[j] is None) > room
 
     @cached_property
     def work_bound(self):
@@ -626,7 +608,7 @@ class Node:
 
 TASK_LIST = rb"((?: (?:0|[1-9][0-9]{0,3})){%s})"
 LINES = [(re.compile(pattern), kind) for pattern, kind in (
-    (rb"QCTREE ([123])", "title"), (rb"(up)", "up"), (rb"(down)", "down"), (rb"(X)", "X"),
+    (rb"QCTREE (3)", "title"), (rb"(up)", "up"), (rb"(down)", "down"), (rb"(X)", "X"),
     (rb"A" + TASK_LIST % b"1", "A"), (rb"O" + TASK_LIST % b"2", "O"),
     (rb"P" + TASK_LIST % b"0,240", "P"), (rb"C" + TASK_LIST % b"2,240", "C"),
     (rb"Q" + TASK_LIST % b"1,240", "Q"),
@@ -657,15 +639,15 @@ class TreeReader:
     def __init__(self, inst, data, visit=None, step=3):
         self.inst, self.data, self.visit, self.step = inst, data, visit, step
         self.number, self.place = 0, 0
-        self.value, self.branched, self.version = NEVER, 0, None
+        self.value, self.branched = NEVER, 0
 
     def read(self):
         """Goes through the whole file; raises the first fault."""
-        self.version = int(self.line("title"))
+        self.line("title")
         self.line("up")
-        self.part(Node(self.inst, version=self.version, step=self.step))
+        self.part(Node(self.inst, step=self.step))
         self.line("down")
-        self.part(Node(self.inst.mirror, version=self.version, step=self.step))
+        self.part(Node(self.inst.mirror, step=self.step))
         return self.finish()
 
     def finish(self):
@@ -699,7 +681,7 @@ class TreeReader:
         waiting, inst = [root], root.inst
         while waiting:
             node = waiting.pop()
-            kind, fields = self.line(*("AOPCQXW" if self.version == 3 else "AOPCXW"))
+            kind, fields = self.line(*"AOPCQXW")
             if kind in "AOPCQ" and any(not 1 <= number <= len(inst.tasks) for number in fields):
                 raise TreeFault("UnknownTask", self.number)
             numbers = [number - 1 for number in fields] if kind in "AOPCQ" else fields

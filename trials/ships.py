@@ -242,11 +242,11 @@ def changed_trees(inst, text, rng):
         elif way == "more":
             new += rng.choice((b"\n", b"x", b"end 0 0\n"))
         texts.append(mended(inst, new) if rng.random() < 0.5 else new)
-    for version in (1, 2, 3):
-        lines = [f"QCTREE {version}", "up"]
-        random_part(Node(inst, version=version), lines, rng)
+    for _ in range(3):
+        lines = ["QCTREE 3", "up"]
+        random_part(Node(inst), lines, rng)
         lines.append("down")
-        random_part(Node(inst.mirror, version=version), lines, rng)
+        random_part(Node(inst.mirror), lines, rng)
         texts.append(mended(inst, text_of(lines + ["end 0 0"])))
     for lines in (text.decode().splitlines(), texts[-1].decode().splitlines()):
         texts += trees_of_changed_lists(inst, lines, rng)
@@ -256,7 +256,7 @@ def changed_trees(inst, text, rng):
     return texts
 
 
-TITLES = ("QCTREE 1", "QCTREE 1", "QCTREE 2", "QCTREE 2", "QCTREE 3", "QCTREE 3", "QCTREE 4")
+TITLES = ("QCTREE 1", "QCTREE 2", "QCTREE 3", "QCTREE 3", "QCTREE 4")
 
 
 def text_of(lines):
@@ -342,7 +342,7 @@ def random_part(node, lines, rng):
         lines.append("X")
     elif ring and rng.random() < 0.9:
         lines.append("C" + "".join(f" {j + 1}" for j in ring))
-    elif node.version == 3 and count and rng.random() < 0.5:
+    elif count and rng.random() < 0.5:
         lines.append("Q" + "".join(f" {j + 1}" for j in random_packed(node, rng)))
     elif node.work_bound and rng.random() < 0.5:
         less = -1 if rng.random() < 0.03 else rng.choice((0, 0, 0, 1, 5))

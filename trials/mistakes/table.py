@@ -473,7 +473,7 @@ MISTAKES = [
          ['qc: plan.csv, line 1, record 1: "task;crane;start;end" isn\'t the header ' + PLAN_HEADER + ": " + SEMICOLONS]),
     plan("a list for a plan", "id,move,cell,length\nA1,D,020082,40\n", "BadPlan Header 1",
          ["qc: plan.csv: this is a stowage list, and a plan is wanted here: " + ORDER + " PLAN"]),
-    plan("a tree for a plan", "QCTREE 2\nup\n", "BadPlan Header 1",
+    plan("a tree for a plan", "QCTREE 3\nup\n", "BadPlan Header 1",
          ["qc: plan.csv: this is a bound tree, and a plan is wanted here: " + ORDER + " PLAN"]),
     plan("a plan with a column more", [("task,crane,start,end", "task,crane,start,end,note")], "BadPlan Header 1",
          ['qc: plan.csv, line 1, record 1: "task,crane,start,end,note" isn\'t the header ' + PLAN_HEADER

@@ -9,7 +9,7 @@ use Rattle.qc_model.specs.declared.decision.Decision.TheVariants.{Assign, Order}
 use Rattle.qc_model.specs.declared.limits.TheConstants.{MOST_START}
 use Rattle.qc_model.specs.Closing.{IsClosable, IsWorkBound, IsWorkLate, out_of_reach, no_starts, complete, ends_late, work_late}
 use Rattle.qc_model.specs.Instance.{InstanceView}
-use Rattle.qc_model.specs.Leaves.{is_out_of_reach, with_packed, work_over}
+use Rattle.qc_model.specs.Leaves.{is_out_of_reach, work_over}
 use Rattle.qc_model.specs.Nodes.{HasStarts, IsComplete, IsInReach, IsNodeEnd}
 use Rattle.qc_model.specs.Rules.{last_end}
 use Rattle.qc_model.proofs.Bounded.{last_end_le}
@@ -78,8 +78,8 @@ module _ (inst : InstanceView) (ds : List Decision) where
     record {
       starts = starts;
       undecided = more;
-      shows = cond-true (nat_le 1 bound && work_over with_packed inst ds bound) (Some (Least bound)) None
-          (and_from (nat_le 1 bound) (work_over with_packed inst ds bound) (le-leb 1 bound (omega (arith, late))) (shown.holds (omega (arith, late))));
+      shows = cond-true (nat_le 1 bound && work_over inst ds bound) (Some (Least bound)) None
+          (and_from (nat_le 1 bound) (work_over inst ds bound) (le-leb 1 bound (omega (arith, late))) (shown.holds (omega (arith, late))));
       soon = soon;
       empty = empty;
     },

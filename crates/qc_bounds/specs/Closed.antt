@@ -7,7 +7,7 @@ use Rattle.qc_model.specs.declared.decision.Decision.{Decision}
 use Rattle.qc_model.specs.declared.limits.TheConstants.{MOST_START}
 use Rattle.qc_model.specs.Closing.{IsWorkBound}
 use Rattle.qc_model.specs.Instance.{InstanceView}
-use Rattle.qc_model.specs.Leaves.{leaf_value, packed, with_packed, work}
+use Rattle.qc_model.specs.Leaves.{leaf_value, packed, work}
 use Rattle.qc_model.specs.Nodes.{HasStarts, IsComplete, IsNodeEnd}
 use Rattle.qc_starts.specs.Seen.{IsCycle, IsWhy}
 use Rattle.qc_bounds.specs.declared.leaves.LeafKind.{LeafKind}
@@ -22,7 +22,7 @@ pub record IsRingLeaf (inst : InstanceView) (ds : List Decision) (tasks : List �
 pub record IsWorkLeaf (inst : InstanceView) (ds : List Decision) (end : ℕ) (tasks : List ℕ) : Type 0 where
   pub starts : HasStarts inst ds
   pub undecided : ¬ IsComplete inst ds
-  pub shows : leaf_value with_packed inst ds (work end) ≡ Some (Least end)
+  pub shows : leaf_value inst ds (work end) ≡ Some (Least end)
   pub soon : end ≤ MOST_START
   pub empty : tasks ≡ []
 
@@ -30,7 +30,7 @@ pub record IsWorkLeaf (inst : InstanceView) (ds : List Decision) (end : ℕ) (ta
 pub record IsClashLeaf (inst : InstanceView) (ds : List Decision) (end : ℕ) (tasks : List ℕ) : Type 0 where
   pub starts : HasStarts inst ds
   pub undecided : ¬ IsComplete inst ds
-  pub shows : leaf_value with_packed inst ds (packed tasks) ≡ Some (Least end)
+  pub shows : leaf_value inst ds (packed tasks) ≡ Some (Least end)
   pub soon : end ≤ MOST_START
 
 -- the leaf of a node that is closed at u: a ring where no starts meet it, the chain to its end where it

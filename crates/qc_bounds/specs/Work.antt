@@ -5,10 +5,10 @@ use Rattle.qc_num.specs.declared.bound.Bound.TheVariants.{Least}
 use Rattle.qc_model.specs.declared.decision.Decision.{Decision}
 use Rattle.qc_model.specs.declared.limits.TheConstants.{MOST_START}
 use Rattle.qc_model.specs.Instance.{InstanceView}
-use Rattle.qc_model.specs.Leaves.{leaf_value, with_packed, work}
+use Rattle.qc_model.specs.Leaves.{leaf_value, work}
 
 -- the bound is this end, and the work shows it
 pub record IsWorkShown (inst : InstanceView) (ds : List Decision) (bound : Bound) (end : ℕ) : Type 0 where
   pub is : bound ≡ Least end
-  pub shows : leaf_value with_packed inst ds (work end) ≡ Some (Least end)
+  pub shows : leaf_value inst ds (work end) ≡ Some (Least end)
   pub soon : end ≤ MOST_START

@@ -12,10 +12,9 @@ use Rattle.qc_model.specs.declared.task.Task.{Task}
 use Rattle.qc_model.specs.declared.crane.Crane.{Crane}
 use Rattle.qc_model.specs.declared.pair.Pair.{Pair}
 use Rattle.qc_model.specs.Instance.{InstanceView, bay_of, ticks_of, crane, pair_of}
-use Rattle.qc_model.specs.Nodes.{IsSettled, assigned, forced, free, head, head1, reaches}
+use Rattle.qc_model.specs.Nodes.{IsSettled, assigned, forced, free, head, reaches}
 use Rattle.qc_model.specs.OneWay.{mirror}
 use Rattle.qc_model.specs.Ticks.{task_distance, travel_between}
-use Rattle.qc_model.specs.Work.{work_holds}
 
 -- a crane that works from one bay to another
 abbrev reaching : List ℕ → ℕ → ℕ → ℕ → ℕ → Crane
@@ -169,11 +168,6 @@ waits-for-a-berth : (free late 0 0 ≡ 101) × (free late 0 1 ≡ 101) × (head 
     × (head late (Assign 0 1 ∷ []) 0 ≡ 101) × (head late (Assign 0 0 ∷ []) 0 ≡ 101)
 waits-for-a-berth = (refl, refl, refl, refl, refl)
 
--- Trees of the first version count no berths.
-waits-for-no-berth : (head1 late [] 0 ≡ 1) × (head1 late (Assign 0 1 ∷ []) 0 ≡ 1) × (head1 late (Assign 0 0 ∷ []) 0 ≡ 101)
-    × (head1 to_1 [] 1 ≡ 0) × (head1 to_1 (Assign 1 0 ∷ []) 1 ≡ 1)
-waits-for-no-berth = (refl, refl, refl, refl, refl)
-
 -- The only crane works at bay 1 alone: for bay 2 no head counts until the task is given to it, and it goes 1 bay.
 above-every-reach : (reaches to_1 0 0 ≡ true) × (reaches to_1 1 0 ≡ false) × (head to_1 [] 1 ≡ 0) × (free to_1 1 0 ≡ 1)
     × (head to_1 (Assign 1 0 ∷ []) 1 ≡ 1)
@@ -204,19 +198,6 @@ settled-by-its-cranes = (open_pair split (Assign 0 0 ∷ []) 0 1 refl refl, inl 
 left-open-by-its-cranes : ¬ IsSettled split straight 0 1 × (forced split (Order 1 0 ∷ straight) 1 0 ≡ Some 30)
     × IsSettled split (Order 1 0 ∷ straight) 0 1
 left-open-by-its-cranes = (open_pair split straight 0 1 refl refl, refl, inr refl)
-
--- 40 ticks for two cranes: by 19 they have 38, by 20 all 40. A stack of 20 ticks for one crane.
-work-of-all-cranes : (work_holds near [] 1 ≡ true) × (work_holds near [] 20 ≡ true) × (work_holds near [] 21 ≡ false)
-    × (work_holds stack [] 20 ≡ true) × (work_holds stack [] 21 ≡ false)
-work-of-all-cranes = (refl, refl, refl, refl, refl)
-
--- The first crane has both tasks of 20 ticks and climbs 1 bay: it is done at 41.
-work-of-one-crane : (work_holds near alone 41 ≡ true) × (work_holds near alone 42 ≡ false)
-work-of-one-crane = (refl, refl)
-
--- The second crane goes 2 bays to bay 1 and works 20: it is done at 22. The other task fits beside.
-work-with-the-way-there : (work_holds near (Assign 0 1 ∷ []) 22 ≡ true) × (work_holds near (Assign 0 1 ∷ []) 23 ≡ false)
-work-with-the-way-there = (refl, refl)
 
 -- Of 4 bays, bay x is 5 - x from the other end: tasks at 1 and 2, cranes at 1 and 3.
 mirror-of-two-cranes : (bay_of (mirror near) 0 ≡ pos 4) × (bay_of (mirror near) 1 ≡ pos 3)

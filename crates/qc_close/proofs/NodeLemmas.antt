@@ -8,7 +8,7 @@ use Rattle.qc_model.specs.declared.schedule.Slot.{Slot}
 use Rattle.qc_model.specs.Instance.{InstanceView, Valid}
 use Rattle.qc_model.specs.Early.{early}
 use Rattle.qc_model.specs.Frames.{GoesBy}
-use Rattle.qc_model.specs.Leaves.{Leaf, Version, leaf_value, packed_end, with_packed}
+use Rattle.qc_model.specs.Leaves.{Leaf, leaf_value, packed_end}
 use Rattle.qc_model.specs.Nodes.{Agrees, Fits, assigned, least}
 use Rattle.qc_model.specs.Rules.{crane_of, ends, starts}
 use Rattle.qc_num.specs.Bounds.{IsAtMost}
@@ -18,7 +18,6 @@ use Rattle.qc_model.proofs.LeafLemmas.{leaf_value_le}
 use Rattle.qc_model.proofs.LeastStarts.{early_le}
 use Rattle.qc_model.proofs.NodeLemmas.{assigned_is, meets_by, start_at}
 use Rattle.qc_model.proofs.TurnLemmas.{by_feasible}
-use Rattle.qc_model.specs.declared.turn.Turn.TheVariants.{Free}
 use Rattle.qc_model.specs.Assignments.{Follows, cranes_of}
 use Rattle.qc_model.specs.Closed.{is_closed}
 use Rattle.qc_model.specs.Packs.{is_packed, pack}
@@ -81,8 +80,7 @@ module _ (inst : InstanceView) (ds : List Decision) (sched : List Slot) (g : Goe
   closed_node_le valid end closed =
       closed_end_le inst inst.turn (cranes_of inst ds) end valid closed sched g (follows_of inst ds sched a)
 
-  -- what a leaf shows is at most the end of the schedule: it never shows Never; where cranes go as they like, the leaf is
-  -- one of the last version
-  pub leaf_le : Valid inst → Fits inst ds → (version : Version) → (inst.turn ≡ Free → version ≡ with_packed) → (leaf : Leaf)
-      (bound : Bound) → leaf_value version inst ds leaf ≡ Some bound → IsAtMost bound (Least (ends inst sched))
+  -- what a leaf shows is at most the end of the schedule: it never shows Never
+  pub leaf_le : Valid inst → Fits inst ds → (leaf : Leaf) (bound : Bound) → leaf_value inst ds leaf ≡ Some bound
+      → IsAtMost bound (Least (ends inst sched))
   leaf_le valid fits = leaf_value_le inst ds sched valid fits g a packed_end_le (closed_node_le valid)

@@ -1,9 +1,9 @@
 -- What is kept beside no decision at all.
 use Rattle.std.proofs.Common.{◌≡◌, ℕ, ◌+◌, ◌≤◌, false, List, [], length, replicate, reverse, slice_index_or, Option, None, ap, sym, subst, ◌∙◌}
 use Rattle.std.proofs.lemmas.List.{get_or-replicate, length-replicate}
-use Rattle.qc_dist.specs.declared.made.Made.{Made}
+use Rattle.qc_model.specs.declared.decision.Decision.{Decision}
 use Rattle.qc_dist.specs.Heads.{IsHeadTable}
-use Rattle.qc_dist.specs.Kept.{AreKept, Beside, unassigned_ticks}
+use Rattle.qc_dist.specs.Kept.{AreKept, Beside}
 use Rattle.qc_dist.specs.Tables.{IsGrid, IsTable}
 use Rattle.qc_model.specs.Instance.{InstanceView, Valid}
 use Rattle.qc_model.specs.Nodes.{is_sooner, order_pairs}
@@ -15,12 +15,11 @@ none_table n xs is = record {
   values = λ j d low. ap (λ ys. slice_index_or ys j d) is ∙ get_or-replicate n j None d low;
 }
 
-pub kept_open : (made : List Made) (b : Beside) (own inst : InstanceView) → own ≡ inst → Valid inst → made ≡ []
+pub kept_open : (made : List Decision) (b : Beside) (own inst : InstanceView) → own ≡ inst → Valid inst → made ≡ []
     → length inst.tasks + order_pairs inst ≤ b.room → b.cranes ≡ replicate (length inst.tasks) None
     → IsGrid (is_sooner inst []) (length inst.tasks) b.before → IsGrid (λ _ _. false) (length inst.tasks) b.ordered
-    → IsHeadTable inst b.heads → b.loads ≡ replicate (length inst.cranes) None
-    → b.open_ticks ≡ unassigned_ticks inst [] → AreKept own (reverse made) b
-kept_open made b own inst e valid none room cranes before ordered heads loads ticks =
+    → IsHeadTable inst b.heads → AreKept own (reverse made) b
+kept_open made b own inst e valid none room cranes before ordered heads =
     subst (λ ms. AreKept own (reverse ms) b) (sym none)
     (subst (λ (i : InstanceView). AreKept i [] b) (sym e) (record {
       valid = valid;
@@ -30,7 +29,4 @@ kept_open made b own inst e valid none room cranes before ordered heads loads ti
       before = before;
       ordered = ordered;
       heads = heads;
-      loads = none_table (length inst.cranes) b.loads loads;
-      older = tt;
-      unassigned = ticks;
     }))

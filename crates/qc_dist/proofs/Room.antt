@@ -12,7 +12,6 @@ use Rattle.qc_model.specs.declared.pair.Pair.{Pair}
 use Rattle.qc_model.specs.declared.turn.Turn.{Turn}
 use Rattle.qc_model.specs.declared.turn.Turn.TheVariants.{OneWay, Free}
 use Rattle.qc_model.specs.Instance.{InstanceView, IsApart, Valid, pair_of}
-use Rattle.qc_model.specs.Work.{tasks_on}
 use Rattle.qc_model.specs.Nodes.{Conflicts, Fits, assigned, is_ordered, order_pairs, order_pairs_by}
 use Rattle.qc_model.proofs.NodeLemmas.{conflict_differs, conflict_inside, one_way_apart}
 use Rattle.qc_dist.proofs.Sums.{count_less}
@@ -180,25 +179,6 @@ counted inst valid (Assign i k ∷ ds) f =
     omega (arith, counted inst valid ds f.3, assigned_less inst ds i k f.0 f.2)
 counted inst valid (Order i j ∷ ds) f =
     omega (arith, counted inst valid ds f.3, order_less inst valid ds i j f.0 f.1 f.2)
-
-one_more : (b : Bool) (j : ℕ) (js : List ℕ) → length (cond b (j ∷ js) js) ≤ length js + 1
-one_more true j js = omega arith
-one_more false j js = omega arith
-
-on_and_unassigned : (inst : InstanceView) (ds : List Decision) → Fits inst ds → (k : ℕ)
-    → length (tasks_on ds k) + unassigned inst ds ≤ length inst.tasks
-on_and_unassigned inst [] f k =
-    let all = range_with_len 0 (length inst.tasks) in
-    omega (arith, count_by-le-length (λ (j : ℕ). true) all, length-range_with_len 0 (length inst.tasks))
-on_and_unassigned inst (Assign i v ∷ ds) f k =
-    let rest = on_and_unassigned inst ds f.3 k in
-    omega (arith, rest, one_more (nat_eq v k) i (tasks_on ds k), assigned_less inst ds i v f.0 f.2)
-on_and_unassigned inst (Order i j ∷ ds) f k = on_and_unassigned inst ds f.3 k
-
--- a crane has no more tasks than there are
-pub tasks_on_few : (inst : InstanceView) (ds : List Decision) → Fits inst ds → (k : ℕ)
-    → length (tasks_on ds k) ≤ length inst.tasks
-tasks_on_few inst ds f k = omega (arith, on_and_unassigned inst ds f k)
 
 pub fits_room : (inst : InstanceView) → Valid inst → (ds : List Decision) → Fits inst ds
     → length ds ≤ length inst.tasks + order_pairs inst

@@ -1,11 +1,11 @@
 -- inner: the fields of decisions, as clauses see them and as they are kept.
 use Rattle.std.specs.Prelude.{reverse, vec_capacity}
 use Rattle.qc_dist.specs.declared.decisions.Decisions.TheInside.{Inside}
-use Rattle.qc_dist.specs.Kept.{AreKept, Beside, decisions_of}
+use Rattle.qc_dist.specs.Kept.{AreKept, Beside}
 use Rattle.qc_dist.specs.Node.{Node}
 
 abbrev pub node_of : Inside → Node
-node_of f = record { inst = f.inst; decisions = decisions_of (reverse f.made.items) }
+node_of f = record { inst = f.inst; decisions = reverse f.made.items }
 
 abbrev pub beside : Inside → Beside
 beside f = record {
@@ -14,8 +14,6 @@ beside f = record {
   before = f.before.items;
   ordered = f.ordered.items;
   heads = f.heads.items;
-  loads = f.loads.items;
-  open_ticks = f.open_ticks;
 }
 
 abbrev pub IsKept : Inside → Type 0

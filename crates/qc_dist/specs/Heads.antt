@@ -1,17 +1,9 @@
 -- inner: when tasks can start at the least, as it is kept for an instance.
 use Rattle.std.specs.Prelude.{◌≡◌, ℕ, ◌+◌, ◌<◌, ◌≤◌, List, [], length, slice_index, slice_index_or}
 use Rattle.qc_model.specs.declared.limits.TheConstants.{MOST_DISTANCE, MOST_READY}
-use Rattle.qc_dist.specs.declared.heads.Berths.{Berths}
-use Rattle.qc_dist.specs.declared.heads.Berths.TheVariants.{Counted, Ignored}
 use Rattle.qc_dist.specs.declared.heads.Heads.{Heads}
-use Rattle.qc_model.specs.Instance.{InstanceView, bay_of}
-use Rattle.qc_model.specs.Nodes.{free, head, head1}
-use Rattle.qc_model.specs.Ticks.{arrival}
-
--- when crane k can first be at task j, with the berths of other cranes or without
-abbrev pub there : Berths → InstanceView → ℕ → ℕ → ℕ
-there Counted inst j k = free inst j k
-there Ignored inst j k = arrival inst k (bay_of inst j)
+use Rattle.qc_model.specs.Instance.{InstanceView}
+use Rattle.qc_model.specs.Nodes.{free, head}
 
 -- when each crane can first be at task j, with all berths clear
 pub record IsFreeRow (inst : InstanceView) (j : ℕ) (row : List ℕ) : Type 0 where
@@ -23,9 +15,7 @@ pub record IsFreeRow (inst : InstanceView) (j : ℕ) (row : List ℕ) : Type 0 w
 pub record IsHeads (inst : InstanceView) (j : ℕ) (heads : Heads) : Type 0 where
   pub free : IsFreeRow inst j heads.free
   pub least : heads.least ≡ head inst [] j
-  pub least_alone : heads.least_alone ≡ head1 inst [] j
   pub bound : heads.least ≤ MOST_READY + MOST_DISTANCE
-  pub bound_alone : heads.least_alone ≤ MOST_READY + MOST_DISTANCE
 
 -- when each task can start at the least
 pub record IsHeadTable (inst : InstanceView) (table : List Heads) : Type 0 where

@@ -3,6 +3,5 @@ pub mod Node
 pub mod Children
 pub mod Kept
 pub mod Heads
-pub mod Loads
 pub mod Tables
 pub mod Fields

@@ -1,32 +1,26 @@
 //! The decisions of a search node, with tables beside them.
 
-ghost use Rattle.std.specs.Prelude.{◌≡◌, ◌*◌, ◌<◌, ◌≤◌, None, [], ◌∷◌, IfOk, IfSome, MatchOption, length};
+ghost use Rattle.std.specs.Prelude.{◌≡◌, ◌<◌, None, [], ◌∷◌, IfOk, IfSome, MatchOption, length};
 ghost use Rattle.qc_model.specs.declared.decision.Decision.TheVariants.{Assign, Order};
-ghost use Rattle.qc_model.specs.declared.limits.TheConstants.{MOST_TASKS, MOST_WORK};
 ghost use Rattle.qc_model.specs.Instance.{Valid};
 ghost use Rattle.qc_model.specs.Nodes.{Conflicts, Fits, IsSettled, assigned, is_sooner};
 ghost use Rattle.qc_dist.specs.Heads.{IsHeads};
-ghost use Rattle.qc_dist.specs.Kept.{crane_load, unassigned_ticks};
-ghost use Rattle.qc_dist.specs.Loads.{IsLoad};
 ghost use Rattle.qc_dist.specs.Node.{Node, IsOpen, newest};
 ghost use Rattle.qc_dist.specs.Fields.{node_of, IsKept};
 
 use crate::grid::{before_marks, cell, no_marks};
 use crate::heads::{Heads, head_table};
-use crate::loads::{Load, load_with};
-use crate::made::Made;
 use qc_model::{Decision, Instance, copy};
-use qc_num::{OutOfMemory, Tick};
+use qc_num::OutOfMemory;
 use std::alloc::Global;
 use std::marker::Model;
 
-/// The decisions of a search for one instance, of which it keeps a copy. Beside them stand tables
-/// and totals, so that what they ask for is answered without going through them. All memory is
-/// taken by `new`.
+/// The decisions of a search for one instance, of which it keeps a copy. Beside them stand tables, so
+/// that what they ask for is answered without going through them. All memory is taken by `new`.
 pub struct Decisions {
     inst: Instance,
     /// Oldest first.
-    made: Vec<Made>,
+    made: Vec<Decision>,
     /// The crane of each task.
     cranes: Vec<Option<u16>>,
     /// The pairs that the instance orders.
@@ -35,10 +29,6 @@ pub struct Decisions {
     ordered: Vec<bool>,
     /// When each task can start.
     heads: Vec<Heads>,
-    /// What the tasks of each crane come to.
-    loads: Vec<Option<Load>>,
-    /// The ticks of the tasks that no crane has.
-    open_ticks: Tick,
 }
 
 impl Model for Decisions {
@@ -59,17 +49,8 @@ impl Drop for Decisions {
             before: _,
             ordered: _,
             heads: _,
-            loads: _,
-            open_ticks: _,
         } = self;
     }
-}
-
-/// The ticks of all tasks, none of which has a crane yet.
-fn all_ticks(inst: &Instance) -> Tick
-    ensures { result ≡ unassigned_ticks inst.now [] }
-{
-    inst.work()
 }
 
 impl Decisions {
@@ -85,8 +66,6 @@ impl Decisions {
             before: before_marks(alloc, inst)?,
             ordered: no_marks(alloc, tasks)?,
             heads: head_table(alloc, inst)?,
-            loads: vec![in alloc; None; inst.crane_count() as usize]?,
-            open_ticks: all_ticks(inst),
             inst: copy(alloc, inst)?,
         })
     }
@@ -123,13 +102,8 @@ impl Decisions {
         } }
         ensures fits { Fits self.new.inst self.new.decisions }
     {
-        let load = self.loads[crane as usize];
-        let job = self.inst.task(task);
-        let decision = Decision::Assign(task, crane);
-        self.made.push_reserved(Made { decision, load });
+        self.made.push_reserved(Decision::Assign(task, crane));
         self.cranes[task as usize] = Some(crane);
-        self.loads[crane as usize] = Some(load_with(load, job));
-        self.open_ticks -= job.ticks;
     }
 
     /// Decides which of two tasks that conflict is done first.
@@ -141,11 +115,7 @@ impl Decisions {
         } }
         ensures fits { Fits self.new.inst self.new.decisions }
     {
-        let decision = Decision::Order(first, second);
-        self.made.push_reserved(Made {
-            decision,
-            load: None,
-        });
+        self.made.push_reserved(Decision::Order(first, second));
         self.ordered[cell(first, second)] = true;
     }
 
@@ -158,24 +128,19 @@ impl Decisions {
             }) }
         ensures fits { Fits self.new.inst self.new.decisions }
     {
-        let made = self.made.pop()?;
-        match made.decision {
-            Decision::Assign(task, crane) => {
-                self.cranes[task as usize] = None;
-                self.loads[crane as usize] = made.load;
-                self.open_ticks += self.inst.task(task).ticks;
-            }
+        let decision = self.made.pop()?;
+        match decision {
+            Decision::Assign(task, _) => self.cranes[task as usize] = None,
             Decision::Order(first, second) => self.ordered[cell(first, second)] = false,
         }
-        Some(made.decision)
+        Some(decision)
     }
 
     /// The newest decision; `None` exactly where there is none.
     pub fn newest(&self) -> Option<Decision>
         ensures { result ≡ newest self.now.decisions }
     {
-        let made = self.made.last()?;
-        Some(made.decision)
+        self.made.last().copied()
     }
 
     /// The crane of a task; `None` exactly where it has none.
@@ -203,22 +168,5 @@ impl Decisions {
         ensures valid { Valid self.now.inst }
     {
         &self.heads[task as usize]
-    }
-
-    /// What the tasks of a crane come to; `None` where it has none.
-    pub(crate) fn load_of(&self, crane: u16) -> Option<Load>
-        requires { crane < length self.now.inst.cranes }
-        ensures load { result ≡ crane_load self.now.inst self.now.decisions crane }
-        ensures bounded { IfSome result IsLoad }
-    {
-        self.loads[crane as usize]
-    }
-
-    /// The ticks of the tasks that no crane has.
-    pub(crate) fn open_ticks(&self) -> Tick
-        ensures ticks { result ≡ unassigned_ticks self.now.inst self.now.decisions }
-        ensures bound { result ≤ MOST_TASKS * MOST_WORK }
-    {
-        self.open_ticks
     }
 }

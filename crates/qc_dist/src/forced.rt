@@ -2,11 +2,11 @@
 
 ghost use Rattle.std.specs.Prelude.{◌≡◌, ◌+◌, ◌<◌, ◌≤◌, ◌↔◌, Some, IfSome, IsTrue, length};
 ghost use Rattle.qc_model.specs.declared.limits.TheConstants.{MOST_DISTANCE, MOST_READY, MOST_WORK};
-ghost use Rattle.qc_model.specs.Nodes.{IsSettled, assigned, clear_ticks, crane_ticks, forced, greater, head, head1, is_sooner, pair_ticks, sooner_ticks};
+ghost use Rattle.qc_model.specs.Nodes.{IsSettled, assigned, clear_ticks, crane_ticks, forced, greater, head, is_sooner, pair_ticks, sooner_ticks};
 ghost use Rattle.qc_dist.specs.Added.{excess};
 
 use crate::Decisions;
-use crate::travel::{arrival, separation, upward_ticks};
+use crate::travel::{separation, upward_ticks};
 use qc_model::Turn;
 use qc_num::Tick;
 
@@ -146,18 +146,6 @@ impl Decisions {
         match self.crane_of(j) {
             Some(crane) => heads.free[crane as usize],
             None => heads.least,
-        }
-    }
-
-    /// The same where the start bays of other cranes don't count, as in trees of the first version.
-    pub fn lead1(&self, j: u16) -> Tick
-        requires task { j < length self.now.inst.tasks }
-        ensures ticks { result ≡ head1 self.now.inst self.now.decisions j }
-        ensures bound { result ≤ MOST_READY + MOST_DISTANCE }
-    {
-        match self.crane_of(j) {
-            Some(crane) => arrival(self.instance(), j, crane),
-            None => self.heads_of(j).least_alone,
         }
     }
 }

@@ -3,20 +3,13 @@
 ghost use Rattle.std.specs.Prelude.{◌≡◌, ◌+◌, ◌<◌, ◌≤◌, None, length, min, IfOk};
 ghost use Rattle.std.specs.Option.{option_map_or};
 ghost use Rattle.qc_model.specs.declared.limits.TheConstants.{MOST_DISTANCE, MOST_READY};
-ghost use Rattle.qc_model.specs.Nodes.{free, head_by};
-ghost use Rattle.qc_dist.specs.Heads.{IsFreeRow, IsHeads, IsHeadTable, there};
+ghost use Rattle.qc_model.specs.Nodes.{head_by};
+ghost use Rattle.qc_dist.specs.Heads.{IsFreeRow, IsHeads, IsHeadTable};
 
-use crate::travel::{arrival, head, in_reach};
+use crate::travel::{head, in_reach};
 use qc_model::{Instance, MOST_CRANES};
 use qc_num::{OutOfMemory, Tick};
 use std::alloc::Global;
-
-/// Whether the start bays of other cranes count.
-#[derive(Clone, Copy)]
-pub(crate) enum Berths {
-    Counted,
-    Ignored,
-}
 
 /// When a task can start at the least.
 #[derive(Clone, Copy)]
@@ -25,21 +18,6 @@ pub(crate) struct Heads {
     pub(crate) free: [Tick; MOST_CRANES as usize],
     /// With the earliest crane that reaches it; 0 where none does.
     pub(crate) least: Tick,
-    /// The same where the start bays of other cranes don't count.
-    pub(crate) least_alone: Tick,
-}
-
-/// When crane `k` can first be at task `j`.
-fn there(inst: &Instance, berths: Berths, j: u16, k: u16) -> Tick
-    requires task { j < length inst.now.tasks }
-    requires crane { k < length inst.now.cranes }
-    ensures ticks { result ≡ there berths inst.now j k }
-    ensures bound { result ≤ MOST_READY + MOST_DISTANCE }
-{
-    match berths {
-        Berths::Counted => head(inst, j, k),
-        Berths::Ignored => arrival(inst, j, k),
-    }
 }
 
 /// The lesser of a tick and those before it, if there were any.
@@ -51,15 +29,15 @@ fn sooner(least: Option<Tick>, tick: Tick) -> Tick
 }
 
 /// When task `j` can start at the least if its crane is open.
-fn least_head(inst: &Instance, berths: Berths, j: u16) -> Tick
+fn least_head(inst: &Instance, j: u16) -> Tick
     requires { j < length inst.now.tasks }
-    ensures ticks { result ≡ head_by inst.now (there berths inst.now j) j None }
+    ensures ticks { result ≡ head_by inst.now j None }
     ensures bound { result ≤ MOST_READY + MOST_DISTANCE }
 {
     let mut least: Option<Tick> = None;
     for k in 0..inst.crane_count() {
         if in_reach(inst, j, k) {
-            least = Some(sooner(least, there(inst, berths, j, k)));
+            least = Some(sooner(least, head(inst, j, k)));
         }
     }
     least.unwrap_or(0)
@@ -84,8 +62,7 @@ fn heads_of(inst: &Instance, j: u16) -> Heads
 {
     Heads {
         free: free_row(inst, j),
-        least: least_head(inst, Berths::Counted, j),
-        least_alone: least_head(inst, Berths::Ignored, j),
+        least: least_head(inst, j),
     }
 }
 

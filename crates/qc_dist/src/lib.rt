@@ -1,5 +1,5 @@
 //! The decisions of a search, and what they ask of every schedule that agrees with them: distances,
-//! forced inequalities, the ticks at which tasks can start at the least, and whether the work fits.
+//! forced inequalities, and the ticks at which tasks can start at the least.
 #![tactic(auto)]
 
 mod children;
@@ -8,10 +8,7 @@ mod decisions;
 mod forced;
 mod grid;
 mod heads;
-mod loads;
-mod made;
 mod travel;
-mod work;
 
 pub use children::next_child;
 pub use decisions::Decisions;

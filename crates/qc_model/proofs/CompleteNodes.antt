@@ -216,7 +216,7 @@ module _ (inst : InstanceView) (ds : List Decision) (begins : List ℕ) (sched :
 
   free_done : (j : ℕ) → j < length inst.tasks → free inst j (crane_of sched j) ≤ start_of sched j
   free_done j low =
-      omega (arith, ap (head_by inst (free inst j) j) (d.cranes j low), d.meets.heads j low, d.starts j low)
+      omega (arith, ap (head_by inst j) (d.cranes j low), d.meets.heads j low, d.starts j low)
 
   berth_done : (j v : ℕ) → j < length inst.tasks → v < length inst.cranes → KeepsBerth inst sched j v
   berth_done j v low high differ away =

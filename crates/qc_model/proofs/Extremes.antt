@@ -20,12 +20,6 @@ le_greatest f k a (suc n) low high = elim (cases_lt a k) [
   | inr l ↦ let e : a ≡ k = omega arith in omega (arith, ap f e)
 ]
 
-pub least_rises : (f g : ℕ → ℕ) (ks : List ℕ) → ((k : ℕ) → f k ≤ g k)
-    → least (map f ks) ≤ least (map g ks)
-least_rises f g [] h = omega arith
-least_rises f g (k ∷ []) h = h k
-least_rises f g (k ∷ m ∷ ks) h = omega (arith, h k, least_rises f g (m ∷ ks) h)
-
 least_first : (y : ℕ) (ys : List ℕ) → least (y ∷ ys) ≤ y
 least_first y [] = omega arith
 least_first y (z ∷ zs) = omega arith

@@ -1,7 +1,7 @@
 -- What leaves show holds: a ring has no solution, and the end that a leaf shows is at most that of every schedule of the
 -- instance's turn that agrees with the node.
 use Rattle.std.proofs.Common.{◌≡◌, ℕ, ◌+◌, ◌<◌, ◌≤◌, Bool, true, ◌&&◌, leb, List, [], ◌∷◌, ◌++◌, length, Option, None, Some, IfSome, is_some, sym, subst, refl, ◌∙◌, arith, nat_le, nat_lt, option_and_then, option_map, slice_index}
-use Rattle.std.proofs.lemmas.Bool.{and_parts, cond_both, false≢true, leb-true, ltb-true, not-true}
+use Rattle.std.proofs.lemmas.Bool.{and_parts, cond_both, false≢true, ltb-true, not-true}
 use Rattle.std.specs.List.{list_all}
 use Rattle.qc_num.specs.Bounds.{IsAtMost}
 use Rattle.qc_num.specs.declared.bound.Bound.{Bound}
@@ -11,19 +11,15 @@ use Rattle.qc_model.specs.declared.decision.Decision.TheVariants.{Assign, Order}
 use Rattle.qc_model.specs.Numbers.{most_tasks}
 use Rattle.qc_model.specs.declared.schedule.Slot.{Slot}
 use Rattle.qc_model.specs.Instance.{InstanceView, Valid, ticks_of}
-use Rattle.qc_model.specs.Leaves.{Leaf, Version, are_tasks, chain, chain_end, chain_ticks, has_packed, head_in, is_out_of_reach, is_ring, leaf_value, packed, packed_end, reach, ring, with_berths, with_packed, without_berths, work, work_over}
-use Rattle.qc_model.specs.declared.turn.Turn.{Turn}
-use Rattle.qc_model.specs.declared.turn.Turn.TheVariants.{OneWay, Free}
+use Rattle.qc_model.specs.Leaves.{Leaf, are_tasks, chain, chain_end, chain_ticks, is_out_of_reach, is_ring, leaf_value, packed, packed_end, reach, ring, work, work_over}
 use Rattle.qc_model.specs.Assignments.{cranes_of}
 use Rattle.qc_model.specs.Closed.{is_closed}
 use Rattle.qc_model.specs.Nodes.{Agrees, Fits, Meets, forced, head, reaches}
-use Rattle.qc_model.specs.Work.{work_holds}
 use Rattle.qc_model.specs.Frames.{GoesBy}
 use Rattle.qc_model.specs.Rules.{Feasible, ends, last_end, starts}
 use Rattle.qc_model.proofs.CompleteNodes.{forced_ticks}
-use Rattle.qc_model.proofs.NodeLemmas.{IsStep, ends_by, head1_le, if_some, in_reach_of, meets_by}
+use Rattle.qc_model.proofs.NodeLemmas.{IsStep, ends_by, if_some, in_reach_of, meets_by}
 use Rattle.qc_model.proofs.TurnLemmas.{by_feasible}
-use Rattle.qc_model.proofs.WorkLemmas.{work_end_le}
 
 -- the tasks are those of the instance
 abbrev are_within : InstanceView → List ℕ → Bool
@@ -47,12 +43,6 @@ pub joined : (P Q R : ℕ → Type 0) (a b : Option ℕ) → IfSome a P → IfSo
 joined P Q R None b p q h = tt
 joined P Q R (Some x) None p q h = tt
 joined P Q R (Some x) (Some y) p q h = h x y p q
-
-head_in_le : (version : Version) (inst : InstanceView) (ds : List Decision) (j : ℕ)
-    → head_in version inst ds j ≤ head inst ds j
-head_in_le without_berths inst ds j = head1_le inst ds j
-head_in_le with_berths inst ds j = omega arith
-head_in_le with_packed inst ds j = omega arith
 
 module _ (inst : InstanceView) (ds : List Decision) (begins : List ℕ) (m : Meets inst ds begins) where
   -- a step from i to j that is met, and no shorter than i
@@ -80,17 +70,16 @@ module _ (inst : InstanceView) (ds : List Decision) (begins : List ℕ) (m : Mee
       (forced inst ds i j) (chain_ticks inst ds j js) (step_met i j low next.0) (chain_met j js next.0 next.1)
       (λ x y p q. omega arith)
 
-  chain_end_met : (version : Version) (tasks : List ℕ) → are_within inst tasks ≡ true
-      → IfSome (chain_end version inst ds tasks) (λ end. end ≤ last_end inst.tasks begins)
-  chain_end_met version [] all = omega arith
-  chain_end_met version (j ∷ js) all =
+  chain_end_met : (tasks : List ℕ) → are_within inst tasks ≡ true
+      → IfSome (chain_end inst ds tasks) (λ end. end ≤ last_end inst.tasks begins)
+  chain_end_met [] all = omega arith
+  chain_end_met (j ∷ js) all =
       let first = first_of_them inst j js all in
-      let low : head_in version inst ds j ≤ slice_index begins j = omega (arith, head_in_le version inst ds j, m.heads j first.0) in
-      with_head (chain_ticks inst ds j js) low (chain_met j js first.0 first.1)
+      with_head (chain_ticks inst ds j js) (m.heads j first.0) (chain_met j js first.0 first.1)
     where
-      with_head : (o : Option ℕ) → head_in version inst ds j ≤ slice_index begins j
+      with_head : (o : Option ℕ) → head inst ds j ≤ slice_index begins j
           → IsStep (slice_index begins j) (last_end inst.tasks begins) o
-          → IfSome (option_map (λ ticks. head_in version inst ds j + ticks) o) (λ end. end ≤ last_end inst.tasks begins)
+          → IfSome (option_map (λ ticks. head inst ds j + ticks) o) (λ end. end ≤ last_end inst.tasks begins)
       with_head None h k = tt
       with_head (Some n) h k = omega arith
 
@@ -136,58 +125,40 @@ module _ (inst : InstanceView) (ds : List Decision) (sched : List Slot) (v : Val
     (fits : Fits inst ds) (g : GoesBy inst.turn inst sched) (a : Agrees inst ds sched)
     (packs : (tasks : List ℕ) (end : ℕ) → packed_end inst ds tasks ≡ Some end → end ≤ ends inst sched)
     (closes : (end : ℕ) → is_closed inst inst.turn (cranes_of inst ds) end ≡ true → end ≤ ends inst sched) where
-  -- what one crane's way comes to is said of cranes that go one way; with the others all counts are of the last version
-  work_le : (turn : Turn) → GoesBy turn inst sched → (version : Version) → (turn ≡ Free → version ≡ with_packed)
-      → (¬ version ≡ with_packed) → (end : ℕ) → work_holds inst ds end ≡ true → 1 ≤ end → end ≤ ends inst sched
-  work_le OneWay up version latest first end over some = work_end_le inst ds sched v fits up a end over some
-  work_le Free f version latest first end over some = absurd (first (latest refl))
-
-  over_le : (version : Version) → (inst.turn ≡ Free → version ≡ with_packed) → (end : ℕ)
-      → work_over version inst ds end ≡ true → 1 ≤ end → end ≤ ends inst sched
-  over_le without_berths latest end over some = work_le inst.turn g without_berths latest (λ e. cc e) end over some
-  over_le with_berths latest end over some = work_le inst.turn g with_berths latest (λ e. cc e) end over some
-  over_le with_packed latest end over some = closes end over
-
   abbrev Shows : Option Bound → Type 0
   Shows o = IfSome o (λ bound. IsAtMost bound (Least (ends inst sched)))
 
-  leaf_shows : (version : Version) → (inst.turn ≡ Free → version ≡ with_packed) → (leaf : Leaf)
-      → Shows (leaf_value version inst ds leaf)
-  leaf_shows version latest (chain tasks) =
-      cond_both (are_tasks inst tasks) (option_map Least (chain_end version inst ds tasks)) None Shows
+  leaf_shows : (leaf : Leaf) → Shows (leaf_value inst ds leaf)
+  leaf_shows (chain tasks) =
+      cond_both (are_tasks inst tasks) (option_map Least (chain_end inst ds tasks)) None Shows
       (λ all.
-      let met = chain_end_met inst ds (starts sched) (meets_by inst ds sched g a) version tasks (within inst tasks all) in
-      number (chain_end version inst ds tasks) met)
+      let met = chain_end_met inst ds (starts sched) (meets_by inst ds sched g a) tasks (within inst tasks all) in
+      number (chain_end inst ds tasks) met)
       (λ _. tt)
     where
       number : (o : Option ℕ) → IfSome o (λ end. end ≤ ends inst sched) → Shows (option_map Least o)
       number None h = tt
       number (Some end) h = h
-  leaf_shows version latest (ring tasks) =
+  leaf_shows (ring tasks) =
       cond_both (are_tasks inst tasks && nat_le 2 (length tasks) && is_ring inst ds tasks) (Some Never) None Shows
       (λ t.
       let parts = and_parts (are_tasks inst tasks && nat_le 2 (length tasks)) (is_ring inst ds tasks) t in
       let all = and_parts (are_tasks inst tasks) (nat_le 2 (length tasks)) parts.0 in
       no_ring_met inst ds (starts sched) (meets_by inst ds sched g a) v tasks parts.1 all.0)
       (λ _. tt)
-  leaf_shows version latest reach =
+  leaf_shows reach =
       cond_both (is_out_of_reach inst ds) (Some Never) None Shows (λ t. in_reach inst ds sched fits (by_feasible inst.turn inst sched g) a t) (λ _. tt)
-  leaf_shows version latest (work end) =
-      cond_both (nat_le 1 end && work_over version inst ds end) (Some (Least end)) None Shows
-      (λ t.
-      let parts = and_parts (nat_le 1 end) (work_over version inst ds end) t in
-      over_le version latest end parts.1 (leb-true 1 end parts.0))
+  leaf_shows (work end) =
+      cond_both (nat_le 1 end && work_over inst ds end) (Some (Least end)) None Shows
+      (λ t. closes end (and_parts (nat_le 1 end) (work_over inst ds end) t).1)
       (λ _. tt)
-  leaf_shows version latest (packed tasks) =
-      cond_both (has_packed version) (option_map Least (packed_end inst ds tasks)) None Shows
-      (λ _. number (packed_end inst ds tasks) (packs tasks)) (λ _. tt)
+  leaf_shows (packed tasks) = number (packed_end inst ds tasks) (packs tasks)
     where
       number : (o : Option ℕ) → ((end : ℕ) → o ≡ Some end → end ≤ ends inst sched) → Shows (option_map Least o)
       number None h = tt
       number (Some end) h = h end refl
 
   -- what a leaf shows is at most the end of the schedule: it never shows Never
-  pub leaf_value_le : (version : Version) → (inst.turn ≡ Free → version ≡ with_packed) → (leaf : Leaf) (bound : Bound)
-      → leaf_value version inst ds leaf ≡ Some bound
+  pub leaf_value_le : (leaf : Leaf) (bound : Bound) → leaf_value inst ds leaf ≡ Some bound
       → IsAtMost bound (Least (ends inst sched))
-  leaf_value_le version latest leaf bound e = subst Shows e (leaf_shows version latest leaf)
+  leaf_value_le leaf bound e = subst Shows e (leaf_shows leaf)

@@ -13,7 +13,6 @@ pub mod NodeLemmas
 pub mod CompleteNodes
 pub mod Sums
 pub mod LeastStarts
-mod WorkLemmas
 pub mod LeafLemmas
 pub mod Scaled
 pub mod Levels

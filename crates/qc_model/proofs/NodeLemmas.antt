@@ -1,5 +1,5 @@
 -- What a node asks for holds of every schedule of the instance's turn that agrees with it.
-use Rattle.std.proofs.Common.{◌≡◌, ℕ, zero, suc, ◌+◌, ◌*◌, ◌<◌, ◌≤◌, max, Bool, true, false, eqb, ◌&&◌, ◌==◌, inl, inr, T, List, [], ◌∷◌, length, get_or, map, Contains, Option, None, Some, IfSome, IsSome, ◌≢◌, ◌⊎◌, ℤ, refl, ap, sym, subst, subst₂, ◌∙◌, arith, mul-zero, pos_of_ne-zero, filter, int_lt, nat_lt, slice_index}
+use Rattle.std.proofs.Common.{◌≡◌, ℕ, zero, suc, ◌+◌, ◌*◌, ◌<◌, ◌≤◌, max, Bool, true, false, eqb, ◌&&◌, ◌==◌, inl, inr, T, List, [], ◌∷◌, length, get_or, map, Contains, Option, None, Some, IfSome, IsSome, ◌≢◌, ◌⊎◌, ℤ, refl, ap, sym, subst, subst₂, ◌∙◌, arith, mul-zero, pos_of_ne-zero, int_lt, nat_lt, slice_index}
 use Rattle.std.proofs.lemmas.Bool.{and_from, and_parts, cases_eq, cases_lt, cond-true, cond_both, eq-eqb, eqb-false, eqb-true, false_from_ne_true, false≢true, le-ltb, ltb-true, or_cases, or_left, or_right}
 use Rattle.std.proofs.lemmas.List.{length-map}
 use Rattle.std.proofs.lemmas.List.Folds.{list_any_at}
@@ -14,12 +14,12 @@ use Rattle.qc_model.specs.declared.turn.Turn.TheVariants.{OneWay, Free}
 use Rattle.qc_model.specs.Bays.{bays_between}
 use Rattle.qc_model.specs.Frames.{GoesBy}
 use Rattle.qc_model.specs.Instance.{InstanceView, IsApart, IsBefore, Valid, bay_of, no_task, pair_of, ticks_of}
-use Rattle.qc_model.specs.Nodes.{Agrees, Clash, Conflicts, Fits, IsInReach, IsSettled, Meets, assigned, berth_wait, clear_ticks, crane_ticks, forced, free, greater, greatest, head, head1, head_by, is_before, is_ordered, is_sooner, pair_ticks, reaches, separation, sooner_ticks, upward_ticks}
+use Rattle.qc_model.specs.Nodes.{Agrees, Clash, Conflicts, Fits, IsInReach, IsSettled, Meets, assigned, berth_wait, clear_ticks, crane_ticks, forced, free, greater, greatest, head, head_by, is_before, is_ordered, is_sooner, pair_ticks, reaches, separation, sooner_ticks, upward_ticks}
 use Rattle.qc_model.specs.OneWay.{GoesUp}
 use Rattle.qc_model.specs.Rules.{Feasible, KeepsReach, crane_of, end_of, last_end, slot_distance, start_of, starts}
-use Rattle.qc_model.specs.Ticks.{arrival, berth_distance, distance, lead, task_distance, travel_between}
+use Rattle.qc_model.specs.Ticks.{berth_distance, distance, lead, task_distance, travel_between}
 use Rattle.qc_model.proofs.Bays.{bays}
-use Rattle.qc_model.proofs.Extremes.{greatest_le, least_le, least_rises}
+use Rattle.qc_model.proofs.Extremes.{greatest_le, least_le}
 use Rattle.qc_model.proofs.GoesLemmas.{distance_swapped}
 use Rattle.qc_model.proofs.PairOrder.{same_pair}
 use Rattle.qc_model.proofs.TurnLemmas.{by_feasible, goes_by, two_turns}
@@ -292,7 +292,7 @@ module _ (inst : InstanceView) (ds : List Decision) (sched : List Slot) (g : Goe
           greatest_le (berth_wait inst j (crane_of sched j)) (start_of sched j) 0 (length inst.cranes) waits
 
   head_kept : (j : ℕ) → j < length inst.tasks → (o : Option ℕ) → IfSome o (λ k. crane_of sched j ≡ k)
-      → head_by inst (free inst j) j o ≤ start_of sched j
+      → head_by inst j o ≤ start_of sched j
   head_kept j low (Some k) is = subst (λ (v : ℕ). free inst j v ≤ start_of sched j) is (free_kept j low)
   head_kept j low None is =
       let range = feasible.crane_range j low in
@@ -326,15 +326,3 @@ in_reach_of inst sched f (Assign j k ∷ ds) fits a =
     let reach =
     subst (λ (v : ℕ). reaches inst j v ≡ true) a.0 (within_reach inst sched j (f.reach j fits.0)) in
     (reach, in_reach_of inst sched f ds fits.3 a.1)
-
--- ---- heads without berths are no greater than those with them
-
-pub head1_le : (inst : InstanceView) (ds : List Decision) (j : ℕ) → head1 inst ds j ≤ head inst ds j
-head1_le inst ds j = lower (assigned ds j)
-  where
-    lower : (o : Option ℕ)
-        → head_by inst (λ k. arrival inst k (bay_of inst j)) j o ≤ head_by inst (free inst j) j o
-    lower (Some k) = omega arith
-    lower None =
-        let reaching = filter (reaches inst j) (range_with_len 0 (length inst.cranes)) in
-        least_rises (λ k. arrival inst k (bay_of inst j)) (free inst j) reaching (λ k. omega arith)

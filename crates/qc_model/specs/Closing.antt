@@ -6,7 +6,7 @@ use Rattle.qc_num.specs.declared.bound.Bound.{Bound}
 use Rattle.qc_num.specs.declared.bound.Bound.TheVariants.{Least}
 use Rattle.qc_model.specs.declared.decision.Decision.{Decision}
 use Rattle.qc_model.specs.Instance.{InstanceView}
-use Rattle.qc_model.specs.Leaves.{is_out_of_reach, with_packed, work_over}
+use Rattle.qc_model.specs.Leaves.{is_out_of_reach, work_over}
 use Rattle.qc_model.specs.Nodes.{HasStarts, IsComplete, IsNodeEnd}
 
 -- the node's end is at least u; no end is at least Never
@@ -19,7 +19,7 @@ pub record EndsLate (inst : InstanceView) (ds : List Decision) (u : Bound) : Typ
 pub record IsWorkLate (inst : InstanceView) (ds : List Decision) (u : Bound) : Type 0 where
   pub end : ℕ
   pub positive : 1 ≤ end
-  pub holds : IsTrue (work_over with_packed inst ds end)
+  pub holds : IsTrue (work_over inst ds end)
   pub late : IsAtMost u (Least end)
 
 -- the node is closed where an end of u or later is of no use
@@ -37,5 +37,5 @@ pub data IsClosable (inst : InstanceView) (ds : List Decision) (u : Bound) : Typ
 
 -- the greatest end before which the work doesn't fit, and 0 where there is none
 pub record IsWorkBound (inst : InstanceView) (ds : List Decision) (bound : ℕ) : Type 0 where
-  pub holds : 0 < bound → IsTrue (work_over with_packed inst ds bound)
-  pub greatest : (end : ℕ) → 1 ≤ end → IsTrue (work_over with_packed inst ds end) → end ≤ bound
+  pub holds : 0 < bound → IsTrue (work_over inst ds bound)
+  pub greatest : (end : ℕ) → 1 ≤ end → IsTrue (work_over inst ds end) → end ≤ bound

@@ -1,6 +1,6 @@
 -- public: leaves of a bound tree: what shows an end that none beats of the schedules that agree with a node: of the upward
 -- ones where cranes go one way, and of all that are feasible where they go as they like.
-use Rattle.std.specs.Prelude.{ℕ, ◌+◌, Bool, true, false, not, ◌&&◌, nat_lt, nat_le, if◌then◌else◌, List, [], ◌∷◌, ◌++◌, map, length, Option, None, Some, is_some, option_map, option_and_then}
+use Rattle.std.specs.Prelude.{ℕ, ◌+◌, Bool, false, not, ◌&&◌, nat_lt, nat_le, if◌then◌else◌, List, [], ◌∷◌, ◌++◌, map, length, Option, None, Some, is_some, option_map, option_and_then}
 use Rattle.std.specs.List.{list_all}
 use Rattle.qc_model.specs.Numbers.{most_tasks}
 use Rattle.qc_num.specs.declared.bound.Bound.{Bound}
@@ -11,9 +11,8 @@ use Rattle.qc_model.specs.Assignments.{cranes_of}
 use Rattle.qc_model.specs.Closed.{is_closed}
 use Rattle.qc_model.specs.Instance.{InstanceView, ticks_of}
 use Rattle.qc_model.specs.Early.{early}
-use Rattle.qc_model.specs.Nodes.{forced, head, head1, least, reaches}
+use Rattle.qc_model.specs.Nodes.{forced, head, least, reaches}
 use Rattle.qc_model.specs.Packs.{pack}
-use Rattle.qc_model.specs.Work.{work_holds}
 
 -- how a branch of a bound tree ends; tasks are numbered from 0
 pub data Leaf : Type 0 where
@@ -28,21 +27,6 @@ pub data Leaf : Type 0 where
   -- tasks of which no two can run together
   packed : (tasks : List ℕ) → Leaf
 
--- the version of a tree: its heads count without the berths of other cranes; or with them; or its leaves may list
--- packed tasks too, and those of work count how many cranes must come to each bay
-pub data Version : Type 0 where
-  without_berths with_berths with_packed : Version
-
-abbrev pub head_in : Version → InstanceView → List Decision → ℕ → ℕ
-head_in without_berths inst ds j = head1 inst ds j
-head_in with_berths inst ds j = head inst ds j
-head_in with_packed inst ds j = head inst ds j
-
--- its leaves may list packed tasks
-abbrev pub has_packed : Version → Bool
-has_packed with_packed = true
-has_packed version = false
-
 -- the ticks from the start of a task to the end of the last of a chain behind it; none where a step isn't forced
 abbrev pub chain_ticks : InstanceView → List Decision → ℕ → List ℕ → Option ℕ
 chain_ticks inst ds i [] = Some (ticks_of inst i)
@@ -50,10 +34,9 @@ chain_ticks inst ds i (j ∷ js) =
     option_and_then (λ step. option_map (λ rest. step + rest) (chain_ticks inst ds j js)) (forced inst ds i j)
 
 -- the end that a chain shows
-abbrev pub chain_end : Version → InstanceView → List Decision → List ℕ → Option ℕ
-chain_end version inst ds [] = Some 0
-chain_end version inst ds (j ∷ js) =
-    option_map (λ ticks. head_in version inst ds j + ticks) (chain_ticks inst ds j js)
+abbrev pub chain_end : InstanceView → List Decision → List ℕ → Option ℕ
+chain_end inst ds [] = Some 0
+chain_end inst ds (j ∷ js) = option_map (λ ticks. head inst ds j + ticks) (chain_ticks inst ds j js)
 
 -- each step along the tasks is forced, and so is the one from the last to the first
 abbrev pub is_ring : InstanceView → List Decision → List ℕ → Bool
@@ -70,12 +53,9 @@ packed_end inst ds tasks =
     option_and_then (λ begins.
     option_map (λ ticks. least (map begins tasks) + ticks) (pack inst (cranes_of inst ds) tasks)) (early inst ds)
 
--- the work of a node doesn't fit before an end: some crane can't be done with its own tasks, or what is left is more than
--- the time of all cranes together; or, where the version counts cranes, the assignment is closed at the end
-abbrev pub work_over : Version → InstanceView → List Decision → ℕ → Bool
-work_over without_berths inst ds end = work_holds inst ds end
-work_over with_berths inst ds end = work_holds inst ds end
-work_over with_packed inst ds end = is_closed inst inst.turn (cranes_of inst ds) end
+-- the work of a node doesn't fit before an end: the assignment is closed at it
+abbrev pub work_over : InstanceView → List Decision → ℕ → Bool
+work_over inst ds end = is_closed inst inst.turn (cranes_of inst ds) end
 
 -- the newest decision puts a task on a crane that doesn't reach it
 abbrev pub is_out_of_reach : InstanceView → List Decision → Bool
@@ -84,12 +64,10 @@ is_out_of_reach inst (Assign j k ∷ ds) = not (reaches inst j k)
 is_out_of_reach inst (Order i j ∷ ds) = false
 
 -- what a leaf shows at a node: none where it doesn't hold there
-abbrev pub leaf_value : Version → InstanceView → List Decision → Leaf → Option Bound
-leaf_value version inst ds (chain tasks) =
-    if are_tasks inst tasks then option_map Least (chain_end version inst ds tasks) else None
-leaf_value version inst ds (ring tasks) =
+abbrev pub leaf_value : InstanceView → List Decision → Leaf → Option Bound
+leaf_value inst ds (chain tasks) = if are_tasks inst tasks then option_map Least (chain_end inst ds tasks) else None
+leaf_value inst ds (ring tasks) =
     if are_tasks inst tasks && nat_le 2 (length tasks) && is_ring inst ds tasks then Some Never else None
-leaf_value version inst ds reach = if is_out_of_reach inst ds then Some Never else None
-leaf_value version inst ds (work end) = if nat_le 1 end && work_over version inst ds end then Some (Least end) else None
-leaf_value version inst ds (packed tasks) =
-    if has_packed version then option_map Least (packed_end inst ds tasks) else None
+leaf_value inst ds reach = if is_out_of_reach inst ds then Some Never else None
+leaf_value inst ds (work end) = if nat_le 1 end && work_over inst ds end then Some (Least end) else None
+leaf_value inst ds (packed tasks) = option_map Least (packed_end inst ds tasks)

@@ -142,18 +142,13 @@ free inst j k =
 abbrev pub reaches : InstanceView → ℕ → ℕ → Bool
 reaches inst j k = int_le (crane inst k).from (bay_of inst j) && int_le (bay_of inst j) (crane inst k).to
 
--- when a task can start at the least, by when each crane can be there: with its crane, or with the earliest crane
--- that reaches it
-abbrev pub head_by : InstanceView → (ℕ → ℕ) → ℕ → Option ℕ → ℕ
-head_by inst there j (Some k) = there k
-head_by inst there j None = least (map there (filter (reaches inst j) (range_with_len 0 (length inst.cranes))))
+-- when a task can start at the least: with its crane, or with the earliest crane that reaches it
+abbrev pub head_by : InstanceView → ℕ → Option ℕ → ℕ
+head_by inst j (Some k) = free inst j k
+head_by inst j None = least (map (free inst j) (filter (reaches inst j) (range_with_len 0 (length inst.cranes))))
 
 abbrev pub head : InstanceView → List Decision → ℕ → ℕ
-head inst ds j = head_by inst (free inst j) j (assigned ds j)
-
--- the same without the berths of other cranes, as trees of the first version have it
-abbrev pub head1 : InstanceView → List Decision → ℕ → ℕ
-head1 inst ds j = head_by inst (λ k. arrival inst k (bay_of inst j)) j (assigned ds j)
+head inst ds j = head_by inst j (assigned ds j)
 
 -- each assigned task lies within the reach of its crane
 abbrev pub IsInReach : InstanceView → List Decision → Type 0

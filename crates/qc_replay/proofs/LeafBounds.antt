@@ -1,22 +1,21 @@
 -- What a leaf shows at a node that fits a valid instance has at most 15 digits.
-use Rattle.std.proofs.Common.{◌≡◌, ℕ, zero, suc, ◌+◌, ◌-◌, ◌*◌, ◌<◌, ◌≤◌, ◌^◌, Bool, true, ◌&&◌, ◌==◌, inl, inr, List, [], ◌∷◌, length, map, Option, None, Some, IfSome, ℤ, pos, ◌+ℤ◌, arith, filter, int_lt, nat_le, nat_lt, option_and_then, option_map, slice_index}
-use Rattle.std.specs.List.{list_all, list_any, range_with_len, sum_by}
+use Rattle.std.proofs.Common.{◌≡◌, ℕ, zero, suc, ◌+◌, ◌-◌, ◌*◌, ◌<◌, ◌≤◌, ◌^◌, Bool, true, ◌&&◌, ◌==◌, List, [], ◌∷◌, length, map, Option, None, Some, IfSome, ℤ, pos, ◌+ℤ◌, arith, filter, int_lt, nat_le, nat_lt, option_and_then, option_map, slice_index}
+use Rattle.std.specs.List.{list_all, range_with_len}
 use Rattle.std.specs.Option.{option_map_or}
-use Rattle.std.proofs.lemmas.Bool.{and_parts, cond_both, false≢true, leb-true, ltb-true, or_cases}
-use Rattle.std.proofs.lemmas.List.Sums.{sum_by-cons}
+use Rattle.std.proofs.lemmas.Bool.{and_parts, cond_both, leb-true}
 use Rattle.std.proofs.lemmas.Nat.{mul-le}
 use Rattle.qc_num.specs.declared.bound.Bound.TheVariants.{Least, Never}
 use Rattle.qc_model.specs.declared.decision.Decision.{Decision}
 use Rattle.qc_model.specs.Bays.{bays_up, bays_between}
 use Rattle.qc_model.specs.Instance.{InstanceView, Valid, IsOnRail, bay_of, ticks_of, crane}
 use Rattle.qc_model.specs.Assignments.{cranes_of}
-use Rattle.qc_model.specs.Leaves.{Leaf, Version, are_tasks, chain, chain_end, chain_ticks, has_packed, head_in, is_ring, is_out_of_reach, leaf_value, packed, packed_end, reach, ring, with_berths, with_packed, without_berths, work, work_over}
-use Rattle.qc_model.specs.Work.{crane_numbers, highest, is_overfull, lowest, spare, task_numbers, tasks_on, ticks_over, open_tasks, used, used_for, work_holds}
+use Rattle.qc_model.specs.Leaves.{Leaf, are_tasks, chain, chain_end, chain_ticks, is_ring, is_out_of_reach, leaf_value, packed, packed_end, reach, ring, work, work_over}
+use Rattle.qc_model.specs.Work.{task_numbers}
 use Rattle.qc_model.specs.Early.{are_met, early, early_by, is_in_reach, let_by, put_off, starts_after}
 use Rattle.qc_model.specs.Nodes.{Fits, assigned, berth_wait, crane_ticks, forced, free, head, head_by, is_sooner, least, pair_ticks, reaches, separation, sooner_ticks}
 use Rattle.qc_model.specs.Packs.{pack}
 use Rattle.qc_model.specs.Ticks.{arrival, berth_clear, berth_distance, climb, distance, lead, task_distance, travel_between}
-use Rattle.qc_model.specs.declared.limits.TheConstants.{MOST_APART, MOST_BAYS, MOST_DISTANCE, MOST_GAP_BY_PLACES, MOST_READY, MOST_TASKS, MOST_TRAVEL, MOST_WORK}
+use Rattle.qc_model.specs.declared.limits.TheConstants.{MOST_BAYS, MOST_DISTANCE, MOST_GAP_BY_PLACES, MOST_READY, MOST_TASKS, MOST_TRAVEL, MOST_WORK}
 use Rattle.qc_model.specs.declared.direction.Direction.TheVariants.{Up}
 use Rattle.qc_model.specs.declared.turn.Turn.{Turn}
 use Rattle.qc_model.specs.declared.turn.Turn.TheVariants.{OneWay, Free}
@@ -28,9 +27,8 @@ use Rattle.qc_model.proofs.NodeLemmas.{greater_keeps}
 use Rattle.qc_model.proofs.OnRail.{berth_on_rail}
 use Rattle.qc_close.proofs.LimitLemmas.{closed_soon}
 use Rattle.qc_close.proofs.PackBounds.{cranes_range, pack_few}
-use Rattle.qc_dist.proofs.Bounds.{few_ticks, highest_on_rail, lowest_on_rail, on_rail, open_bounded, ticks_over_bounded}
+use Rattle.qc_dist.proofs.Bounds.{few_ticks, on_rail}
 use Rattle.qc_dist.proofs.Facts.{assigned_range}
-use Rattle.qc_dist.proofs.Room.{tasks_on_few}
 use Rattle.qc_tree.specs.Lines.{IsValue}
 
 -- places on the rail, and ones shifted by some gaps, aren't far apart
@@ -62,18 +60,6 @@ least_of_few : (f : ℕ → ℕ) (m : ℕ) → ((j : ℕ) → f j ≤ m) → (js
 least_of_few f m few [] = omega arith
 least_of_few f m few (j ∷ []) = few j
 least_of_few f m few (j ∷ k ∷ js) = omega (arith, few j)
-
--- a number that passes
-passing : (p : ℕ → Bool) (a n : ℕ) → list_any p (range_with_len a n) ≡ true → (k : ℕ) × (k < a + n) × (p k ≡ true)
-passing p a zero e = absurd (false≢true e)
-passing p a (suc n) e = elim (or_cases (p a) (list_any p (range_with_len (a + 1) n)) e) [
-  | inl here ↦ (a, omega arith, here)
-  | inr there ↦ let k = passing p (a + 1) n there in (k.0, omega (arith, k.1), k.2)
-]
-
-first_le_sum : (f : ℕ → ℕ) (n : ℕ) → 1 ≤ n → f 0 ≤ sum_by f (range_with_len 0 n)
-first_le_sum f zero some = absurd (omega arith)
-first_le_sum f (suc n) some = omega (arith, sum_by-cons f 0 (range_with_len (0 + 1) n))
 
 module _ (inst : InstanceView) (valid : Valid inst) where
   -- travel over so many bays
@@ -124,24 +110,15 @@ module _ (inst : InstanceView) (valid : Valid inst) where
       (λ v high. wait_few j k v low (omega arith)) in
       omega (arith, waits, arrival_few j k low)
 
-  head_by_few : (there : ℕ → ℕ) (j : ℕ)
-      → ((k : ℕ) → k < length inst.cranes → there k ≤ MOST_READY + MOST_DISTANCE)
-      → (o : Option ℕ) → IfSome o (λ k. k < length inst.cranes)
-      → head_by inst there j o ≤ MOST_READY + MOST_DISTANCE
-  head_by_few there j few (Some k) low = few k low
-  head_by_few there j few None low =
-      least_few there (reaches inst j) (MOST_READY + MOST_DISTANCE) 0 (length inst.cranes)
-      (λ k here. few k (omega arith))
+  head_by_few : (j : ℕ) (o : Option ℕ) → IfSome o (λ k. k < length inst.cranes)
+      → head_by inst j o ≤ MOST_READY + MOST_DISTANCE
+  head_by_few j (Some k) low = free_few j k low
+  head_by_few j None low =
+      least_few (free inst j) (reaches inst j) (MOST_READY + MOST_DISTANCE) 0 (length inst.cranes)
+      (λ k here. free_few j k (omega arith))
 
-  head_few : (version : Version) (ds : List Decision) → Fits inst ds → (j : ℕ)
-      → head_in version inst ds j ≤ MOST_READY + MOST_DISTANCE
-  head_few without_berths ds fits j =
-      head_by_few (λ k. arrival inst k (bay_of inst j)) j (arrival_few j) (assigned ds j)
-      (assigned_range inst ds fits j)
-  head_few with_berths ds fits j =
-      head_by_few (free inst j) j (free_few j) (assigned ds j) (assigned_range inst ds fits j)
-  head_few with_packed ds fits j =
-      head_by_few (free inst j) j (free_few j) (assigned ds j) (assigned_range inst ds fits j)
+  head_few : (ds : List Decision) → Fits inst ds → (j : ℕ) → head inst ds j ≤ MOST_READY + MOST_DISTANCE
+  head_few ds fits j = head_by_few j (assigned ds j) (assigned_range inst ds fits j)
 
   -- a step of a chain
   abbrev IsStepFew : ℕ → Type 0
@@ -198,60 +175,9 @@ module _ (inst : InstanceView) (valid : Valid inst) where
       (forced inst ds i j) (chain_ticks inst ds j js) (forced_few ds fits i j) (chain_few ds fits j js)
       (λ x y p q. omega arith)
 
-  used_for_few : (k : ℕ) → k < length inst.cranes → (js : List ℕ) → length js ≤ MOST_TASKS + MOST_APART
-      → used_for inst k js ≤ 1000000000000
-  used_for_few k low [] few = omega arith
-  used_for_few k low (j ∷ js) few =
-      let low_rail = lowest_on_rail inst valid j js in
-      let way = between_rail (crane inst k).bay (lowest inst j js) (berth_rail k low) low_rail in
-      let up = up_rail (lowest inst j js) (highest inst j js) low_rail (highest_on_rail inst valid j js) in
-      let bays_gone =
-      bays_between (crane inst k).bay (lowest inst j js) + bays_up (lowest inst j js) (highest inst j js) in
-      let gone =
-      mul-le inst.travel bays_gone MOST_TRAVEL 120000 (limits_of inst valid).travel (omega (arith, way, up)) in
-      omega (arith, gone, ticks_over_bounded inst valid (j ∷ js), few)
-
-  used_few : (ds : List Decision) → Fits inst ds → (k : ℕ) → k < length inst.cranes
-      → used inst ds k ≤ 1000000000000
-  used_few ds fits k low =
-      let few : length (tasks_on ds k) ≤ MOST_TASKS + MOST_APART =
-      omega (arith, tasks_on_few inst ds fits k, valid.tasks.count)
-      in
-      used_for_few k low (tasks_on ds k) few
-
-  -- by when a crane has done what it has, at the most
-  done_few : (ds : List Decision) → Fits inst ds → (k : ℕ) → k < length inst.cranes
-      → (crane inst k).ready + used inst ds k ≤ 1000001000000
-  done_few ds fits k low =
-      let ready : (crane inst k).ready ≤ MOST_READY = valid.cranes.ready k low in
-      omega (arith, ready, used_few ds fits k low)
-
-  work_few : (ds : List Decision) → Fits inst ds → (end : ℕ) → work_holds inst ds end ≡ true → end < 10 ^ 15
-  work_few ds fits end holds =
-      elim (or_cases (list_any (is_overfull inst ds (end - 1)) (crane_numbers inst))
-      (nat_lt (sum_by (spare inst ds (end - 1)) (crane_numbers inst))
-      (ticks_over inst (open_tasks inst ds))) holds) [
-        | inl over ↦
-            let k = passing (is_overfull inst ds (end - 1)) 0 (length inst.cranes) over in
-            let parts =
-            and_parts (nat_lt 0 (length (tasks_on ds k.0)))
-            (nat_lt (end - 1) ((crane inst k.0).ready + used inst ds k.0)) k.2 in
-            let full = ltb-true (end - 1) ((crane inst k.0).ready + used inst ds k.0) parts.1 in
-            omega (arith, full, done_few ds fits k.0 (omega (arith, k.1)))
-        | inr short ↦
-            let less =
-            ltb-true (sum_by (spare inst ds (end - 1)) (crane_numbers inst))
-            (ticks_over inst (open_tasks inst ds)) short in
-            let first = first_le_sum (spare inst ds (end - 1)) (length inst.cranes) valid.cranes.count.0 in
-            let done = done_few ds fits 0 (omega (arith, valid.cranes.count.0)) in
-            omega (arith, less, first, done, open_bounded inst valid ds)
-      ]
-
-  over_few : (version : Version) (ds : List Decision) → Fits inst ds → (end : ℕ)
-      → work_over version inst ds end ≡ true → end < 10 ^ 15
-  over_few without_berths ds fits end over = work_few ds fits end over
-  over_few with_berths ds fits end over = work_few ds fits end over
-  over_few with_packed ds fits end over = omega (arith, closed_soon inst inst.turn (cranes_of inst ds) end valid (cranes_range inst ds fits) over)
+  over_few : (ds : List Decision) → Fits inst ds → (end : ℕ) → work_over inst ds end ≡ true → end < 10 ^ 15
+  over_few ds fits end over =
+      omega (arith, closed_soon inst inst.turn (cranes_of inst ds) end valid (cranes_range inst ds fits) over)
 
   -- how late a task starts at the least, after so many rounds of putting off
   abbrev latest : ℕ → ℕ
@@ -269,7 +195,7 @@ module _ (inst : InstanceView) (valid : Valid inst) where
 
   starts_few : (ds : List Decision) → Fits inst ds → (n j : ℕ) → slice_index (starts_after inst ds n) j ≤ latest n
   starts_few ds fits zero j =
-      mapped_few (head inst ds) (latest 0) (λ i. omega (arith, head_few with_packed ds fits i)) (task_numbers inst) j
+      mapped_few (head inst ds) (latest 0) (λ i. omega (arith, head_few ds fits i)) (task_numbers inst) j
   starts_few ds fits (suc n) j =
       mapped_few (put_off inst ds (starts_after inst ds n)) (latest (suc n)) (λ i.
       let lets =
@@ -288,7 +214,7 @@ module _ (inst : InstanceView) (valid : Valid inst) where
   IsSoon begins = (j : ℕ) → begins j ≤ soon
 
   heads_soon : (ds : List Decision) → Fits inst ds → IsSoon (head inst ds)
-  heads_soon ds fits j = omega (arith, head_few with_packed ds fits j)
+  heads_soon ds fits j = omega (arith, head_few ds fits j)
 
   starts_soon : (ds : List Decision) → Fits inst ds → IsSoon (λ j. slice_index (starts_after inst ds (length inst.tasks)) j)
   starts_soon ds fits j = omega (arith, starts_few ds fits (length inst.tasks) j, valid.tasks.count)
@@ -321,10 +247,10 @@ module _ (inst : InstanceView) (valid : Valid inst) where
       with_begins tasks (early inst ds) (pack inst (cranes_of inst ds) tasks) (early_few ds fits inst.turn)
       (pack_few inst valid (cranes_of inst ds) (cranes_range inst ds fits) tasks)
 
-  pub leaf_few : (version : Version) (ds : List Decision) → Fits inst ds → (shows : Leaf)
-      → IfSome (leaf_value version inst ds shows) IsValue
-  leaf_few version ds fits (chain tasks) =
-      cond_both (are_tasks inst tasks) (option_map Least (chain_end version inst ds tasks)) None
+  pub leaf_few : (ds : List Decision) → Fits inst ds → (shows : Leaf)
+      → IfSome (leaf_value inst ds shows) IsValue
+  leaf_few ds fits (chain tasks) =
+      cond_both (are_tasks inst tasks) (option_map Least (chain_end inst ds tasks)) None
       (λ o. IfSome o IsValue)
       (λ all. chain_value tasks
       (leb-true (length tasks) MOST_TASKS
@@ -338,19 +264,17 @@ module _ (inst : InstanceView) (valid : Valid inst) where
       with_head (Some m) h n head few short = omega arith
 
       chain_value : (js : List ℕ) → length js ≤ MOST_TASKS
-          → IfSome (option_map Least (chain_end version inst ds js)) IsValue
+          → IfSome (option_map Least (chain_end inst ds js)) IsValue
       chain_value [] short = omega arith
       chain_value (j ∷ js) short =
-          with_head (chain_ticks inst ds j js) (head_in version inst ds j) (length js + 1)
-          (head_few version ds fits j) (chain_few ds fits j js) (omega arith)
-  leaf_few version ds fits (ring tasks) =
+          with_head (chain_ticks inst ds j js) (head inst ds j) (length js + 1)
+          (head_few ds fits j) (chain_few ds fits j js) (omega arith)
+  leaf_few ds fits (ring tasks) =
       cond_both (are_tasks inst tasks && nat_le 2 (length tasks) && is_ring inst ds tasks) (Some Never) None
       (λ o. IfSome o IsValue) (λ _. tt) (λ _. tt)
-  leaf_few version ds fits reach =
+  leaf_few ds fits reach =
       cond_both (is_out_of_reach inst ds) (Some Never) None (λ o. IfSome o IsValue) (λ _. tt) (λ _. tt)
-  leaf_few version ds fits (work end) =
-      cond_both (nat_le 1 end && work_over version inst ds end) (Some (Least end)) None (λ o. IfSome o IsValue)
-      (λ both. over_few version ds fits end (and_parts (nat_le 1 end) (work_over version inst ds end) both).1) (λ _. tt)
-  leaf_few version ds fits (packed tasks) =
-      cond_both (has_packed version) (option_map Least (packed_end inst ds tasks)) None (λ o. IfSome o IsValue)
-      (λ _. packed_value ds fits tasks) (λ _. tt)
+  leaf_few ds fits (work end) =
+      cond_both (nat_le 1 end && work_over inst ds end) (Some (Least end)) None (λ o. IfSome o IsValue)
+      (λ both. over_few ds fits end (and_parts (nat_le 1 end) (work_over inst ds end) both).1) (λ _. tt)
+  leaf_few ds fits (packed tasks) = packed_value ds fits tasks

@@ -3,7 +3,8 @@ use Rattle.std.proofs.Common.{◌≡◌, ℕ, ◌+◌, List, [], ◌∷◌, ◌+
 use Rattle.std.proofs.lemmas.List.{append-nil}
 use Rattle.qc_model.specs.declared.decision.Decision.{Decision}
 use Rattle.qc_model.specs.Instance.{InstanceView, ticks_of}
-use Rattle.qc_model.specs.Leaves.{Version, chain_end, chain_ticks, head_in}
+use Rattle.qc_model.specs.Leaves.{chain_end, chain_ticks}
+use Rattle.qc_model.specs.Nodes.{head}
 
 module _ (inst : InstanceView) (ds : List Decision) (first : ℕ) (tasks : List ℕ) where
   -- nothing leads along the tasks, whatever follows them
@@ -16,13 +17,13 @@ module _ (inst : InstanceView) (ds : List Decision) (first : ℕ) (tasks : List 
       (behind : List ℕ)
       → chain_ticks inst ds first (tasks ++ behind) ≡ option_map (λ rest. ticks + rest) (chain_ticks inst ds last behind)
 
-  pub no_end : (version : Version) → NoWay → chain_end version inst ds (first ∷ tasks) ≡ None
-  no_end version none =
-      ap (option_map (λ ticks. head_in version inst ds first + ticks)) (ap (chain_ticks inst ds first) (sym (append-nil tasks)) ∙ none [])
+  pub no_end : NoWay → chain_end inst ds (first ∷ tasks) ≡ None
+  no_end none =
+      ap (option_map (λ ticks. head inst ds first + ticks)) (ap (chain_ticks inst ds first) (sym (append-nil tasks)) ∙ none [])
 
-  pub end_is : (version : Version) (last ticks end : ℕ) → IsWay last ticks
-      → end ≡ head_in version inst ds first + ticks + ticks_of inst last
-      → chain_end version inst ds (first ∷ tasks) ≡ Some end
-  end_is version last ticks end way sum =
-      ap (option_map (λ ticks. head_in version inst ds first + ticks)) (ap (chain_ticks inst ds first) (sym (append-nil tasks)) ∙ way [])
+  pub end_is : (last ticks end : ℕ) → IsWay last ticks
+      → end ≡ head inst ds first + ticks + ticks_of inst last
+      → chain_end inst ds (first ∷ tasks) ≡ Some end
+  end_is last ticks end way sum =
+      ap (option_map (λ ticks. head inst ds first + ticks)) (ap (chain_ticks inst ds first) (sym (append-nil tasks)) ∙ way [])
       ∙ ap Some (omega (arith, sum))

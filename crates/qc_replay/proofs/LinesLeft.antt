@@ -8,7 +8,6 @@ use Rattle.qc_num.proofs.ReadingLemmas.{same_ok}
 use Rattle.qc_model.specs.declared.decision.Decision.{Decision}
 use Rattle.qc_model.specs.declared.decision.Decision.TheVariants as decide
 use Rattle.qc_model.specs.Instance.{InstanceView}
-use Rattle.qc_model.specs.Leaves.{Version}
 use Rattle.qc_model.specs.Work.{crane_numbers}
 use Rattle.qc_model.specs.Numbers.{most_branchings, most_cranes}
 use Rattle.qc_model.specs.Seen.{seen}
@@ -42,24 +41,22 @@ left_behind : (n c l : ℕ) (some : Bool) → (some ≡ true → n < most_branch
 left_behind n c l true few low = omega (arith, few refl, low)
 left_behind n c l false few low = omega (arith, low)
 
-module _ (inst : InstanceView) (cranes : length inst.cranes ≤ most_cranes) (v : Version) (more : List Coming) (n : ℕ)
-    (b : Bound) (now : Reading) where
-  came_on : (w : Version) (x : Bound) → reading w more n x ≡ now → lines_left now < length more + 1 + most_cranes * (most_branchings - n)
-  came_on w x e = subst (λ (r : Reading). lines_left r < length more + 1 + most_cranes * (most_branchings - n)) e (omega arith)
+module _ (inst : InstanceView) (cranes : length inst.cranes ≤ most_cranes) (more : List Coming) (n : ℕ) (b : Bound)
+    (now : Reading) where
+  came_on : (x : Bound) → reading more n x ≡ now → lines_left now < length more + 1 + most_cranes * (most_branchings - n)
+  came_on x e = subst (λ (r : Reading). lines_left r < length more + 1 + most_cranes * (most_branchings - n)) e (omega arith)
 
-  fewer_at : (c : Coming) (l : Line) (list : List ℕ) → at_due inst (reading v (c ∷ more) n b) c l list ≡ Ok now
+  fewer_at : (c : Coming) (l : Line) (list : List ℕ) → at_due inst (reading (c ∷ more) n b) c l list ≡ Ok now
       → lines_left now < length more + 1 + most_cranes * (most_branchings - n)
-  fewer_at title line.Title list e = came_on _ b (same_ok e)
-  fewer_at title line.Title2 list e = came_on _ b (same_ok e)
-  fewer_at title line.Title3 list e = came_on _ b (same_ok e)
-  fewer_at title line.FreeTitle list e = came_on _ b (same_ok e)
-  fewer_at up line.Up list e = came_on v b (same_ok e)
-  fewer_at down line.Down list e = came_on v b (same_ok e)
+  fewer_at title line.Title list e = came_on b (same_ok e)
+  fewer_at title line.FreeTitle list e = came_on b (same_ok e)
+  fewer_at up line.Up list e = came_on b (same_ok e)
+  fewer_at down line.Down list e = came_on b (same_ok e)
   fewer_at end (line.End m x) list e =
-      came_on v b (same_ok (tested ((m == n) && is_bound x b) kind.Counts (λ _. Ok (reading v more n b)) now e).1)
+      came_on b (same_ok (tested ((m == n) && is_bound x b) kind.Counts (λ _. Ok (reading more n b)) now e).1)
   fewer_at (node d ds) l list e =
       let i = seen inst d in
-      let a = accepted i d v ds more n b l list now e in
+      let a = accepted i d ds more n b l list now e in
       let cs = children i ds a.sign in
       let few = children_few i ds a.sign (omega (arith, seen-crane_count inst d, cranes)) in
       let count : length (map (node d) cs ++ more) ≡ length cs + length more =
@@ -79,7 +76,7 @@ fewer_left inst cranes r now seen_line e =
     by_coming : (coming : List Coming) → r.coming ≡ coming → lines_left now < lines_left r
     by_coming [] is = failed kind.After now (sym (ap (λ c. with_line inst (record r { coming = c }) seen_line) is) ∙ e)
     by_coming (c ∷ more) is =
-        let leads = known_due inst (reading r.version (c ∷ more) r.branched r.bound) c seen_line.line seen_line.list now
+        let leads = known_due inst (reading (c ∷ more) r.branched r.bound) c seen_line.line seen_line.list now
         (sym (ap (λ cs. with_line inst (record r { coming = cs }) seen_line) is) ∙ e) in
-        let here = fewer_at inst cranes r.version more r.branched r.bound now c seen_line.line seen_line.list leads.1 in
+        let here = fewer_at inst cranes more r.branched r.bound now c seen_line.line seen_line.list leads.1 in
         omega (arith, here, ap length is)

@@ -1,7 +1,6 @@
 -- What the lines of nodes come to.
 use Rattle.std.proofs.Common.{◌≡◌, ℕ, ◌==◌, ◌+◌, ◌-◌, ◌≤◌, inl, inr, Bool, true, false, not, ◌&&◌, nat_lt, List, [], ◌∷◌, ◌++◌, length, map, drop, Option, None, Some, is_some, Result, Ok, Err, refl, sym, ap, subst, ◌∙◌, append_assoc, arith, eqb, is_none, nat_le, ok_or, option_map, if◌then◌else◌}
 use Rattle.std.proofs.lemmas.Simd.{map-map}
-use Rattle.std.specs.Prelude.{⊤}
 use Rattle.std.specs.List.{list_all}
 use Rattle.std.proofs.lemmas.Bool.{and_from, and_parts, eq-eqb, false_from_ne_true, le-leb, leb-true, lt-ltb, ltb-true, or_from, or_left, or_right, true≢false}
 use Rattle.std.proofs.lemmas.List.Folds.{list_any_at}
@@ -18,17 +17,16 @@ use Rattle.qc_model.specs.declared.pair.Pair.{Pair}
 use Rattle.qc_model.specs.Instance.{InstanceView, IsApart, pair_of}
 use Rattle.qc_model.specs.declared.decision.Decision.TheVariants as decide
 use Rattle.qc_model.specs.Nodes.{IsSettled, assigned, forced}
-use Rattle.qc_model.specs.Leaves.{Leaf, are_tasks, chain, chain_end, has_packed, is_ring, leaf_value, packed, packed_end, ring}
+use Rattle.qc_model.specs.Leaves.{Leaf, are_tasks, chain, chain_end, is_ring, leaf_value, packed, packed_end, ring}
 use Rattle.qc_model.specs.Work.{crane_numbers}
 use Rattle.qc_tree.specs.declared.line.Line.{Line}
 use Rattle.qc_tree.specs.declared.line.Line.TheVariants.{Chain, Clash, Ring}
 use Rattle.qc_tree.specs.declared.line.Line.TheVariants as line
 use Rattle.qc_tree.specs.declared.fault.TreeKind.{TreeKind}
 use Rattle.qc_tree.specs.declared.fault.TreeKind.TheVariants as kind
-use Rattle.qc_replay.specs.declared.leaf.TreeVersion.{TreeVersion}
 use Rattle.qc_replay.specs.declared.node.Tally.{Tally}
 use Rattle.qc_dist.specs.Children.{behind}
-use Rattle.qc_replay.specs.Part.{IsJudged, Shows, Standing, nodes, version_of, with_branching, within}
+use Rattle.qc_replay.specs.Part.{IsJudged, Shows, Standing, nodes, with_branching, within}
 use Rattle.qc_replay.specs.Walk.{Coming, Reading, at_node, branched_to, came, ended_by, from_file, is_apart, is_number, is_settled, may_order, no_order, node, on_pair, on_task}
 
 pub number_inside : (inst : InstanceView) (i : ℕ) → is_number inst i ≡ true → nat_lt (i - 1) (length inst.tasks) ≡ true
@@ -52,34 +50,32 @@ are_tasks_of inst list all few =
     (all_inside inst list all)
 
 -- a leaf of a line, by its value
-shown_leaf : (inst : InstanceView) (ds : List Decision) (version : TreeVersion) (leaf : Leaf) (fault : TreeKind)
-    (result : Result Bound TreeKind) → ok_or (leaf_value (version_of version) inst ds leaf) fault ≡ result
-    → (r : Reading) → r.version ≡ version_of version
-    → ended_by r fault (leaf_value r.version inst ds leaf)
+shown_leaf : (inst : InstanceView) (ds : List Decision) (leaf : Leaf) (fault : TreeKind)
+    (result : Result Bound TreeKind) → ok_or (leaf_value inst ds leaf) fault ≡ result
+    → (r : Reading) → ended_by r fault (leaf_value inst ds leaf)
     ≡ (result >>= λ value. Ok (record (came r) { bound = lesser r.bound value }))
-shown_leaf inst ds version leaf fault result is r same =
-    ap (λ v. ok_or (leaf_value v inst ds leaf) fault >>= λ value. Ok (record (came r) { bound = lesser r.bound value })) same
-    ∙ ap (λ result. result >>= λ value. Ok (record (came r) { bound = lesser r.bound value })) is
+shown_leaf inst ds leaf fault result is r =
+    ap (λ result. result >>= λ value. Ok (record (came r) { bound = lesser r.bound value })) is
 
-module _ (inst : InstanceView) (ds : List Decision) (version : TreeVersion) (list : List ℕ)
+module _ (inst : InstanceView) (ds : List Decision) (list : List ℕ)
     (all : list_all (is_number inst) list ≡ true) (few : length list ≤ most_tasks) where
   -- the end of a chain, or none
-  pub chain_shows : (end : Option ℕ) → end ≡ chain_end (version_of version) inst ds (from_file list)
-      → Shows inst ds version Chain list (ok_or (option_map Least end) kind.NotForced)
-  chain_shows end is way r same =
-      ap (λ b. require b kind.UnknownTask >>= λ _. ended_by r kind.NotForced (leaf_value r.version inst ds (chain (from_file list)))) all
-      ∙ shown_leaf inst ds version (chain (from_file list)) kind.NotForced _
-      (ap (λ b. ok_or (if b then option_map Least (chain_end (version_of version) inst ds (from_file list)) else None) kind.NotForced)
+  pub chain_shows : (end : Option ℕ) → end ≡ chain_end inst ds (from_file list)
+      → Shows inst ds Chain list (ok_or (option_map Least end) kind.NotForced)
+  chain_shows end is way r =
+      ap (λ b. require b kind.UnknownTask >>= λ _. ended_by r kind.NotForced (leaf_value inst ds (chain (from_file list)))) all
+      ∙ shown_leaf inst ds (chain (from_file list)) kind.NotForced _
+      (ap (λ b. ok_or (if b then option_map Least (chain_end inst ds (from_file list)) else None) kind.NotForced)
       (are_tasks_of inst list all few)
-      ∙ ap (λ o. ok_or (option_map Least o) kind.NotForced) (sym is)) r same
+      ∙ ap (λ o. ok_or (option_map Least o) kind.NotForced) (sym is)) r
 
   -- a ring, or none
   pub ring_shows : 2 ≤ length list → (turns : Bool) → turns ≡ is_ring inst ds (from_file list)
-      → Shows inst ds version Ring list (ok_or (if turns then Some Never else None) kind.NotCycle)
-  ring_shows some turns is way r same =
-      ap (λ b. require b kind.UnknownTask >>= λ _. ended_by r kind.NotCycle (leaf_value r.version inst ds (ring (from_file list)))) all
-      ∙ shown_leaf inst ds version (ring (from_file list)) kind.NotCycle _
-      (ap (λ b. ok_or (if b then Some Never else None) kind.NotCycle) tests) r same
+      → Shows inst ds Ring list (ok_or (if turns then Some Never else None) kind.NotCycle)
+  ring_shows some turns is way r =
+      ap (λ b. require b kind.UnknownTask >>= λ _. ended_by r kind.NotCycle (leaf_value inst ds (ring (from_file list)))) all
+      ∙ shown_leaf inst ds (ring (from_file list)) kind.NotCycle _
+      (ap (λ b. ok_or (if b then Some Never else None) kind.NotCycle) tests) r
     where
       long : nat_le 2 (length (from_file list)) ≡ true
       long = le-leb 2 (length (from_file list)) (omega (arith, length-map list (λ i. i - 1), some))
@@ -90,18 +86,14 @@ module _ (inst : InstanceView) (ds : List Decision) (version : TreeVersion) (lis
           ∙ ap (λ b. true && b && is_ring inst ds (from_file list)) long ∙ sym is
 
 -- the end of packed tasks, or none
-pub clash_shows : (inst : InstanceView) (ds : List Decision) (version : TreeVersion) (list : List ℕ)
-    → has_packed (version_of version) ≡ true → list_all (is_number inst) list ≡ true
+pub clash_shows : (inst : InstanceView) (ds : List Decision) (list : List ℕ)
+    → list_all (is_number inst) list ≡ true
     → (end : Option ℕ) → end ≡ packed_end inst ds (from_file list)
-    → Shows inst ds version Clash list (ok_or (option_map Least end) kind.NotClash)
-clash_shows inst ds version list has all end is way r same =
-    let shown = λ (_ : ⊤). ended_by r kind.NotClash (leaf_value r.version inst ds (packed (from_file list))) in
-    ap (λ b. require b kind.Place >>= λ _. require (list_all (is_number inst) list) kind.UnknownTask >>= shown)
-    (ap has_packed same ∙ has)
-    ∙ ap (λ b. require b kind.UnknownTask >>= shown) all
-    ∙ shown_leaf inst ds version (packed (from_file list)) kind.NotClash _
-    (ap (λ b. ok_or (if b then option_map Least (packed_end inst ds (from_file list)) else None) kind.NotClash) has
-    ∙ ap (λ o. ok_or (option_map Least o) kind.NotClash) (sym is)) r same
+    → Shows inst ds Clash list (ok_or (option_map Least end) kind.NotClash)
+clash_shows inst ds list all end is way r =
+    ap (λ b. require b kind.UnknownTask >>= λ _. ended_by r kind.NotClash (leaf_value inst ds (packed (from_file list)))) all
+    ∙ shown_leaf inst ds (packed (from_file list)) kind.NotClash _
+    (ap (λ o. ok_or (option_map Least o) kind.NotClash) (sym is)) r
 
 -- ---- numbers and tests
 
@@ -152,14 +144,14 @@ branching_refused t fault is =
 
 -- ---- a line of a part, judged
 
-module _ (version : TreeVersion) (before after : Standing) (live : before.live ≡ true) (tally : Tally) where
+module _ (before after : Standing) (live : before.live ≡ true) (tally : Tally) where
   pub nodes_here : nodes before ≡ before.decisions ∷ drop 1 (nodes before)
   nodes_here = ap (λ b. if b then before.decisions ∷ behind before.inst before.decisions else []) live
       ∙ ap (λ b. before.decisions ∷ drop 1 (if b then before.decisions ∷ behind before.inst before.decisions else [])) (sym live)
 
   module _ (way : Direction) (more : List Coming) where
     abbrev here : Reading
-    here = within way version before more tally
+    here = within way before more tally
 
     -- what comes behind the node
     abbrev past : List Coming
@@ -179,43 +171,42 @@ module _ (version : TreeVersion) (before after : Standing) (live : before.live �
 
     branched_on : (now : Tally) (made : List (List Decision)) → with_branching tally ≡ Ok now
         → nodes after ≡ made ++ drop 1 (nodes before)
-        → branched_to here (map (node way) made) ≡ Ok (within way version after more now)
+        → branched_to here (map (node way) made) ≡ Ok (within way after more now)
     branched_on now made counted is =
         let one = branching_made tally now counted in
         ap (λ b. require b kind.Branchings >>= λ _. Ok (record here { coming = map (node way) made ++ drop 1 here.coming; branched = tally.branched + 1 })) one.0
         ∙ ap (λ cs. Ok (record here { coming = cs; branched = tally.branched + 1 })) (with_nodes made is)
-        ∙ ap (λ t. Ok (within way version after more t)) one.1
+        ∙ ap (λ t. Ok (within way after more t)) one.1
 
     too_many : (made : List Coming) (fault : TreeKind) → with_branching tally ≡ Err fault
         → (result : Result Tally TreeKind) → result ≡ Err fault
-        → branched_to here made ≡ (result >>= λ now. Ok (within way version after more now))
+        → branched_to here made ≡ (result >>= λ now. Ok (within way after more now))
     too_many made fault counted result is =
         let one = branching_refused tally fault counted in
         ap (λ b. require b kind.Branchings >>= λ _. Ok (record here { coming = made ++ drop 1 here.coming; branched = tally.branched + 1 })) one.0
         ∙ ap Err one.1
-        ∙ sym (ap (λ (r : Result Tally TreeKind). r >>= λ now. Ok (within way version after more now)) is)
+        ∙ sym (ap (λ (r : Result Tally TreeKind). r >>= λ now. Ok (within way after more now)) is)
 
     -- a leaf in its place
     came_is : (now : Tally) → nodes after ≡ drop 1 (nodes before)
-        → record (came here) { branched = now.branched; bound = now.bound } ≡ within way version after more now
+        → record (came here) { branched = now.branched; bound = now.bound } ≡ within way after more now
     came_is now is =
         ap (λ cs. record here { coming = cs; branched = now.branched; bound = now.bound })
         (past_is ∙ ap (λ ns. map (node way) ns ++ more) (sym is))
 
   -- a leaf of this value
   pub leaf_judged : (line : Line) (list : List ℕ) (value : Bound)
-      → Shows before.inst before.decisions version line list (Ok value) → nodes after ≡ drop 1 (nodes before)
-      → IsJudged version before tally line list after (Ok (record tally { bound = lesser tally.bound value }))
+      → Shows before.inst before.decisions line list (Ok value) → nodes after ≡ drop 1 (nodes before)
+      → IsJudged before tally line list after (Ok (record tally { bound = lesser tally.bound value }))
   leaf_judged line list value shows is way more =
-      shows way (here way more) refl
+      shows way (here way more)
       ∙ ap Ok (came_is way more (record tally { bound = lesser tally.bound value }) is)
 
   -- a leaf that doesn't hold
   pub leaf_refused : (line : Line) (list : List ℕ) (fault : TreeKind)
-      → Shows before.inst before.decisions version line list (Err fault)
-      → IsJudged version before tally line list after (Err fault)
-  leaf_refused line list fault shows way more =
-      shows way (here way more) refl
+      → Shows before.inst before.decisions line list (Err fault)
+      → IsJudged before tally line list after (Err fault)
+  leaf_refused line list fault shows way more = shows way (here way more)
 
   module _ (i : ℕ) (list : List ℕ) (number : is_number before.inst i ≡ true) where
     task_line : (way : Direction) (more : List Coming)
@@ -227,7 +218,7 @@ module _ (version : TreeVersion) (before after : Standing) (live : before.live �
     -- a branching on a task
     pub task_judged : (now : Tally) → assigned before.decisions (i - 1) ≡ None → with_branching tally ≡ Ok now
         → nodes after ≡ map (λ k. decide.Assign (i - 1) k ∷ before.decisions) (crane_numbers before.inst) ++ drop 1 (nodes before)
-        → IsJudged version before tally (line.Assign i) list after (Ok now)
+        → IsJudged before tally (line.Assign i) list after (Ok now)
     task_judged now none counted is way more =
         let ds = before.decisions in
         let children = map (λ k. node way (decide.Assign (i - 1) k ∷ ds)) (crane_numbers before.inst) in
@@ -238,7 +229,7 @@ module _ (version : TreeVersion) (before after : Standing) (live : before.live �
 
     -- a task that has its crane
     pub task_decided : is_some (assigned before.decisions (i - 1)) ≡ true
-        → IsJudged version before tally (line.Assign i) list after (Err kind.Decided)
+        → IsJudged before tally (line.Assign i) list after (Err kind.Decided)
     task_decided some way more =
         let ds = before.decisions in
         let children = map (λ k. node way (decide.Assign (i - 1) k ∷ ds)) (crane_numbers before.inst) in
@@ -248,7 +239,7 @@ module _ (version : TreeVersion) (before after : Standing) (live : before.live �
 
     pub task_too_many : (fault : TreeKind) → assigned before.decisions (i - 1) ≡ None → with_branching tally ≡ Err fault
         → (result : Result Tally TreeKind) → result ≡ Err fault
-        → IsJudged version before tally (line.Assign i) list after result
+        → IsJudged before tally (line.Assign i) list after result
     task_too_many fault none counted result is way more =
         let ds = before.decisions in
         let children = map (λ k. node way (decide.Assign (i - 1) k ∷ ds)) (crane_numbers before.inst) in
@@ -265,7 +256,7 @@ module _ (version : TreeVersion) (before after : Standing) (live : before.live �
 
     -- a branching on a pair that may not be ordered
     pub pair_barred : may_order before.inst.turn before.inst before.decisions (i - 1) (j - 1) ≡ false
-        → IsJudged version before tally (line.Order i j) list after (Err (no_order before.inst.turn))
+        → IsJudged before tally (line.Order i j) list after (Err (no_order before.inst.turn))
     pair_barred barred way more =
         pair_line way more
         ∙ ap (λ b. require b (no_order before.inst.turn) >>= λ _. (require (not (is_settled before.inst before.decisions (i - 1) (j - 1))) kind.Decided
@@ -289,7 +280,7 @@ module _ (version : TreeVersion) (before after : Standing) (live : before.live �
       -- a branching on a pair
       pub pair_judged : (now : Tally) → (¬ IsSettled before.inst before.decisions (i - 1) (j - 1)) → with_branching tally ≡ Ok now
           → nodes after ≡ orders ++ drop 1 (nodes before)
-          → IsJudged version before tally (line.Order i j) list after (Ok now)
+          → IsJudged before tally (line.Order i j) list after (Ok now)
       pair_judged now un counted is way more =
           tested_pair way more
           ∙ ap (λ b. require b kind.Decided >>= λ _. branched_to (here way more) (map (node way) orders))
@@ -298,7 +289,7 @@ module _ (version : TreeVersion) (before after : Standing) (live : before.live �
 
       -- a pair that is decided
       pub pair_decided : IsSettled before.inst before.decisions (i - 1) (j - 1)
-          → IsJudged version before tally (line.Order i j) list after (Err kind.Decided)
+          → IsJudged before tally (line.Order i j) list after (Err kind.Decided)
       pair_decided settled way more =
           tested_pair way more
           ∙ ap (λ b. require b kind.Decided >>= λ _. branched_to (here way more) (map (node way) orders))
@@ -306,7 +297,7 @@ module _ (version : TreeVersion) (before after : Standing) (live : before.live �
 
       pub pair_too_many : (fault : TreeKind) → (¬ IsSettled before.inst before.decisions (i - 1) (j - 1))
           → with_branching tally ≡ Err fault → (result : Result Tally TreeKind) → result ≡ Err fault
-          → IsJudged version before tally (line.Order i j) list after result
+          → IsJudged before tally (line.Order i j) list after result
       pair_too_many fault un counted result is way more =
           tested_pair way more
           ∙ ap (λ b. require b kind.Decided >>= λ _. branched_to (here way more) (map (node way) orders))

@@ -8,14 +8,14 @@ use Rattle.qc_model.specs.declared.direction.Direction.TheVariants as way
 use Rattle.qc_model.specs.declared.turn.Turn.{Turn}
 use Rattle.qc_model.specs.declared.turn.Turn.TheVariants.{OneWay, Free}
 use Rattle.qc_model.specs.Instance.{InstanceView, Valid}
-use Rattle.qc_model.specs.Leaves.{Version, chain, packed, reach, ring, with_berths, with_packed, without_berths, work}
+use Rattle.qc_model.specs.Leaves.{chain, packed, reach, ring, work}
 use Rattle.qc_model.specs.OneWay.{mirror}
 use Rattle.qc_model.proofs.MirrorLemmas.{seen_valid}
 use Rattle.qc_tree.specs.declared.line.Line.{Line}
 use Rattle.qc_tree.specs.declared.line.Line.TheVariants as line
 use Rattle.qc_tree.specs.LineIn.{Listed, line_in}
 use Rattle.qc_tree.specs.Lines.{IsTextOf, line_text}
-use Rattle.qc_tree.specs.Trees.{IsSecond, IsTree, Leads, Node, Sign, Tree, children, leaf, lines_by, on_pair, on_task, part_text, sign_text, title, tree_branchings, tree_text, tree_value, whole_line}
+use Rattle.qc_tree.specs.Trees.{IsSecond, IsTree, Leads, Node, Sign, Tree, children, leaf, lines_by, on_pair, on_task, part_text, sign_text, tree_branchings, tree_text, tree_value, whole_line}
 use Rattle.qc_tree.proofs.LineInLemmas.{line_in_of, split_line}
 use Rattle.qc_replay.specs.Walk.{from_file}
 use Rattle.qc_replay.proofs.ReadLemmas.{one_text, texts_after}
@@ -65,18 +65,18 @@ begins : (sign : Sign) (text x : List ℕ)
 begins sign text x =
     ap (λ (t : List ℕ). t ++ (text ++ x)) (sym (text_of sign)) ∙ sym (append_assoc (sign_text sign) text x)
 
-module _ (inst : InstanceView) (valid : Valid inst) (v : Version) where
-  one_part : (one two : List Node) (due : List (List Decision)) → Leads v inst due one [] → Leads v inst due two []
-      → AllFit inst valid v due → (x y : List ℕ) → part_text one ++ x ≡ part_text two ++ y → (one ≡ two) × (x ≡ y)
+module _ (inst : InstanceView) (valid : Valid inst) where
+  one_part : (one two : List Node) (due : List (List Decision)) → Leads inst due one [] → Leads inst due two []
+      → AllFit inst valid due → (x y : List ℕ) → part_text one ++ x ≡ part_text two ++ y → (one ≡ two) × (x ≡ y)
   one_part [] [] due h k fits x y e = (refl, e)
   one_part [] (n ∷ two) due h k fits x y e =
-      absurd (subst (λ (d : List (List Decision)). Leads v inst d (n ∷ two) []) h k)
+      absurd (subst (λ (d : List (List Decision)). Leads inst d (n ∷ two) []) h k)
   one_part (m ∷ one) [] due h k fits x y e =
-      absurd (subst (λ (d : List (List Decision)). Leads v inst d (m ∷ one) []) k h)
+      absurd (subst (λ (d : List (List Decision)). Leads inst d (m ∷ one) []) k h)
   one_part (m ∷ one) (n ∷ two) [] h k fits x y e = absurd h
   one_part (m ∷ one) (n ∷ two) (ds ∷ due) h k fits x y e =
-      let p = spelled inst valid v ds fits.0 m.sign h.1 in
-      let q = spelled inst valid v ds fits.0 n.sign k.1 in
+      let p = spelled inst valid ds fits.0 m.sign h.1 in
+      let q = spelled inst valid ds fits.0 n.sign k.1 in
       let lines = same_line (line_of m.sign) (line_of n.sign) (list_of m.sign) (list_of n.sign) (part_text one ++ x)
       (part_text two ++ y) (record { same = refl; in_range = p.in_range; list = p.listed })
       (record { same = refl; in_range = q.in_range; list = q.listed })
@@ -84,28 +84,13 @@ module _ (inst : InstanceView) (valid : Valid inst) (v : Version) where
       let sign : m.sign ≡ n.sign =
       sym (sign_back m.sign) ∙ ap (λ (i : Listed). sign_in i.line i.list) lines.0 ∙ sign_back n.sign in
       let rest = one_part one two (children inst ds m.sign ++ due) h.2
-      (subst (λ (s : Sign). Leads v inst (children inst ds s ++ due) two []) (sym sign) k.2)
-      (due_fit inst valid v ds due m.sign fits h.1) x y lines.1 in
+      (subst (λ (s : Sign). Leads inst (children inst ds s ++ due) two []) (sym sign) k.2)
+      (due_fit inst valid ds due m.sign fits h.1) x y lines.1 in
       let node : m ≡ n =
       ap₂ (λ (d : List Decision) (s : Sign). record { decisions = d; sign = s }) (h.0 ∙ sym k.0) sign in
       (ap₂ (λ (a : Node) (more : List Node). a ∷ more) node rest.0, rest.1)
 
 -- ---- a tree
-
-abbrev version_in : Line → Version
-version_in line.Title = without_berths
-version_in line.Title2 = with_berths
-version_in l = with_packed
-
-version_back : (v : Version) → version_in (title v) ≡ v
-version_back without_berths = refl
-version_back with_berths = refl
-version_back with_packed = refl
-
-titled : (v : Version) → IsTextOf (line_text (title v) []) (title v) []
-titled without_berths = record { same = refl; in_range = tt; list = refl }
-titled with_berths = record { same = refl; in_range = tt; list = refl }
-titled with_packed = record { same = refl; in_range = tt; list = refl }
 
 abbrev last_line : InstanceView → Tree → List ℕ
 last_line inst t = whole_line (line.End (tree_branchings t) (tree_value inst t)) []
@@ -116,42 +101,32 @@ behind_title inst t =
     whole_line line.Up [] ++ (part_text t.up ++ (whole_line line.Down [] ++ (part_text t.down ++ (last_line inst t ++ []))))
 
 text_is : (inst : InstanceView) (t : Tree)
-    → lines_by OneWay t ++ last_line inst t ≡ whole_line (title t.version) [] ++ behind_title inst t
+    → lines_by OneWay t ++ last_line inst t ≡ whole_line line.Title [] ++ behind_title inst t
 text_is inst t =
-    sym (texts_after (whole_line (title t.version) []) (whole_line line.Up []) (part_text t.up) (whole_line line.Down [])
+    sym (texts_after (whole_line line.Title []) (whole_line line.Up []) (part_text t.up) (whole_line line.Down [])
     (part_text t.down) (last_line inst t))
 
 free_text_is : (inst : InstanceView) (t : Tree)
     → lines_by Free t ++ last_line inst t ≡ whole_line line.FreeTitle [] ++ (part_text t.up ++ (last_line inst t ++ []))
 free_text_is inst t = sym (one_text (whole_line line.FreeTitle []) (part_text t.up) (last_line inst t))
 
-same_parts : (t u : Tree) → t.version ≡ u.version → t.up ≡ u.up → t.down ≡ u.down → t ≡ u
-same_parts t u version ups downs =
-    ap (λ (w : Version). record { version = w; up = t.up; down = t.down }) version
-    ∙ ap (λ (ns : List Node). record { version = u.version; up = ns; down = t.down }) ups
-    ∙ ap (λ (ns : List Node). record { version = u.version; up = u.up; down = ns }) downs
+same_parts : (t u : Tree) → t.up ≡ u.up → t.down ≡ u.down → t ≡ u
+same_parts t u ups downs = ap₂ (λ (ns ms : List Node). record { up = ns; down = ms }) ups downs
 
 module _ (inst : InstanceView) (valid : Valid inst) (t u : Tree) (is : IsTree inst t) (other : IsTree inst u) where
-  same_by : (turn : Turn) → IsSecond turn inst t.version t.down → IsSecond turn inst u.version u.down
+  same_by : (turn : Turn) → IsSecond turn inst t.down → IsSecond turn inst u.down
       → lines_by turn t ++ last_line inst t ≡ lines_by turn u ++ last_line inst u → t ≡ u
   same_by OneWay second third e =
-      let head = same_line (title t.version) (title u.version) [] [] (behind_title inst t) (behind_title inst u)
-      (titled t.version) (titled u.version) (sym (text_is inst t) ∙ e ∙ text_is inst u) in
-      let version : t.version ≡ u.version =
-      sym (version_back t.version) ∙ ap (λ (i : Listed). version_in i.line) head.0 ∙ version_back u.version in
-      let ups = one_part inst valid t.version t.up u.up ([] ∷ []) is.up
-      (subst (λ (w : Version). Leads w inst ([] ∷ []) u.up []) (sym version) other.up) (tt, tt) _ _
-      (append_cancel_left (whole_line line.Up []) _ _ head.1) in
-      let downs = one_part (mirror inst) (seen_valid inst valid way.Down) t.version t.down u.down ([] ∷ []) second
-      (subst (λ (w : Version). Leads w (mirror inst) ([] ∷ []) u.down []) (sym version) third) (tt, tt) _ _
+      let behind = append_cancel_left (whole_line line.Title []) _ _ (sym (text_is inst t) ∙ e ∙ text_is inst u) in
+      let ups = one_part inst valid t.up u.up ([] ∷ []) is.up other.up (tt, tt) _ _
+      (append_cancel_left (whole_line line.Up []) _ _ behind) in
+      let downs = one_part (mirror inst) (seen_valid inst valid way.Down) t.down u.down ([] ∷ []) second third (tt, tt) _ _
       (append_cancel_left (whole_line line.Down []) _ _ ups.1) in
-      same_parts t u version ups.0 downs.0
+      same_parts t u ups.0 downs.0
   same_by Free second third e =
-      let version : t.version ≡ u.version = second.0 ∙ sym third.0 in
-      let ups = one_part inst valid t.version t.up u.up ([] ∷ []) is.up
-      (subst (λ (w : Version). Leads w inst ([] ∷ []) u.up []) (sym version) other.up) (tt, tt) _ _
+      let ups = one_part inst valid t.up u.up ([] ∷ []) is.up other.up (tt, tt) _ _
       (append_cancel_left (whole_line line.FreeTitle []) _ _ (sym (free_text_is inst t) ∙ e ∙ free_text_is inst u)) in
-      same_parts t u version ups.0 (second.1 ∙ sym third.1)
+      same_parts t u ups.0 (second ∙ sym third)
 
 -- trees of an instance with one text are the same
 pub same_tree : (inst : InstanceView) → Valid inst → (t u : Tree) → IsTree inst t → IsTree inst u

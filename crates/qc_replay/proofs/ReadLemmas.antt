@@ -13,7 +13,6 @@ use Rattle.qc_model.specs.declared.direction.Direction.TheVariants as way
 use Rattle.qc_model.specs.declared.turn.Turn.{Turn}
 use Rattle.qc_model.specs.declared.turn.Turn.TheVariants.{OneWay, Free}
 use Rattle.qc_model.specs.Instance.{InstanceView, Valid}
-use Rattle.qc_model.specs.Leaves.{Version, with_berths, with_packed, without_berths}
 use Rattle.qc_model.specs.Numbers.{most_branchings}
 use Rattle.qc_model.specs.Rules.{ends}
 use Rattle.qc_model.specs.Seen.{seen}
@@ -21,7 +20,6 @@ use Rattle.qc_tree.specs.declared.line.Line.{Line}
 use Rattle.qc_tree.specs.declared.line.Line.TheVariants as line
 use Rattle.qc_tree.specs.LineIn.{Listed}
 use Rattle.qc_tree.specs.Trees.{IsSecond, IsTree, Leads, Node, NoneEarlier, Sign, Tree, branches, branchings, children, lines_by, part_text, part_value, sign_text, sign_value, tree_branchings, tree_text, tree_value, whole_line}
-use Rattle.qc_tree.specs.Trees as trees
 use Rattle.qc_tree.proofs.NodeLemmas.{branchings_then}
 use Rattle.qc_tree.proofs.TreeBound.{tree_bound}
 use Rattle.qc_tree.specs.declared.fault.TreeKind.TheVariants as kind
@@ -54,9 +52,8 @@ children_due d cs due more =
     sym (append_assoc (map (node d) cs) (map (node d) due) more)
     ∙ ap (λ c. c ++ more) (sym (map-append (node d) cs due))
 
-abbrev pub reading : Version → List Coming → ℕ → Bound → Reading
-reading version coming branched bound =
-    record { version = version; coming = coming; branched = branched; bound = bound }
+abbrev pub reading : List Coming → ℕ → Bound → Reading
+reading coming branched bound = record { coming = coming; branched = branched; bound = bound }
 
 -- a line that came through is one of trees for the turn, and came through where it was due
 pub known_due : (inst : InstanceView) (r : Reading) (c : Coming) (l : Line) (list : List ℕ) (now : Reading)
@@ -71,62 +68,62 @@ unknown inst turn l same not_known known = absurd (true≢false (sym known ∙ a
 module _ (inst : InstanceView) (last : Reading) (over : last.coming ≡ []) where
   -- ---- a line around the parts
 
-  record FrameRead (v : Version) (c : Coming) (more : List Coming) (n : ℕ) (b : Bound) (lines : List Listed) : Type 0 where
+  record FrameRead (c : Coming) (more : List Coming) (n : ℕ) (b : Bound) (lines : List Listed) : Type 0 where
     here : Listed
     rest : List Listed
     are : lines ≡ here ∷ rest
     now : Reading
-    leads : at inst (reading v (c ∷ more) n b) c here.line here.list ≡ Ok now
+    leads : at inst (reading (c ∷ more) n b) c here.line here.list ≡ Ok now
     reads : with_lines inst now rest ≡ Ok last
 
-  frame_read : (v : Version) (c : Coming) (more : List Coming) (n : ℕ) (b : Bound) (lines : List Listed)
-      → with_lines inst (reading v (c ∷ more) n b) lines ≡ Ok last → FrameRead v c more n b lines
-  frame_read v c more n b [] e =
+  frame_read : (c : Coming) (more : List Coming) (n : ℕ) (b : Bound) (lines : List Listed)
+      → with_lines inst (reading (c ∷ more) n b) lines ≡ Ok last → FrameRead c more n b lines
+  frame_read c more n b [] e =
       absurd (cc (ap (λ (r : Reading). r.coming) (same_ok e), over))
-  frame_read v c more n b (here ∷ rest) e =
-      let s = bind_ok (with_line inst (reading v (c ∷ more) n b) here) (λ now. with_lines inst now rest) last e in
+  frame_read c more n b (here ∷ rest) e =
+      let s = bind_ok (with_line inst (reading (c ∷ more) n b) here) (λ now. with_lines inst now rest) last e in
       record { here = here; rest = rest; are = refl; now = s.0; leads = s.1; reads = s.2 }
 
   -- ---- the nodes of a part
 
   -- nodes that had to come, and then what follows the part
-  record PartRead (v : Version) (d : Direction) (due : List (List Decision)) (more : List Coming) (n : ℕ) (b : Bound)
+  record PartRead (d : Direction) (due : List (List Decision)) (more : List Coming) (n : ℕ) (b : Bound)
       (lines : List Listed) : Type 0 where
     nodes : List Node
     rest : List Listed
-    leads : Leads v (seen inst d) due nodes []
+    leads : Leads (seen inst d) due nodes []
     text : lines_text lines ≡ part_text nodes ++ lines_text rest
-    reads : with_lines inst (reading v more (n + branchings nodes) (lesser b (part_value v (seen inst d) nodes))) rest
+    reads : with_lines inst (reading more (n + branchings nodes) (lesser b (part_value (seen inst d) nodes))) rest
         ≡ Ok last
     few : n ≤ most_branchings → n + branchings nodes ≤ most_branchings
 
-  part_read : (v : Version) (d : Direction) (more : List Coming) (lines : List Listed) (due : List (List Decision))
-      (n : ℕ) (b : Bound) → with_lines inst (reading v (map (node d) due ++ more) n b) lines ≡ Ok last
-      → PartRead v d due more n b lines
-  part_read v d more lines [] n b e =
+  part_read : (d : Direction) (more : List Coming) (lines : List Listed) (due : List (List Decision))
+      (n : ℕ) (b : Bound) → with_lines inst (reading (map (node d) due ++ more) n b) lines ≡ Ok last
+      → PartRead d due more n b lines
+  part_read d more lines [] n b e =
       let count : n ≡ n + 0 = omega arith in
       record {
         nodes = [];
         rest = lines;
         leads = refl;
         text = refl;
-        reads = ap (λ r. with_lines inst r lines) (ap₂ (reading v more) (sym count) (lesser_never b)) ∙ e;
+        reads = ap (λ r. with_lines inst r lines) (ap₂ (reading more) (sym count) (lesser_never b)) ∙ e;
         few = λ low. omega (arith, low);
       }
-  part_read v d more [] (ds ∷ due) n b e =
+  part_read d more [] (ds ∷ due) n b e =
       absurd (cc (ap (λ (r : Reading). r.coming) (same_ok e), over))
-  part_read v d more (seen_line ∷ lines) (ds ∷ due) n b e =
+  part_read d more (seen_line ∷ lines) (ds ∷ due) n b e =
       let i = seen inst d in
       let past = map (node d) due ++ more in
-      let s = bind_ok (with_line inst (reading v (node d ds ∷ past) n b) seen_line) (λ now. with_lines inst now lines) last e in
-      let due_here = known_due inst (reading v (node d ds ∷ past) n b) (node d ds) seen_line.line seen_line.list s.0 s.1 in
-      let a = accepted i d v ds past n b seen_line.line seen_line.list s.0 due_here.1 in
+      let s = bind_ok (with_line inst (reading (node d ds ∷ past) n b) seen_line) (λ now. with_lines inst now lines) last e in
+      let due_here = known_due inst (reading (node d ds ∷ past) n b) (node d ds) seen_line.line seen_line.list s.0 s.1 in
+      let a = accepted i d ds past n b seen_line.line seen_line.list s.0 due_here.1 in
       let m = n + counts a.sign in
-      let x = lesser b (sign_value v i ds a.sign) in
-      let next = reading v (map (node d) (children i ds a.sign ++ due) ++ more) m x in
+      let x = lesser b (sign_value i ds a.sign) in
+      let next = reading (map (node d) (children i ds a.sign ++ due) ++ more) m x in
       let same : next ≡ s.0 =
-      ap (λ c. reading v c m x) (sym (children_due d (children i ds a.sign) due more)) ∙ sym a.leads in
-      let below = part_read v d more lines (children i ds a.sign ++ due) m x
+      ap (λ c. reading c m x) (sym (children_due d (children i ds a.sign) due more)) ∙ sym a.leads in
+      let below = part_read d more lines (children i ds a.sign ++ due) m x
       (ap (λ r. with_lines inst r lines) same ∙ s.2) in
       let here : Node = record { decisions = ds; sign = a.sign } in
       let count : n + branchings (here ∷ below.nodes) ≡ m + branchings below.nodes =
@@ -140,60 +137,56 @@ module _ (inst : InstanceView) (last : Reading) (over : last.coming ≡ []) wher
             ∙ sym (append_assoc (sign_text a.sign) (part_text below.nodes) (lines_text below.rest));
         reads =
             ap (λ r. with_lines inst r below.rest)
-            (ap₂ (reading v more) count (sym (lesser_assoc b (sign_value v i ds a.sign) (part_value v i below.nodes))))
+            (ap₂ (reading more) count (sym (lesser_assoc b (sign_value i ds a.sign) (part_value i below.nodes))))
             ∙ below.reads;
         few = λ low. omega (arith, count, below.few (counted n (branches a.sign) a.few low));
       }
 
   -- ---- what the lines around the parts say
 
-  module _ (v : Version) (more : List Coming) (n : ℕ) (b : Bound) (now : Reading) where
+  module _ (more : List Coming) (n : ℕ) (b : Bound) (now : Reading) where
     abbrev Came : Coming → Line → List ℕ → Type 0
-    Came c l list = at inst (reading v (c ∷ more) n b) c l list ≡ Ok now
+    Came c l list = at inst (reading (c ∷ more) n b) c l list ≡ Ok now
 
     due : (c : Coming) (l : Line) (list : List ℕ) → Came c l list
-        → (is_known inst.turn l ≡ true) × (at_due inst (reading v (c ∷ more) n b) c l list ≡ Ok now)
-    due c l list e = known_due inst (reading v (c ∷ more) n b) c l list now e
+        → (is_known inst.turn l ≡ true) × (at_due inst (reading (c ∷ more) n b) c l list ≡ Ok now)
+    due c l list e = known_due inst (reading (c ∷ more) n b) c l list now e
 
     title_line : inst.turn ≡ OneWay → (l : Line) (list : List ℕ) → Came title l list
-        → (w : Version) × (whole_line l list ≡ whole_line (trees.title w) []) × (reading w more n b ≡ now)
-    title_line one line.Title list e = (without_berths, refl, same_ok (due title line.Title list e).1)
-    title_line one line.Title2 list e = (with_berths, refl, same_ok (due title line.Title2 list e).1)
-    title_line one line.Title3 list e = (with_packed, refl, same_ok (due title line.Title3 list e).1)
+        → (whole_line l list ≡ whole_line line.Title []) × (reading more n b ≡ now)
+    title_line one line.Title list e = (refl, same_ok (due title line.Title list e).1)
     title_line one line.FreeTitle list e = unknown inst OneWay line.FreeTitle one refl (due title line.FreeTitle list e).0
     title_line one l list e = failed kind.Place now (due title l list e).1
 
     free_line : inst.turn ≡ Free → (l : Line) (list : List ℕ) → Came title l list
-        → (whole_line l list ≡ whole_line line.FreeTitle []) × (reading with_packed more n b ≡ now)
+        → (whole_line l list ≡ whole_line line.FreeTitle []) × (reading more n b ≡ now)
     free_line free line.Title list e = unknown inst Free line.Title free refl (due title line.Title list e).0
-    free_line free line.Title2 list e = unknown inst Free line.Title2 free refl (due title line.Title2 list e).0
-    free_line free line.Title3 list e = unknown inst Free line.Title3 free refl (due title line.Title3 list e).0
     free_line free line.FreeTitle list e = (refl, same_ok (due title line.FreeTitle list e).1)
     free_line free l list e = failed kind.Place now (due title l list e).1
 
     up_line : (l : Line) (list : List ℕ) → Came up l list
-        → (whole_line l list ≡ whole_line line.Up []) × (reading v more n b ≡ now)
+        → (whole_line l list ≡ whole_line line.Up []) × (reading more n b ≡ now)
     up_line line.Up list e = (refl, same_ok (due up line.Up list e).1)
     up_line l list e = failed kind.Place now (due up l list e).1
 
     down_line : (l : Line) (list : List ℕ) → Came down l list
-        → (whole_line l list ≡ whole_line line.Down []) × (reading v more n b ≡ now)
+        → (whole_line l list ≡ whole_line line.Down []) × (reading more n b ≡ now)
     down_line line.Down list e = (refl, same_ok (due down line.Down list e).1)
     down_line l list e = failed kind.Place now (due down l list e).1
 
     end_line : (l : Line) (list : List ℕ) → Came end l list
-        → (whole_line l list ≡ whole_line (line.End n b) []) × (reading v more n b ≡ now)
+        → (whole_line l list ≡ whole_line (line.End n b) []) × (reading more n b ≡ now)
     end_line (line.End m x) list e =
-        let t = tested ((m == n) && is_bound x b) kind.Counts (λ _. Ok (reading v more n b)) now
+        let t = tested ((m == n) && is_bound x b) kind.Counts (λ _. Ok (reading more n b)) now
         (due end (line.End m x) list e).1 in
         let same = and_parts (m == n) (is_bound x b) t.0 in
         (ap₂ (λ (y : ℕ) (z : Bound). whole_line (line.End y z) []) (eqb-true m n same.0) (same_bound x b same.1), same_ok t.1)
     end_line l list e = failed kind.Place now (due end l list e).1
 
-  nothing_more : (v : Version) (n : ℕ) (b : Bound) (lines : List Listed) → with_lines inst (reading v [] n b) lines ≡ Ok last
-      → (lines ≡ []) × (reading v [] n b ≡ last)
-  nothing_more v n b [] e = (refl, same_ok e)
-  nothing_more v n b (listed ∷ lines) e = failed kind.After last e
+  nothing_more : (n : ℕ) (b : Bound) (lines : List Listed) → with_lines inst (reading [] n b) lines ≡ Ok last
+      → (lines ≡ []) × (reading [] n b ≡ last)
+  nothing_more n b [] e = (refl, same_ok e)
+  nothing_more n b (listed ∷ lines) e = failed kind.After last e
 
   -- ---- one line around the parts, taken off the front
 
@@ -211,65 +204,64 @@ module _ (inst : InstanceView) (last : Reading) (over : last.coming ≡ []) wher
   }
 
   module _ (more : List Coming) (n : ℕ) (b : Bound) (lines : List Listed) where
-    title_taken : inst.turn ≡ OneWay → with_lines inst (reading with_packed (title ∷ more) n b) lines ≡ Ok last
-        → (w : Version) × Taken (whole_line (trees.title w) []) (reading w more n b) lines
+    title_taken : inst.turn ≡ OneWay → with_lines inst (reading (title ∷ more) n b) lines ≡ Ok last
+        → Taken (whole_line line.Title []) (reading more n b) lines
     title_taken one e =
-        let f = frame_read with_packed title more n b lines e in
-        let l = title_line with_packed more n b f.now one f.here.line f.here.list f.leads in
-        (l.0, taken f.here lines f.rest (whole_line (trees.title l.0) []) (reading l.0 more n b) f.now f.are l.1 l.2 f.reads)
+        let f = frame_read title more n b lines e in
+        let l = title_line more n b f.now one f.here.line f.here.list f.leads in
+        taken f.here lines f.rest (whole_line line.Title []) (reading more n b) f.now f.are l.0 l.1 f.reads
 
-    free_taken : inst.turn ≡ Free → with_lines inst (reading with_packed (title ∷ more) n b) lines ≡ Ok last
-        → Taken (whole_line line.FreeTitle []) (reading with_packed more n b) lines
+    free_taken : inst.turn ≡ Free → with_lines inst (reading (title ∷ more) n b) lines ≡ Ok last
+        → Taken (whole_line line.FreeTitle []) (reading more n b) lines
     free_taken free e =
-        let f = frame_read with_packed title more n b lines e in
-        let l = free_line with_packed more n b f.now free f.here.line f.here.list f.leads in
-        taken f.here lines f.rest (whole_line line.FreeTitle []) (reading with_packed more n b) f.now f.are l.0 l.1 f.reads
+        let f = frame_read title more n b lines e in
+        let l = free_line more n b f.now free f.here.line f.here.list f.leads in
+        taken f.here lines f.rest (whole_line line.FreeTitle []) (reading more n b) f.now f.are l.0 l.1 f.reads
 
-    module _ (w : Version) where
-      up_taken : with_lines inst (reading w (up ∷ more) n b) lines ≡ Ok last
-          → Taken (whole_line line.Up []) (reading w more n b) lines
-      up_taken e =
-          let f = frame_read w up more n b lines e in
-          let l = up_line w more n b f.now f.here.line f.here.list f.leads in
-          taken f.here lines f.rest (whole_line line.Up []) (reading w more n b) f.now f.are l.0 l.1 f.reads
+    up_taken : with_lines inst (reading (up ∷ more) n b) lines ≡ Ok last
+        → Taken (whole_line line.Up []) (reading more n b) lines
+    up_taken e =
+        let f = frame_read up more n b lines e in
+        let l = up_line more n b f.now f.here.line f.here.list f.leads in
+        taken f.here lines f.rest (whole_line line.Up []) (reading more n b) f.now f.are l.0 l.1 f.reads
 
-      down_taken : with_lines inst (reading w (down ∷ more) n b) lines ≡ Ok last
-          → Taken (whole_line line.Down []) (reading w more n b) lines
-      down_taken e =
-          let f = frame_read w down more n b lines e in
-          let l = down_line w more n b f.now f.here.line f.here.list f.leads in
-          taken f.here lines f.rest (whole_line line.Down []) (reading w more n b) f.now f.are l.0 l.1 f.reads
+    down_taken : with_lines inst (reading (down ∷ more) n b) lines ≡ Ok last
+        → Taken (whole_line line.Down []) (reading more n b) lines
+    down_taken e =
+        let f = frame_read down more n b lines e in
+        let l = down_line more n b f.now f.here.line f.here.list f.leads in
+        taken f.here lines f.rest (whole_line line.Down []) (reading more n b) f.now f.are l.0 l.1 f.reads
 
-      end_taken : with_lines inst (reading w (end ∷ more) n b) lines ≡ Ok last
-          → Taken (whole_line (line.End n b) []) (reading w more n b) lines
-      end_taken e =
-          let f = frame_read w end more n b lines e in
-          let l = end_line w more n b f.now f.here.line f.here.list f.leads in
-          taken f.here lines f.rest (whole_line (line.End n b) []) (reading w more n b) f.now f.are l.0 l.1 f.reads
+    end_taken : with_lines inst (reading (end ∷ more) n b) lines ≡ Ok last
+        → Taken (whole_line (line.End n b) []) (reading more n b) lines
+    end_taken e =
+        let f = frame_read end more n b lines e in
+        let l = end_line more n b f.now f.here.line f.here.list f.leads in
+        taken f.here lines f.rest (whole_line (line.End n b) []) (reading more n b) f.now f.are l.0 l.1 f.reads
 
   -- the last line, and nothing behind it
-  ended : (w : Version) (n : ℕ) (b : Bound) (lines : List Listed) → with_lines inst (reading w (end ∷ []) n b) lines ≡ Ok last
-      → (lines_text lines ≡ whole_line (line.End n b) [] ++ []) × (reading w [] n b ≡ last)
-  ended w n b lines e =
-      let t = end_taken [] n b lines w e in
-      let none = nothing_more w n b t.rest t.reads in
+  ended : (n : ℕ) (b : Bound) (lines : List Listed) → with_lines inst (reading (end ∷ []) n b) lines ≡ Ok last
+      → (lines_text lines ≡ whole_line (line.End n b) [] ++ []) × (reading [] n b ≡ last)
+  ended n b lines e =
+      let t = end_taken [] n b lines e in
+      let none = nothing_more n b t.rest t.reads in
       (t.text ∙ ap (λ (ls : List Listed). whole_line (line.End n b) [] ++ lines_text ls) none.0, none.1)
 
   -- a part behind its word
-  record WordRead (v : Version) (d : Direction) (word : List ℕ) (more : List Coming) (n : ℕ) (b : Bound)
+  record WordRead (d : Direction) (word : List ℕ) (more : List Coming) (n : ℕ) (b : Bound)
       (lines : List Listed) : Type 0 where
     nodes : List Node
     rest : List Listed
-    leads : Leads v (seen inst d) ([] ∷ []) nodes []
+    leads : Leads (seen inst d) ([] ∷ []) nodes []
     text : lines_text lines ≡ word ++ (part_text nodes ++ lines_text rest)
-    reads : with_lines inst (reading v more (n + branchings nodes) (lesser b (part_value v (seen inst d) nodes))) rest
+    reads : with_lines inst (reading more (n + branchings nodes) (lesser b (part_value (seen inst d) nodes))) rest
         ≡ Ok last
     few : n ≤ most_branchings → n + branchings nodes ≤ most_branchings
 
-  word_read : (v : Version) (d : Direction) (word : List ℕ) (more : List Coming) (n : ℕ) (b : Bound) (lines : List Listed)
-      → Taken word (reading v (node d [] ∷ more) n b) lines → WordRead v d word more n b lines
-  word_read v d word more n b lines t =
-      let p = part_read v d more t.rest ([] ∷ []) n b t.reads in
+  word_read : (d : Direction) (word : List ℕ) (more : List Coming) (n : ℕ) (b : Bound) (lines : List Listed)
+      → Taken word (reading (node d [] ∷ more) n b) lines → WordRead d word more n b lines
+  word_read d word more n b lines t =
+      let p = part_read d more t.rest ([] ∷ []) n b t.reads in
       record {
         nodes = p.nodes;
         rest = p.rest;
@@ -301,26 +293,26 @@ pub record IsRead (inst : InstanceView) (r : Reading) (lines : List Listed) : Ty
 
 -- a tree of two parts, and what its lines come to
 tree_from : (inst : InstanceView) → inst.turn ≡ OneWay → (lines : List Listed) (r : Reading) (over : r.coming ≡ [])
-    (w : Version) (rest : List Listed) → lines_text lines ≡ whole_line (trees.title w) [] ++ lines_text rest
-    → (u : WordRead inst r over w way.Up (whole_line line.Up []) (down ∷ node way.Down [] ∷ end ∷ []) 0 Never rest)
-    → (d : WordRead inst r over w way.Down (whole_line line.Down []) (end ∷ []) (0 + branchings u.nodes)
-    (part_value w inst u.nodes) u.rest) → IsRead inst r lines
-tree_from inst one lines r over w rest titled u d =
-    let x = lesser (part_value w inst u.nodes) (part_value w (seen inst way.Down) d.nodes) in
+    (rest : List Listed) → lines_text lines ≡ whole_line line.Title [] ++ lines_text rest
+    → (u : WordRead inst r over way.Up (whole_line line.Up []) (down ∷ node way.Down [] ∷ end ∷ []) 0 Never rest)
+    → (d : WordRead inst r over way.Down (whole_line line.Down []) (end ∷ []) (0 + branchings u.nodes)
+    (part_value inst u.nodes) u.rest) → IsRead inst r lines
+tree_from inst one lines r over rest titled u d =
+    let x = lesser (part_value inst u.nodes) (part_value (seen inst way.Down) d.nodes) in
     let m = 0 + branchings u.nodes + branchings d.nodes in
-    let last = ended inst r over w m x d.rest d.reads in
+    let last = ended inst r over m x d.rest d.reads in
     let count = none_before (branchings u.nodes) (branchings d.nodes) in
-    let t = whole_line (trees.title w) [] in
+    let t = whole_line line.Title [] in
     let a = whole_line line.Up [] in
     let p = part_text u.nodes in
     let b = whole_line line.Down [] in
     let q = part_text d.nodes in
-    let tree : Tree = record { version = w; up = u.nodes; down = d.nodes } in
+    let tree : Tree = record { up = u.nodes; down = d.nodes } in
     record {
       tree = tree;
       is_tree = record {
         up = u.leads;
-        down = subst (λ (t : Turn). IsSecond t inst w d.nodes) (sym one) d.leads;
+        down = subst (λ (t : Turn). IsSecond t inst d.nodes) (sym one) d.leads;
         few = subst (λ (c : ℕ). c ≤ most_branchings) count (d.few (u.few none_counted));
       };
       bound = ap (λ (s : Reading). s.bound) (sym last.1);
@@ -340,21 +332,21 @@ one_text t p e = simp (append_assoc, append-nil)
 -- a tree of one part, and what its lines come to
 free_from : (inst : InstanceView) → inst.turn ≡ Free → (lines : List Listed) (r : Reading) (over : r.coming ≡ [])
     (rest : List Listed) → lines_text lines ≡ whole_line line.FreeTitle [] ++ lines_text rest
-    → (u : PartRead inst r over with_packed way.Up ([] ∷ []) (end ∷ []) 0 Never rest) → IsRead inst r lines
+    → (u : PartRead inst r over way.Up ([] ∷ []) (end ∷ []) 0 Never rest) → IsRead inst r lines
 free_from inst free lines r over rest titled u =
-    let x = part_value with_packed inst u.nodes in
+    let x = part_value inst u.nodes in
     let m = 0 + branchings u.nodes in
-    let last = ended inst r over with_packed m x u.rest u.reads in
+    let last = ended inst r over m x u.rest u.reads in
     let t = whole_line line.FreeTitle [] in
     let p = part_text u.nodes in
-    let tree : Tree = record { version = with_packed; up = u.nodes; down = [] } in
+    let tree : Tree = record { up = u.nodes; down = [] } in
     let count : m ≡ tree_branchings tree = omega arith in
     let value : x ≡ tree_value inst tree = sym (lesser_never x) in
     record {
       tree = tree;
       is_tree = record {
         up = u.leads;
-        down = subst (λ (t : Turn). IsSecond t inst with_packed []) (sym free) (refl, refl);
+        down = subst (λ (t : Turn). IsSecond t inst []) (sym free) refl;
         few = subst (λ (c : ℕ). c ≤ most_branchings) count (u.few none_counted);
       };
       bound = ap (λ (s : Reading). s.bound) (sym last.1) ∙ value;
@@ -368,20 +360,20 @@ free_from inst free lines r over rest titled u =
     }
 
 tree_by : (inst : InstanceView) (lines : List Listed) (r : Reading) → r.coming ≡ [] → (turn : Turn) → inst.turn ≡ turn
-    → with_lines inst (reading with_packed (first_lines turn) 0 Never) lines ≡ Ok r → IsRead inst r lines
+    → with_lines inst (reading (first_lines turn) 0 Never) lines ≡ Ok r → IsRead inst r lines
 tree_by inst lines r over OneWay one e =
     let in_down = node way.Down [] ∷ end ∷ [] in
     let t = title_taken inst r over (up ∷ node way.Up [] ∷ down ∷ in_down) 0 Never lines one e in
-    let u = word_read inst r over t.0 way.Up (whole_line line.Up []) (down ∷ in_down) 0 Never t.1.rest
-    (up_taken inst r over (node way.Up [] ∷ down ∷ in_down) 0 Never t.1.rest t.0 t.1.reads) in
-    let d = word_read inst r over t.0 way.Down (whole_line line.Down []) (end ∷ []) (0 + branchings u.nodes)
-    (part_value t.0 inst u.nodes) u.rest
-    (down_taken inst r over in_down (0 + branchings u.nodes) (part_value t.0 inst u.nodes) u.rest t.0 u.reads) in
-    tree_from inst one lines r over t.0 t.1.rest t.1.text u d
+    let u = word_read inst r over way.Up (whole_line line.Up []) (down ∷ in_down) 0 Never t.rest
+    (up_taken inst r over (node way.Up [] ∷ down ∷ in_down) 0 Never t.rest t.reads) in
+    let d = word_read inst r over way.Down (whole_line line.Down []) (end ∷ []) (0 + branchings u.nodes)
+    (part_value inst u.nodes) u.rest
+    (down_taken inst r over in_down (0 + branchings u.nodes) (part_value inst u.nodes) u.rest u.reads) in
+    tree_from inst one lines r over t.rest t.text u d
 tree_by inst lines r over Free free e =
     let t = free_taken inst r over (node way.Up [] ∷ end ∷ []) 0 Never lines free e in
     free_from inst free lines r over t.rest t.text
-    (part_read inst r over with_packed way.Up (end ∷ []) t.rest ([] ∷ []) 0 Never t.reads)
+    (part_read inst r over way.Up (end ∷ []) t.rest ([] ∷ []) 0 Never t.reads)
 
 pub tree_of_lines : (inst : InstanceView) (lines : List Listed) (r : Reading)
     → with_lines inst (start inst) lines ≡ Ok r → r.coming ≡ [] → IsRead inst r lines

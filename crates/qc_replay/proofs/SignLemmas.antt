@@ -18,7 +18,7 @@ use Rattle.qc_model.specs.declared.decision.Decision.TheVariants as decide
 use Rattle.qc_model.specs.declared.direction.Direction.{Direction}
 use Rattle.qc_model.specs.Instance.{InstanceView, Valid}
 use Rattle.qc_model.specs.Assignments.{cranes_of}
-use Rattle.qc_model.specs.Leaves.{Leaf, Version, are_tasks, chain, has_packed, is_ring, leaf_value, packed, packed_end, reach, ring, work, work_over}
+use Rattle.qc_model.specs.Leaves.{Leaf, are_tasks, chain, is_ring, leaf_value, packed, reach, ring, work, work_over}
 use Rattle.qc_model.specs.Work.{crane_numbers}
 use Rattle.qc_model.specs.Early.{early}
 use Rattle.qc_model.specs.Nodes.{Fits, IsSettled, assigned, forced, least}
@@ -98,36 +98,35 @@ unsettled inst ds i j t settled =
 abbrev pub counts : Sign → ℕ
 counts sign = cond (branches sign) 1 0
 
-module _ (inst : InstanceView) (d : Direction) (v : Version) (ds : List Decision) (more : List Coming) (n : ℕ)
+module _ (inst : InstanceView) (d : Direction) (ds : List Decision) (more : List Coming) (n : ℕ)
     (b : Bound) where
   abbrev pub here : Reading
-  here = record { version = v; coming = node d ds ∷ more; branched = n; bound = b }
+  here = record { coming = node d ds ∷ more; branched = n; bound = b }
 
   -- its children come next, and it counts and shows what it does
   abbrev pub behind_line : Sign → Reading
   behind_line sign = record {
-    version = v;
     coming = map (node d) (children inst ds sign) ++ more;
     branched = n + counts sign;
-    bound = lesser b (sign_value v inst ds sign);
+    bound = lesser b (sign_value inst ds sign);
   }
 
   -- the children of a branching come next, and there is one branching more
-  branched_is : (sign : Sign) (cs : List Coming) → branches sign ≡ true → sign_value v inst ds sign ≡ Never
+  branched_is : (sign : Sign) (cs : List Coming) → branches sign ≡ true → sign_value inst ds sign ≡ Never
       → map (node d) (children inst ds sign) ≡ cs
       → record here { coming = cs ++ more; branched = n + 1 } ≡ behind_line sign
   branched_is sign cs some never are =
       ap (λ c. record here { coming = c ++ more; branched = n + 1 }) (sym are)
       ∙ ap (λ t. record here { coming = map (node d) (children inst ds sign) ++ more; branched = n + cond t 1 0 }) (sym some)
-      ∙ ap (λ x. record { version = v; coming = map (node d) (children inst ds sign) ++ more; branched = n + counts sign; bound = x })
+      ∙ ap (λ x. record { coming = map (node d) (children inst ds sign) ++ more; branched = n + counts sign; bound = x })
       (sym (lesser_never b) ∙ ap (lesser b) (sym never))
 
-  ended_is : (shows : Leaf) (value : Bound) → unwrap_or (leaf_value v inst ds shows) Never ≡ value
+  ended_is : (shows : Leaf) (value : Bound) → unwrap_or (leaf_value inst ds shows) Never ≡ value
       → record (came here) { bound = lesser b value } ≡ behind_line (leaf shows)
   ended_is shows value is =
       let count : n ≡ n + 0 = omega arith in
       ap (λ x. record (came here) { bound = lesser b x }) (sym is)
-      ∙ ap (λ m. record { version = v; coming = more; branched = m; bound = lesser b (sign_value v inst ds (leaf shows)) }) count
+      ∙ ap (λ m. record { coming = more; branched = m; bound = lesser b (sign_value inst ds (leaf shows)) }) count
 
   task_children : (j : ℕ)
       → map (node d) (children inst ds (trees.on_task j)) ≡ map (λ k. node d (decide.Assign j k ∷ ds)) (crane_numbers inst)
@@ -138,16 +137,16 @@ module _ (inst : InstanceView) (d : Direction) (v : Version) (ds : List Decision
   -- the line says something that holds, and leads to this reading
   pub record Accepted (l : Line) (list : List ℕ) (now : Reading) : Type 0 where
     pub sign : Sign
-    pub holds : Holds v inst ds sign
+    pub holds : Holds inst ds sign
     pub text : whole_line l list ≡ sign_text sign
     pub leads : now ≡ behind_line sign
     pub few : branches sign ≡ true → n < most_branchings
 
   leaf_accepted : (shows : Leaf) (fault : TreeKind) (l : Line) (list : List ℕ) (now : Reading)
-      → whole_line l list ≡ sign_text (leaf shows) → ended_by here fault (leaf_value v inst ds shows) ≡ Ok now
+      → whole_line l list ≡ sign_text (leaf shows) → ended_by here fault (leaf_value inst ds shows) ≡ Ok now
       → Accepted l list now
   leaf_accepted shows fault l list now text e =
-      let f = found (leaf_value v inst ds shows) fault (λ x. Ok (record (came here) { bound = lesser b x })) now e in
+      let f = found (leaf_value inst ds shows) fault (λ x. Ok (record (came here) { bound = lesser b x })) now e in
       record {
         sign = leaf shows;
         holds = ap is_some f.1;
@@ -157,8 +156,8 @@ module _ (inst : InstanceView) (d : Direction) (v : Version) (ds : List Decision
       }
 
   branched_accepted : (sign : Sign) (cs : List Coming) (l : Line) (list : List ℕ) (now : Reading)
-      → whole_line l list ≡ sign_text sign → Holds v inst ds sign → branches sign ≡ true
-      → sign_value v inst ds sign ≡ Never → map (node d) (children inst ds sign) ≡ cs
+      → whole_line l list ≡ sign_text sign → Holds inst ds sign → branches sign ≡ true
+      → sign_value inst ds sign ≡ Never → map (node d) (children inst ds sign) ≡ cs
       → branched_to here cs ≡ Ok now → Accepted l list now
   branched_accepted sign cs l list now text holds some never are e =
       let t = tested (nat_lt n most_branchings) kind.Branchings (λ _. Ok (record here { coming = cs ++ more; branched = n + 1 })) now e in
@@ -209,20 +208,18 @@ module _ (inst : InstanceView) (d : Direction) (v : Version) (ds : List Decision
       let second = numbered inst j numbers.1 in
       pair_accepted i j list now first.0 second.0 first.1 second.1 t.1
   accepted line.Chain list now e =
-      let onward = λ (_ : ⊤). ended_by here kind.NotForced (leaf_value v inst ds (chain (from_file list))) in
+      let onward = λ (_ : ⊤). ended_by here kind.NotForced (leaf_value inst ds (chain (from_file list))) in
       let t = tested (list_all (is_number inst) list) kind.UnknownTask onward now e in
       leaf_accepted (chain (from_file list)) kind.NotForced line.Chain list now
       (ap (whole_line line.Chain) (back_in_file inst list t.0)) t.1
   accepted line.Ring list now e =
-      let onward = λ (_ : ⊤). ended_by here kind.NotCycle (leaf_value v inst ds (ring (from_file list))) in
+      let onward = λ (_ : ⊤). ended_by here kind.NotCycle (leaf_value inst ds (ring (from_file list))) in
       let t = tested (list_all (is_number inst) list) kind.UnknownTask onward now e in
       leaf_accepted (ring (from_file list)) kind.NotCycle line.Ring list now
       (ap (whole_line line.Ring) (back_in_file inst list t.0)) t.1
   accepted line.Clash list now e =
-      let onward = λ (_ : ⊤). ended_by here kind.NotClash (leaf_value v inst ds (packed (from_file list))) in
-      let later = λ (_ : ⊤). require (list_all (is_number inst) list) kind.UnknownTask >>= onward in
-      let may = tested (has_packed v) kind.Place later now e in
-      let t = tested (list_all (is_number inst) list) kind.UnknownTask onward now may.1 in
+      let onward = λ (_ : ⊤). ended_by here kind.NotClash (leaf_value inst ds (packed (from_file list))) in
+      let t = tested (list_all (is_number inst) list) kind.UnknownTask onward now e in
       leaf_accepted (packed (from_file list)) kind.NotClash line.Clash list now
       (ap (whole_line line.Clash) (back_in_file inst list t.0)) t.1
   accepted line.Reach list now e = leaf_accepted reach kind.InReach line.Reach list now refl e
@@ -291,7 +288,7 @@ file_short n (j ∷ js) few e =
     let digits = length-decimal-le 3 (j + 1) (omega arith) (omega (arith, low)) (omega (arith, low)) in
     omega (arith, digits, file_short n js few p.1, length-append (32 ∷ decimal (j + 1)) (fields (in_file js)))
 
-module _ (inst : InstanceView) (valid : Valid inst) (v : Version) (ds : List Decision) where
+module _ (inst : InstanceView) (valid : Valid inst) (ds : List Decision) where
   -- the tasks of a chain, a ring or packed ones
   record HasTasks (tasks : List ℕ) : Type 0 where
     few : length tasks ≤ most_tasks
@@ -302,12 +299,12 @@ module _ (inst : InstanceView) (valid : Valid inst) (v : Version) (ds : List Dec
       let p = and_parts (nat_le (length tasks) most_tasks) (are_below (length inst.tasks) tasks) e in
       record { few = leb-true (length tasks) most_tasks p.0; below = p.1 }
 
-  chain_tasks : (tasks : List ℕ) → IsSome (leaf_value v inst ds (chain tasks)) → HasTasks tasks
+  chain_tasks : (tasks : List ℕ) → IsSome (leaf_value inst ds (chain tasks)) → HasTasks tasks
   chain_tasks tasks =
       cond_both (are_tasks inst tasks) _ None (λ o. IsSome o → HasTasks tasks)
       (λ e _. tasks_of tasks e) (λ _ none. absurd (cc none))
 
-  ring_tasks : (tasks : List ℕ) → IsSome (leaf_value v inst ds (ring tasks)) → HasTasks tasks × (2 ≤ length tasks)
+  ring_tasks : (tasks : List ℕ) → IsSome (leaf_value inst ds (ring tasks)) → HasTasks tasks × (2 ≤ length tasks)
   ring_tasks tasks =
       cond_both (are_tasks inst tasks && nat_le 2 (length tasks) && is_ring inst ds tasks) (Some Never) None
       (λ o. IsSome o → HasTasks tasks × (2 ≤ length tasks))
@@ -328,25 +325,20 @@ module _ (inst : InstanceView) (valid : Valid inst) (v : Version) (ds : List Dec
   some_pack tasks None p none = absurd (cc none)
   some_pack tasks (Some begins) p some = some_of (least (map begins tasks)) p some
 
-  packed_tasks : (tasks : List ℕ) → IsSome (leaf_value v inst ds (packed tasks))
-      → (has_packed v ≡ true) × HasTasks tasks × (1 ≤ length tasks)
-  packed_tasks tasks =
-      cond_both (has_packed v) (option_map Least (packed_end inst ds tasks)) None
-      (λ o. IsSome o → (has_packed v ≡ true) × HasTasks tasks × (1 ≤ length tasks))
-      (λ may some.
+  packed_tasks : (tasks : List ℕ) → IsSome (leaf_value inst ds (packed tasks)) → HasTasks tasks × (1 ≤ length tasks)
+  packed_tasks tasks some =
       let cranes = cranes_of inst ds in
       let ticks = some_pack tasks (early inst ds) (pack inst cranes tasks) some in
       let l = packed_listed inst cranes tasks (some_packed inst cranes tasks ticks) in
-      (may, record { few = omega (arith, l.few, valid.tasks.count); below = l.below }, l.some))
-      (λ _ none. absurd (cc none))
+      (record { few = omega (arith, l.few, valid.tasks.count); below = l.below }, l.some)
 
-  work_end : (tick : ℕ) → Fits inst ds → IsSome (leaf_value v inst ds (work tick)) → (1 ≤ tick) × (tick < 10 ^ 15)
+  work_end : (tick : ℕ) → Fits inst ds → IsSome (leaf_value inst ds (work tick)) → (1 ≤ tick) × (tick < 10 ^ 15)
   work_end tick fits =
-      cond_both (nat_le 1 tick && work_over v inst ds tick) (Some (Least tick)) None
+      cond_both (nat_le 1 tick && work_over inst ds tick) (Some (Least tick)) None
       (λ o. IfSome o IsValue → IsSome o → (1 ≤ tick) × (tick < 10 ^ 15))
-      (λ e small _. (leb-true 1 tick (and_parts (nat_le 1 tick) (work_over v inst ds tick) e).0, small))
+      (λ e small _. (leb-true 1 tick (and_parts (nat_le 1 tick) (work_over inst ds tick) e).0, small))
       (λ _ _ none. absurd (cc none))
-      (leaf_few inst valid v ds fits (work tick))
+      (leaf_few inst valid ds fits (work tick))
 
   in_file_tasks : (tasks : List ℕ) → HasTasks tasks → AreTasks (in_file tasks)
   in_file_tasks tasks h = (
@@ -378,7 +370,7 @@ module _ (inst : InstanceView) (valid : Valid inst) (v : Version) (ds : List Dec
   inside_of i j may = conflict_inside inst valid ds i j (may_conflict inst.turn inst ds i j may)
 
   -- what holds at a node that fits is spelled
-  pub spelled : Fits inst ds → (sign : Sign) → Holds v inst ds sign → IsSpelled sign
+  pub spelled : Fits inst ds → (sign : Sign) → Holds inst ds sign → IsSpelled sign
   spelled fits (leaf (chain tasks)) some =
       let h = chain_tasks tasks some in
       record { in_range = in_file_tasks tasks h; listed = refl; short = omega (arith, list_short tasks h) }
@@ -392,9 +384,9 @@ module _ (inst : InstanceView) (valid : Valid inst) (v : Version) (ds : List Dec
   spelled fits (leaf (packed tasks)) some =
       let h = packed_tasks tasks some in
       record {
-        in_range = (omega (arith, h.2, length-map tasks (λ j. j + 1)), in_file_tasks tasks h.1);
+        in_range = (omega (arith, h.1, length-map tasks (λ j. j + 1)), in_file_tasks tasks h.0);
         listed = refl;
-        short = omega (arith, list_short tasks h.1);
+        short = omega (arith, list_short tasks h.0);
       }
   spelled fits (leaf reach) some = record { in_range = tt; listed = refl; short = omega arith }
   spelled fits (leaf (work tick)) some =
@@ -424,45 +416,42 @@ module _ (inst : InstanceView) (valid : Valid inst) (v : Version) (ds : List Dec
 
   module _ (d : Direction) (more : List Coming) (n : ℕ) (b : Bound) where
     abbrev at_here : Reading
-    at_here = here inst d v ds more n b
+    at_here = here inst d ds more n b
 
-    ended : (fault : TreeKind) (shows : Leaf) (o : Option Bound) → o ≡ leaf_value v inst ds shows → IsSome o
-        → ended_by at_here fault o ≡ Ok (behind_line inst d v ds more n b (leaf shows))
+    ended : (fault : TreeKind) (shows : Leaf) (o : Option Bound) → o ≡ leaf_value inst ds shows → IsSome o
+        → ended_by at_here fault o ≡ Ok (behind_line inst d ds more n b (leaf shows))
     ended fault shows None e some = absurd (cc some)
     ended fault shows (Some value) e some =
-        ap Ok (ended_is inst d v ds more n b shows value (ap (λ (o : Option Bound). unwrap_or o Never) (sym e)))
+        ap Ok (ended_is inst d ds more n b shows value (ap (λ (o : Option Bound). unwrap_or o Never) (sym e)))
 
-    branched : (sign : Sign) (cs : List Coming) → branches sign ≡ true → sign_value v inst ds sign ≡ Never
+    branched : (sign : Sign) (cs : List Coming) → branches sign ≡ true → sign_value inst ds sign ≡ Never
         → map (node d) (children inst ds sign) ≡ cs → n < most_branchings
-        → branched_to at_here cs ≡ Ok (behind_line inst d v ds more n b sign)
+        → branched_to at_here cs ≡ Ok (behind_line inst d ds more n b sign)
     branched sign cs some never are few =
         ap (λ t. require t kind.Branchings >>= λ _. Ok (record at_here { coming = cs ++ more; branched = n + 1 })) (lt-ltb n most_branchings few)
-        ∙ ap Ok (branched_is inst d v ds more n b sign cs some never are)
+        ∙ ap Ok (branched_is inst d ds more n b sign cs some never are)
 
     -- its line is accepted, as long as a tree may have its branching
-    pub accepts : (sign : Sign) → Holds v inst ds sign → n + counts sign ≤ most_branchings
-        → at_node inst d ds at_here (line_of sign) (list_of sign) ≡ Ok (behind_line inst d v ds more n b sign)
+    pub accepts : (sign : Sign) → Holds inst ds sign → n + counts sign ≤ most_branchings
+        → at_node inst d ds at_here (line_of sign) (list_of sign) ≡ Ok (behind_line inst d ds more n b sign)
     accepts (leaf (chain tasks)) some few =
         rw (file_numbers inst tasks (chain_tasks tasks some).below, file_back tasks)
-        (ended kind.NotForced (chain tasks) (leaf_value v inst ds (chain tasks)) refl some)
+        (ended kind.NotForced (chain tasks) (leaf_value inst ds (chain tasks)) refl some)
     accepts (leaf (ring tasks)) some few =
         rw (file_numbers inst tasks (ring_tasks tasks some).0.below, file_back tasks)
-        (ended kind.NotCycle (ring tasks) (leaf_value v inst ds (ring tasks)) refl some)
+        (ended kind.NotCycle (ring tasks) (leaf_value inst ds (ring tasks)) refl some)
     accepts (leaf (packed tasks)) some few =
-        let h = packed_tasks tasks some in
-        ap (λ t. require t kind.Place >>= λ _. require (list_all (is_number inst) (in_file tasks)) kind.UnknownTask >>= λ _.
-        ended_by at_here kind.NotClash (leaf_value v inst ds (packed (from_file (in_file tasks))))) h.0
-        ∙ ap (λ t. require t kind.UnknownTask >>= λ _.
-        ended_by at_here kind.NotClash (leaf_value v inst ds (packed (from_file (in_file tasks)))))
-        (file_numbers inst tasks h.1.below)
-        ∙ ap (λ ts. ended_by at_here kind.NotClash (leaf_value v inst ds (packed ts))) (file_back tasks)
-        ∙ ended kind.NotClash (packed tasks) (leaf_value v inst ds (packed tasks)) refl some
-    accepts (leaf reach) some few = ended kind.InReach reach (leaf_value v inst ds reach) refl some
-    accepts (leaf (work tick)) some few = ended kind.WorkShort (work tick) (leaf_value v inst ds (work tick)) refl some
+        ap (λ t. require t kind.UnknownTask >>= λ _.
+        ended_by at_here kind.NotClash (leaf_value inst ds (packed (from_file (in_file tasks)))))
+        (file_numbers inst tasks (packed_tasks tasks some).0.below)
+        ∙ ap (λ ts. ended_by at_here kind.NotClash (leaf_value inst ds (packed ts))) (file_back tasks)
+        ∙ ended kind.NotClash (packed tasks) (leaf_value inst ds (packed tasks)) refl some
+    accepts (leaf reach) some few = ended kind.InReach reach (leaf_value inst ds reach) refl some
+    accepts (leaf (work tick)) some few = ended kind.WorkShort (work tick) (leaf_value inst ds (work tick)) refl some
     accepts (trees.on_task j) h few =
         rw (number_of j h.0, back_one j, h.1)
         (branched (trees.on_task j) (map (λ k. node d (decide.Assign j k ∷ ds)) (crane_numbers inst)) refl refl
-        (task_children inst d v ds more n b j) (omega (arith, few)))
+        (task_children inst d ds more n b j) (omega (arith, few)))
     accepts (trees.on_pair i j) h few =
         let range = inside_of i j h.0 in
         rw (number_of i range.0, number_of j range.1, back_one i, back_one j, test_of inst ds i j valid inst.turn h.0, unsettled_false inst ds i j h.1)

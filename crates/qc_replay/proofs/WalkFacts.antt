@@ -8,12 +8,11 @@ use Rattle.qc_tree.specs.declared.line.Line.{Line}
 use Rattle.qc_tree.specs.LineIn.{Listed}
 use Rattle.qc_tree.specs.declared.fault.TreeKind.{TreeKind}
 use Rattle.qc_tree.specs.declared.fault.TreeKind.TheVariants as kind
-use Rattle.qc_replay.specs.declared.leaf.TreeVersion.{TreeVersion}
 use Rattle.qc_replay.specs.declared.node.Tally.{Tally}
 use Rattle.qc_replay.specs.declared.walk.Stage.{Stage}
 use Rattle.qc_replay.specs.declared.walk.Stage.TheVariants.{Title, Up, Part, Done}
 use Rattle.qc_replay.specs.declared.walk.Walk.TheInside.{Inside}
-use Rattle.qc_replay.specs.Part.{IsJudged, Standing, nodes, version_of}
+use Rattle.qc_replay.specs.Part.{IsJudged, Standing, nodes}
 use Rattle.qc_replay.specs.Read.{with_known, with_line}
 use Rattle.qc_replay.specs.Stages.{IsKeptWalk, WalkView, behind_part, behind_title, leading, reading_at, walk_of, word_of}
 use Rattle.qc_replay.specs.Walk.{Reading, at_due, at_node, came, end, is_known, next_of, node, title}
@@ -41,7 +40,7 @@ module _ (w : Inside) (old : WalkView) (is : walk_of w ≡ old) (kept : IsKeptWa
   taken = record { line = line; list = list }
 
   abbrev here : Stage → Reading
-  here stage = reading_at stage w.version w.way w.part w.second w.tally
+  here stage = reading_at stage w.way w.part w.second w.tally
 
   abbrev Takes : Result Reading TreeKind → Type 0
   Takes result = with_known old.inst old.reading taken ≡ result
@@ -51,16 +50,16 @@ module _ (w : Inside) (old : WalkView) (is : walk_of w ≡ old) (kept : IsKeptWa
       ap (λ (v : WalkView). with_known v.inst v.reading taken) (sym is)
       ∙ ap (λ s. with_known w.inst (here s) taken) at_stage
 
-  pub title_taken : w.stage ≡ Title → (result : Result TreeVersion TreeKind)
-      → ((inst : InstanceView) (r : Reading) (list : List ℕ) → at_due inst r title line list ≡ leading (λ version. record (came r) { version = version_of version }) result)
-      → Takes (leading (λ version. reading_at (behind_title w.second) version w.way w.part w.second w.tally) result)
+  pub title_taken : w.stage ≡ Title → {A : Type 0} (result : Result A TreeKind)
+      → ((inst : InstanceView) (r : Reading) (list : List ℕ) → at_due inst r title line list ≡ leading (λ _. came r) result)
+      → Takes (leading (λ _. reading_at (behind_title w.second) w.way w.part w.second w.tally) result)
   title_taken stage result judged = begins Title stage ∙ by_second w.second
     where
       by_second : (second : Option Standing)
-          → with_known w.inst (reading_at Title w.version w.way w.part second w.tally) taken
-          ≡ leading (λ version. reading_at (behind_title second) version w.way w.part second w.tally) result
-      by_second None = judged w.inst (reading_at Title w.version w.way w.part None w.tally) list
-      by_second (Some s) = judged w.inst (reading_at Title w.version w.way w.part (Some s) w.tally) list
+          → with_known w.inst (reading_at Title w.way w.part second w.tally) taken
+          ≡ leading (λ _. reading_at (behind_title second) w.way w.part second w.tally) result
+      by_second None = judged w.inst (reading_at Title w.way w.part None w.tally) list
+      by_second (Some s) = judged w.inst (reading_at Title w.way w.part (Some s) w.tally) list
 
   pub up_taken : w.stage ≡ Up → {A : Type 0} (result : Result A TreeKind)
       → ((inst : InstanceView) (r : Reading) (list : List ℕ)
@@ -81,36 +80,36 @@ module _ (w : Inside) (old : WalkView) (is : walk_of w ≡ old) (kept : IsKeptWa
       → {A : Type 0} (result : Result A TreeKind)
       → ((inst : InstanceView) (r : Reading) (list : List ℕ)
       → at_due inst r (word_of way.Down) line list ≡ leading (λ _. came r) result)
-      → Takes (leading (λ _. reading_at Part w.version way.Down second None w.tally) result)
+      → Takes (leading (λ _. reading_at Part way.Down second None w.tally) result)
   down_taken stage over second which result judged =
       behind_last stage over (Some second) which
       ∙ judged w.inst (record (here Part) { coming = behind_part (Some second) }) list
 
   -- the walk with the second part in the place of the first
   pub down_read : w.stage ≡ Part → (second part : Standing) → part ≡ second → (after : Option Standing) → after ≡ None
-      → reading_at Part w.version way.Down second None w.tally ≡ reading_at w.stage w.version way.Down part after w.tally
+      → reading_at Part way.Down second None w.tally ≡ reading_at w.stage way.Down part after w.tally
   down_read stage second part same after none =
-      ap (λ s. reading_at s w.version way.Down second None w.tally) (sym stage)
-      ∙ ap (λ p. reading_at w.stage w.version way.Down p None w.tally) (sym same)
-      ∙ ap (λ o. reading_at w.stage w.version way.Down part o w.tally) (sym none)
+      ap (λ s. reading_at s way.Down second None w.tally) (sym stage)
+      ∙ ap (λ p. reading_at w.stage way.Down p None w.tally) (sym same)
+      ∙ ap (λ o. reading_at w.stage way.Down part o w.tally) (sym none)
 
   pub end_taken : w.stage ≡ Part → w.part.live ≡ false → w.second ≡ None → {A : Type 0} (result : Result A TreeKind)
       → ((inst : InstanceView) (r : Reading) (list : List ℕ) → r.branched ≡ w.tally.branched → r.bound ≡ w.tally.bound
       → at_due inst r end line list ≡ leading (λ _. came r) result)
-      → (second : Option Standing) → Takes (leading (λ _. reading_at Done w.version w.way w.part second w.tally) result)
+      → (second : Option Standing) → Takes (leading (λ _. reading_at Done w.way w.part second w.tally) result)
   end_taken stage over which result judged second =
       behind_last stage over None which
       ∙ judged w.inst (record (here Part) { coming = end ∷ [] }) list refl refl
 
   -- a node of a part
   pub node_taken : w.stage ≡ Part → w.part.live ≡ true → (after : Standing) (result : Result Tally TreeKind)
-      → IsJudged w.version w.part w.tally line list after result
-      → Takes (leading (λ tally. reading_at w.stage w.version w.way after w.second tally) result)
+      → IsJudged w.part w.tally line list after result
+      → Takes (leading (λ tally. reading_at w.stage w.way after w.second tally) result)
   node_taken stage live after result judged =
       let past = behind_part w.second in
       begins Part stage
       ∙ ap (λ ns. next_of (map (node w.way) ns ++ past) >>= λ c. at_due w.inst (here Part) c line list)
-      (nodes_here w.version w.part after live w.tally)
+      (nodes_here w.part after live w.tally)
       ∙ ap (λ i. at_node i w.way w.part.decisions (here Part) line list) (sym kept.part)
       ∙ judged w.way past
-      ∙ ap (λ s. leading (λ tally. reading_at s w.version w.way after w.second tally) result) (sym stage)
+      ∙ ap (λ s. leading (λ tally. reading_at s w.way after w.second tally) result) (sym stage)

@@ -8,22 +8,13 @@ use Rattle.qc_model.specs.declared.direction.Direction.{Direction}
 use Rattle.qc_model.specs.Numbers.{most_branchings}
 use Rattle.qc_model.specs.declared.decision.Decision.{Decision}
 use Rattle.qc_model.specs.Instance.{InstanceView}
-use Rattle.qc_model.specs.Leaves.{Version, without_berths, with_berths, with_packed}
 use Rattle.qc_tree.specs.declared.line.Line.{Line}
 use Rattle.qc_tree.specs.declared.line.Line.TheVariants as line
 use Rattle.qc_replay.specs.declared.descent.Descent.TheInside.{Inside}
 use Rattle.qc_tree.specs.declared.fault.TreeKind.{TreeKind}
 use Rattle.qc_tree.specs.declared.fault.TreeKind.TheVariants as kind
-use Rattle.qc_replay.specs.declared.leaf.TreeVersion.{TreeVersion}
-use Rattle.qc_replay.specs.declared.leaf.TreeVersion.TheVariants.{WithoutBerths, WithBerths, WithPacked}
 use Rattle.qc_replay.specs.declared.node.Tally.{Tally}
 use Rattle.qc_replay.specs.Walk.{Coming, Reading, at_node, came, node}
-
--- a version, as the definitions of leaves name it
-abbrev pub version_of : TreeVersion → Version
-version_of WithoutBerths = without_berths
-version_of WithBerths = with_berths
-version_of WithPacked = with_packed
 
 -- the number of a task in a file
 abbrev pub IsNumber : InstanceView → ℕ → Type 0
@@ -43,9 +34,9 @@ abbrev pub standing_of : Inside → Standing
 standing_of f = record { inst = f.node.inst; decisions = f.node.decisions; live = f.live }
 
 -- what a line shows at a node: the value of a leaf, or its fault
-abbrev pub Shows : InstanceView → List Decision → TreeVersion → Line → List ℕ → Result Bound TreeKind → Type 0
-Shows inst ds version line list result =
-    (way : Direction) (r : Reading) → r.version ≡ version_of version
+abbrev pub Shows : InstanceView → List Decision → Line → List ℕ → Result Bound TreeKind → Type 0
+Shows inst ds line list result =
+    (way : Direction) (r : Reading)
     → at_node inst way ds r line list
     ≡ (result >>= λ value. Ok (record (came r) { bound = lesser r.bound value }))
 
@@ -62,18 +53,16 @@ with_branching tally =
     else Err kind.Branchings
 
 -- a reading in a part: its nodes come next, and then what follows the part
-abbrev pub within : Direction → TreeVersion → Standing → List Coming → Tally → Reading
-within way version s more tally = record {
-  version = version_of version;
+abbrev pub within : Direction → Standing → List Coming → Tally → Reading
+within way s more tally = record {
   coming = map (node way) (nodes s) ++ more;
   branched = tally.branched;
   bound = tally.bound;
 }
 
 -- what came of a line in a part: a reading further on, or a fault
-abbrev pub IsJudged :
-    TreeVersion → Standing → Tally → Line → List ℕ → Standing → Result Tally TreeKind → Type 0
-IsJudged version before tally line list after result =
+abbrev pub IsJudged : Standing → Tally → Line → List ℕ → Standing → Result Tally TreeKind → Type 0
+IsJudged before tally line list after result =
     (way : Direction) (more : List Coming)
-    → at_node before.inst way before.decisions (within way version before more tally) line list
-    ≡ (result >>= λ now. Ok (within way version after more now))
+    → at_node before.inst way before.decisions (within way before more tally) line list
+    ≡ (result >>= λ now. Ok (within way after more now))

@@ -10,12 +10,11 @@ use Rattle.qc_model.specs.Numbers.{most_branchings, most_cranes}
 use Rattle.qc_model.specs.OneWay.{mirror}
 use Rattle.qc_model.specs.Seen.{seen}
 use Rattle.qc_tree.specs.declared.fault.TreeKind.{TreeKind}
-use Rattle.qc_replay.specs.declared.leaf.TreeVersion.{TreeVersion}
 use Rattle.qc_replay.specs.declared.node.Tally.{Tally}
 use Rattle.qc_replay.specs.declared.walk.Stage.{Stage}
 use Rattle.qc_replay.specs.declared.walk.Stage.TheVariants.{Title, Up, Part, Done}
 use Rattle.qc_replay.specs.declared.walk.Walk.TheInside.{Inside}
-use Rattle.qc_replay.specs.Part.{Standing, nodes, version_of}
+use Rattle.qc_replay.specs.Part.{Standing, nodes}
 use Rattle.qc_replay.specs.Walk.{Coming, Reading, down, end, node, title, up}
 
 -- a reading of a tree of this instance
@@ -71,9 +70,8 @@ coming_at Up d part second = up ∷ from_part d part second
 coming_at Part d part second = from_part d part second
 coming_at Done d part second = []
 
-abbrev pub reading_at : Stage → TreeVersion → Direction → Standing → Option Standing → Tally → Reading
-reading_at stage version d part second tally = record {
-  version = version_of version;
+abbrev pub reading_at : Stage → Direction → Standing → Option Standing → Tally → Reading
+reading_at stage d part second tally = record {
   coming = coming_at stage d part second;
   branched = tally.branched;
   bound = tally.bound;
@@ -82,7 +80,7 @@ reading_at stage version d part second tally = record {
 abbrev pub walk_of : Inside → WalkView
 walk_of w = record {
   inst = w.inst;
-  reading = reading_at w.stage w.version w.way w.part w.second w.tally;
+  reading = reading_at w.stage w.way w.part w.second w.tally;
 }
 
 -- the parts are those of the instance

@@ -12,7 +12,7 @@ use Rattle.qc_model.specs.declared.direction.Direction.TheVariants as way
 use Rattle.qc_model.specs.declared.turn.Turn.{Turn}
 use Rattle.qc_model.specs.declared.turn.Turn.TheVariants as turn
 use Rattle.qc_model.specs.Instance.{InstanceView}
-use Rattle.qc_model.specs.Leaves.{Version, chain, has_packed, packed, ring, reach, work, without_berths, with_berths, with_packed, leaf_value}
+use Rattle.qc_model.specs.Leaves.{chain, packed, ring, reach, work, leaf_value}
 use Rattle.qc_model.specs.Work.{crane_numbers}
 use Rattle.qc_model.specs.Nodes.{assigned, forced}
 use Rattle.qc_model.specs.Numbers.{most_branchings}
@@ -34,7 +34,6 @@ pub data Coming : Type 0 where
 
 -- how far a file is read: what must still come, the next line first, and what the lines so far come to
 pub record Reading : Type 0 where
-  pub version : Version
   pub coming : List Coming
   pub branched : ℕ
   pub bound : Bound
@@ -44,10 +43,9 @@ abbrev pub first_lines : Turn → List Coming
 first_lines turn.OneWay = title ∷ up ∷ node way.Up [] ∷ down ∷ node way.Down [] ∷ end ∷ []
 first_lines turn.Free = title ∷ node way.Up [] ∷ end ∷ []
 
--- nothing is read; the version is that of the title once this has come
+-- nothing is read
 abbrev pub start : InstanceView → Reading
 start inst = record {
-  version = with_packed;
   coming = first_lines inst.turn;
   branched = 0;
   bound = Never;
@@ -124,24 +122,21 @@ at_node inst d ds r (line.Order i j) list = do
   on_pair inst d ds r (i - 1) (j - 1)
 at_node inst d ds r line.Chain list = do
   _ ← require (list_all (is_number inst) list) kind.UnknownTask
-  ended_by r kind.NotForced (leaf_value r.version inst ds (chain (from_file list)))
+  ended_by r kind.NotForced (leaf_value inst ds (chain (from_file list)))
 at_node inst d ds r line.Ring list = do
   _ ← require (list_all (is_number inst) list) kind.UnknownTask
-  ended_by r kind.NotCycle (leaf_value r.version inst ds (ring (from_file list)))
-at_node inst d ds r line.Reach list = ended_by r kind.InReach (leaf_value r.version inst ds reach)
-at_node inst d ds r (line.Work v) list = ended_by r kind.WorkShort (leaf_value r.version inst ds (work v))
+  ended_by r kind.NotCycle (leaf_value inst ds (ring (from_file list)))
+at_node inst d ds r line.Reach list = ended_by r kind.InReach (leaf_value inst ds reach)
+at_node inst d ds r (line.Work v) list = ended_by r kind.WorkShort (leaf_value inst ds (work v))
 at_node inst d ds r line.Clash list = do
-  _ ← require (has_packed r.version) kind.Place
   _ ← require (list_all (is_number inst) list) kind.UnknownTask
-  ended_by r kind.NotClash (leaf_value r.version inst ds (packed (from_file list)))
+  ended_by r kind.NotClash (leaf_value inst ds (packed (from_file list)))
 at_node inst d ds r _ list = Err kind.Place
 
 -- a line where this must come
 abbrev pub at_due : InstanceView → Reading → Coming → Line → List ℕ → Result Reading TreeKind
-at_due inst r title line.Title list = Ok (record (came r) { version = without_berths })
-at_due inst r title line.Title2 list = Ok (record (came r) { version = with_berths })
-at_due inst r title line.Title3 list = Ok (record (came r) { version = with_packed })
-at_due inst r title line.FreeTitle list = Ok (record (came r) { version = with_packed })
+at_due inst r title line.Title list = Ok (came r)
+at_due inst r title line.FreeTitle list = Ok (came r)
 at_due inst r up line.Up list = Ok (came r)
 at_due inst r down line.Down list = Ok (came r)
 at_due inst r end (line.End b x) list = do
@@ -155,8 +150,6 @@ abbrev pub is_known : Turn → Line → Bool
 is_known turn.OneWay line.FreeTitle = false
 is_known turn.OneWay line = true
 is_known turn.Free line.Title = false
-is_known turn.Free line.Title2 = false
-is_known turn.Free line.Title3 = false
 is_known turn.Free line.Up = false
 is_known turn.Free line.Down = false
 is_known turn.Free line = true

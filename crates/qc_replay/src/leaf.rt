@@ -1,12 +1,10 @@
 //! What leaves show at a node.
 ghost use Rattle.std.specs.Prelude.{◌≡◌, ◌+◌, ◌*◌, ◌<◌, ◌≤◌, ◌++◌, ◌^◌, ℕ, List, None, All, IfSome, MatchOption, length, option_map, is_some, take};
 ghost use Rattle.qc_close.specs.Crews.{IsCrewOf};
-ghost use Rattle.qc_model.specs.Numbers.{most_distance, most_ready, most_tasks, most_work};
-ghost use Rattle.qc_model.specs.Assignments.{cranes_of};
-ghost use Rattle.qc_model.specs.Closed.{is_closed};
-ghost use Rattle.qc_model.specs.Leaves.{chain, chain_end, chain_ticks, has_packed, head_in, is_ring, packed_end, work, work_over};
+ghost use Rattle.qc_model.specs.Numbers.{most_distance, most_tasks, most_work};
+ghost use Rattle.qc_model.specs.Leaves.{chain_end, chain_ticks, is_ring, packed_end, work_over};
 ghost use Rattle.qc_replay.specs.Earliest.{HasEarly};
-ghost use Rattle.qc_replay.specs.Part.{IsNumber, version_of};
+ghost use Rattle.qc_replay.specs.Part.{IsNumber};
 ghost use Rattle.qc_replay.specs.Walk.{from_file};
 
 use crate::earliest::{EarlyStarts, least_begin};
@@ -15,63 +13,14 @@ use qc_dist::Decisions;
 use qc_model::MOST_TASKS;
 use qc_num::Tick;
 
-/// The version of a tree: which heads its leaves count with, and which leaves it may have.
-#[derive(Clone, Copy)]
-pub(crate) enum TreeVersion {
-    /// Those of each crane alone: version 1.
-    WithoutBerths,
-    /// Those with the berths of all other cranes clear: version 2.
-    WithBerths,
-    /// The same, and a leaf may list packed tasks, or count the cranes that must come to each bay:
-    /// version 3.
-    WithPacked,
-}
-
-impl TreeVersion {
-    /// Whether a leaf may list packed tasks.
-    pub(crate) fn has_packed(self) -> bool
-        ensures { result ≡ has_packed (version_of self) }
-    {
-        match self {
-            TreeVersion::WithoutBerths | TreeVersion::WithBerths => false,
-            TreeVersion::WithPacked => true,
-        }
-    }
-}
-
-/// When a task can start at the least, by the heads that count.
-fn head_in(node: &Decisions, version: TreeVersion, task: u16) -> Tick
-    requires task { task < length node.now.inst.tasks }
-    ensures head { result ≡ head_in (version_of version) node.now.inst node.now.decisions task }
-    ensures bound { result ≤ most_ready + most_distance }
-{
-    match version {
-        TreeVersion::WithoutBerths => node.lead1(task),
-        TreeVersion::WithBerths | TreeVersion::WithPacked => node.lead(task),
-    }
-}
-
-/// Whether the assignment of a node is closed at an end.
-fn is_closed(node: &Decisions, crew: &Crew, end: Tick) -> bool
+/// Whether the work of a node doesn't fit before an end.
+pub(crate) fn is_work_over(node: &Decisions, crew: &Crew, end: Tick) -> bool
     requires crew { IsCrewOf crew.now node.now.inst node.now.decisions }
     requires some { 1 ≤ end }
     requires digits { end < 10 ^ 15 }
-    ensures { result ≡ is_closed node.now.inst node.now.inst.turn (cranes_of node.now.inst node.now.decisions) end }
+    ensures { result ≡ work_over node.now.inst node.now.decisions end }
 {
     crew.closed(end)
-}
-
-/// Whether the work of a node doesn't fit before an end, by the way of counting of the version.
-pub(crate) fn is_work_over(node: &Decisions, crew: &Crew, version: TreeVersion, end: Tick) -> bool
-    requires crew { IsCrewOf crew.now node.now.inst node.now.decisions }
-    requires some { 1 ≤ end }
-    requires digits { end < 10 ^ 15 }
-    ensures { result ≡ work_over (version_of version) node.now.inst node.now.decisions end }
-{
-    match version {
-        TreeVersion::WithoutBerths | TreeVersion::WithBerths => node.work_holds(end),
-        TreeVersion::WithPacked => is_closed(node, crew, end),
-    }
 }
 
 /// From a task along others, each forced after the one before it: the last of them, and the ticks by
@@ -99,17 +48,17 @@ fn way_along(node: &Decisions, first: u16, numbers: &[u16]) -> Option<(u16, Tick
 }
 
 /// The end that a chain shows; `None` where a task of it isn't forced after the one before.
-pub(crate) fn chain_end(node: &Decisions, version: TreeVersion, numbers: &[u16]) -> Option<Tick>
+pub(crate) fn chain_end(node: &Decisions, numbers: &[u16]) -> Option<Tick>
     requires numbers { All (IsNumber node.now.inst) numbers.now }
     requires few { length numbers.now ≤ most_tasks }
-    ensures { result ≡ chain_end (version_of version) node.now.inst node.now.decisions (from_file numbers.now) }
+    ensures { result ≡ chain_end node.now.inst node.now.decisions (from_file numbers.now) }
 {
     let Some((number, rest)) = numbers.split_first() else {
         return Some(0);
     };
     let first = *number - 1;
     let (last, ticks) = way_along(node, first, rest)?;
-    Some(head_in(node, version, first) + ticks + node.instance().task(last).ticks)
+    Some(node.lead(first) + ticks + node.instance().task(last).ticks)
 }
 
 /// Whether each task is forced after the one before it, and the first after the last.

@@ -14,7 +14,7 @@ ghost use Rattle.qc_tree.specs.Lines.{IsLine};
 
 use crate::descent::Descent;
 use crate::earliest::EarlyStarts;
-use crate::leaf::{TreeVersion, chain_end, is_ring, is_work_over, packed_end};
+use crate::leaf::{chain_end, is_ring, is_work_over, packed_end};
 use qc_close::Crew;
 use qc_dist::{Decisions, in_reach};
 use qc_model::{Decision, Turn};
@@ -54,24 +54,24 @@ fn are_numbers(node: &Decisions, numbers: &[u16]) -> bool
 }
 
 /// The end that a chain of tasks shows.
-fn chain_bound(node: &Decisions, version: TreeVersion, numbers: &[u16]) -> Result<Bound, TreeKind>
+fn chain_bound(node: &Decisions, numbers: &[u16]) -> Result<Bound, TreeKind>
     requires few { length numbers.now ≤ most_tasks }
-    ensures { Shows node.now.inst node.now.decisions version Chain numbers.now result }
+    ensures { Shows node.now.inst node.now.decisions Chain numbers.now result }
 {
     if !are_numbers(node, numbers) {
         return Err(TreeKind::UnknownTask);
     }
-    match chain_end(node, version, numbers) {
+    match chain_end(node, numbers) {
         Some(end) => Ok(Bound::Least(end)),
         None => Err(TreeKind::NotForced),
     }
 }
 
 /// A ring of tasks shows that no schedule agrees with the node.
-fn ring_bound(node: &Decisions, version: TreeVersion, numbers: &[u16]) -> Result<Bound, TreeKind>
+fn ring_bound(node: &Decisions, numbers: &[u16]) -> Result<Bound, TreeKind>
     requires some { 2 ≤ length numbers.now }
     requires few { length numbers.now ≤ most_tasks }
-    ensures { Shows node.now.inst node.now.decisions version Ring numbers.now result }
+    ensures { Shows node.now.inst node.now.decisions Ring numbers.now result }
 {
     if !are_numbers(node, numbers) {
         Err(TreeKind::UnknownTask)
@@ -87,17 +87,13 @@ fn clash_bound(
     node: &Decisions,
     crew: &Crew,
     begun: &Option<EarlyStarts>,
-    version: TreeVersion,
     numbers: &[u16],
 ) -> Result<Bound, TreeKind>
     requires crew { IsCrewOf crew.now node.now.inst node.now.decisions }
     requires begun { HasEarly node.now.inst.turn node.now.inst node.now.decisions begun.now }
     requires few { length numbers.now ≤ most_tasks }
-    ensures { Shows node.now.inst node.now.decisions version Clash numbers.now result }
+    ensures { Shows node.now.inst node.now.decisions Clash numbers.now result }
 {
-    if !version.has_packed() {
-        return Err(TreeKind::Place);
-    }
     if !are_numbers(node, numbers) {
         return Err(TreeKind::UnknownTask);
     }
@@ -119,9 +115,9 @@ fn is_out_of_reach(node: &Decisions) -> bool
 }
 
 /// A decision out of reach shows that no schedule agrees with the node.
-fn reach_bound(node: &Decisions, version: TreeVersion) -> Result<Bound, TreeKind>
+fn reach_bound(node: &Decisions) -> Result<Bound, TreeKind>
     requires were_open { WereOpen node.now.inst node.now.decisions }
-    ensures { (numbers : List ℕ) → Shows node.now.inst node.now.decisions version Reach numbers result }
+    ensures { (numbers : List ℕ) → Shows node.now.inst node.now.decisions Reach numbers result }
 {
     if is_out_of_reach(node) {
         Ok(Bound::Never)
@@ -131,18 +127,13 @@ fn reach_bound(node: &Decisions, version: TreeVersion) -> Result<Bound, TreeKind
 }
 
 /// The end before which the work doesn't fit.
-fn work_bound(
-    node: &Decisions,
-    crew: &Crew,
-    version: TreeVersion,
-    end: Tick,
-) -> Result<Bound, TreeKind>
+fn work_bound(node: &Decisions, crew: &Crew, end: Tick) -> Result<Bound, TreeKind>
     requires crew { IsCrewOf crew.now node.now.inst node.now.decisions }
     requires some { 1 ≤ end }
     requires digits { end < 10 ^ 15 }
-    ensures { (numbers : List ℕ) → Shows node.now.inst node.now.decisions version (Work end) numbers result }
+    ensures { (numbers : List ℕ) → Shows node.now.inst node.now.decisions (Work end) numbers result }
 {
-    if is_work_over(node, crew, version, end) {
+    if is_work_over(node, crew, end) {
         Ok(Bound::Least(end))
     } else {
         Err(TreeKind::WorkShort)
@@ -154,7 +145,6 @@ fn leaf_bound(
     node: &Decisions,
     crew: &Crew,
     begun: &Option<EarlyStarts>,
-    version: TreeVersion,
     line: Line,
     numbers: &[u16],
 ) -> Result<Bound, TreeKind>
@@ -163,14 +153,14 @@ fn leaf_bound(
     requires were_open { WereOpen node.now.inst node.now.decisions }
     requires in_range { IsLine line numbers.now }
     requires leaf { IsNoBranching line }
-    ensures { Shows node.now.inst node.now.decisions version line numbers.now result }
+    ensures { Shows node.now.inst node.now.decisions line numbers.now result }
 {
     match line {
-        Line::Chain => chain_bound(node, version, numbers),
-        Line::Ring => ring_bound(node, version, numbers),
-        Line::Reach => reach_bound(node, version),
-        Line::Work(end) => work_bound(node, crew, version, end),
-        Line::Clash => clash_bound(node, crew, begun, version, numbers),
+        Line::Chain => chain_bound(node, numbers),
+        Line::Ring => ring_bound(node, numbers),
+        Line::Reach => reach_bound(node),
+        Line::Work(end) => work_bound(node, crew, end),
+        Line::Clash => clash_bound(node, crew, begun, numbers),
         _ => Err(TreeKind::Place),
     }
 }
@@ -192,16 +182,11 @@ impl Tally {
 }
 
 /// Branching on the crane of a task.
-fn on_task(
-    version: TreeVersion,
-    descent: &mut Descent,
-    tally: Tally,
-    number: u16,
-) -> Result<Tally, TreeKind>
+fn on_task(descent: &mut Descent, tally: Tally, number: u16) -> Result<Tally, TreeKind>
     requires live { descent.old.live ≡ true }
     ensures inst { descent.new.inst ≡ descent.old.inst }
     ensures judged { (numbers : List ℕ)
-        → IsJudged version descent.old tally (Assign number) numbers descent.new result }
+        → IsJudged descent.old tally (Assign number) numbers descent.new result }
 {
     let node = descent.node();
     if !is_number(node, number) {
@@ -238,17 +223,11 @@ fn no_order(turn: Turn) -> TreeKind
 }
 
 /// Branching on the order of two tasks.
-fn on_pair(
-    version: TreeVersion,
-    descent: &mut Descent,
-    tally: Tally,
-    one: u16,
-    other: u16,
-) -> Result<Tally, TreeKind>
+fn on_pair(descent: &mut Descent, tally: Tally, one: u16, other: u16) -> Result<Tally, TreeKind>
     requires live { descent.old.live ≡ true }
     ensures inst { descent.new.inst ≡ descent.old.inst }
     ensures judged { (numbers : List ℕ)
-        → IsJudged version descent.old tally (Order one other) numbers descent.new result }
+        → IsJudged descent.old tally (Order one other) numbers descent.new result }
 {
     let node = descent.node();
     if !are_both_numbers(node, one, other) {
@@ -268,7 +247,6 @@ fn on_pair(
 
 /// A leaf.
 fn on_leaf(
-    version: TreeVersion,
     descent: &mut Descent,
     tally: Tally,
     line: Line,
@@ -278,13 +256,12 @@ fn on_leaf(
     requires in_range { IsLine line numbers.now }
     requires leaf { IsNoBranching line }
     ensures inst { descent.new.inst ≡ descent.old.inst }
-    ensures judged { IsJudged version descent.old tally line numbers.now descent.new result }
+    ensures judged { IsJudged descent.old tally line numbers.now descent.new result }
 {
     match leaf_bound(
         descent.node(),
         descent.crew(),
         descent.begun(),
-        version,
         line,
         numbers,
     ) {
@@ -301,7 +278,6 @@ fn on_leaf(
 
 /// A line of a part: what the lines come to with it, or its fault.
 pub(crate) fn on_line(
-    version: TreeVersion,
     descent: &mut Descent,
     tally: Tally,
     line: Line,
@@ -310,11 +286,11 @@ pub(crate) fn on_line(
     requires live { descent.old.live ≡ true }
     requires in_range { IsLine line numbers.now }
     ensures inst { descent.new.inst ≡ descent.old.inst }
-    ensures judged { IsJudged version descent.old tally line numbers.now descent.new result }
+    ensures judged { IsJudged descent.old tally line numbers.now descent.new result }
 {
     match line {
-        Line::Assign(number) => on_task(version, descent, tally, number),
-        Line::Order(one, other) => on_pair(version, descent, tally, one, other),
-        _ => on_leaf(version, descent, tally, line, numbers),
+        Line::Assign(number) => on_task(descent, tally, number),
+        Line::Order(one, other) => on_pair(descent, tally, one, other),
+        _ => on_leaf(descent, tally, line, numbers),
     }
 }

@@ -3,14 +3,12 @@ ghost use Rattle.std.specs.Prelude.{◌≡◌, ℕ, List, IfOk, Ok};
 ghost use Rattle.qc_model.specs.declared.turn.Turn.{Turn};
 ghost use Rattle.qc_model.specs.Instance.{InstanceView, Valid};
 ghost use Rattle.qc_tree.specs.Lines.{IsLine};
-ghost use Rattle.qc_replay.specs.Part.{version_of};
 ghost use Rattle.qc_replay.specs.Read.{with_known, with_line};
 ghost use Rattle.qc_replay.specs.Stages.{behind_title, is_over, leading, second_root, word_of, WalkView, IsKeptWalk, walk_of};
 ghost use Rattle.qc_replay.specs.Walk.{Reading, at_due, came, end, is_known, start, title, replayed};
 
 use crate::descent::Descent;
 use crate::fault::Replayed;
-use crate::leaf::TreeVersion;
 use crate::node::{Tally, on_line};
 use qc_model::{Direction, Instance, Turn, copy, mirror};
 use qc_num::{Bound, OutOfMemory};
@@ -35,7 +33,6 @@ pub(crate) enum Stage {
 pub(crate) struct Walk {
     inst: Instance,
     stage: Stage,
-    version: TreeVersion,
     tally: Tally,
     /// The part that is read, and which way it goes.
     part: Descent,
@@ -58,7 +55,6 @@ impl Drop for Walk {
         let Walk {
             inst: _,
             stage: _,
-            version: _,
             tally: _,
             part: _,
             way: _,
@@ -87,10 +83,7 @@ fn is_known(turn: Turn, line: Line) -> bool
 {
     match turn {
         Turn::OneWay => !matches!(line, Line::FreeTitle),
-        Turn::Free => !matches!(
-            line,
-            Line::Title | Line::Title2 | Line::Title3 | Line::Up | Line::Down
-        ),
+        Turn::Free => !matches!(line, Line::Title | Line::Up | Line::Down),
     }
 }
 
@@ -113,7 +106,6 @@ impl Walk {
         Ok(Walk {
             inst: kept,
             stage: Stage::Title,
-            version: TreeVersion::WithPacked,
             tally: Tally {
                 branched: 0,
                 bound: Bound::Never,
@@ -166,7 +158,7 @@ impl Walk {
     {
         match self.stage {
             Stage::Title => {
-                self.version = titled(line)?;
+                expect_title(line)?;
                 self.stage = behind_title(&self.second);
                 Ok(())
             }
@@ -177,7 +169,7 @@ impl Walk {
             }
             Stage::Part => {
                 if self.part.is_live() {
-                    self.tally = on_line(self.version, &mut self.part, self.tally, line, numbers)?;
+                    self.tally = on_line(&mut self.part, self.tally, line, numbers)?;
                     return Ok(());
                 }
                 match self.second.take() {
@@ -216,15 +208,13 @@ fn behind_title(second: &Option<Descent>) -> Stage
     }
 }
 
-/// The version that the title tells.
-fn titled(line: Line) -> Result<TreeVersion, TreeKind>
-    ensures { (inst : InstanceView) (r : Reading) (list : List ℕ) → at_due inst r title line list
-        ≡ leading (λ version. record (came r) { version = version_of version }) result }
+/// The line must be a title.
+fn expect_title(line: Line) -> Result<(), TreeKind>
+    ensures { (inst : InstanceView) (r : Reading) (list : List ℕ)
+        → at_due inst r title line list ≡ leading (λ _. came r) result }
 {
     match line {
-        Line::Title => Ok(TreeVersion::WithoutBerths),
-        Line::Title2 => Ok(TreeVersion::WithBerths),
-        Line::Title3 | Line::FreeTitle => Ok(TreeVersion::WithPacked),
+        Line::Title | Line::FreeTitle => Ok(()),
         _ => Err(TreeKind::Place),
     }
 }

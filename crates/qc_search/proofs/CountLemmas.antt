@@ -11,7 +11,6 @@ use Rattle.qc_model.specs.declared.direction.Direction.TheVariants.{Down}
 use Rattle.qc_model.specs.declared.turn.Turn.{Turn}
 use Rattle.qc_model.specs.declared.turn.Turn.TheVariants.{OneWay, Free}
 use Rattle.qc_model.specs.Instance.{InstanceView, Valid}
-use Rattle.qc_model.specs.Leaves.{Version}
 use Rattle.qc_model.specs.Nodes.{order_pairs, order_pairs_by}
 use Rattle.qc_model.specs.Work.{crane_numbers}
 use Rattle.qc_model.specs.OneWay.{mirror}
@@ -25,7 +24,7 @@ use Rattle.qc_search.specs.Run.{branching_limit, parts_by}
 more_base : (base n q : ℕ) → base ^ n ≡ suc q → base ^ suc n ≡ q * base + base
 more_base base n q e = pow-suc base n ∙ ap (λ x. x * base) e ∙ suc-mul q base
 
-module _ (inst : InstanceView) (v : Valid inst) (version : Version) (base : ℕ) (two : 2 ≤ base) (cranes : length inst.cranes ≤ base) where
+module _ (inst : InstanceView) (v : Valid inst) (base : ℕ) (two : 2 ≤ base) (cranes : length inst.cranes ≤ base) where
   -- how much is left to decide
   abbrev open_count : List Decision → ℕ
   open_count ds = unassigned inst ds + unordered_left inst ds
@@ -49,7 +48,7 @@ module _ (inst : InstanceView) (v : Valid inst) (version : Version) (base : ℕ)
       omega (arith, sum_by-cons room (f k) (map f ks), few k, crowd f q few ks, suc-mul (length ks) q)
 
   -- a branching and the rooms of its children fit into its own room
-  step_room : (ds : List Decision) (sign : Sign) → Holds version inst ds sign
+  step_room : (ds : List Decision) (sign : Sign) → Holds inst ds sign
       → cond (branches sign) 1 0 + sum_by room (children inst ds sign) ≤ room ds
   step_room ds (leaf shows) holds = omega arith
   step_room ds (on_task j) holds =
@@ -90,7 +89,7 @@ module _ (inst : InstanceView) (v : Valid inst) (version : Version) (base : ℕ)
         two,
       )
 
-  few : (nodes : List Node) (due left : List (List Decision)) → Leads version inst due nodes left
+  few : (nodes : List Node) (due left : List (List Decision)) → Leads inst due nodes left
       → branchings nodes ≤ sum_by room due
   few [] due left h = omega arith
   few (node ∷ nodes) [] left h = absurd h
@@ -104,7 +103,7 @@ module _ (inst : InstanceView) (v : Valid inst) (version : Version) (base : ℕ)
         sum_by-cons room ds more,
       )
 
-  pub few_in_part : (nodes : List Node) → IsPart version inst nodes
+  pub few_in_part : (nodes : List Node) → IsPart inst nodes
       → branchings nodes + 1 ≤ base ^ (length inst.tasks + order_pairs inst)
   few_in_part nodes is =
       let n = length inst.tasks + order_pairs inst in
@@ -136,13 +135,13 @@ few_in_tree inst v tree is = by_turn inst.turn is.down
     most = base ^ (length inst.tasks + order_pairs inst)
 
     up : branchings tree.up + 1 ≤ most
-    up = few_in_part inst v tree.version base (omega arith) (omega arith) tree.up is.up
+    up = few_in_part inst v base (omega arith) (omega arith) tree.up is.up
 
-    by_turn : (turn : Turn) → IsSecond turn inst tree.version tree.down
+    by_turn : (turn : Turn) → IsSecond turn inst tree.down
         → branchings tree.up + branchings tree.down < parts_by turn * most
     by_turn OneWay part =
         let same = seen-crane_count inst Down in
-        let down = few_in_part (mirror inst) (seen_valid inst v Down) tree.version base (omega arith) (omega (arith, same))
+        let down = few_in_part (mirror inst) (seen_valid inst v Down) base (omega arith) (omega (arith, same))
         tree.down part in
         omega (arith, up, down, ap₂ (λ (m k : ℕ). base ^ (m + k)) (seen-task_count inst Down) (mirror_pairs inst))
-    by_turn Free none = omega (arith, up, ap branchings none.1)
+    by_turn Free none = omega (arith, up, ap branchings none)

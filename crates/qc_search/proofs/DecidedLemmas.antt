@@ -12,7 +12,7 @@ use Rattle.qc_model.specs.declared.turn.Turn.TheVariants.{OneWay, Free}
 use Rattle.qc_model.specs.Frames.{GoesBy}
 use Rattle.qc_model.specs.Instance.{InstanceView, Valid, pair_of, ticks_of}
 use Rattle.qc_model.specs.Work.{task_numbers}
-use Rattle.qc_model.specs.Nodes.{Agrees, AreLeast, Conflicts, Fits, IsComplete, IsInReach, Meets, assigned, crane_ticks, forced, free, head_by, is_before, is_ordered, is_sooner, pair_ticks, schedule_with, sooner_ticks}
+use Rattle.qc_model.specs.Nodes.{Agrees, AreLeast, Conflicts, Fits, IsComplete, IsInReach, Meets, assigned, crane_ticks, forced, head_by, is_before, is_ordered, is_sooner, pair_ticks, schedule_with, sooner_ticks}
 use Rattle.qc_model.specs.Rules.{IsClear, crane_of, end_of, start_of, starts}
 use Rattle.qc_model.proofs.CompleteNodes.{agrees_with, goes_least, greater_first, greater_second, starts_with}
 use Rattle.qc_model.proofs.NodeLemmas.{IsStep, assigned_is, greater_keeps, if_some, meets_by, ordered_is}
@@ -233,7 +233,7 @@ module _ (inst : InstanceView) (ds : List Decision) (begins : List ℕ) (v : Val
   node_met others m = record {
     all_tasks = m.all_tasks;
     heads = λ j low.
-        subst (λ (o : Option ℕ). head_by inst (free inst j) j o ≤ slice_index others j) (same_crane j low) (m.heads j low);
+        subst (λ (o : Option ℕ). head_by inst j o ≤ slice_index others j) (same_crane j low) (m.heads j low);
     steps = λ i j ticks low high e.
         subst (IsStep (slice_index others i) (slice_index others j)) e (step_kept i j low high);
   }

@@ -9,7 +9,6 @@ use Rattle.qc_num.specs.declared.bound.Bound.TheVariants.{Least}
 use Rattle.qc_num.specs.Bounds.{IsAtMost, least_bound, lesser}
 use Rattle.qc_model.specs.declared.direction.Direction.{Direction}
 use Rattle.qc_model.specs.Instance.{InstanceView}
-use Rattle.qc_model.specs.Leaves.{with_packed}
 use Rattle.qc_model.specs.Seen.{seen}
 use Rattle.qc_tree.specs.Trees.{Node, branches, branchings, part_value}
 use Rattle.qc_search.specs.Earned.{IsEarnedBehind, IsKnownEnd, IsSolvedBy, TreeNode, branchings_in, node_at, part_nodes}
@@ -133,6 +132,6 @@ branched_in way (n ∷ nodes) =
     ∙ sym (sum_by-cons (λ (node : Node). cond (branches node.sign) 1 0) n nodes)
 
 pub valued_in : (home : InstanceView) (way : Direction) (nodes : List Node)
-    → value_in home (part_nodes way nodes) ≡ part_value with_packed (seen home way) nodes
+    → value_in home (part_nodes way nodes) ≡ part_value (seen home way) nodes
 valued_in home way nodes =
     ap least_bound (map-map (value_at home) (λ (node : Node). node_at way node.decisions node.sign) nodes)

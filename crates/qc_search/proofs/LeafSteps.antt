@@ -20,7 +20,7 @@ use Rattle.qc_model.specs.declared.decision.Decision.TheVariants.{Assign, Order}
 use Rattle.qc_model.specs.declared.direction.Direction.{Direction}
 use Rattle.qc_model.specs.Closing.{IsClosable, IsWorkBound, complete, ends_late, no_starts, out_of_reach, work_late}
 use Rattle.qc_model.specs.Instance.{InstanceView, Valid}
-use Rattle.qc_model.specs.Leaves.{Leaf, chain, is_out_of_reach, leaf_value, reach, with_packed}
+use Rattle.qc_model.specs.Leaves.{Leaf, chain, is_out_of_reach, leaf_value, reach}
 use Rattle.qc_model.specs.Nodes.{HasStarts, IsComplete, IsInReach, IsNodeEnd, reaches}
 use Rattle.qc_model.specs.Rules.{last_end}
 use Rattle.qc_starts.specs.Seen.{IsReached, IsWhy}
@@ -57,11 +57,11 @@ pub reach_step : (inst : InstanceView) (way : Direction) (ds : List Decision) (d
     → ¬ IsReached inst d → IsStep inst way (d ∷ ds) (signs.leaf reach) now now
 reach_step inst way ds d now away =
     let out = out_of inst ds d away in
-    let shows : leaf_value with_packed inst (d ∷ ds) reach ≡ Some Never =
+    let shows : leaf_value inst (d ∷ ds) reach ≡ Some Never =
     cond-true (is_out_of_reach inst (d ∷ ds)) (Some Never) None out in
-    let value : sign_value with_packed inst (d ∷ ds) (signs.leaf reach) ≡ Never =
+    let value : sign_value inst (d ∷ ds) (signs.leaf reach) ≡ Never =
     ap (λ (o : Option Bound). unwrap_or o Never) shows in
-    let same : lesser now.bound (sign_value with_packed inst (d ∷ ds) (signs.leaf reach)) ≡ now.bound =
+    let same : lesser now.bound (sign_value inst (d ∷ ds) (signs.leaf reach)) ≡ now.bound =
     ap (lesser now.bound) value ∙ lesser_never now.bound in
     subst (λ (b : Bound). IsStep inst way (d ∷ ds) (signs.leaf reach) now (record now { bound = b })) same
     (leaf_step inst way (d ∷ ds) reach now now now.path refl (λ h. subst IsSoon (sym same) h) (record {
@@ -95,7 +95,7 @@ leaf_spends inst ds (kind.Work end) tasks h = (h.0.empty, h.0.soon, h.0.shows)
 leaf_spends inst ds (kind.Clash end) tasks h = (h.0.soon, h.0.shows)
 
 holds_by : (inst : InstanceView) (ds : List Decision) (leaf : LeafKind) (tasks : List ℕ)
-    → IsLeafBy inst ds leaf tasks → IsSome (leaf_value with_packed inst ds (leaf_of leaf tasks))
+    → IsLeafBy inst ds leaf tasks → IsSome (leaf_value inst ds (leaf_of leaf tasks))
 holds_by inst ds kind.Chain tasks h = ap is_some h.chain
 holds_by inst ds kind.Ring tasks h = ap is_some h
 holds_by inst ds (kind.Work end) tasks h = ap is_some h.2
@@ -217,7 +217,7 @@ met_by_end inst way ds old mid end (inr t) within all e =
 -- the leaf of a closed node shows no end sooner than the one that was met
 closed_late : (inst : InstanceView) (way : Direction) (ds : List Decision) (old mid : Progress) (leaf : LeafKind)
     (tasks : List ℕ) → IsPassed inst ds old mid ⊎ IsTaken inst way ds old mid → IsInReach inst ds
-    → IsClosedBy inst ds old.incumbent_end leaf tasks → IsAtMost mid.incumbent_end (sign_value with_packed inst ds (signs.leaf (leaf_of leaf tasks)))
+    → IsClosedBy inst ds old.incumbent_end leaf tasks → IsAtMost mid.incumbent_end (sign_value inst ds (signs.leaf (leaf_of leaf tasks)))
 closed_late inst way ds old mid kind.Chain tasks meets within h =
     subst (IsAtMost mid.incumbent_end) (sym (ap (λ (o : Option Bound). unwrap_or o Never) h.0.chain)) (by_due h.1)
   where
@@ -267,12 +267,12 @@ soon_lesser Never b h k = h
 -- the line of a leaf that was met between, whose value was taken into the bound
 leaf_written : {before after : View} (inst : InstanceView) (way : Direction) (ds : List Decision)
     (more : List (List Decision)) (shows : Leaf) (old mid new : Progress) (value : Bound) (result : Result ⊤ WriteFault)
-    → IsLeafStep inst way ds shows old mid → leaf_value with_packed inst ds shows ≡ Some value → IsSoon value
+    → IsLeafStep inst way ds shows old mid → leaf_value inst ds shows ≡ Some value → IsSoon value
     → new ≡ record mid { bound = lesser mid.bound value; path = new.path }
     → new.path.capacity ≡ mid.path.capacity → Writes before after (leaf_text shows) result
     → WritesNodes [] before after inst way (ds ∷ more) (left_by (λ _. more) result) old new result
 leaf_written inst way ds more shows old mid new value result step valued soon is capacity w =
-    let shown : sign_value with_packed inst ds (signs.leaf shows) ≡ value = ap (λ (o : Option Bound). unwrap_or o Never) valued in
+    let shown : sign_value inst ds (signs.leaf shows) ≡ value = ap (λ (o : Option Bound). unwrap_or o Never) valued in
     step_written ds more (signs.leaf shows) old new result
     (subst (λ (c : Progress). IsStep inst way ds (signs.leaf shows) old c)
     (ap (λ (b : Bound). record mid { bound = lesser mid.bound b; path = new.path }) shown ∙ sym is)
@@ -283,7 +283,7 @@ module _ {before after : View} (inst : InstanceView) (way : Direction) (ds : Lis
     (old new : Progress) (value : Bound) (soon : IsSoon value) (result : Result ⊤ WriteFault) where
   pub closed_written : (mid : Progress) → IsPassed inst ds old mid ⊎ IsTaken inst way ds old mid → IsInReach inst ds
       → IsClosedBy inst ds old.incumbent_end leaf old.path.items
-      → leaf_value with_packed inst ds (leaf_of leaf old.path.items) ≡ Some value
+      → leaf_value inst ds (leaf_of leaf old.path.items) ≡ Some value
       → new ≡ record mid { bound = lesser mid.bound value; path = new.path }
       → new.path.capacity ≡ mid.path.capacity
       → Writes before after (leaf_text (leaf_of leaf mid.path.items)) result
@@ -296,7 +296,7 @@ module _ {before after : View} (inst : InstanceView) (way : Direction) (ds : Lis
 
   pub spent_written : ¬ IsClosable inst ds old.incumbent_end → old.branched ≡ old.limit
       → IsSpentBy inst ds leaf old.path.items
-      → leaf_value with_packed inst ds (leaf_of leaf old.path.items) ≡ Some value
+      → leaf_value inst ds (leaf_of leaf old.path.items) ≡ Some value
       → new ≡ record old { bound = lesser old.bound value; path = new.path }
       → new.path.capacity ≡ old.path.capacity
       → Writes before after (leaf_text (leaf_of leaf old.path.items)) result

@@ -10,7 +10,7 @@ use Rattle.qc_bounds.specs.declared.leaves.LeafKind.TheVariants as kind
 use Rattle.qc_model.specs.declared.decision.Decision.{Decision}
 use Rattle.qc_model.specs.Numbers.{most_tasks}
 use Rattle.qc_model.specs.Instance.{InstanceView}
-use Rattle.qc_model.specs.Leaves.{are_tasks, is_ring, leaf_value, with_packed, work, work_over}
+use Rattle.qc_model.specs.Leaves.{are_tasks, is_ring, leaf_value, work, work_over}
 use Rattle.qc_model.specs.Work.{ticks_over}
 use Rattle.qc_model.specs.Assignments.{cranes_of}
 use Rattle.qc_model.specs.Early.{early}
@@ -51,9 +51,9 @@ numbers_of inst tasks few t =
 
 -- the work shows an end only where it is at least 1 and the work doesn't fit before it
 pub work_shown : (inst : InstanceView) (ds : List Decision) (end : ℕ)
-    → leaf_value with_packed inst ds (work end) ≡ Some (Least end) → (1 ≤ end) × IsTrue (work_over with_packed inst ds end)
+    → leaf_value inst ds (work end) ≡ Some (Least end) → (1 ≤ end) × IsTrue (work_over inst ds end)
 work_shown inst ds end e =
-    let holds = work_over with_packed inst ds end in
+    let holds = work_over inst ds end in
     let all = some_true (nat_le 1 end && holds) (Some (Least end)) (Least end) e in
     let both = and_parts (nat_le 1 end) holds all in
     (leb-true 1 end both.0, both.1)

@@ -15,7 +15,6 @@ use Rattle.qc_model.specs.declared.decision.Decision.{Decision}
 use Rattle.qc_model.specs.declared.direction.Direction.{Direction}
 use Rattle.qc_model.specs.declared.schedule.Slot.{Slot}
 use Rattle.qc_model.specs.Instance.{InstanceView}
-use Rattle.qc_model.specs.Leaves.{with_packed}
 use Rattle.qc_model.specs.Numbers.{most_tasks}
 use Rattle.qc_tree.specs.Trees.{Node, Sign, branchings, children, part_text, sign_text}
 use Rattle.qc_tree.proofs.NodeLemmas.{all_given_up, given_up, leads_then, none_branched}
@@ -34,7 +33,7 @@ none_asked P (Err fault) is = tt
 
 -- these nodes, each given up
 abbrev pub all_up : InstanceView → List (List Decision) → List Node
-all_up inst due = map (given_up with_packed inst) due
+all_up inst due = map (given_up inst) due
 
 along_then : (inst : InstanceView) (a b c : Progress) → IsAlong inst a b → IsAlong inst b c → IsAlong inst a c
 along_then inst a b c one two = record {
@@ -132,7 +131,7 @@ module _ {inst : InstanceView} {way : Direction} where
       map-append (λ (node : Node). node_at way node.decisions node.sign) one.nodes two.nodes in
       record {
         nodes = one.nodes ++ two.nodes;
-        leads = leads_then with_packed inst one.nodes two.nodes due between left one.leads two.leads;
+        leads = leads_then inst one.nodes two.nodes due between left one.leads two.leads;
         writes = subst (λ (x : List ℕ). Writes before after x result)
             (append_assoc front (part_text one.nodes) (part_text two.nodes)
             ∙ ap (λ (x : List ℕ). front ++ x) (sym (flat_map-append (λ (node : Node). sign_text node.sign) one.nodes two.nodes)))
@@ -169,7 +168,7 @@ module _ {inst : InstanceView} {way : Direction} where
       → WritesNodes front before after inst way due [] old new (Err fault)
   front_cut {front} {before} {after} due old new fault w = record {
     nodes = all_up inst due;
-    leads = all_given_up with_packed inst due;
+    leads = all_given_up inst due;
     writes = writes_cut before after front (part_text (all_up inst due)) fault (Err fault) refl w;
     few = λ home first earlier seen_so p. omega (
       arith,
@@ -177,7 +176,7 @@ module _ {inst : InstanceView} {way : Direction} where
       p.branched,
       branchings-append earlier (part_nodes way (all_up inst due)),
       branched_in way (all_up inst due),
-      none_branched with_packed inst due,
+      none_branched inst due,
     );
     comes = tt;
   }
@@ -222,9 +221,9 @@ module _ {inst : InstanceView} {way : Direction} where
       let rest = all_up inst (children inst ds sign ++ more) in
       record {
         nodes = record { decisions = ds; sign = sign } ∷ rest;
-        leads = (refl, step.holds, all_given_up with_packed inst (children inst ds sign ++ more));
+        leads = (refl, step.holds, all_given_up inst (children inst ds sign ++ more));
         writes = writes_cut before after (sign_text sign) (part_text rest) fault (Err fault) refl w;
-        few = step_few ds sign old new step rest (none_branched with_packed inst (children inst ds sign ++ more));
+        few = step_few ds sign old new step rest (none_branched inst (children inst ds sign ++ more));
         comes = tt;
       }
 

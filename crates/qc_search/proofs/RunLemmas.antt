@@ -93,7 +93,7 @@ module _ (home : InstanceView) (v : Valid home) (given : Option (List Slot)) {be
   branched_told = branched_is home b.first w.tree now w.progress
 
   bound_told : now.bound ≡ tree_value home w.tree
-  bound_told = bound_is home b.first w.tree now w.progress w.version
+  bound_told = bound_is home b.first w.tree now w.progress
 
   -- under Budget all branchings are spent
   spent_is : outcome now.bound now.incumbent_end ≡ Budget → now.branched ≡ limit
@@ -109,7 +109,6 @@ module _ (home : InstanceView) (v : Valid home) (given : Option (List Slot)) {be
     tight = b.tight;
     is_tree = w.is_tree;
     earned = record {
-      version = w.version;
       few = omega (arith, branched_told, w.progress.few, w.limit, b.limit_is);
       each = subst (λ (n : ℕ). (before : List TreeNode) (node : TreeNode) (behind : List TreeNode)
           → tree_nodes w.tree ≡ before ++ node ∷ behind → IsEarnedBehind home n (best_end home b.first) before node) b.limit_is

@@ -15,7 +15,7 @@ use Rattle.qc_model.specs.declared.turn.Turn.TheVariants.{Free}
 use Rattle.qc_model.specs.Closing.{IsClosable, complete}
 use Rattle.qc_model.specs.declared.schedule.Slot.{Slot}
 use Rattle.qc_model.specs.Instance.{InstanceView}
-use Rattle.qc_model.specs.Leaves.{Leaf, leaf_value, with_packed}
+use Rattle.qc_model.specs.Leaves.{Leaf, leaf_value}
 use Rattle.qc_model.specs.Nodes.{IsComplete, IsNodeEnd, slot_with}
 use Rattle.qc_model.specs.Rules.{last_end}
 use Rattle.qc_model.specs.Seen.{seen, seen_schedule}
@@ -95,12 +95,12 @@ met_before inst way ds old mid (inr t) =
 -- what makes a leaf a step, where the node was met between
 pub record IsLeafStep
     (inst : InstanceView) (way : Direction) (ds : List Decision) (shows : Leaf) (old mid : Progress) : Type 0 where
-  pub holds : IsSome (leaf_value with_packed inst ds shows)
+  pub holds : IsSome (leaf_value inst ds shows)
   pub closed : IsClosable inst ds old.incumbent_end → IsClosedAt inst ds old.incumbent_end shows
   pub given_up : ¬ IsClosable inst ds old.incumbent_end
       → IsClashLate inst ds old.incumbent_end shows ⊎ ((old.branched ≡ old.limit) × IsGivenUp inst ds shows)
   pub meets : IsPassed inst ds old mid ⊎ IsTaken inst way ds old mid
-  pub late : old.branched < old.limit → IsAtMost mid.incumbent_end (sign_value with_packed inst ds (leaf shows))
+  pub late : old.branched < old.limit → IsAtMost mid.incumbent_end (sign_value inst ds (leaf shows))
 
 module _ (home : InstanceView) (first : Option (List Slot)) (way : Direction) (only_up : home.turn ≡ Free → way ≡ Up)
     (ds : List Decision) (before : List TreeNode) where
@@ -162,13 +162,13 @@ module _ (home : InstanceView) (first : Option (List Slot)) (way : Direction) (o
       → IsLeafStep (seen home way) way ds shows old mid
       → IsEarnedBehind home old.limit (best_end home first) before (node_at way ds (leaf shows))
       × IsProgress home first (record mid {
-        bound = lesser mid.bound (sign_value with_packed (seen home way) ds (leaf shows));
+        bound = lesser mid.bound (sign_value (seen home way) ds (leaf shows));
         path = path;
       }) (before ++ node_at way ds (leaf shows) ∷ [])
   leaf_earned shows old mid path now s =
       let node = node_at way ds (leaf shows) in
       let same = same_but (seen home way) way ds old mid s.meets in
-      let value = sign_value with_packed (seen home way) ds (leaf shows) in (
+      let value = sign_value (seen home way) ds (leaf shows) in (
         record {
           u = old.incumbent_end;
           known = now.known;
@@ -201,10 +201,10 @@ module _ (home : InstanceView) (first : Option (List Slot)) (way : Direction) (o
 -- a leaf was met, and its value taken
 pub leaf_step : (inst : InstanceView) (way : Direction) (ds : List Decision) (shows : Leaf) (old mid : Progress)
     (path : SmallVec ℕ) → path.capacity ≡ mid.path.capacity
-    → (IsSoon mid.bound → IsSoon (lesser mid.bound (sign_value with_packed inst ds (leaf shows))))
+    → (IsSoon mid.bound → IsSoon (lesser mid.bound (sign_value inst ds (leaf shows))))
     → IsLeafStep inst way ds shows old mid
     → IsStep inst way ds (leaf shows) old
-    (record mid { bound = lesser mid.bound (sign_value with_packed inst ds (leaf shows)); path = path })
+    (record mid { bound = lesser mid.bound (sign_value inst ds (leaf shows)); path = path })
 leaf_step inst way ds shows old mid path capacity soon s =
     let same = same_but inst way ds old mid s.meets in
     record {
@@ -218,7 +218,7 @@ leaf_step inst way ds shows old mid path capacity soon s =
       earned = λ home first before seen_so now.
           subst (λ (i : InstanceView). IsEarnedBehind home old.limit (best_end home first) before (node_at way ds (leaf shows))
           × IsProgress home first (record mid {
-            bound = lesser mid.bound (sign_value with_packed i ds (leaf shows));
+            bound = lesser mid.bound (sign_value i ds (leaf shows));
             path = path;
           }) (before ++ node_at way ds (leaf shows) ∷ [])) seen_so.same
           (leaf_earned home first way seen_so.only_up ds before shows old mid path now
@@ -236,7 +236,7 @@ module _ (inst : InstanceView) (way : Direction) (ds : List Decision) (old : Pro
   branch_earned : (sign : Sign) (home : InstanceView) (first : Option (List Slot)) (before : List TreeNode)
       → IsPartOf home way inst
       → branchings_in (node_at way ds sign ∷ []) ≡ 1
-      → sign_value with_packed (seen home way) ds sign ≡ Never
+      → sign_value (seen home way) ds sign ≡ Never
       → MayStand (seen home way) ds old.incumbent_end (branchings_in before) old.limit sign
       → IsProgress home first old before
       → IsEarnedBehind home old.limit (best_end home first) before (node_at way ds sign)

@@ -14,11 +14,10 @@ use Rattle.qc_model.specs.declared.turn.Turn.{Turn}
 use Rattle.qc_model.specs.declared.turn.Turn.TheVariants.{OneWay, Free}
 use Rattle.qc_model.specs.declared.schedule.Slot.{Slot}
 use Rattle.qc_model.specs.Instance.{InstanceView}
-use Rattle.qc_model.specs.Leaves.{Version, with_packed}
 use Rattle.qc_model.specs.Numbers.{most_branchings}
 use Rattle.qc_model.specs.OneWay.{mirror}
 use Rattle.qc_tree.specs.declared.line.Line.TheVariants as line
-use Rattle.qc_tree.specs.Trees.{IsPart, IsSecond, IsTree, Node, Tree, branchings, lines_by, part_text, part_value, tree_branchings, tree_text, tree_value, whole_line}
+use Rattle.qc_tree.specs.Trees.{IsPart, IsSecond, IsTree, Node, Tree, branchings, lines_by, part_text, tree_branchings, tree_text, tree_value, whole_line}
 use Rattle.qc_model.proofs.TurnLemmas.{two_turns}
 use Rattle.qc_tree.proofs.NodeLemmas.{all_given_up, none_branched}
 use Rattle.qc_search.specs.declared.progress.Progress.{Progress}
@@ -41,11 +40,10 @@ module _ (home : InstanceView) (first : Option (List Slot)) (tree : Tree) (now :
     branched_in Down tree.down,
   )
 
-  pub bound_is : tree.version ≡ with_packed → now.bound ≡ tree_value home tree
-  bound_is version =
+  pub bound_is : now.bound ≡ tree_value home tree
+  bound_is =
       p.bound ∙ value-append home (part_nodes Up tree.up) (part_nodes Down tree.down)
       ∙ ap₂ lesser (valued_in home Up tree.up) (valued_in home Down tree.down)
-      ∙ ap (λ (v : Version). lesser (part_value v home tree.up) (part_value v (mirror home) tree.down)) (sym version)
 
 -- ---- texts
 
@@ -73,7 +71,6 @@ pub by_fault : {before after : View} {home : InstanceView} {first : Option (List
 by_fault end (Ok x) is w = absurd (false≢true is)
 by_fault end (Err fault) is w = record {
   tree = w.tree;
-  version = w.version;
   is_tree = w.is_tree;
   writes = w.writes;
   earned = tt;
@@ -82,7 +79,7 @@ by_fault end (Err fault) is w = record {
 }
 
 abbrev title : List ℕ
-title = whole_line line.Title3 []
+title = whole_line line.Title []
 
 abbrev up_line : List ℕ
 up_line = whole_line line.Up []
@@ -91,7 +88,7 @@ abbrev down_line : List ℕ
 down_line = whole_line line.Down []
 
 abbrev tree_of : List Node → List Node → Tree
-tree_of up down = record { version = with_packed; up = up; down = down }
+tree_of up down = record { up = up; down = down }
 
 abbrev end_line : InstanceView → Tree → List ℕ
 end_line home tree = whole_line (line.End (tree_branchings tree) (tree_value home tree)) []
@@ -116,7 +113,6 @@ module _ (home : InstanceView) (first : Option (List Slot)) (before : View) (old
       → WritesTree before after home first old new (Err fault)
   cut_at {after} up down is front rest fault w same = record {
     tree = tree_of up down;
-    version = refl;
     is_tree = is;
     writes = subst (λ (x : List ℕ). Writes before after x (Err fault)) same
         (writes_cut before after front rest fault (Err fault) refl w);
@@ -128,8 +124,8 @@ module _ (home : InstanceView) (first : Option (List Slot)) (before : View) (old
   -- ---- where cranes go one way
 
   module _ (one : home.turn ≡ OneWay) where
-    second_part : (nodes : List Node) → IsPart with_packed (mirror home) nodes → IsSecond home.turn home with_packed nodes
-    second_part nodes part = subst (λ (t : Turn). IsSecond t home with_packed nodes) (sym one) part
+    second_part : (nodes : List Node) → IsPart (mirror home) nodes → IsSecond home.turn home nodes
+    second_part nodes part = subst (λ (t : Turn). IsSecond t home nodes) (sym one) part
 
     -- the text of both parts
     both_text : (up down : List Node)
@@ -143,12 +139,12 @@ module _ (home : InstanceView) (first : Option (List Slot)) (before : View) (old
         let up = root home in
         let down = root (mirror home) in
         let is : IsTree home (tree_of up down) = record {
-          up = all_given_up with_packed home ([] ∷ []);
-          down = second_part down (all_given_up with_packed (mirror home) ([] ∷ []));
+          up = all_given_up home ([] ∷ []);
+          down = second_part down (all_given_up (mirror home) ([] ∷ []));
           few = omega (
             arith,
-            none_branched with_packed home ([] ∷ []),
-            none_branched with_packed (mirror home) ([] ∷ []),
+            none_branched home ([] ∷ []),
+            none_branched (mirror home) ([] ∷ []),
           );
         } in
         cut_at up down is title _ fault w
@@ -162,12 +158,12 @@ module _ (home : InstanceView) (first : Option (List Slot)) (before : View) (old
           let down = root (mirror home) in
           let is : IsTree home (tree_of n.nodes down) = record {
             up = n.leads;
-            down = second_part down (all_given_up with_packed (mirror home) ([] ∷ []));
+            down = second_part down (all_given_up (mirror home) ([] ∷ []));
             few = omega (
               arith,
               n.few home first [] (up_part home) begun,
               branched_in Up n.nodes,
-              none_branched with_packed (mirror home) ([] ∷ []),
+              none_branched (mirror home) ([] ∷ []),
               most,
             );
           } in
@@ -232,11 +228,10 @@ module _ (home : InstanceView) (first : Option (List Slot)) (before : View) (old
             let limit : new.limit ≡ old.limit = down.comes.along.limit ∙ up.comes.along.limit in
             let text : front ++ whole_line (line.End new.branched new.bound) [] ≡ tree_text home tree =
             ap₂ (λ (n : ℕ) (v : Bound). front ++ whole_line (line.End n v) []) (branched_is home first tree new told.1)
-            (bound_is home first tree new told.1 refl)
+            (bound_is home first tree new told.1)
             ∙ after_down title up_line a down_line b (end_line home tree) ∙ both_text up.nodes down.nodes in
             record {
               tree = tree;
-              version = refl;
               is_tree = down_tree down;
               writes = subst (λ (x : List ℕ). Writes before after x result) text
                   (writes_then before downed after front (whole_line (line.End new.branched new.bound) []) result
@@ -253,21 +248,21 @@ module _ (home : InstanceView) (first : Option (List Slot)) (before : View) (old
     abbrev free_title : List ℕ
     free_title = whole_line line.FreeTitle []
 
-    no_second : IsSecond home.turn home with_packed []
-    no_second = subst (λ (t : Turn). IsSecond t home with_packed []) (sym as_free) (refl, refl)
+    no_second : IsSecond home.turn home []
+    no_second = subst (λ (t : Turn). IsSecond t home []) (sym as_free) refl
 
     one_text : (up : List Node) → free_title ++ part_text up ++ end_line home (tree_of up []) ≡ tree_text home (tree_of up [])
     one_text up = ap (λ (t : Turn). lines_by t (tree_of up []) ++ end_line home (tree_of up [])) (sym as_free)
 
-    one_tree : (up : List Node) → IsPart with_packed home up → branchings up ≤ most_branchings → IsTree home (tree_of up [])
+    one_tree : (up : List Node) → IsPart home up → branchings up ≤ most_branchings → IsTree home (tree_of up [])
     one_tree up part few = record { up = part; down = no_second; few = omega (arith, few) }
 
     pub free_title_cut : {after : View} (fault : WriteFault) → Writes before after free_title (Err fault)
         → WritesTree before after home first old new (Err fault)
     free_title_cut {after} fault w =
         let up = root home in
-        cut_at up [] (one_tree up (all_given_up with_packed home ([] ∷ []))
-        (omega (arith, none_branched with_packed home ([] ∷ [])))) free_title _ fault w
+        cut_at up [] (one_tree up (all_given_up home ([] ∷ []))
+        (omega (arith, none_branched home ([] ∷ [])))) free_title _ fault w
         (sym (append_assoc free_title (part_text up) (end_line home (tree_of up []))) ∙ one_text up)
 
     module _ {titled : View} (head : Writes before titled free_title (Ok tt)) where
@@ -299,11 +294,10 @@ module _ (home : InstanceView) (first : Option (List Slot)) (before : View) (old
           let limit : new.limit ≡ old.limit = up.comes.along.limit in
           let text : free_title ++ a ++ whole_line (line.End new.branched new.bound) [] ≡ tree_text home tree =
           ap₂ (λ (n : ℕ) (v : Bound). free_title ++ a ++ whole_line (line.End n v) []) (branched_is home first tree new now)
-          (bound_is home first tree new now refl)
+          (bound_is home first tree new now)
           ∙ one_text up.nodes in
           record {
             tree = tree;
-            version = refl;
             is_tree = part_tree up;
             writes = subst (λ (x : List ℕ). Writes before after x result) text
                 (writes_then before parted after (free_title ++ a) (whole_line (line.End new.branched new.bound) []) result

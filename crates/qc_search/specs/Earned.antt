@@ -8,7 +8,7 @@ use Rattle.qc_model.specs.declared.direction.Direction.{Direction}
 use Rattle.qc_model.specs.declared.direction.Direction.TheVariants.{Up, Down}
 use Rattle.qc_model.specs.Closing.{IsClosable, IsWorkBound}
 use Rattle.qc_model.specs.Instance.{InstanceView}
-use Rattle.qc_model.specs.Leaves.{Leaf, chain, packed, ring, reach, with_packed, is_out_of_reach, leaf_value}
+use Rattle.qc_model.specs.Leaves.{Leaf, chain, packed, ring, reach, is_out_of_reach, leaf_value}
 use Rattle.qc_model.specs.Nodes.{AreLeast, HasStarts, IsComplete, IsInReach, IsNodeEnd}
 use Rattle.qc_model.specs.Rules.{last_end}
 use Rattle.qc_model.specs.Seen.{seen}
@@ -62,12 +62,12 @@ branchings_in = count_by (λ node. branches node.sign)
 pub record IsChainTo (inst : InstanceView) (ds : List Decision) (end : ℕ) (shows : Leaf) : Type 0 where
   pub tasks : List ℕ
   pub is : shows ≡ chain tasks
-  pub value : leaf_value with_packed inst ds shows ≡ Some (Least end)
+  pub value : leaf_value inst ds shows ≡ Some (Least end)
 
 -- the leaf is a chain, work or packed tasks, and shows an end that is at least u
 pub record ShowsLate (inst : InstanceView) (ds : List Decision) (u : Bound) (shows : Leaf) : Type 0 where
   pub end : ℕ
-  pub value : leaf_value with_packed inst ds shows ≡ Some (Least end)
+  pub value : leaf_value inst ds shows ≡ Some (Least end)
   pub late : IsAtMost u (Least end)
 
 -- the leaf of a node that is closed at u: out of reach it is told so; else without starts a ring; else where all is
@@ -87,7 +87,7 @@ pub record IsClosedAt (inst : InstanceView) (ds : List Decision) (u : Bound) (sh
 -- doesn't fit
 pub record IsGivenUp (inst : InstanceView) (ds : List Decision) (shows : Leaf) : Type 0 where
   pub value : ℕ
-  pub is : leaf_value with_packed inst ds shows ≡ Some (Least value)
+  pub is : leaf_value inst ds shows ≡ Some (Least value)
   pub end : ℕ
   pub ends : IsNodeEnd inst ds end
   pub no_less : end ≤ value
@@ -117,10 +117,9 @@ pub record IsEarnedBehind
   pub known : IsKnownEnd inst first before u
   pub stands : MayStand (seen inst node.way) node.decisions u (branchings_in before) most node.sign
 
--- the tree is of the third version and has at most so many branchings, and each of its nodes is justified by what the
--- search knew when it wrote the line
+-- the tree has at most so many branchings, and each of its nodes is justified by what the search knew when it wrote the
+-- line
 pub record IsEarned (inst : InstanceView) (most : ℕ) (first : Bound) (tree : Tree) : Type 0 where
-  pub version : tree.version ≡ with_packed
   pub few : tree_branchings tree ≤ most
   pub each :
       (before : List TreeNode) (node : TreeNode) (behind : List TreeNode)

@@ -7,7 +7,7 @@ use Rattle.qc_model.specs.declared.decision.Decision.{Decision}
 use Rattle.qc_model.specs.declared.direction.Direction.{Direction}
 use Rattle.qc_model.specs.declared.direction.Direction.TheVariants.{Up, Down}
 use Rattle.qc_model.specs.Instance.{InstanceView}
-use Rattle.qc_model.specs.Leaves.{Leaf, chain, leaf_value, packed, ring, with_packed, work}
+use Rattle.qc_model.specs.Leaves.{Leaf, chain, leaf_value, packed, ring, work}
 use Rattle.qc_model.specs.Numbers.{most_start, most_tasks}
 use Rattle.qc_starts.specs.Seen.{IsCycle, IsWhy}
 use Rattle.qc_tree.specs.declared.line.Line.{Line}
@@ -50,9 +50,9 @@ abbrev pub IsLeafBy : InstanceView → List Decision → LeafKind → List ℕ �
 IsLeafBy inst ds Chain tasks = IsWhy inst ds tasks
 IsLeafBy inst ds Ring tasks = IsCycle inst ds tasks
 IsLeafBy inst ds (Work end) tasks =
-    (tasks ≡ []) × (end ≤ most_start) × (leaf_value with_packed inst ds (work end) ≡ Some (Least end))
+    (tasks ≡ []) × (end ≤ most_start) × (leaf_value inst ds (work end) ≡ Some (Least end))
 IsLeafBy inst ds (Clash end) tasks =
-    (end ≤ most_start) × (leaf_value with_packed inst ds (packed tasks) ≡ Some (Least end))
+    (end ≤ most_start) × (leaf_value inst ds (packed tasks) ≡ Some (Least end))
 
 -- a line can name the tasks of the branching
 abbrev pub IsNamed : Branch → Type 0

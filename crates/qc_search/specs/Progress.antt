@@ -16,7 +16,6 @@ use Rattle.qc_model.specs.declared.pair.Pair.{Pair}
 use Rattle.qc_model.specs.declared.schedule.Slot.{Slot}
 use Rattle.qc_model.specs.declared.turn.Turn.TheVariants.{Free}
 use Rattle.qc_model.specs.Instance.{InstanceView}
-use Rattle.qc_model.specs.Leaves.{with_packed}
 use Rattle.qc_model.specs.Nodes.{Agrees, AreLeast, Fits, IsComplete, IsInReach, IsSettled, schedule_with}
 use Rattle.qc_model.specs.Numbers.{most_start, most_tasks}
 use Rattle.qc_model.specs.OneWay.{flipped}
@@ -42,7 +41,7 @@ begun limit incumbent path = record {
 
 -- the value of a node's leaf; Never of a branching
 abbrev pub value_at : InstanceView → TreeNode → Bound
-value_at home node = sign_value with_packed (seen home node.way) node.decisions node.sign
+value_at home node = sign_value (seen home node.way) node.decisions node.sign
 
 -- the least value of the leaves among these nodes
 abbrev pub value_in : InstanceView → List TreeNode → Bound
@@ -105,7 +104,7 @@ pub record IsPartOf (home : InstanceView) (way : Direction) (inst : InstanceView
 -- the line holds at its node, which is earned there, and leads from one progress to another
 pub record IsStep
     (inst : InstanceView) (way : Direction) (ds : List Decision) (sign : Sign) (old new : Progress) : Type 0 where
-  pub holds : Holds with_packed inst ds sign
+  pub holds : Holds inst ds sign
   pub along : IsAlong inst old new
   pub earned :
       (home : InstanceView) (first : Option (List Slot)) (before : List TreeNode) → IsPartOf home way inst
@@ -128,7 +127,7 @@ pub record WritesNodes
     (front : List ℕ) (before after : View) (inst : InstanceView) (way : Direction) (due left : List (List Decision))
     (old new : Progress) (result : Result ⊤ WriteFault) : Type 0 where
   pub nodes : List Node
-  pub leads : Leads with_packed inst due nodes left
+  pub leads : Leads inst due nodes left
   pub writes : Writes before after (front ++ part_text nodes) result
   pub few :
       (home : InstanceView) (first : Option (List Slot)) (earlier : List TreeNode) → IsPartOf home way inst
@@ -140,7 +139,6 @@ pub record WritesTree
     (before after : View) (home : InstanceView) (first : Option (List Slot)) (old new : Progress)
     (result : Result ⊤ WriteFault) : Type 0 where
   pub tree : Tree
-  pub version : tree.version ≡ with_packed
   pub is_tree : IsTree home tree
   pub writes : Writes before after (tree_text home tree) result
   pub earned : OnOk result (AreEarned home old.limit (best_end home first) [] (tree_nodes tree))

@@ -7,7 +7,7 @@ ghost use Rattle.qc_dist.specs.Children.{behind};
 ghost use Rattle.qc_io.specs.Writes.{Writes};
 ghost use Rattle.qc_model.specs.Closing.{IsClosable};
 ghost use Rattle.qc_model.specs.Instance.{Valid};
-ghost use Rattle.qc_model.specs.Leaves.{leaf_value, with_packed};
+ghost use Rattle.qc_model.specs.Leaves.{leaf_value};
 ghost use Rattle.qc_model.specs.Nodes.{HasStarts, IsInReach};
 ghost use Rattle.qc_model.specs.Numbers.{most_tasks};
 ghost use Rattle.qc_num.specs.Bounds.{lesser};
@@ -32,7 +32,7 @@ use qc_starts::Starts;
 fn value_of(leaf: LeafKind, starts: &Starts) -> Bound
     requires { leaf ≡ Chain → HasStarts starts.now.inst starts.now.decisions }
     ensures value { (tasks : List ℕ) → IsLeafBy starts.now.inst starts.now.decisions leaf tasks
-        → leaf_value with_packed starts.now.inst starts.now.decisions (leaf_of leaf tasks)
+        → leaf_value starts.now.inst starts.now.decisions (leaf_of leaf tasks)
         ≡ Some result }
     ensures soon { (tasks : List ℕ) → IsLeafBy starts.now.inst starts.now.decisions leaf tasks
         → IsSoon result }
@@ -52,7 +52,7 @@ fn meet_closed(leaf: LeafKind, starts: &Starts, way: Direction, progress: &mut P
         progress.old.path.items }
     ensures meets { IsPassed starts.now.inst starts.now.decisions progress.old progress.new
         ⊎ IsTaken starts.now.inst way starts.now.decisions progress.old progress.new }
-    ensures value { leaf_value with_packed starts.now.inst starts.now.decisions
+    ensures value { leaf_value starts.now.inst starts.now.decisions
         (leaf_of leaf progress.old.path.items) ≡ Some result }
     ensures soon { IsSoon result }
 {

@@ -80,7 +80,7 @@ pub(crate) fn write_both<K: Sink>(
         → WritesTree (K.view sink.old) (K.view sink.new) up.old.inst first progress.old progress.new
         result }
 {
-    write_line(&Line::Title3, &progress.path, sink)?;
+    write_line(&Line::Title, &progress.path, sink)?;
     put_part(up, Direction::Up, progress, sink)?;
     put_part(down, Direction::Down, progress, sink)?;
     put_end(progress, sink)

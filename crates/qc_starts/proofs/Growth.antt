@@ -148,20 +148,20 @@ module _ (inst : InstanceView) (ds : List Decision) (t k : ℕ) where
     assign_heads crane reach j = elim (cases_eq j t) [
       | inl same ↦
           let less = least_le (free inst t) (reaches inst t) k 0 (length inst.cranes) (omega arith) (omega arith) reach in
-          let before = ap (λ (o : Option ℕ). head_by inst (free inst t) t o) none in
-          let after = ap (λ (o : Option ℕ). head_by inst (free inst t) t o) (assigned_here ds t k) in
+          let before = ap (λ (o : Option ℕ). head_by inst t o) none in
+          let after = ap (λ (o : Option ℕ). head_by inst t o) (assigned_here ds t k) in
           let old = ap (head inst ds) same in
           let new = ap (head inst (Assign t k ∷ ds)) same in
           omega (arith, less, before, after, old, new)
       | inr other ↦
-          let is = ap (λ (o : Option ℕ). head_by inst (free inst j) j o) (assigned_other ds t k j (λ e. other (sym e))) in
+          let is = ap (λ (o : Option ℕ). head_by inst j o) (assigned_other ds t k j (λ e. other (sym e))) in
           omega (arith, is)
     ]
 
 pub head_same : (inst : InstanceView) (ds : List Decision) (t k j : ℕ) → j ≢ t
     → head inst (Assign t k ∷ ds) j ≡ head inst ds j
 head_same inst ds t k j other =
-    ap (λ (o : Option ℕ). head_by inst (free inst j) j o) (assigned_other ds t k j (λ e. other (sym e)))
+    ap (λ (o : Option ℕ). head_by inst j o) (assigned_other ds t k j (λ e. other (sym e)))
 
 -- ---- two tasks that get their order
 

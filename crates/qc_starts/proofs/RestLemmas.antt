@@ -8,7 +8,7 @@ use Rattle.qc_model.specs.declared.decision.Decision.{Decision}
 use Rattle.qc_model.specs.declared.limits.TheConstants.{MOST_TASKS}
 use Rattle.qc_model.specs.declared.task.Task.{Task}
 use Rattle.qc_model.specs.Instance.{InstanceView, Valid, ticks_of}
-use Rattle.qc_model.specs.Leaves.{are_tasks, chain, chain_end, chain_ticks, is_ring, leaf_value, with_packed}
+use Rattle.qc_model.specs.Leaves.{are_tasks, chain, chain_end, chain_ticks, is_ring, leaf_value}
 use Rattle.qc_model.specs.Nodes.{AreLeast, Fits, HasStarts, IsNodeEnd, forced, head}
 use Rattle.qc_model.specs.Rules.{last_end}
 use Rattle.qc_model.proofs.CompleteNodes.{forced_ticks}
@@ -189,7 +189,7 @@ module _ (net : NodeArcs) (cells : List ℕ) (sound : IsSound net) (is : AreRest
 
   -- the chain to a task shows its end
   pub chain_shows : (last : ℕ) (path : List ℕ) → IsBackTo ways last path
-      → (leaf_value with_packed inst ds (chain path) ≡ Some (Least (end_in inst cells last)))
+      → (leaf_value inst ds (chain path) ≡ Some (Least (end_in inst cells last)))
       × (length path ≤ length inst.tasks) × (end_in inst cells last ≤ 600000000000)
   chain_shows last [] back = absurd back
   chain_shows last (i ∷ js) back =
@@ -198,7 +198,7 @@ module _ (net : NodeArcs) (cells : List ℕ) (sound : IsSound net) (is : AreRest
       let first = starts_at_head i way.inside.0 back.1 in
       let ends = ap (end_in inst cells) way.ends in
       let shown : head inst ds i + ticks.0 ≡ end_in inst cells last = omega (arith, first, ticks.2, ends) in
-      let all = chain_end with_packed inst ds (i ∷ js) in
+      let all = chain_end inst ds (i ∷ js) in
       let few = way_length ways last i js way in (
         cond-true (are_tasks inst (i ∷ js)) (option_map Least all) None (way_tasks inst ds cells valid is.reasons last i js way)
             ∙ ap (option_map Least) (ap (option_map (λ n. head inst ds i + n)) ticks.1 ∙ ap Some shown),

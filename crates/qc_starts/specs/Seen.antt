@@ -4,7 +4,7 @@ use Rattle.qc_arena.specs.Arcs.{Arcs}
 use Rattle.qc_model.specs.declared.decision.Decision.{Decision}
 use Rattle.qc_model.specs.declared.decision.Decision.TheVariants.{Assign, Order}
 use Rattle.qc_model.specs.Instance.{InstanceView, IsApart}
-use Rattle.qc_model.specs.Leaves.{chain, leaf_value, ring, with_packed}
+use Rattle.qc_model.specs.Leaves.{chain, leaf_value, ring}
 use Rattle.qc_model.specs.Work.{task_numbers}
 use Rattle.qc_model.specs.Nodes.{AreLeast, HasStarts, IsNodeEnd, IsSettled, assigned, forced, reaches}
 use Rattle.qc_num.specs.declared.bound.Bound.TheVariants.{Least, Never}
@@ -61,11 +61,11 @@ pub record IsNodeStart (inst : InstanceView) (ds : List Decision) (j start : ℕ
 pub record IsWhy (inst : InstanceView) (ds : List Decision) (tasks : List ℕ) : Type 0 where
   pub end : ℕ
   pub ends : IsNodeEnd inst ds end
-  pub chain : leaf_value with_packed inst ds (chain tasks) ≡ Some (Least end)
+  pub chain : leaf_value inst ds (chain tasks) ≡ Some (Least end)
 
 -- the tasks are a ring
 abbrev pub IsCycle : InstanceView → List Decision → List ℕ → Type 0
-IsCycle inst ds tasks = leaf_value with_packed inst ds (ring tasks) ≡ Some Never
+IsCycle inst ds tasks = leaf_value inst ds (ring tasks) ≡ Some Never
 
 abbrev pub AreAssigned : InstanceView → List Decision → Type 0
 AreAssigned inst ds = (j : ℕ) → j < length inst.tasks → IsSome (assigned ds j)

@@ -15,9 +15,9 @@ use Rattle.qc_num.specs.declared.bound.Bound.{Bound}
 use Rattle.qc_num.specs.declared.bound.Bound.TheVariants.{Least, Never}
 use Rattle.qc_tree.specs.declared.line.BadLine.{BadLine}
 use Rattle.qc_tree.specs.declared.line.Line.{Line}
-use Rattle.qc_tree.specs.declared.line.Line.TheVariants.{Title, Title2, Title3, FreeTitle, Up, Down, Assign, Order, Chain, Ring, Reach, Work, Clash, End}
+use Rattle.qc_tree.specs.declared.line.Line.TheVariants.{Title, FreeTitle, Up, Down, Assign, Order, Chain, Ring, Reach, Work, Clash, End}
 use Rattle.qc_tree.specs.Lines.{AreTasks, IsLine, IsTask, IsTextOf, IsValue, Reads, bound_field, fields, line_list, line_text}
-use Rattle.qc_tree.specs.LineIn.{Listed, alone, are_tasks, candidate, in_range, is_task, is_value, is_word, is_written, line_in, title_by, words}
+use Rattle.qc_tree.specs.LineIn.{Listed, alone, are_tasks, candidate, in_range, is_task, is_value, is_word, is_written, line_in, words}
 use Rattle.qc_tree.specs.Trees.{whole_line}
 use Rattle.qc_num.proofs.DigitLemmas.{decimal_digits, own}
 use Rattle.qc_tree.proofs.OneSpelling.{never_digits}
@@ -53,8 +53,6 @@ is_value_of (Least x) h = lt-ltb x (10 ^ 15) h
 
 pub line_of : (line : Line) (list : List ℕ) → in_range line list ≡ true → IsLine line list
 line_of Title list e = tt
-line_of Title2 list e = tt
-line_of Title3 list e = tt
 line_of FreeTitle list e = tt
 line_of Up list e = tt
 line_of Down list e = tt
@@ -79,8 +77,6 @@ line_of (End b x) list e =
 
 pub in_range_of : (line : Line) (list : List ℕ) → IsLine line list → in_range line list ≡ true
 in_range_of Title list h = refl
-in_range_of Title2 list h = refl
-in_range_of Title3 list h = refl
 in_range_of FreeTitle list h = refl
 in_range_of Up list h = refl
 in_range_of Down list h = refl
@@ -103,16 +99,9 @@ in_range_of (End b x) list h =
 abbrev IsListed : Listed → Type 0
 IsListed seen = seen.list ≡ line_list seen.line seen.list
 
-title_listed : (word : List ℕ) → IsListed (alone (title_by word))
-title_listed word =
-    cond_both (bytes_eq word (codes "1")) Title (cond (bytes_eq word (codes "2")) Title2 Title3)
-    (λ line. IsListed (alone line)) (λ _. refl)
-    (λ _. cond_both (bytes_eq word (codes "2")) Title2 Title3 (λ line. IsListed (alone line)) (λ _. refl)
-    (λ _. refl))
-
 candidate_listed : (ws : List (List ℕ)) → IsListed (candidate ws)
 candidate_listed ws =
-    cond_both (is_word ws 0 (codes "QCTREE")) _ _ IsListed (λ _. title_listed (get_or ws 1 []))
+    cond_both (is_word ws 0 (codes "QCTREE")) _ _ IsListed (λ _. refl)
     (λ _. cond_both (is_word ws 0 (codes "QCFREE")) _ _ IsListed (λ _. refl)
     (λ _. cond_both (is_word ws 0 (codes "up")) _ _ IsListed (λ _. refl)
     (λ _. cond_both (is_word ws 0 (codes "down")) _ _ IsListed (λ _. refl)
@@ -232,8 +221,6 @@ candidate_end b (Least x) small value =
 candidate_of : (line : Line) (list : List ℕ) → IsLine line list → list ≡ line_list line list
     → IsCandidate line list
 candidate_of Title list h e = rw e refl
-candidate_of Title2 list h e = rw e refl
-candidate_of Title3 list h e = rw e refl
 candidate_of FreeTitle list h e = rw e refl
 candidate_of Up list h e = rw e refl
 candidate_of Down list h e = rw e refl
@@ -319,9 +306,7 @@ with_fields word ns e wide = All-append (IsNot 10) word (fields ns) (written_fre
 
 -- no line's text has a line feed
 pub line_free : (line : Line) (list : List ℕ) → IsLine line list → IsFreeOf 10 (line_text line list)
-line_free Title list h = written_free 10 (codes "QCTREE 1") refl
-line_free Title2 list h = written_free 10 (codes "QCTREE 2") refl
-line_free Title3 list h = written_free 10 (codes "QCTREE 3") refl
+line_free Title list h = written_free 10 (codes "QCTREE 3") refl
 line_free FreeTitle list h = written_free 10 (codes "QCFREE 1") refl
 line_free Up list h = written_free 10 (codes "up") refl
 line_free Down list h = written_free 10 (codes "down") refl

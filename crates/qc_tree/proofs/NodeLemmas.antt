@@ -3,16 +3,16 @@ use Rattle.std.proofs.Common.{◌≡◌, ◌+◌, List, [], ◌∷◌, ◌++◌,
 use Rattle.std.proofs.lemmas.List.Sums.{sum_by-append}
 use Rattle.qc_model.specs.declared.decision.Decision.{Decision}
 use Rattle.qc_model.specs.Instance.{InstanceView}
-use Rattle.qc_model.specs.Leaves.{Version, chain}
+use Rattle.qc_model.specs.Leaves.{chain}
 use Rattle.qc_tree.specs.Trees.{Leads, Node, branches, branchings, leaf}
 
-module _ (version : Version) (inst : InstanceView) where
+module _ (inst : InstanceView) where
   -- nodes that lead to others, and then nodes that these lead to
   pub leads_then : (one two : List Node) (due between left : List (List Decision))
-      → Leads version inst due one between → Leads version inst between two left
-      → Leads version inst due (one ++ two) left
+      → Leads inst due one between → Leads inst between two left
+      → Leads inst due (one ++ two) left
   leads_then [] two due between left e h =
-      subst (λ (d : List (List Decision)). Leads version inst d two left) (sym e) h
+      subst (λ (d : List (List Decision)). Leads inst d two left) (sym e) h
   leads_then (node ∷ one) two [] between left h k = absurd h
   leads_then (node ∷ one) two (ds ∷ more) between left h k = (h.0, h.1, leads_then one two _ between left h.2 k)
 
@@ -21,7 +21,7 @@ module _ (version : Version) (inst : InstanceView) where
   given_up ds = record { decisions = ds; sign = leaf (chain []) }
 
   -- whatever nodes must come, they can be given up
-  pub all_given_up : (due : List (List Decision)) → Leads version inst due (map given_up due) []
+  pub all_given_up : (due : List (List Decision)) → Leads inst due (map given_up due) []
   all_given_up [] = refl
   all_given_up (ds ∷ more) = (refl, refl, all_given_up more)
 

@@ -14,7 +14,7 @@ use Rattle.qc_model.specs.declared.turn.Turn.{Turn}
 use Rattle.qc_model.specs.declared.turn.Turn.TheVariants.{OneWay, Free}
 use Rattle.qc_model.specs.Frames.{GoesBy}
 use Rattle.qc_model.specs.Instance.{InstanceView, Valid}
-use Rattle.qc_model.specs.Leaves.{Version, leaf_value, with_packed}
+use Rattle.qc_model.specs.Leaves.{leaf_value}
 use Rattle.qc_model.specs.Nodes.{Agrees, Conflicts, Fits, IsSettled}
 use Rattle.qc_model.specs.OneWay.{IsAllowedBy, mirror, mirror_schedule, mirror_slot, mirror_task}
 use Rattle.qc_model.specs.Rules.{Feasible, crane_of, ends, last_end, starts}
@@ -36,8 +36,7 @@ shown_through (Some b) c some h = h b refl
 
 -- ---- nodes that come, for a schedule that agrees with one that must come
 
-module _ (inst : InstanceView) (v : Valid inst) (version : Version) (latest : inst.turn ≡ Free → version ≡ with_packed)
-    (sched : List Slot) (g : GoesBy inst.turn inst sched) where
+module _ (inst : InstanceView) (v : Valid inst) (sched : List Slot) (g : GoesBy inst.turn inst sched) where
   feasible : Feasible inst sched
   feasible = by_feasible inst.turn inst sched g
 
@@ -76,7 +75,7 @@ module _ (inst : InstanceView) (v : Valid inst) (version : Version) (latest : in
       (conflict, unordered.0, unordered.1, fits)
 
   -- a schedule that agrees with a branching agrees with one of its children
-  on_one_task : (ds : List Decision) (j : ℕ) → Meets ds → Holds version inst ds (on_task j)
+  on_one_task : (ds : List Decision) (j : ℕ) → Meets ds → Holds inst ds (on_task j)
       → MeetsOne (children inst ds (on_task j))
   on_one_task ds j m holds =
       let k = crane_of sched j in
@@ -84,7 +83,7 @@ module _ (inst : InstanceView) (v : Valid inst) (version : Version) (latest : in
       among_numbers (λ c. decide.Assign j c ∷ ds) k 0 (length inst.cranes) (omega arith) (omega arith)
       ((holds.0, there, holds.1, m.0), (refl, m.1))
 
-  on_one_pair : (ds : List Decision) (i j : ℕ) → Meets ds → Holds version inst ds (on_pair i j)
+  on_one_pair : (ds : List Decision) (i j : ℕ) → Meets ds → Holds inst ds (on_pair i j)
       → MeetsOne (children inst ds (on_pair i j))
   on_one_pair ds i j m holds =
       let conflict = may_conflict inst.turn inst ds i j holds.0 in
@@ -97,32 +96,32 @@ module _ (inst : InstanceView) (v : Valid inst) (version : Version) (latest : in
 
   -- where it agrees with a node that must come, the next node shows no later end, or it agrees with one that must
   -- come behind this
-  line_met : (sign : Sign) (ds : List Decision) (more : List (List Decision)) → Holds version inst ds sign
+  line_met : (sign : Sign) (ds : List Decision) (more : List (List Decision)) → Holds inst ds sign
       → MeetsOne (ds ∷ more)
-      → IsAtMost (sign_value version inst ds sign) (Least (ends inst sched))
+      → IsAtMost (sign_value inst ds sign) (Least (ends inst sched))
       ⊎ MeetsOne (children inst ds sign ++ more)
   line_met sign ds more holds (inr m) = inr (among_second (children inst ds sign) more m)
   line_met (leaf shows) ds more holds (inl m) =
-      inl (shown_through (leaf_value version inst ds shows) (Least (ends inst sched)) holds
-      (λ b e. leaf_le inst ds sched g m.1 v m.0 version latest shows b e))
+      inl (shown_through (leaf_value inst ds shows) (Least (ends inst sched)) holds
+      (λ b e. leaf_le inst ds sched g m.1 v m.0 shows b e))
   line_met (on_task j) ds more holds (inl m) =
       inr (among_first (children inst ds (on_task j)) more (on_one_task ds j m holds))
   line_met (on_pair i j) ds more holds (inl m) =
       inr (among_first (children inst ds (on_pair i j)) more (on_one_pair ds i j m holds))
 
   -- it ends no earlier than the least value of the nodes that come
-  nodes_met : (nodes : List Node) (due : List (List Decision)) → Leads version inst due nodes []
-      → MeetsOne due → IsAtMost (part_value version inst nodes) (Least (ends inst sched))
+  nodes_met : (nodes : List Node) (due : List (List Decision)) → Leads inst due nodes []
+      → MeetsOne due → IsAtMost (part_value inst nodes) (Least (ends inst sched))
   nodes_met [] due h m = absurd (subst MeetsOne h m)
   nodes_met (node ∷ nodes) [] h m = absurd h
   nodes_met (node ∷ nodes) (ds ∷ more) h m =
       let end = Least (ends inst sched) in
-      let first = node_value version inst node in
-      let rest = part_value version inst nodes in
+      let first = node_value inst node in
+      let rest = part_value inst nodes in
       elim (line_met node.sign ds more h.1 m) [
         | inl one ↦
             first_through first rest end
-            (subst (λ (d : List Decision). IsAtMost (sign_value version inst d node.sign) end) (sym h.0) one)
+            (subst (λ (d : List Decision). IsAtMost (sign_value inst d node.sign) end) (sym h.0) one)
         | inr next ↦
             second_through first rest end
             (nodes_met nodes (children inst ds node.sign ++ more) h.2 next)
@@ -138,35 +137,31 @@ mirrored_end inst (t ∷ ts) [] = refl
 mirrored_end inst (t ∷ ts) (s ∷ ss) = ap (λ n. max (s.start + t.ticks) n) (mirrored_end inst ts ss)
 
 module _ (inst : InstanceView) (v : Valid inst) (tree : Tree) (is : IsTree inst tree) (sched : List Slot) where
-  one_only : {C : Type 0} → inst.turn ≡ OneWay → inst.turn ≡ Free → C
-  one_only one free = absurd (cc (one, free))
-
   abbrev up : Bound
-  up = part_value tree.version inst tree.up
+  up = part_value inst tree.up
 
   abbrev down : Bound
-  down = part_value tree.version (mirror inst) tree.down
+  down = part_value (mirror inst) tree.down
 
   abbrev end : Bound
   end = Least (ends inst sched)
 
-  bound_by : (turn : Turn) → inst.turn ≡ turn → IsSecond turn inst tree.version tree.down
+  bound_by : (turn : Turn) → inst.turn ≡ turn → IsSecond turn inst tree.down
       → IsAllowedBy turn inst sched → IsAtMost (tree_value inst tree) end
   bound_by OneWay one second (inl goes) =
       first_through up down end
-      (nodes_met inst v tree.version (one_only one) sched (goes_by inst.turn inst sched goes) tree.up ([] ∷ []) is.up
-      (inl (tt, tt)))
+      (nodes_met inst v sched (goes_by inst.turn inst sched goes) tree.up ([] ∷ []) is.up (inl (tt, tt)))
   bound_by OneWay one second (inr goes) =
       let turned = mirror_schedule inst sched in
       let met =
-      nodes_met (mirror inst) (mirror_valid inst v) tree.version (one_only one) turned
-      (goes_by inst.turn (mirror inst) turned goes.mirrored) tree.down ([] ∷ []) second (inl (tt, tt)) in
+      nodes_met (mirror inst) (mirror_valid inst v) turned (goes_by inst.turn (mirror inst) turned goes.mirrored)
+      tree.down ([] ∷ []) second (inl (tt, tt)) in
       let same : ends (mirror inst) turned ≡ ends inst sched = mirrored_end inst inst.tasks sched in
       second_through up down end (subst (λ (n : ℕ). IsAtMost down (Least n)) same met)
   bound_by Free free second goes =
       first_through up down end
-      (nodes_met inst v tree.version (λ _. second.0) sched (subst (λ (t : Turn). GoesBy t inst sched) (sym free) goes)
-      tree.up ([] ∷ []) is.up (inl (tt, tt)))
+      (nodes_met inst v sched (subst (λ (t : Turn). GoesBy t inst sched) (sym free) goes) tree.up ([] ∷ []) is.up
+      (inl (tt, tt)))
 
 pub tree_bound : (inst : InstanceView) → Valid inst → (tree : Tree) → IsTree inst tree
     → NoneEarlier inst (tree_value inst tree)

@@ -1,7 +1,7 @@
 -- inner: what the steps of a reading say: numbers at the front of a text, and lines without numbers.
 use Rattle.std.specs.Prelude.{◌≡◌, ℕ, ◌<◌, ◌^◌, List, [], ◌∷◌, ◌++◌, All, false, decimal}
 use Rattle.qc_tree.specs.Lines.{line_text}
-use Rattle.qc_tree.specs.declared.line.Line.TheVariants.{Title, Title2, Title3, FreeTitle, Up, Down, Reach}
+use Rattle.qc_tree.specs.declared.line.Line.TheVariants.{Title, FreeTitle, Up, Down, Reach}
 use Rattle.std.specs.Char.{is_ascii_digit}
 
 -- no digit is first
@@ -21,7 +21,7 @@ NoField text most = (n : ℕ) (rest : List ℕ) → ¬ (IsField text most n rest
 
 -- the text is no title
 abbrev pub IsNoTitle : List ℕ → Type 0
-IsNoTitle text = All (λ line. ¬ (text ≡ line_text line [])) (Title ∷ Title2 ∷ Title3 ∷ FreeTitle ∷ [])
+IsNoTitle text = All (λ line. ¬ (text ≡ line_text line [])) (Title ∷ FreeTitle ∷ [])
 
 -- the text is no other line without numbers
 abbrev pub IsNoWord : List ℕ → Type 0

@@ -5,7 +5,7 @@ use Rattle.std.specs.Str.Parse.{digits_value}
 use Rattle.qc_num.specs.declared.bound.Bound.{Bound}
 use Rattle.qc_num.specs.declared.bound.Bound.TheVariants.{Least, Never}
 use Rattle.qc_tree.specs.declared.line.Line.{Line}
-use Rattle.qc_tree.specs.declared.line.Line.TheVariants.{Title, Title2, Title3, FreeTitle, Up, Down, Assign, Order, Chain, Ring, Reach, Work, Clash, End}
+use Rattle.qc_tree.specs.declared.line.Line.TheVariants.{Title, FreeTitle, Up, Down, Assign, Order, Chain, Ring, Reach, Work, Clash, End}
 use Rattle.qc_tree.specs.Lines.{line_text}
 
 -- a line with its list
@@ -27,15 +27,10 @@ is_word ws i word = bytes_eq (get_or ws i []) word
 abbrev pub number_at : List (List ℕ) → ℕ → ℕ
 number_at ws i = digits_value 10 (get_or ws i [])
 
--- the only title whose number this word can be, if it is one
-abbrev pub title_by : List ℕ → Line
-title_by word =
-    if bytes_eq word (codes "1") then Title else if bytes_eq word (codes "2") then Title2 else Title3
-
 -- the only line that these words can be, if they are one: by the first word, with the numbers of the others
 abbrev pub candidate : List (List ℕ) → Listed
 candidate ws =
-    if is_word ws 0 (codes "QCTREE") then alone (title_by (get_or ws 1 []))
+    if is_word ws 0 (codes "QCTREE") then alone Title
     else if is_word ws 0 (codes "QCFREE") then alone FreeTitle
     else if is_word ws 0 (codes "up") then alone Up
     else if is_word ws 0 (codes "down") then alone Down

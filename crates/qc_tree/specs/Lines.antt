@@ -4,7 +4,7 @@ use Rattle.std.specs.List.{flat_map}
 use Rattle.qc_num.specs.declared.bound.Bound.{Bound}
 use Rattle.qc_num.specs.declared.bound.Bound.TheVariants.{Least, Never}
 use Rattle.qc_tree.specs.declared.line.Line.{Line}
-use Rattle.qc_tree.specs.declared.line.Line.TheVariants.{Title, Title2, Title3, FreeTitle, Up, Down, Assign, Order, Chain, Ring, Reach, Work, Clash, End}
+use Rattle.qc_tree.specs.declared.line.Line.TheVariants.{Title, FreeTitle, Up, Down, Assign, Order, Chain, Ring, Reach, Work, Clash, End}
 use Rattle.qc_tree.specs.declared.line.BadLine.{BadLine}
 
 -- numbers in plain decimal, each after one space
@@ -18,9 +18,7 @@ bound_field Never = codes " never"
 
 -- the text of a line, without its line feed; the path is the list of a chain, a ring or packed tasks
 abbrev pub line_text : Line → List ℕ → List ℕ
-line_text Title path = codes "QCTREE 1"
-line_text Title2 path = codes "QCTREE 2"
-line_text Title3 path = codes "QCTREE 3"
+line_text Title path = codes "QCTREE 3"
 line_text FreeTitle path = codes "QCFREE 1"
 line_text Up path = codes "up"
 line_text Down path = codes "down"
@@ -49,8 +47,6 @@ IsValue Never = Unit {0}
 -- the numbers of the line are in their ranges
 abbrev pub IsLine : Line → List ℕ → Type 0
 IsLine Title path = Unit {0}
-IsLine Title2 path = Unit {0}
-IsLine Title3 path = Unit {0}
 IsLine FreeTitle path = Unit {0}
 IsLine Up path = Unit {0}
 IsLine Down path = Unit {0}

@@ -11,14 +11,14 @@ use Rattle.qc_model.specs.declared.schedule.Slot.{Slot}
 use Rattle.qc_model.specs.declared.turn.Turn.{Turn}
 use Rattle.qc_model.specs.declared.turn.Turn.TheVariants.{OneWay, Free}
 use Rattle.qc_model.specs.Instance.{InstanceView, IsApart}
-use Rattle.qc_model.specs.Leaves.{Leaf, Version, chain, packed, ring, reach, work, without_berths, with_berths, with_packed, leaf_value}
+use Rattle.qc_model.specs.Leaves.{Leaf, chain, packed, ring, reach, work, leaf_value}
 use Rattle.qc_model.specs.Work.{crane_numbers}
 use Rattle.qc_model.specs.Nodes.{Conflicts, IsSettled, assigned}
 use Rattle.qc_model.specs.Numbers.{most_branchings}
 use Rattle.qc_model.specs.OneWay.{IsAllowed, mirror}
 use Rattle.qc_model.specs.Rules.{ends}
 use Rattle.qc_tree.specs.declared.line.Line.{Line}
-use Rattle.qc_tree.specs.declared.line.Line.TheVariants.{Title, Title2, Title3, FreeTitle, Up, Down, Assign, Order, Chain, Ring, Reach, Work, Clash, End}
+use Rattle.qc_tree.specs.declared.line.Line.TheVariants.{Title, FreeTitle, Up, Down, Assign, Order, Chain, Ring, Reach, Work, Clash, End}
 use Rattle.qc_tree.specs.Lines.{line_text}
 
 -- what the line of a node says; tasks are numbered from 0
@@ -45,10 +45,10 @@ abbrev pub MayOrder : InstanceView → List Decision → ℕ → ℕ → Type 0
 MayOrder inst ds i j = MayOrderBy inst.turn inst ds i j
 
 -- the line holds where it stands: a leaf shows something, a branching is on what is open
-abbrev pub Holds : Version → InstanceView → List Decision → Sign → Type 0
-Holds version inst ds (leaf shows) = IsSome (leaf_value version inst ds shows)
-Holds version inst ds (on_task j) = (j < length inst.tasks) × (assigned ds j ≡ None)
-Holds version inst ds (on_pair i j) = MayOrder inst ds i j × (¬ IsSettled inst ds i j)
+abbrev pub Holds : InstanceView → List Decision → Sign → Type 0
+Holds inst ds (leaf shows) = IsSome (leaf_value inst ds shows)
+Holds inst ds (on_task j) = (j < length inst.tasks) × (assigned ds j ≡ None)
+Holds inst ds (on_pair i j) = MayOrder inst ds i j × (¬ IsSettled inst ds i j)
 
 -- the decisions of a node's children, in the order of the file: one for each crane, or one for each order
 abbrev pub children : InstanceView → List Decision → Sign → List (List Decision)
@@ -57,35 +57,34 @@ children inst ds (on_task j) = map (λ k. decide.Assign j k ∷ ds) (crane_numbe
 children inst ds (on_pair i j) = (decide.Order i j ∷ ds) ∷ (decide.Order j i ∷ ds) ∷ []
 
 -- where nodes of these decisions must come, these nodes come, each before its children, and leave those others
-abbrev pub Leads : Version → InstanceView → List (List Decision) → List Node → List (List Decision) → Type 0
-Leads version inst due [] left = due ≡ left
-Leads version inst [] (node ∷ nodes) left = ⊥
-Leads version inst (ds ∷ more) (node ∷ nodes) left =
-    (node.decisions ≡ ds) × Holds version inst ds node.sign
-    × Leads version inst (children inst ds node.sign ++ more) nodes left
+abbrev pub Leads : InstanceView → List (List Decision) → List Node → List (List Decision) → Type 0
+Leads inst due [] left = due ≡ left
+Leads inst [] (node ∷ nodes) left = ⊥
+Leads inst (ds ∷ more) (node ∷ nodes) left =
+    (node.decisions ≡ ds) × Holds inst ds node.sign
+    × Leads inst (children inst ds node.sign ++ more) nodes left
 
 -- the nodes are those of a whole part, from the node without decisions on
-abbrev pub IsPart : Version → InstanceView → List Node → Type 0
-IsPart version inst nodes = Leads version inst ([] ∷ []) nodes []
+abbrev pub IsPart : InstanceView → List Node → Type 0
+IsPart inst nodes = Leads inst ([] ∷ []) nodes []
 
 -- a part for the instance, and one for its mirror, each as its nodes in the order of the file; where cranes go as they
 -- like the second has none
 pub record Tree : Type 0 where
-  pub version : Version
   pub up : List Node
   pub down : List Node
 
 -- what a leaf shows; a branching shows nothing by itself
-abbrev pub sign_value : Version → InstanceView → List Decision → Sign → Bound
-sign_value version inst ds (leaf shows) = unwrap_or (leaf_value version inst ds shows) Never
-sign_value version inst ds _ = Never
+abbrev pub sign_value : InstanceView → List Decision → Sign → Bound
+sign_value inst ds (leaf shows) = unwrap_or (leaf_value inst ds shows) Never
+sign_value inst ds _ = Never
 
-abbrev pub node_value : Version → InstanceView → Node → Bound
-node_value version inst node = sign_value version inst node.decisions node.sign
+abbrev pub node_value : InstanceView → Node → Bound
+node_value inst node = sign_value inst node.decisions node.sign
 
 -- the least value of the leaves
-abbrev pub part_value : Version → InstanceView → List Node → Bound
-part_value version inst nodes = least_bound (map (node_value version inst) nodes)
+abbrev pub part_value : InstanceView → List Node → Bound
+part_value inst nodes = least_bound (map (node_value inst) nodes)
 
 -- the line branches on something
 abbrev pub branches : Sign → Bool
@@ -98,21 +97,21 @@ branchings = count_by (λ node. branches node.sign)
 abbrev pub tree_branchings : Tree → ℕ
 tree_branchings tree = branchings tree.up + branchings tree.down
 
--- the second part: where cranes go one way that of the mirror; else there is none, and trees have the latest version
-abbrev pub IsSecond : Turn → InstanceView → Version → List Node → Type 0
-IsSecond OneWay inst version nodes = IsPart version (mirror inst) nodes
-IsSecond Free inst version nodes = (version ≡ with_packed) × (nodes ≡ [])
+-- the second part: where cranes go one way that of the mirror; else there is none
+abbrev pub IsSecond : Turn → InstanceView → List Node → Type 0
+IsSecond OneWay inst nodes = IsPart (mirror inst) nodes
+IsSecond Free inst nodes = nodes ≡ []
 
 -- the tree is one of the instance
 pub record IsTree (inst : InstanceView) (tree : Tree) : Type 0 where
-  pub up : IsPart tree.version inst tree.up
-  pub down : IsSecond inst.turn inst tree.version tree.down
+  pub up : IsPart tree.inst tree.up
+  pub down : IsSecond inst.turn inst tree.down
   pub few : tree_branchings tree ≤ most_branchings
 
 -- what the tree shows: no schedule of the instance's turn ends earlier
 abbrev pub tree_value : InstanceView → Tree → Bound
 tree_value inst tree =
-    lesser (part_value tree.version inst tree.up) (part_value tree.version (mirror inst) tree.down)
+    lesser (part_value tree.inst tree.up) (part_value (mirror inst) tree.down)
 
 -- a line as it stands in a file
 abbrev pub whole_line : Line → List ℕ → List ℕ
@@ -139,15 +138,10 @@ sign_text (on_pair i j) = whole_line (Order (i + 1) (j + 1)) []
 abbrev pub part_text : List Node → List ℕ
 part_text = flat_map (λ node. sign_text node.sign)
 
-abbrev pub title : Version → Line
-title without_berths = Title
-title with_berths = Title2
-title with_packed = Title3
-
 -- the lines ahead of the last one
 abbrev pub lines_by : Turn → Tree → List ℕ
 lines_by OneWay tree =
-    whole_line (title tree.version) []
+    whole_line Title []
     ++ whole_line Up [] ++ part_text tree.up
     ++ whole_line Down [] ++ part_text tree.down
 lines_by Free tree = whole_line FreeTitle [] ++ part_text tree.up

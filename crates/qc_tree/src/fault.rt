@@ -34,7 +34,7 @@ pub enum TreeKind {
     NotClash,
     /// The newest decision doesn't put a task on a crane that can't reach it.
     InReach,
-    /// The work isn't shown to be too much before the end, as the tree's version counts it.
+    /// The work isn't shown to be too much before the end.
     WorkShort,
     /// The last line tells another number of branchings, or another value.
     Counts,

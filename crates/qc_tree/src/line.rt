@@ -17,15 +17,9 @@ pub const MOST_BRANCHINGS: u32 = 100_000;
 /// ring or a clash stand in a path beside it.
 #[derive(Clone, Copy, PartialEq, Eq)]
 pub enum Line {
-    /// The title of a tree of version 1: heads don't count the start berths of other cranes.
+    /// The title of a tree over the schedules that go one way, upward or downward: it has a part for each.
     Title,
-    /// The title of a tree of version 2: heads count them.
-    Title2,
-    /// The title of a tree of version 3: heads count them, leaves may list packed tasks, and those of
-    /// work count how many cranes must come to each bay.
-    Title3,
-    /// The title of a tree over all feasible schedules, whichever way cranes go: it has one part, and
-    /// the leaves of version 3.
+    /// The title of a tree over all feasible schedules, whichever way cranes go: it has one part.
     FreeTitle,
     /// Here begins the part of the upward schedules.
     Up,

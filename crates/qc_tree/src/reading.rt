@@ -111,10 +111,6 @@ fn title_in(rest: &[u8]) -> Option<Line>
         (λ line. IsTextOf (81 ∷ rest.now) line []) }
 {
     if rest == b"CTREE 3".as_slice() {
-        Some(Line::Title3)
-    } else if rest == b"CTREE 2".as_slice() {
-        Some(Line::Title2)
-    } else if rest == b"CTREE 1".as_slice() {
         Some(Line::Title)
     } else if rest == b"CFREE 1".as_slice() {
         Some(Line::FreeTitle)

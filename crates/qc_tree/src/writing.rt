@@ -29,9 +29,7 @@ fn push_line(text: &mut Text<ROOM>, line: &Line, path: &[u16])
     ensures { text.new ≡ line_text line.now path.now ++ 10 ∷ [] }
 {
     match *line {
-        Line::Title => text.push(b"QCTREE 1"),
-        Line::Title2 => text.push(b"QCTREE 2"),
-        Line::Title3 => text.push(b"QCTREE 3"),
+        Line::Title => text.push(b"QCTREE 3"),
         Line::FreeTitle => text.push(b"QCFREE 1"),
         Line::Up => text.push(b"up"),
         Line::Down => text.push(b"down"),

@@ -4,6 +4,5 @@ use Rattle.qc_replay.proofs.node.clash_bound.Goals as goal
 
 pub returns-in-Some : goal.returns-in-Some
 returns-in-Some c =
-    clash_shows c.args.node.now.inst c.args.node.now.decisions c.args.version c.args.numbers.now
-    (sym c.has_packed.ensures ∙ c.if-not-has_packed.false) (sym c.are_numbers.ensures ∙ c.if-not-are_numbers.false)
-    (Some c.in-Some.end) (sym c.in-Some.is ∙ c.packed_end.ensures)
+    clash_shows c.args.node.now.inst c.args.node.now.decisions c.args.numbers.now
+    (sym c.are_numbers.ensures ∙ c.if-not-are_numbers.false) (Some c.in-Some.end) (sym c.in-Some.is ∙ c.packed_end.ensures)

@@ -32,10 +32,10 @@ returns-then-not-may_order-clause-judged c = λ numbers.
     let other = c.args.other in
     let before = c.args.descent.now in
     let node = c.node-node.ensures.node in
-    subst (λ (fault : TreeKind). IsJudged c.args.version before c.args.tally (Order one other) numbers before (Err fault))
+    subst (λ (fault : TreeKind). IsJudged before c.args.tally (Order one other) numbers before (Err fault))
     (sym (c.no_order.ensures ∙ ap no_order (c.turn.ensures ∙ ap (λ (i : InstanceView). i.turn) c.instance.ensures.same
     ∙ ap (λ (n : Node). n.inst.turn) node)))
-    (pair_barred c.args.version before before c.requires.live c.args.tally one other numbers
+    (pair_barred before before c.requires.live c.args.tally one other numbers
     (subst (λ (n : Node). (is_number n.inst one && is_number n.inst other) ≡ true) node
     (sym c.are_both_numbers.ensures.numbers ∙ c.if-not-are_both_numbers.false))
     (subst (λ (n : Node). may_order n.inst.turn n.inst n.decisions (one - 1) (other - 1) ≡ false) node
@@ -49,7 +49,7 @@ returns-clause-judged c = λ numbers.
     let node = c.node-node.ensures.node in
     let open_pair = subst (λ (n : Node). ¬ (IsSettled n.inst n.decisions (one - 1) (other - 1))) node
     (λ s. true≢false (sym (c.settled.ensures.1 s) ∙ c.if-settled.false)) in
-    pair_judged c.args.version before c.on_pair.new.self c.requires.live c.args.tally one other numbers
+    pair_judged before c.on_pair.new.self c.requires.live c.args.tally one other numbers
     (subst (λ (n : Node). (is_number n.inst one && is_number n.inst other) ≡ true) node
     (sym c.are_both_numbers.ensures.numbers ∙ c.if-not-are_both_numbers.false))
     (subst (λ (n : Node). may_order n.inst.turn n.inst n.decisions (one - 1) (other - 1) ≡ true) node
@@ -62,7 +62,7 @@ returns-then-settled-clause-judged c = λ numbers.
     let other = c.args.other in
     let before = c.args.descent.now in
     let node = c.node-node.ensures.node in
-    pair_decided c.args.version before before c.requires.live c.args.tally one other numbers
+    pair_decided before before c.requires.live c.args.tally one other numbers
     (subst (λ (n : Node). (is_number n.inst one && is_number n.inst other) ≡ true) node
     (sym c.are_both_numbers.ensures.numbers ∙ c.if-not-are_both_numbers.false))
     (subst (λ (n : Node). may_order n.inst.turn n.inst n.decisions (one - 1) (other - 1) ≡ true) node
@@ -76,7 +76,7 @@ returns-in_err-now-clause-judged c = λ numbers.
     let before = c.args.descent.now in
     let node = c.node-node.ensures.node in
     let why = c.in_err-now.field-0.0 in
-    pair_too_many c.args.version before before c.requires.live c.args.tally one other numbers
+    pair_too_many before before c.requires.live c.args.tally one other numbers
     (subst (λ (n : Node). (is_number n.inst one && is_number n.inst other) ≡ true) node
     (sym c.are_both_numbers.ensures.numbers ∙ c.if-not-are_both_numbers.false))
     (subst (λ (n : Node). may_order n.inst.turn n.inst n.decisions (one - 1) (other - 1) ≡ true) node

@@ -1,12 +1,8 @@
-use Rattle.std.proofs.Common.{reverse, ◌∙◌, ap, arith}
+use Rattle.std.proofs.Common.{arith}
 use Rattle.std.proofs.lemmas.Grind.{common_steps}
-use Rattle.qc_model.specs.declared.task.Task.{Task}
 use Rattle.qc_model.specs.declared.decision.Decision.TheVariants.{Assign}
 use Rattle.qc_dist.specs.Fields.{beside}
-use Rattle.qc_dist.specs.Kept.{decisions_of}
-use Rattle.qc_dist.proofs.Bounds.{crane_load_bounded}
 use Rattle.qc_dist.proofs.Changes.{after_assign, can_assign, made_room}
-use Rattle.qc_dist.proofs.Assigned.{ticks_after}
 use Rattle.qc_dist.proofs.decisions.Decisions.assign.Goals as goal
 
 pub push_reserved-requires : goal.push_reserved-requires
@@ -17,32 +13,12 @@ push_reserved-requires c =
     let room = made_room f.inst kept.valid f.made.items _ (Assign c.args.task c.args.crane) (can.task, can.crane, can.none, kept.fits) kept.room in
     omega (arith, f.made.ok.0, room)
 
-pub load_with-requires-clause-load : goal.load_with-requires-clause-load
-load_with-requires-clause-load c =
-    let f = c.self.inside in
-    let kept = c.self.invariant in
-    let ds = decisions_of (reverse f.made.items) in
-    let can = can_assign f _ c.args.task c.args.crane c.self.view_is (record { task = c.requires.task; crane = c.requires.crane; none = c.requires.none }) in
-    rw (c.index-load.ensures ∙ kept.loads.values c.args.crane c.index-load.result.now can.crane)
-    (crane_load_bounded f.inst kept.valid ds kept.fits c.args.crane)
-
-pub overflow_sub-self : goal.overflow_sub-self
-overflow_sub-self c =
-    let f = c.self.inside in
-    let kept = c.self.invariant in
-    let can = can_assign f _ c.args.task c.args.crane c.self.view_is (record { task = c.requires.task; crane = c.requires.crane; none = c.requires.none }) in
-    let job = ap (λ (t : Task). t.ticks) c.task-job.ensures.task in
-    let ds = decisions_of (reverse f.made.items) in
-    omega (arith, job, kept.unassigned, ticks_after f.inst ds c.args.task c.args.crane can.task can.none)
-
 pub invariant_of-self : goal.invariant_of-self
 invariant_of-self c =
     let f = c.self.inside in
     let can = can_assign f _ c.args.task c.args.crane c.self.view_is (record { task = c.requires.task; crane = c.requires.crane; none = c.requires.none }) in
-    rw c.load_with.ensures
-    (after_assign f.inst f.made.items c.push_reserved.new.self.items _ (beside f) c.args.task c.args.crane
-    c.index-load.result.now c.task-job.result c.self.invariant can c.index-load.ensures c.task-job.ensures.task
-    c.push_reserved.ensures.items c.push_reserved.ensures.capacity)
+    after_assign f.inst f.made.items c.push_reserved.new.self.items _ (beside f) c.args.task c.args.crane
+    c.self.invariant can c.push_reserved.ensures.items c.push_reserved.ensures.capacity
 
 pub returns-clause-added : goal.returns-clause-added
 returns-clause-added c = grind (arith, common_steps)

@@ -1,5 +1,4 @@
 use Rattle.std.proofs.Common.{◌∙◌, reverse}
-use Rattle.qc_dist.specs.Kept.{decisions_of}
 use Rattle.qc_dist.proofs.Facts.{assigned_range}
 use Rattle.qc_dist.proofs.decisions.Decisions.crane_of.Goals as goal
 
@@ -10,4 +9,4 @@ returns-clause-range c =
     let f = c.self.inside in
     rw (← c.self.view_is)
     (rw (c.index.ensures ∙ kept.cranes.values c.args.task c.index.result.now inside)
-    (assigned_range f.inst (decisions_of (reverse f.made.items)) kept.fits c.args.task))
+    (assigned_range f.inst (reverse f.made.items) kept.fits c.args.task))

@@ -8,4 +8,3 @@ invariant_of-result c =
     (rw (c.task_count-tasks.ensures.count, c.order_pairs.ensures.count) at c.in_ok-with_capacity.ensures.capacity)
     (c.in_ok-vec.ensures.items_if_clones_equal (search rules) ∙ ap (λ n. replicate n None) c.task_count-tasks.ensures.count)
     c.in_ok-before_marks.ensures (rw c.task_count-tasks.ensures.count at c.in_ok-no_marks.ensures) c.in_ok-head_table.ensures
-    (c.in_ok-vec-2.ensures.items_if_clones_equal (search rules) ∙ ap (λ n. replicate n None) c.crane_count.ensures.count) c.all_ticks.ensures

@@ -1,8 +1,7 @@
-use Rattle.std.proofs.Common.{None, [], ◌∷◌, arith}
+use Rattle.std.proofs.Common.{[], ◌∷◌, arith}
 use Rattle.std.proofs.lemmas.Grind.{common_steps}
 use Rattle.std.proofs.lemmas.List.{reverse-append}
 use Rattle.qc_model.specs.declared.decision.Decision.TheVariants.{Order}
-use Rattle.qc_dist.specs.declared.made.Made.{Made}
 use Rattle.qc_dist.specs.Fields.{beside}
 use Rattle.qc_dist.proofs.Changes.{after_order, can_order, made_room}
 use Rattle.qc_dist.proofs.decisions.Decisions.order.Goals as goal
@@ -49,6 +48,5 @@ returns-clause-fits c =
     let f = c.self.inside in
     let kept = c.self.invariant in
     let can = can_order f kept _ c.args.first c.args.second c.self.view_is c.requires.conflict c.requires.unsettled in
-    let m : Made = record { decision = Order c.args.first c.args.second; load = None } in
-    rw (c.push_reserved.ensures.items, reverse-append f.made.items (m ∷ []))
+    rw (c.push_reserved.ensures.items, reverse-append f.made.items (Order c.args.first c.args.second ∷ []))
     (can.conflict, can.one, can.other, kept.fits)

@@ -5,18 +5,17 @@ use Rattle.qc_replay.proofs.FileFacts.{handed}
 use Rattle.qc_replay.proofs.WalkFacts.{down_read, down_taken, end_taken, handed_on, title_taken, up_taken}
 use Rattle.qc_replay.proofs.walk.Walk.take_known.Goals as goal
 
-pub returns-in_err-self-inside-in-Title-clause-taken : goal.returns-in_err-self-inside-in-Title-clause-taken
-returns-in_err-self-inside-in-Title-clause-taken c =
-    title_taken c.self.inside c.args.self.now c.self.view_is c.self.invariant c.args.line c.args.numbers.now c.in-Title.is c.titled.result c.titled.ensures
-    ∙ handed_on _ _ c.titled.result _ _ c.in_err-self-inside-in-Title.was (search rules)
+pub returns-in_err-expect_title-in-Title-clause-taken : goal.returns-in_err-expect_title-in-Title-clause-taken
+returns-in_err-expect_title-in-Title-clause-taken c =
+    title_taken c.self.inside c.args.self.now c.self.view_is c.self.invariant c.args.line c.args.numbers.now c.in-Title.is c.expect_title.result c.expect_title.ensures
+    ∙ handed_on _ _ c.expect_title.result _ _ c.in_err-expect_title-in-Title.was (search rules)
 
-pub returns-in_ok-self-inside-in-Title-clause-taken : goal.returns-in_ok-self-inside-in-Title-clause-taken
-returns-in_ok-self-inside-in-Title-clause-taken c =
+pub returns-in_ok-expect_title-in-Title-clause-taken : goal.returns-in_ok-expect_title-in-Title-clause-taken
+returns-in_ok-expect_title-in-Title-clause-taken c =
     let w = c.self.inside in
-    title_taken w c.args.self.now c.self.view_is c.self.invariant c.args.line c.args.numbers.now c.in-Title.is c.titled.result c.titled.ensures
-    ∙ ap (leading _) c.in_ok-self-inside-in-Title.was
-    ∙ ap (λ (s : Stage). Ok (reading_at s c.in_ok-self-inside-in-Title.field-0 w.way w.part w.second w.tally))
-    (sym c.behind_title-self-inside.ensures)
+    title_taken w c.args.self.now c.self.view_is c.self.invariant c.args.line c.args.numbers.now c.in-Title.is c.expect_title.result c.expect_title.ensures
+    ∙ ap (leading _) c.in_ok-expect_title-in-Title.was
+    ∙ ap (λ (s : Stage). Ok (reading_at s w.way w.part w.second w.tally)) (sym c.behind_title-self-inside.ensures)
 
 pub returns-in_err-expect_word-in-Up-clause-taken : goal.returns-in_err-expect_word-in-Up-clause-taken
 returns-in_err-expect_word-in-Up-clause-taken c =
