@@ -1,5 +1,8 @@
-//! Arcs between numbered nodes, pushed and popped like a stack, each found again from the node that
-//! it leaves and from the node that it enters. All of them lie in one block of raw memory.
+//! Arcs between numbered nodes, pushed and popped like a stack, in one block of raw memory that
+//! five small functions reach.
+//!
+//! `push` and `pop` keep a list of arcs; `out` and `into_of` walk those from a node and into one,
+//! newest first.
 #![tactic(auto)]
 
 mod arcs;

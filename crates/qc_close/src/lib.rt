@@ -1,6 +1,9 @@
-//! Assignments of tasks to cranes, and what shows of every schedule that keeps one how early it can end,
-//! whatever the order of tasks: tasks of which no two can run together, and ends before which too few
-//! cranes can do what is left.
+//! Assignments of tasks to cranes, and how early a schedule that follows one can end, whatever is
+//! decided of the order of tasks.
+//!
+//! The ticks that packed tasks need (`Crew::pack`), and whether an assignment is closed at an end
+//! and the last such end (`Crew::closed`, `latest_closed`), exactly as defined. As laws no schedule
+//! that follows it ends before (`closed_ends_are_bounds`, `nodes_end_no_earlier`).
 #![tactic(auto)]
 
 mod barred;

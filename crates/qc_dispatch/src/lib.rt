@@ -1,4 +1,10 @@
-//! A dispatcher: it follows the order of a plan while tasks take as long as they do; and logs of what it is told.
+//! A dispatcher: it follows the order of a plan while tasks take as long as they do; and logs of
+//! what it is told.
+//!
+//! Each start comes at the first moment at which the rules allow it, over every list of calls
+//! (`Dispatch::open`, `advance`, `done`). `follow_log` gives what comes of a log, or the fault of
+//! its first faulty line; `waits_for` what an idle crane waits for. Once all tasks have ended the
+//! work was a feasible schedule of the lengths that they took (`work_is_feasible`).
 #![tactic(auto)]
 
 mod dispatch;

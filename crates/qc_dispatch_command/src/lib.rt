@@ -1,4 +1,5 @@
-//! The command that follows the order of a plan by a log of what happens.
+//! The command that follows the order of a plan by a log of what happens: the plan is judged, and
+//! the log read where it is feasible; all files as they were (`dispatch`).
 #![tactic(auto)]
 
 mod answer;

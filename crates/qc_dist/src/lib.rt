@@ -1,5 +1,8 @@
-//! The decisions of a search, and what they ask of every schedule that agrees with them: distances,
-//! forced inequalities, and the ticks at which tasks can start at the least.
+//! The decisions of a search, and what they ask of every schedule that agrees with them, from
+//! tables that each decision keeps up.
+//!
+//! Which task is forced after which and by how many ticks, heads, and settled pairs, each as its
+//! definition says (`Decisions::add`, `undo`, `forced`, `lead`, `settled`).
 #![tactic(auto)]
 
 mod children;

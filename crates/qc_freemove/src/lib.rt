@@ -1,5 +1,8 @@
-//! Where the cranes of a feasible schedule stand, whichever way they go: waypoints in half ticks, since a crane
-//! may turn in the middle of a tick, on its way down from one task and up to the next.
+//! Where the cranes of a feasible schedule stand, whichever way they go: points in half ticks,
+//! since a crane may turn in the middle of a tick.
+//!
+//! As a law every feasible schedule moves safely (`feasible_schedules_are_safe`); `free_waypoints`
+//! gives the points at which a crane starts, stops or turns, and no others.
 #![tactic(auto)]
 
 mod change;

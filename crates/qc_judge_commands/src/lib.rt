@@ -1,4 +1,8 @@
-//! The commands that judge and print: a check of a tree, alone or with a plan, the motion of a plan, and the tasks.
+//! The commands that judge and print: `check` and `freecheck`, one command with the turn as a
+//! datum, `show` and `tasks`.
+//!
+//! What a plan and a tree come to, in their order, with a bound that no schedule of the turn beats;
+//! all files as they were (`check_plan`, `check_tree`, `show`, `list_tasks`).
 #![tactic(auto)]
 
 mod answer;

@@ -1,5 +1,5 @@
 //! Ships and stowage lists that are made from a number, so that the program can be tried at any
-//! size.
+//! size (`ship_text`, `list_text`).
 #![tactic(auto)]
 
 mod draws;

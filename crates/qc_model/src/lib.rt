@@ -1,4 +1,11 @@
-//! The quay crane scheduling problem: instances, schedules and the rules that they keep.
+//! The quay crane scheduling problem (Kim and Park 2004): instances, schedules, the rules that they
+//! keep, the mirror, and where cranes stand.
+//!
+//! Every instance keeps its limits (`Instance::of`), and its mirror's mirror is the instance. The
+//! judge finds the first rule that a schedule breaks, none exactly where it is feasible and goes
+//! the way that is asked for (`first_break`, `direction_of`); one that goes one way moves safely
+//! (`safe`). Lemmas say what the nodes of a search force, and that no leaf shows more than
+//! schedules keep.
 #![tactic(auto)]
 
 mod copies;

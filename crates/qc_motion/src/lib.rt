@@ -1,4 +1,8 @@
-//! Where the cranes of a one-way schedule stand: the ticks at which they start, stop and turn.
+//! Where the cranes of a one-way schedule stand.
+//!
+//! `waypoints` gives the ticks at which a crane starts, stops or turns; between them it moves
+//! evenly, at every fraction of a tick. `put_crane` writes the line of a crane, whatever its points
+//! are.
 #![tactic(auto)]
 
 mod floor;

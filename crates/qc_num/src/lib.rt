@@ -1,4 +1,9 @@
-//! The numbers and bytes that every other crate shares.
+//! The numbers and bytes that every other crate shares: ticks, bays, bounds, counted steps, short
+//! texts without memory, plain decimal, readings and their errors.
+//!
+//! A text is the number that it is in plain decimal, if it is one (`plain_number`). A short text is
+//! what was pushed onto it, never longer than its room (`Text`). Bytes are the list that they were
+//! made of (`Bytes`), and of two bounds the lesser is found (`Bound`).
 #![tactic(auto)]
 
 mod bound;

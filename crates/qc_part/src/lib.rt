@@ -1,7 +1,9 @@
 //! A ship read upward: its hatches, and the events, which are the pairs of a hatch and a crane that
 //! reaches it, in the order in which tasks wait for each other. A state is what one pass over the
-//! events must remember, and a state's children are what it can become at an event. Only what is safe
-//! is promised of them: whoever plans with them judges the plan.
+//! events must remember, its children are what it can become at an event.
+//!
+//! There is a part only where at most 60 hatches have tasks (`open`). What is found by it is judged
+//! later, so nothing is promised of its estimates.
 #![tactic(auto)]
 
 mod event;

@@ -1,6 +1,8 @@
-//! The drawing of a plan: a time-space diagram with the hatches across and time down, each
-//! crane as a line in a band of half the gap to each side, and each task as a box. Nothing is promised of its
-//! text, which people look at.
+//! The drawing of a plan: a time-space diagram with the hatches across and time down, each crane as
+//! a line in a band of half the gap to each side, and each task as a box.
+//!
+//! `write_picture` takes the plan of a feasible schedule and ends. How it looks is shown by rows
+//! and by `trials/picture.py`.
 #![tactic(auto)]
 
 mod boxes;

@@ -1,5 +1,6 @@
-//! The commands that tell of a feasible plan by its waypoints, whether it goes one way or to and fro: its drawing,
-//! and the figures of each crane.
+//! The commands that tell of a feasible plan by its waypoints, whether it goes one way or to and
+//! fro: its drawing, and the figures of each crane, which make up all ticks. Else the first rule
+//! that it breaks; all files as they were (`draw_picture`, `report_figures`).
 #![tactic(auto)]
 
 mod answer;

@@ -1,7 +1,9 @@
-//! The commands that plan: they search the instance of a ship file and a stowage list, for plans that go one way or
-//! for all that are feasible, and write the search's tree and the plan of the best schedule that it knows. The search
-//! begins with a plan that was found before it, or with one that the planner has already, and never answers a later
-//! one.
+//! `plan` and `free`, one command with the turn as a datum: they search the instance of a ship file
+//! and a list, and write the search's tree and the plan of the best schedule that it knows.
+//!
+//! With every status TREE and PLAN are whole or as they were. What the search promises is told and
+//! printed, no answer is later than the planner's own plan, and PLAN is read again as the schedule
+//! that is told (`plan`).
 #![tactic(auto)]
 
 mod ahead;

@@ -1,4 +1,8 @@
-//! What a search tells while it runs, for whoever waits at a terminal.
+//! A shelf that tells at a terminal how far the search has come whose tree is written to it:
+//! branchings, best end, bound.
+//!
+//! It has the meaning of the shelf that it wraps (`Progress`). What it tells is promised by
+//! nothing.
 #![tactic(auto)]
 
 mod progress;

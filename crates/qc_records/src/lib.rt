@@ -1,4 +1,5 @@
-//! Reading the records of a file of comma-separated values.
+//! The records of a file of comma-separated values, as `csv` reads them, in order, and no more of
+//! them than are asked for (`first_records`).
 #![tactic(auto)]
 
 ghost use Rattle.std.specs.Prelude.{◌≡◌, IfOk, map, take, true};

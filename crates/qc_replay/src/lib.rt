@@ -1,5 +1,9 @@
-//! The replay of a bound tree: a file is read line by line, and what it shows is found without a
-//! search.
+//! The replay of a bound tree: a file is read line by line, with the decisions of the node that
+//! comes next and nothing else that grows, and what it shows is found without a search.
+//!
+//! `replay` gives the value of the tree that a file holds, below which no schedule of the
+//! instance's turn ends, or the fault of its first faulty line. The text of a tree is never called
+//! faulty, and a file is the text of one tree at most.
 #![tactic(auto)]
 
 mod crewed_node;

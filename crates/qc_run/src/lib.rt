@@ -1,5 +1,10 @@
-//! What every command shares: the files that it reads and the steps over them, why it stops, the status that
-//! it ends with, and how its report goes out.
+//! What every command shares: the files that it reads and the steps over them, why it stops, the
+//! status that it ends with, and how its report goes out.
+//!
+//! A step comes to what is due of the bytes, or stops for a refusal that is due, with no call
+//! failed, or for its own cause (`read_instance`, `read_job`, `read_own_job`, `read_watched`).
+//! `broken_by` says whether cranes may follow a plan. A report goes out whole with its status, or
+//! the sink failed and got a front part (`report_text`, `report_stop`).
 #![tactic(auto)]
 
 mod broken;

@@ -1,7 +1,11 @@
-//! The search for the best plan: branch and bound over nodes, with a bound tree that shows what was found. The tree is
-//! written line by line and never held whole. A bound is a lower bound, on the ends of all schedules that go one way, or
-//! of all that are feasible where cranes go as they like; the incumbent is the best schedule that is known: one that was
-//! given to begin with, or one that was met.
+//! The search for the best plan: branch and bound over the parts of a tree, two where cranes go one
+//! way and one where they go as they like. Each line is written when its node is met; no tree is
+//! held.
+//!
+//! `Search::run` writes a whole tree of at most N branchings, which branches only where a node
+//! can't be closed. Its best schedule is the tight form of the given one, or one that a node met,
+//! no later; no schedule ends before its bound. A sink that fails holds a front part of a tree.
+//! Want of memory is answered by `Search::open` alone.
 #![tactic(auto)]
 
 mod best;

@@ -1,4 +1,8 @@
 //! Work sheets: in which order the containers of each task are lifted off or set down, and when.
+//!
+//! `Sheet::new` orders the moves of every task by one sorting. As a lemma, of a feasible schedule:
+//! each move stands once, none is lifted from under another or set down before what it stands on,
+//! discharges come before loads, each within its task (`workable`).
 #![tactic(auto)]
 
 mod entry;

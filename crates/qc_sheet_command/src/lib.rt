@@ -1,4 +1,5 @@
-//! The command that prints the work sheet of a plan.
+//! The command that prints the work sheet of a plan: exactly where the plan is feasible, else the
+//! first rule that it breaks; all files as they were (`print_sheet`).
 #![tactic(auto)]
 
 mod answer;

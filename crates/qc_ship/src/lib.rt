@@ -1,4 +1,6 @@
-//! The ship file: hatches, cranes and the times of moves, or the first fault.
+//! The ship file: hatches, cranes and the times of moves.
+//!
+//! `read_ship` gives the ship of a file, or the first fault in the order of the keys.
 #![tactic(auto)]
 
 mod cranes;

@@ -1,6 +1,9 @@
-//! The earliest start times of a search node. A decision raises starts along arcs behind one task;
-//! undoing it restores them. Also the critical chain that shows the node's end, or the ring that shows
-//! that the node is infeasible.
+//! The earliest start times of a search node. A decision pushes arcs and raises starts behind one
+//! task, each cell noted; undoing it pops and writes back.
+//!
+//! The least starts and their end are exact, and no starts keep the node exactly where a decision
+//! is answered by `Cycle`. `why_path` and `cycle` give the chain that shows the end, or the ring;
+//! `complete` and `overlap` say what is left to decide. After `retract` the node is what it was.
 #![tactic(auto)]
 
 mod arcs;

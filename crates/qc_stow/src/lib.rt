@@ -1,4 +1,6 @@
 //! Stowage lists: the moves of containers off and on a ship.
+//!
+//! `read_stow` gives the moves of a list, or the fault of its first faulty record.
 #![tactic(auto)]
 
 mod fault;

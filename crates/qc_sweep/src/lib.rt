@@ -1,6 +1,8 @@
 //! A first plan for the search: narrow sweeps over the pairs of a hatch and a crane, and splits of
-//! whole hatches. What is found becomes a schedule by its least starts and is judged; nothing else is
-//! promised of it.
+//! whole hatches.
+//!
+//! A schedule that `first_plan` gives was judged: it goes one way, and ends at a tick of at most 12
+//! digits. How it is found, and how good it is, is promised by nothing.
 #![tactic(auto)]
 
 mod chosen;

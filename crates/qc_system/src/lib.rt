@@ -1,4 +1,10 @@
-//! The files of the system and standard output, as a shelf and as a sink, and the words of the command line.
+//! The files of the system and standard output, as a shelf and as a sink, and the words of the
+//! command line. They meet the traits' contracts and tell no content.
+//!
+//! A failure of a call is counted and moves nothing (`write_once`, `read_once`). No file is begun
+//! that was opened or finished (`note`, `is_among`). What is written to a new file waits, at most
+//! 65,536 bytes of it (`Held`); a line of standard output goes out with its end (`Lines`). The rest
+//! is the trusted edge.
 #![tactic(auto)]
 
 mod files;

@@ -1,4 +1,5 @@
-//! The tasks of a ship: its instance from the moves of a stowage list, and the report of it.
+//! The tasks of a ship: its instance from the moves of a stowage list (`tasks_of`), with what is
+//! before what and what is apart, and the report of it (`write_tasks`).
 #![tactic(auto)]
 
 mod apart;

@@ -1,4 +1,9 @@
-//! The lines of a tree's text: how each is written, how it is read back, and what can be wrong with one.
+//! Bound trees: a tree is the list of its nodes in the order of the file; the lines of their text,
+//! and how a line can be at fault.
+//!
+//! Each line has one text, and a text is read as a line exactly where it is one (`write_line`,
+//! `read_line`). As a lemma no schedule that cranes may follow ends before the value of a tree
+//! (`tree_bound`).
 #![tactic(auto)]
 
 mod fault;

@@ -1,4 +1,5 @@
-//! The command that makes a ship and a stowage list from numbers, plans and checks them, and prints a summary.
+//! The command that makes a ship and a list from numbers, plans and checks them in memory, and
+//! prints a summary: of what was made, and of a search of its instance. It takes no shelf (`make`).
 #![tactic(auto)]
 
 mod made;

@@ -1,4 +1,9 @@
-//! Logs of reported crane places: what is read from one, and the first report at which two cranes were too near.
+//! Logs of reported crane places.
+//!
+//! `read_reports` gives the reports of each crane, or the fault of the first faulty line.
+//! `first_breach` says that every two cranes kept their gap at every moment at which both are
+//! known, fractions of a tick included, or gives the first report at which two didn't; without
+//! memory.
 #![tactic(auto)]
 
 mod breach;

@@ -1,4 +1,6 @@
-//! The command that judges a log of reported crane places.
+//! The command that judges a log of reported crane places: the ship file and the log are read, and
+//! it is told whether any two cranes came nearer than their margin; all files as they were
+//! (`watch`).
 #![tactic(auto)]
 
 mod answer;

@@ -1,4 +1,8 @@
-//! The words of a command line: what they ask for.
+//! The words of a command line, read by one command of `clap` for each name, and what is said to
+//! whoever asks about the program.
+//!
+//! What is asked for is what `clap` reads (`request_of`); numbers and names keep their limits, and
+//! words that no command begins are never answered by want of memory.
 #![tactic(auto)]
 
 mod about;
