@@ -112,12 +112,12 @@ fn say_made(page: &mut Page, sorted: &Sorted<'_>) {
 
 /// Whether a word asks for help.
 fn is_help(word: &str) -> bool {
-    word == "--help" || word == "-h" || word == "help"
+    ["--help", "-h", "help"].contains(&word)
 }
 
 /// Whether a word asks which program this is.
 fn is_version(word: &str) -> bool {
-    word == "--version" || word == "-V"
+    ["--version", "-V"].contains(&word)
 }
 
 /// Says that a command hasn't this option.
