@@ -153,13 +153,12 @@ after_unorder inst made left d room b i j at all popped is found held =
     })
 
 -- the decisions were the newest one and those that are left
-pub undone : (f : Inside) (left : List Decision) (d : Decision) (node : Node) → node_of f ≡ node
-    → f.made.items ≡ left ++ d ∷ []
-    → node ≡ record { inst = f.inst; decisions = d ∷ reverse left }
-undone f left d node view popped =
+pub undone : (f : Inside) (left : List Decision) (d e : Decision) (node : Node) → node_of f ≡ node
+    → f.made.items ≡ left ++ d ∷ [] → d ≡ e
+    → node ≡ record { inst = f.inst; decisions = e ∷ reverse left }
+undone f left d e node view popped is =
     sym view
-    ∙ ap (λ (ds : List Decision). record { inst = f.inst; decisions = ds })
-    (ap reverse popped ∙ reverse-append left (d ∷ []))
+    ∙ ap (λ (ds : List Decision). record { inst = f.inst; decisions = ds }) (newest_is f.made.items left d e popped is)
 
 pub left_fits : (inst : InstanceView) (made left : List Decision) (d : Decision) (b : Beside)
     → AreKept inst (reverse made) b → made ≡ left ++ d ∷ [] → Fits inst (reverse left)

@@ -11,7 +11,8 @@ invariant_of-self-in-Assign c =
 
 pub returns-in-Assign-clause-undone : goal.returns-in-Assign-clause-undone
 returns-in-Assign-clause-undone c =
-    undone c.self.inside c.pop.new.self.items c.in_ok-decision.decision _ c.self.view_is c.in_ok-decision.ensures.items
+    undone c.self.inside c.pop.new.self.items c.in_ok-decision.decision _ _ c.self.view_is c.in_ok-decision.ensures.items
+    c.in-Assign.is
 
 pub returns-in-Assign-clause-fits : goal.returns-in-Assign-clause-fits
 returns-in-Assign-clause-fits c =
@@ -47,7 +48,8 @@ invariant_of-self-in-Order c =
 
 pub returns-in-Order-clause-undone : goal.returns-in-Order-clause-undone
 returns-in-Order-clause-undone c =
-    undone c.self.inside c.pop.new.self.items c.in_ok-decision.decision _ c.self.view_is c.in_ok-decision.ensures.items
+    undone c.self.inside c.pop.new.self.items c.in_ok-decision.decision _ _ c.self.view_is c.in_ok-decision.ensures.items
+    c.in-Order.is
 
 pub returns-in-Order-clause-fits : goal.returns-in-Order-clause-fits
 returns-in-Order-clause-fits c =
