@@ -104,14 +104,14 @@ IsSecond Free inst nodes = nodes ≡ []
 
 -- the tree is one of the instance
 pub record IsTree (inst : InstanceView) (tree : Tree) : Type 0 where
-  pub up : IsPart tree.inst tree.up
+  pub up : IsPart inst tree.up
   pub down : IsSecond inst.turn inst tree.down
   pub few : tree_branchings tree ≤ most_branchings
 
 -- what the tree shows: no schedule of the instance's turn ends earlier
 abbrev pub tree_value : InstanceView → Tree → Bound
 tree_value inst tree =
-    lesser (part_value tree.inst tree.up) (part_value (mirror inst) tree.down)
+    lesser (part_value inst tree.up) (part_value (mirror inst) tree.down)
 
 -- a line as it stands in a file
 abbrev pub whole_line : Line → List ℕ → List ℕ
