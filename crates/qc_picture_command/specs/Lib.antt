@@ -1,4 +1,3 @@
 pub mod Planned
 pub mod Motion
 pub mod Account
-pub mod Promises

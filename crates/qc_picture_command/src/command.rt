@@ -3,7 +3,6 @@ ghost use Rattle.std.specs.Prelude.{◌≤◌, IsSome};
 ghost use Rattle.qc_run.specs.Account.{Account, IsReaderRun};
 ghost use Rattle.qc_run.specs.Inputs.{names_of};
 ghost use Rattle.qc_picture_command.specs.Account.{printer};
-ghost use Rattle.qc_picture_command.specs.Promises.{PrintedPromises};
 
 use crate::answer::{Motion, Print, Printed};
 use crate::motion::read_motion;
@@ -46,8 +45,6 @@ pub fn print_plan<S: Shelf, K: Sink>(
     requires stow { IsSome (names_of inputs.now).stow }
     requires plan { IsSome (names_of inputs.now).plan }
     ensures account { IsReaderRun (printer what) (names_of inputs.now)
-        (S.Sink.view shelf.old) (S.Sink.view shelf.new) (K.Sink.view out.old) (K.Sink.view out.new) result }
-    ensures promises { PrintedPromises what (names_of inputs.now)
         (S.Sink.view shelf.old) (S.Sink.view shelf.new) (K.Sink.view out.old) (K.Sink.view out.new) result }
     ensures reads_never_fall { (S.Sink.view shelf.old).read_faults ≤ (S.Sink.view shelf.new).read_faults }
 {

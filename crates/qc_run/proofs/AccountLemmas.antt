@@ -1,24 +1,21 @@
 -- What follows from the account of a command that only reads.
 use Rattle.std.proofs.Common.{◌≡◌, ◌⊎◌, Option, None, Some, Result, Ok, Err, refl, sym, subst, inl, ◌∙◌, IfSome}
 use Rattle.qc_io.specs.Outside.{Files, View}
-use Rattle.qc_run.specs.declared.refusal.LogFault.{LogFault}
 use Rattle.qc_run.specs.declared.refusal.Refusal.{Refusal}
 use Rattle.qc_run.specs.declared.refusal.Refusal.TheVariants as refusal
 use Rattle.qc_run.specs.declared.refusal.Stop.{Stop}
 use Rattle.qc_run.specs.declared.refusal.Stop.TheVariants as stop
 use Rattle.qc_run.specs.declared.status.Status.{Status}
 use Rattle.qc_run.specs.declared.status.Status.TheVariants as status
-use Rattle.qc_gantt.specs.declared.fault.PlanFault.{PlanFault}
 use Rattle.qc_run.specs.Account.{IsFound, IsReaderRun, IsReading, IsRunWith, Reader, Reporting}
 use Rattle.qc_run.specs.Due.{Contents, contents_in}
 use Rattle.qc_run.specs.Inputs.{Names}
 use Rattle.qc_run.specs.Reports.{Printing, Prints, answer_prints, answer_status}
 use Rattle.qc_run.specs.Steps.{ComesTo, IsStep, Stops}
 use Rattle.qc_run.specs.Texts.{refusal_status, refusal_text, stop_status}
-use Rattle.qc_run.specs.Told.{EndsAsDue, EndsBy, IsFaultTold, IsRefusal, IsTold, NoneFailed, ReadPromises, ReaderPromises}
-use Rattle.qc_run.proofs.DueLemmas.{comes_due}
+use Rattle.qc_run.specs.Told.{EndsAsDue, IsFaultTold, IsRefusal, IsTold, NoneFailed, ReadPromises, ReaderPromises}
 use Rattle.qc_run.proofs.StatusLemmas.{IsAnswer, is_own, stop_is_not}
-use Rattle.qc_run.proofs.ToldLemmas.{read_promises, stop_due, unfailed, whole_of}
+use Rattle.qc_run.proofs.ToldLemmas.{read_promises, unfailed, whole_of}
 
 -- ---- any command that only reads
 
@@ -73,32 +70,6 @@ module _ {A : Type 0} (found : A → Type 0) (stops : Stop → Type 0) (names : 
           (λ s. ends (contents_in held names) s ⊎ (s ≡ status.OutOfMemory)) (by held told run.answer run.serves)
 
 -- ---- a command whose account is all that it says
-
--- a refusal that is due of the bytes of a file
-abbrev pub IsFault : Status → Type 0
-IsFault status.Usage = ⊥
-IsFault status.ReadFault = ⊥
-IsFault other = IsRefusal other
-
-pub is_bad_plan : (why : Refusal) → refusal_status why ≡ status.BadPlan → (fault : PlanFault) × (why ≡ refusal.BadPlan fault)
-is_bad_plan (refusal.BadPlan fault) e = (fault, refl)
-is_bad_plan why e = absurd (cc e)
-
-pub is_bad_log : (why : Refusal) → refusal_status why ≡ status.BadLog → (fault : LogFault) × (why ≡ refusal.BadLog fault)
-is_bad_log (refusal.BadLog fault) e = (fault, refl)
-is_bad_log why e = absurd (cc e)
-
--- such a refusal is due
-fault_due : {X : Type 0} (step : Contents → Result X Refusal) (names : Names) (before after : View) (why : Refusal)
-    → IsFault (refusal_status why) → Stops step names before after (stop.Refused why) → ComesTo step names before.files (Err why)
-fault_due step names before after refusal.Usage is h = absurd is
-fault_due step names before after (refusal.ReadFault file) is h = absurd is
-fault_due step names before after why is h = h.1
-
-is_refusal : (s : Status) → IsFault s → IsRefusal s
-is_refusal status.Usage is = absurd is
-is_refusal status.ReadFault is = absurd is
-is_refusal other is = is
 
 -- what is known whether or not the shelf tells its files, as it is told where it does
 pub told_of : {X A : Type 0} (step : Contents → Result X Refusal) (tell : X → A → Type 0) (print : A → Printing) (names : Names) (pb pa : View)
@@ -161,35 +132,3 @@ module _ {X A : Type 0} (reader : Reader X A) (answers : (answer : A) → IsAnsw
 
   pub reader_promises : ReaderPromises reader names before after pb pa ended
   reader_promises = reading_promises found stops names reader.report answers before after pb pa ended run
-
-  -- an answer of this kind is told
-  pub is_told : {T : Type 0} (kind : T → A) (wanted : Status) → IsAnswer wanted
-      → ((answer : A) → reader.report.status answer ≡ wanted → (told : T) × (answer ≡ kind told)) → ended ≡ wanted
-      → IfSome before.files (λ held. IsTold reader.due (λ x told. reader.tells x (kind told)) (λ told. reader.report.whole (kind told)) names held pb pa)
-  is_told kind wanted is of_kind e =
-      answer_found found stops names reader.report answers before after pb pa ended run wanted is e
-      (λ answer is same printed.
-      let (told, this) = of_kind answer same in
-      let is : IsFound reader.due reader.tells names before.files (kind told) = subst found this is in
-      told_of reader.due (λ x told. reader.tells x (kind told)) (λ told. reader.report.whole (kind told)) names pb pa before.files is.read told
-      is.due is.tells (subst (λ (a : A). reader.report.whole a pb.written pa.written) this printed))
-
-  -- a fault of this kind is told
-  pub fault_told : {F : Type 0} (kind : F → Refusal) (wanted : Status) → IsFault wanted
-      → ((why : Refusal) → refusal_status why ≡ wanted → (fault : F) × (why ≡ kind fault)) → ended ≡ wanted
-      → IfSome before.files (λ held. IsFaultTold reader.due kind names held pb pa)
-  fault_told kind wanted is of_kind e =
-      refusal_found found stops names reader.report answers before after pb pa ended run wanted (is_refusal wanted is) e
-      (λ why stopped same printed.
-      let (fault, this) = of_kind why same in
-      fault_of reader.due kind names pb pa before.files fault
-      (subst (λ (w : Refusal). ComesTo reader.due names before.files (Err w)) this (fault_due reader.due names before after why (subst IsFault (sym same) is) stopped))
-      (subst (λ (w : Refusal). Prints (refusal_text w) pb.written pa.written) this printed))
-
-  -- where no call failed it ends as what was read does
-  pub ends_due : (own : X → Status → Type 0) → ((x : X) (answer : A) → reader.tells x answer → own x (reader.report.status answer))
-      → EndsAsDue (λ contents. EndsBy own (reader.due contents)) names before after pb pa ended
-  ends_due own answers_end =
-      ends_as found stops names reader.report answers before after pb pa ended run (λ contents. EndsBy own (reader.due contents))
-      (λ none held told answer is. rw (comes_due reader.due names held before.files told (Ok is.read) is.due) (answers_end is.read answer is.tells))
-      (λ none held told why is. stop_due reader.due own names before after held told none.reading why is)

@@ -1,3 +1,2 @@
 pub mod LoadLemmas
-pub mod SheetLemmas
 pub mod WorkableLemmas

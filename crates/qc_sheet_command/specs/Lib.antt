@@ -1,4 +1,3 @@
 pub mod Due
 pub mod Listed
 pub mod Account
-pub mod Promises

@@ -4,7 +4,6 @@ ghost use Rattle.qc_run.specs.Inputs.{names_of};
 ghost use Rattle.qc_run.specs.Account.{Account, IsReaderRun};
 ghost use Rattle.qc_sheet_command.specs.Account.{sheet_reader};
 ghost use Rattle.qc_sheet_command.specs.Listed.{CanBeListed};
-ghost use Rattle.qc_sheet_command.specs.Promises.{SheetPromises};
 
 use crate::answer::{Listed, Listing};
 use crate::load::read_load;
@@ -50,8 +49,6 @@ pub fn print_sheet<S: Shelf, K: Sink>(
     requires plan { IsSome (names_of inputs.now).plan }
     ensures account { IsReaderRun sheet_reader (names_of inputs.now)
         (S.Sink.view shelf.old) (S.Sink.view shelf.new) (K.Sink.view out.old) (K.Sink.view out.new) result }
-    ensures promises { SheetPromises (names_of inputs.now) (S.Sink.view shelf.old) (S.Sink.view shelf.new)
-        (K.Sink.view out.old) (K.Sink.view out.new) result }
     ensures reads_never_fall { (S.Sink.view shelf.old).read_faults ≤ (S.Sink.view shelf.new).read_faults }
 {
     match list(alloc, inputs, shelf) {

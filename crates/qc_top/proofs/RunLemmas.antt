@@ -21,9 +21,9 @@ use Rattle.qc_model.specs.declared.schedule.Slot.{Slot}
 use Rattle.qc_model.specs.declared.turn.Turn.{Turn}
 use Rattle.qc_model.specs.Instance.{InstanceView}
 use Rattle.qc_picture_command.specs.Account.{picture_reader, report_reader}
-use Rattle.qc_picture_command.specs.declared.answer.Print.TheVariants.{Figures, Picture}
-use Rattle.qc_picture_command.specs.Promises.{PrintedPromises}
-use Rattle.qc_picture_command.proofs.PrintedLemmas.{printed_promises}
+use Rattle.qc_picture_command.specs.declared.answer.Printed.{Printed}
+use Rattle.qc_picture_command.specs.declared.answer.Printed.TheVariants as printed
+use Rattle.qc_picture_command.specs.Planned.{printed_status}
 use Rattle.qc_plan_command.specs.Account.{IsLeft, IsPlanRun, both_files, tree_files}
 use Rattle.qc_plan_command.specs.Asked.{Planning, plan_of}
 use Rattle.qc_plan_command.specs.Promises.{PlanPromises}
@@ -42,9 +42,10 @@ use Rattle.qc_run.specs.Texts.{stop_status, stop_text}
 use Rattle.qc_run.specs.Told.{EndsWith, ReadPromises}
 use Rattle.qc_run.proofs.AccountLemmas.{reader_promises, reading_promises}
 use Rattle.qc_run.proofs.StatusLemmas.{IsAnswer}
+use Rattle.qc_sheet_command.specs.declared.answer.Listing.{Listing}
+use Rattle.qc_sheet_command.specs.declared.answer.Listing.TheVariants as listing
 use Rattle.qc_sheet_command.specs.Account.{sheet_reader}
-use Rattle.qc_sheet_command.specs.Promises.{SheetPromises}
-use Rattle.qc_sheet_command.proofs.SheetLemmas.{sheet_promises}
+use Rattle.qc_sheet_command.specs.Listed.{listing_status}
 use Rattle.qc_trial.specs.Account.{IsTrialRun, TrialPromises}
 use Rattle.qc_trial.proofs.MadeLemmas.{trial_promises}
 use Rattle.qc_tree.specs.Trees.{tree_text}
@@ -107,6 +108,14 @@ module _ (v pb pa : View) (ended : Status)
 show_answers : (a : Showing) → IsAnswer (showing_status a)
 show_answers (showing.Broken told) = tt
 show_answers (showing.Shown told) = tt
+
+sheet_answers : (a : Listing) → IsAnswer (listing_status a)
+sheet_answers (listing.Broken told) = tt
+sheet_answers (listing.Listed told) = tt
+
+print_answers : (a : Printed) → IsAnswer (printed_status a)
+print_answers (printed.Broken told) = tt
+print_answers (printed.Text text) = tt
 
 watch_answers : (a : Watching) → IsAnswer (watching_status a)
 watch_answers (watching.Safe count) = tt
@@ -234,18 +243,6 @@ module _ (words : List (List ℕ)) (before after pb pa : View) (ended : Status) 
       plan_check_promises names before after pb pa ended
       (served (λ v. IsPlanCheckRun names before v pb pa ended) (λ reports. as_check before pb pa ended reports names) (serves (check turn s w (Some p) t) asks))
 
-  sheets : (s w p : List ℕ) → Asks words (sheet s w p) → SheetPromises (show_names s w p) before after pb pa ended
-  sheets s w p asks =
-      sheet_promises (show_names s w p) before after pb pa ended (read sheet_reader (show_names s w p) (serves (sheet s w p) asks))
-
-  draws : (s w p : List ℕ) → Asks words (picture s w p) → PrintedPromises Picture (show_names s w p) before after pb pa ended
-  draws s w p asks =
-      printed_promises Picture (show_names s w p) before after pb pa ended (read picture_reader (show_names s w p) (serves (picture s w p) asks))
-
-  reports : (s w p : List ℕ) → Asks words (report s w p) → PrintedPromises Figures (show_names s w p) before after pb pa ended
-  reports s w p asks =
-      printed_promises Figures (show_names s w p) before after pb pa ended (read report_reader (show_names s w p) (serves (report s w p) asks))
-
   makes : (n k c : ℕ) → Asks words (make n k c) → TrialPromises n k c pb pa ended
   makes n k c asks = trial_promises n k c pb pa ended (elim (serves (make n k c) asks) [
     | inl is ↦ is.run
@@ -329,9 +326,9 @@ module _ (words : List (List ℕ)) (before after pb pa : View) (ended : Status) 
       by_reads (check turn s w (Some p) t) (checks_plan turn s w p t asks).reads
   whatever (tasks s w) asks = by_reader tasks_reader (λ inst. tt) (tasks_names s w) (tasks s w) (serves (tasks s w) asks)
   whatever (show s w p) asks = by_reader show_reader show_answers (show_names s w p) (show s w p) (serves (show s w p) asks)
-  whatever (sheet s w p) asks = by_reads (sheet s w p) (sheets s w p asks).reads
-  whatever (picture s w p) asks = by_reads (picture s w p) (draws s w p asks).reads
-  whatever (report s w p) asks = by_reads (report s w p) (reports s w p asks).reads
+  whatever (sheet s w p) asks = by_reader sheet_reader sheet_answers (show_names s w p) (sheet s w p) (serves (sheet s w p) asks)
+  whatever (picture s w p) asks = by_reader picture_reader print_answers (show_names s w p) (picture s w p) (serves (picture s w p) asks)
+  whatever (report s w p) asks = by_reader report_reader print_answers (show_names s w p) (report s w p) (serves (report s w p) asks)
   whatever (watch s l) asks = by_reader watch_reader watch_answers (watch_names s l) (watch s l) (serves (watch s l) asks)
   whatever (dispatch s w p l) asks = by_dispatch (dispatch_names s w p l) (dispatch s w p l) (serves (dispatch s w p l) asks)
   whatever (make n k c) asks = record {
@@ -351,9 +348,6 @@ module _ (words : List (List ℕ)) (before after pb pa : View) (ended : Status) 
     checks_tree = checks_tree;
     checks_plan = checks_plan;
     makes = makes;
-    sheets = sheets;
-    draws = draws;
-    reports = reports;
     make_leaves = make_leaves;
     files_stay = λ asked asks. (whatever asked asks).stays;
     usage_words = (whatever run.asked run.asks).usage_words;

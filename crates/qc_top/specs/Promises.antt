@@ -5,8 +5,6 @@ use Rattle.std.specs.FinMap.{get}
 use Rattle.qc_io.specs.Outside.{View}
 use Rattle.qc_model.specs.declared.turn.Turn.{Turn}
 use Rattle.qc_judge_commands.specs.Promises.{PlanCheckPromises, TreePromises}
-use Rattle.qc_picture_command.specs.declared.answer.Print.TheVariants.{Figures, Picture}
-use Rattle.qc_picture_command.specs.Promises.{PrintedPromises}
 use Rattle.qc_plan_command.specs.Asked.{plan_of}
 use Rattle.qc_plan_command.specs.Promises.{PlanPromises}
 use Rattle.qc_run.specs.declared.refusal.Stop.TheVariants as stop
@@ -14,12 +12,11 @@ use Rattle.qc_run.specs.declared.status.Status.{Status}
 use Rattle.qc_run.specs.declared.status.Status.TheVariants as status
 use Rattle.qc_run.specs.Reports.{Prints}
 use Rattle.qc_run.specs.Told.{EndsWith}
-use Rattle.qc_sheet_command.specs.Promises.{SheetPromises}
 use Rattle.qc_trial.specs.Account.{TrialPromises}
-use Rattle.qc_words.specs.Asked.{Asked, plan, check, make, sheet, picture, report, usage, help, version}
+use Rattle.qc_words.specs.Asked.{Asked, plan, check, make, usage, help, version}
 use Rattle.qc_words.specs.Commands.{named}
 use Rattle.qc_words.specs.Words.{Asks, about}
-use Rattle.qc_top.specs.Account.{IsAbout, IsStopped, IsUsage, check_names, show_names}
+use Rattle.qc_top.specs.Account.{IsAbout, IsStopped, IsUsage, check_names}
 use Rattle.qc_words.specs.declared.commands.CommandName.{CommandName}
 
 -- a plan is asked for
@@ -40,12 +37,6 @@ pub record Promises (words : List (List ℕ)) (before after out_before out_after
   -- a plan leaves the planner's own plan as it is
   pub own_stays : (turn : Turn) (s w p t : List ℕ) (n : ℕ) (o : List ℕ) → Asks words (plan turn s w p t n (Some o))
       → IfSome before.files (λ held. IfSome after.files (λ now. get now o ≡ get held o))
-  pub sheets : (s w p : List ℕ) → Asks words (sheet s w p)
-      → SheetPromises (show_names s w p) before after out_before out_after ended
-  pub draws : (s w p : List ℕ) → Asks words (picture s w p)
-      → PrintedPromises Picture (show_names s w p) before after out_before out_after ended
-  pub reports : (s w p : List ℕ) → Asks words (report s w p)
-      → PrintedPromises Figures (show_names s w p) before after out_before out_after ended
   -- making leaves the shelf untouched, and all but a plan leave the files
   pub make_leaves : (n h c : ℕ) → Asks words (make n h c) → after ≡ before
   pub files_stay : (asked : Asked) → Asks words asked → ¬ IsPlan asked → after.files ≡ before.files
