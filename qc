@@ -46,7 +46,7 @@ if ! "$here/package/is-built" --checked; then
         echo 'qc: the program must be built, and the command rt of the Rattle toolchain is not on PATH' >&2
         exit 1
     fi
-    echo 'qc: compiling the program from its sources, which takes some three minutes at first' >&2
+    echo 'qc: compiling the program from its sources, which takes some two minutes at first' >&2
     make_by try-program
     case $? in
         0)
