@@ -1,7 +1,8 @@
 //! Makes calls on least starts, and compares what they answer.
 
-ghost use Rattle.std.specs.Prelude.{◌↔◌, ◌<◌, ◌≡◌, IsTrue, length};
+ghost use Rattle.std.specs.Prelude.{◌↔◌, ◌<◌, ◌≡◌, IfOk, IsTrue, length};
 ghost use Rattle.qc_model.specs.Nodes.{Conflicts};
+ghost use Rattle.qc_num.specs.Paths.{HasRoom};
 
 use crate::crew::{crew_by, crew_of};
 use crate::instance::instance_in;
@@ -165,7 +166,9 @@ fn leaving(alloc: Global, starts: &Starts, task: u16) -> Result<String> {
 }
 
 /// Room for the tasks of a leaf.
-fn room(alloc: Global, starts: &Starts) -> Result<Path, AllocError> {
+fn room(alloc: Global, starts: &Starts) -> Result<Path, AllocError>
+    ensures { IfOk result (HasRoom (length starts.now.inst.tasks)) }
+{
     Path::with_capacity(alloc, starts.instance().task_count() as usize)
 }
 
@@ -275,8 +278,12 @@ fn run_on<L: Ledger>(alloc: Global, inst: &Instance, row: &Row, blank: Blank) ->
     Ok(())
 }
 
+fn run_counted(alloc: Global, inst: &Instance, row: &Row) -> Result<()> {
+    run_on::<Brand>(alloc, inst, row, Blank::new(1))
+}
+
 /// Makes the calls of a row; an error where one answers otherwise.
 pub fn run(alloc: Global, row: &Row) -> Result<()> {
     let inst = instance_in(alloc, row.ship, row.list)?.with_turn(row.turn);
-    run_on::<Brand>(alloc, &inst, row, Blank::new(1))
+    run_counted(alloc, &inst, row)
 }
