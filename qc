@@ -22,9 +22,9 @@ make_by() {
     return "$1"
 }
 
-# How many minutes that takes from nothing on four processors, by what each crate took. At both ends some are idle.
+# How many minutes that takes at most from nothing on four processors, by what each crate took on a slow machine.
 minutes_to_prove() {
-    awk '{ all += $2 } END { printf "%d", all / 60 / 4 * 1.2 }' "$here/package/seconds"
+    awk '{ all += $2 } END { printf "%d", all / 60 / 4 }' "$here/package/seconds"
 }
 
 # Proves and builds the program.
