@@ -1,9 +1,8 @@
-ghost use Rattle.std.specs.Prelude.{◌≡◌, ◌+◌, ◌<◌, ◌≤◌, length, IfOk, replicate, slice_index, slice_set, take, ℕ, List};
+ghost use Rattle.std.specs.Prelude.{◌≡◌, ◌<◌, ◌≤◌, length, IfOk, replicate, slice_index, slice_set, take, ℕ, List};
 
-use qc_num::{OutOfMemory, Steps};
+use qc_num::OutOfMemory;
 use std::alloc::Global;
 use std::marker::Model;
-use std::sync::ledger::Ledger;
 
 /// A fixed number of cells that hold a number each. All memory is taken by `new`.
 #[derive(Drop)]
@@ -42,13 +41,11 @@ impl Cells {
         to.copy_from_slice(&self.values[..to.len()]);
     }
 
-    /// Writes the cell, in one step.
-    pub fn set<L: Ledger>(&mut self, place: u32, value: u64, steps: &mut Steps<L>)
+    /// Writes the cell.
+    pub fn set(&mut self, place: u32, value: u64)
         requires { place < length self.old }
-        ensures written { self.new ≡ slice_set self.old place value }
-        ensures counted { steps.new ≡ steps.old + 1 }
+        ensures { self.new ≡ slice_set self.old place value }
     {
         self.values[place as usize] = value;
-        steps.tick();
     }
 }

@@ -1,8 +1,8 @@
 //! Cells that are written and set back: before a write the old value is noted, and the notes past a
 //! mark are written back.
 //!
-//! `Trail::back` gives the cells as noted, at one step a note. That this is what they held at the
-//! mark hangs on what was noted, which `qc_starts` proves for its own.
+//! `Trail::back` gives the cells as noted. That this is what they held at the mark hangs on what was
+//! noted, which `qc_starts` proves for its own.
 #![tactic(auto)]
 
 mod cells;

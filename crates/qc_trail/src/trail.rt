@@ -1,12 +1,11 @@
-ghost use Rattle.std.specs.Prelude.{◌≡◌, ◌+◌, ◌-◌, ◌<◌, ◌≤◌, [], ◌∷◌, ◌++◌, All, length, take, drop, IfOk};
+ghost use Rattle.std.specs.Prelude.{◌≡◌, ◌<◌, ◌≤◌, [], ◌∷◌, ◌++◌, All, length, take, drop, IfOk};
 ghost use Rattle.qc_trail.specs.Trails.{written_back, Notes};
 ghost use Rattle.qc_trail.specs.Room.{HasRoom};
 
 use crate::Cells;
-use qc_num::{OutOfMemory, Steps};
+use qc_num::OutOfMemory;
 use std::alloc::Global;
 use std::marker::Model;
-use std::sync::ledger::Ledger;
 
 /// What a cell held before it was written.
 #[derive(Clone, Copy, PartialEq, Eq)]
@@ -59,18 +58,17 @@ impl Trail {
     }
 
     /// Writes the notes past the mark back into the cells, from the newest to the oldest, and drops
-    /// them. Each takes one step.
-    pub fn back<L: Ledger>(&mut self, mark: u32, cells: &mut Cells, steps: &mut Steps<L>)
+    /// them.
+    pub fn back(&mut self, mark: u32, cells: &mut Cells)
         requires mark { mark ≤ length self.old.notes }
         requires places { All (λ note. note.place < length cells.old) self.old.notes }
         ensures dropped { self.new ≡ record self.old { notes = take mark self.old.notes } }
         ensures cells { cells.new ≡ written_back (drop mark self.old.notes) cells.old }
         ensures count { length cells.new ≡ length cells.old }
-        ensures counted { steps.new ≡ steps.old + (length self.old.notes - mark) }
     {
         while self.notes.len() > mark as usize {
             if let Some(note) = self.notes.pop() {
-                cells.set(note.place, note.old, steps);
+                cells.set(note.place, note.old);
             }
         }
     }
