@@ -11,17 +11,14 @@ use denote.RawPtr.{Ptr}
 use Rattle.qc_arena.specs.declared.edge.Edge.{Edge}
 use Rattle.qc_arena.specs.declared.block.Cell.{Cell}
 use Rattle.qc_arena.specs.declared.block.Link.{Link}
+use Rattle.qc_arena.specs.declared.block.Side.{Side}
 use Rattle.qc_arena.specs.contracts.block.Cell.{the_row}
 use Rattle.qc_arena.specs.Memory.{place_of}
-use Rattle.qc_arena.specs.Chains.{Side, arc_of, newest, newest_link, AreLinked, IsThreaded, IsAhead}
+use Rattle.qc_arena.specs.Chains.{arc_of, newest, newest_link, AreLinked, IsThreaded, IsAhead, node_at, older_at, side_arcs}
 
 -- the arcs of the node, of cells given newest first
 abbrev hits : Side → ℕ → List Cell → List Edge
-hits side node cells = filter (λ arc. side.node arc == node) (map arc_of cells)
-
--- the arcs of the node among the first cells, newest first
-abbrev pub side_arcs : Side → ℕ → ℕ → List Cell → List Edge
-side_arcs side node among cells = filter (λ arc. side.node arc == node) (reverse (map arc_of (take among cells)))
+hits side node cells = filter (λ arc. node_at side arc == node) (map arc_of cells)
 
 -- the node's newest cell is the one of that number, and the arcs after it are those of older cells
 record Found (base : Ptr) (side : Side) (node number : ℕ) (cells : List Cell) : Type 0 where
@@ -31,7 +28,7 @@ record Found (base : Ptr) (side : Side) (node number : ℕ) (cells : List Cell) 
   split : cells ≡ front ++ cell ∷ older
   count : length older ≡ number
   arcs : hits side node cells ≡ arc_of cell ∷ hits side node older
-  same : side.node (arc_of cell) ≡ node
+  same : node_at side (arc_of cell) ≡ node
   linked : AreLinked base side (cell ∷ older)
 
 same_number : {a b : ℕ} → ◌≡◌ {A = Option ℕ} (Some a) (Some b) → a ≡ b
@@ -40,7 +37,7 @@ same_number e = cc
 found : (base : Ptr) (side : Side) (node number : ℕ) (cells : List Cell) → newest side node cells ≡ Some number
     → AreLinked base side cells → Found base side node number cells
 found base side node number [] e linked = cc
-found base side node number (cell ∷ older) e linked = elim (cases_Bool (side.node (arc_of cell) == node)) [
+found base side node number (cell ∷ older) e linked = elim (cases_Bool (node_at side (arc_of cell) == node)) [
   | inl here ↦ record {
     front = [];
     cell = cell;
@@ -48,7 +45,7 @@ found base side node number (cell ∷ older) e linked = elim (cases_Bool (side.n
     split = refl;
     count = same_number (sym (ap (λ b. cond b (Some (length older)) (newest side node older)) here) ∙ e);
     arcs = ap (λ b. cond b (arc_of cell ∷ hits side node older) (hits side node older)) here;
-    same = eqb-true (side.node (arc_of cell)) node here;
+    same = eqb-true (node_at side (arc_of cell)) node here;
     linked = linked;
   }
   | inr other ↦
@@ -67,7 +64,7 @@ found base side node number (cell ∷ older) e linked = elim (cases_Bool (side.n
 -- where the node has no newest cell, it has no arc
 none_found : (side : Side) (node : ℕ) (cells : List Cell) → newest side node cells ≡ None → hits side node cells ≡ []
 none_found side node [] e = refl
-none_found side node (cell ∷ older) e = elim (cases_Bool (side.node (arc_of cell) == node)) [
+none_found side node (cell ∷ older) e = elim (cases_Bool (node_at side (arc_of cell) == node)) [
   | inl here ↦ absurd (some_none (sym (ap (λ b. cond b (Some (length older)) (newest side node older)) here) ∙ e))
   | inr other ↦ ap (λ b. cond b (arc_of cell ∷ hits side node older) (hits side node older)) other ∙ none_found side node older (sym (ap (λ b. cond b (Some (length older)) (newest side node older)) other) ∙ e)
 ] where
@@ -107,7 +104,7 @@ cut cells front older cell among number split count =
 -- the walk goes on at that cell
 pub record After (base : Ptr) (side : Side) (cells : List Cell) (node among : ℕ) (cell : Cell) : Type 0 where
   pub arcs : side_arcs side node among cells ≡ arc_of cell ∷ side_arcs side node cell.number cells
-  pub ahead : IsAhead base side cells node cell.number (side.older cell)
+  pub ahead : IsAhead base side cells node cell.number (older_at side cell)
 
 -- a walk with a link stands before the cell that it leads to
 pub record Step (base : Ptr) (side : Side) (cells : List Cell) (node among : ℕ) (link : Link) : Type 0 where
@@ -136,15 +133,15 @@ next_cell base side cells node among link here =
       after = λ cell there.
           let same : cell ≡ it.cell = there ∙ at.cell_is cell in
           let count : cell.number ≡ number = ap (λ c. c.number) same ∙ it.linked.0 ∙ it.count in record {
-            arcs = ap (filter (λ arc. side.node arc == node)) (map_reverse arc_of (take among cells)) ∙ it.arcs
+            arcs = ap (filter (λ arc. node_at side arc == node)) (map_reverse arc_of (take among cells)) ∙ it.arcs
                 ∙ ap (λ c. arc_of c ∷ hits side node it.older) (sym same)
                 ∙ ap (λ xs. arc_of cell ∷ hits side node xs) (sym back)
-                ∙ ap (λ xs. arc_of cell ∷ filter (λ arc. side.node arc == node) xs) (sym (map_reverse arc_of (take number cells)))
+                ∙ ap (λ xs. arc_of cell ∷ filter (λ arc. node_at side arc == node) xs) (sym (map_reverse arc_of (take number cells)))
                 ∙ ap (λ n. arc_of cell ∷ side_arcs side node n cells) (sym count);
-            ahead = subst (λ n. IsAhead base side cells node n (side.older cell)) (sym count) (record {
+            ahead = subst (λ n. IsAhead base side cells node n (older_at side cell)) (sym count) (record {
               within = omega (arith, at.inside);
               linked = subst (AreLinked base side) (sym back) it.linked.2;
-              first = ap side.older same ∙ it.linked.1 ∙ ap (λ n. newest_link base side n it.older) it.same ∙ ap (newest_link base side node) (sym back);
+              first = ap (older_at side) same ∙ it.linked.1 ∙ ap (λ n. newest_link base side n it.older) it.same ∙ ap (newest_link base side node) (sym back);
             });
           };
     }
@@ -153,7 +150,7 @@ next_cell base side cells node among link here =
 pub no_cell : (base : Ptr) (side : Side) (cells : List Cell) (node among : ℕ)
     → IsAhead base side cells node among None → side_arcs side node among cells ≡ []
 no_cell base side cells node among here =
-    ap (filter (λ arc. side.node arc == node)) (map_reverse arc_of (take among cells)) ∙ none_found side node (reverse (take among cells)) (no_number (newest side node (reverse (take among cells))) here.first) where
+    ap (filter (λ arc. node_at side arc == node)) (map_reverse arc_of (take among cells)) ∙ none_found side node (reverse (take among cells)) (no_number (newest side node (reverse (take among cells))) here.first) where
       no_number : (o : Option ℕ)
           → ◌≡◌ {A = Option Link} None (option_map (λ number. record { at = place_of the_row base number }) o)
           → o ≡ None
@@ -163,26 +160,26 @@ no_cell base side cells node among here =
 -- without the newest cell, whose node leads to the next older one
 pub threaded_less : (base : Ptr) (side : Side) (cells : List Cell) (cell : Cell) (heads : List (Option Link))
     → IsThreaded base side (cells ++ cell ∷ []) heads
-    → IsThreaded base side cells (slice_set heads (side.node (arc_of cell)) (side.older cell))
+    → IsThreaded base side cells (slice_set heads (node_at side (arc_of cell)) (older_at side cell))
 threaded_less base side cells cell heads all =
-    let node : ℕ = side.node (arc_of cell) in
-    let P : Cell → Type 0 = λ c. side.node (arc_of c) < length heads in
+    let node : ℕ = node_at side (arc_of cell) in
+    let P : Cell → Type 0 = λ c. node_at side (arc_of c) < length heads in
     let turned : reverse (cells ++ cell ∷ []) ≡ cell ∷ reverse cells = reverse-append cells (cell ∷ []) in
     let linked : AreLinked base side (cell ∷ reverse cells) = subst (AreLinked base side) turned all.linked in
     let inside = All-pop P (cells ++ cell ∷ []) cells (Some cell) refl all.inside in
     let first : (n : ℕ) → slice_index_or heads n None ≡ newest_link base side n (cell ∷ reverse cells) = λ n. all.first n ∙ ap (newest_link base side n) turned in record {
       linked = linked.2;
       first = λ n. elim (eqb_tells node n) [
-        | inl here ↦ subst (λ k. slice_index_or (slice_set heads node (side.older cell)) k None ≡ newest_link base side k (reverse cells)) here.1 (get_or-set_same heads node (side.older cell) None inside.1 ∙ linked.1)
-        | inr other ↦ get_or-set_other heads node n (side.older cell) None (λ e. other.1 (sym e)) ∙ first n
+        | inl here ↦ subst (λ k. slice_index_or (slice_set heads node (older_at side cell)) k None ≡ newest_link base side k (reverse cells)) here.1 (get_or-set_same heads node (older_at side cell) None inside.1 ∙ linked.1)
+        | inr other ↦ get_or-set_other heads node n (older_at side cell) None (λ e. other.1 (sym e)) ∙ first n
             ∙ ap (λ b. option_map (λ number. record { at = place_of the_row base number }) (cond b (Some (length (reverse cells))) (newest side n (reverse cells)))) other.0
       ];
-      inside = subst (λ k. All (λ c. side.node (arc_of c) < k) cells) (sym (length-set heads node (side.older cell))) inside.0;
+      inside = subst (λ k. All (λ c. node_at side (arc_of c) < k) cells) (sym (length-set heads node (older_at side cell))) inside.0;
     }
 
 -- the same of a block that has lost that cell
 pub threaded_popped : (base base' : Ptr) (side : Side) (cells cells' : List Cell) (cell : Cell) (heads : List (Option Link))
     → base' ≡ base → cells ≡ cells' ++ cell ∷ [] → IsThreaded base side cells heads
-    → IsThreaded base' side cells' (slice_set heads (side.node (arc_of cell)) (side.older cell))
+    → IsThreaded base' side cells' (slice_set heads (node_at side (arc_of cell)) (older_at side cell))
 threaded_popped base base' side cells cells' cell heads same_base less all =
     threaded_less base' side cells' cell heads (subst (λ p. IsThreaded p side (cells' ++ cell ∷ []) heads) (sym same_base) (subst (λ xs. IsThreaded base side xs heads) less all))

@@ -1,31 +1,37 @@
 -- inner: where the cells of a block lead. Cells are numbered from the oldest.
-use Rattle.std.specs.Prelude.{◌≡◌, ℕ, ◌<◌, ◌≤◌, ◌==◌, List, [], ◌∷◌, All, length, reverse, take, cond, Option, Some, None, option_map, slice_index_or}
+use Rattle.std.specs.Prelude.{◌≡◌, ℕ, ◌<◌, ◌≤◌, ◌==◌, List, [], ◌∷◌, All, length, map, reverse, take, cond, Option, Some, None, option_map, slice_index_or}
+use Rattle.std.specs.List.{filter}
 use denote.RawPtr.{Ptr}
 use Rattle.qc_arena.specs.declared.edge.Edge.{Edge}
 use Rattle.qc_arena.specs.declared.block.Cell.{Cell}
 use Rattle.qc_arena.specs.declared.block.Link.{Link}
+use Rattle.qc_arena.specs.declared.block.Side.{Side}
+use Rattle.qc_arena.specs.declared.block.Side.TheVariants.{Out, In}
 use Rattle.qc_arena.specs.contracts.block.Cell.{the_row}
 use Rattle.qc_arena.specs.Memory.{place_of}
 
 abbrev pub arc_of : Cell → Edge
 arc_of cell = record { from = cell.from; to = cell.to; len = cell.len }
 
--- a side of the arcs: an arc's node there, and the link that a cell keeps for it
-pub record Side : Type 0 where
-  pub node : Edge → ℕ
-  pub older : Cell → Option Link
+-- the node of an arc at a side
+abbrev pub node_at : Side → Edge → ℕ
+node_at Out arc = arc.from
+node_at In arc = arc.to
 
-abbrev pub at_origin : Side
-at_origin = record { node = λ arc. arc.from; older = λ cell. cell.older_out }
+-- the link that a cell keeps for the next older one of its node at a side
+abbrev pub older_at : Side → Cell → Option Link
+older_at Out cell = cell.older_out
+older_at In cell = cell.older_in
 
-abbrev pub at_target : Side
-at_target = record { node = λ arc. arc.to; older = λ cell. cell.older_in }
+-- the arcs of the node at a side among the first cells, newest first
+abbrev pub side_arcs : Side → ℕ → ℕ → List Cell → List Edge
+side_arcs side node among cells = filter (λ arc. node_at side arc == node) (reverse (map arc_of (take among cells)))
 
 -- the number of the node's newest cell, of cells given newest first
 abbrev pub newest : Side → ℕ → List Cell → Option ℕ
 newest side node [] = None
 newest side node (cell ∷ older) =
-    cond (side.node (arc_of cell) == node) (Some (length older)) (newest side node older)
+    cond (node_at side (arc_of cell) == node) (Some (length older)) (newest side node older)
 
 -- a link to that cell, in the block that begins at base
 abbrev pub newest_link : Ptr → Side → ℕ → List Cell → Option Link
@@ -37,7 +43,7 @@ abbrev pub AreLinked : Ptr → Side → List Cell → Type 0
 AreLinked base side [] = Unit {0}
 AreLinked base side (cell ∷ older) =
     (cell.number ≡ length older)
-    × (side.older cell ≡ newest_link base side (side.node (arc_of cell)) older)
+    × (older_at side cell ≡ newest_link base side (node_at side (arc_of cell)) older)
     × AreLinked base side older
 
 -- the cells are linked, and each node has its newest one
@@ -45,7 +51,7 @@ pub record IsThreaded (base : Ptr) (side : Side) (cells : List Cell) (heads : Li
     : Type 0 where
   pub linked : AreLinked base side (reverse cells)
   pub first : (node : ℕ) → slice_index_or heads node None ≡ newest_link base side node (reverse cells)
-  pub inside : All (λ cell. side.node (arc_of cell) < length heads) cells
+  pub inside : All (λ cell. node_at side (arc_of cell) < length heads) cells
 
 -- a walk stands before the node's newest of the first `among` cells
 pub record IsAhead (base : Ptr) (side : Side) (cells : List Cell) (node among : ℕ) (next : Option Link)

@@ -5,8 +5,8 @@ ghost use Rattle.qc_arena.specs.declared.block.Link.{Link};
 ghost use Rattle.qc_arena.specs.Chains.{arc_of};
 ghost use Rattle.qc_arena.specs.Sound.{IsSound};
 
-use crate::block::{Block, Cell, Lease, Link, release, reserve};
-use crate::{Edge, In, Out};
+use crate::block::{Block, Cell, Lease, Link, Side, release, reserve};
+use crate::{Edge, Walk};
 use qc_num::{OutOfMemory, Tick};
 use std::alloc::Global;
 use std::marker::Model;
@@ -114,25 +114,25 @@ impl ArcArena {
     }
 
     /// The arcs that leave the node, newest first.
-    pub fn out(&self, node: u16) -> Out<'_>
+    pub fn out(&self, node: u16) -> Walk<'_>
         ensures { result ≡ leaving node self.now.arcs }
     {
         let next = match self.newest_out.get(node as usize) {
             Some(link) => *link,
             None => None,
         };
-        Out::over(&self.block, node, self.len, next)
+        Walk::over(&self.block, Side::Out, node, self.len, next)
     }
 
     /// The arcs that enter the node, newest first.
-    pub fn into_of(&self, node: u16) -> In<'_>
+    pub fn into_of(&self, node: u16) -> Walk<'_>
         ensures { result ≡ entering node self.now.arcs }
     {
         let next = match self.newest_in.get(node as usize) {
             Some(link) => *link,
             None => None,
         };
-        In::over(&self.block, node, self.len, next)
+        Walk::over(&self.block, Side::In, node, self.len, next)
     }
 }
 

@@ -4,7 +4,7 @@ ghost use Rattle.std.specs.Prelude.{◌≡◌, ℕ, ◌+◌, ◌<◌, [], ◌∷
 ghost use denote.RawPtr.{Ptr};
 ghost use Rattle.qc_arena.specs.declared.block.Cell.{Cell};
 ghost use Rattle.qc_arena.specs.contracts.block.Cell.{the_row};
-ghost use Rattle.qc_arena.specs.Chains.{arc_of};
+ghost use Rattle.qc_arena.specs.Chains.{arc_of, older_at};
 ghost use Rattle.qc_arena.specs.Memory.{FitsBlock, block_owns, block_lent, block_type, place_of};
 
 use crate::Edge;
@@ -33,6 +33,13 @@ pub(crate) struct Cell {
     pub(crate) older_in: Option<Link>,
 }
 
+/// One end of arcs: the node that they leave, or the one that they enter.
+#[derive(Clone, Copy)]
+pub(crate) enum Side {
+    Out,
+    In,
+}
+
 impl Cell {
     /// The arc.
     pub(crate) fn arc(&self) -> Edge
@@ -42,6 +49,16 @@ impl Cell {
             from: self.from,
             to: self.to,
             len: self.len,
+        }
+    }
+
+    /// The next older arc of its node at a side.
+    pub(crate) fn older(&self, side: Side) -> Option<Link>
+        ensures { result ≡ older_at side self.now }
+    {
+        match side {
+            Side::Out => self.older_out,
+            Side::In => self.older_in,
         }
     }
 }

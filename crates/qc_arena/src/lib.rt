@@ -12,4 +12,4 @@ mod walks;
 
 pub use arcs::ArcArena;
 pub use edge::Edge;
-pub use walks::{In, Out};
+pub use walks::Walk;

@@ -1,45 +1,51 @@
-ghost use Rattle.std.specs.Prelude.{◌≡◌, length, map};
+ghost use Rattle.std.specs.Prelude.{◌≡◌, length};
 ghost use Rattle.std.specs.Iterator.{YieldsFirst, item_count};
-ghost use Rattle.qc_arena.specs.Arcs.{leaving, entering};
-ghost use Rattle.qc_arena.specs.Chains.{arc_of, at_origin, at_target, IsAhead};
+ghost use Rattle.qc_arena.specs.Chains.{IsAhead, side_arcs};
 
 use crate::Edge;
-use crate::block::{Block, Link};
+use crate::block::{Block, Link, Side};
 use std::marker::Model;
 
-/// The arcs that leave a node, newest first.
+/// The arcs of a node, newest first: those that leave it, or those that enter it.
 #[derive(Drop)]
-pub struct Out<'a> {
+pub struct Walk<'a> {
     block: &'a Block,
+    side: Side,
     node: u16,
     /// The arcs still to come are among the first `among` cells.
     among: u32,
     next: Option<Link>,
 }
 
-impl<'a> Model for Out<'a> {
-    ghost use Rattle.std.specs.Prelude.{List, map, take};
+impl<'a> Model for Walk<'a> {
+    ghost use Rattle.std.specs.Prelude.{List};
     ghost use Rattle.qc_arena.specs.declared.edge.Edge.{Edge};
 
     ghost Value = { List Edge };
 
-    ghost use Rattle.qc_arena.specs.Arcs.{leaving};
-    ghost use Rattle.qc_arena.specs.Chains.{arc_of, at_origin, IsAhead};
+    ghost use Rattle.qc_arena.specs.Chains.{IsAhead, side_arcs};
 
-    ghost view = { λ w. leaving w.node (map arc_of (take w.among w.block.now.cells)) };
+    ghost view = { λ w. side_arcs w.side w.node w.among w.block.now.cells };
 
-    ghost invariant = { λ w. IsAhead w.block.now.at at_origin w.block.now.cells w.node w.among w.next };
+    ghost invariant = { λ w. IsAhead w.block.now.at w.side w.block.now.cells w.node w.among w.next };
 }
 
-impl<'a> Out<'a> {
+impl<'a> Walk<'a> {
     /// The walk over all the cells, which begins at the node's newest.
-    pub(crate) fn over(block: &'a Block, node: u16, among: u32, next: Option<Link>) -> Out<'a>
+    pub(crate) fn over(
+        block: &'a Block,
+        side: Side,
+        node: u16,
+        among: u32,
+        next: Option<Link>,
+    ) -> Walk<'a>
         requires all { among ≡ length block.now.cells }
-        requires ahead { IsAhead block.now.at at_origin block.now.cells node among next }
-        ensures { result ≡ leaving node (map arc_of block.now.cells) }
+        requires ahead { IsAhead block.now.at side block.now.cells node among next }
+        ensures { result ≡ side_arcs side node among block.now.cells }
     {
-        Out {
+        Walk {
             block,
+            side,
             node,
             among,
             next,
@@ -47,7 +53,7 @@ impl<'a> Out<'a> {
     }
 }
 
-impl<'a> Iterator for Out<'a> {
+impl<'a> Iterator for Walk<'a> {
     type Item = Edge;
 
     ghost next_gives = { YieldsFirst (λ arcs. arcs) };
@@ -58,63 +64,7 @@ impl<'a> Iterator for Out<'a> {
         let link = self.next?;
         let cell = self.block.get(link);
         self.among = cell.number;
-        self.next = cell.older_out;
-        Some(cell.arc())
-    }
-}
-
-/// The arcs that enter a node, newest first.
-#[derive(Drop)]
-pub struct In<'a> {
-    block: &'a Block,
-    node: u16,
-    /// The arcs still to come are among the first `among` cells.
-    among: u32,
-    next: Option<Link>,
-}
-
-impl<'a> Model for In<'a> {
-    ghost use Rattle.std.specs.Prelude.{List, map, take};
-    ghost use Rattle.qc_arena.specs.declared.edge.Edge.{Edge};
-
-    ghost Value = { List Edge };
-
-    ghost use Rattle.qc_arena.specs.Arcs.{entering};
-    ghost use Rattle.qc_arena.specs.Chains.{arc_of, at_target, IsAhead};
-
-    ghost view = { λ w. entering w.node (map arc_of (take w.among w.block.now.cells)) };
-
-    ghost invariant = { λ w. IsAhead w.block.now.at at_target w.block.now.cells w.node w.among w.next };
-}
-
-impl<'a> In<'a> {
-    /// The walk over all the cells, which begins at the node's newest.
-    pub(crate) fn over(block: &'a Block, node: u16, among: u32, next: Option<Link>) -> In<'a>
-        requires all { among ≡ length block.now.cells }
-        requires ahead { IsAhead block.now.at at_target block.now.cells node among next }
-        ensures { result ≡ entering node (map arc_of block.now.cells) }
-    {
-        In {
-            block,
-            node,
-            among,
-            next,
-        }
-    }
-}
-
-impl<'a> Iterator for In<'a> {
-    type Item = Edge;
-
-    ghost next_gives = { YieldsFirst (λ arcs. arcs) };
-
-    ghost remaining = { item_count (λ arcs. arcs) };
-
-    fn next(&mut self) -> Option<Edge> {
-        let link = self.next?;
-        let cell = self.block.get(link);
-        self.among = cell.number;
-        self.next = cell.older_in;
+        self.next = cell.older(self.side);
         Some(cell.arc())
     }
 }
