@@ -1,6 +1,5 @@
 -- What is left when the newest decision is taken back is kept.
-use Rattle.std.proofs.Common.{◌≡◌, ℕ, ◌+◌, ◌-◌, ◌<◌, ◌≤◌, List, [], ◌∷◌, All, length, drop, take, reverse, sym, ap, subst, subst₂, ◌∙◌, vec_capacity, arith, sum}
-use Rattle.std.proofs.lemmas.List.{length-take-le}
+use Rattle.std.proofs.Common.{◌≡◌, ℕ, ◌+◌, ◌-◌, ◌<◌, ◌≤◌, List, [], ◌∷◌, All, length, drop, take, reverse, sym, ap, subst, subst₂, ◌∙◌, vec_capacity, arith}
 use Rattle.std.proofs.lemmas.List.Elements.{All-take}
 use Rattle.qc_model.specs.declared.decision.Decision.{Decision}
 use Rattle.qc_model.specs.declared.decision.Decision.TheVariants.{Assign, Order}
@@ -8,11 +7,10 @@ use Rattle.qc_model.specs.Instance.{InstanceView}
 use Rattle.qc_model.specs.Nodes.{IsInReach, order_pairs}
 use Rattle.qc_starts.specs.declared.starts.Starts.TheInside.{Inside}
 use Rattle.qc_starts.specs.declared.step.Step.TheVariants.{Raised}
-use Rattle.qc_starts.specs.Fields.{AreNested, IsKept, IsStateOf, counts_of, node_of}
+use Rattle.qc_starts.specs.Fields.{AreNested, IsKept, IsStateOf}
 use Rattle.qc_starts.specs.NodeArcs.{IsSound}
 use Rattle.qc_starts.specs.Opened.{AreSized}
-use Rattle.qc_starts.specs.Seen.{StartsNode}
-use Rattle.qc_starts.proofs.KeptLemmas.{IsBackNode, nested_less, sum_counts}
+use Rattle.qc_starts.proofs.KeptLemmas.{IsBackNode, nested_less}
 use Rattle.qc_trail.proofs.Written.{written_back_length}
 use Rattle.qc_trail.specs.declared.trail.Note.{Note}
 use Rattle.qc_trail.specs.Trails.{Notes, written_back}
@@ -22,24 +20,14 @@ in_reach_less inst [] all = all
 in_reach_less inst (Assign j k ∷ ds) all = all.1
 in_reach_less inst (Order i j ∷ ds) all = all
 
--- a node without its newest decision, and how many steps this took
-pub record IsTakenBack (old new : StartsNode) (before after : ℕ) : Type 0 where
-  pub noted : new.noted ≡ drop 1 old.noted
-  pub sound : sum new.noted ≡ length new.notes
-  pub cells : new.cells ≡ written_back (drop (length new.notes) old.notes) old.cells
-  pub notes : new.notes ≡ take (length new.notes) old.notes
-  pub fewer : length new.notes ≤ length old.notes
-  pub counted : after + sum new.noted ≡ before + sum old.noted
-
-module _ (f : Inside) (node : StartsNode) (is : IsKept f) (view : node_of f ≡ node) (g : Inside) (mark before after : ℕ)
+module _ (f : Inside) (is : IsKept f) (g : Inside) (mark : ℕ)
     (home : g.network.inst ≡ f.network.inst) (ds_is : g.network.decisions ≡ drop 1 f.network.decisions)
     (sound : IsSound g.network) (marks_are : reverse f.marks.items ≡ mark ∷ reverse g.marks.items)
     (wide : vec_capacity g.marks ≡ vec_capacity f.marks)
     (spread_is : g.spread ≡ record f.spread { values = g.spread.values }) (raised : g.step ≡ Raised)
     (trail_is : g.spread.values.trail ≡ record f.spread.values.trail { notes = take mark f.spread.values.trail.notes })
     (cells_are : g.spread.values.cells ≡ written_back (drop mark f.spread.values.trail.notes) f.spread.values.cells)
-    (noted_are : g.spread.values.noted.items ≡ f.spread.values.noted.items)
-    (counted : after ≡ before + (length f.spread.values.trail.notes - mark)) where
+    (noted_are : g.spread.values.noted.items ≡ f.spread.values.noted.items) where
   abbrev past : List Note
   past = f.spread.values.trail.notes
 
@@ -53,16 +41,13 @@ module _ (f : Inside) (node : StartsNode) (is : IsKept f) (view : node_of f ≡ 
   notes_are : g.spread.values.trail.notes ≡ take mark past
   notes_are = ap (λ (t : Notes). t.notes) trail_is
 
-  count : length g.spread.values.trail.notes ≡ mark
-  count = ap (length {A = Note}) notes_are ∙ length-take-le mark past less.0
-
   back : IsBackNode g.network.inst g.network.decisions (reverse g.marks.items) g.spread.values.trail.notes g.spread.values.cells
   back =
       subst₂ (λ (i : InstanceView) (ds : List Decision).
       IsBackNode i ds (reverse g.marks.items) g.spread.values.trail.notes g.spread.values.cells) (sym home) (sym ds_is)
       (subst₂ (IsBackNode f.network.inst (drop 1 f.network.decisions) (reverse g.marks.items)) (sym notes_are) (sym cells_are) less.1)
 
-  back_kept : IsKept g
+  pub back_kept : IsKept g
   back_kept =
       let size = ap (length {A = ℕ}) cells_are ∙ written_back_length (drop mark past) f.spread.values.cells in
       let all : All (λ note. note.place < length g.spread.values.cells) g.spread.values.trail.notes =
@@ -85,21 +70,3 @@ module _ (f : Inside) (node : StartsNode) (is : IsKept f) (view : node_of f ≡ 
         room = omega (arith, is.room, wide, ap (λ (i : InstanceView). length i.tasks + order_pairs i) home);
         state = subst (λ step. IsStateOf g.network g.spread.values.cells g.root step) (sym raised) back.rest;
       }
-
-  taken : IsTakenBack (node_of f) (node_of g) before after
-  taken =
-      let ns = g.spread.values.trail.notes in
-      let sums = sum_counts g.network.inst g.network.decisions (reverse g.marks.items) ns g.spread.values.cells back.nested in
-      let all = sum_counts f.network.inst f.network.decisions (reverse f.marks.items) past f.spread.values.cells is.nested in
-      record {
-        noted = ap (counts_of (reverse g.marks.items)) count
-            ∙ ap (λ (ms : List ℕ). drop 1 (counts_of ms (length past))) (sym marks_are);
-        sound = sums;
-        cells = cells_are ∙ ap (λ (k : ℕ). written_back (drop k past) f.spread.values.cells) (sym count);
-        notes = notes_are ∙ ap (λ (k : ℕ). take k past) (sym count);
-        fewer = omega (arith, count, less.0);
-        counted = omega (arith, counted, sums, all, count, less.0);
-      }
-
-  pub back_taken : IsKept g × IsTakenBack node (node_of g) before after
-  back_taken = (back_kept, subst (λ (n : StartsNode). IsTakenBack n (node_of g) before after) view taken)

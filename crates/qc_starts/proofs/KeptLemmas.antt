@@ -1,10 +1,9 @@
 -- What is kept for a node answers what is asked of it.
-use Rattle.std.proofs.Common.{◌≡◌, ◌≢◌, ℕ, zero, suc, ◌+◌, ◌-◌, ◌*◌, ◌<◌, ◌≤◌, inl, inr, List, [], ◌∷◌, ◌++◌, length, get_or, drop, take, reverse, Option, None, Some, refl, sym, ap, subst, subst₂, ◌∙◌, length-append, arith, slice_index, sum}
+use Rattle.std.proofs.Common.{◌≡◌, ◌≢◌, ℕ, zero, suc, ◌+◌, ◌-◌, ◌*◌, ◌<◌, ◌≤◌, inl, inr, List, [], ◌∷◌, ◌++◌, length, get_or, drop, take, Option, None, Some, refl, sym, ap, subst, subst₂, ◌∙◌, length-append, arith, slice_index}
 use Rattle.std.proofs.lemmas.Bool.{cases_eq}
-use Rattle.std.proofs.lemmas.List.{get_or_default, length-take-le, take-append-drop}
-use Rattle.std.proofs.lemmas.List.Sums.{sum_by-cons}
+use Rattle.std.proofs.lemmas.List.{get_or_default, length-take-le}
 use Rattle.std.proofs.Math.Seq.{drop-append_seam, take-append_seam}
-use Rattle.qc_dist.specs.Node.{IsOpen}
+use Rattle.qc_dist.specs.Node.{IsOpen, Node}
 use Rattle.qc_model.specs.declared.decision.Decision.{Decision}
 use Rattle.qc_model.specs.declared.decision.Decision.TheVariants.{Assign, Order}
 use Rattle.qc_model.specs.Instance.{InstanceView, IsApart, Valid, pair_of}
@@ -12,19 +11,18 @@ use Rattle.qc_model.proofs.NodeLemmas.{conflict_inside}
 use Rattle.qc_model.specs.declared.pair.Pair.{Pair}
 use Rattle.qc_model.specs.Nodes.{HasStarts, IsInReach, IsNodeEnd, IsSettled, Meets, forced, head}
 use Rattle.qc_starts.specs.Arcs.{IsArc}
-use Rattle.qc_starts.specs.Fields.{AreNested, IsKept, IsStateOf, counts_of, node_of}
+use Rattle.qc_starts.specs.Fields.{AreNested, IsKept, IsStateOf, node_of}
 use Rattle.qc_starts.specs.declared.starts.Starts.TheInside.{Inside}
 use Rattle.qc_starts.specs.Found.{HasLastEnd, IsLatest, end_by, end_in, why_in}
 use Rattle.qc_starts.specs.declared.step.Step.{Step}
 use Rattle.qc_starts.specs.declared.step.Step.TheVariants.{Raised, Cycle}
 use Rattle.qc_starts.specs.NodeArcs.{IsSound, NodeArcs}
 use Rattle.qc_starts.specs.Roots.{root_of}
-use Rattle.qc_starts.specs.Seen.{AreNotes, HoldsStarts, IsCycle, IsNodeStart, IsReached, IsStep, IsWhy, StartsNode, first_of, taken_back}
+use Rattle.qc_starts.specs.Seen.{IsCycle, IsNodeStart, IsReached, IsStep, IsWhy, first_of}
 use Rattle.qc_starts.specs.Spread.{IsBackAtRoot, IsLifted, IsRooting, IsSettledTo}
 use Rattle.qc_starts.specs.Values.{AreRest, IsReason, raiser_at, start_at}
 use Rattle.qc_starts.specs.Ways.{AreBacked, IsBackTo, IsEndless, IsRing, IsRising, Why}
 use Rattle.qc_starts.proofs.Growth.{assigned_same, forced_grows, head_grows, head_same, meets_before, ordered_same}
-use Rattle.qc_starts.proofs.NotingLemmas.{written_back-append}
 use Rattle.qc_starts.proofs.RestLemmas.{backed_of, chain_shows, end_of, has_starts, link, ring_of, rising_of, soon_of, start_of}
 use Rattle.qc_starts.proofs.ArcLemmas.{arc_of}
 use Rattle.qc_starts.proofs.WayLemmas.{IsClosed, no_end}
@@ -91,10 +89,6 @@ pub back_of : (net : NodeArcs) (cells : List ℕ) (root : ℕ) (step : Step) →
     → (¬ HasStarts net.inst net.decisions) → (olds : List ℕ) × IsBackAtRoot net root olds cells
 back_of net cells root Raised sound state none = absurd (none (has_starts net.inst net.decisions cells state))
 back_of net cells root Cycle sound state none = state
-
-pub holds_of : (inst : InstanceView) (ds : List Decision) (cells : List ℕ) → AreRest inst ds cells
-    → HoldsStarts inst ds cells
-holds_of inst ds cells rest = start_of inst ds cells rest
 
 pub state_reasons : (net : NodeArcs) (cells : List ℕ) (root : ℕ) (step : Step) → IsStateOf net cells root step
     → (j : ℕ) → j < length net.inst.tasks
@@ -174,10 +168,6 @@ nested_count inst (d ∷ ds) [] notes cells are = absurd are
 nested_count inst (d ∷ ds) (m ∷ ms) notes cells are =
     omega (arith, nested_count inst ds ms (take m notes) (written_back (drop m notes) cells) are.3)
 
-pub counts_count : (marks : List ℕ) (count : ℕ) → length (counts_of marks count) ≡ length marks
-counts_count [] count = refl
-counts_count (m ∷ ms) count = omega (arith, counts_count ms m)
-
 pub nested_more : (inst : InstanceView) (d : Decision) (ds : List Decision) (marks : List ℕ) (notes since : List Note)
     (old new : List ℕ) → AreNested inst ds marks notes old → AreRest inst ds old
     → length notes ≤ 2 * length inst.tasks * length ds → written_back since new ≡ old
@@ -211,22 +201,6 @@ nested_less inst (d ∷ ds) mark marks notes cells are = (
   },
 )
 
-pub mark_low : (inst : InstanceView) (ds : List Decision) (mark : ℕ) (marks : List ℕ) (notes : List Note)
-    (cells : List ℕ) → AreNested inst ds (mark ∷ marks) notes cells → mark ≤ length notes
-mark_low inst [] mark marks notes cells are = absurd are
-mark_low inst (d ∷ ds) mark marks notes cells are = are.0
-
-pub sum_counts : (inst : InstanceView) (ds : List Decision) (marks : List ℕ) (notes : List Note) (cells : List ℕ)
-    → AreNested inst ds marks notes cells → sum (counts_of marks (length notes)) ≡ length notes
-sum_counts inst [] [] notes cells are = sym are
-sum_counts inst [] (m ∷ ms) notes cells are = absurd are
-sum_counts inst (d ∷ ds) [] notes cells are = absurd are
-sum_counts inst (d ∷ ds) (m ∷ ms) notes cells are =
-    let size = length-take-le m notes are.0 in
-    let rest = sum_counts inst ds ms (take m notes) (written_back (drop m notes) cells) are.3 in
-    let same = ap (λ (k : ℕ). sum (counts_of ms k)) size in
-    omega (arith, rest, same, size, are.0, sum_by-cons (λ (x : ℕ). x) (length notes - m) (counts_of ms m))
-
 pub in_reach_more : (inst : InstanceView) (d : Decision) (ds : List Decision) → IsReached inst d → IsInReach inst ds
     → IsInReach inst (d ∷ ds)
 in_reach_more inst (Assign j k) ds reach all = (reach, all)
@@ -251,69 +225,17 @@ pub first_here : {A : Type 0} (m k : ℕ) (x : A) (xs : List A) → length xs �
 first_here m k x xs size same =
     let e : length (x ∷ xs) - m ≡ 1 = omega arith in ap (λ (n : ℕ). drop n (x ∷ xs)) e
 
-first_later : {A : Type 0} (m : ℕ) (x : A) (xs : List A) → m ≤ length xs → first_of m (x ∷ xs) ≡ first_of m xs
-first_later m x xs low =
-    let e : length (x ∷ xs) - m ≡ suc (length xs - m) = omega arith in ap (λ (n : ℕ). drop n (x ∷ xs)) e
-
-sum_drop : (n : ℕ) (xs : List ℕ) → sum (drop n xs) ≤ sum xs
-sum_drop zero xs = omega arith
-sum_drop (suc n) [] = omega arith
-sum_drop (suc n) (x ∷ xs) = omega (arith, sum_drop n xs, sum_by-cons (λ (y : ℕ). y) x xs)
-
-split_at : {A : Type 0} (a b : ℕ) (xs : List A) → a ≤ b → drop a xs ≡ drop a (take b xs) ++ drop b xs
-split_at zero b xs low = sym (take-append-drop b xs)
-split_at (suc a) zero xs low = absurd (omega arith)
-split_at (suc a) (suc b) [] low = refl
-split_at (suc a) (suc b) (x ∷ xs) low = split_at a b xs (omega arith)
-
--- writing back the notes of the later decisions leaves the least starts of the first ones
-nested_back : (inst : InstanceView) (ds : List Decision) (marks : List ℕ) (notes : List Note) (cells : List ℕ)
-    → AreNested inst ds marks notes cells → (m : ℕ) → m < length ds
-    → HoldsStarts inst (first_of m ds) (written_back (drop (sum (first_of m (counts_of marks (length notes)))) notes) cells)
-nested_back inst [] marks notes cells are m low = absurd (omega arith)
-nested_back inst (d ∷ ds) [] notes cells are m low = absurd are
-nested_back inst (d ∷ ds) (k ∷ ks) notes cells are m low =
-    let size = length-take-le k notes are.0 in
-    let older = nested_count inst ds ks (take k notes) (written_back (drop k notes) cells) are.3 in
-    let counts = counts_of ks k in
-    let many : length counts ≡ length ds = counts_count ks k ∙ older in
-    let total : sum counts ≡ k = ap (λ (n : ℕ). sum (counts_of ks n)) (sym size)
-    ∙ sum_counts inst ds ks (take k notes) (written_back (drop k notes) cells) are.3 ∙ size in
-    elim (cases_eq m (length ds)) [
-      | inl same ↦
-          let here = first_here m (length ds) (length notes - k) counts many same in
-          let sums : sum (first_of m ((length notes - k) ∷ counts)) ≡ k = ap sum here ∙ total in
-          subst₂ (λ (xs : List Decision) (s : ℕ). HoldsStarts inst xs (written_back (drop s notes) cells))
-          (sym (first_here m (length ds) d ds refl same)) (sym sums)
-          (holds_of inst ds (written_back (drop k notes) cells) are.2)
-      | inr other ↦
-          let under : m < length ds = omega arith in
-          let rest = nested_back inst ds ks (take k notes) (written_back (drop k notes) cells) are.3 m under in
-          let shift = ap (λ (n : ℕ). sum (first_of m (counts_of ks n))) size in
-          let s = sum (first_of m counts) in
-          let small : s ≤ k = omega (arith, sum_drop (length counts - m) counts, total) in
-          let joined : written_back (drop s (take k notes)) (written_back (drop k notes) cells) ≡ written_back (drop s notes) cells =
-          sym (written_back-append (drop s (take k notes)) (drop k notes) cells)
-          ∙ ap (λ (ns : List Note). written_back ns cells) (sym (split_at s k notes small)) in
-          let moved = subst (λ (n : ℕ). HoldsStarts inst (first_of m ds)
-          (written_back (drop n (take k notes)) (written_back (drop k notes) cells))) shift rest in
-          let there = subst (HoldsStarts inst (first_of m ds)) joined moved in
-          let later = ap sum (first_later m (length notes - k) counts (omega (arith, many))) in
-          subst₂ (λ (xs : List Decision) (n : ℕ). HoldsStarts inst xs (written_back (drop n notes) cells))
-          (sym (first_later m d ds (omega arith))) (sym later) there
-    ]
-
 -- ---- the fields of a node
 
-module _ (f : Inside) (node : StartsNode) (is : IsKept f) (view : node_of f ≡ node) where
+module _ (f : Inside) (node : Node) (is : IsKept f) (view : node_of f ≡ node) where
   pub seen_back : (P : InstanceView → List Decision → Type 0) → P node.inst node.decisions → P f.network.inst f.network.decisions
-  seen_back P holds = subst (λ (n : StartsNode). P n.inst n.decisions) (sym view) holds
+  seen_back P holds = subst (λ (n : Node). P n.inst n.decisions) (sym view) holds
 
   pub seen_on : (P : InstanceView → List Decision → Type 0) → P f.network.inst f.network.decisions → P node.inst node.decisions
-  seen_on P holds = subst (λ (n : StartsNode). P n.inst n.decisions) view holds
+  seen_on P holds = subst (λ (n : Node). P n.inst n.decisions) view holds
 
   pub tasks_are : length f.network.inst.tasks ≡ length node.inst.tasks
-  tasks_are = ap (λ (n : StartsNode). length n.inst.tasks) view
+  tasks_are = ap (λ (n : Node). length n.inst.tasks) view
 
   pub home_rest : HasStarts node.inst node.decisions → AreRest f.network.inst f.network.decisions f.spread.values.cells
   home_rest starts = rest_of f.network f.spread.values.cells f.root f.step is.sound is.state (seen_back HasStarts starts)
@@ -336,23 +258,18 @@ module _ (f : Inside) (node : StartsNode) (is : IsKept f) (view : node_of f ≡ 
   pub step_kept : IsStep node.inst node.decisions f.step
   step_kept = seen_on (λ i ds. IsStep i ds f.step) (step_of f.network f.spread.values.cells f.root f.step is.sound is.state)
 
-  pub holds_kept : HasStarts node.inst node.decisions → HoldsStarts node.inst node.decisions node.cells
-  holds_kept starts =
-      subst (HoldsStarts node.inst node.decisions) (ap (λ (n : StartsNode). n.cells) view)
-      (holds_of node.inst node.decisions f.spread.values.cells (rest_kept starts))
-
   -- the task that ends last
 
   latest_low : (last : Option ℕ) → IsLatest f.network.inst f.spread.values.cells (length f.network.inst.tasks) last
       → IsLatest node.inst f.spread.values.cells (length node.inst.tasks) last
   latest_low last latest =
-      subst (λ (n : StartsNode). IsLatest n.inst f.spread.values.cells (length n.inst.tasks) last) view latest
+      subst (λ (n : Node). IsLatest n.inst f.spread.values.cells (length n.inst.tasks) last) view latest
 
   pub end_kept : HasStarts node.inst node.decisions → (end : ℕ) → HasLastEnd f.network.inst f.spread.values.cells end
       → IsNodeEnd node.inst node.decisions end
   end_kept starts end has =
       end_of node.inst node.decisions f.spread.values.cells (rest_kept starts) has.last end (latest_low has.last has.latest)
-      (subst (λ (n : StartsNode). end ≡ end_by n.inst f.spread.values.cells has.last) view has.is)
+      (subst (λ (n : Node). end ≡ end_by n.inst f.spread.values.cells has.last) view has.is)
 
   end_low : HasStarts node.inst node.decisions → (last : Option ℕ) → IsLatest f.network.inst f.spread.values.cells (length f.network.inst.tasks) last
       → end_by f.network.inst f.spread.values.cells last ≤ 999999999999
@@ -441,74 +358,8 @@ module _ (f : Inside) (node : StartsNode) (is : IsKept f) (view : node_of f ≡ 
       (why_back (λ why. IsRing why path) k same ring) in
       (seen_on (λ i ds. IsCycle i ds path) found.0, omega (arith, found.1, tasks_are))
 
-  pub noted_count : length node.noted ≡ length node.decisions
-  noted_count =
-      let marks = reverse f.marks.items in
-      let here : length (counts_of marks (length f.spread.values.trail.notes)) ≡ length f.network.decisions =
-      counts_count marks (length f.spread.values.trail.notes)
-      ∙ nested_count f.network.inst f.network.decisions marks f.spread.values.trail.notes f.spread.values.cells is.nested in
-      subst (λ (n : StartsNode). length n.noted ≡ length n.decisions) view here
-
-  pub notes_kept : AreNotes node
-  notes_kept =
-      let marks = reverse f.marks.items in
-      let notes = f.spread.values.trail.notes in
-      let cells = f.spread.values.cells in
-      let each : length (counts_of marks (length notes)) ≡ length f.network.decisions =
-      counts_count marks (length notes) ∙ nested_count f.network.inst f.network.decisions marks notes cells is.nested in
-      let here : AreNotes (node_of f) = record {
-        each = each;
-        count = sym (sum_counts f.network.inst f.network.decisions marks notes cells is.nested);
-        back = nested_back f.network.inst f.network.decisions marks notes cells is.nested;
-      } in
-      subst AreNotes view here
-
--- some notes are written back, and then more
-pub back_on : (a b : ℕ) (notes : List Note) (cells : List ℕ) → a ≤ b
-    → written_back (drop a (take b notes)) (written_back (drop b notes) cells) ≡ written_back (drop a notes) cells
-back_on a b notes cells low =
-    sym (written_back-append (drop a (take b notes)) (drop b notes) cells)
-    ∙ ap (λ (ns : List Note). written_back ns cells) (sym (split_at a b notes low))
-
 pub drop_none : {A : Type 0} (m : ℕ) (xs : List A) → drop (m - m) xs ≡ xs
 drop_none m xs = let e : m - m ≡ 0 = omega arith in ap (λ (k : ℕ). drop k xs) e
-
-take_less : {A : Type 0} (a b : ℕ) (xs : List A) → a ≤ b → take a (take b xs) ≡ take a xs
-take_less zero b xs low = refl
-take_less (suc a) zero xs low = absurd (omega arith)
-take_less (suc a) (suc b) [] low = refl
-take_less {A = A} (suc a) (suc b) (x ∷ xs) low = ap (λ (ys : List A). x ∷ ys) (take_less a b xs (omega arith))
-
-pub cells_on : (mid less all : List Note) (between cells : List ℕ) → length less ≤ length mid
-    → mid ≡ take (length mid) all → between ≡ written_back (drop (length mid) all) cells
-    → written_back (drop (length less) mid) between ≡ written_back (drop (length less) all) cells
-cells_on mid less all between cells fewer mid_is between_is =
-    subst₂ (λ (ns : List Note) (xs : List ℕ). written_back (drop (length less) ns) xs ≡ written_back (drop (length less) all) cells)
-    (sym mid_is) (sym between_is) (back_on (length less) (length mid) all cells fewer)
-
-pub notes_on : (mid less all : List Note) → length less ≤ length mid → mid ≡ take (length mid) all
-    → take (length less) mid ≡ take (length less) all
-notes_on mid less all fewer mid_is =
-    ap (take (length less)) mid_is ∙ take_less (length less) (length mid) all fewer
-
-pub same_node : (a b : StartsNode) → a.inst ≡ b.inst → a.decisions ≡ b.decisions → a.noted ≡ b.noted → a.cells ≡ b.cells
-    → a.notes ≡ b.notes → a ≡ b
-same_node a b inst decisions noted cells notes =
-    ap (λ (i : InstanceView). record { inst = i; decisions = a.decisions; noted = a.noted; cells = a.cells; notes = a.notes }) inst
-    ∙ ap (λ (xs : List Decision). record { inst = b.inst; decisions = xs; noted = a.noted; cells = a.cells; notes = a.notes }) decisions
-    ∙ ap (λ (xs : List ℕ). record { inst = b.inst; decisions = b.decisions; noted = xs; cells = a.cells; notes = a.notes }) noted
-    ∙ ap (λ (xs : List ℕ). record { inst = b.inst; decisions = b.decisions; noted = b.noted; cells = xs; notes = a.notes }) cells
-    ∙ ap (λ (ns : List Note). record { inst = b.inst; decisions = b.decisions; noted = b.noted; cells = b.cells; notes = ns }) notes
-
-pub node_is : (mark : ℕ) (old new : StartsNode) → new.inst ≡ old.inst → new.decisions ≡ first_of mark old.decisions
-    → new.noted ≡ first_of mark old.noted → sum new.noted ≡ length new.notes
-    → new.cells ≡ written_back (drop (length new.notes) old.notes) old.cells
-    → new.notes ≡ take (length new.notes) old.notes → new ≡ taken_back mark old
-node_is mark old new inst decisions noted sound cells notes =
-    let kept : length new.notes ≡ sum (first_of mark old.noted) = sym sound ∙ ap sum noted in
-    let cells_are = cells ∙ ap (λ (k : ℕ). written_back (drop k old.notes) old.cells) kept in
-    let notes_are = notes ∙ ap (λ (k : ℕ). take k old.notes) kept in
-    same_node new (taken_back mark old) inst decisions noted cells_are notes_are
 
 -- ---- apart pairs
 

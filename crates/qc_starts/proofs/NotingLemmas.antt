@@ -128,21 +128,15 @@ set_keeps before olds v cells p x marked are is = record {
   back = is.back;
 }
 
-pub wrote_then : (a b c : Noted) (x y z : ℕ) → Wrote a b x y → Wrote b c y z → Wrote a c x z
-wrote_then a b c x y z one two = record {
+pub wrote_then : (a b c : Noted) → Wrote a b → Wrote b c → Wrote a c
+wrote_then a b c one two = record {
   notes = two.notes;
   cap = two.cap ∙ one.cap;
   noting = λ earlier olds is. two.noting earlier olds (one.noting earlier olds is);
-  counted = omega (arith, one.counted, two.counted);
 }
 
-pub wrote_none : (a : Noted) (x : ℕ) → HasNotes a → Wrote a a x x
-wrote_none a x notes = record {
-  notes = notes;
-  cap = refl;
-  noting = λ earlier olds is. is;
-  counted = omega arith;
-}
+pub wrote_none : (a : Noted) → HasNotes a → Wrote a a
+wrote_none a notes = record { notes = notes; cap = refl; noting = λ earlier olds is. is }
 
 pub marks_none : (noted : List Bool) → ((k : ℕ) → k < length noted → slice_index_or noted k true ≡ false)
     → marks noted ≡ 0

@@ -1,6 +1,7 @@
 -- Where cranes go as they like and all tasks have one, nothing is left to decide exactly where no two tasks overlap.
 use Rattle.std.proofs.Common.{◌≡◌, ℕ, ◌+◌, ◌<◌, ◌≤◌, ◌⊎◌, inl, inr, List, length, Option, None, Some, MatchOption, ap, sym, ◌∙◌, arith, slice_index}
 use Rattle.std.proofs.lemmas.Bool.{cases_lt}
+use Rattle.qc_dist.specs.Node.{Node}
 use Rattle.qc_model.specs.declared.decision.Decision.{Decision}
 use Rattle.qc_model.specs.declared.pair.Pair.{Pair}
 use Rattle.qc_model.specs.declared.turn.Turn.TheVariants.{OneWay, Free}
@@ -14,7 +15,7 @@ use Rattle.qc_starts.specs.Fields.{IsKept, node_of}
 use Rattle.qc_starts.specs.Found.{starts_in}
 use Rattle.qc_starts.specs.Overlaps.{IsOverlap, Overlaps}
 use Rattle.qc_starts.specs.Overlapping.{HasOverlap, IsFound, OverlapsLater}
-use Rattle.qc_starts.specs.Seen.{AreAssigned, StartsNode}
+use Rattle.qc_starts.specs.Seen.{AreAssigned}
 use Rattle.qc_starts.specs.Values.{start_at}
 use Rattle.qc_starts.proofs.KeptLemmas.{home_rest, seen_back, seen_on}
 use Rattle.qc_starts.proofs.RestLemmas.{least_of, start_in}
@@ -119,7 +120,7 @@ complete_one_way inst ds one given settled = record {
 
 -- ---- what is kept for a node
 
-module _ (f : Inside) (node : StartsNode) (is : IsKept f) (view : node_of f ≡ node) (as_free : node.inst.turn ≡ Free)
+module _ (f : Inside) (node : Node) (is : IsKept f) (view : node_of f ≡ node) (as_free : node.inst.turn ≡ Free)
     (given : AreAssigned node.inst node.decisions) (starts : HasStarts node.inst node.decisions) where
   abbrev inst : InstanceView
   inst = f.network.inst
@@ -137,7 +138,7 @@ module _ (f : Inside) (node : StartsNode) (is : IsKept f) (view : node_of f ≡ 
   least = least_of inst ds cells (home_rest f node is view starts)
 
   turn : inst.turn ≡ Free
-  turn = ap (λ (n : StartsNode). n.inst.turn) view ∙ as_free
+  turn = ap (λ (n : Node). n.inst.turn) view ∙ as_free
 
   all_given : AreAssigned inst ds
   all_given = seen_back f node is view AreAssigned given

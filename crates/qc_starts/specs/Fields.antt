@@ -1,5 +1,6 @@
 -- inner: the fields of the least starts of a node, as clauses see them and as they are kept.
-use Rattle.std.specs.Prelude.{◌≡◌, ℕ, ◌+◌, ◌-◌, ◌*◌, ◌≤◌, List, [], ◌∷◌, drop, length, reverse, take, vec_capacity}
+use Rattle.std.specs.Prelude.{◌≡◌, ℕ, ◌+◌, ◌*◌, ◌≤◌, List, [], ◌∷◌, drop, length, reverse, take, vec_capacity}
+use Rattle.qc_dist.specs.Node.{Node}
 use Rattle.qc_model.specs.declared.decision.Decision.{Decision}
 use Rattle.qc_model.specs.Instance.{InstanceView}
 use Rattle.qc_model.specs.Nodes.{IsInReach, order_pairs}
@@ -8,16 +9,10 @@ use Rattle.qc_starts.specs.declared.step.Step.{Step}
 use Rattle.qc_starts.specs.declared.step.Step.TheVariants.{Raised, Cycle}
 use Rattle.qc_starts.specs.NodeArcs.{IsSound, NodeArcs}
 use Rattle.qc_starts.specs.Opened.{AreSized}
-use Rattle.qc_starts.specs.Seen.{StartsNode}
 use Rattle.qc_starts.specs.Spread.{IsBackAtRoot}
 use Rattle.qc_starts.specs.Values.{AreRest}
 use Rattle.qc_trail.specs.declared.trail.Note.{Note}
 use Rattle.qc_trail.specs.Trails.{written_back}
-
--- how many notes there are between one mark, newest first, and the next
-abbrev pub counts_of : List ℕ → ℕ → List ℕ
-counts_of [] count = []
-counts_of (mark ∷ marks) count = (count - mark) ∷ counts_of marks mark
 
 -- for each decision, newest first, how many notes there were before it: writing back those that follow leaves the
 -- least starts of the node without it
@@ -35,14 +30,8 @@ abbrev pub IsStateOf : NodeArcs → List ℕ → ℕ → Step → Type 0
 IsStateOf net cells root Raised = AreRest net.inst net.decisions cells
 IsStateOf net cells root Cycle = (olds : List ℕ) × IsBackAtRoot net root olds cells
 
-abbrev pub node_of : Inside → StartsNode
-node_of f = record {
-  inst = f.network.inst;
-  decisions = f.network.decisions;
-  noted = counts_of (reverse f.marks.items) (length f.spread.values.trail.notes);
-  cells = f.spread.values.cells;
-  notes = f.spread.values.trail.notes;
-}
+abbrev pub node_of : Inside → Node
+node_of f = record { inst = f.network.inst; decisions = f.network.decisions }
 
 pub record IsKept (f : Inside) : Type 0 where
   pub sound : IsSound f.network

@@ -29,9 +29,8 @@ pub record IsNoting (before : List Note) (olds : List ℕ) (v : Noted) : Type 0 
       → slice_index others p ≡ slice_index olds p)
       → written_back since others ≡ olds
 
--- cells were written, each with a note if it had none, and the steps were counted
-pub record Wrote (old new : Noted) (before after : ℕ) : Type 0 where
+-- cells were written, each with a note if it had none
+pub record Wrote (old new : Noted) : Type 0 where
   pub notes : HasNotes new
   pub cap : new.trail.cap ≡ old.trail.cap
   pub noting : (earlier : List Note) (olds : List ℕ) → IsNoting earlier olds old → IsNoting earlier olds new
-  pub counted : length new.trail.notes + before ≤ length old.trail.notes + after

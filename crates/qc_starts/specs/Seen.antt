@@ -1,40 +1,19 @@
--- public: what contracts see of the least starts of a node, and what is answered of it.
-use Rattle.std.specs.Prelude.{◌≡◌, ℕ, ◌+◌, ◌-◌, ◌*◌, ◌<◌, ◌≤◌, Bool, true, false, List, ◌∷◌, count_by, drop, length, nat_lt, sum, take, reverse, slice_index, IsSome, IsTrue, Some}
+-- public: what is answered of the least starts of a node.
+use Rattle.std.specs.Prelude.{◌≡◌, ℕ, ◌-◌, ◌<◌, Bool, true, false, List, drop, length, reverse, slice_index, IsSome, IsTrue, Some}
 use Rattle.qc_arena.specs.Arcs.{Arcs}
 use Rattle.qc_model.specs.declared.decision.Decision.{Decision}
 use Rattle.qc_model.specs.declared.decision.Decision.TheVariants.{Assign, Order}
 use Rattle.qc_model.specs.Instance.{InstanceView, IsApart}
 use Rattle.qc_model.specs.Leaves.{chain, leaf_value, ring}
-use Rattle.qc_model.specs.Work.{task_numbers}
 use Rattle.qc_model.specs.Nodes.{AreLeast, HasStarts, IsNodeEnd, IsSettled, assigned, forced, reaches}
 use Rattle.qc_num.specs.declared.bound.Bound.TheVariants.{Least, Never}
-use Rattle.qc_trail.specs.declared.trail.Note.{Note}
-use Rattle.qc_trail.specs.Trails.{written_back}
 use Rattle.qc_starts.specs.Arcs.{newest_length}
 use Rattle.qc_starts.specs.declared.step.Step.{Step}
 use Rattle.qc_starts.specs.declared.step.Step.TheVariants.{Raised, Cycle}
 
--- the instance, the decisions and how many cells were noted for each, both newest first, the cells, and the notes
-pub record StartsNode : Type 0 where
-  pub inst : InstanceView
-  pub decisions : List Decision
-  pub noted : List ℕ
-  pub cells : List ℕ
-  pub notes : List Note
-
 -- the first of these, of a list that is newest first
 abbrev pub first_of : {A : Type 0} → ℕ → List A → List A
 first_of mark xs = drop (length xs - mark) xs
-
--- the node after the decisions past the mark are taken back: what was noted for them is written back
-abbrev pub taken_back : ℕ → StartsNode → StartsNode
-taken_back mark node = record {
-  inst = node.inst;
-  decisions = first_of mark node.decisions;
-  noted = first_of mark node.noted;
-  cells = written_back (drop (sum (first_of mark node.noted)) node.notes) node.cells;
-  notes = take (sum (first_of mark node.noted)) node.notes;
-}
 
 -- a decision on a crane is for one that reaches the task
 abbrev pub IsReached : InstanceView → Decision → Type 0
@@ -79,34 +58,3 @@ pub record HoldsForced (inst : InstanceView) (ds : List Decision) (arena : Arcs)
   pub newest :
       (i j : ℕ) → i < length inst.tasks → j < length inst.tasks
       → newest_length i j (reverse arena.arcs) ≡ forced inst ds i j
-
--- the first cells hold the least starts of the tasks
-abbrev pub HoldsStarts : InstanceView → List Decision → List ℕ → Type 0
-HoldsStarts inst ds cells = (j : ℕ) → j < length inst.tasks → IsNodeStart inst ds j (slice_index cells j)
-
--- there is a note for each cell that was noted for a decision, and writing back those of the decisions after the first
--- so many leaves the least starts of these
-pub record AreNotes (node : StartsNode) : Type 0 where
-  pub each : length node.noted ≡ length node.decisions
-  pub count : length node.notes ≡ sum node.noted
-  pub back :
-      (m : ℕ) → m < length node.decisions
-      → HoldsStarts node.inst (first_of m node.decisions)
-      (taken_back m node).cells
-
--- of how many tasks the start is later
-abbrev pub count_raised : InstanceView → List ℕ → List ℕ → ℕ
-count_raised inst olds news =
-    count_by (λ j. nat_lt (slice_index olds j) (slice_index news j)) (task_numbers inst)
-
--- how many cells were noted for one decision more: two a task at most, no more than were steps taken, and where it is
--- answered by Raised at least one for each task whose start it raised
-pub record IsNoted (old new : StartsNode) (step : Step) (before after : ℕ) : Type 0 where
-  pub count : ℕ
-  pub is : new.noted ≡ count ∷ old.noted
-  pub few : count ≤ 2 * length old.inst.tasks
-  pub raised :
-      (olds news : List ℕ) → step ≡ Raised
-      → AreLeast old.inst old.decisions olds → AreLeast old.inst new.decisions news
-      → count_raised old.inst olds news ≤ count
-  pub steps : before + count ≤ after

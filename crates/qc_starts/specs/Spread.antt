@@ -114,10 +114,6 @@ abbrev pub IsSettledTo : NodeArcs → ℕ → List ℕ → List ℕ → Step →
 IsSettledTo net root olds cells Raised = AreRest net.inst net.decisions cells
 IsSettledTo net root olds cells Cycle = IsBackAtRoot net root olds cells
 
-abbrev pub IsSpread : NodeArcs → ℕ → List ℕ → List ℕ → Bool → Type 0
-IsSpread net root olds cells true = IsBackAtRoot net root olds cells
-IsSpread net root olds cells false = AreRest net.inst net.decisions cells
-
 -- the root alone is still to be looked at
 pub record IsOnly (pending : List Bool) (count root : ℕ) : Type 0 where
   pub size : length pending ≡ count

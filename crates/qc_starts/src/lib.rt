@@ -9,7 +9,6 @@
 mod arcs;
 mod complete;
 mod latest;
-mod moves;
 mod network;
 mod noted;
 mod overlap;
@@ -20,6 +19,5 @@ mod step;
 mod tails;
 mod walk;
 
-pub use moves::{go, go_back};
 pub use starts::Starts;
 pub use step::Step;

@@ -6,10 +6,9 @@ ghost use Rattle.qc_trail.specs.Trails.{written_back};
 ghost use Rattle.qc_starts.specs.Noting.{HasNotes, IsNoting, Wrote};
 ghost use Rattle.qc_starts.specs.Values.{code_of, raised, raiser_at, start_at};
 
-use qc_num::{OutOfMemory, Steps, Tick};
+use qc_num::{OutOfMemory, Tick};
 use qc_trail::{Cells, Trail};
 use std::alloc::Global;
-use std::sync::ledger::Ledger;
 
 /// The number that a cell holds for the task that raised another: 0 for none.
 fn code_of(raiser: Option<u16>) -> u64
@@ -96,7 +95,6 @@ impl Noted {
         ensures cap { self.new.trail.cap ≡ self.old.trail.cap }
         ensures noting { (before : List Note) (olds : List ℕ)
             → IsNoting before olds self.old → IsNoting before olds self.new }
-        ensures few { length self.new.trail.notes ≤ length self.old.trail.notes + 1 }
     {
         if self.noted[place as usize] {
             return;
@@ -106,7 +104,7 @@ impl Noted {
     }
 
     /// Writes a cell, and notes what it held if the newest decision hasn't yet.
-    fn write<L: Ledger>(&mut self, place: u32, value: u64, steps: &mut Steps<L>)
+    fn write(&mut self, place: u32, value: u64)
         requires place { place < length self.old.cells }
         requires notes { HasNotes self.old }
         ensures cells { self.new.cells ≡ slice_set self.old.cells place value }
@@ -114,60 +112,43 @@ impl Noted {
         ensures cap { self.new.trail.cap ≡ self.old.trail.cap }
         ensures noting { (before : List Note) (olds : List ℕ)
             → IsNoting before olds self.old → IsNoting before olds self.new }
-        ensures counted { length self.new.trail.notes + steps.old ≤ length self.old.trail.notes + steps.new }
     {
         self.note_once(place);
-        self.cells.set(place, value, steps);
+        self.cells.set(place, value);
     }
 
     /// Writes when a task of so many starts, and the task that raised it.
-    pub(crate) fn raise<L: Ledger>(
-        &mut self,
-        count: u16,
-        task: u16,
-        start: Tick,
-        raiser: Option<u16>,
-        steps: &mut Steps<L>,
-    )
+    pub(crate) fn raise(&mut self, count: u16, task: u16, start: Tick, raiser: Option<u16>)
         requires task { task < count }
         requires count { length self.old.cells ≡ 2 * count }
         requires notes { HasNotes self.old }
         ensures cells { self.new.cells ≡ raised count self.old.cells task start raiser }
-        ensures wrote { Wrote self.old self.new steps.old steps.new }
+        ensures wrote { Wrote self.old self.new }
     {
-        self.write(task as u32, start, steps);
-        self.write(count as u32 + task as u32, code_of(raiser), steps);
+        self.write(task as u32, start);
+        self.write(count as u32 + task as u32, code_of(raiser));
     }
 
     /// Writes when a task of so many starts, and the task that raised it, without a note.
-    pub(crate) fn fill<L: Ledger>(
-        &mut self,
-        count: u16,
-        task: u16,
-        start: Tick,
-        raiser: Option<u16>,
-        steps: &mut Steps<L>,
-    )
+    pub(crate) fn fill(&mut self, count: u16, task: u16, start: Tick, raiser: Option<u16>)
         requires task { task < count }
         requires count { length self.old.cells ≡ 2 * count }
         ensures cells { self.new.cells ≡ raised count self.old.cells task start raiser }
         ensures trail { self.new.trail ≡ self.old.trail }
         ensures noted { self.new.noted.items ≡ self.old.noted.items }
     {
-        self.cells.set(task as u32, start, steps);
-        self.cells
-            .set(count as u32 + task as u32, code_of(raiser), steps);
+        self.cells.set(task as u32, start);
+        self.cells.set(count as u32 + task as u32, code_of(raiser));
     }
 
     /// Writes back what was noted past the mark.
-    pub(crate) fn back<L: Ledger>(&mut self, mark: u32, steps: &mut Steps<L>)
+    pub(crate) fn back(&mut self, mark: u32)
         requires mark { mark ≤ length self.old.trail.notes }
         requires places { All (λ note. note.place < length self.old.cells) self.old.trail.notes }
         ensures trail { self.new.trail ≡ record self.old.trail { notes = take mark self.old.trail.notes } }
         ensures cells { self.new.cells ≡ written_back (drop mark self.old.trail.notes) self.old.cells }
         ensures noted { self.new.noted.items ≡ self.old.noted.items }
-        ensures counted { steps.new ≡ steps.old + (length self.old.trail.notes - mark) }
     {
-        self.trail.back(mark, &mut self.cells, steps);
+        self.trail.back(mark, &mut self.cells);
     }
 }

@@ -11,8 +11,7 @@ ghost use Rattle.qc_starts.specs.Values.{AreRest, start_at};
 use crate::network::Network;
 use crate::spread::Spread;
 use qc_arena::Edge;
-use qc_num::{Steps, Tick};
-use std::sync::ledger::Ledger;
+use qc_num::Tick;
 
 impl Spread {
     /// Whether all tasks that a task waits for are placed.
@@ -77,7 +76,7 @@ impl Spread {
     }
 
     /// Places a task as early as its head and the arcs into it allow.
-    fn place<L: Ledger>(&mut self, network: &Network, task: u16, steps: &mut Steps<L>)
+    fn place(&mut self, network: &Network, task: u16)
         requires sound { IsSound network.now }
         requires task { task < length network.now.inst.tasks }
         requires pending { is_pending self.old.pending.items task ≡ true }
@@ -91,13 +90,12 @@ impl Spread {
         ensures queue { self.new.queue ≡ self.old.queue }
     {
         let (start, raiser) = self.soonest(network, task);
-        self.values
-            .fill(network.task_count(), task, start, raiser, steps);
+        self.values.fill(network.task_count(), task, start, raiser);
         self.pending[task as usize] = false;
     }
 
     /// Places all tasks.
-    pub(crate) fn place_all<L: Ledger>(&mut self, network: &Network, steps: &mut Steps<L>)
+    pub(crate) fn place_all(&mut self, network: &Network)
         requires sound { IsSound network.now }
         requires none { network.now.decisions ≡ [] }
         requires placed { ArePlaced network.now self.old.values.cells self.old.pending.items }
@@ -109,7 +107,7 @@ impl Spread {
         ensures size { length self.new.pending.items ≡ length self.old.pending.items }
     {
         while let Some(task) = self.ready(network) {
-            self.place(network, task, steps);
+            self.place(network, task);
         }
     }
 }

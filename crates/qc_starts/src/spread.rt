@@ -5,16 +5,15 @@ ghost use Rattle.qc_starts.specs.NodeArcs.{IsSound};
 ghost use Rattle.qc_starts.specs.Noting.{HasNotes, Wrote};
 ghost use Rattle.qc_starts.specs.Opened.{HasBegun, IsOpened};
 ghost use Rattle.qc_starts.specs.Queue.{IsQueued, IsTaken};
-ghost use Rattle.qc_starts.specs.Spread.{IsLifted, IsLooked, IsOnly, IsRooting, IsSettledTo, IsSpread, IsSpreading, from_task, is_late, left};
+ghost use Rattle.qc_starts.specs.Spread.{IsLifted, IsLooked, IsOnly, IsRooting, IsSettledTo, IsSpreading, from_task, is_late, left};
 ghost use Rattle.qc_starts.specs.Values.{raised, start_at};
 
 use crate::network::Network;
 use crate::noted::{Noted, clear};
 use crate::step::Step;
 use qc_arena::Edge;
-use qc_num::{OutOfMemory, Steps, Tick};
+use qc_num::{OutOfMemory, Tick};
 use std::alloc::Global;
-use std::sync::ledger::Ledger;
 
 /// The starts of tasks and what raised each, and what is kept while they are raised.
 #[derive(Drop)]
@@ -136,7 +135,7 @@ impl Spread {
     }
 
     /// Raises the second task of an arc if it starts too early; whether this is the root.
-    fn raise_by<L: Ledger>(&mut self, arc: Edge, root: u16, steps: &mut Steps<L>) -> bool
+    fn raise_by(&mut self, arc: Edge, root: u16) -> bool
         requires from { arc.from < length self.old.pending.items }
         requires to { arc.to < length self.old.pending.items }
         requires few { length self.old.pending.items < 2 ^ 16 }
@@ -153,7 +152,7 @@ impl Spread {
             else self.old.pending.items) }
         ensures olds { self.new.olds.items ≡ self.old.olds.items }
         ensures queued { IsQueued self.new }
-        ensures wrote { Wrote self.old.values self.new.values steps.old steps.new }
+        ensures wrote { Wrote self.old.values self.new.values }
         ensures back { result ≡ (is_late self.old.values.cells arc && (arc.to == root)) }
     {
         let start = self.values.start(arc.from) + arc.len;
@@ -161,8 +160,7 @@ impl Spread {
             return false;
         }
         let count = self.pending.len() as u16;
-        self.values
-            .raise(count, arc.to, start, Some(arc.from), steps);
+        self.values.raise(count, arc.to, start, Some(arc.from));
         self.put(arc.to);
         arc.to == root
     }
@@ -199,13 +197,7 @@ impl Spread {
 
     /// Looks at the arcs from a task, and raises what starts too early; whether it came back to the
     /// root.
-    fn raise_from<L: Ledger>(
-        &mut self,
-        network: &Network,
-        root: u16,
-        task: u16,
-        steps: &mut Steps<L>,
-    ) -> bool
+    fn raise_from(&mut self, network: &Network, root: u16, task: u16) -> bool
         requires task { task < length network.now.inst.tasks }
         requires spreading { IsSpreading network.now root self.old.olds.items self.old.values.cells
             self.old.pending.items (from_task task network.now.arcs) }
@@ -215,26 +207,21 @@ impl Spread {
         ensures queued { IsQueued self.new }
         ensures size { length self.new.pending.items ≡ length self.old.pending.items }
         ensures olds { self.new.olds.items ≡ self.old.olds.items }
-        ensures wrote { Wrote self.old.values self.new.values steps.old steps.new }
+        ensures wrote { Wrote self.old.values self.new.values }
         ensures looked { IsLooked network.now root self.new.olds.items self.new.values.cells
             self.new.pending.items (left (length network.now.inst.tasks) root self.old.olds.items
             self.old.values.cells self.old.pending.items) result }
     {
         for arc in network.arena().out(task) {
-            if self.raise_by(arc, root, steps) {
+            if self.raise_by(arc, root) {
                 return true;
             }
         }
         false
     }
 
-    /// Raises starts behind the root until none is too low; whether a raise came back to it.
-    fn raise_behind<L: Ledger>(
-        &mut self,
-        network: &Network,
-        root: u16,
-        steps: &mut Steps<L>,
-    ) -> bool
+    /// Raises starts behind the root until none is too low, or a raise came back to it.
+    fn raise_behind(&mut self, network: &Network, root: u16) -> Step
         requires sound { IsSound network.now }
         requires spreading { IsSpreading network.now root self.old.olds.items self.old.values.cells
             self.old.pending.items [] }
@@ -244,19 +231,19 @@ impl Spread {
         ensures queued { IsQueued self.new }
         ensures size { length self.new.pending.items ≡ length self.old.pending.items }
         ensures olds { self.new.olds.items ≡ self.old.olds.items }
-        ensures wrote { Wrote self.old.values self.new.values steps.old steps.new }
-        ensures spread { IsSpread network.now root self.new.olds.items self.new.values.cells result }
+        ensures wrote { Wrote self.old.values self.new.values }
+        ensures settled { IsSettledTo network.now root self.new.olds.items self.new.values.cells result }
     {
         while let Some(task) = self.take_earliest() {
-            if self.raise_from(network, root, task, steps) {
-                return true;
+            if self.raise_from(network, root, task) {
+                return Step::Cycle;
             }
         }
-        false
+        Step::Raised
     }
 
     /// Raises the root to its head, and along the arcs into it.
-    fn raise_root<L: Ledger>(&mut self, network: &Network, root: u16, steps: &mut Steps<L>)
+    fn raise_root(&mut self, network: &Network, root: u16)
         requires sound { IsSound network.now }
         requires rooting { IsRooting network.now root self.old.olds.items self.old.values.cells }
         requires only { IsOnly self.old.pending.items (length network.now.inst.tasks) root }
@@ -264,24 +251,18 @@ impl Spread {
         ensures olds { self.new.olds.items ≡ self.old.olds.items }
         ensures pending { self.new.pending.items ≡ self.old.pending.items }
         ensures queued { IsQueued self.old → IsQueued self.new }
-        ensures wrote { Wrote self.old.values self.new.values steps.old steps.new }
+        ensures wrote { Wrote self.old.values self.new.values }
         ensures spreading { IsSpreading network.now root self.new.olds.items self.new.values.cells
             self.new.pending.items [] }
     {
         let (start, raiser) = self.soonest(network, root);
         if self.values.start(root) < start {
-            self.values
-                .raise(network.task_count(), root, start, raiser, steps);
+            self.values.raise(network.task_count(), root, start, raiser);
         }
     }
 
     /// Raises the root and all starts behind it.
-    pub(crate) fn settle<L: Ledger>(
-        &mut self,
-        network: &Network,
-        root: u16,
-        steps: &mut Steps<L>,
-    ) -> Step
+    pub(crate) fn settle(&mut self, network: &Network, root: u16) -> Step
         requires sound { IsSound network.now }
         requires rooting { IsRooting network.now root self.old.olds.items self.old.values.cells }
         requires size { length self.old.olds.items ≡ length network.now.inst.tasks }
@@ -291,14 +272,10 @@ impl Spread {
         ensures queued { IsQueued self.new }
         ensures size { length self.new.pending.items ≡ length self.old.pending.items }
         ensures olds { self.new.olds.items ≡ self.old.olds.items }
-        ensures wrote { Wrote self.old.values self.new.values steps.old steps.new }
+        ensures wrote { Wrote self.old.values self.new.values }
         ensures settled { IsSettledTo network.now root self.new.olds.items self.new.values.cells result }
     {
-        self.raise_root(network, root, steps);
-        if self.raise_behind(network, root, steps) {
-            Step::Cycle
-        } else {
-            Step::Raised
-        }
+        self.raise_root(network, root);
+        self.raise_behind(network, root)
     }
 }

@@ -1,6 +1,6 @@
 //! The earliest start times of a search node, kept while decisions are made and taken back.
 
-ghost use Rattle.std.specs.Prelude.{◌≡◌, ◌↔◌, ◌+◌, ◌*◌, ◌<◌, ◌≤◌, None, [], ◌∷◌, IfOk, IfSome, IsTrue, MatchOption, drop, length, sum, take};
+ghost use Rattle.std.specs.Prelude.{◌≡◌, ◌↔◌, ◌+◌, ◌*◌, ◌<◌, ◌≤◌, None, [], ◌∷◌, IfOk, IfSome, IsTrue, MatchOption, drop, length};
 ghost use Rattle.qc_model.specs.declared.decision.Decision.TheVariants.{Assign, Order};
 ghost use Rattle.qc_model.specs.declared.limits.TheConstants.{MOST_DISTANCE, MOST_READY, MOST_START, MOST_TASKS, MOST_WORK};
 ghost use Rattle.qc_model.specs.declared.turn.Turn.TheVariants.{Free};
@@ -11,11 +11,10 @@ ghost use Rattle.qc_starts.specs.Opened.{AreSized};
 ghost use Rattle.qc_starts.specs.NodeArcs.{IsSound};
 ghost use Rattle.qc_starts.specs.Roots.{root_of};
 ghost use Rattle.qc_starts.specs.Overlaps.{IsOverlap};
-ghost use Rattle.qc_starts.specs.Seen.{AreAssigned, AreNotes, HasNone, HoldsForced, HoldsStarts, IsCycle, IsNodeStart, IsWhy, first_of, taken_back, StartsNode, IsNoted, IsReached, IsStep};
-ghost use Rattle.qc_trail.specs.Trails.{written_back};
+ghost use Rattle.qc_starts.specs.Seen.{AreAssigned, HasNone, HoldsForced, IsCycle, IsNodeStart, IsReached, IsStep, IsWhy, first_of};
 ghost use Rattle.qc_starts.specs.Values.{AreRest};
 ghost use Rattle.qc_starts.specs.Fields.{node_of, IsKept};
-ghost use Rattle.qc_dist.specs.Node.{IsOpen, newest};
+ghost use Rattle.qc_dist.specs.Node.{IsOpen, Node, newest};
 
 use crate::complete::{are_assigned, are_settled};
 use crate::latest::{last_end, latest};
@@ -26,11 +25,9 @@ use crate::step::Step;
 use crate::walk::{chain_to, ring_behind};
 use qc_arena::ArcArena;
 use qc_model::{Decision, Instance, Pair, Turn};
-use qc_num::{Bound, OutOfMemory, Path, Steps, Tick};
-use qc_trail::{Cells, Trail};
+use qc_num::{Bound, OutOfMemory, Path, Tick};
 use std::alloc::Global;
-use std::marker::{Brand, Model};
-use std::sync::ledger::{Blank, Ledger};
+use std::marker::Model;
 
 /// The task behind which a decision raises starts.
 fn root_of(decision: Decision) -> u16
@@ -57,7 +54,7 @@ pub struct Starts {
 }
 
 impl Model for Starts {
-    ghost Value = { StartsNode };
+    ghost Value = { Node };
 
     ghost view = { node_of };
 
@@ -78,25 +75,17 @@ impl Drop for Starts {
 }
 
 /// The starts before any decision.
-fn open_spread<L: Ledger>(
-    alloc: Global,
-    network: &Network,
-    blank: Blank,
-) -> Result<Spread, OutOfMemory>
-    requires name { blank.name ≡ L.name }
-    requires parts { blank.parts ≡ L.parts }
-    requires some { 0 < L.parts }
+fn open_spread(alloc: Global, network: &Network) -> Result<Spread, OutOfMemory>
     requires sound { IsSound network.now }
     requires none { network.now.decisions ≡ [] }
     ensures rest { IfOk result (λ spread. AreRest network.now.inst [] spread.values.cells) }
     ensures sized { IfOk result (AreSized network.now.inst) }
     ensures notes { IfOk result (λ spread. spread.values.trail.notes ≡ []) }
 {
-    let mut steps = Steps::<L>::new(blank);
     let count = network.task_count();
     let room = count as u32 + network.instance().order_pairs();
     let mut spread = Spread::open(alloc, count, room)?;
-    spread.place_all(network, &mut steps);
+    spread.place_all(network);
     Ok(spread)
 }
 
@@ -105,12 +94,11 @@ impl Starts {
     pub fn open(alloc: Global, inst: &Instance) -> Result<Starts, OutOfMemory>
         ensures inst { IfOk result (λ node. node.inst ≡ inst.now) }
         ensures decisions { IfOk result (λ node. node.decisions ≡ []) }
-        ensures noted { IfOk result (λ node. node.noted ≡ []) }
     {
         let room = inst.task_count() as usize + inst.order_pairs() as usize;
         let marks = Vec::with_capacity(alloc, room)?;
         let network = Network::open(alloc, inst)?;
-        let spread = open_spread::<Brand>(alloc, &network, Blank::new(1))?;
+        let spread = open_spread(alloc, &network)?;
         Ok(Starts {
             network,
             spread,
@@ -128,29 +116,26 @@ impl Starts {
         self.network.instance()
     }
 
-    /// Decides one thing more.
-    fn decide<L: Ledger>(&mut self, decision: Decision, steps: &mut Steps<L>) -> Step
+    /// Goes to the child of this decision. `Cycle` exactly where no starts meet the node any more.
+    pub fn go(&mut self, decision: Decision) -> Step
         requires starts { HasStarts self.old.inst self.old.decisions }
         requires open { IsOpen self.old.inst self.old.decisions decision }
-        requires reach { IsReached self.old.inst decision }
+        requires reached { IsReached self.old.inst decision }
         ensures inst { self.new.inst ≡ self.old.inst }
         ensures decisions { self.new.decisions ≡ decision ∷ self.old.decisions }
         ensures step { IsStep self.old.inst self.new.decisions result }
-        ensures noted { IsNoted self.old self.new result steps.old steps.new }
-        ensures back { taken_back (length self.old.decisions) self.new ≡ self.old }
-        ensures steps { steps.old ≤ steps.new }
     {
         let mark = self.spread.values.trail.mark();
         self.network.add(decision);
         self.marks.push_reserved(mark);
         self.root = root_of(decision);
         self.spread.begin(self.root);
-        self.step = self.spread.settle(&self.network, self.root, steps);
+        self.step = self.spread.settle(&self.network, self.root);
         self.step
     }
 
     /// Puts a task on a crane that reaches it. `Cycle` exactly where no starts meet the node any more.
-    pub fn assign<L: Ledger>(&mut self, task: u16, crane: u16, steps: &mut Steps<L>) -> Step
+    pub fn assign(&mut self, task: u16, crane: u16) -> Step
         requires starts { HasStarts self.old.inst self.old.decisions }
         requires task { task < length self.old.inst.tasks }
         requires crane { crane < length self.old.inst.cranes }
@@ -159,26 +144,20 @@ impl Starts {
         ensures inst { self.new.inst ≡ self.old.inst }
         ensures decisions { self.new.decisions ≡ Assign task crane ∷ self.old.decisions }
         ensures step { IsStep self.old.inst self.new.decisions result }
-        ensures noted { IsNoted self.old self.new result steps.old steps.new }
-        ensures back { taken_back (length self.old.decisions) self.new ≡ self.old }
-        ensures steps { steps.old ≤ steps.new }
     {
-        self.decide(Decision::Assign(task, crane), steps)
+        self.go(Decision::Assign(task, crane))
     }
 
     /// Puts one of two tasks that conflict first. `Cycle` exactly where no starts meet the node any more.
-    pub fn order<L: Ledger>(&mut self, i: u16, j: u16, steps: &mut Steps<L>) -> Step
+    pub fn order(&mut self, i: u16, j: u16) -> Step
         requires starts { HasStarts self.old.inst self.old.decisions }
         requires conflict { Conflicts self.old.inst self.old.decisions i j }
         requires unsettled { ¬ IsSettled self.old.inst self.old.decisions i j }
         ensures inst { self.new.inst ≡ self.old.inst }
         ensures decisions { self.new.decisions ≡ Order i j ∷ self.old.decisions }
         ensures step { IsStep self.old.inst self.new.decisions result }
-        ensures noted { IsNoted self.old self.new result steps.old steps.new }
-        ensures back { taken_back (length self.old.decisions) self.new ≡ self.old }
-        ensures steps { steps.old ≤ steps.new }
     {
-        self.decide(Decision::Order(i, j), steps)
+        self.go(Decision::Order(i, j))
     }
 
     /// Whether no starts meet the node.
@@ -191,15 +170,6 @@ impl Starts {
             Step::Raised => false,
             Step::Cycle => true,
         }
-    }
-
-    /// The number of decisions, and of counts of notes.
-    fn made(&self) -> u32
-        ensures count { result ≡ length self.now.decisions }
-        ensures noted { length self.now.noted ≡ length self.now.decisions }
-        ensures sound { sum self.now.noted ≡ length self.now.notes }
-    {
-        self.network.made()
     }
 
     /// The number of decisions.
@@ -217,38 +187,27 @@ impl Starts {
     }
 
     /// Takes back the newest decision.
-    fn take_back<L: Ledger>(&mut self, steps: &mut Steps<L>)
+    fn take_back(&mut self)
         requires { 0 < length self.old.decisions }
         ensures inst { self.new.inst ≡ self.old.inst }
         ensures decisions { self.new.decisions ≡ drop 1 self.old.decisions }
-        ensures noted { self.new.noted ≡ drop 1 self.old.noted }
-        ensures sound { sum self.new.noted ≡ length self.new.notes }
-        ensures cells { self.new.cells
-            ≡ written_back (drop (length self.new.notes) self.old.notes) self.old.cells }
-        ensures notes { self.new.notes ≡ take (length self.new.notes) self.old.notes }
-        ensures fewer { length self.new.notes ≤ length self.old.notes }
-        ensures counted { steps.new + sum self.new.noted ≡ steps.old + sum self.old.noted }
-        ensures steps { steps.old ≤ steps.new }
     {
         let Some(mark) = self.marks.pop() else {
             unreachable!();
         };
         self.network.undo();
-        self.spread.values.back(mark, steps);
+        self.spread.values.back(mark);
         self.step = Step::Raised;
     }
 
     /// Takes back all decisions but the first `mark`.
-    pub fn retract<L: Ledger>(&mut self, mark: u32, steps: &mut Steps<L>)
+    pub fn retract(&mut self, mark: u32)
         requires { mark ≤ length self.old.decisions }
         ensures inst { self.new.inst ≡ self.old.inst }
         ensures decisions { self.new.decisions ≡ first_of mark self.old.decisions }
-        ensures back { self.new ≡ taken_back mark self.old }
-        ensures counted { steps.new + sum self.new.noted ≡ steps.old + sum self.old.noted }
-        ensures steps { steps.old ≤ steps.new }
     {
-        for _ in mark..self.made() {
-            self.take_back(steps);
+        for _ in mark..self.mark() {
+            self.take_back();
         }
     }
 
@@ -362,25 +321,6 @@ impl Starts {
         ensures { HoldsForced self.now.inst self.now.decisions result.now }
     {
         self.network.arena()
-    }
-
-    /// The cells: for each task, by its number, when it starts at the least where the node isn't stuck,
-    /// and behind them for each task the one that raised it.
-    pub fn cells(&self) -> &Cells
-        ensures cells { result.now ≡ self.now.cells }
-        ensures count { length self.now.cells ≡ 2 * length self.now.inst.tasks }
-        ensures starts { HasStarts self.now.inst self.now.decisions
-            → HoldsStarts self.now.inst self.now.decisions self.now.cells }
-    {
-        &self.spread.values.cells
-    }
-
-    /// The notes: for each decision of what the cells held that it wrote, in order.
-    pub fn notes(&self) -> &Trail
-        ensures notes { result.now.notes ≡ self.now.notes }
-        ensures are { AreNotes self.now }
-    {
-        &self.spread.values.trail
     }
 
     /// Writes a critical chain: tasks, each forced after the one before it, that end when the node

@@ -3,7 +3,7 @@ use Rattle.std.proofs.lemmas.Grind.{common_steps}
 use Rattle.qc_starts.proofs.starts.open_spread.Goals as goal
 
 pub place_all-requires-clause-placed : goal.place_all-requires-clause-placed
-place_all-requires-clause-placed g c = grind (arith, common_steps)
+place_all-requires-clause-placed c = grind (arith, common_steps)
 
 pub returns-clause-sized : goal.returns-clause-sized
-returns-clause-sized g c = grind (arith, common_steps)
+returns-clause-sized c = grind (arith, common_steps)

@@ -2,17 +2,7 @@ use Rattle.qc_starts.proofs.NotingLemmas.{wrote_then}
 use Rattle.qc_starts.proofs.noted.Noted.raise.Goals as goal
 
 pub returns-clause-wrote : goal.returns-clause-wrote
-returns-clause-wrote g c =
-    wrote_then c.args.self.now c.write.new.self c.write-2.new.self c.args.steps.now c.write.new.steps c.write-2.new.steps
-    (record {
-      notes = c.write.ensures.notes;
-      cap = c.write.ensures.cap;
-      noting = c.write.ensures.noting;
-      counted = c.write.ensures.counted;
-    })
-    (record {
-      notes = c.write-2.ensures.notes;
-      cap = c.write-2.ensures.cap;
-      noting = c.write-2.ensures.noting;
-      counted = c.write-2.ensures.counted;
-    })
+returns-clause-wrote c =
+    wrote_then c.args.self.now c.write.new.self c.write-2.new.self
+    (record { notes = c.write.ensures.notes; cap = c.write.ensures.cap; noting = c.write.ensures.noting })
+    (record { notes = c.write-2.ensures.notes; cap = c.write-2.ensures.cap; noting = c.write-2.ensures.noting })

@@ -5,13 +5,13 @@ use Rattle.qc_starts.proofs.PlaceLemmas.{place_done, place_firm}
 use Rattle.qc_starts.proofs.spread.Spread.place.Goals as goal
 
 pub soonest-start-requires-clause-soon : goal.soonest-start-requires-clause-soon
-soonest-start-requires-clause-soon g c = λ arc in_ same.
+soonest-start-requires-clause-soon c = λ arc in_ same.
     let before = place_firm c.args.network.now c.args.self.now.values.cells c.args.self.now.pending.items c.args.task
     c.requires.sound c.requires.ready c.requires.placed arc in_ same in
     omega (arith, before.bound, c.requires.sound.valid.tasks.count)
 
 pub returns-clause-placed : goal.returns-clause-placed
-returns-clause-placed g c =
+returns-clause-placed c =
     let net = c.args.network.now in
     let cells = c.args.self.now.values.cells in
     let pending = c.args.self.now.pending.items in

@@ -10,11 +10,11 @@ use Rattle.qc_starts.proofs.SpreadLemmas.{look_begins, look_from, look_less, spr
 use Rattle.qc_starts.proofs.spread.Spread.raise_behind.Goals as goal
 use Rattle.qc_starts.proofs.spread.Spread.raise_behind.Goals.{Else-raise_from}
 
-wrote_by : (a b c : Noted) (x y : ℕ) → c ≡ b → Wrote a b x y → Wrote a c x y
-wrote_by a b c x y same wrote = subst (λ (v : Noted). Wrote a v x y) (sym same) wrote
+wrote_by : (a b c : Noted) → c ≡ b → Wrote a b → Wrote a c
+wrote_by a b c same wrote = subst (Wrote a) (sym same) wrote
 
 pub raise_from-requires : goal.raise_from-requires
-raise_from-requires g c =
+raise_from-requires c =
     let net = c.args.network.now in
     let root = c.args.root in
     let task = c.in-Some.task in
@@ -33,25 +33,24 @@ raise_from-requires g c =
       spreading = subst (λ (xs : List ℕ). IsSpreading net root xs mid.values.cells mid.pending.items (from_task task net.arcs))
           (sym olds) there;
       lifted = subst₂ (λ (xs ys : List ℕ). IsLifted root xs ys task) (sym olds) (sym cells) (is.pended task taken.1);
-      notes = (wrote_by _ _ _ _ _ c.in-Some.ensures.values c.loop-task.invariant.wrote).notes;
+      notes = (wrote_by _ _ _ c.in-Some.ensures.values c.loop-task.invariant.wrote).notes;
       queued = c.in-Some.ensures.queued;
     }
 
 pub returns-then-raise_from-clause-wrote : goal.returns-then-raise_from-clause-wrote
-returns-then-raise_from-clause-wrote g c =
+returns-then-raise_from-clause-wrote c =
     wrote_then c.args.self.now.values c.take_earliest.new.self.values c.raise_from.new.self.values
-    c.args.steps.now c.loop-task.steps c.raise_from.new.steps
-    (wrote_by _ _ _ _ _ c.in-Some.ensures.values c.loop-task.invariant.wrote) c.raise_from.ensures.wrote
+    (wrote_by _ _ _ c.in-Some.ensures.values c.loop-task.invariant.wrote) c.raise_from.ensures.wrote
 
 -- the arcs are met, and less is left
-looked : (g : _) (c : Else-raise_from g)
+looked : (c : Else-raise_from)
     → IsSpreading c.args.network.now c.args.root c.args.self.now.olds.items c.raise_from.new.self.values.cells
     c.raise_from.new.self.pending.items []
     × (left (length c.args.network.now.inst.tasks) c.args.root c.args.self.now.olds.items
     c.raise_from.new.self.values.cells c.raise_from.new.self.pending.items
     < left (length c.args.network.now.inst.tasks) c.args.root c.args.self.now.olds.items
     c.loop-task.self.values.cells c.loop-task.self.pending.items)
-looked g c =
+looked c =
     let net = c.args.network.now in
     let n = length net.inst.tasks in
     let root = c.args.root in
@@ -76,36 +75,35 @@ looked g c =
     )
 
 pub loop-task-smaller : goal.loop-task-smaller
-loop-task-smaller g c = (looked g (goal.at.loop-task-smaller g c).Else-raise_from).1
+loop-task-smaller c = (looked (goal.at.loop-task-smaller c).Else-raise_from).1
 
 pub loop-task-preserved : goal.loop-task-preserved
-loop-task-preserved g c = record {
-  spreading = (looked g (goal.at.loop-task-preserved g c).Else-raise_from).0;
+loop-task-preserved c = record {
+  spreading = (looked (goal.at.loop-task-preserved c).Else-raise_from).0;
   size = c.raise_from.ensures.size ∙ ap (length {A = Bool}) c.in-Some.ensures.taken.2
       ∙ length-set c.loop-task.self.pending.items c.in-Some.task false ∙ c.loop-task.invariant.size;
   olds = c.raise_from.ensures.olds ∙ c.in-Some.ensures.olds ∙ c.loop-task.invariant.olds;
   queued = c.raise_from.ensures.queued;
   wrote = wrote_then c.args.self.now.values c.take_earliest.new.self.values c.raise_from.new.self.values
-      c.args.steps.now c.loop-task.steps c.raise_from.new.steps
-      (wrote_by _ _ _ _ _ c.in-Some.ensures.values c.loop-task.invariant.wrote) c.raise_from.ensures.wrote;
+      (wrote_by _ _ _ c.in-Some.ensures.values c.loop-task.invariant.wrote) c.raise_from.ensures.wrote;
 }
 
 pub returns-then-raise_from-clause-size : goal.returns-then-raise_from-clause-size
-returns-then-raise_from-clause-size g c =
+returns-then-raise_from-clause-size c =
     c.raise_from.ensures.size ∙ ap (length {A = Bool}) c.in-Some.ensures.taken.2
     ∙ length-set c.loop-task.self.pending.items c.in-Some.task false ∙ c.loop-task.invariant.size
 
 pub returns-clause-size : goal.returns-clause-size
-returns-clause-size g c =
+returns-clause-size c =
     let none = subst (IsTaken c.loop-task.self.pending.items c.take_earliest.new.self.pending.items) c.in_default.is
     c.take_earliest.ensures.taken in
     ap (length {A = Bool}) none.0 ∙ c.loop-task.invariant.size
 
 pub returns-clause-wrote : goal.returns-clause-wrote
-returns-clause-wrote g c = wrote_by _ _ _ _ _ c.take_earliest.ensures.values c.loop-task.invariant.wrote
+returns-clause-wrote c = wrote_by _ _ _ c.take_earliest.ensures.values c.loop-task.invariant.wrote
 
-pub returns-clause-spread : goal.returns-clause-spread
-returns-clause-spread g c =
+pub returns-clause-settled : goal.returns-clause-settled
+returns-clause-settled c =
     let net = c.args.network.now in
     let none = subst (IsTaken c.loop-task.self.pending.items c.take_earliest.new.self.pending.items) c.in_default.is
     c.take_earliest.ensures.taken in

@@ -5,14 +5,14 @@ use Rattle.qc_starts.specs.Spread.{IsSpreading, left}
 use Rattle.qc_starts.proofs.spread.Spread.raise_behind.Given as goal
 
 abbrev pub invariant-loop-task : goal.invariant-loop-task
-invariant-loop-task g l = record {
+invariant-loop-task l = record {
   spreading : IsSpreading l.network l.root l.fn.self.olds.items l.self.values.cells l.self.pending.items [];
   size : length l.self.pending.items ≡ length l.fn.self.pending.items;
   olds : l.self.olds.items ≡ l.fn.self.olds.items;
   queued : IsQueued l.self;
-  wrote : Wrote l.fn.self.values l.self.values l.fn.steps l.steps;
+  wrote : Wrote l.fn.self.values l.self.values;
 }
 
 abbrev pub decreases-loop-task : goal.decreases-loop-task
-decreases-loop-task g l =
+decreases-loop-task l =
     left (length l.network.inst.tasks) l.root l.fn.self.olds.items l.self.values.cells l.self.pending.items

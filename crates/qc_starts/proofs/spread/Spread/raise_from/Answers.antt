@@ -8,7 +8,7 @@ use Rattle.qc_starts.proofs.spread.Spread.raise_from.Goals as goal
 use Rattle.qc_starts.proofs.spread.Spread.raise_from.Goals.{After-raise_by, In-Some}
 
 pub loop-arc-init : goal.loop-arc-init
-loop-arc-init g c =
+loop-arc-init c =
     let are = ap (from_task c.args.task) c.arena.ensures.arcs in
     record {
       can = tt;
@@ -20,32 +20,32 @@ loop-arc-init g c =
       size = refl;
       olds = refl;
       queued = c.requires.queued;
-      wrote = wrote_none c.args.self.now.values c.args.steps.now c.requires.notes;
+      wrote = wrote_none c.args.self.now.values c.requires.notes;
     }
 
-abbrev before : (g : _) (c : In-Some g) → ℕ
-before g c =
+abbrev before : (c : In-Some) → ℕ
+before c =
     left (length c.args.network.now.inst.tasks) c.args.root c.args.self.now.olds.items c.args.self.now.values.cells
     c.args.self.now.pending.items
 
-here : (g : _) (c : In-Some g)
+here : (c : In-Some)
     → IsLooking c.args.network.now c.args.root c.args.task c.args.self.now.olds.items c.loop-arc.self.values.cells
-    c.loop-arc.self.pending.items (c.in-Some.arc ∷ c.next.new.self) (before g c)
-here g c =
+    c.loop-arc.self.pending.items (c.in-Some.arc ∷ c.next.new.self) (before c)
+here c =
     subst (λ (rest : List Edge). IsLooking c.args.network.now c.args.root c.args.task c.args.self.now.olds.items
-    c.loop-arc.self.values.cells c.loop-arc.self.pending.items rest (before g c)) c.in-Some.ensures.steps
+    c.loop-arc.self.values.cells c.loop-arc.self.pending.items rest (before c)) c.in-Some.ensures.steps
     c.loop-arc.invariant.looking
 
 pub raise_by-requires : goal.raise_by-requires
-raise_by-requires g c =
+raise_by-requires c =
     let net = c.args.network.now in
     let sound = c.arena.ensures.sound in
-    let at = (goal.at.raise_by-requires g c).In-Some in
-    let is = here g at in
+    let at = (goal.at.raise_by-requires c).In-Some in
+    let is = here at in
     let asks = looking_asks net c.args.root c.args.task c.args.self.now.olds.items c.loop-arc.self.values.cells
-    c.loop-arc.self.pending.items c.next.new.self (before g at) c.in-Some.arc sound is in
+    c.loop-arc.self.pending.items c.next.new.self (before at) c.in-Some.arc sound is in
     let fits = looking_fits net c.args.root c.args.task c.args.self.now.olds.items c.loop-arc.self.values.cells
-    c.loop-arc.self.pending.items c.next.new.self (before g at) c.in-Some.arc sound is in
+    c.loop-arc.self.pending.items c.next.new.self (before at) c.in-Some.arc sound is in
     record {
       from = omega (arith, asks.from, is.spreading.size);
       to = omega (arith, asks.to, is.spreading.size);
@@ -57,27 +57,27 @@ raise_by-requires g c =
     }
 
 -- what a raise keeps
-kept : (g : _) (c : After-raise_by g)
+kept : (c : After-raise_by)
     → (length c.raise_by.new.self.pending.items ≡ length c.args.self.now.pending.items)
     × (c.raise_by.new.self.olds.items ≡ c.args.self.now.olds.items)
-    × Wrote c.args.self.now.values c.raise_by.new.self.values c.args.steps.now c.raise_by.new.steps
-kept g c = (
+    × Wrote c.args.self.now.values c.raise_by.new.self.values
+kept c = (
   set_size c.raise_by.new.self.pending.items c.loop-arc.self.pending.items
       (is_late c.loop-arc.self.values.cells c.in-Some.arc) c.in-Some.arc.to c.raise_by.ensures.pending
       ∙ c.loop-arc.invariant.size,
   c.raise_by.ensures.olds ∙ c.loop-arc.invariant.olds,
-  wrote_then c.args.self.now.values c.loop-arc.self.values c.raise_by.new.self.values
-      c.args.steps.now c.loop-arc.steps c.raise_by.new.steps c.loop-arc.invariant.wrote c.raise_by.ensures.wrote,
+  wrote_then c.args.self.now.values c.loop-arc.self.values c.raise_by.new.self.values c.loop-arc.invariant.wrote
+      c.raise_by.ensures.wrote,
 )
 
 pub returns-then-raise_by : goal.returns-then-raise_by
-returns-then-raise_by g c =
+returns-then-raise_by c =
     let net = c.args.network.now in
-    let at = (goal.at.returns-then-raise_by g c).In-Some in
-    let is = here g at in
-    let are = kept g (goal.at.returns-then-raise_by g c).After-raise_by in
+    let at = (goal.at.returns-then-raise_by c).In-Some in
+    let is = here at in
+    let are = kept (goal.at.returns-then-raise_by c).After-raise_by in
     let back = looking_home net c.args.root c.args.task c.args.self.now.olds.items c.loop-arc.self.values.cells
-    c.loop-arc.self.pending.items c.next.new.self (before g at) c.in-Some.arc c.arena.ensures.sound
+    c.loop-arc.self.pending.items c.next.new.self (before at) c.in-Some.arc c.arena.ensures.sound
     is c.raise_by.new.self.values.cells c.raise_by.new.self.pending.items
     (length c.loop-arc.self.pending.items) is.spreading.size c.raise_by.ensures.cells
     (sym c.raise_by.ensures.back ∙ c.if-raise_by.true) in
@@ -90,15 +90,15 @@ returns-then-raise_by g c =
     }
 
 pub loop-arc-preserved : goal.loop-arc-preserved
-loop-arc-preserved g c =
-    let at = (goal.at.loop-arc-preserved g c).In-Some in
-    let is = here g at in
-    let are = kept g (goal.at.loop-arc-preserved g c).After-raise_by in
+loop-arc-preserved c =
+    let at = (goal.at.loop-arc-preserved c).In-Some in
+    let is = here at in
+    let are = kept (goal.at.loop-arc-preserved c).After-raise_by in
     record {
       can = tt;
       finite = tt;
       looking = looking_step c.args.network.now c.args.root c.args.task c.args.self.now.olds.items
-          c.loop-arc.self.values.cells c.loop-arc.self.pending.items c.next.new.self (before g at) c.in-Some.arc
+          c.loop-arc.self.values.cells c.loop-arc.self.pending.items c.next.new.self (before at) c.in-Some.arc
           c.arena.ensures.sound is c.raise_by.new.self.values.cells c.raise_by.new.self.pending.items
           (length c.loop-arc.self.pending.items) is.spreading.size c.raise_by.ensures.cells c.raise_by.ensures.pending
           (sym c.raise_by.ensures.back ∙ c.if-raise_by.false);
@@ -109,7 +109,7 @@ loop-arc-preserved g c =
     }
 
 pub returns-clause-looked : goal.returns-clause-looked
-returns-clause-looked g c =
+returns-clause-looked c =
     let net = c.args.network.now in
     let root = c.args.root in
     let olds = c.args.self.now.olds.items in

@@ -6,13 +6,13 @@ use Rattle.qc_starts.proofs.SpreadLemmas.{IsLooking}
 use Rattle.qc_starts.proofs.spread.Spread.raise_from.Given as goal
 
 abbrev pub invariant-loop-arc : goal.invariant-loop-arc
-invariant-loop-arc g l = record {
-  can : (goal.iterator-loop-arc g).can_next l.arc-iterator;
-  finite : (goal.iterator-loop-arc g).is_finite l.arc-iterator;
+invariant-loop-arc l = record {
+  can : goal.iterator-loop-arc.can_next l.arc-iterator;
+  finite : goal.iterator-loop-arc.is_finite l.arc-iterator;
   looking : IsLooking l.network l.root l.task l.fn.self.olds.items l.self.values.cells l.self.pending.items l.arc-iterator
       (left (length l.network.inst.tasks) l.root l.fn.self.olds.items l.fn.self.values.cells l.fn.self.pending.items);
   size : length l.self.pending.items ≡ length l.fn.self.pending.items;
   olds : l.self.olds.items ≡ l.fn.self.olds.items;
   queued : IsQueued l.self;
-  wrote : Wrote l.fn.self.values l.self.values l.fn.steps l.steps;
+  wrote : Wrote l.fn.self.values l.self.values;
 }

@@ -7,7 +7,7 @@ use Rattle.qc_starts.proofs.SpreadLemmas.{ends_apart, root_rises, root_stays}
 use Rattle.qc_starts.proofs.spread.Spread.raise_root.Goals as goal
 
 pub soonest-start-requires-clause-soon : goal.soonest-start-requires-clause-soon
-soonest-start-requires-clause-soon g c = λ arc in_ same.
+soonest-start-requires-clause-soon c = λ arc in_ same.
     let net = c.args.network.now in
     let rooting = c.requires.rooting in
     let asks = arc_of (IsArc net.inst net.decisions) net.arcs c.requires.sound.all.each arc in_ in
@@ -15,7 +15,7 @@ soonest-start-requires-clause-soon g c = λ arc in_ same.
     omega (arith, still, rooting.raising.soon arc.from asks.from)
 
 pub returns-then-start-clause-spreading : goal.returns-then-start-clause-spreading
-returns-then-start-clause-spreading g c =
+returns-then-start-clause-spreading c =
     let net = c.args.network.now in
     let olds = c.args.self.now.olds.items in
     let cells = c.args.self.now.values.cells in
@@ -29,7 +29,7 @@ returns-then-start-clause-spreading g c =
     c.soonest-start.ensures (omega (arith, c.start.ensures, c.if-start.true)))
 
 pub returns-else-start-clause-spreading : goal.returns-else-start-clause-spreading
-returns-else-start-clause-spreading g c =
+returns-else-start-clause-spreading c =
     root_stays c.args.network.now c.args.root c.args.self.now.olds.items c.args.self.now.values.cells c.requires.sound
     c.requires.rooting c.args.self.now.pending.items c.requires.only c.soonest-start.result.0 c.soonest-start.result.1
     c.soonest-start.ensures (omega (arith, c.start.ensures, c.if-start.false))
