@@ -288,17 +288,12 @@ module _ (inst : InstanceView) (ds : List Decision) (t k : ℕ) (valid : Valid i
   more_for i j =
       cond_both (eqb t i) (Some k) (assigned ds i) (λ a. most_arcs (assigned ds i) (assigned ds j) ≤ most_arcs a (assigned news j))
       (λ here. cond_both (eqb t j) (Some k) (assigned ds j) (λ b. most_arcs (assigned ds i) (assigned ds j) ≤ most_arcs (Some k) b)
-      (λ there. most_two_of (assigned ds i) (assigned ds j))
+      (λ there. most_two inst ds (assigned ds i) (assigned ds j))
       (λ away. first_some (assigned ds i) (assigned ds j)))
       (λ off. cond_both (eqb t j) (Some k) (assigned ds j) (λ b. most_arcs (assigned ds i) (assigned ds j) ≤ most_arcs (assigned ds i) b)
       (λ there. second_some (assigned ds i) (assigned ds j))
       (λ away. omega arith))
     where
-      most_two_of : (a b : Option ℕ) → most_arcs a b ≤ 2
-      most_two_of None b = omega arith
-      most_two_of (Some v) None = omega arith
-      most_two_of (Some v) (Some w) = omega arith
-
       first_some : (a b : Option ℕ) → most_arcs a b ≤ most_arcs (Some k) b
       first_some None None = omega arith
       first_some None (Some w) = omega arith

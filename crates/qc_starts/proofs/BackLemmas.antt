@@ -1,5 +1,5 @@
 -- What is left when the newest decision is taken back is kept.
-use Rattle.std.proofs.Common.{◌≡◌, ℕ, ◌+◌, ◌-◌, ◌<◌, ◌≤◌, List, [], ◌∷◌, All, length, drop, take, reverse, sym, ap, subst, subst₂, ◌∙◌, vec_capacity, arith}
+use Rattle.std.proofs.Common.{◌≡◌, ℕ, ◌+◌, ◌<◌, ◌≤◌, List, [], ◌∷◌, All, length, drop, take, reverse, sym, ap, subst, subst₂, ◌∙◌, vec_capacity, arith}
 use Rattle.std.proofs.lemmas.List.Elements.{All-take}
 use Rattle.qc_model.specs.declared.decision.Decision.{Decision}
 use Rattle.qc_model.specs.declared.decision.Decision.TheVariants.{Assign, Order}

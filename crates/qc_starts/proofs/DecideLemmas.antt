@@ -1,5 +1,5 @@
 -- What a decision leaves is kept.
-use Rattle.std.proofs.Common.{◌≡◌, ℕ, ◌+◌, ◌-◌, ◌*◌, ◌<◌, ◌≤◌, List, [], ◌∷◌, ◌++◌, All, length, reverse, sym, ap, subst, subst₂, ◌∙◌, length-append, vec_capacity, arith}
+use Rattle.std.proofs.Common.{◌≡◌, ℕ, ◌+◌, ◌*◌, ◌<◌, ◌≤◌, List, [], ◌∷◌, ◌++◌, All, length, reverse, sym, ap, subst, subst₂, ◌∙◌, length-append, vec_capacity, arith}
 use Rattle.std.proofs.lemmas.List.Sums.{count_by-le-length}
 use Rattle.std.proofs.Math.Nat.{mul-le-mul_left}
 use Rattle.qc_dist.specs.Node.{Node}
@@ -11,7 +11,7 @@ use Rattle.qc_starts.specs.declared.spread.Spread.{Spread}
 use Rattle.qc_starts.specs.declared.starts.Starts.TheInside.{Inside}
 use Rattle.qc_starts.specs.Fields.{AreNested, IsKept, node_of}
 use Rattle.qc_starts.specs.NodeArcs.{IsSound}
-use Rattle.qc_starts.specs.Noting.{HasNotes, IsNoting, Wrote, marks}
+use Rattle.qc_starts.specs.Noting.{HasNotes, IsNoting, Wrote}
 use Rattle.qc_starts.specs.Opened.{AreSized, HasBegun}
 use Rattle.qc_starts.specs.Seen.{IsReached}
 use Rattle.qc_starts.specs.Spread.{IsSettledTo}

@@ -13,7 +13,8 @@ use Rattle.qc_model.specs.Nodes.{HasStarts, IsInReach, IsNodeEnd, IsSettled, Mee
 use Rattle.qc_starts.specs.Arcs.{IsArc}
 use Rattle.qc_starts.specs.Fields.{AreNested, IsKept, IsStateOf, node_of}
 use Rattle.qc_starts.specs.declared.starts.Starts.TheInside.{Inside}
-use Rattle.qc_starts.specs.Found.{HasLastEnd, IsLatest, end_by, end_in, why_in}
+use Rattle.qc_starts.specs.Found.{IsLast, IsLatest, end_by, end_in, why_in}
+use Rattle.qc_starts.specs.declared.latest.Last.{Last}
 use Rattle.qc_starts.specs.declared.step.Step.{Step}
 use Rattle.qc_starts.specs.declared.step.Step.TheVariants.{Raised, Cycle}
 use Rattle.qc_starts.specs.NodeArcs.{IsSound, NodeArcs}
@@ -265,20 +266,22 @@ module _ (f : Inside) (node : Node) (is : IsKept f) (view : node_of f ≡ node) 
   latest_low last latest =
       subst (λ (n : Node). IsLatest n.inst f.spread.values.cells (length n.inst.tasks) last) view latest
 
-  pub end_kept : HasStarts node.inst node.decisions → (end : ℕ) → HasLastEnd f.network.inst f.spread.values.cells end
-      → IsNodeEnd node.inst node.decisions end
-  end_kept starts end has =
-      end_of node.inst node.decisions f.spread.values.cells (rest_kept starts) has.last end (latest_low has.last has.latest)
-      (subst (λ (n : Node). end ≡ end_by n.inst f.spread.values.cells has.last) view has.is)
+  pub end_kept : HasStarts node.inst node.decisions → (last : Last)
+      → IsLast f.network.inst f.spread.values.cells (length f.network.inst.tasks) last
+      → IsNodeEnd node.inst node.decisions last.end
+  end_kept starts last is =
+      end_of node.inst node.decisions f.spread.values.cells (rest_kept starts) last.task last.end
+      (latest_low last.task is.latest)
+      (subst (λ (n : Node). last.end ≡ end_by n.inst f.spread.values.cells last.task) view is.end)
 
   end_low : HasStarts node.inst node.decisions → (last : Option ℕ) → IsLatest f.network.inst f.spread.values.cells (length f.network.inst.tasks) last
       → end_by f.network.inst f.spread.values.cells last ≤ 999999999999
   end_low starts None latest = omega arith
   end_low starts (Some j) latest = omega (arith, soon_of f.network f.spread.values.cells is.sound (home_rest starts) j latest.0)
 
-  pub end_soon : HasStarts node.inst node.decisions → (end : ℕ) → HasLastEnd f.network.inst f.spread.values.cells end
-      → end ≤ 999999999999
-  end_soon starts end has = omega (arith, has.is, end_low starts has.last has.latest)
+  pub end_soon : HasStarts node.inst node.decisions → (last : Last)
+      → IsLast f.network.inst f.spread.values.cells (length f.network.inst.tasks) last → last.end ≤ 999999999999
+  end_soon starts last is = omega (arith, is.end, end_low starts last.task is.latest)
 
   -- ways back
 
@@ -319,13 +322,14 @@ module _ (f : Inside) (node : Node) (is : IsKept f) (view : node_of f ≡ node) 
       } in
       seen_on (λ i ds. IsWhy i ds path) (subst (IsWhy net.inst net.decisions) (sym empty) why)
 
-  pub why_kept : HasStarts node.inst node.decisions → (last : ℕ) → (k : ℕ) → k ≡ count
-      → IsLatest f.network.inst f.spread.values.cells count (Some last) → (path : List ℕ)
+  pub why_kept : HasStarts node.inst node.decisions → (o : Option ℕ) (last : ℕ) → o ≡ Some last
+      → IsLatest f.network.inst f.spread.values.cells count o → (k : ℕ) → k ≡ count → (path : List ℕ)
       → IsBackTo (why_in k f.spread.values.cells) last path
       → IsWhy node.inst node.decisions path × (length path ≤ length node.inst.tasks)
-  why_kept starts last k same latest path back =
+  why_kept starts o last some found k same path back =
       let net = f.network in
       let cells = f.spread.values.cells in
+      let latest = subst (IsLatest net.inst cells count) some found in
       let rest = home_rest starts in
       let shown = chain_shows net cells is.sound rest last path (why_back (λ why. IsBackTo why last path) k same back) in
       let end = end_of net.inst net.decisions cells rest (Some last) (end_in net.inst cells last) latest refl in

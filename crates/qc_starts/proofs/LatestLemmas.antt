@@ -1,8 +1,8 @@
 -- The task that ends last of the first ones, with one task more.
-use Rattle.std.proofs.Common.{ℕ, ◌+◌, ◌<◌, ◌≤◌, inl, inr, List, Option, None, Some, cond, nat_lt, refl, sym, subst, arith}
-use Rattle.std.proofs.lemmas.Bool.{cases_eq, cond_both, ltb-false, ltb-true}
+use Rattle.std.proofs.Common.{ℕ, ◌+◌, ◌<◌, ◌≤◌, inl, inr, List, Option, None, Some, sym, subst, arith}
+use Rattle.std.proofs.lemmas.Bool.{cases_eq}
 use Rattle.qc_model.specs.Instance.{InstanceView}
-use Rattle.qc_starts.specs.Found.{HasEnd, IsLatest, end_by, end_in}
+use Rattle.qc_starts.specs.Found.{IsLatest, end_by, end_in}
 
 pub before_it : (inst : InstanceView) (cells : List ℕ) (t : ℕ) (last : Option ℕ) → IsLatest inst cells t last
     → (k : ℕ) → k < t → end_in inst cells k ≤ end_by inst cells last
@@ -30,20 +30,3 @@ this_one inst cells t last is later = (
     | inr other ↦ omega (arith, before_it inst cells t last is k (omega arith), later)
   ],
 )
-
-pub end_more : (inst : InstanceView) (cells : List ℕ) (t end : ℕ) → HasEnd inst cells t end → 1 ≤ end_in inst cells t
-    → HasEnd inst cells (t + 1) (cond (nat_lt end (end_in inst cells t)) (end_in inst cells t) end)
-end_more inst cells t end has some =
-    cond_both (nat_lt end (end_in inst cells t)) _ _ (HasEnd inst cells (t + 1))
-    (λ later. record {
-      last = Some t;
-      latest = this_one inst cells t has.last has.latest
-          (omega (arith, has.is, ltb-true end (end_in inst cells t) later));
-      is = refl;
-    })
-    (λ early. record {
-      last = has.last;
-      latest = still inst cells t has.last has.latest some
-          (omega (arith, has.is, ltb-false end (end_in inst cells t) early));
-      is = has.is;
-    })

@@ -1,10 +1,10 @@
 -- By how many ticks two tasks are clear of each other at the most.
-use Rattle.std.proofs.Common.{ℕ, ◌+◌, ◌-◌, ◌*◌, ◌<◌, ◌≤◌, eqb, inl, inr, List, length, ℤ, pos, ◌+ℤ◌, arith, mul-le-mul_left, nat_lt, slice_index}
+use Rattle.std.proofs.Common.{ℕ, ◌+◌, ◌-◌, ◌*◌, ◌<◌, ◌≤◌, eqb, length, ℤ, pos, ◌+ℤ◌, arith, mul-le-mul_left, nat_lt}
 use Rattle.std.proofs.lemmas.Bool.{cond_both}
 use Rattle.qc_model.specs.Bays.{bays_between, bays_up}
-use Rattle.qc_model.specs.Instance.{InstanceView, IsFrom, Valid, bay_of, ticks_of}
+use Rattle.qc_model.specs.Instance.{InstanceView, IsFrom, Valid, bay_of}
 use Rattle.qc_model.proofs.Bays.{bays}
-use Rattle.qc_starts.specs.Overlapping.{AreFar, IsWide}
+use Rattle.qc_starts.specs.Overlapping.{IsWide}
 
 -- two bays of the ship are no further apart than it is long
 along : (x y : ℤ) (n : ℕ) → IsFrom (pos 1) (pos n) x → IsFrom (pos 1) (pos n) y → bays_between x y ≤ n
@@ -32,12 +32,3 @@ module _ (inst : InstanceView) (valid : Valid inst) where
       (λ _. cond_both (nat_lt w v) _ _ (λ n. n ≤ most)
       (λ _. omega (arith, over y x inst.bays (inst.gap * (v - w)) at_y at_x, gaps w v low_v))
       (λ _. omega arith))))
-
--- what is clear by the most ticks is clear whichever cranes have it
-pub far_first : (inst : InstanceView) (cells : List ℕ) (ticks i j : ℕ) → IsWide inst ticks → i < length inst.tasks
-    → j < length inst.tasks → slice_index cells i + ticks_of inst i + ticks ≤ slice_index cells j → AreFar inst cells i j
-far_first inst cells ticks i j is low high clear v w at_v at_w = inl (omega (arith, clear, is i v j w low at_v high at_w))
-
-pub far_second : (inst : InstanceView) (cells : List ℕ) (ticks i j : ℕ) → IsWide inst ticks → i < length inst.tasks
-    → j < length inst.tasks → slice_index cells j + ticks_of inst j + ticks ≤ slice_index cells i → AreFar inst cells i j
-far_second inst cells ticks i j is low high clear v w at_v at_w = inr (omega (arith, clear, is j w i v high at_w low at_v))

@@ -32,13 +32,3 @@ end_by inst cells (Some j) = end_in inst cells j
 pub record IsLast (inst : InstanceView) (cells : List ℕ) (count : ℕ) (last : Last) : Type 0 where
   pub latest : IsLatest inst cells count last.task
   pub end : last.end ≡ end_by inst cells last.task
-
--- the end of the one of the first tasks that ends last
-pub record HasEnd (inst : InstanceView) (cells : List ℕ) (count end : ℕ) : Type 0 where
-  pub last : Option ℕ
-  pub latest : IsLatest inst cells count last
-  pub is : end ≡ end_by inst cells last
-
--- the end of the task that ends last
-abbrev pub HasLastEnd : InstanceView → List ℕ → ℕ → Type 0
-HasLastEnd inst cells end = HasEnd inst cells (length inst.tasks) end

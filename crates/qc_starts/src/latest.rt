@@ -2,7 +2,7 @@
 
 ghost use Rattle.std.specs.Prelude.{◌≡◌, ℕ, ◌*◌, ◌<◌, ◌≤◌, None, Some, if◌then◌else◌, length, nat_lt};
 ghost use Rattle.qc_model.specs.declared.limits.TheConstants.{MOST_START};
-ghost use Rattle.qc_starts.specs.Found.{HasLastEnd, IsLast, IsLatest, end_in};
+ghost use Rattle.qc_starts.specs.Found.{IsLast, end_in};
 ghost use Rattle.qc_starts.specs.Values.{start_at};
 
 use crate::network::Network;
@@ -11,10 +11,10 @@ use qc_num::Tick;
 
 /// The task that ends last of some, and when.
 #[derive(Clone, Copy)]
-struct Last {
-    task: Option<u16>,
+pub(crate) struct Last {
+    pub(crate) task: Option<u16>,
     /// 0 where there is no task.
-    end: Tick,
+    pub(crate) end: Tick,
 }
 
 /// When a task ends by its start.
@@ -26,13 +26,6 @@ fn end_in(network: &Network, values: &Noted, task: u16) -> Tick
     ensures some { 1 ≤ result }
 {
     values.start(task) + network.instance().task(task).ticks
-}
-
-/// The greater of two ticks.
-fn greater(one: Tick, other: Tick) -> Tick
-    ensures { result ≡ (if nat_lt one other then other else one) }
-{
-    if one < other { other } else { one }
 }
 
 /// The one that ends last of a task and those before it.
@@ -52,7 +45,7 @@ fn later(last: Last, task: u16, end: Tick) -> Last
 }
 
 /// The task that ends last.
-fn last_of(network: &Network, values: &Noted) -> Last
+pub(crate) fn latest(network: &Network, values: &Noted) -> Last
     requires count { length values.now.cells ≡ 2 * length network.now.inst.tasks }
     requires soon { (j : ℕ) → j < length network.now.inst.tasks
         → start_at values.now.cells j ≤ MOST_START }
@@ -63,28 +56,4 @@ fn last_of(network: &Network, values: &Noted) -> Last
         last = later(last, task, end_in(network, values, task));
     }
     last
-}
-
-/// The task that ends last; `None` exactly where there is no task.
-pub(crate) fn latest(network: &Network, values: &Noted) -> Option<u16>
-    requires count { length values.now.cells ≡ 2 * length network.now.inst.tasks }
-    requires soon { (j : ℕ) → j < length network.now.inst.tasks
-        → start_at values.now.cells j ≤ MOST_START }
-    ensures { IsLatest network.now.inst values.now.cells (length network.now.inst.tasks) result }
-{
-    last_of(network, values).task
-}
-
-/// When the last task ends; 0 where there is none.
-pub(crate) fn last_end(network: &Network, values: &Noted) -> Tick
-    requires count { length values.now.cells ≡ 2 * length network.now.inst.tasks }
-    requires soon { (j : ℕ) → j < length network.now.inst.tasks
-        → start_at values.now.cells j ≤ MOST_START }
-    ensures { HasLastEnd network.now.inst values.now.cells result }
-{
-    let mut end = 0;
-    for task in 0..network.task_count() {
-        end = greater(end, end_in(network, values, task));
-    }
-    end
 }

@@ -220,28 +220,6 @@ impl Spread {
         false
     }
 
-    /// Raises starts behind the root until none is too low, or a raise came back to it.
-    fn raise_behind(&mut self, network: &Network, root: u16) -> Step
-        requires sound { IsSound network.now }
-        requires spreading { IsSpreading network.now root self.old.olds.items self.old.values.cells
-            self.old.pending.items [] }
-        requires size { length self.old.olds.items ≡ length network.now.inst.tasks }
-        requires notes { HasNotes self.old.values }
-        requires queued { IsQueued self.old }
-        ensures queued { IsQueued self.new }
-        ensures size { length self.new.pending.items ≡ length self.old.pending.items }
-        ensures olds { self.new.olds.items ≡ self.old.olds.items }
-        ensures wrote { Wrote self.old.values self.new.values }
-        ensures settled { IsSettledTo network.now root self.new.olds.items self.new.values.cells result }
-    {
-        while let Some(task) = self.take_earliest() {
-            if self.raise_from(network, root, task) {
-                return Step::Cycle;
-            }
-        }
-        Step::Raised
-    }
-
     /// Raises the root to its head, and along the arcs into it.
     fn raise_root(&mut self, network: &Network, root: u16)
         requires sound { IsSound network.now }
@@ -261,7 +239,7 @@ impl Spread {
         }
     }
 
-    /// Raises the root and all starts behind it.
+    /// Raises the root, and starts behind it until none is too low or a raise came back to the root.
     pub(crate) fn settle(&mut self, network: &Network, root: u16) -> Step
         requires sound { IsSound network.now }
         requires rooting { IsRooting network.now root self.old.olds.items self.old.values.cells }
@@ -276,6 +254,11 @@ impl Spread {
         ensures settled { IsSettledTo network.now root self.new.olds.items self.new.values.cells result }
     {
         self.raise_root(network, root);
-        self.raise_behind(network, root)
+        while let Some(task) = self.take_earliest() {
+            if self.raise_from(network, root, task) {
+                return Step::Cycle;
+            }
+        }
+        Step::Raised
     }
 }

@@ -17,7 +17,7 @@ ghost use Rattle.qc_starts.specs.Fields.{node_of, IsKept};
 ghost use Rattle.qc_dist.specs.Node.{IsOpen, Node, newest};
 
 use crate::complete::{are_assigned, are_settled};
-use crate::latest::{last_end, latest};
+use crate::latest::latest;
 use crate::network::Network;
 use crate::overlap::{first_overlap, has_overlap};
 use crate::spread::Spread;
@@ -228,7 +228,7 @@ impl Starts {
         ensures end { IsNodeEnd self.now.inst self.now.decisions result }
         ensures bound { result ≤ MOST_START }
     {
-        last_end(&self.network, &self.spread.values)
+        latest(&self.network, &self.spread.values).end
     }
 
     /// The crane of a task; `None` exactly where it has none.
@@ -332,7 +332,7 @@ impl Starts {
         ensures count { length path.new.items ≤ length self.now.inst.tasks }
         ensures room { path.new.capacity ≡ path.old.capacity }
     {
-        match latest(&self.network, &self.spread.values) {
+        match latest(&self.network, &self.spread.values).task {
             None => path.clear(),
             Some(last) => chain_to(&self.spread.values, self.network.task_count(), last, path),
         }

@@ -12,15 +12,15 @@ chain_to-requires-clause-rising c = rises_kept c.self.inside _ c.self.invariant 
 
 pub returns-in-None-clause-why : goal.returns-in-None-clause-why
 returns-in-None-clause-why c =
-    no_why_kept c.self.inside _ c.self.invariant c.self.view_is c.requires.starts c.latest.result c.in-None.is c.latest.ensures
+    no_why_kept c.self.inside _ c.self.invariant c.self.view_is c.requires.starts c.latest.result.task c.in-None.is c.latest.ensures.latest
     c.clear.new.self.items c.clear.ensures.items
 
 pub returns-in-Some-clause-why : goal.returns-in-Some-clause-why
 returns-in-Some-clause-why c =
-    (why_kept c.self.inside _ c.self.invariant c.self.view_is c.requires.starts c.in-Some.last c.task_count.result c.task_count.ensures.count
-    c.in-Some.ensures c.chain_to.new.path.items c.chain_to.ensures.chain).0
+    (why_kept c.self.inside _ c.self.invariant c.self.view_is c.requires.starts c.latest.result.task c.in-Some.last c.in-Some.is
+    c.latest.ensures.latest c.task_count.result c.task_count.ensures.count c.chain_to.new.path.items c.chain_to.ensures.chain).0
 
 pub returns-in-Some-clause-count : goal.returns-in-Some-clause-count
 returns-in-Some-clause-count c =
-    (why_kept c.self.inside _ c.self.invariant c.self.view_is c.requires.starts c.in-Some.last c.task_count.result c.task_count.ensures.count
-    c.in-Some.ensures c.chain_to.new.path.items c.chain_to.ensures.chain).1
+    (why_kept c.self.inside _ c.self.invariant c.self.view_is c.requires.starts c.latest.result.task c.in-Some.last c.in-Some.is
+    c.latest.ensures.latest c.task_count.result c.task_count.ensures.count c.chain_to.new.path.items c.chain_to.ensures.chain).1

@@ -2,7 +2,7 @@ use Rattle.std.proofs.Common.{◌≡◌, [], length}
 use Rattle.qc_starts.specs.Noting.{Wrote}
 use Rattle.qc_starts.specs.Queue.{IsQueued}
 use Rattle.qc_starts.specs.Spread.{IsSpreading, left}
-use Rattle.qc_starts.proofs.spread.Spread.raise_behind.Given as goal
+use Rattle.qc_starts.proofs.spread.Spread.settle.Given as goal
 
 abbrev pub invariant-loop-task : goal.invariant-loop-task
 invariant-loop-task l = record {

@@ -4,7 +4,7 @@ use Rattle.qc_model.specs.Instance.{InstanceView}
 use Rattle.qc_starts.specs.declared.latest.Last.{Last}
 use Rattle.qc_starts.specs.Found.{IsLast, end_in}
 use Rattle.qc_starts.proofs.LatestLemmas.{still, this_one}
-use Rattle.qc_starts.proofs.latest.last_of.Goals as goal
+use Rattle.qc_starts.proofs.latest.latest.Goals as goal
 
 one_more : (inst : InstanceView) (cells : List ℕ) (t : ℕ) (last : Last) → IsLast inst cells t last
     → 1 ≤ end_in inst cells t
