@@ -13,7 +13,7 @@ ghost use Rattle.qc_starts.specs.Seen.{IsReached};
 use qc_dist::{Decisions, in_reach};
 use qc_model::{Decision, Instance, Turn};
 use qc_num::{OutOfMemory, Tick};
-use qc_starts::{Starts, go, go_back};
+use qc_starts::Starts;
 use std::alloc::Global;
 
 /// The least starts of decisions, as long as each is in reach and some starts meet them; of the decisions
@@ -77,7 +77,7 @@ impl EarlyStarts {
             self.past += 1;
             return;
         }
-        go(&mut self.starts, decision);
+        self.starts.go(decision);
     }
 
     /// Takes the newest decision back, which leaves the node.
@@ -91,7 +91,7 @@ impl EarlyStarts {
             return;
         }
         let made = self.starts.mark();
-        go_back(&mut self.starts, made - 1);
+        self.starts.retract(made - 1);
     }
 
     /// The least start of the first of some tasks.

@@ -13,7 +13,7 @@ use qc_model::{
     seen_number,
 };
 use qc_num::OutOfMemory;
-use qc_starts::{Starts, go, go_back};
+use qc_starts::Starts;
 use std::alloc::Global;
 
 /// Puts a task on its crane. Whether that can be, and some starts are left.
@@ -31,7 +31,7 @@ fn assign(starts: &mut Starts, task: u16, crane: Option<u16>) -> bool
     if crane >= inst.crane_count() || !in_reach(inst, task, crane) || starts.stuck() {
         return false;
     }
-    go(starts, Decision::Assign(task, crane));
+    starts.go(Decision::Assign(task, crane));
     !starts.stuck()
 }
 
@@ -57,12 +57,12 @@ fn put_first(starts: &mut Starts, first: u16, second: u16) -> bool
     ensures { starts.new.inst ≡ starts.old.inst }
 {
     let mark = starts.mark();
-    go(starts, Decision::Order(first, second));
+    starts.go(Decision::Order(first, second));
     if !starts.stuck() {
         return true;
     }
-    go_back(starts, mark);
-    go(starts, Decision::Order(second, first));
+    starts.retract(mark);
+    starts.go(Decision::Order(second, first));
     !starts.stuck()
 }
 
