@@ -1,12 +1,12 @@
 -- Ways back: they grow by a task that isn't on them, are no longer than there are tasks, and close.
-use Rattle.std.proofs.Common.{◌≡◌, ◌≢◌, ℕ, zero, suc, ◌+◌, ◌-◌, ◌<◌, ◌≤◌, true, false, inl, inr, List, [], ◌∷◌, ◌++◌, drop, take, length, reverse, Option, None, Some, refl, sym, ap, subst, ◌∙◌, add-one, eqb, arith, slice_index}
+use Rattle.std.proofs.Common.{◌≡◌, ◌≢◌, ℕ, zero, suc, ◌+◌, ◌-◌, ◌<◌, ◌≤◌, true, false, inl, inr, List, [], ◌∷◌, drop, take, length, reverse, Option, None, Some, refl, sym, ap, subst, ◌∙◌, add-one, eqb, arith, slice_index}
 use Rattle.std.proofs.lemmas.Bool.{cases_eq, cond-false, or_cases, eqb-true, ne_eqb, false≢true}
-use Rattle.std.proofs.lemmas.List.{length-reverse, reverse-append, take_at}
+use Rattle.std.proofs.lemmas.List.{length-reverse, take_at}
 use Rattle.std.proofs.lemmas.Map.Steps.{length-le_from_distinct_below}
 use Rattle.std.proofs.lemmas.Option.{same_Some}
 use Rattle.std.specs.List.{AllByRecursion, IsDistinct, list_any, refill}
 use Rattle.qc_starts.specs.Found.{why_in}
-use Rattle.qc_starts.specs.Ways.{AreBacked, IsBackTo, IsLinked, IsPlace, IsRing, IsRising, IsWalked, IsWay, Why, last_of}
+use Rattle.qc_starts.specs.Ways.{AreBacked, IsBackTo, IsLinked, IsPlace, IsRing, IsRising, IsWay, Why, last_of}
 
 -- what is among numbers below n is below it
 pub any_inside : (n : ℕ) (xs : List ℕ) → AllByRecursion (λ j. j < n) xs → (q : ℕ)
@@ -65,9 +65,6 @@ away_from why last i h js rising way back = λ k low same.
 
 -- ---- ways that are written from their end on
 
-pub reverse_push : (tasks : List ℕ) (task : ℕ) → reverse (tasks ++ task ∷ []) ≡ (task ∷ reverse tasks)
-reverse_push tasks task = reverse-append tasks (task ∷ [])
-
 -- a list that is turned round in its place
 pub turned_in : (tasks news : List ℕ) → news ≡ reverse tasks → refill (length tasks) tasks news ≡ reverse tasks
 turned_in tasks news is =
@@ -89,7 +86,7 @@ first_in why P closed i (j ∷ js) linked has =
 
 -- a way back from one of them comes to no task that nothing raised
 pub no_end : (why : Why) (P : ℕ → Type 0) → IsClosed why P → (last : ℕ) (path : List ℕ) → P last
-    → IsWalked why last path None → ⊥
+    → IsBackTo why last path → ⊥
 no_end why P closed last [] has walked = walked
 no_end why P closed last (i ∷ js) has walked =
     let first = first_in why P closed i js walked.0.linked (subst P (sym walked.0.ends) has) in
@@ -145,11 +142,9 @@ last_of_take i [] (suc k) low = absurd (omega arith)
 last_of_take i (j ∷ js) (suc k) low = last_of_take j js k (omega arith)
 
 -- the ring that a way ends in
-pub ring_found : (why : Why) (late : ℕ) (path : List ℕ) (place : ℕ)
-    → IsWalked why late path (Some place) → IsRing why (take (place + 1) path)
-ring_found why late [] place walked = absurd walked
-ring_found why late (i ∷ js) place walked =
-    let way = walked.0 in
+pub ring_found : (why : Why) (late i : ℕ) (js : List ℕ) (h place : ℕ) → IsWay why late i js → why.of i ≡ Some h
+    → IsPlace (i ∷ js) h (Some place) → IsRing why (take (place + 1) (i ∷ js))
+ring_found why late i js h place way back at =
     rw (add-one place) (
       record {
         linked = linked_take why i js place way.linked;
@@ -157,13 +152,8 @@ ring_found why late (i ∷ js) place walked =
         distinct = distinct_take (i ∷ js) (suc place) way.distinct;
         inside = all_take (λ j. j < why.count) (i ∷ js) (suc place) way.inside;
       },
-      walked.2 ∙ ap Some (sym (last_of_take i js place walked.1)),
+      back ∙ ap Some (sym at.1) ∙ ap Some (sym (last_of_take i js place at.0)),
     )
-
-pub place_low : (why : Why) (last : ℕ) (path : List ℕ) (place : ℕ) → IsWalked why last path (Some place)
-    → place < why.count
-place_low why last [] place walked = absurd walked
-place_low why last (i ∷ js) place walked = omega (arith, walked.1, way_length why last i js walked.0)
 
 -- ---- cells
 

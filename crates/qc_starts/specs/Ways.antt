@@ -38,13 +38,6 @@ pub record IsWay (why : Why) (last i : ℕ) (js : List ℕ) : Type 0 where
   pub distinct : IsDistinct nat_eq (i ∷ js)
   pub inside : AllByRecursion (λ j. j < why.count) (i ∷ js)
 
--- the way to a task, and where the task stands that raised the first, if any did
-abbrev pub IsWalked : Why → ℕ → List ℕ → Option ℕ → Type 0
-IsWalked why last [] place = ⊥
-IsWalked why last (i ∷ js) None = IsWay why last i js × (why.of i ≡ None)
-IsWalked why last (i ∷ js) (Some place) =
-    IsWay why last i js × (place < length (i ∷ js)) × (why.of i ≡ Some (slice_index (i ∷ js) place))
-
 -- the way to a task from one that nothing raised
 abbrev pub IsBackTo : Why → ℕ → List ℕ → Type 0
 IsBackTo why last [] = ⊥
@@ -57,4 +50,4 @@ IsRing why (i ∷ js) = IsWay why (last_of i js) i js × (why.of i ≡ Some (las
 
 -- no way back from this task comes to one that nothing raised
 abbrev pub IsEndless : Why → ℕ → Type 0
-IsEndless why root = (path : List ℕ) → ¬ IsWalked why root path None
+IsEndless why root = (path : List ℕ) → ¬ IsBackTo why root path

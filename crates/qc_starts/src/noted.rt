@@ -53,16 +53,6 @@ impl Noted {
         })
     }
 
-    /// Begins a decision, which has noted nothing yet.
-    pub(crate) fn begin(&mut self)
-        ensures cells { self.new.cells ≡ self.old.cells }
-        ensures trail { self.new.trail ≡ self.old.trail }
-        ensures count { length self.new.noted.items ≡ length self.old.noted.items }
-        ensures none { (k : ℕ) → k < length self.new.noted.items → slice_index_or self.new.noted.items k true ≡ false }
-    {
-        clear(&mut self.noted);
-    }
-
     /// When a task starts.
     pub(crate) fn start(&self, task: u16) -> Tick
         requires { task < length self.now.cells }

@@ -1,6 +1,6 @@
 //! Starts that are raised behind a task, along the arcs, until none is too low.
 
-ghost use Rattle.std.specs.Prelude.{◌≡◌, ℕ, ◌+◌, ◌*◌, ◌^◌, ◌<◌, ◌≤◌, ◌⊎◌, ◌&&◌, ◌==◌, true, false, [], if◌then◌else◌, IfOk, MatchOption, Some, length, slice_index_or, slice_set, vec_capacity};
+ghost use Rattle.std.specs.Prelude.{◌≡◌, ◌+◌, ◌*◌, ◌^◌, ◌<◌, ◌≤◌, ◌⊎◌, ◌&&◌, ◌==◌, true, false, [], if◌then◌else◌, IfOk, MatchOption, Some, length, slice_set, vec_capacity};
 ghost use Rattle.qc_starts.specs.NodeArcs.{IsSound};
 ghost use Rattle.qc_starts.specs.Noting.{HasNotes, Wrote};
 ghost use Rattle.qc_starts.specs.Opened.{HasBegun, IsOpened};
@@ -52,15 +52,6 @@ fn sooner(before: Option<Next>, this: Next) -> Next
     }
 }
 
-/// Copies the first values.
-fn copy_starts(values: &Noted, olds: &mut [Tick])
-    requires count { length olds.old ≤ length values.now.cells }
-    requires few { length olds.old < 2 ^ 16 }
-    ensures { (j : ℕ) → j < length olds.new → start_at olds.new j ≡ start_at values.now.cells j }
-{
-    values.cells.copy_front(olds);
-}
-
 impl Spread {
     /// Room for so many tasks and decisions. All tasks are still to be looked at.
     pub(crate) fn open(alloc: Global, count: u16, decisions: u32) -> Result<Spread, OutOfMemory>
@@ -79,43 +70,16 @@ impl Spread {
     pub(crate) fn begin(&mut self, root: u16)
         requires root { root < length self.old.pending.items }
         requires olds { length self.old.olds.items ≤ length self.old.values.cells }
-        requires few { length self.old.olds.items < 2 ^ 16 }
         requires room { length self.old.pending.items ≤ vec_capacity self.old.queue }
         ensures begun { HasBegun self.old self.new root }
         ensures queued { IsQueued self.new }
     {
-        self.values.begin();
-        self.keep_starts();
-        self.clear_pending();
+        clear(&mut self.values.noted);
+        self.values.cells.copy_front(&mut self.olds);
+        clear(&mut self.pending);
         self.queue.clear();
         self.queue.push_reserved(root);
         self.pending[root as usize] = true;
-    }
-
-    /// Copies the starts.
-    fn keep_starts(&mut self)
-        requires olds { length self.old.olds.items ≤ length self.old.values.cells }
-        requires few { length self.old.olds.items < 2 ^ 16 }
-        ensures values { self.new.values ≡ self.old.values }
-        ensures pending { self.new.pending.items ≡ self.old.pending.items }
-        ensures queue { self.new.queue ≡ self.old.queue }
-        ensures size { length self.new.olds.items ≡ length self.old.olds.items }
-        ensures olds { (j : ℕ) → j < length self.new.olds.items
-            → start_at self.new.olds.items j ≡ start_at self.old.values.cells j }
-    {
-        copy_starts(&self.values, &mut self.olds);
-    }
-
-    /// No task is to be looked at.
-    fn clear_pending(&mut self)
-        ensures values { self.new.values ≡ self.old.values }
-        ensures olds { self.new.olds.items ≡ self.old.olds.items }
-        ensures queue { self.new.queue ≡ self.old.queue }
-        ensures size { length self.new.pending.items ≡ length self.old.pending.items }
-        ensures clear { (k : ℕ) → k < length self.new.pending.items
-            → slice_index_or self.new.pending.items k true ≡ false }
-    {
-        clear(&mut self.pending);
     }
 
     /// A task is to be looked at.

@@ -1,10 +1,10 @@
 //! The way back from a task by what raised each, to a task that nothing raised or around a ring. A ring is rare, so
 //! only its walk looks at each task for whether it was met before.
 
-ghost use Rattle.std.specs.Prelude.{◌≡◌, ◌*◌, ◌+◌, ◌<◌, ◌≤◌, ◌∷◌, length, reverse};
+ghost use Rattle.std.specs.Prelude.{◌≡◌, ◌*◌, ◌+◌, ◌<◌, ◌≤◌, ◌∷◌, length};
 ghost use Rattle.qc_model.specs.declared.limits.TheConstants.{MOST_TASKS};
 ghost use Rattle.qc_starts.specs.Found.{why_in};
-ghost use Rattle.qc_starts.specs.Ways.{AreBacked, IsBackTo, IsEndless, IsPlace, IsRing, IsRising, IsWalked};
+ghost use Rattle.qc_starts.specs.Ways.{AreBacked, IsBackTo, IsEndless, IsPlace, IsRing, IsRising};
 
 use crate::noted::Noted;
 use qc_num::Path;
@@ -30,53 +30,6 @@ fn prepend(path: &mut Path, task: u16)
     let _ = path.insert(0, task);
 }
 
-/// The way back from a task until nothing raised the first, or the task that raised it is on the
-/// way already: the place of that task.
-fn walk_back(values: &Noted, count: u16, last: u16, path: &mut Path) -> Option<usize>
-    requires cells { length values.now.cells ≡ 2 * count }
-    requires few { count ≤ MOST_TASKS }
-    requires backed { AreBacked (why_in count values.now.cells) }
-    requires task { last < count }
-    requires room { count ≤ path.old.capacity }
-    ensures way { IsWalked (why_in count values.now.cells) last path.new.items result }
-    ensures room { path.new.capacity ≡ path.old.capacity }
-{
-    path.clear();
-    let mut task = last;
-    'walk: loop {
-        prepend(path, task);
-        let Some(raiser) = values.raiser(count, task) else {
-            return None;
-        };
-        if let Some(place) = place_of(path.as_slice(), raiser) {
-            return Some(place);
-        }
-        task = raiser;
-    }
-}
-
-/// The way back from a task to one that nothing raised, where each task starts after the one that raised it.
-fn chain_back(values: &Noted, count: u16, last: u16, path: &mut Path)
-    requires cells { length values.now.cells ≡ 2 * count }
-    requires few { count ≤ MOST_TASKS }
-    requires backed { AreBacked (why_in count values.now.cells) }
-    requires rising { IsRising (why_in count values.now.cells) }
-    requires task { last < count }
-    requires room { count ≤ path.old.capacity }
-    ensures chain { IsBackTo (why_in count values.now.cells) last (reverse path.new.items) }
-    ensures room { path.new.capacity ≡ path.old.capacity }
-{
-    path.clear();
-    let mut task = last;
-    'walk: loop {
-        path.push_reserved(task);
-        let Some(raiser) = values.raiser(count, task) else {
-            return;
-        };
-        task = raiser;
-    }
-}
-
 /// The way to a task from one that nothing raised, where each task starts after the one before it.
 pub(crate) fn chain_to(values: &Noted, count: u16, last: u16, path: &mut Path)
     requires cells { length values.now.cells ≡ 2 * count }
@@ -88,7 +41,13 @@ pub(crate) fn chain_to(values: &Noted, count: u16, last: u16, path: &mut Path)
     ensures chain { IsBackTo (why_in count values.now.cells) last path.new.items }
     ensures room { path.new.capacity ≡ path.old.capacity }
 {
-    chain_back(values, count, last, path);
+    path.clear();
+    let mut task = last;
+    while let Some(raiser) = values.raiser(count, task) {
+        path.push_reserved(task);
+        task = raiser;
+    }
+    path.push_reserved(task);
     path.as_mut_slice().reverse();
 }
 
@@ -103,8 +62,15 @@ pub(crate) fn ring_behind(values: &Noted, count: u16, root: u16, path: &mut Path
     ensures ring { IsRing (why_in count values.now.cells) path.new.items }
     ensures room { path.new.capacity ≡ path.old.capacity }
 {
-    match walk_back(values, count, root, path) {
-        Some(place) => path.truncate(place + 1),
-        None => unreachable!(),
+    path.clear();
+    let mut task = root;
+    while let Some(raiser) = values.raiser(count, task) {
+        prepend(path, task);
+        if let Some(place) = place_of(path.as_slice(), raiser) {
+            path.truncate(place + 1);
+            return;
+        }
+        task = raiser;
     }
+    unreachable!();
 }
