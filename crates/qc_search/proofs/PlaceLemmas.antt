@@ -3,14 +3,14 @@ use Rattle.std.proofs.Common.{◌≡◌, ℕ, ◌-◌, ◌<◌, List, [], ◌∷
 use Rattle.qc_close.specs.Crews.{CrewView, IsCrewOf}
 use Rattle.qc_close.proofs.DecidedCranes.{crane_decided, cranes_none, cranes_put, cranes_taken}
 use Rattle.qc_dist.proofs.Assigned.{assigned_here}
-use Rattle.qc_dist.specs.Node.{IsOpen, newest}
+use Rattle.qc_dist.specs.Node.{IsOpen, newest, Node}
 use Rattle.qc_model.specs.declared.decision.Decision.{Decision}
 use Rattle.qc_model.specs.declared.decision.Decision.TheVariants.{Assign, Order}
 use Rattle.qc_model.specs.Assignments.{crane_in, no_cranes}
 use Rattle.qc_model.specs.Instance.{InstanceView, Valid}
 use Rattle.qc_model.specs.Nodes.{Fits, assigned}
 use Rattle.qc_model.proofs.NodeLemmas.{unsettled_unordered}
-use Rattle.qc_starts.specs.Seen.{StartsNode, first_of}
+use Rattle.qc_starts.specs.Seen.{first_of}
 use Rattle.qc_search.specs.Places.{IsPlaced, node_of}
 use Rattle.qc_search.specs.declared.place.Node.TheInside.{Inside}
 
@@ -78,13 +78,13 @@ newest_older (x ∷ xs) d mark e is =
     ap (λ (y : Decision). y ∷ xs) same ∙ ap (λ (n : ℕ). d ∷ drop n (x ∷ xs)) (sym one)
 
 -- what is open at the node that is seen is open at the one that is kept
-pub opened : (f : Inside) (node : StartsNode) (d e : Decision) → node_of f ≡ node → IsOpen node.inst node.decisions d
+pub opened : (f : Inside) (node : Node) (d e : Decision) → node_of f ≡ node → IsOpen node.inst node.decisions d
     → d ≡ e → IsOpen f.starts.inst f.starts.decisions e
 opened f node d e view is_open same =
     subst (IsOpen f.starts.inst f.starts.decisions) same
-    (subst (λ (n : StartsNode). IsOpen n.inst n.decisions d) (sym view) is_open)
+    (subst (λ (n : Node). IsOpen n.inst n.decisions d) (sym view) is_open)
 
-pub placed : (inst : InstanceView) (ds : List Decision) (new : StartsNode) (crew : CrewView) → Valid inst
+pub placed : (inst : InstanceView) (ds : List Decision) (new : Node) (crew : CrewView) → Valid inst
     → new.inst ≡ inst → new.decisions ≡ ds → Fits inst ds → IsCrewOf crew inst ds
     → IsPlaced (record { starts = new; crew = crew })
 placed inst ds new crew valid same made fits is = record {

@@ -1,11 +1,11 @@
 -- inner: the fields of the node at which a search stands, as clauses see them and as they are kept.
 use Rattle.qc_close.specs.Crews.{IsCrewOf}
+use Rattle.qc_dist.specs.Node.{Node}
 use Rattle.qc_model.specs.Instance.{Valid}
 use Rattle.qc_model.specs.Nodes.{Fits}
-use Rattle.qc_starts.specs.Seen.{StartsNode}
 use Rattle.qc_search.specs.declared.place.Node.TheInside.{Inside}
 
-abbrev pub node_of : Inside → StartsNode
+abbrev pub node_of : Inside → Node
 node_of f = f.starts
 
 -- the decisions fit the instance, and the crew is theirs

@@ -1,13 +1,13 @@
 -- inner: the roots of the parts of a tree, as clauses see them and as they are kept.
 use Rattle.std.specs.Prelude.{◌≡◌, [], Option, None, Some}
+use Rattle.qc_dist.specs.Node.{Node}
 use Rattle.qc_model.specs.declared.turn.Turn.TheVariants.{OneWay, Free}
 use Rattle.qc_model.specs.Instance.{InstanceView}
 use Rattle.qc_model.specs.OneWay.{mirror}
-use Rattle.qc_starts.specs.Seen.{StartsNode}
 use Rattle.qc_search.specs.declared.roots.Roots.TheInside.{Inside}
 
 -- where cranes go one way there is a root of the mirror too
-abbrev pub IsTurned : InstanceView → Option StartsNode → Type 0
+abbrev pub IsTurned : InstanceView → Option Node → Type 0
 IsTurned inst None = inst.turn ≡ Free
 IsTurned inst (Some down) = (inst.turn ≡ OneWay) × (down.inst ≡ mirror inst) × (down.decisions ≡ [])
 

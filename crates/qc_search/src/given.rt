@@ -21,7 +21,7 @@ use crate::progress::{Progress, first_progress};
 use crate::roots::Roots;
 use qc_model::{Decision, Direction, Instance, Pair, Schedule, Turn, direction_of};
 use qc_num::{Bound, Path, Tick};
-use qc_starts::{Starts, go, go_back};
+use qc_starts::Starts;
 
 /// Puts a task on its crane of the schedule.
 fn assign_as(starts: &mut Starts, sched: &Schedule, task: u16)
@@ -33,7 +33,7 @@ fn assign_as(starts: &mut Starts, sched: &Schedule, task: u16)
     ensures decisions { starts.new.decisions ≡ Assign task (crane_of sched.now task) ∷ starts.old.decisions }
 {
     let crane = sched.slots()[task as usize].crane;
-    go(starts, Decision::Assign(task, crane));
+    starts.go(Decision::Assign(task, crane));
 }
 
 /// Puts each task on its crane of the schedule.
@@ -96,7 +96,7 @@ fn order_as(starts: &mut Starts, sched: &Schedule, pair: Pair)
         return;
     }
     let order = order_of(starts.instance(), sched, pair);
-    go(starts, order);
+    starts.go(order);
 }
 
 /// Orders a task and each lower one that conflicts with it as the schedule has them.
@@ -157,7 +157,7 @@ pub(crate) fn tighten(starts: &mut Starts, sched: &mut Schedule) -> Tick
     prove!(!stuck);
     keep(starts, sched);
     let end = starts.ends();
-    go_back(starts, 0);
+    starts.retract(0);
     end
 }
 

@@ -1,13 +1,13 @@
 //! Where a search stands.
 ghost use Rattle.std.specs.Prelude.{◌≡◌, ◌∷◌, [], ◌<◌, ◌≤◌, ℕ, IfOk, IfSome, None, length};
 ghost use Rattle.qc_close.specs.Crews.{IsCrewOf};
-ghost use Rattle.qc_dist.specs.Node.{IsOpen};
+ghost use Rattle.qc_dist.specs.Node.{IsOpen, Node};
 ghost use Rattle.qc_model.specs.Frames.{GoesBy};
 ghost use Rattle.qc_model.specs.Instance.{Valid};
 ghost use Rattle.qc_model.specs.Nodes.{HasStarts};
 ghost use Rattle.qc_model.specs.Numbers.{most_start};
 ghost use Rattle.qc_model.specs.Rules.{start_of};
-ghost use Rattle.qc_starts.specs.Seen.{IsReached, StartsNode};
+ghost use Rattle.qc_starts.specs.Seen.{IsReached};
 ghost use Rattle.qc_search.specs.Places.{IsPlaced, node_of};
 ghost use Rattle.qc_search.specs.Progress.{IsTightened};
 
@@ -15,7 +15,7 @@ use crate::given::tighten;
 use qc_close::Crew;
 use qc_model::{Decision, Instance, Schedule};
 use qc_num::{OutOfMemory, Tick};
-use qc_starts::{Starts, go, go_back};
+use qc_starts::Starts;
 use std::alloc::Global;
 use std::marker::Model;
 
@@ -28,7 +28,7 @@ pub(crate) struct Node {
 }
 
 impl Model for Node {
-    ghost Value = { StartsNode };
+    ghost Value = { Node };
 
     ghost view = { node_of };
 
@@ -91,7 +91,7 @@ impl Node {
         ensures inst { self.new.inst ≡ self.old.inst }
         ensures decisions { self.new.decisions ≡ decision ∷ self.old.decisions }
     {
-        go(&mut self.starts, decision);
+        self.starts.go(decision);
         if let Decision::Assign(task, crane) = decision {
             self.crew.put(task, crane);
         }
@@ -105,7 +105,7 @@ impl Node {
     {
         let newest = self.starts.newest()?;
         let mark = self.starts.mark();
-        go_back(&mut self.starts, mark - 1);
+        self.starts.retract(mark - 1);
         if let Decision::Assign(task, _) = newest {
             self.crew.take(task);
         }

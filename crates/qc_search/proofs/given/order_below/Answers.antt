@@ -1,16 +1,16 @@
 use Rattle.std.proofs.Common.{◌≡◌, ℕ, ◌+◌, ◌<◌, inl, inr, List, sym, subst, ◌∙◌, arith}
 use Rattle.std.proofs.lemmas.Bool.{cases_eq, false≢true}
+use Rattle.qc_dist.specs.Node.{Node}
 use Rattle.qc_model.specs.declared.decision.Decision.{Decision}
 use Rattle.qc_model.specs.declared.schedule.Slot.{Slot}
 use Rattle.qc_model.specs.Instance.{InstanceView}
 use Rattle.qc_model.specs.Nodes.{Agrees, Conflicts, IsSettled, assigned}
-use Rattle.qc_starts.specs.Seen.{StartsNode}
 use Rattle.qc_search.proofs.OrderLemmas.{conflict_moves}
 use Rattle.qc_search.proofs.given.order_below.Goals as goal
 use Rattle.qc_search.proofs.given.order_below.Goals.{then-conflict, else-conflict}
 
 -- the pairs of the task and the first others are settled
-abbrev AreBelow : InstanceView → List Decision → List Slot → ℕ → ℕ → StartsNode → Type 0
+abbrev AreBelow : InstanceView → List Decision → List Slot → ℕ → ℕ → Node → Type 0
 AreBelow inst ds sched task other node = record {
   same : node.inst ≡ inst;
   agrees : Agrees inst node.decisions sched;

@@ -33,4 +33,4 @@ returns-clause-tightened c =
     }
 
 pub returns-clause-root : goal.returns-clause-root
-returns-clause-root c = c.go_back.ensures.decisions ∙ all_gone c.order_all.new.starts.decisions
+returns-clause-root c = c.retract.ensures.decisions ∙ all_gone c.order_all.new.starts.decisions

@@ -1,9 +1,9 @@
 use Rattle.std.proofs.Common.{◌≡◌, ◌≤◌, List, [], ◌∷◌, None, Ok, Err, IfSome, Option, length, true, refl, ap, sym, subst, ◌∙◌, arith, rules}
 use Rattle.std.proofs.lemmas.Bool.{false≢true}
 use Rattle.qc_dist.specs.Children.{IsNextChild, behind}
+use Rattle.qc_dist.specs.Node.{Node}
 use Rattle.qc_model.specs.declared.decision.Decision.{Decision}
 use Rattle.qc_model.specs.Instance.{InstanceView}
-use Rattle.qc_starts.specs.Seen.{StartsNode}
 use Rattle.qc_search.specs.Progress.{WritesNodes}
 use Rattle.qc_search.specs.Walk.{IsChild, WereMade, from_child}
 use Rattle.qc_search.proofs.DescentLemmas.{next_child_is, next_count, next_due}
@@ -47,12 +47,12 @@ loop-next-preserved-in-Some g c =
     let now = ap (λ (o : Option Decision). length (from_child inst ds o)) c.in-Some.is in
     record {
       same = same;
-      made = subst (λ (s : StartsNode). WereMade inst s.decisions) stays c.loop-next.invariant.made;
-      child = subst (λ (s : StartsNode). IfSome next (IsChild inst s.decisions)) stays (next_child_is inst ds d next is child);
-      fewer = subst (λ (s : StartsNode). length (from_child inst s.decisions next)
+      made = subst (λ (s : Node). WereMade inst s.decisions) stays c.loop-next.invariant.made;
+      child = subst (λ (s : Node). IfSome next (IsChild inst s.decisions)) stays (next_child_is inst ds d next is child);
+      fewer = subst (λ (s : Node). length (from_child inst s.decisions next)
           ≤ length (from_child inst c.args.node.now.decisions c.args.child)) stays
           (omega (arith, count, now, c.loop-next.invariant.fewer));
-      goes = λ way. subst (λ (s : StartsNode). WritesNodes [] (g.K.Sink.view c.args.sink.now)
+      goes = λ way. subst (λ (s : Node). WritesNodes [] (g.K.Sink.view c.args.sink.now)
           (g.K.Sink.view c.put_reach.new.sink) inst way (from_child inst c.args.node.now.decisions c.args.child)
           (from_child inst s.decisions next) c.args.progress.now c.args.progress.now (Ok tt)) stays
           (subst (λ (l : List (List Decision)). WritesNodes [] (g.K.Sink.view c.args.sink.now)

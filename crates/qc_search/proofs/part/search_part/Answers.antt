@@ -1,9 +1,9 @@
 use Rattle.std.proofs.Common.{List, [], ◌∷◌, Ok, length, refl, ap, sym, subst, ◌∙◌}
 use Rattle.qc_close.specs.Crews.{IsCrewOf}
+use Rattle.qc_dist.specs.Node.{Node}
 use Rattle.qc_model.specs.declared.decision.Decision.{Decision}
 use Rattle.qc_model.specs.Instance.{InstanceView}
 use Rattle.qc_model.specs.Nodes.{IsInReach}
-use Rattle.qc_starts.specs.Seen.{StartsNode}
 use Rattle.qc_search.specs.Progress.{WritesNodes}
 use Rattle.qc_search.specs.Walk.{WereMade, from_node}
 use Rattle.qc_search.proofs.DescentLemmas.{made_in_reach}
@@ -27,16 +27,16 @@ loop-child-init g c =
 
 pub visit-requires-clause-crew : goal.visit-requires-clause-crew
 visit-requires-clause-crew g c =
-    subst (λ (n : StartsNode). IsCrewOf c.crew.result.now n.inst n.decisions) (sym c.starts.ensures.same) c.crew.ensures
+    subst (λ (n : Node). IsCrewOf c.crew.result.now n.inst n.decisions) (sym c.starts.ensures.same) c.crew.ensures
 
 pub visit-requires-clause-count : goal.visit-requires-clause-count
 visit-requires-clause-count g c =
     c.loop-child.invariant.count
-    ∙ sym (ap (λ (i : InstanceView). length i.tasks) (ap (λ (n : StartsNode). n.inst) c.starts.ensures.same ∙ c.loop-child.invariant.same))
+    ∙ sym (ap (λ (i : InstanceView). length i.tasks) (ap (λ (n : Node). n.inst) c.starts.ensures.same ∙ c.loop-child.invariant.same))
 
 pub visit-requires-clause-in_reach : goal.visit-requires-clause-in_reach
 visit-requires-clause-in_reach g c =
-    subst (λ (n : StartsNode). IsInReach n.inst n.decisions) (sym c.starts.ensures.same)
+    subst (λ (n : Node). IsInReach n.inst n.decisions) (sym c.starts.ensures.same)
     (subst (λ (i : InstanceView). IsInReach i c.loop-child.node.decisions) (sym c.loop-child.invariant.same)
     (made_in_reach c.args.node.now.inst c.loop-child.node.decisions c.loop-child.invariant.made))
 

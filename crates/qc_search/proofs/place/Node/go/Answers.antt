@@ -17,7 +17,7 @@ invariant_of-self c =
     let ds = c.self.inside.starts.decisions in
     let d = Assign c.in-Assign.task c.in-Assign.crane in
     let is_open = opened c.self.inside c.args.self.now c.args.decision d c.self.view_is c.requires.open c.in-Assign.is in
-    placed inst (d ∷ ds) c.go.new.starts c.put.new.self c.self.invariant.valid c.go.ensures.inst
+    placed inst (d ∷ ds) c.go.new.self c.put.new.self c.self.invariant.valid c.go.ensures.inst
     (c.go.ensures.decisions ∙ ap (λ (e : Decision). e ∷ ds) c.in-Assign.is)
     (fits_more inst ds d c.self.invariant.fits is_open)
     (crew_put inst ds c.self.inside.crew c.put.new.self c.in-Assign.task c.in-Assign.crane c.self.invariant.crew is_open.0
@@ -29,7 +29,7 @@ invariant_of-self-in_default c =
     let ds = c.self.inside.starts.decisions in
     let d = Order c.in_default.field-0 c.in_default.field-1 in
     let is_open = opened c.self.inside c.args.self.now c.args.decision d c.self.view_is c.requires.open c.in_default.is in
-    placed inst (d ∷ ds) c.go.new.starts c.self.inside.crew c.self.invariant.valid c.go.ensures.inst
+    placed inst (d ∷ ds) c.go.new.self c.self.inside.crew c.self.invariant.valid c.go.ensures.inst
     (c.go.ensures.decisions ∙ ap (λ (e : Decision). e ∷ ds) c.in_default.is)
     (fits_more inst ds d c.self.invariant.fits is_open)
     (crew_ordered inst ds c.self.inside.crew c.in_default.field-0 c.in_default.field-1 c.self.invariant.crew)

@@ -18,10 +18,10 @@ older ds new o d e mark is was count back same =
 pub take-requires-clause-some : goal.take-requires-clause-some
 take-requires-clause-some c =
     let inst = c.self.inside.starts.inst in
-    let new = c.go_back.new.starts.decisions in
+    let new = c.retract.new.self.decisions in
     let d = Assign c.in-Assign.task c.in-Assign.field-1 in
     let is = older c.self.inside.starts.decisions new c.newest.result c.in_ok-newest.newest d c.mark-mark.result
-    c.newest.ensures c.in_ok-newest.was c.mark-mark.ensures c.go_back.ensures.decisions c.in-Assign.is in
+    c.newest.ensures c.in_ok-newest.was c.mark-mark.ensures c.retract.ensures.decisions c.in-Assign.is in
     let fits = subst (λ (ds : List Decision). Fits inst ds) is c.self.invariant.fits in
     crew_some inst new c.self.inside.crew c.in-Assign.task c.in-Assign.field-1
     (subst (λ (ds : List Decision). IsCrewOf c.self.inside.crew inst ds) is c.self.invariant.crew) fits.0
@@ -29,12 +29,12 @@ take-requires-clause-some c =
 pub invariant_of-self : goal.invariant_of-self
 invariant_of-self c =
     let inst = c.self.inside.starts.inst in
-    let new = c.go_back.new.starts.decisions in
+    let new = c.retract.new.self.decisions in
     let d = Assign c.in-Assign.task c.in-Assign.field-1 in
     let is = older c.self.inside.starts.decisions new c.newest.result c.in_ok-newest.newest d c.mark-mark.result
-    c.newest.ensures c.in_ok-newest.was c.mark-mark.ensures c.go_back.ensures.decisions c.in-Assign.is in
+    c.newest.ensures c.in_ok-newest.was c.mark-mark.ensures c.retract.ensures.decisions c.in-Assign.is in
     let fits = subst (λ (ds : List Decision). Fits inst ds) is c.self.invariant.fits in
     let crew = subst (λ (ds : List Decision). IsCrewOf c.self.inside.crew inst ds) is c.self.invariant.crew in
-    placed inst new c.go_back.new.starts c.take.new.self c.self.invariant.valid c.go_back.ensures.inst refl fits.3
+    placed inst new c.retract.new.self c.take.new.self c.self.invariant.valid c.retract.ensures.inst refl fits.3
     (crew_taken inst new c.self.inside.crew c.take.new.self c.in-Assign.task c.in-Assign.field-1 crew fits.0 fits.2
     c.take.ensures)
