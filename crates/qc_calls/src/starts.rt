@@ -11,11 +11,9 @@ use anyhow::Result;
 use qc_bounds::{LeafKind, close, spent, work_bound};
 use qc_dist::in_reach;
 use qc_model::{Instance, Turn};
-use qc_num::{Bound, Path, Steps, Tick};
+use qc_num::{Bound, Path, Tick};
 use qc_starts::{Starts, Step};
 use std::alloc::{AllocError, Global};
-use std::marker::Brand;
-use std::sync::ledger::{Blank, Ledger};
 
 /// Calls on the least starts of nodes, one after the other, each with its answer.
 #[derive(Clone, Copy)]
@@ -82,39 +80,29 @@ fn step_text(step: Step) -> &'static str {
     }
 }
 
-fn assign<L: Ledger>(
-    starts: &mut Starts,
-    task: u16,
-    crane: u16,
-    steps: &mut Steps<L>,
-) -> &'static str {
+fn assign(starts: &mut Starts, task: u16, crane: u16) -> &'static str {
     if starts.stuck() || !is_task(starts, task) || !is_crane(starts, crane) {
         return "none";
     }
     if starts.crane_of(task).is_some() || !in_reach(starts.instance(), task, crane) {
         return "none";
     }
-    step_text(starts.assign(task, crane, steps))
+    step_text(starts.assign(task, crane))
 }
 
-fn order<L: Ledger>(
-    starts: &mut Starts,
-    first: u16,
-    second: u16,
-    steps: &mut Steps<L>,
-) -> &'static str {
+fn order(starts: &mut Starts, first: u16, second: u16) -> &'static str {
     if starts.stuck() || !is_task(starts, first) || !is_task(starts, second) {
         return "none";
     }
     if !starts.conflict(first, second) || starts.settled(first, second) {
         return "none";
     }
-    step_text(starts.order(first, second, steps))
+    step_text(starts.order(first, second))
 }
 
-fn retract<L: Ledger>(starts: &mut Starts, mark: u32, steps: &mut Steps<L>) -> u32 {
+fn retract(starts: &mut Starts, mark: u32) -> u32 {
     if mark <= starts.mark() {
-        starts.retract(mark, steps);
+        starts.retract(mark);
     }
     starts.mark()
 }
@@ -250,40 +238,22 @@ fn answer(alloc: Global, starts: &Starts, call: Call) -> Result<String> {
 }
 
 /// Makes a call: its answer.
-fn make<L: Ledger>(
-    alloc: Global,
-    starts: &mut Starts,
-    call: Call,
-    steps: &mut Steps<L>,
-) -> Result<String> {
+fn make(alloc: Global, starts: &mut Starts, call: Call) -> Result<String> {
     match call {
-        Call::Assign(task, crane) => plain(alloc, assign(starts, task, crane, steps)),
-        Call::Order(first, second) => plain(alloc, order(starts, first, second, steps)),
-        Call::Retract(mark) => { number(alloc, Some(u64::from(retract(starts, mark, steps)))) }
+        Call::Assign(task, crane) => plain(alloc, assign(starts, task, crane)),
+        Call::Order(first, second) => plain(alloc, order(starts, first, second)),
+        Call::Retract(mark) => { number(alloc, Some(u64::from(retract(starts, mark)))) }
         _ => answer(alloc, starts, call),
     }
-}
-
-fn run_on<L: Ledger>(alloc: Global, inst: &Instance, row: &Row, blank: Blank) -> Result<()>
-    requires name { blank.name ≡ L.name }
-    requires parts { blank.parts ≡ L.parts }
-    requires some { 0 < L.parts }
-{
-    let mut steps = Steps::<L>::new(blank);
-    let mut starts = Starts::open(alloc, inst)?;
-    for (number, (call, wanted)) in row.calls.iter().enumerate() {
-        let came = make(alloc, &mut starts, *call, &mut steps)?;
-        compare(number, came.as_str(), wanted)?;
-    }
-    Ok(())
-}
-
-fn run_counted(alloc: Global, inst: &Instance, row: &Row) -> Result<()> {
-    run_on::<Brand>(alloc, inst, row, Blank::new(1))
 }
 
 /// Makes the calls of a row; an error where one answers otherwise.
 pub fn run(alloc: Global, row: &Row) -> Result<()> {
     let inst = instance_in(alloc, row.ship, row.list)?.with_turn(row.turn);
-    run_counted(alloc, &inst, row)
+    let mut starts = Starts::open(alloc, &inst)?;
+    for (number, (call, wanted)) in row.calls.iter().enumerate() {
+        let came = make(alloc, &mut starts, *call)?;
+        compare(number, came.as_str(), wanted)?;
+    }
+    Ok(())
 }
