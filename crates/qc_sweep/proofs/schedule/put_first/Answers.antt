@@ -1,4 +1,4 @@
-use Rattle.std.proofs.Common.{List, ◌⊎◌, inl, refl, ap, subst₂, sym, ◌∙◌}
+use Rattle.std.proofs.Common.{List, inl, refl, ap, subst₂, sym, ◌∙◌}
 use Rattle.std.proofs.Math.Logic.{⊎_swap}
 use Rattle.qc_dist.specs.Node.{IsOpen}
 use Rattle.qc_model.specs.declared.decision.Decision.{Decision}
