@@ -2,7 +2,7 @@
 use Rattle.std.proofs.Common.{◌≡◌, ℕ, ◌<◌, ◌≤◌, true, false, List, Some, None, inl, inr, refl, sym, subst, ◌∙◌, arith, ◌&&◌, nat_le}
 use Rattle.std.proofs.lemmas.Bool.{and_from, cases_lt, cond-true, false≢true, le-leb}
 use Rattle.qc_num.specs.Bounds.{IsAtMost}
-use Rattle.qc_num.specs.declared.bound.Bound.TheVariants.{Least, Never}
+use Rattle.qc_num.specs.declared.bound.Bound.TheVariants.{Least}
 use Rattle.qc_close.specs.Crews.{CrewView, IsCrewOf}
 use Rattle.qc_close.specs.Lasts.{IsLatest}
 use Rattle.qc_close.proofs.KeptLemmas.{closed_falls}
@@ -33,10 +33,6 @@ module _ (crew : CrewView) (inst : InstanceView) (ds : List Decision) (of : IsCr
           | inr before ↦ before
         ];
       }
-
-  -- no end is late for Never
-  pub never_late : IsWorkLate inst ds Never → ⊥
-  never_late late = late.late
 
   -- an end that no closed one comes up to
   pub work_early : (end : ℕ) → Valid crew.inst → AreInRange crew.inst crew.cranes → 0 < end
