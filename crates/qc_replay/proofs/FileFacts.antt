@@ -12,7 +12,7 @@ use Rattle.qc_tree.specs.declared.line.Line.{Line}
 use Rattle.qc_lines.specs.Left.{IsCut, IsTooLong, NoFeed, Takes}
 use Rattle.qc_tree.specs.LineIn.{Listed, line_in}
 use Rattle.qc_replay.specs.declared.fault.ReplayError.{ReplayError}
-use Rattle.qc_replay.specs.declared.fault.ReplayError.TheVariants.{ReadFault, Tree}
+use Rattle.qc_replay.specs.declared.fault.ReplayError.TheVariants.{Tree}
 use Rattle.qc_tree.specs.declared.fault.TreeFault.{TreeFault}
 use Rattle.qc_tree.specs.declared.fault.TreeKind.{TreeKind}
 use Rattle.qc_tree.specs.declared.fault.TreeKind.TheVariants as kind

@@ -8,15 +8,13 @@ use Rattle.qc_tree.specs.declared.line.Line.{Line}
 use Rattle.qc_tree.specs.LineIn.{Listed}
 use Rattle.qc_tree.specs.declared.fault.TreeKind.{TreeKind}
 use Rattle.qc_tree.specs.declared.fault.TreeKind.TheVariants as kind
-use Rattle.qc_replay.specs.declared.node.Tally.{Tally}
 use Rattle.qc_replay.specs.declared.walk.Stage.{Stage}
 use Rattle.qc_replay.specs.declared.walk.Stage.TheVariants.{Title, Up, Part, Done}
 use Rattle.qc_replay.specs.declared.walk.Walk.TheInside.{Inside}
-use Rattle.qc_replay.specs.Part.{IsJudged, Standing, nodes}
+use Rattle.qc_replay.specs.Part.{Standing, nodes}
 use Rattle.qc_replay.specs.Read.{with_known, with_line}
 use Rattle.qc_replay.specs.Stages.{IsKeptWalk, WalkView, behind_part, behind_title, leading, reading_at, walk_of, word_of}
-use Rattle.qc_replay.specs.Walk.{Reading, at_due, at_node, came, end, is_known, next_of, node, title}
-use Rattle.qc_replay.proofs.NodeFacts.{nodes_here}
+use Rattle.qc_replay.specs.Walk.{Reading, at_due, came, end, is_known, next_of, node, title}
 
 -- a fault that is handed on
 pub handed_on : {A B : Type 0} (f : A → Reading) (g : B → Reading) (result : Result A TreeKind) (out : Result B TreeKind)
@@ -100,16 +98,3 @@ module _ (w : Inside) (old : WalkView) (is : walk_of w ≡ old) (kept : IsKeptWa
   end_taken stage over which result judged second =
       behind_last stage over None which
       ∙ judged w.inst (record (here Part) { coming = end ∷ [] }) list refl refl
-
-  -- a node of a part
-  pub node_taken : w.stage ≡ Part → w.part.live ≡ true → (after : Standing) (result : Result Tally TreeKind)
-      → IsJudged w.part w.tally line list after result
-      → Takes (leading (λ tally. reading_at w.stage w.way after w.second tally) result)
-  node_taken stage live after result judged =
-      let past = behind_part w.second in
-      begins Part stage
-      ∙ ap (λ ns. next_of (map (node w.way) ns ++ past) >>= λ c. at_due w.inst (here Part) c line list)
-      (nodes_here w.part after live w.tally)
-      ∙ ap (λ i. at_node i w.way w.part.decisions (here Part) line list) (sym kept.part)
-      ∙ judged w.way past
-      ∙ ap (λ s. leading (λ tally. reading_at s w.way after w.second tally) result) (sym stage)
