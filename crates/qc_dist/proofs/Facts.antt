@@ -1,8 +1,8 @@
 -- What decisions that fit an instance keep.
-use Rattle.std.proofs.Common.{◌≡◌, ◌↔◌, ◌∙◌, IsTrue, sym, subst₂, ℕ, ◌<◌, ◌⊎◌, inl, inr, Bool, true, false, cond, nat_eq, Option, Some, List, [], ◌∷◌, length, arith, IfSome}
+use Rattle.std.proofs.Common.{◌≡◌, ◌↔◌, ◌∙◌, IsTrue, sym, subst₂, ℕ, ◌<◌, ◌⊎◌, Bool, true, false, cond, nat_eq, Option, Some, List, [], ◌∷◌, length, IfSome}
 use Rattle.qc_model.specs.declared.decision.Decision.{Decision}
 use Rattle.qc_model.specs.declared.decision.Decision.TheVariants.{Assign, Order}
-use Rattle.qc_model.specs.Instance.{InstanceView, IsApart, Valid}
+use Rattle.qc_model.specs.Instance.{InstanceView}
 use Rattle.qc_model.specs.declared.turn.Turn.TheVariants.{Free}
 use Rattle.qc_model.specs.Nodes.{Clash, Fits, assigned}
 use Rattle.qc_model.specs.Ticks.{task_distance}
@@ -19,12 +19,6 @@ assigned_range inst [] f j = tt
 assigned_range inst (Assign i k ∷ ds) f j =
     either_below (nat_eq i j) k (length inst.cranes) (assigned ds j) f.1 (assigned_range inst ds f.3 j)
 assigned_range inst (Order h k ∷ ds) f j = assigned_range inst ds f.3 j
-
--- apart tasks are tasks of the instance
-pub apart_inside : (inst : InstanceView) → Valid inst → (i j : ℕ) → IsApart inst i j ⊎ IsApart inst j i
-    → (i < length inst.tasks) × (j < length inst.tasks)
-apart_inside inst v i j (inl at) = let r = v.apart.range i j at in (omega (arith, r.0, r.1), r.1)
-apart_inside inst v i j (inr at) = let r = v.apart.range j i at in (r.1, omega (arith, r.0, r.1))
 
 -- tasks on these two cranes clash where the cranes are near
 pub clash_is : (inst : InstanceView) (ds : List Decision) (i j v w : ℕ) → inst.turn ≡ Free → i < length inst.tasks
