@@ -1,5 +1,5 @@
-//! The numbers and bytes that every other crate shares: ticks, bays, bounds, counted steps, short
-//! texts without memory, plain decimal, readings and their errors.
+//! The numbers and bytes that every other crate shares: ticks, bays, bounds, short texts without
+//! memory, plain decimal, readings and their errors.
 //!
 //! A text is the number that it is in plain decimal, if it is one (`plain_number`). A short text is
 //! what was pushed onto it, never longer than its room (`Text`). Bytes are the list that they were
@@ -12,7 +12,6 @@ mod digits;
 mod memory;
 mod path;
 mod read_error;
-mod steps;
 mod text;
 
 pub use bound::Bound;
@@ -21,7 +20,6 @@ pub use digits::{are_digits, plain_number, value_of_digits};
 pub use memory::OutOfMemory;
 pub use path::Path;
 pub use read_error::ReadError;
-pub use steps::Steps;
 pub use text::Text;
 
 /// A time or a length of time. The tick is the unit of time.
