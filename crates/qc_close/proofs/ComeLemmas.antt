@@ -1,5 +1,5 @@
 -- Counting bays where no crane must go on to them, and where all have too little time.
-use Rattle.std.proofs.Common.{◌≡◌, ℕ, suc, ◌+◌, ◌-◌, ◌*◌, ◌<◌, ◌≤◌, true, false, List, [], ◌∷◌, length, get_or, map, reverse, leb, Option, None, Some, MatchOption, refl, ap, sym, subst, ◌∙◌, arith, sum, sum_by}
+use Rattle.std.proofs.Common.{[], ◌≡◌, ℕ, suc, ◌+◌, ◌-◌, ◌*◌, ◌<◌, ◌≤◌, true, false, List, ◌∷◌, length, get_or, map, reverse, leb, Option, None, Some, MatchOption, refl, ap, sym, subst, ◌∙◌, arith, sum, sum_by}
 use Rattle.std.proofs.Math.Nat.{mul-zero}
 use Rattle.std.proofs.lemmas.Bool.{and_from, false_from_ne_true, le-leb, leb-true}
 use Rattle.std.proofs.lemmas.List.{get_or-reverse, length-map, length-reverse, reverse-append}

@@ -1,5 +1,5 @@
 -- The work that is left at each bay as tasks get and lose their cranes, and that what code tries is what is to be tried.
-use Rattle.std.proofs.Common.{◌≡◌, ◌≢◌, ℕ, zero, suc, ◌+◌, ◌-◌, ◌*◌, ◌<◌, ◌≤◌, inl, inr, Bool, true, false, ◌&&◌, eqb, leb, nat_lt, cond, List, [], ◌∷◌, length, get_or, set, map, replicate, filter, is_none, Option, None, Some, ℤ, pos, negsuc, ◌≤ℤ◌, of_z, to_z, w32, take, refl, ap, sym, subst, ◌∙◌, arith, sum_by}
+use Rattle.std.proofs.Common.{[], ◌≡◌, ◌≢◌, ℕ, zero, suc, ◌+◌, ◌-◌, ◌*◌, ◌<◌, ◌≤◌, inl, inr, Bool, true, false, ◌&&◌, eqb, leb, nat_lt, cond, List, ◌∷◌, length, get_or, set, map, replicate, filter, is_none, Option, None, Some, ℤ, pos, negsuc, ◌≤ℤ◌, of_z, to_z, w32, take, refl, ap, sym, subst, ◌∙◌, arith, sum_by}
 use Rattle.std.proofs.Math.Path.{fun_ext}
 use Rattle.std.proofs.Math.IntN.{nat_abs}
 use Rattle.std.proofs.lemmas.Int.{ints}

@@ -1,5 +1,5 @@
 -- What is left at all bays is what the tasks that no crane has come to.
-use Rattle.std.proofs.Common.{◌≡◌, ℕ, zero, suc, ◌+◌, ◌-◌, ◌<◌, ◌≤◌, inl, inr, Bool, true, false, ◌&&◌, eqb, nat_lt, cond, List, [], ◌∷◌, length, get_or, is_none, Option, None, Some, ℤ, pos, ◌≤ℤ◌, refl, ap, sym, subst, ◌∙◌, arith, sum_by}
+use Rattle.std.proofs.Common.{[], ◌≡◌, ℕ, zero, suc, ◌+◌, ◌-◌, ◌<◌, ◌≤◌, inl, inr, Bool, true, false, ◌&&◌, eqb, nat_lt, cond, List, ◌∷◌, length, get_or, is_none, Option, None, Some, ℤ, pos, ◌≤ℤ◌, refl, ap, sym, subst, ◌∙◌, arith, sum_by}
 use Rattle.std.proofs.Math.Nat.{mul-zero}
 use Rattle.std.proofs.lemmas.Bool.{and_parts, cases_Bool, cond-true, eq-eqb, eqb-true, lt-ltb, ltb-true, ne_eqb}
 use Rattle.std.proofs.lemmas.Int.{ints}
@@ -18,10 +18,9 @@ use Rattle.qc_close.specs.Owns.{own_of}
 use Rattle.qc_close.specs.Rests.{IsRest, IsRestOf, as_own}
 use Rattle.qc_close.specs.declared.frames.Own.{Own}
 use Rattle.qc_close.specs.declared.rest.Rest.{Rest}
-use Rattle.qc_close.proofs.BarredLemmas.{highest_at, lowest_at}
-use Rattle.qc_close.proofs.CountLemmas.{member_le, sum_filter}
+use Rattle.qc_close.proofs.Extremes.{highest_at, lowest_at, highest_to, lowest_from}
+use Rattle.qc_close.proofs.CountLemmas.{member_le, sum_filter, some_term}
 use Rattle.qc_close.proofs.CrewLemmas.{at, sum_changed, sum_few, term, work_is}
-use Rattle.qc_close.proofs.FrameLemmas.{highest_to, lowest_from, some_term}
 use Rattle.qc_close.proofs.Members.{Among, among_filter, among_range, filter_among, range_among}
 
 sum_same : (f g : ℕ → ℕ) (xs : List ℕ) → ((x : ℕ) → f x ≡ g x) → sum_by f xs ≡ sum_by g xs

@@ -1,19 +1,11 @@
-mod Members
-mod Rows
-pub mod PackLemmas
+pub mod Members
+pub mod OrderLemmas
+pub mod Extremes
 mod BandLemmas
 pub mod SpanLemmas
-mod LoopLemmas
-mod FrameLemmas
-mod BarredLemmas
-mod Paths
-mod Trips
-mod Tracks
-mod WayLemmas
-mod CountLemmas
-mod GrainLemmas
-pub mod ClosedLemmas
-pub mod NodeLemmas
+pub mod LoopLemmas
+pub mod CountLemmas
+pub mod GrainLemmas
 pub mod DecidedCranes
 pub mod PackBounds
 mod SumLemmas
@@ -33,5 +25,5 @@ mod TripLemmas
 mod StretchLemmas
 mod PlaceLemmas
 pub mod KeptLemmas
-mod LongestLemmas
+pub mod LongestLemmas
 pub mod LimitLemmas

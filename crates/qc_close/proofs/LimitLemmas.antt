@@ -1,5 +1,5 @@
 -- No assignment is closed at a late end: by then one crane alone has the time for all that is left.
-use Rattle.std.proofs.Common.{◌≡◌, ℕ, suc, ◌+◌, ◌-◌, ◌*◌, ◌/◌, ◌%◌, ◌<◌, ◌≤◌, inl, inr, Bool, true, false, not, ◌&&◌, ◌||◌, eqb, leb, nat_lt, cond, ℤ, List, [], ◌∷◌, length, get_or, filter, map, reverse, Option, is_none, is_some, sum, sum_by, refl, ap, sym, subst, ◌∙◌, arith}
+use Rattle.std.proofs.Common.{[], ◌≡◌, ℕ, suc, ◌+◌, ◌-◌, ◌*◌, ◌/◌, ◌%◌, ◌<◌, ◌≤◌, inl, inr, Bool, true, false, not, ◌&&◌, ◌||◌, eqb, leb, nat_lt, cond, ℤ, List, ◌∷◌, length, get_or, filter, map, reverse, Option, is_none, is_some, sum, sum_by, refl, ap, sym, subst, ◌∙◌, arith}
 use mathlib.Core.List.{reverse-cons}
 use Rattle.std.proofs.Math.Nat.{mul-add, mul-le-mul_left, mul-zero, mul_comm}
 use Rattle.std.proofs.lemmas.Bool.{and_from, and_parts, cases_Bool, cases_lt, cond_both, eqb-true, false_from_ne_true, le-leb, leb-true, ltb-true, or_from, true≢false}
@@ -32,12 +32,12 @@ use Rattle.qc_close.specs.Trips.{IsShortWay}
 use Rattle.qc_close.proofs.LongestLemmas.{longest_short}
 use Rattle.qc_close.proofs.TripLemmas.{rail_wide}
 use Rattle.qc_close.specs.Lasts.{IsLatest}
-use Rattle.qc_close.proofs.ClosedLemmas.{InOrder, among_lists, beyond_after, beyond_at, falling, from_reverse, rising, to_rises}
+use Rattle.qc_close.proofs.OrderLemmas.{InOrder, among_lists, beyond_after, beyond_at, falling, from_reverse, rising, to_rises}
 use Rattle.qc_close.proofs.CountLemmas.{most_cons, sum_filter, sum_le, sums_within}
 use Rattle.qc_close.proofs.CrewLemmas.{at, sum_few, term, work_is}
 use Rattle.qc_close.proofs.GrainLemmas.{grain_is}
 use Rattle.qc_close.proofs.KeptLemmas.{closed_falls}
-use Rattle.qc_close.proofs.BarredLemmas.{among_done, greatest_among}
+use Rattle.qc_close.proofs.Extremes.{among_done, greatest_among}
 use Rattle.qc_close.proofs.Members.{Among, among_filter, any_at, any_from, filter_among, map_among, range_among}
 use Rattle.qc_close.proofs.OwnLemmas.{rail_high, rail_max, rail_min}
 use Rattle.qc_close.proofs.SumLemmas.{most_all}

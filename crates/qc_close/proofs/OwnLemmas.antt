@@ -1,5 +1,5 @@
 -- What each crane has spent.
-use Rattle.std.proofs.Common.{◌≡◌, ℕ, ◌+◌, ◌*◌, ◌<◌, ◌≤◌, inl, inr, Bool, false, eqb, cond, List, [], ◌∷◌, length, get_or, set, map, take, filter, Option, None, Some, IfSome, ℤ, of_z, to_z, w32, refl, ap, sym, subst, ◌∙◌, arith, add-one}
+use Rattle.std.proofs.Common.{[], ◌≡◌, ℕ, ◌+◌, ◌*◌, ◌<◌, ◌≤◌, inl, inr, Bool, false, eqb, cond, List, ◌∷◌, length, get_or, set, map, take, filter, Option, None, Some, IfSome, ℤ, of_z, to_z, w32, refl, ap, sym, subst, ◌∙◌, arith, add-one}
 use Rattle.std.proofs.Math.Nat.{mul-le-mul_left}
 use Rattle.std.proofs.lemmas.Bool.{cases_lt}
 use Rattle.std.proofs.lemmas.Int.{int_max_is, int_min_is, ints}

@@ -1,6 +1,6 @@
 -- What is counted from both ends says whether some numbers of cranes serve; and what can't be done by a tick can't be
 -- done by an earlier one.
-use Rattle.std.proofs.Common.{◌≡◌, ℕ, ◌+◌, ◌-◌, ◌*◌, ◌/◌, ◌<◌, ◌≤◌, inl, inr, true, false, not, ◌&&◌, List, [], ◌∷◌, length, map, reverse, get_or, nat_lt, leb, Option, None, Some, refl, ap, sym, subst, ◌∙◌, arith, sum, sum_by}
+use Rattle.std.proofs.Common.{[], ◌≡◌, ℕ, ◌+◌, ◌-◌, ◌*◌, ◌/◌, ◌<◌, ◌≤◌, inl, inr, true, false, not, ◌&&◌, List, ◌∷◌, length, map, reverse, get_or, nat_lt, leb, Option, None, Some, refl, ap, sym, subst, ◌∙◌, arith, sum, sum_by}
 use Rattle.std.proofs.Math.Nat.{dvd-mul_left, mul-le-mul_left, mul-zero, mul_comm}
 use Rattle.std.proofs.lemmas.Bool.{and_from, and_parts, cases_Bool, leb-true, le-leb, lt-ltb, ltb-true, not-true, not_from_false, or_cases, or_left, or_right, false≢true, false_from_ne_true}
 use Rattle.std.proofs.lemmas.List.{length-reverse}

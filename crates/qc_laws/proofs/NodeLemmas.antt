@@ -21,8 +21,8 @@ use Rattle.qc_model.proofs.TurnLemmas.{by_feasible}
 use Rattle.qc_model.specs.Assignments.{Follows, cranes_of}
 use Rattle.qc_model.specs.Closed.{is_closed}
 use Rattle.qc_model.specs.Packs.{is_packed, pack}
-use Rattle.qc_close.proofs.ClosedLemmas.{closed_end_le}
-use Rattle.qc_close.proofs.PackLemmas.{pack_end_le}
+use Rattle.qc_laws.proofs.ClosedLemmas.{closed_end_le}
+use Rattle.qc_laws.proofs.PackLemmas.{pack_end_le}
 use Rattle.qc_close.proofs.SpanLemmas.{packed_range}
 
 -- a schedule that agrees with decisions follows what they say of cranes

@@ -1,6 +1,6 @@
 -- Where a crane stands at each tick of a feasible schedule, and that its work, its wait and its way take no longer together
 -- than the schedule.
-use Rattle.std.proofs.Common.{◌≡◌, ◌≢◌, ℕ, ◌+◌, ◌-◌, ◌*◌, ◌<◌, ◌≤◌, inl, inr, Bool, eqb, List, [], ◌∷◌, length, Option, ℤ, pos, ◌+ℤ◌, refl, sym, subst, ◌∙◌, arith, filter, sum_by}
+use Rattle.std.proofs.Common.{[], ◌≡◌, ◌≢◌, ℕ, ◌+◌, ◌-◌, ◌*◌, ◌<◌, ◌≤◌, inl, inr, Bool, eqb, List, ◌∷◌, length, Option, ℤ, pos, ◌+ℤ◌, refl, sym, subst, ◌∙◌, arith, filter, sum_by}
 use Rattle.std.proofs.lemmas.Bool.{cases_lt, eqb-true}
 use Rattle.std.proofs.lemmas.Int.{ints}
 use Rattle.std.proofs.lemmas.List.Sums.{sum_by-cons}
@@ -16,10 +16,10 @@ use Rattle.qc_model.proofs.Scaled.{scaled_sum}
 use Rattle.qc_freemove.specs.FreeMotion.{IsFreePlace, IsFreeSafeBy}
 use Rattle.qc_freemove.proofs.FreeSafe.{free_place_exists, free_safe}
 use Rattle.qc_close.proofs.Members.{Among, filter_among, range_among}
-use Rattle.qc_close.proofs.PackLemmas.{ends_in}
-use Rattle.qc_close.proofs.Rows.{AllClear, AreClear, Row, clear_from, row_of}
-use Rattle.qc_close.proofs.Paths.{goes_nowhere, goes_slowly, moved}
-use Rattle.qc_close.proofs.Trips.{Allows}
+use Rattle.qc_laws.proofs.PackLemmas.{ends_in}
+use Rattle.qc_laws.proofs.Rows.{AllClear, AreClear, Row, clear_from, row_of}
+use Rattle.qc_laws.proofs.Paths.{goes_nowhere, goes_slowly, moved}
+use Rattle.qc_laws.proofs.Trips.{Allows}
 
 module _ (inst : InstanceView) (sched : List Slot) (valid : Valid inst) (f : Feasible inst sched) where
   abbrev count : ℕ

@@ -1,6 +1,6 @@
 -- Tasks of which each two are clear of each other stand in a row, and take as long together as all of them and the way
 -- through their places.
-use Rattle.std.proofs.Common.{◌≡◌, ℕ, zero, suc, ◌+◌, ◌*◌, ◌<◌, ◌≤◌, min, ◌⊎◌, inl, inr, Bool, true, List, [], ◌∷◌, filter, ℤ, refl, ap, sym, ◌∙◌, arith, mul-add, sum_by}
+use Rattle.std.proofs.Common.{[], ◌≡◌, ℕ, zero, suc, ◌+◌, ◌*◌, ◌<◌, ◌≤◌, min, ◌⊎◌, inl, inr, Bool, true, List, ◌∷◌, filter, ℤ, refl, ap, sym, ◌∙◌, arith, mul-add, sum_by}
 use Rattle.std.proofs.lemmas.Bool.{cond_both}
 use Rattle.std.specs.List.{range_with_len}
 use Rattle.std.proofs.lemmas.List.Sums.{sum_by-cons}

@@ -1,10 +1,9 @@
 -- A crane has had the time, when a schedule ends, for what it has spent on its own tasks, for the others that it does,
 -- and for the way that it goes beyond its own for these.
-use Rattle.std.proofs.Common.{◌≡◌, ◌≢◌, ℕ, ◌+◌, ◌*◌, ◌<◌, ◌≤◌, ◌⊎◌, inl, inr, Bool, true, false, ◌&&◌, eqb, cond, List, [], ◌∷◌, length, Option, None, Some, ℤ, pos, ◌≤ℤ◌, refl, ap, sym, subst, ◌∙◌, arith, filter, is_none, sum_by}
+use Rattle.std.proofs.Common.{[], ◌≡◌, ◌≢◌, ℕ, ◌+◌, ◌*◌, ◌<◌, ◌≤◌, ◌⊎◌, inl, inr, Bool, true, false, ◌&&◌, eqb, cond, List, ◌∷◌, length, Option, None, Some, ℤ, pos, ◌≤ℤ◌, refl, ap, sym, subst, ◌∙◌, arith, filter, is_none, sum_by}
 use Rattle.std.proofs.Math.Nat.{mul-add, mul-le-mul_left}
-use Rattle.std.proofs.lemmas.Bool.{and_parts, cases_Bool, cases_lt, eq-eqb, eqb-true, false≢true}
+use Rattle.std.proofs.lemmas.Bool.{and_parts, cases_Bool, eq-eqb, eqb-true, false≢true}
 use Rattle.std.proofs.lemmas.Int.{by_lt_z, int_max_is, int_min_is, ints}
-use Rattle.std.proofs.lemmas.List.Sums.{sum_by-cons}
 use Rattle.std.specs.Int.{int_max, int_min}
 use Rattle.std.specs.List.{list_any, range_with_len}
 use Rattle.std.specs.Option.{option_map_or}
@@ -24,10 +23,11 @@ use Rattle.qc_model.specs.declared.turn.Turn.TheVariants.{OneWay, Free}
 use Rattle.qc_model.specs.Assignments.{Follows, crane_in}
 use Rattle.qc_model.specs.Closed.{bays_to}
 use Rattle.qc_model.specs.Frames.{GoesBy, frame, frame_of, own, turn_bays, turn_high}
-use Rattle.qc_close.proofs.CountLemmas.{sum_filter, sums_within}
+use Rattle.qc_close.proofs.CountLemmas.{sum_filter, sums_within, some_term}
 use Rattle.qc_close.proofs.Members.{Among, among_filter, among_range, any_at, any_from, filter_among, first_of, range_among}
-use Rattle.qc_close.proofs.PackLemmas.{ends_in}
-use Rattle.qc_close.proofs.Rows.{AllClear, AreClear, Row, clear_from, row_after, row_fits, row_of, way, way_between, way_to}
+use Rattle.qc_laws.proofs.PackLemmas.{ends_in}
+use Rattle.qc_laws.proofs.Rows.{AllClear, AreClear, Row, clear_from, row_after, row_fits, row_of, way, way_between, way_to}
+use Rattle.qc_close.proofs.Extremes.{lowest_from, highest_to}
 
 pub feasible_by : (turn : Turn) (inst : InstanceView) (sched : List Slot) → GoesBy turn inst sched → Feasible inst sched
 feasible_by OneWay inst sched g = g.feasible
@@ -245,22 +245,6 @@ beyond_berth Free b low high p = omega (arith, bays)
 
 -- ---- what is left to a crane
 
-pub lowest_from : (inst : InstanceView) (x : ℤ) (j : ℕ) (js : List ℕ) → ((k : ℕ) → Among (j ∷ js) k → x ≤ℤ bay_of inst k)
-    → x ≤ℤ lowest inst j js
-lowest_from inst x j [] h = h j (inl refl)
-lowest_from inst x j (i ∷ is) h =
-    let rest = lowest_from inst x i is (λ k a. h k (inr a)) in
-    let first = h j (inl refl) in
-    omega (arith, ints, int_min_is (bay_of inst j) (lowest inst i is), rest, first)
-
-pub highest_to : (inst : InstanceView) (x : ℤ) (j : ℕ) (js : List ℕ) → ((k : ℕ) → Among (j ∷ js) k → bay_of inst k ≤ℤ x)
-    → highest inst j js ≤ℤ x
-highest_to inst x j [] h = h j (inl refl)
-highest_to inst x j (i ∷ is) h =
-    let rest = highest_to inst x i is (λ k a. h k (inr a)) in
-    let first = h j (inl refl) in
-    omega (arith, ints, int_max_is (bay_of inst j) (highest inst i is), rest, first)
-
 lowest_le : (inst : InstanceView) (j : ℕ) (js : List ℕ) → lowest inst j js ≤ℤ highest inst j js
 lowest_le inst j [] = omega (arith, ints)
 lowest_le inst j (i ∷ is) =
@@ -268,13 +252,6 @@ lowest_le inst j (i ∷ is) =
     let min_is = int_min_is (bay_of inst j) (lowest inst i is) in
     let max_is = int_max_is (bay_of inst j) (highest inst i is) in
     omega (arith, ints, rest, min_is, max_is)
-
-pub some_term : (f : ℕ → ℕ) (xs : List ℕ) → 0 < sum_by f xs → (x : ℕ) × Among xs x × (0 < f x)
-some_term f [] h = absurd (omega arith)
-some_term f (x ∷ xs) h = elim (cases_lt 0 (f x)) [
-  | inl l ↦ (x, inl refl, l)
-  | inr l ↦ let r = some_term f xs (omega (arith, sum_by-cons f x xs)) in (r.0, inr r.1, r.2)
-]
 
 module _ (inst : InstanceView) (turn : Turn) (cranes : List (Option ℕ)) (sched : List Slot) (valid : Valid inst)
     (g : GoesBy turn inst sched) (follows : Follows inst cranes sched) (w : ℕ) where

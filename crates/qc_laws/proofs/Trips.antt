@@ -1,6 +1,6 @@
 -- A crane that is where the tasks at a bay ask for, one after the other, goes at least as far as a trip that goes no
 -- further for each than it must.
-use Rattle.std.proofs.Common.{◌≡◌, ℕ, zero, suc, ◌+◌, ◌*◌, ◌<◌, ◌≤◌, inl, inr, Bool, true, List, [], ◌∷◌, Option, None, Some, ℤ, ◌≤ℤ◌, refl, ap, sym, subst, ◌∙◌, arith, filter}
+use Rattle.std.proofs.Common.{[], ◌≡◌, ℕ, zero, suc, ◌+◌, ◌*◌, ◌<◌, ◌≤◌, inl, inr, Bool, true, List, ◌∷◌, Option, None, Some, ℤ, ◌≤ℤ◌, refl, ap, sym, subst, ◌∙◌, arith, filter}
 use Rattle.std.proofs.Math.Nat.{mul-add}
 use Rattle.std.proofs.lemmas.Bool.{cases_order, cond_both, eq-eqb, le-ltb, lt-ltb, ne_eqb}
 use Rattle.std.proofs.lemmas.Int.{by_lt_z, int_max_is, int_min_is, ints}
@@ -15,7 +15,7 @@ use Rattle.qc_model.proofs.Scaled.{scaled_le}
 use Rattle.qc_close.proofs.Members.{Among}
 use Rattle.qc_model.specs.Ways.{stand, trip_along, trip_for, trip_to}
 use Rattle.qc_model.specs.declared.way.Trip.{Trip}
-use Rattle.qc_close.proofs.Paths.{cut, cut_at, cut_over, cut_under, goes, moved, scaled_between, triangle}
+use Rattle.qc_laws.proofs.Paths.{cut, cut_at, cut_over, cut_under, goes, moved, scaled_between, triangle}
 
 -- ---- where a crane stands while another works
 

@@ -1,7 +1,7 @@
 -- Where neighbours bar its way, a crane has still had the time, when a schedule ends, for what its frame says.
-use Rattle.std.proofs.Common.{◌≡◌, ℕ, ◌+◌, ◌*◌, ◌<◌, ◌≤◌, max, ◌⊎◌, inl, inr, Bool, true, false, ◌&&◌, ◌||◌, eqb, cond, List, [], ◌∷◌, length, map, Option, None, Some, is_none, is_some, ℤ, pos, ◌+ℤ◌, ◌-ℤ◌, ◌≤ℤ◌, ◌<ℤ◌, refl, ap, sym, subst, ◌∙◌, arith, filter, int_le, int_lt, pos_of_ne-zero, sum_by}
+use Rattle.std.proofs.Common.{[], ◌≡◌, ℕ, ◌+◌, ◌*◌, ◌<◌, ◌≤◌, ◌⊎◌, inl, inr, Bool, true, false, ◌&&◌, ◌||◌, eqb, cond, List, ◌∷◌, length, map, Option, None, Some, is_none, is_some, ℤ, pos, ◌+ℤ◌, ◌-ℤ◌, ◌≤ℤ◌, ◌<ℤ◌, refl, ap, sym, subst, ◌∙◌, arith, filter, int_le, int_lt, pos_of_ne-zero, sum_by}
 use Rattle.std.proofs.Math.Nat.{mul-add, mul-le-mul_left}
-use Rattle.std.proofs.lemmas.Bool.{and_from, and_parts, cases_lt, cond_both, eqb-false, eqb-true, false≢true, ne_eqb, or_cases, or_left, or_right}
+use Rattle.std.proofs.lemmas.Bool.{and_from, and_parts, cond_both, eqb-false, eqb-true, false≢true, ne_eqb, or_cases, or_left, or_right}
 use Rattle.std.proofs.lemmas.Int.{by_lt_z, int_max_is, int_min_is, ints}
 use Rattle.std.proofs.lemmas.List.Sums.{sum_by-cons}
 use Rattle.std.proofs.lemmas.Nat.{mul-le}
@@ -26,60 +26,16 @@ use Rattle.qc_model.proofs.Bays.{bays}
 use Rattle.qc_model.proofs.Extremes.{greatest_le}
 use Rattle.qc_model.proofs.NodeLemmas.{one_crane_apart, true_T}
 use Rattle.qc_close.proofs.CountLemmas.{sum_filter, sums_within}
-use Rattle.qc_close.proofs.FrameLemmas.{HasTime, arrives, at_bay, beside, beyond, does_open, feasible_by, has_time, highest_to, lowest_from, parts}
+use Rattle.qc_laws.proofs.FrameLemmas.{beyond}
+use Rattle.qc_close.proofs.Extremes.{highest_to, lowest_from, among_done, greatest_among, highest_at, lowest_at}
+use Rattle.qc_laws.proofs.FrameLemmas.{HasTime, arrives, at_bay, beside, does_open, feasible_by, has_time, parts}
 use Rattle.qc_close.proofs.LoopLemmas.{least_steps}
-use Rattle.qc_close.proofs.Members.{Among, all_at, among_filter, among_map, among_range, filter_among, first_of, flat_among, least_at, range_among}
-use Rattle.qc_close.proofs.PackLemmas.{clear, ends_in, higher_distance, lower_distance}
-use Rattle.qc_close.proofs.Rows.{AllClear, Row, clear_from, row_after, row_fits, row_of, way, way_between, way_to}
+use Rattle.qc_close.proofs.Members.{Among, all_at, among_filter, among_map, among_range, filter_among, first_of, least_at, range_among}
+use Rattle.qc_close.proofs.SpanLemmas.{higher_distance, lower_distance}
+use Rattle.qc_laws.proofs.PackLemmas.{clear, ends_in}
+use Rattle.qc_laws.proofs.Rows.{AllClear, Row, clear_from, row_after, row_fits, row_of, way, way_between, way_to}
 
--- ---- greatest numbers and bays
-
--- what comes of each stretch of a crane comes of all of them
-pub among_done : (inst : InstanceView) (turn : Turn) (cranes : List (Option ℕ)) (w : ℕ) (P : ℕ → Type 0)
-    → ((low high : ℤ) → P (done_in inst turn cranes w low high)) → (is : List ℕ) (n : ℕ) → Among (all_done inst turn cranes w is) n → P n
-among_done inst turn cranes w P each [] n a = absurd a
-among_done inst turn cranes w P each (i ∷ is) n a =
-    let low = lowest inst i is in
-    let high = highest inst i is in
-    let r = flat_among
-    (λ j. done_in inst turn cranes w low (bay_of inst j) ∷ done_in inst turn cranes w (bay_of inst j) high ∷ [])
-    (filter (lies inst low high) (task_numbers inst)) n a in
-    one r.0 low high r.2
-  where
-    one : (j : ℕ) (low high : ℤ)
-        → Among (done_in inst turn cranes w low (bay_of inst j) ∷ done_in inst turn cranes w (bay_of inst j) high ∷ []) n → P n
-    one j low high (inl e) = subst P e (each low (bay_of inst j))
-    one j low high (inr (inl e)) = subst P e (each (bay_of inst j) high)
-    one j low high (inr (inr none)) = absurd none
-
-pub greatest_among : (x : ℕ) (xs : List ℕ) → Among (x ∷ xs) (greatest (x ∷ xs))
-greatest_among x [] = inl (omega arith)
-greatest_among x (y ∷ ys) =
-    let rest = greatest_among y ys in
-    elim (cases_lt x (greatest (y ∷ ys))) [
-      | inl less ↦
-          let same : greatest (y ∷ ys) ≡ max x (greatest (y ∷ ys)) = omega arith in
-          inr (subst (Among (y ∷ ys)) same rest)
-      | inr more ↦ inl (omega arith)
-    ]
-
-pub highest_at : (inst : InstanceView) (j : ℕ) (js : List ℕ) (k : ℕ) → Among (j ∷ js) k → bay_of inst k ≤ℤ highest inst j js
-highest_at inst j [] k (inl e) = let same = ap (bay_of inst) e in omega (arith, ints, same)
-highest_at inst j [] k (inr a) = absurd a
-highest_at inst j (i ∷ is) k (inl e) =
-    let same = ap (bay_of inst) e in omega (arith, ints, int_max_is (bay_of inst j) (highest inst i is), same)
-highest_at inst j (i ∷ is) k (inr a) =
-    let rest = highest_at inst i is k a in
-    omega (arith, ints, int_max_is (bay_of inst j) (highest inst i is), rest)
-
-pub lowest_at : (inst : InstanceView) (j : ℕ) (js : List ℕ) (k : ℕ) → Among (j ∷ js) k → lowest inst j js ≤ℤ bay_of inst k
-lowest_at inst j [] k (inl e) = let same = ap (bay_of inst) e in omega (arith, ints, same)
-lowest_at inst j [] k (inr a) = absurd a
-lowest_at inst j (i ∷ is) k (inl e) =
-    let same = ap (bay_of inst) e in omega (arith, ints, int_min_is (bay_of inst j) (lowest inst i is), same)
-lowest_at inst j (i ∷ is) k (inr a) =
-    let rest = lowest_at inst i is k a in
-    omega (arith, ints, int_min_is (bay_of inst j) (lowest inst i is), rest)
+-- ---- greatest bays
 
 high_rises : (turn : Turn) (b x y : ℤ) → x ≤ℤ y → turn_high turn b x ≤ℤ turn_high turn b y
 high_rises OneWay b x y le = le

@@ -1,7 +1,7 @@
 -- No feasible schedule that follows an assignment ends packed tasks in less than their ticks and their span.
-use Rattle.std.proofs.Common.{◌≡◌, ◌≢◌, Contains, ℕ, zero, suc, ◌+◌, ◌-◌, ◌*◌, ◌<◌, ◌≤◌, ◌⊎◌, inl, inr, true, ◌&&◌, ◌||◌, eqb, not, List, [], ◌∷◌, length, map, Option, None, Some, IfSome, ℤ, pos, ◌+ℤ◌, ◌-ℤ◌, ◌≤ℤ◌, refl, ap, sym, subst, ◌∙◌, arith, filter, int_le, sum_by, nat_lt}
-use Rattle.std.proofs.Math.Nat.{mul-le-mul_left, mul-sub, mul-zero}
-use Rattle.std.proofs.lemmas.Bool.{and_from, and_parts, cases_eq, cases_lt, cond-false, cond-true, cond_both, eqb-false, eqb-true, false≢true, le-ltb, lt-ltb, ltb-true, not-true, or_cases}
+use Rattle.std.proofs.Common.{[], ◌≡◌, ◌≢◌, Contains, ℕ, ◌+◌, ◌*◌, ◌<◌, ◌≤◌, ◌⊎◌, inl, inr, true, ◌&&◌, ◌||◌, eqb, not, List, ◌∷◌, length, map, Option, None, Some, IfSome, ℤ, pos, ◌-ℤ◌, ◌≤ℤ◌, refl, ap, sym, subst, ◌∙◌, arith, filter, int_le, sum_by, nat_lt}
+use Rattle.std.proofs.Math.Nat.{mul-le-mul_left}
+use Rattle.std.proofs.lemmas.Bool.{and_from, and_parts, cases_eq, cases_lt, cond_both, eqb-false, eqb-true, false≢true, ltb-true, not-true, or_cases}
 use Rattle.std.proofs.lemmas.Int.{by_lt_z, ints}
 use Rattle.std.proofs.lemmas.List.{length-map}
 use Rattle.std.proofs.lemmas.List.Sums.{sum_by-cons}
@@ -18,30 +18,8 @@ use Rattle.qc_model.proofs.NodeLemmas.{T_true, ends_by, if_some, start_at}
 use Rattle.qc_model.specs.Assignments.{Follows, crane_in, cranes_by, cranes_for, place}
 use Rattle.qc_model.specs.Packs.{IsPackBound, all_clash, all_differ, clash, is_doable, is_packed, may_lie, pack, places, span, stretches}
 use Rattle.qc_close.proofs.Members.{Among, contains_of, all_at, all_from, among_filter, among_flat, among_map, among_range, any_from, first_of, least_at}
-use Rattle.qc_close.proofs.Rows.{AllClear, AreClear, Row, row_fits, row_of, way, way_between}
-
--- ---- distances as differences of places
-
-place_gap : (g v w : ℕ) (x y : ℤ) → v ≤ w
-    → bays_up y (x +ℤ pos (g * (w - v))) ≡ bays_up (y -ℤ pos (g * w)) (x -ℤ pos (g * v))
-place_gap g v w x y low = omega (arith, bays, mul-sub g w v, mul-le-mul_left g low)
-
-module _ (inst : InstanceView) (i v j w : ℕ) where
-  -- two cranes come too near where the lower one's place lies higher, and must keep clear by so much
-  pub lower_distance : v < w → task_distance inst i v j w ≡ inst.travel * bays_up (place inst j w) (place inst i v)
-  lower_distance low =
-      let bays_are = cond-true (nat_lt v w) _ _ (lt-ltb v w low) in
-      ap (λ n. inst.travel * n) (bays_are ∙ place_gap inst.gap v w (bay_of inst i) (bay_of inst j) (omega arith))
-
-  pub higher_distance : w < v → task_distance inst i v j w ≡ inst.travel * bays_up (place inst i v) (place inst j w)
-  higher_distance high =
-      let bays_are =
-      cond-false (nat_lt v w) _ _ (le-ltb v w (omega arith)) ∙ cond-true (nat_lt w v) _ _ (lt-ltb w v high) in
-      ap (λ n. inst.travel * n) (bays_are ∙ place_gap inst.gap w v (bay_of inst j) (bay_of inst i) (omega arith))
-
-pub some_bays : (t n : ℕ) → 0 < t * n → 0 < n
-some_bays t zero h = absurd (omega (arith, mul-zero t))
-some_bays t (suc n) h = omega arith
+use Rattle.qc_laws.proofs.Rows.{AllClear, AreClear, Row, row_fits, row_of, way, way_between}
+use Rattle.qc_close.proofs.SpanLemmas.{lower_distance, higher_distance, some_bays}
 
 distance_between : (inst : InstanceView) (i v j w : ℕ) → v ≢ w → 0 < task_distance inst i v j w
     → task_distance inst i v j w ≡ inst.travel * bays_between (place inst i v) (place inst j w)

@@ -1,7 +1,7 @@
 -- By the longest of its ways too, a crane has had the time, when a schedule ends, for what its frame says.
-use Rattle.std.proofs.Common.{◌≡◌, ℕ, ◌+◌, ◌*◌, ◌<◌, ◌≤◌, min, ◌⊎◌, inl, inr, Bool, true, ◌||◌, eqb, nat_lt, List, [], ◌∷◌, length, map, Option, is_some, ℤ, pos, ◌≤ℤ◌, ◌<ℤ◌, refl, ap, sym, subst, ◌∙◌, arith, filter}
+use Rattle.std.proofs.Common.{[], ◌≡◌, ℕ, ◌+◌, ◌*◌, ◌<◌, ◌≤◌, min, ◌⊎◌, inl, inr, Bool, true, ◌||◌, eqb, nat_lt, List, ◌∷◌, length, map, Option, is_some, ℤ, pos, ◌≤ℤ◌, ◌<ℤ◌, refl, ap, sym, subst, ◌∙◌, arith, filter}
 use Rattle.std.proofs.Math.Nat.{mul-add, mul-le-mul_left, mul-zero}
-use Rattle.std.proofs.lemmas.Bool.{cond_both, eqb-true, false≢true, le-ltb, ltb-true, or_cases}
+use Rattle.std.proofs.lemmas.Bool.{cond_both, eqb-true, false≢true, le-ltb, or_cases}
 use Rattle.std.proofs.lemmas.Int.{by_lt_z, int_max_is, int_min_is, ints}
 use Rattle.std.proofs.lemmas.Nat.{mul-le}
 use Rattle.std.specs.Int.{int_max, int_min}
@@ -20,36 +20,18 @@ use Rattle.qc_model.specs.Rules.{Feasible, crane_of, ends, start_of}
 use Rattle.qc_model.specs.Work.{highest, lowest, task_numbers, ticks_over}
 use Rattle.qc_model.proofs.Bays.{bays}
 use Rattle.qc_model.proofs.Scaled.{scaled_le}
-use Rattle.qc_close.proofs.BarredLemmas.{among_done, barred_time, greatest_among}
-use Rattle.qc_close.proofs.FrameLemmas.{HasTime, at_bay, beside, does_open, feasible_by, on_open, own_on, sums}
+use Rattle.qc_close.proofs.Extremes.{among_done, greatest_among}
+use Rattle.qc_laws.proofs.BarredLemmas.{barred_time}
+use Rattle.qc_laws.proofs.FrameLemmas.{HasTime, at_bay, beside, does_open, feasible_by, on_open, own_on, sums}
 use Rattle.qc_close.proofs.LoopLemmas.{least_steps}
 use Rattle.qc_close.proofs.Members.{Among, among_filter, among_range, filter_among, map_among, range_among}
-use Rattle.qc_model.specs.Ways.{frame_along, longest, longest_way, own_bays, own_way, tasks_at, trip_along, trip_from, way_at, way_frame}
+use Rattle.qc_model.specs.Ways.{frame_along, longest_way, own_bays, own_way, tasks_at, trip_along, trip_from, way_at, way_frame}
 use Rattle.qc_model.specs.declared.way.Trip.{Trip}
 use Rattle.qc_model.specs.declared.way.Way.{Way}
-use Rattle.qc_close.proofs.Paths.{cut, cut_at, goes_beyond, moved, scaled_up}
-use Rattle.qc_close.proofs.Tracks.{allows, goes_soon, spent, starts_within, track, waits, works}
-use Rattle.qc_close.proofs.Trips.{AreTimely, HasGone, goes_along, high_rises, low_falls, stays_within, timely_from}
-
--- ---- the longest way
-
--- it is the first of them, or a longer one
-pub longest_is : (first : Way) (others : List Way)
-    → (longest first others ≡ first) ⊎ (Among others (longest first others) × (first.bays < (longest first others).bays))
-longest_is first [] = inl refl
-longest_is first (other ∷ others) =
-    cond_both (nat_lt first.bays other.bays) (longest other others) (longest first others)
-    (λ way. (way ≡ first) ⊎ (Among (other ∷ others) way × (first.bays < way.bays)))
-    (λ t.
-    let less = ltb-true first.bays other.bays t in
-    elim (longest_is other others) [
-      | inl e ↦ inr (inl (sym e), omega (arith, less, ap (λ (way : Way). way.bays) e))
-      | inr h ↦ inr (inr h.0, omega (arith, less, h.1))
-    ])
-    (λ _. elim (longest_is first others) [
-      | inl e ↦ inl e
-      | inr h ↦ inr (inr h.0, h.1)
-    ])
+use Rattle.qc_laws.proofs.Paths.{cut, cut_at, goes_beyond, moved, scaled_up}
+use Rattle.qc_laws.proofs.Tracks.{allows, goes_soon, spent, starts_within, track, waits, works}
+use Rattle.qc_laws.proofs.Trips.{AreTimely, HasGone, goes_along, high_rises, low_falls, stays_within, timely_from}
+use Rattle.qc_close.proofs.LongestLemmas.{longest_is}
 
 -- ---- ways beyond a trip
 

@@ -1,4 +1,11 @@
-//! What packed tasks and closed ends show of schedules.
+//! Laws of lower bounds: what packed tasks and closed ends show of every schedule that follows an
+//! assignment, whatever is decided of the order of its tasks. No program calls them.
+//!
+//! Such a schedule ends no earlier than its packed tasks allow (`packs_are_bounds`), and not before an
+//! end at which the assignment is closed (`closed_ends_are_bounds`), so neither do those that agree
+//! with a node (`nodes_end_no_earlier`). An assignment is closed at each end before one at which it is
+//! (`closed_ends_go_down`), and at none that is late (`closed_ends_are_soon`).
+#![tactic(auto)]
 
 ghost use Rattle.std.specs.Prelude.{◌≡◌, ◌≤◌, ℕ, List, Option, Some, true};
 ghost use Rattle.qc_model.specs.declared.decision.Decision.{Decision};
@@ -9,8 +16,17 @@ ghost use Rattle.qc_model.specs.Leaves.{packed_end};
 ghost use Rattle.qc_model.specs.Nodes.{Agrees};
 ghost use Rattle.qc_model.specs.Rules.{ends};
 ghost use Rattle.qc_model.specs.declared.turn.Turn.{Turn};
-ghost use Rattle.qc_model.specs.Assignments.{cranes_of};
+ghost use Rattle.qc_model.specs.Assignments.{AreInRange, cranes_of};
 ghost use Rattle.qc_model.specs.Closed.{IsClosedBound, is_closed};
+ghost use Rattle.qc_model.specs.Packs.{IsPackBound, pack};
+ghost use Rattle.qc_model.specs.declared.limits.TheConstants.{MOST_START};
+
+/// Packed tasks take no fewer ticks than this in any feasible schedule that follows the assignment, from when the
+/// first of them can start to the end.
+fn packs_are_bounds()
+    ensures { (inst : InstanceView) (cranes : List (Option ℕ)) (tasks : List ℕ) (ticks : ℕ)
+        → pack inst cranes tasks ≡ Some ticks → IsPackBound inst cranes tasks ticks }
+{}
 
 /// No schedule that follows an assignment ends before an end at which it is closed: of those that go up where
 /// cranes go one way, and of all that are feasible where they go to and fro.
@@ -23,6 +39,13 @@ fn closed_ends_are_bounds()
 fn closed_ends_go_down()
     ensures { (inst : InstanceView) (turn : Turn) (cranes : List (Option ℕ)) (sooner end : ℕ) → Valid inst
         → sooner ≤ end → is_closed inst turn cranes end ≡ true → is_closed inst turn cranes sooner ≡ true }
+{}
+
+/// No assignment is closed at an end of more than twelve digits: by then one crane alone has the time for
+/// all that is left.
+fn closed_ends_are_soon()
+    ensures { (inst : InstanceView) (turn : Turn) (cranes : List (Option ℕ)) (end : ℕ) → Valid inst
+        → AreInRange inst cranes → is_closed inst turn cranes end ≡ true → end ≤ MOST_START }
 {}
 
 /// No schedule that agrees with a node, of those that go up where cranes go one way and of all feasible ones
