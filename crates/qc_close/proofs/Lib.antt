@@ -11,10 +11,6 @@ pub mod PackBounds
 mod SumLemmas
 mod WalkLemmas
 mod ShortLemmas
-mod RestLemmas
-mod SameLemmas
-mod LeftLemmas
-mod ComeLemmas
 mod OwnLemmas
 mod CrewLemmas
 mod SpotLemmas

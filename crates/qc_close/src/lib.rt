@@ -9,15 +9,13 @@
 mod barred;
 mod bars;
 mod closed;
-mod come;
+mod count;
 mod crew;
 mod frames;
 mod grain;
 mod left;
 mod limit;
 mod packs;
-mod rest;
-mod same;
 mod short;
 mod spots;
 mod sums;

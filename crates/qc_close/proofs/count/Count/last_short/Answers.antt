@@ -1,6 +1,6 @@
 use Rattle.std.proofs.Common.{◌+◌, ◌-◌, ◌/◌, sym, ◌∙◌, arith}
 use Rattle.qc_close.proofs.ShortLemmas.{short_after}
-use Rattle.qc_close.proofs.short.last_short.Goals as goal
+use Rattle.qc_close.proofs.count.Count.last_short.Goals as goal
 
 pub halving-preserved : goal.halving-preserved
 halving-preserved c = record {
@@ -8,9 +8,9 @@ halving-preserved c = record {
   within = omega (arith, c.halving.invariant.order, c.halving.invariant.within);
   passes = c.halving.invariant.passes;
   others = λ end after within.
-      short_after c.args.travel c.args.frames.now c.args.left.now c.args.step
-      (c.halving.low + (c.halving.high - c.halving.low) / 2) end c.requires.step after
-      (sym c.is_short_at.ensures ∙ c.if-is_short_at.false);
+      short_after c.args.self.now.travel c.args.self.now.frames.now c.args.self.now.left.now c.args.self.now.step
+      (c.halving.low + (c.halving.high - c.halving.low) / 2) end c.args.self.now.some after
+      (sym c.is_short.ensures ∙ c.if-is_short.false);
 }
 
 pub returns : goal.returns
