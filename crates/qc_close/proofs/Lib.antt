@@ -12,7 +12,7 @@ mod SumLemmas
 mod WalkLemmas
 mod ShortLemmas
 mod OwnLemmas
-mod CrewLemmas
+pub mod CrewLemmas
 mod SpotLemmas
 mod SpotLists
 mod BarLemmas

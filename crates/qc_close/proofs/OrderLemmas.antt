@@ -1,14 +1,15 @@
 -- Bays in the order in which cranes come to them.
-use Rattle.std.proofs.Common.{[], ◌≡◌, ℕ, zero, suc, ◌+◌, ◌<◌, ◌≤◌, inl, inr, Bool, true, leb, List, ◌∷◌, ◌++◌, length, map, reverse, refl, sym, subst, arith, filter}
+use Rattle.std.proofs.Common.{◌≡◌, ℕ, zero, suc, ◌+◌, ◌*◌, ◌<◌, ◌≤◌, inl, inr, Bool, true, false, not, ◌&&◌, leb, nat_lt, List, [], ◌∷◌, ◌++◌, length, map, reverse, refl, ap, sym, subst, arith, filter, sum, sum_by}
 use mathlib.Core.List.{reverse-cons}
-use Rattle.std.proofs.lemmas.Bool.{cond_both, le-leb, leb-true}
-use Rattle.std.specs.List.{range_with_len}
+use Rattle.std.proofs.lemmas.Bool.{and_from, and_parts, cond_both, false_from_ne_true, le-leb, leb-true, ltb-true, or_from}
+use Rattle.std.proofs.lemmas.List.{length-reverse}
+use Rattle.std.specs.List.{list_any, range_with_len}
 use Rattle.qc_model.specs.declared.direction.Direction.{Direction}
 use Rattle.qc_model.specs.declared.direction.Direction.TheVariants.{Up, Down}
 use Rattle.qc_model.specs.declared.frame.Frame.{Frame}
-use Rattle.qc_model.specs.Closed.{bays_to, lists_to, most}
+use Rattle.qc_model.specs.Closed.{Try, along, bays_to, first, has_room, is_served, is_short, legs, lists_to, load, most, numbers, room, suffices}
 use Rattle.qc_model.proofs.Bays.{bays}
-use Rattle.qc_close.proofs.Members.{Among, among_either, among_first, among_flat, among_map, among_range, among_second, filter_among, range_among}
+use Rattle.qc_close.proofs.Members.{any_at, any_from, among_filter, Among, among_either, among_first, among_flat, among_map, among_range, among_second, filter_among, range_among}
 
 -- bay y comes behind bay x
 abbrev pub After : Direction → ℕ → ℕ → Type 0
@@ -95,3 +96,59 @@ among_lists most f (x ∷ xs) h =
     (among_lists most f xs h)
     (among_map (λ n. n ∷ map f xs) (range_with_len 0 (most + 1)) (f x)
     (among_range (f x) 0 (most + 1) (omega arith) (omega (arith, h x))))
+
+-- ---- numbers of cranes that serve
+
+module _ (t : Try) (ns : Direction → ℕ → ℕ) (few : (way : Direction) (x : ℕ) → ns way x ≤ length t.frames)
+    (rises : InOrder Up t.bays)
+    (enough : (way : Direction) (x : ℕ) (ys : List ℕ) → InOrder way (x ∷ ys)
+    → ((y : ℕ) → Among (x ∷ ys) y → Among t.bays y)
+    → load t way (x ∷ ys) (map (ns way) (x ∷ ys)) ≤ most (ns way x) (map (λ f. room t (bays_to way f x) f) t.frames))
+    (fit : sum_by t.work t.bays
+    + t.travel * (legs t Up t.bays (map (ns Up) t.bays) + legs t Down (reverse t.bays) (map (ns Down) (reverse t.bays)))
+    ≤ sum (map (λ f. room t (bays_to Up f (first t Up) + bays_to Down f (first t Down)) f) t.frames)) where
+  all_suffice : (way : Direction) (xs : List ℕ) → InOrder way xs → ((y : ℕ) → Among xs y → Among t.bays y)
+      → suffices t way xs (map (ns way) xs) ≡ true
+  all_suffice way [] r within = refl
+  all_suffice way (x ∷ ys) r within =
+      and_from (leb (load t way (x ∷ ys) (map (ns way) (x ∷ ys))) (most (ns way x) (map (λ f. room t (bays_to way f x) f) t.frames)))
+      (suffices t way ys (map (ns way) ys))
+      (le-leb (load t way (x ∷ ys) (map (ns way) (x ∷ ys))) (most (ns way x) (map (λ f. room t (bays_to way f x) f) t.frames)) (enough way x ys r within))
+      (all_suffice way ys r.1 (λ y a. within y (inr a)))
+
+  suffice : (way : Direction) → suffices t way (along t way) (map (ns way) (along t way)) ≡ true
+  suffice Up = all_suffice Up t.bays rises (λ y a. a)
+  suffice Down = all_suffice Down (reverse t.bays) (falling t.bays rises) (from_reverse t.bays)
+
+  as_many : (way : Direction) → length (along t way) ≡ length t.bays
+  as_many Up = refl
+  as_many Down = length-reverse t.bays
+
+  serving : (way : Direction) → Among (numbers t way) (map (ns way) (along t way))
+  serving way =
+      among_filter (suffices t way (along t way)) (lists_to (length t.frames) (length t.bays)) (map (ns way) (along t way))
+      (subst (λ (n : ℕ). Among (lists_to (length t.frames) n) (map (ns way) (along t way))) (as_many way)
+      (among_lists (length t.frames) (ns way) (along t way) (few way)))
+      (suffice way)
+
+  serve : is_served t ≡ true
+  serve =
+      let up = map (ns Up) t.bays in
+      let down = map (ns Down) (reverse t.bays) in
+      any_from (λ ns. list_any (has_room t ns) (numbers t Down)) (numbers t Up) up (serving Up)
+      (any_from (has_room t up) (numbers t Down) down (serving Down)
+      (le-leb
+      (sum_by t.work t.bays + t.travel * (legs t Up t.bays up + legs t Down (reverse t.bays) down))
+      (sum (map (λ f. room t (bays_to Up f (first t Up) + bays_to Down f (first t Down)) f) t.frames))
+      fit))
+
+  -- so not too little time is left, where each crane is done with what it has
+  pub not_short : ((g : Frame) → Among t.frames g → g.works ≡ true → g.gone ≤ t.tick) → is_short t ≡ false
+  not_short done =
+      or_from (list_any (λ g. g.works && nat_lt t.tick g.gone) t.frames) (not (is_served t)) none (ap not serve)
+    where
+      none : list_any (λ g. g.works && nat_lt t.tick g.gone) t.frames ≡ false
+      none = false_from_ne_true (list_any (λ g. g.works && nat_lt t.tick g.gone) t.frames) (λ some.
+          let g = any_at (λ g. g.works && nat_lt t.tick g.gone) t.frames some in
+          let is = and_parts g.0.works (nat_lt t.tick g.0.gone) g.2 in
+          absurd (omega (arith, done g.0 g.1 is.0, ltb-true t.tick g.0.gone is.1)))

@@ -1,21 +1,21 @@
 -- No schedule that follows an assignment ends before an end at which it is closed.
-use Rattle.std.proofs.Common.{[], ◌≡◌, ℕ, ℤ, zero, suc, ◌+◌, ◌-◌, ◌*◌, ◌<◌, ◌≤◌, inl, inr, Bool, true, false, not, ◌&&◌, ◌||◌, eqb, leb, cond, List, ◌∷◌, length, get_or, map, max, min, replicate, reverse, Option, None, Some, refl, ap, sym, subst, ◌∙◌, arith, filter, is_none, nat_lt, sum, sum_by, count_by}
+use Rattle.std.proofs.Common.{[], ◌≡◌, ℕ, ℤ, zero, suc, ◌+◌, ◌-◌, ◌*◌, ◌<◌, ◌≤◌, inl, inr, Bool, true, false, ◌&&◌, ◌||◌, eqb, cond, List, ◌∷◌, length, get_or, map, max, min, reverse, Option, None, Some, refl, ap, sym, subst, ◌∙◌, arith, filter, is_none, nat_lt, sum, sum_by, count_by}
 use Prim.Native.Nat.{◌∣◌}
 use Rattle.std.proofs.Math.Nat.{dvd-add, dvd-mul_right_of_dvd, dvd-zero, mul-add, mul-le-mul_left, mul-zero}
-use Rattle.std.proofs.lemmas.Bool.{and_from, and_parts, cases_Bool, cases_lt, cond-true, cond_both, eq-eqb, eqb-true, le-leb, le-ltb, lt-ltb, ltb-true, not-true, or_cases, true≢false}
+use Rattle.std.proofs.lemmas.Bool.{and_from, and_parts, cases_Bool, cases_lt, cond-true, cond_both, eq-eqb, eqb-true, le-ltb, lt-ltb, ltb-true, or_cases, true≢false}
 use Rattle.std.proofs.lemmas.Int.{ints}
 use Rattle.std.proofs.lemmas.List.{get_or_past, length-map, length-reverse}
 use Rattle.std.proofs.lemmas.List.Sums.{count_by-le-length, sum-map, sum_by-cons}
 use Rattle.std.proofs.lemmas.Simd.{map-map}
 use Rattle.std.specs.Option.{option_map_or}
-use Rattle.std.specs.List.{list_any, range_with_len}
+use Rattle.std.specs.List.{range_with_len}
 use Rattle.qc_model.specs.declared.direction.Direction.{Direction}
 use Rattle.qc_model.specs.declared.direction.Direction.TheVariants.{Up, Down}
 use Rattle.qc_model.specs.declared.frame.Frame.{Frame}
 use Rattle.qc_model.specs.declared.schedule.Slot.{Slot}
 use Rattle.qc_model.specs.declared.turn.Turn.{Turn}
 use Rattle.qc_model.specs.Assignments.{Follows, crane_in, no_cranes}
-use Rattle.qc_model.specs.Closed.{IsClosedBound, Try, along, bays_to, fewest, first, grain, has_room, is_closed, is_served, is_short, is_short_along, is_short_before, last_before, left_at, left_bays, leg, legs, lists_to, load, most, numbers, room, suffices, try_of, try_with, work_at}
+use Rattle.qc_model.specs.Closed.{IsClosedBound, Try, bays_to, fewest, grain, is_closed, is_short, is_short_along, is_short_before, last_before, left_at, left_bays, leg, legs, load, most, room, try_of, try_with, work_at}
 use Rattle.qc_model.specs.Barred.{all_done, barred_frame, barring, both_done, done_in, lies, own_or_left, soonest}
 use Rattle.qc_model.specs.Frames.{GoesBy, frame, frame_of, own}
 use Rattle.qc_model.specs.Instance.{InstanceView, Valid, bay_of, crane, no_crane, ticks_of}
@@ -32,8 +32,9 @@ use Rattle.qc_close.proofs.LoopLemmas.{least_steps}
 use Rattle.qc_model.specs.Ways.{frame_along, longest_way, way_frame}
 use Rattle.qc_model.specs.declared.way.Way.{Way}
 use Rattle.qc_laws.proofs.WayLemmas.{way_time}
-use Rattle.qc_close.proofs.Members.{Among, among_filter, among_range, any_at, any_from, filter_among, map_among, range_among}
-use Rattle.qc_close.proofs.OrderLemmas.{After, InOrder, rising, falling, beyond, beyond_at, beyond_after, to_rises, among_lists, to_reverse, not_before, beyond_first}
+use Rattle.qc_close.proofs.Members.{Among, among_filter, among_range, filter_among, map_among, range_among}
+use Rattle.qc_close.proofs.CrewLemmas.{none_there}
+use Rattle.qc_close.proofs.OrderLemmas.{not_short as serves, After, InOrder, rising, falling, beyond, beyond_at, beyond_after, to_rises, to_reverse, not_before, beyond_first}
 
 -- ---- the cranes that come to a bay
 
@@ -287,14 +288,6 @@ module _ (inst : InstanceView) (turn : Turn) (cranes : List (Option ℕ)) (sched
         let same = ap (most (comers way x)) (map-map (λ f. room t (bays_to way f x) f) fr ws) in
         omega (arith, works, mul-le-mul_left inst.travel ways, times, both, greatest, same)
 
-    all_suffice : (way : Direction) (ys : List ℕ) → InOrder way ys → suffices t way ys (map (comers way) ys) ≡ true
-    all_suffice way [] r = refl
-    all_suffice way (x ∷ ys) r =
-        and_from (leb (load t way (x ∷ ys) (map (comers way) (x ∷ ys))) (most (comers way x) (map (λ f. room t (bays_to way f x) f) t.frames)))
-        (suffices t way ys (map (comers way) ys))
-        (le-leb (load t way (x ∷ ys) (map (comers way) (x ∷ ys))) (most (comers way x) (map (λ f. room t (bays_to way f x) f) t.frames)) (enough way x ys r))
-        (all_suffice way ys r.1)
-
     all_fit : (x z w : ℕ) → all_ticks w ≤ over Up x w → all_ticks w ≤ over Down z w
         → all_ticks w
         + inst.travel * (cond (nat_lt 0 (over Up x w)) (ahead Up x w) 0 + cond (nat_lt 0 (over Down z w)) (ahead Down z w) 0)
@@ -368,43 +361,15 @@ module _ (inst : InstanceView) (turn : Turn) (cranes : List (Option ℕ)) (sched
     rises : InOrder Up xs
     rises = rising (λ y. nat_lt 0 (length (left_at inst cranes y))) 1 inst.bays
 
-    ordered : (way : Direction) → InOrder way (along t way)
-    ordered Up = rises
-    ordered Down = falling xs rises
-
-    as_many : (way : Direction) → length (along t way) ≡ length xs
-    as_many Up = refl
-    as_many Down = length-reverse xs
-
-    serving : (way : Direction) → Among (numbers t way) (map (comers way) (along t way))
-    serving way =
-        among_filter (suffices t way (along t way)) (lists_to (length t.frames) (length t.bays)) (map (comers way) (along t way))
-        (subst (λ (n : ℕ). Among (lists_to (length t.frames) n) (map (comers way) (along t way))) (as_many way)
-        (among_lists (length t.frames) (comers way) (along t way) (few way)))
-        (all_suffice way (along t way) (ordered way))
-
-    serve : is_served t ≡ true
-    serve =
-        let ns = map (comers Up) xs in
-        let ms = map (comers Down) (reverse xs) in
-        any_from (λ ns. list_any (has_room t ns) (numbers t Down)) (numbers t Up) ns (serving Up)
-        (any_from (has_room t ns) (numbers t Down) ms (serving Down)
-        (le-leb
-        (sum_by (work_at inst cranes) xs + inst.travel * (legs t Up xs ns + legs t Down (reverse xs) ms))
-        (sum (map (λ f. room t (bays_to Up f (first t Up) + bays_to Down f (first t Down)) f) t.frames))
-        (fit xs (reverse xs) (length-reverse xs) rises (falling xs rises) (λ y a. a) (to_reverse xs))))
-
     -- so not too little time is left
     pub not_short : is_short t ≡ true → ⊥
-    not_short short = elim (or_cases (list_any (λ f. f.works && nat_lt t.tick f.gone) t.frames) (not (is_served t)) short) [
-      | inl late ↦
-          let f = any_at (λ f. f.works && nat_lt t.tick f.gone) t.frames late in
-          let w = map_among fr ws f.0 f.1 in
-          let is = and_parts f.0.works (nat_lt tick f.0.gone) f.2 in
-          let gone = done w.0 (ap (λ (f : Frame). f.works) w.2 ∙ is.0) in
-          omega (arith, gone, ap (λ (f : Frame). f.gone) w.2, ltb-true tick f.0.gone is.1)
-      | inr none ↦ true≢false (sym serve ∙ not-true (is_served t) none)
-    ]
+    not_short short =
+        true≢false (sym short
+        ∙ serves t comers few rises (λ way x ys r _. enough way x ys r)
+        (fit xs (reverse xs) (length-reverse xs) rises (falling xs rises) (λ y a. a) (to_reverse xs))
+        (λ f a works.
+        let w = map_among fr ws f a in
+        omega (arith, done w.0 (ap (λ (f : Frame). f.works) w.2 ∙ works), ap (λ (f : Frame). f.gone) w.2)))
 
 -- ---- multiples of the grain
 
@@ -591,11 +556,6 @@ module _ (inst : InstanceView) (turn : Turn) (cranes : List (Option ℕ)) (sched
       same =
           map_range frame_of_way (way_frame inst turn cranes) 0 (length inst.cranes) (λ w low.
           cond-true (is_crane w) _ _ (lt-ltb w (length inst.cranes) (omega arith)))
-
-none_there : (n j : ℕ) → crane_in (replicate n None) j ≡ None
-none_there zero j = refl
-none_there (suc n) zero = refl
-none_there (suc n) (suc j) = none_there n j
 
 -- every schedule follows the assignment in which no task has a crane
 bare_follows : (inst : InstanceView) (sched : List Slot) → Follows inst (no_cranes inst) sched
